@@ -1,0 +1,20 @@
+-- A run of the array: a chain of steps.
+use Rattle.std.specs.Prelude.{◌≡◌, List, [], ◌∷◌}
+use Rattle.dg_model.specs.States.{Counts, State, IsBlank}
+use Rattle.dg_model.specs.Steps.{Step}
+use Rattle.dg_model.specs.declared.events.Event.{Event}
+use Rattle.dg_model.specs.declared.events.Event.TheVariants.{Array}
+use Rattle.dg_model.specs.declared.replies.Reply.{Reply}
+use Rattle.dg_model.specs.declared.replies.Reply.TheVariants.{Done}
+
+-- each event had its reply, in one step after another
+abbrev pub Run : State → List Event → List Reply → State → Type 0
+Run old [] [] new = new ≡ old
+Run old (event ∷ events) (reply ∷ replies) new = (mid : State) × Step old event reply mid × Run mid events replies new
+Run old [] (reply ∷ replies) new = ⊥
+Run old (event ∷ events) [] new = ⊥
+
+-- a run from nothing: the first event makes the blank array, over members with these counts
+abbrev pub Trace : Counts → List Event → List Reply → State → Type 0
+Trace before (Array shape ∷ events) (Done ∷ replies) new = (blank : State) × IsBlank shape before blank × Run blank events replies new
+Trace before events replies new = ⊥

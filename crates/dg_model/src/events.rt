@@ -1,0 +1,12 @@
+use crate::{Bytes, Shape};
+
+/// One line of a trace.
+#[derive(Debug, Drop)]
+pub enum Event {
+    /// Makes a blank array of this shape. It is the first event, and no other.
+    Array(Shape),
+    /// Writes a block, given by its number and its bytes. A missing end is zeros.
+    Write(u32, Bytes),
+    /// Reads a block.
+    Read(u32),
+}
