@@ -1,0 +1,12 @@
+-- The answers that faults cause. A count of faults is a 64-bit number that stands still at its end.
+use Rattle.std.specs.Prelude.{◌≡◌, ◌≢◌, ◌≤◌, ℕ, Result, OnErr}
+use Rattle.dg_model.specs.Causes.{Rose}
+
+-- the count didn't fall, and rose where the call failed
+pub record HasCause {T E : Type 0} (before now : ℕ) (result : Result T E) : Type 0 where
+  pub later : before ≤ now
+  pub failed : OnErr result (Rose before now)
+
+-- each other member's count is as it was
+abbrev pub OnlyMember : ℕ → (ℕ → ℕ) → (ℕ → ℕ) → Type 0
+OnlyMember member old new = (q : ℕ) → q ≢ member → new q ≡ old q

@@ -1,0 +1,15 @@
+-- What the sinks in memory hold.
+use Rattle.std.specs.Prelude.{ℕ, List, Option, Some, None, if◌then◌else◌}
+use Rattle.dg_io.specs.declared.sinks.MemSink.{MemSink}
+use Rattle.dg_io.specs.declared.sinks.SureSink.{SureSink}
+
+-- the bytes taken
+abbrev pub taken_in : MemSink → List ℕ
+taken_in sink = sink.bytes.items
+
+abbrev pub sink_faults : MemSink → ℕ
+sink_faults sink = sink.faults
+
+-- the bytes taken, until there was no room
+abbrev pub sure_taken : SureSink → Option (List ℕ)
+sure_taken sink = if sink.told then Some sink.bytes.items else None

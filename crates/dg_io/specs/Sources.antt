@@ -1,0 +1,14 @@
+-- What the sources in memory hold.
+use Rattle.std.specs.Prelude.{ℕ, List, drop}
+use Rattle.dg_io.specs.declared.sources.MemSource.{MemSource}
+use Rattle.dg_io.specs.declared.sources.SureSource.{SureSource}
+
+-- the bytes still to come
+abbrev pub left_in : MemSource → List ℕ
+left_in source = drop source.at source.bytes.items
+
+abbrev pub source_faults : MemSource → ℕ
+source_faults source = source.faults
+
+abbrev pub sure_left : SureSource → List ℕ
+sure_left source = drop source.at source.bytes.items

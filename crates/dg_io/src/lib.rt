@@ -1,0 +1,16 @@
+//! The outside: a source of bytes, a sink of bytes and a rack of members. Each counts its faults, and tells its bytes
+//! or not. Beside the traits stand objects in memory, which fail at listed calls, and objects that never fail.
+#![tactic(auto)]
+
+mod calls;
+mod lent;
+mod outside;
+mod racks;
+mod sinks;
+mod sources;
+
+pub use dg_model::{Failed, NoMemory};
+pub use outside::{Rack, Sink, Source, write_all};
+pub use racks::{MemRack, SureRack};
+pub use sinks::{MemSink, SureSink};
+pub use sources::{MemSource, SureSource};

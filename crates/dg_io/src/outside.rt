@@ -1,0 +1,109 @@
+// The traits of the outside.
+ghost use Rattle.std.specs.Prelude.{◌≡◌, ◌≢◌, ◌+◌, ◌≤◌, ◌<◌, ◌++◌, [], List, ℕ, Option, length, take, IfOk, OnOk, IfSome, OnErr};
+ghost use Rattle.dg_model.specs.Causes.{RoseByOne};
+ghost use Rattle.dg_io.specs.Told.{Told, Patched, Torn, IsSame, Took, TookPart, Gave, Reads, IsZeros, AreAny, StillTold, OthersSame};
+ghost use Rattle.dg_io.specs.Faults.{HasCause, OnlyMember};
+
+use dg_model::Failed;
+
+/// Bytes that come in.
+pub trait Source {
+    /// The bytes still to come, where it tells them.
+    ghost left: { Self → Option (List ℕ) };
+
+    /// How often it has failed.
+    ghost faults: { Self → ℕ };
+
+    /// Fills the front of the buffer with the next bytes, and answers how many. `Ok(0)` on a nonempty buffer is the end.
+    /// A failed read takes nothing.
+    fn read(&mut self, buf: &mut [u8]) -> Result<usize, Failed>
+        ensures within { IfOk result (λ n. n ≤ length buf.new) }
+        ensures bytes { IfOk result (λ n. Told (Gave (take n buf.new)) (left self.old) (left self.new)) }
+        ensures end { IfOk result (λ n. n ≡ 0 → 0 < length buf.new → Told (λ before after. before ≡ []) (left self.old) (left self.new)) }
+        ensures err { OnErr result (Told IsSame (left self.old) (left self.new)) }
+        ensures cause { HasCause (faults self.old) (faults self.new) result };
+}
+
+/// Bytes that go out.
+pub trait Sink {
+    /// The bytes taken, where it tells them.
+    ghost taken: { Self → Option (List ℕ) };
+
+    /// How often it has failed.
+    ghost faults: { Self → ℕ };
+
+    /// Takes some bytes of the front of the piece, at least one where there is one, and answers how many. A failed write
+    /// takes nothing.
+    fn write(&mut self, piece: &[u8]) -> Result<usize, Failed>
+        ensures within { IfOk result (λ n. n ≤ length piece.now) }
+        ensures some { IfOk result (λ n. 0 < length piece.now → 0 < n) }
+        ensures bytes { IfOk result (λ n. Told (Took (take n piece.now)) (taken self.old) (taken self.new)) }
+        ensures err { OnErr result (Told IsSame (taken self.old) (taken self.new)) }
+        ensures cause { HasCause (faults self.old) (faults self.new) result };
+}
+
+/// Members, each a row of bytes, by their numbers.
+pub trait Rack {
+    ghost use Rattle.dg_model.specs.States.{Counts};
+
+    /// Which rack it is. A rack that is lent has the name of the loan.
+    ghost name: { Self → ℕ };
+
+    /// The bytes of each member, where it tells them.
+    ghost bytes: { Self → ℕ → Option (List ℕ) };
+
+    /// How often each member has failed, and how many calls were made, and how many that write.
+    ghost counts: { Self → Counts };
+
+    /// Makes the member anew, of so many zero bytes. A failed one leaves any bytes, and any length.
+    fn blank(&mut self, member: u8, length: u64) -> Result<(), Failed>
+        ensures ok { OnOk result (Told (IsZeros length) (bytes self.old member) (bytes self.new member)) }
+        ensures err { OnErr result (Told AreAny (bytes self.old member) (bytes self.new member)) }
+        ensures others { OthersSame member (bytes self.old) (bytes self.new) }
+        ensures cause { HasCause ((counts self.old).faults member) ((counts self.new).faults member) result }
+        ensures other_faults { OnlyMember member (counts self.old).faults (counts self.new).faults }
+        ensures tells { StillTold (bytes self.old) (bytes self.new) }
+        ensures name { name self.new ≡ name self.old }
+        ensures calls { RoseByOne (counts self.old).calls (counts self.new).calls }
+        ensures writes { RoseByOne (counts self.old).writes (counts self.new).writes };
+
+    /// Reads the bytes of a member at a place, counted from 0. The range is inside its length.
+    fn read(&mut self, member: u8, place: u64, buf: &mut [u8]) -> Result<(), Failed>
+        requires { IfSome (bytes self.old member) (λ all. place + length buf.old ≤ length all) }
+        ensures ok { OnOk result (Told (Reads place buf.new) (bytes self.old member) (bytes self.new member)) }
+        ensures same { Told IsSame (bytes self.old member) (bytes self.new member) }
+        ensures others { OthersSame member (bytes self.old) (bytes self.new) }
+        ensures cause { HasCause ((counts self.old).faults member) ((counts self.new).faults member) result }
+        ensures other_faults { OnlyMember member (counts self.old).faults (counts self.new).faults }
+        ensures tells { StillTold (bytes self.old) (bytes self.new) }
+        ensures name { name self.new ≡ name self.old }
+        ensures calls { RoseByOne (counts self.old).calls (counts self.new).calls }
+        ensures writes { (counts self.new).writes ≡ (counts self.old).writes };
+
+    /// Writes the bytes of a member at a place. The range is inside its length. A failed write leaves any bytes in the
+    /// range, and the rest as it was.
+    fn write(&mut self, member: u8, place: u64, buf: &[u8]) -> Result<(), Failed>
+        requires { IfSome (bytes self.old member) (λ all. place + length buf.now ≤ length all) }
+        ensures ok { OnOk result (Told (Patched place buf.now) (bytes self.old member) (bytes self.new member)) }
+        ensures err { OnErr result (Told (Torn place (length buf.now)) (bytes self.old member) (bytes self.new member)) }
+        ensures others { OthersSame member (bytes self.old) (bytes self.new) }
+        ensures cause { HasCause ((counts self.old).faults member) ((counts self.new).faults member) result }
+        ensures other_faults { OnlyMember member (counts self.old).faults (counts self.new).faults }
+        ensures tells { StillTold (bytes self.old) (bytes self.new) }
+        ensures name { name self.new ≡ name self.old }
+        ensures calls { RoseByOne (counts self.old).calls (counts self.new).calls }
+        ensures writes { RoseByOne (counts self.old).writes (counts self.new).writes };
+}
+
+/// Writes the whole piece, or fails after a part of it.
+pub fn write_all<K: Sink>(sink: &mut K, piece: &[u8]) -> Result<(), Failed>
+    ensures ok { OnOk result (Told (Took piece.now) (K.taken sink.old) (K.taken sink.new)) }
+    ensures err { OnErr result (Told (TookPart piece.now) (K.taken sink.old) (K.taken sink.new)) }
+    ensures cause { HasCause (K.faults sink.old) (K.faults sink.new) result }
+{
+    let mut at = 0;
+    while at < piece.len() {
+        at += sink.write(&piece[at..])?;
+    }
+    Ok(())
+}

@@ -1,0 +1,109 @@
+// Sinks in memory. Their calls are counted from 0.
+ghost use Rattle.std.specs.Prelude.{◌≡◌, [], Some, None, IfOk, MatchOption};
+ghost use Rattle.dg_io.specs.Sinks.{taken_in, sink_faults, sure_taken};
+
+use crate::calls::is_listed;
+use crate::{Failed, NoMemory, Sink};
+use std::alloc::Global;
+
+/// A sink in memory, with room for so many bytes.
+#[derive(Drop)]
+pub struct MemSink {
+    bytes: Vec<u8>,
+    room: usize,
+    fails: Vec<u64>,
+    calls: u64,
+    faults: u64,
+}
+
+impl MemSink {
+    /// An empty sink, whose listed calls fail. It takes its memory here.
+    pub fn new(alloc: Global, room: usize, fails: Vec<u64>) -> Result<MemSink, NoMemory>
+        ensures taken { IfOk result (λ sink. taken_in sink ≡ []) }
+        ensures faults { IfOk result (λ sink. sink_faults sink ≡ 0) }
+    {
+        match Vec::with_capacity(alloc, room) {
+            Ok(bytes) => Ok(MemSink {
+                bytes,
+                room,
+                fails,
+                calls: 0,
+                faults: 0,
+            }),
+            Err(_) => Err(NoMemory),
+        }
+    }
+
+    /// The bytes taken.
+    pub fn taken(&self) -> &[u8]
+        ensures { result.now ≡ taken_in self.now }
+    {
+        &self.bytes
+    }
+}
+
+impl Sink for MemSink {
+    ghost taken = { λ s. Some (taken_in s) };
+
+    ghost faults = { sink_faults };
+
+    fn write(&mut self, piece: &[u8]) -> Result<usize, Failed> {
+        let call = self.calls;
+        self.calls = call.saturating_add(1);
+        let fits = piece.len() <= self.room.saturating_sub(self.bytes.len());
+        if is_listed(&self.fails, call) || !fits || self.bytes.extend_from_slice(piece).is_err() {
+            self.faults = self.faults.saturating_add(1);
+            return Err(Failed);
+        }
+        Ok(piece.len())
+    }
+}
+
+/// A sink in memory, which never fails. Where it is asked for more than it has room for, it succeeds, and tells no bytes
+/// from then on.
+#[derive(Drop)]
+pub struct SureSink {
+    bytes: Vec<u8>,
+    room: usize,
+    told: bool,
+}
+
+impl SureSink {
+    /// An empty sink with room for so many bytes. It takes its memory here.
+    pub fn new(alloc: Global, room: usize) -> Result<SureSink, NoMemory>
+        ensures { IfOk result (λ sink. sure_taken sink ≡ Some []) }
+    {
+        match Vec::with_capacity(alloc, room) {
+            Ok(bytes) => Ok(SureSink {
+                bytes,
+                room,
+                told: true,
+            }),
+            Err(_) => Err(NoMemory),
+        }
+    }
+
+    /// The bytes taken, where it still tells them.
+    pub fn taken(&self) -> Option<&[u8]>
+        ensures { MatchOption result (sure_taken self.now ≡ None) (λ bytes. sure_taken self.now ≡ Some bytes.now) }
+    {
+        if self.told {
+            return Some(&self.bytes);
+        }
+        None
+    }
+}
+
+impl Sink for SureSink {
+    ghost taken = { sure_taken };
+
+    ghost faults = { λ _. 0 };
+
+    fn write(&mut self, piece: &[u8]) -> Result<usize, Failed> {
+        let fits = piece.len() <= self.room.saturating_sub(self.bytes.len());
+        if !fits || self.bytes.extend_from_slice(piece).is_err() {
+            self.told = false;
+        }
+        Ok(piece.len())
+    }
+}
