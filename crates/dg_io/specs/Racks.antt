@@ -1,5 +1,5 @@
 -- What the racks in memory hold.
-use Rattle.std.specs.Prelude.{◌≡◌, ◌<◌, ℕ, List, [], Option, Some, None, if◌then◌else◌, slice_get, slice_index}
+use Rattle.std.specs.Prelude.{ℕ, List, Option, None, if◌then◌else◌, slice_get, slice_index}
 use Rattle.std.specs.Option.{option_map}
 use Rattle.dg_model.specs.States.{Counts}
 use Rattle.dg_io.specs.declared.racks.MemRack.{MemRack}

@@ -1,7 +1,7 @@
 use Rattle.std.proofs.Common.{◌≡◌, ℕ, zero, suc, get_or, replicate, refl}
 use Rattle.dg_io.proofs.racks.MemRack.new.Goals as goal
 
-zeros_at : (n q : ℕ) → get_or (replicate n 0) q 0 ≡ 0
+zeros_at : (n q : ℕ) → get_or {A = ℕ} (replicate n 0) q 0 ≡ 0
 zeros_at zero q = refl
 zeros_at (suc n) zero = refl
 zeros_at (suc n) (suc q) = zeros_at n q
