@@ -1,0 +1,3 @@
+mod LineFeeds
+mod Ranges
+mod ToldSteps

@@ -1,0 +1,30 @@
+-- The input as a reader sees it: what its buffer still has, and then what the source has left.
+use Rattle.std.specs.Prelude.{◌≡◌, ◌≤◌, ◌+◌, ◌++◌, ◌∷◌, [], ℕ, List, take, slice_range, Option}
+use Rattle.std.specs.Option.{option_map}
+use Rattle.dg_run.specs.Bytes.{HasNoLineFeed}
+use Rattle.dg_run.specs.declared.input.Input.{Input}
+use Rattle.dg_run.specs.declared.input.LineStep.{LineStep}
+use Rattle.dg_run.specs.declared.input.LineStep.TheVariants.{Line, End, Unended}
+
+-- the bytes of the buffer that are still to be used
+abbrev pub unread : Input → List ℕ
+unread input = slice_range input.bytes.items input.at input.end
+
+-- all bytes that are still to come, where the source tells its own
+abbrev pub ahead : Input → Option (List ℕ) → Option (List ℕ)
+ahead input left = option_map (λ more. unread input ++ more) left
+
+abbrev pub line_in : Input → ℕ → ℕ → List ℕ
+line_in input from to = slice_range input.bytes.items from to
+
+-- a line stands in the buffer, is shorter than the limit, and has no line feed
+abbrev pub IsStep : ℕ → Input → LineStep → Type 0
+IsStep limit input (Line from to) = (from ≤ to) × (to ≤ 65536) × (to + 1 ≤ from + limit) × HasNoLineFeed (line_in input from to)
+IsStep limit input End = Unit {0}
+IsStep limit input Unended = Unit {0}
+
+-- what came next: the line and its line feed; or nothing; or bytes without a line feed among the first ones
+abbrev pub TookStep : ℕ → Input → LineStep → List ℕ → List ℕ → Type 0
+TookStep limit input (Line from to) before after = before ≡ line_in input from to ++ 10 ∷ after
+TookStep limit input End before after = (before ≡ []) × (after ≡ [])
+TookStep limit input Unended before after = (before ≡ [] → ⊥) × HasNoLineFeed (take limit before)
