@@ -1,1 +1,2 @@
+pub mod GeometryLaws
 mod Rows

@@ -1,10 +1,10 @@
 -- The superblock (`struct fs` in `fs.h`): its fields, its tests in order, and the geometry. Which
 -- tests there are and their order is this project's rule.
-use Rattle.std.specs.Prelude.{ℕ, ◌+◌, ◌-◌, ◌*◌, ◌/◌, ◌%◌, ◌^◌, ◌==◌, nat_lt, nat_le, not, ◌&&◌, Bool, List, [], ◌∷◌, Option, Some, None, Result, Ok, Err, find}
+use Rattle.std.specs.Prelude.{◌≡◌, ℕ, ◌+◌, ◌-◌, ◌*◌, ◌/◌, ◌%◌, ◌^◌, ◌==◌, nat_lt, nat_le, not, ◌&&◌, Bool, List, [], ◌∷◌, Option, Some, None, Result, Ok, Err, find}
 use Rattle.std.specs.Int.{div_ceil}
 use Rattle.ufs_model.specs.Numbers.{number_at, all_below}
 use Rattle.ufs_model.specs.Blocks.{Reading, known, area_of, ◌>>=◌}
-use Rattle.ufs_model.specs.Geometries.{cgstart, end_of, is_block_size, is_fragment_count}
+use Rattle.ufs_model.specs.Geometries.{IsGeometry, cgstart, end_of, is_block_size, is_fragment_count}
 use Rattle.ufs_model.specs.declared.numbers.Endian.{Endian}
 use Rattle.ufs_model.specs.declared.numbers.Endian.TheVariants.{Little}
 use Rattle.ufs_model.specs.declared.geometries.Geometry.{Geometry}
@@ -115,3 +115,10 @@ superblock_of l = area_of l (8192 / l) (div_ceil 1376 l)
 -- the geometry of a volume of n blocks of l bytes
 unfoldable pub geometry_of : Endian → ℕ → ℕ → Reading (Result Geometry BadSuper)
 geometry_of endian l n = superblock_of l >>= λ bytes. known (geometry_in endian bytes l n)
+
+-- The bytes are a superblock with this geometry, said without the order of the tests.
+pub record IsSuperblock (endian : Endian) (bytes : List ℕ) (l n : ℕ) (g : Geometry) : Type 0 where
+  pub magic : magic_of endian bytes ≡ 0x00011954
+  pub inodefmt : inodefmt_of endian bytes ≡ 2
+  pub stands : fields endian bytes ≡ g
+  pub tests : IsGeometry l n g
