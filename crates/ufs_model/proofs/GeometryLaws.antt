@@ -6,7 +6,7 @@ use Rattle.std.specs.List.{list_all}
 use Rattle.std.proofs.lemmas.Bool.{cases_lt, and_from, and_parts}
 use Rattle.std.proofs.lemmas.Bool.Decides.{nat_tests}
 use Rattle.ufs_model.specs.Numbers.{all_below}
-use Rattle.ufs_model.specs.Geometries.{IsGeometry, cgstart, end_of, is_block_size, is_fragment_count}
+use Rattle.ufs_model.specs.Geometries.{IsGeometry, IsGeometryOn, cgstart, end_of, is_block_size, is_fragment_count}
 use Rattle.ufs_model.specs.Superblocks.{IsSuperblock, magic_of, inodefmt_of, fields, geometry_in, unless_bad, super_tests, passes, format_holds, frag_holds, groups_hold, inodes_hold, group_fits, layout_holds, summary_holds}
 use Rattle.ufs_model.specs.declared.numbers.Endian.{Endian}
 use Rattle.ufs_model.specs.declared.geometries.Geometry.{Geometry}
@@ -76,50 +76,63 @@ equal_fact a b h = grind (arith, nat_tests)
 -- ---- all tests together
 
 tests_make : (endian : Endian) (bytes : List ℕ) (l n : ℕ) (g : Geometry)
-    → ((kind : BadSuper) → passes endian bytes l n g kind ≡ true) → IsGeometry l n g
+    → ((kind : BadSuper) → passes endian bytes l n g kind ≡ true) → IsGeometryOn l n g
 tests_make endian bytes l n g pass =
+    let same = equal_fact g.fsize l (pass Fsize) in
     let format = format_fact (inodefmt_of endian bytes) g (pass Format) in
     let block = block_size_fact g.bsize (pass Bsize) in
     let frag = frag_fact g (pass Frag) in
     let count = fragment_fact g.frag (frag.0) in
-    let layout = layout_fact l g (pass Layout) in
+    let size = size_fact g.size n (pass Size) in
+    let layout = layout_fact g.fsize g (subst (λ (k : ℕ). layout_holds k g ≡ true) (sym same) (pass Layout)) in
     record {
-      format = (format.1, format.2);
-      bsize = (pass Bsize, block.0, block.1);
-      fsize = equal_fact g.fsize l (pass Fsize);
-      frag = (frag.0, count.0, count.1, frag.1);
-      nindir = equal_fact g.nindir (g.bsize / 4) (pass Nindir);
-      inopb = equal_fact g.inopb (g.bsize / 128) (pass Inopb);
-      size = size_fact g.size n (pass Size);
-      groups = groups_fact g (pass Groups);
-      inodes = inodes_fact g (pass Inodes);
-      cgsize = (layout.0, layout.1);
-      sblkno = layout.2;
-      cblkno = layout.3;
-      iblkno = layout.4;
-      dblkno = layout.5;
-      ends = λ c low. fits_fact g c (all_below_at (group_fits g) g.ncg (layout.6) c low);
-      summary = summary_fact l g (pass Summary);
+      tests = record {
+        format = (format.1, format.2);
+        bsize = (pass Bsize, block.0, block.1);
+        frag = (frag.0, count.0, count.1, frag.1);
+        nindir = equal_fact g.nindir (g.bsize / 4) (pass Nindir);
+        inopb = equal_fact g.inopb (g.bsize / 128) (pass Inopb);
+        size = size.0;
+        groups = groups_fact g (pass Groups);
+        inodes = inodes_fact g (pass Inodes);
+        cgsize = (layout.0, layout.1);
+        sblkno = layout.2;
+        cblkno = layout.3;
+        iblkno = layout.4;
+        dblkno = layout.5;
+        ends = λ c low. fits_fact g c (all_below_at (group_fits g) g.ncg (layout.6) c low);
+        summary = summary_fact g.fsize g (subst (λ (k : ℕ). summary_holds k g ≡ true) (sym same) (pass Summary));
+      };
+      fsize = same;
+      size = size.1;
     }
 
-tests_pass : (endian : Endian) (bytes : List ℕ) (l n : ℕ) (g : Geometry)
-    → magic_of endian bytes ≡ 0x00011954 → inodefmt_of endian bytes ≡ 2 → IsGeometry l n g → (kind : BadSuper) → passes endian bytes l n g kind ≡ true
-unfolding format_holds frag_holds groups_hold inodes_hold layout_holds summary_holds group_fits
-tests_pass endian bytes l n g magic inodefmt is Magic = grind (arith, nat_tests)
-tests_pass endian bytes l n g magic inodefmt is Format = let h = is.format in grind (arith, nat_tests)
-tests_pass endian bytes l n g magic inodefmt is Bsize = is.bsize.0
-tests_pass endian bytes l n g magic inodefmt is Fsize = let h = is.fsize in grind (arith, nat_tests)
-tests_pass endian bytes l n g magic inodefmt is Frag = let h = is.frag in grind (arith, nat_tests)
-tests_pass endian bytes l n g magic inodefmt is Nindir = let h = is.nindir in grind (arith, nat_tests)
-tests_pass endian bytes l n g magic inodefmt is Inopb = let h = is.inopb in grind (arith, nat_tests)
-tests_pass endian bytes l n g magic inodefmt is Size = let h = is.size in grind (arith, nat_tests)
-tests_pass endian bytes l n g magic inodefmt is Groups = let h = is.groups in grind (arith, nat_tests)
-tests_pass endian bytes l n g magic inodefmt is Inodes = let h = is.inodes in grind (arith, nat_tests)
-tests_pass endian bytes l n g magic inodefmt is Layout =
+layout_passes : (g : Geometry) → IsGeometry g → layout_holds g.fsize g ≡ true
+unfolding layout_holds group_fits
+layout_passes g is =
     let all = all_below_from (group_fits g) g.ncg (λ c low. let h = is.ends c low in grind (arith, nat_tests)) in
     let h = is.cgsize in let h1 = is.sblkno in let h2 = is.cblkno in let h3 = is.iblkno in let h4 = is.dblkno in
     grind (arith, nat_tests)
-tests_pass endian bytes l n g magic inodefmt is Summary = let h = is.summary in grind (arith, nat_tests)
+
+summary_passes : (g : Geometry) → IsGeometry g → summary_holds g.fsize g ≡ true
+unfolding summary_holds
+summary_passes g is = let h = is.summary in grind (arith, nat_tests)
+
+tests_pass : (endian : Endian) (bytes : List ℕ) (l n : ℕ) (g : Geometry)
+    → magic_of endian bytes ≡ 0x00011954 → inodefmt_of endian bytes ≡ 2 → IsGeometryOn l n g → (kind : BadSuper) → passes endian bytes l n g kind ≡ true
+unfolding format_holds frag_holds groups_hold inodes_hold
+tests_pass endian bytes l n g magic inodefmt is Magic = grind (arith, nat_tests)
+tests_pass endian bytes l n g magic inodefmt is Format = let h = is.tests.format in grind (arith, nat_tests)
+tests_pass endian bytes l n g magic inodefmt is Bsize = is.tests.bsize.0
+tests_pass endian bytes l n g magic inodefmt is Fsize = let h = is.fsize in grind (arith, nat_tests)
+tests_pass endian bytes l n g magic inodefmt is Frag = let h = is.tests.frag in grind (arith, nat_tests)
+tests_pass endian bytes l n g magic inodefmt is Nindir = let h = is.tests.nindir in grind (arith, nat_tests)
+tests_pass endian bytes l n g magic inodefmt is Inopb = let h = is.tests.inopb in grind (arith, nat_tests)
+tests_pass endian bytes l n g magic inodefmt is Size = let h = is.tests.size in let high = is.size in grind (arith, nat_tests)
+tests_pass endian bytes l n g magic inodefmt is Groups = let h = is.tests.groups in grind (arith, nat_tests)
+tests_pass endian bytes l n g magic inodefmt is Inodes = let h = is.tests.inodes in grind (arith, nat_tests)
+tests_pass endian bytes l n g magic inodefmt is Layout = subst (λ (k : ℕ). layout_holds k g ≡ true) is.fsize (layout_passes g is.tests)
+tests_pass endian bytes l n g magic inodefmt is Summary = subst (λ (k : ℕ). summary_holds k g ≡ true) is.fsize (summary_passes g is.tests)
 
 -- ---- the first that fails
 
@@ -165,12 +178,12 @@ accepted_is endian bytes l n g accepted =
       magic = equal_fact (magic_of endian bytes) 0x00011954 (pass Magic);
       inodefmt = (format_fact (inodefmt_of endian bytes) (fields endian bytes) (pass Format)).0;
       stands = parts.1;
-      tests = subst (λ (h : Geometry). IsGeometry l n h) (parts.1) (tests_make endian bytes l n (fields endian bytes) pass);
+      geometry = subst (λ (h : Geometry). IsGeometryOn l n h) (parts.1) (tests_make endian bytes l n (fields endian bytes) pass);
     }
 
 pub is_accepted : (endian : Endian) (bytes : List ℕ) (l n : ℕ) (g : Geometry) → IsSuperblock endian bytes l n g → geometry_in endian bytes l n ≡ Ok g
 unfolding geometry_in
 is_accepted endian bytes l n g is =
-    let tests = subst (λ (h : Geometry). IsGeometry l n h) (sym is.stands) is.tests in
+    let tests = subst (λ (h : Geometry). IsGeometryOn l n h) (sym is.stands) is.geometry in
     let none = none_found (passes endian bytes l n (fields endian bytes)) (tests_pass endian bytes l n (fields endian bytes) is.magic is.inodefmt tests) in
     rw (none, is.stands) refl

@@ -51,16 +51,15 @@ small = record {
   maxsymlinklen = 60;
 }
 
-small_is_a_geometry : IsGeometry 1024 128 small
+small_is_a_geometry : IsGeometry small
 unfolding is_block_size is_fragment_count cgstart cgbase end_of
 small_is_a_geometry = record {
   format = (omega arith, omega arith);
   bsize = (refl, omega arith, omega arith);
-  fsize = refl;
   frag = (refl, omega arith, omega arith, refl);
   nindir = refl;
   inopb = refl;
-  size = (omega arith, omega arith);
+  size = omega arith;
   groups = (omega arith, omega arith, omega arith, omega arith);
   inodes = (omega arith, refl, omega arith);
   cgsize = (omega arith, omega arith);

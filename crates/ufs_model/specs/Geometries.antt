@@ -24,21 +24,26 @@ unfoldable pub is_fragment_count : ℕ → Bool
 is_fragment_count n = (n == 1) || ((n == 2) || ((n == 4) || (n == 8)))
 
 -- The condition of each call that is handed a geometry: it passes the tests of a superblock on the
--- fields that it has, with fragments of l bytes and at most n of them. Each field is one test.
-pub record IsGeometry (l n : ℕ) (g : Geometry) : Type 0 where
+-- fields that it has. Each field is a test, or a part of one.
+pub record IsGeometry (g : Geometry) : Type 0 where
   pub format : (1 ≤ g.maxsymlinklen) × (g.maxsymlinklen ≤ 60)
   pub bsize : (is_block_size g.bsize ≡ true) × (4096 ≤ g.bsize) × (g.bsize ≤ 65536)
-  pub fsize : g.fsize ≡ l
   pub frag : (is_fragment_count g.frag ≡ true) × (1 ≤ g.frag) × (g.frag ≤ 8) × (g.bsize ≡ g.frag * g.fsize)
   pub nindir : g.nindir ≡ g.bsize / 4
   pub inopb : g.inopb ≡ g.bsize / 128
-  pub size : (1 ≤ g.size) × (g.size ≤ n)
+  pub size : 1 ≤ g.size
   pub groups : (1 ≤ g.ncg) × (1 ≤ g.fpg) × ((g.ncg - 1) * g.fpg < g.size) × (g.size ≤ g.ncg * g.fpg)
   pub inodes : (1 ≤ g.ipg) × (g.ipg % g.inopb ≡ 0) × (g.ncg * g.ipg < 2 ^ 32)
   pub cgsize : (100 ≤ g.cgsize) × (g.cgsize ≤ g.bsize)
-  pub sblkno : 9568 ≤ g.sblkno * l
-  pub cblkno : g.sblkno + div_ceil 1376 l ≤ g.cblkno
-  pub iblkno : g.cblkno + div_ceil g.cgsize l ≤ g.iblkno
+  pub sblkno : 9568 ≤ g.sblkno * g.fsize
+  pub cblkno : g.sblkno + div_ceil 1376 g.fsize ≤ g.cblkno
+  pub iblkno : g.cblkno + div_ceil g.cgsize g.fsize ≤ g.iblkno
   pub dblkno : g.iblkno + g.ipg / g.inopb * g.frag ≤ g.dblkno
   pub ends : (c : ℕ) → c < g.ncg → cgstart g c + g.dblkno ≤ end_of g c
-  pub summary : g.csaddr + div_ceil g.cssize l ≤ g.size
+  pub summary : g.csaddr + div_ceil g.cssize g.fsize ≤ g.size
+
+-- A geometry of a volume on n blocks of l bytes.
+pub record IsGeometryOn (l n : ℕ) (g : Geometry) : Type 0 where
+  pub tests : IsGeometry g
+  pub fsize : g.fsize ≡ l
+  pub size : g.size ≤ n

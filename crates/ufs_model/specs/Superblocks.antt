@@ -4,7 +4,7 @@ use Rattle.std.specs.Prelude.{◌≡◌, ℕ, ◌+◌, ◌-◌, ◌*◌, ◌/◌
 use Rattle.std.specs.Int.{div_ceil}
 use Rattle.ufs_model.specs.Numbers.{number_at, all_below}
 use Rattle.ufs_model.specs.Blocks.{Reading, known, area_of, ◌>>=◌}
-use Rattle.ufs_model.specs.Geometries.{IsGeometry, cgstart, end_of, is_block_size, is_fragment_count}
+use Rattle.ufs_model.specs.Geometries.{IsGeometryOn, cgstart, end_of, is_block_size, is_fragment_count}
 use Rattle.ufs_model.specs.declared.numbers.Endian.{Endian}
 use Rattle.ufs_model.specs.declared.numbers.Endian.TheVariants.{Little}
 use Rattle.ufs_model.specs.declared.geometries.Geometry.{Geometry}
@@ -121,4 +121,4 @@ pub record IsSuperblock (endian : Endian) (bytes : List ℕ) (l n : ℕ) (g : Ge
   pub magic : magic_of endian bytes ≡ 0x00011954
   pub inodefmt : inodefmt_of endian bytes ≡ 2
   pub stands : fields endian bytes ≡ g
-  pub tests : IsGeometry l n g
+  pub geometry : IsGeometryOn l n g
