@@ -1,6 +1,6 @@
 -- What a block is for, by the places in `fs.h` (`cgsblock`, `cgtod`, `cgimin`, `cgdmin`). The names
 -- of the roles, and that the first that fits is taken, are this project's.
-use Rattle.std.specs.Prelude.{ℕ, ◌+◌, ◌*◌, ◌/◌, ◌==◌, nat_lt, nat_le, ◌&&◌, Bool, true, false, if◌then◌else◌}
+use Rattle.std.specs.Prelude.{◌≡◌, ℕ, ◌+◌, ◌*◌, ◌/◌, ◌<◌, ◌≤◌, ◌==◌, nat_lt, nat_le, ◌&&◌, Bool, true, false, if◌then◌else◌}
 use Rattle.std.specs.Int.{div_ceil}
 use Rattle.ufs_model.specs.Geometries.{cgstart}
 use Rattle.ufs_model.specs.declared.geometries.Geometry.{Geometry}
@@ -45,3 +45,9 @@ abbrev pub is_system : Role → Bool
 is_system Outside = false
 is_system (System kind) = true
 is_system (Data d) = false
+
+-- The own blocks of group c have their roles, whatever is left of the order of the roles.
+pub record HasOwnBlocks (g : Geometry) (c : ℕ) : Type 0 where
+  pub copy : (b : ℕ) → cgstart g c + g.sblkno ≤ b → b < cgstart g c + g.cblkno → role g b ≡ System Copy
+  pub group : (b : ℕ) → cgstart g c + g.cblkno ≤ b → b < cgstart g c + g.iblkno → role g b ≡ System Group
+  pub inodes : (b : ℕ) → cgstart g c + g.iblkno ≤ b → b < cgstart g c + g.dblkno → role g b ≡ System Inodes

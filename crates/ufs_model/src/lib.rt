@@ -19,7 +19,7 @@ pub use crate::chunks::{BadEntry, Found};
 pub use crate::geometries::{BadSuper, Geometry};
 pub use crate::group_maps::{BadGroup, Group};
 pub use crate::inodes::{Inode, Kind};
-pub use crate::laws::accepted_superblocks;
+pub use crate::laws::{accepted_superblocks, own_blocks_of_groups};
 pub use crate::numbers::{Endian, u16_at, u32_at, u64_at};
 pub use crate::pointers::{Address, Chain};
 pub use crate::roles::{Role, SystemKind};
