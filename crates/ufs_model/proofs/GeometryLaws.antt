@@ -1,6 +1,6 @@
 -- What the tests of a superblock say of its geometry.
-use Rattle.std.proofs.Common.{◌≡◌, ℕ, zero, suc, ◌+◌, ◌-◌, ◌*◌, ◌/◌, ◌%◌, ◌^◌, ◌<◌, ◌≤◌, inl, inr, Bool, true, false, ◌&&◌, not, List, [], ◌∷◌, arith, refl, sym, subst, ap}
-use Rattle.std.specs.Prelude.{Option, Some, None, Result, Ok, Err, find, cond, ◌==◌, nat_le}
+use Rattle.std.proofs.Common.{◌≡◌, ℕ, zero, suc, ◌+◌, ◌-◌, ◌*◌, ◌/◌, ◌%◌, ◌^◌, ◌<◌, ◌≤◌, inl, inr, Bool, true, false, ◌&&◌, not, List, [], ◌∷◌, arith, refl, sym, subst}
+use Rattle.std.specs.Prelude.{Option, Some, None, Ok, find, cond, ◌==◌, nat_le}
 use Rattle.std.specs.Int.{div_ceil}
 use Rattle.std.specs.List.{list_all}
 use Rattle.std.proofs.lemmas.Bool.{cases_lt, and_from, and_parts}
@@ -143,9 +143,9 @@ all_hold test (kind ∷ kinds) none =
     let parts = not_first (test kind) kind (find (λ other. not (test other)) kinds) none in
     and_from (test kind) (list_all test kinds) (parts.0) (all_hold test kinds (parts.1))
   where
-  not_first : (b : Bool) (first : BadSuper) (further : Option BadSuper) → cond (not b) (Some first) further ≡ None → (b ≡ true) × (further ≡ None)
-  not_first true first further e = (refl, e)
-  not_first false first further e = grind (arith, e)
+    not_first : (b : Bool) (first : BadSuper) (further : Option BadSuper) → cond (not b) (Some first) further ≡ None → (b ≡ true) × (further ≡ None)
+    not_first true first further e = (refl, e)
+    not_first false first further e = grind (arith, e)
 
 none_fails : (test : BadSuper → Bool) → find (λ kind. not (test kind)) super_tests ≡ None → (kind : BadSuper) → test kind ≡ true
 none_fails test none Magic = let all = all_hold test super_tests none in grind (arith, nat_tests)

@@ -1,15 +1,13 @@
 -- Each block is in the group that its number says, and a group's own blocks have their roles.
-use Rattle.std.proofs.Common.{◌≡◌, ◌∙◌, ℕ, zero, suc, ◌+◌, ◌-◌, ◌*◌, ◌/◌, ◌<◌, ◌≤◌, Bool, true, false, min, arith, refl, sym, subst, ap}
-use Rattle.std.specs.Prelude.{◌&&◌, nat_le, nat_lt, bit_and, ◌^◌}
-use Rattle.std.specs.Int.{div_ceil}
+use Rattle.std.proofs.Common.{◌≡◌, ◌∙◌, ℕ, zero, suc, ◌+◌, ◌-◌, ◌*◌, ◌/◌, ◌<◌, ◌≤◌, true, false, arith, refl, subst}
+use Rattle.std.specs.Prelude.{nat_le, nat_lt}
 use Rattle.std.proofs.lemmas.Bool.Decides.{nat_tests}
 use Rattle.std.proofs.lemmas.Nat.{div-mul-add}
 use Rattle.ufs_model.specs.Geometries.{IsGeometry, cgbase, cgstart, end_of}
 use Rattle.ufs_model.specs.Roles.{HasOwnBlocks, has_super, is_within, role, role_in}
 use Rattle.ufs_model.specs.declared.geometries.Geometry.{Geometry}
-use Rattle.ufs_model.specs.declared.roles.Role.{Role}
-use Rattle.ufs_model.specs.declared.roles.Role.TheVariants.{Outside, System, Data}
-use Rattle.ufs_model.specs.declared.roles.SystemKind.TheVariants.{Super, Boot, Copy, Group, Inodes, Summary}
+use Rattle.ufs_model.specs.declared.roles.Role.TheVariants.{System}
+use Rattle.ufs_model.specs.declared.roles.SystemKind.TheVariants.{Copy, Group, Inodes}
 
 quotient : (p c b : ℕ) → p * c ≤ b → b < p * c + p → b / p ≡ c
 quotient p c b low high =

@@ -14,6 +14,8 @@ mod laws;
 mod numbers;
 mod pointers;
 mod roles;
+#[cfg(test)]
+mod tests;
 
 pub use crate::chunks::{BadEntry, Found};
 pub use crate::geometries::{BadSuper, Geometry};
