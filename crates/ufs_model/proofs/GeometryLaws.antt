@@ -31,6 +31,12 @@ frag_fact : (g : Geometry) → frag_holds g ≡ true → (is_fragment_count g.fr
 unfolding frag_holds
 frag_fact g h = grind (arith, nat_tests)
 
+-- a file block of 4096 bytes or more has at most eight fragments
+fragment_bytes : (frag fsize bsize : ℕ) → is_fragment_count frag ≡ true → 4096 ≤ bsize → bsize ≤ 65536 → bsize ≡ frag * fsize
+    → (512 ≤ fsize) × (fsize ≤ 65536)
+unfolding is_fragment_count
+fragment_bytes frag fsize bsize h low high product = grind (arith, nat_tests)
+
 size_fact : (size n : ℕ) → (nat_le 1 size && nat_le size n) ≡ true → (1 ≤ size) × (size ≤ n)
 size_fact size n h = grind (arith, nat_tests)
 
@@ -90,6 +96,7 @@ tests_make endian bytes l n g pass =
         format = (format.1, format.2);
         bsize = (pass Bsize, block.0, block.1);
         frag = (frag.0, count.0, count.1, frag.1);
+        fsize = fragment_bytes g.frag g.fsize g.bsize (frag.0) (block.0) (block.1) (frag.1);
         nindir = equal_fact g.nindir (g.bsize / 4) (pass Nindir);
         inopb = equal_fact g.inopb (g.bsize / 128) (pass Inopb);
         size = size.0;

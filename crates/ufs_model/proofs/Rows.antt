@@ -57,6 +57,7 @@ small_is_a_geometry = record {
   format = (omega arith, omega arith);
   bsize = (refl, omega arith, omega arith);
   frag = (refl, omega arith, omega arith, refl);
+  fsize = (omega arith, omega arith);
   nindir = refl;
   inopb = refl;
   size = omega arith;

@@ -24,11 +24,12 @@ unfoldable pub is_fragment_count : ℕ → Bool
 is_fragment_count n = (n == 1) || ((n == 2) || ((n == 4) || (n == 8)))
 
 -- The condition of each call that is handed a geometry: it passes the tests of a superblock on the
--- fields that it has. Each field is a test, or a part of one.
+-- fields that it has. Each field is a test, or a part of one; `fsize` follows from two of them.
 pub record IsGeometry (g : Geometry) : Type 0 where
   pub format : (1 ≤ g.maxsymlinklen) × (g.maxsymlinklen ≤ 60)
   pub bsize : (is_block_size g.bsize ≡ true) × (4096 ≤ g.bsize) × (g.bsize ≤ 65536)
   pub frag : (is_fragment_count g.frag ≡ true) × (1 ≤ g.frag) × (g.frag ≤ 8) × (g.bsize ≡ g.frag * g.fsize)
+  pub fsize : (512 ≤ g.fsize) × (g.fsize ≤ 65536)
   pub nindir : g.nindir ≡ g.bsize / 4
   pub inopb : g.inopb ≡ g.bsize / 128
   pub size : 1 ≤ g.size
