@@ -14,7 +14,15 @@ Run old (event ∷ events) (reply ∷ replies) new = (mid : State) × Step old e
 Run old [] (reply ∷ replies) new = ⊥
 Run old (event ∷ events) [] new = ⊥
 
--- a run from nothing: the first event makes the blank array, over members with these counts
+-- before its first event an array has no block and no boundary, and no call was made
+pub record IsUnmade (before : Counts) (state : State) : Type 0 where
+  pub boundaries : state.shape.b ≡ 0
+  pub size : state.shape.n ≡ 0
+  pub blocks : state.blocks ≡ []
+  pub counts : state.counts ≡ before
+
+-- a run from nothing, over a rack with these counts: the first event makes the blank array
 abbrev pub Trace : Counts → List Event → List Reply → State → Type 0
+Trace before [] [] new = IsUnmade before new
 Trace before (Array shape ∷ events) (Done ∷ replies) new = (blank : State) × IsBlank shape before blank × Run blank events replies new
 Trace before events replies new = ⊥

@@ -1,0 +1,4 @@
+mod BoundaryLemmas
+mod FallLemmas
+mod RangeLemmas
+mod SlotLemmas

@@ -1,0 +1,8 @@
+use Rattle.dg_pair.proofs.SlotLemmas.{room_slot, put_slots}
+use Rattle.dg_pair.proofs.members.Member.put.Goals as goal
+
+pub write-requires : goal.write-requires
+write-requires g c = room_slot c.args.self.now.l c.args.self.now.slots c.args.slot _ _ c.requires.slot c.requires.size c.requires.room
+
+pub returns-clause-kept : goal.returns-clause-kept
+returns-clause-kept g c = put_slots c.write.result c.args.self.now.l c.args.self.now.slots c.args.slot c.args.buf.now _ _ c.requires.slot c.requires.size c.requires.room c.write.ensures.ok c.write.ensures.err

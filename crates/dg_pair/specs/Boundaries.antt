@@ -1,0 +1,67 @@
+-- A boundary of two members, as the layers above see it. The rules are this project's own.
+use Rattle.std.specs.Prelude.{◌≡◌, ◌≢◌, ◌⊎◌, ◌+◌, ◌*◌, ◌/◌, ◌≤◌, ◌<◌, ◌==◌, ◌||◌, if◌then◌else◌, nat_lt, ℕ, List, Option}
+use Rattle.dg_model.specs.Members.{HasRoom, SlotOf}
+use Rattle.dg_model.specs.declared.members.MemberState.{MemberState}
+use Rattle.dg_model.specs.declared.members.MemberState.TheVariants.{Good, Filling, Out}
+use Rattle.dg_pair.specs.declared.members.Member.{Member}
+use Rattle.dg_pair.specs.declared.boundaries.Boundary.{Boundary}
+use Rattle.dg_pair.specs.declared.boundaries.Boundary.TheVariants.{Both, Half, Fill, Lost}
+
+-- what member q is: one of the boundary's two, by what it does, or no member of it
+abbrev pub members_of : Boundary → ℕ → MemberState
+members_of (Both a b) q = if q == a.number || q == b.number then Good else Out
+members_of (Half a b) q = if q == a.number then Good else Out
+members_of (Fill a b) q = if q == a.number then Good else if q == b.number then Filling b.state.have else Out
+members_of (Lost a b) q = Out
+
+-- the number of the boundary: its members are 2s and 2s + 1
+abbrev pub number_of : Boundary → ℕ
+number_of (Both a b) = a.number / 2
+number_of (Half a b) = a.number / 2
+number_of (Fill a b) = a.number / 2
+number_of (Lost a b) = a.number / 2
+
+-- bytes of a slot
+abbrev pub size_of : Boundary → ℕ
+size_of (Both a b) = a.l
+size_of (Half a b) = a.l
+size_of (Fill a b) = a.l
+size_of (Lost a b) = a.l
+
+-- slots of a member
+abbrev pub slots_of : Boundary → ℕ
+slots_of (Both a b) = a.slots
+slots_of (Half a b) = a.slots
+slots_of (Fill a b) = a.slots
+slots_of (Lost a b) = a.slots
+
+-- these are the two members of one boundary, and of one size
+pub record ArePartners {S T : Type 0} (a : Member S) (b : Member T) : Type 0 where
+  pub numbers : a.number + b.number ≡ 4 * (a.number / 2) + 1
+  pub sizes : b.l ≡ a.l
+  pub slots : b.slots ≡ a.slots
+
+-- its members are the two of one boundary, and none is refilled past its last slot
+abbrev pub IsWell : Boundary → Type 0
+IsWell (Both a b) = ArePartners a b
+IsWell (Half a b) = ArePartners a b
+IsWell (Fill a b) = ArePartners a b × (b.state.have ≤ b.slots)
+IsWell (Lost a b) = ArePartners a b
+
+-- each member that isn't out is long enough for its slots, where it tells its bytes
+abbrev pub MembersFit : ℕ → ℕ → (ℕ → MemberState) → (ℕ → Option (List ℕ)) → Type 0
+MembersFit l slots members bytes = (q : ℕ) → members q ≢ Out → HasRoom l slots (bytes q)
+
+-- how many of its members are good
+abbrev pub goods_of : Boundary → ℕ
+goods_of (Both a b) = 2
+goods_of (Half a b) = 1
+goods_of (Fill a b) = 1
+goods_of (Lost a b) = 0
+
+-- how many of its members take a write of this slot
+abbrev pub takers_of : Boundary → ℕ → ℕ
+takers_of (Both a b) slot = 2
+takers_of (Half a b) slot = 1
+takers_of (Fill a b) slot = if nat_lt slot b.state.have then 2 else 1
+takers_of (Lost a b) slot = 0

@@ -1,0 +1,40 @@
+-- The same words by cases on the boundary, for the functions that work on one case.
+use Rattle.std.specs.Prelude.{◌≡◌, ◌≢◌, ◌⊎◌, ◌<◌, ℕ, List, Option}
+use Rattle.dg_model.specs.Members.{HasRoom, SlotOf}
+use Rattle.dg_pair.specs.declared.boundaries.Boundary.{Boundary}
+use Rattle.dg_pair.specs.declared.boundaries.Boundary.TheVariants.{Both, Half, Fill, Lost}
+
+abbrev pub HasNone : Boundary → Type 0
+HasNone (Both a b) = ⊥
+HasNone (Half a b) = ⊥
+HasNone (Fill a b) = ⊥
+HasNone (Lost a b) = Unit {0}
+
+-- each member that isn't out is long enough
+abbrev pub Fits : Boundary → (ℕ → Option (List ℕ)) → Type 0
+Fits (Both a b) bytes = HasRoom a.l a.slots (bytes a.number) × HasRoom a.l a.slots (bytes b.number)
+Fits (Half a b) bytes = HasRoom a.l a.slots (bytes a.number)
+Fits (Fill a b) bytes = HasRoom a.l a.slots (bytes a.number) × HasRoom a.l a.slots (bytes b.number)
+Fits (Lost a b) bytes = Unit {0}
+
+-- these are the bytes of the slot on a good member, where it tells them
+abbrev pub ReadsGood : Boundary → ℕ → ℕ → List ℕ → (ℕ → Option (List ℕ)) → Type 0
+ReadsGood (Both a b) l slot v bytes = SlotOf l slot v (bytes a.number) ⊎ SlotOf l slot v (bytes b.number)
+ReadsGood (Half a b) l slot v bytes = SlotOf l slot v (bytes a.number)
+ReadsGood (Fill a b) l slot v bytes = SlotOf l slot v (bytes a.number)
+ReadsGood (Lost a b) l slot v bytes = ⊥
+
+-- these are the bytes of the slot on each member that serves it
+abbrev pub SlotIs : Boundary → ℕ → ℕ → List ℕ → (ℕ → Option (List ℕ)) → Type 0
+SlotIs (Both a b) l slot v bytes = SlotOf l slot v (bytes a.number) × SlotOf l slot v (bytes b.number)
+SlotIs (Half a b) l slot v bytes = SlotOf l slot v (bytes a.number)
+SlotIs (Fill a b) l slot v bytes = SlotOf l slot v (bytes a.number) × (slot < b.state.have → SlotOf l slot v (bytes b.number))
+SlotIs (Lost a b) l slot v bytes = Unit {0}
+
+-- each slot has what it had
+abbrev pub KeepsAll : ℕ → Boundary → (ℕ → Option (List ℕ)) → Boundary → (ℕ → Option (List ℕ)) → Type 0
+KeepsAll l old before new now = (x : ℕ) (v : List ℕ) → SlotIs old l x v before → SlotIs new l x v now
+
+-- each other slot has what it had
+abbrev pub KeepsOthers : ℕ → ℕ → Boundary → (ℕ → Option (List ℕ)) → Boundary → (ℕ → Option (List ℕ)) → Type 0
+KeepsOthers l slot old before new now = (x : ℕ) (v : List ℕ) → x ≢ slot → SlotIs old l x v before → SlotIs new l x v now

@@ -1,0 +1,236 @@
+// One member, and the calls on it.
+ghost use Rattle.std.specs.Prelude.{◌≡◌, ◌+◌, ◌*◌, ◌%◌, ◌≤◌, ◌<◌, ℕ, length, IsErr, OnOk};
+ghost use Rattle.dg_model.specs.Members.{HasRoom, SlotOf, place_of};
+ghost use Rattle.dg_model.specs.Causes.{RoseByOne};
+ghost use Rattle.dg_model.specs.States.{CountsRise};
+ghost use Rattle.dg_io.specs.Told.{Told, IsSame, IsZeros, StillTold, OthersSame};
+ghost use Rattle.dg_io.specs.Faults.{HasCause, OnlyMember};
+ghost use Rattle.dg_pair.specs.Members.{IsMember, GoodIs, FillIs, GotSlot, TookSlot, HasFailed, FillFailed, KeepsSlots, BlankIs};
+
+use dg_io::{Failed, Rack};
+
+/// The member serves.
+#[derive(Drop)]
+pub struct Good;
+
+/// The member is being refilled, from slot 0 on.
+#[derive(Drop)]
+pub struct Filling {
+    /// The slots below this one are as its partner's.
+    pub(crate) have: u32,
+}
+
+/// The member isn't called.
+#[derive(Drop)]
+pub struct Out;
+
+/// One member of a boundary. Slot x stands at place `512 + x * l`.
+#[derive(Drop)]
+pub struct Member<S> {
+    /// Member `2s + j` is side j of boundary s.
+    pub(crate) number: u8,
+    /// Bytes of a slot.
+    pub(crate) l: u32,
+    /// How many slots it has.
+    pub(crate) slots: u32,
+    /// What it does.
+    pub(crate) state: S,
+}
+
+/// What became of a good member by a call.
+#[derive(Drop)]
+pub enum GoodCall {
+    /// The call was done.
+    Done(Member<Good>),
+    /// It failed, and the member is out.
+    Fell(Member<Out>),
+}
+
+/// What became of a member that is being refilled by a call.
+#[derive(Drop)]
+pub enum FillCall {
+    /// The call was done.
+    Done(Member<Filling>),
+    /// It failed, and the member is out.
+    Fell(Member<Out>),
+}
+
+impl<S: Drop> Member<S> {
+    // The member in another state.
+    fn turned<T>(self, state: T) -> Member<T>
+        ensures is { IsMember self.number self.l self.slots result }
+        ensures state { result.state ≡ state }
+    {
+        let Member {
+            number,
+            l,
+            slots,
+            ..
+        } = self;
+        Member {
+            number,
+            l,
+            slots,
+            state,
+        }
+    }
+
+    // Which side of its boundary it is.
+    pub(crate) fn side(&self) -> u8
+        ensures { result ≡ self.now.number % 2 }
+    {
+        self.number % 2
+    }
+
+    // Writes a slot.
+    fn put<R: Rack>(&self, rack: &mut R, slot: u32, buf: &[u8]) -> Result<(), Failed>
+        requires size { length buf.now ≡ self.now.l }
+        requires slot { slot < self.now.slots }
+        requires room { HasRoom self.now.l self.now.slots (R.bytes rack.old self.now.number) }
+        ensures put { OnOk result (SlotOf self.now.l slot buf.now (R.bytes rack.new self.now.number)) }
+        ensures kept { KeepsSlots self.now.l slot (R.bytes rack.old self.now.number) (R.bytes rack.new self.now.number) }
+        ensures room { HasRoom self.now.l self.now.slots (R.bytes rack.new self.now.number) }
+        ensures other_bytes { OthersSame self.now.number (R.bytes rack.old) (R.bytes rack.new) }
+        ensures cause { HasCause ((R.counts rack.old).faults self.now.number) ((R.counts rack.new).faults self.now.number) result }
+        ensures other_faults { OnlyMember self.now.number (R.counts rack.old).faults (R.counts rack.new).faults }
+        ensures counts { CountsRise (R.counts rack.old) (R.counts rack.new) }
+        ensures calls { RoseByOne (R.counts rack.old).calls (R.counts rack.new).calls }
+        ensures writes { RoseByOne (R.counts rack.old).writes (R.counts rack.new).writes }
+        ensures tells { StillTold (R.bytes rack.old) (R.bytes rack.new) }
+        ensures name { R.name rack.new ≡ R.name rack.old }
+    {
+        rack.write(self.number, 512 + slot as u64 * self.l as u64, buf)
+    }
+}
+
+impl Member<Out> {
+    // A member of no boundary.
+    pub(crate) fn hollow() -> Self {
+        Member {
+            number: 0,
+            l: 0,
+            slots: 0,
+            state: Out,
+        }
+    }
+}
+
+impl Member<Good> {
+    /// Puts the member out.
+    pub fn fail(self) -> Member<Out>
+        ensures { IsMember self.number self.l self.slots result }
+    {
+        self.turned(Out)
+    }
+
+    /// Reads a slot.
+    pub fn read<R: Rack>(self, rack: &mut R, slot: u32, buf: &mut [u8]) -> GoodCall
+        requires size { length buf.old ≡ self.l }
+        requires slot { slot < self.slots }
+        requires room { HasRoom self.l self.slots (R.bytes rack.old self.number) }
+        ensures is { GoodIs self.number self.l self.slots result }
+        ensures got { GotSlot self.l slot buf.new (R.bytes rack.new self.number) result }
+        ensures same { (q : ℕ) → Told IsSame (R.bytes rack.old q) (R.bytes rack.new q) }
+        ensures cause { HasFailed ((R.counts rack.old).faults self.number) ((R.counts rack.new).faults self.number) result }
+        ensures other_faults { OnlyMember self.number (R.counts rack.old).faults (R.counts rack.new).faults }
+        ensures counts { CountsRise (R.counts rack.old) (R.counts rack.new) }
+        ensures calls { RoseByOne (R.counts rack.old).calls (R.counts rack.new).calls }
+        ensures writes { (R.counts rack.new).writes ≡ (R.counts rack.old).writes }
+        ensures tells { StillTold (R.bytes rack.old) (R.bytes rack.new) }
+        ensures name { R.name rack.new ≡ R.name rack.old }
+    {
+        match rack.read(self.number, 512 + slot as u64 * self.l as u64, buf) {
+            Ok(()) => GoodCall::Done(self),
+            Err(_) => GoodCall::Fell(self.fail()),
+        }
+    }
+
+    /// Writes a slot.
+    pub fn write<R: Rack>(self, rack: &mut R, slot: u32, buf: &[u8]) -> GoodCall
+        requires size { length buf.now ≡ self.l }
+        requires slot { slot < self.slots }
+        requires room { HasRoom self.l self.slots (R.bytes rack.old self.number) }
+        ensures is { GoodIs self.number self.l self.slots result }
+        ensures put { GotSlot self.l slot buf.now (R.bytes rack.new self.number) result }
+        ensures kept { KeepsSlots self.l slot (R.bytes rack.old self.number) (R.bytes rack.new self.number) }
+        ensures room { HasRoom self.l self.slots (R.bytes rack.new self.number) }
+        ensures other_bytes { OthersSame self.number (R.bytes rack.old) (R.bytes rack.new) }
+        ensures cause { HasFailed ((R.counts rack.old).faults self.number) ((R.counts rack.new).faults self.number) result }
+        ensures other_faults { OnlyMember self.number (R.counts rack.old).faults (R.counts rack.new).faults }
+        ensures counts { CountsRise (R.counts rack.old) (R.counts rack.new) }
+        ensures calls { RoseByOne (R.counts rack.old).calls (R.counts rack.new).calls }
+        ensures writes { RoseByOne (R.counts rack.old).writes (R.counts rack.new).writes }
+        ensures tells { StillTold (R.bytes rack.old) (R.bytes rack.new) }
+        ensures name { R.name rack.new ≡ R.name rack.old }
+    {
+        match self.put(rack, slot, buf) {
+            Ok(()) => GoodCall::Done(self),
+            Err(_) => GoodCall::Fell(self.fail()),
+        }
+    }
+
+    // Makes a member anew, of so many zero bytes.
+    pub(crate) fn blank<R: Rack>(
+        rack: &mut R,
+        number: u8,
+        l: u32,
+        slots: u32,
+        size: u64,
+    ) -> GoodCall
+        requires { 512 + slots * l ≤ size }
+        ensures is { GoodIs number l slots result }
+        ensures blank { BlankIs size (R.bytes rack.old number) (R.bytes rack.new number) result }
+        ensures other_bytes { OthersSame number (R.bytes rack.old) (R.bytes rack.new) }
+        ensures cause { HasFailed ((R.counts rack.old).faults number) ((R.counts rack.new).faults number) result }
+        ensures other_faults { OnlyMember number (R.counts rack.old).faults (R.counts rack.new).faults }
+        ensures counts { CountsRise (R.counts rack.old) (R.counts rack.new) }
+        ensures calls { RoseByOne (R.counts rack.old).calls (R.counts rack.new).calls }
+        ensures writes { RoseByOne (R.counts rack.old).writes (R.counts rack.new).writes }
+        ensures tells { StillTold (R.bytes rack.old) (R.bytes rack.new) }
+        ensures name { R.name rack.new ≡ R.name rack.old }
+    {
+        let member = Member {
+            number,
+            l,
+            slots,
+            state: Good,
+        };
+        match rack.blank(number, size) {
+            Ok(()) => GoodCall::Done(member),
+            Err(_) => GoodCall::Fell(member.fail()),
+        }
+    }
+}
+
+impl Member<Filling> {
+    /// Puts the member out.
+    pub fn fail(self) -> Member<Out>
+        ensures { IsMember self.number self.l self.slots result }
+    {
+        self.turned(Out)
+    }
+
+    /// Writes a slot. There is no read.
+    pub fn write<R: Rack>(self, rack: &mut R, slot: u32, buf: &[u8]) -> FillCall
+        requires size { length buf.now ≡ self.l }
+        requires slot { slot < self.slots }
+        requires room { HasRoom self.l self.slots (R.bytes rack.old self.number) }
+        ensures is { FillIs self.number self.l self.slots self.state.have result }
+        ensures put { TookSlot self.l slot buf.now (R.bytes rack.new self.number) result }
+        ensures kept { KeepsSlots self.l slot (R.bytes rack.old self.number) (R.bytes rack.new self.number) }
+        ensures room { HasRoom self.l self.slots (R.bytes rack.new self.number) }
+        ensures other_bytes { OthersSame self.number (R.bytes rack.old) (R.bytes rack.new) }
+        ensures cause { FillFailed ((R.counts rack.old).faults self.number) ((R.counts rack.new).faults self.number) result }
+        ensures other_faults { OnlyMember self.number (R.counts rack.old).faults (R.counts rack.new).faults }
+        ensures counts { CountsRise (R.counts rack.old) (R.counts rack.new) }
+        ensures calls { RoseByOne (R.counts rack.old).calls (R.counts rack.new).calls }
+        ensures writes { RoseByOne (R.counts rack.old).writes (R.counts rack.new).writes }
+        ensures tells { StillTold (R.bytes rack.old) (R.bytes rack.new) }
+        ensures name { R.name rack.new ≡ R.name rack.old }
+    {
+        match self.put(rack, slot, buf) {
+            Ok(()) => FillCall::Done(self),
+            Err(_) => FillCall::Fell(self.fail()),
+        }
+    }
+}

@@ -1,0 +1,10 @@
+-- The definitions of a UFS1 volume, by subject, lowest first.
+pub mod Numbers
+pub mod Blocks
+pub mod Geometries
+pub mod Superblocks
+pub mod Roles
+pub mod Inodes
+pub mod GroupMaps
+pub mod Chunks
+pub mod Pointers
