@@ -1,7 +1,15 @@
-//! The top call.
+//! The top call: from the bytes of a trace to the bytes of its replies.
+//!
+//! `run` reads the words and starts a replay. A replay takes the lines of the input one by one (`input`, `events`), does
+//! the event of each on the store and writes its reply (`serve`), and goes on to the end of the input or to the first line
+//! that is refused (`lines`, `top`).
 #![tactic(auto)]
 
+mod events;
 mod input;
+mod lines;
 mod pieces;
+mod serve;
+mod top;
 
-pub use input::{Input, LineStep};
+pub use top::{Status, run};

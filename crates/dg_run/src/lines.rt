@@ -1,0 +1,103 @@
+// The lines of a trace, one after another.
+ghost use Rattle.std.specs.Prelude.{◌≡◌, ◌-◌, ◌+◌, ◌≤◌, ◌<◌, ◌^◌, ◌++◌, [], ℕ, List, length, IfOk, Some};
+ghost use Rattle.dg_io.specs.Told.{Told, IsSame};
+ghost use Rattle.dg_model.specs.Causes.{Rose};
+ghost use Rattle.dg_store.specs.Stores.{shape_of};
+ghost use Rattle.dg_run.specs.Inputs.{ahead};
+ghost use Rattle.dg_run.specs.Stores.{IsReady, GoesOn};
+ghost use Rattle.dg_run.specs.Lines.{Turned, LinesEndAt};
+
+use crate::events::{Fault, Taken, take_event};
+use crate::input::Input;
+use crate::serve::serve;
+use dg_io::{Rack, Sink, Source};
+use dg_store::Store;
+use std::alloc::Global;
+
+/// No line may go past so many bytes of the input.
+pub const BUDGET: u64 = 1 << 40;
+
+/// What a turn did.
+#[derive(Clone, Copy, Debug, PartialEq, Eq)]
+pub enum Turn {
+    /// It served a line of so many bytes, its line feed among them.
+    Served(u64),
+    /// Nothing: the input is at its end.
+    End,
+    /// Nothing: the line is refused.
+    Refused,
+}
+
+/// How the lines ended.
+#[derive(Clone, Copy, Debug, PartialEq, Eq)]
+pub enum LinesEnd {
+    /// All were served.
+    Input,
+    /// The line of this number, counted from 1, is refused.
+    Refused(u64),
+}
+
+/// Takes a line of no more bytes than the room, does its event and writes the reply.
+fn turn<S: Source, K: Sink, R: Rack>(
+    alloc: Global,
+    input: &mut Input,
+    source: &mut S,
+    sink: &mut K,
+    store: &mut Store<R>,
+    block: &mut [u8],
+    room: u64,
+) -> Result<Turn, Fault>
+    requires ready { IsReady R.bytes store.old }
+    requires size { length block.old ≡ (shape_of store.old).l }
+    ensures goes { GoesOn R.bytes R.name store.old store.new }
+    ensures turned { IfOk result (Turned R.counts R.bytes room (ahead input.old (S.left source.old)) (ahead input.new (S.left source.new)) (K.taken sink.old) (K.taken sink.new) store.old store.new) }
+    ensures source_later { S.faults source.old ≤ S.faults source.new }
+    ensures sink_later { K.faults sink.old ≤ K.faults sink.new }
+    ensures read { result ≡ Err Fault.Read → Rose (S.faults source.old) (S.faults source.new) }
+    ensures write { result ≡ Err Fault.Write → Rose (K.faults sink.old) (K.faults sink.new) }
+{
+    match take_event(alloc, input, source, Some(store.shape()), room)? {
+        Taken::Event(event, bytes) => {
+            serve(store, sink, &event, block)?;
+            Ok(Turn::Served(bytes))
+        }
+        Taken::End => Ok(Turn::End),
+        Taken::Refused => Ok(Turn::Refused),
+    }
+}
+
+/// Serves the lines behind the first one, to the end of the input or the first line that is refused. The first line had
+/// so many bytes.
+pub fn serve_lines<S: Source, K: Sink, R: Rack>(
+    alloc: Global,
+    input: &mut Input,
+    source: &mut S,
+    sink: &mut K,
+    store: &mut Store<R>,
+    block: &mut [u8],
+    first: u64,
+) -> Result<LinesEnd, Fault>
+    requires ready { IsReady R.bytes store.old }
+    requires size { length block.old ≡ (shape_of store.old).l }
+    requires first { first ≤ 2 ^ 40 }
+    ensures goes { GoesOn R.bytes R.name store.old store.new }
+    ensures end { IfOk result (LinesEndAt R.counts R.bytes first (ahead input.old (S.left source.old)) (ahead input.new (S.left source.new)) (K.taken sink.old) (K.taken sink.new) store.old store.new) }
+    ensures source_later { S.faults source.old ≤ S.faults source.new }
+    ensures sink_later { K.faults sink.old ≤ K.faults sink.new }
+    ensures read { result ≡ Err Fault.Read → Rose (S.faults source.old) (S.faults source.new) }
+    ensures write { result ≡ Err Fault.Write → Rose (K.faults sink.old) (K.faults sink.new) }
+{
+    let mut passed = first;
+    let mut number = 2;
+    while passed <= BUDGET {
+        match turn(alloc, input, source, sink, store, block, BUDGET - passed)? {
+            Turn::Served(bytes) => {
+                passed += bytes;
+                number += 1;
+            }
+            Turn::End => return Ok(LinesEnd::Input),
+            Turn::Refused => return Ok(LinesEnd::Refused(number)),
+        }
+    }
+    unreachable!()
+}

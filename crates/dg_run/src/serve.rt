@@ -1,0 +1,168 @@
+// One event on a store, and its reply.
+ghost use Rattle.std.specs.Prelude.{◌≡◌, ◌≢◌, ◌+◌, ◌-◌, ◌≤◌, ◌<◌, ◌++◌, ℕ, List, length, IfOk, OnOk, OnErr, Some, replicate, take, slice_index};
+ghost use Rattle.dg_model.specs.Causes.{Rose};
+ghost use Rattle.dg_model.specs.States.{padded, IsTrimmed};
+ghost use Rattle.dg_store.specs.Stores.{shape_of};
+ghost use Rattle.dg_text.specs.Lines.{IsInPlace};
+ghost use Rattle.dg_text.specs.Replies.{IsShort, reply_line};
+ghost use Rattle.dg_io.specs.Told.{Told, Took};
+ghost use Rattle.dg_run.specs.Stores.{IsReady, GoesOn, StepsTo, Answered};
+
+use crate::events::Fault;
+use dg_io::{Rack, Sink};
+use dg_model::{Bytes, Event, NoMemory, Reply};
+use dg_store::{Fetched, Store, StoreWrite};
+use dg_text::{write_data, write_reply};
+
+/// Fills a block with these bytes, and zeros for its missing end.
+fn fill_block(block: &mut [u8], bytes: &[u8])
+    requires { length bytes.now ≤ length block.old }
+    ensures { block.new ≡ padded (length block.old) bytes.now }
+{
+    block.fill(0);
+    block[..bytes.len()].copy_from_slice(bytes);
+}
+
+/// How many bytes are left of a block without the zeros at its end.
+fn trimmed_len(block: &[u8]) -> usize
+    ensures within { result ≤ length block.now }
+    ensures zeros { block.now ≡ take result block.now ++ replicate (length block.now - result) 0 }
+    ensures last { 0 < result → slice_index block.now (result - 1) ≢ 0 }
+{
+    let mut n = block.len();
+    while n > 0 && block[n - 1] == 0 {
+        n -= 1;
+    }
+    n
+}
+
+/// A block without the zeros at its end.
+fn trimmed(block: &[u8]) -> &[u8]
+    ensures { IsTrimmed result.now block.now }
+{
+    &block[..trimmed_len(block)]
+}
+
+fn write_block<R: Rack>(
+    store: &mut Store<R>,
+    b: u32,
+    bytes: &Bytes,
+    block: &mut [u8],
+) -> Result<Reply, NoMemory>
+    requires ready { IsReady R.bytes store.old }
+    requires size { length block.old ≡ (shape_of store.old).l }
+    requires fits { length bytes.now ≤ (shape_of store.old).l }
+    ensures goes { GoesOn R.bytes R.name store.old store.new }
+    ensures short { IfOk result IsShort }
+    ensures steps { IfOk result (λ reply. StepsTo R.counts R.bytes store.old (Event.Write b bytes.now) reply store.new) }
+{
+    if b >= store.shape().n {
+        return Ok(Reply::Range);
+    }
+    if store.is_degraded() {
+        return Ok(Reply::Degraded);
+    }
+    fill_block(block, bytes.as_slice());
+    match store.write(b, block)? {
+        StoreWrite::Stored => Ok(Reply::Done),
+        StoreWrite::AllLost => Ok(Reply::Degraded),
+    }
+}
+
+/// Writes a reply.
+pub fn send<K: Sink>(sink: &mut K, reply: &Reply) -> Result<(), Fault>
+    requires { IsShort reply.now }
+    ensures ok { OnOk result (Told (Took (reply_line reply.now)) (K.taken sink.old) (K.taken sink.new)) }
+    ensures later { K.faults sink.old ≤ K.faults sink.new }
+    ensures err { OnErr result (result ≡ Err Fault.Write) }
+    ensures write { OnErr result (Rose (K.faults sink.old) (K.faults sink.new)) }
+{
+    match write_reply(sink, reply) {
+        Ok(()) => Ok(()),
+        Err(_) => Err(Fault::Write),
+    }
+}
+
+/// Writes the reply that gives bytes of a block.
+fn send_data<K: Sink>(sink: &mut K, bytes: &[u8]) -> Result<(), Fault>
+    requires { length bytes.now ≤ 4096 }
+    ensures ok { OnOk result (Told (Took (reply_line (Reply.Data bytes.now))) (K.taken sink.old) (K.taken sink.new)) }
+    ensures later { K.faults sink.old ≤ K.faults sink.new }
+    ensures err { OnErr result (result ≡ Err Fault.Write) }
+    ensures write { OnErr result (Rose (K.faults sink.old) (K.faults sink.new)) }
+{
+    match write_data(sink, bytes) {
+        Ok(()) => Ok(()),
+        Err(_) => Err(Fault::Write),
+    }
+}
+
+/// Writes a block, and the reply.
+fn serve_write<R: Rack, K: Sink>(
+    store: &mut Store<R>,
+    sink: &mut K,
+    b: u32,
+    bytes: &Bytes,
+    block: &mut [u8],
+) -> Result<(), Fault>
+    requires ready { IsReady R.bytes store.old }
+    requires size { length block.old ≡ (shape_of store.old).l }
+    requires fits { length bytes.now ≤ (shape_of store.old).l }
+    ensures goes { GoesOn R.bytes R.name store.old store.new }
+    ensures answered { OnOk result (Answered R.counts R.bytes (Event.Write b bytes.now) (K.taken sink.old) (K.taken sink.new) store.old store.new) }
+    ensures later { K.faults sink.old ≤ K.faults sink.new }
+    ensures read { result ≡ Err Fault.Read → ⊥ }
+    ensures write { result ≡ Err Fault.Write → Rose (K.faults sink.old) (K.faults sink.new) }
+{
+    match write_block(store, b, bytes, block) {
+        Ok(reply) => send(sink, &reply),
+        Err(_) => Err(Fault::NoMemory),
+    }
+}
+
+/// Reads a block, and writes the reply.
+fn serve_read<R: Rack, K: Sink>(
+    store: &mut Store<R>,
+    sink: &mut K,
+    b: u32,
+    block: &mut [u8],
+) -> Result<(), Fault>
+    requires ready { IsReady R.bytes store.old }
+    requires size { length block.old ≡ (shape_of store.old).l }
+    ensures goes { GoesOn R.bytes R.name store.old store.new }
+    ensures answered { OnOk result (Answered R.counts R.bytes (Event.Read b) (K.taken sink.old) (K.taken sink.new) store.old store.new) }
+    ensures later { K.faults sink.old ≤ K.faults sink.new }
+    ensures read { result ≡ Err Fault.Read → ⊥ }
+    ensures write { result ≡ Err Fault.Write → Rose (K.faults sink.old) (K.faults sink.new) }
+{
+    if b >= store.shape().n {
+        return send(sink, &Reply::Range);
+    }
+    match store.read(b, block) {
+        Fetched::Got => send_data(sink, trimmed(block)),
+        Fetched::Gone => send(sink, &Reply::Unavailable),
+    }
+}
+
+/// Does an event that is in its place after the array, and writes its reply.
+pub fn serve<R: Rack, K: Sink>(
+    store: &mut Store<R>,
+    sink: &mut K,
+    event: &Event,
+    block: &mut [u8],
+) -> Result<(), Fault>
+    requires ready { IsReady R.bytes store.old }
+    requires size { length block.old ≡ (shape_of store.old).l }
+    requires in_place { IsInPlace (Some (shape_of store.old)) event.now }
+    ensures goes { GoesOn R.bytes R.name store.old store.new }
+    ensures answered { OnOk result (Answered R.counts R.bytes event.now (K.taken sink.old) (K.taken sink.new) store.old store.new) }
+    ensures later { K.faults sink.old ≤ K.faults sink.new }
+    ensures read { result ≡ Err Fault.Read → ⊥ }
+    ensures write { result ≡ Err Fault.Write → Rose (K.faults sink.old) (K.faults sink.new) }
+{
+    match event {
+        Event::Write(b, bytes) => serve_write(store, sink, *b, bytes, block),
+        Event::Read(b) => serve_read(store, sink, *b, block),
+        Event::Array(_) => unreachable!(),
+    }
+}
