@@ -1,0 +1,4 @@
+mod Cuts
+mod Numbers
+mod HexWords
+mod Lengths

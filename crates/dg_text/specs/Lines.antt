@@ -1,6 +1,6 @@
 -- The lines of a trace. Each event has one spelling: words with one space between them, numbers in decimal without a
 -- leading zero, bytes as pairs of hex digits in lower case. The rules are this project's own.
-use Rattle.std.specs.Prelude.{◌≤◌, ◌<◌, ◌+◌, ◌*◌, ◌^◌, ℕ, List, [], ◌∷◌, ◌++◌, length, codes, Option, Some, None, All}
+use Rattle.std.specs.Prelude.{◌⊎◌, ◌≤◌, ◌<◌, ◌+◌, ◌*◌, ◌^◌, ℕ, List, [], ◌∷◌, ◌++◌, length, codes, Option, Some, None, All}
 use Rattle.std.specs.Fmt.{decimal}
 use Rattle.std.specs.List.{flat_map}
 use Rattle.hex.specs.Hex.{encode_lower}
@@ -52,3 +52,7 @@ AreInPlace (Read b ∷ events) = ⊥
 abbrev pub longest : Option Shape → ℕ
 longest None = 2 * 512 + 4201
 longest (Some shape) = 2 * shape.l + 4201
+
+-- a hex digit in lower case
+abbrev pub IsLowerDigit : ℕ → Type 0
+IsLowerDigit c = ((48 ≤ c) × (c ≤ 57)) ⊎ ((97 ≤ c) × (c ≤ 102))

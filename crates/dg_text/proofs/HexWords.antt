@@ -1,0 +1,93 @@
+-- Hex words in lower case: each is the spelling of some bytes.
+use Rattle.std.proofs.Common.{◌≡◌, ◌<◌, ◌≤◌, ◌+◌, ◌-◌, ◌*◌, ◌/◌, ◌%◌, ◌==◌, ◌&&◌, ◌⊎◌, inl, inr, Bool, true, false, ℕ, zero, suc, List, [], ◌∷◌, length, slice_index, refl, sym, ◌∙◌, ap, arith}
+use Rattle.std.specs.Prelude.{All, Ok}
+use Rattle.std.proofs.lemmas.Bool.{and_parts, cases_lt, eqb-true}
+use Rattle.std.proofs.lemmas.List.Elements.{All-cons, All-nil, All-head, All-tail}
+use Rattle.hex.specs.Hex.{IsBytes, decode_of, encode_lower, encode_with, lower_digits}
+use Rattle.hex.proofs.HexLemmas.{decode_of-encode_lower, decode_of-same}
+use Rattle.dg_text.specs.Lines.{IsLowerDigit, AreBytes}
+
+-- the first n numbers pass
+abbrev all_below : (ℕ → Bool) → ℕ → Bool
+all_below test zero = true
+all_below test (suc n) = test n && all_below test n
+
+all_below-at : (test : ℕ → Bool) (n k : ℕ) → all_below test n ≡ true → k < n → test k ≡ true
+all_below-at test zero k h lt = absurd (omega arith)
+all_below-at test (suc n) k h lt =
+    let parts = and_parts (test n) (all_below test n) h in
+    elim (cases_lt k n) [
+      | inl below ↦ all_below-at test n k parts.1 below
+      | inr top ↦
+          let e : k ≡ n = omega arith in
+          rw e parts.0
+    ]
+
+abbrev is_decimal_at : ℕ → Bool
+is_decimal_at k = slice_index lower_digits k == k + 48
+
+abbrev is_letter_at : ℕ → Bool
+is_letter_at k = slice_index lower_digits (k + 10) == k + 97
+
+decimal_at : (k : ℕ) → k < 10 → slice_index lower_digits k ≡ k + 48
+decimal_at k lt = eqb-true (slice_index lower_digits k) (k + 48) (all_below-at is_decimal_at 10 k refl lt)
+
+letter_at : (k : ℕ) → k < 6 → slice_index lower_digits (k + 10) ≡ k + 97
+letter_at k lt = eqb-true (slice_index lower_digits (k + 10)) (k + 97) (all_below-at is_letter_at 6 k refl lt)
+
+-- each digit has a value
+value_of : (c : ℕ) → IsLowerDigit c → (v : ℕ) × (v < 16) × (slice_index lower_digits v ≡ c)
+value_of c (inl h) =
+    let e = decimal_at (c - 48) (omega arith) in
+    let back : c - 48 + 48 ≡ c = omega arith in
+    (c - 48, omega arith, e ∙ back)
+value_of c (inr h) =
+    let e = letter_at (c - 97) (omega arith) in
+    let back : c - 97 + 97 ≡ c = omega arith in
+    (c - 97 + 10, omega arith, e ∙ back)
+
+-- and each value has a digit
+digit_of : (v : ℕ) → v < 16 → IsLowerDigit (slice_index lower_digits v)
+digit_of v lt =
+    elim (cases_lt v 10) [
+      | inl low ↦ let e = decimal_at v low in inl (omega arith, omega arith)
+      | inr high ↦
+          let e = letter_at (v - 10) (omega arith) in
+          let back : v - 10 + 10 ≡ v = omega arith in
+          let e2 : slice_index lower_digits v ≡ v - 10 + 97 = rw back at e in
+          inr (omega arith, omega arith)
+    ]
+
+IsBytes-cons : (b : ℕ) (rest : List ℕ) → b < 256 → IsBytes rest → IsBytes (b ∷ rest)
+IsBytes-cons b rest h hs zero = h
+IsBytes-cons b rest h hs (suc i) = hs i
+
+-- an even number of digits spells some bytes
+bytes_of : (s : List ℕ) → length s % 2 ≡ 0 → All IsLowerDigit s → (bytes : List ℕ) × IsBytes bytes × (encode_lower bytes ≡ s)
+unfolding encode_with
+bytes_of [] even lower = ([], (λ k. omega arith), refl)
+bytes_of (a ∷ []) even lower = absurd (omega arith)
+bytes_of (a ∷ b ∷ rest) even lower =
+    let high = value_of a (All-head IsLowerDigit a (b ∷ rest) lower) in
+    let tail = All-tail IsLowerDigit a (b ∷ rest) lower in
+    let low = value_of b (All-head IsLowerDigit b rest tail) in
+    let more = bytes_of rest (omega arith) (All-tail IsLowerDigit b rest tail) in
+    let first : (high.0 * 16 + low.0) / 16 ≡ high.0 = omega arith in
+    let second : (high.0 * 16 + low.0) % 16 ≡ low.0 = omega arith in
+    ((high.0 * 16 + low.0) ∷ more.0, IsBytes-cons (high.0 * 16 + low.0) more.0 (omega arith) more.1, rw (first, second) (cc (high.2, low.2, more.2)))
+
+-- what such a word decodes to is what it spells
+pub spelled_by_decoded : (s bytes : List ℕ) → length s % 2 ≡ 0 → All IsLowerDigit s → decode_of s ≡ Ok bytes → s ≡ encode_lower bytes
+spelled_by_decoded s bytes even lower is =
+    let found = bytes_of s even lower in
+    let again : decode_of s ≡ Ok found.0 = ap decode_of (sym found.2) ∙ decode_of-encode_lower found.0 found.1 in
+    sym found.2 ∙ ap encode_lower (decode_of-same s found.0 bytes again is)
+
+-- bytes are spelled in lower case
+pub encode_is_lower : (bytes : List ℕ) → AreBytes bytes → All IsLowerDigit (encode_lower bytes)
+unfolding encode_with
+encode_is_lower [] are = All-nil IsLowerDigit
+encode_is_lower (b ∷ rest) are =
+    let small : b < 256 = All-head (λ x. x < 256) b rest are in
+    All-cons IsLowerDigit (slice_index lower_digits (b / 16)) _ (digit_of (b / 16) (omega arith))
+    (All-cons IsLowerDigit (slice_index lower_digits (b % 16)) _ (digit_of (b % 16) (omega arith)) (encode_is_lower rest (All-tail (λ x. x < 256) b rest are)))
