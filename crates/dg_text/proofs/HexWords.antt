@@ -1,11 +1,12 @@
 -- Hex words in lower case: each is the spelling of some bytes.
-use Rattle.std.proofs.Common.{◌≡◌, ◌<◌, ◌≤◌, ◌+◌, ◌-◌, ◌*◌, ◌/◌, ◌%◌, ◌==◌, ◌&&◌, ◌⊎◌, inl, inr, Bool, true, false, ℕ, zero, suc, List, [], ◌∷◌, length, slice_index, refl, sym, ◌∙◌, ap, arith}
-use Rattle.std.specs.Prelude.{All, Ok}
+use Rattle.std.proofs.Common.{◌≡◌, ◌≢◌, ◌<◌, ◌≤◌, ◌+◌, ◌-◌, ◌*◌, ◌/◌, ◌%◌, ◌==◌, ◌&&◌, ◌⊎◌, inl, inr, Bool, true, false, ℕ, zero, suc, List, [], ◌∷◌, length, slice_index, refl, sym, ◌∙◌, ap, arith}
+use Rattle.std.specs.Prelude.{All, Ok, codes}
 use Rattle.std.proofs.lemmas.Bool.{and_parts, cases_lt, eqb-true}
 use Rattle.std.proofs.lemmas.List.Elements.{All-cons, All-nil, All-head, All-tail}
 use Rattle.hex.specs.Hex.{IsBytes, decode_of, encode_lower, encode_with, lower_digits}
-use Rattle.hex.proofs.HexLemmas.{decode_of-encode_lower, decode_of-same}
-use Rattle.dg_text.specs.Lines.{IsLowerDigit, AreBytes}
+use Rattle.hex.proofs.HexLemmas.{decode_of-encode_lower, decode_of-ok, decode_of-same, length-encode_with}
+use Rattle.std.proofs.lemmas.List.{get_or_default}
+use Rattle.dg_text.specs.Lines.{IsLowerDigit, AreBytes, hex_word}
 
 -- the first n numbers pass
 abbrev all_below : (ℕ → Bool) → ℕ → Bool
@@ -89,5 +90,47 @@ unfolding encode_with
 encode_is_lower [] are = All-nil IsLowerDigit
 encode_is_lower (b ∷ rest) are =
     let small : b < 256 = All-head (λ x. x < 256) b rest are in
-    All-cons IsLowerDigit (slice_index lower_digits (b / 16)) _ (digit_of (b / 16) (omega arith))
-    (All-cons IsLowerDigit (slice_index lower_digits (b % 16)) _ (digit_of (b % 16) (omega arith)) (encode_is_lower rest (All-tail (λ x. x < 256) b rest are)))
+    let more = encode_is_lower rest (All-tail (λ x. x < 256) b rest are) in
+    let low = digit_of (b % 16) (omega arith) in
+    All-cons IsLowerDigit (slice_index lower_digits (b / 16)) (slice_index lower_digits (b % 16) ∷ encode_with lower_digits rest) (digit_of (b / 16) (omega arith))
+    (All-cons IsLowerDigit (slice_index lower_digits (b % 16)) (encode_with lower_digits rest) low more)
+
+-- `-` spells no bytes alone
+pub dash_is_none : (bytes : List ℕ) → codes "-" ≡ hex_word bytes → bytes ≡ []
+dash_is_none [] e = refl
+dash_is_none (x ∷ xs) e = absurd (omega (arith, ap length e, length-encode_with lower_digits (x ∷ xs)))
+
+pub hex_word_nonempty : (bytes : List ℕ) → 0 < length (hex_word bytes)
+hex_word_nonempty [] = omega arith
+hex_word_nonempty (x ∷ xs) = omega (arith, length-encode_with lower_digits (x ∷ xs))
+
+-- another word is made of digits
+pub spelled_in_digits : (s bytes : List ℕ) → s ≢ codes "-" → s ≡ hex_word bytes → s ≡ encode_lower bytes
+spelled_in_digits s [] other e = absurd (other e)
+spelled_in_digits s (x ∷ xs) other e = e
+
+AreBytes-from : (bytes : List ℕ) → IsBytes bytes → AreBytes bytes
+AreBytes-from bytes h k d lt =
+    let e = get_or_default bytes k d 0 lt in
+    let low = h k in
+    omega arith
+
+IsBytes-from : (bytes : List ℕ) → AreBytes bytes → IsBytes bytes
+IsBytes-from [] are k = omega arith
+IsBytes-from (b ∷ rest) are zero = All-head (λ x. x < 256) b rest are
+IsBytes-from (b ∷ rest) are (suc k) = IsBytes-from rest (All-tail (λ x. x < 256) b rest are) k
+
+-- a word in lower case that decodes spells what it decodes to
+pub hex_found : (s bytes : List ℕ) (most : ℕ) → 0 < length s → length s / 2 ≤ most → All IsLowerDigit s → decode_of s ≡ Ok bytes
+    → (s ≡ hex_word bytes) × (length bytes ≤ most) × AreBytes bytes
+hex_found s [] most some fits lower is =
+    let facts = decode_of-ok s [] is in
+    absurd (omega (arith, facts.2))
+hex_found s (x ∷ xs) most some fits lower is =
+    let facts = decode_of-ok s (x ∷ xs) is in
+    (spelled_by_decoded s (x ∷ xs) facts.0 lower is, omega (arith, facts.2), AreBytes-from (x ∷ xs) facts.3)
+
+-- the spelling of bytes decodes to them
+pub hex_exact : (s bytes : List ℕ) → s ≢ codes "-" → AreBytes bytes → s ≡ hex_word bytes → decode_of s ≡ Ok bytes
+hex_exact s bytes other are is =
+    ap decode_of (spelled_in_digits s bytes other is) ∙ decode_of-encode_lower bytes (IsBytes-from bytes are)

@@ -14,9 +14,13 @@ abbrev pub hex_word : List ℕ → List ℕ
 hex_word [] = codes "-"
 hex_word (x ∷ xs) = encode_lower (x ∷ xs)
 
+-- the numbers of an array
+abbrev pub shape_words : Shape → List ℕ
+shape_words s = decimal s.l ++ (codes " " ++ (decimal s.n ++ (codes " " ++ (decimal s.b ++ (codes " " ++ (decimal s.k ++ (codes " " ++ decimal s.m)))))))
+
 -- the one spelling of an event
 abbrev pub spelling : Event → List ℕ
-spelling (Array s) = codes "array " ++ (decimal s.l ++ (codes " " ++ (decimal s.n ++ (codes " " ++ (decimal s.b ++ (codes " " ++ (decimal s.k ++ (codes " " ++ decimal s.m))))))))
+spelling (Array s) = codes "array " ++ shape_words s
 spelling (Write b bytes) = codes "write " ++ (decimal b ++ (codes " " ++ hex_word bytes))
 spelling (Read b) = codes "read " ++ decimal b
 

@@ -2,8 +2,10 @@
 //! in its place is refused.
 #![tactic(auto)]
 
+mod hex_words;
 mod lines;
 mod replies;
+mod words;
 
 pub use lines::{BadLine, longest_line, read_line};
 pub use replies::{write_data, write_refusal, write_reply, write_usage};
