@@ -1,5 +1,5 @@
 -- Hex words in lower case: each is the spelling of some bytes.
-use Rattle.std.proofs.Common.{◌≡◌, ◌≢◌, ◌<◌, ◌≤◌, ◌+◌, ◌-◌, ◌*◌, ◌/◌, ◌%◌, ◌==◌, ◌&&◌, ◌⊎◌, inl, inr, Bool, true, false, ℕ, zero, suc, List, [], ◌∷◌, length, slice_index, refl, sym, ◌∙◌, ap, arith}
+use Rattle.std.proofs.Common.{◌≡◌, ◌≢◌, ◌<◌, ◌≤◌, ◌+◌, ◌-◌, ◌*◌, ◌/◌, ◌%◌, ◌==◌, ◌&&◌, ◌⊎◌, inl, inr, Bool, true, false, ℕ, zero, suc, List, [], ◌∷◌, length, slice_index, refl, sym, ◌∙◌, ap, subst, arith}
 use Rattle.std.specs.Prelude.{All, Ok, codes}
 use Rattle.std.proofs.lemmas.Bool.{and_parts, cases_lt, eqb-true}
 use Rattle.std.proofs.lemmas.List.Elements.{All-cons, All-nil, All-head, All-tail}
@@ -134,3 +134,8 @@ hex_found s (x ∷ xs) most some fits lower is =
 pub hex_exact : (s bytes : List ℕ) → s ≢ codes "-" → AreBytes bytes → s ≡ hex_word bytes → decode_of s ≡ Ok bytes
 hex_exact s bytes other are is =
     ap decode_of (spelled_in_digits s bytes other is) ∙ decode_of-encode_lower bytes (IsBytes-from bytes are)
+
+pub hex_is_lower : (s bytes : List ℕ) → s ≢ codes "-" → AreBytes bytes → s ≡ hex_word bytes → All IsLowerDigit s
+hex_is_lower s bytes other are is =
+    let P : List ℕ → Type 0 = λ l. All IsLowerDigit l in
+    subst P (sym (spelled_in_digits s bytes other is)) (encode_is_lower bytes are)

@@ -20,7 +20,10 @@ pub fn read_hex(alloc: Global, word: &[u8], most: usize) -> Result<Option<Bytes>
     if word == b"-".as_slice() {
         return Ok(Some(Bytes::new(Vec::new(alloc))));
     }
-    if word.is_empty() || word.len() / 2 > most {
+    if word.is_empty() {
+        return Ok(None);
+    }
+    if word.len() / 2 > most {
         return Ok(None);
     }
     if !is_lower_hex(word) {
@@ -28,7 +31,9 @@ pub fn read_hex(alloc: Global, word: &[u8], most: usize) -> Result<Option<Bytes>
     }
     match hex::decode(alloc, word) {
         Ok(bytes) => Ok(Some(Bytes::new(bytes))),
-        Err(FromHexError::OutOfMemory) => Err(NoMemory),
-        Err(_) => Ok(None),
+        Err(error) => match error {
+            FromHexError::OutOfMemory => Err(NoMemory),
+            _ => Ok(None),
+        },
     }
 }
