@@ -19,7 +19,7 @@ length_hex_word (x ∷ xs) = omega (arith, length-encode_with lower_digits (x �
 short : (n : ℕ) → n < 2 ^ 32 → length (decimal n) ≤ 10
 short n lt = length-decimal-le 10 n (omega arith) (omega arith) (omega arith)
 
-block_small : (l : ℕ) → (l ≡ 512) ⊎ (l ≡ 1024) ⊎ (l ≡ 2048) ⊎ (l ≡ 4096) → l < 2 ^ 32
+pub block_small : (l : ℕ) → (l ≡ 512) ⊎ (l ≡ 1024) ⊎ (l ≡ 2048) ⊎ (l ≡ 4096) → l < 2 ^ 32
 block_small l h = omega (arith, h)
 
 pub line_fits : (shape : Option Shape) (event : Event) → IsInPlace shape event → length (line_of event) ≤ longest shape

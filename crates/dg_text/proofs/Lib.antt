@@ -2,3 +2,4 @@ mod Cuts
 mod Numbers
 mod HexWords
 mod Lengths
+mod WholeLines
