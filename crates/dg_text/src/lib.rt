@@ -5,6 +5,8 @@
 mod hex_words;
 mod lines;
 mod replies;
+#[cfg(test)]
+mod tests;
 mod words;
 
 pub use lines::{BadLine, longest_line, read_line};
