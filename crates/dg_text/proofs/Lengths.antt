@@ -1,0 +1,42 @@
+-- How long lines are.
+use Rattle.std.proofs.Common.{◌≡◌, ◌<◌, ◌≤◌, ◌+◌, ◌*◌, ◌^◌, ◌⊎◌, inl, inr, ℕ, List, [], ◌∷◌, ◌++◌, length, refl, arith}
+use Rattle.std.specs.Prelude.{Option, Some, None, codes}
+use Rattle.std.specs.Fmt.{decimal}
+use Rattle.std.proofs.lemmas.List.{length-append}
+use Rattle.std.proofs.lemmas.Fmt.{length-decimal-le}
+use Rattle.hex.specs.Hex.{lower_digits}
+use Rattle.hex.proofs.HexLemmas.{length-encode_with}
+use Rattle.dg_model.specs.Shapes.{IsShape}
+use Rattle.dg_model.specs.declared.shapes.Shape.{Shape}
+use Rattle.dg_model.specs.declared.events.Event.{Event}
+use Rattle.dg_model.specs.declared.events.Event.TheVariants.{Array, Write, Read}
+use Rattle.dg_text.specs.Lines.{hex_word, spelling, line_of, IsInPlace, longest}
+
+pub length_hex_word : (bytes : List ℕ) → length (hex_word bytes) ≤ 2 * length bytes + 1
+length_hex_word [] = omega arith
+length_hex_word (x ∷ xs) = omega (arith, length-encode_with lower_digits (x ∷ xs))
+
+short : (n : ℕ) → n < 2 ^ 32 → length (decimal n) ≤ 10
+short n lt = length-decimal-le 10 n (omega arith) (omega arith) (omega arith)
+
+pub block_small : (l : ℕ) → (l ≡ 512) ⊎ (l ≡ 1024) ⊎ (l ≡ 2048) ⊎ (l ≡ 4096) → l < 2 ^ 32
+block_small l h = omega (arith, h)
+
+pub line_fits : (shape : Option Shape) (event : Event) → IsInPlace shape event → length (line_of event) ≤ longest shape
+line_fits None (Array s) h =
+    let l = short s.l (block_small s.l h.block) in
+    let n = short s.n (omega arith) in
+    let b = short s.b (omega arith) in
+    let k = short s.k (omega arith) in
+    let m = short s.m (omega arith) in
+    simp length-append (omega arith)
+line_fits None (Write b bytes) h = absurd h
+line_fits None (Read b) h = absurd h
+line_fits (Some shape) (Array s) h = absurd h
+line_fits (Some shape) (Write b bytes) h =
+    let number = short b h.0 in
+    let word = length_hex_word bytes in
+    simp length-append (omega arith)
+line_fits (Some shape) (Read b) h =
+    let number = short b h in
+    simp length-append (omega arith)

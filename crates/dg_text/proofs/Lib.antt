@@ -1,0 +1,5 @@
+mod Cuts
+mod Numbers
+mod HexWords
+mod Lengths
+mod WholeLines

@@ -1,0 +1,66 @@
+-- A line ends at its first LF, since no spelling has one.
+use Rattle.std.proofs.Common.{◌≡◌, ◌≢◌, ◌<◌, ◌≤◌, ◌^◌, ◌⊎◌, inl, inr, ltb, ℕ, List, [], ◌∷◌, ◌++◌, refl, sym, ◌∙◌, true, append_assoc, arith}
+use Rattle.std.specs.Prelude.{All, Option, Some, None, Contains, codes}
+use Rattle.std.specs.Fmt.{decimal}
+use Rattle.std.specs.List.{list_all}
+use Rattle.std.proofs.lemmas.List.Sums.{AllPass-from_list_all}
+use Rattle.std.proofs.lemmas.List.Elements.{All-append, All-weaker}
+use Rattle.std.proofs.lemmas.Bool.{ltb-true}
+use Rattle.dg_model.specs.declared.shapes.Shape.{Shape}
+use Rattle.dg_model.specs.declared.events.Event.{Event}
+use Rattle.dg_model.specs.declared.events.Event.TheVariants.{Array, Write, Read}
+use Rattle.dg_text.specs.Lines.{IsLowerDigit, AreBytes, hex_word, shape_words, spelling, line_of, IsInPlace}
+use Rattle.dg_text.proofs.Cuts.{Lacks, Lacks-from_not, first_cut}
+use Rattle.dg_text.proofs.Numbers.{decimal_lacks}
+use Rattle.dg_text.proofs.HexWords.{encode_is_lower}
+use Rattle.dg_text.proofs.Lengths.{block_small}
+
+-- a fixed text without control characters
+plain : (s : List ℕ) → list_all (λ x. ltb 10 x) s ≡ true → Lacks 10 s
+plain s h =
+    All-weaker (λ x. ltb 10 x ≡ true) (λ x. x ≢ 10) (λ x high e. let above : 10 < x = ltb-true 10 x high in omega arith) s
+    (AllPass-from_list_all (λ x. ltb 10 x) s h)
+
+joined : (s t : List ℕ) → Lacks 10 s → Lacks 10 t → Lacks 10 (s ++ t)
+joined s t a b = All-append (λ x. x ≢ 10) s t a b
+
+number : (n : ℕ) → n < 2 ^ 32 → Lacks 10 (decimal n)
+number n small = decimal_lacks 10 n (omega arith) (omega arith)
+
+space : Lacks 10 (codes " ")
+space = plain (codes " ") refl
+
+digit_not_end : (x : ℕ) → IsLowerDigit x → x ≢ 10
+digit_not_end x (inl h) e = omega arith
+digit_not_end x (inr h) e = omega arith
+
+hex_lacks : (bytes : List ℕ) → AreBytes bytes → Lacks 10 (hex_word bytes)
+hex_lacks [] are = plain (codes "-") refl
+hex_lacks (x ∷ xs) are =
+    All-weaker IsLowerDigit (λ z. z ≢ 10) digit_not_end (hex_word (x ∷ xs)) (encode_is_lower (x ∷ xs) are)
+
+pub spelling_lacks : (shape : Option Shape) (event : Event) → IsInPlace shape event → Lacks 10 (spelling event)
+spelling_lacks None (Array s) h =
+    let l = number s.l (block_small s.l h.block) in
+    let n = number s.n (omega arith) in
+    let b = number s.b (omega arith) in
+    let k = number s.k (omega arith) in
+    let m = number s.m (omega arith) in
+    joined (codes "array ") (shape_words s) (plain (codes "array ") refl)
+    (joined (decimal s.l) _ l (joined (codes " ") _ space (joined (decimal s.n) _ n (joined (codes " ") _ space
+    (joined (decimal s.b) _ b (joined (codes " ") _ space (joined (decimal s.k) _ k (joined (codes " ") (decimal s.m) space m))))))))
+spelling_lacks None (Write b bytes) h = absurd h
+spelling_lacks None (Read b) h = absurd h
+spelling_lacks (Some shape) (Array s) h = absurd h
+spelling_lacks (Some shape) (Write b bytes) h =
+    joined (codes "write ") _ (plain (codes "write ") refl)
+    (joined (decimal b) _ (number b h.0) (joined (codes " ") (hex_word bytes) space (hex_lacks bytes h.2)))
+spelling_lacks (Some shape) (Read b) h = joined (codes "read ") (decimal b) (plain (codes "read ") refl) (number b h)
+
+-- where a line and its LF begin a text that begins with an event's line, the line spells the event
+pub whole_line : (shape : Option Shape) (event : Event) (line more tail : List ℕ) → IsInPlace shape event → (Contains line 10 → ⊥)
+    → line ++ 10 ∷ more ≡ line_of event ++ tail → line ≡ spelling event
+whole_line shape event line more tail place lacks is =
+    let ends : line ++ 10 ∷ more ≡ spelling event ++ 10 ∷ tail = is ∙ append_assoc (spelling event) (codes "\n") tail in
+    let cut = first_cut 10 line (spelling event) more tail (Lacks-from_not 10 line lacks) (spelling_lacks shape event place) ends in
+    cut.0

@@ -1,0 +1,62 @@
+-- The lines of a trace. Each event has one spelling: words with one space between them, numbers in decimal without a
+-- leading zero, bytes as pairs of hex digits in lower case. The rules are this project's own.
+use Rattle.std.specs.Prelude.{◌⊎◌, ◌≤◌, ◌<◌, ◌+◌, ◌*◌, ◌^◌, ℕ, List, [], ◌∷◌, ◌++◌, length, codes, Option, Some, None, All}
+use Rattle.std.specs.Fmt.{decimal}
+use Rattle.std.specs.List.{flat_map}
+use Rattle.hex.specs.Hex.{encode_lower}
+use Rattle.dg_model.specs.Shapes.{IsShape}
+use Rattle.dg_model.specs.declared.shapes.Shape.{Shape}
+use Rattle.dg_model.specs.declared.events.Event.{Event}
+use Rattle.dg_model.specs.declared.events.Event.TheVariants.{Array, Write, Read}
+
+-- bytes as a word
+abbrev pub hex_word : List ℕ → List ℕ
+hex_word [] = codes "-"
+hex_word (x ∷ xs) = encode_lower (x ∷ xs)
+
+-- the numbers of an array
+abbrev pub shape_words : Shape → List ℕ
+shape_words s = decimal s.l ++ (codes " " ++ (decimal s.n ++ (codes " " ++ (decimal s.b ++ (codes " " ++ (decimal s.k ++ (codes " " ++ decimal s.m)))))))
+
+-- the one spelling of an event
+abbrev pub spelling : Event → List ℕ
+spelling (Array s) = codes "array " ++ shape_words s
+spelling (Write b bytes) = codes "write " ++ (decimal b ++ (codes " " ++ hex_word bytes))
+spelling (Read b) = codes "read " ++ decimal b
+
+-- its line
+abbrev pub line_of : Event → List ℕ
+line_of event = spelling event ++ codes "\n"
+
+-- the lines of some events
+abbrev pub input_of : List Event → List ℕ
+input_of events = flat_map line_of events
+
+-- every element is a byte
+abbrev pub AreBytes : List ℕ → Type 0
+AreBytes bytes = All (λ x. x < 256) bytes
+
+-- the events that may stand first, or after an array of this shape
+abbrev pub IsInPlace : Option Shape → Event → Type 0
+IsInPlace None (Array s) = IsShape s
+IsInPlace None (Write b bytes) = ⊥
+IsInPlace None (Read b) = ⊥
+IsInPlace (Some shape) (Array s) = ⊥
+IsInPlace (Some shape) (Write b bytes) = (b < 2 ^ 32) × (length bytes ≤ shape.l) × AreBytes bytes
+IsInPlace (Some shape) (Read b) = b < 2 ^ 32
+
+-- the events of an input are in their places: the first makes an array, and the others follow it
+abbrev pub AreInPlace : List Event → Type 0
+AreInPlace [] = Unit {0}
+AreInPlace (Array s ∷ events) = IsShape s × All (IsInPlace (Some s)) events
+AreInPlace (Write b bytes ∷ events) = ⊥
+AreInPlace (Read b ∷ events) = ⊥
+
+-- a bound on the bytes of a line, with its LF: a block as hex and 4201 more. Before the array a block counts as 512 bytes
+abbrev pub longest : Option Shape → ℕ
+longest None = 2 * 512 + 4201
+longest (Some shape) = 2 * shape.l + 4201
+
+-- a hex digit in lower case
+abbrev pub IsLowerDigit : ℕ → Type 0
+IsLowerDigit c = ((48 ≤ c) × (c ≤ 57)) ⊎ ((97 ≤ c) × (c ≤ 102))

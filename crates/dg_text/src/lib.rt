@@ -1,0 +1,13 @@
+//! The lines of a trace and the text of the replies: each event has one spelling, and a line that is no event's spelling
+//! in its place is refused.
+#![tactic(auto)]
+
+mod hex_words;
+mod lines;
+mod replies;
+#[cfg(test)]
+mod tests;
+mod words;
+
+pub use lines::{BadLine, longest_line, read_line};
+pub use replies::{write_data, write_refusal, write_reply, write_usage};
