@@ -44,13 +44,23 @@ pub record StopsAt (events : List Event) (text : List ℕ) : Type 0 where
   pub some : text ≡ [] → events ≡ []
   pub none : (event : Event) (tail : List ℕ) → IsInPlace (shape_after events) event → text ≡ line_of event ++ tail → 2 ^ 40 - length (input_of events) < length (line_of event)
 
+-- an input of acceptable lines: its events are in their places, and it keeps to the budget
+pub record IsInput (events : List Event) : Type 0 where
+  pub some : events ≡ [] → ⊥
+  pub in_place : AreInPlace events
+  pub budget : length (input_of events) ≤ 2 ^ 40
+
+-- no events make up the text as an input of acceptable lines
+abbrev pub IsNoInput : List ℕ → Type 0
+IsNoInput text = (events : List Event) → IsInput events → text ≡ input_of events → ⊥
+
 -- the input is the lines of these events and then a line that is refused; the output is the text of their replies and
 -- then the refusal with that line's number
 pub record Stopped (before now : Counts) (bytes : ℕ → Option (List ℕ)) (left rest taken given : Option (List ℕ)) : Type 0 where
   pub events : List Event
   pub replies : List Reply
   pub ran : Ran before now bytes events replies
-  pub input : Told (λ b a. (text : List ℕ) × (b ≡ input_of events ++ text) × StopsAt events text) left rest
+  pub input : Told (λ b a. (text : List ℕ) × (b ≡ input_of events ++ text) × StopsAt events text × IsNoInput b) left rest
   pub output : Told (Took (output_of replies ++ refusal (length events + 1) Form)) taken given
 
 -- the words are those of a replay

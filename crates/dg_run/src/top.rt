@@ -3,18 +3,21 @@ ghost use Rattle.std.specs.Prelude.{◌≡◌, ◌≢◌, ◌⊎◌, ◌≤◌, 
 ghost use Rattle.dg_io.specs.Told.{Told, Took};
 ghost use Rattle.dg_model.specs.Causes.{Rose};
 ghost use Rattle.dg_store.specs.Stores.{shape_of, rack_of};
-ghost use Rattle.dg_text.specs.Lines.{input_of, AreInPlace};
-ghost use Rattle.dg_text.specs.Replies.{usage};
+ghost use Rattle.dg_text.specs.Lines.{input_of};
+ghost use Rattle.dg_text.specs.Replies.{usage, refusal};
 ghost use Rattle.dg_run.specs.Inputs.{ahead};
 ghost use Rattle.dg_run.specs.Stores.{IsReady, GoesOn};
-ghost use Rattle.dg_run.specs.Replays.{Replayed, Stopped, IsReplay};
+ghost use Rattle.dg_run.specs.Replays.{Replayed, Stopped, IsReplay, IsInput};
+ghost use Rattle.dg_run.specs.Arrays.{AllAnswered, AnsweredTo, ArrayReplayed, ArrayStopped, IsOfReplay};
+ghost use Rattle.dg_model.specs.Shapes.{IsShape};
+ghost use Rattle.dg_model.specs.declared.events.Event.{Event};
 
 use crate::events::{Fault, Taken, take_event};
 use crate::input::Input;
 use crate::lines::{BUDGET, LinesEnd, serve_lines};
 use crate::serve::send;
 use dg_io::{Rack, Sink, Source};
-use dg_model::{Event, Reply, Shape};
+use dg_model::{Event, NoMemory, Reply, Shape};
 use dg_store::Store;
 use dg_text::{BadLine, write_refusal, write_usage};
 use std::alloc::Global;
@@ -40,4 +43,173 @@ pub enum Status {
     Unclean,
     /// `cat` or `ls` gave no bytes and no listing, or `trace` refuses its image.
     Refused,
+}
+
+/// How a replay ended, and its rack.
+#[derive(Drop)]
+struct Ended<R> {
+    rack: R,
+    status: Status,
+}
+
+/// The status of a replay that stops in the middle.
+fn status_of(fault: Fault) -> Status
+    ensures read { (result ≡ Status.ReadFault) ↔ (fault ≡ Fault.Read) }
+    ensures write { (result ≡ Status.WriteFault) ↔ (fault ≡ Fault.Write) }
+    ensures memory { (result ≡ Status.NoMemory) ↔ (fault ≡ Fault.NoMemory) }
+{
+    match fault {
+        Fault::Read => Status::ReadFault,
+        Fault::Write => Status::WriteFault,
+        Fault::NoMemory => Status::NoMemory,
+    }
+}
+
+/// Refuses the line of this number, counted from 1.
+fn refuse<K: Sink>(sink: &mut K, number: u64) -> Status
+    ensures bad { result ≡ Status.BadLine → Told (Took (refusal number BadLine.Form)) (K.taken sink.old) (K.taken sink.new) }
+    ensures write { result ≡ Status.WriteFault → Rose (K.faults sink.old) (K.faults sink.new) }
+    ensures only { (result ≡ Status.BadLine) ⊎ (result ≡ Status.WriteFault) }
+    ensures later { K.faults sink.old ≤ K.faults sink.new }
+{
+    match write_refusal(sink, number, BadLine::Form) {
+        Ok(()) => Status::BadLine,
+        Err(_) => Status::WriteFault,
+    }
+}
+
+/// Answers the first line, which had so many bytes and made the array, and serves the lines behind it.
+fn serve_array<S: Source, K: Sink, R: Rack>(
+    alloc: Global,
+    input: &mut Input,
+    source: &mut S,
+    sink: &mut K,
+    store: &mut Store<R>,
+    first: u64,
+) -> Status
+    requires ready { IsReady R.bytes store.old }
+    requires first { first ≤ 2 ^ 40 }
+    ensures goes { GoesOn R.bytes R.name store.old store.new }
+    ensures done { result ≡ Status.Done → AllAnswered R.counts R.bytes first (ahead input.old (S.left source.old)) (ahead input.new (S.left source.new)) (K.taken sink.old) (K.taken sink.new) store.old store.new }
+    ensures bad_line { result ≡ Status.BadLine → AnsweredTo R.counts R.bytes first (ahead input.old (S.left source.old)) (ahead input.new (S.left source.new)) (K.taken sink.old) (K.taken sink.new) store.old store.new }
+    ensures read { result ≡ Status.ReadFault → Rose (S.faults source.old) (S.faults source.new) }
+    ensures write { result ≡ Status.WriteFault → Rose (K.faults sink.old) (K.faults sink.new) }
+    ensures source_later { S.faults source.old ≤ S.faults source.new }
+    ensures sink_later { K.faults sink.old ≤ K.faults sink.new }
+    ensures never { IsOfReplay result }
+{
+    let Ok(mut block) = vec![in alloc; 0u8; store.shape().l as usize] else {
+        return Status::NoMemory;
+    };
+    if send(sink, &Reply::Done).is_err() {
+        return Status::WriteFault;
+    }
+    match serve_lines(alloc, input, source, sink, store, &mut block, first) {
+        Ok(LinesEnd::Input) => Status::Done,
+        Ok(LinesEnd::Refused(number)) => refuse(sink, number),
+        Err(fault) => status_of(fault),
+    }
+}
+
+/// Makes the array of the first line, which had so many bytes, and serves the lines behind it.
+fn replay_array<S: Source, K: Sink, R: Rack + Drop>(
+    alloc: Global,
+    input: &mut Input,
+    source: &mut S,
+    sink: &mut K,
+    rack: R,
+    shape: Shape,
+    first: u64,
+) -> Result<Ended<R>, NoMemory>
+    requires shape { IsShape shape }
+    requires first { first ≤ 2 ^ 40 }
+    ensures name { IfOk result (λ end. R.name end.rack ≡ R.name rack) }
+    ensures done { IfOk result (λ end. end.status ≡ Status.Done → ArrayReplayed (R.counts rack) (R.counts end.rack) (R.bytes end.rack) shape first (ahead input.old (S.left source.old)) (ahead input.new (S.left source.new)) (K.taken sink.old) (K.taken sink.new)) }
+    ensures bad_line { IfOk result (λ end. end.status ≡ Status.BadLine → ArrayStopped (R.counts rack) (R.counts end.rack) (R.bytes end.rack) shape first (ahead input.old (S.left source.old)) (ahead input.new (S.left source.new)) (K.taken sink.old) (K.taken sink.new)) }
+    ensures read { IfOk result (λ end. end.status ≡ Status.ReadFault → Rose (S.faults source.old) (S.faults source.new)) }
+    ensures write { IfOk result (λ end. end.status ≡ Status.WriteFault → Rose (K.faults sink.old) (K.faults sink.new)) }
+    ensures source_later { S.faults source.old ≤ S.faults source.new }
+    ensures sink_later { K.faults sink.old ≤ K.faults sink.new }
+    ensures never { IfOk result (λ end. IsOfReplay end.status) }
+{
+    let mut store = Store::new(alloc, rack, shape)?;
+    let status = serve_array(alloc, input, source, sink, &mut store, first);
+    Ok(Ended {
+        rack: store.into_rack(),
+        status,
+    })
+}
+
+/// A replay over a rack that is handed in, and given back but for want of memory.
+fn replay<S: Source, K: Sink, R: Rack + Drop>(
+    alloc: Global,
+    source: &mut S,
+    sink: &mut K,
+    rack: R,
+) -> Result<Ended<R>, NoMemory>
+    ensures name { IfOk result (λ end. R.name end.rack ≡ R.name rack) }
+    ensures done { IfOk result (λ end. end.status ≡ Status.Done → Replayed (R.counts rack) (R.counts end.rack) (R.bytes end.rack) (S.left source.old) (S.left source.new) (K.taken sink.old) (K.taken sink.new)) }
+    ensures bad_line { IfOk result (λ end. end.status ≡ Status.BadLine → Stopped (R.counts rack) (R.counts end.rack) (R.bytes end.rack) (S.left source.old) (S.left source.new) (K.taken sink.old) (K.taken sink.new)) }
+    ensures read { IfOk result (λ end. end.status ≡ Status.ReadFault → Rose (S.faults source.old) (S.faults source.new)) }
+    ensures write { IfOk result (λ end. end.status ≡ Status.WriteFault → Rose (K.faults sink.old) (K.faults sink.new)) }
+    ensures never { IfOk result (λ end. IsOfReplay end.status) }
+{
+    let mut input = Input::new(alloc)?;
+    match take_event(alloc, &mut input, source, None, BUDGET) {
+        Ok(Taken::Event(Event::Array(shape), bytes)) => {
+            replay_array(alloc, &mut input, source, sink, rack, shape, bytes)
+        }
+        Ok(Taken::Event(_, _)) => unreachable!(),
+        Ok(_) => Ok(Ended {
+            rack,
+            status: refuse(sink, 1),
+        }),
+        Err(fault) => Ok(Ended {
+            rack,
+            status: status_of(fault),
+        }),
+    }
+}
+
+/// Whether the words are those of a replay.
+fn is_replay(words: &Vec<String>) -> bool
+    ensures { IsTrue result ↔ IsReplay (map string_bytes words.now.items) }
+{
+    words.len() == 1 && words[0].as_str() == "replay"
+}
+
+/// Does what the words say, with the trace in the source, the replies to the sink, and the members in the rack.
+pub fn run<S: Source, K: Sink, R: Rack>(
+    alloc: Global,
+    words: &Vec<String>,
+    source: &mut S,
+    sink: &mut K,
+    rack: &mut R,
+) -> Status
+    // The words are exactly `replay`, else the usage line is printed and nothing else is done.
+    ensures usage { result ≡ Status.Usage → (IsReplay (map string_bytes words.now.items) → ⊥) × Told (Took usage) (K.taken sink.old) (K.taken sink.new) }
+    ensures other { (IsReplay (map string_bytes words.now.items) → ⊥) → ((result ≡ Status.Usage) ⊎ (result ≡ Status.WriteFault)) × (source.new ≡ source.old) × (rack.new ≡ rack.old) }
+
+    // What was done, and what the rack holds.
+    ensures done { result ≡ Status.Done → Replayed (R.counts rack.old) (R.counts rack.new) (R.bytes rack.new) (S.left source.old) (S.left source.new) (K.taken sink.old) (K.taken sink.new) }
+    ensures bad_line { result ≡ Status.BadLine → Stopped (R.counts rack.old) (R.counts rack.new) (R.bytes rack.new) (S.left source.old) (S.left source.new) (K.taken sink.old) (K.taken sink.new) }
+
+    // The causes of the other answers. Want of memory is free.
+    ensures read { result ≡ Status.ReadFault → Rose (S.faults source.old) (S.faults source.new) }
+    ensures write { result ≡ Status.WriteFault → Rose (K.faults sink.old) (K.faults sink.new) }
+    ensures never { (result ≡ Status.NoState → ⊥) × (result ≡ Status.Unclean → ⊥) × (result ≡ Status.Refused → ⊥) }
+
+    // Each input of acceptable lines is done, where neither the source nor the sink fails.
+    ensures complete { IsReplay (map string_bytes words.now.items) → (events : List Event) → IsInput events → S.left source.old ≡ Some (input_of events) → IsSome (S.left source.new) → (Rose (S.faults source.old) (S.faults source.new) → ⊥) → (Rose (K.faults sink.old) (K.faults sink.new) → ⊥) → (result ≡ Status.Done) ⊎ (result ≡ Status.NoMemory) }
+{
+    if !is_replay(words) {
+        return match write_usage(sink) {
+            Ok(()) => Status::Usage,
+            Err(_) => Status::WriteFault,
+        };
+    }
+    match replay(alloc, source, sink, &mut *rack) {
+        Ok(end) => end.status,
+        Err(_) => Status::NoMemory,
+    }
 }

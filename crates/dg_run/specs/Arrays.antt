@@ -1,0 +1,42 @@
+-- A replay behind its first line.
+use Rattle.std.specs.Prelude.{◌≡◌, ◌+◌, ◌++◌, ◌∷◌, ℕ, List, length, Option}
+use Rattle.dg_model.specs.States.{Counts}
+use Rattle.dg_model.specs.declared.shapes.Shape.{Shape}
+use Rattle.dg_model.specs.declared.events.Event.{Event}
+use Rattle.dg_model.specs.declared.events.Event.TheVariants.{Array}
+use Rattle.dg_model.specs.declared.replies.Reply.TheVariants.{Done}
+use Rattle.dg_io.specs.Told.{Told, Took}
+use Rattle.dg_store.specs.declared.store.Store.{Store}
+use Rattle.dg_store.specs.Stores.{shape_of}
+use Rattle.dg_text.specs.Replies.{reply_line, refusal}
+use Rattle.dg_text.specs.declared.lines.BadLine.TheVariants.{Form}
+use Rattle.dg_run.specs.Lines.{AllServed, ServedTo}
+use Rattle.dg_run.specs.declared.top.Status.{Status}
+use Rattle.dg_run.specs.declared.top.Status.TheVariants.{Done as status_done, Usage, BadLine, ReadFault, WriteFault, NoMemory, NoState, Unclean, Refused}
+
+-- the array was answered, and all lines behind the first one were served
+pub record AllAnswered {R : Type 0} (counts : R → Counts) (bytes : R → ℕ → Option (List ℕ)) (first : ℕ) (left rest taken given : Option (List ℕ)) (old new : Store R) : Type 0 where
+  pub middle : Option (List ℕ)
+  pub ok : Told (Took (reply_line Done)) taken middle
+  pub served : AllServed counts bytes (shape_of old) first left rest middle given old new
+
+-- the array was answered, lines behind the first one were served, and the next one was refused
+pub record AnsweredTo {R : Type 0} (counts : R → Counts) (bytes : R → ℕ → Option (List ℕ)) (first : ℕ) (left rest taken given : Option (List ℕ)) (old new : Store R) : Type 0 where
+  pub middle : Option (List ℕ)
+  pub before : Option (List ℕ)
+  pub number : ℕ
+  pub ok : Told (Took (reply_line Done)) taken middle
+  pub served : ServedTo counts bytes (shape_of old) first number left rest middle before old new
+  pub refused : Told (Took (refusal number Form)) before given
+
+-- a status that a replay can have
+abbrev pub IsOfReplay : Status → Type 0
+IsOfReplay status_done = Unit {0}
+IsOfReplay Usage = ⊥
+IsOfReplay BadLine = Unit {0}
+IsOfReplay ReadFault = Unit {0}
+IsOfReplay WriteFault = Unit {0}
+IsOfReplay NoMemory = Unit {0}
+IsOfReplay NoState = ⊥
+IsOfReplay Unclean = ⊥
+IsOfReplay Refused = ⊥
