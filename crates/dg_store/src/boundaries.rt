@@ -33,8 +33,8 @@ pub fn blank_row<R: Rack>(
     let size = member_length(shape);
     let slots = shape.k + 1;
     let mut row = Vec::new(alloc);
-    for s in 0..shape.b {
-        let boundary = Boundary::new(rack, s, shape.l, slots, size);
+    for number in 0..shape.b {
+        let boundary = Boundary::new(rack, number, shape.l, slots, size);
         if row.push(boundary).is_err() {
             return Err(NoMemory);
         }
@@ -43,9 +43,9 @@ pub fn blank_row<R: Rack>(
 }
 
 /// Whether a boundary has no good member.
-pub fn has_lost(row: &Vec<Boundary>) -> bool
-    requires { All IsWell row.now.items }
-    ensures { IsTrue result ↔ Any HasNoGood row.now.items }
+pub fn has_lost(row: &[Boundary]) -> bool
+    requires { All IsWell row.now }
+    ensures { IsTrue result ↔ Any HasNoGood row.now }
 {
     row.iter().any(|boundary| boundary.is_lost())
 }
@@ -55,21 +55,21 @@ pub fn read_slot<R: Rack>(
     row: &mut Vec<Boundary>,
     rack: &mut R,
     shape: &Shape,
-    s: u32,
+    boundary: u32,
     slot: u32,
     buf: &mut [u8],
 ) -> PairRead
     requires stands { RowStands shape.now.l (shape.now.k + 1) row.old.items }
     requires room { MembersFit shape.now.l (shape.now.k + 1) (members_in row.old.items) (R.bytes rack.old) }
-    requires within { s < length row.old.items }
+    requires within { boundary < length row.old.items }
     requires slot { slot < shape.now.k + 1 }
     requires size { length buf.old ≡ shape.now.l }
     ensures count { length row.new.items ≡ length row.old.items }
     ensures stands { RowStands shape.now.l (shape.now.k + 1) row.new.items }
     ensures room { MembersFit shape.now.l (shape.now.k + 1) (members_in row.new.items) (R.bytes rack.new) }
-    ensures lost { (result ≡ PairRead.Lost) ↔ (is_lost (members_in row.new.items) s ≡ true) }
+    ensures lost { (result ≡ PairRead.Lost) ↔ (is_lost (members_in row.new.items) boundary ≡ true) }
     ensures got { result ≡ PairRead.Got
-        → (v : List ℕ) → SlotHolds shape.now.l (members_in row.old.items) (R.bytes rack.old) s slot v
+        → (v : List ℕ) → SlotHolds shape.now.l (members_in row.old.items) (R.bytes rack.old) boundary slot v
         → ((q : ℕ) → members_in row.new.items q ≡ MemberState.Good → IsSome (R.bytes rack.new q)) → buf.new ≡ v }
     ensures kept { KeepsSlots shape.now.l (members_in row.old.items) (R.bytes rack.old) (members_in row.new.items) (R.bytes rack.new) }
     ensures falls { MembersFall (R.counts rack.old).faults (R.counts rack.new).faults (members_in row.old.items) (members_in row.new.items) }
@@ -80,7 +80,7 @@ pub fn read_slot<R: Rack>(
     ensures tells { StillTold (R.bytes rack.old) (R.bytes rack.new) }
     ensures name { R.name rack.new ≡ R.name rack.old }
 {
-    row[s as usize].read(rack, slot, buf)
+    row[boundary as usize].read(rack, slot, buf)
 }
 
 /// Writes a slot of a boundary, by its number.
@@ -88,27 +88,27 @@ pub fn write_slot<R: Rack>(
     row: &mut Vec<Boundary>,
     rack: &mut R,
     shape: &Shape,
-    s: u32,
+    boundary: u32,
     slot: u32,
     buf: &[u8],
 ) -> PairWrite
     requires stands { RowStands shape.now.l (shape.now.k + 1) row.old.items }
     requires room { MembersFit shape.now.l (shape.now.k + 1) (members_in row.old.items) (R.bytes rack.old) }
-    requires within { s < length row.old.items }
+    requires within { boundary < length row.old.items }
     requires slot { slot < shape.now.k + 1 }
     requires size { length buf.now ≡ shape.now.l }
     ensures count { length row.new.items ≡ length row.old.items }
     ensures stands { RowStands shape.now.l (shape.now.k + 1) row.new.items }
     ensures room { MembersFit shape.now.l (shape.now.k + 1) (members_in row.new.items) (R.bytes rack.new) }
-    ensures lost { (result ≡ PairWrite.Lost) ↔ (is_lost (members_in row.new.items) s ≡ true) }
-    ensures out { result ≡ PairWrite.Lost → (q : ℕ) → q / 2 ≡ s → members_in row.new.items q ≡ MemberState.Out }
-    ensures put { SlotHolds shape.now.l (members_in row.new.items) (R.bytes rack.new) s slot buf.now }
-    ensures kept { KeepsOtherSlots shape.now.l s slot (members_in row.old.items) (R.bytes rack.old) (members_in row.new.items) (R.bytes rack.new) }
+    ensures lost { (result ≡ PairWrite.Lost) ↔ (is_lost (members_in row.new.items) boundary ≡ true) }
+    ensures out { result ≡ PairWrite.Lost → (q : ℕ) → q / 2 ≡ boundary → members_in row.new.items q ≡ MemberState.Out }
+    ensures put { SlotHolds shape.now.l (members_in row.new.items) (R.bytes rack.new) boundary slot buf.now }
+    ensures kept { KeepsOtherSlots shape.now.l boundary slot (members_in row.old.items) (R.bytes rack.old) (members_in row.new.items) (R.bytes rack.new) }
     ensures falls { MembersFall (R.counts rack.old).faults (R.counts rack.new).faults (members_in row.old.items) (members_in row.new.items) }
     ensures counts { CountsRise (R.counts rack.old) (R.counts rack.new) }
     ensures most { (R.counts rack.new).calls ≤ (R.counts rack.old).calls + 2 }
     ensures tells { StillTold (R.bytes rack.old) (R.bytes rack.new) }
     ensures name { R.name rack.new ≡ R.name rack.old }
 {
-    row[s as usize].write(rack, slot, buf)
+    row[boundary as usize].write(rack, slot, buf)
 }
