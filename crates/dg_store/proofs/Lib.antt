@@ -1,0 +1,5 @@
+mod Blocks
+mod Calls
+mod Changed
+mod Lost
+mod Rows

@@ -1,0 +1,125 @@
+-- Rows of boundaries: one is replaced, or one is added.
+use Rattle.std.proofs.Common.{◌≡◌, ◌≢◌, ◌⊎◌, inl, inr, ℕ, zero, suc, ◌+◌, ◌*◌, ◌/◌, ◌≤◌, ◌<◌, Bool, true, false, List, [], ◌∷◌, ◌++◌, length, refl, sym, ◌∙◌, ap, subst, arith, get_or}
+use Rattle.std.specs.Prelude.{Option, Some, None, All, Any, slice_get, slice_set}
+use Rattle.std.proofs.lemmas.Bool.{cases_eq, cases_lt}
+use Rattle.std.proofs.lemmas.Option.{slice_get-get_or, get_or_from_slice_get}
+use Rattle.dg_model.specs.Causes.{Rose}
+use Rattle.dg_model.specs.Members.{is_lost}
+use Rattle.dg_model.specs.declared.members.MemberState.{MemberState}
+use Rattle.dg_model.specs.declared.members.MemberState.TheVariants.{Good, Out}
+use Rattle.dg_pair.specs.declared.boundaries.Boundary.{Boundary}
+use Rattle.dg_pair.specs.Boundaries.{IsWell, MembersFit, members_of, number_of}
+use Rattle.dg_store.specs.Rows.{member_at, members_in, StandsAt, RowStands, RowBegins, HasNoGood}
+use Rattle.dg_store.proofs.Changed.{IsChanged, OtherPairsSame, room_same}
+
+get_set_same : {X : Type 0} (xs : List X) (i : ℕ) (y : X) → i < length xs → slice_get (slice_set xs i y) i ≡ Some y
+get_set_same [] i y h = absurd (omega arith)
+get_set_same (x ∷ xs) zero y h = refl
+get_set_same (x ∷ xs) (suc i) y h = get_set_same xs i y (omega arith)
+
+get_set_other : {X : Type 0} (xs : List X) (i j : ℕ) (y : X) → j ≢ i → slice_get (slice_set xs i y) j ≡ slice_get xs j
+get_set_other [] i j y h = refl
+get_set_other (x ∷ xs) zero zero y h = absurd (h refl)
+get_set_other (x ∷ xs) zero (suc j) y h = refl
+get_set_other (x ∷ xs) (suc i) zero y h = refl
+get_set_other (x ∷ xs) (suc i) (suc j) y h = get_set_other xs i j y (λ e. h (ap suc e))
+
+get_push_new : {X : Type 0} (xs : List X) (y : X) → slice_get (xs ++ y ∷ []) (length xs) ≡ Some y
+get_push_new [] y = refl
+get_push_new (z ∷ xs) y = get_push_new xs y
+
+get_push_other : {X : Type 0} (xs : List X) (j : ℕ) (y : X) → j ≢ length xs → slice_get (xs ++ y ∷ []) j ≡ slice_get xs j
+get_push_other [] zero y h = absurd (h refl)
+get_push_other [] (suc j) y h = refl
+get_push_other (z ∷ xs) zero y h = refl
+get_push_other (z ∷ xs) (suc j) y h = get_push_other xs j y (λ e. h (ap suc e))
+
+some_same : {X : Type 0} (a b : X) → Some a ≡ Some b → a ≡ b
+some_same a b e = cc
+
+-- what a read of the row gives
+pub there : {X : Type 0} (row : List X) (s : ℕ) (x : X) → s < length row → x ≡ get_or row s x → slice_get row s ≡ Some x
+there row s x within value = slice_get-get_or row s x within ∙ ap Some (sym value)
+
+-- boundary s was replaced
+pub set_changed : (row : List Boundary) (s : ℕ) (x y : Boundary) → s < length row → slice_get row s ≡ Some x → IsChanged s (members_of x) (members_of y) (members_in row) (members_in (slice_set row s y))
+set_changed row s x y within was = record {
+  was = λ q at. ap (λ (o : Option Boundary). member_at o q) (ap (λ (t : ℕ). slice_get row t) at ∙ was);
+  here = λ q at. ap (λ (o : Option Boundary). member_at o q) (ap (λ (t : ℕ). slice_get (slice_set row s y) t) at ∙ get_set_same row s y within);
+  other = λ q off. ap (λ (o : Option Boundary). member_at o q) (get_set_other row s (q / 2) y off);
+}
+
+pub set_stands : (l slots s : ℕ) (row : List Boundary) (y : Boundary) → s < length row → RowStands l slots row → StandsAt l slots s y → RowStands l slots (slice_set row s y)
+set_stands l slots s row y within stands done t z is = elim (cases_eq t s) [
+  | inl here ↦
+      let same : y ≡ z = some_same y z (sym (ap (λ (j : ℕ). slice_get (slice_set row s y) j) here ∙ get_set_same row s y within) ∙ is) in
+      subst (λ (w : Boundary). StandsAt l slots t w) same (subst (λ (j : ℕ). StandsAt l slots j y) (sym here) done)
+  | inr other ↦ stands t z (sym (get_set_other row s t y other) ∙ is)
+]
+
+past : {X : Type 0} (xs : List X) (j : ℕ) → length xs ≤ j → slice_get xs j ≡ None
+past [] j h = refl
+past (x ∷ xs) zero h = absurd (omega arith)
+past (x ∷ xs) (suc j) h = past xs j (omega arith)
+
+-- a boundary was added, whose members are y's
+pub push_changed : (row : List Boundary) (s : ℕ) (y : Boundary) → length row ≡ s → IsChanged s (λ q. Out) (members_of y) (members_in row) (members_in (row ++ y ∷ []))
+push_changed row s y count = record {
+  was = λ q at. ap (λ (o : Option Boundary). member_at o q) (past row (q / 2) (omega arith));
+  here = λ q at. ap (λ (o : Option Boundary). member_at o q) (ap (λ (t : ℕ). slice_get (row ++ y ∷ []) t) (at ∙ sym count) ∙ get_push_new row y);
+  other = λ q off. ap (λ (o : Option Boundary). member_at o q) (get_push_other row (q / 2) y (λ e. off (e ∙ count)));
+}
+
+pub push_stands : (l slots s : ℕ) (row : List Boundary) (y : Boundary) → length row ≡ s → RowStands l slots row → StandsAt l slots s y → RowStands l slots (row ++ y ∷ [])
+push_stands l slots s row y count stands done t z is = elim (cases_eq t s) [
+  | inl here ↦
+      let same : y ≡ z = some_same y z (sym (ap (λ (j : ℕ). slice_get (row ++ y ∷ []) j) (here ∙ sym count) ∙ get_push_new row y) ∙ is) in
+      subst (λ (w : Boundary). StandsAt l slots t w) same (subst (λ (j : ℕ). StandsAt l slots j y) (sym here) done)
+  | inr other ↦ stands t z (sym (get_push_other row t y (λ e. other (e ∙ count))) ∙ is)
+]
+
+-- each boundary up to number s has begun
+pub push_begins : (s : ℕ) (x y old new : ℕ → MemberState) (f g h : ℕ → ℕ) → IsChanged s x y old new → RowBegins s f g old
+    → ((q : ℕ) → q / 2 ≡ s → (y q ≡ Good) ⊎ ((y q ≡ Out) × Rose (g q) (h q)))
+    → ((q : ℕ) → f q ≤ g q) → ((q : ℕ) → g q ≤ h q) → RowBegins (s + 1) f h new
+push_begins s x y old new f g h changed began begins before after = record {
+  others = λ q past. changed.other q (omega arith) ∙ began.others q (omega arith);
+  begins = λ q below. elim (cases_eq (q / 2) s) [
+    | inl at ↦ elim (begins q at) [
+      | inl good ↦ inl (changed.here q at ∙ good)
+      | inr failed ↦ inr (changed.here q at ∙ failed.0, let rose = failed.1 in let early = before q in omega arith)
+    ]
+    | inr off ↦ elim (began.begins q (omega arith)) [
+      | inl good ↦ inl (changed.other q off ∙ good)
+      | inr failed ↦ inr (changed.other q off ∙ failed.0, let rose = failed.1 in let late = after q in omega arith)
+    ]
+  ];
+}
+
+some_at : {X : Type 0} (xs : List X) (i : ℕ) → i < length xs → (x : X) × (slice_get xs i ≡ Some x)
+some_at [] i h = absurd (omega arith)
+some_at (y ∷ ys) zero h = (y, refl)
+some_at (y ∷ ys) (suc i) h = some_at ys i (omega arith)
+
+pub row_well : (l slots : ℕ) (row : List Boundary) → RowStands l slots row → All IsWell row
+row_well l slots row stands k d within = (stands k (get_or row k d) (slice_get-get_or row k d within)).well
+
+-- boundary s of a row is lost by its own members
+lost_at : (row : List Boundary) (s : ℕ) (x : Boundary) → slice_get row s ≡ Some x → is_lost (members_in row) s ≡ is_lost (members_of x) s
+lost_at row s x is =
+    let low : (2 * s) / 2 ≡ s = omega arith in
+    let high : (2 * s + 1) / 2 ≡ s = omega arith in
+    let a : members_in row (2 * s) ≡ members_of x (2 * s) = ap (λ (o : Option Boundary). member_at o (2 * s)) (ap (λ (t : ℕ). slice_get row t) low ∙ is) in
+    let b : members_in row (2 * s + 1) ≡ members_of x (2 * s + 1) = ap (λ (o : Option Boundary). member_at o (2 * s + 1)) (ap (λ (t : ℕ). slice_get row t) high ∙ is) in
+    cc
+
+pub any_lost : (l slots : ℕ) (row : List Boundary) (s : ℕ) → RowStands l slots row → s < length row → is_lost (members_in row) s ≡ true → Any HasNoGood row
+any_lost l slots row s stands within lost =
+    let x = some_at row s within in
+    let no_good : HasNoGood x.0 = ap (λ (t : ℕ). is_lost (members_of x.0) t) (stands s x.0 x.1).number ∙ sym (lost_at row s x.0 x.1) ∙ lost in
+    (s, x.0, within, get_or_from_slice_get row s x.0 x.0 x.1, no_good)
+
+pub lost_any : (l slots : ℕ) (row : List Boundary) → RowStands l slots row → Any HasNoGood row → (s : ℕ) × (s < length row) × (is_lost (members_in row) s ≡ true)
+lost_any l slots row stands (s, x, within, value, no_good) =
+    let is : slice_get row s ≡ Some x = slice_get-get_or row s x within ∙ ap Some value in
+    (s, within, lost_at row s x is ∙ ap (λ (t : ℕ). is_lost (members_of x) t) (sym (stands s x is).number) ∙ no_good)

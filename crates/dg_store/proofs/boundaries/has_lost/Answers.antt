@@ -1,0 +1,8 @@
+use Rattle.std.proofs.Common.{refl, sym, subst}
+use Rattle.std.proofs.lemmas.Iterator.{YieldsList-from_slice}
+use Rattle.std.proofs.lemmas.Iterator.Adapters.{serves_from_places}
+use Rattle.dg_pair.specs.Boundaries.{IsWell}
+use Rattle.dg_store.proofs.boundaries.has_lost.Goals as goal
+
+pub any-requires-clause-callable : goal.any-requires-clause-callable
+any-requires-clause-callable c = serves_from_places (YieldsList-from_slice c.args.row.now cc) (λ x q turn. refl) (λ x k within is _ _ _ _ _. subst IsWell (sym is) (c.requires k x.now within))

@@ -1,0 +1,43 @@
+-- A row of boundaries over a rack.
+use Rattle.std.specs.Prelude.{◌≡◌, ◌≢◌, ◌⊎◌, ◌/◌, ◌≤◌, ◌<◌, ℕ, true, List, Option, Some, None, slice_get}
+use Rattle.dg_model.specs.Causes.{Rose}
+use Rattle.dg_model.specs.Members.{is_lost, SlotHolds}
+use Rattle.dg_model.specs.declared.members.MemberState.{MemberState}
+use Rattle.dg_model.specs.declared.members.MemberState.TheVariants.{Good, Out}
+use Rattle.dg_pair.specs.declared.boundaries.Boundary.{Boundary}
+use Rattle.dg_pair.specs.Boundaries.{IsWell, number_of, size_of, slots_of, members_of}
+
+abbrev pub member_at : Option Boundary → ℕ → MemberState
+member_at None q = Out
+member_at (Some boundary) q = members_of boundary q
+
+-- what member q does
+abbrev pub members_in : List Boundary → ℕ → MemberState
+members_in row q = member_at (slice_get row (q / 2)) q
+
+-- boundary s of the row is number s, and has this many slots of l bytes
+pub record StandsAt (l slots s : ℕ) (boundary : Boundary) : Type 0 where
+  pub well : IsWell boundary
+  pub number : number_of boundary ≡ s
+  pub size : size_of boundary ≡ l
+  pub slots_is : slots_of boundary ≡ slots
+  pub own : (q : ℕ) → q / 2 ≢ s → members_of boundary q ≡ Out
+
+abbrev pub RowStands : ℕ → ℕ → List Boundary → Type 0
+RowStands l slots row = (s : ℕ) (boundary : Boundary) → slice_get row s ≡ Some boundary → StandsAt l slots s boundary
+
+abbrev pub HasNoGood : Boundary → Type 0
+HasNoGood boundary = is_lost (members_of boundary) (number_of boundary) ≡ true
+
+-- there are n boundaries, and each of their members is good, but for one that failed
+pub record RowBegins (n : ℕ) (before now : ℕ → ℕ) (members : ℕ → MemberState) : Type 0 where
+  pub others : (q : ℕ) → n ≤ q / 2 → members q ≡ Out
+  pub begins : (q : ℕ) → q / 2 < n → (members q ≡ Good) ⊎ ((members q ≡ Out) × Rose (before q) (now q))
+
+-- each slot has what it had
+abbrev pub KeepsSlots : ℕ → (ℕ → MemberState) → (ℕ → Option (List ℕ)) → (ℕ → MemberState) → (ℕ → Option (List ℕ)) → Type 0
+KeepsSlots l old before new now = (s slot : ℕ) (v : List ℕ) → SlotHolds l old before s slot v → SlotHolds l new now s slot v
+
+-- each slot but this one of boundary s has what it had
+abbrev pub KeepsOtherSlots : ℕ → ℕ → ℕ → (ℕ → MemberState) → (ℕ → Option (List ℕ)) → (ℕ → MemberState) → (ℕ → Option (List ℕ)) → Type 0
+KeepsOtherSlots l s at old before new now = (t slot : ℕ) (v : List ℕ) → (t ≡ s → slot ≢ at) → SlotHolds l old before t slot v → SlotHolds l new now t slot v

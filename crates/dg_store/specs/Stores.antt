@@ -1,0 +1,48 @@
+-- What a store means. The words below are all that the crates above cite; they say nothing of how a store keeps it.
+use Rattle.std.specs.Prelude.{◌≡◌, ◌+◌, ◌*◌, ℕ, false, List, [], ◌∷◌, length, Option, IsSome, if◌then◌else◌, slice_index_or}
+use Rattle.dg_model.specs.Members.{HasRoom}
+use Rattle.dg_model.specs.Shapes.{IsShape}
+use Rattle.dg_model.specs.Sites.{fixed_site}
+use Rattle.dg_model.specs.States.{Counts, State, Holds}
+use Rattle.dg_model.specs.declared.shapes.Shape.{Shape}
+use Rattle.dg_model.specs.declared.sites.Site.{Site}
+use Rattle.dg_model.specs.declared.members.MemberState.{MemberState}
+use Rattle.dg_model.specs.declared.members.MemberState.TheVariants.{Good}
+use Rattle.dg_pair.specs.Boundaries.{MembersFit}
+use Rattle.dg_store.specs.declared.store.Store.{Store}
+use Rattle.dg_store.specs.Rows.{members_in, RowStands}
+
+-- the rack that it holds
+abbrev pub rack_of : {R : Type 0} → Store R → R
+rack_of store = store.rack
+
+abbrev pub shape_of : {R : Type 0} → Store R → Shape
+shape_of store = store.shape
+
+-- what each member does
+abbrev pub members_of : {R : Type 0} → Store R → ℕ → MemberState
+members_of store = members_in store.row.items
+
+-- the sites of each block
+abbrev pub sites_of : {R : Type 0} → Store R → ℕ → List Site
+sites_of store b = if slice_index_or store.written.items b false then fixed_site store.shape b ∷ [] else []
+
+-- its parts fit one another, and each member that is called is long enough where it tells its bytes
+pub record IsSound {R : Type 0} (bytes : R → ℕ → Option (List ℕ)) (store : Store R) : Type 0 where
+  pub shape : IsShape store.shape
+  pub boundaries : length store.row.items ≡ store.shape.b
+  pub stands : RowStands store.shape.l (store.shape.k + 1) store.row.items
+  pub marks : length store.written.items ≡ store.shape.n
+  pub room : MembersFit store.shape.l (store.shape.k + 1) (members_in store.row.items) (bytes store.rack)
+
+-- the state that it is in, where these are its blocks
+abbrev pub state_of : {R : Type 0} → (R → Counts) → Store R → List (List ℕ) → State
+state_of counts store blocks = record { shape = shape_of store; blocks = blocks; sites = sites_of store; members = members_of store; counts = counts (rack_of store) }
+
+-- it stands for these blocks
+abbrev pub StandsFor : {R : Type 0} → (R → Counts) → (R → ℕ → Option (List ℕ)) → Store R → List (List ℕ) → Type 0
+StandsFor counts bytes store blocks = Holds (bytes (rack_of store)) (state_of counts store blocks)
+
+-- each good member tells its bytes
+abbrev pub Tells : {R : Type 0} → (R → ℕ → Option (List ℕ)) → Store R → Type 0
+Tells bytes store = (q : ℕ) → members_of store q ≡ Good → IsSome (bytes (rack_of store) q)

@@ -1,0 +1,114 @@
+// A row of boundaries, and one slot of it. These functions work on the parts of a store.
+ghost use Rattle.std.specs.Prelude.{◌≡◌, ◌≢◌, ◌⊎◌, ◌↔◌, ◌+◌, ◌*◌, ◌/◌, ◌≤◌, ◌<◌, ℕ, List, length, IsTrue, true, IsSome, IfOk, All, Any};
+ghost use Rattle.dg_model.specs.Causes.{Rose};
+ghost use Rattle.dg_model.specs.Members.{is_lost, SlotHolds, MembersFall};
+ghost use Rattle.dg_model.specs.Shapes.{IsShape};
+ghost use Rattle.dg_model.specs.States.{CountsRise};
+ghost use Rattle.dg_io.specs.Told.{StillTold};
+ghost use Rattle.dg_pair.specs.Boundaries.{IsWell, MembersFit};
+ghost use Rattle.dg_store.specs.Rows.{members_in, RowStands, RowBegins, HasNoGood, KeepsSlots, KeepsOtherSlots};
+
+use crate::{Shape, member_length};
+use dg_io::{NoMemory, Rack};
+use dg_model::MemberState;
+use dg_pair::{Boundary, PairRead, PairWrite};
+use std::alloc::Global;
+
+/// Makes the boundaries, and blanks their members, ascending by number.
+pub fn blank_row<R: Rack>(
+    alloc: Global,
+    rack: &mut R,
+    shape: &Shape,
+) -> Result<Vec<Boundary>, NoMemory>
+    requires { IsShape shape.now }
+    ensures count { IfOk result (λ row. length row.items ≡ shape.now.b) }
+    ensures stands { IfOk result (λ row. RowStands shape.now.l (shape.now.k + 1) row.items) }
+    ensures begins { IfOk result (λ row. RowBegins shape.now.b (R.counts rack.old).faults (R.counts rack.new).faults (members_in row.items)) }
+    ensures room { IfOk result (λ row. MembersFit shape.now.l (shape.now.k + 1) (members_in row.items) (R.bytes rack.new)) }
+    ensures counts { CountsRise (R.counts rack.old) (R.counts rack.new) }
+    ensures most { (R.counts rack.new).calls ≤ (R.counts rack.old).calls + 2 * shape.now.b }
+    ensures tells { StillTold (R.bytes rack.old) (R.bytes rack.new) }
+    ensures name { R.name rack.new ≡ R.name rack.old }
+{
+    let size = member_length(shape);
+    let slots = shape.k + 1;
+    let mut row = Vec::new(alloc);
+    for number in 0..shape.b {
+        let boundary = Boundary::new(rack, number, shape.l, slots, size);
+        if row.push(boundary).is_err() {
+            return Err(NoMemory);
+        }
+    }
+    Ok(row)
+}
+
+/// Whether a boundary has no good member.
+pub fn has_lost(row: &[Boundary]) -> bool
+    requires { All IsWell row.now }
+    ensures { IsTrue result ↔ Any HasNoGood row.now }
+{
+    row.iter().any(|boundary| boundary.is_lost())
+}
+
+/// Reads a slot of a boundary, by its number.
+pub fn read_slot<R: Rack>(
+    row: &mut Vec<Boundary>,
+    rack: &mut R,
+    shape: &Shape,
+    boundary: u32,
+    slot: u32,
+    buf: &mut [u8],
+) -> PairRead
+    requires stands { RowStands shape.now.l (shape.now.k + 1) row.old.items }
+    requires room { MembersFit shape.now.l (shape.now.k + 1) (members_in row.old.items) (R.bytes rack.old) }
+    requires within { boundary < length row.old.items }
+    requires slot { slot < shape.now.k + 1 }
+    requires size { length buf.old ≡ shape.now.l }
+    ensures count { length row.new.items ≡ length row.old.items }
+    ensures stands { RowStands shape.now.l (shape.now.k + 1) row.new.items }
+    ensures room { MembersFit shape.now.l (shape.now.k + 1) (members_in row.new.items) (R.bytes rack.new) }
+    ensures lost { (result ≡ PairRead.Lost) ↔ (is_lost (members_in row.new.items) boundary ≡ true) }
+    ensures got { result ≡ PairRead.Got
+        → (v : List ℕ) → SlotHolds shape.now.l (members_in row.old.items) (R.bytes rack.old) boundary slot v
+        → ((q : ℕ) → members_in row.new.items q ≡ MemberState.Good → IsSome (R.bytes rack.new q)) → buf.new ≡ v }
+    ensures kept { KeepsSlots shape.now.l (members_in row.old.items) (R.bytes rack.old) (members_in row.new.items) (R.bytes rack.new) }
+    ensures falls { MembersFall (R.counts rack.old).faults (R.counts rack.new).faults (members_in row.old.items) (members_in row.new.items) }
+    ensures counts { CountsRise (R.counts rack.old) (R.counts rack.new) }
+    ensures called { result ≡ PairRead.Got → Rose (R.counts rack.old).calls (R.counts rack.new).calls }
+    ensures most { (R.counts rack.new).calls ≤ (R.counts rack.old).calls + 2 }
+    ensures writes { (R.counts rack.new).writes ≡ (R.counts rack.old).writes }
+    ensures tells { StillTold (R.bytes rack.old) (R.bytes rack.new) }
+    ensures name { R.name rack.new ≡ R.name rack.old }
+{
+    row[boundary as usize].read(rack, slot, buf)
+}
+
+/// Writes a slot of a boundary, by its number.
+pub fn write_slot<R: Rack>(
+    row: &mut Vec<Boundary>,
+    rack: &mut R,
+    shape: &Shape,
+    boundary: u32,
+    slot: u32,
+    buf: &[u8],
+) -> PairWrite
+    requires stands { RowStands shape.now.l (shape.now.k + 1) row.old.items }
+    requires room { MembersFit shape.now.l (shape.now.k + 1) (members_in row.old.items) (R.bytes rack.old) }
+    requires within { boundary < length row.old.items }
+    requires slot { slot < shape.now.k + 1 }
+    requires size { length buf.now ≡ shape.now.l }
+    ensures count { length row.new.items ≡ length row.old.items }
+    ensures stands { RowStands shape.now.l (shape.now.k + 1) row.new.items }
+    ensures room { MembersFit shape.now.l (shape.now.k + 1) (members_in row.new.items) (R.bytes rack.new) }
+    ensures lost { (result ≡ PairWrite.Lost) ↔ (is_lost (members_in row.new.items) boundary ≡ true) }
+    ensures out { result ≡ PairWrite.Lost → (q : ℕ) → q / 2 ≡ boundary → members_in row.new.items q ≡ MemberState.Out }
+    ensures put { SlotHolds shape.now.l (members_in row.new.items) (R.bytes rack.new) boundary slot buf.now }
+    ensures kept { KeepsOtherSlots shape.now.l boundary slot (members_in row.old.items) (R.bytes rack.old) (members_in row.new.items) (R.bytes rack.new) }
+    ensures falls { MembersFall (R.counts rack.old).faults (R.counts rack.new).faults (members_in row.old.items) (members_in row.new.items) }
+    ensures counts { CountsRise (R.counts rack.old) (R.counts rack.new) }
+    ensures most { (R.counts rack.new).calls ≤ (R.counts rack.old).calls + 2 }
+    ensures tells { StillTold (R.bytes rack.old) (R.bytes rack.new) }
+    ensures name { R.name rack.new ≡ R.name rack.old }
+{
+    row[boundary as usize].write(rack, slot, buf)
+}

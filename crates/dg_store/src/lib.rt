@@ -1,0 +1,10 @@
+//! The flat array over mirrored boundaries: each block reads as it was last written, until all its sites are lost.
+#![tactic(auto)]
+
+mod boundaries;
+mod lengths;
+mod store;
+
+pub use dg_model::{Shape, Site};
+pub use lengths::member_length;
+pub use store::{Fetched, Store, StoreWrite};
