@@ -1,3 +1,7 @@
+mod Answers
+mod Inputs
 mod LineFeeds
 mod Ranges
+mod Runs
 mod ToldSteps
+mod Whole

@@ -1,6 +1,6 @@
 -- Bytes without a line feed.
-use Rattle.std.proofs.Common.{◌≡◌, ℕ, ◌+◌, ◌≤◌, List, ◌∷◌, ◌++◌, length, take, drop, sym, ◌∙◌, ap, subst, arith, append_assoc, take-append-drop, ◌≢◌}
-use Rattle.std.proofs.Math.Seq.{take-add}
+use Rattle.std.proofs.Common.{◌≡◌, [], ◌∷◌, ℕ, ◌+◌, ◌≤◌, List, ◌++◌, length, take, drop, refl, sym, ◌∙◌, ap, subst, arith, append_assoc, length-append, take-append-drop, take_at, ◌≢◌}
+use Rattle.std.proofs.Math.Seq.{take-add, get_or-append_seam}
 use Rattle.std.proofs.lemmas.List.{drop-drop, take-append-le}
 use Rattle.std.proofs.lemmas.List.Elements.{All-append, All-take}
 use Rattle.std.proofs.lemmas.Grind.{common_steps}
@@ -33,3 +33,13 @@ found_behind bytes seen i is =
 -- a front without a line feed, before more
 pub none_in_front : (bytes more : List ℕ) (limit : ℕ) → limit ≤ length bytes → HasNoLineFeed (take limit bytes) → HasNoLineFeed (take limit (bytes ++ more))
 none_in_front bytes more limit h none = subst HasNoLineFeed (sym (take-append-le limit bytes more h)) none
+
+-- a text whose first bytes have no line feed begins with no short line
+pub no_short_line : (text spelling tail : List ℕ) (limit : ℕ) → text ≡ (spelling ++ 10 ∷ []) ++ tail → length (spelling ++ 10 ∷ []) ≤ limit → HasNoLineFeed (take limit text) → ⊥
+no_short_line text spelling tail limit is h none =
+    let line = spelling ++ 10 ∷ [] in
+    let front : take (length line) text ≡ line = ap (λ (l : List ℕ). take (length line) l) is ∙ take_at line tail (length line) refl in
+    let shorter = subst HasNoLineFeed front (none_shorter text (length line) limit h none) in
+    let n = length spelling in
+    let size = length-append spelling (10 ∷ []) in
+    shorter n 10 (omega arith) (get_or-append_seam spelling 10 [] 10)

@@ -1,16 +1,20 @@
 -- A replay behind its first line.
-use Rattle.std.specs.Prelude.{◌≡◌, ◌+◌, ◌++◌, ◌∷◌, ℕ, List, length, Option}
+use Rattle.std.specs.Prelude.{◌≡◌, ◌+◌, ◌-◌, ◌^◌, ◌++◌, ◌∷◌, [], ℕ, List, length, Option, Some, All}
 use Rattle.dg_model.specs.States.{Counts}
 use Rattle.dg_model.specs.declared.shapes.Shape.{Shape}
 use Rattle.dg_model.specs.declared.events.Event.{Event}
 use Rattle.dg_model.specs.declared.events.Event.TheVariants.{Array}
+use Rattle.dg_model.specs.declared.replies.Reply.{Reply}
 use Rattle.dg_model.specs.declared.replies.Reply.TheVariants.{Done}
 use Rattle.dg_io.specs.Told.{Told, Took}
 use Rattle.dg_store.specs.declared.store.Store.{Store}
 use Rattle.dg_store.specs.Stores.{shape_of}
-use Rattle.dg_text.specs.Replies.{reply_line, refusal}
+use Rattle.dg_text.specs.Lines.{input_of, IsInPlace}
+use Rattle.dg_text.specs.Replies.{reply_line, output_of, refusal}
 use Rattle.dg_text.specs.declared.lines.BadLine.TheVariants.{Form}
+use Rattle.dg_run.specs.Events.{IsRefused}
 use Rattle.dg_run.specs.Lines.{AllServed, ServedTo}
+use Rattle.dg_run.specs.Replays.{Ran}
 use Rattle.dg_run.specs.declared.top.Status.{Status}
 use Rattle.dg_run.specs.declared.top.Status.TheVariants.{Done as status_done, Usage, BadLine, ReadFault, WriteFault, NoMemory, NoState, Unclean, Refused}
 
@@ -40,3 +44,26 @@ IsOfReplay NoMemory = Unit {0}
 IsOfReplay NoState = ⊥
 IsOfReplay Unclean = ⊥
 IsOfReplay Refused = ⊥
+
+-- The array of this shape was made by a first line, and all lines behind it were served.
+pub record ArrayReplayed (before now : Counts) (bytes : ℕ → Option (List ℕ)) (shape : Shape) (left rest taken given : Option (List ℕ)) : Type 0 where
+  pub events : List Event
+  pub replies : List Reply
+  pub ran : Ran before now bytes (Array shape ∷ events) (Done ∷ replies)
+  pub input : Told (λ b a. (b ≡ input_of events) × (a ≡ [])) left rest
+  pub output : Told (Took (output_of (Done ∷ replies))) taken given
+
+-- The text behind the lines of these events is refused, and any lines of events in their places that make up the whole
+-- begin with them.
+pub record IsCutAt (shape : Shape) (events : List Event) (whole text : List ℕ) : Type 0 where
+  pub lines : whole ≡ input_of events ++ text
+  pub refused : IsRefused (Some shape) (2 ^ 40 - length (input_of (Array shape ∷ events))) text
+  pub only : (others : List Event) → All (IsInPlace (Some shape)) others → whole ≡ input_of others → (more : List Event) × (others ≡ events ++ more) × (text ≡ input_of more)
+
+-- the same up to a line that is refused
+pub record ArrayStopped (before now : Counts) (bytes : ℕ → Option (List ℕ)) (shape : Shape) (left rest taken given : Option (List ℕ)) : Type 0 where
+  pub events : List Event
+  pub replies : List Reply
+  pub ran : Ran before now bytes (Array shape ∷ events) (Done ∷ replies)
+  pub input : Told (λ b a. (text : List ℕ) × IsCutAt shape events b text) left rest
+  pub output : Told (Took (output_of (Done ∷ replies) ++ refusal (length events + 2) Form)) taken given

@@ -1,3 +1,4 @@
+pub mod Arrays
 pub mod Bytes
 pub mod Events
 pub mod Inputs

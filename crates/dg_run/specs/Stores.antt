@@ -1,6 +1,6 @@
 -- A store beside the model's states.
 use Rattle.std.specs.Prelude.{◌≡◌, ◌/◌, ◌<◌, ◌≤◌, ℕ, List, Option, IsSome}
-use Rattle.dg_model.specs.States.{Counts, State}
+use Rattle.dg_model.specs.States.{Counts}
 use Rattle.dg_model.specs.Steps.{Step}
 use Rattle.dg_model.specs.Runs.{Run}
 use Rattle.dg_model.specs.declared.members.MemberState.TheVariants.{Out}

@@ -36,12 +36,7 @@ pub enum Fault {
 }
 
 /// The event that a line spells, given without its line feed. A line of more bytes than the room is refused.
-fn judge(
-    alloc: Global,
-    line: &[u8],
-    shape: Option<&Shape>,
-    room: u64,
-) -> Result<Taken, NoMemory>
+fn judge(alloc: Global, line: &[u8], shape: Option<&Shape>, room: u64) -> Result<Taken, NoMemory>
     requires { HasNoLineFeed line.now }
     ensures is { IfOk result (IsTaken (option_copied shape.entry) room) }
     ensures took { IfOk result (λ taken. (more : List ℕ) → TookEvent (option_copied shape.entry) room taken (line.now ++ 10 ∷ more) more) }
@@ -66,7 +61,7 @@ pub fn take_event<S: Source>(
     shape: Option<&Shape>,
     room: u64,
 ) -> Result<Taken, Fault>
-    requires { IfSome (option_copied shape.entry) IsShape }
+    requires { IfSome (option_copied shape) IsShape }
     ensures is { IfOk result (IsTaken (option_copied shape.entry) room) }
     ensures took { IfOk result (λ taken. Told (TookEvent (option_copied shape.entry) room taken) (ahead input.old (S.left source.old)) (ahead input.new (S.left source.new))) }
     ensures later { S.faults source.old ≤ S.faults source.new }

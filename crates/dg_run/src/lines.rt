@@ -38,7 +38,7 @@ pub enum LinesEnd {
 }
 
 /// Takes a line of no more bytes than the room, does its event and writes the reply.
-fn turn<S: Source, K: Sink, R: Rack>(
+fn serve_next<S: Source, K: Sink, R: Rack>(
     alloc: Global,
     input: &mut Input,
     source: &mut S,
@@ -90,7 +90,7 @@ pub fn serve_lines<S: Source, K: Sink, R: Rack>(
     let mut passed = first;
     let mut number = 2;
     while passed <= BUDGET {
-        match turn(alloc, input, source, sink, store, block, BUDGET - passed)? {
+        match serve_next(alloc, input, source, sink, store, block, BUDGET - passed)? {
             Turn::Served(bytes) => {
                 passed += bytes;
                 number += 1;

@@ -3,7 +3,7 @@ ghost use Rattle.std.specs.Prelude.{◌≡◌, ◌≢◌, ◌⊎◌, ◌≤◌, 
 ghost use Rattle.dg_io.specs.Told.{Told, Took};
 ghost use Rattle.dg_model.specs.Causes.{Rose};
 ghost use Rattle.dg_store.specs.Stores.{shape_of, rack_of};
-ghost use Rattle.dg_text.specs.Lines.{input_of};
+ghost use Rattle.dg_text.specs.Lines.{line_of, input_of};
 ghost use Rattle.dg_text.specs.Replies.{usage, refusal};
 ghost use Rattle.dg_run.specs.Inputs.{ahead};
 ghost use Rattle.dg_run.specs.Stores.{IsReady, GoesOn};
@@ -57,6 +57,9 @@ fn status_of(fault: Fault) -> Status
     ensures read { (result ≡ Status.ReadFault) ↔ (fault ≡ Fault.Read) }
     ensures write { (result ≡ Status.WriteFault) ↔ (fault ≡ Fault.Write) }
     ensures memory { (result ≡ Status.NoMemory) ↔ (fault ≡ Fault.NoMemory) }
+    ensures done { result ≡ Status.Done → ⊥ }
+    ensures bad_line { result ≡ Status.BadLine → ⊥ }
+    ensures never { IsOfReplay result }
 {
     match fault {
         Fault::Read => Status::ReadFault,
@@ -69,7 +72,9 @@ fn status_of(fault: Fault) -> Status
 fn refuse<K: Sink>(sink: &mut K, number: u64) -> Status
     ensures bad { result ≡ Status.BadLine → Told (Took (refusal number BadLine.Form)) (K.taken sink.old) (K.taken sink.new) }
     ensures write { result ≡ Status.WriteFault → Rose (K.faults sink.old) (K.faults sink.new) }
-    ensures only { (result ≡ Status.BadLine) ⊎ (result ≡ Status.WriteFault) }
+    ensures done { result ≡ Status.Done → ⊥ }
+    ensures read { result ≡ Status.ReadFault → ⊥ }
+    ensures never { IsOfReplay result }
     ensures later { K.faults sink.old ≤ K.faults sink.new }
 {
     match write_refusal(sink, number, BadLine::Form) {
@@ -101,9 +106,9 @@ fn serve_array<S: Source, K: Sink, R: Rack>(
     let Ok(mut block) = vec![in alloc; 0u8; store.shape().l as usize] else {
         return Status::NoMemory;
     };
-    if send(sink, &Reply::Done).is_err() {
+    let Ok(()) = send(sink, &Reply::Done) else {
         return Status::WriteFault;
-    }
+    };
     match serve_lines(alloc, input, source, sink, store, &mut block, first) {
         Ok(LinesEnd::Input) => Status::Done,
         Ok(LinesEnd::Refused(number)) => refuse(sink, number),
@@ -122,10 +127,11 @@ fn replay_array<S: Source, K: Sink, R: Rack + Drop>(
     first: u64,
 ) -> Result<Ended<R>, NoMemory>
     requires shape { IsShape shape }
-    requires first { first ≤ 2 ^ 40 }
+    requires first { first ≡ length (line_of (Event.Array shape)) }
+    requires budget { first ≤ 2 ^ 40 }
     ensures name { IfOk result (λ end. R.name end.rack ≡ R.name rack) }
-    ensures done { IfOk result (λ end. end.status ≡ Status.Done → ArrayReplayed (R.counts rack) (R.counts end.rack) (R.bytes end.rack) shape first (ahead input.old (S.left source.old)) (ahead input.new (S.left source.new)) (K.taken sink.old) (K.taken sink.new)) }
-    ensures bad_line { IfOk result (λ end. end.status ≡ Status.BadLine → ArrayStopped (R.counts rack) (R.counts end.rack) (R.bytes end.rack) shape first (ahead input.old (S.left source.old)) (ahead input.new (S.left source.new)) (K.taken sink.old) (K.taken sink.new)) }
+    ensures done { IfOk result (λ end. end.status ≡ Status.Done → ArrayReplayed (R.counts rack) (R.counts end.rack) (R.bytes end.rack) shape (ahead input.old (S.left source.old)) (ahead input.new (S.left source.new)) (K.taken sink.old) (K.taken sink.new)) }
+    ensures bad_line { IfOk result (λ end. end.status ≡ Status.BadLine → ArrayStopped (R.counts rack) (R.counts end.rack) (R.bytes end.rack) shape (ahead input.old (S.left source.old)) (ahead input.new (S.left source.new)) (K.taken sink.old) (K.taken sink.new)) }
     ensures read { IfOk result (λ end. end.status ≡ Status.ReadFault → Rose (S.faults source.old) (S.faults source.new)) }
     ensures write { IfOk result (λ end. end.status ≡ Status.WriteFault → Rose (K.faults sink.old) (K.faults sink.new)) }
     ensures source_later { S.faults source.old ≤ S.faults source.new }
@@ -160,7 +166,11 @@ fn replay<S: Source, K: Sink, R: Rack + Drop>(
             replay_array(alloc, &mut input, source, sink, rack, shape, bytes)
         }
         Ok(Taken::Event(_, _)) => unreachable!(),
-        Ok(_) => Ok(Ended {
+        Ok(Taken::End) => Ok(Ended {
+            rack,
+            status: refuse(sink, 1),
+        }),
+        Ok(Taken::Refused) => Ok(Ended {
             rack,
             status: refuse(sink, 1),
         }),

@@ -1,0 +1,240 @@
+-- A whole replay.
+use Rattle.std.proofs.Common.{◌≡◌, ◌≤◌, ◌<◌, ◌+◌, ◌-◌, ◌^◌, ℕ, List, [], ◌∷◌, ◌++◌, length, replicate, take, refl, sym, ◌∙◌, ap, subst, arith, append_assoc, length-append}
+use Rattle.std.specs.Prelude.{Option, Some, None, All, Result, Ok, Err, IfOk}
+use Rattle.std.proofs.lemmas.List.{append_cancel_left}
+use Rattle.std.proofs.lemmas.List.Concat.{flat_map-append}
+use Rattle.dg_model.specs.Shapes.{IsShape}
+use Rattle.dg_model.specs.States.{Counts, State, IsBlank, zeros}
+use Rattle.dg_model.specs.declared.shapes.Shape.{Shape}
+use Rattle.dg_model.specs.declared.events.Event.{Event}
+use Rattle.dg_model.specs.declared.events.Event.TheVariants.{Array, Write, Read}
+use Rattle.dg_model.specs.declared.replies.Reply.{Reply}
+use Rattle.dg_model.specs.declared.replies.Reply.TheVariants.{Done}
+use Rattle.dg_model.specs.declared.members.MemberState.TheVariants.{Out}
+use Rattle.dg_io.specs.Told.{Told, Took}
+use Rattle.dg_store.specs.declared.store.Store.{Store}
+use Rattle.dg_store.specs.Stores.{rack_of, shape_of, state_of, StandsFor}
+use Rattle.dg_text.specs.Lines.{line_of, spelling, input_of, IsInPlace}
+use Rattle.dg_text.specs.Replies.{reply_line, output_of, refusal}
+use Rattle.dg_text.specs.declared.lines.BadLine.TheVariants.{Form}
+use Rattle.dg_run.specs.Events.{Begins, IsRefused}
+use Rattle.dg_run.specs.Lines.{Served}
+use Rattle.dg_run.specs.Replays.{Ran, Replayed, Stopped, StopsAt, IsNoInput}
+use Rattle.dg_run.specs.Arrays.{AllAnswered, AnsweredTo, ArrayReplayed, ArrayStopped, IsCutAt}
+use Rattle.dg_run.proofs.Inputs.{All-head, All-right, no_line}
+use Rattle.std.specs.Option.{option_map}
+use Rattle.dg_run.specs.Bytes.{HasNoLineFeed}
+use Rattle.dg_run.proofs.LineFeeds.{no_short_line}
+use Rattle.dg_run.proofs.ToldSteps.{Told-then}
+
+-- outputs go on from one another
+took_first : (rs : List Reply) (t m v : Option (List ℕ)) → Told (Took (reply_line Done)) t m → Told (Took (output_of rs)) m v → Told (Took (output_of (Done ∷ rs))) t v
+took_first rs t m v p q = Told-then _ _ (Took (output_of (Done ∷ rs))) (λ a b c f s. s ∙ ap (λ (l : List ℕ). l ++ output_of rs) f ∙ append_assoc a (reply_line Done) (output_of rs)) t m v p q
+
+took_last : (text last : List ℕ) (t m v : Option (List ℕ)) → Told (Took text) t m → Told (Took last) m v → Told (Took (text ++ last)) t v
+took_last text last t m v p q = Told-then _ _ (Took (text ++ last)) (λ a b c f s. s ∙ ap (λ (l : List ℕ). l ++ last) f ∙ append_assoc a text last) t m v p q
+
+module _ {R : Type 0} (counts : R → Counts) (bytes : R → ℕ → Option (List ℕ)) (shape : Shape) (first : ℕ) (rack : R) (a b : Store R) (is : first ≡ length (line_of (Array shape))) (well : IsShape shape)
+    (blank : IsBlank shape (counts rack) (state_of counts a (replicate shape.n (zeros shape.l)))) (stands : StandsFor counts bytes a (replicate shape.n (zeros shape.l))) where
+  ran : (events : List Event) (x z t v : Option (List ℕ)) → (served : Served counts bytes (shape_of a) events x z t v a b) → first + length (input_of events) ≤ 2 ^ 40 → Ran (counts rack) (counts (rack_of b)) (bytes (rack_of b)) (Array shape ∷ events) (Done ∷ served.replies)
+  ran events x z t v served budget =
+      let W = served.runs (replicate shape.n (zeros shape.l)) stands in
+      record {
+        in_place = (well, subst (λ (s : Shape). All (IsInPlace (Some s)) events) blank.shape_is served.in_place);
+        budget = omega (arith, length-append (line_of (Array shape)) (input_of events));
+        final = state_of counts b W.0;
+        trace = λ told. (state_of counts a (replicate shape.n (zeros shape.l)), blank, W.2 told);
+        holds = W.1;
+        counts = refl;
+      }
+
+  pub array_replayed : (x z t v : Option (List ℕ)) → AllAnswered counts bytes first x z t v a b → ArrayReplayed (counts rack) (counts (rack_of b)) (bytes (rack_of b)) shape x z t v
+  array_replayed x z t v all = record {
+    events = all.served.events;
+    replies = all.served.served.replies;
+    ran = ran all.served.events x z all.middle v all.served.served all.served.budget;
+    input = all.served.end;
+    output = took_first all.served.served.replies t all.middle v all.ok all.served.served.output;
+  }
+
+  pub array_stopped : (x z t v : Option (List ℕ)) → AnsweredTo counts bytes first x z t v a b → ArrayStopped (counts rack) (counts (rack_of b)) (bytes (rack_of b)) shape x z t v
+  array_stopped x z t v to =
+      let s = to.served in
+      let room : 2 ^ 40 - (first + length (input_of s.events)) ≡ 2 ^ 40 - length (input_of (Array shape ∷ s.events)) = ap (λ (n : ℕ). 2 ^ 40 - n) (omega (arith, length-append (line_of (Array shape)) (input_of s.events))) in
+      record {
+        events = s.events;
+        replies = s.served.replies;
+        ran = ran s.events x s.middle to.middle to.before s.served s.budget;
+        input = Told-then _ _ (λ p q. (text : List ℕ) × IsCutAt shape s.events p text) (λ p q r f refused. (
+          q,
+          record {
+            lines = f.lines;
+            refused = subst (λ (n : ℕ). IsRefused (Some shape) n q) room (subst (λ (h : Shape). IsRefused (Some h) (2 ^ 40 - (first + length (input_of s.events))) q) blank.shape_is refused);
+            only = λ others placed made. f.only others (subst (λ (h : Shape). All (IsInPlace (Some h)) others) (sym blank.shape_is) placed) made;
+          },
+        )) x s.middle z s.served.input s.refused;
+        output = took_last (output_of (Done ∷ s.served.replies)) (refusal (length s.events + 2) Form) t to.before v
+            (took_first s.served.replies t to.middle to.before to.ok s.served.output)
+            (subst (λ (n : ℕ). Told (Took (refusal n Form)) to.before v) s.count to.refused);
+      }
+
+module _ (before now : Counts) (bytes : ℕ → Option (List ℕ)) (shape : Shape) (well : IsShape shape) where
+  pub replayed : (x y z t v : Option (List ℕ)) → Told (Begins None (Array shape)) x y → ArrayReplayed before now bytes shape y z t v → Replayed before now bytes x z t v
+  replayed x y z t v line rest = record {
+    events = Array shape ∷ rest.events;
+    replies = Done ∷ rest.replies;
+    some = λ e. cc e;
+    ran = rest.ran;
+    input = Told-then _ _ (λ p r. (p ≡ input_of (Array shape ∷ rest.events)) × (r ≡ [])) (λ p q r f s. (f.line ∙ ap (λ (l : List ℕ). line_of (Array shape) ++ l) s.0, s.1)) x y z line rest.input;
+    output = rest.output;
+  }
+
+  -- no event of an input stands where it is cut
+  past : (events : List Event) (text b : List ℕ) → IsCutAt shape events b text → (es more : List Event) → All (IsInPlace (Some shape)) es → es ≡ events ++ more → text ≡ input_of more → length (line_of (Array shape)) + length (input_of es) ≤ 2 ^ 40 → ⊥
+  past events text b cut es [] placed split made budget = cut.refused.some made
+  past events text b cut es (m ∷ ms) placed split made budget =
+      let here : IsInPlace (Some shape) m = All-head (IsInPlace (Some shape)) m ms (All-right (IsInPlace (Some shape)) events (m ∷ ms) (subst (λ (l : List Event). All (IsInPlace (Some shape)) l) split placed)) in
+      let over = cut.refused.none m (input_of ms) here made in
+      let size : length (input_of es) ≡ length (input_of events ++ input_of (m ∷ ms)) = ap (λ (l : List Event). length (input_of l)) split ∙ ap length (flat_map-append line_of events (m ∷ ms)) in
+      absurd (omega (arith, size, over, budget, length-append (input_of events) (input_of (m ∷ ms)), length-append (line_of m) (input_of ms), length-append (line_of (Array shape)) (input_of events)))
+
+  -- lines of a whole input can't be cut there
+  no_input : (events : List Event) (a b text : List ℕ) → Begins None (Array shape) a b → IsCutAt shape events b text → IsNoInput a
+  no_input events a b text line cut [] input is = absurd (input.some refl)
+  no_input events a b text line cut (Write n bs ∷ es) input is = absurd input.in_place
+  no_input events a b text line cut (Read n ∷ es) input is = absurd input.in_place
+  no_input events a b text line cut (Array s ∷ es) input is =
+      let same : Array s ≡ Array shape = line.only (Array s) (input_of es) input.in_place.0 is in
+      let shapes : s ≡ shape = cc same in
+      let rest : b ≡ input_of es = append_cancel_left (line_of (Array shape)) b (input_of es) (sym line.line ∙ is ∙ ap (λ (e : Event). line_of e ++ input_of es) same) in
+      let placed : All (IsInPlace (Some shape)) es = subst (λ (h : Shape). All (IsInPlace (Some h)) es) shapes input.in_place.1 in
+      let had = cut.only es placed rest in
+      let budget : length (line_of (Array shape)) + length (input_of es) ≤ 2 ^ 40 = subst (λ (h : Shape). length (line_of (Array h)) + length (input_of es) ≤ 2 ^ 40) shapes (let e = length-append (line_of (Array s)) (input_of es) in let h = input.budget in omega arith) in
+      past events text b cut es had.0 placed had.1 had.2 budget
+
+  pub stopped : (x y z t v : Option (List ℕ)) → Told (Begins None (Array shape)) x y → ArrayStopped before now bytes shape y z t v → Stopped before now bytes x z t v
+  stopped x y z t v line rest = record {
+    events = Array shape ∷ rest.events;
+    replies = Done ∷ rest.replies;
+    ran = rest.ran;
+    input = Told-then _ _ (λ p r. (text : List ℕ) × (p ≡ input_of (Array shape ∷ rest.events) ++ text) × StopsAt (Array shape ∷ rest.events) text × IsNoInput p) (λ p q r f s. (
+      s.0,
+      f.line ∙ ap (λ (l : List ℕ). line_of (Array shape) ++ l) s.1.lines ∙ sym (append_assoc (line_of (Array shape)) (input_of rest.events) s.0),
+      record { some = λ e. absurd (s.1.refused.some e); none = s.1.refused.none },
+      no_input rest.events p q s.0 f s.1,
+    )) x y z line rest.input;
+    output = subst (λ (n : ℕ). Told (Took (output_of (Done ∷ rest.replies) ++ refusal n Form)) t v) (omega arith) rest.output;
+  }
+
+unmade : Counts → State
+unmade now = record { shape = record { l = 0; n = 0; b = 0; k = 0; m = 0 }; blocks = []; sites = λ b. []; members = λ q. Out; counts = now }
+
+-- the text begins with no line of an event that may stand first and keeps to the budget
+abbrev pub IsNoFirst : List ℕ → Type 0
+IsNoFirst text = (event : Event) (tail : List ℕ) → IsInPlace None event → text ≡ line_of event ++ tail → 2 ^ 40 < length (line_of event)
+
+first_no_input : (text : List ℕ) → IsNoFirst text → IsNoInput text
+first_no_input text none [] input is = input.some refl
+first_no_input text none (Write n bs ∷ es) input is = input.in_place
+first_no_input text none (Read n ∷ es) input is = input.in_place
+first_no_input text none (Array s ∷ es) input is =
+    let over = none (Array s) (input_of es) input.in_place.0 is in
+    let budget = input.budget in
+    absurd (omega (arith, over, budget, length-append (line_of (Array s)) (input_of es)))
+
+pub told_each : (f s : List ℕ → List ℕ → Type 0) → ((a b : List ℕ) → f a b → s a b) → (x y : Option (List ℕ)) → Told f x y → Told s x y
+told_each f s h x None told = tt
+told_each f s h None (Some b) told = absurd told
+told_each f s h (Some a) (Some b) told = h a b told
+
+-- the first line is refused, or there is none
+pub stopped_first : (now : Counts) (bytes : ℕ → Option (List ℕ)) (x z t v : Option (List ℕ)) → Told (λ before after. IsNoFirst before) x z → Told (Took (refusal 1 Form)) t v → Stopped now now bytes x z t v
+unfolding unmade
+stopped_first now bytes x z t v refused output = record {
+  events = [];
+  replies = [];
+  ran = record {
+    in_place = tt;
+    budget = omega arith;
+    final = unmade now;
+    trace = λ told. record { boundaries = refl; size = refl; blocks = refl; counts = refl };
+    holds = record { size = refl; blank = λ b h e. absurd (omega arith); held = λ b h. absurd (omega arith) };
+    counts = refl;
+  };
+  input = told_each _ _ (λ a b none. (a, refl, record { some = λ e. refl; none = none }, first_no_input a none)) x z refused;
+  output = output;
+}
+
+-- what is refused first
+pub none_first : (x z : Option (List ℕ)) → Told (λ before after. IsRefused None (2 ^ 40) before) x z → Told (λ before after. IsNoFirst before) x z
+none_first x z told = told_each _ _ (λ a b refused. refused.none) x z told
+
+-- an empty input
+pub none_at_all : (x z : Option (List ℕ)) → Told (λ before after. (before ≡ []) × (after ≡ [])) x z → Told (λ before after. IsNoFirst before) x z
+none_at_all x z told = told_each _ _ (λ a b empty event tail placed is. absurd (no_line event tail (sym is ∙ empty.0))) x z told
+
+-- bytes without a line feed among the first ones, of which a line has no more
+pub unended_refused : (shape : Option Shape) (room limit : ℕ) (x z : Option (List ℕ)) → ((event : Event) → IsInPlace shape event → length (line_of event) ≤ limit)
+    → Told (λ before after. (before ≡ [] → ⊥) × HasNoLineFeed (take limit before)) x z → Told (λ before after. IsRefused shape room before) x z
+unended_refused shape room limit x z fits told = told_each _ (λ before after. IsRefused shape room before) (λ before after found. record {
+  some = found.0;
+  none = λ event tail placed is. absurd (no_short_line before (spelling event) tail limit is (fits event placed) found.1);
+}) x z told
+
+-- a fresh buffer has nothing, and what a buffer still has at the end doesn't matter
+fresh_told : (step : List ℕ → List ℕ → Type 0) (unread : List ℕ) (x y : Option (List ℕ)) → unread ≡ [] → Told step (option_map (λ more. unread ++ more) x) y → Told step x y
+fresh_told step unread x None is told = tt
+fresh_told step unread None (Some b) is told = absurd told
+fresh_told step unread (Some a) (Some b) is told = subst (λ (l : List ℕ). step (l ++ a) b) is told
+
+rest_told : (P : List ℕ → Type 0) (unread : List ℕ) (x y : Option (List ℕ)) → Told (λ before after. P before) x (option_map (λ more. unread ++ more) y) → Told (λ before after. P before) x y
+rest_told P unread x None told = tt
+rest_told P unread None (Some b) told = absurd told
+rest_told P unread (Some a) (Some b) told = told
+
+none_left : (xs ys : List ℕ) → xs ++ ys ≡ [] → ys ≡ []
+none_left [] ys is = is
+none_left (x ∷ xs) ys is = absurd (cc is)
+
+rest_ended : (P : List ℕ → Type 0) (unread : List ℕ) (x y : Option (List ℕ)) → Told (λ before after. P before × (after ≡ [])) x (option_map (λ more. unread ++ more) y) → Told (λ before after. P before × (after ≡ [])) x y
+rest_ended P unread x None told = tt
+rest_ended P unread None (Some b) told = absurd told
+rest_ended P unread (Some a) (Some b) told = (told.0, none_left unread b told.1)
+
+module _ (before now : Counts) (bytes : ℕ → Option (List ℕ)) (unread kept : List ℕ) (fresh : unread ≡ []) (left rest taken given : Option (List ℕ)) where
+  pub replay_done : (shape : Shape) (y : Option (List ℕ)) → IsShape shape → Told (Begins None (Array shape)) (option_map (λ more. unread ++ more) left) y
+      → ArrayReplayed before now bytes shape y (option_map (λ more. kept ++ more) rest) taken given → Replayed before now bytes left rest taken given
+  replay_done shape y well line all =
+      let whole = replayed before now bytes shape well left y (option_map (λ more. kept ++ more) rest) taken given (fresh_told _ unread left y fresh line) all in
+      record {
+        events = whole.events;
+        replies = whole.replies;
+        some = whole.some;
+        ran = whole.ran;
+        input = rest_ended (λ l. l ≡ input_of whole.events) kept left rest whole.input;
+        output = whole.output;
+      }
+
+  pub replay_stopped : (shape : Shape) (y : Option (List ℕ)) → IsShape shape → Told (Begins None (Array shape)) (option_map (λ more. unread ++ more) left) y
+      → ArrayStopped before now bytes shape y (option_map (λ more. kept ++ more) rest) taken given → Stopped before now bytes left rest taken given
+  replay_stopped shape y well line all =
+      let whole = stopped before now bytes shape well left y (option_map (λ more. kept ++ more) rest) taken given (fresh_told _ unread left y fresh line) all in
+      record {
+        events = whole.events;
+        replies = whole.replies;
+        ran = whole.ran;
+        input = rest_told (λ l. (text : List ℕ) × (l ≡ input_of whole.events ++ text) × StopsAt whole.events text × IsNoInput l) kept left rest whole.input;
+        output = whole.output;
+      }
+
+  pub replay_refused : Told (λ b a. IsRefused None (2 ^ 40) b) (option_map (λ more. unread ++ more) left) (option_map (λ more. kept ++ more) rest) → Told (Took (refusal 1 Form)) taken given → Stopped before before bytes left rest taken given
+  replay_refused refused output =
+      stopped_first before bytes left rest taken given (rest_told IsNoFirst kept left rest (fresh_told (λ b a. IsNoFirst b) unread left _ fresh (none_first _ _ refused))) output
+
+  pub replay_empty : Told (λ b a. (b ≡ []) × (a ≡ [])) (option_map (λ more. unread ++ more) left) (option_map (λ more. kept ++ more) rest) → Told (Took (refusal 1 Form)) taken given → Stopped before before bytes left rest taken given
+  replay_empty empty output =
+      stopped_first before bytes left rest taken given (rest_told IsNoFirst kept left rest (fresh_told (λ b a. IsNoFirst b) unread left _ fresh (none_at_all _ _ empty))) output
+
+pub IfOk-map : {T E : Type 0} (result : Result T E) (P Q : T → Type 0) → ((x : T) → P x → Q x) → IfOk result P → IfOk result Q
+IfOk-map (Ok x) P Q h p = h x p
+IfOk-map (Err e) P Q h p = tt

@@ -1,0 +1,42 @@
+use Rattle.std.proofs.Common.{◌∙◌, arith}
+use Rattle.dg_run.proofs.Inputs.{line_some}
+use Rattle.dg_run.proofs.Runs.{so_far_none, so_far_next, turned_served, lines_end, goes_none, goes_then}
+use Rattle.dg_run.proofs.lines.serve_lines.Goals as goal
+
+pub loop-passed-init : goal.loop-passed-init
+loop-passed-init g c = record {
+  goes = goes_none g.R.Rack.counts g.R.Rack.bytes g.R.Rack.name c.args.store.now c.requires.ready;
+  size = c.requires.size;
+  budget = c.requires.first;
+  number = omega arith;
+  so_far = so_far_none g.R.Rack.counts g.R.Rack.bytes _ c.args.first _ _ _;
+  source_later = omega arith;
+  sink_later = omega arith;
+}
+
+pub loop-passed-preserved : goal.loop-passed-preserved
+loop-passed-preserved g c =
+    let inv = c.loop-passed.invariant in
+    let e = c.in_ok-bytes.ensures in
+    let line = turned_served g.R.Rack.counts g.R.Rack.bytes _ c.in-Served.bytes _ _ _ _ _ _ _ c.in-Served.is e.turned in
+    let some = line_some line.event in
+    record {
+      goes = goes_then g.R.Rack.counts g.R.Rack.bytes g.R.Rack.name _ _ _ inv.goes e.goes;
+      size = c.serve_next.auto.block ∙ inv.size;
+      budget = omega (arith, line.within, inv.budget);
+      number = omega (arith, line.size, inv.number);
+      so_far = so_far_next g.R.Rack.counts g.R.Rack.bytes _ _ c.args.first _ _ _ c.in-Served.bytes _ _ _ _ _ _ _ _ _ inv.goes.shape inv.so_far line e.goes.shape e.goes.tells;
+      source_later = omega (arith, inv.source_later, e.source_later);
+      sink_later = omega (arith, inv.sink_later, e.sink_later);
+    }
+
+pub loop-passed-smaller : goal.loop-passed-smaller
+loop-passed-smaller g c =
+    let line = turned_served g.R.Rack.counts g.R.Rack.bytes _ c.in-Served.bytes _ _ _ _ _ _ _ c.in-Served.is c.in_ok-bytes.ensures.turned in
+    let some = line_some line.event in
+    omega (arith, line.within, line.size, some)
+
+pub returns-in-End-clause-end : goal.returns-in-End-clause-end
+returns-in-End-clause-end g c =
+    let inv = c.loop-passed.invariant in
+    lines_end g.R.Rack.counts g.R.Rack.bytes _ c.args.first _ _ _ _ _ _ _ _ _ _ _ _ _ c.in-End.is c.in_ok-bytes.ensures.turned inv.budget inv.so_far

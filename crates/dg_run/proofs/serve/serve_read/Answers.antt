@@ -1,0 +1,46 @@
+use Rattle.std.proofs.Common.{◌≡◌, ◌<◌, ◌≤◌, ◌/◌, ℕ, List, refl, ap, subst, arith}
+use Rattle.dg_model.specs.declared.shapes.Shape.{Shape}
+use Rattle.dg_model.specs.declared.replies.Reply.TheVariants.{Unavailable, Data}
+use Rattle.dg_model.specs.States.{IsTrimmed}
+use Rattle.dg_store.specs.Stores.{shape_of}
+use Rattle.dg_run.proofs.Answers.{answered}
+use Rattle.dg_run.proofs.Runs.{others_stay, tells_good, false_of}
+use Rattle.dg_run.proofs.serve.serve_read.Goals as goal
+
+pub returns-in-Got-clause-answered : goal.returns-in-Got-clause-answered
+returns-in-Got-clause-answered g c =
+    let s = c.args.store.now in
+    let k = c.in-Got.ensures in
+    let n : c.shape.result.now.n ≡ (shape_of s).n = ap (λ (x : Shape). x.n) c.shape.ensures in
+    let within : c.args.b < (shape_of s).n = omega arith in
+    let out = others_stay (shape_of s).b _ _ _ _ c.requires.ready.others k.falls in
+    answered g.R.Rack.counts g.R.Rack.bytes _ (Data c.trimmed.result.now) _ _ _ _ c.send_data.result
+    (λ V st. (
+      V,
+      k.stands V st,
+      λ told. (
+        within,
+        false_of _ (λ gone. cc (k.gone.1 gone)),
+        subst (λ (v : List ℕ). IsTrimmed c.trimmed.result.now v) (k.got V st refl (tells_good g.R.Rack.bytes c.read.new.self (λ q h. out q (subst (λ (x : Shape). x.b ≤ q / 2) k.shape h)) told)) c.trimmed.ensures,
+        record { goes = record { shape = k.shape; counts = k.counts; members = k.falls }; blocks = refl; sites = k.sites },
+      ),
+    ))
+    c.send_data.ensures.ok
+
+pub returns-in-Gone-clause-answered : goal.returns-in-Gone-clause-answered
+returns-in-Gone-clause-answered g c =
+    let s = c.args.store.now in
+    let k = c.in-Gone.ensures in
+    let n : c.shape.result.now.n ≡ (shape_of s).n = ap (λ (x : Shape). x.n) c.shape.ensures in
+    let within : c.args.b < (shape_of s).n = omega arith in
+    answered g.R.Rack.counts g.R.Rack.bytes _ Unavailable _ _ _ _ c.send-in-Gone.result
+    (λ V st. (
+      V,
+      k.stands V st,
+      λ told. (
+        within,
+        k.gone.0 refl,
+        record { goes = record { shape = k.shape; counts = k.counts; members = k.falls }; blocks = refl; sites = k.sites },
+      ),
+    ))
+    c.send-in-Gone.ensures.ok
