@@ -1,6 +1,6 @@
 -- A line ends at its first LF, since no spelling has one.
-use Rattle.std.proofs.Common.{◌≡◌, ◌≢◌, ◌<◌, ◌≤◌, ◌^◌, ◌⊎◌, inl, inr, ltb, ℕ, List, [], ◌∷◌, ◌++◌, refl, sym, ◌∙◌, true, append_assoc, arith}
-use Rattle.std.specs.Prelude.{All, Option, Some, None, Contains, codes}
+use Rattle.std.proofs.Common.{◌≡◌, ◌≢◌, ◌<◌, ◌^◌, inl, inr, ltb, ℕ, List, [], ◌∷◌, ◌++◌, refl, ◌∙◌, true, append_assoc, arith}
+use Rattle.std.specs.Prelude.{Option, Some, None, Contains, codes}
 use Rattle.std.specs.Fmt.{decimal}
 use Rattle.std.specs.List.{list_all}
 use Rattle.std.proofs.lemmas.List.Sums.{AllPass-from_list_all}

@@ -18,7 +18,8 @@ pub enum BadLine {
     Form,
 }
 
-/// The event that a line spells, given without its LF. The shape is that of the array, or `None` before it.
+/// The event that a line spells in its place. The line is given without its LF, and the shape is that of the array, or
+/// `None` before it. Where it spells no such event, the answer within `Ok` says why it is refused.
 pub fn read_line(
     alloc: Global,
     line: &[u8],

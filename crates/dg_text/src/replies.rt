@@ -10,6 +10,66 @@ use dg_io::{Sink, write_all};
 use dg_model::{Failed, Reply};
 use itoa::Buffer;
 
+// Bytes of the longest line of data: the word and its space, two digits for each of 4096 bytes, and the LF.
+const DATA_ROOM: usize = 5 + 2 * 4096 + 1;
+
+// Room for the answer to a refused line, whose number has at most 20 digits.
+const REFUSAL_ROOM: usize = 64;
+
+/// Writes the line of a reply, whose bytes are at most 4096.
+pub fn write_reply<K: Sink>(sink: &mut K, reply: &Reply) -> Result<(), Failed>
+    requires { IsShort reply.now }
+    ensures ok { OnOk result (Told (Took (reply_line reply.now)) (K.taken sink.old) (K.taken sink.new)) }
+    ensures err { OnErr result (Told (TookPart (reply_line reply.now)) (K.taken sink.old) (K.taken sink.new)) }
+    ensures cause { HasCause (K.faults sink.old) (K.faults sink.new) result }
+{
+    match reply {
+        Reply::Done => write_all(sink, b"ok\n"),
+        Reply::Range => write_all(sink, b"range\n"),
+        Reply::Degraded => write_all(sink, b"degraded\n"),
+        Reply::Unavailable => write_all(sink, b"unavailable\n"),
+        Reply::Data(bytes) => write_data(sink, bytes.as_slice()),
+    }
+}
+
+/// Writes the line of the reply that gives these bytes, at most 4096.
+pub fn write_data<K: Sink>(sink: &mut K, bytes: &[u8]) -> Result<(), Failed>
+    requires { length bytes.now ≤ 4096 }
+    ensures ok { OnOk result (Told (Took (reply_line (Reply.Data bytes.now))) (K.taken sink.old) (K.taken sink.new)) }
+    ensures err { OnErr result (Told (TookPart (reply_line (Reply.Data bytes.now))) (K.taken sink.old) (K.taken sink.new)) }
+    ensures cause { HasCause (K.faults sink.old) (K.faults sink.new) result }
+{
+    if bytes.is_empty() {
+        return write_all(sink, b"data -\n");
+    }
+    let mut line = [0u8; DATA_ROOM];
+    let end = spell_data(&mut line, bytes);
+    write_all(sink, &line[..end])
+}
+
+/// Writes the answer to a refused line. The first line of an input has the number 1.
+pub fn write_refusal<K: Sink>(sink: &mut K, number: u64, kind: BadLine) -> Result<(), Failed>
+    ensures ok { OnOk result (Told (Took (refusal number kind)) (K.taken sink.old) (K.taken sink.new)) }
+    ensures err { OnErr result (Told (TookPart (refusal number kind)) (K.taken sink.old) (K.taken sink.new)) }
+    ensures cause { HasCause (K.faults sink.old) (K.faults sink.new) result }
+{
+    let mut line = [0u8; REFUSAL_ROOM];
+    let end = spell_refusal(&mut line, number, kind);
+    write_all(sink, &line[..end])
+}
+
+/// Writes the answer to words that are no command.
+pub fn write_usage<K: Sink>(sink: &mut K) -> Result<(), Failed>
+    ensures ok { OnOk result (Told (Took usage) (K.taken sink.old) (K.taken sink.new)) }
+    ensures err { OnErr result (Told (TookPart usage) (K.taken sink.old) (K.taken sink.new)) }
+    ensures cause { HasCause (K.faults sink.old) (K.faults sink.new) result }
+{
+    write_all(
+        sink,
+        b"usage: dgraid replay | resume | cat PATH | ls PATH | status | trace ORDER B K M | drill SEED FILES\n",
+    )
+}
+
 // Puts a piece at a place of a line, and answers where it ends.
 fn put(line: &mut [u8], at: usize, piece: &[u8]) -> usize
     requires { at + length piece.now ≤ length line.old }
@@ -56,6 +116,7 @@ fn spell_refusal(line: &mut [u8], number: u64, kind: BadLine) -> usize
     put(line, end, tail_of(kind))
 }
 
+// What stands behind the number in the answer to a refused line.
 fn tail_of(kind: BadLine) -> &'static [u8]
     ensures text { result.now ≡ codes " " ++ (kind_of kind ++ codes "\n") }
     ensures short { length result.now ≤ 6 }
@@ -63,58 +124,4 @@ fn tail_of(kind: BadLine) -> &'static [u8]
     match kind {
         BadLine::Form => b" form\n",
     }
-}
-
-/// Writes the line of a reply, whose bytes are at most 4096.
-pub fn write_reply<K: Sink>(sink: &mut K, reply: &Reply) -> Result<(), Failed>
-    requires { IsShort reply.now }
-    ensures ok { OnOk result (Told (Took (reply_line reply.now)) (K.taken sink.old) (K.taken sink.new)) }
-    ensures err { OnErr result (Told (TookPart (reply_line reply.now)) (K.taken sink.old) (K.taken sink.new)) }
-    ensures cause { HasCause (K.faults sink.old) (K.faults sink.new) result }
-{
-    match reply {
-        Reply::Done => write_all(sink, b"ok\n"),
-        Reply::Range => write_all(sink, b"range\n"),
-        Reply::Degraded => write_all(sink, b"degraded\n"),
-        Reply::Unavailable => write_all(sink, b"unavailable\n"),
-        Reply::Data(bytes) => write_data(sink, bytes.as_slice()),
-    }
-}
-
-/// Writes the line of the reply that gives these bytes, at most 4096.
-pub fn write_data<K: Sink>(sink: &mut K, bytes: &[u8]) -> Result<(), Failed>
-    requires { length bytes.now ≤ 4096 }
-    ensures ok { OnOk result (Told (Took (reply_line (Reply.Data bytes.now))) (K.taken sink.old) (K.taken sink.new)) }
-    ensures err { OnErr result (Told (TookPart (reply_line (Reply.Data bytes.now))) (K.taken sink.old) (K.taken sink.new)) }
-    ensures cause { HasCause (K.faults sink.old) (K.faults sink.new) result }
-{
-    if bytes.is_empty() {
-        return write_all(sink, b"data -\n");
-    }
-    let mut line = [0u8; 8198];
-    let end = spell_data(&mut line, bytes);
-    write_all(sink, &line[..end])
-}
-
-/// Writes the answer to a refused line. The first line of an input has the number 1.
-pub fn write_refusal<K: Sink>(sink: &mut K, number: u64, kind: BadLine) -> Result<(), Failed>
-    ensures ok { OnOk result (Told (Took (refusal number kind)) (K.taken sink.old) (K.taken sink.new)) }
-    ensures err { OnErr result (Told (TookPart (refusal number kind)) (K.taken sink.old) (K.taken sink.new)) }
-    ensures cause { HasCause (K.faults sink.old) (K.faults sink.new) result }
-{
-    let mut line = [0u8; 64];
-    let end = spell_refusal(&mut line, number, kind);
-    write_all(sink, &line[..end])
-}
-
-/// Writes the answer to words that are no command.
-pub fn write_usage<K: Sink>(sink: &mut K) -> Result<(), Failed>
-    ensures ok { OnOk result (Told (Took usage) (K.taken sink.old) (K.taken sink.new)) }
-    ensures err { OnErr result (Told (TookPart usage) (K.taken sink.old) (K.taken sink.new)) }
-    ensures cause { HasCause (K.faults sink.old) (K.faults sink.new) result }
-{
-    write_all(
-        sink,
-        b"usage: dgraid replay | resume | cat PATH | ls PATH | status | trace ORDER B K M | drill SEED FILES\n",
-    )
 }

@@ -1,5 +1,5 @@
-use Rattle.std.proofs.Common.{rules, true, false, Bool, ◌≡◌, ◌≢◌, ◌<◌, ◌≤◌, ◌==◌, List, [], ◌∷◌, ℕ, length, refl, sym, ◌∙◌, ap, arith, subst}
-use Rattle.std.specs.Prelude.{codes, Some, All}
+use Rattle.std.proofs.Common.{rules, true, false, ◌≡◌, ◌≢◌, ◌<◌, ◌≤◌, ◌==◌, List, [], ◌∷◌, ℕ, length, refl, sym, ◌∙◌, ap, arith, subst}
+use Rattle.std.specs.Prelude.{codes, Some}
 use Rattle.std.proofs.lemmas.Bool.{eqb-true}
 use Rattle.hex.specs.Hex.{decode_of}
 use Rattle.std.specs.Prelude.{Ok, Err, ◌⊎◌}
@@ -11,7 +11,7 @@ use Rattle.std.proofs.lemmas.Bool.Decides.{Decides-eqb}
 use Rattle.std.specs.Cmp.Lexicographic.{pointwise}
 use Rattle.std.specs.Prelude.{nat_eq}
 use Rattle.hex.proofs.HexLemmas.{decode_of-same}
-use Rattle.dg_text.specs.Lines.{hex_word, AreBytes, IsLowerDigit}
+use Rattle.dg_text.specs.Lines.{hex_word, AreBytes}
 use Rattle.dg_text.proofs.Lengths.{length_hex_word}
 use Rattle.dg_text.proofs.HexWords.{dash_is_none, hex_word_nonempty, hex_found, hex_exact, hex_is_lower}
 use Rattle.dg_text.proofs.hex_words.read_hex.Goals as goal

@@ -1,4 +1,3 @@
-use Rattle.std.proofs.Common.{◌≡◌}
 use Rattle.std.specs.Option.{option_copied}
 use Rattle.dg_text.proofs.WholeLines.{whole_line}
 use Rattle.dg_text.proofs.lines.read_line.Goals as goal

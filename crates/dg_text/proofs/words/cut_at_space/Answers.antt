@@ -1,4 +1,4 @@
-use Rattle.std.proofs.Common.{◌≡◌, ◌∷◌, ◌++◌, ◌+◌, ℕ, List, take, drop, sym, ◌∙◌, subst}
+use Rattle.std.proofs.Common.{◌+◌, ℕ, List, take, drop, sym, ◌∙◌, subst}
 use Rattle.std.specs.Prelude.{Contains}
 use Rattle.std.proofs.lemmas.List.{take_rest}
 use Rattle.dg_text.proofs.Cuts.{Lacks-from_not, first_cut, has_at_cut, cut_there}
