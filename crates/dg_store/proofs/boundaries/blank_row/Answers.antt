@@ -1,7 +1,7 @@
 use Rattle.std.proofs.Common.{◌≡◌, ◌+◌, ◌++◌, [], ◌∷◌, List, ℕ, length, sym, ◌∙◌, ap, subst, arith, length-append}
 use Rattle.std.proofs.lemmas.Grind.{common_steps}
 use Rattle.dg_io.specs.Told.{Told, IsZeros}
-use Rattle.dg_model.specs.declared.members.MemberState.TheVariants.{Good, Out}
+use Rattle.dg_model.specs.declared.members.MemberState.TheVariants.{Good}
 use Rattle.dg_pair.specs.declared.boundaries.Boundary.{Boundary}
 use Rattle.dg_pair.specs.Boundaries.{MembersFit, members_of}
 use Rattle.dg_store.specs.Lengths.{length_of}
