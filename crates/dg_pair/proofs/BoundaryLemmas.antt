@@ -1,15 +1,15 @@
 -- The words on the members of a boundary, from the same words by cases.
-use Rattle.std.proofs.Common.{◌≡◌, ◌≢◌, ◌⊎◌, ◌↔◌, inl, inr, ℕ, ◌+◌, ◌*◌, ◌/◌, ◌<◌, List, true, false, refl, sym, ◌∙◌, ap, subst, arith}
+use Rattle.std.proofs.Common.{◌≡◌, ◌≢◌, ◌↔◌, inl, inr, ℕ, ◌/◌, ◌<◌, List, true, false, refl, sym, ◌∙◌, ap, subst, arith}
 use Rattle.std.specs.Prelude.{Option, Some, None, IsSome}
 use Rattle.std.proofs.lemmas.Bool.{cases_eq}
 use Rattle.std.proofs.lemmas.Bool.Decides.{nat_tests}
 use Rattle.dg_model.specs.Members.{is_lost, serves, SlotOf, SlotHolds}
 use Rattle.dg_model.specs.declared.members.MemberState.{MemberState}
-use Rattle.dg_model.specs.declared.members.MemberState.TheVariants.{Good, Filling, Out}
+use Rattle.dg_model.specs.declared.members.MemberState.TheVariants.{Good, Out}
 use Rattle.dg_pair.specs.declared.boundaries.Boundary.{Boundary}
 use Rattle.dg_pair.specs.declared.boundaries.Boundary.TheVariants.{Both, Half, Fill, Lost}
-use Rattle.dg_pair.specs.Boundaries.{members_of, number_of, size_of, IsWell}
-use Rattle.dg_pair.specs.Cases.{HasNone, ReadsGood, SlotIs, KeepsAll}
+use Rattle.dg_pair.specs.Boundaries.{members_of, number_of, size_of, IsWell, goods_in, servers_in}
+use Rattle.dg_pair.specs.Cases.{HasNone, ReadsGood, SlotIs, KeepsAll, goods_of, servers_of}
 
 -- a boundary's members are its two
 pub own_members : (x : Boundary) → IsWell x → (q : ℕ) → q / 2 ≢ number_of x → members_of x q ≡ Out
@@ -91,3 +91,20 @@ off_good taken old is well q other good = let out = own_members old well q other
 
 pub off_slot : (taken old : Boundary) → taken ≡ old → IsWell old → (q slot : ℕ) → q / 2 ≢ number_of old → serves (members_of taken q) slot ≡ false
 off_slot taken old is well q slot other = ap (λ (x : Boundary). serves (members_of x q) slot) is ∙ ap (λ (m : MemberState). serves m slot) (own_members old well q other)
+
+-- how many members are good, or serve a slot
+pub goods_are : (taken old : Boundary) → taken ≡ old → IsWell old → goods_of taken ≡ goods_in (members_of old) (number_of old)
+goods_are taken old is well = ap goods_of is ∙ goods_by old well where
+  goods_by : (x : Boundary) → IsWell x → goods_of x ≡ goods_in (members_of x) (number_of x)
+  goods_by (Both a b) well = let numbers = well.numbers in grind (arith, nat_tests)
+  goods_by (Half a b) well = let numbers = well.numbers in grind (arith, nat_tests)
+  goods_by (Fill a b) well = let numbers = well.0.numbers in grind (arith, nat_tests)
+  goods_by (Lost a b) well = refl
+
+pub servers_are : (taken old : Boundary) (slot : ℕ) → taken ≡ old → IsWell old → servers_of taken slot ≡ servers_in (members_of old) (number_of old) slot
+servers_are taken old slot is well = ap (λ (x : Boundary). servers_of x slot) is ∙ servers_by old well where
+  servers_by : (x : Boundary) → IsWell x → servers_of x slot ≡ servers_in (members_of x) (number_of x) slot
+  servers_by (Both a b) well = let numbers = well.numbers in grind (arith, nat_tests)
+  servers_by (Half a b) well = let numbers = well.numbers in grind (arith, nat_tests)
+  servers_by (Fill a b) well = let numbers = well.0.numbers in grind (arith, nat_tests)
+  servers_by (Lost a b) well = refl

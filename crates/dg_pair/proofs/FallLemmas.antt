@@ -1,19 +1,17 @@
 -- The second call, after the first of two members that serve has fallen.
-use Rattle.std.proofs.Common.{◌≡◌, ◌≢◌, ◌⊎◌, inl, inr, ℕ, ◌+◌, ◌*◌, ◌/◌, ◌<◌, ◌≤◌, List, true, false, refl, sym, ◌∙◌, ap, subst, arith}
+use Rattle.std.proofs.Common.{◌≡◌, ◌≢◌, inl, inr, ℕ, ◌≤◌, List, false, sym, ◌∙◌, subst, arith}
 use Rattle.std.specs.Prelude.{Option, Some, None}
 use Rattle.std.proofs.lemmas.Bool.{cases_eq}
 use Rattle.std.proofs.lemmas.Bool.Decides.{nat_tests}
 use Rattle.dg_model.specs.Causes.{Rose}
-use Rattle.dg_model.specs.Members.{serves, slot_of, SlotOf, HasFallen, MembersFall}
-use Rattle.dg_model.specs.declared.members.MemberState.{MemberState}
-use Rattle.dg_model.specs.declared.members.MemberState.TheVariants.{Good, Filling, Out}
+use Rattle.dg_model.specs.Members.{serves, slot_of, SlotOf, MembersFall}
+use Rattle.dg_model.specs.declared.members.MemberState.TheVariants.{Good}
 use Rattle.dg_io.specs.Told.{Told, IsSame}
-use Rattle.dg_io.specs.Faults.{OnlyMember}
 use Rattle.dg_pair.specs.declared.members.Good.{Good as GoodType}
 use Rattle.dg_pair.specs.declared.members.Out.{Out as OutType}
 use Rattle.dg_pair.specs.declared.members.Member.{Member}
 use Rattle.dg_pair.specs.declared.boundaries.Boundary.{Boundary}
-use Rattle.dg_pair.specs.declared.boundaries.Boundary.TheVariants.{Both, Half, Fill, Lost}
+use Rattle.dg_pair.specs.declared.boundaries.Boundary.TheVariants.{Both, Half}
 use Rattle.dg_pair.specs.Boundaries.{members_of}
 use Rattle.dg_pair.specs.Cases.{SlotIs, KeepsAll}
 use Rattle.dg_pair.proofs.SlotLemmas.{told_same}

@@ -1,8 +1,8 @@
 -- The slots of one member, and the room that they need.
-use Rattle.std.proofs.Common.{◌≡◌, ◌≢◌, ◌⊎◌, inl, inr, ℕ, ◌+◌, ◌*◌, ◌≤◌, ◌<◌, List, length, sym, ◌∙◌, subst, arith}
+use Rattle.std.proofs.Common.{◌≡◌, ◌≢◌, ◌⊎◌, inl, inr, ℕ, ◌+◌, ◌≤◌, ◌<◌, List, length, sym, ◌∙◌, subst, arith}
 use Rattle.std.specs.Prelude.{Option, Some, None, IfSome, Result, Ok, Err, OnOk, OnErr}
 use Rattle.std.proofs.lemmas.Bool.{cases_lt}
-use Rattle.dg_model.specs.Members.{place_of, slot_of, SlotOf, HasRoom}
+use Rattle.dg_model.specs.Members.{place_of, HasRoom}
 use Rattle.dg_io.specs.Told.{Told, IsSame, Torn, Patched}
 use Rattle.dg_pair.proofs.RangeLemmas.{torn_before, torn_behind, patch_torn}
 use Rattle.dg_pair.specs.Members.{KeepsSlots}

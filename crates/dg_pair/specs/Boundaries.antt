@@ -1,6 +1,6 @@
 -- A boundary of two members, as the layers above see it. The rules are this project's own.
-use Rattle.std.specs.Prelude.{◌≡◌, ◌≢◌, ◌⊎◌, ◌+◌, ◌*◌, ◌/◌, ◌≤◌, ◌<◌, ◌==◌, ◌||◌, if◌then◌else◌, nat_lt, ℕ, List, Option}
-use Rattle.dg_model.specs.Members.{HasRoom, SlotOf}
+use Rattle.std.specs.Prelude.{◌≡◌, ◌≢◌, ◌+◌, ◌*◌, ◌/◌, ◌≤◌, ◌==◌, ◌||◌, if◌then◌else◌, ℕ, List, Option}
+use Rattle.dg_model.specs.Members.{is_good, serves, HasRoom}
 use Rattle.dg_model.specs.declared.members.MemberState.{MemberState}
 use Rattle.dg_model.specs.declared.members.MemberState.TheVariants.{Good, Filling, Out}
 use Rattle.dg_pair.specs.declared.members.Member.{Member}
@@ -52,16 +52,10 @@ IsWell (Lost a b) = ArePartners a b
 abbrev pub MembersFit : ℕ → ℕ → (ℕ → MemberState) → (ℕ → Option (List ℕ)) → Type 0
 MembersFit l slots members bytes = (q : ℕ) → members q ≢ Out → HasRoom l slots (bytes q)
 
--- how many of its members are good
-abbrev pub goods_of : Boundary → ℕ
-goods_of (Both a b) = 2
-goods_of (Half a b) = 1
-goods_of (Fill a b) = 1
-goods_of (Lost a b) = 0
+-- how many of boundary s's members are good
+abbrev pub goods_in : (ℕ → MemberState) → ℕ → ℕ
+goods_in members s = (if is_good (members (2 * s)) then 1 else 0) + (if is_good (members (2 * s + 1)) then 1 else 0)
 
--- how many of its members take a write of this slot
-abbrev pub takers_of : Boundary → ℕ → ℕ
-takers_of (Both a b) slot = 2
-takers_of (Half a b) slot = 1
-takers_of (Fill a b) slot = if nat_lt slot b.state.have then 2 else 1
-takers_of (Lost a b) slot = 0
+-- how many of boundary s's members hold what is written to this slot
+abbrev pub servers_in : (ℕ → MemberState) → ℕ → ℕ → ℕ
+servers_in members s slot = (if serves (members (2 * s)) slot then 1 else 0) + (if serves (members (2 * s + 1)) slot then 1 else 0)

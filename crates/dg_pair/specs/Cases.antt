@@ -1,5 +1,5 @@
 -- The same words by cases on the boundary, for the functions that work on one case.
-use Rattle.std.specs.Prelude.{◌≡◌, ◌≢◌, ◌⊎◌, ◌<◌, ℕ, List, Option}
+use Rattle.std.specs.Prelude.{◌≢◌, ◌⊎◌, ◌<◌, if◌then◌else◌, nat_lt, ℕ, List, Option}
 use Rattle.dg_model.specs.Members.{HasRoom, SlotOf}
 use Rattle.dg_pair.specs.declared.boundaries.Boundary.{Boundary}
 use Rattle.dg_pair.specs.declared.boundaries.Boundary.TheVariants.{Both, Half, Fill, Lost}
@@ -38,3 +38,17 @@ KeepsAll l old before new now = (x : ℕ) (v : List ℕ) → SlotIs old l x v be
 -- each other slot has what it had
 abbrev pub KeepsOthers : ℕ → ℕ → Boundary → (ℕ → Option (List ℕ)) → Boundary → (ℕ → Option (List ℕ)) → Type 0
 KeepsOthers l slot old before new now = (x : ℕ) (v : List ℕ) → x ≢ slot → SlotIs old l x v before → SlotIs new l x v now
+
+-- how many of its members are good
+abbrev pub goods_of : Boundary → ℕ
+goods_of (Both a b) = 2
+goods_of (Half a b) = 1
+goods_of (Fill a b) = 1
+goods_of (Lost a b) = 0
+
+-- how many of its members serve this slot
+abbrev pub servers_of : Boundary → ℕ → ℕ
+servers_of (Both a b) slot = 2
+servers_of (Half a b) slot = 1
+servers_of (Fill a b) slot = if nat_lt slot b.state.have then 2 else 1
+servers_of (Lost a b) slot = 0

@@ -4,7 +4,7 @@ ghost use Rattle.dg_model.specs.Causes.{Rose};
 ghost use Rattle.dg_model.specs.Members.{is_lost, serves, SlotHolds, MembersFall};
 ghost use Rattle.dg_model.specs.States.{CountsRise};
 ghost use Rattle.dg_io.specs.Told.{Told, IsSame, IsZeros, StillTold};
-ghost use Rattle.dg_pair.specs.Boundaries.{members_of, number_of, size_of, slots_of, IsWell, MembersFit, goods_of, takers_of};
+ghost use Rattle.dg_pair.specs.Boundaries.{members_of, number_of, size_of, slots_of, IsWell, MembersFit, goods_in, servers_in};
 
 use crate::reads::read_any;
 use crate::writes::write_any;
@@ -118,6 +118,7 @@ impl Boundary {
         ensures slots { slots_of self.new ≡ slots_of self.old }
         ensures own { (q : ℕ) → q / 2 ≢ number_of self.old → members_of self.new q ≡ MemberState.Out }
         ensures lost { (result ≡ PairRead.Lost) ↔ (is_lost (members_of self.new) (number_of self.old) ≡ true) }
+        ensures out { result ≡ PairRead.Lost → (q : ℕ) → members_of self.new q ≡ MemberState.Out }
         ensures got { result ≡ PairRead.Got
             → (v : List ℕ) → SlotHolds (size_of self.old) (members_of self.old) (R.bytes rack.old) (number_of self.old) slot v
             → ((q : ℕ) → members_of self.new q ≡ MemberState.Good → IsSome (R.bytes rack.new q)) → buf.new ≡ v }
@@ -131,7 +132,7 @@ impl Boundary {
         ensures uncalled { (q : ℕ) → members_of self.old q ≢ MemberState.Good → (R.counts rack.new).faults q ≡ (R.counts rack.old).faults q }
         ensures counts { CountsRise (R.counts rack.old) (R.counts rack.new) }
         ensures called { result ≡ PairRead.Got → Rose (R.counts rack.old).calls (R.counts rack.new).calls }
-        ensures most { (R.counts rack.new).calls ≤ (R.counts rack.old).calls + goods_of self.old }
+        ensures most { (R.counts rack.new).calls ≤ (R.counts rack.old).calls + goods_in (members_of self.old) (number_of self.old) }
         ensures writes { (R.counts rack.new).writes ≡ (R.counts rack.old).writes }
         ensures tells { StillTold (R.bytes rack.old) (R.bytes rack.new) }
         ensures name { R.name rack.new ≡ R.name rack.old }
@@ -154,6 +155,7 @@ impl Boundary {
         ensures slots { slots_of self.new ≡ slots_of self.old }
         ensures own { (q : ℕ) → q / 2 ≢ number_of self.old → members_of self.new q ≡ MemberState.Out }
         ensures lost { (result ≡ PairWrite.Lost) ↔ (is_lost (members_of self.new) (number_of self.old) ≡ true) }
+        ensures out { result ≡ PairWrite.Lost → (q : ℕ) → members_of self.new q ≡ MemberState.Out }
         ensures put { SlotHolds (size_of self.old) (members_of self.new) (R.bytes rack.new) (number_of self.old) slot buf.now }
         ensures kept_others { (x : ℕ) (v : List ℕ) → x ≢ slot
             → SlotHolds (size_of self.old) (members_of self.old) (R.bytes rack.old) (number_of self.old) x v
@@ -165,8 +167,8 @@ impl Boundary {
         ensures other_faults { (q : ℕ) → q / 2 ≢ number_of self.old → (R.counts rack.new).faults q ≡ (R.counts rack.old).faults q }
         ensures uncalled { (q : ℕ) → serves (members_of self.old q) slot ≡ false → (R.counts rack.new).faults q ≡ (R.counts rack.old).faults q }
         ensures counts { CountsRise (R.counts rack.old) (R.counts rack.new) }
-        ensures most { (R.counts rack.new).calls ≤ (R.counts rack.old).calls + takers_of self.old slot }
-        ensures most_writes { (R.counts rack.new).writes ≤ (R.counts rack.old).writes + takers_of self.old slot }
+        ensures most { (R.counts rack.new).calls ≤ (R.counts rack.old).calls + servers_in (members_of self.old) (number_of self.old) slot }
+        ensures most_writes { (R.counts rack.new).writes ≤ (R.counts rack.old).writes + servers_in (members_of self.old) (number_of self.old) slot }
         ensures tells { StillTold (R.bytes rack.old) (R.bytes rack.new) }
         ensures name { R.name rack.new ≡ R.name rack.old }
     {

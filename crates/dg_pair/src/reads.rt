@@ -4,8 +4,8 @@ ghost use Rattle.dg_model.specs.Causes.{Rose};
 ghost use Rattle.dg_model.specs.Members.{HasRoom, serves, MembersFall};
 ghost use Rattle.dg_model.specs.States.{CountsRise};
 ghost use Rattle.dg_io.specs.Told.{Told, IsSame, StillTold};
-ghost use Rattle.dg_pair.specs.Boundaries.{members_of, number_of, size_of, slots_of, IsWell, ArePartners, goods_of, takers_of};
-ghost use Rattle.dg_pair.specs.Cases.{HasNone, Fits, ReadsGood, SlotIs, KeepsAll, KeepsOthers};
+ghost use Rattle.dg_pair.specs.Boundaries.{members_of, number_of, size_of, slots_of, IsWell, ArePartners};
+ghost use Rattle.dg_pair.specs.Cases.{HasNone, Fits, ReadsGood, SlotIs, KeepsAll, KeepsOthers, goods_of, servers_of};
 
 use crate::boundaries::{Boundary, PairRead};
 use crate::{Filling, Good, GoodCall, Member, Out};

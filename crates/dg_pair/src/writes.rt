@@ -4,8 +4,8 @@ ghost use Rattle.dg_model.specs.Causes.{Rose};
 ghost use Rattle.dg_model.specs.Members.{HasRoom, serves, MembersFall};
 ghost use Rattle.dg_model.specs.States.{CountsRise};
 ghost use Rattle.dg_io.specs.Told.{Told, IsSame, StillTold};
-ghost use Rattle.dg_pair.specs.Boundaries.{members_of, number_of, size_of, slots_of, IsWell, ArePartners, goods_of, takers_of};
-ghost use Rattle.dg_pair.specs.Cases.{HasNone, Fits, ReadsGood, SlotIs, KeepsAll, KeepsOthers};
+ghost use Rattle.dg_pair.specs.Boundaries.{members_of, number_of, size_of, slots_of, IsWell, ArePartners};
+ghost use Rattle.dg_pair.specs.Cases.{HasNone, Fits, ReadsGood, SlotIs, KeepsAll, KeepsOthers, goods_of, servers_of};
 
 use crate::boundaries::{Boundary, PairWrite};
 use crate::{FillCall, Filling, Good, GoodCall, Member, Out};
@@ -36,8 +36,8 @@ fn write_half<R: Rack>(
     ensures falls { MembersFall (R.counts rack.old).faults (R.counts rack.new).faults (members_of (Boundary.Half a b)) (members_of result.0) }
     ensures uncalled { (q : ℕ) → serves (members_of (Boundary.Half a b) q) slot ≡ false → (R.counts rack.new).faults q ≡ (R.counts rack.old).faults q }
     ensures counts { CountsRise (R.counts rack.old) (R.counts rack.new) }
-    ensures most { (R.counts rack.new).calls ≤ (R.counts rack.old).calls + takers_of (Boundary.Half a b) slot }
-    ensures most_writes { (R.counts rack.new).writes ≤ (R.counts rack.old).writes + takers_of (Boundary.Half a b) slot }
+    ensures most { (R.counts rack.new).calls ≤ (R.counts rack.old).calls + servers_of (Boundary.Half a b) slot }
+    ensures most_writes { (R.counts rack.new).writes ≤ (R.counts rack.old).writes + servers_of (Boundary.Half a b) slot }
     ensures tells { StillTold (R.bytes rack.old) (R.bytes rack.new) }
     ensures name { R.name rack.new ≡ R.name rack.old }
 {
@@ -71,8 +71,8 @@ fn write_both<R: Rack>(
     ensures falls { MembersFall (R.counts rack.old).faults (R.counts rack.new).faults (members_of (Boundary.Both a b)) (members_of result.0) }
     ensures uncalled { (q : ℕ) → serves (members_of (Boundary.Both a b) q) slot ≡ false → (R.counts rack.new).faults q ≡ (R.counts rack.old).faults q }
     ensures counts { CountsRise (R.counts rack.old) (R.counts rack.new) }
-    ensures most { (R.counts rack.new).calls ≤ (R.counts rack.old).calls + takers_of (Boundary.Both a b) slot }
-    ensures most_writes { (R.counts rack.new).writes ≤ (R.counts rack.old).writes + takers_of (Boundary.Both a b) slot }
+    ensures most { (R.counts rack.new).calls ≤ (R.counts rack.old).calls + servers_of (Boundary.Both a b) slot }
+    ensures most_writes { (R.counts rack.new).writes ≤ (R.counts rack.old).writes + servers_of (Boundary.Both a b) slot }
     ensures tells { StillTold (R.bytes rack.old) (R.bytes rack.new) }
     ensures name { R.name rack.new ≡ R.name rack.old }
 {
@@ -109,8 +109,8 @@ fn write_fill<R: Rack>(
     ensures falls { MembersFall (R.counts rack.old).faults (R.counts rack.new).faults (members_of (Boundary.Fill a b)) (members_of result.0) }
     ensures uncalled { (q : ℕ) → serves (members_of (Boundary.Fill a b) q) slot ≡ false → (R.counts rack.new).faults q ≡ (R.counts rack.old).faults q }
     ensures counts { CountsRise (R.counts rack.old) (R.counts rack.new) }
-    ensures most { (R.counts rack.new).calls ≤ (R.counts rack.old).calls + takers_of (Boundary.Fill a b) slot }
-    ensures most_writes { (R.counts rack.new).writes ≤ (R.counts rack.old).writes + takers_of (Boundary.Fill a b) slot }
+    ensures most { (R.counts rack.new).calls ≤ (R.counts rack.old).calls + servers_of (Boundary.Fill a b) slot }
+    ensures most_writes { (R.counts rack.new).writes ≤ (R.counts rack.old).writes + servers_of (Boundary.Fill a b) slot }
     ensures tells { StillTold (R.bytes rack.old) (R.bytes rack.new) }
     ensures name { R.name rack.new ≡ R.name rack.old }
 {
@@ -147,8 +147,8 @@ pub fn write_any<R: Rack>(
     ensures falls { MembersFall (R.counts rack.old).faults (R.counts rack.new).faults (members_of boundary) (members_of result.0) }
     ensures uncalled { (q : ℕ) → serves (members_of boundary q) slot ≡ false → (R.counts rack.new).faults q ≡ (R.counts rack.old).faults q }
     ensures counts { CountsRise (R.counts rack.old) (R.counts rack.new) }
-    ensures most { (R.counts rack.new).calls ≤ (R.counts rack.old).calls + takers_of boundary slot }
-    ensures most_writes { (R.counts rack.new).writes ≤ (R.counts rack.old).writes + takers_of boundary slot }
+    ensures most { (R.counts rack.new).calls ≤ (R.counts rack.old).calls + servers_of boundary slot }
+    ensures most_writes { (R.counts rack.new).writes ≤ (R.counts rack.old).writes + servers_of boundary slot }
     ensures tells { StillTold (R.bytes rack.old) (R.bytes rack.new) }
     ensures name { R.name rack.new ≡ R.name rack.old }
 {

@@ -1,12 +1,12 @@
 -- The blocks of an array that moves nothing: a mark for each, and one place for each.
-use Rattle.std.proofs.Common.{◌≡◌, ◌≢◌, ◌⊎◌, inl, inr, ℕ, zero, suc, ◌+◌, ◌*◌, ◌/◌, ◌%◌, ◌≤◌, ◌<◌, Bool, true, false, List, [], ◌∷◌, length, replicate, refl, sym, ◌∙◌, ap, subst, arith, get_or}
+use Rattle.std.proofs.Common.{◌≡◌, ◌≢◌, inl, inr, ℕ, zero, suc, ◌*◌, ◌/◌, ◌%◌, ◌<◌, Bool, true, false, List, [], ◌∷◌, length, replicate, refl, sym, ◌∙◌, ap, subst, arith, get_or}
 use Rattle.std.specs.Prelude.{Option, All, ◌&&◌, not, ◌==◌, if◌then◌else◌, slice_index_or, slice_set}
 use Rattle.std.proofs.lemmas.Bool.{cases_eq, cases_lt}
 use Rattle.std.proofs.lemmas.Bool.Decides.{nat_tests}
 use Rattle.std.proofs.lemmas.List.{get_or-set_same, get_or-set_other, get_or-replicate, length-set, length-replicate}
 use Rattle.std.proofs.Math.Nat.{mul-le-mul_left}
-use Rattle.dg_model.specs.Members.{is_good, serves, is_lost, SlotHolds}
-use Rattle.dg_model.specs.Sites.{has_site, all_lost, is_gone, fixed_site, first_sites}
+use Rattle.dg_model.specs.Members.{serves, is_lost, SlotHolds}
+use Rattle.dg_model.specs.Sites.{has_site, all_lost, fixed_site, first_sites}
 use Rattle.dg_model.specs.States.{StandsFor, block_in, zeros}
 use Rattle.dg_store.specs.Rows.{KeepsSlots, KeepsOtherSlots}
 use Rattle.dg_model.specs.declared.shapes.Shape.{Shape}

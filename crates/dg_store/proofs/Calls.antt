@@ -1,9 +1,8 @@
 -- Boundary s of a row was called, and x became y: what its clauses say of the row.
-use Rattle.std.proofs.Common.{◌≡◌, ◌≢◌, ◌⊎◌, inl, inr, ℕ, ◌+◌, ◌/◌, ◌<◌, true, List, length, sym, ◌∙◌, ap, subst}
+use Rattle.std.proofs.Common.{◌≡◌, ◌≢◌, inl, inr, ℕ, ◌/◌, ◌<◌, List, length, sym, ◌∙◌, ap, subst}
 use Rattle.std.specs.Prelude.{Option, Some, slice_get, slice_set}
 use Rattle.std.proofs.lemmas.Bool.{cases_eq}
 use Rattle.dg_model.specs.Members.{is_lost, SlotHolds, MembersFall}
-use Rattle.dg_model.specs.declared.members.MemberState.{MemberState}
 use Rattle.dg_model.specs.declared.members.MemberState.TheVariants.{Good, Out}
 use Rattle.dg_io.specs.Told.{Told, IsSame}
 use Rattle.dg_pair.specs.declared.boundaries.Boundary.{Boundary}

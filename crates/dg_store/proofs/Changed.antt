@@ -1,12 +1,14 @@
 -- One boundary of a row was called: what holds of its members holds of the row's.
-use Rattle.std.proofs.Common.{◌≡◌, ◌≢◌, ◌⊎◌, inl, inr, ℕ, ◌+◌, ◌*◌, ◌/◌, ◌≤◌, Bool, true, false, List, length, refl, sym, ◌∙◌, ap, subst, arith}
+use Rattle.std.proofs.Common.{◌≡◌, ◌≢◌, inl, inr, ℕ, ◌+◌, ◌*◌, ◌/◌, ◌≤◌, List, length, sym, ◌∙◌, ap, subst, arith}
 use Rattle.std.specs.Prelude.{Option, Some, None, ◌&&◌, not}
 use Rattle.std.proofs.lemmas.Bool.{cases_eq}
-use Rattle.dg_model.specs.Members.{is_good, is_filling, serves, is_lost, partner_of, SlotOf, HasRoom, SlotHolds, MembersFall, HasFallen, slot_of, place_of}
+use Rattle.dg_model.specs.Members.{is_good, is_filling, serves, is_lost, partner_of, SlotOf, HasRoom, SlotHolds, MembersFall, slot_of, place_of}
 use Rattle.dg_model.specs.declared.members.MemberState.{MemberState}
-use Rattle.dg_model.specs.declared.members.MemberState.TheVariants.{Out}
-use Rattle.dg_io.specs.Told.{Told, IsSame}
+use Rattle.dg_model.specs.declared.members.MemberState.TheVariants.{Good, Out}
+use Rattle.dg_io.specs.Told.{Told, IsSame, IsZeros}
 use Rattle.dg_pair.specs.Boundaries.{MembersFit}
+use Rattle.dg_store.specs.Lengths.{IsZeroed}
+use Rattle.dg_store.specs.Rows.{AreZeroed}
 
 -- the members of boundary s were x's and are y's, and each other is as it was
 pub record IsChanged (s : ℕ) (x y old new : ℕ → MemberState) : Type 0 where
@@ -27,6 +29,16 @@ pub slot_same : (l slot : ℕ) (v : List ℕ) (before now : Option (List ℕ)) �
 slot_same l slot v before None same had = tt
 slot_same l slot v None (Some b) same had = absurd same
 slot_same l slot v (Some a) (Some b) same had = ap (λ (all : List ℕ). slot_of l slot all) same ∙ had
+
+zeroed_same : (size : ℕ) (before now : Option (List ℕ)) → Told IsSame before now → IsZeroed size before → IsZeroed size now
+zeroed_same size before None same zeros = tt
+zeroed_same size None (Some b) same zeros = absurd same
+zeroed_same size (Some a) (Some b) same zeros = same ∙ zeros
+
+zeroed_now : (size : ℕ) (before now : Option (List ℕ)) → Told (IsZeros size) before now → IsZeroed size now
+zeroed_now size before None made = tt
+zeroed_now size None (Some b) made = absurd made
+zeroed_now size (Some a) (Some b) made = made
 
 -- what a boundary of a row has room for
 pub part_fits : (l slots s : ℕ) (x old : ℕ → MemberState) (bytes : ℕ → Option (List ℕ)) → ((q : ℕ) → q / 2 ≡ s → old q ≡ x q) → ((q : ℕ) → q / 2 ≢ s → x q ≡ Out) → MembersFit l slots old bytes → MembersFit l slots x bytes
@@ -83,4 +95,12 @@ module _ (s : ℕ) (x y old new : ℕ → MemberState) (changed : IsChanged s x 
     | inr other ↦ λ q at serving.
         let off : q / 2 ≢ s = λ e. other (sym at ∙ e) in
         slot_same l slot v (before q) (now q) (same q off) (had q at (sym (ap (λ (m : MemberState). serves m slot) (changed.other q off)) ∙ serving))
+  ]
+
+  -- a boundary was blanked
+  pub zeroed_changed : (size : ℕ) (before now : ℕ → Option (List ℕ)) → OtherPairsSame s before now → AreZeroed size old before
+      → ((q : ℕ) → y q ≡ Good → Told (IsZeros size) (before q) (now q)) → AreZeroed size new now
+  zeroed_changed size before now same zeros made q good = elim (cases_eq (q / 2) s) [
+    | inl at ↦ zeroed_now size (before q) (now q) (made q (sym (changed.here q at) ∙ good))
+    | inr off ↦ zeroed_same size (before q) (now q) (same q off) (zeros q (sym (changed.other q off) ∙ good))
   ]

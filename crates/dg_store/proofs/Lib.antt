@@ -1,5 +1,4 @@
 mod Blocks
 mod Calls
 mod Changed
-mod Lost
 mod Rows

@@ -1,16 +1,16 @@
 -- Rows of boundaries: one is replaced, or one is added.
-use Rattle.std.proofs.Common.{◌≡◌, ◌≢◌, ◌⊎◌, inl, inr, ℕ, zero, suc, ◌+◌, ◌*◌, ◌/◌, ◌≤◌, ◌<◌, Bool, true, false, List, [], ◌∷◌, ◌++◌, length, refl, sym, ◌∙◌, ap, subst, arith, get_or}
+use Rattle.std.proofs.Common.{◌≡◌, ◌≢◌, ◌⊎◌, inl, inr, ℕ, zero, suc, ◌+◌, ◌*◌, ◌/◌, ◌≤◌, ◌<◌, true, List, [], ◌∷◌, ◌++◌, length, refl, sym, ◌∙◌, ap, subst, arith, get_or}
 use Rattle.std.specs.Prelude.{Option, Some, None, All, Any, slice_get, slice_set}
-use Rattle.std.proofs.lemmas.Bool.{cases_eq, cases_lt}
+use Rattle.std.proofs.lemmas.Bool.{cases_eq}
 use Rattle.std.proofs.lemmas.Option.{slice_get-get_or, get_or_from_slice_get}
 use Rattle.dg_model.specs.Causes.{Rose}
 use Rattle.dg_model.specs.Members.{is_lost}
 use Rattle.dg_model.specs.declared.members.MemberState.{MemberState}
 use Rattle.dg_model.specs.declared.members.MemberState.TheVariants.{Good, Out}
 use Rattle.dg_pair.specs.declared.boundaries.Boundary.{Boundary}
-use Rattle.dg_pair.specs.Boundaries.{IsWell, MembersFit, members_of, number_of}
+use Rattle.dg_pair.specs.Boundaries.{IsWell, members_of}
 use Rattle.dg_store.specs.Rows.{member_at, members_in, StandsAt, RowStands, RowBegins, HasNoGood}
-use Rattle.dg_store.proofs.Changed.{IsChanged, OtherPairsSame, room_same}
+use Rattle.dg_store.proofs.Changed.{IsChanged}
 
 get_set_same : {X : Type 0} (xs : List X) (i : ℕ) (y : X) → i < length xs → slice_get (slice_set xs i y) i ≡ Some y
 get_set_same [] i y h = absurd (omega arith)

@@ -6,6 +6,7 @@ use Rattle.dg_model.specs.declared.members.MemberState.{MemberState}
 use Rattle.dg_model.specs.declared.members.MemberState.TheVariants.{Good, Out}
 use Rattle.dg_pair.specs.declared.boundaries.Boundary.{Boundary}
 use Rattle.dg_pair.specs.Boundaries.{IsWell, number_of, size_of, slots_of, members_of}
+use Rattle.dg_store.specs.Lengths.{IsZeroed}
 
 abbrev pub member_at : Option Boundary → ℕ → MemberState
 member_at None q = Out
@@ -33,6 +34,10 @@ HasNoGood boundary = is_lost (members_of boundary) (number_of boundary) ≡ true
 pub record RowBegins (n : ℕ) (before now : ℕ → ℕ) (members : ℕ → MemberState) : Type 0 where
   pub others : (q : ℕ) → n ≤ q / 2 → members q ≡ Out
   pub begins : (q : ℕ) → q / 2 < n → (members q ≡ Good) ⊎ ((members q ≡ Out) × Rose (before q) (now q))
+
+-- each good member that tells its bytes has so many zeros
+abbrev pub AreZeroed : ℕ → (ℕ → MemberState) → (ℕ → Option (List ℕ)) → Type 0
+AreZeroed size members bytes = (q : ℕ) → members q ≡ Good → IsZeroed size (bytes q)
 
 -- each slot has what it had
 abbrev pub KeepsSlots : ℕ → (ℕ → MemberState) → (ℕ → Option (List ℕ)) → (ℕ → MemberState) → (ℕ → Option (List ℕ)) → Type 0

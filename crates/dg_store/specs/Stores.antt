@@ -1,6 +1,5 @@
 -- What a store means. The words below are all that the crates above cite; they say nothing of how a store keeps it.
-use Rattle.std.specs.Prelude.{◌≡◌, ◌+◌, ◌*◌, ℕ, false, List, [], ◌∷◌, length, Option, IsSome, if◌then◌else◌, slice_index_or}
-use Rattle.dg_model.specs.Members.{HasRoom}
+use Rattle.std.specs.Prelude.{◌≡◌, ◌+◌, ℕ, false, List, [], ◌∷◌, length, Option, IsSome, if◌then◌else◌, slice_index_or}
 use Rattle.dg_model.specs.Shapes.{IsShape}
 use Rattle.dg_model.specs.Sites.{fixed_site}
 use Rattle.dg_model.specs.States.{Counts, State, Holds}

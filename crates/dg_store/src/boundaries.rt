@@ -6,7 +6,8 @@ ghost use Rattle.dg_model.specs.Shapes.{IsShape};
 ghost use Rattle.dg_model.specs.States.{CountsRise};
 ghost use Rattle.dg_io.specs.Told.{StillTold};
 ghost use Rattle.dg_pair.specs.Boundaries.{IsWell, MembersFit};
-ghost use Rattle.dg_store.specs.Rows.{members_in, RowStands, RowBegins, HasNoGood, KeepsSlots, KeepsOtherSlots};
+ghost use Rattle.dg_store.specs.Lengths.{length_of};
+ghost use Rattle.dg_store.specs.Rows.{members_in, RowStands, RowBegins, AreZeroed, HasNoGood, KeepsSlots, KeepsOtherSlots};
 
 use crate::{Shape, member_length};
 use dg_io::{NoMemory, Rack};
@@ -25,6 +26,7 @@ pub fn blank_row<R: Rack>(
     ensures stands { IfOk result (λ row. RowStands shape.now.l (shape.now.k + 1) row.items) }
     ensures begins { IfOk result (λ row. RowBegins shape.now.b (R.counts rack.old).faults (R.counts rack.new).faults (members_in row.items)) }
     ensures room { IfOk result (λ row. MembersFit shape.now.l (shape.now.k + 1) (members_in row.items) (R.bytes rack.new)) }
+    ensures zeros { IfOk result (λ row. AreZeroed (length_of shape.now) (members_in row.items) (R.bytes rack.new)) }
     ensures counts { CountsRise (R.counts rack.old) (R.counts rack.new) }
     ensures most { (R.counts rack.new).calls ≤ (R.counts rack.old).calls + 2 * shape.now.b }
     ensures tells { StillTold (R.bytes rack.old) (R.bytes rack.new) }

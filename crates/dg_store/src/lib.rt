@@ -4,6 +4,8 @@
 mod boundaries;
 mod lengths;
 mod store;
+#[cfg(test)]
+mod tests;
 
 pub use dg_model::{Shape, Site};
 pub use lengths::member_length;

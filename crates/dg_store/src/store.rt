@@ -6,11 +6,13 @@ ghost use Rattle.dg_model.specs.Shapes.{IsShape};
 ghost use Rattle.dg_model.specs.Sites.{has_site, all_lost, is_gone, first_sites};
 ghost use Rattle.dg_model.specs.States.{CountsRise, IsBlank, HasLost, zeros, block_in};
 ghost use Rattle.dg_io.specs.Told.{StillTold};
+ghost use Rattle.dg_store.specs.Lengths.{length_of, IsZeroed};
 ghost use Rattle.dg_store.specs.Stores.{rack_of, shape_of, members_of, sites_of, state_of, IsSound, StandsFor, Tells};
 
 use crate::Shape;
 use crate::boundaries::{blank_row, has_lost, read_slot, write_slot};
 use dg_io::{NoMemory, Rack};
+use dg_model::MemberState;
 use dg_pair::{Boundary, PairRead, PairWrite};
 use std::alloc::Global;
 
@@ -42,7 +44,7 @@ pub enum StoreWrite {
 }
 
 impl<R: Rack> Store<R> {
-    /// A blank array. All members are blanked, ascending by number.
+    /// A blank array. All members are blanked, ascending by number, each to the length that `member_length` gives.
     pub fn new(alloc: Global, rack: R, shape: Shape) -> Result<Store<R>, NoMemory>
     where
         R: Drop,
@@ -50,6 +52,7 @@ impl<R: Rack> Store<R> {
         ensures sound { IfOk result (λ store. IsSound R.bytes store) }
         ensures blank { IfOk result (λ store. IsBlank shape (R.counts rack) (state_of R.counts store (replicate shape.n (zeros shape.l)))) }
         ensures stands { IfOk result (λ store. StandsFor R.counts R.bytes store (replicate shape.n (zeros shape.l))) }
+        ensures blanked { IfOk result (λ store. (q : ℕ) → members_of store q ≡ MemberState.Good → IsZeroed (length_of shape) (R.bytes (rack_of store) q)) }
         ensures most { IfOk result (λ store. (R.counts (rack_of store)).calls ≤ (R.counts rack).calls + 2 * shape.b) }
         ensures tells { IfOk result (λ store. StillTold (R.bytes rack) (R.bytes (rack_of store))) }
         ensures name { IfOk result (λ store. R.name (rack_of store) ≡ R.name rack) }

@@ -1,5 +1,3 @@
-use Rattle.std.proofs.Common.{arith}
-use Rattle.std.proofs.lemmas.Bool.Decides.{nat_tests}
 use Rattle.dg_pair.proofs.FallLemmas.{keeps_after, falls_after, uncalled_after}
 use Rattle.dg_pair.proofs.reads.read_both.Goals as goal
 

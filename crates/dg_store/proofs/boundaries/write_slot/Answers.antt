@@ -1,8 +1,5 @@
-use Rattle.std.proofs.Common.{ℕ, sym, ◌∙◌, ap, arith}
-use Rattle.dg_model.specs.Members.{is_lost}
-use Rattle.dg_pair.specs.Boundaries.{members_of}
+use Rattle.std.proofs.Common.{sym, ◌∙◌, arith}
 use Rattle.dg_store.proofs.Calls.{part_room, row_stands, row_room, row_lost, row_falls, row_out, row_holds, row_kept_others}
-use Rattle.dg_store.proofs.Lost.{lost_out}
 use Rattle.dg_store.proofs.Rows.{there}
 use Rattle.dg_store.proofs.boundaries.write_slot.Goals as goal
 
@@ -31,7 +28,7 @@ returns-clause-lost g c =
     (λ h. lost ∙ c.write.ensures.lost.0 h, λ h. c.write.ensures.lost.1 (sym lost ∙ h))
 
 pub returns-clause-out : goal.returns-clause-out
-returns-clause-out g c lost = row_out _ _ _ _ _ _ c.requires.within (there _ _ _ c.requires.within c.index_mut.ensures.value) c.requires.stands (lost_out c.write.new.self (ap (λ (t : ℕ). is_lost (members_of c.write.new.self) t) c.write.ensures.number ∙ c.write.ensures.lost.0 lost))
+returns-clause-out g c lost = row_out _ _ _ _ _ _ c.requires.within (there _ _ _ c.requires.within c.index_mut.ensures.value) c.requires.stands (c.write.ensures.out lost)
 
 pub returns-clause-put : goal.returns-clause-put
 returns-clause-put g c = row_holds _ _ _ _ _ _ c.requires.within (there _ _ _ c.requires.within c.index_mut.ensures.value) c.requires.stands _ _ _ c.write.ensures.put

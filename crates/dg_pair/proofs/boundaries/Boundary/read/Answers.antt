@@ -1,4 +1,5 @@
-use Rattle.dg_pair.proofs.BoundaryLemmas.{lost_is, off_good, holds_moves, read_moves}
+use Rattle.std.proofs.Common.{arith}
+use Rattle.dg_pair.proofs.BoundaryLemmas.{lost_is, off_good, holds_moves, read_moves, goods_are}
 use Rattle.dg_pair.proofs.boundaries.Boundary.read.Goals as goal
 
 pub returns-clause-lost : goal.returns-clause-lost
@@ -12,3 +13,6 @@ returns-clause-kept g c = λ x v. holds_moves c.replace.result c.args.self.now c
 
 pub returns-clause-other_faults : goal.returns-clause-other_faults
 returns-clause-other_faults g c = λ q other. c.read_any-next.ensures.uncalled q (off_good c.replace.result c.args.self.now c.replace.ensures.value c.requires.well q other)
+
+pub returns-clause-most : goal.returns-clause-most
+returns-clause-most g c = let goods = goods_are c.replace.result c.args.self.now c.replace.ensures.value c.requires.well in omega (arith, c.read_any-next.ensures.most)
