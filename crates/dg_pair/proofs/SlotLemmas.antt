@@ -12,7 +12,7 @@ IfSome-map None P Q h p = tt
 IfSome-map (Some x) P Q h p = h x p
 
 -- a slot ends no further than all of them
-slot_end : (l slots slot : ℕ) → slot < slots → place_of l slot + l ≤ place_of l slots
+pub slot_end : (l slots slot : ℕ) → slot < slots → place_of l slot + l ≤ place_of l slots
 slot_end l slots slot h = grind arith
 
 -- there is room for a slot where there is room for all
