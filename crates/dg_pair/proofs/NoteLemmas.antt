@@ -10,13 +10,7 @@ use Rattle.dg_pair.specs.declared.boundaries.NoteAnswer.{NoteAnswer}
 use Rattle.dg_pair.specs.declared.boundaries.NoteAnswer.TheVariants.{Noted, NotGood, Fell}
 use Rattle.dg_pair.specs.Boundaries.{MembersFit}
 use Rattle.dg_pair.proofs.RangeLemmas.{torn_before, torn_behind}
-use Rattle.dg_pair.proofs.SlotLemmas.{slot_end, patched_torn}
-
--- what is left as it was is no more than torn
-torn_same : (place n : ℕ) (old new : Option (List ℕ)) → Told IsSame old new → Told (Torn place n) old new
-torn_same place n old None same = tt
-torn_same place n None (Some b) same = absurd same
-torn_same place n (Some a) (Some b) same = record { size = ap length same; front = ap (take place) same; back = ap (drop (place + n)) same }
+use Rattle.dg_pair.proofs.SlotLemmas.{slot_end, patched_torn, torn_same}
 
 good_or : (m : MemberState) → (m ≡ Good) ⊎ (m ≢ Good)
 good_or Good = inl refl

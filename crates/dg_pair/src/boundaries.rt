@@ -180,6 +180,8 @@ impl Boundary {
         ensures counts { CountsRise (R.counts rack.old) (R.counts rack.new) }
         ensures called { result ≡ PairRead.Got → Rose (R.counts rack.old).calls (R.counts rack.new).calls }
         ensures most { (R.counts rack.new).calls ≤ (R.counts rack.old).calls + goods_in (members_of self.old) (number_of self.old) }
+        ensures once { goods_in (members_of self.new) (number_of self.old) ≡ goods_in (members_of self.old) (number_of self.old)
+            → (R.counts rack.new).calls ≤ (R.counts rack.old).calls + 1 }
         ensures writes { (R.counts rack.new).writes ≡ (R.counts rack.old).writes }
         ensures tells { StillTold (R.bytes rack.old) (R.bytes rack.new) }
         ensures name { R.name rack.new ≡ R.name rack.old }
@@ -209,11 +211,13 @@ impl Boundary {
             → SlotHolds (size_of self.old) (members_of self.new) (R.bytes rack.new) (number_of self.old) x v }
         ensures room { MembersFit (size_of self.old) (slots_of self.old) (members_of self.new) (R.bytes rack.new) }
         ensures other_bytes { (q : ℕ) → q / 2 ≢ number_of self.old → Told IsSame (R.bytes rack.old q) (R.bytes rack.new q) }
+        ensures torn { (q : ℕ) → Told (Torn (place_of (size_of self.old) slot) (size_of self.old)) (R.bytes rack.old q) (R.bytes rack.new q) }
         ensures untaken { (q : ℕ) → serves (members_of self.old q) slot ≡ false → Told IsSame (R.bytes rack.old q) (R.bytes rack.new q) }
         ensures falls { MembersFall (R.counts rack.old).faults (R.counts rack.new).faults (members_of self.old) (members_of self.new) }
         ensures other_faults { (q : ℕ) → q / 2 ≢ number_of self.old → (R.counts rack.new).faults q ≡ (R.counts rack.old).faults q }
         ensures uncalled { (q : ℕ) → serves (members_of self.old q) slot ≡ false → (R.counts rack.new).faults q ≡ (R.counts rack.old).faults q }
         ensures counts { CountsRise (R.counts rack.old) (R.counts rack.new) }
+        ensures called { result ≡ PairWrite.Kept → Rose (R.counts rack.old).writes (R.counts rack.new).writes }
         ensures most { (R.counts rack.new).calls ≤ (R.counts rack.old).calls + servers_in (members_of self.old) (number_of self.old) slot }
         ensures most_writes { (R.counts rack.new).writes ≤ (R.counts rack.old).writes + servers_in (members_of self.old) (number_of self.old) slot }
         ensures tells { StillTold (R.bytes rack.old) (R.bytes rack.new) }
@@ -336,6 +340,8 @@ impl Boundary {
             → SlotHolds (size_of self.old) (members_of self.old) (R.bytes rack.old) (number_of self.old) x v
             → SlotHolds (size_of self.old) (members_of self.new) (R.bytes rack.new) (number_of self.old) x v }
         ensures room { MembersFit (size_of self.old) (slots_of self.old) (members_of self.new) (R.bytes rack.new) }
+        ensures torn { (q x : ℕ) → IsFilling (members_of self.old) x
+            → Told (Torn (place_of (size_of self.old) x) (size_of self.old)) (R.bytes rack.old q) (R.bytes rack.new q) }
         ensures other_bytes { (q : ℕ) → is_filling (members_of self.old q) ≡ false → Told IsSame (R.bytes rack.old q) (R.bytes rack.new q) }
         ensures uncalled { (q : ℕ) → members_of self.old q ≡ MemberState.Out → (R.counts rack.new).faults q ≡ (R.counts rack.old).faults q }
         ensures called { result ≡ CopyAnswer.Copied → Rose (R.counts rack.old).writes (R.counts rack.new).writes }

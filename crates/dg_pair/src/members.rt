@@ -3,7 +3,7 @@ ghost use Rattle.std.specs.Prelude.{◌≡◌, ◌+◌, ◌*◌, ◌%◌, ◌≤
 ghost use Rattle.dg_model.specs.Members.{HasRoom, SlotOf, place_of};
 ghost use Rattle.dg_model.specs.Causes.{RoseByOne};
 ghost use Rattle.dg_model.specs.States.{CountsRise};
-ghost use Rattle.dg_io.specs.Told.{Told, IsSame, IsZeros, StillTold, OthersSame};
+ghost use Rattle.dg_io.specs.Told.{Told, IsSame, IsZeros, Torn, StillTold, OthersSame};
 ghost use Rattle.dg_io.specs.Faults.{HasCause, OnlyMember};
 ghost use Rattle.dg_pair.specs.Members.{IsMember, GoodIs, FillIs, GotSlot, TookSlot, HasFailed, FillFailed, KeepsSlots, BlankIs, NotedIs};
 
@@ -100,6 +100,7 @@ impl<S: Drop> Member<S> {
         requires slot { slot < self.now.slots }
         requires room { HasRoom self.now.l self.now.slots (R.bytes rack.old self.now.number) }
         ensures put { OnOk result (SlotOf self.now.l slot buf.now (R.bytes rack.new self.now.number)) }
+        ensures torn { (q : ℕ) → Told (Torn (place_of self.now.l slot) (length buf.now)) (R.bytes rack.old q) (R.bytes rack.new q) }
         ensures kept { KeepsSlots self.now.l slot (R.bytes rack.old self.now.number) (R.bytes rack.new self.now.number) }
         ensures room { HasRoom self.now.l self.now.slots (R.bytes rack.new self.now.number) }
         ensures other_bytes { OthersSame self.now.number (R.bytes rack.old) (R.bytes rack.new) }
@@ -180,6 +181,7 @@ impl Member<Good> {
         requires room { HasRoom self.l self.slots (R.bytes rack.old self.number) }
         ensures is { GoodIs self.number self.l self.slots result }
         ensures put { GotSlot self.l slot buf.now (R.bytes rack.new self.number) result }
+        ensures torn { (q : ℕ) → Told (Torn (place_of self.l slot) (length buf.now)) (R.bytes rack.old q) (R.bytes rack.new q) }
         ensures kept { KeepsSlots self.l slot (R.bytes rack.old self.number) (R.bytes rack.new self.number) }
         ensures room { HasRoom self.l self.slots (R.bytes rack.new self.number) }
         ensures other_bytes { OthersSame self.number (R.bytes rack.old) (R.bytes rack.new) }
@@ -277,6 +279,7 @@ impl Member<Filling> {
         requires room { HasRoom self.l self.slots (R.bytes rack.old self.number) }
         ensures is { FillIs self.number self.l self.slots self.state.have result }
         ensures put { TookSlot self.l slot buf.now (R.bytes rack.new self.number) result }
+        ensures torn { (q : ℕ) → Told (Torn (place_of self.l slot) (length buf.now)) (R.bytes rack.old q) (R.bytes rack.new q) }
         ensures kept { KeepsSlots self.l slot (R.bytes rack.old self.number) (R.bytes rack.new self.number) }
         ensures room { HasRoom self.l self.slots (R.bytes rack.new self.number) }
         ensures other_bytes { OthersSame self.number (R.bytes rack.old) (R.bytes rack.new) }

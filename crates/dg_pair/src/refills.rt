@@ -1,7 +1,7 @@
 // The refill of a member from its partner, by the case that a boundary is in.
 ghost use Rattle.std.specs.Prelude.{◌≡◌, ◌≢◌, ◌⊎◌, ◌↔◌, ◌+◌, ◌*◌, ◌≤◌, ◌<◌, ℕ, length, true, false, IfSome};
 ghost use Rattle.dg_model.specs.Causes.{Rose};
-ghost use Rattle.dg_model.specs.Members.{is_filling, is_lost, SlotOf, MembersFall};
+ghost use Rattle.dg_model.specs.Members.{is_filling, is_lost, place_of, SlotOf, MembersFall};
 ghost use Rattle.dg_model.specs.States.{CountsRise};
 ghost use Rattle.dg_io.specs.Told.{Told, IsSame, IsZeros, Patched, Torn, StillTold, OthersSame};
 ghost use Rattle.dg_io.specs.Faults.{OnlyMember};
@@ -81,6 +81,7 @@ pub fn copy_any<R: Rack>(boundary: Boundary, rack: &mut R, buf: &mut [u8]) -> (B
     ensures moved { result.1 ≡ CopyAnswer.Copied → (q : ℕ) (have : ℕ) → members_of boundary q ≢ MemberState.Out → IsFilling (members_of boundary) have → SlotOf (size_of boundary) have buf.new (R.bytes rack.new q) }
     ensures kept { (q : ℕ) (have : ℕ) → IsFilling (members_of boundary) have → KeepsSlots (size_of boundary) have (R.bytes rack.old q) (R.bytes rack.new q) }
     ensures room { Fits result.0 (R.bytes rack.new) }
+    ensures torn { (q x : ℕ) → IsFilling (members_of boundary) x → Told (Torn (place_of (size_of boundary) x) (size_of boundary)) (R.bytes rack.old q) (R.bytes rack.new q) }
     ensures other_bytes { (q : ℕ) → is_filling (members_of boundary q) ≡ false → Told IsSame (R.bytes rack.old q) (R.bytes rack.new q) }
     ensures uncalled { (q : ℕ) → members_of boundary q ≡ MemberState.Out → (R.counts rack.new).faults q ≡ (R.counts rack.old).faults q }
     ensures called { result.1 ≡ CopyAnswer.Copied → Rose (R.counts rack.old).writes (R.counts rack.new).writes }

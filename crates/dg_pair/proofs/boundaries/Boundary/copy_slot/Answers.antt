@@ -11,3 +11,6 @@ pub returns-clause-kept : goal.returns-clause-kept
 returns-clause-kept g c = rw (← c.replace.ensures.value) (λ x v other had.
     copy_keeps c.copy_any-next.result.1 (size_of c.replace.result) (number_of c.replace.result) x v (members_of c.replace.result) (members_of c.copy_any-next.result.0) _ _ _ _
     c.copy_any-next.ensures.copied c.copy_any-next.ensures.falls c.copy_any-next.ensures.other_bytes c.copy_any-next.ensures.kept other had)
+
+pub returns-clause-torn : goal.returns-clause-torn
+returns-clause-torn g c = rw (← c.replace.ensures.value) c.copy_any-next.ensures.torn
