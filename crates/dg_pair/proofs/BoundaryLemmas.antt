@@ -31,12 +31,10 @@ lost_none (Half a b) well lost = let numbers = well.numbers in absurd (grind (ar
 lost_none (Fill a b) well lost = let numbers = well.0.numbers in absurd (grind (arith, nat_tests))
 lost_none (Lost a b) well lost = tt
 
-pub lost_is : (P : Type 0) (x taken old : Boundary) → taken ≡ old → IsWell x → number_of x ≡ number_of taken → P ↔ HasNone x → P ↔ (is_lost (members_of x) (number_of old) ≡ true)
-lost_is P x taken old is well number when =
-    let e = number ∙ ap number_of is in (
-      λ p. subst (λ (n : ℕ). is_lost (members_of x) n ≡ true) e (none_lost x well (when.0 p)),
-      λ lost. when.1 (lost_none x well (subst (λ (n : ℕ). is_lost (members_of x) n ≡ true) (sym e) lost)),
-    )
+pub lost_is : (P : Type 0) (x old : Boundary) → IsWell x → number_of x ≡ number_of old → P ↔ HasNone x → P ↔ (is_lost (members_of x) (number_of old) ≡ true)
+lost_is P x old well number when =
+    (λ p. subst (λ (n : ℕ). is_lost (members_of x) n ≡ true) number (none_lost x well (when.0 p)),
+     λ lost. when.1 (lost_none x well (subst (λ (n : ℕ). is_lost (members_of x) n ≡ true) (sym number) lost)))
 
 -- a slot that has these bytes by cases has them on each member that serves it
 pub holds_from : (x : Boundary) (l slot : ℕ) (v : List ℕ) (bytes : ℕ → Option (List ℕ)) → SlotIs x l slot v bytes → (q : ℕ) → serves (members_of x q) slot ≡ true → SlotOf l slot v (bytes q)
@@ -75,36 +73,32 @@ read_is (Half a b) l slot u v bytes reads is told = said l slot u v (bytes a.num
 read_is (Fill a b) l slot u v bytes reads is told = said l slot u v (bytes a.number) (told a.number (grind (arith, nat_tests))) reads is.0
 read_is (Lost a b) l slot u v bytes reads is told = absurd reads
 
--- so a slot that is kept by cases is kept on the members. The boundary that was taken is the old one
-pub holds_moves : (taken old new : Boundary) (slot : ℕ) (v : List ℕ) (before now : ℕ → Option (List ℕ)) → taken ≡ old → IsWell old → (SlotIs taken (size_of taken) slot v before → SlotIs new (size_of taken) slot v now) → SlotHolds (size_of old) (members_of old) before (number_of old) slot v → SlotHolds (size_of old) (members_of new) now (number_of old) slot v
-holds_moves taken old new slot v before now is well kept holds q mine =
-    holds_from new (size_of old) slot v now (subst (λ (t : Boundary). SlotIs t (size_of t) slot v before → SlotIs new (size_of t) slot v now) is kept (holds_to old (size_of old) slot v before well holds)) q
+-- so a slot that is kept by cases is kept on the members
+pub holds_moves : (old new : Boundary) (l slot : ℕ) (v : List ℕ) (before now : ℕ → Option (List ℕ)) → IsWell old → (SlotIs old l slot v before → SlotIs new l slot v now) → SlotHolds l (members_of old) before (number_of old) slot v → SlotHolds l (members_of new) now (number_of old) slot v
+holds_moves old new l slot v before now well kept holds q mine = holds_from new l slot v now (kept (holds_to old l slot v before well holds)) q
 
-pub read_moves : (taken old new : Boundary) (slot : ℕ) (u v : List ℕ) (before now : ℕ → Option (List ℕ)) → taken ≡ old → IsWell old → KeepsAll (size_of taken) taken before new now → ReadsGood new (size_of taken) slot u now → SlotHolds (size_of old) (members_of old) before (number_of old) slot v → ((q : ℕ) → members_of new q ≡ Good → IsSome (now q)) → u ≡ v
-read_moves taken old new slot u v before now is well kept reads holds told =
-    read_is new (size_of old) slot u v now (subst (λ (t : Boundary). ReadsGood new (size_of t) slot u now) is reads)
-    (subst (λ (t : Boundary). KeepsAll (size_of t) t before new now) is kept slot v (holds_to old (size_of old) slot v before well holds)) told
+pub read_moves : (old new : Boundary) (l slot : ℕ) (u v : List ℕ) (before now : ℕ → Option (List ℕ)) → IsWell old → KeepsAll l old before new now → ReadsGood new l slot u now → SlotHolds l (members_of old) before (number_of old) slot v → ((q : ℕ) → members_of new q ≡ Good → IsSome (now q)) → u ≡ v
+read_moves old new l slot u v before now well kept reads holds told = read_is new l slot u v now reads (kept slot v (holds_to old l slot v before well holds)) told
 
 -- another boundary's member isn't good, and serves no slot
-pub off_good : (taken old : Boundary) → taken ≡ old → IsWell old → (q : ℕ) → q / 2 ≢ number_of old → members_of taken q ≢ Good
-off_good taken old is well q other good = let out = own_members old well q other in let e = ap (λ (x : Boundary). members_of x q) is in cc
+pub off_good : (x : Boundary) → IsWell x → (q : ℕ) → q / 2 ≢ number_of x → members_of x q ≢ Good
+off_good x well q other good = let out = own_members x well q other in cc
 
-pub off_slot : (taken old : Boundary) → taken ≡ old → IsWell old → (q slot : ℕ) → q / 2 ≢ number_of old → serves (members_of taken q) slot ≡ false
-off_slot taken old is well q slot other = ap (λ (x : Boundary). serves (members_of x q) slot) is ∙ ap (λ (m : MemberState). serves m slot) (own_members old well q other)
+pub off_slot : (x : Boundary) → IsWell x → (q slot : ℕ) → q / 2 ≢ number_of x → serves (members_of x q) slot ≡ false
+off_slot x well q slot other = ap (λ (m : MemberState). serves m slot) (own_members x well q other)
 
 -- how many members are good, or serve a slot
-pub goods_are : (taken old : Boundary) → taken ≡ old → IsWell old → goods_of taken ≡ goods_in (members_of old) (number_of old)
-goods_are taken old is well = ap goods_of is ∙ goods_by old well where
-  goods_by : (x : Boundary) → IsWell x → goods_of x ≡ goods_in (members_of x) (number_of x)
-  goods_by (Both a b) well = let numbers = well.numbers in grind (arith, nat_tests)
-  goods_by (Half a b) well = let numbers = well.numbers in grind (arith, nat_tests)
-  goods_by (Fill a b) well = let numbers = well.0.numbers in grind (arith, nat_tests)
-  goods_by (Lost a b) well = refl
+pub goods_are : (x : Boundary) → IsWell x → goods_of x ≡ goods_in (members_of x) (number_of x)
+goods_are (Both a b) well = let numbers = well.numbers in grind (arith, nat_tests)
+goods_are (Half a b) well = let numbers = well.numbers in grind (arith, nat_tests)
+goods_are (Fill a b) well = let numbers = well.0.numbers in grind (arith, nat_tests)
+goods_are (Lost a b) well = refl
 
-pub servers_are : (taken old : Boundary) (slot : ℕ) → taken ≡ old → IsWell old → servers_of taken slot ≡ servers_in (members_of old) (number_of old) slot
-servers_are taken old slot is well = ap (λ (x : Boundary). servers_of x slot) is ∙ servers_by old well where
-  servers_by : (x : Boundary) → IsWell x → servers_of x slot ≡ servers_in (members_of x) (number_of x) slot
-  servers_by (Both a b) well = let numbers = well.numbers in grind (arith, nat_tests)
-  servers_by (Half a b) well = let numbers = well.numbers in grind (arith, nat_tests)
-  servers_by (Fill a b) well = let numbers = well.0.numbers in grind (arith, nat_tests)
-  servers_by (Lost a b) well = refl
+pub same_goods : (new old : Boundary) → IsWell new → IsWell old → number_of new ≡ number_of old → goods_in (members_of new) (number_of old) ≡ goods_in (members_of old) (number_of old) → goods_of new ≡ goods_of old
+same_goods new old well was number same = goods_are new well ∙ ap (goods_in (members_of new)) number ∙ same ∙ sym (goods_are old was)
+
+pub servers_are : (x : Boundary) (slot : ℕ) → IsWell x → servers_of x slot ≡ servers_in (members_of x) (number_of x) slot
+servers_are (Both a b) slot well = let numbers = well.numbers in grind (arith, nat_tests)
+servers_are (Half a b) slot well = let numbers = well.numbers in grind (arith, nat_tests)
+servers_are (Fill a b) slot well = let numbers = well.0.numbers in grind (arith, nat_tests)
+servers_are (Lost a b) slot well = refl

@@ -4,9 +4,9 @@ use Rattle.std.specs.Prelude.{Option, Some, None}
 use Rattle.std.proofs.lemmas.Bool.{cases_eq}
 use Rattle.std.proofs.lemmas.Bool.Decides.{nat_tests}
 use Rattle.dg_model.specs.Causes.{Rose}
-use Rattle.dg_model.specs.Members.{serves, slot_of, SlotOf, MembersFall}
+use Rattle.dg_model.specs.Members.{serves, place_of, slot_of, SlotOf, MembersFall}
 use Rattle.dg_model.specs.declared.members.MemberState.TheVariants.{Good}
-use Rattle.dg_io.specs.Told.{Told, IsSame}
+use Rattle.dg_io.specs.Told.{Told, IsSame, Torn}
 use Rattle.dg_pair.specs.declared.members.Good.{Good as GoodType}
 use Rattle.dg_pair.specs.declared.members.Out.{Out as OutType}
 use Rattle.dg_pair.specs.declared.members.Member.{Member}
@@ -14,7 +14,7 @@ use Rattle.dg_pair.specs.declared.boundaries.Boundary.{Boundary}
 use Rattle.dg_pair.specs.declared.boundaries.Boundary.TheVariants.{Both, Half}
 use Rattle.dg_pair.specs.Boundaries.{members_of}
 use Rattle.dg_pair.specs.Cases.{SlotIs, KeepsAll}
-use Rattle.dg_pair.proofs.SlotLemmas.{told_same}
+use Rattle.dg_pair.proofs.SlotLemmas.{told_same, torn_then}
 
 -- the slots are kept by both calls
 pub keeps_after : (a b : Member GoodType) (out : Member OutType) (new : Boundary) (first mid last : ℕ → Option (List ℕ)) → b.l ≡ a.l → ((q : ℕ) → Told IsSame (first q) (mid q)) → KeepsAll b.l (Half b out) mid new last → KeepsAll a.l (Both a b) first new last
@@ -56,3 +56,7 @@ same_then first mid None one two = tt
 same_then (Some a) (Some b) (Some c) one two = two ∙ one
 same_then None (Some b) (Some c) one two = absurd one
 same_then first None (Some c) one two = absurd two
+
+-- a slot of each member is torn at most
+pub torn_after : (a b : Member GoodType) (slot n : ℕ) (first mid last : ℕ → Option (List ℕ)) → b.l ≡ a.l → ((q : ℕ) → Told (Torn (place_of a.l slot) n) (first q) (mid q)) → ((q : ℕ) → Told (Torn (place_of b.l slot) n) (mid q) (last q)) → (q : ℕ) → Told (Torn (place_of a.l slot) n) (first q) (last q)
+torn_after a b slot n first mid last l one two q = torn_then (place_of a.l slot) n (first q) (mid q) (last q) (one q) (subst (λ (k : ℕ). Told (Torn (place_of k slot) n) (mid q) (last q)) l (two q))

@@ -1,4 +1,6 @@
 mod BoundaryLemmas
+mod CopyLemmas
 mod FallLemmas
+mod NoteLemmas
 mod RangeLemmas
 mod SlotLemmas

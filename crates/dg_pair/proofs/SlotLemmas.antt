@@ -1,9 +1,9 @@
 -- The slots of one member, and the room that they need.
-use Rattle.std.proofs.Common.{◌≡◌, ◌≢◌, ◌⊎◌, inl, inr, ℕ, ◌+◌, ◌≤◌, ◌<◌, List, length, sym, ◌∙◌, subst, arith}
+use Rattle.std.proofs.Common.{◌≡◌, ◌≢◌, ◌⊎◌, inl, inr, ℕ, ◌+◌, ◌≤◌, ◌<◌, List, length, take, drop, ap, sym, ◌∙◌, subst, arith}
 use Rattle.std.specs.Prelude.{Option, Some, None, IfSome, Result, Ok, Err, OnOk, OnErr}
-use Rattle.std.proofs.lemmas.Bool.{cases_lt}
+use Rattle.std.proofs.lemmas.Bool.{cases_lt, cases_eq}
 use Rattle.dg_model.specs.Members.{place_of, HasRoom}
-use Rattle.dg_io.specs.Told.{Told, IsSame, Torn, Patched}
+use Rattle.dg_io.specs.Told.{Told, IsSame, Torn, Patched, OthersSame}
 use Rattle.dg_pair.proofs.RangeLemmas.{torn_before, torn_behind, patch_torn}
 use Rattle.dg_pair.specs.Members.{KeepsSlots}
 
@@ -12,7 +12,7 @@ IfSome-map None P Q h p = tt
 IfSome-map (Some x) P Q h p = h x p
 
 -- a slot ends no further than all of them
-slot_end : (l slots slot : ℕ) → slot < slots → place_of l slot + l ≤ place_of l slots
+pub slot_end : (l slots slot : ℕ) → slot < slots → place_of l slot + l ≤ place_of l slots
 slot_end l slots slot h = grind arith
 
 -- there is room for a slot where there is room for all
@@ -51,3 +51,26 @@ told_same P (Some a) (Some b) told had = subst P (sym told) had
 pub put_slots : {T E : Type 0} (r : Result T E) (l slots slot : ℕ) (piece : List ℕ) (old new : Option (List ℕ)) → slot < slots → length piece ≡ l → HasRoom l slots old → OnOk r (Told (Patched (place_of l slot) piece) old new) → OnErr r (Told (Torn (place_of l slot) (length piece)) old new) → KeepsSlots l slot old new
 put_slots (Ok _) l slots slot piece old new below is room ok err = torn_slots l slot (length piece) old new is (patched_torn (place_of l slot) piece old new (room_slot l slots slot (length piece) old below is room) ok)
 put_slots (Err _) l slots slot piece old new below is room ok err = torn_slots l slot (length piece) old new is err
+
+-- what is left as it was is no more than torn
+pub torn_same : (place n : ℕ) (old new : Option (List ℕ)) → Told IsSame old new → Told (Torn place n) old new
+torn_same place n old None same = tt
+torn_same place n None (Some b) same = absurd same
+torn_same place n (Some a) (Some b) same = record { size = ap length same; front = ap (take place) same; back = ap (drop (place + n)) same }
+
+pub torn_then : (place n : ℕ) (first mid last : Option (List ℕ)) → Told (Torn place n) first mid → Told (Torn place n) mid last → Told (Torn place n) first last
+torn_then place n first mid None one two = tt
+torn_then place n (Some a) (Some b) (Some c) one two = record { size = two.size ∙ one.size; front = two.front ∙ one.front; back = two.back ∙ one.back }
+torn_then place n None (Some b) (Some c) one two = absurd one
+torn_then place n first None (Some c) one two = absurd two
+
+torn_alone : (member place n : ℕ) (old new : ℕ → Option (List ℕ)) → Told (Torn place n) (old member) (new member) → OthersSame member old new → (q : ℕ) → Told (Torn place n) (old q) (new q)
+torn_alone member place n old new torn others q = elim (cases_eq q member) [
+  | inl e ↦ subst (λ (m : ℕ). Told (Torn place n) (old m) (new m)) (sym e) torn
+  | inr other ↦ torn_same place n (old q) (new q) (others q other)
+]
+
+-- a write of a slot, done or failed, tears no more than its range, and no other member
+pub put_torn : {T E : Type 0} (r : Result T E) (member place : ℕ) (piece : List ℕ) (old new : ℕ → Option (List ℕ)) → IfSome (old member) (λ all. place + length piece ≤ length all) → OnOk r (Told (Patched place piece) (old member) (new member)) → OnErr r (Told (Torn place (length piece)) (old member) (new member)) → OthersSame member old new → (q : ℕ) → Told (Torn place (length piece)) (old q) (new q)
+put_torn (Ok _) member place piece old new room ok err others = torn_alone member place (length piece) old new (patched_torn place piece (old member) (new member) room ok) others
+put_torn (Err _) member place piece old new room ok err others = torn_alone member place (length piece) old new err others

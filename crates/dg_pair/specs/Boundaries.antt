@@ -1,5 +1,5 @@
 -- A boundary of two members, as the layers above see it. The rules are this project's own.
-use Rattle.std.specs.Prelude.{◌≡◌, ◌≢◌, ◌+◌, ◌*◌, ◌/◌, ◌≤◌, ◌==◌, ◌||◌, if◌then◌else◌, ℕ, List, Option}
+use Rattle.std.specs.Prelude.{◌<◌, ◌≡◌, ◌≢◌, ◌+◌, ◌*◌, ◌/◌, ◌≤◌, ◌==◌, ◌||◌, if◌then◌else◌, ℕ, List, Option}
 use Rattle.dg_model.specs.Members.{is_good, serves, HasRoom}
 use Rattle.dg_model.specs.declared.members.MemberState.{MemberState}
 use Rattle.dg_model.specs.declared.members.MemberState.TheVariants.{Good, Filling, Out}
@@ -59,3 +59,32 @@ goods_in members s = (if is_good (members (2 * s)) then 1 else 0) + (if is_good 
 -- how many of boundary s's members hold what is written to this slot
 abbrev pub servers_in : (ℕ → MemberState) → ℕ → ℕ → ℕ
 servers_in members s slot = (if serves (members (2 * s)) slot then 1 else 0) + (if serves (members (2 * s + 1)) slot then 1 else 0)
+
+-- a refill that is given up
+abbrev pub unfilled : MemberState → MemberState
+unfilled Good = Good
+unfilled (Filling have) = Out
+unfilled Out = Out
+
+-- a refill that is one slot further
+abbrev pub raised : MemberState → MemberState
+raised Good = Good
+raised (Filling have) = Filling (have + 1)
+raised Out = Out
+
+-- a refill that is done
+abbrev pub completed : MemberState → MemberState
+completed Good = Good
+completed (Filling have) = Good
+completed Out = Out
+
+-- some member is being refilled, and is so far
+pub record IsFilling (members : ℕ → MemberState) (have : ℕ) : Type 0 where
+  pub member : ℕ
+  pub fills : members member ≡ Filling have
+
+-- some member is being refilled, and not past its last slot
+pub record HasNext (members : ℕ → MemberState) (slots : ℕ) : Type 0 where
+  pub have : ℕ
+  pub filling : IsFilling members have
+  pub below : have < slots

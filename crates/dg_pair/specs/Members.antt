@@ -1,8 +1,8 @@
 -- What a call on one member leaves of it. The rules are this project's own.
-use Rattle.std.specs.Prelude.{◌≡◌, ◌≢◌, ℕ, List, Option}
+use Rattle.std.specs.Prelude.{◌≡◌, ◌≢◌, ℕ, List, length, Option}
 use Rattle.dg_model.specs.Causes.{Rose}
 use Rattle.dg_model.specs.Members.{SlotOf}
-use Rattle.dg_io.specs.Told.{Told, IsZeros}
+use Rattle.dg_io.specs.Told.{Told, IsZeros, Patched, Torn}
 use Rattle.dg_pair.specs.declared.members.Member.{Member}
 use Rattle.dg_pair.specs.declared.members.GoodCall.{GoodCall}
 use Rattle.dg_pair.specs.declared.members.GoodCall.TheVariants.{Done, Fell}
@@ -34,6 +34,11 @@ HasFailed before now (Fell m) = Rose before now
 abbrev pub BlankIs : ℕ → Option (List ℕ) → Option (List ℕ) → GoodCall → Type 0
 BlankIs size old new (Done m) = Told (IsZeros size) old new
 BlankIs size old new (Fell m) = Unit {0}
+
+-- a write at a place that was done leaves the bytes there, one that failed any bytes
+abbrev pub NotedIs : ℕ → List ℕ → Option (List ℕ) → Option (List ℕ) → GoodCall → Type 0
+NotedIs place piece old new (Done m) = Told (Patched place piece) old new
+NotedIs place piece old new (Fell m) = Told (Torn place (length piece)) old new
 
 -- the same for a member that is being refilled
 abbrev pub FillIs : ℕ → ℕ → ℕ → ℕ → FillCall → Type 0

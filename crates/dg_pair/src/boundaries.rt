@@ -1,12 +1,15 @@
 // A boundary, and the calls on it.
-ghost use Rattle.std.specs.Prelude.{◌≡◌, ◌≢◌, ◌⊎◌, ◌↔◌, ◌+◌, ◌*◌, ◌/◌, ◌≤◌, ◌<◌, ℕ, List, length, true, false, IsSome};
+ghost use Rattle.std.specs.Prelude.{◌≡◌, ◌≢◌, ◌⊎◌, ◌↔◌, ◌+◌, ◌*◌, ◌/◌, ◌≤◌, ◌<◌, ℕ, List, length, true, false, IsSome, IfSome, Option, if◌then◌else◌};
 ghost use Rattle.dg_model.specs.Causes.{Rose};
-ghost use Rattle.dg_model.specs.Members.{is_lost, serves, SlotHolds, MembersFall};
+ghost use Rattle.dg_model.specs.Members.{is_filling, is_lost, serves, place_of, SlotHolds, MembersFall};
 ghost use Rattle.dg_model.specs.States.{CountsRise};
-ghost use Rattle.dg_io.specs.Told.{Told, IsSame, IsZeros, StillTold};
-ghost use Rattle.dg_pair.specs.Boundaries.{members_of, number_of, size_of, slots_of, IsWell, MembersFit, goods_in, servers_in};
+ghost use Rattle.dg_io.specs.Told.{Told, IsSame, IsZeros, Patched, Torn, StillTold, OthersSame};
+ghost use Rattle.dg_io.specs.Faults.{OnlyMember};
+ghost use Rattle.dg_pair.specs.Boundaries.{members_of, number_of, size_of, slots_of, IsWell, MembersFit, goods_in, servers_in, unfilled, raised, completed, IsFilling, HasNext};
 
+use crate::changes::{fail_any, note_any};
 use crate::reads::read_any;
+use crate::refills::{complete_any, copy_any, pass_any, replace_any};
 use crate::writes::write_any;
 use crate::{Filling, Good, GoodCall, Member, Out};
 use dg_io::Rack;
@@ -42,6 +45,50 @@ pub enum PairWrite {
     Kept,
     /// No member is good.
     Lost,
+}
+
+/// The answer to the failure of a member.
+#[derive(Clone, Copy, Debug, PartialEq, Eq)]
+pub enum FailAnswer {
+    /// The member is out now.
+    Taken,
+    /// It was out.
+    Already,
+}
+
+/// The answer to the replacement of a member.
+#[derive(Clone, Copy, Debug, PartialEq, Eq)]
+pub enum ReplaceAnswer {
+    /// The member is being refilled now, from slot 0 on.
+    Replaced,
+    /// No member is good.
+    Lost,
+    /// The member isn't out.
+    NotOut,
+    /// The member couldn't be made anew, and stays out.
+    Failed,
+}
+
+/// The answer to the copy of a slot.
+#[derive(Clone, Copy, Debug, PartialEq, Eq)]
+pub enum CopyAnswer {
+    /// The member that is being refilled has the slot.
+    Copied,
+    /// No member is good.
+    Lost,
+    /// The member that was being refilled is out.
+    Fell,
+}
+
+/// The answer to a note beside the slots.
+#[derive(Clone, Copy, Debug, PartialEq, Eq)]
+pub enum NoteAnswer {
+    /// The bytes stand there.
+    Noted,
+    /// The member isn't good, and wasn't called.
+    NotGood,
+    /// The member fell.
+    Fell,
 }
 
 // What stands in the place of a boundary while it is worked on.
@@ -133,6 +180,8 @@ impl Boundary {
         ensures counts { CountsRise (R.counts rack.old) (R.counts rack.new) }
         ensures called { result ≡ PairRead.Got → Rose (R.counts rack.old).calls (R.counts rack.new).calls }
         ensures most { (R.counts rack.new).calls ≤ (R.counts rack.old).calls + goods_in (members_of self.old) (number_of self.old) }
+        ensures once { goods_in (members_of self.new) (number_of self.old) ≡ goods_in (members_of self.old) (number_of self.old)
+            → (R.counts rack.new).calls ≤ (R.counts rack.old).calls + 1 }
         ensures writes { (R.counts rack.new).writes ≡ (R.counts rack.old).writes }
         ensures tells { StillTold (R.bytes rack.old) (R.bytes rack.new) }
         ensures name { R.name rack.new ≡ R.name rack.old }
@@ -162,17 +211,227 @@ impl Boundary {
             → SlotHolds (size_of self.old) (members_of self.new) (R.bytes rack.new) (number_of self.old) x v }
         ensures room { MembersFit (size_of self.old) (slots_of self.old) (members_of self.new) (R.bytes rack.new) }
         ensures other_bytes { (q : ℕ) → q / 2 ≢ number_of self.old → Told IsSame (R.bytes rack.old q) (R.bytes rack.new q) }
+        ensures torn { (q : ℕ) → Told (Torn (place_of (size_of self.old) slot) (size_of self.old)) (R.bytes rack.old q) (R.bytes rack.new q) }
         ensures untaken { (q : ℕ) → serves (members_of self.old q) slot ≡ false → Told IsSame (R.bytes rack.old q) (R.bytes rack.new q) }
         ensures falls { MembersFall (R.counts rack.old).faults (R.counts rack.new).faults (members_of self.old) (members_of self.new) }
         ensures other_faults { (q : ℕ) → q / 2 ≢ number_of self.old → (R.counts rack.new).faults q ≡ (R.counts rack.old).faults q }
         ensures uncalled { (q : ℕ) → serves (members_of self.old q) slot ≡ false → (R.counts rack.new).faults q ≡ (R.counts rack.old).faults q }
         ensures counts { CountsRise (R.counts rack.old) (R.counts rack.new) }
+        ensures called { result ≡ PairWrite.Kept → Rose (R.counts rack.old).writes (R.counts rack.new).writes }
         ensures most { (R.counts rack.new).calls ≤ (R.counts rack.old).calls + servers_in (members_of self.old) (number_of self.old) slot }
         ensures most_writes { (R.counts rack.new).writes ≤ (R.counts rack.old).writes + servers_in (members_of self.old) (number_of self.old) slot }
         ensures tells { StillTold (R.bytes rack.old) (R.bytes rack.new) }
         ensures name { R.name rack.new ≡ R.name rack.old }
     {
         let (next, answer) = write_any(mem::replace(self, hollow()), rack, slot, buf);
+        *self = next;
+        answer
+    }
+
+    /// The boundary of members that were made before: each is good where its mark is true, else out.
+    pub fn opened(number: u8, l: u32, slots: u32, good: (bool, bool)) -> Boundary
+        requires { number < 128 }
+        ensures well { IsWell result }
+        ensures number { number_of result ≡ number }
+        ensures size { size_of result ≡ l }
+        ensures slots { slots_of result ≡ slots }
+        ensures own { (q : ℕ) → q / 2 ≢ number → members_of result q ≡ MemberState.Out }
+        ensures first { members_of result (2 * number) ≡ (if good.0 then MemberState.Good else MemberState.Out) }
+        ensures second { members_of result (2 * number + 1) ≡ (if good.1 then MemberState.Good else MemberState.Out) }
+    {
+        let a = Member::new(2 * number, l, slots, Good);
+        let b = Member::new(2 * number + 1, l, slots, Good);
+        match good {
+            (true, true) => Boundary::Both(a, b),
+            (true, false) => Boundary::Half(a, b.fail()),
+            (false, true) => Boundary::Half(b, a.fail()),
+            (false, false) => Boundary::Lost(a.fail(), b.fail()),
+        }
+    }
+
+    /// The member of a side (0 or 1) fails: it is out, and one that was being refilled from it is too.
+    pub fn fail(&mut self, side: u8) -> FailAnswer
+        requires well { IsWell self.old }
+        requires side { side < 2 }
+        ensures well { IsWell self.new }
+        ensures number { number_of self.new ≡ number_of self.old }
+        ensures size { size_of self.new ≡ size_of self.old }
+        ensures slots { slots_of self.new ≡ slots_of self.old }
+        ensures own { (q : ℕ) → q / 2 ≢ number_of self.old → members_of self.new q ≡ MemberState.Out }
+        ensures already { (result ≡ FailAnswer.Already) ↔ (members_of self.old (2 * number_of self.old + side) ≡ MemberState.Out) }
+        ensures out { members_of self.new (2 * number_of self.old + side) ≡ MemberState.Out }
+        ensures others { (q : ℕ) → q ≢ (2 * number_of self.old + side) → members_of self.new q ≡ unfilled (members_of self.old q) }
+        ensures kept { (bytes : ℕ → Option (List ℕ)) (x : ℕ) (v : List ℕ)
+            → SlotHolds (size_of self.old) (members_of self.old) bytes (number_of self.old) x v
+            → SlotHolds (size_of self.old) (members_of self.new) bytes (number_of self.old) x v }
+        ensures room { (bytes : ℕ → Option (List ℕ))
+            → MembersFit (size_of self.old) (slots_of self.old) (members_of self.old) bytes
+            → MembersFit (size_of self.old) (slots_of self.old) (members_of self.new) bytes }
+    {
+        let (next, answer) = fail_any(mem::replace(self, hollow()), side);
+        *self = next;
+        answer
+    }
+
+    /// Makes the member of a side anew, of `size` zero bytes, where it is out and the other serves. It is then refilled
+    /// from slot 0 on.
+    pub fn replace<R: Rack>(&mut self, rack: &mut R, side: u8, size: u64) -> ReplaceAnswer
+        requires well { IsWell self.old }
+        requires side { side < 2 }
+        requires size { 512 + slots_of self.old * size_of self.old ≤ size }
+        requires room { MembersFit (size_of self.old) (slots_of self.old) (members_of self.old) (R.bytes rack.old) }
+        ensures well { IsWell self.new }
+        ensures number { number_of self.new ≡ number_of self.old }
+        ensures size { size_of self.new ≡ size_of self.old }
+        ensures slots { slots_of self.new ≡ slots_of self.old }
+        ensures own { (q : ℕ) → q / 2 ≢ number_of self.old → members_of self.new q ≡ MemberState.Out }
+        ensures lost { (result ≡ ReplaceAnswer.Lost) ↔ (is_lost (members_of self.old) (number_of self.old) ≡ true) }
+        ensures not_out { (result ≡ ReplaceAnswer.NotOut) ↔ (members_of self.old (2 * number_of self.old + side) ≢ MemberState.Out) }
+        ensures failed { result ≡ ReplaceAnswer.Failed → Rose ((R.counts rack.old).faults (2 * number_of self.old + side)) ((R.counts rack.new).faults (2 * number_of self.old + side)) }
+        ensures replaced { result ≡ ReplaceAnswer.Replaced → members_of self.new (2 * number_of self.old + side) ≡ MemberState.Filling 0 }
+        ensures stays { result ≢ ReplaceAnswer.Replaced → (q : ℕ) → members_of self.new q ≡ members_of self.old q }
+        ensures others { (q : ℕ) → q ≢ (2 * number_of self.old + side) → members_of self.new q ≡ members_of self.old q }
+        ensures kept { (x : ℕ) (v : List ℕ)
+            → SlotHolds (size_of self.old) (members_of self.old) (R.bytes rack.old) (number_of self.old) x v
+            → SlotHolds (size_of self.old) (members_of self.new) (R.bytes rack.new) (number_of self.old) x v }
+        ensures room { MembersFit (size_of self.old) (slots_of self.old) (members_of self.new) (R.bytes rack.new) }
+        ensures blank { result ≡ ReplaceAnswer.Replaced → Told (IsZeros size) (R.bytes rack.old (2 * number_of self.old + side)) (R.bytes rack.new (2 * number_of self.old + side)) }
+        ensures other_bytes { OthersSame (2 * number_of self.old + side) (R.bytes rack.old) (R.bytes rack.new) }
+        ensures other_faults { OnlyMember (2 * number_of self.old + side) (R.counts rack.old).faults (R.counts rack.new).faults }
+        ensures called { result ≡ ReplaceAnswer.Replaced → Rose (R.counts rack.old).writes (R.counts rack.new).writes }
+        ensures most { (R.counts rack.new).calls ≤ (R.counts rack.old).calls + 1 }
+        ensures most_writes { (R.counts rack.new).writes ≤ (R.counts rack.old).writes + 1 }
+        ensures quiet { (result ≡ ReplaceAnswer.Lost) ⊎ (result ≡ ReplaceAnswer.NotOut) → rack.new ≡ rack.old }
+        ensures counts { CountsRise (R.counts rack.old) (R.counts rack.new) }
+        ensures tells { StillTold (R.bytes rack.old) (R.bytes rack.new) }
+        ensures name { R.name rack.new ≡ R.name rack.old }
+    {
+        let (next, answer) = replace_any(mem::replace(self, hollow()), rack, side, size);
+        *self = next;
+        answer
+    }
+
+    /// Copies the next slot from the good member to the one that is being refilled, through the buffer.
+    pub fn copy_slot<R: Rack>(&mut self, rack: &mut R, buf: &mut [u8]) -> CopyAnswer
+        requires well { IsWell self.old }
+        requires next { HasNext (members_of self.old) (slots_of self.old) }
+        requires size { length buf.old ≡ size_of self.old }
+        requires room { MembersFit (size_of self.old) (slots_of self.old) (members_of self.old) (R.bytes rack.old) }
+        ensures well { IsWell self.new }
+        ensures number { number_of self.new ≡ number_of self.old }
+        ensures size { size_of self.new ≡ size_of self.old }
+        ensures slots { slots_of self.new ≡ slots_of self.old }
+        ensures own { (q : ℕ) → q / 2 ≢ number_of self.old → members_of self.new q ≡ MemberState.Out }
+        ensures lost { (result ≡ CopyAnswer.Lost) ↔ (is_lost (members_of self.new) (number_of self.old) ≡ true) }
+        ensures copied { result ≡ CopyAnswer.Copied → (q : ℕ) → members_of self.new q ≡ raised (members_of self.old q) }
+        ensures fell { result ≡ CopyAnswer.Fell → (q : ℕ) → members_of self.new q ≡ unfilled (members_of self.old q) }
+        ensures out { result ≡ CopyAnswer.Lost → (q : ℕ) → members_of self.new q ≡ MemberState.Out }
+        ensures good_fell { result ≡ CopyAnswer.Lost → (q : ℕ) → members_of self.old q ≡ MemberState.Good
+            → Rose ((R.counts rack.old).faults q) ((R.counts rack.new).faults q) }
+        ensures filling_fell { result ≡ CopyAnswer.Fell → (q : ℕ) → is_filling (members_of self.old q) ≡ true
+            → Rose ((R.counts rack.old).faults q) ((R.counts rack.new).faults q) }
+        ensures falls { result ≢ CopyAnswer.Copied
+            → MembersFall (R.counts rack.old).faults (R.counts rack.new).faults (members_of self.old) (members_of self.new) }
+        ensures moved { result ≡ CopyAnswer.Copied → (x : ℕ) (v : List ℕ) → IsFilling (members_of self.old) x
+            → ((q : ℕ) → members_of self.old q ≡ MemberState.Good → IsSome (R.bytes rack.new q))
+            → SlotHolds (size_of self.old) (members_of self.old) (R.bytes rack.old) (number_of self.old) x v
+            → SlotHolds (size_of self.old) (members_of self.new) (R.bytes rack.new) (number_of self.old) x v }
+        ensures kept { (x : ℕ) (v : List ℕ) → (result ≡ CopyAnswer.Copied → ¬ IsFilling (members_of self.old) x)
+            → SlotHolds (size_of self.old) (members_of self.old) (R.bytes rack.old) (number_of self.old) x v
+            → SlotHolds (size_of self.old) (members_of self.new) (R.bytes rack.new) (number_of self.old) x v }
+        ensures room { MembersFit (size_of self.old) (slots_of self.old) (members_of self.new) (R.bytes rack.new) }
+        ensures torn { (q x : ℕ) → IsFilling (members_of self.old) x
+            → Told (Torn (place_of (size_of self.old) x) (size_of self.old)) (R.bytes rack.old q) (R.bytes rack.new q) }
+        ensures other_bytes { (q : ℕ) → is_filling (members_of self.old q) ≡ false → Told IsSame (R.bytes rack.old q) (R.bytes rack.new q) }
+        ensures uncalled { (q : ℕ) → members_of self.old q ≡ MemberState.Out → (R.counts rack.new).faults q ≡ (R.counts rack.old).faults q }
+        ensures called { result ≡ CopyAnswer.Copied → Rose (R.counts rack.old).writes (R.counts rack.new).writes }
+        ensures most { (R.counts rack.new).calls ≤ (R.counts rack.old).calls + 2 }
+        ensures most_writes { (R.counts rack.new).writes ≤ (R.counts rack.old).writes + 1 }
+        ensures counts { CountsRise (R.counts rack.old) (R.counts rack.new) }
+        ensures tells { StillTold (R.bytes rack.old) (R.bytes rack.new) }
+        ensures name { R.name rack.new ≡ R.name rack.old }
+    {
+        let (next, answer) = copy_any(mem::replace(self, hollow()), rack, buf);
+        *self = next;
+        answer
+    }
+
+    /// Passes the next slot without a copy. What the member that is being refilled has there is unknown.
+    pub fn pass_slot(&mut self)
+        requires well { IsWell self.old }
+        requires next { HasNext (members_of self.old) (slots_of self.old) }
+        ensures well { IsWell self.new }
+        ensures number { number_of self.new ≡ number_of self.old }
+        ensures size { size_of self.new ≡ size_of self.old }
+        ensures slots { slots_of self.new ≡ slots_of self.old }
+        ensures own { (q : ℕ) → q / 2 ≢ number_of self.old → members_of self.new q ≡ MemberState.Out }
+        ensures raised { (q : ℕ) → members_of self.new q ≡ raised (members_of self.old q) }
+        ensures kept { (bytes : ℕ → Option (List ℕ)) (x : ℕ) (v : List ℕ) → ¬ IsFilling (members_of self.old) x
+            → SlotHolds (size_of self.old) (members_of self.old) bytes (number_of self.old) x v
+            → SlotHolds (size_of self.old) (members_of self.new) bytes (number_of self.old) x v }
+        ensures room { (bytes : ℕ → Option (List ℕ))
+            → MembersFit (size_of self.old) (slots_of self.old) (members_of self.old) bytes
+            → MembersFit (size_of self.old) (slots_of self.old) (members_of self.new) bytes }
+    {
+        *self = pass_any(mem::replace(self, hollow()));
+    }
+
+    /// The member that is being refilled serves, once each slot was copied or passed.
+    pub fn complete(&mut self)
+        requires well { IsWell self.old }
+        requires full { IsFilling (members_of self.old) (slots_of self.old) }
+        ensures well { IsWell self.new }
+        ensures number { number_of self.new ≡ number_of self.old }
+        ensures size { size_of self.new ≡ size_of self.old }
+        ensures slots { slots_of self.new ≡ slots_of self.old }
+        ensures own { (q : ℕ) → q / 2 ≢ number_of self.old → members_of self.new q ≡ MemberState.Out }
+        ensures completed { (q : ℕ) → members_of self.new q ≡ completed (members_of self.old q) }
+        ensures kept { (bytes : ℕ → Option (List ℕ)) (x : ℕ) (v : List ℕ) → x < slots_of self.old
+            → SlotHolds (size_of self.old) (members_of self.old) bytes (number_of self.old) x v
+            → SlotHolds (size_of self.old) (members_of self.new) bytes (number_of self.old) x v }
+        ensures room { (bytes : ℕ → Option (List ℕ))
+            → MembersFit (size_of self.old) (slots_of self.old) (members_of self.old) bytes
+            → MembersFit (size_of self.old) (slots_of self.old) (members_of self.new) bytes }
+    {
+        *self = complete_any(mem::replace(self, hollow()));
+    }
+
+    /// Writes beside the slots of the member of a side: in the 512 bytes before them, or behind them.
+    pub fn note<R: Rack>(&mut self, rack: &mut R, side: u8, place: u64, buf: &[u8]) -> NoteAnswer
+        requires well { IsWell self.old }
+        requires side { side < 2 }
+        requires beside { (place + length buf.now ≤ 512) ⊎ (place_of (size_of self.old) (slots_of self.old) ≤ place) }
+        requires fits { members_of self.old (2 * number_of self.old + side) ≡ MemberState.Good
+            → IfSome (R.bytes rack.old (2 * number_of self.old + side)) (λ all. place + length buf.now ≤ length all) }
+        requires room { MembersFit (size_of self.old) (slots_of self.old) (members_of self.old) (R.bytes rack.old) }
+        ensures well { IsWell self.new }
+        ensures number { number_of self.new ≡ number_of self.old }
+        ensures size { size_of self.new ≡ size_of self.old }
+        ensures slots { slots_of self.new ≡ slots_of self.old }
+        ensures own { (q : ℕ) → q / 2 ≢ number_of self.old → members_of self.new q ≡ MemberState.Out }
+        ensures not_good { (result ≡ NoteAnswer.NotGood) ↔ (members_of self.old (2 * number_of self.old + side) ≢ MemberState.Good) }
+        ensures stays { result ≢ NoteAnswer.Fell → (q : ℕ) → members_of self.new q ≡ members_of self.old q }
+        ensures out { result ≡ NoteAnswer.Fell → members_of self.new (2 * number_of self.old + side) ≡ MemberState.Out }
+        ensures others { result ≡ NoteAnswer.Fell → (q : ℕ) → q ≢ (2 * number_of self.old + side) → members_of self.new q ≡ unfilled (members_of self.old q) }
+        ensures fell { result ≡ NoteAnswer.Fell → Rose ((R.counts rack.old).faults (2 * number_of self.old + side)) ((R.counts rack.new).faults (2 * number_of self.old + side)) }
+        ensures falls { MembersFall (R.counts rack.old).faults (R.counts rack.new).faults (members_of self.old) (members_of self.new) }
+        ensures noted { result ≡ NoteAnswer.Noted → Told (Patched place buf.now) (R.bytes rack.old (2 * number_of self.old + side)) (R.bytes rack.new (2 * number_of self.old + side)) }
+        ensures torn { result ≡ NoteAnswer.Fell → Told (Torn place (length buf.now)) (R.bytes rack.old (2 * number_of self.old + side)) (R.bytes rack.new (2 * number_of self.old + side)) }
+        ensures kept { (x : ℕ) (v : List ℕ) → x < slots_of self.old
+            → SlotHolds (size_of self.old) (members_of self.old) (R.bytes rack.old) (number_of self.old) x v
+            → SlotHolds (size_of self.old) (members_of self.new) (R.bytes rack.new) (number_of self.old) x v }
+        ensures room { MembersFit (size_of self.old) (slots_of self.old) (members_of self.new) (R.bytes rack.new) }
+        ensures other_bytes { OthersSame (2 * number_of self.old + side) (R.bytes rack.old) (R.bytes rack.new) }
+        ensures other_faults { OnlyMember (2 * number_of self.old + side) (R.counts rack.old).faults (R.counts rack.new).faults }
+        ensures called { result ≡ NoteAnswer.Noted → Rose (R.counts rack.old).writes (R.counts rack.new).writes }
+        ensures most { (R.counts rack.new).calls ≤ (R.counts rack.old).calls + 1 }
+        ensures most_writes { (R.counts rack.new).writes ≤ (R.counts rack.old).writes + 1 }
+        ensures quiet { result ≡ NoteAnswer.NotGood → rack.new ≡ rack.old }
+        ensures counts { CountsRise (R.counts rack.old) (R.counts rack.new) }
+        ensures tells { StillTold (R.bytes rack.old) (R.bytes rack.new) }
+        ensures name { R.name rack.new ≡ R.name rack.old }
+    {
+        let (next, answer) = note_any(mem::replace(self, hollow()), rack, side, place, buf);
         *self = next;
         answer
     }

@@ -3,9 +3,13 @@
 #![tactic(auto)]
 
 mod boundaries;
+mod changes;
 mod members;
 mod reads;
+mod refills;
 mod writes;
 
-pub use boundaries::{Boundary, PairRead, PairWrite};
+pub use boundaries::{
+    Boundary, CopyAnswer, FailAnswer, NoteAnswer, PairRead, PairWrite, ReplaceAnswer,
+};
 pub use members::{FillCall, Filling, Good, GoodCall, Member, Out};

@@ -1,11 +1,11 @@
 // One member, and the calls on it.
-ghost use Rattle.std.specs.Prelude.{◌≡◌, ◌+◌, ◌*◌, ◌%◌, ◌≤◌, ◌<◌, ℕ, length, IsErr, OnOk};
+ghost use Rattle.std.specs.Prelude.{◌≡◌, ◌+◌, ◌*◌, ◌%◌, ◌≤◌, ◌<◌, ℕ, length, IfOk, IfErr, IfSome, OnOk};
 ghost use Rattle.dg_model.specs.Members.{HasRoom, SlotOf, place_of};
 ghost use Rattle.dg_model.specs.Causes.{RoseByOne};
 ghost use Rattle.dg_model.specs.States.{CountsRise};
-ghost use Rattle.dg_io.specs.Told.{Told, IsSame, IsZeros, StillTold, OthersSame};
+ghost use Rattle.dg_io.specs.Told.{Told, IsSame, IsZeros, Torn, StillTold, OthersSame};
 ghost use Rattle.dg_io.specs.Faults.{HasCause, OnlyMember};
-ghost use Rattle.dg_pair.specs.Members.{IsMember, GoodIs, FillIs, GotSlot, TookSlot, HasFailed, FillFailed, KeepsSlots, BlankIs};
+ghost use Rattle.dg_pair.specs.Members.{IsMember, GoodIs, FillIs, GotSlot, TookSlot, HasFailed, FillFailed, KeepsSlots, BlankIs, NotedIs};
 
 use dg_io::{Failed, Rack};
 
@@ -56,8 +56,20 @@ pub enum FillCall {
 }
 
 impl<S: Drop> Member<S> {
+    pub(crate) fn new(number: u8, l: u32, slots: u32, state: S) -> Self
+        ensures is { IsMember number l slots result }
+        ensures state { result.state ≡ state }
+    {
+        Member {
+            number,
+            l,
+            slots,
+            state,
+        }
+    }
+
     // The member in another state.
-    fn turned<T>(self, state: T) -> Member<T>
+    pub(crate) fn turned<T>(self, state: T) -> Member<T>
         ensures is { IsMember self.number self.l self.slots result }
         ensures state { result.state ≡ state }
     {
@@ -88,6 +100,7 @@ impl<S: Drop> Member<S> {
         requires slot { slot < self.now.slots }
         requires room { HasRoom self.now.l self.now.slots (R.bytes rack.old self.now.number) }
         ensures put { OnOk result (SlotOf self.now.l slot buf.now (R.bytes rack.new self.now.number)) }
+        ensures torn { (q : ℕ) → Told (Torn (place_of self.now.l slot) (length buf.now)) (R.bytes rack.old q) (R.bytes rack.new q) }
         ensures kept { KeepsSlots self.now.l slot (R.bytes rack.old self.now.number) (R.bytes rack.new self.now.number) }
         ensures room { HasRoom self.now.l self.now.slots (R.bytes rack.new self.now.number) }
         ensures other_bytes { OthersSame self.now.number (R.bytes rack.old) (R.bytes rack.new) }
@@ -106,11 +119,27 @@ impl<S: Drop> Member<S> {
 impl Member<Out> {
     // A member of no boundary.
     pub(crate) fn hollow() -> Self {
-        Member {
-            number: 0,
-            l: 0,
-            slots: 0,
-            state: Out,
+        Member::new(0, 0, 0, Out)
+    }
+
+    /// Makes the member anew, of `size` zero bytes, to be refilled from slot 0 on. It stays out where that fails.
+    pub fn replace<R: Rack>(self, rack: &mut R, size: u64) -> Result<Member<Filling>, Member<Out>>
+        requires { 512 + self.slots * self.l ≤ size }
+        ensures ok { IfOk result (λ m. IsMember self.number self.l self.slots m × (m.state.have ≡ 0)) }
+        ensures err { IfErr result (λ m. IsMember self.number self.l self.slots m) }
+        ensures blank { OnOk result (Told (IsZeros size) (R.bytes rack.old self.number) (R.bytes rack.new self.number)) }
+        ensures other_bytes { OthersSame self.number (R.bytes rack.old) (R.bytes rack.new) }
+        ensures cause { HasCause ((R.counts rack.old).faults self.number) ((R.counts rack.new).faults self.number) result }
+        ensures other_faults { OnlyMember self.number (R.counts rack.old).faults (R.counts rack.new).faults }
+        ensures counts { CountsRise (R.counts rack.old) (R.counts rack.new) }
+        ensures calls { RoseByOne (R.counts rack.old).calls (R.counts rack.new).calls }
+        ensures writes { RoseByOne (R.counts rack.old).writes (R.counts rack.new).writes }
+        ensures tells { StillTold (R.bytes rack.old) (R.bytes rack.new) }
+        ensures name { R.name rack.new ≡ R.name rack.old }
+    {
+        match rack.blank(self.number, size) {
+            Ok(()) => Ok(self.turned(Filling { have: 0 })),
+            Err(_) => Err(self),
         }
     }
 }
@@ -152,6 +181,7 @@ impl Member<Good> {
         requires room { HasRoom self.l self.slots (R.bytes rack.old self.number) }
         ensures is { GoodIs self.number self.l self.slots result }
         ensures put { GotSlot self.l slot buf.now (R.bytes rack.new self.number) result }
+        ensures torn { (q : ℕ) → Told (Torn (place_of self.l slot) (length buf.now)) (R.bytes rack.old q) (R.bytes rack.new q) }
         ensures kept { KeepsSlots self.l slot (R.bytes rack.old self.number) (R.bytes rack.new self.number) }
         ensures room { HasRoom self.l self.slots (R.bytes rack.new self.number) }
         ensures other_bytes { OthersSame self.number (R.bytes rack.old) (R.bytes rack.new) }
@@ -164,6 +194,26 @@ impl Member<Good> {
         ensures name { R.name rack.new ≡ R.name rack.old }
     {
         match self.put(rack, slot, buf) {
+            Ok(()) => GoodCall::Done(self),
+            Err(_) => GoodCall::Fell(self.fail()),
+        }
+    }
+
+    // Writes at any place.
+    pub(crate) fn note<R: Rack>(self, rack: &mut R, place: u64, buf: &[u8]) -> GoodCall
+        requires { IfSome (R.bytes rack.old self.number) (λ all. place + length buf.now ≤ length all) }
+        ensures is { GoodIs self.number self.l self.slots result }
+        ensures bytes { NotedIs place buf.now (R.bytes rack.old self.number) (R.bytes rack.new self.number) result }
+        ensures other_bytes { OthersSame self.number (R.bytes rack.old) (R.bytes rack.new) }
+        ensures cause { HasFailed ((R.counts rack.old).faults self.number) ((R.counts rack.new).faults self.number) result }
+        ensures other_faults { OnlyMember self.number (R.counts rack.old).faults (R.counts rack.new).faults }
+        ensures counts { CountsRise (R.counts rack.old) (R.counts rack.new) }
+        ensures calls { RoseByOne (R.counts rack.old).calls (R.counts rack.new).calls }
+        ensures writes { RoseByOne (R.counts rack.old).writes (R.counts rack.new).writes }
+        ensures tells { StillTold (R.bytes rack.old) (R.bytes rack.new) }
+        ensures name { R.name rack.new ≡ R.name rack.old }
+    {
+        match rack.write(self.number, place, buf) {
             Ok(()) => GoodCall::Done(self),
             Err(_) => GoodCall::Fell(self.fail()),
         }
@@ -189,12 +239,7 @@ impl Member<Good> {
         ensures tells { StillTold (R.bytes rack.old) (R.bytes rack.new) }
         ensures name { R.name rack.new ≡ R.name rack.old }
     {
-        let member = Member {
-            number,
-            l,
-            slots,
-            state: Good,
-        };
+        let member = Member::new(number, l, slots, Good);
         match rack.blank(number, size) {
             Ok(()) => GoodCall::Done(member),
             Err(_) => GoodCall::Fell(member.fail()),
@@ -210,6 +255,23 @@ impl Member<Filling> {
         self.turned(Out)
     }
 
+    // The next slot is as its partner's, or isn't used.
+    pub(crate) fn raised(self) -> Member<Filling>
+        requires { self.state.have < self.slots }
+        ensures is { IsMember self.number self.l self.slots result }
+        ensures have { result.state.have ≡ self.state.have + 1 }
+    {
+        let have = self.state.have + 1;
+        self.turned(Filling { have })
+    }
+
+    // Each slot is as its partner's.
+    pub(crate) fn completed(self) -> Member<Good>
+        ensures { IsMember self.number self.l self.slots result }
+    {
+        self.turned(Good)
+    }
+
     /// Writes a slot. There is no read.
     pub fn write<R: Rack>(self, rack: &mut R, slot: u32, buf: &[u8]) -> FillCall
         requires size { length buf.now ≡ self.l }
@@ -217,6 +279,7 @@ impl Member<Filling> {
         requires room { HasRoom self.l self.slots (R.bytes rack.old self.number) }
         ensures is { FillIs self.number self.l self.slots self.state.have result }
         ensures put { TookSlot self.l slot buf.now (R.bytes rack.new self.number) result }
+        ensures torn { (q : ℕ) → Told (Torn (place_of self.l slot) (length buf.now)) (R.bytes rack.old q) (R.bytes rack.new q) }
         ensures kept { KeepsSlots self.l slot (R.bytes rack.old self.number) (R.bytes rack.new self.number) }
         ensures room { HasRoom self.l self.slots (R.bytes rack.new self.number) }
         ensures other_bytes { OthersSame self.number (R.bytes rack.old) (R.bytes rack.new) }

@@ -38,6 +38,8 @@ fn read_half<R: Rack>(
     ensures counts { CountsRise (R.counts rack.old) (R.counts rack.new) }
     ensures called { result.1 ≡ PairRead.Got → Rose (R.counts rack.old).calls (R.counts rack.new).calls }
     ensures most { (R.counts rack.new).calls ≤ (R.counts rack.old).calls + goods_of (Boundary.Half a b) }
+    ensures fewer { goods_of result.0 ≤ goods_of (Boundary.Half a b) }
+    ensures once { goods_of result.0 ≡ goods_of (Boundary.Half a b) → (R.counts rack.new).calls ≤ (R.counts rack.old).calls + 1 }
     ensures writes { (R.counts rack.new).writes ≡ (R.counts rack.old).writes }
     ensures tells { StillTold (R.bytes rack.old) (R.bytes rack.new) }
     ensures name { R.name rack.new ≡ R.name rack.old }
@@ -74,6 +76,8 @@ fn read_both<R: Rack>(
     ensures counts { CountsRise (R.counts rack.old) (R.counts rack.new) }
     ensures called { result.1 ≡ PairRead.Got → Rose (R.counts rack.old).calls (R.counts rack.new).calls }
     ensures most { (R.counts rack.new).calls ≤ (R.counts rack.old).calls + goods_of (Boundary.Both a b) }
+    ensures fewer { goods_of result.0 ≤ goods_of (Boundary.Both a b) }
+    ensures once { goods_of result.0 ≡ goods_of (Boundary.Both a b) → (R.counts rack.new).calls ≤ (R.counts rack.old).calls + 1 }
     ensures writes { (R.counts rack.new).writes ≡ (R.counts rack.old).writes }
     ensures tells { StillTold (R.bytes rack.old) (R.bytes rack.new) }
     ensures name { R.name rack.new ≡ R.name rack.old }
@@ -110,6 +114,8 @@ fn read_fill<R: Rack>(
     ensures counts { CountsRise (R.counts rack.old) (R.counts rack.new) }
     ensures called { result.1 ≡ PairRead.Got → Rose (R.counts rack.old).calls (R.counts rack.new).calls }
     ensures most { (R.counts rack.new).calls ≤ (R.counts rack.old).calls + goods_of (Boundary.Fill a b) }
+    ensures fewer { goods_of result.0 ≤ goods_of (Boundary.Fill a b) }
+    ensures once { goods_of result.0 ≡ goods_of (Boundary.Fill a b) → (R.counts rack.new).calls ≤ (R.counts rack.old).calls + 1 }
     ensures writes { (R.counts rack.new).writes ≡ (R.counts rack.old).writes }
     ensures tells { StillTold (R.bytes rack.old) (R.bytes rack.new) }
     ensures name { R.name rack.new ≡ R.name rack.old }
@@ -145,6 +151,8 @@ pub fn read_any<R: Rack>(
     ensures counts { CountsRise (R.counts rack.old) (R.counts rack.new) }
     ensures called { result.1 ≡ PairRead.Got → Rose (R.counts rack.old).calls (R.counts rack.new).calls }
     ensures most { (R.counts rack.new).calls ≤ (R.counts rack.old).calls + goods_of boundary }
+    ensures fewer { goods_of result.0 ≤ goods_of boundary }
+    ensures once { goods_of result.0 ≡ goods_of boundary → (R.counts rack.new).calls ≤ (R.counts rack.old).calls + 1 }
     ensures writes { (R.counts rack.new).writes ≡ (R.counts rack.old).writes }
     ensures tells { StillTold (R.bytes rack.old) (R.bytes rack.new) }
     ensures name { R.name rack.new ≡ R.name rack.old }

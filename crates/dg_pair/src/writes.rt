@@ -1,9 +1,9 @@
 // The write of a slot, by the case that a boundary is in.
 ghost use Rattle.std.specs.Prelude.{◌≡◌, ◌≢◌, ◌↔◌, ◌+◌, ◌/◌, ◌≤◌, ◌<◌, ℕ, length, true, false};
 ghost use Rattle.dg_model.specs.Causes.{Rose};
-ghost use Rattle.dg_model.specs.Members.{HasRoom, serves, MembersFall};
+ghost use Rattle.dg_model.specs.Members.{HasRoom, serves, place_of, MembersFall};
 ghost use Rattle.dg_model.specs.States.{CountsRise};
-ghost use Rattle.dg_io.specs.Told.{Told, IsSame, StillTold};
+ghost use Rattle.dg_io.specs.Told.{Told, IsSame, Torn, StillTold};
 ghost use Rattle.dg_pair.specs.Boundaries.{members_of, number_of, size_of, slots_of, IsWell, ArePartners};
 ghost use Rattle.dg_pair.specs.Cases.{HasNone, Fits, ReadsGood, SlotIs, KeepsAll, KeepsOthers, goods_of, servers_of};
 
@@ -32,10 +32,12 @@ fn write_half<R: Rack>(
     ensures put { SlotIs result.0 (size_of (Boundary.Half a b)) slot buf.now (R.bytes rack.new) }
     ensures kept { KeepsOthers (size_of (Boundary.Half a b)) slot (Boundary.Half a b) (R.bytes rack.old) result.0 (R.bytes rack.new) }
     ensures room { Fits result.0 (R.bytes rack.new) }
+    ensures torn { (q : ℕ) → Told (Torn (place_of (size_of (Boundary.Half a b)) slot) (length buf.now)) (R.bytes rack.old q) (R.bytes rack.new q) }
     ensures untaken { (q : ℕ) → serves (members_of (Boundary.Half a b) q) slot ≡ false → Told IsSame (R.bytes rack.old q) (R.bytes rack.new q) }
     ensures falls { MembersFall (R.counts rack.old).faults (R.counts rack.new).faults (members_of (Boundary.Half a b)) (members_of result.0) }
     ensures uncalled { (q : ℕ) → serves (members_of (Boundary.Half a b) q) slot ≡ false → (R.counts rack.new).faults q ≡ (R.counts rack.old).faults q }
     ensures counts { CountsRise (R.counts rack.old) (R.counts rack.new) }
+    ensures called { result.1 ≡ PairWrite.Kept → Rose (R.counts rack.old).writes (R.counts rack.new).writes }
     ensures most { (R.counts rack.new).calls ≤ (R.counts rack.old).calls + servers_of (Boundary.Half a b) slot }
     ensures most_writes { (R.counts rack.new).writes ≤ (R.counts rack.old).writes + servers_of (Boundary.Half a b) slot }
     ensures tells { StillTold (R.bytes rack.old) (R.bytes rack.new) }
@@ -67,10 +69,12 @@ fn write_both<R: Rack>(
     ensures put { SlotIs result.0 (size_of (Boundary.Both a b)) slot buf.now (R.bytes rack.new) }
     ensures kept { KeepsOthers (size_of (Boundary.Both a b)) slot (Boundary.Both a b) (R.bytes rack.old) result.0 (R.bytes rack.new) }
     ensures room { Fits result.0 (R.bytes rack.new) }
+    ensures torn { (q : ℕ) → Told (Torn (place_of (size_of (Boundary.Both a b)) slot) (length buf.now)) (R.bytes rack.old q) (R.bytes rack.new q) }
     ensures untaken { (q : ℕ) → serves (members_of (Boundary.Both a b) q) slot ≡ false → Told IsSame (R.bytes rack.old q) (R.bytes rack.new q) }
     ensures falls { MembersFall (R.counts rack.old).faults (R.counts rack.new).faults (members_of (Boundary.Both a b)) (members_of result.0) }
     ensures uncalled { (q : ℕ) → serves (members_of (Boundary.Both a b) q) slot ≡ false → (R.counts rack.new).faults q ≡ (R.counts rack.old).faults q }
     ensures counts { CountsRise (R.counts rack.old) (R.counts rack.new) }
+    ensures called { result.1 ≡ PairWrite.Kept → Rose (R.counts rack.old).writes (R.counts rack.new).writes }
     ensures most { (R.counts rack.new).calls ≤ (R.counts rack.old).calls + servers_of (Boundary.Both a b) slot }
     ensures most_writes { (R.counts rack.new).writes ≤ (R.counts rack.old).writes + servers_of (Boundary.Both a b) slot }
     ensures tells { StillTold (R.bytes rack.old) (R.bytes rack.new) }
@@ -105,10 +109,12 @@ fn write_fill<R: Rack>(
     ensures put { SlotIs result.0 (size_of (Boundary.Fill a b)) slot buf.now (R.bytes rack.new) }
     ensures kept { KeepsOthers (size_of (Boundary.Fill a b)) slot (Boundary.Fill a b) (R.bytes rack.old) result.0 (R.bytes rack.new) }
     ensures room { Fits result.0 (R.bytes rack.new) }
+    ensures torn { (q : ℕ) → Told (Torn (place_of (size_of (Boundary.Fill a b)) slot) (length buf.now)) (R.bytes rack.old q) (R.bytes rack.new q) }
     ensures untaken { (q : ℕ) → serves (members_of (Boundary.Fill a b) q) slot ≡ false → Told IsSame (R.bytes rack.old q) (R.bytes rack.new q) }
     ensures falls { MembersFall (R.counts rack.old).faults (R.counts rack.new).faults (members_of (Boundary.Fill a b)) (members_of result.0) }
     ensures uncalled { (q : ℕ) → serves (members_of (Boundary.Fill a b) q) slot ≡ false → (R.counts rack.new).faults q ≡ (R.counts rack.old).faults q }
     ensures counts { CountsRise (R.counts rack.old) (R.counts rack.new) }
+    ensures called { result.1 ≡ PairWrite.Kept → Rose (R.counts rack.old).writes (R.counts rack.new).writes }
     ensures most { (R.counts rack.new).calls ≤ (R.counts rack.old).calls + servers_of (Boundary.Fill a b) slot }
     ensures most_writes { (R.counts rack.new).writes ≤ (R.counts rack.old).writes + servers_of (Boundary.Fill a b) slot }
     ensures tells { StillTold (R.bytes rack.old) (R.bytes rack.new) }
@@ -143,10 +149,12 @@ pub fn write_any<R: Rack>(
     ensures put { SlotIs result.0 (size_of boundary) slot buf.now (R.bytes rack.new) }
     ensures kept { KeepsOthers (size_of boundary) slot boundary (R.bytes rack.old) result.0 (R.bytes rack.new) }
     ensures room { Fits result.0 (R.bytes rack.new) }
+    ensures torn { (q : ℕ) → Told (Torn (place_of (size_of boundary) slot) (length buf.now)) (R.bytes rack.old q) (R.bytes rack.new q) }
     ensures untaken { (q : ℕ) → serves (members_of boundary q) slot ≡ false → Told IsSame (R.bytes rack.old q) (R.bytes rack.new q) }
     ensures falls { MembersFall (R.counts rack.old).faults (R.counts rack.new).faults (members_of boundary) (members_of result.0) }
     ensures uncalled { (q : ℕ) → serves (members_of boundary q) slot ≡ false → (R.counts rack.new).faults q ≡ (R.counts rack.old).faults q }
     ensures counts { CountsRise (R.counts rack.old) (R.counts rack.new) }
+    ensures called { result.1 ≡ PairWrite.Kept → Rose (R.counts rack.old).writes (R.counts rack.new).writes }
     ensures most { (R.counts rack.new).calls ≤ (R.counts rack.old).calls + servers_of boundary slot }
     ensures most_writes { (R.counts rack.new).writes ≤ (R.counts rack.old).writes + servers_of boundary slot }
     ensures tells { StillTold (R.bytes rack.old) (R.bytes rack.new) }

@@ -1,5 +1,5 @@
-use Rattle.std.proofs.Common.{◌∙◌}
-use Rattle.dg_pair.proofs.FallLemmas.{falls_after, untaken_after, same_then}
+use Rattle.std.proofs.Common.{◌∙◌, length}
+use Rattle.dg_pair.proofs.FallLemmas.{falls_after, untaken_after, same_then, torn_after}
 use Rattle.dg_pair.proofs.writes.write_both.Goals as goal
 
 pub returns-in-Fell-clause-untaken : goal.returns-in-Fell-clause-untaken
@@ -10,3 +10,6 @@ returns-in-Fell-clause-falls g c = falls_after c.args.a c.args.b c.in-Fell.a c.w
 
 pub returns-in-Fell-clause-uncalled : goal.returns-in-Fell-clause-uncalled
 returns-in-Fell-clause-uncalled g c = λ q other. untaken_after c.args.a c.args.b c.in-Fell.a q c.args.slot _ (λ off not_a. c.write_half.ensures.uncalled q off ∙ c.in-Fell.ensures.other_faults q not_a) other
+
+pub returns-in-Fell-clause-torn : goal.returns-in-Fell-clause-torn
+returns-in-Fell-clause-torn g c = torn_after c.args.a c.args.b c.args.slot (length c.args.buf.now) _ _ _ c.requires.well.sizes c.in-Fell.ensures.torn c.write_half.ensures.torn
