@@ -72,10 +72,20 @@ fn take_from(sites: &mut Vec<Site>, boundary: u8) -> u32
     ensures slot { Contains sites.old.items (record { boundary = boundary; slot = result }) }
     ensures items { sites.new.items ≡ sites_off boundary sites.old.items }
 {
-    let Some(at) = sites.iter().position(|site| site.boundary == boundary) else {
-        unreachable!();
-    };
-    let slot = sites[at].slot;
+    let slot = slot_on(sites, boundary);
     sites.retain(|site| site.boundary != boundary);
     slot
+}
+
+/// The slot of the site on the boundary.
+fn slot_on(sites: &[Site], boundary: u8) -> u32
+    requires { 0 < count_on boundary sites.now }
+    ensures { Contains sites.now (record { boundary = boundary; slot = result }) }
+{
+    for site in sites {
+        if site.boundary == boundary {
+            return site.slot;
+        }
+    }
+    unreachable!()
 }
