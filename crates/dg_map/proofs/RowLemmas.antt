@@ -84,3 +84,20 @@ off-Contains s (y ∷ ys) x (zero, lt, at) ne =
     Contains-head y (sites_off s ys) x (y.boundary == s) (apart_test y.boundary s (λ e. ne (ap (λ (z : Site). z.boundary) (sym at) ∙ e))) at
 off-Contains s (y ∷ ys) x (suc i, lt, at) ne =
     Contains-more y (sites_off s ys) x (not (y.boundary == s)) (off-Contains s ys x (i, omega (arith, lt), at) ne)
+
+one_on_head : (s : ℕ) (y : Site) (ys : List Site) (x : Site) → count_on s (y ∷ ys) ≤ 1 → y.boundary ≡ s → Contains ys x → x.boundary ≡ s → ⊥
+one_on_head s y ys x few e there f = absurd (omega (arith, count_on-cons s y ys, one_if (y.boundary == s) (same_test y.boundary s e), count_pos s ys x there f))
+
+Contains-tail : (y : Site) (ys : List Site) (x : Site) (i : ℕ) → suc i < length (y ∷ ys) → get_or ys i x ≡ x → Contains ys x
+Contains-tail y ys x i lt at = (i, omega (arith, lt), at)
+
+-- where at most one of the sites is on a boundary, two of them there are one
+pub one_on : (s : ℕ) (xs : List Site) (x y : Site) → count_on s xs ≤ 1 → Contains xs x → Contains xs y → x.boundary ≡ s → y.boundary ≡ s → x ≡ y
+one_on s [] x y few (i, lt, at) g e f = absurd (omega (arith, lt))
+one_on s (z ∷ zs) x y few (zero, lt, at) (zero, lu, au) e f = sym at ∙ au
+one_on s (z ∷ zs) x y few (zero, lt, at) (suc j, lu, au) e f =
+    absurd (one_on_head s z zs y few (ap (λ (w : Site). w.boundary) at ∙ e) (Contains-tail z zs y j lu au) f)
+one_on s (z ∷ zs) x y few (suc i, lt, at) (zero, lu, au) e f =
+    absurd (one_on_head s z zs x few (ap (λ (w : Site). w.boundary) au ∙ f) (Contains-tail z zs x i lt at) e)
+one_on s (z ∷ zs) x y few (suc i, lt, at) (suc j, lu, au) e f =
+    one_on s zs x y (omega (arith, count_on-cons s z zs)) (Contains-tail z zs x i lt at) (Contains-tail z zs y j lu au) e f
