@@ -1,9 +1,9 @@
 -- What the tables of a map stand for, once a list of sites and the slots of a boundary have changed.
-use Rattle.std.proofs.Common.{◌≡◌, ◌⊎◌, ◌<◌, ◌≤◌, ◌+◌, ◌==◌, ◌≢◌, ℕ, Bool, true, false, cond, List, [], ◌∷◌, ◌++◌, length, get_or, set, map, Option, Some, None, Result, Ok, Err, IsSome, refl, sym, ◌∙◌, ap, subst, inl, inr, ⊎_elim, arith}
+use Rattle.std.proofs.Common.{◌≡◌, ◌⊎◌, ◌<◌, ◌≤◌, ◌+◌, ◌==◌, ◌≢◌, ℕ, Bool, true, false, cond, List, [], ◌∷◌, ◌++◌, length, get_or, set, map, Option, Some, None, Result, Ok, Err, IsSome, MatchOption, MatchResult, IfOk, OnErr, OnOk, refl, sym, ◌∙◌, ap, subst, inl, inr, ⊎_elim, arith}
 use Rattle.std.specs.Global.{Vec}
 use Rattle.std.specs.BTreeMap.{BTreeMap}
 use Rattle.std.specs.List.{range_with_len}
-use Rattle.std.proofs.lemmas.Bool.{cases_eq}
+use Rattle.std.proofs.lemmas.Bool.{cases_eq, false≢true}
 use Rattle.std.proofs.lemmas.List.{get_or-set_same, get_or-set_other, length-set}
 use Rattle.std.proofs.lemmas.List.FromFn.{fill_by_all, get_or-map-range_with_len, length-map-range_with_len}
 use Rattle.std.specs.List.{Contains}
@@ -108,3 +108,93 @@ module _ (old : Inside) (ok : IsMap old) where
         (λ t d inside ne. agrees_without_apart (table_of old) b long s t (get_or old.boundaries.items t d) ne (ok.each t d inside)),
         e
       )
+
+  some_is : (o : Option ℕ) → IsSome o → (b : ℕ) × (o ≡ Some b)
+  some_is None h = absurd (false≢true h)
+  some_is (Some b) h = (b, refl)
+
+  none_is : (o : Option ℕ) → ((b : ℕ) → o ≡ Some b → ⊥) → o ≡ None
+  none_is None h = refl
+  none_is (Some b) h = absurd (h b refl)
+
+  lowest_free : (s slot : ℕ) (at : Slots) → s < old.shape.b → at ≡ get_or old.boundaries.items s at → block_in at slot ≡ None → ((k : ℕ) → k < slot → IsSome (block_in at k)) → IsLowestFree (table_of old) s slot
+  lowest_free s slot at lt is none lower =
+      let agrees : Agrees (table_of old) s at = slots_at s at lt is in
+      record {
+        free = free_slot (table_of old) s at slot agrees none;
+        lower = λ k below. let found : (b : ℕ) × (block_in at k ≡ Some b) = some_is (block_in at k) (lower k below) in (found.0, agrees.held k found.0 found.1);
+      }
+
+  -- what `take_lowest` leaves, of the table that the map stood for
+  pub taken_lowest : {E : Type 0} (table : Table) → table_of old ≡ table → (lists : SiteLists) (at slots : Slots) (b s : ℕ) (r : Result Site E) → b < table.shape.n → s < table.shape.b → count_on s (sites_in table b) ≡ 0 → at ≡ get_or old.boundaries.items s at → MatchResult r (λ site. Puts at slots site.slot b) (λ _. Keeps at slots) → MatchResult r (λ site. Appends old.lists.rows lists.rows b site) (λ _. SameRows old.lists.rows lists.rows) → IfOk r (λ site. (site.boundary ≡ s) × ((k : ℕ) → k < site.slot → IsSome (block_in at k))) → IsMap (with_slots old lists s slots) × IfOk r (λ site. (site.boundary ≡ s) × IsLowestFree table s site.slot × (table_of (with_slots old lists s slots) ≡ put_site table b site)) × OnErr r (table_of (with_slots old lists s slots) ≡ table)
+  taken_lowest {E} table e lists at slots b s r =
+      subst
+      (λ t. b < t.shape.n → s < t.shape.b → count_on s (sites_in t b) ≡ 0 → at ≡ get_or old.boundaries.items s at → MatchResult r (λ site. Puts at slots site.slot b) (λ _. Keeps at slots) → MatchResult r (λ site. Appends old.lists.rows lists.rows b site) (λ _. SameRows old.lists.rows lists.rows) → IfOk r (λ site. (site.boundary ≡ s) × ((k : ℕ) → k < site.slot → IsSome (block_in at k))) → IsMap (with_slots old lists s slots) × IfOk r (λ site. (site.boundary ≡ s) × IsLowestFree t s site.slot × (table_of (with_slots old lists s slots) ≡ put_site t b site)) × OnErr r (table_of (with_slots old lists s slots) ≡ t))
+      e
+      (cases r)
+    where
+    cases : (r : Result Site E) → b < old.shape.n → s < old.shape.b → count_on s (sites_in (table_of old) b) ≡ 0 → at ≡ get_or old.boundaries.items s at → MatchResult r (λ site. Puts at slots site.slot b) (λ _. Keeps at slots) → MatchResult r (λ site. Appends old.lists.rows lists.rows b site) (λ _. SameRows old.lists.rows lists.rows) → IfOk r (λ site. (site.boundary ≡ s) × ((k : ℕ) → k < site.slot → IsSome (block_in at k))) → IsMap (with_slots old lists s slots) × IfOk r (λ site. (site.boundary ≡ s) × IsLowestFree (table_of old) s site.slot × (table_of (with_slots old lists s slots) ≡ put_site (table_of old) b site)) × OnErr r (table_of (with_slots old lists s slots) ≡ table_of old)
+    cases (Ok site) within lt none is puts appends lowest =
+        let done : IsMap (with_slots old lists s slots) × (table_of (with_slots old lists s slots) ≡ put_site (table_of old) b site) =
+            subst
+            (λ t. t < old.shape.b → count_on t (sites_in (table_of old) b) ≡ 0 → at ≡ get_or old.boundaries.items t at → IsMap (with_slots old lists t slots) × (table_of (with_slots old lists t slots) ≡ put_site (table_of old) b site))
+            lowest.0
+            (λ inside off here. map_put lists at slots b site within inside off here puts appends)
+            lt none is in
+        (done.0, (lowest.0, lowest_free s site.slot at lt is puts.free lowest.1, done.1), tt)
+    cases (Err x) within lt none is keeps same lowest =
+        let done : IsMap (with_slots old lists s slots) × (table_of (with_slots old lists s slots) ≡ table_of old) = map_kept lists s at slots lt is keeps same in
+        (done.0, tt, done.1)
+
+  -- a free slot has no block
+  pub slot_none : (table : Table) → table_of old ≡ table → (s slot : ℕ) (at : Slots) → s < table.shape.b → at ≡ get_or old.boundaries.items s at → IsFree table s slot → block_in at slot ≡ None
+  slot_none table e s slot at =
+      subst
+      (λ t. s < t.shape.b → at ≡ get_or old.boundaries.items s at → IsFree t s slot → block_in at slot ≡ None)
+      e
+      (λ lt is free. none_is (block_in at slot) (λ b some. free b ((slots_at s at lt is).held slot b some)))
+
+  -- what `retake` leaves
+  pub taken_at : {A E : Type 0} (table : Table) → table_of old ≡ table → (lists : SiteLists) (at slots : Slots) (b : ℕ) (site : Site) (r : Result A E) → b < table.shape.n → site.boundary < table.shape.b → count_on site.boundary (sites_in table b) ≡ 0 → at ≡ get_or old.boundaries.items site.boundary at → MatchResult r (λ _. Puts at slots site.slot b) (λ _. Keeps at slots) → MatchResult r (λ _. Appends old.lists.rows lists.rows b site) (λ _. SameRows old.lists.rows lists.rows) → IsMap (with_slots old lists site.boundary slots) × OnOk r (table_of (with_slots old lists site.boundary slots) ≡ put_site table b site) × OnErr r (table_of (with_slots old lists site.boundary slots) ≡ table)
+  taken_at {A} {E} table e lists at slots b site r =
+      subst
+      (λ t. b < t.shape.n → site.boundary < t.shape.b → count_on site.boundary (sites_in t b) ≡ 0 → at ≡ get_or old.boundaries.items site.boundary at → MatchResult r (λ _. Puts at slots site.slot b) (λ _. Keeps at slots) → MatchResult r (λ _. Appends old.lists.rows lists.rows b site) (λ _. SameRows old.lists.rows lists.rows) → IsMap (with_slots old lists site.boundary slots) × OnOk r (table_of (with_slots old lists site.boundary slots) ≡ put_site t b site) × OnErr r (table_of (with_slots old lists site.boundary slots) ≡ t))
+      e
+      (cases r)
+    where
+    cases : (r : Result A E) → b < old.shape.n → site.boundary < old.shape.b → count_on site.boundary (sites_in (table_of old) b) ≡ 0 → at ≡ get_or old.boundaries.items site.boundary at → MatchResult r (λ _. Puts at slots site.slot b) (λ _. Keeps at slots) → MatchResult r (λ _. Appends old.lists.rows lists.rows b site) (λ _. SameRows old.lists.rows lists.rows) → IsMap (with_slots old lists site.boundary slots) × OnOk r (table_of (with_slots old lists site.boundary slots) ≡ put_site (table_of old) b site) × OnErr r (table_of (with_slots old lists site.boundary slots) ≡ table_of old)
+    cases (Ok x) within lt none is puts appends =
+        let done : IsMap (with_slots old lists site.boundary slots) × (table_of (with_slots old lists site.boundary slots) ≡ put_site (table_of old) b site) = map_put lists at slots b site within lt none is puts appends in
+        (done.0, done.1, tt)
+    cases (Err x) within lt none is keeps same =
+        let done : IsMap (with_slots old lists site.boundary slots) × (table_of (with_slots old lists site.boundary slots) ≡ table_of old) = map_kept lists site.boundary at slots lt is keeps same in
+        (done.0, tt, done.1)
+
+  -- what `drop_site` leaves
+  pub dropped_at : (table : Table) → table_of old ≡ table → (lists : SiteLists) (at slots : Slots) (b s slot : ℕ) → b < table.shape.n → s < table.shape.b → 0 < count_on s (sites_in table b) → at ≡ get_or old.boundaries.items s at → Contains (row_of old.lists.rows b) (site_at s slot) → GivesUp at slots slot → SetsRow old.lists.rows lists.rows b (sites_off s (row_of old.lists.rows b)) → IsMap (with_slots old lists s slots) × (table_of (with_slots old lists s slots) ≡ without_site table b s)
+  dropped_at table e lists at slots b s slot =
+      subst
+      (λ t. b < t.shape.n → s < t.shape.b → 0 < count_on s (sites_in t b) → at ≡ get_or old.boundaries.items s at → Contains (row_of old.lists.rows b) (site_at s slot) → GivesUp at slots slot → SetsRow old.lists.rows lists.rows b (sites_off s (row_of old.lists.rows b)) → IsMap (with_slots old lists s slots) × (table_of (with_slots old lists s slots) ≡ without_site t b s))
+      e
+      (map_without lists at slots b s slot)
+
+  -- the slot of a block's site has a block
+  pub slot_some : (s slot b : ℕ) (at : Slots) → b < old.shape.n → s < old.shape.b → at ≡ get_or old.boundaries.items s at → Contains (row_of old.lists.rows b) (site_at s slot) → block_in at slot ≡ Some b
+  slot_some s slot b at within lt is stood =
+      (slots_at s at lt is).found slot b (subst (λ row. Contains row (site_at s slot)) (sym (row_at old.lists.rows old.shape.n b within)) stood)
+
+  -- the sites of a block, of the table that the map stands for
+  pub row_in : (table : Table) → table_of old ≡ table → (b : ℕ) → b < table.shape.n → row_of old.lists.rows b ≡ sites_in table b
+  row_in table e b = subst (λ t. b < t.shape.n → row_of old.lists.rows b ≡ sites_in t b) e (λ within. sym (row_at old.lists.rows old.shape.n b within))
+
+  -- the block in a slot, and none past the boundaries
+  pub block_of : (table : Table) → table_of old ≡ table → (s slot : ℕ) (at : Slots) (r : Option ℕ) → s < old.shape.b → at ≡ get_or old.boundaries.items s at → r ≡ block_in at slot → MatchOption r (IsFree table s slot) (λ b. StandsIn table b s slot)
+  block_of table e s slot at r lt is found =
+      subst (λ t. MatchOption r (IsFree t s slot) (λ b. StandsIn t b s slot)) e (cases r found)
+    where
+    cases : (r : Option ℕ) → r ≡ block_in at slot → MatchOption r (IsFree (table_of old) s slot) (λ b. StandsIn (table_of old) b s slot)
+    cases None h = free_slot (table_of old) s at slot (slots_at s at lt is) (sym h)
+    cases (Some b) h = (slots_at s at lt is).held slot b (sym h)
+
+  pub none_past : (table : Table) → table_of old ≡ table → (s slot : ℕ) → old.shape.b ≤ s → IsFree table s slot
+  none_past table e s slot past = subst (λ t. IsFree t s slot) e (λ b h. absurd (omega (arith, ok.table.boundaries b s slot h)))

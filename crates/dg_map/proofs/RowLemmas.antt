@@ -3,7 +3,8 @@ use Rattle.std.proofs.Common.{◌≡◌, ◌⊎◌, ◌<◌, ◌≤◌, ◌+◌,
 use Rattle.std.specs.List.{All, Contains, count_by, filter, sum_by}
 use Rattle.std.proofs.lemmas.Bool.{false≢true}
 use Rattle.std.proofs.lemmas.Bool.Decides.{nat_tests}
-use Rattle.std.proofs.lemmas.List.Elements.{All-contains, All-contains_itself, All-filter, filter_passes, Contains-append_right}
+use Rattle.std.proofs.lemmas.List.Elements.{All-contains, All-contains_itself, All-filter, filter-append, filter_passes, Contains-append_right}
+use Rattle.std.proofs.lemmas.List.{append-nil}
 use Rattle.std.proofs.lemmas.List.Sums.{get_or-le-sum_by, sum_by-cons, sum_by_push}
 use Rattle.dg_model.specs.declared.sites.Site.{Site}
 use Rattle.dg_map.specs.Rows.{sites_off}
@@ -101,3 +102,27 @@ one_on s (z ∷ zs) x y few (suc i, lt, at) (zero, lu, au) e f =
     absurd (one_on_head s z zs x few (ap (λ (w : Site). w.boundary) au ∙ f) (Contains-tail z zs x i lt at) e)
 one_on s (z ∷ zs) x y few (suc i, lt, at) (suc j, lu, au) e f =
     one_on s zs x y (omega (arith, count_on-cons s z zs)) (Contains-tail z zs x i lt at) (Contains-tail z zs y j lu au) e f
+
+none_off_step : (b : Bool) (y : Site) (ys zs : List Site) → b ≡ false → zs ≡ ys → cond (not b) (y ∷ zs) zs ≡ y ∷ ys
+none_off_step true y ys zs e h = absurd (false≢true (sym e))
+none_off_step false y ys zs e h = ap (λ xs. y ∷ xs) h
+
+-- where none of the sites is on boundary s, all stay
+pub none_off : (s : ℕ) (xs : List Site) → count_on s xs ≡ 0 → sites_off s xs ≡ xs
+none_off s [] none = refl
+none_off s (y ∷ ys) none =
+    none_off_step (y.boundary == s) y ys (sites_off s ys)
+    (apart_test y.boundary s (λ e. absurd (omega (arith, count_on-cons s y ys, one_if (y.boundary == s) (same_test y.boundary s e)))))
+    (none_off s ys (omega (arith, count_on-cons s y ys)))
+
+last_off : (b : Bool) (x : Site) → b ≡ true → cond (not b) (x ∷ []) [] ≡ []
+last_off true x e = refl
+last_off false x e = absurd (false≢true e)
+
+-- where the last site is the only one on its boundary, the others stay
+pub off_last : (xs : List Site) (x : Site) → count_on x.boundary (xs ++ x ∷ []) ≤ 1 → sites_off x.boundary (xs ++ x ∷ []) ≡ xs
+off_last xs x few =
+    filter-append (λ (y : Site). not (y.boundary == x.boundary)) xs (x ∷ [])
+    ∙ ap (λ ys. sites_off x.boundary xs ++ ys) (last_off (x.boundary == x.boundary) x (same_test x.boundary x.boundary refl))
+    ∙ append-nil (sites_off x.boundary xs)
+    ∙ none_off x.boundary xs (omega (arith, count_on-push x.boundary xs x, one_if (x.boundary == x.boundary) (same_test x.boundary x.boundary refl)))

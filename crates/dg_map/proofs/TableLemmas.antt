@@ -1,14 +1,14 @@
 -- What a table says once a site joins a block's list, or once a block leaves a boundary.
-use Rattle.std.proofs.Common.{◌≡◌, ◌⊎◌, ◌<◌, ◌≤◌, ◌+◌, ◌==◌, ◌≢◌, ℕ, suc, zero, Bool, true, false, cond, not, eqb, List, [], ◌∷◌, ◌++◌, length, get_or, set, refl, sym, ◌∙◌, ap, subst, inl, inr, ⊎_elim, arith}
+use Rattle.std.proofs.Common.{◌≡◌, ◌⊎◌, ◌<◌, ◌≤◌, ◌+◌, ◌==◌, ◌≢◌, ℕ, suc, zero, Bool, true, false, cond, not, eqb, List, [], ◌∷◌, ◌++◌, length, get_or, set, Result, Ok, Err, OnOk, refl, sym, ◌∙◌, ap, subst, inl, inr, ⊎_elim, arith}
 use Rattle.std.specs.List.{Contains, count_by, sum_by}
 use Rattle.std.proofs.lemmas.Bool.{cases_eq}
-use Rattle.std.proofs.lemmas.List.{get_or-set_same, get_or-set_other, length-set}
+use Rattle.std.proofs.lemmas.List.{get_or-set_same, get_or-set_other, length-set, set-get_or, set-set}
 use Rattle.std.proofs.lemmas.List.Elements.{Contains-append_left, Contains-push, Contains-push_cases}
 use Rattle.std.proofs.lemmas.List.Sums.{sum_by-set}
 use Rattle.dg_model.specs.declared.sites.Site.{Site}
 use Rattle.dg_map.specs.Rows.{sites_off}
 use Rattle.dg_map.specs.Tables.{IsFree, IsTable, StandsIn, Table, count_on, put_site, sites_in, used_in, without_site}
-use Rattle.dg_map.proofs.RowLemmas.{apart_test, count_off_other, count_off_same, count_on-push, none_on, off-Contains, one_if, same_test, zero_if, Contains-off, Contains-off_apart}
+use Rattle.dg_map.proofs.RowLemmas.{apart_test, count_off_other, count_off_same, count_on-push, none_on, off-Contains, off_last, one_if, same_test, zero_if, Contains-off, Contains-off_apart}
 
 -- the site that a boundary and a slot name
 abbrev pub site_at : ℕ → ℕ → Site
@@ -123,3 +123,27 @@ module _ (table : Table) (b s : ℕ) (within : b < length table.rows) where
         (λ e. omega (arith, subst (λ u. count_on u (sites_off s (sites_in table b)) ≡ 0) e (count_off_same s (sites_in table b))))
         (λ ne. omega (arith, count_off_other s t (sites_in table b) ne, ok.one_site b t))
         (cases_eq s t)
+
+-- the last site of a block, given up and taken again
+pub put-without : (table : Table) (b : ℕ) (others : List Site) (site : Site) → IsTable table → b < length table.rows → sites_in table b ≡ others ++ site ∷ [] → put_site (without_site table b site.boundary) b site ≡ table
+put-without table b others site ok within last =
+    ap (λ rows. record { shape = table.shape; rows = rows })
+    (set-set table.rows b (sites_off site.boundary (sites_in table b)) (sites_in (without_site table b site.boundary) b ++ site ∷ [])
+      ∙ ap (λ row. set table.rows b row) (ap (λ row. row ++ site ∷ []) others_stay ∙ sym last)
+      ∙ set-get_or table.rows b [])
+  where
+  others_stay : sites_in (without_site table b site.boundary) b ≡ others
+  others_stay =
+      sites_without_here table b site.boundary within
+      ∙ ap (sites_off site.boundary) last
+      ∙ off_last others site (subst (λ xs. count_on site.boundary xs ≤ 1) last (ok.one_site b site.boundary))
+
+-- a table that a site joins after its block gave it up is the one before
+pub undone : (table new : Table) (b : ℕ) (site : Site) → b < table.shape.n → new ≡ put_site table b site → (before : Table) (others : List Site) → IsTable before → sites_in before b ≡ others ++ site ∷ [] → table ≡ without_site before b site.boundary → new ≡ before
+undone table new b site within is before others ok last was =
+    let size : table.shape.n ≡ before.shape.n = ap (λ (t : Table). t.shape.n) was in
+    is ∙ ap (λ t. put_site t b site) was ∙ put-without before b others site ok (omega (arith, ok.size)) last
+
+pub undone_at : {A E : Type 0} (r : Result A E) (table new : Table) (b : ℕ) (site : Site) → b < table.shape.n → OnOk r (new ≡ put_site table b site) → OnOk r ((before : Table) (others : List Site) → IsTable before → sites_in before b ≡ others ++ site ∷ [] → table ≡ without_site before b site.boundary → new ≡ before)
+undone_at (Ok x) table new b site within is = undone table new b site within is
+undone_at (Err x) table new b site within is = tt
