@@ -178,10 +178,13 @@ module _ (old : Inside) (ok : IsMap old) where
       e
       (map_without lists at slots b s slot)
 
-  -- the slot of a block's site has a block
-  pub slot_some : (s slot b : ℕ) (at : Slots) → b < old.shape.n → s < old.shape.b → at ≡ get_or old.boundaries.items s at → Contains (row_of old.lists.rows b) (site_at s slot) → block_in at slot ≡ Some b
-  slot_some s slot b at within lt is stood =
-      (slots_at s at lt is).found slot b (subst (λ row. Contains row (site_at s slot)) (sym (row_at old.lists.rows old.shape.n b within)) stood)
+  -- the slot of a block's site is used
+  pub slot_used : (table : Table) → table_of old ≡ table → (s slot b : ℕ) (at : Slots) → b < table.shape.n → s < table.shape.b → at ≡ get_or old.boundaries.items s at → Contains (row_of old.lists.rows b) (site_at s slot) → IsSome (block_in at slot)
+  slot_used table e s slot b at =
+      subst
+      (λ t. b < t.shape.n → s < t.shape.b → at ≡ get_or old.boundaries.items s at → Contains (row_of old.lists.rows b) (site_at s slot) → IsSome (block_in at slot))
+      e
+      (λ within lt is stood. subst IsSome (sym ((slots_at s at lt is).found slot b (subst (λ row. Contains row (site_at s slot)) (sym (row_at old.lists.rows old.shape.n b within)) stood))) refl)
 
   -- the sites of a block, of the table that the map stands for
   pub row_in : (table : Table) → table_of old ≡ table → (b : ℕ) → b < table.shape.n → row_of old.lists.rows b ≡ sites_in table b
@@ -198,3 +201,7 @@ module _ (old : Inside) (ok : IsMap old) where
 
   pub none_past : (table : Table) → table_of old ≡ table → (s slot : ℕ) → old.shape.b ≤ s → IsFree table s slot
   none_past table e s slot past = subst (λ t. IsFree t s slot) e (λ b h. absurd (omega (arith, ok.table.boundaries b s slot h)))
+
+  -- the sites of a block of the tables, on a boundary where it has one in the table that they stand for
+  pub count_in : (table : Table) → table_of old ≡ table → (b s : ℕ) → b < table.shape.n → 0 < count_on s (sites_in table b) → 0 < count_on s (row_of old.lists.rows b)
+  count_in table e b s within some = subst (λ row. 0 < count_on s row) (sym (row_in table e b within)) some

@@ -1,4 +1,5 @@
-ghost use Rattle.std.specs.Prelude.{◌≡◌, ◌+◌, ◌-◌, ◌^◌, ◌++◌, ◌<◌, ◌≤◌, ℕ, List, [], ◌∷◌, length, slice_index_or, IsSome, IfOk, OnErr, OnOk, MatchOption, MatchResult};
+ghost use Rattle.std.specs.Prelude.{◌≡◌, ◌+◌, ◌-◌, ◌^◌, ◌++◌, ◌<◌, ◌≤◌, ℕ, List, [], ◌∷◌, length, IsSome, IfOk, OnErr, OnOk, MatchOption, MatchResult};
+ghost use Rattle.std.specs.List.{All};
 ghost use Rattle.dg_model.specs.Shapes.{IsShape};
 ghost use Rattle.dg_map.specs.Rows.{Appends, SameRows};
 ghost use Rattle.dg_map.specs.Slots.{IsSlots, IsUnused, Keeps, Puts, block_in, used_count};
@@ -68,8 +69,10 @@ impl Map {
         ensures block { MatchOption result (IsFree self.now site.boundary site.slot) (λ b. StandsIn self.now b site.boundary site.slot) }
         ensures table { IsTable self.now }
     {
-        let slots = self.boundaries.get(site.boundary as usize)?;
-        slots.block_at(site.slot)
+        if site.boundary >= self.shape.b {
+            return None;
+        }
+        self.boundaries[site.boundary as usize].block_at(site.slot)
     }
 
     /// How many slots of the boundary are used.
@@ -176,7 +179,7 @@ impl Map {
 fn free_boundaries(alloc: Global, count: u8, most: u32) -> Result<Vec<Slots>, NoMemory>
     requires { most ≤ 2 ^ 20 + 1 }
     ensures count { IfOk result (λ boundaries. length boundaries.items ≡ count) }
-    ensures unused { IfOk result (λ boundaries. (s : ℕ) (d : Slots) → s < count → IsUnused most (slice_index_or boundaries.items s d)) }
+    ensures unused { IfOk result (λ boundaries. All (IsUnused most) boundaries.items) }
 {
     let mut boundaries = Vec::new(alloc);
     for _ in 0..count {
