@@ -1,22 +1,24 @@
 -- What the tables of a map stand for, once a list of sites and the slots of a boundary have changed.
-use Rattle.std.proofs.Common.{◌≡◌, ◌⊎◌, ◌<◌, ◌≤◌, ◌+◌, ◌==◌, ◌≢◌, ℕ, Bool, true, false, cond, List, [], ◌∷◌, ◌++◌, length, get_or, set, map, Option, Some, None, Result, Ok, Err, IsSome, MatchOption, MatchResult, IfOk, OnErr, OnOk, refl, sym, ◌∙◌, ap, subst, inl, inr, ⊎_elim, arith}
+use Rattle.std.proofs.Common.{◌≡◌, ◌<◌, ◌≤◌, ◌+◌, ◌≢◌, ℕ, cond, List, [], ◌∷◌, ◌++◌, length, get_or, set, map, replicate, Option, Some, None, Result, Ok, Err, IsSome, MatchOption, MatchResult, IfOk, OnErr, OnOk, refl, sym, ◌∙◌, ap, subst, ⊎_elim, arith}
 use Rattle.std.specs.Global.{Vec}
 use Rattle.std.specs.BTreeMap.{BTreeMap}
 use Rattle.std.specs.List.{range_with_len}
 use Rattle.std.proofs.lemmas.Bool.{cases_eq, false≢true}
-use Rattle.std.proofs.lemmas.List.{get_or-set_same, get_or-set_other, length-set}
+use Rattle.std.proofs.lemmas.List.{get_or-replicate, get_or-set_same, get_or-set_other, length-replicate, length-set}
 use Rattle.std.proofs.lemmas.List.FromFn.{fill_by_all, get_or-map-range_with_len, length-map-range_with_len}
-use Rattle.std.specs.List.{Contains}
+use Rattle.std.specs.List.{All, Contains}
 use Rattle.std.specs.Vec.{with_item}
 use Rattle.dg_model.specs.declared.sites.Site.{Site}
+use Rattle.dg_model.specs.declared.shapes.Shape.{Shape}
+use Rattle.dg_model.specs.Shapes.{IsShape}
 use Rattle.dg_map.specs.declared.boundary_slots.Slots.{Slots}
 use Rattle.dg_map.specs.declared.maps.Map.TheInside.{Inside}
 use Rattle.dg_map.specs.declared.site_lists.SiteLists.{SiteLists}
 use Rattle.dg_map.specs.Maps.{Agrees, IsMap, table_of}
-use Rattle.dg_map.specs.Slots.{GivesUp, Keeps, Puts, block_in}
-use Rattle.dg_map.specs.Tables.{IsFree, IsLowestFree, IsTable, IsTaken, StandsIn, Table, count_on, put_site, sites_in, without_site}
-use Rattle.dg_map.proofs.AgreeLemmas.{agrees_kept, agrees_put, agrees_put_apart, agrees_without, agrees_without_apart, free_slot}
-use Rattle.dg_map.proofs.TableLemmas.{IsTable-put, IsTable-without, site_at}
+use Rattle.dg_map.specs.Slots.{GivesUp, IsUnused, Keeps, Puts, block_in}
+use Rattle.dg_map.specs.Tables.{IsFree, IsLowestFree, IsTable, StandsIn, Table, count_on, empty_table, put_site, sites_in, without_site}
+use Rattle.dg_map.proofs.AgreeLemmas.{agrees_empty, agrees_kept, agrees_put, agrees_put_apart, agrees_without, agrees_without_apart, free_slot}
+use Rattle.dg_map.proofs.TableLemmas.{IsTable-empty, IsTable-put, IsTable-without, site_at}
 use Rattle.dg_map.specs.Rows.{Appends, SameRows, SetsRow, row_of, sites_off}
 use Rattle.dg_map.proofs.RowLemmas.{apart_test, same_test}
 
@@ -31,15 +33,15 @@ pub rows_set : (old new : BTreeMap ℕ (Vec Site)) (n b : ℕ) (row : List Site)
 rows_set old new n b row within sets =
     sym (fill_by_all (row_of new) (set xs b row) n [] (length-set xs b row ∙ length-map-range_with_len (row_of old) 0 n) at)
   where
-  xs : List (List Site)
-  xs = map (row_of old) (range_with_len 0 n)
+    xs : List (List Site)
+    xs = map (row_of old) (range_with_len 0 n)
 
-  at : (k : ℕ) → k < n → get_or (set xs b row) k [] ≡ row_of new k
-  at k lt =
-      ⊎_elim
-      (λ e. ap (λ q. get_or (set xs b row) q []) (sym e) ∙ get_or-set_same xs b row [] (omega (arith, length-map-range_with_len (row_of old) 0 n)) ∙ sym (sets k ∙ ap (λ v. cond v row (row_of old k)) (same_test b k e)))
-      (λ ne. get_or-set_other xs b k row [] (λ f. ne (sym f)) ∙ row_at old n k lt ∙ sym (sets k ∙ ap (λ v. cond v row (row_of old k)) (apart_test b k ne)))
-      (cases_eq b k)
+    at : (k : ℕ) → k < n → get_or (set xs b row) k [] ≡ row_of new k
+    at k lt =
+        ⊎_elim
+        (λ e. ap (λ q. get_or (set xs b row) q []) (sym e) ∙ get_or-set_same xs b row [] (omega (arith, length-map-range_with_len (row_of old) 0 n)) ∙ sym (sets k ∙ ap (λ v. cond v row (row_of old k)) (same_test b k e)))
+        (λ ne. get_or-set_other xs b k row [] (λ f. ne (sym f)) ∙ row_at old n k lt ∙ sym (sets k ∙ ap (λ v. cond v row (row_of old k)) (apart_test b k ne)))
+        (cases_eq b k)
 
 -- the tables with other lists and with other slots of boundary s
 abbrev pub with_slots : Inside → SiteLists → ℕ → Slots → Inside
@@ -52,6 +54,25 @@ each_set P items s slots lt here others t d within =
     (λ e. subst (λ q. P q (get_or (set items s slots) q d)) e (subst (P s) (sym (get_or-set_same items s slots d lt)) here))
     (λ ne. subst (P t) (sym (get_or-set_other items s t slots d (λ f. ne (sym f)))) (others t d within ne))
     (cases_eq s t)
+
+-- the tables of a map in which no block has a site
+abbrev pub empty_inside : Shape → SiteLists → Vec Slots → Inside
+empty_inside shape lists boundaries = record { shape = shape; lists = lists; boundaries = boundaries }
+
+pub empty_map : (shape : Shape) (lists : SiteLists) (boundaries : Vec Slots) → IsShape shape → ((b : ℕ) → row_of lists.rows b ≡ []) → length boundaries.items ≡ shape.b → All (IsUnused (shape.k + 1)) boundaries.items → IsMap (empty_inside shape lists boundaries) × (table_of (empty_inside shape lists boundaries) ≡ empty_table shape)
+empty_map shape lists boundaries ok empty count unused = (
+  record {
+    table = subst IsTable (sym is) (IsTable-empty shape ok);
+    count = count;
+    each = λ s d lt. subst (λ t. Agrees t s (get_or boundaries.items s d)) (sym is) (agrees_empty shape s (get_or boundaries.items s d) (unused s d (omega arith)));
+  },
+  is,
+)
+  where
+    is : table_of (empty_inside shape lists boundaries) ≡ empty_table shape
+    is =
+        ap (λ rows. record { shape = shape; rows = rows })
+        (sym (fill_by_all (row_of lists.rows) (replicate shape.n []) shape.n [] (length-replicate shape.n []) (λ k lt. get_or-replicate shape.n k [] [] lt ∙ sym (empty k))))
 
 module _ (old : Inside) (ok : IsMap old) where
   -- the lists of all blocks, once block b has others
@@ -70,7 +91,7 @@ module _ (old : Inside) (ok : IsMap old) where
     table = subst IsTable (sym is) sound;
     count = length-set old.boundaries.items s slots ∙ ok.count;
     each = λ t d within. subst (λ u. Agrees u t (get_or (set old.boundaries.items s slots) t d)) (sym is)
-      (each_set (Agrees table) old.boundaries.items s slots (omega (arith, ok.count)) here (λ q e inside ne. others q e (omega (arith, ok.count)) ne) t d (omega (arith, ok.count)));
+        (each_set (Agrees table) old.boundaries.items s slots (omega (arith, ok.count)) here (λ q e inside ne. others q e (omega (arith, ok.count)) ne) t d (omega (arith, ok.count)));
   }
 
   pub map_kept : (lists : SiteLists) (s : ℕ) (at slots : Slots) → s < old.shape.b → at ≡ get_or old.boundaries.items s at → Keeps at slots → SameRows old.lists.rows lists.rows → IsMap (with_slots old lists s slots) × (table_of (with_slots old lists s slots) ≡ table_of old)
@@ -81,32 +102,30 @@ module _ (old : Inside) (ok : IsMap old) where
   pub map_put : (lists : SiteLists) (at slots : Slots) (b : ℕ) (site : Site) → b < old.shape.n → site.boundary < old.shape.b → count_on site.boundary (sites_in (table_of old) b) ≡ 0 → at ≡ get_or old.boundaries.items site.boundary at → Puts at slots site.slot b → Appends old.lists.rows lists.rows b site → IsMap (with_slots old lists site.boundary slots) × (table_of (with_slots old lists site.boundary slots) ≡ put_site (table_of old) b site)
   map_put lists at slots b site within lt none is puts appends =
       let e : table_of (with_slots old lists site.boundary slots) ≡ put_site (table_of old) b site =
-          table_set lists site.boundary b slots (row_of old.lists.rows b ++ site ∷ []) within appends
-          ∙ ap (λ row. record { shape = old.shape; rows = set (table_of old).rows b (row ++ site ∷ []) }) (sym (row_at old.lists.rows old.shape.n b within)) in
+      table_set lists site.boundary b slots (row_of old.lists.rows b ++ site ∷ []) within appends
+      ∙ ap (λ row. record { shape = old.shape; rows = set (table_of old).rows b (row ++ site ∷ []) }) (sym (row_at old.lists.rows old.shape.n b within)) in
       let long : b < length (table_of old).rows = omega (arith, ok.table.size) in
-      let agrees : Agrees (table_of old) site.boundary at = slots_at site.boundary at lt is in
-      (
+      let agrees : Agrees (table_of old) site.boundary at = slots_at site.boundary at lt is in (
         built lists site.boundary slots (put_site (table_of old) b site) lt e
-        (IsTable-put (table_of old) b site long ok.table lt (omega (arith, puts.within, agrees.most)) (free_slot (table_of old) site.boundary at site.slot agrees puts.free) none)
-        (agrees_put (table_of old) b long site.boundary at slots site refl agrees puts)
-        (λ t d inside ne. agrees_put_apart (table_of old) b long t (get_or old.boundaries.items t d) site ne (ok.each t d inside)),
-        e
+            (IsTable-put (table_of old) b site long ok.table lt (omega (arith, puts.within, agrees.most)) (free_slot (table_of old) site.boundary at site.slot agrees puts.free) none)
+            (agrees_put (table_of old) b long site.boundary at slots site refl agrees puts)
+            (λ t d inside ne. agrees_put_apart (table_of old) b long t (get_or old.boundaries.items t d) site ne (ok.each t d inside)),
+        e,
       )
 
   pub map_without : (lists : SiteLists) (at slots : Slots) (b s slot : ℕ) → b < old.shape.n → s < old.shape.b → 0 < count_on s (sites_in (table_of old) b) → at ≡ get_or old.boundaries.items s at → Contains (row_of old.lists.rows b) (site_at s slot) → GivesUp at slots slot → SetsRow old.lists.rows lists.rows b (sites_off s (row_of old.lists.rows b)) → IsMap (with_slots old lists s slots) × (table_of (with_slots old lists s slots) ≡ without_site (table_of old) b s)
   map_without lists at slots b s slot within lt some is stood gives sets =
       let e : table_of (with_slots old lists s slots) ≡ without_site (table_of old) b s =
-          table_set lists s b slots (sites_off s (row_of old.lists.rows b)) within sets
-          ∙ ap (λ row. record { shape = old.shape; rows = set (table_of old).rows b (sites_off s row) }) (sym (row_at old.lists.rows old.shape.n b within)) in
+      table_set lists s b slots (sites_off s (row_of old.lists.rows b)) within sets
+      ∙ ap (λ row. record { shape = old.shape; rows = set (table_of old).rows b (sites_off s row) }) (sym (row_at old.lists.rows old.shape.n b within)) in
       let long : b < length (table_of old).rows = omega (arith, ok.table.size) in
       let there : StandsIn (table_of old) b s slot = subst (λ row. Contains row (site_at s slot)) (sym (row_at old.lists.rows old.shape.n b within)) stood in
-      let agrees : Agrees (table_of old) s at = slots_at s at lt is in
-      (
+      let agrees : Agrees (table_of old) s at = slots_at s at lt is in (
         built lists s slots (without_site (table_of old) b s) lt e
-        (IsTable-without (table_of old) b s long ok.table)
-        (agrees_without (table_of old) b long s slot at slots ok.table there (omega (arith, ok.table.one_site b s)) agrees gives)
-        (λ t d inside ne. agrees_without_apart (table_of old) b long s t (get_or old.boundaries.items t d) ne (ok.each t d inside)),
-        e
+            (IsTable-without (table_of old) b s long ok.table)
+            (agrees_without (table_of old) b long s slot at slots ok.table there (omega (arith, ok.table.one_site b s)) agrees gives)
+            (λ t d inside ne. agrees_without_apart (table_of old) b long s t (get_or old.boundaries.items t d) ne (ok.each t d inside)),
+        e,
       )
 
   some_is : (o : Option ℕ) → IsSome o → (b : ℕ) × (o ≡ Some b)
@@ -133,18 +152,18 @@ module _ (old : Inside) (ok : IsMap old) where
       e
       (cases r)
     where
-    cases : (r : Result Site E) → b < old.shape.n → s < old.shape.b → count_on s (sites_in (table_of old) b) ≡ 0 → at ≡ get_or old.boundaries.items s at → MatchResult r (λ site. Puts at slots site.slot b) (λ _. Keeps at slots) → MatchResult r (λ site. Appends old.lists.rows lists.rows b site) (λ _. SameRows old.lists.rows lists.rows) → IfOk r (λ site. (site.boundary ≡ s) × ((k : ℕ) → k < site.slot → IsSome (block_in at k))) → IsMap (with_slots old lists s slots) × IfOk r (λ site. (site.boundary ≡ s) × IsLowestFree (table_of old) s site.slot × (table_of (with_slots old lists s slots) ≡ put_site (table_of old) b site)) × OnErr r (table_of (with_slots old lists s slots) ≡ table_of old)
-    cases (Ok site) within lt none is puts appends lowest =
-        let done : IsMap (with_slots old lists s slots) × (table_of (with_slots old lists s slots) ≡ put_site (table_of old) b site) =
-            subst
-            (λ t. t < old.shape.b → count_on t (sites_in (table_of old) b) ≡ 0 → at ≡ get_or old.boundaries.items t at → IsMap (with_slots old lists t slots) × (table_of (with_slots old lists t slots) ≡ put_site (table_of old) b site))
-            lowest.0
-            (λ inside off here. map_put lists at slots b site within inside off here puts appends)
-            lt none is in
-        (done.0, (lowest.0, lowest_free s site.slot at lt is puts.free lowest.1, done.1), tt)
-    cases (Err x) within lt none is keeps same lowest =
-        let done : IsMap (with_slots old lists s slots) × (table_of (with_slots old lists s slots) ≡ table_of old) = map_kept lists s at slots lt is keeps same in
-        (done.0, tt, done.1)
+      cases : (r : Result Site E) → b < old.shape.n → s < old.shape.b → count_on s (sites_in (table_of old) b) ≡ 0 → at ≡ get_or old.boundaries.items s at → MatchResult r (λ site. Puts at slots site.slot b) (λ _. Keeps at slots) → MatchResult r (λ site. Appends old.lists.rows lists.rows b site) (λ _. SameRows old.lists.rows lists.rows) → IfOk r (λ site. (site.boundary ≡ s) × ((k : ℕ) → k < site.slot → IsSome (block_in at k))) → IsMap (with_slots old lists s slots) × IfOk r (λ site. (site.boundary ≡ s) × IsLowestFree (table_of old) s site.slot × (table_of (with_slots old lists s slots) ≡ put_site (table_of old) b site)) × OnErr r (table_of (with_slots old lists s slots) ≡ table_of old)
+      cases (Ok site) within lt none is puts appends lowest =
+          let done : IsMap (with_slots old lists s slots) × (table_of (with_slots old lists s slots) ≡ put_site (table_of old) b site) =
+          subst
+          (λ t. t < old.shape.b → count_on t (sites_in (table_of old) b) ≡ 0 → at ≡ get_or old.boundaries.items t at → IsMap (with_slots old lists t slots) × (table_of (with_slots old lists t slots) ≡ put_site (table_of old) b site))
+          lowest.0
+          (λ inside off here. map_put lists at slots b site within inside off here puts appends)
+          lt none is in
+          (done.0, (lowest.0, lowest_free s site.slot at lt is puts.free lowest.1, done.1), tt)
+      cases (Err x) within lt none is keeps same lowest =
+          let done : IsMap (with_slots old lists s slots) × (table_of (with_slots old lists s slots) ≡ table_of old) = map_kept lists s at slots lt is keeps same in
+          (done.0, tt, done.1)
 
   -- a free slot has no block
   pub slot_none : (table : Table) → table_of old ≡ table → (s slot : ℕ) (at : Slots) → s < table.shape.b → at ≡ get_or old.boundaries.items s at → IsFree table s slot → block_in at slot ≡ None
@@ -162,13 +181,13 @@ module _ (old : Inside) (ok : IsMap old) where
       e
       (cases r)
     where
-    cases : (r : Result A E) → b < old.shape.n → site.boundary < old.shape.b → count_on site.boundary (sites_in (table_of old) b) ≡ 0 → at ≡ get_or old.boundaries.items site.boundary at → MatchResult r (λ _. Puts at slots site.slot b) (λ _. Keeps at slots) → MatchResult r (λ _. Appends old.lists.rows lists.rows b site) (λ _. SameRows old.lists.rows lists.rows) → IsMap (with_slots old lists site.boundary slots) × OnOk r (table_of (with_slots old lists site.boundary slots) ≡ put_site (table_of old) b site) × OnErr r (table_of (with_slots old lists site.boundary slots) ≡ table_of old)
-    cases (Ok x) within lt none is puts appends =
-        let done : IsMap (with_slots old lists site.boundary slots) × (table_of (with_slots old lists site.boundary slots) ≡ put_site (table_of old) b site) = map_put lists at slots b site within lt none is puts appends in
-        (done.0, done.1, tt)
-    cases (Err x) within lt none is keeps same =
-        let done : IsMap (with_slots old lists site.boundary slots) × (table_of (with_slots old lists site.boundary slots) ≡ table_of old) = map_kept lists site.boundary at slots lt is keeps same in
-        (done.0, tt, done.1)
+      cases : (r : Result A E) → b < old.shape.n → site.boundary < old.shape.b → count_on site.boundary (sites_in (table_of old) b) ≡ 0 → at ≡ get_or old.boundaries.items site.boundary at → MatchResult r (λ _. Puts at slots site.slot b) (λ _. Keeps at slots) → MatchResult r (λ _. Appends old.lists.rows lists.rows b site) (λ _. SameRows old.lists.rows lists.rows) → IsMap (with_slots old lists site.boundary slots) × OnOk r (table_of (with_slots old lists site.boundary slots) ≡ put_site (table_of old) b site) × OnErr r (table_of (with_slots old lists site.boundary slots) ≡ table_of old)
+      cases (Ok x) within lt none is puts appends =
+          let done : IsMap (with_slots old lists site.boundary slots) × (table_of (with_slots old lists site.boundary slots) ≡ put_site (table_of old) b site) = map_put lists at slots b site within lt none is puts appends in
+          (done.0, done.1, tt)
+      cases (Err x) within lt none is keeps same =
+          let done : IsMap (with_slots old lists site.boundary slots) × (table_of (with_slots old lists site.boundary slots) ≡ table_of old) = map_kept lists site.boundary at slots lt is keeps same in
+          (done.0, tt, done.1)
 
   -- what `drop_site` leaves
   pub dropped_at : (table : Table) → table_of old ≡ table → (lists : SiteLists) (at slots : Slots) (b s slot : ℕ) → b < table.shape.n → s < table.shape.b → 0 < count_on s (sites_in table b) → at ≡ get_or old.boundaries.items s at → Contains (row_of old.lists.rows b) (site_at s slot) → GivesUp at slots slot → SetsRow old.lists.rows lists.rows b (sites_off s (row_of old.lists.rows b)) → IsMap (with_slots old lists s slots) × (table_of (with_slots old lists s slots) ≡ without_site table b s)
@@ -195,9 +214,9 @@ module _ (old : Inside) (ok : IsMap old) where
   block_of table e s slot at r lt is found =
       subst (λ t. MatchOption r (IsFree t s slot) (λ b. StandsIn t b s slot)) e (cases r found)
     where
-    cases : (r : Option ℕ) → r ≡ block_in at slot → MatchOption r (IsFree (table_of old) s slot) (λ b. StandsIn (table_of old) b s slot)
-    cases None h = free_slot (table_of old) s at slot (slots_at s at lt is) (sym h)
-    cases (Some b) h = (slots_at s at lt is).held slot b (sym h)
+      cases : (r : Option ℕ) → r ≡ block_in at slot → MatchOption r (IsFree (table_of old) s slot) (λ b. StandsIn (table_of old) b s slot)
+      cases None h = free_slot (table_of old) s at slot (slots_at s at lt is) (sym h)
+      cases (Some b) h = (slots_at s at lt is).held slot b (sym h)
 
   pub none_past : (table : Table) → table_of old ≡ table → (s slot : ℕ) → old.shape.b ≤ s → IsFree table s slot
   none_past table e s slot past = subst (λ t. IsFree t s slot) e (λ b h. absurd (omega (arith, ok.table.boundaries b s slot h)))

@@ -1,6 +1,6 @@
 -- What a list of sites says once a site joins it, or once those on a boundary leave it.
-use Rattle.std.proofs.Common.{◌≡◌, ◌⊎◌, ◌<◌, ◌≤◌, ◌+◌, ◌-◌, ◌==◌, ◌≢◌, ℕ, suc, zero, Bool, true, false, cond, not, eqb, List, [], ◌∷◌, ◌++◌, length, get_or, refl, sym, ◌∙◌, ap, subst, inl, inr, ⊎_elim, arith}
-use Rattle.std.specs.List.{All, Contains, count_by, filter, sum_by}
+use Rattle.std.proofs.Common.{◌≡◌, ◌<◌, ◌≤◌, ◌+◌, ◌==◌, ◌≢◌, ℕ, suc, zero, Bool, true, false, cond, not, List, [], ◌∷◌, ◌++◌, length, get_or, refl, sym, ◌∙◌, ap, subst, arith}
+use Rattle.std.specs.List.{Contains}
 use Rattle.std.proofs.lemmas.Bool.{false≢true}
 use Rattle.std.proofs.lemmas.Bool.Decides.{nat_tests}
 use Rattle.std.proofs.lemmas.List.Elements.{All-contains, All-contains_itself, All-filter, filter-append, filter_passes, Contains-append_right}
@@ -31,7 +31,7 @@ count_pos s xs x (i, lt, at) e =
     omega (
       arith,
       get_or-le-sum_by (λ (y : Site). cond (y.boundary == s) 1 0) xs i x lt,
-      one_if ((get_or xs i x).boundary == s) (same_test (get_or xs i x).boundary s (ap (λ (y : Site). y.boundary) at ∙ e))
+      one_if ((get_or xs i x).boundary == s) (same_test (get_or xs i x).boundary s (ap (λ (y : Site). y.boundary) at ∙ e)),
     )
 
 -- where a boundary has no site, none of the sites is on it

@@ -1,14 +1,17 @@
 -- What a table says once a site joins a block's list, or once a block leaves a boundary.
-use Rattle.std.proofs.Common.{◌≡◌, ◌⊎◌, ◌<◌, ◌≤◌, ◌+◌, ◌==◌, ◌≢◌, ℕ, suc, zero, Bool, true, false, cond, not, eqb, List, [], ◌∷◌, ◌++◌, length, get_or, set, Result, Ok, Err, OnOk, refl, sym, ◌∙◌, ap, subst, inl, inr, ⊎_elim, arith}
-use Rattle.std.specs.List.{Contains, count_by, sum_by}
-use Rattle.std.proofs.lemmas.Bool.{cases_eq}
-use Rattle.std.proofs.lemmas.List.{get_or-set_same, get_or-set_other, length-set, set-get_or, set-set}
+use Rattle.std.proofs.Common.{◌≡◌, ◌⊎◌, ◌<◌, ◌≤◌, ◌+◌, ◌==◌, ◌≢◌, ℕ, cond, List, [], ◌∷◌, ◌++◌, length, get_or, set, replicate, Result, Ok, Err, OnOk, refl, sym, ◌∙◌, ap, subst, inl, inr, ⊎_elim, arith}
+use Rattle.std.specs.List.{Contains}
+use Rattle.std.proofs.lemmas.Bool.{cases_eq, cases_lt}
+use Rattle.std.proofs.lemmas.List.{get_or-set_same, get_or-replicate, get_or-set_other, get_or_past, length-replicate, length-set, set-get_or, set-set}
 use Rattle.std.proofs.lemmas.List.Elements.{Contains-append_left, Contains-push, Contains-push_cases}
+use Rattle.std.proofs.lemmas.List.Folds.{sum_by-replicate}
 use Rattle.std.proofs.lemmas.List.Sums.{sum_by-set}
 use Rattle.dg_model.specs.declared.sites.Site.{Site}
+use Rattle.dg_model.specs.declared.shapes.Shape.{Shape}
+use Rattle.dg_model.specs.Shapes.{IsShape}
 use Rattle.dg_map.specs.Rows.{sites_off}
-use Rattle.dg_map.specs.Tables.{IsFree, IsTable, StandsIn, Table, count_on, put_site, sites_in, used_in, without_site}
-use Rattle.dg_map.proofs.RowLemmas.{apart_test, count_off_other, count_off_same, count_on-push, none_on, off-Contains, off_last, one_if, same_test, zero_if, Contains-off, Contains-off_apart}
+use Rattle.dg_map.specs.Tables.{IsFree, IsTable, StandsIn, Table, count_on, empty_table, put_site, sites_in, used_in, without_site}
+use Rattle.dg_map.proofs.RowLemmas.{apart_test, count_off_other, count_off_same, count_on-push, off-Contains, off_last, one_if, same_test, zero_if, Contains-off, Contains-off_apart}
 
 -- the site that a boundary and a slot name
 abbrev pub site_at : ℕ → ℕ → Site
@@ -36,9 +39,9 @@ module _ (table : Table) (b : ℕ) (site : Site) (within : b < length table.rows
   put_cases c s slot h =
       ⊎_elim
       (λ e. ⊎_elim
-        (λ old. inl (subst (λ d. StandsIn table d s slot) (sym e) old))
-        (λ new. inr (e, new))
-        (Contains-push_cases (sites_in table b) site (site_at s slot) (subst (λ xs. Contains xs (site_at s slot)) (ap (sites_in (put_site table b site)) e ∙ sites_put_here) h)))
+      (λ old. inl (subst (λ d. StandsIn table d s slot) (sym e) old))
+      (λ new. inr (e, new))
+      (Contains-push_cases (sites_in table b) site (site_at s slot) (subst (λ xs. Contains xs (site_at s slot)) (ap (sites_in (put_site table b site)) e ∙ sites_put_here) h)))
       (λ ne. inl (subst (λ xs. Contains xs (site_at s slot)) (sites_put_other c ne) h))
       (cases_eq c b)
 
@@ -52,26 +55,26 @@ module _ (table : Table) (b : ℕ) (site : Site) (within : b < length table.rows
     boundaries = λ c s k h. ⊎_elim (λ old. ok.boundaries c s k old) (λ new. subst (λ (x : Site). x.boundary < table.shape.b) new.1 boundary) (put_cases c s k h);
     slots = λ c s k h. ⊎_elim (λ old. ok.slots c s k old) (λ new. subst (λ (x : Site). x.slot ≤ table.shape.k) new.1 slot) (put_cases c s k h);
     one_block = λ a c s k g h.
-      ⊎_elim
-      (λ old. ⊎_elim (λ older. ok.one_block a c s k old older) (λ new. absurd (taken_twice a s k old new.1)) (put_cases c s k h))
-      (λ new. ⊎_elim (λ old. absurd (taken_twice c s k old new.1)) (λ newer. new.0 ∙ sym newer.0) (put_cases c s k h))
-      (put_cases a s k g);
+        ⊎_elim
+        (λ old. ⊎_elim (λ older. ok.one_block a c s k old older) (λ new. absurd (taken_twice a s k old new.1)) (put_cases c s k h))
+        (λ new. ⊎_elim (λ old. absurd (taken_twice c s k old new.1)) (λ newer. new.0 ∙ sym newer.0) (put_cases c s k h))
+        (put_cases a s k g);
     one_site = λ c s.
-      ⊎_elim
-      (λ e. subst (λ xs. count_on s xs ≤ 1) (sym (ap (sites_in (put_site table b site)) e ∙ sites_put_here)) (one_more s))
-      (λ ne. subst (λ xs. count_on s xs ≤ 1) (sym (sites_put_other c ne)) (ok.one_site c s))
-      (cases_eq c b);
+        ⊎_elim
+        (λ e. subst (λ xs. count_on s xs ≤ 1) (sym (ap (sites_in (put_site table b site)) e ∙ sites_put_here)) (one_more s))
+        (λ ne. subst (λ xs. count_on s xs ≤ 1) (sym (sites_put_other c ne)) (ok.one_site c s))
+        (cases_eq c b);
   }
     where
-    taken_twice : (c s k : ℕ) → StandsIn table c s k → site ≡ site_at s k → ⊥
-    taken_twice c s k old e = free c (subst (λ x. Contains (sites_in table c) x) (sym e) old)
+      taken_twice : (c s k : ℕ) → StandsIn table c s k → site ≡ site_at s k → ⊥
+      taken_twice c s k old e = free c (subst (λ x. Contains (sites_in table c) x) (sym e) old)
 
-    one_more : (s : ℕ) → count_on s (sites_in table b ++ site ∷ []) ≤ 1
-    one_more s =
-        ⊎_elim
-        (λ e. omega (arith, count_on-push s (sites_in table b) site, one_if (site.boundary == s) (same_test site.boundary s e), ap (λ t. count_on t (sites_in table b)) e))
-        (λ ne. omega (arith, count_on-push s (sites_in table b) site, zero_if (site.boundary == s) (apart_test site.boundary s ne), ok.one_site b s))
-        (cases_eq site.boundary s)
+      one_more : (s : ℕ) → count_on s (sites_in table b ++ site ∷ []) ≤ 1
+      one_more s =
+          ⊎_elim
+          (λ e. omega (arith, count_on-push s (sites_in table b) site, one_if (site.boundary == s) (same_test site.boundary s e), ap (λ t. count_on t (sites_in table b)) e))
+          (λ ne. omega (arith, count_on-push s (sites_in table b) site, zero_if (site.boundary == s) (apart_test site.boundary s ne), ok.one_site b s))
+          (cases_eq site.boundary s)
 
 module _ (table : Table) (b s : ℕ) (within : b < length table.rows) where
   pub sites_without_here : sites_in (without_site table b s) b ≡ sites_off s (sites_in table b)
@@ -111,32 +114,32 @@ module _ (table : Table) (b s : ℕ) (within : b < length table.rows) where
     slots = λ c t k h. ok.slots c t k (without_stood c t k h);
     one_block = λ a c t k g h. ok.one_block a c t k (without_stood a t k g) (without_stood c t k h);
     one_site = λ c t.
-      ⊎_elim
-      (λ e. subst (λ xs. count_on t xs ≤ 1) (sym (ap (sites_in (without_site table b s)) e ∙ sites_without_here)) (one_less t))
-      (λ ne. subst (λ xs. count_on t xs ≤ 1) (sym (sites_without_other c ne)) (ok.one_site c t))
-      (cases_eq c b);
+        ⊎_elim
+        (λ e. subst (λ xs. count_on t xs ≤ 1) (sym (ap (sites_in (without_site table b s)) e ∙ sites_without_here)) (one_less t))
+        (λ ne. subst (λ xs. count_on t xs ≤ 1) (sym (sites_without_other c ne)) (ok.one_site c t))
+        (cases_eq c b);
   }
     where
-    one_less : (t : ℕ) → count_on t (sites_off s (sites_in table b)) ≤ 1
-    one_less t =
-        ⊎_elim
-        (λ e. omega (arith, subst (λ u. count_on u (sites_off s (sites_in table b)) ≡ 0) e (count_off_same s (sites_in table b))))
-        (λ ne. omega (arith, count_off_other s t (sites_in table b) ne, ok.one_site b t))
-        (cases_eq s t)
+      one_less : (t : ℕ) → count_on t (sites_off s (sites_in table b)) ≤ 1
+      one_less t =
+          ⊎_elim
+          (λ e. omega (arith, subst (λ u. count_on u (sites_off s (sites_in table b)) ≡ 0) e (count_off_same s (sites_in table b))))
+          (λ ne. omega (arith, count_off_other s t (sites_in table b) ne, ok.one_site b t))
+          (cases_eq s t)
 
 -- the last site of a block, given up and taken again
 pub put-without : (table : Table) (b : ℕ) (others : List Site) (site : Site) → IsTable table → b < length table.rows → sites_in table b ≡ others ++ site ∷ [] → put_site (without_site table b site.boundary) b site ≡ table
 put-without table b others site ok within last =
     ap (λ rows. record { shape = table.shape; rows = rows })
     (set-set table.rows b (sites_off site.boundary (sites_in table b)) (sites_in (without_site table b site.boundary) b ++ site ∷ [])
-      ∙ ap (λ row. set table.rows b row) (ap (λ row. row ++ site ∷ []) others_stay ∙ sym last)
-      ∙ set-get_or table.rows b [])
+    ∙ ap (λ row. set table.rows b row) (ap (λ row. row ++ site ∷ []) others_stay ∙ sym last)
+    ∙ set-get_or table.rows b [])
   where
-  others_stay : sites_in (without_site table b site.boundary) b ≡ others
-  others_stay =
-      sites_without_here table b site.boundary within
-      ∙ ap (sites_off site.boundary) last
-      ∙ off_last others site (subst (λ xs. count_on site.boundary xs ≤ 1) last (ok.one_site b site.boundary))
+    others_stay : sites_in (without_site table b site.boundary) b ≡ others
+    others_stay =
+        sites_without_here table b site.boundary within
+        ∙ ap (sites_off site.boundary) last
+        ∙ off_last others site (subst (λ xs. count_on site.boundary xs ≤ 1) last (ok.one_site b site.boundary))
 
 -- a table that a site joins after its block gave it up is the one before
 pub undone : (table new : Table) (b : ℕ) (site : Site) → b < table.shape.n → new ≡ put_site table b site → (before : Table) (others : List Site) → IsTable before → sites_in before b ≡ others ++ site ∷ [] → table ≡ without_site before b site.boundary → new ≡ before
@@ -147,3 +150,28 @@ undone table new b site within is before others ok last was =
 pub undone_at : {A E : Type 0} (r : Result A E) (table new : Table) (b : ℕ) (site : Site) → b < table.shape.n → OnOk r (new ≡ put_site table b site) → OnOk r ((before : Table) (others : List Site) → IsTable before → sites_in before b ≡ others ++ site ∷ [] → table ≡ without_site before b site.boundary → new ≡ before)
 undone_at (Ok x) table new b site within is = undone table new b site within is
 undone_at (Err x) table new b site within is = tt
+
+empty_row : (n b : ℕ) → get_or {A = List Site} (replicate n []) b [] ≡ []
+empty_row n b =
+    ⊎_elim
+    (λ lt. get_or-replicate n b [] [] lt)
+    (λ past. get_or_past (replicate n []) b [] (omega (arith, length-replicate {A = List Site} n [])))
+    (cases_lt b n)
+
+pub none_stands : (shape : Shape) (b s slot : ℕ) → StandsIn (empty_table shape) b s slot → ⊥
+none_stands shape b s slot h =
+    let there : Contains [] (site_at s slot) = subst (λ xs. Contains xs (site_at s slot)) (empty_row shape.n b) h in
+    absurd (omega (arith, there.1))
+
+pub used_empty : (shape : Shape) (s : ℕ) → used_in (empty_table shape) s ≡ 0
+used_empty shape s = omega (arith, sum_by-replicate (count_on s) shape.n [])
+
+pub IsTable-empty : (shape : Shape) → IsShape shape → IsTable (empty_table shape)
+IsTable-empty shape ok = record {
+  shape = ok;
+  size = length-replicate shape.n [];
+  boundaries = λ b s k h. absurd (none_stands shape b s k h);
+  slots = λ b s k h. absurd (none_stands shape b s k h);
+  one_block = λ a b s k g h. absurd (none_stands shape a s k g);
+  one_site = λ b s. subst (λ xs. count_on s xs ≤ 1) (sym (empty_row shape.n b)) (omega arith);
+}

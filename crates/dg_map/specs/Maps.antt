@@ -1,7 +1,6 @@
 -- What the tables of a map stand for.
 use Rattle.std.specs.Prelude.{◌≡◌, ◌<◌, ◌+◌, ℕ, Some, length, map, slice_index_or}
 use Rattle.std.specs.List.{range_with_len}
-use Rattle.dg_model.specs.declared.sites.Site.{Site}
 use Rattle.dg_map.specs.declared.boundary_slots.Slots.{Slots}
 use Rattle.dg_map.specs.declared.maps.Map.TheInside.{Inside}
 use Rattle.dg_map.specs.Rows.{row_of}

@@ -1,6 +1,6 @@
 -- The table of sites: which slots each block stands in. The rules are this project's own.
 use Rattle.std.specs.Prelude.{◌≡◌, ◌<◌, ◌≤◌, ◌==◌, ◌++◌, not, ℕ, List, [], ◌∷◌, length, slice_index_or, slice_set, replicate, count_by, Result, Ok, Err}
-use Rattle.std.specs.List.{All, Contains, filter, sum_by}
+use Rattle.std.specs.List.{Contains, filter, sum_by}
 use Rattle.dg_model.specs.declared.shapes.Shape.{Shape}
 use Rattle.dg_model.specs.declared.sites.Site.{Site}
 use Rattle.dg_model.specs.Shapes.{IsShape}

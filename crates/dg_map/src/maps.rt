@@ -183,9 +183,9 @@ fn free_boundaries(alloc: Global, count: u8, most: u32) -> Result<Vec<Slots>, No
 {
     let mut boundaries = Vec::new(alloc);
     for _ in 0..count {
-        if boundaries.push(Slots::new(alloc, most)).is_err() {
+        let Ok(()) = boundaries.push(Slots::new(alloc, most)) else {
             return Err(NoMemory);
-        }
+        };
     }
     Ok(boundaries)
 }

@@ -1,6 +1,4 @@
-use Rattle.std.proofs.Common.{◌≡◌, ◌<◌, ◌≤◌, arith, refl}
-use Rattle.std.specs.BTreeSet as sorted
-use Rattle.dg_map.specs.Slots.{used_count}
+use Rattle.std.proofs.Common.{arith, refl}
 use Rattle.dg_map.proofs.SlotLemmas.{mark_le}
 use Rattle.dg_map.proofs.boundary_slots.Slots.take.Goals as goal
 

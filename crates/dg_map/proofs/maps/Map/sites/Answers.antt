@@ -1,4 +1,4 @@
-use Rattle.std.proofs.Common.{◌≡◌, ◌∙◌}
+use Rattle.std.proofs.Common.{◌∙◌}
 use Rattle.dg_map.proofs.MapLemmas.{row_in}
 use Rattle.dg_map.proofs.maps.Map.sites.Goals as goal
 
