@@ -1,5 +1,5 @@
 -- What the tables of a map stand for, once a list of sites and the slots of a boundary have changed.
-use Rattle.std.proofs.Common.{◌≡◌, ◌<◌, ◌≤◌, ◌+◌, ◌≢◌, ℕ, cond, List, [], ◌∷◌, ◌++◌, length, get_or, set, map, replicate, Option, Some, None, Result, Ok, Err, IsSome, MatchOption, MatchResult, IfOk, OnErr, OnOk, refl, sym, ◌∙◌, ap, subst, ⊎_elim, arith}
+use Rattle.std.proofs.Common.{◌≡◌, ◌<◌, ◌≤◌, ◌+◌, ◌≢◌, ℕ, cond, List, [], ◌∷◌, ◌++◌, length, get_or, set, map, replicate, Option, Some, None, Result, Ok, Err, IsSome, IfSome, MatchOption, MatchResult, IfOk, OnErr, OnOk, refl, sym, ◌∙◌, ap, subst, ⊎_elim, arith}
 use Rattle.std.specs.Global.{Vec}
 use Rattle.std.specs.BTreeMap.{BTreeMap}
 use Rattle.std.specs.List.{range_with_len}
@@ -16,10 +16,11 @@ use Rattle.dg_map.specs.declared.maps.Map.TheInside.{Inside}
 use Rattle.dg_map.specs.declared.site_lists.SiteLists.{SiteLists}
 use Rattle.dg_map.specs.Maps.{Agrees, IsMap, table_of}
 use Rattle.dg_map.specs.Slots.{GivesUp, IsUnused, Keeps, Puts, block_in}
-use Rattle.dg_map.specs.Tables.{IsFree, IsLowestFree, IsTable, StandsIn, Table, count_on, empty_table, put_site, sites_in, without_site}
+use Rattle.dg_map.specs.Tables.{IsFree, IsLowestFree, IsTable, StandsIn, Table, count_on, empty_table, put_site, sites_in, without_site, sites_off}
 use Rattle.dg_map.proofs.AgreeLemmas.{agrees_empty, agrees_kept, agrees_put, agrees_put_apart, agrees_without, agrees_without_apart, free_slot}
-use Rattle.dg_map.proofs.TableLemmas.{IsTable-empty, IsTable-put, IsTable-without, site_at}
-use Rattle.dg_map.specs.Rows.{Appends, SameRows, SetsRow, row_of, sites_off}
+use Rattle.dg_map.proofs.SlotLemmas.{count_below}
+use Rattle.dg_map.proofs.TableLemmas.{IsTable-empty, IsTable-put, IsTable-without, block_within, site_at}
+use Rattle.dg_map.specs.Rows.{Appends, SameRows, SetsRow, row_of}
 use Rattle.dg_map.proofs.RowLemmas.{apart_test, same_test}
 
 pub row_at : (rows : BTreeMap ℕ (Vec Site)) (n b : ℕ) → b < n → get_or (map (row_of rows) (range_with_len 0 n)) b [] ≡ row_of rows b
@@ -107,7 +108,8 @@ module _ (old : Inside) (ok : IsMap old) where
       let long : b < length (table_of old).rows = omega (arith, ok.table.size) in
       let agrees : Agrees (table_of old) site.boundary at = slots_at site.boundary at lt is in (
         built lists site.boundary slots (put_site (table_of old) b site) lt e
-            (IsTable-put (table_of old) b site long ok.table lt (omega (arith, puts.within, agrees.most)) (free_slot (table_of old) site.boundary at site.slot agrees puts.free) none)
+            (IsTable-put (table_of old) b site long ok.table lt (omega (arith, puts.within, agrees.most)) (free_slot (table_of old) site.boundary at site.slot agrees puts.free) none
+            (omega (arith, count_below slots.blocks slots.next puts.sound.ordered puts.sound.used, puts.sound.mark, puts.most, puts.count, agrees.most, agrees.used)))
             (agrees_put (table_of old) b long site.boundary at slots site refl agrees puts)
             (λ t d inside ne. agrees_put_apart (table_of old) b long t (get_or old.boundaries.items t d) site ne (ok.each t d inside)),
         e,
@@ -217,6 +219,12 @@ module _ (old : Inside) (ok : IsMap old) where
       cases : (r : Option ℕ) → r ≡ block_in at slot → MatchOption r (IsFree (table_of old) s slot) (λ b. StandsIn (table_of old) b s slot)
       cases None h = free_slot (table_of old) s at slot (slots_at s at lt is) (sym h)
       cases (Some b) h = (slots_at s at lt is).held slot b (sym h)
+
+  pub block_in_range : (table : Table) → table_of old ≡ table → (s slot : ℕ) (r : Option ℕ) → MatchOption r (IsFree table s slot) (λ b. StandsIn table b s slot) → IfSome r (λ b. b < table.shape.n)
+  block_in_range table e s slot None h = tt
+  block_in_range table e s slot (Some b) h =
+      let sound : IsTable table = subst IsTable e ok.table in
+      omega (arith, block_within table b s slot h, sound.size)
 
   pub none_past : (table : Table) → table_of old ≡ table → (s slot : ℕ) → old.shape.b ≤ s → IsFree table s slot
   none_past table e s slot past = subst (λ t. IsFree t s slot) e (λ b h. absurd (omega (arith, ok.table.boundaries b s slot h)))

@@ -9,8 +9,7 @@ use Rattle.std.proofs.lemmas.List.Sums.{sum_by-set}
 use Rattle.dg_model.specs.declared.sites.Site.{Site}
 use Rattle.dg_model.specs.declared.shapes.Shape.{Shape}
 use Rattle.dg_model.specs.Shapes.{IsShape}
-use Rattle.dg_map.specs.Rows.{sites_off}
-use Rattle.dg_map.specs.Tables.{IsFree, IsTable, StandsIn, Table, count_on, empty_table, put_site, sites_in, used_in, without_site}
+use Rattle.dg_map.specs.Tables.{IsFree, IsTable, StandsIn, Table, count_on, empty_table, put_site, sites_in, used_in, without_site, sites_off}
 use Rattle.dg_map.proofs.RowLemmas.{apart_test, count_off_other, count_off_same, count_on-push, off-Contains, off_last, one_if, same_test, zero_if, Contains-off, Contains-off_apart}
 
 -- the site that a boundary and a slot name
@@ -48,8 +47,8 @@ module _ (table : Table) (b : ℕ) (site : Site) (within : b < length table.rows
   pub used_put : (s : ℕ) → used_in (put_site table b site) s ≡ used_in table s + cond (site.boundary == s) 1 0
   used_put s = omega (arith, sum_by-set (count_on s) table.rows b (sites_in table b ++ site ∷ []) [] within, count_on-push s (sites_in table b) site)
 
-  pub IsTable-put : IsTable table → site.boundary < table.shape.b → site.slot ≤ table.shape.k → IsFree table site.boundary site.slot → count_on site.boundary (sites_in table b) ≡ 0 → IsTable (put_site table b site)
-  IsTable-put ok boundary slot free none = record {
+  pub IsTable-put : IsTable table → site.boundary < table.shape.b → site.slot ≤ table.shape.k → IsFree table site.boundary site.slot → count_on site.boundary (sites_in table b) ≡ 0 → used_in table site.boundary ≤ table.shape.k → IsTable (put_site table b site)
+  IsTable-put ok boundary slot free none left = record {
     shape = ok.shape;
     size = length-set table.rows b (sites_in table b ++ site ∷ []) ∙ ok.size;
     boundaries = λ c s k h. ⊎_elim (λ old. ok.boundaries c s k old) (λ new. subst (λ (x : Site). x.boundary < table.shape.b) new.1 boundary) (put_cases c s k h);
@@ -64,6 +63,11 @@ module _ (table : Table) (b : ℕ) (site : Site) (within : b < length table.rows
         (λ e. subst (λ xs. count_on s xs ≤ 1) (sym (ap (sites_in (put_site table b site)) e ∙ sites_put_here)) (one_more s))
         (λ ne. subst (λ xs. count_on s xs ≤ 1) (sym (sites_put_other c ne)) (ok.one_site c s))
         (cases_eq c b);
+    used = λ s.
+        ⊎_elim
+        (λ e. omega (arith, used_put s, one_if (site.boundary == s) (same_test site.boundary s e), subst (λ t. used_in table t ≤ table.shape.k) e left))
+        (λ ne. omega (arith, used_put s, zero_if (site.boundary == s) (apart_test site.boundary s ne), ok.used s))
+        (cases_eq site.boundary s);
   }
     where
       taken_twice : (c s k : ℕ) → StandsIn table c s k → site ≡ site_at s k → ⊥
@@ -118,6 +122,11 @@ module _ (table : Table) (b s : ℕ) (within : b < length table.rows) where
         (λ e. subst (λ xs. count_on t xs ≤ 1) (sym (ap (sites_in (without_site table b s)) e ∙ sites_without_here)) (one_less t))
         (λ ne. subst (λ xs. count_on t xs ≤ 1) (sym (sites_without_other c ne)) (ok.one_site c t))
         (cases_eq c b);
+    used = λ t.
+        ⊎_elim
+        (λ e. subst (λ u. used_in (without_site table b s) u ≤ table.shape.k + 1) e (omega (arith, used_without_here, ok.used s)))
+        (λ ne. omega (arith, used_without_other t ne, ok.used t))
+        (cases_eq s t);
   }
     where
       one_less : (t : ℕ) → count_on t (sites_off s (sites_in table b)) ≤ 1
@@ -174,4 +183,16 @@ IsTable-empty shape ok = record {
   slots = λ b s k h. absurd (none_stands shape b s k h);
   one_block = λ a b s k g h. absurd (none_stands shape a s k g);
   one_site = λ b s. subst (λ xs. count_on s xs ≤ 1) (sym (empty_row shape.n b)) (omega arith);
+  used = λ s. omega (arith, used_empty shape s);
 }
+
+-- a block that has a site is one of the table's
+pub block_within : (table : Table) (b s slot : ℕ) → StandsIn table b s slot → b < length table.rows
+block_within table b s slot h =
+    ⊎_elim
+    (λ lt. lt)
+    (λ past. absurd (past_none (subst (λ xs. Contains xs (site_at s slot)) (get_or_past table.rows b [] past) h)))
+    (cases_lt b (length table.rows))
+  where
+    past_none : Contains [] (site_at s slot) → ⊥
+    past_none h = absurd (omega (arith, h.1))

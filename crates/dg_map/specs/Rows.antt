@@ -1,7 +1,6 @@
 -- The sites of each block, as an ordered map holds them.
-use Rattle.std.specs.Prelude.{◌≡◌, ◌==◌, ◌++◌, ℕ, List, [], ◌∷◌, Option, Some, None, cond, not}
+use Rattle.std.specs.Prelude.{◌≡◌, ◌==◌, ◌++◌, ℕ, List, [], ◌∷◌, Option, Some, None, cond}
 use Rattle.std.specs.Global.{Vec}
-use Rattle.std.specs.List.{filter}
 use Rattle.std.specs.Ordering.{nat_cmp}
 use Rattle.std.specs.BTreeMap.{BTreeMap, get}
 use Rattle.dg_model.specs.declared.sites.Site.{Site}
@@ -26,7 +25,3 @@ SetsRow old new block sites = (b : ℕ) → row_of new b ≡ cond (block == b) s
 -- the site is the last of the block's list now
 abbrev pub Appends : BTreeMap ℕ (Vec Site) → BTreeMap ℕ (Vec Site) → ℕ → Site → Type 0
 Appends old new block site = SetsRow old new block (row_of old block ++ site ∷ [])
-
--- the sites that aren't on the boundary
-abbrev pub sites_off : ℕ → List Site → List Site
-sites_off boundary sites = filter (λ site. not (site.boundary == boundary)) sites

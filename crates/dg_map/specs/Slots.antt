@@ -26,6 +26,7 @@ IsIdle slots slot = (slot < slots.next) × (block_in slots slot ≡ None)
 -- what the tables of a boundary keep: used slots are below the mark; `freed` and `dropped` have just the free slots
 -- below it; and each used slot can be given up without memory
 pub record IsSlots (slots : Slots) : Type 0 where
+  pub ordered : tree.IsOrdered nat_cmp slots.blocks
   pub small : slots.most ≤ 2 ^ 20 + 1
   pub mark : slots.next ≤ slots.most
   pub used : (slot : ℕ) → IsSome (block_in slots slot) → slot < slots.next

@@ -1,5 +1,5 @@
 -- The table of sites: which slots each block stands in. The rules are this project's own.
-use Rattle.std.specs.Prelude.{◌≡◌, ◌<◌, ◌≤◌, ◌==◌, ◌++◌, not, ℕ, List, [], ◌∷◌, length, slice_index_or, slice_set, replicate, count_by, Result, Ok, Err}
+use Rattle.std.specs.Prelude.{◌≡◌, ◌+◌, ◌<◌, ◌≤◌, ◌==◌, ◌++◌, not, ℕ, List, [], ◌∷◌, length, slice_index_or, slice_set, replicate, count_by, Result, Ok, Err}
 use Rattle.std.specs.List.{Contains, filter, sum_by}
 use Rattle.dg_model.specs.declared.shapes.Shape.{Shape}
 use Rattle.dg_model.specs.declared.sites.Site.{Site}
@@ -23,6 +23,10 @@ sites_in table b = slice_index_or table.rows b []
 -- how many of the sites are on boundary s
 abbrev pub count_on : ℕ → List Site → ℕ
 count_on s sites = count_by (λ site. site.boundary == s) sites
+
+-- the sites that aren't on boundary s, in their order
+abbrev pub sites_off : ℕ → List Site → List Site
+sites_off s sites = filter (λ site. not (site.boundary == s)) sites
 
 -- how many slots of boundary s are used
 abbrev pub used_in : Table → ℕ → ℕ
@@ -51,10 +55,10 @@ put_site table b site = record table { rows = slice_set table.rows b (sites_in t
 
 -- the table once block b has no site on boundary s; its other sites keep their order
 abbrev pub without_site : Table → ℕ → ℕ → Table
-without_site table b s = record table { rows = slice_set table.rows b (filter (λ site. not (site.boundary == s)) (sites_in table b)) }
+without_site table b s = record table { rows = slice_set table.rows b (sites_off s (sites_in table b)) }
 
--- what every table keeps: a slot is one of the K counted ones or the spare one, no slot stands under two blocks, and no
--- block has two sites on one boundary
+-- what every table keeps: a slot is one of the K counted ones or the spare one, no slot stands under two blocks, no block
+-- has two sites on one boundary, and so at most K+1 slots of a boundary are used
 pub record IsTable (table : Table) : Type 0 where
   pub shape : IsShape table.shape
   pub size : length table.rows ≡ table.shape.n
@@ -62,6 +66,7 @@ pub record IsTable (table : Table) : Type 0 where
   pub slots : (b s slot : ℕ) → StandsIn table b s slot → slot ≤ table.shape.k
   pub one_block : (a b s slot : ℕ) → StandsIn table a s slot → StandsIn table b s slot → a ≡ b
   pub one_site : (b s : ℕ) → count_on s (sites_in table b) ≤ 1
+  pub used : (s : ℕ) → used_in table s ≤ table.shape.k + 1
 
 -- the answer is `Full` exactly where so many slots are used
 abbrev pub IsFullAt : ℕ → ℕ → Result Site TakeFault → Type 0

@@ -1,4 +1,4 @@
-ghost use Rattle.std.specs.Prelude.{◌≡◌, ◌+◌, ◌-◌, ◌^◌, ◌++◌, ◌<◌, ◌≤◌, ℕ, List, [], ◌∷◌, length, IsSome, IfOk, OnErr, OnOk, MatchOption, MatchResult};
+ghost use Rattle.std.specs.Prelude.{◌≡◌, ◌+◌, ◌-◌, ◌^◌, ◌++◌, ◌<◌, ◌≤◌, ℕ, List, [], ◌∷◌, length, IsSome, IfOk, IfSome, OnErr, OnOk, MatchOption, MatchResult};
 ghost use Rattle.std.specs.List.{All};
 ghost use Rattle.dg_model.specs.Shapes.{IsShape};
 ghost use Rattle.dg_map.specs.Rows.{Appends, SameRows};
@@ -67,6 +67,7 @@ impl Map {
     /// The block that stands in the site. No block stands in a site that isn't one of the array.
     pub fn block_at(&self, site: Site) -> Option<u32>
         ensures block { MatchOption result (IsFree self.now site.boundary site.slot) (λ b. StandsIn self.now b site.boundary site.slot) }
+        ensures within { IfSome result (λ b. b < self.now.shape.n) }
         ensures table { IsTable self.now }
     {
         if site.boundary >= self.shape.b {
