@@ -9,6 +9,8 @@ mod boundary_slots;
 mod faults;
 mod maps;
 mod site_lists;
+#[cfg(test)]
+mod tests;
 
 pub use dg_model::{NoMemory, Shape, Site};
 pub use faults::TakeFault;
