@@ -4,6 +4,7 @@ ghost use Rattle.dg_map.specs.Tables.{count_on};
 use crate::{Map, Shape, Site, TakeFault};
 use Answer::{Barred, Full, Left, NoMemory, Slot};
 use Call::{GiveUp, Retake, Spare, Take};
+use std::process::Abort;
 use std::test::Fail;
 
 /// A call on a map, for a block and a boundary.
@@ -120,7 +121,7 @@ type Row = (
     Option<(u8, u32)>,
 );
 
-const ROWS: [Row; 20] = [
+static ROWS: [Row; 20] = [
     (Take, 0, 0, Slot(0), (1, 2), Some((0, 0)), None),
     (Take, 1, 0, Slot(1), (2, 1), Some((0, 1)), None),
     (Take, 2, 0, Slot(2), (3, 0), Some((0, 2)), None),
@@ -143,32 +144,24 @@ const ROWS: [Row; 20] = [
     (Spare, 5, 0, Slot(3), (4, 0), Some((1, 3)), Some((0, 3))),
 ];
 
-// Six blocks on two boundaries of three counted slots and the spare one.
-#[test]
-fn takes_and_drops(rt: HostRuntime) -> Result<(), Fail> {
-    let shape = Shape::check(512, 6, 2, 3, 1).ok_or("the shape")?;
-    let Ok(mut map) = Map::new(rt.alloc(), shape) else {
-        return Err("no memory".into());
-    };
-    assert_eq!(rt; *map.shape(), shape);
-    for (call, block, boundary, want, counted, first, second) in ROWS {
-        assert_eq!(rt;
-            called(&mut map, call, block, boundary),
-            want,
-            "{call:?} {block} {boundary}"
-        );
-        assert_eq!(rt;
-            counts(&map, boundary),
-            Some(counted),
-            "{call:?} {block} {boundary}"
-        );
-        assert_eq!(rt; place(&map, block, 0), first, "{call:?} {block} {boundary}");
-        assert_eq!(rt;
-            place(&map, block, 1),
-            second,
-            "{call:?} {block} {boundary}"
-        );
-    }
+fn check_row(rt: &impl Abort, map: &mut Map, row: &Row) {
+    let &(call, block, boundary, want, counted, first, second) = row;
+    assert_eq!(rt;
+        called(map, call, block, boundary),
+        want,
+        "{call:?} {block} {boundary}"
+    );
+    assert_eq!(rt;
+        counts(map, boundary),
+        Some(counted),
+        "{call:?} {block} {boundary}"
+    );
+    assert_eq!(rt; place(map, block, 0), first, "{call:?} {block} {boundary}");
+    assert_eq!(rt; place(map, block, 1), second, "{call:?} {block} {boundary}");
+}
+
+/// The block in each site after the last row.
+fn check_blocks(rt: &impl Abort, map: &Map) {
     for (boundary, blocks) in [
         (0, [Some(0), Some(4), Some(2), Some(5), None]),
         (1, [Some(0), Some(3), Some(1), Some(5), None]),
@@ -182,6 +175,20 @@ fn takes_and_drops(rt: HostRuntime) -> Result<(), Fail> {
             );
         }
     }
+}
+
+// Six blocks on two boundaries of three counted slots and the spare one.
+#[test]
+fn takes_and_drops(rt: HostRuntime) -> Result<(), Fail> {
+    let shape = Shape::check(512, 6, 2, 3, 1).ok_or("the shape")?;
+    let Ok(mut map) = Map::new(rt.alloc(), shape) else {
+        return Err("no memory".into());
+    };
+    assert_eq!(rt; *map.shape(), shape);
+    for row in &ROWS {
+        check_row(&rt, &mut map, row);
+    }
+    check_blocks(&rt, &map);
     Ok(())
 }
 
