@@ -1,0 +1,5 @@
+pub mod AgreeLemmas
+pub mod MapLemmas
+pub mod RowLemmas
+pub mod SlotLemmas
+pub mod TableLemmas

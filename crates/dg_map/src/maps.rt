@@ -1,0 +1,235 @@
+ghost use Rattle.std.specs.Prelude.{◌≡◌, ◌+◌, ◌-◌, ◌^◌, ◌++◌, ◌<◌, ◌≤◌, ℕ, List, [], ◌∷◌, length, IsSome, IfOk, IfSome, OnErr, OnOk, MatchOption, MatchResult};
+ghost use Rattle.std.specs.List.{All};
+ghost use Rattle.dg_model.specs.Shapes.{IsShape};
+ghost use Rattle.dg_map.specs.Rows.{Appends, SameRows};
+ghost use Rattle.dg_map.specs.Slots.{IsSlots, IsUnused, Keeps, Puts, block_in, used_count};
+ghost use Rattle.dg_map.specs.Tables.{IsFree, IsFullAt, IsLowestFree, IsTable, StandsIn, Table, count_on, empty_table, put_site, sites_in, used_in, without_site};
+
+use crate::boundary_slots::Slots;
+use crate::faults::TakeFault;
+use crate::site_lists::SiteLists;
+use dg_model::{NoMemory, Shape, Site};
+use std::alloc::Global;
+use std::marker::Model;
+
+/// The sites of every block. A contract sees the shape and each block's list of sites, in the order of taking.
+#[derive(Drop)]
+pub struct Map {
+    shape: Shape,
+    lists: SiteLists,
+    /// The slots of each boundary.
+    boundaries: Vec<Slots>,
+}
+
+impl Model for Map {
+    ghost use Rattle.dg_map.specs.Tables.{Table};
+
+    ghost Value = { Table };
+
+    ghost use Rattle.dg_map.specs.Maps.{IsMap, table_of};
+
+    ghost view = { table_of };
+
+    ghost invariant = { IsMap };
+}
+
+impl Map {
+    /// The map in which no block has a site.
+    pub fn new(alloc: Global, shape: Shape) -> Result<Map, NoMemory>
+        requires { IsShape shape }
+        ensures empty { IfOk result (λ map. map ≡ empty_table shape) }
+        ensures table { IfOk result IsTable }
+    {
+        Ok(Map {
+            shape,
+            lists: SiteLists::new(alloc),
+            boundaries: free_boundaries(alloc, shape.b, shape.k + 1)?,
+        })
+    }
+
+    /// The shape that the map was made with.
+    pub fn shape(&self) -> &Shape
+        ensures shape { result.now ≡ self.now.shape }
+        ensures table { IsTable self.now }
+    {
+        &self.shape
+    }
+
+    /// The sites of the block, in the order of taking.
+    pub fn sites(&self, block: u32) -> &[Site]
+        requires { block < self.now.shape.n }
+        ensures sites { result.now ≡ sites_in self.now block }
+        ensures table { IsTable self.now }
+    {
+        self.lists.of(block)
+    }
+
+    /// The block that stands in the site. No block stands in a site that isn't one of the array.
+    pub fn block_at(&self, site: Site) -> Option<u32>
+        ensures block { MatchOption result (IsFree self.now site.boundary site.slot) (λ b. StandsIn self.now b site.boundary site.slot) }
+        ensures within { IfSome result (λ b. b < self.now.shape.n) }
+        ensures table { IsTable self.now }
+    {
+        if site.boundary >= self.shape.b {
+            return None;
+        }
+        self.boundaries[site.boundary as usize].block_at(site.slot)
+    }
+
+    /// How many slots of the boundary are used.
+    pub fn used(&self, boundary: u8) -> u32
+        requires { boundary < self.now.shape.b }
+        ensures used { result ≡ used_in self.now boundary }
+        ensures most { result ≤ self.now.shape.k + 1 }
+        ensures table { IsTable self.now }
+    {
+        self.boundaries[boundary as usize].used()
+    }
+
+    /// How many counted slots of the boundary are left: K less the used ones, and at least 0.
+    pub fn room(&self, boundary: u8) -> u32
+        requires { boundary < self.now.shape.b }
+        ensures room { result ≡ self.now.shape.k - used_in self.now boundary }
+        ensures table { IsTable self.now }
+    {
+        self.shape.k.saturating_sub(self.used(boundary))
+    }
+
+    /// Gives the block the lowest free slot of the boundary. `Full` where K or more of its slots are used.
+    pub fn take(&mut self, block: u32, boundary: u8) -> Result<Site, TakeFault>
+        requires block { block < self.old.shape.n }
+        requires boundary { boundary < self.old.shape.b }
+        requires none { count_on boundary (sites_in self.old block) ≡ 0 }
+        ensures full { IsFullAt self.old.shape.k (used_in self.old boundary) result }
+        ensures taken { IfOk result (λ site. (site.boundary ≡ boundary) × IsLowestFree self.old boundary site.slot × (self.new ≡ put_site self.old block site)) }
+        ensures refused { OnErr result (self.new ≡ self.old) }
+        ensures table { IsTable self.new }
+    {
+        if self.used(boundary) >= self.shape.k {
+            return Err(TakeFault::Full);
+        }
+        match self.take_lowest(block, boundary) {
+            Ok(site) => Ok(site),
+            Err(NoMemory) => Err(TakeFault::NoMemory),
+        }
+    }
+
+    /// Gives the block the lowest free slot of the boundary, the spare one among them. `Full` where all K+1 are used.
+    pub fn take_spare(&mut self, block: u32, boundary: u8) -> Result<Site, TakeFault>
+        requires block { block < self.old.shape.n }
+        requires boundary { boundary < self.old.shape.b }
+        requires none { count_on boundary (sites_in self.old block) ≡ 0 }
+        ensures full { IsFullAt (self.old.shape.k + 1) (used_in self.old boundary) result }
+        ensures taken { IfOk result (λ site. (site.boundary ≡ boundary) × IsLowestFree self.old boundary site.slot × (self.new ≡ put_site self.old block site)) }
+        ensures refused { OnErr result (self.new ≡ self.old) }
+        ensures table { IsTable self.new }
+    {
+        if self.used(boundary) > self.shape.k {
+            return Err(TakeFault::Full);
+        }
+        match self.take_lowest(block, boundary) {
+            Ok(site) => Ok(site),
+            Err(NoMemory) => Err(TakeFault::NoMemory),
+        }
+    }
+
+    /// Gives the block this very slot, which is free, as the last site of its list.
+    pub fn retake(&mut self, block: u32, site: Site) -> Result<(), NoMemory>
+        requires block { block < self.old.shape.n }
+        requires boundary { site.boundary < self.old.shape.b }
+        requires slot { site.slot ≤ self.old.shape.k }
+        requires free { IsFree self.old site.boundary site.slot }
+        requires none { count_on site.boundary (sites_in self.old block) ≡ 0 }
+        ensures taken { OnOk result (self.new ≡ put_site self.old block site) }
+        ensures undone { OnOk result ((before : Table) (others : List Site) → IsTable before → sites_in before block ≡ others ++ site ∷ [] → self.old ≡ without_site before block site.boundary → self.new ≡ before) }
+        ensures refused { OnErr result (self.new ≡ self.old) }
+        ensures table { IsTable self.new }
+    {
+        let slots = &mut self.boundaries[site.boundary as usize];
+        place_at(slots, &mut self.lists, block, site)
+    }
+
+    /// Takes the block's site on the boundary from it, and makes the slot free. Its other sites keep their order.
+    pub fn drop_site(&mut self, block: u32, boundary: u8)
+        requires block { block < self.old.shape.n }
+        requires boundary { boundary < self.old.shape.b }
+        requires one { 0 < count_on boundary (sites_in self.old block) }
+        ensures dropped { self.new ≡ without_site self.old block boundary }
+        ensures table { IsTable self.new }
+    {
+        let slot = self.lists.take_out(block, boundary);
+        self.boundaries[boundary as usize].give_up(slot);
+    }
+
+    /// Gives the block the lowest free slot of a boundary that has one.
+    fn take_lowest(&mut self, block: u32, boundary: u8) -> Result<Site, NoMemory>
+        requires block { block < self.old.shape.n }
+        requires boundary { boundary < self.old.shape.b }
+        requires none { count_on boundary (sites_in self.old block) ≡ 0 }
+        requires left { used_in self.old boundary ≤ self.old.shape.k }
+        ensures taken { IfOk result (λ site. (site.boundary ≡ boundary) × IsLowestFree self.old boundary site.slot × (self.new ≡ put_site self.old block site)) }
+        ensures refused { OnErr result (self.new ≡ self.old) }
+        ensures table { IsTable self.new }
+    {
+        let slots = &mut self.boundaries[boundary as usize];
+        place_lowest(slots, &mut self.lists, block, boundary)
+    }
+}
+
+/// So many boundaries, each with so many slots, none of them used.
+fn free_boundaries(alloc: Global, count: u8, most: u32) -> Result<Vec<Slots>, NoMemory>
+    requires { most ≤ 2 ^ 20 + 1 }
+    ensures count { IfOk result (λ boundaries. length boundaries.items ≡ count) }
+    ensures unused { IfOk result (λ boundaries. All (IsUnused most) boundaries.items) }
+{
+    let mut boundaries = Vec::new(alloc);
+    for _ in 0..count {
+        let Ok(()) = boundaries.push(Slots::new(alloc, most)) else {
+            return Err(NoMemory);
+        };
+    }
+    Ok(boundaries)
+}
+
+/// Puts the block in the lowest free slot, and the site last in its list.
+fn place_lowest(
+    slots: &mut Slots,
+    lists: &mut SiteLists,
+    block: u32,
+    boundary: u8,
+) -> Result<Site, NoMemory>
+    requires sound { IsSlots slots.old }
+    requires left { used_count slots.old < slots.old.most }
+    ensures slots { MatchResult result (λ site. Puts slots.old slots.new site.slot block) (λ _. Keeps slots.old slots.new) }
+    ensures lists { MatchResult result (λ site. Appends lists.old.rows lists.new.rows block site) (λ _. SameRows lists.old.rows lists.new.rows) }
+    ensures lowest { IfOk result (λ site. (site.boundary ≡ boundary) × ((k : ℕ) → k < site.slot → IsSome (block_in slots.old k))) }
+{
+    let slot = slots.take(block)?;
+    let site = Site { boundary, slot };
+    if lists.push(block, site).is_err() {
+        slots.give_up(slot);
+        return Err(NoMemory);
+    }
+    Ok(site)
+}
+
+/// Puts the block in this slot, and the site last in its list.
+fn place_at(
+    slots: &mut Slots,
+    lists: &mut SiteLists,
+    block: u32,
+    site: Site,
+) -> Result<(), NoMemory>
+    requires sound { IsSlots slots.old }
+    requires within { site.slot < slots.old.most }
+    requires free { block_in slots.old site.slot ≡ None }
+    ensures slots { MatchResult result (λ _. Puts slots.old slots.new site.slot block) (λ _. Keeps slots.old slots.new) }
+    ensures lists { MatchResult result (λ _. Appends lists.old.rows lists.new.rows block site) (λ _. SameRows lists.old.rows lists.new.rows) }
+{
+    slots.take_at(site.slot, block)?;
+    if lists.push(block, site).is_err() {
+        slots.give_up(site.slot);
+        return Err(NoMemory);
+    }
+    Ok(())
+}
