@@ -1,5 +1,5 @@
 -- Members, boundaries, and the bytes of slots. The rules are this project's own.
-use Rattle.std.specs.Prelude.{◌≡◌, ◌⊎◌, ◌+◌, ◌*◌, ◌/◌, ◌-◌, ◌≤◌, ◌&&◌, ℕ, Bool, true, false, not, nat_lt, IfSome, List, length, slice_range, Option}
+use Rattle.std.specs.Prelude.{◌≡◌, ◌≢◌, ◌⊎◌, ◌+◌, ◌*◌, ◌/◌, ◌-◌, ◌≤◌, ◌&&◌, ℕ, Bool, true, false, not, nat_lt, IfSome, List, length, slice_range, Option}
 use Rattle.dg_model.specs.Causes.{Rose}
 use Rattle.dg_model.specs.declared.members.MemberState.{MemberState}
 use Rattle.dg_model.specs.declared.members.MemberState.TheVariants.{Good, Filling, Out}
@@ -55,3 +55,8 @@ pub record HasFallen (before now : ℕ → ℕ) (old new : ℕ → MemberState) 
 -- no event touched the members: each is as it was, or has fallen. The counts of faults are those before and after
 abbrev pub MembersFall : (ℕ → ℕ) → (ℕ → ℕ) → (ℕ → MemberState) → (ℕ → MemberState) → Type 0
 MembersFall before now old new = (q : ℕ) → (new q ≡ old q) ⊎ HasFallen before now old new q
+
+-- an event made member q fail: it is out, one that was refilled from it is too, and each other one is as it was
+pub record IsStruck (q : ℕ) (old new : ℕ → MemberState) : Type 0 where
+  pub out : new q ≡ Out
+  pub others : (p : ℕ) → p ≢ q → (new p ≡ old p) ⊎ ((is_filling (old p) ≡ true) × (new p ≡ Out) × (partner_of p ≡ q))

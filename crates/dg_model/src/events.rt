@@ -9,4 +9,6 @@ pub enum Event {
     Write(u32, Bytes),
     /// Reads a block.
     Read(u32),
+    /// A member fails, given by its boundary and its side, 0 or 1.
+    Fail(u32, u32),
 }

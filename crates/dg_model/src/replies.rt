@@ -11,6 +11,8 @@ pub enum Reply {
     Degraded,
     /// The block stands on lost boundaries alone.
     Unavailable,
+    /// The member is out already.
+    Already,
     /// The bytes of a block, without the zeros at its end.
     Data(Bytes),
 }

@@ -4,7 +4,7 @@ use Rattle.std.specs.Prelude.{Option, Some}
 use Rattle.std.proofs.lemmas.List.{append-nil}
 use Rattle.std.proofs.lemmas.List.Concat.{flat_map-append}
 use Rattle.std.proofs.lemmas.List.Elements.{All-append}
-use Rattle.dg_model.specs.States.{Counts, State}
+use Rattle.dg_model.specs.States.{Counts, CountsRise, State}
 use Rattle.dg_model.specs.Steps.{Step}
 use Rattle.dg_model.specs.Runs.{Run}
 use Rattle.dg_model.specs.declared.shapes.Shape.{Shape}
@@ -12,10 +12,10 @@ use Rattle.dg_model.specs.declared.events.Event.{Event}
 use Rattle.dg_model.specs.declared.replies.Reply.{Reply}
 use Rattle.dg_io.specs.Told.{Told, Took, StillTold}
 use Rattle.dg_store.specs.declared.store.Store.{Store}
-use Rattle.dg_model.specs.Members.{MembersFall}
+use Rattle.dg_model.specs.Members.{MembersFall, IsStruck}
 use Rattle.dg_model.specs.declared.members.MemberState.{MemberState}
 use Rattle.dg_model.specs.declared.members.MemberState.TheVariants.{Out}
-use Rattle.std.proofs.lemmas.Bool.{cases_lt}
+use Rattle.std.proofs.lemmas.Bool.{cases_lt, cases_eq}
 use Rattle.dg_store.specs.Stores.{rack_of, shape_of, members_of, Tells}
 use Rattle.dg_text.specs.Lines.{line_of, input_of, IsInPlace}
 use Rattle.dg_text.specs.Replies.{reply_line, output_of}
@@ -170,3 +170,16 @@ tells_good bytes store out told q good = elim (cases_lt (q / 2) (shape_of store)
 pub false_of : (b : Bool) → (b ≡ true → ⊥) → b ≡ false
 false_of true none = absurd (none refl)
 false_of false none = refl
+
+-- a member that was out already is made to fail: nothing changes but with a cause
+pub struck_falls : (q : ℕ) (before now : ℕ → ℕ) (old new : ℕ → MemberState) → old q ≡ Out → IsStruck q old new → MembersFall before now old new
+struck_falls q before now old new was struck p = elim (cases_eq p q) [
+  | inl here ↦ inl (ap new here ∙ struck.out ∙ sym was ∙ ap old (sym here))
+  | inr other ↦ elim (struck.others p other) [
+    | inl same ↦ inl same
+    | inr gone ↦ inr (record { out = gone.1; caused = inr (gone.0, ap new gone.2 ∙ struck.out) })
+  ]
+]
+
+pub counts_stay : (before now : Counts) → now ≡ before → CountsRise before now
+counts_stay before now same = subst (λ (c : Counts). CountsRise before c) (sym same) (record { faults = λ q. omega arith; calls = omega arith; writes = omega arith })

@@ -7,7 +7,7 @@ use Rattle.dg_model.specs.Shapes.{IsShape}
 use Rattle.dg_model.specs.States.{Counts, State, IsBlank, zeros}
 use Rattle.dg_model.specs.declared.shapes.Shape.{Shape}
 use Rattle.dg_model.specs.declared.events.Event.{Event}
-use Rattle.dg_model.specs.declared.events.Event.TheVariants.{Array, Write, Read}
+use Rattle.dg_model.specs.declared.events.Event.TheVariants.{Array, Write, Read, Fail}
 use Rattle.dg_model.specs.declared.replies.Reply.{Reply}
 use Rattle.dg_model.specs.declared.replies.Reply.TheVariants.{Done}
 use Rattle.dg_model.specs.declared.members.MemberState.TheVariants.{Out}
@@ -103,6 +103,7 @@ module _ (before now : Counts) (bytes : ℕ → Option (List ℕ)) (shape : Shap
   no_input events a b text line cut [] input is = absurd (input.some refl)
   no_input events a b text line cut (Write n bs ∷ es) input is = absurd input.in_place
   no_input events a b text line cut (Read n ∷ es) input is = absurd input.in_place
+  no_input events a b text line cut (Fail s j ∷ es) input is = absurd input.in_place
   no_input events a b text line cut (Array s ∷ es) input is =
       let same : Array s ≡ Array shape = line.only (Array s) (input_of es) input.in_place.0 is in
       let shapes : s ≡ shape = cc same in
@@ -137,6 +138,7 @@ first_no_input : (text : List ℕ) → IsNoFirst text → IsNoInput text
 first_no_input text none [] input is = input.some refl
 first_no_input text none (Write n bs ∷ es) input is = input.in_place
 first_no_input text none (Read n ∷ es) input is = input.in_place
+first_no_input text none (Fail s j ∷ es) input is = input.in_place
 first_no_input text none (Array s ∷ es) input is =
     let over = none (Array s) (input_of es) input.in_place.0 is in
     let budget = input.budget in

@@ -11,7 +11,7 @@ ghost use Rattle.dg_run.specs.Stores.{IsReady, GoesOn, StepsTo, Answered};
 use crate::events::Fault;
 use dg_io::{Rack, Sink};
 use dg_model::{Bytes, Event, NoMemory, Reply};
-use dg_store::{Fetched, Store, StoreWrite};
+use dg_store::{FailAnswer, Fetched, Store, StoreWrite};
 use dg_text::{write_data, write_reply};
 
 /// Fills a block with these bytes, and zeros for its missing end.
@@ -144,6 +144,40 @@ fn serve_read<R: Rack, K: Sink>(
     }
 }
 
+/// Makes a member fail.
+fn fail_member<R: Rack>(store: &mut Store<R>, s: u32, j: u32) -> Reply
+    requires ready { IsReady R.bytes store.old }
+    ensures goes { GoesOn R.bytes R.name store.old store.new }
+    ensures short { IsShort result }
+    ensures steps { StepsTo R.counts R.bytes store.old (Event.Fail s j) result store.new }
+{
+    if s >= store.shape().b as u32 || j >= 2 {
+        return Reply::Range;
+    }
+    match store.fail(s as u8, j as u8) {
+        FailAnswer::Already => Reply::Already,
+        FailAnswer::Taken => Reply::Done,
+    }
+}
+
+/// Makes a member fail, and writes the reply.
+fn serve_fail<R: Rack, K: Sink>(
+    store: &mut Store<R>,
+    sink: &mut K,
+    s: u32,
+    j: u32,
+) -> Result<(), Fault>
+    requires ready { IsReady R.bytes store.old }
+    ensures goes { GoesOn R.bytes R.name store.old store.new }
+    ensures answered { OnOk result (Answered R.counts R.bytes (Event.Fail s j) (K.taken sink.old) (K.taken sink.new) store.old store.new) }
+    ensures later { K.faults sink.old ≤ K.faults sink.new }
+    ensures read { result ≡ Err Fault.Read → ⊥ }
+    ensures write { result ≡ Err Fault.Write → Rose (K.faults sink.old) (K.faults sink.new) }
+{
+    let reply = fail_member(store, s, j);
+    send(sink, &reply)
+}
+
 /// Does an event that is in its place after the array, and writes its reply.
 pub fn serve<R: Rack, K: Sink>(
     store: &mut Store<R>,
@@ -163,6 +197,7 @@ pub fn serve<R: Rack, K: Sink>(
     match event {
         Event::Write(b, bytes) => serve_write(store, sink, *b, bytes, block),
         Event::Read(b) => serve_read(store, sink, *b, block),
+        Event::Fail(s, j) => serve_fail(store, sink, *s, *j),
         Event::Array(_) => unreachable!(),
     }
 }

@@ -2,3 +2,4 @@ mod Blocks
 mod Calls
 mod Changed
 mod Rows
+mod Struck

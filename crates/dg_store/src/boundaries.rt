@@ -1,7 +1,7 @@
 // A row of boundaries, and one slot of it. These functions work on the parts of a store.
 ghost use Rattle.std.specs.Prelude.{◌≡◌, ◌≢◌, ◌⊎◌, ◌↔◌, ◌+◌, ◌*◌, ◌/◌, ◌≤◌, ◌<◌, ℕ, List, length, IsTrue, true, IsSome, IfOk, All, Any};
 ghost use Rattle.dg_model.specs.Causes.{Rose};
-ghost use Rattle.dg_model.specs.Members.{is_lost, SlotHolds, MembersFall};
+ghost use Rattle.dg_model.specs.Members.{is_lost, SlotHolds, MembersFall, IsStruck};
 ghost use Rattle.dg_model.specs.Shapes.{IsShape};
 ghost use Rattle.dg_model.specs.States.{CountsRise};
 ghost use Rattle.dg_io.specs.Told.{StillTold};
@@ -12,7 +12,7 @@ ghost use Rattle.dg_store.specs.Rows.{members_in, RowStands, RowBegins, AreZeroe
 use crate::{Shape, member_length};
 use dg_io::{NoMemory, Rack};
 use dg_model::MemberState;
-use dg_pair::{Boundary, PairRead, PairWrite};
+use dg_pair::{Boundary, FailAnswer, PairRead, PairWrite};
 use std::alloc::Global;
 
 /// Makes the boundaries, and blanks their members, ascending by number.
@@ -113,4 +113,17 @@ pub fn write_slot<R: Rack>(
     ensures name { R.name rack.new ≡ R.name rack.old }
 {
     row[boundary as usize].write(rack, slot, buf)
+}
+
+/// Makes a side (0 or 1) of a boundary fail, by the boundary's number.
+pub fn fail_side(row: &mut Vec<Boundary>, shape: &Shape, boundary: u8, side: u8) -> FailAnswer
+    requires stands { RowStands shape.now.l (shape.now.k + 1) row.old.items }
+    requires within { boundary < length row.old.items }
+    requires side { side < 2 }
+    ensures count { length row.new.items ≡ length row.old.items }
+    ensures stands { RowStands shape.now.l (shape.now.k + 1) row.new.items }
+    ensures already { (result ≡ FailAnswer.Already) ↔ (members_in row.old.items (2 * boundary + side) ≡ MemberState.Out) }
+    ensures struck { IsStruck (2 * boundary + side) (members_in row.old.items) (members_in row.new.items) }
+{
+    row[boundary as usize].fail(side)
 }

@@ -8,5 +8,6 @@ mod store;
 mod tests;
 
 pub use dg_model::{Shape, Site};
+pub use dg_pair::FailAnswer;
 pub use lengths::member_length;
 pub use store::{Fetched, Store, StoreWrite};

@@ -1,7 +1,7 @@
 // Block b stands at boundary b mod B, slot b / B, on both members.
 ghost use Rattle.std.specs.Prelude.{◌≡◌, ◌↔◌, ◌+◌, ◌*◌, ◌/◌, ◌%◌, ◌≤◌, ◌<◌, ℕ, List, length, IsTrue, true, [], IfOk, OnErr, replicate, slice_set};
 ghost use Rattle.dg_model.specs.Causes.{Rose};
-ghost use Rattle.dg_model.specs.Members.{MembersFall};
+ghost use Rattle.dg_model.specs.Members.{MembersFall, IsStruck};
 ghost use Rattle.dg_model.specs.Shapes.{IsShape};
 ghost use Rattle.dg_model.specs.Sites.{has_site, all_lost, is_gone, first_sites};
 ghost use Rattle.dg_model.specs.States.{CountsRise, IsBlank, HasLost, zeros, block_in};
@@ -10,10 +10,10 @@ ghost use Rattle.dg_store.specs.Lengths.{length_of, IsZeroed};
 ghost use Rattle.dg_store.specs.Stores.{rack_of, shape_of, members_of, sites_of, state_of, IsSound, StandsFor, Tells};
 
 use crate::Shape;
-use crate::boundaries::{blank_row, has_lost, read_slot, write_slot};
+use crate::boundaries::{blank_row, fail_side, has_lost, read_slot, write_slot};
 use dg_io::{NoMemory, Rack};
 use dg_model::MemberState;
-use dg_pair::{Boundary, PairRead, PairWrite};
+use dg_pair::{Boundary, FailAnswer, PairRead, PairWrite};
 use std::alloc::Global;
 
 /// A flat array over the members of a rack.
@@ -91,6 +91,23 @@ impl<R: Rack> Store<R> {
         ensures { IsTrue result ↔ HasLost (shape_of self.now) (members_of self.now) }
     {
         has_lost(&self.row)
+    }
+
+    /// Makes a member fail, given by its boundary and its side, 0 or 1. It is out then, and so is one that was refilled
+    /// from it. It makes no call on the rack.
+    pub fn fail(&mut self, boundary: u8, side: u8) -> FailAnswer
+        requires sound { IsSound R.bytes self.old }
+        requires boundary { boundary < (shape_of self.old).b }
+        requires side { side < 2 }
+        ensures sound { IsSound R.bytes self.new }
+        ensures shape { shape_of self.new ≡ shape_of self.old }
+        ensures rack { rack_of self.new ≡ rack_of self.old }
+        ensures sites { (c : ℕ) → sites_of self.new c ≡ sites_of self.old c }
+        ensures already { (result ≡ FailAnswer.Already) ↔ (members_of self.old (2 * boundary + side) ≡ MemberState.Out) }
+        ensures struck { IsStruck (2 * boundary + side) (members_of self.old) (members_of self.new) }
+        ensures stands { (V : List (List ℕ)) → StandsFor R.counts R.bytes self.old V → StandsFor R.counts R.bytes self.new V }
+    {
+        fail_side(&mut self.row, &self.shape, boundary, side)
     }
 
     /// Reads a block. One that isn't written reads as zeros.

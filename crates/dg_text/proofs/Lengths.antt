@@ -8,7 +8,7 @@ use Rattle.hex.specs.Hex.{lower_digits}
 use Rattle.hex.proofs.HexLemmas.{length-encode_with}
 use Rattle.dg_model.specs.declared.shapes.Shape.{Shape}
 use Rattle.dg_model.specs.declared.events.Event.{Event}
-use Rattle.dg_model.specs.declared.events.Event.TheVariants.{Array, Write, Read}
+use Rattle.dg_model.specs.declared.events.Event.TheVariants.{Array, Write, Read, Fail}
 use Rattle.dg_text.specs.Lines.{hex_word, line_of, IsInPlace, longest}
 
 pub length_hex_word : (bytes : List ℕ) → length (hex_word bytes) ≤ 2 * length bytes + 1
@@ -31,6 +31,7 @@ line_fits None (Array s) h =
     simp length-append (omega arith)
 line_fits None (Write b bytes) h = absurd h
 line_fits None (Read b) h = absurd h
+line_fits None (Fail s j) h = absurd h
 line_fits (Some shape) (Array s) h = absurd h
 line_fits (Some shape) (Write b bytes) h =
     let number = short b h.0 in
@@ -38,4 +39,8 @@ line_fits (Some shape) (Write b bytes) h =
     simp length-append (omega arith)
 line_fits (Some shape) (Read b) h =
     let number = short b h in
+    simp length-append (omega arith)
+line_fits (Some shape) (Fail s j) h =
+    let boundary = short s h.0 in
+    let side = short j h.1 in
     simp length-append (omega arith)

@@ -7,7 +7,7 @@ use Rattle.hex.specs.Hex.{encode_lower}
 use Rattle.dg_model.specs.Shapes.{IsShape}
 use Rattle.dg_model.specs.declared.shapes.Shape.{Shape}
 use Rattle.dg_model.specs.declared.events.Event.{Event}
-use Rattle.dg_model.specs.declared.events.Event.TheVariants.{Array, Write, Read}
+use Rattle.dg_model.specs.declared.events.Event.TheVariants.{Array, Write, Read, Fail}
 
 -- bytes as a word
 abbrev pub hex_word : List ℕ → List ℕ
@@ -23,6 +23,7 @@ abbrev pub spelling : Event → List ℕ
 spelling (Array s) = codes "array " ++ shape_words s
 spelling (Write b bytes) = codes "write " ++ (decimal b ++ (codes " " ++ hex_word bytes))
 spelling (Read b) = codes "read " ++ decimal b
+spelling (Fail s j) = codes "fail " ++ (decimal s ++ (codes " " ++ decimal j))
 
 -- its line
 abbrev pub line_of : Event → List ℕ
@@ -41,9 +42,11 @@ abbrev pub IsInPlace : Option Shape → Event → Type 0
 IsInPlace None (Array s) = IsShape s
 IsInPlace None (Write b bytes) = ⊥
 IsInPlace None (Read b) = ⊥
+IsInPlace None (Fail s j) = ⊥
 IsInPlace (Some shape) (Array s) = ⊥
 IsInPlace (Some shape) (Write b bytes) = (b < 2 ^ 32) × (length bytes ≤ shape.l) × AreBytes bytes
 IsInPlace (Some shape) (Read b) = b < 2 ^ 32
+IsInPlace (Some shape) (Fail s j) = (s < 2 ^ 32) × (j < 2 ^ 32)
 
 -- the events of an input are in their places: the first makes an array, and the others follow it
 abbrev pub AreInPlace : List Event → Type 0
@@ -51,6 +54,7 @@ AreInPlace [] = Unit {0}
 AreInPlace (Array s ∷ events) = IsShape s × All (IsInPlace (Some s)) events
 AreInPlace (Write b bytes ∷ events) = ⊥
 AreInPlace (Read b ∷ events) = ⊥
+AreInPlace (Fail s j ∷ events) = ⊥
 
 -- a bound on the bytes of a line, with its LF: a block as hex and 4201 more. Before the array a block counts as 512 bytes
 abbrev pub longest : Option Shape → ℕ

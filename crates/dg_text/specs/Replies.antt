@@ -3,7 +3,7 @@ use Rattle.std.specs.Prelude.{◌≤◌, ℕ, List, ◌++◌, length, codes}
 use Rattle.std.specs.Fmt.{decimal}
 use Rattle.std.specs.List.{flat_map}
 use Rattle.dg_model.specs.declared.replies.Reply.{Reply}
-use Rattle.dg_model.specs.declared.replies.Reply.TheVariants.{Done, Range, Degraded, Unavailable, Data}
+use Rattle.dg_model.specs.declared.replies.Reply.TheVariants.{Done, Range, Degraded, Unavailable, Already, Data}
 use Rattle.dg_text.specs.Lines.{hex_word}
 use Rattle.dg_text.specs.declared.lines.BadLine.{BadLine}
 use Rattle.dg_text.specs.declared.lines.BadLine.TheVariants.{Form}
@@ -13,6 +13,7 @@ words_of Done = codes "ok"
 words_of Range = codes "range"
 words_of Degraded = codes "degraded"
 words_of Unavailable = codes "unavailable"
+words_of Already = codes "already"
 words_of (Data bytes) = codes "data " ++ hex_word bytes
 
 -- the line of a reply
@@ -29,6 +30,7 @@ IsShort Done = Unit {0}
 IsShort Range = Unit {0}
 IsShort Degraded = Unit {0}
 IsShort Unavailable = Unit {0}
+IsShort Already = Unit {0}
 IsShort (Data bytes) = length bytes ≤ 4096
 
 -- why a line is refused

@@ -62,6 +62,9 @@ fn event_of(alloc: Global, line: &[u8], shape: Option<&Shape>) -> Result<Option<
     if let Some(rest) = after_word(line, b"write ") {
         return write_of(alloc, rest, shape);
     }
+    if let Some(rest) = after_word(line, b"fail ") {
+        return Ok(fail_of(rest));
+    }
     Ok(read_of(line))
 }
 
@@ -105,11 +108,21 @@ fn write_of(alloc: Global, words: &[u8], shape: &Shape) -> Result<Option<Event>,
     }
 }
 
+// The failure that the words behind `fail ` spell.
+fn fail_of(words: &[u8]) -> Option<Event>
+    ensures spelled { IfSome result (λ event. codes "fail " ++ words.now ≡ spelling event) }
+    ensures in_place { (shape : Shape) → IfSome result (IsInPlace (Some shape)) }
+    ensures exact { (shape : Shape) (event : Event) → IsInPlace (Some shape) event → codes "fail " ++ words.now ≡ spelling event → result ≡ Some event }
+{
+    let (boundary, side) = number_before_space(words)?;
+    Some(Event::Fail(boundary, whole_number(side)?))
+}
+
 // The read that a line spells.
 fn read_of(line: &[u8]) -> Option<Event>
     ensures spelled { IfSome result (λ event. line.now ≡ spelling event) }
     ensures in_place { (shape : Shape) → IfSome result (IsInPlace (Some shape)) }
-    ensures exact { (shape : Shape) (event : Event) → IsInPlace (Some shape) event → line.now ≡ spelling event → ((rest : List ℕ) → line.now ≢ codes "write " ++ rest) → result ≡ Some event }
+    ensures exact { (shape : Shape) (event : Event) → IsInPlace (Some shape) event → line.now ≡ spelling event → ((rest : List ℕ) → line.now ≢ codes "write " ++ rest) → ((rest : List ℕ) → line.now ≢ codes "fail " ++ rest) → result ≡ Some event }
 {
     let number = after_word(line, b"read ")?;
     Some(Event::Read(whole_number(number)?))

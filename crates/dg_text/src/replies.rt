@@ -28,6 +28,7 @@ pub fn write_reply<K: Sink>(sink: &mut K, reply: &Reply) -> Result<(), Failed>
         Reply::Range => write_all(sink, b"range\n"),
         Reply::Degraded => write_all(sink, b"degraded\n"),
         Reply::Unavailable => write_all(sink, b"unavailable\n"),
+        Reply::Already => write_all(sink, b"already\n"),
         Reply::Data(bytes) => write_data(sink, bytes.as_slice()),
     }
 }

@@ -1,0 +1,46 @@
+-- A member is made to fail.
+use Rattle.std.proofs.Common.{◌≡◌, ◌≢◌, ◌⊎◌, inl, inr, ℕ, ◌+◌, ◌*◌, ◌/◌, ◌<◌, true, false, List, refl, sym, ◌∙◌, ap, subst, arith}
+use Rattle.std.specs.Prelude.{Option}
+use Rattle.std.proofs.lemmas.Bool.{cases_eq}
+use Rattle.dg_model.specs.Members.{is_filling, partner_of, serves, SlotHolds, IsStruck}
+use Rattle.dg_model.specs.declared.members.MemberState.{MemberState}
+use Rattle.dg_model.specs.declared.members.MemberState.TheVariants.{Good, Filling, Out}
+use Rattle.dg_pair.specs.Boundaries.{MembersFit, unfilled}
+use Rattle.dg_store.specs.Rows.{KeepsSlots}
+use Rattle.dg_store.proofs.Changed.{IsChanged}
+
+unfilled_is : (old new : MemberState) → new ≡ unfilled old → (new ≡ old) ⊎ ((is_filling old ≡ true) × (new ≡ Out))
+unfilled_is Good new is = inl is
+unfilled_is (Filling have) new is = inr (refl, is)
+unfilled_is Out new is = inl is
+
+-- the side of a boundary whose members were x's and are y's
+pub struck : (s side : ℕ) (x y old new : ℕ → MemberState) → side < 2 → IsChanged s x y old new → y (2 * s + side) ≡ Out → ((p : ℕ) → p ≢ (2 * s + side) → y p ≡ unfilled (x p)) → IsStruck (2 * s + side) old new
+struck s side x y old new low changed out others = record {
+  out = let at : (2 * s + side) / 2 ≡ s = omega arith in changed.here (2 * s + side) at ∙ out;
+  others = λ p other. elim (cases_eq (p / 2) s) [
+    | inl at ↦ elim (unfilled_is (old p) (new p) (changed.here p at ∙ others p other ∙ ap unfilled (sym (changed.was p at)))) [
+      | inl same ↦ inl same
+      | inr gone ↦ inr (gone.0, gone.1, let e : partner_of p ≡ 2 * s + side = omega arith in e)
+    ]
+    | inr off ↦ inl (changed.other p off)
+  ];
+}
+
+stays_or_out : (q p : ℕ) (old new : ℕ → MemberState) → IsStruck q old new → (new p ≡ old p) ⊎ (new p ≡ Out)
+stays_or_out q p old new is = elim (cases_eq p q) [
+  | inl here ↦ inr (ap new here ∙ is.out)
+  | inr other ↦ elim (is.others p other) [ inl same ↦ inl same | inr gone ↦ inr gone.1 ]
+]
+
+pub struck_keeps : (l q : ℕ) (old new : ℕ → MemberState) (bytes : ℕ → Option (List ℕ)) → IsStruck q old new → KeepsSlots l old bytes new bytes
+struck_keeps l q old new bytes is s slot v had p at served = elim (stays_or_out q p old new is) [
+  | inl same ↦ had p at (sym (ap (λ (m : MemberState). serves m slot) same) ∙ served)
+  | inr out ↦ let no : serves (new p) slot ≡ false = ap (λ (m : MemberState). serves m slot) out in absurd (cc (no, served))
+]
+
+pub struck_fits : (l slots q : ℕ) (old new : ℕ → MemberState) (bytes : ℕ → Option (List ℕ)) → IsStruck q old new → MembersFit l slots old bytes → MembersFit l slots new bytes
+struck_fits l slots q old new bytes is fits p called = elim (stays_or_out q p old new is) [
+  | inl same ↦ fits p (λ e. called (same ∙ e))
+  | inr out ↦ absurd (called out)
+]
