@@ -5,4 +5,5 @@ pub mod Inputs
 pub mod Lines
 pub mod Replays
 pub mod Scans
+pub mod Statuses
 pub mod Stores

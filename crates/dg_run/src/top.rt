@@ -6,6 +6,7 @@ ghost use Rattle.dg_store.specs.Stores.{shape_of, rack_of};
 ghost use Rattle.dg_text.specs.Lines.{line_of, input_of};
 ghost use Rattle.dg_text.specs.Replies.{usage, refusal};
 ghost use Rattle.dg_run.specs.Inputs.{ahead};
+ghost use Rattle.dg_run.specs.Statuses.{code_of};
 ghost use Rattle.dg_run.specs.Stores.{IsReady, GoesOn};
 ghost use Rattle.dg_run.specs.Replays.{Replayed, Stopped, IsReplay, IsInput};
 ghost use Rattle.dg_run.specs.Arrays.{AllAnswered, AnsweredTo, ArrayReplayed, ArrayStopped, IsOfReplay};
@@ -43,6 +44,25 @@ pub enum Status {
     Unclean,
     /// `cat` or `ls` gave no bytes and no listing, or `trace` refuses its image.
     Refused,
+}
+
+impl Status {
+    /// The exit status of the program.
+    pub fn code(self) -> u8
+        ensures { result ≡ code_of self }
+    {
+        match self {
+            Status::Done => 0,
+            Status::Usage => 1,
+            Status::BadLine => 2,
+            Status::ReadFault => 3,
+            Status::WriteFault => 4,
+            Status::NoMemory => 5,
+            Status::NoState => 6,
+            Status::Unclean => 7,
+            Status::Refused => 8,
+        }
+    }
 }
 
 /// How a replay ended, and its rack.

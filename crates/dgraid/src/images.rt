@@ -1,0 +1,132 @@
+// Image files as a rack. It tells no bytes.
+ghost use Rattle.std.specs.Prelude.{◌≡◌, ◌≢◌, ◌≤◌, ℕ, None, slice_index, IsErr};
+ghost use Rattle.dg_model.specs.Causes.{Rose, RoseByOne};
+
+use dg_io::{Failed, NoMemory, Rack};
+use std::fs::{File, OpenOptions};
+use std::os::unix::fs::FileExt;
+use std::{io, str};
+
+/// Members of the largest array.
+const MEMBERS: usize = 32;
+
+/// Numbers that a member can have.
+const NUMBERS: usize = 256;
+
+/// The members as image files in the current folder, and how often calls on each have failed. A file stays open from
+/// the blank that makes it.
+#[derive(Drop)]
+pub struct ImageRack {
+    rt: HostRuntime,
+    images: Vec<Option<File>>,
+    calls: u64,
+    writes: u64,
+    faults: [u64; NUMBERS],
+}
+
+/// The name of a member's file, `member-SS-J.img`: the boundary in two digits, and the side.
+fn name_of(member: u8) -> [u8; 15] {
+    let mut name = *b"member-00-0.img";
+    let boundary = member / 2;
+    name[7] = b'0' + boundary / 10 % 10;
+    name[8] = b'0' + boundary % 10;
+    name[10] = b'0' + member % 2;
+    name
+}
+
+/// Makes a member's file anew, of so many zero bytes.
+fn create(rt: HostRuntime, member: u8, length: u64) -> io::Result<File> {
+    let name = name_of(member);
+    let Ok(path) = str::from_utf8(&name) else {
+        return Err(io::Error::from(io::ErrorKind::InvalidInput));
+    };
+    let file = OpenOptions::new()
+        .read(true)
+        .write(true)
+        .create(true)
+        .truncate(true)
+        .open(&rt, path)?;
+    file.set_len(length)?;
+    Ok(file)
+}
+
+impl ImageRack {
+    /// No file is open yet. The table of the files is taken here.
+    pub fn new(rt: HostRuntime) -> Result<ImageRack, NoMemory> {
+        let mut images = Vec::new(rt.alloc());
+        for _ in 0..MEMBERS {
+            if images.push(None).is_err() {
+                return Err(NoMemory);
+            }
+        }
+        Ok(ImageRack {
+            rt,
+            images,
+            calls: 0,
+            writes: 0,
+            faults: [0; NUMBERS],
+        })
+    }
+
+    // The open file of a member.
+    fn image(&self, member: u8) -> Option<&File> {
+        match self.images.get(member as usize) {
+            Some(Some(file)) => Some(file),
+            _ => None,
+        }
+    }
+
+    // The call fails.
+    fn fault(&mut self, member: u8) -> Result<(), Failed>
+        ensures err { IsErr result }
+        ensures calls { self.new.calls ≡ self.old.calls }
+        ensures writes { self.new.writes ≡ self.old.writes }
+        ensures rose { Rose (slice_index self.old.faults member) (slice_index self.new.faults member) }
+        ensures later { slice_index self.old.faults member ≤ slice_index self.new.faults member }
+        ensures others { (q : ℕ) → q ≢ member → slice_index self.new.faults q ≡ slice_index self.old.faults q }
+    {
+        let count = self.faults[member as usize];
+        self.faults[member as usize] = count.saturating_add(1);
+        Err(Failed)
+    }
+}
+
+impl Rack for ImageRack {
+    ghost name = { λ _. 0 };
+
+    ghost bytes = { λ _ _. None };
+
+    ghost counts = { λ r. record { faults = λ q. slice_index r.faults q; calls = r.calls; writes = r.writes } };
+
+    fn blank(&mut self, member: u8, length: u64) -> Result<(), Failed> {
+        self.calls = self.calls.saturating_add(1);
+        self.writes = self.writes.saturating_add(1);
+        match (
+            create(self.rt, member, length),
+            self.images.get_mut(member as usize),
+        ) {
+            (Ok(file), Some(place)) => {
+                *place = Some(file);
+                Ok(())
+            }
+            _ => self.fault(member),
+        }
+    }
+
+    fn read(&mut self, member: u8, place: u64, buf: &mut [u8]) -> Result<(), Failed> {
+        self.calls = self.calls.saturating_add(1);
+        match self.image(member) {
+            Some(file) if file.read_exact_at(buf, place).is_ok() => Ok(()),
+            _ => self.fault(member),
+        }
+    }
+
+    fn write(&mut self, member: u8, place: u64, buf: &[u8]) -> Result<(), Failed> {
+        self.calls = self.calls.saturating_add(1);
+        self.writes = self.writes.saturating_add(1);
+        match self.image(member) {
+            Some(file) if file.write_all_at(buf, place).is_ok() => Ok(()),
+            _ => self.fault(member),
+        }
+    }
+}

@@ -1,0 +1,49 @@
+//! The program `dgraid`: the trace comes from standard input, the replies go to standard output, and the members are
+//! image files in the current folder. It ends with the status of the run.
+#![tactic(auto)]
+
+mod images;
+mod inputs;
+mod outputs;
+
+use dg_run::{Status, run};
+use images::ImageRack;
+use inputs::StandardInput;
+use outputs::StandardOutput;
+use std::env;
+use std::io::{self, ErrorKind};
+use std::process::ExitCode;
+
+/// The words after the program's name.
+fn words(rt: HostRuntime) -> io::Result<Vec<String>> {
+    let mut words = Vec::new(rt.alloc());
+    for word in env::args(&rt)?.skip(1) {
+        words.push(word)?;
+    }
+    Ok(words)
+}
+
+/// The words, or none where one of them isn't UTF-8: no words are no command.
+fn words_or_none(rt: HostRuntime) -> io::Result<Vec<String>> {
+    match words(rt) {
+        Err(error) if error.kind() == ErrorKind::InvalidData => Ok(Vec::new(rt.alloc())),
+        answer => answer,
+    }
+}
+
+/// Does what the words say.
+fn serve(rt: HostRuntime) -> Status {
+    let Ok(words) = words_or_none(rt) else {
+        return Status::NoMemory;
+    };
+    let Ok(mut rack) = ImageRack::new(rt) else {
+        return Status::NoMemory;
+    };
+    let mut source = StandardInput::new(rt);
+    let mut sink = StandardOutput::new(rt);
+    run(rt.alloc(), &words, &mut source, &mut sink, &mut rack)
+}
+
+fn main(rt: HostRuntime) -> ExitCode {
+    ExitCode::from(serve(rt).code())
+}
