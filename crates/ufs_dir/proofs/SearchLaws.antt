@@ -6,7 +6,8 @@ use Rattle.ufs_model.specs.declared.numbers.Endian.TheVariants.{Little}
 use Rattle.ufs_model.specs.declared.chunks.BadEntry.{BadEntry}
 use Rattle.ufs_model.specs.declared.chunks.Found.{Found}
 use Rattle.ufs_model.specs.declared.chunks.Found.TheVariants.{At, Absent, Bad}
-use Rattle.ufs_dir.specs.Steps.{GivesBad, GivesEnd, GivesEntry, inode_under}
+use Rattle.ufs_dir.specs.Parts.{inode_under}
+use Rattle.ufs_dir.specs.Steps.{GivesBad, GivesEnd, GivesEntry}
 
 -- what is found with this inode, or without one
 abbrev pub found_at : Option ℕ → Found

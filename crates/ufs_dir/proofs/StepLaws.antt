@@ -4,7 +4,8 @@ use Rattle.ufs_model.specs.Chunks.{DirEntry, entries_in, entry_before, entry_in,
 use Rattle.ufs_model.specs.declared.numbers.Endian.{Endian}
 use Rattle.ufs_model.specs.declared.numbers.Endian.TheVariants.{Little}
 use Rattle.ufs_model.specs.declared.chunks.BadEntry.{BadEntry}
-use Rattle.ufs_dir.specs.Steps.{GivesBad, GivesEnd, GivesEntry, IsSplit}
+use Rattle.ufs_dir.specs.Parts.{IsSplit}
+use Rattle.ufs_dir.specs.Steps.{GivesBad, GivesEnd, GivesEntry}
 
 -- bytes that belong to the entry before are passed over
 entries_in-skip : (endian : Endian) (skip : ℕ) (bytes : List ℕ) → entries_in endian skip bytes ≡ entries_in endian 0 (drop skip bytes)

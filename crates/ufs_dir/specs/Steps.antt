@@ -1,7 +1,7 @@
 -- What a step through a chunk of a directory gives, by the entries and the fault of the bytes that
--- are left before and after it.
-use Rattle.std.specs.Prelude.{◌≡◌, ◌≢◌, ℕ, ◌<◌, ◌≤◌, List, [], ◌∷◌, Option, Some, None, true, if◌then◌else◌, length, drop}
-use Rattle.ufs_model.specs.Chunks.{DirEntry, entries_in, entry_in, fault_at, fault_in, has_name, is_name, reclen_field}
+-- are left before and after it. The words of this file are this crate's own.
+use Rattle.std.specs.Prelude.{◌≡◌, ◌≢◌, ℕ, ◌<◌, List, [], ◌∷◌, Some, None, true, length}
+use Rattle.ufs_model.specs.Chunks.{DirEntry, entries_in, fault_in, is_name}
 use Rattle.ufs_model.specs.declared.numbers.Endian.TheVariants.{Little}
 use Rattle.ufs_model.specs.declared.chunks.BadEntry.{BadEntry}
 use Rattle.ufs_dir.specs.declared.walks.Entry.{Entry}
@@ -12,18 +12,8 @@ use Rattle.ufs_dir.specs.declared.walks.EntryStep.TheVariants.{Entry as Next, En
 abbrev pub entry_of : Entry → DirEntry
 entry_of entry = record { inode = entry.inode; kind = entry.kind; name = entry.name.now }
 
--- The entry at the front of the bytes isn't refused, and `after` are the bytes that it leaves.
-pub record IsSplit (bytes : List ℕ) (entry : DirEntry) (after : List ℕ) : Type 0 where
-  pub fault : fault_at Little bytes ≡ None
-  pub entry_is : entry ≡ entry_in Little bytes
-  pub after_is : after ≡ drop (reclen_field Little bytes) bytes
-  pub moves : 0 < reclen_field Little bytes
-  pub inside : reclen_field Little bytes ≤ length bytes
-  pub unused : entry.inode ≡ 0 → entry.name ≡ []
-  pub used : entry.inode ≢ 0 → is_name entry.name ≡ true
-
--- The entry is the first of those that were left, and the others are left. The chunk is refused as
--- before, or isn't. An unused entry has no name, and a used one has a name that may stand in a path.
+-- The entry is the first of those that were left, and the others are left. Whether the chunk is
+-- refused, and why, stays. An unused entry has no name, and a used one has a name.
 pub record GivesEntry (old : List ℕ) (entry : DirEntry) (new : List ℕ) : Type 0 where
   pub entries : entries_in Little 0 old ≡ entry ∷ entries_in Little 0 new
   pub fault : fault_in Little 0 old ≡ fault_in Little 0 new
@@ -31,23 +21,20 @@ pub record GivesEntry (old : List ℕ) (entry : DirEntry) (new : List ℕ) : Typ
   pub unused : entry.inode ≡ 0 → entry.name ≡ []
   pub used : entry.inode ≢ 0 → is_name entry.name ≡ true
 
--- no entry is left, no fault was met, and all stays
+-- no entry is left, the chunk isn't refused, and the bytes that are left stay
 pub record GivesEnd (old new : List ℕ) : Type 0 where
   pub entries : entries_in Little 0 old ≡ []
   pub fault : fault_in Little 0 old ≡ None
   pub stays : new ≡ old
 
--- the fault stands here, before any entry that is left, and all stays
+-- no entry is left before the fault, and the bytes that are left stay
 pub record GivesBad (old : List ℕ) (bad : BadEntry) (new : List ℕ) : Type 0 where
   pub entries : entries_in Little 0 old ≡ []
   pub fault : fault_in Little 0 old ≡ Some bad
   pub stays : new ≡ old
 
+-- what a step gives, with these bytes left before it and those after it
 abbrev pub IsStep : List ℕ → EntryStep → List ℕ → Type 0
 IsStep old (Next entry) new = GivesEntry old (entry_of entry) new
 IsStep old End new = GivesEnd old new
 IsStep old (Bad bad) new = GivesBad old bad new
-
--- the inode of an entry that is used and has the name
-abbrev pub inode_under : List ℕ → DirEntry → Option ℕ
-inode_under name entry = if has_name name entry then Some entry.inode else None

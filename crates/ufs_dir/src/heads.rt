@@ -3,7 +3,8 @@ ghost use Rattle.std.specs.Bool.{OnTrue};
 ghost use Rattle.std.specs.List.{list_any};
 ghost use Rattle.ufs_model.specs.declared.numbers.Endian.TheVariants.{Little};
 ghost use Rattle.ufs_model.specs.Chunks.{entry_in, fault_at, has_inode, is_name, namlen_field, reclen_field, reclen_holds};
-ghost use Rattle.ufs_dir.specs.Steps.{entry_of, IsSplit};
+ghost use Rattle.ufs_dir.specs.Parts.{IsSplit};
+ghost use Rattle.ufs_dir.specs.Steps.{entry_of};
 
 use crate::walks::Entry;
 use ufs_model::{BadEntry, Endian, u16_at, u32_at};

@@ -1,7 +1,8 @@
 ghost use Rattle.std.specs.Prelude.{◌≡◌, length};
 ghost use Rattle.ufs_model.specs.Chunks.{fault_in, find_in};
 ghost use Rattle.ufs_model.specs.declared.numbers.Endian.TheVariants.{Little};
-ghost use Rattle.ufs_dir.specs.Steps.{inode_under, entry_of};
+ghost use Rattle.ufs_dir.specs.Parts.{inode_under};
+ghost use Rattle.ufs_dir.specs.Steps.{entry_of};
 
 use crate::walks::{CHUNK_BYTES, Entries, Entry, EntryStep};
 use ufs_model::{BadEntry, Found};

@@ -33,14 +33,14 @@ impl Entry<'_> {
     }
 }
 
-/// What the next call of [`Entries::next`] gives.
+/// What a call of [`Entries::next`] gives.
 #[derive(Clone, Copy, Debug, PartialEq, Eq)]
 pub enum EntryStep<'a> {
     /// The next entry.
     Entry(Entry<'a>),
     /// The chunk is read to its end.
     End,
-    /// The chunk is refused here: the entries so far belong to no directory.
+    /// The entry here has this fault. The whole chunk is refused, with the entries before it.
     Bad(BadEntry),
 }
 
