@@ -1,4 +1,4 @@
-ghost use Rattle.std.specs.Prelude.{◌≡◌, ◌+◌, ◌*◌, ◌/◌, ◌<◌, ◌≤◌};
+ghost use Rattle.std.specs.Prelude.{◌≡◌, ◌+◌, ◌*◌, ◌/◌, ◌^◌, ◌<◌, ◌≤◌};
 ghost use Rattle.ufs_model.specs.Geometries.{IsGeometry, cgbase, cgstart, end_of};
 
 use ufs_model::Geometry;
@@ -22,6 +22,7 @@ pub fn cgstart(g: &Geometry, c: u32) -> u32
     requires group { c < g.now.ncg }
     ensures value { result ≡ cgstart g.now c }
     ensures own_blocks { result + g.now.dblkno ≤ g.now.size }
+    ensures fits { result + g.now.dblkno < 2 ^ 32 }
 {
     let base = cgbase(g, c);
     let room = g.size - base;

@@ -6,56 +6,60 @@ use crate::{
 };
 use std::test::Fail;
 
-/// One group of 128 fragments of 1024 bytes, four a file block, and 32 inodes: each field with the
-/// byte at which it stands.
-const SMALL: [(usize, u32); 21] = [
-    (8, 16),
-    (12, 24),
-    (16, 28),
-    (20, 32),
-    (24, 0),
-    (28, 0xffff_ffff),
-    (36, 128),
-    (44, 1),
-    (48, 4096),
-    (52, 1024),
-    (56, 4),
-    (116, 1024),
-    (120, 32),
-    (152, 32),
-    (156, 16),
-    (160, 4096),
-    (184, 32),
-    (188, 128),
-    (1320, 60),
-    (1324, 2),
-    (1372, 0x0001_1954),
+/// The byte at which each field of a superblock stands, from `sblkno` to `magic`.
+const FIELDS: [usize; 21] = [
+    8, 12, 16, 20, 24, 28, 36, 44, 48, 52, 56, 116, 120, 152, 156, 160, 184, 188, 1320, 1324, 1372,
 ];
 
-/// Four groups of 2048 fragments of 1024 bytes, eight a file block, that start 32 fragments later
-/// each.
-const LARGE: [(usize, u32); 21] = [
-    (8, 16),
-    (12, 24),
-    (16, 32),
-    (20, 64),
-    (24, 32),
-    (28, 0xffff_fffc),
-    (36, 8192),
-    (44, 4),
-    (48, 8192),
-    (52, 1024),
-    (56, 8),
-    (116, 2048),
-    (120, 64),
-    (152, 64),
-    (156, 64),
-    (160, 8192),
-    (184, 256),
-    (188, 2048),
-    (1320, 60),
-    (1324, 2),
-    (1372, 0x0001_1954),
+/// One group of 128 fragments of 1024 bytes, four a file block, and 32 inodes.
+const SMALL: [u32; 21] = [
+    16,
+    24,
+    28,
+    32,
+    0,
+    0xffff_ffff,
+    128,
+    1,
+    4096,
+    1024,
+    4,
+    1024,
+    32,
+    32,
+    16,
+    4096,
+    32,
+    128,
+    60,
+    2,
+    0x0001_1954,
+];
+
+/// Four groups of 2048 fragments of 1024 bytes, eight a file block, and 256 inodes each, that start
+/// 32 fragments later each.
+const LARGE: [u32; 21] = [
+    16,
+    24,
+    32,
+    64,
+    32,
+    0xffff_fffc,
+    8192,
+    4,
+    8192,
+    1024,
+    8,
+    2048,
+    64,
+    64,
+    64,
+    8192,
+    256,
+    2048,
+    60,
+    2,
+    0x0001_1954,
 ];
 
 fn put(bytes: &mut [u8; 1376], at: usize, value: u32) {
@@ -64,9 +68,9 @@ fn put(bytes: &mut [u8; 1376], at: usize, value: u32) {
     }
 }
 
-fn superblock(fields: &[(usize, u32)]) -> [u8; 1376] {
+fn superblock(values: &[u32; 21]) -> [u8; 1376] {
     let mut bytes = [0; 1376];
-    for (at, value) in fields {
+    for (at, value) in FIELDS.iter().zip(values) {
         put(&mut bytes, *at, *value);
     }
     bytes
