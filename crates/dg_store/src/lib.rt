@@ -7,7 +7,8 @@ mod store;
 #[cfg(test)]
 mod tests;
 
+pub use dg_io::Fetched;
 pub use dg_model::{Shape, Site};
 pub use dg_pair::FailAnswer;
 pub use lengths::member_length;
-pub use store::{Fetched, Store, StoreWrite};
+pub use store::{Store, StoreWrite};
