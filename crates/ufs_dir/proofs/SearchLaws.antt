@@ -1,0 +1,56 @@
+-- The search for a name among the entries of a chunk, entry by entry.
+use Rattle.std.proofs.Common.{◌≡◌, ◌∙◌, ℕ, true, false, List, [], ◌∷◌, Option, Some, None, find, if◌then◌else◌, refl, sym, ap}
+use Rattle.std.specs.Option.{option_or}
+use Rattle.ufs_model.specs.Chunks.{DirEntry, chunk_in, entries_in, fault_in, find_in, found_of, has_name}
+use Rattle.ufs_model.specs.declared.numbers.Endian.TheVariants.{Little}
+use Rattle.ufs_model.specs.declared.chunks.BadEntry.{BadEntry}
+use Rattle.ufs_model.specs.declared.chunks.Found.{Found}
+use Rattle.ufs_model.specs.declared.chunks.Found.TheVariants.{At, Absent, Bad}
+use Rattle.ufs_dir.specs.Parts.{inode_under}
+use Rattle.ufs_dir.specs.Steps.{GivesBad, GivesEnd, GivesEntry}
+
+-- what is found with this inode, or without one
+abbrev pub found_at : Option ℕ → Found
+found_at None = Absent
+found_at (Some inode) = At inode
+
+-- the first inode so far, or that of the first of the entries that are left
+abbrev pub found_further : List ℕ → Option ℕ → List DirEntry → Found
+found_further name None entries = found_of (find (has_name name) entries)
+found_further name (Some inode) entries = At inode
+
+-- with the first inode so far, the bytes that are left give what the chunk gives
+pub record IsSearched (name chunk : List ℕ) (first : Option ℕ) (rest : List ℕ) : Type 0 where
+  pub fault : fault_in Little 0 rest ≡ fault_in Little 0 chunk
+  pub found : found_further name first (entries_in Little 0 rest) ≡ found_of (find (has_name name) (entries_in Little 0 chunk))
+
+found_further-front : (name : List ℕ) (first : Option ℕ) (entry : DirEntry) (entries : List DirEntry)
+    → found_further name (option_or first (inode_under name entry)) entries ≡ found_further name first (entry ∷ entries)
+found_further-front name (Some inode) entry entries = refl
+found_further-front name None entry entries =
+    elim (has_name name entry) as (λ b. found_further name (if b then Some entry.inode else None) entries ≡ found_of (if b then Some entry else find (has_name name) entries)) [ true ↦ refl | false ↦ refl ]
+
+pub searched-begins : (name chunk : List ℕ) → IsSearched name chunk None chunk
+searched-begins name chunk = record { fault = refl; found = refl }
+
+pub searched-entry : (name chunk : List ℕ) (first : Option ℕ) (entry : DirEntry) (rest after : List ℕ)
+    → IsSearched name chunk first rest → GivesEntry rest entry after → IsSearched name chunk (option_or first (inode_under name entry)) after
+searched-entry name chunk first entry rest after so step = record {
+  fault = sym step.fault ∙ so.fault;
+  found = found_further-front name first entry (entries_in Little 0 after) ∙ ap (found_further name first) (sym step.entries) ∙ so.found;
+}
+
+found_further-none : (name : List ℕ) (first : Option ℕ) → found_at first ≡ found_further name first []
+found_further-none name None = refl
+found_further-none name (Some inode) = refl
+
+pub searched-ends : (name chunk : List ℕ) (first : Option ℕ) (rest after : List ℕ)
+    → IsSearched name chunk first rest → GivesEnd rest after → found_at first ≡ find_in Little name chunk
+unfolding find_in chunk_in
+searched-ends name chunk first rest after so step =
+    rw (sym so.fault ∙ step.fault) (found_further-none name first ∙ ap (found_further name first) (sym step.entries) ∙ so.found)
+
+pub searched-bad : (name chunk : List ℕ) (first : Option ℕ) (bad : BadEntry) (rest after : List ℕ)
+    → IsSearched name chunk first rest → GivesBad rest bad after → Bad bad ≡ find_in Little name chunk
+unfolding find_in chunk_in
+searched-bad name chunk first bad rest after so step = rw (sym so.fault ∙ step.fault) refl
