@@ -32,3 +32,28 @@ pub enum Kind {
     /// Type bits that mean none of the other kinds.
     Unknown,
 }
+
+/// The bits of a mode that tell the kind of file (`IFMT`).
+const TYPE_BITS: u16 = 0o170000;
+
+impl Inode {
+    ghost use Rattle.std.specs.Prelude.{◌≡◌};
+    ghost use Rattle.ufs_model.specs.Inodes.{kind_of};
+
+    /// The kind of the file.
+    #[tactic(auto, unfolding(crate::specs::Inodes::kind_of))]
+    pub fn kind(&self) -> Kind
+        ensures { result ≡ kind_of self.now.mode }
+    {
+        match self.mode & TYPE_BITS {
+            0o100000 => Kind::Regular,
+            0o040000 => Kind::Directory,
+            0o120000 => Kind::Link,
+            0o010000 => Kind::Pipe,
+            0o020000 => Kind::Character,
+            0o060000 => Kind::Block,
+            0o140000 => Kind::Socket,
+            _ => Kind::Unknown,
+        }
+    }
+}

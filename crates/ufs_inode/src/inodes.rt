@@ -1,0 +1,59 @@
+ghost use Rattle.std.specs.Prelude.{◌≡◌, ◌+◌, ◌≤◌, length};
+ghost use Rattle.ufs_model.specs.Inodes.{has_pointers, inode_in};
+ghost use Rattle.ufs_model.specs.Numbers.{number_at};
+ghost use Rattle.ufs_model.specs.declared.numbers.Endian.TheVariants.{Little};
+
+use ufs_model::{Endian, Geometry, Inode, Kind, u16_at, u32_at, u64_at};
+
+/// A pointer of 32 bits at a byte of the inode.
+fn pointer_at(bytes: &[u8], at: usize) -> u32
+    requires { at + 4 ≤ length bytes.now }
+    ensures { result ≡ number_at Little 4 bytes.now at }
+{
+    u32_at(bytes, at, Endian::Little)
+}
+
+/// The inode in the first 128 bytes. There is none where its mode is 0: it is unallocated.
+#[tactic(auto, unfolding(ufs_model::specs::Inodes::inode_in))]
+pub fn read_inode(bytes: &[u8]) -> Option<Inode>
+    requires { 128 ≤ length bytes.now }
+    ensures { result ≡ inode_in Little bytes.now }
+{
+    let mode = u16_at(bytes, 0, Endian::Little);
+    if mode == 0 {
+        return None;
+    }
+    let size = u64_at(bytes, 8, Endian::Little);
+    let db = [
+        pointer_at(bytes, 40),
+        pointer_at(bytes, 44),
+        pointer_at(bytes, 48),
+        pointer_at(bytes, 52),
+        pointer_at(bytes, 56),
+        pointer_at(bytes, 60),
+        pointer_at(bytes, 64),
+        pointer_at(bytes, 68),
+        pointer_at(bytes, 72),
+        pointer_at(bytes, 76),
+        pointer_at(bytes, 80),
+        pointer_at(bytes, 84),
+    ];
+    let ib = [
+        pointer_at(bytes, 88),
+        pointer_at(bytes, 92),
+        pointer_at(bytes, 96),
+    ];
+    Some(Inode { mode, size, db, ib })
+}
+
+/// Whether the slots of the inode are pointers: those of a regular file, of a directory, and of a
+/// symbolic link that is too long to stand in its inode.
+pub fn has_pointers(g: &Geometry, inode: &Inode) -> bool
+    ensures { result ≡ has_pointers g.now inode.now }
+{
+    match inode.kind() {
+        Kind::Regular | Kind::Directory => true,
+        Kind::Link => u64::from(g.maxsymlinklen) <= inode.size,
+        Kind::Pipe | Kind::Character | Kind::Block | Kind::Socket | Kind::Unknown => false,
+    }
+}

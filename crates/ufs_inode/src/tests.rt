@@ -1,0 +1,174 @@
+use crate::{Inode, Kind, has_pointers, place_of, read_inode, slot_address, span};
+use std::test::Fail;
+use ufs_model::Address;
+use ufs_super::read_super;
+
+/// The byte at which each field of a superblock stands, from `sblkno` to `magic`.
+const FIELDS: [usize; 21] = [
+    8, 12, 16, 20, 24, 28, 36, 44, 48, 52, 56, 116, 120, 152, 156, 160, 184, 188, 1320, 1324, 1372,
+];
+
+/// One group of 128 fragments of 1024 bytes, four a file block, and 32 inodes.
+const SMALL: [u32; 21] = [
+    16,
+    24,
+    28,
+    32,
+    0,
+    0xffff_ffff,
+    128,
+    1,
+    4096,
+    1024,
+    4,
+    1024,
+    32,
+    32,
+    16,
+    4096,
+    32,
+    128,
+    60,
+    2,
+    0x0001_1954,
+];
+
+/// Four groups of 2048 fragments of 1024 bytes, eight a file block, and 256 inodes each, that start
+/// 32 fragments later each.
+const LARGE: [u32; 21] = [
+    16,
+    24,
+    32,
+    64,
+    32,
+    0xffff_fffc,
+    8192,
+    4,
+    8192,
+    1024,
+    8,
+    2048,
+    64,
+    64,
+    64,
+    8192,
+    256,
+    2048,
+    60,
+    2,
+    0x0001_1954,
+];
+
+fn put(bytes: &mut [u8; 1376], at: usize, value: u32) {
+    if at <= 1372 {
+        bytes[at..at + 4].copy_from_slice(&value.to_le_bytes());
+    }
+}
+
+fn superblock(values: &[u32; 21]) -> [u8; 1376] {
+    let mut bytes = [0; 1376];
+    for (at, value) in FIELDS.iter().zip(values) {
+        put(&mut bytes, *at, *value);
+    }
+    bytes
+}
+
+fn file(mode: u16, size: u64) -> Inode {
+    let db = [34, 0, 0, 0, 0, 0, 0, 0, 0, 0, 0, 127];
+    Inode {
+        mode,
+        size,
+        db,
+        ib: [84, 0, 126],
+    }
+}
+
+#[test]
+fn fields_of_an_inode(rt: HostRuntime) {
+    let mut bytes = [0; 128];
+    bytes[8] = 5;
+    bytes[40] = 34;
+    assert_eq!(rt; read_inode(&bytes), None);
+    bytes[0] = 0xa4;
+    bytes[1] = 0x81;
+    bytes[15] = 1;
+    bytes[84] = 127;
+    bytes[88] = 84;
+    bytes[96] = 126;
+    assert_eq!(rt; read_inode(&bytes), Some(file(0o100644, (1 << 56) + 5)));
+}
+
+/// Each kind, and whether files of 59 and of 60 bytes have pointers.
+#[test]
+fn kinds_of_modes(rt: HostRuntime) -> Result<(), Fail> {
+    let g = read_super(&superblock(&SMALL), 1024, 128)?;
+    for (mode, kind, short, long) in [
+        (0o010644, Kind::Pipe, false, false),
+        (0o020600, Kind::Character, false, false),
+        (0o040755, Kind::Directory, true, true),
+        (0o060600, Kind::Block, false, false),
+        (0o100644, Kind::Regular, true, true),
+        (0o120777, Kind::Link, false, true),
+        (0o140777, Kind::Socket, false, false),
+        (0o000644, Kind::Unknown, false, false),
+        (0o160000, Kind::Unknown, false, false),
+    ] {
+        assert_eq!(rt; file(mode, 0).kind(), kind, "mode {mode:o}");
+        assert_eq!(rt; has_pointers(&g, &file(mode, 59)), short, "mode {mode:o}");
+        assert_eq!(rt; has_pointers(&g, &file(mode, 60)), long, "mode {mode:o}");
+    }
+    Ok(())
+}
+
+#[test]
+fn places_of_inodes(rt: HostRuntime) -> Result<(), Fail> {
+    let g = read_super(&superblock(&SMALL), 1024, 128)?;
+    assert_eq!(rt; (g.ncg, g.ipg), (1, 32));
+    assert_eq!(rt; place_of(&g, 2), (28, 256));
+    assert_eq!(rt; place_of(&g, 31), (31, 896));
+    let g = read_super(&superblock(&LARGE), 1024, 8192)?;
+    assert_eq!(rt; (g.ncg, g.ipg), (4, 256));
+    assert_eq!(rt; place_of(&g, 700), (4215, 512));
+    assert_eq!(rt; place_of(&g, 1023), (6303, 896));
+    Ok(())
+}
+
+#[test]
+fn spans_of_slots(rt: HostRuntime) -> Result<(), Fail> {
+    let g = read_super(&superblock(&SMALL), 1024, 128)?;
+    for (size, slot, wanted) in [
+        (0, 0, 4),
+        (1, 0, 1),
+        (1024, 0, 1),
+        (1025, 0, 2),
+        (3072, 0, 3),
+        (3073, 0, 4),
+        (4096, 0, 4),
+        (5, 1, 4),
+        (4097, 1, 1),
+        (5596, 1, 2),
+        (45057, 11, 1),
+        (49152, 11, 4),
+        (5, 12, 4),
+        (49153, 12, 4),
+        (49153, 14, 4),
+    ] {
+        assert_eq!(rt;
+            span(&g, &file(0o100644, size), slot),
+            wanted,
+            "{size} bytes, slot {slot}"
+        );
+    }
+    let inode = file(0o100644, 5);
+    for (slot, wanted) in [
+        (0, Address::At(34, 1)),
+        (1, Address::Hole),
+        (11, Address::Wild),
+        (12, Address::At(84, 4)),
+        (13, Address::Hole),
+        (14, Address::Wild),
+    ] {
+        assert_eq!(rt; slot_address(&g, &inode, slot), wanted, "slot {slot}");
+    }
+    Ok(())
+}
