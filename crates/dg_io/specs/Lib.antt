@@ -3,3 +3,5 @@ pub mod Racks
 pub mod Sinks
 pub mod Sources
 pub mod Told
+pub mod Views
+pub mod MemViews

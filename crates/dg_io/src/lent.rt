@@ -1,5 +1,8 @@
-// A source, a sink or a rack that is lent.
-use crate::{Failed, Rack, Sink, Source};
+// A source, a sink, a rack, a view or a receiver of pieces that is lent.
+ghost use Rattle.std.specs.Prelude.{◌≡◌, refl};
+ghost use Rattle.std.proofs.Common.{◌∙◌};
+
+use crate::{Failed, Fetched, Pieces, Rack, Sink, Source, View};
 
 impl<S: Source> Source for &mut S {
     ghost left = { λ s. S.left s.now };
@@ -39,4 +42,56 @@ impl<R: Rack> Rack for &mut R {
     fn write(&mut self, member: u8, place: u64, buf: &[u8]) -> Result<(), Failed> {
         (**self).write(member, place, buf)
     }
+}
+
+impl<V: View> View for &mut V {
+    ghost stands_for = { λ s v. V.stands_for s.now v };
+
+    ghost tells = { λ s. V.tells s.now };
+
+    ghost is_gone = { λ s. V.is_gone s.now };
+
+    ghost count = { λ s. V.count s.now };
+
+    ghost size = { λ s. V.size s.now };
+
+    ghost is_sound = { λ s. V.is_sound s.now };
+
+    ghost goes_on = { λ a b. V.goes_on a.now b.now × (b.ghost_name ≡ a.ghost_name) };
+
+    fn fetch(&mut self, block: u32, buf: &mut [u8]) -> Fetched {
+        (**self).fetch(block, buf)
+    }
+
+    fn gone(&self, block: u32) -> bool {
+        (**self).gone(block)
+    }
+
+    fn shape(&self) -> (u32, u32) {
+        (**self).shape()
+    }
+
+    ghost unchanged = { λ s. (V.unchanged s.now, refl) };
+
+    ghost further = { λ a b c first second. (V.further a.now b.now c.now (first.0) (second.0), second.1 ∙ first.1) };
+}
+
+impl<P: Pieces> Pieces for &mut P {
+    ghost took = { λ a x b. P.took a.now x b.now };
+
+    ghost took_part = { λ a x b. P.took_part a.now x b.now };
+
+    ghost faults = { λ s. P.faults s.now };
+
+    fn piece(&mut self, bytes: &[u8]) -> Result<(), Failed> {
+        (**self).piece(bytes)
+    }
+
+    ghost nothing = { λ s. P.nothing s.now };
+
+    ghost then = { λ a b c x y first second. P.then a.now b.now c.now x y first second };
+
+    ghost then_part = { λ a b c x y first second. P.then_part a.now b.now c.now x y first second };
+
+    ghost part = { λ a b x y first. P.part a.now b.now x y first };
 }

@@ -4,13 +4,19 @@
 
 mod calls;
 mod lent;
+mod memory_views;
 mod outside;
+mod pieces;
 mod racks;
 mod sinks;
 mod sources;
+mod views;
 
 pub use dg_model::{Failed, NoMemory};
+pub use memory_views::{Loss, MemView};
 pub use outside::{Rack, Sink, Source, write_all};
+pub use pieces::Pieces;
 pub use racks::{MemRack, SureRack};
 pub use sinks::{MemSink, SureSink};
 pub use sources::{MemSource, SureSource};
+pub use views::{Fetched, View};

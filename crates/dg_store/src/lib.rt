@@ -7,6 +7,7 @@ mod store;
 #[cfg(test)]
 mod tests;
 
+pub use dg_io::Fetched;
 pub use dg_model::{Shape, Site};
 pub use lengths::member_length;
-pub use store::{Fetched, Store, StoreWrite};
+pub use store::{Store, StoreWrite};

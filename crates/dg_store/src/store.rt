@@ -11,7 +11,7 @@ ghost use Rattle.dg_store.specs.Stores.{rack_of, shape_of, members_of, sites_of,
 
 use crate::Shape;
 use crate::boundaries::{blank_row, has_lost, read_slot, write_slot};
-use dg_io::{NoMemory, Rack};
+use dg_io::{Fetched, NoMemory, Rack};
 use dg_model::MemberState;
 use dg_pair::{Boundary, PairRead, PairWrite};
 use std::alloc::Global;
@@ -23,15 +23,6 @@ pub struct Store<R> {
     shape: Shape,
     row: Vec<Boundary>,
     written: Vec<bool>,
-}
-
-/// What became of a read.
-#[derive(Clone, Copy, Debug, PartialEq, Eq)]
-pub enum Fetched {
-    /// The buffer has the block.
-    Got,
-    /// The block is written, and all its sites are on lost boundaries.
-    Gone,
 }
 
 /// What became of a write.
@@ -93,7 +84,8 @@ impl<R: Rack> Store<R> {
         has_lost(&self.row)
     }
 
-    /// Reads a block. One that isn't written reads as zeros.
+    /// Reads a block. One that isn't written reads as zeros. It is gone where it is written and all its sites are on lost
+    /// boundaries.
     pub fn read(&mut self, block: u32, buf: &mut [u8]) -> Fetched
         requires sound { IsSound R.bytes self.old }
         requires range { block < (shape_of self.old).n }

@@ -9,15 +9,53 @@ const FIELDS: [usize; 21] = [
 
 /// One group of 128 fragments of 1024 bytes, four a file block, and 32 inodes.
 const SMALL: [u32; 21] = [
-    16, 24, 28, 32, 0, 0xffff_ffff, 128, 1, 4096, 1024, 4, 1024, 32, 32, 16, 4096, 32, 128, 60, 2,
+    16,
+    24,
+    28,
+    32,
+    0,
+    0xffff_ffff,
+    128,
+    1,
+    4096,
+    1024,
+    4,
+    1024,
+    32,
+    32,
+    16,
+    4096,
+    32,
+    128,
+    60,
+    2,
     0x0001_1954,
 ];
 
 /// Four groups of 2048 fragments of 1024 bytes, eight a file block, and 256 inodes each, that start
 /// 32 fragments later each.
 const LARGE: [u32; 21] = [
-    16, 24, 32, 64, 32, 0xffff_fffc, 8192, 4, 8192, 1024, 8, 2048, 64, 64, 64, 8192, 256, 2048, 60,
-    2, 0x0001_1954,
+    16,
+    24,
+    32,
+    64,
+    32,
+    0xffff_fffc,
+    8192,
+    4,
+    8192,
+    1024,
+    8,
+    2048,
+    64,
+    64,
+    64,
+    8192,
+    256,
+    2048,
+    60,
+    2,
+    0x0001_1954,
 ];
 
 fn put(bytes: &mut [u8; 1376], at: usize, value: u32) {

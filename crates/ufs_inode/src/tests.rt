@@ -153,6 +153,7 @@ fn spans_of_slots(rt: HostRuntime) -> Result<(), Fail> {
         (49153, 12, 4),
         (49153, 14, 4),
     ] {
+        assert!(rt; slot <= 14);
         assert_eq!(rt;
             span(&g, &file(0o100644, size), slot),
             wanted,

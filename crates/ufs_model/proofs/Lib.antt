@@ -1,3 +1,5 @@
 pub mod GeometryLaws
 pub mod RoleLaws
+pub mod ReadingLaws
+pub mod AreaLaws
 mod Rows

@@ -1,6 +1,7 @@
 -- The definitions of a UFS1 volume, by subject, lowest first.
 pub mod Numbers
 pub mod Blocks
+pub mod Readings
 pub mod Geometries
 pub mod Superblocks
 pub mod Roles
