@@ -12,7 +12,8 @@ use Rattle.ufs_model.specs.Inodes.{inode_in, inode_of, kind_of, inode_block, ino
 use Rattle.ufs_model.specs.GroupMaps.{group_in, group_fields, group_magic_holds, maps_hold, is_set, is_free, is_used}
 use Rattle.ufs_model.specs.Chunks.{chunk_in, entries_in, fault_in, fault_at, reclen_holds, is_name, entry_in, find_in}
 use Rattle.ufs_model.specs.Pointers.{locate_of, is_data_run, address, through, file_block_of}
-use Rattle.ufs_model.specs.Paths.{and_then, block_of, bytes_at, cat_of, chunks_of, contents_of, find_from, find_of, find_through, front_of, in_directory, look_from, named_inode, names_of, volume_geometry}
+use Rattle.ufs_model.specs.Readings.{and_then}
+use Rattle.ufs_model.specs.Paths.{block_of, bytes_at, cat_of, chunks_of, contents_of, find_from, find_of, find_through, front_of, in_directory, look_from, named_inode, names_of, volume_geometry}
 use Rattle.ufs_model.specs.declared.numbers.Endian.{Endian}
 use Rattle.ufs_model.specs.declared.numbers.Endian.TheVariants.{Little, Big}
 use Rattle.ufs_model.specs.declared.geometries.Geometry.{Geometry}

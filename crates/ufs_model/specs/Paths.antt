@@ -3,10 +3,11 @@
 -- order, and that a file block is always consulted whole are this project's rules.
 use Rattle.std.specs.Prelude.{◌≡◌, ℕ, zero, suc, ◌-◌, ◌*◌, ◌/◌, ◌%◌, ◌==◌, nat_lt, min, Bool, true, false, List, [], ◌∷◌, ◌++◌, Option, Some, None, Result, Ok, Err, if◌then◌else◌, filter, length, replicate, take, drop}
 use Rattle.std.specs.Option.{ok_or}
-use Rattle.ufs_model.specs.Blocks.{Reading, known, area_of, bind, ◌>>=◌}
+use Rattle.ufs_model.specs.Blocks.{Reading, known, area_of, ◌>>=◌}
 use Rattle.ufs_model.specs.Chunks.{DirEntry, chunk_in, find_in, is_name, used_entries}
 use Rattle.ufs_model.specs.Inodes.{block_count, inode_of, kind_of}
 use Rattle.ufs_model.specs.Pointers.{file_block_of}
+use Rattle.ufs_model.specs.Readings.{and_then}
 use Rattle.ufs_model.specs.Roles.{is_within}
 use Rattle.ufs_model.specs.Superblocks.{geometry_of}
 use Rattle.ufs_model.specs.declared.chunks.BadEntry.{BadEntry}
@@ -27,15 +28,6 @@ use Rattle.ufs_model.specs.declared.reads.PathRefusal.{PathRefusal}
 use Rattle.ufs_model.specs.declared.reads.PathRefusal.TheVariants.{NotFound, NotDirectory, NotRegular, Bad}
 
 -- ---- answers that may be refused
-
--- what follows from an answer, unless it is refused
-abbrev pub on_ok : {A B E : Type 0} → Result A E → (A → Reading (Result B E)) → Reading (Result B E)
-on_ok (Ok a) f = f a
-on_ok (Err e) f = known (Err e)
-
--- the one and, unless it is refused, what follows from its answer
-unfoldable pub and_then : {A B E : Type 0} → Reading (Result A E) → (A → Reading (Result B E)) → Reading (Result B E)
-and_then d f = bind d (λ r. on_ok r f)
 
 -- this refusal, or else what is read
 abbrev pub unless_refused : {A : Type 0} → Option BadRead → Reading (Result A PathRefusal) → Reading (Result A PathRefusal)
