@@ -1,17 +1,19 @@
 -- The definitions, computed on small volumes. The expected values are worked out by hand from the
 -- formats.
-use Rattle.std.proofs.Common.{◌≡◌, ℕ, ◌+◌, ◌<◌, ◌++◌, List, [], ◌∷◌, map, refl, replicate, zero, suc, arith}
+use Rattle.std.proofs.Common.{◌≡◌, ℕ, ◌+◌, ◌<◌, ◌++◌, List, [], ◌∷◌, map, refl, replicate, take, drop, zero, suc, arith}
 use Rattle.std.specs.Prelude.{◌≤◌, Some, None, Ok, Err, true, false}
 use Rattle.byteorder.specs.Endian.{big_bytes, little_bytes}
 use Rattle.ufs_model.specs.Numbers.{number_at}
-use Rattle.ufs_model.specs.Blocks.{Volume, bind, area_of}
+use Rattle.ufs_model.specs.Blocks.{Volume, bind, area_of, area_within}
 use Rattle.ufs_model.specs.Geometries.{cgbase, cgstart, end_of, is_block_size, is_fragment_count, IsGeometry}
-use Rattle.ufs_model.specs.Superblocks.{geometry, geometry_in, fields, format_holds, frag_holds, groups_hold, inodes_hold, group_fits, layout_holds, summary_holds}
+use Rattle.ufs_model.specs.Superblocks.{geometry, geometry_in, geometry_of, superblock_of, fields, format_holds, frag_holds, groups_hold, inodes_hold, group_fits, layout_holds, summary_holds}
 use Rattle.ufs_model.specs.Roles.{role, role_in}
-use Rattle.ufs_model.specs.Inodes.{inode_in, kind_of, inode_block, inode_byte, span}
+use Rattle.ufs_model.specs.Inodes.{inode_in, inode_of, kind_of, inode_block, inode_byte, span}
 use Rattle.ufs_model.specs.GroupMaps.{group_in, group_fields, group_magic_holds, maps_hold, is_set, is_free, is_used}
 use Rattle.ufs_model.specs.Chunks.{chunk_in, entries_in, fault_in, fault_at, reclen_holds, is_name, entry_in, find_in}
 use Rattle.ufs_model.specs.Pointers.{locate_of, is_data_run, address, through, file_block_of}
+use Rattle.ufs_model.specs.Readings.{and_then}
+use Rattle.ufs_model.specs.Paths.{block_of, bytes_at, cat_of, chunks_of, contents_of, find_from, find_of, find_through, front_of, in_directory, look_from, named_inode, names_of, volume_geometry}
 use Rattle.ufs_model.specs.declared.numbers.Endian.{Endian}
 use Rattle.ufs_model.specs.declared.numbers.Endian.TheVariants.{Little, Big}
 use Rattle.ufs_model.specs.declared.geometries.Geometry.{Geometry}
@@ -23,6 +25,8 @@ use Rattle.ufs_model.specs.declared.inodes.Kind.TheVariants.{Regular, Directory,
 use Rattle.ufs_model.specs.declared.chunks.BadEntry.TheVariants.{Cut, Reclen, Name}
 use Rattle.ufs_model.specs.declared.chunks.Found.TheVariants.{Absent, Bad}
 use Rattle.ufs_model.specs.declared.chunks.Found.TheVariants.{At as FoundAt}
+use Rattle.ufs_model.specs.declared.reads.BadRead.TheVariants.{Super as BadSuperblock, Entry}
+use Rattle.ufs_model.specs.declared.reads.PathRefusal.TheVariants.{NotFound, NotDirectory, NotRegular, Bad as PathBad}
 use Rattle.ufs_model.specs.declared.pointers.Chain.TheVariants.{Direct, One, Two, Three}
 use Rattle.ufs_model.specs.declared.pointers.Address.TheVariants.{Hole, Wild, At}
 
@@ -246,3 +250,50 @@ small_volume = replicate 84 [] ++ (88 ∷ gap 1023) ∷ gap 1024 ∷ gap 1024 �
 the_last_block_of_a_long_file : file_block_of Little small long_file 12 small_volume ≡ record { value = At 88 4; needs = 84 ∷ 85 ∷ 86 ∷ 87 ∷ [] }
 unfolding file_block_of locate_of through address is_data_run role role_in cgstart cgbase area_of bind number_at span
 the_last_block_of_a_long_file = refl
+
+-- ---- paths
+
+names_of_paths : map names_of ((47 ∷ []) ∷ (47 ∷ 97 ∷ []) ∷ (47 ∷ 97 ∷ 98 ∷ 47 ∷ 99 ∷ []) ∷ []) ≡ [] ∷ ((97 ∷ []) ∷ []) ∷ ((97 ∷ 98 ∷ []) ∷ (99 ∷ []) ∷ []) ∷ []
+names_of_paths = refl
+
+abbrev inode_row : ℕ → ℕ → ℕ → ℕ → List ℕ
+inode_row mode size first second = little_bytes 2 mode ++ gap 6 ++ four Little size ++ gap 28 ++ four Little first ++ four Little second ++ gap 80
+
+-- `.` and `..`, the file `a` of five bytes, the sparse file `h`, and `x`, an entry for an unallocated inode
+abbrev root_block : List ℕ
+root_block = 2 ∷ gap 3 ++ 12 ∷ 0 ∷ 4 ∷ 1 ∷ 46 ∷ gap 3 ++ 2 ∷ gap 3 ++ 12 ∷ 0 ∷ 4 ∷ 2 ∷ 46 ∷ 46 ∷ gap 2
+    ++ 3 ∷ gap 3 ++ 12 ∷ 0 ∷ 8 ∷ 1 ∷ 97 ∷ gap 3 ++ 4 ∷ gap 3 ++ 12 ∷ 0 ∷ 8 ∷ 1 ∷ 104 ∷ gap 3
+    ++ 5 ∷ gap 3 ++ 208 ∷ 1 ∷ 8 ∷ 1 ∷ 120 ∷ gap 455
+
+-- the superblock in 8 and 9, the inodes in 28, the root in 33, the file in 34, the end of the sparse file in 36 and 37
+abbrev path_volume : Volume
+path_volume = replicate 8 [] ++ take 1024 (small_superblock Little) ∷ drop 1024 (small_superblock Little) ∷ []
+    ++ replicate 18 [] ++ (gap 256 ++ inode_row 0x41ed 512 33 0 ++ inode_row 0x81a4 5 34 0 ++ inode_row 0x81a4 4100 0 36 ++ gap 512) ∷ []
+    ++ replicate 4 [] ++ root_block ∷ (104 ∷ 101 ∷ 108 ∷ 108 ∷ 111 ∷ gap 1019) ∷ [] ∷ (replicate 1024 104) ∷ []
+
+cat_of_a_small_file : cat_of Little 1024 128 (47 ∷ 97 ∷ []) path_volume
+    ≡ record { value = Ok (104 ∷ 101 ∷ 108 ∷ 108 ∷ 111 ∷ []); needs = 8 ∷ 9 ∷ 28 ∷ 33 ∷ 28 ∷ 34 ∷ [] }
+unfolding cat_of volume_geometry geometry_of superblock_of area_within area_of bind and_then look_from named_inode inode_of inode_in inode_block inode_byte find_of in_directory kind_of find_from chunks_of block_of bytes_at file_block_of locate_of address is_data_run role role_in span find_through find_in chunk_in fault_in entries_in fault_at entry_in reclen_holds is_name contents_of front_of geometry_in fields number_at format_holds frag_holds is_block_size is_fragment_count groups_hold inodes_hold layout_holds group_fits cgstart cgbase end_of summary_holds
+cat_of_a_small_file = refl
+
+-- the first file block is a hole; of the second every fragment is consulted that its four bytes take
+cat_of_a_sparse_file : cat_of Little 1024 128 (47 ∷ 104 ∷ []) path_volume
+    ≡ record { value = Ok (gap 4096 ++ replicate 4 104); needs = 8 ∷ 9 ∷ 28 ∷ 33 ∷ 28 ∷ 36 ∷ [] }
+unfolding cat_of volume_geometry geometry_of superblock_of area_within area_of bind and_then look_from named_inode inode_of inode_in inode_block inode_byte find_of in_directory kind_of find_from chunks_of block_of bytes_at file_block_of locate_of address is_data_run role role_in span find_through find_in chunk_in fault_in entries_in fault_at entry_in reclen_holds is_name contents_of front_of geometry_in fields number_at format_holds frag_holds is_block_size is_fragment_count groups_hold inodes_hold layout_holds group_fits cgstart cgbase end_of summary_holds
+cat_of_a_sparse_file = refl
+
+-- no such name; a name below a file; the root itself; an entry for an unallocated inode; and a volume of zeros, or of one block
+refused_paths : map (λ path. cat_of Little 1024 128 path path_volume) ((47 ∷ 122 ∷ []) ∷ (47 ∷ 97 ∷ 47 ∷ 98 ∷ []) ∷ (47 ∷ []) ∷ (47 ∷ 120 ∷ []) ∷ [])
+    ≡ record { value = Err NotFound; needs = 8 ∷ 9 ∷ 28 ∷ 33 ∷ [] }
+    ∷ record { value = Err NotDirectory; needs = 8 ∷ 9 ∷ 28 ∷ 33 ∷ 28 ∷ [] }
+    ∷ record { value = Err NotRegular; needs = 8 ∷ 9 ∷ 28 ∷ [] }
+    ∷ record { value = Err (PathBad Entry); needs = 8 ∷ 9 ∷ 28 ∷ 33 ∷ 28 ∷ [] } ∷ []
+unfolding cat_of volume_geometry geometry_of superblock_of area_within area_of bind and_then look_from named_inode inode_of inode_in inode_block inode_byte find_of in_directory kind_of find_from chunks_of block_of bytes_at file_block_of locate_of address is_data_run role role_in span find_through find_in chunk_in fault_in entries_in fault_at entry_in reclen_holds is_name contents_of front_of geometry_in fields number_at format_holds frag_holds is_block_size is_fragment_count groups_hold inodes_hold layout_holds group_fits cgstart cgbase end_of summary_holds
+refused_paths = refl
+
+volumes_without_a_superblock : map (λ n. cat_of Little 1024 n (47 ∷ 97 ∷ []) (replicate 128 [])) (1 ∷ 9 ∷ 128 ∷ [])
+    ≡ record { value = Err (PathBad (BadSuperblock Magic)); needs = [] }
+    ∷ record { value = Err (PathBad (BadSuperblock Magic)); needs = 8 ∷ [] }
+    ∷ record { value = Err (PathBad (BadSuperblock Magic)); needs = 8 ∷ 9 ∷ [] } ∷ []
+unfolding cat_of volume_geometry geometry_of superblock_of area_within area_of bind and_then look_from named_inode inode_of inode_in inode_block inode_byte find_of in_directory kind_of find_from chunks_of block_of bytes_at file_block_of locate_of address is_data_run role role_in span find_through find_in chunk_in fault_in entries_in fault_at entry_in reclen_holds is_name contents_of front_of geometry_in fields number_at format_holds frag_holds is_block_size is_fragment_count groups_hold inodes_hold layout_holds group_fits cgstart cgbase end_of summary_holds
+volumes_without_a_superblock = refl

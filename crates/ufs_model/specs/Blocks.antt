@@ -1,5 +1,5 @@
 -- The blocks of a volume, and what is read from them. A volume is a list of blocks of l bytes.
-use Rattle.std.specs.Prelude.{ℕ, zero, suc, ◌+◌, List, [], ◌∷◌, ◌++◌, slice_index_or, replicate}
+use Rattle.std.specs.Prelude.{ℕ, zero, suc, ◌+◌, ◌-◌, ◌*◌, min, List, [], ◌∷◌, ◌++◌, slice_index_or, replicate}
 
 -- A volume's content: its blocks, each a list of bytes.
 abbrev pub Volume : Type 0
@@ -38,3 +38,7 @@ abbrev pub ◌>>=◌ : {A B : Type 0} → Reading A → (A → Reading B) → Re
 unfoldable pub area_of : ℕ → ℕ → ℕ → Reading (List ℕ)
 area_of l a zero = known []
 area_of l a (suc k) = area_of l a k >>= λ front. consult l (a + k) >>= λ last. known (front ++ last)
+
+-- the same of a volume of n blocks; past its last block the bytes are zeros
+unfoldable pub area_within : ℕ → ℕ → ℕ → ℕ → Reading (List ℕ)
+area_within l n a k = area_of l a (min k (n - a)) >>= λ bytes. known (bytes ++ replicate ((k - min k (n - a)) * l) 0)

@@ -9,3 +9,4 @@ pub mod Inodes
 pub mod GroupMaps
 pub mod Chunks
 pub mod Pointers
+pub mod Paths

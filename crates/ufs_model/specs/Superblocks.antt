@@ -3,7 +3,7 @@
 use Rattle.std.specs.Prelude.{◌≡◌, ℕ, ◌+◌, ◌-◌, ◌*◌, ◌/◌, ◌%◌, ◌^◌, ◌==◌, nat_lt, nat_le, not, ◌&&◌, Bool, List, [], ◌∷◌, Option, Some, None, Result, Ok, Err, find}
 use Rattle.std.specs.Int.{div_ceil}
 use Rattle.ufs_model.specs.Numbers.{number_at, all_below}
-use Rattle.ufs_model.specs.Blocks.{Reading, known, area_of, ◌>>=◌}
+use Rattle.ufs_model.specs.Blocks.{Reading, known, area_within, ◌>>=◌}
 use Rattle.ufs_model.specs.Geometries.{IsGeometryOn, cgstart, end_of, is_block_size, is_fragment_count}
 use Rattle.ufs_model.specs.declared.numbers.Endian.{Endian}
 use Rattle.ufs_model.specs.declared.numbers.Endian.TheVariants.{Little}
@@ -109,12 +109,12 @@ abbrev pub geometry : List ℕ → ℕ → ℕ → Result Geometry BadSuper
 geometry bytes l n = geometry_in Little bytes l n
 
 -- the blocks with the superblock, which stands at byte 8192 (`SBOFF`) and has 1376 bytes
-unfoldable pub superblock_of : ℕ → Reading (List ℕ)
-superblock_of l = area_of l (8192 / l) (div_ceil 1376 l)
+unfoldable pub superblock_of : ℕ → ℕ → Reading (List ℕ)
+superblock_of l n = area_within l n (8192 / l) (div_ceil 1376 l)
 
 -- the geometry of a volume of n blocks of l bytes
 unfoldable pub geometry_of : Endian → ℕ → ℕ → Reading (Result Geometry BadSuper)
-geometry_of endian l n = superblock_of l >>= λ bytes. known (geometry_in endian bytes l n)
+geometry_of endian l n = superblock_of l n >>= λ bytes. known (geometry_in endian bytes l n)
 
 -- The bytes are a superblock with this geometry, said without the order of the tests.
 pub record IsSuperblock (endian : Endian) (bytes : List ℕ) (l n : ℕ) (g : Geometry) : Type 0 where

@@ -13,6 +13,7 @@ mod inodes;
 mod laws;
 mod numbers;
 mod pointers;
+mod reads;
 mod roles;
 #[cfg(test)]
 mod tests;
@@ -24,4 +25,5 @@ pub use crate::inodes::{Inode, Kind};
 pub use crate::laws::{accepted_superblocks, own_blocks_of_groups};
 pub use crate::numbers::{Endian, u16_at, u32_at, u64_at};
 pub use crate::pointers::{Address, Chain};
+pub use crate::reads::{BadRead, PathRefusal};
 pub use crate::roles::{Role, SystemKind};

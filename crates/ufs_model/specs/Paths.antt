@@ -1,0 +1,233 @@
+-- Reading by path: the names of a path, the entries of a directory, the contents of a file. The
+-- root is `ROOTINO` of `dinode.h`; directories are those of `dir.h`. What is refused, in which
+-- order, and that a file block is always consulted whole are this project's rules.
+use Rattle.std.specs.Prelude.{◌≡◌, ℕ, zero, suc, ◌-◌, ◌*◌, ◌/◌, ◌%◌, ◌==◌, nat_lt, min, Bool, true, false, List, [], ◌∷◌, ◌++◌, Option, Some, None, Result, Ok, Err, if◌then◌else◌, filter, length, replicate, take, drop}
+use Rattle.std.specs.Option.{ok_or}
+use Rattle.ufs_model.specs.Blocks.{Reading, known, area_of, ◌>>=◌}
+use Rattle.ufs_model.specs.Chunks.{DirEntry, chunk_in, find_in, is_name, used_entries}
+use Rattle.ufs_model.specs.Inodes.{block_count, inode_of, kind_of}
+use Rattle.ufs_model.specs.Pointers.{file_block_of}
+use Rattle.ufs_model.specs.Readings.{and_then}
+use Rattle.ufs_model.specs.Roles.{is_within}
+use Rattle.ufs_model.specs.Superblocks.{geometry_of}
+use Rattle.ufs_model.specs.declared.chunks.BadEntry.{BadEntry}
+use Rattle.ufs_model.specs.declared.chunks.Found.{Found}
+use Rattle.ufs_model.specs.declared.chunks.Found.TheVariants.{Absent}
+use Rattle.ufs_model.specs.declared.chunks.Found.TheVariants.{At as FoundAt, Bad as FoundBad}
+use Rattle.ufs_model.specs.declared.geometries.BadSuper.{BadSuper}
+use Rattle.ufs_model.specs.declared.geometries.Geometry.{Geometry}
+use Rattle.ufs_model.specs.declared.inodes.Inode.{Inode}
+use Rattle.ufs_model.specs.declared.inodes.Kind.{Kind}
+use Rattle.ufs_model.specs.declared.inodes.Kind.TheVariants.{Regular, Directory, Link, Pipe, Character, Block, Socket, Unknown}
+use Rattle.ufs_model.specs.declared.numbers.Endian.{Endian}
+use Rattle.ufs_model.specs.declared.pointers.Address.{Address}
+use Rattle.ufs_model.specs.declared.pointers.Address.TheVariants.{Hole as AddressHole, Wild as AddressWild, At}
+use Rattle.ufs_model.specs.declared.reads.BadRead.{BadRead}
+use Rattle.ufs_model.specs.declared.reads.BadRead.TheVariants.{Super, Wild, Hole, Chunk, Entry, Later}
+use Rattle.ufs_model.specs.declared.reads.PathRefusal.{PathRefusal}
+use Rattle.ufs_model.specs.declared.reads.PathRefusal.TheVariants.{NotFound, NotDirectory, NotRegular, Bad}
+
+-- ---- answers that may be refused
+
+-- this refusal, or else what is read
+abbrev pub unless_refused : {A : Type 0} → Option BadRead → Reading (Result A PathRefusal) → Reading (Result A PathRefusal)
+unless_refused None reading = reading
+unless_refused (Some bad) reading = known (Err (Bad bad))
+
+-- ---- file blocks
+
+-- Why a file of this size isn't read. For now files are read by their direct slots alone.
+abbrev pub size_refusal : Geometry → Inode → Option BadRead
+size_refusal g inode = if nat_lt (12 * g.bsize) inode.size then Some Later else None
+
+-- the bytes at an address; there are none in a hole
+unfoldable pub bytes_at : Geometry → Address → Reading (Result (Option (List ℕ)) PathRefusal)
+bytes_at g AddressHole = known (Ok None)
+bytes_at g AddressWild = known (Err (Bad Wild))
+bytes_at g (At a k) = area_of g.fsize a k >>= λ bytes. known (Ok (Some bytes))
+
+-- File block n: every fragment that it claims is consulted, also past the end of the file.
+unfoldable pub block_of : Endian → Geometry → Inode → ℕ → Reading (Result (Option (List ℕ)) PathRefusal)
+block_of endian g inode n = file_block_of endian g inode n >>= bytes_at g
+
+-- how many bytes of the file stand in file block n
+abbrev pub bytes_in_block : Geometry → Inode → ℕ → ℕ
+bytes_in_block g inode n = min g.bsize (inode.size - n * g.bsize)
+
+-- ---- the contents of a file
+
+-- so many bytes from the front of a file block; a hole reads as zeros
+abbrev pub front_in : ℕ → Option (List ℕ) → List ℕ
+front_in count None = replicate count 0
+front_in count (Some bytes) = take count bytes
+
+-- the bytes of a file that stand in its first k file blocks
+unfoldable pub front_of : Endian → Geometry → Inode → ℕ → Reading (Result (List ℕ) PathRefusal)
+front_of endian g inode zero = known (Ok [])
+front_of endian g inode (suc k) =
+    and_then (front_of endian g inode k) (λ front.
+    and_then (block_of endian g inode k) (λ block.
+    known (Ok (front ++ front_in (bytes_in_block g inode k) block))))
+
+abbrev pub is_regular : Kind → Bool
+is_regular Regular = true
+is_regular Directory = false
+is_regular Link = false
+is_regular Pipe = false
+is_regular Character = false
+is_regular Block = false
+is_regular Socket = false
+is_regular Unknown = false
+
+-- the bytes of a regular file
+unfoldable pub contents_of : Endian → Geometry → Inode → Reading (Result (List ℕ) PathRefusal)
+contents_of endian g inode =
+    if is_regular (kind_of inode.mode)
+    then unless_refused (size_refusal g inode) (front_of endian g inode (block_count g inode))
+    else known (Err NotRegular)
+
+-- ---- directories
+
+abbrev pub is_directory : Kind → Bool
+is_directory Directory = true
+is_directory Regular = false
+is_directory Link = false
+is_directory Pipe = false
+is_directory Character = false
+is_directory Block = false
+is_directory Socket = false
+is_directory Unknown = false
+
+-- a directory is made of whole chunks (`DIRBLKSIZ`)
+abbrev pub chunk_refusal : Inode → Option BadRead
+chunk_refusal inode = if inode.size % 512 == 0 then None else Some Chunk
+
+-- what is read of a directory, unless its kind or its size is refused
+unfoldable pub in_directory : {A : Type 0} → Geometry → Inode → Reading (Result A PathRefusal) → Reading (Result A PathRefusal)
+in_directory g inode reading =
+    if is_directory (kind_of inode.mode)
+    then unless_refused (size_refusal g inode) (unless_refused (chunk_refusal inode) reading)
+    else known (Err NotDirectory)
+
+-- so many chunks from the front of a file block
+abbrev pub chunks_in : ℕ → List ℕ → List (List ℕ)
+chunks_in zero bytes = []
+chunks_in (suc count) bytes = take 512 bytes ∷ chunks_in count (drop 512 bytes)
+
+-- the chunks in file block n of a directory, which has no hole
+unfoldable pub chunks_of : Endian → Geometry → Inode → ℕ → Reading (Result (List (List ℕ)) PathRefusal)
+chunks_of endian g inode n =
+    and_then (block_of endian g inode n) (λ block.
+    and_then (known (ok_or block (Bad Hole))) (λ bytes.
+    known (Ok (chunks_in (bytes_in_block g inode n / 512) bytes))))
+
+-- the entries of a chunk, and then those of the chunks after it
+abbrev pub entries_then : Result (List DirEntry) BadEntry → Result (List DirEntry) PathRefusal → Result (List DirEntry) PathRefusal
+entries_then (Err bad) further = Err (Bad Chunk)
+entries_then (Ok entries) (Ok further) = Ok (used_entries entries ++ further)
+entries_then (Ok entries) (Err refusal) = Err refusal
+
+-- the used entries of chunks, or that one of them is refused
+abbrev pub entries_through : Endian → List (List ℕ) → Result (List DirEntry) PathRefusal
+entries_through endian [] = Ok []
+entries_through endian (chunk ∷ chunks) = entries_then (chunk_in endian chunk) (entries_through endian chunks)
+
+-- the used entries in the first k file blocks of a directory
+unfoldable pub entries_before : Endian → Geometry → Inode → ℕ → Reading (Result (List DirEntry) PathRefusal)
+entries_before endian g inode zero = known (Ok [])
+entries_before endian g inode (suc k) =
+    and_then (entries_before endian g inode k) (λ front.
+    and_then (chunks_of endian g inode k) (λ chunks.
+    and_then (known (entries_through endian chunks)) (λ entries.
+    known (Ok (front ++ entries)))))
+
+-- the used entries of a directory, chunk after chunk
+unfoldable pub entries_of : Endian → Geometry → Inode → Reading (Result (List DirEntry) PathRefusal)
+entries_of endian g inode = in_directory g inode (entries_before endian g inode (block_count g inode))
+
+-- this, or, where the name is absent, what is found further on
+abbrev pub found_or : Found → Found → Found
+found_or (FoundAt i) further = FoundAt i
+found_or (FoundBad bad) further = FoundBad bad
+found_or Absent further = further
+
+-- The first used entry with a name. No chunk is looked at after the first that has it or is refused.
+unfoldable pub find_through : Endian → List ℕ → List (List ℕ) → Found
+find_through endian name [] = Absent
+find_through endian name (chunk ∷ chunks) = found_or (find_in endian name chunk) (find_through endian name chunks)
+
+-- the inode that was found, or what is read where the name is absent
+abbrev pub on_absent : Found → Reading (Result ℕ PathRefusal) → Reading (Result ℕ PathRefusal)
+on_absent (FoundAt i) further = known (Ok i)
+on_absent (FoundBad bad) further = known (Err (Bad Chunk))
+on_absent Absent further = further
+
+-- the inode under a name in file block n of a directory, or in the count - 1 blocks after it
+unfoldable pub find_from : Endian → Geometry → Inode → List ℕ → ℕ → ℕ → Reading (Result ℕ PathRefusal)
+find_from endian g inode name n zero = known (Err NotFound)
+find_from endian g inode name n (suc count) =
+    and_then (chunks_of endian g inode n) (λ chunks.
+    on_absent (find_through endian name chunks) (find_from endian g inode name (suc n) count))
+
+-- the inode under a name in a directory
+unfoldable pub find_of : Endian → Geometry → Inode → List ℕ → Reading (Result ℕ PathRefusal)
+find_of endian g inode name = in_directory g inode (find_from endian g inode name 0 (block_count g inode))
+
+-- ---- paths
+
+-- a byte in front of the first of some parts
+abbrev pub in_part : ℕ → List (List ℕ) → List (List ℕ)
+in_part b [] = (b ∷ []) ∷ []
+in_part b (part ∷ parts) = (b ∷ part) ∷ parts
+
+-- the parts of a path between its slashes
+abbrev pub parts_of : List ℕ → List (List ℕ)
+parts_of [] = [] ∷ []
+parts_of (b ∷ bytes) = if b == 47 then [] ∷ parts_of bytes else in_part b (parts_of bytes)
+
+-- the names of a path: none of `/`, and a and b of `/a/b`
+abbrev pub names_of : List ℕ → List (List ℕ)
+names_of path = filter (λ part. nat_lt 0 (length part)) (parts_of path)
+
+-- an inode that has to be allocated
+abbrev pub allocated : Endian → Geometry → ℕ → Reading (Result Inode PathRefusal)
+allocated endian g i = inode_of endian g i >>= λ found. known (ok_or found (Bad Entry))
+
+-- an inode that a path leads to; the root is the first that there may be
+unfoldable pub named_inode : Endian → Geometry → ℕ → Reading (Result Inode PathRefusal)
+named_inode endian g i = if is_within 2 (g.ncg * g.ipg) i then allocated endian g i else known (Err (Bad Entry))
+
+-- where names lead, one after the other, from inode i
+unfoldable pub look_from : Endian → Geometry → List (List ℕ) → ℕ → Reading (Result (ℕ × Inode) PathRefusal)
+look_from endian g [] i = and_then (named_inode endian g i) (λ inode. known (Ok (i, inode)))
+look_from endian g (name ∷ names) i =
+    and_then (named_inode endian g i) (λ inode.
+    and_then (find_of endian g inode name) (λ next.
+    look_from endian g names next))
+
+-- a superblock that is refused makes its volume bad
+abbrev pub or_bad_super : Result Geometry BadSuper → Result Geometry PathRefusal
+or_bad_super (Ok g) = Ok g
+or_bad_super (Err kind) = Err (Bad (Super kind))
+
+-- the geometry of a volume on n blocks of l bytes
+unfoldable pub volume_geometry : Endian → ℕ → ℕ → Reading (Result Geometry PathRefusal)
+volume_geometry endian l n = geometry_of endian l n >>= λ found. known (or_bad_super found)
+
+-- the inode at a path, with its number
+unfoldable pub look_of : Endian → ℕ → ℕ → List ℕ → Reading (Result (ℕ × Inode) PathRefusal)
+look_of endian l n path =
+    and_then (volume_geometry endian l n) (λ g.
+    look_from endian g (names_of path) 2)
+
+-- the bytes of the file at a path
+unfoldable pub cat_of : Endian → ℕ → ℕ → List ℕ → Reading (Result (List ℕ) PathRefusal)
+cat_of endian l n path =
+    and_then (volume_geometry endian l n) (λ g.
+    and_then (look_from endian g (names_of path) 2) (λ found.
+    contents_of endian g found.1))
+
+-- a path of one name
+pub record IsOneName (path : List ℕ) : Type 0 where
+  pub slash : take 1 path ≡ 47 ∷ []
+  pub name : is_name (drop 1 path) ≡ true
