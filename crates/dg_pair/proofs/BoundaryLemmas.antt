@@ -8,7 +8,7 @@ use Rattle.dg_model.specs.declared.members.MemberState.{MemberState}
 use Rattle.dg_model.specs.declared.members.MemberState.TheVariants.{Good, Out}
 use Rattle.dg_pair.specs.declared.boundaries.Boundary.{Boundary}
 use Rattle.dg_pair.specs.declared.boundaries.Boundary.TheVariants.{Both, Half, Fill, Lost}
-use Rattle.dg_pair.specs.Boundaries.{members_of, number_of, size_of, IsWell, goods_in, servers_in}
+use Rattle.dg_pair.specs.Boundaries.{members_of, number_of, IsWell, goods_in, servers_in}
 use Rattle.dg_pair.specs.Cases.{HasNone, ReadsGood, SlotIs, KeepsAll, goods_of, servers_of}
 
 -- a boundary's members are its two
@@ -32,9 +32,10 @@ lost_none (Fill a b) well lost = let numbers = well.0.numbers in absurd (grind (
 lost_none (Lost a b) well lost = tt
 
 pub lost_is : (P : Type 0) (x old : Boundary) → IsWell x → number_of x ≡ number_of old → P ↔ HasNone x → P ↔ (is_lost (members_of x) (number_of old) ≡ true)
-lost_is P x old well number when =
-    (λ p. subst (λ (n : ℕ). is_lost (members_of x) n ≡ true) number (none_lost x well (when.0 p)),
-     λ lost. when.1 (lost_none x well (subst (λ (n : ℕ). is_lost (members_of x) n ≡ true) (sym number) lost)))
+lost_is P x old well number when = (
+  λ p. subst (λ (n : ℕ). is_lost (members_of x) n ≡ true) number (none_lost x well (when.0 p)),
+  λ lost. when.1 (lost_none x well (subst (λ (n : ℕ). is_lost (members_of x) n ≡ true) (sym number) lost)),
+)
 
 -- a slot that has these bytes by cases has them on each member that serves it
 pub holds_from : (x : Boundary) (l slot : ℕ) (v : List ℕ) (bytes : ℕ → Option (List ℕ)) → SlotIs x l slot v bytes → (q : ℕ) → serves (members_of x q) slot ≡ true → SlotOf l slot v (bytes q)

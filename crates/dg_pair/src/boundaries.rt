@@ -114,7 +114,6 @@ impl Boundary {
 
     /// Whether no member is good.
     pub fn is_lost(&self) -> bool
-        requires { IsWell self.now }
         ensures { result ≡ is_lost (members_of self.now) (number_of self.now) }
     {
         matches!(self, Boundary::Lost(_, _))

@@ -7,6 +7,8 @@ mod changes;
 mod members;
 mod reads;
 mod refills;
+#[cfg(test)]
+mod tests;
 mod writes;
 
 pub use boundaries::{
