@@ -5,4 +5,4 @@ use Rattle.dg_pair.specs.Boundaries.{IsWell}
 use Rattle.dg_store.proofs.boundaries.has_lost.Goals as goal
 
 pub any-requires-clause-callable : goal.any-requires-clause-callable
-any-requires-clause-callable c = serves_from_places (YieldsList-from_slice c.args.row.now cc) (λ x q turn. refl) (λ x k within is _ _ _ _ _. subst IsWell (sym is) (c.requires k x.now within))
+any-requires-clause-callable c = serves_from_places (YieldsList-from_slice c.args.row.now cc) (λ x q turn. refl) (λ x k within is. tt)
