@@ -8,6 +8,8 @@ mod outside;
 mod racks;
 mod sinks;
 mod sources;
+#[cfg(test)]
+mod tests;
 
 pub use dg_model::{Failed, NoMemory};
 pub use outside::{Rack, Sink, Source, write_all};
