@@ -10,6 +10,8 @@ mod pieces;
 mod racks;
 mod sinks;
 mod sources;
+#[cfg(test)]
+mod tests;
 mod views;
 
 pub use dg_model::{Failed, NoMemory};

@@ -10,6 +10,8 @@ mod input;
 mod lines;
 mod pieces;
 mod serve;
+#[cfg(test)]
+mod tests;
 mod top;
 
 pub use top::{Status, run};
