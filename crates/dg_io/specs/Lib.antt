@@ -5,3 +5,4 @@ pub mod Sources
 pub mod Told
 pub mod Views
 pub mod MemViews
+pub mod ViewLaws

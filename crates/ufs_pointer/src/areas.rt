@@ -1,0 +1,46 @@
+ghost use Rattle.std.specs.Prelude.{◌≡◌, ◌+◌, ◌*◌, ◌<◌, ◌≤◌, drop, length, take};
+ghost use Rattle.std.specs.Bool.{then_some};
+ghost use Rattle.dg_io.specs.Views.{KeepsView};
+ghost use Rattle.ufs_model.specs.Blocks.{area_of, consult};
+ghost use Rattle.ufs_model.specs.Readings.{ReadsAs};
+
+use dg_io::{Fetched, View};
+
+/// Reads a block into a part of the buffer, and answers whether it could.
+fn fetch_at<V: View>(view: &mut V, block: u32, start: usize, size: usize, buf: &mut [u8]) -> bool
+    requires sound { V.is_sound view.old }
+    requires within { block < V.count view.old }
+    requires size { size ≡ V.size view.old }
+    requires room { start + size ≤ length buf.old }
+    ensures keeps { KeepsView V.stands_for V.tells V.is_gone V.count V.size V.is_sound V.goes_on view.old view.new }
+    ensures room { length buf.new ≡ length buf.old }
+    ensures front { take start buf.new ≡ take start buf.old }
+    ensures rule { ReadsAs (V.stands_for view.old) (V.is_gone view.old) (V.tells view.new) (V.is_gone view.new)
+        (consult (V.size view.old) block) (then_some result (take size (drop start buf.new))) }
+{
+    match view.fetch(block, &mut buf[start..start + size]) {
+        Fetched::Got => true,
+        Fetched::Gone => false,
+    }
+}
+
+/// Reads `k` blocks from `a` on, end to end, and answers whether it could. Where one is gone, the
+/// buffer has any bytes.
+pub fn read_area<V: View>(view: &mut V, a: u32, k: u32, buf: &mut [u8]) -> bool
+    requires sound { V.is_sound view.old }
+    requires within { a + k ≤ V.count view.old }
+    requires room { length buf.old ≡ k * V.size view.old }
+    ensures keeps { KeepsView V.stands_for V.tells V.is_gone V.count V.size V.is_sound V.goes_on view.old view.new }
+    ensures room { length buf.new ≡ length buf.old }
+    ensures rule { ReadsAs (V.stands_for view.old) (V.is_gone view.old) (V.tells view.new) (V.is_gone view.new)
+        (area_of (V.size view.old) a k) (then_some result buf.new) }
+{
+    let (size, _) = V::shape(view);
+    let bytes = size as usize;
+    for i in 0..k {
+        if !fetch_at(view, a + i, i as usize * bytes, bytes, buf) {
+            return false;
+        }
+    }
+    true
+}
