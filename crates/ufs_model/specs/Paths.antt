@@ -156,18 +156,28 @@ unfoldable pub find_through : Endian → List ℕ → List (List ℕ) → Found
 find_through endian name [] = Absent
 find_through endian name (chunk ∷ chunks) = found_or (find_in endian name chunk) (find_through endian name chunks)
 
--- the inode that was found, or what is read where the name is absent
-abbrev pub on_absent : Found → Reading (Result ℕ PathRefusal) → Reading (Result ℕ PathRefusal)
-on_absent (FoundAt i) further = known (Ok i)
-on_absent (FoundBad bad) further = known (Err (Bad Chunk))
-on_absent Absent further = further
+-- the inode that was found, if one was; a refused chunk makes its volume bad
+abbrev pub or_bad_chunk : Found → Result (Option ℕ) PathRefusal
+or_bad_chunk (FoundAt i) = Ok (Some i)
+or_bad_chunk (FoundBad bad) = Err (Bad Chunk)
+or_bad_chunk Absent = Ok None
 
--- the inode under a name in file block n of a directory, or in the count - 1 blocks after it
+-- the inode under a name in file block n of a directory, if it has the name
+unfoldable pub find_in_block : Endian → Geometry → Inode → List ℕ → ℕ → Reading (Result (Option ℕ) PathRefusal)
+find_in_block endian g inode name n =
+    and_then (chunks_of endian g inode n) (λ chunks. known (or_bad_chunk (find_through endian name chunks)))
+
+-- the inode that was found, or what is read where there is none
+abbrev pub found_else : Option ℕ → Reading (Result ℕ PathRefusal) → Reading (Result ℕ PathRefusal)
+found_else (Some i) further = known (Ok i)
+found_else None further = further
+
+-- the inode under a name in count file blocks of a directory from block n on; the first that has it ends the search
 unfoldable pub find_from : Endian → Geometry → Inode → List ℕ → ℕ → ℕ → Reading (Result ℕ PathRefusal)
 find_from endian g inode name n zero = known (Err NotFound)
 find_from endian g inode name n (suc count) =
-    and_then (chunks_of endian g inode n) (λ chunks.
-    on_absent (find_through endian name chunks) (find_from endian g inode name (suc n) count))
+    and_then (find_in_block endian g inode name n) (λ found.
+    found_else found (find_from endian g inode name (suc n) count))
 
 -- the inode under a name in a directory
 unfoldable pub find_of : Endian → Geometry → Inode → List ℕ → Reading (Result ℕ PathRefusal)
