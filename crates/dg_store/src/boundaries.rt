@@ -1,5 +1,5 @@
 // A row of boundaries, and one slot of it. These functions work on the parts of a store.
-ghost use Rattle.std.specs.Prelude.{◌≡◌, ◌≢◌, ◌⊎◌, ◌↔◌, ◌+◌, ◌*◌, ◌/◌, ◌≤◌, ◌<◌, ℕ, List, length, IsTrue, true, IsSome, IfOk, All, Any};
+ghost use Rattle.std.specs.Prelude.{◌≡◌, ◌↔◌, ◌+◌, ◌*◌, ◌/◌, ◌≤◌, ◌<◌, ℕ, List, length, IsTrue, true, IsSome, IfOk, All, Any};
 ghost use Rattle.dg_model.specs.Causes.{Rose};
 ghost use Rattle.dg_model.specs.Members.{is_lost, SlotHolds, MembersFall, IsStruck};
 ghost use Rattle.dg_model.specs.Shapes.{IsShape};
