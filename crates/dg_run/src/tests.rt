@@ -65,8 +65,16 @@ fn lines_are_answered(rt: HostRuntime) -> Result<(), Fail> {
             "ok\ndata -\nok\ndata -\n",
         ),
         (
-            "array 1024 64 4 32 2\nwrite 64 00\nwrite 63 00\nread 64\n",
-            "ok\nrange\nok\nrange\n",
+            "array 1024 64 4 32 2\nwrite 64 00\nwrite 63 00\nread 64\nfail 4 0\nfail 0 2\n",
+            "ok\nrange\nok\nrange\nrange\nrange\n",
+        ),
+        (
+            "array 1024 128 4 64 2\nwrite 3 aa\nfail 3 0\nwrite 3 bb\nread 3\nfail 3 0\nfail 3 1\nread 3\n",
+            "ok\nok\nok\nok\ndata bb\nalready\nok\nunavailable\n",
+        ),
+        (
+            "array 1024 128 4 64 2\nwrite 3 aa\nfail 3 0\nfail 3 1\nread 3\nread 2\nwrite 2 00\n",
+            "ok\nok\nok\nok\nunavailable\ndata -\ndegraded\n",
         ),
     ];
     for (input, output) in rows {
