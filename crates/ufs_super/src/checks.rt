@@ -6,8 +6,8 @@ ghost use Rattle.ufs_model.specs.Superblocks.{format_holds, frag_holds, group_fi
 
 use ufs_model::Geometry;
 
-/// The first byte after the superblock on the volume, which begins at byte 8192 (`SBOFF`).
-const SUPERBLOCK_END: u64 = 9568;
+/// The first byte of the volume after the superblock, which begins at byte 8192 (`SBOFF`).
+pub const SUPERBLOCK_END: u64 = 9568;
 
 /// Bytes of a superblock (`struct fs`).
 const SUPERBLOCK_BYTES: u32 = 1376;

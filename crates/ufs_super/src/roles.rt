@@ -2,11 +2,12 @@ ghost use Rattle.std.specs.Prelude.{◌≡◌, ◌+◌, ◌≤◌, ◌<◌};
 ghost use Rattle.ufs_model.specs.Geometries.{IsGeometry, cgstart};
 ghost use Rattle.ufs_model.specs.Roles.{has_super, is_within, role, role_in};
 
+use crate::checks::SUPERBLOCK_END;
 use crate::places::{cgstart, group_of};
 use ufs_model::{Geometry, Role, SystemKind};
 
-/// The first byte of the superblock on the volume (`SBOFF`), and the first one after it.
-const SUPERBLOCK: (u64, u64) = (8192, 9568);
+/// The first byte of the superblock on the volume (`SBOFF`).
+const SUPERBLOCK_START: u64 = 8192;
 
 /// The number is from one to before another.
 fn is_within(low: u32, high: u32, number: u32) -> bool
@@ -19,9 +20,8 @@ fn is_within(low: u32, high: u32, number: u32) -> bool
 fn has_super(l: u32, block: u32) -> bool
     ensures { result ≡ has_super l block }
 {
-    let (start, end) = SUPERBLOCK;
     let (l, block) = (u64::from(l), u64::from(block));
-    block * l < end && start < (block + 1) * l
+    block * l < SUPERBLOCK_END && SUPERBLOCK_START < (block + 1) * l
 }
 
 /// The role of a block of group `c`, whose own blocks are counted from `start`.
