@@ -101,15 +101,15 @@ impl Rack for ImageRack {
     fn blank(&mut self, member: u8, length: u64) -> Result<(), Failed> {
         self.calls = self.calls.saturating_add(1);
         self.writes = self.writes.saturating_add(1);
-        match (
-            create(self.rt, member, length),
-            self.images.get_mut(member as usize),
-        ) {
-            (Ok(file), Some(place)) => {
+        let Some(place) = self.images.get_mut(member as usize) else {
+            return self.fault(member);
+        };
+        match create(self.rt, member, length) {
+            Ok(file) => {
                 *place = Some(file);
                 Ok(())
             }
-            _ => self.fault(member),
+            Err(_) => self.fault(member),
         }
     }
 

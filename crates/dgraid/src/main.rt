@@ -5,6 +5,8 @@
 mod images;
 mod inputs;
 mod outputs;
+#[cfg(test)]
+mod tests;
 
 use dg_run::{Status, run};
 use images::ImageRack;

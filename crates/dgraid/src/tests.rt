@@ -1,0 +1,33 @@
+use crate::images::ImageRack;
+use crate::inputs::StandardInput;
+use crate::outputs::StandardOutput;
+use dg_io::{Failed, Rack, Sink, Source};
+use std::fs;
+use std::test::Fail;
+
+#[test]
+fn image_files_keep_bytes(rt: HostRuntime) -> Result<(), Fail> {
+    let mut rack = ImageRack::new(rt)?;
+    let mut bytes = [b'-'; 4];
+    assert_eq!(rt; rack.read(31, 0, &mut bytes), Err(Failed), "not blanked");
+    rack.blank(31, 8)?;
+    rack.write(31, 3, b"hi")?;
+    rack.read(31, 2, &mut bytes)?;
+    assert_eq!(rt; bytes, *b"\0hi\0");
+    assert_eq!(rt; rack.read(31, 5, &mut bytes), Err(Failed), "past the end");
+    assert_eq!(rt; rack.blank(32, 8), Err(Failed), "no such member");
+    let all = fs::read(&rt, "member-15-1.img")?;
+    fs::remove_file(&rt, "member-15-1.img")?;
+    assert_eq!(rt; all.as_slice(), b"\0\0\0hi\0\0\0".as_slice());
+    Ok(())
+}
+
+// The program's stored run reads and writes more.
+#[test]
+fn standard_streams_are_called(rt: HostRuntime) -> Result<(), Fail> {
+    assert_eq!(rt; StandardInput::new(rt).read(&mut []), Ok(0));
+    let mut sink = StandardOutput::new(rt);
+    assert_eq!(rt; sink.write(b""), Ok(0));
+    assert_eq!(rt; sink.write(b"ok\n"), Ok(3));
+    Ok(())
+}
