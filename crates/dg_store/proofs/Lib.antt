@@ -3,3 +3,4 @@ mod Calls
 mod Changed
 mod Rows
 mod Struck
+mod ViewLaws

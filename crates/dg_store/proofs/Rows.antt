@@ -105,7 +105,7 @@ pub row_well : (l slots : ℕ) (row : List Boundary) → RowStands l slots row �
 row_well l slots row stands k d within = (stands k (get_or row k d) (slice_get-get_or row k d within)).well
 
 -- boundary s of a row is lost by its own members
-lost_at : (row : List Boundary) (s : ℕ) (x : Boundary) → slice_get row s ≡ Some x → is_lost (members_in row) s ≡ is_lost (members_of x) s
+pub lost_at : (row : List Boundary) (s : ℕ) (x : Boundary) → slice_get row s ≡ Some x → is_lost (members_in row) s ≡ is_lost (members_of x) s
 lost_at row s x is =
     let low : (2 * s) / 2 ≡ s = omega arith in
     let high : (2 * s + 1) / 2 ≡ s = omega arith in
@@ -123,3 +123,7 @@ pub lost_any : (l slots : ℕ) (row : List Boundary) → RowStands l slots row �
 lost_any l slots row stands (s, x, within, value, no_good) =
     let is : slice_get row s ≡ Some x = slice_get-get_or row s x within ∙ ap Some value in
     (s, within, lost_at row s x is ∙ ap (λ (t : ℕ). is_lost (members_of x) t) (sym (stands s x is).number) ∙ no_good)
+
+-- there is no member past the row
+pub beyond : (row : List Boundary) (q : ℕ) → length row ≤ q / 2 → members_in row q ≡ Out
+beyond row q h = ap (λ (o : Option Boundary). member_at o q) (past row (q / 2) h)

@@ -1,3 +1,5 @@
 pub mod Lengths
+pub mod ReadLaws
 pub mod Rows
 pub mod Stores
+pub mod Views

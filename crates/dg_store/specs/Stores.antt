@@ -1,5 +1,5 @@
 -- What a store means. The words below are all that the crates above cite; they say nothing of how a store keeps it.
-use Rattle.std.specs.Prelude.{◌≡◌, ◌+◌, ℕ, false, List, [], ◌∷◌, length, Option, IsSome, if◌then◌else◌, slice_index_or}
+use Rattle.std.specs.Prelude.{◌/◌, ◌<◌, ◌≡◌, ◌+◌, ℕ, false, List, [], ◌∷◌, length, Option, IsSome, if◌then◌else◌, slice_index_or}
 use Rattle.dg_model.specs.Shapes.{IsShape}
 use Rattle.dg_model.specs.Sites.{fixed_site}
 use Rattle.dg_model.specs.States.{Counts, State, Holds}
@@ -45,3 +45,7 @@ StandsFor counts bytes store blocks = Holds (bytes (rack_of store)) (state_of co
 -- each good member tells its bytes
 abbrev pub Tells : {R : Type 0} → (R → ℕ → Option (List ℕ)) → Store R → Type 0
 Tells bytes store = (q : ℕ) → members_of store q ≡ Good → IsSome (bytes (rack_of store) q)
+
+-- each member of the array tells its bytes
+abbrev pub TellsAll : {R : Type 0} → (R → ℕ → Option (List ℕ)) → Store R → Type 0
+TellsAll bytes store = (q : ℕ) → q / 2 < (shape_of store).b → IsSome (bytes (rack_of store) q)

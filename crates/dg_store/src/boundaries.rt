@@ -52,6 +52,15 @@ pub fn has_lost(row: &[Boundary]) -> bool
     row.iter().any(|boundary| boundary.is_lost())
 }
 
+/// Whether a boundary is lost, by its number.
+pub fn is_lost_at(row: &Vec<Boundary>, shape: &Shape, boundary: u32) -> bool
+    requires stands { RowStands shape.now.l (shape.now.k + 1) row.now.items }
+    requires within { boundary < length row.now.items }
+    ensures { result ≡ is_lost (members_in row.now.items) boundary }
+{
+    row[boundary as usize].is_lost()
+}
+
 /// Reads a slot of a boundary, by its number.
 pub fn read_slot<R: Rack>(
     row: &mut Vec<Boundary>,

@@ -6,6 +6,7 @@ mod lengths;
 mod store;
 #[cfg(test)]
 mod tests;
+mod views;
 
 pub use dg_io::Fetched;
 pub use dg_model::{Shape, Site};

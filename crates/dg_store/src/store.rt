@@ -10,7 +10,7 @@ ghost use Rattle.dg_store.specs.Lengths.{length_of, IsZeroed};
 ghost use Rattle.dg_store.specs.Stores.{rack_of, shape_of, members_of, sites_of, state_of, IsSound, StandsFor, Tells};
 
 use crate::Shape;
-use crate::boundaries::{blank_row, fail_side, has_lost, read_slot, write_slot};
+use crate::boundaries::{blank_row, fail_side, has_lost, is_lost_at, read_slot, write_slot};
 use dg_io::{Fetched, NoMemory, Rack};
 use dg_model::MemberState;
 use dg_pair::{Boundary, FailAnswer, PairRead, PairWrite};
@@ -82,6 +82,16 @@ impl<R: Rack> Store<R> {
         ensures { IsTrue result ↔ HasLost (shape_of self.now) (members_of self.now) }
     {
         has_lost(&self.row)
+    }
+
+    /// Whether a block is gone: it is written, and all its sites are on lost boundaries. It makes no call on the rack.
+    pub fn is_gone(&self, block: u32) -> bool
+        requires sound { IsSound R.bytes self.now }
+        requires range { block < (shape_of self.now).n }
+        ensures { result ≡ is_gone (sites_of self.now) (members_of self.now) block }
+    {
+        let boundary = block % self.shape.b as u32;
+        self.written[block as usize] && is_lost_at(&self.row, &self.shape, boundary)
     }
 
     /// Makes a member fail, given by its boundary and its side, 0 or 1. It is out then, and so is one that was refilled

@@ -1,7 +1,6 @@
-use Rattle.std.proofs.Common.{refl, sym, subst}
+use Rattle.std.proofs.Common.{refl}
 use Rattle.std.proofs.lemmas.Iterator.{YieldsList-from_slice}
 use Rattle.std.proofs.lemmas.Iterator.Adapters.{serves_from_places}
-use Rattle.dg_pair.specs.Boundaries.{IsWell}
 use Rattle.dg_store.proofs.boundaries.has_lost.Goals as goal
 
 pub any-requires-clause-callable : goal.any-requires-clause-callable

@@ -1,0 +1,41 @@
+// The store as a view of its blocks.
+ghost use Rattle.dg_model.specs.Sites.{is_gone};
+ghost use Rattle.dg_store.specs.Stores.{shape_of, members_of, sites_of, IsSound, StandsFor, TellsAll};
+ghost use Rattle.dg_store.specs.Views.{ReadsOn};
+ghost use Rattle.dg_store.specs.ReadLaws.{reads_none, reads_both};
+
+use crate::Store;
+use dg_io::{Fetched, Rack, View};
+
+impl<R: Rack> View for Store<R> {
+    ghost stands_for = { λ s v. StandsFor R.counts R.bytes s v };
+
+    ghost tells = { λ s. TellsAll R.bytes s };
+
+    ghost is_gone = { λ s b. is_gone (sites_of s) (members_of s) b };
+
+    ghost count = { λ s. (shape_of s).n };
+
+    ghost size = { λ s. (shape_of s).l };
+
+    ghost is_sound = { λ s. IsSound R.bytes s };
+
+    ghost goes_on = { λ a b. ReadsOn R.counts R.bytes R.name a b };
+
+    fn fetch(&mut self, block: u32, buf: &mut [u8]) -> Fetched {
+        self.read(block, buf)
+    }
+
+    fn gone(&self, block: u32) -> bool {
+        self.is_gone(block)
+    }
+
+    fn shape(&self) -> (u32, u32) {
+        let shape = self.shape();
+        (shape.l, shape.n)
+    }
+
+    ghost unchanged = { λ s. reads_none R.counts R.bytes R.name s };
+
+    ghost further = { λ a b c first second. reads_both R.counts R.bytes R.name a b c first second };
+}
