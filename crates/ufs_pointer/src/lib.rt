@@ -12,6 +12,8 @@ mod chains;
 mod indirect_blocks;
 mod levels;
 mod pointers;
+#[cfg(test)]
+mod tests;
 
 pub use crate::answers::BlockAnswer;
 pub use crate::areas::read_area;
