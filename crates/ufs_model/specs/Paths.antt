@@ -61,13 +61,18 @@ abbrev pub front_in : ℕ → Option (List ℕ) → List ℕ
 front_in count None = replicate count 0
 front_in count (Some bytes) = take count bytes
 
+-- the bytes of a file that stand in its file block n
+unfoldable pub part_of : Endian → Geometry → Inode → ℕ → Reading (Result (List ℕ) PathRefusal)
+part_of endian g inode n =
+    and_then (block_of endian g inode n) (λ block. known (Ok (front_in (bytes_in_block g inode n) block)))
+
 -- the bytes of a file that stand in its first k file blocks
 unfoldable pub front_of : Endian → Geometry → Inode → ℕ → Reading (Result (List ℕ) PathRefusal)
 front_of endian g inode zero = known (Ok [])
 front_of endian g inode (suc k) =
     and_then (front_of endian g inode k) (λ front.
-    and_then (block_of endian g inode k) (λ block.
-    known (Ok (front ++ front_in (bytes_in_block g inode k) block))))
+    and_then (part_of endian g inode k) (λ part.
+    known (Ok (front ++ part))))
 
 abbrev pub is_regular : Kind → Bool
 is_regular Regular = true
