@@ -5,6 +5,17 @@
 //! Addresses are counted in fragments, and fragment f is block f of the view.
 #![tactic(auto)]
 
+mod addresses;
+mod answers;
 mod areas;
+mod chains;
+mod indirect_blocks;
+mod levels;
+mod pointers;
 
+pub use crate::answers::BlockAnswer;
 pub use crate::areas::read_area;
+pub use crate::chains::locate;
+pub use crate::levels::{Levels, file_block};
+pub use crate::pointers::pointer;
+pub use ufs_model::{Address, Chain};

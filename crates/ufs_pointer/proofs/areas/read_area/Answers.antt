@@ -1,4 +1,4 @@
-use Rattle.std.proofs.Common.{◌≡◌, ◌∙◌, suc, ◌*◌, refl, add-one, arith}
+use Rattle.std.proofs.Common.{◌≡◌, ◌∙◌, suc, ◌*◌, add-one, arith}
 use Rattle.dg_io.specs.ViewLaws.{keeps_both, keeps_same}
 use Rattle.ufs_model.proofs.AreaLaws.{area_none, area_more, area_fails, area_fails_whole, buffer_more}
 use Rattle.ufs_pointer.proofs.areas.read_area.Goals as goal

@@ -1,0 +1,31 @@
+use Rattle.ufs_model.proofs.ReadingLaws.{reads_then, reads_none}
+use Rattle.ufs_pointer.proofs.levels.Levels.follow.Goals as goal
+
+pub returns-in_err-single-in-Two-clause-rule : goal.returns-in_err-single-in-Two-clause-rule
+returns-in_err-single-in-Two-clause-rule g c =
+    rw (c.in-Two.is, c.from_residual.ensures) (reads_none _ (rw c.indirect_address-double.ensures.value at c.in_err-single-in-Two.ensures.rule))
+
+pub returns-in_ok-single-in-Two-clause-rule : goal.returns-in_ok-single-in-Two-clause-rule
+returns-in_ok-single-in-Two-clause-rule g c =
+    let first = c.through-in-Two.ensures.keeps in
+    rw c.in-Two.is (reads_then _ first.stays first.stands c.through-in-Two-2.ensures.keeps.told
+    (rw c.indirect_address-double.ensures.value at c.in_ok-single-in-Two.ensures.rule) c.through-in-Two-2.ensures.rule)
+
+pub returns-in_err-double-in-Three-clause-rule : goal.returns-in_err-double-in-Three-clause-rule
+returns-in_err-double-in-Three-clause-rule g c =
+    rw (c.in-Three.is, c.from_residual-in_err-double-in-Three.ensures) (reads_none _ (rw c.indirect_address-triple.ensures.value at c.in_err-double-in-Three.ensures.rule))
+
+pub returns-in_err-single-in-Three-clause-rule : goal.returns-in_err-single-in-Three-clause-rule
+returns-in_err-single-in-Three-clause-rule g c =
+    let first = c.through-in-Three.ensures.keeps in
+    rw (c.in-Three.is, c.from_residual-in_err-single-in-Three.ensures) (reads_then _ first.stays first.stands c.through-in-Three-2.ensures.keeps.told
+    (rw c.indirect_address-triple.ensures.value at c.in_ok-double-in-Three.ensures.rule) (reads_none _ c.in_err-single-in-Three.ensures.rule))
+
+pub returns-in_ok-single-in-Three-clause-rule : goal.returns-in_ok-single-in-Three-clause-rule
+returns-in_ok-single-in-Three-clause-rule g c =
+    let first = c.through-in-Three.ensures.keeps in
+    let second = c.through-in-Three-2.ensures.keeps in
+    let third = c.through-in-Three-3.ensures.keeps in
+    rw c.in-Three.is (reads_then _ first.stays first.stands (λ h. second.told (third.told h))
+    (rw c.indirect_address-triple.ensures.value at c.in_ok-double-in-Three.ensures.rule)
+    (reads_then _ second.stays second.stands third.told c.in_ok-single-in-Three.ensures.rule c.through-in-Three-3.ensures.rule))

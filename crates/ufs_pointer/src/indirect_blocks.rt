@@ -1,0 +1,45 @@
+ghost use Rattle.std.specs.Prelude.{◌≡◌, ◌<◌, IfSome, length};
+ghost use Rattle.dg_io.specs.Views.{KeepsView};
+ghost use Rattle.ufs_model.specs.Geometries.{IsGeometryOn};
+ghost use Rattle.ufs_model.specs.Pointers.{through};
+ghost use Rattle.ufs_model.specs.Readings.{ReadsAs};
+ghost use Rattle.ufs_model.specs.declared.numbers.Endian.TheVariants.{Little};
+ghost use Rattle.ufs_pointer.specs.Addresses.{IsWhole};
+
+use crate::addresses::block_address;
+use crate::areas::read_area;
+use crate::pointers::pointer;
+use dg_io::View;
+use ufs_model::{Address, Geometry};
+
+/// What pointer number `i` of the indirect block at an address leads to. There is no answer where a
+/// fragment of the indirect block is gone.
+#[tactic(auto, unfolding(ufs_model::specs::Pointers::through, ufs_model::specs::Blocks::bind))]
+pub fn through<V: View>(
+    view: &mut V,
+    g: &Geometry,
+    i: u32,
+    address: Address,
+    buf: &mut [u8],
+) -> Option<Address>
+    requires sound { V.is_sound view.old }
+    requires geometry { IsGeometryOn (V.size view.old) (V.count view.old) g.now }
+    requires index { i < g.now.nindir }
+    requires whole { IsWhole g.now address }
+    requires room { length buf.old ≡ g.now.bsize }
+    ensures keeps { KeepsView V.stands_for V.tells V.is_gone V.count V.size V.is_sound V.goes_on view.old view.new }
+    ensures whole { IfSome result (IsWhole g.now) }
+    ensures rule { ReadsAs (V.stands_for view.old) (V.is_gone view.old) (V.tells view.new) (V.is_gone view.new)
+        (through Little g.now i address) result }
+{
+    match address {
+        Address::Hole => Some(Address::Hole),
+        Address::Wild => Some(Address::Wild),
+        Address::At(a, k) => {
+            if !read_area(view, a, k, buf) {
+                return None;
+            }
+            Some(block_address(g, pointer(buf, i)))
+        }
+    }
+}

@@ -1,0 +1,212 @@
+ghost use Rattle.std.specs.Prelude.{◌≡◌, ◌+◌, ◌*◌, ◌^◌, ◌<◌, ◌≤◌, IfOk, IfSome, [], length, take};
+ghost use Rattle.std.specs.Bool.{then_some};
+ghost use Rattle.dg_io.specs.Views.{KeepsView};
+ghost use Rattle.ufs_model.specs.Blocks.{area_of};
+ghost use Rattle.ufs_model.specs.Geometries.{IsGeometry, IsGeometryOn};
+ghost use Rattle.ufs_model.specs.Pointers.{chain_address, file_block_of};
+ghost use Rattle.ufs_model.specs.Readings.{ReadsAs};
+ghost use Rattle.ufs_model.specs.declared.numbers.Endian.TheVariants.{Little};
+ghost use Rattle.ufs_pointer.specs.Addresses.{IsInside, address_in};
+ghost use Rattle.ufs_pointer.specs.Buffers.{Buffers};
+ghost use Rattle.ufs_pointer.specs.Chains.{IsChain};
+
+use crate::addresses::{direct_address, indirect_address};
+use crate::answers::BlockAnswer;
+use crate::areas::read_area;
+use crate::chains::locate;
+use crate::indirect_blocks::through;
+use dg_io::{NoMemory, View};
+use std::alloc::Global;
+use std::marker::Model;
+use ufs_model::{Address, Chain, Geometry, Inode};
+
+/// Fragments of a file block, at most (`MAXFRAG`).
+const MOST_FRAGMENTS: usize = 8;
+
+/// Slots of the indirect blocks (`NIADDR`).
+const SINGLE: u8 = 12;
+
+const DOUBLE: u8 = 13;
+
+const TRIPLE: u8 = 14;
+
+/// The buffers of a reader of a volume: one for a block of each level of pointers, and one for a
+/// block of data. Each has room for eight fragments. Callers see the bytes of a fragment, and the
+/// block of data.
+#[derive(Drop)]
+pub struct Levels {
+    fragment: u32,
+    filled: usize,
+    bytes: Vec<u8>,
+    single: Vec<u8>,
+    double: Vec<u8>,
+    triple: Vec<u8>,
+}
+
+impl Model for Levels {
+    ghost Value = { Buffers };
+
+    ghost view = { λ s. record { fragment = s.fragment; block = take s.filled s.bytes.items } };
+
+    ghost invariant = { λ s. record {
+      filled : s.filled ≤ length s.bytes.items;
+      bytes : length s.bytes.items ≡ 8 * s.fragment;
+      single : length s.single.items ≡ 8 * s.fragment;
+      double : length s.double.items ≡ 8 * s.fragment;
+      triple : length s.triple.items ≡ 8 * s.fragment;
+    } };
+}
+
+impl Levels {
+    /// The buffers for fragments of `l` bytes. It takes all their memory.
+    pub fn new(alloc: Global, l: u32) -> Result<Levels, NoMemory>
+        requires { l ≤ 65536 }
+        ensures fragment { IfOk result (λ levels. levels.fragment ≡ l) }
+        ensures block { IfOk result (λ levels. levels.block ≡ []) }
+    {
+        Ok(Levels {
+            fragment: l,
+            filled: 0,
+            bytes: zeros(alloc, l)?,
+            single: zeros(alloc, l)?,
+            double: zeros(alloc, l)?,
+            triple: zeros(alloc, l)?,
+        })
+    }
+
+    /// The block of data that was read last.
+    pub fn block(&self) -> &[u8]
+        ensures { result.now ≡ self.now.block }
+    {
+        &self.bytes[..self.filled]
+    }
+}
+
+/// Room for a block of eight fragments of `l` bytes.
+fn zeros(alloc: Global, l: u32) -> Result<Vec<u8>, NoMemory>
+    requires { l ≤ 65536 }
+    ensures { IfOk result (λ bytes. length bytes.items ≡ 8 * l) }
+{
+    match vec![in alloc; 0; MOST_FRAGMENTS * l as usize] {
+        Ok(bytes) => Ok(bytes),
+        Err(_) => Err(NoMemory),
+    }
+}
+
+/// The bytes of `k` fragments of `l` bytes. They fit a buffer.
+fn area_bytes(k: u32, l: u32) -> usize
+    requires { k ≤ 8 }
+    ensures value { result ≡ k * l }
+    ensures fits { result ≤ 8 * l }
+{
+    k as usize * l as usize
+}
+
+/// The bytes of a file block. They fit a buffer.
+fn block_bytes(g: &Geometry) -> usize
+    requires { IsGeometry g.now }
+    ensures value { result ≡ g.now.bsize }
+    ensures fits { result ≤ 8 * g.now.fsize }
+{
+    area_bytes(g.frag, g.fsize)
+}
+
+/// Reads `k` fragments of data from `a` on into the front of a buffer, which has so many bytes.
+fn read_front<V: View>(view: &mut V, a: u32, k: u32, bytes: usize, buf: &mut [u8]) -> bool
+    requires sound { V.is_sound view.old }
+    requires within { a + k ≤ V.count view.old }
+    requires bytes { bytes ≡ k * V.size view.old }
+    requires room { bytes ≤ length buf.old }
+    ensures keeps { KeepsView V.stands_for V.tells V.is_gone V.count V.size V.is_sound V.goes_on view.old view.new }
+    ensures room { length buf.new ≡ length buf.old }
+    ensures rule { ReadsAs (V.stands_for view.old) (V.is_gone view.old) (V.tells view.new) (V.is_gone view.new)
+        (area_of (V.size view.old) a k) (then_some result (take bytes buf.new)) }
+{
+    read_area(view, a, k, &mut buf[..bytes])
+}
+
+impl Levels {
+    /// Reads `k` fragments of data from `a` on, end to end, and answers whether it could. Where one is
+    /// gone, the block of data has any bytes.
+    pub fn read_block<V: View>(&mut self, view: &mut V, a: u32, k: u32) -> bool
+        requires sound { V.is_sound view.old }
+        requires within { a + k ≤ V.count view.old }
+        requires most { k ≤ 8 }
+        requires fragment { self.old.fragment ≡ V.size view.old }
+        ensures keeps { KeepsView V.stands_for V.tells V.is_gone V.count V.size V.is_sound V.goes_on view.old view.new }
+        ensures fragment { self.new.fragment ≡ self.old.fragment }
+        ensures room { length self.new.block ≡ k * V.size view.old }
+        ensures rule { ReadsAs (V.stands_for view.old) (V.is_gone view.old) (V.tells view.new) (V.is_gone view.new)
+            (area_of (V.size view.old) a k) (then_some result self.new.block) }
+    {
+        self.filled = area_bytes(k, self.fragment);
+        read_front(view, a, k, self.filled, &mut self.bytes)
+    }
+
+    /// What a chain leads to, by the slots of the inode and through indirect blocks. There is no answer
+    /// where a fragment of one of these is gone.
+    fn follow<V: View>(
+        &mut self,
+        view: &mut V,
+        g: &Geometry,
+        inode: &Inode,
+        chain: Chain,
+    ) -> Option<Address>
+        requires sound { V.is_sound view.old }
+        requires geometry { IsGeometryOn (V.size view.old) (V.count view.old) g.now }
+        requires chain { IsChain g.now.nindir chain }
+        requires fragment { self.old.fragment ≡ V.size view.old }
+        ensures keeps { KeepsView V.stands_for V.tells V.is_gone V.count V.size V.is_sound V.goes_on view.old view.new }
+        ensures buffers { self.new ≡ self.old }
+        ensures inside { IfSome result (IsInside g.now) }
+        ensures rule { ReadsAs (V.stands_for view.old) (V.is_gone view.old) (V.tells view.new) (V.is_gone view.new)
+            (chain_address Little g.now inode.now chain) result }
+    {
+        let size = block_bytes(g);
+        match chain {
+            Chain::Direct(slot) => Some(direct_address(g, inode, slot)),
+            Chain::One(i) => {
+                let single = indirect_address(g, inode, SINGLE);
+                through(view, g, i, single, &mut self.single[..size])
+            }
+            Chain::Two(i, j) => {
+                let double = indirect_address(g, inode, DOUBLE);
+                let single = through(view, g, i, double, &mut self.double[..size])?;
+                through(view, g, j, single, &mut self.single[..size])
+            }
+            Chain::Three(i, j, k) => {
+                let triple = indirect_address(g, inode, TRIPLE);
+                let double = through(view, g, i, triple, &mut self.triple[..size])?;
+                let single = through(view, g, j, double, &mut self.double[..size])?;
+                through(view, g, k, single, &mut self.single[..size])
+            }
+        }
+    }
+}
+
+/// The address of file block `n` of an inode, by the first trouble on the chain. It takes no memory.
+#[tactic(auto, unfolding(ufs_model::specs::Pointers::file_block_of))]
+pub fn file_block<V: View>(
+    view: &mut V,
+    g: &Geometry,
+    inode: &Inode,
+    n: u32,
+    levels: &mut Levels,
+) -> BlockAnswer
+    requires sound { V.is_sound view.old }
+    requires geometry { IsGeometryOn (V.size view.old) (V.count view.old) g.now }
+    requires block { n < 2 ^ 30 }
+    requires fragment { levels.old.fragment ≡ V.size view.old }
+    ensures keeps { KeepsView V.stands_for V.tells V.is_gone V.count V.size V.is_sound V.goes_on view.old view.new }
+    ensures buffers { levels.new ≡ levels.old }
+    ensures inside { IfSome (address_in result) (IsInside g.now) }
+    ensures rule { ReadsAs (V.stands_for view.old) (V.is_gone view.old) (V.tells view.new) (V.is_gone view.new)
+        (file_block_of Little g.now inode.now n) (address_in result) }
+{
+    match levels.follow(view, g, inode, locate(g, n)) {
+        Some(Address::Hole) => BlockAnswer::Hole,
+        Some(Address::Wild) => BlockAnswer::Wild,
+        Some(Address::At(a, k)) => BlockAnswer::At(a, k),
+        None => BlockAnswer::Gone,
+    }
+}
