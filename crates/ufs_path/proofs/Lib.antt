@@ -1,3 +1,4 @@
 pub mod Sizes
 pub mod Addresses
 pub mod SuperLaws
+pub mod LookLaws
