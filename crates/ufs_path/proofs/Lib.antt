@@ -2,3 +2,4 @@ pub mod Sizes
 pub mod Addresses
 pub mod SuperLaws
 pub mod LookLaws
+pub mod ChunkLaws

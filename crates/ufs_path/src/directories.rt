@@ -15,15 +15,17 @@ use ufs_model::{BadRead, Found, Geometry, Inode, Kind};
 
 /// The inode of the first used entry with the name in the first `count` chunks of a file block, up
 /// to a chunk that is refused.
-pub fn find_through(bytes: &[u8], count: usize, name: &[u8]) -> Found
+#[tactic(auto, using(crate::proofs::ChunkLaws::next_chunk, crate::proofs::ChunkLaws::no_chunk))]
+fn find_through(bytes: &[u8], count: usize, name: &[u8]) -> Found
     requires { count * 512 ≤ length bytes.now }
     ensures { result ≡ find_through Little name.now (chunks_in count bytes.now) }
 {
     for i in 0..count {
         let start = i * CHUNK_BYTES;
-        let found = find(&bytes[start..start + CHUNK_BYTES], name);
-        if found != Found::Absent {
-            return found;
+        match find(&bytes[start..start + CHUNK_BYTES], name) {
+            Found::Absent => {}
+            Found::At(inode) => return Found::At(inode),
+            Found::Bad(bad) => return Found::Bad(bad),
         }
     }
     Found::Absent
