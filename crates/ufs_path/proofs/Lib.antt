@@ -3,3 +3,4 @@ pub mod Addresses
 pub mod SuperLaws
 pub mod LookLaws
 pub mod ChunkLaws
+pub mod DirectoryLaws
