@@ -4,3 +4,5 @@ pub mod SuperLaws
 pub mod LookLaws
 pub mod ChunkLaws
 pub mod DirectoryLaws
+pub mod FileLaws
+pub mod CatLaws

@@ -48,3 +48,10 @@ covers g inode n is direct =
 
 pub at_most_eight : (k f : ℕ) → k ≤ 8 → k * f ≤ 8 * f
 at_most_eight k f low = mul-le-mul_right f low
+
+-- eight fragments have the bytes of a file block
+pub block_fits : (g : Geometry) → IsGeometry g → (g.bsize ≤ 8 * g.fsize) × (g.bsize ≤ 65536)
+block_fits g is =
+    let frag = is.frag in
+    let bound = at_most_eight g.frag g.fsize (omega arith) in
+    (omega arith, let size = is.bsize in omega arith)

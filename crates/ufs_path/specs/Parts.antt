@@ -9,14 +9,20 @@ use Rattle.ufs_model.specs.declared.geometries.Geometry.{Geometry}
 use Rattle.ufs_model.specs.declared.numbers.Endian.{Endian}
 use Rattle.ufs_model.specs.declared.reads.PathRefusal.{PathRefusal}
 use Rattle.ufs_path.specs.Answers.{refusal_of}
-use Rattle.ufs_path.specs.declared.faults.LookFault.{LookFault}
+use Rattle.ufs_path.specs.declared.faults.ReadFault.{ReadFault}
 use Rattle.ufs_path.specs.declared.faults.CatAnswer.{CatAnswer}
 use Rattle.ufs_path.specs.declared.faults.CatAnswer.TheVariants.{Given, NotFound, NotDirectory, Bad, Unavailable, NotRegular, Cut, SinkFault}
 use Rattle.ufs_path.specs.declared.files.Handed.{Handed}
 use Rattle.ufs_path.specs.declared.files.Handed.TheVariants.{All, Unread, Failed}
 
+-- what a read of a file block says, which leaves so many bytes at the front of the buffer
+abbrev pub block_said : Result (Option ℕ) ReadFault → List ℕ → Option (Result (Option (List ℕ)) PathRefusal)
+block_said (Ok None) buf = Some (Ok None)
+block_said (Ok (Some count)) buf = Some (Ok (Some (take count buf)))
+block_said (Err fault) buf = option_map Err (refusal_of fault)
+
 -- what a read of a part of a file says, which leaves so many bytes at the front of the buffer
-abbrev pub part_said : Result ℕ LookFault → List ℕ → Option (Result (List ℕ) PathRefusal)
+abbrev pub part_said : Result ℕ ReadFault → List ℕ → Option (Result (List ℕ) PathRefusal)
 part_said (Ok count) buf = Some (Ok (take count buf))
 part_said (Err fault) buf = option_map Err (refusal_of fault)
 
@@ -31,7 +37,7 @@ IsHandedPart took took_part faults old new reads Failed = (bytes : List ℕ) × 
 abbrev pub IsHanded : {S : Type 0} → (S → List ℕ → S → Type 0) → (S → List ℕ → S → Type 0) → (S → ℕ) → S → S → ℕ → (ℕ → Option (Result (List ℕ) PathRefusal) → Type 0) → CatAnswer → Type 0
 IsHanded took took_part faults old new count reads (Given n) = (bytes : List ℕ) × (length bytes ≡ n) × took old bytes new × reads count (Some (Ok bytes))
 IsHanded took took_part faults old new count reads (Cut n) =
-    (front : List ℕ) × (k : ℕ) × (fault : LookFault) × (k ≤ count) × (length front ≡ n) × took old front new × reads k (Some (Ok front))
+    (front : List ℕ) × (k : ℕ) × (fault : ReadFault) × (k ≤ count) × (length front ≡ n) × took old front new × reads k (Some (Ok front))
     × reads count (option_map Err (refusal_of fault))
 IsHanded took took_part faults old new count reads SinkFault =
     (front : List ℕ) × (k : ℕ) × (k ≤ count) × took_part old front new × reads k (Some (Ok front)) × Rose (faults old) (faults new)

@@ -3,16 +3,17 @@ ghost use Rattle.std.specs.Prelude.{◌≡◌, ◌+◌, ◌*◌, ◌<◌, ◌≤
 ghost use Rattle.dg_io.specs.Views.{KeepsView};
 ghost use Rattle.ufs_model.specs.Geometries.{IsGeometry, IsGeometryOn};
 ghost use Rattle.ufs_model.specs.Inodes.{block_count};
-ghost use Rattle.ufs_model.specs.Paths.{block_of, bytes_at, bytes_in_block, size_refusal};
+ghost use Rattle.ufs_model.specs.Paths.{block_of, bytes_at, bytes_in_block, chunk_refusal, directory_refusal, file_refusal, size_refusal};
 ghost use Rattle.ufs_model.specs.Readings.{ReadsAs};
 ghost use Rattle.ufs_model.specs.declared.numbers.Endian.TheVariants.{Little};
 ghost use Rattle.ufs_model.specs.declared.pointers.Address.TheVariants.{At};
-ghost use Rattle.ufs_path.specs.Answers.{block_said};
+ghost use Rattle.ufs_path.specs.Parts.{block_said};
 
-use crate::faults::LookFault;
+use crate::faults::ReadFault;
 use dg_io::View;
+use ufs_dir::CHUNK_BYTES;
 use ufs_inode::{slot_of, span};
-use ufs_model::{Address, BadRead, Geometry, Inode};
+use ufs_model::{Address, BadRead, Geometry, Inode, Kind, PathRefusal};
 use ufs_pointer::read_area;
 use ufs_super::address;
 
@@ -21,14 +22,60 @@ const DIRECT: u64 = 12;
 
 /// Why a file of this size isn't read, if it isn't. For now files are read by their direct slots
 /// alone.
-pub fn size_refusal(g: &Geometry, inode: &Inode) -> Option<BadRead>
+fn size_refusal(g: &Geometry, inode: &Inode) -> Option<PathRefusal>
     ensures value { result ≡ size_refusal g.now inode.now }
     ensures small { IfNone result (inode.now.size ≤ 12 * g.now.bsize) }
 {
     if DIRECT * u64::from(g.bsize) < inode.size {
-        return Some(BadRead::Later);
+        return Some(PathRefusal::Bad(BadRead::Later));
     }
     None
+}
+
+/// Why the contents of an inode aren't read, if they aren't.
+#[tactic(auto, unfolding(ufs_model::specs::Paths::file_refusal))]
+pub fn file_refusal(g: &Geometry, inode: &Inode) -> Option<PathRefusal>
+    ensures value { result ≡ file_refusal g.now inode.now }
+    ensures small { IfNone result (inode.now.size ≤ 12 * g.now.bsize) }
+{
+    match inode.kind() {
+        Kind::Regular => size_refusal(g, inode),
+        Kind::Directory
+        | Kind::Link
+        | Kind::Pipe
+        | Kind::Character
+        | Kind::Block
+        | Kind::Socket
+        | Kind::Unknown => Some(PathRefusal::NotRegular),
+    }
+}
+
+/// Why a directory isn't made of whole chunks, if it isn't.
+fn chunk_refusal(inode: &Inode) -> Option<PathRefusal>
+    ensures { result ≡ chunk_refusal inode.now }
+{
+    if inode.size % CHUNK_BYTES as u64 == 0 {
+        return None;
+    }
+    Some(PathRefusal::Bad(BadRead::Chunk))
+}
+
+/// Why no name is looked for in an inode, if none is.
+#[tactic(auto, unfolding(ufs_model::specs::Paths::directory_refusal))]
+pub fn directory_refusal(g: &Geometry, inode: &Inode) -> Option<PathRefusal>
+    ensures value { result ≡ directory_refusal g.now inode.now }
+    ensures small { IfNone result (inode.now.size ≤ 12 * g.now.bsize) }
+{
+    match inode.kind() {
+        Kind::Directory => size_refusal(g, inode).or(chunk_refusal(inode)),
+        Kind::Regular
+        | Kind::Link
+        | Kind::Pipe
+        | Kind::Character
+        | Kind::Block
+        | Kind::Socket
+        | Kind::Unknown => Some(PathRefusal::NotDirectory),
+    }
 }
 
 /// The file blocks of a file.
@@ -42,9 +89,12 @@ pub fn block_count(g: &Geometry, inode: &Inode) -> u32
 }
 
 /// The bytes of a file that stand in its file block `n`.
+#[tactic(auto, using(crate::proofs::Sizes::block_fits))]
 pub fn bytes_in_block(g: &Geometry, inode: &Inode, n: u32) -> usize
     requires { IsGeometry g.now }
     ensures value { result ≡ bytes_in_block g.now inode.now n }
+    ensures small { result ≤ 65536 }
+    ensures fits { result ≤ 8 * g.now.fsize }
 {
     let before = u64::from(n) * u64::from(g.bsize);
     u64::from(g.bsize).min(inode.size.saturating_sub(before)) as usize
@@ -58,7 +108,7 @@ fn read_run<V: View>(
     a: u32,
     k: u32,
     buf: &mut [u8],
-) -> Result<Option<usize>, LookFault>
+) -> Result<Option<usize>, ReadFault>
     requires sound { V.is_sound view.old }
     requires geometry { IsGeometryOn (V.size view.old) (V.count view.old) g.now }
     requires room { length buf.old ≡ 8 * g.now.fsize }
@@ -72,7 +122,7 @@ fn read_run<V: View>(
 {
     let bytes = k as usize * g.fsize as usize;
     if !read_area(view, a, k, &mut buf[..bytes]) {
-        return Err(LookFault::Unavailable);
+        return Err(ReadFault::Unavailable);
     }
     Ok(Some(bytes))
 }
@@ -86,7 +136,7 @@ pub fn read_block<V: View>(
     inode: &Inode,
     n: u32,
     buf: &mut [u8],
-) -> Result<Option<usize>, LookFault>
+) -> Result<Option<usize>, ReadFault>
     requires sound { V.is_sound view.old }
     requires geometry { IsGeometryOn (V.size view.old) (V.count view.old) g.now }
     requires room { length buf.old ≡ 8 * g.now.fsize }
@@ -101,7 +151,7 @@ pub fn read_block<V: View>(
     let k = span(g, inode, n as u8);
     match address(g, slot_of(inode, n as u8), k) {
         Address::Hole => Ok(None),
-        Address::Wild => Err(LookFault::Bad(BadRead::Wild)),
+        Address::Wild => Err(ReadFault::Refused(PathRefusal::Bad(BadRead::Wild))),
         Address::At(a, k) => read_run(view, g, a, k, buf),
     }
 }

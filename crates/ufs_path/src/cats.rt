@@ -5,7 +5,7 @@ ghost use Rattle.ufs_model.specs.Geometries.{IsGeometryOn};
 ghost use Rattle.ufs_model.specs.Paths.{cat_of, contents_of, look_from, volume_geometry, IsOneName};
 ghost use Rattle.ufs_model.specs.Readings.{ReadsAs, and_then};
 ghost use Rattle.ufs_model.specs.declared.numbers.Endian.TheVariants.{Little};
-ghost use Rattle.ufs_path.specs.Answers.{IsCat, LosesBlock};
+ghost use Rattle.ufs_path.specs.Answers.{IsCat};
 ghost use Rattle.ufs_path.specs.Parts.{cat_below, cat_name};
 
 use crate::faults::CatAnswer;
@@ -17,7 +17,6 @@ use dg_io::{Pieces, View};
 use ufs_model::Geometry;
 
 /// Hands on the bytes of a file of the root.
-#[tactic(auto, unfolding(crate::specs::Parts::cat_below))]
 fn cat_below<V: View, O: Pieces>(
     view: &mut V,
     g: &Geometry,
@@ -32,8 +31,7 @@ fn cat_below<V: View, O: Pieces>(
     ensures room { length buf.new ≡ length buf.old }
     ensures later { O.faults out.old ≤ O.faults out.new }
     ensures rule { IsCat O.took O.took_part O.faults out.old out.new
-        (ReadsAs (V.stands_for view.old) (V.is_gone view.old) (V.tells view.new) (V.is_gone view.new) (cat_below Little name.now g.now))
-        (LosesBlock (V.stands_for view.old) (V.tells view.new) (V.is_gone view.new) (cat_below Little name.now g.now)) result }
+        (ReadsAs (V.stands_for view.old) (V.is_gone view.old) (V.tells view.new) (V.is_gone view.new) (cat_below Little name.now g.now)) result }
 {
     match look_up(view, g, name, buf) {
         Ok((_, inode)) => hand_file(view, g, &inode, out, buf),
@@ -42,7 +40,6 @@ fn cat_below<V: View, O: Pieces>(
 }
 
 /// Hands on the bytes of a file of the root of the volume on a view.
-#[tactic(auto, unfolding(crate::specs::Parts::cat_name))]
 fn cat_name<V: View, O: Pieces>(view: &mut V, name: &[u8], out: &mut O, buf: &mut [u8]) -> CatAnswer
     requires sound { V.is_sound view.old }
     requires size { 512 ≤ V.size view.old }
@@ -51,8 +48,7 @@ fn cat_name<V: View, O: Pieces>(view: &mut V, name: &[u8], out: &mut O, buf: &mu
     ensures room { length buf.new ≡ length buf.old }
     ensures later { O.faults out.old ≤ O.faults out.new }
     ensures rule { IsCat O.took O.took_part O.faults out.old out.new
-        (ReadsAs (V.stands_for view.old) (V.is_gone view.old) (V.tells view.new) (V.is_gone view.new) (cat_name Little (V.size view.old) (V.count view.old) name.now))
-        (LosesBlock (V.stands_for view.old) (V.tells view.new) (V.is_gone view.new) (cat_name Little (V.size view.old) (V.count view.old) name.now)) result }
+        (ReadsAs (V.stands_for view.old) (V.is_gone view.old) (V.tells view.new) (V.is_gone view.new) (cat_name Little (V.size view.old) (V.count view.old) name.now)) result }
 {
     match read_geometry(view, buf) {
         Ok(g) => cat_below(view, &g, name, out, buf),
@@ -75,8 +71,7 @@ pub fn cat<V: View, O: Pieces>(
     ensures levels { levels.new ≡ levels.old }
     ensures later { O.faults out.old ≤ O.faults out.new }
     ensures rule { IsCat O.took O.took_part O.faults out.old out.new
-        (ReadsAs (V.stands_for view.old) (V.is_gone view.old) (V.tells view.new) (V.is_gone view.new) (cat_of Little (V.size view.old) (V.count view.old) path.now))
-        (LosesBlock (V.stands_for view.old) (V.tells view.new) (V.is_gone view.new) (cat_of Little (V.size view.old) (V.count view.old) path.now)) result }
+        (ReadsAs (V.stands_for view.old) (V.is_gone view.old) (V.tells view.new) (V.is_gone view.new) (cat_of Little (V.size view.old) (V.count view.old) path.now)) result }
 {
     cat_name(view, &path[1..], out, &mut levels.file)
 }

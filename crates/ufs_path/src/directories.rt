@@ -7,11 +7,11 @@ ghost use Rattle.ufs_model.specs.Readings.{ReadsAs, answered};
 ghost use Rattle.ufs_model.specs.declared.numbers.Endian.TheVariants.{Little};
 ghost use Rattle.ufs_path.specs.Answers.{refusal_of};
 
-use crate::blocks::{block_count, bytes_in_block, read_block, size_refusal};
-use crate::faults::LookFault;
+use crate::blocks::{block_count, bytes_in_block, directory_refusal, read_block};
+use crate::faults::ReadFault;
 use dg_io::View;
 use ufs_dir::{CHUNK_BYTES, find};
-use ufs_model::{BadRead, Found, Geometry, Inode, Kind};
+use ufs_model::{BadRead, Found, Geometry, Inode, PathRefusal};
 
 /// The inode of the first used entry with the name in the first `count` chunks of a file block, up
 /// to a chunk that is refused.
@@ -32,13 +32,13 @@ fn find_through(bytes: &[u8], count: usize, name: &[u8]) -> Found
 }
 
 /// The inode that was found, if one was; a refused chunk makes its volume bad.
-fn or_bad_chunk(found: Found) -> Result<Option<u32>, LookFault>
+fn or_bad_chunk(found: Found) -> Result<Option<u32>, ReadFault>
     ensures { answered refusal_of result ≡ Some (or_bad_chunk found) }
 {
     match found {
         Found::At(inode) => Ok(Some(inode)),
         Found::Absent => Ok(None),
-        Found::Bad(_) => Err(LookFault::Bad(BadRead::Chunk)),
+        Found::Bad(_) => Err(ReadFault::Refused(PathRefusal::Bad(BadRead::Chunk))),
     }
 }
 
@@ -50,7 +50,7 @@ fn find_in_block<V: View>(
     name: &[u8],
     n: u32,
     buf: &mut [u8],
-) -> Result<Option<u32>, LookFault>
+) -> Result<Option<u32>, ReadFault>
     requires sound { V.is_sound view.old }
     requires geometry { IsGeometryOn (V.size view.old) (V.count view.old) g.now }
     requires room { length buf.old ≡ 8 * g.now.fsize }
@@ -65,7 +65,7 @@ fn find_in_block<V: View>(
             let chunks = bytes_in_block(g, inode, n) / CHUNK_BYTES;
             or_bad_chunk(find_through(&buf[..bytes], chunks, name))
         }
-        Ok(None) => Err(LookFault::Bad(BadRead::Hole)),
+        Ok(None) => Err(ReadFault::Refused(PathRefusal::Bad(BadRead::Hole))),
         Err(fault) => Err(fault),
     }
 }
@@ -78,7 +78,7 @@ fn find_in_blocks<V: View>(
     name: &[u8],
     count: u32,
     buf: &mut [u8],
-) -> Result<u32, LookFault>
+) -> Result<u32, ReadFault>
     requires sound { V.is_sound view.old }
     requires geometry { IsGeometryOn (V.size view.old) (V.count view.old) g.now }
     requires room { length buf.old ≡ 8 * g.now.fsize }
@@ -95,18 +95,17 @@ fn find_in_blocks<V: View>(
             Err(fault) => return Err(fault),
         }
     }
-    Err(LookFault::NotFound)
+    Err(ReadFault::Refused(PathRefusal::NotFound))
 }
 
 /// The inode under a name in a directory.
-#[tactic(auto, unfolding(ufs_model::specs::Paths::find_of, ufs_model::specs::Paths::in_directory))]
 pub fn find_name<V: View>(
     view: &mut V,
     g: &Geometry,
     inode: &Inode,
     name: &[u8],
     buf: &mut [u8],
-) -> Result<u32, LookFault>
+) -> Result<u32, ReadFault>
     requires sound { V.is_sound view.old }
     requires geometry { IsGeometryOn (V.size view.old) (V.count view.old) g.now }
     requires room { length buf.old ≡ 8 * g.now.fsize }
@@ -115,14 +114,8 @@ pub fn find_name<V: View>(
     ensures rule { ReadsAs (V.stands_for view.old) (V.is_gone view.old) (V.tells view.new) (V.is_gone view.new)
         (find_of Little g.now inode.now name.now) (answered refusal_of result) }
 {
-    if inode.kind() != Kind::Directory {
-        return Err(LookFault::NotDirectory);
+    match directory_refusal(g, inode) {
+        Some(refusal) => Err(ReadFault::Refused(refusal)),
+        None => find_in_blocks(view, g, inode, name, block_count(g, inode), buf),
     }
-    if let Some(bad) = size_refusal(g, inode) {
-        return Err(LookFault::Bad(bad));
-    }
-    if inode.size % CHUNK_BYTES as u64 != 0 {
-        return Err(LookFault::Bad(BadRead::Chunk));
-    }
-    find_in_blocks(view, g, inode, name, block_count(g, inode), buf)
 }

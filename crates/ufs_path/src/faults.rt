@@ -1,14 +1,10 @@
-use ufs_model::BadRead;
+use ufs_model::{BadRead, PathRefusal};
 
-/// Why nothing is found at a path.
+/// Why there is no answer.
 #[derive(Clone, Copy, Debug, PartialEq, Eq)]
-pub enum LookFault {
-    /// A directory on the path has no entry with the name.
-    NotFound,
-    /// A name is looked for in something else than a directory.
-    NotDirectory,
-    /// The volume isn't as it has to be.
-    Bad(BadRead),
+pub enum ReadFault {
+    /// What is read says so.
+    Refused(PathRefusal),
     /// A block that is needed is gone.
     Unavailable,
 }

@@ -1,18 +1,18 @@
 // The contents of files.
-ghost use Rattle.std.specs.Prelude.{◌≡◌, ◌+◌, ◌*◌, ◌<◌, ◌≤◌, List, ℕ, Some, Ok, length, take, IfOk, OnOk, IfErr};
+ghost use Rattle.std.specs.Prelude.{◌≡◌, ◌+◌, ◌*◌, ◌<◌, ◌≤◌, List, ℕ, Some, Ok, length, replicate, take, IfOk, OnOk, IfErr};
 ghost use Rattle.std.specs.Option.{option_map};
 ghost use Rattle.dg_io.specs.Views.{KeepsView};
 ghost use Rattle.ufs_model.specs.Geometries.{IsGeometryOn};
 ghost use Rattle.ufs_model.specs.Paths.{contents_of, front_of, part_of};
 ghost use Rattle.ufs_model.specs.Readings.{ReadsAs};
 ghost use Rattle.ufs_model.specs.declared.numbers.Endian.TheVariants.{Little};
-ghost use Rattle.ufs_path.specs.Answers.{IsCat, LosesBlock, refusal_of, refused_answer};
+ghost use Rattle.ufs_path.specs.Answers.{IsCat, refusal_of, refused_answer};
 ghost use Rattle.ufs_path.specs.Parts.{IsHanded, IsHandedPart, part_said};
 
-use crate::blocks::{block_count, bytes_in_block, read_block, size_refusal};
-use crate::faults::{CatAnswer, LookFault};
+use crate::blocks::{block_count, bytes_in_block, file_refusal, read_block};
+use crate::faults::{CatAnswer, ReadFault};
 use dg_io::{Pieces, View};
-use ufs_model::{Geometry, Inode, Kind};
+use ufs_model::{Geometry, Inode, PathRefusal};
 
 /// What became of a part of a file that was to be handed on.
 #[derive(Clone, Copy)]
@@ -20,33 +20,42 @@ pub enum Handed {
     /// It was handed on, so many bytes.
     All(u32),
     /// It wasn't read.
-    Unread(LookFault),
+    Unread(ReadFault),
     /// Its piece failed.
     Failed,
 }
 
-/// The answer of `cat` where nothing is found.
-pub fn refused_answer(fault: LookFault) -> CatAnswer
+/// The answer of `cat` where there is nothing to hand on.
+pub fn refused_answer(fault: ReadFault) -> CatAnswer
     ensures { result ≡ refused_answer fault }
 {
     match fault {
-        LookFault::NotFound => CatAnswer::NotFound,
-        LookFault::NotDirectory => CatAnswer::NotDirectory,
-        LookFault::Bad(bad) => CatAnswer::Bad(bad),
-        LookFault::Unavailable => CatAnswer::Unavailable,
+        ReadFault::Refused(PathRefusal::NotFound) => CatAnswer::NotFound,
+        ReadFault::Refused(PathRefusal::NotDirectory) => CatAnswer::NotDirectory,
+        ReadFault::Refused(PathRefusal::NotRegular) => CatAnswer::NotRegular,
+        ReadFault::Refused(PathRefusal::Bad(bad)) => CatAnswer::Bad(bad),
+        ReadFault::Unavailable => CatAnswer::Unavailable,
     }
+}
+
+/// Makes so many bytes at the front of the buffer zeros.
+fn clear_front(buf: &mut [u8], count: usize)
+    requires { count ≤ length buf.old }
+    ensures front { take count buf.new ≡ replicate count 0 }
+    ensures room { length buf.new ≡ length buf.old }
+{
+    buf[..count].fill(0);
 }
 
 /// Reads the bytes of a file in its file block `n` to the front of the buffer, and answers how many
 /// they are. The fragments of the block are all consulted, also past the end of the file.
-#[tactic(auto, unfolding(ufs_model::specs::Paths::part_of))]
 fn read_part<V: View>(
     view: &mut V,
     g: &Geometry,
     inode: &Inode,
     n: u32,
     buf: &mut [u8],
-) -> Result<usize, LookFault>
+) -> Result<usize, ReadFault>
     requires sound { V.is_sound view.old }
     requires geometry { IsGeometryOn (V.size view.old) (V.count view.old) g.now }
     requires room { length buf.old ≡ 8 * g.now.fsize }
@@ -59,10 +68,14 @@ fn read_part<V: View>(
     ensures small { IfOk result (λ count. count ≤ 65536) }
 {
     let count = bytes_in_block(g, inode, n);
-    if read_block(view, g, inode, n, buf)?.is_none() {
-        buf[..count].fill(0);
+    match read_block(view, g, inode, n, buf) {
+        Ok(Some(_)) => Ok(count),
+        Ok(None) => {
+            clear_front(buf, count);
+            Ok(count)
+        }
+        Err(fault) => Err(fault),
     }
-    Ok(count)
 }
 
 /// The first time: consults the first `count` file blocks of a file.
@@ -72,7 +85,7 @@ fn consult<V: View>(
     inode: &Inode,
     count: u32,
     buf: &mut [u8],
-) -> Result<(), LookFault>
+) -> Result<(), ReadFault>
     requires sound { V.is_sound view.old }
     requires geometry { IsGeometryOn (V.size view.old) (V.count view.old) g.now }
     requires room { length buf.old ≡ 8 * g.now.fsize }
@@ -85,7 +98,10 @@ fn consult<V: View>(
         (front_of Little g.now inode.now count) (option_map Err (refusal_of fault))) }
 {
     for n in 0..count {
-        read_part(view, g, inode, n, buf)?;
+        match read_part(view, g, inode, n, buf) {
+            Ok(_) => {}
+            Err(fault) => return Err(fault),
+        }
     }
     Ok(())
 }
@@ -165,8 +181,7 @@ fn hand_twice<V: View, O: Pieces>(
     ensures room { length buf.new ≡ length buf.old }
     ensures later { O.faults out.old ≤ O.faults out.new }
     ensures rule { IsCat O.took O.took_part O.faults out.old out.new
-        (ReadsAs (V.stands_for view.old) (V.is_gone view.old) (V.tells view.new) (V.is_gone view.new) (front_of Little g.now inode.now count))
-        (LosesBlock (V.stands_for view.old) (V.tells view.new) (V.is_gone view.new) (front_of Little g.now inode.now count)) result }
+        (ReadsAs (V.stands_for view.old) (V.is_gone view.old) (V.tells view.new) (V.is_gone view.new) (front_of Little g.now inode.now count)) result }
 {
     match consult(view, g, inode, count, buf) {
         Ok(()) => hand_on(view, g, inode, count, out, buf),
@@ -175,7 +190,6 @@ fn hand_twice<V: View, O: Pieces>(
 }
 
 /// Hands on the bytes of a regular file.
-#[tactic(auto, unfolding(ufs_model::specs::Paths::contents_of))]
 pub fn hand_file<V: View, O: Pieces>(
     view: &mut V,
     g: &Geometry,
@@ -190,14 +204,10 @@ pub fn hand_file<V: View, O: Pieces>(
     ensures room { length buf.new ≡ length buf.old }
     ensures later { O.faults out.old ≤ O.faults out.new }
     ensures rule { IsCat O.took O.took_part O.faults out.old out.new
-        (ReadsAs (V.stands_for view.old) (V.is_gone view.old) (V.tells view.new) (V.is_gone view.new) (contents_of Little g.now inode.now))
-        (LosesBlock (V.stands_for view.old) (V.tells view.new) (V.is_gone view.new) (contents_of Little g.now inode.now)) result }
+        (ReadsAs (V.stands_for view.old) (V.is_gone view.old) (V.tells view.new) (V.is_gone view.new) (contents_of Little g.now inode.now)) result }
 {
-    if inode.kind() != Kind::Regular {
-        return CatAnswer::NotRegular;
+    match file_refusal(g, inode) {
+        Some(refusal) => refused_answer(ReadFault::Refused(refusal)),
+        None => hand_twice(view, g, inode, block_count(g, inode), out, buf),
     }
-    if let Some(bad) = size_refusal(g, inode) {
-        return CatAnswer::Bad(bad);
-    }
-    hand_twice(view, g, inode, block_count(g, inode), out, buf)
 }

@@ -14,10 +14,10 @@ ghost use Rattle.ufs_model.specs.declared.reads.PathRefusal.TheVariants.{Bad};
 ghost use Rattle.ufs_path.specs.Answers.{refusal_of};
 
 use crate::directories::find_name;
-use crate::faults::LookFault;
+use crate::faults::ReadFault;
 use dg_io::{Fetched, View};
 use ufs_inode::{place_of, read_inode};
-use ufs_model::{BadRead, Geometry, Inode};
+use ufs_model::{BadRead, Geometry, Inode, PathRefusal};
 
 /// The inode of the root (`ROOTINO`).
 const ROOT: u32 = 2;
@@ -39,14 +39,14 @@ fn read_fragment<V: View>(view: &mut V, block: u32, buf: &mut [u8]) -> bool
 }
 
 /// The inode at a byte of its block. It has to be allocated.
-fn inode_at(block: &[u8], byte: u32) -> Result<Inode, LookFault>
+fn inode_at(block: &[u8], byte: u32) -> Result<Inode, ReadFault>
     requires { byte + 128 ≤ length block.now }
     ensures { answered refusal_of result ≡ Some (ok_or (inode_in Little (take 128 (drop byte block.now))) (Bad Entry)) }
 {
     let start = byte as usize;
     match read_inode(&block[start..start + INODE_BYTES]) {
         Some(inode) => Ok(inode),
-        None => Err(LookFault::Bad(BadRead::Entry)),
+        None => Err(ReadFault::Refused(PathRefusal::Bad(BadRead::Entry))),
     }
 }
 
@@ -57,7 +57,7 @@ fn read_allocated<V: View>(
     g: &Geometry,
     number: u32,
     buf: &mut [u8],
-) -> Result<Inode, LookFault>
+) -> Result<Inode, ReadFault>
     requires sound { V.is_sound view.old }
     requires geometry { IsGeometryOn (V.size view.old) (V.count view.old) g.now }
     requires number { number < g.now.ncg * g.now.ipg }
@@ -69,7 +69,7 @@ fn read_allocated<V: View>(
 {
     let (block, byte) = place_of(g, number);
     if !read_fragment(view, block, buf) {
-        return Err(LookFault::Unavailable);
+        return Err(ReadFault::Unavailable);
     }
     inode_at(buf, byte)
 }
@@ -81,7 +81,7 @@ fn read_named<V: View>(
     g: &Geometry,
     number: u32,
     buf: &mut [u8],
-) -> Result<Inode, LookFault>
+) -> Result<Inode, ReadFault>
     requires sound { V.is_sound view.old }
     requires geometry { IsGeometryOn (V.size view.old) (V.count view.old) g.now }
     requires room { length buf.old ≡ 8 * g.now.fsize }
@@ -91,19 +91,18 @@ fn read_named<V: View>(
         (named_inode Little g.now number) (answered refusal_of result) }
 {
     if number < ROOT || g.ncg * g.ipg <= number {
-        return Err(LookFault::Bad(BadRead::Entry));
+        return Err(ReadFault::Refused(PathRefusal::Bad(BadRead::Entry)));
     }
     read_allocated(view, g, number, &mut buf[..g.fsize as usize])
 }
 
 /// The inode at the path of one name, with its number.
-#[tactic(auto, unfolding(ufs_model::specs::Paths::look_from))]
 pub fn look_up<V: View>(
     view: &mut V,
     g: &Geometry,
     name: &[u8],
     buf: &mut [u8],
-) -> Result<(u32, Inode), LookFault>
+) -> Result<(u32, Inode), ReadFault>
     requires sound { V.is_sound view.old }
     requires geometry { IsGeometryOn (V.size view.old) (V.count view.old) g.now }
     requires room { length buf.old ≡ 8 * g.now.fsize }

@@ -11,9 +11,9 @@ ghost use Rattle.ufs_model.specs.Superblocks.{geometry};
 ghost use Rattle.ufs_model.specs.declared.numbers.Endian.TheVariants.{Little};
 ghost use Rattle.ufs_path.specs.Answers.{refusal_of};
 
-use crate::faults::LookFault;
+use crate::faults::ReadFault;
 use dg_io::View;
-use ufs_model::{BadRead, Geometry};
+use ufs_model::{BadRead, Geometry, PathRefusal};
 use ufs_pointer::read_area;
 use ufs_super::read_super;
 
@@ -65,20 +65,20 @@ fn read_within<V: View>(view: &mut V, a: u32, k: u32, buf: &mut [u8]) -> bool
 }
 
 /// The geometry in the bytes of a superblock, for a volume on `n` blocks of `l` bytes.
-fn geometry_in(bytes: &[u8], l: u32, n: u32) -> Result<Geometry, LookFault>
+fn geometry_in(bytes: &[u8], l: u32, n: u32) -> Result<Geometry, ReadFault>
     requires { 1376 ≤ length bytes.now }
     ensures value { answered refusal_of result ≡ Some (or_bad_super (geometry bytes.now l n)) }
     ensures ok { IfOk result (λ g. IsGeometryOn l n g) }
 {
     match read_super(bytes, l, n) {
         Ok(g) => Ok(g),
-        Err(kind) => Err(LookFault::Bad(BadRead::Super(kind))),
+        Err(kind) => Err(ReadFault::Refused(PathRefusal::Bad(BadRead::Super(kind)))),
     }
 }
 
 /// Reads the superblock to a buffer of the blocks that it is in.
 #[tactic(auto, using(crate::proofs::SuperLaws::geometry_read, crate::proofs::SuperLaws::geometry_unread))]
-fn read_superblock<V: View>(view: &mut V, l: u32, buf: &mut [u8]) -> Result<Geometry, LookFault>
+fn read_superblock<V: View>(view: &mut V, l: u32, buf: &mut [u8]) -> Result<Geometry, ReadFault>
     requires sound { V.is_sound view.old }
     requires size { (l ≡ V.size view.old) × (512 ≤ l) }
     requires room { length buf.old ≡ div_ceil 1376 l * l }
@@ -90,13 +90,13 @@ fn read_superblock<V: View>(view: &mut V, l: u32, buf: &mut [u8]) -> Result<Geom
 {
     let (_, n) = view.shape();
     if !read_within(view, SUPERBLOCK / l, SUPERBLOCK_BYTES.div_ceil(l), buf) {
-        return Err(LookFault::Unavailable);
+        return Err(ReadFault::Unavailable);
     }
     geometry_in(buf, l, n)
 }
 
 /// The geometry of the volume.
-pub fn read_geometry<V: View>(view: &mut V, buf: &mut [u8]) -> Result<Geometry, LookFault>
+pub fn read_geometry<V: View>(view: &mut V, buf: &mut [u8]) -> Result<Geometry, ReadFault>
     requires sound { V.is_sound view.old }
     requires size { 512 ≤ V.size view.old }
     requires room { length buf.old ≡ 8 * V.size view.old }
