@@ -1,7 +1,7 @@
 -- Reading the bytes of a file, part after part.
-use Rattle.std.proofs.Common.{◌≡◌, ◌∙◌, ℕ, zero, suc, ◌+◌, ◌-◌, ◌≤◌, Bool, List, [], ◌++◌, Some, None, Ok, Err, Result, Option, length, take, drop, min, refl, sym, ap, subst, arith}
+use Rattle.std.proofs.Common.{◌≡◌, ◌∙◌, ℕ, zero, suc, ◌+◌, ◌-◌, ◌≤◌, Bool, List, [], ◌++◌, Some, None, Ok, Err, Result, Option, length, take, drop, replicate, min, refl, sym, ap, subst, arith}
 use Rattle.std.specs.Option.{option_map}
-use Rattle.std.proofs.lemmas.List.{append_assoc, append-nil}
+use Rattle.std.proofs.lemmas.List.{append_assoc, append-nil, length-take-le, take-append-drop, take-append-le}
 use Rattle.std.proofs.Math.Seq.{drop-append_seam}
 use Rattle.ufs_model.specs.Blocks.{Consulted, Reading, Volume, bind, known}
 use Rattle.ufs_model.specs.Inodes.{block_count}
@@ -17,13 +17,27 @@ use Rattle.ufs_path.specs.declared.faults.ReadFault.{ReadFault}
 
 -- ---- a part of a file
 
-pub part_read : {stands : Volume → Type 0} {tells : Type 0} {before after : ℕ → Bool} (g : Geometry) (inode : Inode) (n : ℕ) (block : Option (List ℕ)) (part : List ℕ)
-    → Grows before after → front_in (bytes_in_block g inode n) block ≡ part
-    → ReadsAs stands before tells after (block_of Little g inode n) (Some (Ok block)) → ReadsAs stands before tells after (part_of Little g inode n) (Some (Ok part))
+take_front : (m n : ℕ) (xs : List ℕ) → m ≤ n → n ≤ length xs → take m (take n xs) ≡ take m xs
+take_front m n xs low fits =
+    let all : m ≤ length (take n xs) = rw (length-take-le n xs fits) low in
+    sym (take-append-le m (take n xs) (drop n xs) all) ∙ ap (take m) (take-append-drop n xs)
+
+-- the part of a block that is there
+pub part_read : {stands : Volume → Type 0} {tells : Type 0} {before after : ℕ → Bool} (g : Geometry) (inode : Inode) (n found count : ℕ) (buf : List ℕ)
+    → Grows before after → count ≡ bytes_in_block g inode n → count ≤ found → found ≤ length buf
+    → ReadsAs stands before tells after (block_of Little g inode n) (Some (Ok (Some (take found buf)))) → ReadsAs stands before tells after (part_of Little g inode n) (Some (Ok (take count buf)))
 unfolding part_of
-part_read {stands} {tells} {before} {after} g inode n block part grows e reads =
-    subst (λ bytes. ReadsAs stands before tells after (and_then (block_of Little g inode n) (λ b. known (Ok (front_in (bytes_in_block g inode n) b)))) (Some (Ok bytes))) e
-    (reads_on refusal_of _ block _ grows (λ v h. h) (λ h. h) reads (reads_known (Ok (front_in (bytes_in_block g inode n) block))))
+part_read g inode n found count buf grows e low fits reads =
+    rw (e, ← take_front (bytes_in_block g inode n) found buf (rw e at low) fits)
+    (reads_on refusal_of _ (Some (take found buf)) _ grows (λ v h. h) (λ h. h) reads (reads_known _))
+
+-- the part of a hole
+pub part_hole : {stands : Volume → Type 0} {tells : Type 0} {before after : ℕ → Bool} (g : Geometry) (inode : Inode) (n count : ℕ) (buf : List ℕ)
+    → Grows before after → count ≡ bytes_in_block g inode n → take count buf ≡ replicate count 0
+    → ReadsAs stands before tells after (block_of Little g inode n) (Some (Ok None)) → ReadsAs stands before tells after (part_of Little g inode n) (Some (Ok (take count buf)))
+unfolding part_of
+part_hole g inode n count buf grows e zeros reads =
+    rw (zeros, e) (reads_on refusal_of _ None _ grows (λ v h. h) (λ h. h) reads (reads_known _))
 
 pub part_unread : {stands : Volume → Type 0} {tells : Type 0} {before after : ℕ → Bool} (g : Geometry) (inode : Inode) (n : ℕ) (fault : ReadFault)
     → Grows before after → ReadsAs stands before tells after (block_of Little g inode n) (option_map Err (refusal_of fault))
@@ -33,9 +47,9 @@ part_unread g inode n fault grows reads = reads_refused refusal_of _ fault grows
 
 -- ---- parts end to end
 
-pub front_none : {stands : Volume → Type 0} {tells : Type 0} {before after : ℕ → Bool} (g : Geometry) (inode : Inode) → ReadsAs stands before tells after (front_of Little g inode 0) (Some (Ok []))
+pub front_none : (stands : Volume → Type 0) (tells : Type 0) (before after : ℕ → Bool) (g : Geometry) (inode : Inode) → ReadsAs stands before tells after (front_of Little g inode 0) (Some (Ok []))
 unfolding front_of
-front_none g inode = reads_known (Ok [])
+front_none stands tells before after g inode = reads_known (Ok [])
 
 -- an answer stays one
 pub later_still : {A : Type 0} {stands : Volume → Type 0} {tells told : Type 0} {before now after : ℕ → Bool} {d : Reading A} (a : A)
@@ -142,7 +156,12 @@ unfolding contents_of
 file_refused {stands} {tells} {before} {after} g inode refusal e =
     subst (λ r. ReadsAs stands before tells after (unless_refused r (front_of Little g inode (block_count g inode))) (Some (Err refusal))) (sym e) (reads_known (Err refusal))
 
-pub contents_are : (g : Geometry) (inode : Inode) (count : ℕ) → file_refusal g inode ≡ None → count ≡ block_count g inode → front_of Little g inode count ≡ contents_of Little g inode
+contents_are : (g : Geometry) (inode : Inode) (count : ℕ) → file_refusal g inode ≡ None → count ≡ block_count g inode → front_of Little g inode count ≡ contents_of Little g inode
 unfolding contents_of
 contents_are g inode count e1 e2 =
     ap (front_of Little g inode) e2 ∙ sym (ap (λ r. unless_refused r (front_of Little g inode (block_count g inode))) e1)
+
+pub contents_read : {stands : Volume → Type 0} {tells : Type 0} {before after : ℕ → Bool} (g : Geometry) (inode : Inode) (count : ℕ) (answer : Option (Result (List ℕ) PathRefusal)) → file_refusal g inode ≡ None → count ≡ block_count g inode
+    → ReadsAs stands before tells after (front_of Little g inode count) answer → ReadsAs stands before tells after (contents_of Little g inode) answer
+contents_read {stands} {tells} {before} {after} g inode count answer e1 e2 reads =
+    subst (λ d. ReadsAs stands before tells after d answer) (contents_are g inode count e1 e2) reads

@@ -7,7 +7,7 @@ pub loop-n-init : goal.loop-n-init
 loop-n-init g c = record {
   keeps = keeps_same c.args.view.now c.requires.sound (g.met.V.View.unchanged c.args.view.now);
   room = c.requires.room;
-  reads = ([], front_none c.args.g.now c.args.inode.now);
+  reads = ([], front_none _ _ _ _ c.args.g.now c.args.inode.now);
 }
 
 pub returns-in-Err-clause-err : goal.returns-in-Err-clause-err

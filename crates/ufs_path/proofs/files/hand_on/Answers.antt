@@ -10,7 +10,7 @@ loop-n-init g c = record {
   room = c.requires.room;
   later = omega arith;
   small = omega arith;
-  handed = ([], refl, g.met.O.Pieces.nothing c.args.out.now, front_none c.args.g.now c.args.inode.now);
+  handed = ([], refl, g.met.O.Pieces.nothing c.args.out.now, front_none _ _ _ _ c.args.g.now c.args.inode.now);
 }
 
 pub returns-in-Unread-clause-rule : goal.returns-in-Unread-clause-rule
