@@ -1,5 +1,5 @@
 -- Answers of `cat`.
-use Rattle.std.proofs.Common.{◌≡◌, ◌∙◌, ℕ, ◌-◌, ◌≤◌, Bool, true, false, List, [], ◌∷◌, ◌++◌, Some, None, Ok, Err, Result, Option, length, take, drop, filter, nat_lt, not, ◌||◌, ◌==◌, refl, sym, ap, subst}
+use Rattle.std.proofs.Common.{◌≡◌, ◌∙◌, ℕ, ◌-◌, ◌≤◌, Bool, true, false, List, [], ◌∷◌, ◌++◌, Some, None, Ok, Err, Result, Option, length, take, drop, nat_lt, not, ◌||◌, ◌==◌, refl, sym, ap, subst}
 use Rattle.std.specs.List.{list_any}
 use Rattle.std.specs.Option.{option_map}
 use Rattle.std.proofs.lemmas.Bool.{and_parts, false≢true}
@@ -8,7 +8,7 @@ use Rattle.std.proofs.Math.Seq.{take-length}
 use Rattle.ufs_model.specs.Blocks.{Reading, Volume}
 use Rattle.ufs_model.specs.Chunks.{is_name}
 use Rattle.ufs_model.specs.Paths.{IsOneName, cat_of, contents_of, front_of, look_from, names_of, parts_of, volume_geometry}
-use Rattle.ufs_model.specs.Readings.{Grows, MeetsRule, ReadsAs, and_then}
+use Rattle.ufs_model.specs.Readings.{Grows, ReadsAs}
 use Rattle.ufs_model.specs.declared.geometries.Geometry.{Geometry}
 use Rattle.ufs_model.specs.declared.inodes.Inode.{Inode}
 use Rattle.ufs_model.specs.declared.numbers.Endian.TheVariants.{Little}

@@ -1,10 +1,10 @@
 -- Looking up a name in a directory, block after block.
-use Rattle.std.proofs.Common.{◌≡◌, ℕ, zero, suc, ◌+◌, ◌-◌, ◌/◌, ◌<◌, ◌≤◌, add-one, refl, sym, subst, arith, Bool, List, Some, None, Ok, Err, Result, Option}
-use Rattle.std.specs.Option.{ok_or, option_map}
-use Rattle.ufs_model.specs.Blocks.{Reading, Volume, bind, known}
+use Rattle.std.proofs.Common.{◌≡◌, ℕ, suc, ◌-◌, ◌/◌, ◌<◌, ◌≤◌, sym, subst, arith, Bool, List, Some, None, Ok, Err, Result, Option}
+use Rattle.std.specs.Option.{option_map}
+use Rattle.ufs_model.specs.Blocks.{Reading, Volume, known}
 use Rattle.ufs_model.specs.Inodes.{block_count}
 use Rattle.ufs_model.specs.Paths.{block_of, bytes_in_block, chunks_in, chunks_of, directory_refusal, find_from, find_in_block, find_of, find_through, found_else, or_bad_chunk, unless_refused}
-use Rattle.ufs_model.specs.Readings.{Continues, Grows, ReadsAs, and_then, answered}
+use Rattle.ufs_model.specs.Readings.{Continues, Grows, ReadsAs, and_then}
 use Rattle.ufs_model.proofs.ReadingLaws.{reads_known, reads_on, reads_refused}
 use Rattle.ufs_model.specs.declared.chunks.Found.{Found}
 use Rattle.ufs_model.specs.declared.geometries.Geometry.{Geometry}

@@ -1,12 +1,12 @@
 -- Reading the bytes of a file, part after part.
-use Rattle.std.proofs.Common.{◌≡◌, ◌∙◌, ℕ, zero, suc, ◌+◌, ◌-◌, ◌≤◌, Bool, List, [], ◌++◌, Some, None, Ok, Err, Result, Option, length, take, drop, replicate, min, refl, sym, ap, subst, arith}
+use Rattle.std.proofs.Common.{◌≡◌, ◌∙◌, ℕ, zero, suc, ◌+◌, ◌-◌, ◌≤◌, Bool, List, [], ◌++◌, Some, None, Ok, Err, Result, Option, length, take, drop, replicate, refl, sym, ap, subst, arith}
 use Rattle.std.specs.Option.{option_map}
 use Rattle.std.proofs.lemmas.List.{append_assoc, append-nil, length-take-le, take-append-drop, take-append-le}
 use Rattle.std.proofs.Math.Seq.{drop-append_seam}
-use Rattle.ufs_model.specs.Blocks.{Consulted, Reading, Volume, bind, known}
+use Rattle.ufs_model.specs.Blocks.{Reading, Volume, bind, known}
 use Rattle.ufs_model.specs.Inodes.{block_count}
-use Rattle.ufs_model.specs.Paths.{block_of, bytes_in_block, contents_of, file_refusal, front_in, front_of, part_of, unless_refused}
-use Rattle.ufs_model.specs.Readings.{Grows, MeetsRule, ReadsAs, and_then, answered, on_ok}
+use Rattle.ufs_model.specs.Paths.{block_of, bytes_in_block, contents_of, file_refusal, front_of, part_of, unless_refused}
+use Rattle.ufs_model.specs.Readings.{Grows, ReadsAs, and_then, on_ok}
 use Rattle.ufs_model.proofs.ReadingLaws.{reads_known, reads_on, reads_refused}
 use Rattle.ufs_model.specs.declared.geometries.Geometry.{Geometry}
 use Rattle.ufs_model.specs.declared.inodes.Inode.{Inode}

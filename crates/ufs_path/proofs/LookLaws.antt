@@ -1,10 +1,10 @@
 -- Reading inodes, and looking up a name.
 use Rattle.std.proofs.Common.{◌≡◌, ℕ, List, [], ◌∷◌, Bool, Some, Ok, Err, None, Result, Option, take, drop}
 use Rattle.std.specs.Option.{ok_or, option_map}
-use Rattle.ufs_model.specs.Blocks.{Volume, bind, consult, known}
+use Rattle.ufs_model.specs.Blocks.{Volume, consult}
 use Rattle.ufs_model.specs.Inodes.{inode_block, inode_byte, inode_in, inode_of}
 use Rattle.ufs_model.specs.Paths.{allocated, find_of, look_from, named_inode}
-use Rattle.ufs_model.specs.Readings.{Grows, ReadsAs, and_then, answered}
+use Rattle.ufs_model.specs.Readings.{Grows, ReadsAs}
 use Rattle.ufs_model.proofs.ReadingLaws.{reads_known, reads_map, reads_none, reads_on, reads_refused}
 use Rattle.ufs_model.specs.declared.geometries.Geometry.{Geometry}
 use Rattle.ufs_model.specs.declared.inodes.Inode.{Inode}

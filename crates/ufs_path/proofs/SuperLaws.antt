@@ -1,5 +1,5 @@
 -- Reading the superblock.
-use Rattle.std.proofs.Common.{◌≡◌, ℕ, ◌-◌, ◌*◌, ◌/◌, min, List, [], ◌∷◌, ◌++◌, length, take, drop, ◌≤◌, ◌∙◌, sym, ap, arith, Bool, true, false, Some, None, Result, Ok, Err, Option, replicate, refl, subst}
+use Rattle.std.proofs.Common.{◌≡◌, ℕ, ◌-◌, ◌*◌, ◌/◌, min, List, [], ◌∷◌, ◌++◌, length, take, drop, ◌≤◌, ◌∙◌, sym, ap, arith, Bool, true, false, Some, None, Result, Option, replicate, subst}
 use Rattle.std.specs.Bool.{then_some}
 use Rattle.std.specs.Int.{div_ceil}
 use Rattle.std.proofs.lemmas.Grind.{div_ceil_times}
@@ -7,12 +7,11 @@ use Rattle.std.proofs.lemmas.List.{length-take-le}
 use Rattle.std.proofs.Math.Nat.{mul-le-mul_right, mul-sub, mul_comm}
 use Rattle.std.proofs.Math.Seq.{drop-append_seam}
 use Rattle.ufs_model.proofs.AreaLaws.{area_none}
-use Rattle.ufs_model.specs.Blocks.{Reading, Volume, area_of, area_within, bind, known}
+use Rattle.ufs_model.specs.Blocks.{Volume, area_of, area_within}
 use Rattle.ufs_model.specs.Paths.{or_bad_super, volume_geometry}
-use Rattle.ufs_model.specs.Readings.{Grows, ReadsAs, answered}
+use Rattle.ufs_model.specs.Readings.{Grows, ReadsAs}
 use Rattle.ufs_model.specs.Superblocks.{geometry, geometry_in, geometry_of, superblock_of}
 use Rattle.ufs_model.proofs.ReadingLaws.{reads_map, reads_none}
-use Rattle.ufs_model.specs.declared.geometries.BadSuper.{BadSuper}
 use Rattle.ufs_model.specs.declared.geometries.Geometry.{Geometry}
 use Rattle.ufs_model.specs.declared.numbers.Endian.TheVariants.{Little}
 use Rattle.ufs_model.specs.declared.reads.PathRefusal.{PathRefusal}

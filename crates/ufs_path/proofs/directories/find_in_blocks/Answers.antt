@@ -1,4 +1,4 @@
-use Rattle.std.proofs.Common.{◌≡◌, ◌∙◌, Some, None, Ok, Err, add-one, arith}
+use Rattle.std.proofs.Common.{◌∙◌, Some, None, Ok, Err, add-one, arith}
 use Rattle.dg_io.specs.ViewLaws.{keeps_both}
 use Rattle.ufs_model.proofs.ReadingLaws.{ends, ends_refused, goes_on}
 use Rattle.ufs_model.specs.declared.reads.PathRefusal.TheVariants.{NotFound}

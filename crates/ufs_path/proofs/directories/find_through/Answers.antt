@@ -1,4 +1,4 @@
-use Rattle.std.proofs.Common.{◌≡◌, ◌∙◌, sym, arith}
+use Rattle.std.proofs.Common.{◌∙◌, sym}
 use Rattle.ufs_path.proofs.ChunkLaws.{chunk_bytes, ends_at, goes_past}
 use Rattle.ufs_path.proofs.directories.find_through.Goals as goal
 

@@ -23,6 +23,8 @@ loop-n-preserved g c =
     let part = c.read_part.ensures.keeps in record {
       keeps = keeps_both g.met.V.View.further c.args.view.now c.loop-n.view c.read_part.new.view so_far part;
       room = c.read_part.ensures.room ∙ c.loop-n.invariant.room;
-      reads = (c.loop-n.invariant.reads.0 ++ take c.in-Ok.field-0 c.read_part.new.buf,
-        rw add-one (front_more c.args.g.now c.args.inode.now c.loop-n.n _ _ so_far.stays part.stays so_far.stands part.told (c.loop-n.invariant.reads.1) c.in-Ok.ensures.rule));
+      reads = (
+        c.loop-n.invariant.reads.0 ++ take c.in-Ok.field-0 c.read_part.new.buf,
+        rw add-one (front_more c.args.g.now c.args.inode.now c.loop-n.n _ _ so_far.stays part.stays so_far.stands part.told (c.loop-n.invariant.reads.1) c.in-Ok.ensures.rule),
+      );
     }

@@ -1,4 +1,4 @@
-use Rattle.ufs_path.proofs.CatLaws.{cat_refused, handed_again}
+use Rattle.ufs_path.proofs.CatLaws.{handed_again}
 use Rattle.ufs_path.proofs.files.hand_twice.Goals as goal
 
 pub returns-in-Ok-clause-rule : goal.returns-in-Ok-clause-rule

@@ -1,4 +1,4 @@
-use Rattle.std.proofs.Common.{◌≡◌, ◌∙◌, ◌-◌, ◌*◌, ◌++◌, min, length, take, replicate, ap, subst, arith}
+use Rattle.std.proofs.Common.{◌≡◌, ◌∙◌, ◌-◌, ◌*◌, min, ap, arith}
 use Rattle.ufs_path.proofs.SuperLaws.{cleared, within}
 use Rattle.ufs_path.proofs.superblocks.read_within.Goals as goal
 
