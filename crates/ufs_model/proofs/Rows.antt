@@ -13,7 +13,7 @@ use Rattle.ufs_model.specs.GroupMaps.{group_in, group_fields, group_magic_holds,
 use Rattle.ufs_model.specs.Chunks.{chunk_in, entries_in, fault_in, fault_at, reclen_holds, is_name, entry_in, find_in}
 use Rattle.ufs_model.specs.Pointers.{locate_of, is_data_run, address, through, file_block_of}
 use Rattle.ufs_model.specs.Readings.{and_then}
-use Rattle.ufs_model.specs.Paths.{block_of, bytes_at, cat_of, chunks_of, contents_of, find_from, find_in_block, find_of, find_through, front_of, in_directory, look_from, named_inode, names_of, volume_geometry}
+use Rattle.ufs_model.specs.Paths.{block_of, bytes_at, cat_of, chunks_of, contents_of, find_from, find_in_block, find_of, find_through, front_of, directory_refusal, file_refusal, look_from, named_inode, names_of, part_of, volume_geometry}
 use Rattle.ufs_model.specs.declared.numbers.Endian.{Endian}
 use Rattle.ufs_model.specs.declared.numbers.Endian.TheVariants.{Little, Big}
 use Rattle.ufs_model.specs.declared.geometries.Geometry.{Geometry}
@@ -273,13 +273,13 @@ path_volume = replicate 8 [] ++ take 1024 (small_superblock Little) ∷ drop 102
 
 cat_of_a_small_file : cat_of Little 1024 128 (47 ∷ 97 ∷ []) path_volume
     ≡ record { value = Ok (104 ∷ 101 ∷ 108 ∷ 108 ∷ 111 ∷ []); needs = 8 ∷ 9 ∷ 28 ∷ 33 ∷ 28 ∷ 34 ∷ [] }
-unfolding cat_of volume_geometry geometry_of superblock_of area_within area_of bind and_then look_from named_inode inode_of inode_in inode_block inode_byte find_of in_directory kind_of find_from find_in_block chunks_of block_of bytes_at file_block_of locate_of address is_data_run role role_in span find_through find_in chunk_in fault_in entries_in fault_at entry_in reclen_holds is_name contents_of front_of geometry_in fields number_at format_holds frag_holds is_block_size is_fragment_count groups_hold inodes_hold layout_holds group_fits cgstart cgbase end_of summary_holds
+unfolding cat_of volume_geometry geometry_of superblock_of area_within area_of bind and_then look_from named_inode inode_of inode_in inode_block inode_byte find_of directory_refusal file_refusal kind_of find_from find_in_block chunks_of block_of bytes_at file_block_of locate_of address is_data_run role role_in span find_through find_in chunk_in fault_in entries_in fault_at entry_in reclen_holds is_name contents_of front_of part_of geometry_in fields number_at format_holds frag_holds is_block_size is_fragment_count groups_hold inodes_hold layout_holds group_fits cgstart cgbase end_of summary_holds
 cat_of_a_small_file = refl
 
 -- the first file block is a hole; of the second every fragment is consulted that its four bytes take
 cat_of_a_sparse_file : cat_of Little 1024 128 (47 ∷ 104 ∷ []) path_volume
     ≡ record { value = Ok (gap 4096 ++ replicate 4 104); needs = 8 ∷ 9 ∷ 28 ∷ 33 ∷ 28 ∷ 36 ∷ [] }
-unfolding cat_of volume_geometry geometry_of superblock_of area_within area_of bind and_then look_from named_inode inode_of inode_in inode_block inode_byte find_of in_directory kind_of find_from find_in_block chunks_of block_of bytes_at file_block_of locate_of address is_data_run role role_in span find_through find_in chunk_in fault_in entries_in fault_at entry_in reclen_holds is_name contents_of front_of geometry_in fields number_at format_holds frag_holds is_block_size is_fragment_count groups_hold inodes_hold layout_holds group_fits cgstart cgbase end_of summary_holds
+unfolding cat_of volume_geometry geometry_of superblock_of area_within area_of bind and_then look_from named_inode inode_of inode_in inode_block inode_byte find_of directory_refusal file_refusal kind_of find_from find_in_block chunks_of block_of bytes_at file_block_of locate_of address is_data_run role role_in span find_through find_in chunk_in fault_in entries_in fault_at entry_in reclen_holds is_name contents_of front_of part_of geometry_in fields number_at format_holds frag_holds is_block_size is_fragment_count groups_hold inodes_hold layout_holds group_fits cgstart cgbase end_of summary_holds
 cat_of_a_sparse_file = refl
 
 -- no such name; a name below a file; the root itself; an entry for an unallocated inode; and a volume of zeros, or of one block
@@ -288,12 +288,12 @@ refused_paths : map (λ path. cat_of Little 1024 128 path path_volume) ((47 ∷ 
     ∷ record { value = Err NotDirectory; needs = 8 ∷ 9 ∷ 28 ∷ 33 ∷ 28 ∷ [] }
     ∷ record { value = Err NotRegular; needs = 8 ∷ 9 ∷ 28 ∷ [] }
     ∷ record { value = Err (PathBad Entry); needs = 8 ∷ 9 ∷ 28 ∷ 33 ∷ 28 ∷ [] } ∷ []
-unfolding cat_of volume_geometry geometry_of superblock_of area_within area_of bind and_then look_from named_inode inode_of inode_in inode_block inode_byte find_of in_directory kind_of find_from find_in_block chunks_of block_of bytes_at file_block_of locate_of address is_data_run role role_in span find_through find_in chunk_in fault_in entries_in fault_at entry_in reclen_holds is_name contents_of front_of geometry_in fields number_at format_holds frag_holds is_block_size is_fragment_count groups_hold inodes_hold layout_holds group_fits cgstart cgbase end_of summary_holds
+unfolding cat_of volume_geometry geometry_of superblock_of area_within area_of bind and_then look_from named_inode inode_of inode_in inode_block inode_byte find_of directory_refusal file_refusal kind_of find_from find_in_block chunks_of block_of bytes_at file_block_of locate_of address is_data_run role role_in span find_through find_in chunk_in fault_in entries_in fault_at entry_in reclen_holds is_name contents_of front_of part_of geometry_in fields number_at format_holds frag_holds is_block_size is_fragment_count groups_hold inodes_hold layout_holds group_fits cgstart cgbase end_of summary_holds
 refused_paths = refl
 
 volumes_without_a_superblock : map (λ n. cat_of Little 1024 n (47 ∷ 97 ∷ []) (replicate 128 [])) (1 ∷ 9 ∷ 128 ∷ [])
     ≡ record { value = Err (PathBad (BadSuperblock Magic)); needs = [] }
     ∷ record { value = Err (PathBad (BadSuperblock Magic)); needs = 8 ∷ [] }
     ∷ record { value = Err (PathBad (BadSuperblock Magic)); needs = 8 ∷ 9 ∷ [] } ∷ []
-unfolding cat_of volume_geometry geometry_of superblock_of area_within area_of bind and_then look_from named_inode inode_of inode_in inode_block inode_byte find_of in_directory kind_of find_from find_in_block chunks_of block_of bytes_at file_block_of locate_of address is_data_run role role_in span find_through find_in chunk_in fault_in entries_in fault_at entry_in reclen_holds is_name contents_of front_of geometry_in fields number_at format_holds frag_holds is_block_size is_fragment_count groups_hold inodes_hold layout_holds group_fits cgstart cgbase end_of summary_holds
+unfolding cat_of volume_geometry geometry_of superblock_of area_within area_of bind and_then look_from named_inode inode_of inode_in inode_block inode_byte find_of directory_refusal file_refusal kind_of find_from find_in_block chunks_of block_of bytes_at file_block_of locate_of address is_data_run role role_in span find_through find_in chunk_in fault_in entries_in fault_at entry_in reclen_holds is_name contents_of front_of part_of geometry_in fields number_at format_holds frag_holds is_block_size is_fragment_count groups_hold inodes_hold layout_holds group_fits cgstart cgbase end_of summary_holds
 volumes_without_a_superblock = refl

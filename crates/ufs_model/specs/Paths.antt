@@ -22,7 +22,6 @@ use Rattle.ufs_model.specs.declared.inodes.Kind.TheVariants.{Regular, Directory,
 use Rattle.ufs_model.specs.declared.numbers.Endian.{Endian}
 use Rattle.ufs_model.specs.declared.pointers.Address.{Address}
 use Rattle.ufs_model.specs.declared.pointers.Address.TheVariants.{Hole as AddressHole, Wild as AddressWild, At}
-use Rattle.ufs_model.specs.declared.reads.BadRead.{BadRead}
 use Rattle.ufs_model.specs.declared.reads.BadRead.TheVariants.{Super, Wild, Hole, Chunk, Entry, Later}
 use Rattle.ufs_model.specs.declared.reads.PathRefusal.{PathRefusal}
 use Rattle.ufs_model.specs.declared.reads.PathRefusal.TheVariants.{NotFound, NotDirectory, NotRegular, Bad}
@@ -30,15 +29,20 @@ use Rattle.ufs_model.specs.declared.reads.PathRefusal.TheVariants.{NotFound, Not
 -- ---- answers that may be refused
 
 -- this refusal, or else what is read
-abbrev pub unless_refused : {A : Type 0} → Option BadRead → Reading (Result A PathRefusal) → Reading (Result A PathRefusal)
+abbrev pub unless_refused : {A : Type 0} → Option PathRefusal → Reading (Result A PathRefusal) → Reading (Result A PathRefusal)
 unless_refused None reading = reading
-unless_refused (Some bad) reading = known (Err (Bad bad))
+unless_refused (Some refusal) reading = known (Err refusal)
+
+-- the first of two refusals
+abbrev pub refused_first : Option PathRefusal → Option PathRefusal → Option PathRefusal
+refused_first None further = further
+refused_first (Some refusal) further = Some refusal
 
 -- ---- file blocks
 
 -- Why a file of this size isn't read. For now files are read by their direct slots alone.
-abbrev pub size_refusal : Geometry → Inode → Option BadRead
-size_refusal g inode = if nat_lt (12 * g.bsize) inode.size then Some Later else None
+abbrev pub size_refusal : Geometry → Inode → Option PathRefusal
+size_refusal g inode = if nat_lt (12 * g.bsize) inode.size then Some (Bad Later) else None
 
 -- the bytes at an address; there are none in a hole
 unfoldable pub bytes_at : Geometry → Address → Reading (Result (Option (List ℕ)) PathRefusal)
@@ -61,13 +65,18 @@ abbrev pub front_in : ℕ → Option (List ℕ) → List ℕ
 front_in count None = replicate count 0
 front_in count (Some bytes) = take count bytes
 
+-- the bytes of a file that stand in its file block n
+unfoldable pub part_of : Endian → Geometry → Inode → ℕ → Reading (Result (List ℕ) PathRefusal)
+part_of endian g inode n =
+    and_then (block_of endian g inode n) (λ block. known (Ok (front_in (bytes_in_block g inode n) block)))
+
 -- the bytes of a file that stand in its first k file blocks
 unfoldable pub front_of : Endian → Geometry → Inode → ℕ → Reading (Result (List ℕ) PathRefusal)
 front_of endian g inode zero = known (Ok [])
 front_of endian g inode (suc k) =
     and_then (front_of endian g inode k) (λ front.
-    and_then (block_of endian g inode k) (λ block.
-    known (Ok (front ++ front_in (bytes_in_block g inode k) block))))
+    and_then (part_of endian g inode k) (λ part.
+    known (Ok (front ++ part))))
 
 abbrev pub is_regular : Kind → Bool
 is_regular Regular = true
@@ -79,12 +88,13 @@ is_regular Block = false
 is_regular Socket = false
 is_regular Unknown = false
 
+-- why the contents of an inode aren't read
+unfoldable pub file_refusal : Geometry → Inode → Option PathRefusal
+file_refusal g inode = if is_regular (kind_of inode.mode) then size_refusal g inode else Some NotRegular
+
 -- the bytes of a regular file
 unfoldable pub contents_of : Endian → Geometry → Inode → Reading (Result (List ℕ) PathRefusal)
-contents_of endian g inode =
-    if is_regular (kind_of inode.mode)
-    then unless_refused (size_refusal g inode) (front_of endian g inode (block_count g inode))
-    else known (Err NotRegular)
+contents_of endian g inode = unless_refused (file_refusal g inode) (front_of endian g inode (block_count g inode))
 
 -- ---- directories
 
@@ -99,15 +109,13 @@ is_directory Socket = false
 is_directory Unknown = false
 
 -- a directory is made of whole chunks (`DIRBLKSIZ`)
-abbrev pub chunk_refusal : Inode → Option BadRead
-chunk_refusal inode = if inode.size % 512 == 0 then None else Some Chunk
+abbrev pub chunk_refusal : Inode → Option PathRefusal
+chunk_refusal inode = if inode.size % 512 == 0 then None else Some (Bad Chunk)
 
--- what is read of a directory, unless its kind or its size is refused
-unfoldable pub in_directory : {A : Type 0} → Geometry → Inode → Reading (Result A PathRefusal) → Reading (Result A PathRefusal)
-in_directory g inode reading =
-    if is_directory (kind_of inode.mode)
-    then unless_refused (size_refusal g inode) (unless_refused (chunk_refusal inode) reading)
-    else known (Err NotDirectory)
+-- why no name is looked for in an inode
+unfoldable pub directory_refusal : Geometry → Inode → Option PathRefusal
+directory_refusal g inode =
+    if is_directory (kind_of inode.mode) then refused_first (size_refusal g inode) (chunk_refusal inode) else Some NotDirectory
 
 -- so many chunks from the front of a file block
 abbrev pub chunks_in : ℕ → List ℕ → List (List ℕ)
@@ -143,7 +151,7 @@ entries_before endian g inode (suc k) =
 
 -- the used entries of a directory, chunk after chunk
 unfoldable pub entries_of : Endian → Geometry → Inode → Reading (Result (List DirEntry) PathRefusal)
-entries_of endian g inode = in_directory g inode (entries_before endian g inode (block_count g inode))
+entries_of endian g inode = unless_refused (directory_refusal g inode) (entries_before endian g inode (block_count g inode))
 
 -- this, or, where the name is absent, what is found further on
 abbrev pub found_or : Found → Found → Found
@@ -181,7 +189,7 @@ find_from endian g inode name n (suc count) =
 
 -- the inode under a name in a directory
 unfoldable pub find_of : Endian → Geometry → Inode → List ℕ → Reading (Result ℕ PathRefusal)
-find_of endian g inode name = in_directory g inode (find_from endian g inode name 0 (block_count g inode))
+find_of endian g inode name = unless_refused (directory_refusal g inode) (find_from endian g inode name 0 (block_count g inode))
 
 -- ---- paths
 

@@ -1,0 +1,76 @@
+-- Looking up a name in a directory, block after block.
+use Rattle.std.proofs.Common.{◌≡◌, ℕ, suc, ◌-◌, ◌/◌, ◌<◌, ◌≤◌, sym, subst, arith, Bool, List, Some, None, Ok, Err, Result, Option}
+use Rattle.std.specs.Option.{option_map}
+use Rattle.ufs_model.specs.Blocks.{Reading, Volume, known}
+use Rattle.ufs_model.specs.Inodes.{block_count}
+use Rattle.ufs_model.specs.Paths.{block_of, bytes_in_block, chunks_in, chunks_of, directory_refusal, find_from, find_in_block, find_of, find_through, found_else, or_bad_chunk, unless_refused}
+use Rattle.ufs_model.specs.Readings.{Continues, Grows, ReadsAs, and_then}
+use Rattle.ufs_model.proofs.ReadingLaws.{reads_known, reads_on, reads_refused}
+use Rattle.ufs_model.specs.declared.chunks.Found.{Found}
+use Rattle.ufs_model.specs.declared.geometries.Geometry.{Geometry}
+use Rattle.ufs_model.specs.declared.inodes.Inode.{Inode}
+use Rattle.ufs_model.specs.declared.numbers.Endian.TheVariants.{Little}
+use Rattle.ufs_model.specs.declared.reads.BadRead.TheVariants.{Hole}
+use Rattle.ufs_model.specs.declared.reads.PathRefusal.{PathRefusal}
+use Rattle.ufs_model.specs.declared.reads.PathRefusal.TheVariants.{Bad, NotFound}
+use Rattle.ufs_path.specs.Answers.{refusal_of}
+use Rattle.ufs_path.specs.declared.faults.ReadFault.{ReadFault}
+use Rattle.ufs_path.specs.declared.faults.ReadFault.TheVariants.{Refused}
+
+-- the block's chunks, and what is found in them
+pub found_in : {stands : Volume → Type 0} {tells : Type 0} {before after : ℕ → Bool} (g : Geometry) (inode : Inode) (name : List ℕ) (n : ℕ) (bytes : List ℕ) (found : Found) (answer : Option (Result (Option ℕ) PathRefusal))
+    → Grows before after → found ≡ find_through Little name (chunks_in (bytes_in_block g inode n / 512) bytes) → answer ≡ Some (or_bad_chunk found)
+    → ReadsAs stands before tells after (block_of Little g inode n) (Some (Ok (Some bytes))) → ReadsAs stands before tells after (find_in_block Little g inode name n) answer
+unfolding find_in_block chunks_of
+found_in g inode name n bytes found answer grows e1 e2 reads =
+    rw (e2, e1) (reads_on refusal_of _ _ _ grows (λ v h. h) (λ h. h)
+    (reads_on refusal_of _ (Some bytes) _ grows (λ v h. h) (λ h. h) reads
+    (reads_on refusal_of _ bytes _ (λ b h. h) (λ v h. h) (λ h. h) (reads_known (Ok bytes)) (reads_known _)))
+    (reads_known _))
+
+-- a hole
+pub not_in_hole : {stands : Volume → Type 0} {tells : Type 0} {before after : ℕ → Bool} (g : Geometry) (inode : Inode) (name : List ℕ) (n : ℕ)
+    → Grows before after → ReadsAs stands before tells after (block_of Little g inode n) (Some (Ok None))
+    → ReadsAs stands before tells after (find_in_block Little g inode name n) (Some (Err (Bad Hole)))
+unfolding find_in_block chunks_of
+not_in_hole g inode name n grows reads =
+    reads_refused refusal_of _ (Refused (Bad Hole)) grows
+    (reads_on refusal_of _ None _ grows (λ v h. h) (λ h. h) reads
+    (reads_refused refusal_of _ (Refused (Bad Hole)) (λ b h. h) (reads_known (Err (Bad Hole)))))
+
+-- a block that isn't read
+pub block_unread : {stands : Volume → Type 0} {tells : Type 0} {before after : ℕ → Bool} (g : Geometry) (inode : Inode) (name : List ℕ) (n : ℕ) (fault : ReadFault)
+    → Grows before after → ReadsAs stands before tells after (block_of Little g inode n) (option_map Err (refusal_of fault))
+    → ReadsAs stands before tells after (find_in_block Little g inode name n) (option_map Err (refusal_of fault))
+unfolding find_in_block chunks_of
+block_unread g inode name n fault grows reads =
+    reads_refused refusal_of _ fault grows (reads_refused refusal_of _ fault grows reads)
+
+-- ---- block after block
+
+pub next_block : {stands : Volume → Type 0} {tells : Type 0} {before now : ℕ → Bool} {whole : Reading (Result ℕ PathRefusal)} (g : Geometry) (inode : Inode) (name : List ℕ) (n count : ℕ) → n < count
+    → Continues stands before tells now whole (find_from Little g inode name n (count - n))
+    → Continues stands before tells now whole (and_then (find_in_block Little g inode name n) (λ found. found_else found (find_from Little g inode name (suc n) (count - suc n))))
+unfolding find_from
+next_block {stands} {tells} {before} {now} {whole} g inode name n count low so_far =
+    subst (λ left. Continues stands before tells now whole (find_from Little g inode name n left)) (let e : count - n ≡ suc (count - suc n) = omega arith in e) so_far
+
+pub no_block : {stands : Volume → Type 0} {tells : Type 0} {before now : ℕ → Bool} {whole : Reading (Result ℕ PathRefusal)} (g : Geometry) (inode : Inode) (name : List ℕ) (n count : ℕ) → count ≤ n
+    → Continues stands before tells now whole (find_from Little g inode name n (count - n)) → Continues stands before tells now whole (known (Err NotFound))
+unfolding find_from
+no_block {stands} {tells} {before} {now} {whole} g inode name n count past so_far =
+    subst (λ left. Continues stands before tells now whole (find_from Little g inode name n left)) (let e : count - n ≡ 0 = omega arith in e) so_far
+
+-- ---- a directory, or what is none
+
+pub directory_refused : {stands : Volume → Type 0} {tells : Type 0} {before after : ℕ → Bool} (g : Geometry) (inode : Inode) (name : List ℕ) (refusal : PathRefusal) → directory_refusal g inode ≡ Some refusal
+    → ReadsAs stands before tells after (find_of Little g inode name) (Some (Err refusal))
+unfolding find_of
+directory_refused {stands} {tells} {before} {after} g inode name refusal e =
+    subst (λ r. ReadsAs stands before tells after (unless_refused r (find_from Little g inode name 0 (block_count g inode))) (Some (Err refusal))) (sym e) (reads_known (Err refusal))
+
+pub directory_read : {stands : Volume → Type 0} {tells : Type 0} {before after : ℕ → Bool} (g : Geometry) (inode : Inode) (name : List ℕ) (count : ℕ) (answer : Option (Result ℕ PathRefusal)) → directory_refusal g inode ≡ None → count ≡ block_count g inode
+    → ReadsAs stands before tells after (find_from Little g inode name 0 count) answer → ReadsAs stands before tells after (find_of Little g inode name) answer
+unfolding find_of
+directory_read {stands} {tells} {before} {after} g inode name count answer e1 e2 reads =
+    subst (λ r. ReadsAs stands before tells after (unless_refused r (find_from Little g inode name 0 (block_count g inode))) answer) (sym e1) (rw e2 at reads)

@@ -1,0 +1,8 @@
+pub mod Sizes
+pub mod Addresses
+pub mod SuperLaws
+pub mod LookLaws
+pub mod ChunkLaws
+pub mod DirectoryLaws
+pub mod FileLaws
+pub mod CatLaws

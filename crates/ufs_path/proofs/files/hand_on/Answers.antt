@@ -1,0 +1,65 @@
+use Rattle.std.proofs.Common.{◌++◌, ◌∙◌, [], suc, refl, add-one, arith}
+use Rattle.std.proofs.lemmas.List.{length-append}
+use Rattle.dg_io.specs.ViewLaws.{keeps_both, keeps_same}
+use Rattle.ufs_path.proofs.FileLaws.{front_fails, front_fails_whole, front_more, front_none, later_still}
+use Rattle.ufs_path.proofs.files.hand_on.Goals as goal
+
+pub loop-n-init : goal.loop-n-init
+loop-n-init g c = record {
+  keeps = keeps_same c.args.view.now c.requires.sound (g.met.V.View.unchanged c.args.view.now);
+  room = c.requires.room;
+  later = omega arith;
+  small = omega arith;
+  handed = ([], refl, g.met.O.Pieces.nothing c.args.out.now, front_none _ _ _ _ c.args.g.now c.args.inode.now);
+}
+
+pub returns-in-Unread-clause-rule : goal.returns-in-Unread-clause-rule
+returns-in-Unread-clause-rule g c =
+    let so_far = c.loop-n.invariant.keeps in
+    let part = c.hand_part.ensures.keeps in
+    let handed = c.loop-n.invariant.handed in
+    let unread = c.in-Unread.ensures.rule in (
+      handed.0,
+      c.loop-n.n,
+      c.in-Unread.field-0,
+      omega arith,
+      handed.1,
+      rw (unread.0) (handed.2),
+      later_still _ part.told (handed.3),
+      front_fails_whole c.args.g.now c.args.inode.now (suc c.loop-n.n) c.args.count c.in-Unread.field-0 (λ b h. part.stays b (so_far.stays b h)) (omega arith)
+          (front_fails c.args.g.now c.args.inode.now c.loop-n.n _ c.in-Unread.field-0 so_far.stays part.stays so_far.stands part.told (handed.3) (unread.1)),
+    )
+
+pub returns-in-Failed-clause-rule : goal.returns-in-Failed-clause-rule
+returns-in-Failed-clause-rule g c =
+    let so_far = c.loop-n.invariant.keeps in
+    let part = c.hand_part.ensures.keeps in
+    let handed = c.loop-n.invariant.handed in
+    let failed = c.in-Failed.ensures.rule in
+    let rose = failed.3 in (
+      handed.0 ++ failed.0,
+      suc c.loop-n.n,
+      omega arith,
+      g.met.O.Pieces.then_part _ _ _ (handed.0) (failed.0) (handed.2) (failed.1),
+      front_more c.args.g.now c.args.inode.now c.loop-n.n _ _ so_far.stays part.stays so_far.stands part.told (handed.3) (failed.2),
+      omega arith,
+    )
+
+pub loop-n-preserved : goal.loop-n-preserved
+loop-n-preserved g c =
+    let so_far = c.loop-n.invariant.keeps in
+    let part = c.hand_part.ensures.keeps in
+    let handed = c.loop-n.invariant.handed in
+    let all = c.in-All.ensures.rule in
+    let small = all.4 in record {
+      keeps = keeps_both g.met.V.View.further c.args.view.now c.loop-n.view c.hand_part.new.view so_far part;
+      room = c.hand_part.ensures.room ∙ c.loop-n.invariant.room;
+      later = let before = c.hand_part.ensures.later in omega arith;
+      small = omega arith;
+      handed = (
+        handed.0 ++ all.0,
+        (let a = handed.1 in let b = all.1 in let e = length-append (handed.0) (all.0) in omega arith),
+        g.met.O.Pieces.then _ _ _ (handed.0) (all.0) (handed.2) (all.2),
+        rw add-one (front_more c.args.g.now c.args.inode.now c.loop-n.n _ _ so_far.stays part.stays so_far.stands part.told (handed.3) (all.3)),
+      );
+    }

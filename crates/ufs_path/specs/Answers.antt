@@ -1,0 +1,41 @@
+-- What the answers of the readers by path say of what is read, and of what was handed on.
+use Rattle.std.specs.Prelude.{◌≡◌, ℕ, List, ◌++◌, length, Option, Some, None, Result, Ok, Err}
+use Rattle.dg_model.specs.Causes.{Rose}
+use Rattle.ufs_model.specs.declared.reads.PathRefusal.{PathRefusal}
+use Rattle.ufs_model.specs.declared.reads.PathRefusal.TheVariants.{NotFound as RefusedNotFound, NotDirectory as RefusedNotDirectory, NotRegular as RefusedNotRegular, Bad as RefusedBad}
+use Rattle.ufs_path.specs.declared.faults.ReadFault.{ReadFault}
+use Rattle.ufs_path.specs.declared.faults.ReadFault.TheVariants.{Refused, Unavailable as FaultUnavailable}
+use Rattle.ufs_path.specs.declared.faults.CatAnswer.{CatAnswer}
+use Rattle.ufs_path.specs.declared.faults.CatAnswer.TheVariants.{Given, NotFound, NotDirectory, Bad, Unavailable, NotRegular, Cut, SinkFault}
+
+-- what a fault says of a reading: nothing where a block is gone
+abbrev pub refusal_of : ReadFault → Option PathRefusal
+refusal_of (Refused refusal) = Some refusal
+refusal_of FaultUnavailable = None
+
+-- the answer of `cat` at a refusal, and at a fault
+abbrev pub answer_at : PathRefusal → CatAnswer
+answer_at RefusedNotFound = NotFound
+answer_at RefusedNotDirectory = NotDirectory
+answer_at RefusedNotRegular = NotRegular
+answer_at (RefusedBad bad) = Bad bad
+
+abbrev pub refused_answer : ReadFault → CatAnswer
+refused_answer (Refused refusal) = answer_at refusal
+refused_answer FaultUnavailable = Unavailable
+
+-- What an answer of `cat` says of the reading of the file's bytes, by `reads`, and of what the
+-- receiver took. `reads` is the reading rule: `reads (Some r)` says that r is the definition's
+-- answer and that no block that it needs was gone before, `reads None` that such a block is gone
+-- after. A refusal hands nothing on; what is cut, or fails, handed on a front of the bytes.
+abbrev pub IsCat : {S : Type 0} → (S → List ℕ → S → Type 0) → (S → List ℕ → S → Type 0) → (S → ℕ) → S → S → (Option (Result (List ℕ) PathRefusal) → Type 0) → CatAnswer → Type 0
+IsCat took took_part faults old new reads (Given n) = (bytes : List ℕ) × (length bytes ≡ n) × took old bytes new × reads (Some (Ok bytes))
+IsCat took took_part faults old new reads NotFound = (new ≡ old) × reads (Some (Err RefusedNotFound))
+IsCat took took_part faults old new reads NotDirectory = (new ≡ old) × reads (Some (Err RefusedNotDirectory))
+IsCat took took_part faults old new reads (Bad bad) = (new ≡ old) × reads (Some (Err (RefusedBad bad)))
+IsCat took took_part faults old new reads Unavailable = (new ≡ old) × reads None
+IsCat took took_part faults old new reads NotRegular = (new ≡ old) × reads (Some (Err RefusedNotRegular))
+IsCat took took_part faults old new reads (Cut n) =
+    (front : List ℕ) × (rest : List ℕ) × (length front ≡ n) × took old front new × reads (Some (Ok (front ++ rest))) × reads None
+IsCat took took_part faults old new reads SinkFault =
+    (bytes : List ℕ) × took_part old bytes new × reads (Some (Ok bytes)) × Rose (faults old) (faults new)

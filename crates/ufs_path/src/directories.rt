@@ -1,0 +1,121 @@
+// Directories.
+ghost use Rattle.std.specs.Prelude.{◌≡◌, ◌+◌, ◌*◌, ◌<◌, ◌≤◌, Some, length};
+ghost use Rattle.dg_io.specs.Views.{KeepsView};
+ghost use Rattle.ufs_model.specs.Geometries.{IsGeometryOn};
+ghost use Rattle.ufs_model.specs.Paths.{chunks_in, find_from, find_in_block, find_of, find_through, or_bad_chunk};
+ghost use Rattle.ufs_model.specs.Readings.{ReadsAs, answered};
+ghost use Rattle.ufs_model.specs.declared.numbers.Endian.TheVariants.{Little};
+ghost use Rattle.ufs_path.specs.Answers.{refusal_of};
+
+use crate::blocks::{block_count, bytes_in_block, directory_refusal, read_block};
+use crate::faults::ReadFault;
+use dg_io::View;
+use ufs_dir::{CHUNK_BYTES, find};
+use ufs_model::{BadRead, Found, Geometry, Inode, PathRefusal};
+
+/// The inode of the first used entry with the name in the first `count` chunks of a file block, up
+/// to a chunk that is refused.
+#[tactic(auto, using(crate::proofs::ChunkLaws::no_chunk))]
+fn find_through(bytes: &[u8], count: usize, name: &[u8]) -> Found
+    requires { count * 512 ≤ length bytes.now }
+    ensures { result ≡ find_through Little name.now (chunks_in count bytes.now) }
+{
+    for i in 0..count {
+        let start = i * CHUNK_BYTES;
+        match find(&bytes[start..start + CHUNK_BYTES], name) {
+            Found::Absent => {}
+            Found::At(inode) => return Found::At(inode),
+            Found::Bad(bad) => return Found::Bad(bad),
+        }
+    }
+    Found::Absent
+}
+
+/// The inode that was found, if one was; a refused chunk makes its volume bad.
+fn or_bad_chunk(found: Found) -> Result<Option<u32>, ReadFault>
+    ensures { answered refusal_of result ≡ Some (or_bad_chunk found) }
+{
+    match found {
+        Found::At(inode) => Ok(Some(inode)),
+        Found::Absent => Ok(None),
+        Found::Bad(_) => Err(ReadFault::Refused(PathRefusal::Bad(BadRead::Chunk))),
+    }
+}
+
+/// The inode under a name in file block `n` of a directory, if it has the name.
+fn find_in_block<V: View>(
+    view: &mut V,
+    g: &Geometry,
+    inode: &Inode,
+    name: &[u8],
+    n: u32,
+    buf: &mut [u8],
+) -> Result<Option<u32>, ReadFault>
+    requires sound { V.is_sound view.old }
+    requires geometry { IsGeometryOn (V.size view.old) (V.count view.old) g.now }
+    requires room { length buf.old ≡ 8 * g.now.fsize }
+    requires direct { n < 12 }
+    ensures keeps { KeepsView V.stands_for V.tells V.is_gone V.count V.size V.is_sound V.goes_on view.old view.new }
+    ensures room { length buf.new ≡ length buf.old }
+    ensures rule { ReadsAs (V.stands_for view.old) (V.is_gone view.old) (V.tells view.new) (V.is_gone view.new)
+        (find_in_block Little g.now inode.now name.now n) (answered refusal_of result) }
+{
+    match read_block(view, g, inode, n, buf) {
+        Ok(Some(bytes)) => {
+            let chunks = bytes_in_block(g, inode, n) / CHUNK_BYTES;
+            or_bad_chunk(find_through(&buf[..bytes], chunks, name))
+        }
+        Ok(None) => Err(ReadFault::Refused(PathRefusal::Bad(BadRead::Hole))),
+        Err(fault) => Err(fault),
+    }
+}
+
+/// The inode under a name in the first `count` file blocks of a directory.
+fn find_in_blocks<V: View>(
+    view: &mut V,
+    g: &Geometry,
+    inode: &Inode,
+    name: &[u8],
+    count: u32,
+    buf: &mut [u8],
+) -> Result<u32, ReadFault>
+    requires sound { V.is_sound view.old }
+    requires geometry { IsGeometryOn (V.size view.old) (V.count view.old) g.now }
+    requires room { length buf.old ≡ 8 * g.now.fsize }
+    requires direct { count ≤ 12 }
+    ensures keeps { KeepsView V.stands_for V.tells V.is_gone V.count V.size V.is_sound V.goes_on view.old view.new }
+    ensures room { length buf.new ≡ length buf.old }
+    ensures rule { ReadsAs (V.stands_for view.old) (V.is_gone view.old) (V.tells view.new) (V.is_gone view.new)
+        (find_from Little g.now inode.now name.now 0 count) (answered refusal_of result) }
+{
+    for n in 0..count {
+        match find_in_block(view, g, inode, name, n, buf) {
+            Ok(None) => {}
+            Ok(Some(found)) => return Ok(found),
+            Err(fault) => return Err(fault),
+        }
+    }
+    Err(ReadFault::Refused(PathRefusal::NotFound))
+}
+
+/// The inode under a name in a directory.
+pub fn find_name<V: View>(
+    view: &mut V,
+    g: &Geometry,
+    inode: &Inode,
+    name: &[u8],
+    buf: &mut [u8],
+) -> Result<u32, ReadFault>
+    requires sound { V.is_sound view.old }
+    requires geometry { IsGeometryOn (V.size view.old) (V.count view.old) g.now }
+    requires room { length buf.old ≡ 8 * g.now.fsize }
+    ensures keeps { KeepsView V.stands_for V.tells V.is_gone V.count V.size V.is_sound V.goes_on view.old view.new }
+    ensures room { length buf.new ≡ length buf.old }
+    ensures rule { ReadsAs (V.stands_for view.old) (V.is_gone view.old) (V.tells view.new) (V.is_gone view.new)
+        (find_of Little g.now inode.now name.now) (answered refusal_of result) }
+{
+    match directory_refusal(g, inode) {
+        Some(refusal) => Err(ReadFault::Refused(refusal)),
+        None => find_in_blocks(view, g, inode, name, block_count(g, inode), buf),
+    }
+}

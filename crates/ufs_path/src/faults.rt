@@ -1,0 +1,32 @@
+use ufs_model::{BadRead, PathRefusal};
+
+/// Why there is no answer.
+#[derive(Clone, Copy, Debug, PartialEq, Eq)]
+pub enum ReadFault {
+    /// What is read says so.
+    Refused(PathRefusal),
+    /// A block that is needed is gone.
+    Unavailable,
+}
+
+/// What became of a `cat`.
+#[derive(Clone, Copy, Debug, PartialEq, Eq)]
+pub enum CatAnswer {
+    /// The whole file was handed on, so many bytes.
+    Given(u32),
+    /// The root has no entry with the name. Nothing was handed on.
+    NotFound,
+    /// The root is no directory. Nothing was handed on.
+    NotDirectory,
+    /// The volume isn't as it has to be. Nothing was handed on.
+    Bad(BadRead),
+    /// A block that is needed is gone. Nothing was handed on.
+    Unavailable,
+    /// The path leads to something else than a regular file. Nothing was handed on.
+    NotRegular,
+    /// A block that is needed became gone in this call, after the file's first so many bytes were
+    /// handed on.
+    Cut(u32),
+    /// A piece failed, after some of the file's bytes were handed on.
+    SinkFault,
+}
