@@ -1,7 +1,7 @@
 ghost use Rattle.std.specs.Prelude.{◌≡◌, ◌+◌, ◌*◌, ◌^◌, ◌<◌, ◌≤◌, IfOk, length};
 
 use crate::{BlockAnswer, Chain, Levels, file_block, locate, pointer};
-use dg_io::{Loss, MemView};
+use dg_io::{Loss, MemView, View};
 use std::alloc::Global;
 use std::test::Fail;
 use ufs_inode::Inode;
@@ -151,11 +151,15 @@ fn answer(alloc: Global, n: u32, loss: Loss) -> Result<BlockAnswer, Fail>
     let mut image = zeros(alloc, 128)?;
     for (block, i, value) in &POINTERS {
         let at = *block * 1024 + 4 * *i;
-        if at < 131000 {
+        if at < 131000 && at + 4 <= image.len() {
             put(&mut image, at, *value);
         }
     }
     let mut view = MemView::new(image, 1024, 128, vec![in alloc; loss]?);
+    let (size, count) = view.shape();
+    if size != 1024 || count != 128 {
+        return Err("shape".into());
+    }
     let mut levels = Levels::new(alloc, 1024).ok().ok_or("levels")?;
     Ok(file_block(&mut view, &g, &FILE, n, &mut levels))
 }
@@ -224,6 +228,8 @@ fn a_block_of_data(rt: HostRuntime) -> Result<(), Fail> {
     put(&mut image, 3068, 9);
     let loss = Loss { block: 0, fetch: 0 };
     let mut view = MemView::new(image, 1024, 3, vec![in alloc; loss]?);
+    let (size, count) = view.shape();
+    assert!(rt; size == 1024 && count == 3);
     let mut levels = Levels::new(alloc, 1024).ok().ok_or("levels")?;
     assert!(rt; levels.block().is_empty());
     assert!(rt; levels.read_block(&mut view, 1, 2));
