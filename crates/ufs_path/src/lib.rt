@@ -14,6 +14,8 @@ mod files;
 mod levels;
 mod looks;
 mod superblocks;
+#[cfg(test)]
+mod tests;
 
 pub use cats::cat;
 pub use faults::CatAnswer;
