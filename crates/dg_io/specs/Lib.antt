@@ -1,8 +1,10 @@
 pub mod Faults
+pub mod Fetches
+pub mod MemViews
 pub mod Racks
+pub mod SinkPieces
 pub mod Sinks
 pub mod Sources
 pub mod Told
-pub mod Views
-pub mod MemViews
 pub mod ViewLaws
+pub mod Views

@@ -59,6 +59,8 @@ impl<V: View> View for &mut V {
 
     ghost goes_on = { λ a b. V.goes_on a.now b.now × (b.ghost_name ≡ a.ghost_name) };
 
+    ghost fetched = { λ a blocks b. V.fetched a.now blocks b.now };
+
     fn fetch(&mut self, block: u32, buf: &mut [u8]) -> Fetched {
         (**self).fetch(block, buf)
     }
@@ -74,6 +76,10 @@ impl<V: View> View for &mut V {
     ghost unchanged = { λ s. (V.unchanged s.now, refl) };
 
     ghost further = { λ a b c first second. (V.further a.now b.now c.now (first.0) (second.0), second.1 ∙ first.1) };
+
+    ghost fetched_none = { λ s. V.fetched_none s.now };
+
+    ghost fetched_both = { λ a b c x y first second. V.fetched_both a.now b.now c.now x y first second };
 }
 
 impl<P: Pieces> Pieces for &mut P {

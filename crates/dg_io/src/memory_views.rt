@@ -1,5 +1,5 @@
 // A view of blocks in memory. Its fetches are counted from 1.
-ghost use Rattle.std.specs.Prelude.{◌≡◌, ◌+◌, ◌*◌, ◌≤◌, ◌<◌, ◌^◌, length};
+ghost use Rattle.std.specs.Prelude.{◌≡◌, ◌+◌, ◌*◌, ◌≤◌, ◌<◌, ◌^◌, ℕ, List, length};
 ghost use Rattle.std.proofs.Math.Nat.{le_refl, le_trans};
 ghost use Rattle.dg_io.specs.MemViews.{gone_in, IsImage};
 
@@ -35,9 +35,15 @@ fn is_lost(losses: &[Loss], fetches: u64, block: u32) -> bool
 }
 
 impl MemView {
+    ghost use Rattle.dg_io.specs.Fetches.{size_of, count_of, stands_in, gone_now};
+
     /// A view of an image of so many blocks of so many bytes.
     pub fn new(image: Vec<u8>, size: u32, count: u32, losses: Vec<Loss>) -> MemView
         requires { length image.items ≡ count * size }
+        ensures size { size_of result ≡ size }
+        ensures count { count_of result ≡ count }
+        ensures blocks { (blocks : List (List ℕ)) → IsImage image.items count size blocks → stands_in result blocks }
+        ensures gone { (b : ℕ) → gone_now result b ≡ gone_in losses.items 0 b }
     {
         MemView {
             image,
@@ -50,19 +56,23 @@ impl MemView {
 }
 
 impl View for MemView {
-    ghost stands_for = { λ s v. IsImage s.image.items s.count s.size v };
+    ghost use Rattle.dg_io.specs.Fetches.{size_of, count_of, stands_in, gone_now, CountsFetches, counts_none, counts_both};
+
+    ghost stands_for = { stands_in };
 
     ghost tells = { λ _. Unit {0} };
 
-    ghost is_gone = { λ s b. gone_in s.losses.items s.fetches b };
+    ghost is_gone = { gone_now };
 
-    ghost count = { λ s. s.count };
+    ghost count = { count_of };
 
-    ghost size = { λ s. s.size };
+    ghost size = { size_of };
 
     ghost is_sound = { λ _. Unit {0} };
 
     ghost goes_on = { λ a b. a.fetches ≤ b.fetches };
+
+    ghost fetched = { CountsFetches };
 
     fn fetch(&mut self, block: u32, buf: &mut [u8]) -> Fetched {
         self.fetches = self.fetches.saturating_add(1);
@@ -86,4 +96,8 @@ impl View for MemView {
     ghost unchanged = { λ s. le_refl s.fetches };
 
     ghost further = { λ a b c first second. le_trans first second };
+
+    ghost fetched_none = { λ s. counts_none s };
+
+    ghost fetched_both = { λ a b c x y first second. counts_both a b c x y first second };
 }

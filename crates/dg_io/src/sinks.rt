@@ -1,9 +1,10 @@
 // Sinks in memory. Their calls are counted from 0.
 ghost use Rattle.std.specs.Prelude.{◌≡◌, [], Some, None, IfOk, MatchOption};
 ghost use Rattle.dg_io.specs.Sinks.{taken_in, sink_faults, sure_taken};
+ghost use Rattle.dg_io.specs.SinkPieces.{Taken, TakenPart, taken_none, taken_both, taken_part_after, taken_part_of_more};
 
 use crate::calls::is_listed;
-use crate::{Failed, NoMemory, Sink};
+use crate::{Failed, NoMemory, Pieces, Sink, write_all};
 use std::alloc::Global;
 
 /// A sink in memory, with room for so many bytes.
@@ -57,6 +58,26 @@ impl Sink for MemSink {
         }
         Ok(piece.len())
     }
+}
+
+impl Pieces for MemSink {
+    ghost took = { Taken };
+
+    ghost took_part = { TakenPart };
+
+    ghost faults = { sink_faults };
+
+    fn piece(&mut self, bytes: &[u8]) -> Result<(), Failed> {
+        write_all(self, bytes)
+    }
+
+    ghost nothing = { λ s. taken_none s };
+
+    ghost then = { λ a b c x y first second. taken_both a b c x y first second };
+
+    ghost then_part = { λ a b c x y first second. taken_part_after a b c x y first second };
+
+    ghost part = { λ a b x y first. taken_part_of_more a b x y first };
 }
 
 /// A sink in memory, which never fails. Where it is asked for more than it has room for, it succeeds, and tells no bytes

@@ -1,5 +1,5 @@
 // Blocks, some of which may be gone.
-ghost use Rattle.std.specs.Prelude.{◌≡◌, ◌<◌, ◌↔◌, ℕ, List, Bool, IsTrue, length, replicate, slice_index_or};
+ghost use Rattle.std.specs.Prelude.{◌≡◌, ◌<◌, ◌↔◌, ◌++◌, ◌∷◌, [], ℕ, List, Bool, IsTrue, length, replicate, slice_index_or};
 ghost use Rattle.dg_io.specs.Views.{KeepsView};
 
 /// What became of a read of a block.
@@ -34,6 +34,9 @@ pub trait View {
     /// What may have become of it by any number of fetches, beside what the other members say.
     ghost goes_on: { Self → Self → Type 0 };
 
+    /// What may have become of it by fetches of just these blocks, one after another.
+    ghost fetched: { Self → List ℕ → Self → Type 0 };
+
     /// Reads a block.
     fn fetch(&mut self, block: u32, buf: &mut [u8]) -> Fetched
         requires sound { is_sound self.old }
@@ -42,7 +45,8 @@ pub trait View {
         ensures keeps { KeepsView stands_for tells is_gone count size is_sound goes_on self.old self.new }
         ensures gone { (result ≡ Fetched.Gone) ↔ IsTrue (is_gone self.new block) }
         ensures bytes { result ≡ Fetched.Got → tells self.new → (v : List (List ℕ)) → stands_for self.old v
-            → buf.new ≡ slice_index_or v block (replicate (size self.old) 0) };
+            → buf.new ≡ slice_index_or v block (replicate (size self.old) 0) }
+        ensures fetched { fetched self.old (block ∷ []) self.new };
 
     /// Whether a block is gone. It calls nothing that could fail.
     fn gone(&self, block: u32) -> bool
@@ -61,4 +65,10 @@ pub trait View {
 
     /// Fetches, and then others.
     ghost further: { (a b c : Self) → goes_on a b → goes_on b c → goes_on a c };
+
+    /// No fetch is a fetch of no block.
+    ghost fetched_none: { (s : Self) → fetched s [] s };
+
+    /// Fetches of blocks, and then of others.
+    ghost fetched_both: { (a b c : Self) (x y : List ℕ) → fetched a x b → fetched b y c → fetched a (x ++ y) c };
 }

@@ -16,7 +16,7 @@ use Rattle.dg_map.specs.declared.maps.Map.TheInside.{Inside}
 use Rattle.dg_map.specs.declared.site_lists.SiteLists.{SiteLists}
 use Rattle.dg_map.specs.Maps.{Agrees, IsMap, table_of}
 use Rattle.dg_map.specs.Slots.{GivesUp, IsUnused, Keeps, Puts, block_in}
-use Rattle.dg_map.specs.Tables.{IsFree, IsLowestFree, IsTable, StandsIn, Table, count_on, empty_table, put_site, sites_in, without_site, sites_off}
+use Rattle.dg_model.specs.Tables.{IsFree, IsLowestFree, IsTable, StandsIn, Table, count_on, empty_table, put_site, sites_in, without_site, sites_off}
 use Rattle.dg_map.proofs.AgreeLemmas.{agrees_empty, agrees_kept, agrees_put, agrees_put_apart, agrees_without, agrees_without_apart, free_slot}
 use Rattle.dg_map.proofs.SlotLemmas.{count_below}
 use Rattle.dg_map.proofs.TableLemmas.{IsTable-empty, IsTable-put, IsTable-without, block_within, site_at}

@@ -1,4 +1,4 @@
 pub mod Maps
+pub mod Refusals
 pub mod Rows
 pub mod Slots
-pub mod Tables

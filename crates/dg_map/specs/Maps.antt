@@ -5,7 +5,7 @@ use Rattle.dg_map.specs.declared.boundary_slots.Slots.{Slots}
 use Rattle.dg_map.specs.declared.maps.Map.TheInside.{Inside}
 use Rattle.dg_map.specs.Rows.{row_of}
 use Rattle.dg_map.specs.Slots.{IsSlots, block_in, used_count}
-use Rattle.dg_map.specs.Tables.{IsTable, StandsIn, Table, used_in}
+use Rattle.dg_model.specs.Tables.{IsTable, StandsIn, Table, used_in}
 
 -- the table that these site lists stand for
 abbrev pub table_of : Inside → Table

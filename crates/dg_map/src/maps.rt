@@ -3,7 +3,8 @@ ghost use Rattle.std.specs.List.{All};
 ghost use Rattle.dg_model.specs.Shapes.{IsShape};
 ghost use Rattle.dg_map.specs.Rows.{Appends, SameRows};
 ghost use Rattle.dg_map.specs.Slots.{IsSlots, IsUnused, Keeps, Puts, block_in, used_count};
-ghost use Rattle.dg_map.specs.Tables.{IsFree, IsFullAt, IsLowestFree, IsTable, StandsIn, Table, count_on, empty_table, put_site, sites_in, used_in, without_site};
+ghost use Rattle.dg_map.specs.Refusals.{IsFullAt};
+ghost use Rattle.dg_model.specs.Tables.{IsFree, IsLowestFree, IsTable, StandsIn, Table, count_on, empty_table, put_site, sites_in, used_in, without_site};
 
 use crate::boundary_slots::Slots;
 use crate::faults::TakeFault;
@@ -22,7 +23,7 @@ pub struct Map {
 }
 
 impl Model for Map {
-    ghost use Rattle.dg_map.specs.Tables.{Table};
+    ghost use Rattle.dg_model.specs.Tables.{Table};
 
     ghost Value = { Table };
 

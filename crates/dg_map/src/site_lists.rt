@@ -1,7 +1,7 @@
 ghost use Rattle.std.specs.Prelude.{◌≡◌, ◌<◌, [], ℕ, MatchResult};
 ghost use Rattle.std.specs.List.{Contains};
 ghost use Rattle.dg_map.specs.Rows.{Appends, SameRows, SetsRow, row_of};
-ghost use Rattle.dg_map.specs.Tables.{count_on, sites_off};
+ghost use Rattle.dg_model.specs.Tables.{count_on, sites_off};
 
 use dg_model::{NoMemory, Site};
 use std::alloc::Global;

@@ -1,5 +1,5 @@
 ghost use Rattle.std.specs.Prelude.{◌≡◌};
-ghost use Rattle.dg_map.specs.Tables.{count_on};
+ghost use Rattle.dg_model.specs.Tables.{count_on};
 
 use crate::{Map, Shape, Site, TakeFault};
 use Answer::{Barred, Full, Left, NoMemory, Slot};

@@ -1,7 +1,9 @@
 pub mod Causes
+pub mod Lists
 pub mod Members
 pub mod Runs
 pub mod Shapes
 pub mod Sites
 pub mod States
 pub mod Steps
+pub mod Tables

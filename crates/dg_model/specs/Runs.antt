@@ -16,8 +16,9 @@ Run old (event ∷ events) [] new = ⊥
 
 -- before its first event an array has no block and no boundary, and no call was made
 pub record IsUnmade (before : Counts) (state : State) : Type 0 where
-  pub boundaries : state.shape.b ≡ 0
-  pub size : state.shape.n ≡ 0
+  pub boundaries : state.table.shape.b ≡ 0
+  pub size : state.table.shape.n ≡ 0
+  pub rows : state.table.rows ≡ []
   pub blocks : state.blocks ≡ []
   pub counts : state.counts ≡ before
 

@@ -3,8 +3,8 @@ use Rattle.std.specs.Prelude.{◌≡◌, ◌⊎◌, ◌<◌, ◌≤◌, ◌/◌,
 use Rattle.dg_model.specs.Causes.{Rose}
 use Rattle.dg_model.specs.Members.{is_lost, SlotHolds}
 use Rattle.dg_model.specs.Sites.{has_site}
+use Rattle.dg_model.specs.Tables.{Table, empty_table, sites_in}
 use Rattle.dg_model.specs.declared.shapes.Shape.{Shape}
-use Rattle.dg_model.specs.declared.sites.Site.{Site}
 use Rattle.dg_model.specs.declared.members.MemberState.{MemberState}
 use Rattle.dg_model.specs.declared.members.MemberState.TheVariants.{Good, Out}
 
@@ -20,11 +20,11 @@ pub record CountsRise (before now : Counts) : Type 0 where
   pub calls : before.calls ≤ now.calls
   pub writes : before.writes ≤ now.writes
 
--- the blocks, each of l bytes; the sites of each block; what each member does; and the counts of the rack
+-- the array's numbers and the sites of each block; the blocks, each of l bytes; what each member does; and the counts of
+-- the rack
 pub record State : Type 0 where
-  pub shape : Shape
+  pub table : Table
   pub blocks : List (List ℕ)
-  pub sites : ℕ → List Site
   pub members : ℕ → MemberState
   pub counts : Counts
 
@@ -51,20 +51,19 @@ HasLost shape members = (s : ℕ) × (s < shape.b) × (is_lost members s ≡ tru
 
 -- what members hold stands for this list of blocks: a written block's value is at each of its sites, on each member
 -- that serves the slot and tells its bytes; a block that isn't written is zeros
-pub record StandsFor (shape : Shape) (sites : ℕ → List Site) (members : ℕ → MemberState) (bytes : ℕ → Option (List ℕ)) (blocks : List (List ℕ)) : Type 0 where
-  pub size : length blocks ≡ shape.n
-  pub blank : (b : ℕ) → b < shape.n → has_site (sites b) ≡ false → block_in blocks b ≡ zeros shape.l
-  pub held : (b : ℕ) → b < shape.n → All (λ site. SlotHolds shape.l members bytes site.boundary site.slot (block_in blocks b)) (sites b)
+pub record StandsFor (table : Table) (members : ℕ → MemberState) (bytes : ℕ → Option (List ℕ)) (blocks : List (List ℕ)) : Type 0 where
+  pub size : length blocks ≡ table.shape.n
+  pub blank : (b : ℕ) → b < table.shape.n → has_site (sites_in table b) ≡ false → block_in blocks b ≡ zeros table.shape.l
+  pub held : (b : ℕ) → b < table.shape.n → All (λ site. SlotHolds table.shape.l members bytes site.boundary site.slot (block_in blocks b)) (sites_in table b)
 
 -- the members hold the blocks of the state
 abbrev pub Holds : (ℕ → Option (List ℕ)) → State → Type 0
-Holds bytes state = StandsFor state.shape state.sites state.members bytes state.blocks
+Holds bytes state = StandsFor state.table state.members bytes state.blocks
 
 -- the blank array: no block is written, and each member of its boundaries is good, but for one that failed
 pub record IsBlank (shape : Shape) (before : Counts) (state : State) : Type 0 where
-  pub shape_is : state.shape ≡ shape
+  pub table : state.table ≡ empty_table shape
   pub blocks : state.blocks ≡ replicate shape.n (zeros shape.l)
-  pub sites : (b : ℕ) → state.sites b ≡ []
   pub others : (q : ℕ) → shape.b ≤ q / 2 → state.members q ≡ Out
   pub members : (q : ℕ) → q / 2 < shape.b → (state.members q ≡ Good) ⊎ ((state.members q ≡ Out) × Rose (before.faults q) (state.counts.faults q))
   pub counts : CountsRise before state.counts

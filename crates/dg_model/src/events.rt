@@ -11,4 +11,6 @@ pub enum Event {
     Read(u32),
     /// A member fails, given by its boundary and its side, 0 or 1.
     Fail(u32, u32),
+    /// Reads the file at a path of the volume, given by the path's bytes.
+    Cat(Bytes),
 }

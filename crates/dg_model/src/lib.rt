@@ -5,6 +5,7 @@
 mod byte_lists;
 mod events;
 mod failures;
+mod line_lists;
 mod members;
 mod replies;
 mod shapes;
@@ -13,6 +14,7 @@ mod sites;
 pub use byte_lists::Bytes;
 pub use events::Event;
 pub use failures::{Failed, NoMemory};
+pub use line_lists::Lines;
 pub use members::MemberState;
 pub use replies::Reply;
 pub use shapes::Shape;

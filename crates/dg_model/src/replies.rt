@@ -1,4 +1,5 @@
-use crate::Bytes;
+use crate::{Bytes, Lines};
+use ufs_model::PathRefusal;
 
 /// The answer to an event.
 #[derive(Debug, Drop)]
@@ -9,10 +10,16 @@ pub enum Reply {
     Range,
     /// The write was refused: a boundary is lost, or each that the block stands on was lost in this write.
     Degraded,
-    /// The block stands on lost boundaries alone.
+    /// A block that is needed stands on lost boundaries alone.
     Unavailable,
     /// The member is out already.
     Already,
     /// The bytes of a block, without the zeros at its end.
     Data(Bytes),
+    /// The bytes of a file, in lines of L bytes but for the last.
+    Given(Lines),
+    /// The first bytes of a file, in lines as before. A block that is needed for the others became gone in the middle.
+    Cut(Lines),
+    /// There is no file to read at the path.
+    Refused(PathRefusal),
 }

@@ -1,7 +1,7 @@
 -- Reading by path: the names of a path, the entries of a directory, the contents of a file. The
 -- root is `ROOTINO` of `dinode.h`; directories are those of `dir.h`. What is refused, in which
 -- order, and that a file block is always consulted whole are this project's rules.
-use Rattle.std.specs.Prelude.{◌≡◌, ℕ, zero, suc, ◌-◌, ◌*◌, ◌/◌, ◌%◌, ◌==◌, nat_lt, min, Bool, true, false, List, [], ◌∷◌, ◌++◌, Option, Some, None, Result, Ok, Err, if◌then◌else◌, filter, length, replicate, take, drop}
+use Rattle.std.specs.Prelude.{ℕ, zero, suc, ◌-◌, ◌*◌, ◌/◌, ◌%◌, ◌==◌, ◌&&◌, nat_lt, nat_le, min, Bool, true, false, List, [], ◌∷◌, ◌++◌, Option, Some, None, Result, Ok, Err, if◌then◌else◌, filter, length, replicate, take, drop}
 use Rattle.std.specs.Option.{ok_or}
 use Rattle.ufs_model.specs.Blocks.{Reading, known, area_of, ◌>>=◌}
 use Rattle.ufs_model.specs.Chunks.{DirEntry, chunk_in, find_in, is_name, used_entries}
@@ -245,7 +245,11 @@ cat_of endian l n path =
     and_then (look_from endian g (names_of path) 2) (λ found.
     contents_of endian g found.1))
 
--- a path of one name
-pub record IsOneName (path : List ℕ) : Type 0 where
-  pub slash : take 1 path ≡ 47 ∷ []
-  pub name : is_name (drop 1 path) ≡ true
+-- a name of a path: 1 to 255 bytes (`MAXNAMLEN`), none of them 0 or a slash
+unfoldable pub is_path_name : List ℕ → Bool
+is_path_name name = is_name name && nat_le (length name) 255
+
+-- a path of one name: a slash and the name
+unfoldable pub is_one_name : List ℕ → Bool
+is_one_name [] = false
+is_one_name (b ∷ name) = (b == 47) && is_path_name name

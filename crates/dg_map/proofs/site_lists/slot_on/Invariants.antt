@@ -1,5 +1,5 @@
 use Rattle.std.proofs.Common.{◌≡◌, take}
-use Rattle.dg_map.specs.Tables.{count_on}
+use Rattle.dg_model.specs.Tables.{count_on}
 use Rattle.dg_map.proofs.site_lists.slot_on.Given as goal
 
 abbrev pub invariant-loop-site : goal.invariant-loop-site

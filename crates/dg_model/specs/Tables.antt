@@ -1,11 +1,9 @@
 -- The table of sites: which slots each block stands in. The rules are this project's own.
-use Rattle.std.specs.Prelude.{◌≡◌, ◌+◌, ◌<◌, ◌≤◌, ◌==◌, ◌++◌, not, ℕ, List, [], ◌∷◌, length, slice_index_or, slice_set, replicate, count_by, Result, Ok, Err}
+use Rattle.std.specs.Prelude.{◌≡◌, ◌+◌, ◌<◌, ◌≤◌, ◌==◌, ◌++◌, not, ℕ, List, [], ◌∷◌, length, slice_index_or, slice_set, replicate, count_by}
 use Rattle.std.specs.List.{Contains, filter, sum_by}
 use Rattle.dg_model.specs.declared.shapes.Shape.{Shape}
 use Rattle.dg_model.specs.declared.sites.Site.{Site}
 use Rattle.dg_model.specs.Shapes.{IsShape}
-use Rattle.dg_map.specs.declared.faults.TakeFault.{TakeFault}
-use Rattle.dg_map.specs.declared.faults.TakeFault.TheVariants.{Full, NoMemory}
 
 -- an array's numbers, and for each of its blocks the list of its sites, in the order of taking
 pub record Table : Type 0 where
@@ -67,9 +65,3 @@ pub record IsTable (table : Table) : Type 0 where
   pub one_block : (a b s slot : ℕ) → StandsIn table a s slot → StandsIn table b s slot → a ≡ b
   pub one_site : (b s : ℕ) → count_on s (sites_in table b) ≤ 1
   pub used : (s : ℕ) → used_in table s ≤ table.shape.k + 1
-
--- the answer is `Full` exactly where so many slots are used
-abbrev pub IsFullAt : ℕ → ℕ → Result Site TakeFault → Type 0
-IsFullAt most used (Ok site) = used < most
-IsFullAt most used (Err Full) = most ≤ used
-IsFullAt most used (Err NoMemory) = used < most
