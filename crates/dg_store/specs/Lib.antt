@@ -1,3 +1,4 @@
+pub mod Evictions
 pub mod Lengths
 pub mod ReadLaws
 pub mod Rows

@@ -36,8 +36,7 @@ falls_both f g h a b c early late first second q = elim (first q) [
 module _ {R : Type 0} (counts : R → Counts) (bytes : R → ℕ → Option (List ℕ)) (named : R → ℕ) where
   pub reads_none : (s : Store R) → ReadsOn counts bytes named s s
   reads_none s = record {
-    shape = refl;
-    sites = λ c. refl;
+    table = refl;
     falls = λ q. inl refl;
     counted = record { faults = λ q. omega arith; calls = omega arith; writes = omega arith };
     writes = refl;
@@ -47,8 +46,7 @@ module _ {R : Type 0} (counts : R → Counts) (bytes : R → ℕ → Option (Lis
 
   pub reads_both : (a b c : Store R) → ReadsOn counts bytes named a b → ReadsOn counts bytes named b c → ReadsOn counts bytes named a c
   reads_both a b c first second = record {
-    shape = second.shape ∙ first.shape;
-    sites = λ k. second.sites k ∙ first.sites k;
+    table = second.table ∙ first.table;
     falls = falls_both _ _ _ _ _ _ first.counted.faults second.counted.faults first.falls second.falls;
     counted = record {
       faults = λ q. let e = first.counted.faults q in let l = second.counted.faults q in omega arith;

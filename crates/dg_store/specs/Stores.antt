@@ -1,10 +1,9 @@
 -- What a store means. The words below are all that the crates above cite; they say nothing of how a store keeps it.
-use Rattle.std.specs.Prelude.{◌/◌, ◌<◌, ◌≡◌, ◌+◌, ℕ, false, List, [], ◌∷◌, length, Option, IsSome, if◌then◌else◌, slice_index_or}
-use Rattle.dg_model.specs.Shapes.{IsShape}
-use Rattle.dg_model.specs.Sites.{fixed_site}
+use Rattle.std.specs.Prelude.{◌/◌, ◌<◌, ◌≡◌, ◌+◌, ◌^◌, ℕ, zero, suc, List, length, Option, IsSome, if◌then◌else◌}
+use Rattle.dg_model.specs.Members.{is_lost}
 use Rattle.dg_model.specs.States.{Counts, State, Holds}
+use Rattle.dg_model.specs.Tables.{Table, IsTable}
 use Rattle.dg_model.specs.declared.shapes.Shape.{Shape}
-use Rattle.dg_model.specs.declared.sites.Site.{Site}
 use Rattle.dg_model.specs.declared.members.MemberState.{MemberState}
 use Rattle.dg_model.specs.declared.members.MemberState.TheVariants.{Good}
 use Rattle.dg_pair.specs.Boundaries.{MembersFit}
@@ -15,28 +14,27 @@ use Rattle.dg_store.specs.Rows.{members_in, RowStands}
 abbrev pub rack_of : {R : Type 0} → Store R → R
 rack_of store = store.rack
 
+-- its numbers and the sites of each block
+abbrev pub table_of : {R : Type 0} → Store R → Table
+table_of store = store.map
+
 abbrev pub shape_of : {R : Type 0} → Store R → Shape
-shape_of store = store.shape
+shape_of store = store.map.shape
 
 -- what each member does
 abbrev pub members_of : {R : Type 0} → Store R → ℕ → MemberState
 members_of store = members_in store.row.items
 
--- the sites of each block
-abbrev pub sites_of : {R : Type 0} → Store R → ℕ → List Site
-sites_of store b = if slice_index_or store.written.items b false then fixed_site store.shape b ∷ [] else []
-
 -- its parts fit one another, and each member that is called is long enough where it tells its bytes
 pub record IsSound {R : Type 0} (bytes : R → ℕ → Option (List ℕ)) (store : Store R) : Type 0 where
-  pub shape : IsShape store.shape
-  pub boundaries : length store.row.items ≡ store.shape.b
-  pub stands : RowStands store.shape.l (store.shape.k + 1) store.row.items
-  pub marks : length store.written.items ≡ store.shape.n
-  pub room : MembersFit store.shape.l (store.shape.k + 1) (members_in store.row.items) (bytes store.rack)
+  pub table : IsTable store.map
+  pub boundaries : length store.row.items ≡ store.map.shape.b
+  pub stands : RowStands store.map.shape.l (store.map.shape.k + 1) store.row.items
+  pub room : MembersFit store.map.shape.l (store.map.shape.k + 1) (members_in store.row.items) (bytes store.rack)
 
 -- the state that it is in, where these are its blocks
 abbrev pub state_of : {R : Type 0} → (R → Counts) → Store R → List (List ℕ) → State
-state_of counts store blocks = record { shape = shape_of store; blocks = blocks; sites = sites_of store; members = members_of store; counts = counts (rack_of store) }
+state_of counts store blocks = record { table = table_of store; blocks = blocks; members = members_of store; counts = counts (rack_of store) }
 
 -- it stands for these blocks
 abbrev pub StandsFor : {R : Type 0} → (R → Counts) → (R → ℕ → Option (List ℕ)) → Store R → List (List ℕ) → Type 0
@@ -49,3 +47,8 @@ Tells bytes store = (q : ℕ) → members_of store q ≡ Good → IsSome (bytes 
 -- each member of the array tells its bytes
 abbrev pub TellsAll : {R : Type 0} → (R → ℕ → Option (List ℕ)) → Store R → Type 0
 TellsAll bytes store = (q : ℕ) → q / 2 < (shape_of store).b → IsSome (bytes (rack_of store) q)
+
+-- bit s for each lost boundary s below a number
+abbrev pub lost_bits : (ℕ → MemberState) → ℕ → ℕ
+lost_bits members zero = 0
+lost_bits members (suc s) = lost_bits members s + (if is_lost members s then 2 ^ s else 0)

@@ -4,12 +4,11 @@ use Rattle.dg_model.specs.Members.{MembersFall}
 use Rattle.dg_model.specs.States.{Counts, CountsRise}
 use Rattle.dg_io.specs.Told.{StillTold}
 use Rattle.dg_store.specs.declared.store.Store.{Store}
-use Rattle.dg_store.specs.Stores.{rack_of, shape_of, members_of, sites_of}
+use Rattle.dg_store.specs.Stores.{rack_of, table_of, members_of}
 
 -- the sites stay, members only fall, no count falls, and nothing was written
 pub record ReadsOn {R : Type 0} (counts : R → Counts) (bytes : R → ℕ → Option (List ℕ)) (named : R → ℕ) (old new : Store R) : Type 0 where
-  pub shape : shape_of new ≡ shape_of old
-  pub sites : (c : ℕ) → sites_of new c ≡ sites_of old c
+  pub table : table_of new ≡ table_of old
   pub falls : MembersFall (counts (rack_of old)).faults (counts (rack_of new)).faults (members_of old) (members_of new)
   pub counted : CountsRise (counts (rack_of old)) (counts (rack_of new))
   pub writes : (counts (rack_of new)).writes ≡ (counts (rack_of old)).writes

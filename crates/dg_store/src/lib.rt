@@ -3,13 +3,15 @@
 
 mod boundaries;
 mod lengths;
+mod sites;
 mod store;
 #[cfg(test)]
 mod tests;
 mod views;
 
 pub use dg_io::Fetched;
+pub use dg_map::Map;
 pub use dg_model::{Shape, Site};
-pub use dg_pair::FailAnswer;
+pub use dg_pair::{Boundary, FailAnswer};
 pub use lengths::member_length;
-pub use store::{Store, StoreWrite};
+pub use store::{PlaceAnswer, Store, StoreWrite};

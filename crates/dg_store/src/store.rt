@@ -1,17 +1,23 @@
-// Block b stands at boundary b mod B, slot b / B, on both members.
-ghost use Rattle.std.specs.Prelude.{◌≡◌, ◌↔◌, ◌+◌, ◌*◌, ◌/◌, ◌%◌, ◌≤◌, ◌<◌, ℕ, List, length, IsTrue, true, [], IfOk, OnErr, replicate, slice_set};
+// The flat array: each block stands at the sites that the map has for it, on both members of each.
+ghost use Rattle.std.specs.Prelude.{◌≡◌, ◌≢◌, ◌↔◌, ◌+◌, ◌*◌, ◌/◌, ◌≤◌, ◌<◌, ◌-◌, ℕ, List, length, IsTrue, true, false, [], IfOk, OnErr, replicate, slice_set, if◌then◌else◌};
 ghost use Rattle.dg_model.specs.Causes.{Rose};
-ghost use Rattle.dg_model.specs.Members.{MembersFall, IsStruck};
+ghost use Rattle.dg_model.specs.Members.{is_lost, MembersFall, IsStruck};
 ghost use Rattle.dg_model.specs.Shapes.{IsShape};
-ghost use Rattle.dg_model.specs.Sites.{has_site, all_lost, is_gone, first_sites};
+ghost use Rattle.dg_model.specs.Sites.{has_site, all_lost, is_gone, IsSited};
 ghost use Rattle.dg_model.specs.States.{CountsRise, IsBlank, HasLost, zeros, block_in};
+ghost use Rattle.dg_model.specs.Steps.{LosesSites};
+ghost use Rattle.dg_model.specs.Tables.{IsLowestFree, count_on, put_site, sites_in, used_in, without_site};
+ghost use Rattle.dg_model.specs.declared.sites.Site.{Site};
 ghost use Rattle.dg_io.specs.Told.{StillTold};
+ghost use Rattle.dg_pair.specs.Boundaries.{number_of, members_of as boundary_members};
 ghost use Rattle.dg_store.specs.Lengths.{length_of, IsZeroed};
-ghost use Rattle.dg_store.specs.Stores.{rack_of, shape_of, members_of, sites_of, state_of, IsSound, StandsFor, Tells};
+ghost use Rattle.dg_store.specs.Stores.{rack_of, table_of, shape_of, members_of, state_of, IsSound, StandsFor, Tells, TellsAll, lost_bits};
 
 use crate::Shape;
 use crate::boundaries::{blank_row, fail_side, has_lost, is_lost_at, read_slot, write_slot};
+use crate::sites::{GivenUp, give_first, take_back};
 use dg_io::{Fetched, NoMemory, Rack};
+use dg_map::Map;
 use dg_model::MemberState;
 use dg_pair::{Boundary, FailAnswer, PairRead, PairWrite};
 use std::alloc::Global;
@@ -20,9 +26,12 @@ use std::alloc::Global;
 #[derive(Drop)]
 pub struct Store<R> {
     rack: R,
-    shape: Shape,
+    map: Map,
     row: Vec<Boundary>,
-    written: Vec<bool>,
+    /// Room for a block that is copied.
+    block: Vec<u8>,
+    /// Room for the sites that are given up in a write. It is empty between calls.
+    given_up: Vec<GivenUp>,
 }
 
 /// What became of a write.
@@ -32,6 +41,19 @@ pub enum StoreWrite {
     Stored,
     /// All sites that the block has, or would have got, are on lost boundaries. Nothing has changed.
     AllLost,
+}
+
+/// What became of a copy of a block to a boundary.
+#[derive(Clone, Copy, Debug, PartialEq, Eq)]
+pub enum PlaceAnswer {
+    /// The block has a site there.
+    Placed,
+    /// There is no free slot, but for the spare one where that may not be used. Nothing has changed.
+    Full,
+    /// The block is gone. Its sites are as they were.
+    Gone,
+    /// The boundary of this number, the copy's, is lost. The block's sites are as they were.
+    Lost(u8),
 }
 
 impl<R: Rack> Store<R> {
@@ -48,17 +70,7 @@ impl<R: Rack> Store<R> {
         ensures tells { IfOk result (λ store. StillTold (R.bytes rack) (R.bytes (rack_of store))) }
         ensures name { IfOk result (λ store. R.name (rack_of store) ≡ R.name rack) }
     {
-        let mut rack = rack;
-        let row = blank_row(alloc, &mut rack, &shape)?;
-        match vec![in alloc; false; shape.n as usize] {
-            Ok(written) => Ok(Store {
-                rack,
-                shape,
-                row,
-                written,
-            }),
-            Err(_) => Err(NoMemory),
-        }
+        todo!()
     }
 
     /// Gives the rack back.
@@ -73,7 +85,32 @@ impl<R: Rack> Store<R> {
     pub fn shape(&self) -> &Shape
         ensures { result.now ≡ shape_of self.now }
     {
-        &self.shape
+        self.map.shape()
+    }
+
+    /// The sites of each block.
+    pub fn map(&self) -> &Map
+        ensures { result.now ≡ table_of self.now }
+    {
+        &self.map
+    }
+
+    /// A boundary, by its number.
+    pub fn boundary(&self, boundary: u8) -> &Boundary
+        requires sound { IsSound R.bytes self.now }
+        requires boundary { boundary < (shape_of self.now).b }
+        ensures number { number_of result.now ≡ boundary }
+        ensures members { (q : ℕ) → q / 2 ≡ boundary → boundary_members result.now q ≡ members_of self.now q }
+    {
+        &self.row[boundary as usize]
+    }
+
+    /// The lost boundaries: bit s for boundary s.
+    pub fn lost(&self) -> u16
+        requires { IsSound R.bytes self.now }
+        ensures { result ≡ lost_bits (members_of self.now) (shape_of self.now).b }
+    {
+        todo!()
     }
 
     /// Whether a boundary is lost.
@@ -84,14 +121,22 @@ impl<R: Rack> Store<R> {
         has_lost(&self.row)
     }
 
+    /// Whether a block is written: it was, since the array was made.
+    pub fn written(&self, block: u32) -> bool
+        requires sound { IsSound R.bytes self.now }
+        requires range { block < (shape_of self.now).n }
+        ensures { result ≡ has_site (sites_in (table_of self.now) block) }
+    {
+        !self.map.sites(block).is_empty()
+    }
+
     /// Whether a block is gone: it is written, and all its sites are on lost boundaries. It makes no call on the rack.
     pub fn is_gone(&self, block: u32) -> bool
         requires sound { IsSound R.bytes self.now }
         requires range { block < (shape_of self.now).n }
-        ensures { result ≡ is_gone (sites_of self.now) (members_of self.now) block }
+        ensures { result ≡ is_gone (table_of self.now) (members_of self.now) block }
     {
-        let boundary = block % self.shape.b as u32;
-        self.written[block as usize] && is_lost_at(&self.row, &self.shape, boundary)
+        todo!()
     }
 
     /// Makes a member fail, given by its boundary and its side, 0 or 1. It is out then, and so is one that was refilled
@@ -101,14 +146,13 @@ impl<R: Rack> Store<R> {
         requires boundary { boundary < (shape_of self.old).b }
         requires side { side < 2 }
         ensures sound { IsSound R.bytes self.new }
-        ensures shape { shape_of self.new ≡ shape_of self.old }
         ensures rack { rack_of self.new ≡ rack_of self.old }
-        ensures sites { (c : ℕ) → sites_of self.new c ≡ sites_of self.old c }
+        ensures table { table_of self.new ≡ table_of self.old }
         ensures already { (result ≡ FailAnswer.Already) ↔ (members_of self.old (2 * boundary + side) ≡ MemberState.Out) }
         ensures struck { IsStruck (2 * boundary + side) (members_of self.old) (members_of self.new) }
         ensures stands { (V : List (List ℕ)) → StandsFor R.counts R.bytes self.old V → StandsFor R.counts R.bytes self.new V }
     {
-        fail_side(&mut self.row, &self.shape, boundary, side)
+        todo!()
     }
 
     /// Reads a block. One that isn't written reads as zeros. It is gone where it is written and all its sites are on lost
@@ -118,35 +162,19 @@ impl<R: Rack> Store<R> {
         requires range { block < (shape_of self.old).n }
         requires size { length buf.old ≡ (shape_of self.old).l }
         ensures sound { IsSound R.bytes self.new }
-        ensures shape { shape_of self.new ≡ shape_of self.old }
-        ensures sites { (c : ℕ) → sites_of self.new c ≡ sites_of self.old c }
+        ensures table { table_of self.new ≡ table_of self.old }
         ensures stands { (V : List (List ℕ)) → StandsFor R.counts R.bytes self.old V → StandsFor R.counts R.bytes self.new V }
-        ensures gone { (result ≡ Fetched.Gone) ↔ (is_gone (sites_of self.new) (members_of self.new) block ≡ true) }
+        ensures gone { (result ≡ Fetched.Gone) ↔ (is_gone (table_of self.new) (members_of self.new) block ≡ true) }
         ensures got { (V : List (List ℕ)) → StandsFor R.counts R.bytes self.old V → result ≡ Fetched.Got → Tells R.bytes self.new → buf.new ≡ block_in V block }
         ensures falls { MembersFall (R.counts (rack_of self.old)).faults (R.counts (rack_of self.new)).faults (members_of self.old) (members_of self.new) }
         ensures counts { CountsRise (R.counts (rack_of self.old)) (R.counts (rack_of self.new)) }
-        ensures called { result ≡ Fetched.Got → has_site (sites_of self.old block) ≡ true → Rose (R.counts (rack_of self.old)).calls (R.counts (rack_of self.new)).calls }
-        ensures most { (R.counts (rack_of self.new)).calls ≤ (R.counts (rack_of self.old)).calls + 2 }
+        ensures called { result ≡ Fetched.Got → has_site (sites_in (table_of self.old) block) ≡ true → Rose (R.counts (rack_of self.old)).calls (R.counts (rack_of self.new)).calls }
+        ensures most { (R.counts (rack_of self.new)).calls ≤ (R.counts (rack_of self.old)).calls + 2 * length (sites_in (table_of self.old) block) }
         ensures writes { (R.counts (rack_of self.new)).writes ≡ (R.counts (rack_of self.old)).writes }
         ensures tells { StillTold (R.bytes (rack_of self.old)) (R.bytes (rack_of self.new)) }
         ensures name { R.name (rack_of self.new) ≡ R.name (rack_of self.old) }
     {
-        if !self.written[block as usize] {
-            buf.fill(0);
-            return Fetched::Got;
-        }
-        let b = self.shape.b as u32;
-        match read_slot(
-            &mut self.row,
-            &mut self.rack,
-            &self.shape,
-            block % b,
-            block / b,
-            buf,
-        ) {
-            PairRead::Got => Fetched::Got,
-            PairRead::Lost => Fetched::Gone,
-        }
+        todo!()
     }
 
     /// Writes a block of L bytes to each member of its sites that serves. A block without sites gets its first one.
@@ -156,33 +184,60 @@ impl<R: Rack> Store<R> {
         requires size { length buf.now ≡ (shape_of self.old).l }
         ensures sound { IsSound R.bytes self.new }
         ensures shape { shape_of self.new ≡ shape_of self.old }
-        ensures lost { IfOk result (λ answer. (answer ≡ StoreWrite.AllLost) ↔ (all_lost (members_of self.new) (first_sites (shape_of self.old) (sites_of self.old) block block) ≡ true)) }
-        ensures sites { IfOk result (λ answer. answer ≡ StoreWrite.Stored → (c : ℕ) → sites_of self.new c ≡ first_sites (shape_of self.old) (sites_of self.old) block c) }
+        ensures sited { IfOk result (λ answer. answer ≡ StoreWrite.Stored → IsSited (table_of self.old) block (table_of self.new)) }
+        ensures kept { IfOk result (λ answer. answer ≡ StoreWrite.Stored → all_lost (members_of self.new) (sites_in (table_of self.new) block) ≡ false) }
         ensures value { IfOk result (λ answer. answer ≡ StoreWrite.Stored → (V : List (List ℕ)) → StandsFor R.counts R.bytes self.old V → StandsFor R.counts R.bytes self.new (slice_set V block buf.now)) }
-        ensures refused { IfOk result (λ answer. answer ≡ StoreWrite.AllLost → (c : ℕ) → sites_of self.new c ≡ sites_of self.old c) }
+        ensures most { IfOk result (λ answer. answer ≡ StoreWrite.Stored → (R.counts (rack_of self.new)).calls ≤ (R.counts (rack_of self.old)).calls + 2 * length (sites_in (table_of self.new) block)) }
+        ensures lost { IfOk result (λ answer. answer ≡ StoreWrite.AllLost → LosesSites (table_of self.old) block (members_of self.new)) }
+        ensures refused { IfOk result (λ answer. answer ≡ StoreWrite.AllLost → table_of self.new ≡ table_of self.old) }
         ensures same { IfOk result (λ answer. answer ≡ StoreWrite.AllLost → (V : List (List ℕ)) → StandsFor R.counts R.bytes self.old V → StandsFor R.counts R.bytes self.new V) }
-        ensures err_sites { OnErr result ((c : ℕ) → sites_of self.new c ≡ sites_of self.old c) }
+        ensures err_written { OnErr result ((c : ℕ) → has_site (sites_in (table_of self.new) c) ≡ has_site (sites_in (table_of self.old) c)) }
         ensures err_same { OnErr result ((V : List (List ℕ)) → StandsFor R.counts R.bytes self.old V → StandsFor R.counts R.bytes self.new V) }
         ensures falls { MembersFall (R.counts (rack_of self.old)).faults (R.counts (rack_of self.new)).faults (members_of self.old) (members_of self.new) }
         ensures counts { CountsRise (R.counts (rack_of self.old)) (R.counts (rack_of self.new)) }
-        ensures most { (R.counts (rack_of self.new)).calls ≤ (R.counts (rack_of self.old)).calls + 2 }
         ensures tells { StillTold (R.bytes (rack_of self.old)) (R.bytes (rack_of self.new)) }
         ensures name { R.name (rack_of self.new) ≡ R.name (rack_of self.old) }
     {
-        let b = self.shape.b as u32;
-        match write_slot(
-            &mut self.row,
-            &mut self.rack,
-            &self.shape,
-            block % b,
-            block / b,
-            buf,
-        ) {
-            PairWrite::Kept => {
-                self.written[block as usize] = true;
-                Ok(StoreWrite::Stored)
-            }
-            PairWrite::Lost => Ok(StoreWrite::AllLost),
-        }
+        todo!()
+    }
+
+    /// Copies a written block to the lowest free slot of a boundary on which it has no site. The spare slot is used only
+    /// where that is asked for. The site is the last of the block's list then.
+    pub fn place(&mut self, block: u32, boundary: u8, spare: bool) -> Result<PlaceAnswer, NoMemory>
+        requires sound { IsSound R.bytes self.old }
+        requires range { block < (shape_of self.old).n }
+        requires boundary { boundary < (shape_of self.old).b }
+        requires written { has_site (sites_in (table_of self.old) block) ≡ true }
+        requires none { count_on boundary (sites_in (table_of self.old) block) ≡ 0 }
+        ensures sound { IsSound R.bytes self.new }
+        ensures full { IfOk result (λ answer. (answer ≡ PlaceAnswer.Full) ↔ ((if spare then (shape_of self.old).k + 1 else (shape_of self.old).k) ≤ used_in (table_of self.old) boundary)) }
+        ensures gone { IfOk result (λ answer. answer ≢ PlaceAnswer.Full → (answer ≡ PlaceAnswer.Gone) ↔ (is_gone (table_of self.old) (members_of self.new) block ≡ true)) }
+        ensures lost { IfOk result (λ answer. answer ≢ PlaceAnswer.Full → answer ≢ PlaceAnswer.Gone → (answer ≡ PlaceAnswer.Lost boundary) ↔ (is_lost (members_of self.new) boundary ≡ true)) }
+        ensures other { IfOk result (λ answer. (s : ℕ) → answer ≡ PlaceAnswer.Lost s → s ≡ boundary) }
+        ensures placed { IfOk result (λ answer. answer ≡ PlaceAnswer.Placed → (site : Site) × (site.boundary ≡ boundary) × IsLowestFree (table_of self.old) boundary site.slot × (table_of self.new ≡ put_site (table_of self.old) block site)) }
+        ensures refused { IfOk result (λ answer. answer ≢ PlaceAnswer.Placed → table_of self.new ≡ table_of self.old) }
+        ensures err { OnErr result (table_of self.new ≡ table_of self.old) }
+        ensures stands { TellsAll R.bytes self.new → (V : List (List ℕ)) → StandsFor R.counts R.bytes self.old V → StandsFor R.counts R.bytes self.new V }
+        ensures falls { MembersFall (R.counts (rack_of self.old)).faults (R.counts (rack_of self.new)).faults (members_of self.old) (members_of self.new) }
+        ensures counts { CountsRise (R.counts (rack_of self.old)) (R.counts (rack_of self.new)) }
+        ensures tells { StillTold (R.bytes (rack_of self.old)) (R.bytes (rack_of self.new)) }
+        ensures name { R.name (rack_of self.new) ≡ R.name (rack_of self.old) }
+    {
+        todo!()
+    }
+
+    /// Gives up a block's site on a boundary. It has another one. It makes no call on the rack.
+    pub fn unplace(&mut self, block: u32, boundary: u8)
+        requires sound { IsSound R.bytes self.old }
+        requires range { block < (shape_of self.old).n }
+        requires one { 0 < count_on boundary (sites_in (table_of self.old) block) }
+        requires other { 1 < length (sites_in (table_of self.old) block) }
+        ensures sound { IsSound R.bytes self.new }
+        ensures rack { rack_of self.new ≡ rack_of self.old }
+        ensures members { (q : ℕ) → members_of self.new q ≡ members_of self.old q }
+        ensures table { table_of self.new ≡ without_site (table_of self.old) block boundary }
+        ensures stands { (V : List (List ℕ)) → StandsFor R.counts R.bytes self.old V → StandsFor R.counts R.bytes self.new V }
+    {
+        self.map.drop_site(block, boundary);
     }
 }

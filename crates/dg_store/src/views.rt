@@ -1,6 +1,6 @@
 // The store as a view of its blocks.
 ghost use Rattle.dg_model.specs.Sites.{is_gone};
-ghost use Rattle.dg_store.specs.Stores.{shape_of, members_of, sites_of, IsSound, StandsFor, TellsAll};
+ghost use Rattle.dg_store.specs.Stores.{shape_of, table_of, members_of, IsSound, StandsFor, TellsAll};
 ghost use Rattle.dg_store.specs.Views.{ReadsOn};
 ghost use Rattle.dg_store.specs.ReadLaws.{reads_none, reads_both};
 
@@ -12,7 +12,7 @@ impl<R: Rack> View for Store<R> {
 
     ghost tells = { λ s. TellsAll R.bytes s };
 
-    ghost is_gone = { λ s b. is_gone (sites_of s) (members_of s) b };
+    ghost is_gone = { λ s b. is_gone (table_of s) (members_of s) b };
 
     ghost count = { λ s. (shape_of s).n };
 
@@ -21,6 +21,8 @@ impl<R: Rack> View for Store<R> {
     ghost is_sound = { λ s. IsSound R.bytes s };
 
     ghost goes_on = { λ a b. ReadsOn R.counts R.bytes R.name a b };
+
+    ghost fetched = { λ _ _ _. Unit {0} };
 
     fn fetch(&mut self, block: u32, buf: &mut [u8]) -> Fetched {
         self.read(block, buf)
@@ -38,4 +40,8 @@ impl<R: Rack> View for Store<R> {
     ghost unchanged = { λ s. reads_none R.counts R.bytes R.name s };
 
     ghost further = { λ a b c first second. reads_both R.counts R.bytes R.name a b c first second };
+
+    ghost fetched_none = { λ s. tt };
+
+    ghost fetched_both = { λ a b c x y first second. tt };
 }
