@@ -16,12 +16,12 @@ use Rattle.dg_model.specs.Members.{MembersFall, IsStruck}
 use Rattle.dg_model.specs.declared.members.MemberState.{MemberState}
 use Rattle.dg_model.specs.declared.members.MemberState.TheVariants.{Out}
 use Rattle.std.proofs.lemmas.Bool.{cases_lt, cases_eq}
-use Rattle.dg_store.specs.Stores.{rack_of, shape_of, members_of, Tells}
+use Rattle.dg_store.specs.Stores.{rack_of, shape_of, members_of, Tells, TellsAll}
 use Rattle.dg_text.specs.Lines.{line_of, input_of, IsInPlace}
 use Rattle.dg_text.specs.Replies.{reply_line, output_of}
 use Rattle.dg_run.specs.Events.{IsRefused}
 use Rattle.dg_run.specs.Lines.{BeginsAll, Served, ServedLine, AllServed, ServedTo, Turned, LinesEndAt}
-use Rattle.dg_run.specs.Stores.{StepsTo, RunsTo, TellsAll, IsReady, GoesOn}
+use Rattle.dg_run.specs.Stores.{StepsTo, RunsTo, IsReady, GoesOn}
 use Rattle.dg_run.specs.declared.lines.Turn.{Turn}
 use Rattle.dg_run.specs.declared.lines.Turn.TheVariants.{Served as turn_served, End as turn_end, Refused as turn_refused}
 use Rattle.dg_run.specs.declared.lines.LinesEnd.{LinesEnd}

@@ -5,9 +5,10 @@ use Rattle.std.proofs.lemmas.List.{append_cancel_left}
 use Rattle.std.proofs.lemmas.List.Concat.{flat_map-append}
 use Rattle.dg_model.specs.Shapes.{IsShape}
 use Rattle.dg_model.specs.States.{Counts, State, IsBlank, zeros}
+use Rattle.dg_model.specs.Tables.{Table}
 use Rattle.dg_model.specs.declared.shapes.Shape.{Shape}
 use Rattle.dg_model.specs.declared.events.Event.{Event}
-use Rattle.dg_model.specs.declared.events.Event.TheVariants.{Array, Write, Read, Fail}
+use Rattle.dg_model.specs.declared.events.Event.TheVariants.{Array, Write, Read, Fail, Cat}
 use Rattle.dg_model.specs.declared.replies.Reply.{Reply}
 use Rattle.dg_model.specs.declared.replies.Reply.TheVariants.{Done}
 use Rattle.dg_model.specs.declared.members.MemberState.TheVariants.{Out}
@@ -40,7 +41,7 @@ module _ {R : Type 0} (counts : R → Counts) (bytes : R → ℕ → Option (Lis
   ran events x z t v served budget =
       let W = served.runs (replicate shape.n (zeros shape.l)) stands in
       record {
-        in_place = (well, subst (λ (s : Shape). All (IsInPlace (Some s)) events) blank.shape_is served.in_place);
+        in_place = (well, subst (λ (s : Shape). All (IsInPlace (Some s)) events) (ap (λ (t : Table). t.shape) blank.table) served.in_place);
         budget = omega (arith, length-append (line_of (Array shape)) (input_of events));
         final = state_of counts b W.0;
         trace = λ told. (state_of counts a (replicate shape.n (zeros shape.l)), blank, W.2 told);
@@ -69,8 +70,8 @@ module _ {R : Type 0} (counts : R → Counts) (bytes : R → ℕ → Option (Lis
           q,
           record {
             lines = f.lines;
-            refused = subst (λ (n : ℕ). IsRefused (Some shape) n q) room (subst (λ (h : Shape). IsRefused (Some h) (2 ^ 40 - (first + length (input_of s.events))) q) blank.shape_is refused);
-            only = λ others placed made. f.only others (subst (λ (h : Shape). All (IsInPlace (Some h)) others) (sym blank.shape_is) placed) made;
+            refused = subst (λ (n : ℕ). IsRefused (Some shape) n q) room (subst (λ (h : Shape). IsRefused (Some h) (2 ^ 40 - (first + length (input_of s.events))) q) (ap (λ (t : Table). t.shape) blank.table) refused);
+            only = λ others placed made. f.only others (subst (λ (h : Shape). All (IsInPlace (Some h)) others) (sym (ap (λ (t : Table). t.shape) blank.table)) placed) made;
           },
         )) x s.middle z s.served.input s.refused;
         output = took_last (output_of (Done ∷ s.served.replies)) (refusal (length s.events + 2) Form) t to.before v
@@ -104,6 +105,7 @@ module _ (before now : Counts) (bytes : ℕ → Option (List ℕ)) (shape : Shap
   no_input events a b text line cut (Write n bs ∷ es) input is = absurd input.in_place
   no_input events a b text line cut (Read n ∷ es) input is = absurd input.in_place
   no_input events a b text line cut (Fail s j ∷ es) input is = absurd input.in_place
+  no_input events a b text line cut (Cat path ∷ es) input is = absurd input.in_place
   no_input events a b text line cut (Array s ∷ es) input is =
       let same : Array s ≡ Array shape = line.only (Array s) (input_of es) input.in_place.0 is in
       let shapes : s ≡ shape = cc same in
@@ -128,7 +130,7 @@ module _ (before now : Counts) (bytes : ℕ → Option (List ℕ)) (shape : Shap
   }
 
 unmade : Counts → State
-unmade now = record { shape = record { l = 0; n = 0; b = 0; k = 0; m = 0 }; blocks = []; sites = λ b. []; members = λ q. Out; counts = now }
+unmade now = record { table = record { shape = record { l = 0; n = 0; b = 0; k = 0; m = 0 }; rows = [] }; blocks = []; members = λ q. Out; counts = now }
 
 -- the text begins with no line of an event that may stand first and keeps to the budget
 abbrev pub IsNoFirst : List ℕ → Type 0
@@ -139,6 +141,7 @@ first_no_input text none [] input is = input.some refl
 first_no_input text none (Write n bs ∷ es) input is = input.in_place
 first_no_input text none (Read n ∷ es) input is = input.in_place
 first_no_input text none (Fail s j ∷ es) input is = input.in_place
+first_no_input text none (Cat path ∷ es) input is = input.in_place
 first_no_input text none (Array s ∷ es) input is =
     let over = none (Array s) (input_of es) input.in_place.0 is in
     let budget = input.budget in
@@ -159,7 +162,7 @@ stopped_first now bytes x z t v refused output = record {
     in_place = tt;
     budget = omega arith;
     final = unmade now;
-    trace = λ told. record { boundaries = refl; size = refl; blocks = refl; counts = refl };
+    trace = λ told. record { boundaries = refl; size = refl; rows = refl; blocks = refl; counts = refl };
     holds = record { size = refl; blank = λ b h e. absurd (omega arith); held = λ b h. absurd (omega arith) };
     counts = refl;
   };

@@ -4,7 +4,7 @@ use Rattle.dg_model.specs.States.{Counts, State, Holds}
 use Rattle.dg_model.specs.Runs.{Trace}
 use Rattle.dg_model.specs.declared.shapes.Shape.{Shape}
 use Rattle.dg_model.specs.declared.events.Event.{Event}
-use Rattle.dg_model.specs.declared.events.Event.TheVariants.{Array, Write, Read, Fail}
+use Rattle.dg_model.specs.declared.events.Event.TheVariants.{Array, Write, Read, Fail, Cat}
 use Rattle.dg_model.specs.declared.replies.Reply.{Reply}
 use Rattle.dg_io.specs.Told.{Told, Took}
 use Rattle.dg_text.specs.Lines.{line_of, input_of, IsInPlace, AreInPlace}
@@ -18,6 +18,7 @@ shape_after (Array shape ∷ events) = Some shape
 shape_after (Write b bytes ∷ events) = None
 shape_after (Read b ∷ events) = None
 shape_after (Fail s j ∷ events) = None
+shape_after (Cat path ∷ events) = None
 
 -- The events are in their places, and their lines keep to the budget of 2^40 bytes. They had these replies, in steps of
 -- the flat array from nothing to a state that the rack holds, its counts among it. The steps are known where each member
@@ -26,7 +27,7 @@ pub record Ran (before now : Counts) (bytes : ℕ → Option (List ℕ)) (events
   pub in_place : AreInPlace events
   pub budget : length (input_of events) ≤ 2 ^ 40
   pub final : State
-  pub trace : ((q : ℕ) → q / 2 < final.shape.b → IsSome (bytes q)) → Trace before events replies final
+  pub trace : ((q : ℕ) → q / 2 < final.table.shape.b → IsSome (bytes q)) → Trace before events replies final
   pub holds : Holds bytes final
   pub counts : final.counts ≡ now
 

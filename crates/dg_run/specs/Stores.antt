@@ -1,5 +1,5 @@
 -- A store beside the model's states.
-use Rattle.std.specs.Prelude.{◌≡◌, ◌/◌, ◌<◌, ◌≤◌, ℕ, List, Option, IsSome}
+use Rattle.std.specs.Prelude.{◌≡◌, ◌/◌, ◌≤◌, ℕ, List, Option}
 use Rattle.dg_model.specs.States.{Counts}
 use Rattle.dg_model.specs.Steps.{Step}
 use Rattle.dg_model.specs.Runs.{Run}
@@ -8,17 +8,13 @@ use Rattle.dg_model.specs.declared.events.Event.{Event}
 use Rattle.dg_model.specs.declared.replies.Reply.{Reply}
 use Rattle.dg_io.specs.Told.{Told, Took, StillTold}
 use Rattle.dg_store.specs.declared.store.Store.{Store}
-use Rattle.dg_store.specs.Stores.{rack_of, shape_of, members_of, state_of, IsSound, StandsFor}
+use Rattle.dg_store.specs.Stores.{rack_of, shape_of, members_of, state_of, IsSound, StandsFor, TellsAll}
 use Rattle.dg_text.specs.Replies.{reply_line}
 
 -- the store is sound, and only members of its boundaries are called
 pub record IsReady {R : Type 0} (bytes : R → ℕ → Option (List ℕ)) (store : Store R) : Type 0 where
   pub sound : IsSound bytes store
   pub others : (q : ℕ) → (shape_of store).b ≤ q / 2 → members_of store q ≡ Out
-
--- each member of its boundaries tells its bytes
-abbrev pub TellsAll : {R : Type 0} → (R → ℕ → Option (List ℕ)) → Store R → Type 0
-TellsAll bytes store = (q : ℕ) → q / 2 < (shape_of store).b → IsSome (bytes (rack_of store) q)
 
 -- whichever blocks the store stood for, it made a step from them, and stands for those that the step left
 abbrev pub StepsTo : {R : Type 0} → (R → Counts) → (R → ℕ → Option (List ℕ)) → Store R → Event → Reply → Store R → Type 0

@@ -5,11 +5,15 @@
 //! that is refused (`lines`, `top`).
 #![tactic(auto)]
 
+mod buffers;
+mod cats;
 mod events;
 mod input;
 mod lines;
 mod pieces;
 mod serve;
+#[cfg(test)]
+mod cat_tests;
 #[cfg(test)]
 mod tests;
 mod top;

@@ -4,9 +4,11 @@ ghost use Rattle.dg_io.specs.Told.{Told, IsSame};
 ghost use Rattle.dg_model.specs.Causes.{Rose};
 ghost use Rattle.dg_store.specs.Stores.{shape_of};
 ghost use Rattle.dg_run.specs.Inputs.{ahead};
+ghost use Rattle.dg_run.specs.Buffers.{AreFor};
 ghost use Rattle.dg_run.specs.Stores.{IsReady, GoesOn};
 ghost use Rattle.dg_run.specs.Lines.{Turned, LinesEndAt};
 
+use crate::buffers::Buffers;
 use crate::events::{Fault, Taken, take_event};
 use crate::input::Input;
 use crate::serve::serve;
@@ -44,12 +46,13 @@ fn serve_next<S: Source, K: Sink, R: Rack>(
     source: &mut S,
     sink: &mut K,
     store: &mut Store<R>,
-    block: &mut [u8],
+    buffers: &mut Buffers,
     room: u64,
 ) -> Result<Turn, Fault>
     requires ready { IsReady R.bytes store.old }
-    requires size { length block.old ≡ (shape_of store.old).l }
+    requires buffers { AreFor (shape_of store.old).l buffers.old }
     ensures goes { GoesOn R.bytes R.name store.old store.new }
+    ensures buffers { AreFor (shape_of store.old).l buffers.new }
     ensures turned { IfOk result (Turned R.counts R.bytes room (ahead input.old (S.left source.old)) (ahead input.new (S.left source.new)) (K.taken sink.old) (K.taken sink.new) store.old store.new) }
     ensures source_later { S.faults source.old ≤ S.faults source.new }
     ensures sink_later { K.faults sink.old ≤ K.faults sink.new }
@@ -58,7 +61,7 @@ fn serve_next<S: Source, K: Sink, R: Rack>(
 {
     match take_event(alloc, input, source, Some(store.shape()), room)? {
         Taken::Event(event, bytes) => {
-            serve(store, sink, &event, block)?;
+            serve(store, sink, &event, buffers)?;
             Ok(Turn::Served(bytes))
         }
         Taken::End => Ok(Turn::End),
@@ -74,11 +77,11 @@ pub fn serve_lines<S: Source, K: Sink, R: Rack>(
     source: &mut S,
     sink: &mut K,
     store: &mut Store<R>,
-    block: &mut [u8],
+    buffers: &mut Buffers,
     first: u64,
 ) -> Result<LinesEnd, Fault>
     requires ready { IsReady R.bytes store.old }
-    requires size { length block.old ≡ (shape_of store.old).l }
+    requires buffers { AreFor (shape_of store.old).l buffers.old }
     requires first { first ≤ 2 ^ 40 }
     ensures goes { GoesOn R.bytes R.name store.old store.new }
     ensures end { IfOk result (LinesEndAt R.counts R.bytes first (ahead input.old (S.left source.old)) (ahead input.new (S.left source.new)) (K.taken sink.old) (K.taken sink.new) store.old store.new) }
@@ -90,7 +93,7 @@ pub fn serve_lines<S: Source, K: Sink, R: Rack>(
     let mut passed = first;
     let mut number = 2;
     while passed <= BUDGET {
-        match serve_next(alloc, input, source, sink, store, block, BUDGET - passed)? {
+        match serve_next(alloc, input, source, sink, store, buffers, BUDGET - passed)? {
             Turn::Served(bytes) => {
                 passed += bytes;
                 number += 1;

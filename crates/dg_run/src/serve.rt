@@ -6,8 +6,11 @@ ghost use Rattle.dg_store.specs.Stores.{shape_of};
 ghost use Rattle.dg_text.specs.Lines.{IsInPlace};
 ghost use Rattle.dg_text.specs.Replies.{IsShort, reply_line};
 ghost use Rattle.dg_io.specs.Told.{Told, Took};
+ghost use Rattle.dg_run.specs.Buffers.{AreFor};
 ghost use Rattle.dg_run.specs.Stores.{IsReady, GoesOn, StepsTo, Answered};
 
+use crate::buffers::Buffers;
+use crate::cats::serve_cat;
 use crate::events::Fault;
 use dg_io::{Rack, Sink};
 use dg_model::{Bytes, Event, NoMemory, Reply};
@@ -183,21 +186,23 @@ pub fn serve<R: Rack, K: Sink>(
     store: &mut Store<R>,
     sink: &mut K,
     event: &Event,
-    block: &mut [u8],
+    buffers: &mut Buffers,
 ) -> Result<(), Fault>
     requires ready { IsReady R.bytes store.old }
-    requires size { length block.old ≡ (shape_of store.old).l }
+    requires buffers { AreFor (shape_of store.old).l buffers.old }
     requires in_place { IsInPlace (Some (shape_of store.old)) event.now }
     ensures goes { GoesOn R.bytes R.name store.old store.new }
+    ensures buffers { AreFor (shape_of store.old).l buffers.new }
     ensures answered { OnOk result (Answered R.counts R.bytes event.now (K.taken sink.old) (K.taken sink.new) store.old store.new) }
     ensures later { K.faults sink.old ≤ K.faults sink.new }
     ensures read { result ≡ Err Fault.Read → ⊥ }
     ensures write { result ≡ Err Fault.Write → Rose (K.faults sink.old) (K.faults sink.new) }
 {
     match event {
-        Event::Write(b, bytes) => serve_write(store, sink, *b, bytes, block),
-        Event::Read(b) => serve_read(store, sink, *b, block),
+        Event::Write(b, bytes) => serve_write(store, sink, *b, bytes, &mut buffers.block),
+        Event::Read(b) => serve_read(store, sink, *b, &mut buffers.block),
         Event::Fail(s, j) => serve_fail(store, sink, *s, *j),
+        Event::Cat(path) => serve_cat(store, sink, path, &mut buffers.levels),
         Event::Array(_) => unreachable!(),
     }
 }

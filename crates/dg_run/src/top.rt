@@ -13,6 +13,7 @@ ghost use Rattle.dg_run.specs.Arrays.{AllAnswered, AnsweredTo, ArrayReplayed, Ar
 ghost use Rattle.dg_model.specs.Shapes.{IsShape};
 ghost use Rattle.dg_model.specs.declared.events.Event.{Event};
 
+use crate::buffers::Buffers;
 use crate::events::{Fault, Taken, take_event};
 use crate::input::Input;
 use crate::lines::{BUDGET, LinesEnd, serve_lines};
@@ -123,13 +124,13 @@ fn serve_array<S: Source, K: Sink, R: Rack>(
     ensures sink_later { K.faults sink.old ≤ K.faults sink.new }
     ensures never { IsOfReplay result }
 {
-    let Ok(mut block) = vec![in alloc; 0u8; store.shape().l as usize] else {
+    let Ok(mut buffers) = Buffers::new(alloc, store.shape().l) else {
         return Status::NoMemory;
     };
     let Ok(()) = send(sink, &Reply::Done) else {
         return Status::WriteFault;
     };
-    match serve_lines(alloc, input, source, sink, store, &mut block, first) {
+    match serve_lines(alloc, input, source, sink, store, &mut buffers, first) {
         Ok(LinesEnd::Input) => Status::Done,
         Ok(LinesEnd::Refused(number)) => refuse(sink, number),
         Err(fault) => status_of(fault),

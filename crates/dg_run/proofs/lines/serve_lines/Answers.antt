@@ -1,4 +1,6 @@
-use Rattle.std.proofs.Common.{◌∙◌, arith}
+use Rattle.std.proofs.Common.{subst, arith}
+use Rattle.dg_model.specs.declared.shapes.Shape.{Shape}
+use Rattle.dg_run.specs.Buffers.{AreFor}
 use Rattle.dg_run.proofs.Inputs.{line_some}
 use Rattle.dg_run.proofs.Runs.{so_far_none, so_far_next, turned_served, lines_end, goes_none, goes_then}
 use Rattle.dg_run.proofs.lines.serve_lines.Goals as goal
@@ -6,7 +8,7 @@ use Rattle.dg_run.proofs.lines.serve_lines.Goals as goal
 pub loop-passed-init : goal.loop-passed-init
 loop-passed-init g c = record {
   goes = goes_none g.R.Rack.counts g.R.Rack.bytes g.R.Rack.name c.args.store.now c.requires.ready;
-  size = c.requires.size;
+  buffers = c.requires.buffers;
   budget = c.requires.first;
   number = omega arith;
   so_far = so_far_none g.R.Rack.counts g.R.Rack.bytes _ c.args.first _ _ _;
@@ -22,7 +24,7 @@ loop-passed-preserved g c =
     let some = line_some line.event in
     record {
       goes = goes_then g.R.Rack.counts g.R.Rack.bytes g.R.Rack.name _ _ _ inv.goes e.goes;
-      size = c.serve_next.auto.block ∙ inv.size;
+      buffers = subst (λ (s : Shape). AreFor s.l c.serve_next.new.buffers) inv.goes.shape c.in_ok-bytes.ensures.buffers;
       budget = omega (arith, line.within, inv.budget);
       number = omega (arith, line.size, inv.number);
       so_far = so_far_next g.R.Rack.counts g.R.Rack.bytes _ _ c.args.first _ _ _ c.in-Served.bytes _ _ _ _ _ _ _ _ _ inv.goes.shape inv.so_far line e.goes.shape e.goes.tells;

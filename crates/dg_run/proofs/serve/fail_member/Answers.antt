@@ -1,5 +1,6 @@
 use Rattle.std.proofs.Common.{◌≡◌, ℕ, refl, ap, arith}
 use Rattle.dg_model.specs.declared.shapes.Shape.{Shape}
+use Rattle.dg_model.specs.Tables.{Table}
 use Rattle.dg_store.specs.Stores.{shape_of}
 use Rattle.dg_run.proofs.Runs.{struck_falls, counts_stay}
 use Rattle.dg_run.proofs.serve.fail_member.Goals as goal
@@ -15,9 +16,9 @@ returns-in-Already-clause-steps g c V st =
         record { boundary = omega arith; side = omega arith },
         out,
         record {
-          goes = record { shape = k.shape; counts = counts_stay _ _ (ap g.R.Rack.counts k.rack); members = struck_falls _ _ _ _ _ out k.struck };
+          goes = record { shape = ap (λ (t : Table). t.shape) k.table; counts = counts_stay _ _ (ap g.R.Rack.counts k.rack); members = struck_falls _ _ _ _ _ out k.struck };
           blocks = refl;
-          sites = k.sites;
+          table = k.table;
         },
       ),
     )

@@ -2,6 +2,7 @@ use Rattle.std.proofs.Common.{◌≡◌, ◌<◌, ◌≤◌, ◌/◌, ℕ, List,
 use Rattle.dg_model.specs.declared.shapes.Shape.{Shape}
 use Rattle.dg_model.specs.declared.replies.Reply.TheVariants.{Unavailable, Data}
 use Rattle.dg_model.specs.States.{IsTrimmed}
+use Rattle.dg_model.specs.Tables.{Table}
 use Rattle.dg_store.specs.Stores.{shape_of}
 use Rattle.dg_run.proofs.Answers.{answered}
 use Rattle.dg_run.proofs.Runs.{others_stay, tells_good, false_of}
@@ -21,8 +22,8 @@ returns-in-Got-clause-answered g c =
       λ told. (
         within,
         false_of _ (λ gone. cc (k.gone.1 gone)),
-        subst (λ (v : List ℕ). IsTrimmed c.trimmed.result.now v) (k.got V st refl (tells_good g.R.Rack.bytes c.read.new.self (λ q h. out q (subst (λ (x : Shape). x.b ≤ q / 2) k.shape h)) told)) c.trimmed.ensures,
-        record { goes = record { shape = k.shape; counts = k.counts; members = k.falls }; blocks = refl; sites = k.sites },
+        subst (λ (v : List ℕ). IsTrimmed c.trimmed.result.now v) (k.got V st refl (tells_good g.R.Rack.bytes c.read.new.self (λ q h. out q (subst (λ (x : Shape). x.b ≤ q / 2) (ap (λ (t : Table). t.shape) k.table) h)) told)) c.trimmed.ensures,
+        record { goes = record { shape = ap (λ (t : Table). t.shape) k.table; counts = k.counts; members = k.falls }; blocks = refl; table = k.table },
       ),
     ))
     c.send_data.ensures.ok
@@ -40,7 +41,7 @@ returns-in-Gone-clause-answered g c =
       λ told. (
         within,
         k.gone.0 refl,
-        record { goes = record { shape = k.shape; counts = k.counts; members = k.falls }; blocks = refl; sites = k.sites },
+        record { goes = record { shape = ap (λ (t : Table). t.shape) k.table; counts = k.counts; members = k.falls }; blocks = refl; table = k.table },
       ),
     ))
     c.send-in-Gone.ensures.ok

@@ -18,7 +18,7 @@ returns-in-Stored-clause-steps g c V st =
       λ told. (
         within,
         λ lost. cc (c.if-is_degraded.ensures.1 lost),
-        record { goes = record { shape = k.shape; counts = k.counts; members = k.falls }; blocks = refl; sites = k.sites c.in-Stored.is },
+        record { goes = record { shape = k.shape; counts = k.counts; members = k.falls }; blocks = refl; table = k.sited c.in-Stored.is },
       ),
     )
 
@@ -32,7 +32,7 @@ returns-in-AllLost-clause-steps g c V st =
       k.same c.in-AllLost.is V st,
       λ told. (
         within,
-        inr (k.lost.0 c.in-AllLost.is),
-        record { goes = record { shape = k.shape; counts = k.counts; members = k.falls }; blocks = refl; sites = k.refused c.in-AllLost.is },
+        inr (k.lost c.in-AllLost.is),
+        record { goes = record { shape = k.shape; counts = k.counts; members = k.falls }; blocks = refl; table = k.refused c.in-AllLost.is },
       ),
     )
