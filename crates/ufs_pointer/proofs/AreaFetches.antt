@@ -1,5 +1,5 @@
 -- The blocks that are consulted for blocks end to end.
-use Rattle.std.proofs.Common.{◌≡◌, ◌∙◌, ℕ, zero, suc, ◌+◌, ◌-◌, ◌≤◌, List, [], ◌∷◌, ◌++◌, Bool, true, false, refl, sym, ap, subst, arith}
+use Rattle.std.proofs.Common.{◌≡◌, ◌∙◌, ℕ, zero, suc, ◌+◌, ◌-◌, ◌<◌, ◌≤◌, List, [], ◌∷◌, ◌++◌, Bool, true, false, refl, sym, ap, subst, arith}
 use Rattle.std.specs.Bool.{then_some}
 use Rattle.std.specs.List.{range_with_len}
 use Rattle.ufs_model.specs.Blocks.{Volume, area_of, bind}
@@ -32,17 +32,23 @@ fetched_more fetched a i s t u both so_far one =
     subst (λ blocks. fetched s blocks u) (sym (range_more a i (a + i) refl)) (both s t u (range_with_len a i) ((a + i) ∷ []) so_far one)
 
 -- all of them
-pub area_whole : {S : Type 0} (fetched : S → List ℕ → S → Type 0) (a i k : ℕ) (old new : S) → i ≤ k → k ≤ i → fetched old (range_with_len a i) new → FetchesArea fetched a k true old new
-area_whole fetched a i k old new most least all = record { number = i; most = most; all = λ is. omega arith; were = all }
+pub area_whole : {S : Type 0} (fetched : S → List ℕ → S → Type 0) (gone : ℕ → Bool) (a i k : ℕ) (old new : S) → i ≤ k → k ≤ i → fetched old (range_with_len a i) new → FetchesArea fetched gone a k true old new
+area_whole fetched gone a i k old new most least all = record { number = i; most = most; all = λ is. omega arith; cut = λ is. let no : true ≡ false = is in cc; were = all }
 
--- some of them
-pub area_cut : {S : Type 0} (fetched : S → List ℕ → S → Type 0) (a i k : ℕ) (old new : S) → i ≤ k → fetched old (range_with_len a i) new → FetchesArea fetched a k false old new
-area_cut fetched a i k old new most some = record { number = i; most = most; all = λ is. let no : false ≡ true = is in cc; were = some }
+-- some of them, up to number i, which is gone
+pub area_cut : {S : Type 0} (fetched : S → List ℕ → S → Type 0) (gone : ℕ → Bool) (a i k : ℕ) (old new : S) → i < k → gone (a + i) ≡ true → fetched old (range_with_len a (suc i)) new → FetchesArea fetched gone a k false old new
+area_cut fetched gone a i k old new most here some = record {
+  number = suc i;
+  most = most;
+  all = λ is. let no : false ≡ true = is in cc;
+  cut = λ is. (omega arith, let same : suc i - 1 ≡ i = omega arith in rw same here);
+  were = some;
+}
 
 -- ---- the reading
 
-pub area_fetches : {S : Type 0} {fetched : S → List ℕ → S → Type 0} {stands : Volume → Type 0} {tells : Type 0} {old new : S} (l a k : ℕ) (could : Bool) (bytes : List ℕ)
-    → FetchesArea fetched a k could old new → Fetches fetched stands tells (area_of l a k) (then_some could bytes) old new
+pub area_fetches : {S : Type 0} {fetched : S → List ℕ → S → Type 0} {stands : Volume → Type 0} {tells : Type 0} {gone : ℕ → Bool} {old new : S} (l a k : ℕ) (could : Bool) (bytes : List ℕ)
+    → FetchesArea fetched gone a k could old new → Fetches fetched stands tells (area_of l a k) (then_some could bytes) old new
 area_fetches l a k true bytes h = record {
   blocks = range_with_len a h.number;
   were = h.were;

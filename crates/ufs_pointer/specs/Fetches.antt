@@ -1,5 +1,5 @@
 -- Which blocks of a view a reader fetched.
-use Rattle.std.specs.Prelude.{◌≡◌, ◌≤◌, ◌++◌, ℕ, List, Bool, true, Option, Some, None}
+use Rattle.std.specs.Prelude.{◌≡◌, ◌+◌, ◌-◌, ◌≤◌, ◌++◌, ℕ, List, Bool, true, false, Option, Some, None}
 use Rattle.std.specs.List.{range_with_len}
 use Rattle.ufs_model.specs.Blocks.{Volume, Consulted, Reading}
 
@@ -20,9 +20,11 @@ pub record Fetches {S A : Type 0} (fetched : S → List ℕ → S → Type 0) (s
   pub were : fetched old blocks new
   pub consulted : tells → (v : Volume) → stands v → IsConsulted (d v) result blocks
 
--- The first of k blocks from a on were fetched, in order: all of them where the answer is that they could be.
-pub record FetchesArea {S : Type 0} (fetched : S → List ℕ → S → Type 0) (a k : ℕ) (could : Bool) (old new : S) : Type 0 where
+-- The first of k blocks from a on were fetched, in order: all of them where the answer is that they could be, and else up to one
+-- that is gone.
+pub record FetchesArea {S : Type 0} (fetched : S → List ℕ → S → Type 0) (gone : ℕ → Bool) (a k : ℕ) (could : Bool) (old new : S) : Type 0 where
   pub number : ℕ
   pub most : number ≤ k
   pub all : could ≡ true → number ≡ k
+  pub cut : could ≡ false → (1 ≤ number) × (gone (a + (number - 1)) ≡ true)
   pub were : fetched old (range_with_len a number) new

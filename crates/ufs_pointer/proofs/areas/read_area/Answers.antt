@@ -31,7 +31,7 @@ loop-i-preserved g c = let so_far = c.loop-i.invariant.keeps in record {
 
 pub returns-then-not-fetch_at-clause-area : goal.returns-then-not-fetch_at-clause-area
 returns-then-not-fetch_at-clause-area g c =
-    area_cut g.V.View.fetched c.args.a (suc c.loop-i.i) c.args.k c.args.view.now c.fetch_at.new.view (omega arith)
+    area_cut g.V.View.fetched (g.V.View.is_gone c.fetch_at.new.view) c.args.a c.loop-i.i c.args.k c.args.view.now c.fetch_at.new.view (omega arith) (c.fetch_at.ensures.gone c.if-not-fetch_at.true)
     (fetched_more g.V.View.fetched c.args.a c.loop-i.i c.args.view.now c.loop-i.view c.fetch_at.new.view g.met.V.View.fetched_both c.loop-i.invariant.were c.fetch_at.ensures.fetched)
 
 pub returns-then-not-fetch_at-clause-fetched : goal.returns-then-not-fetch_at-clause-fetched
@@ -39,4 +39,4 @@ returns-then-not-fetch_at-clause-fetched g c = area_fetches (g.V.View.size c.arg
 
 pub returns-clause-fetched : goal.returns-clause-fetched
 returns-clause-fetched g c = area_fetches (g.V.View.size c.args.view.now) c.args.a c.args.k true c.loop-i.buf
-    (area_whole g.V.View.fetched c.args.a c.loop-i.i c.args.k c.args.view.now c.loop-i.view c.loop-i.auto.i-end c.loop-i-test.false c.loop-i.invariant.were)
+    (area_whole g.V.View.fetched (g.V.View.is_gone c.loop-i.view) c.args.a c.loop-i.i c.args.k c.args.view.now c.loop-i.view c.loop-i.auto.i-end c.loop-i-test.false c.loop-i.invariant.were)
