@@ -1,3 +1,5 @@
 pub mod Chains
 pub mod Addresses
 pub mod Buffers
+pub mod Fetches
+pub mod FetchLaws

@@ -1,8 +1,9 @@
-ghost use Rattle.std.specs.Prelude.{◌≡◌, ◌+◌, ◌*◌, ◌<◌, ◌≤◌, drop, length, take};
+ghost use Rattle.std.specs.Prelude.{◌≡◌, ◌+◌, ◌*◌, ◌<◌, ◌≤◌, ◌∷◌, [], false, true, drop, length, take};
 ghost use Rattle.std.specs.Bool.{then_some};
 ghost use Rattle.dg_io.specs.Views.{KeepsView};
 ghost use Rattle.ufs_model.specs.Blocks.{area_of, consult};
 ghost use Rattle.ufs_model.specs.Readings.{ReadsAs};
+ghost use Rattle.ufs_pointer.specs.Fetches.{Fetches, FetchesArea};
 
 use dg_io::{Fetched, View};
 
@@ -17,6 +18,8 @@ fn fetch_at<V: View>(view: &mut V, block: u32, start: usize, size: usize, buf: &
     ensures front { take start buf.new ≡ take start buf.old }
     ensures rule { ReadsAs (V.stands_for view.old) (V.is_gone view.old) (V.tells view.new) (V.is_gone view.new)
         (consult (V.size view.old) block) (then_some result (take size (drop start buf.new))) }
+    ensures gone { result ≡ false → V.is_gone view.new block ≡ true }
+    ensures fetched { V.fetched view.old (block ∷ []) view.new }
 {
     match view.fetch(block, &mut buf[start..start + size]) {
         Fetched::Got => true,
@@ -34,6 +37,9 @@ pub fn read_area<V: View>(view: &mut V, a: u32, k: u32, buf: &mut [u8]) -> bool
     ensures room { length buf.new ≡ length buf.old }
     ensures rule { ReadsAs (V.stands_for view.old) (V.is_gone view.old) (V.tells view.new) (V.is_gone view.new)
         (area_of (V.size view.old) a k) (then_some result buf.new) }
+    ensures area { FetchesArea V.fetched (V.is_gone view.new) a k result view.old view.new }
+    ensures fetched { Fetches V.fetched (V.stands_for view.old) (V.tells view.new)
+        (area_of (V.size view.old) a k) (then_some result buf.new) view.old view.new }
 {
     let (size, _) = V::shape(view);
     let bytes = size as usize;

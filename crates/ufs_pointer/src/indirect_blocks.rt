@@ -5,6 +5,7 @@ ghost use Rattle.ufs_model.specs.Pointers.{through};
 ghost use Rattle.ufs_model.specs.Readings.{ReadsAs};
 ghost use Rattle.ufs_model.specs.declared.numbers.Endian.TheVariants.{Little};
 ghost use Rattle.ufs_pointer.specs.Addresses.{IsWhole};
+ghost use Rattle.ufs_pointer.specs.Fetches.{Fetches};
 
 use crate::addresses::block_address;
 use crate::areas::read_area;
@@ -31,6 +32,8 @@ pub fn through<V: View>(
     ensures whole { IfSome result (IsWhole g.now) }
     ensures rule { ReadsAs (V.stands_for view.old) (V.is_gone view.old) (V.tells view.new) (V.is_gone view.new)
         (through Little g.now i address) result }
+    ensures fetched { Fetches V.fetched (V.stands_for view.old) (V.tells view.new)
+        (through Little g.now i address) result view.old view.new }
 {
     match address {
         Address::Hole => Some(Address::Hole),

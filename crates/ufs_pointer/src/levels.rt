@@ -9,6 +9,7 @@ ghost use Rattle.ufs_model.specs.declared.numbers.Endian.TheVariants.{Little};
 ghost use Rattle.ufs_pointer.specs.Addresses.{IsInside, address_in};
 ghost use Rattle.ufs_pointer.specs.Buffers.{Buffers};
 ghost use Rattle.ufs_pointer.specs.Chains.{IsChain};
+ghost use Rattle.ufs_pointer.specs.Fetches.{Fetches};
 
 use crate::addresses::{direct_address, indirect_address};
 use crate::answers::BlockAnswer;
@@ -121,6 +122,8 @@ fn read_front<V: View>(view: &mut V, a: u32, k: u32, bytes: usize, buf: &mut [u8
     ensures room { length buf.new ≡ length buf.old }
     ensures rule { ReadsAs (V.stands_for view.old) (V.is_gone view.old) (V.tells view.new) (V.is_gone view.new)
         (area_of (V.size view.old) a k) (then_some result (take bytes buf.new)) }
+    ensures fetched { Fetches V.fetched (V.stands_for view.old) (V.tells view.new)
+        (area_of (V.size view.old) a k) (then_some result (take bytes buf.new)) view.old view.new }
 {
     read_area(view, a, k, &mut buf[..bytes])
 }
@@ -138,6 +141,8 @@ impl Levels {
         ensures room { length self.new.block ≡ k * V.size view.old }
         ensures rule { ReadsAs (V.stands_for view.old) (V.is_gone view.old) (V.tells view.new) (V.is_gone view.new)
             (area_of (V.size view.old) a k) (then_some result self.new.block) }
+        ensures fetched { Fetches V.fetched (V.stands_for view.old) (V.tells view.new)
+            (area_of (V.size view.old) a k) (then_some result self.new.block) view.old view.new }
     {
         self.filled = area_bytes(k, self.fragment);
         read_front(view, a, k, self.filled, &mut self.bytes)
@@ -161,6 +166,8 @@ impl Levels {
         ensures inside { IfSome result (IsInside g.now) }
         ensures rule { ReadsAs (V.stands_for view.old) (V.is_gone view.old) (V.tells view.new) (V.is_gone view.new)
             (chain_address Little g.now inode.now chain) result }
+        ensures fetched { Fetches V.fetched (V.stands_for view.old) (V.tells view.new)
+            (chain_address Little g.now inode.now chain) result view.old view.new }
     {
         let size = block_bytes(g);
         match chain {
@@ -202,6 +209,8 @@ pub fn file_block<V: View>(
     ensures inside { IfSome (address_in result) (IsInside g.now) }
     ensures rule { ReadsAs (V.stands_for view.old) (V.is_gone view.old) (V.tells view.new) (V.is_gone view.new)
         (file_block_of Little g.now inode.now n) (address_in result) }
+    ensures fetched { Fetches V.fetched (V.stands_for view.old) (V.tells view.new)
+        (file_block_of Little g.now inode.now n) (address_in result) view.old view.new }
 {
     match levels.follow(view, g, inode, locate(g, n)) {
         Some(Address::Hole) => BlockAnswer::Hole,

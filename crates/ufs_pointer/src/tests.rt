@@ -1,11 +1,13 @@
 ghost use Rattle.std.specs.Prelude.{◌≡◌, ◌+◌, ◌*◌, ◌^◌, ◌<◌, ◌≤◌, IfOk, length};
+ghost use Rattle.ufs_model.specs.Geometries.{IsGeometryOn};
 
-use crate::{BlockAnswer, Chain, Levels, file_block, locate, pointer};
-use dg_io::{Loss, MemView, View};
+use crate::{BlockAnswer, Chain, Levels, file_block, locate, pointer, read_area};
+use dg_io::{Loss, MemView};
 use std::alloc::Global;
 use std::test::Fail;
-use ufs_inode::Inode;
-use ufs_super::read_super;
+use ufs_inode::{Inode, read_inode};
+use ufs_rows::{Which, rows_image};
+use ufs_super::{Geometry, read_super};
 
 /// The byte at which each field of a superblock stands, from `sblkno` to `magic`.
 const FIELDS: [usize; 21] = [
@@ -57,6 +59,32 @@ const LARGE: [u32; 21] = [
     65536,
     512,
     1024,
+    60,
+    2,
+    0x0001_1954,
+];
+
+/// Two groups of 128 fragments of 1024 bytes, four a file block, and 32 inodes each. The second is cut
+/// short at fragment 250, and its own blocks are counted from fragment 136.
+const TWO_GROUPS: [u32; 21] = [
+    16,
+    24,
+    28,
+    32,
+    8,
+    0xffff_fffe,
+    250,
+    2,
+    4096,
+    1024,
+    4,
+    1024,
+    32,
+    32,
+    32,
+    4096,
+    32,
+    128,
     60,
     2,
     0x0001_1954,
@@ -143,6 +171,25 @@ fn zeros(alloc: Global, blocks: u32) -> Result<Vec<u8>, Fail>
     Ok(vec![in alloc; 0; blocks as usize * 1024]?)
 }
 
+/// Where file block `n` of an inode is found, on a volume of `count` blocks that loses one.
+fn found(
+    alloc: Global,
+    image: Vec<u8>,
+    count: u32,
+    g: &Geometry,
+    inode: &Inode,
+    n: u32,
+    loss: Loss,
+) -> Result<BlockAnswer, Fail>
+    requires image { length image.items ≡ count * 1024 }
+    requires geometry { IsGeometryOn 1024 count g.now }
+    requires block { n < 2 ^ 30 }
+{
+    let mut view = MemView::new(image, 1024, count, vec![in alloc; loss]?);
+    let mut levels = Levels::new(alloc, 1024).ok().ok_or("levels")?;
+    Ok(file_block(&mut view, g, inode, n, &mut levels))
+}
+
 /// Where file block `n` of the file is found, on a volume that loses a block.
 fn answer(alloc: Global, n: u32, loss: Loss) -> Result<BlockAnswer, Fail>
     requires { n < 2 ^ 30 }
@@ -155,13 +202,7 @@ fn answer(alloc: Global, n: u32, loss: Loss) -> Result<BlockAnswer, Fail>
             put(&mut image, at, *value);
         }
     }
-    let mut view = MemView::new(image, 1024, 128, vec![in alloc; loss]?);
-    let (size, count) = view.shape();
-    if size != 1024 || count != 128 {
-        return Err("shape".into());
-    }
-    let mut levels = Levels::new(alloc, 1024).ok().ok_or("levels")?;
-    Ok(file_block(&mut view, &g, &FILE, n, &mut levels))
+    found(alloc, image, 128, &g, &FILE, n, loss)
 }
 
 /// What is found where nothing that is needed is gone.
@@ -219,6 +260,175 @@ fn a_chain_with_a_block_that_is_gone(rt: HostRuntime) -> Result<(), Fail> {
     Ok(())
 }
 
+/// A block that no test needs.
+const NOTHING: Loss = Loss { block: 1, fetch: 0 };
+
+/// A file with a direct slot and a single indirect slot.
+fn file_with(size: u64, direct: u32, single: u32) -> Inode {
+    let mut db = [0; 12];
+    db[0] = direct;
+    Inode {
+        mode: 0o100644,
+        size,
+        db,
+        ib: [single, 0, 0],
+    }
+}
+
+/// Where file block `n` of a file of the volume of two groups is found, where pointer 0 of the indirect
+/// block at 36 is given, and all other bytes are zeros.
+fn in_two_groups(alloc: Global, inode: &Inode, n: u32, value: u32) -> Result<BlockAnswer, Fail>
+    requires { n < 2 ^ 30 }
+{
+    let g = read_super(&superblock(&TWO_GROUPS), 1024, 256)?;
+    let mut image = zeros(alloc, 256)?;
+    put(&mut image, 36 * 1024, value);
+    found(alloc, image, 256, &g, inode, n, NOTHING)
+}
+
+/// The data of group 0 is from 33, behind the summary area, to 127. That of group 1 is from 128 to 151
+/// and from 168 to 249. Between are its superblock copy (152 to 159), its group block (160 to 163) and
+/// its inodes (164 to 167). The volume ends before 250, the array before 256.
+#[test]
+fn pointers_at_the_edges_of_groups(rt: HostRuntime) -> Result<(), Fail> {
+    for (pointer, wanted) in [
+        (29, BlockAnswer::Wild),
+        (32, BlockAnswer::Wild),
+        (33, BlockAnswer::At(33, 4)),
+        (124, BlockAnswer::At(124, 4)),
+        (125, BlockAnswer::Wild),
+        (127, BlockAnswer::Wild),
+        (128, BlockAnswer::At(128, 4)),
+        (148, BlockAnswer::At(148, 4)),
+        (149, BlockAnswer::Wild),
+        (152, BlockAnswer::Wild),
+        (159, BlockAnswer::Wild),
+        (160, BlockAnswer::Wild),
+        (163, BlockAnswer::Wild),
+        (164, BlockAnswer::Wild),
+        (167, BlockAnswer::Wild),
+        (168, BlockAnswer::At(168, 4)),
+        (246, BlockAnswer::At(246, 4)),
+        (247, BlockAnswer::Wild),
+        (250, BlockAnswer::Wild),
+        (256, BlockAnswer::Wild),
+        (0xffff_ffff, BlockAnswer::Wild),
+    ] {
+        let alloc = rt.alloc();
+        let direct = file_with(65536, pointer, 0);
+        assert_eq!(rt;
+            in_two_groups(alloc, &direct, 0, 0)?,
+            wanted,
+            "direct {pointer}"
+        );
+        let behind = file_with(65536, 0, 36);
+        assert_eq!(rt;
+            in_two_groups(alloc, &behind, 12, pointer)?,
+            wanted,
+            "behind {pointer}"
+        );
+        // An indirect block of zeros.
+        let first = match wanted {
+            BlockAnswer::At(_, _) => BlockAnswer::Hole,
+            other => other,
+        };
+        let single = file_with(65536, 0, pointer);
+        assert_eq!(rt;
+            in_two_groups(alloc, &single, 12, 0)?,
+            first,
+            "single {pointer}"
+        );
+    }
+    Ok(())
+}
+
+/// The last block of a short file takes as many fragments as its bytes do.
+#[test]
+fn short_blocks_at_the_edges_of_groups(rt: HostRuntime) -> Result<(), Fail> {
+    for (pointer, size, wanted) in [
+        (32, 1, BlockAnswer::Wild),
+        (33, 1, BlockAnswer::At(33, 1)),
+        (127, 1024, BlockAnswer::At(127, 1)),
+        (127, 1025, BlockAnswer::Wild),
+        (126, 2048, BlockAnswer::At(126, 2)),
+        (149, 3072, BlockAnswer::At(149, 3)),
+        (150, 3072, BlockAnswer::Wild),
+        (152, 1, BlockAnswer::Wild),
+        (167, 1, BlockAnswer::Wild),
+        (249, 1024, BlockAnswer::At(249, 1)),
+        (248, 2049, BlockAnswer::Wild),
+        (250, 1, BlockAnswer::Wild),
+    ] {
+        let file = file_with(size, pointer, 0);
+        assert_eq!(rt;
+            in_two_groups(rt.alloc(), &file, 0, 0)?,
+            wanted,
+            "{size} bytes at {pointer}"
+        );
+    }
+    Ok(())
+}
+
+/// The 128 blocks of the volume F.
+fn volume_f(alloc: Global) -> Result<Vec<u8>, Fail>
+    ensures { IfOk result (λ image. length image.items ≡ 131072) }
+{
+    match rows_image(alloc, Which::F) {
+        Ok(image) => Ok(image),
+        Err(_) => Err("memory".into()),
+    }
+}
+
+/// Where file block `n` of inode 5 of the volume F is found. The inodes begin at block 28.
+fn in_volume_f(alloc: Global, n: u32, loss: Loss) -> Result<BlockAnswer, Fail>
+    requires { n < 2 ^ 30 }
+{
+    let image = volume_f(alloc)?;
+    let g = read_super(&image[8192..9568], 1024, 128)?;
+    let inode = read_inode(&image[29312..29440]).ok_or("inode")?;
+    found(alloc, image, 128, &g, &inode, n, loss)
+}
+
+/// The file has the blocks 36 to 83 directly, and 88 to 91 through the indirect block at 84.
+#[test]
+fn a_file_with_an_indirect_block(rt: HostRuntime) -> Result<(), Fail> {
+    for (n, block, wanted) in [
+        (0, 84, BlockAnswer::At(36, 4)),
+        (11, 84, BlockAnswer::At(80, 4)),
+        (12, 88, BlockAnswer::At(88, 4)),
+        (12, 84, BlockAnswer::Gone),
+        (12, 87, BlockAnswer::Gone),
+        (13, 88, BlockAnswer::Hole),
+    ] {
+        assert!(rt; n < 0x4000_0000);
+        let loss = Loss { block, fetch: 0 };
+        assert_eq!(rt;
+            in_volume_f(rt.alloc(), n, loss)?,
+            wanted,
+            "block {n} without {block}"
+        );
+    }
+    Ok(())
+}
+
+/// The indirect block of that file, and its last block, whose fragments have the bytes 49 to 52.
+#[test]
+fn blocks_of_the_volume_f(rt: HostRuntime) -> Result<(), Fail> {
+    let alloc = rt.alloc();
+    let mut view = MemView::new(volume_f(alloc)?, 1024, 128, vec![in alloc; NOTHING]?);
+    let mut pointers = [0; 4096];
+    assert!(rt; read_area(&mut view, 84, 4, &mut pointers));
+    assert_eq!(rt; (pointer(&pointers, 0), pointer(&pointers, 1)), (88, 0));
+    let mut levels = Levels::new(alloc, 1024).ok().ok_or("levels")?;
+    assert!(rt; levels.read_block(&mut view, 88, 4));
+    let bytes = levels.block();
+    assert_eq!(rt;
+        (bytes[0], bytes[1023], bytes[1024], bytes[4095]),
+        (49, 49, 50, 52)
+    );
+    Ok(())
+}
+
 /// A block of data is read into its buffer.
 #[test]
 fn a_block_of_data(rt: HostRuntime) -> Result<(), Fail> {
@@ -228,8 +438,6 @@ fn a_block_of_data(rt: HostRuntime) -> Result<(), Fail> {
     put(&mut image, 3068, 9);
     let loss = Loss { block: 0, fetch: 0 };
     let mut view = MemView::new(image, 1024, 3, vec![in alloc; loss]?);
-    let (size, count) = view.shape();
-    assert!(rt; size == 1024 && count == 3);
     let mut levels = Levels::new(alloc, 1024).ok().ok_or("levels")?;
     assert!(rt; levels.block().is_empty());
     assert!(rt; levels.read_block(&mut view, 1, 2));

@@ -1,4 +1,5 @@
 use Rattle.std.proofs.Common.{◌≡◌, ◌*◌, length, take, Some}
+use Rattle.std.specs.List.{range_with_len}
 use Rattle.dg_io.specs.Views.{KeepsView}
 use Rattle.ufs_model.specs.Blocks.{area_of}
 use Rattle.ufs_model.specs.Readings.{ReadsAs}
@@ -10,4 +11,5 @@ invariant-loop-i g l = record {
   room : length l.buf ≡ l.k * l.bytes;
   reads : ReadsAs (g.V.View.stands_for l.fn.view) (g.V.View.is_gone l.fn.view) (g.V.View.tells l.view) (g.V.View.is_gone l.view)
       (area_of (g.V.View.size l.fn.view) l.a l.i) (Some (take (l.i * l.bytes) l.buf));
+  were : g.V.View.fetched l.fn.view (range_with_len l.a l.i) l.view;
 }
