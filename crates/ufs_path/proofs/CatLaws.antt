@@ -1,13 +1,14 @@
 -- Answers of `cat`.
-use Rattle.std.proofs.Common.{◌≡◌, ◌∙◌, ℕ, ◌-◌, ◌≤◌, Bool, true, false, List, [], ◌∷◌, ◌++◌, Some, None, Ok, Err, Result, Option, length, take, drop, nat_lt, not, ◌||◌, ◌==◌, refl, sym, ap, subst}
+use Rattle.std.proofs.Common.{◌≡◌, ◌∙◌, ℕ, ◌-◌, ◌≤◌, Bool, true, false, List, [], ◌∷◌, ◌++◌, Some, None, Ok, Err, Result, Option, length, take, drop, nat_le, nat_lt, not, arith, ◌||◌, ◌==◌, refl, sym, ap, subst}
 use Rattle.std.specs.List.{list_any}
 use Rattle.std.specs.Option.{option_map}
 use Rattle.std.proofs.lemmas.Bool.{and_parts, false≢true}
+use Rattle.std.proofs.lemmas.Bool.Decides.{nat_tests}
 use Rattle.std.proofs.lemmas.List.{length-drop}
 use Rattle.std.proofs.Math.Seq.{take-length}
 use Rattle.ufs_model.specs.Blocks.{Reading, Volume}
 use Rattle.ufs_model.specs.Chunks.{is_name}
-use Rattle.ufs_model.specs.Paths.{IsOneName, cat_of, contents_of, front_of, look_from, names_of, parts_of, volume_geometry}
+use Rattle.ufs_model.specs.Paths.{cat_of, contents_of, front_of, is_one_name, is_path_name, look_from, names_of, parts_of, volume_geometry}
 use Rattle.ufs_model.specs.Readings.{Grows, ReadsAs}
 use Rattle.ufs_model.specs.declared.geometries.Geometry.{Geometry}
 use Rattle.ufs_model.specs.declared.inodes.Inode.{Inode}
@@ -134,15 +135,26 @@ named name is =
     let both = and_parts (nat_lt 0 (length name)) (not (list_any (λ b. (b == 0) || (b == 47)) name)) is in
     rw (one_part name (not_true _ both.1), both.0) refl
 
-pub one_name : (path : List ℕ) → IsOneName path → names_of path ≡ drop 1 path ∷ []
-one_name [] is = absurd (let e = is.slash in cc)
-one_name (b ∷ name) is = let e : b ≡ 47 = (let h = is.slash in cc) in rw e (named name (is.name))
+pub has_slash : (path : List ℕ) → is_one_name path ≡ true → 1 ≤ length path
+unfolding is_one_name
+has_slash [] is = absurd (false≢true is)
+has_slash (b ∷ name) is = omega arith
 
-pub cat_is : (l n : ℕ) (path : List ℕ) → IsOneName path → cat_name Little l n (drop 1 path) ≡ cat_of Little l n path
+pub one_name : (path : List ℕ) → is_one_name path ≡ true → names_of path ≡ drop 1 path ∷ []
+unfolding is_one_name is_path_name
+one_name [] is = absurd (false≢true is)
+one_name (b ∷ name) is =
+    let path = and_parts (b == 47) (is_path_name name) is in
+    let first = path.0 in
+    let plain = and_parts (is_name name) (nat_le (length name) 255) (path.1) in
+    let slash : b ≡ 47 = grind (arith, nat_tests) in
+    rw slash (named name (plain.0))
+
+pub cat_is : (l n : ℕ) (path : List ℕ) → is_one_name path ≡ true → cat_name Little l n (drop 1 path) ≡ cat_of Little l n path
 unfolding cat_name cat_below cat_of
 cat_is l n path is = rw (one_name path is) refl
 
-pub path_read : {stands : Volume → Type 0} {tells : Type 0} {before after : ℕ → Bool} (l n : ℕ) (path : List ℕ) (answer : Option (Result (List ℕ) PathRefusal)) → IsOneName path
+pub path_read : {stands : Volume → Type 0} {tells : Type 0} {before after : ℕ → Bool} (l n : ℕ) (path : List ℕ) (answer : Option (Result (List ℕ) PathRefusal)) → is_one_name path ≡ true
     → ReadsAs stands before tells after (cat_name Little l n (take (length path - 1) (drop 1 path))) answer → ReadsAs stands before tells after (cat_of Little l n path) answer
 path_read {stands} {tells} {before} {after} l n path answer is reads =
     let rest : take (length path - 1) (drop 1 path) ≡ drop 1 path = rw (← length-drop 1 path) (take-length (drop 1 path)) in

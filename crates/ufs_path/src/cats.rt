@@ -1,8 +1,8 @@
 // The contents of a file by its path.
-ghost use Rattle.std.specs.Prelude.{◌≡◌, ◌*◌, ◌≤◌, [], ◌∷◌, length};
+ghost use Rattle.std.specs.Prelude.{◌≡◌, ◌*◌, ◌≤◌, [], ◌∷◌, length, true};
 ghost use Rattle.dg_io.specs.Views.{KeepsView};
 ghost use Rattle.ufs_model.specs.Geometries.{IsGeometryOn};
-ghost use Rattle.ufs_model.specs.Paths.{cat_of, contents_of, look_from, volume_geometry, IsOneName};
+ghost use Rattle.ufs_model.specs.Paths.{cat_of, contents_of, look_from, volume_geometry, is_one_name};
 ghost use Rattle.ufs_model.specs.Readings.{ReadsAs, and_then};
 ghost use Rattle.ufs_model.specs.declared.numbers.Endian.TheVariants.{Little};
 ghost use Rattle.ufs_path.specs.Answers.{IsCat};
@@ -58,6 +58,7 @@ fn cat_name<V: View, O: Pieces>(view: &mut V, name: &[u8], out: &mut O, buf: &mu
 
 /// Hands on the bytes of the file at a path, which is a slash and one name. A piece has at most the
 /// bytes of a file block. The buffers are for blocks of the view's size.
+#[tactic(auto, using(crate::proofs::CatLaws::has_slash))]
 pub fn cat<V: View, O: Pieces>(
     view: &mut V,
     levels: &mut Levels,
@@ -66,7 +67,7 @@ pub fn cat<V: View, O: Pieces>(
 ) -> CatAnswer
     requires sound { V.is_sound view.old }
     requires levels { levels.old ≡ V.size view.old }
-    requires path { IsOneName path.now }
+    requires path { is_one_name path.now ≡ true }
     ensures keeps { KeepsView V.stands_for V.tells V.is_gone V.count V.size V.is_sound V.goes_on view.old view.new }
     ensures levels { levels.new ≡ levels.old }
     ensures later { O.faults out.old ≤ O.faults out.new }

@@ -20,4 +20,4 @@ mod tests;
 pub use cats::cat;
 pub use faults::CatAnswer;
 pub use levels::Levels;
-pub use ufs_model::{BadRead, BadSuper};
+pub use ufs_model::{BadRead, BadSuper, is_one_name};

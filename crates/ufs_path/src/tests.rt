@@ -1,72 +1,10 @@
-ghost use Rattle.std.specs.Prelude.{◌≡◌, ◌++◌, ◌==◌, ◌||◌, true, IfOk, length};
-ghost use Rattle.std.specs.List.{list_any};
-ghost use Rattle.ufs_model.specs.Chunks.{is_name};
-ghost use Rattle.std.proofs.Common.{◌∙◌, ap, sym};
-ghost use Rattle.std.proofs.lemmas.List.{append_assoc, append-nil};
-ghost use Rattle.ufs_model.specs.Paths.{IsOneName};
+ghost use Rattle.std.specs.Prelude.{◌≡◌, IfOk, length};
 
-use crate::{BadRead, BadSuper, CatAnswer, Levels, cat};
-use dg_io::{Failed, Loss, MemView, Pieces, View};
+use crate::{BadRead, BadSuper, CatAnswer, Levels, cat, is_one_name};
+use dg_io::{Loss, MemSink, MemView};
 use std::alloc::Global;
 use std::test::Fail;
 use ufs_rows::{Which, rows_image};
-
-/// Takes pieces while it has room for them whole.
-#[derive(Drop)]
-struct Taken {
-    bytes: Vec<u8>,
-    room: usize,
-    faults: u64,
-}
-
-impl Pieces for Taken {
-    ghost took = { λ a bytes b. b.bytes.items ≡ a.bytes.items ++ bytes };
-
-    ghost took_part = { λ _ _ _. Unit {0} };
-
-    ghost faults = { λ s. s.faults };
-
-    fn piece(&mut self, bytes: &[u8]) -> Result<(), Failed> {
-        let fits = bytes.len() <= self.room.saturating_sub(self.bytes.len());
-        if !fits || self.bytes.extend_from_slice(bytes).is_err() {
-            self.faults = self.faults.saturating_add(1);
-            return Err(Failed);
-        }
-        Ok(())
-    }
-
-    ghost nothing = { λ s. sym (append-nil s.bytes.items) };
-
-    ghost then = { λ a b c x y first second. second ∙ ap (λ z. z ++ y) first ∙ append_assoc a.bytes.items x y };
-
-    ghost then_part = { λ a b c x y first second. tt };
-
-    ghost part = { λ a b x y is. tt };
-}
-
-fn has_end(name: &[u8]) -> bool
-    ensures { result ≡ list_any (λ b. (b == 0) || (b == 47)) name.now }
-{
-    name.iter().any(|byte| *byte == 0 || *byte == b'/')
-}
-
-#[tactic(auto, unfolding(ufs_model::specs::Chunks::is_name))]
-fn is_name(name: &[u8]) -> bool
-    ensures { result ≡ is_name name.now }
-{
-    !name.is_empty() && !has_end(name)
-}
-
-/// Whether a path is a slash and one name.
-fn is_one_name(path: &[u8]) -> bool
-    ensures { result ≡ true → IsOneName path.now }
-{
-    if path.is_empty() {
-        return false;
-    }
-    let (slash, name) = path.split_at(1);
-    slash == b"/".as_slice() && is_name(name)
-}
 
 /// The 128 blocks of a volume.
 fn image(alloc: Global, which: Which) -> Result<Vec<u8>, Fail>
@@ -90,21 +28,13 @@ fn read(
     requires { length image.items ≡ 131072 }
 {
     let mut view = MemView::new(image, 1024, 128, vec![in alloc; loss]?);
-    let (size, _) = view.shape();
-    if size != 1024 {
-        return Err("shape".into());
-    }
-    let mut levels = Levels::new(alloc, 1024).ok().ok_or("memory")?;
-    let mut out = Taken {
-        bytes: Vec::with_capacity(alloc, room)?,
-        room,
-        faults: 0,
-    };
+    let mut levels = Levels::new(alloc, 1024)?;
+    let mut out = MemSink::new(alloc, room, Vec::new(alloc))?;
     if !is_one_name(path) {
         return Err("path".into());
     }
     let answer = cat(&mut view, &mut levels, path, &mut out);
-    Ok((answer, out.bytes))
+    Ok((answer, Vec::from_slice(alloc, out.taken())?))
 }
 
 /// Nothing that a file needs.
