@@ -9,11 +9,10 @@ use Rattle.hex.proofs.HexLemmas.{length-encode_with}
 use Rattle.dg_model.specs.declared.shapes.Shape.{Shape}
 use Rattle.dg_model.specs.declared.events.Event.{Event}
 use Rattle.dg_model.specs.declared.events.Event.TheVariants.{Array, Write, Read, Fail, Cat}
-use Rattle.dg_text.specs.Lines.{hex_word, path_word, line_of, IsInPlace, longest}
+use Rattle.dg_text.specs.Lines.{hex_word, line_of, IsInPlace, longest}
 use Rattle.dg_text.proofs.PathWords.{length-path_word}
 use Rattle.ufs_model.specs.Paths.{is_one_name, is_path_name}
-use Rattle.std.proofs.Common.{nat_le, ◌==◌, true}
-use Rattle.std.proofs.lemmas.Bool.{and_parts}
+use Rattle.std.proofs.Common.{true}
 use Rattle.std.proofs.lemmas.Bool.Decides.{nat_tests}
 
 pub length_hex_word : (bytes : List ℕ) → length (hex_word bytes) ≤ 2 * length bytes + 1

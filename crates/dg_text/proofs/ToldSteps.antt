@@ -1,6 +1,6 @@
 -- How bytes that a sink took go on from one another.
 use Rattle.std.proofs.Common.{◌≡◌, ℕ, zero, suc, ◌+◌, List, [], ◌∷◌, ◌++◌, length, take, refl, sym, ◌∙◌, ap, append_assoc}
-use Rattle.std.specs.Prelude.{Option, Some, None}
+use Rattle.std.specs.Prelude.{Option, Some, None, Result, Ok, Err, OnErr}
 use Rattle.std.proofs.lemmas.List.{append-nil}
 use Rattle.std.proofs.Math.Seq.{take-append-add}
 use Rattle.dg_io.specs.Told.{Told, Took, TookPart}
@@ -46,3 +46,7 @@ took_part_of_more s t x y p = Told-map (TookPart s) (TookPart (s ++ t)) (λ a b 
 pub took_part_after : (s t : List ℕ) (x y z : Option (List ℕ)) → Told (Took s) x y → Told (TookPart t) y z → Told (TookPart (s ++ t)) x z
 took_part_after s t x y z p q = Told-then (Took s) (TookPart t) (TookPart (s ++ t)) (λ a b c f g.
     (length s + g.0, g.1 ∙ ap (λ (l : List ℕ). l ++ take g.0 t) f ∙ append_assoc a s (take g.0 t) ∙ ap (λ (l : List ℕ). a ++ l) (sym (take-append-add s t g.0)))) x y z p q
+
+pub on_err : {T E P : Type 0} (r : Result T E) → P → OnErr r P
+on_err (Ok value) p = tt
+on_err (Err error) p = p

@@ -1,4 +1,4 @@
-use Rattle.std.proofs.Common.{false, ◌≡◌, ◌++◌, ◌∷◌, [], ◌∙◌, sym, ap, arith, take, length}
+use Rattle.std.proofs.Common.{false, ◌≡◌, ◌++◌, ◌∷◌, [], ◌∙◌, sym, ap, arith, length}
 use Rattle.hex.specs.Hex.{encode_lower}
 use Rattle.dg_text.proofs.PathWords.{escaped_found, escaped_exact, two_digits}
 use Rattle.dg_text.specs.Lines.{is_plain}

@@ -1,4 +1,4 @@
-use Rattle.std.proofs.Common.{ℕ, List, slice_index, true, ◌≡◌, ◌∷◌, [], ◌∙◌, sym, ap, refl}
+use Rattle.std.proofs.Common.{ℕ, List, slice_index, ◌≡◌, ◌∷◌, [], sym, ap}
 use Rattle.std.specs.Prelude.{Some}
 use Rattle.dg_text.proofs.PathWords.{byte_found, byte_exact, byte_lower}
 use Rattle.dg_text.proofs.path_words.hex_byte.Goals as goal

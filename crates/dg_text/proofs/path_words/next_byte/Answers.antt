@@ -1,4 +1,4 @@
-use Rattle.std.proofs.Common.{true, false, Bool, ◌≡◌, ◌<◌, ◌∙◌, sym, ap, arith, length, refl, ℕ, slice_index}
+use Rattle.std.proofs.Common.{◌∙◌, sym, arith, length, refl, slice_index}
 use Rattle.std.proofs.lemmas.Bool.{eqb-true}
 use Rattle.dg_text.specs.Lines.{is_plain}
 use Rattle.dg_text.proofs.PathWords.{front_tells, plain_found, plain_exact, escaped_exact, spelled_some, nonempty}
