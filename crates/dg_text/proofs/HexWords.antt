@@ -115,7 +115,7 @@ AreBytes-from bytes h k d lt =
     let low = h k in
     omega arith
 
-IsBytes-from : (bytes : List ℕ) → AreBytes bytes → IsBytes bytes
+pub IsBytes-from : (bytes : List ℕ) → AreBytes bytes → IsBytes bytes
 IsBytes-from [] are k = omega arith
 IsBytes-from (b ∷ rest) are zero = All-head (λ x. x < 256) b rest are
 IsBytes-from (b ∷ rest) are (suc k) = IsBytes-from rest (All-tail (λ x. x < 256) b rest are) k

@@ -8,8 +8,12 @@ use Rattle.hex.specs.Hex.{lower_digits}
 use Rattle.hex.proofs.HexLemmas.{length-encode_with}
 use Rattle.dg_model.specs.declared.shapes.Shape.{Shape}
 use Rattle.dg_model.specs.declared.events.Event.{Event}
-use Rattle.dg_model.specs.declared.events.Event.TheVariants.{Array, Write, Read, Fail}
+use Rattle.dg_model.specs.declared.events.Event.TheVariants.{Array, Write, Read, Fail, Cat}
 use Rattle.dg_text.specs.Lines.{hex_word, line_of, IsInPlace, longest}
+use Rattle.dg_text.proofs.PathWords.{length-path_word}
+use Rattle.ufs_model.specs.Paths.{is_one_name, is_path_name}
+use Rattle.std.proofs.Common.{true}
+use Rattle.std.proofs.lemmas.Bool.Decides.{nat_tests}
 
 pub length_hex_word : (bytes : List ℕ) → length (hex_word bytes) ≤ 2 * length bytes + 1
 length_hex_word [] = omega arith
@@ -20,6 +24,12 @@ short n lt = length-decimal-le 10 n (omega arith) (omega arith) (omega arith)
 
 pub block_small : (l : ℕ) → (l ≡ 512) ⊎ (l ≡ 1024) ⊎ (l ≡ 2048) ⊎ (l ≡ 4096) → l < 2 ^ 32
 block_small l h = omega (arith, h)
+
+-- a path of one name has at most 256 bytes
+pub one_name_short : (path : List ℕ) → is_one_name path ≡ true → length path ≤ 256
+unfolding is_one_name is_path_name
+one_name_short [] is = omega arith
+one_name_short (b ∷ name) is = grind (arith, nat_tests)
 
 pub line_fits : (shape : Option Shape) (event : Event) → IsInPlace shape event → length (line_of event) ≤ longest shape
 line_fits None (Array s) h =
@@ -32,6 +42,7 @@ line_fits None (Array s) h =
 line_fits None (Write b bytes) h = absurd h
 line_fits None (Read b) h = absurd h
 line_fits None (Fail s j) h = absurd h
+line_fits None (Cat path) h = absurd h
 line_fits (Some shape) (Array s) h = absurd h
 line_fits (Some shape) (Write b bytes) h =
     let number = short b h.0 in
@@ -43,4 +54,8 @@ line_fits (Some shape) (Read b) h =
 line_fits (Some shape) (Fail s j) h =
     let boundary = short s h.0 in
     let side = short j h.1 in
+    simp length-append (omega arith)
+line_fits (Some shape) (Cat path) h =
+    let bytes = one_name_short path h.0 in
+    let word = length-path_word path in
     simp length-append (omega arith)

@@ -1,5 +1,8 @@
 mod Cuts
 mod Numbers
 mod HexWords
+mod PathWords
 mod Lengths
 mod WholeLines
+mod ToldSteps
+mod FileLines

@@ -1,5 +1,5 @@
 -- A line ends at its first LF, since no spelling has one.
-use Rattle.std.proofs.Common.{◌≡◌, ◌≢◌, ◌<◌, ◌^◌, inl, inr, ltb, ℕ, List, [], ◌∷◌, ◌++◌, refl, ◌∙◌, true, append_assoc, arith}
+use Rattle.std.proofs.Common.{◌≡◌, ◌≢◌, ◌<◌, ◌≤◌, ◌^◌, inl, inr, ltb, ℕ, List, [], ◌∷◌, ◌++◌, refl, ◌∙◌, true, append_assoc, arith}
 use Rattle.std.specs.Prelude.{Option, Some, None, Contains, codes}
 use Rattle.std.specs.Fmt.{decimal}
 use Rattle.std.specs.List.{list_all}
@@ -8,11 +8,12 @@ use Rattle.std.proofs.lemmas.List.Elements.{All-append, All-weaker}
 use Rattle.std.proofs.lemmas.Bool.{ltb-true}
 use Rattle.dg_model.specs.declared.shapes.Shape.{Shape}
 use Rattle.dg_model.specs.declared.events.Event.{Event}
-use Rattle.dg_model.specs.declared.events.Event.TheVariants.{Array, Write, Read, Fail}
-use Rattle.dg_text.specs.Lines.{IsLowerDigit, AreBytes, hex_word, shape_words, spelling, line_of, IsInPlace}
+use Rattle.dg_model.specs.declared.events.Event.TheVariants.{Array, Write, Read, Fail, Cat}
+use Rattle.dg_text.specs.Lines.{IsLowerDigit, AreBytes, hex_word, path_word, shape_words, spelling, line_of, IsInPlace}
 use Rattle.dg_text.proofs.Cuts.{Lacks, Lacks-from_not, first_cut}
 use Rattle.dg_text.proofs.Numbers.{decimal_lacks}
 use Rattle.dg_text.proofs.HexWords.{encode_is_lower}
+use Rattle.dg_text.proofs.PathWords.{path_word_high}
 use Rattle.dg_text.proofs.Lengths.{block_small}
 
 -- a fixed text without control characters
@@ -39,6 +40,9 @@ hex_lacks [] are = plain (codes "-") refl
 hex_lacks (x ∷ xs) are =
     All-weaker IsLowerDigit (λ z. z ≢ 10) digit_not_end (hex_word (x ∷ xs)) (encode_is_lower (x ∷ xs) are)
 
+path_lacks : (path : List ℕ) → AreBytes path → Lacks 10 (path_word path)
+path_lacks path are = All-weaker (λ x. 33 ≤ x) (λ x. x ≢ 10) (λ x high e. omega arith) (path_word path) (path_word_high path are)
+
 pub spelling_lacks : (shape : Option Shape) (event : Event) → IsInPlace shape event → Lacks 10 (spelling event)
 spelling_lacks None (Array s) h =
     let l = number s.l (block_small s.l h.block) in
@@ -52,6 +56,7 @@ spelling_lacks None (Array s) h =
 spelling_lacks None (Write b bytes) h = absurd h
 spelling_lacks None (Read b) h = absurd h
 spelling_lacks None (Fail s j) h = absurd h
+spelling_lacks None (Cat path) h = absurd h
 spelling_lacks (Some shape) (Array s) h = absurd h
 spelling_lacks (Some shape) (Write b bytes) h =
     joined (codes "write ") _ (plain (codes "write ") refl)
@@ -60,6 +65,7 @@ spelling_lacks (Some shape) (Read b) h = joined (codes "read ") (decimal b) (pla
 spelling_lacks (Some shape) (Fail s j) h =
     joined (codes "fail ") _ (plain (codes "fail ") refl)
     (joined (decimal s) _ (number s h.0) (joined (codes " ") (decimal j) space (number j h.1)))
+spelling_lacks (Some shape) (Cat path) h = joined (codes "cat ") (path_word path) (plain (codes "cat ") refl) (path_lacks path h.1)
 
 -- where a line and its LF begin a text that begins with an event's line, the line spells the event
 pub whole_line : (shape : Option Shape) (event : Event) (line more tail : List ℕ) → IsInPlace shape event → (Contains line 10 → ⊥)

@@ -1,18 +1,32 @@
 -- The lines of a trace. Each event has one spelling: words with one space between them, numbers in decimal without a
--- leading zero, bytes as pairs of hex digits in lower case. The rules are this project's own.
-use Rattle.std.specs.Prelude.{◌⊎◌, ◌≤◌, ◌<◌, ◌+◌, ◌*◌, ◌^◌, ℕ, List, [], ◌∷◌, ◌++◌, length, codes, Option, Some, None, All}
+-- leading zero, bytes as pairs of hex digits in lower case, and a path byte by byte, each either itself or `\x` and its
+-- two hex digits. The rules are this project's own.
+use Rattle.std.specs.Prelude.{◌≡◌, ◌⊎◌, ◌≤◌, ◌<◌, ◌+◌, ◌*◌, ◌^◌, ◌==◌, ◌&&◌, not, nat_le, if◌then◌else◌, Bool, true, ℕ, List, [], ◌∷◌, ◌++◌, length, codes, Option, Some, None, All}
 use Rattle.std.specs.Fmt.{decimal}
 use Rattle.std.specs.List.{flat_map}
 use Rattle.hex.specs.Hex.{encode_lower}
 use Rattle.dg_model.specs.Shapes.{IsShape}
 use Rattle.dg_model.specs.declared.shapes.Shape.{Shape}
 use Rattle.dg_model.specs.declared.events.Event.{Event}
-use Rattle.dg_model.specs.declared.events.Event.TheVariants.{Array, Write, Read, Fail}
+use Rattle.dg_model.specs.declared.events.Event.TheVariants.{Array, Write, Read, Fail, Cat}
+use Rattle.ufs_model.specs.Paths.{is_one_name}
 
 -- bytes as a word
 abbrev pub hex_word : List ℕ → List ℕ
 hex_word [] = codes "-"
 hex_word (x ∷ xs) = encode_lower (x ∷ xs)
+
+-- a byte of a path that stands for itself: 0x21 to 0x7e but `\`
+abbrev pub is_plain : ℕ → Bool
+is_plain x = nat_le 33 x && (nat_le x 126 && not (x == 92))
+
+-- a byte of a path as it is spelled: by itself, or as `\x` and two hex digits in lower case
+unfoldable pub spelled_byte : ℕ → List ℕ
+spelled_byte x = if is_plain x then x ∷ [] else codes "\\x" ++ encode_lower (x ∷ [])
+
+-- a path as a word
+unfoldable pub path_word : List ℕ → List ℕ
+path_word path = flat_map spelled_byte path
 
 -- the numbers of an array
 abbrev pub shape_words : Shape → List ℕ
@@ -24,6 +38,7 @@ spelling (Array s) = codes "array " ++ shape_words s
 spelling (Write b bytes) = codes "write " ++ (decimal b ++ (codes " " ++ hex_word bytes))
 spelling (Read b) = codes "read " ++ decimal b
 spelling (Fail s j) = codes "fail " ++ (decimal s ++ (codes " " ++ decimal j))
+spelling (Cat path) = codes "cat " ++ path_word path
 
 -- its line
 abbrev pub line_of : Event → List ℕ
@@ -43,10 +58,12 @@ IsInPlace None (Array s) = IsShape s
 IsInPlace None (Write b bytes) = ⊥
 IsInPlace None (Read b) = ⊥
 IsInPlace None (Fail s j) = ⊥
+IsInPlace None (Cat path) = ⊥
 IsInPlace (Some shape) (Array s) = ⊥
 IsInPlace (Some shape) (Write b bytes) = (b < 2 ^ 32) × (length bytes ≤ shape.l) × AreBytes bytes
 IsInPlace (Some shape) (Read b) = b < 2 ^ 32
 IsInPlace (Some shape) (Fail s j) = (s < 2 ^ 32) × (j < 2 ^ 32)
+IsInPlace (Some shape) (Cat path) = (is_one_name path ≡ true) × AreBytes path
 
 -- the events of an input are in their places: the first makes an array, and the others follow it
 abbrev pub AreInPlace : List Event → Type 0
@@ -55,6 +72,7 @@ AreInPlace (Array s ∷ events) = IsShape s × All (IsInPlace (Some s)) events
 AreInPlace (Write b bytes ∷ events) = ⊥
 AreInPlace (Read b ∷ events) = ⊥
 AreInPlace (Fail s j ∷ events) = ⊥
+AreInPlace (Cat path ∷ events) = ⊥
 
 -- a bound on the bytes of a line, with its LF: a block as hex and 4201 more. Before the array a block counts as 512 bytes
 abbrev pub longest : Option Shape → ℕ

@@ -6,7 +6,8 @@ use dg_model::{Bytes, NoMemory};
 use hex::FromHexError;
 use std::alloc::Global;
 
-fn is_lower_hex(word: &[u8]) -> bool
+/// Whether all bytes are hex digits in lower case.
+pub fn is_lower_hex(word: &[u8]) -> bool
     ensures { IsTrue result ↔ All IsLowerDigit word.now }
 {
     word.iter().all(|x| matches!(*x, b'0'..=b'9' | b'a'..=b'f'))

@@ -4,6 +4,7 @@
 
 mod hex_words;
 mod lines;
+mod path_words;
 mod replies;
 #[cfg(test)]
 mod tests;

@@ -7,6 +7,7 @@ ghost use Rattle.dg_model.specs.declared.events.Event.{Event};
 ghost use Rattle.dg_model.specs.declared.shapes.Shape.{Shape};
 
 use crate::hex_words::read_hex;
+use crate::path_words::read_path;
 use crate::words::{after_word, number_before_space, whole_number};
 use dg_model::{Event, NoMemory, Shape};
 use std::alloc::Global;
@@ -65,6 +66,9 @@ fn event_of(alloc: Global, line: &[u8], shape: Option<&Shape>) -> Result<Option<
     if let Some(rest) = after_word(line, b"fail ") {
         return Ok(fail_of(rest));
     }
+    if let Some(rest) = after_word(line, b"cat ") {
+        return cat_of(alloc, rest);
+    }
     Ok(read_of(line))
 }
 
@@ -118,11 +122,23 @@ fn fail_of(words: &[u8]) -> Option<Event>
     Some(Event::Fail(boundary, whole_number(side)?))
 }
 
+// The reading of a file whose path the word behind `cat ` spells.
+fn cat_of(alloc: Global, word: &[u8]) -> Result<Option<Event>, NoMemory>
+    ensures spelled { IfOk result (λ r. IfSome r (λ event. codes "cat " ++ word.now ≡ spelling event)) }
+    ensures in_place { (shape : Shape) → IfOk result (λ r. IfSome r (IsInPlace (Some shape))) }
+    ensures exact { IfOk result (λ r. (shape : Shape) (event : Event) → IsInPlace (Some shape) event → codes "cat " ++ word.now ≡ spelling event → r ≡ Some event) }
+{
+    match read_path(alloc, word)? {
+        Some(path) => Ok(Some(Event::Cat(path))),
+        None => Ok(None),
+    }
+}
+
 // The read that a line spells.
 fn read_of(line: &[u8]) -> Option<Event>
     ensures spelled { IfSome result (λ event. line.now ≡ spelling event) }
     ensures in_place { (shape : Shape) → IfSome result (IsInPlace (Some shape)) }
-    ensures exact { (shape : Shape) (event : Event) → IsInPlace (Some shape) event → line.now ≡ spelling event → ((rest : List ℕ) → line.now ≢ codes "write " ++ rest) → ((rest : List ℕ) → line.now ≢ codes "fail " ++ rest) → result ≡ Some event }
+    ensures exact { (shape : Shape) (event : Event) → IsInPlace (Some shape) event → line.now ≡ spelling event → ((rest : List ℕ) → line.now ≢ codes "write " ++ rest) → ((rest : List ℕ) → line.now ≢ codes "fail " ++ rest) → ((rest : List ℕ) → line.now ≢ codes "cat " ++ rest) → result ≡ Some event }
 {
     let number = after_word(line, b"read ")?;
     Some(Event::Read(whole_number(number)?))

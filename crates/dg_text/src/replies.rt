@@ -1,22 +1,32 @@
-// Replies. Each is written by one call, without memory.
-ghost use Rattle.std.specs.Prelude.{◌≡◌, ◌≤◌, ◌<◌, ◌+◌, ◌*◌, ◌++◌, length, take, codes, OnOk, OnErr};
+// Replies. Each line is written by one call, without memory.
+ghost use Rattle.std.specs.Prelude.{◌≡◌, ◌≤◌, ◌<◌, ◌+◌, ◌*◌, ◌^◌, ◌++◌, All, length, take, codes, OnOk, OnErr};
+ghost use Rattle.std.specs.Fmt.{decimal};
+ghost use Rattle.std.specs.List.{concat};
 ghost use Rattle.dg_io.specs.Told.{Told, Took, TookPart};
 ghost use Rattle.dg_io.specs.Faults.{HasCause};
 ghost use Rattle.hex.specs.Hex.{encode_lower};
-ghost use Rattle.dg_text.specs.Replies.{reply_line, refusal, kind_of, usage, IsShort};
+ghost use Rattle.dg_text.specs.Replies.{reply_line, refusal, kind_of, usage, bytes_line, file_text, super_word, bad_word, refusal_words, AreShort, IsShort};
 
 use crate::BadLine;
 use dg_io::{Sink, write_all};
-use dg_model::{Failed, Reply};
+use dg_model::{Bytes, Failed, Reply};
 use itoa::Buffer;
+use ufs_model::{BadRead, BadSuper, PathRefusal};
 
 // Bytes of the longest line of data: the word and its space, two digits for each of 4096 bytes, and the LF.
 const DATA_ROOM: usize = 5 + 2 * 4096 + 1;
 
+// Bytes of the longest line of a file: the word and its space, two digits for each of 4096 bytes, and the LF.
+const BYTES_ROOM: usize = 6 + 2 * 4096 + 1;
+
+// Room for the line that ends a file, whose number has at most 10 digits.
+const COUNT_ROOM: usize = 16;
+
 // Room for the answer to a refused line, whose number has at most 20 digits.
 const REFUSAL_ROOM: usize = 64;
 
-/// Writes the line of a reply, whose bytes are at most 4096.
+/// Writes the line of a reply, or a file's lines and the one that ends it. A line has at most 4096 bytes of a block or a
+/// file.
 pub fn write_reply<K: Sink>(sink: &mut K, reply: &Reply) -> Result<(), Failed>
     requires { IsShort reply.now }
     ensures ok { OnOk result (Told (Took (reply_line reply.now)) (K.taken sink.old) (K.taken sink.new)) }
@@ -30,6 +40,9 @@ pub fn write_reply<K: Sink>(sink: &mut K, reply: &Reply) -> Result<(), Failed>
         Reply::Unavailable => write_all(sink, b"unavailable\n"),
         Reply::Already => write_all(sink, b"already\n"),
         Reply::Data(bytes) => write_data(sink, bytes.as_slice()),
+        Reply::Given(lines) => write_file(sink, lines.as_slice(), b"end "),
+        Reply::Cut(lines) => write_file(sink, lines.as_slice(), b"cut "),
+        Reply::Refused(refusal) => write_all(sink, refusal_line(*refusal)),
     }
 }
 
@@ -46,6 +59,67 @@ pub fn write_data<K: Sink>(sink: &mut K, bytes: &[u8]) -> Result<(), Failed>
     let mut line = [0u8; DATA_ROOM];
     let end = spell_data(&mut line, bytes);
     write_all(sink, &line[..end])
+}
+
+/// Writes the line of some bytes of a file, at most 4096.
+pub fn write_bytes_line<K: Sink>(sink: &mut K, bytes: &[u8]) -> Result<(), Failed>
+    requires { length bytes.now ≤ 4096 }
+    ensures ok { OnOk result (Told (Took (bytes_line bytes.now)) (K.taken sink.old) (K.taken sink.new)) }
+    ensures err { OnErr result (Told (TookPart (bytes_line bytes.now)) (K.taken sink.old) (K.taken sink.new)) }
+    ensures cause { HasCause (K.faults sink.old) (K.faults sink.new) result }
+{
+    let mut line = [0u8; BYTES_ROOM];
+    let end = spell_bytes(&mut line, bytes);
+    write_all(sink, &line[..end])
+}
+
+/// Writes the line that ends a file: a word of at most 4 bytes, its space among them, and how many bytes were written.
+pub fn write_count<K: Sink>(sink: &mut K, word: &[u8], n: u32) -> Result<(), Failed>
+    requires { length word.now ≤ 4 }
+    ensures ok { OnOk result (Told (Took (word.now ++ (decimal n ++ codes "\n"))) (K.taken sink.old) (K.taken sink.new)) }
+    ensures err { OnErr result (Told (TookPart (word.now ++ (decimal n ++ codes "\n"))) (K.taken sink.old) (K.taken sink.new)) }
+    ensures cause { HasCause (K.faults sink.old) (K.faults sink.new) result }
+{
+    let mut line = [0u8; COUNT_ROOM];
+    let end = spell_count(&mut line, word, n);
+    write_all(sink, &line[..end])
+}
+
+// Writes the lines of a file.
+fn write_lines<K: Sink>(sink: &mut K, lines: &[Bytes]) -> Result<(), Failed>
+    requires { All (λ line. (0 < length line) × (length line ≤ 4096)) lines.now }
+    ensures ok { OnOk result (Told (Took (file_text lines.now)) (K.taken sink.old) (K.taken sink.new)) }
+    ensures err { OnErr result (Told (TookPart (file_text lines.now)) (K.taken sink.old) (K.taken sink.new)) }
+    ensures cause { HasCause (K.faults sink.old) (K.faults sink.new) result }
+{
+    for line in lines {
+        write_bytes_line(sink, line.as_slice())?;
+    }
+    Ok(())
+}
+
+// The bytes of all lines together.
+fn bytes_in(lines: &[Bytes]) -> u32
+    requires { length (concat lines.now) < 2 ^ 32 }
+    ensures { result ≡ length (concat lines.now) }
+{
+    let mut count = 0;
+    for line in lines {
+        count += line.as_slice().len() as u32;
+    }
+    count
+}
+
+// Writes the lines of a file, and the one that ends it.
+fn write_file<K: Sink>(sink: &mut K, lines: &[Bytes], word: &[u8]) -> Result<(), Failed>
+    requires lines { AreShort lines.now }
+    requires word { length word.now ≤ 4 }
+    ensures ok { OnOk result (Told (Took ((file_text lines.now ++ (word.now ++ decimal (length (concat lines.now)))) ++ codes "\n")) (K.taken sink.old) (K.taken sink.new)) }
+    ensures err { OnErr result (Told (TookPart ((file_text lines.now ++ (word.now ++ decimal (length (concat lines.now)))) ++ codes "\n")) (K.taken sink.old) (K.taken sink.new)) }
+    ensures cause { HasCause (K.faults sink.old) (K.faults sink.new) result }
+{
+    write_lines(sink, lines)?;
+    write_count(sink, word, bytes_in(lines))
 }
 
 /// Writes the answer to a refused line. The first line of an input has the number 1.
@@ -94,6 +168,30 @@ fn spell_data(line: &mut [u8], bytes: &[u8]) -> usize
     put(line, end, b"\n")
 }
 
+// Spells the line of bytes of a file, and answers where it ends.
+fn spell_bytes(line: &mut [u8], bytes: &[u8]) -> usize
+    requires room { 2 * length bytes.now + 7 ≤ length line.old }
+    ensures end { result ≤ length line.new }
+    ensures text { take result line.new ≡ bytes_line bytes.now }
+{
+    let start = put(line, 0, b"bytes ");
+    let end = put_hex(line, start, bytes);
+    put(line, end, b"\n")
+}
+
+// Spells the line that ends a file, and answers where it ends.
+fn spell_count(line: &mut [u8], word: &[u8], n: u32) -> usize
+    requires word { length word.now ≤ 4 }
+    requires room { 16 ≤ length line.old }
+    ensures end { result ≤ length line.new }
+    ensures text { take result line.new ≡ word.now ++ (decimal n ++ codes "\n") }
+{
+    let mut digits = Buffer::new();
+    let start = put(line, 0, word);
+    let end = put(line, start, digits.format(n).as_bytes());
+    put(line, end, b"\n")
+}
+
 // Puts the hex digits of bytes at a place of a line, and answers where they end.
 fn put_hex(line: &mut [u8], at: usize, bytes: &[u8]) -> usize
     requires { at + 2 * length bytes.now ≤ length line.old }
@@ -124,5 +222,52 @@ fn tail_of(kind: BadLine) -> &'static [u8]
 {
     match kind {
         BadLine::Form => b" form\n",
+    }
+}
+
+// The line that says why a path gives nothing to read.
+fn refusal_line(refusal: PathRefusal) -> &'static [u8]
+    ensures { result.now ≡ refusal_words refusal ++ codes "\n" }
+{
+    match refusal {
+        PathRefusal::NotFound => b"notfound\n",
+        PathRefusal::NotDirectory => b"notdir\n",
+        PathRefusal::NotRegular => b"notregular\n",
+        PathRefusal::Bad(bad) => bad_line(bad),
+    }
+}
+
+// The line that says what is wrong with a volume.
+fn bad_line(bad: BadRead) -> &'static [u8]
+    ensures { result.now ≡ codes "bad " ++ (bad_word bad ++ codes "\n") }
+{
+    match bad {
+        BadRead::Super(kind) => super_line(kind),
+        BadRead::Wild => b"bad wild\n",
+        BadRead::Filesize => b"bad filesize\n",
+        BadRead::Hole => b"bad hole\n",
+        BadRead::Chunk => b"bad chunk\n",
+        BadRead::Entry => b"bad entry\n",
+        BadRead::Later => b"bad later\n",
+    }
+}
+
+// The line that says which test of a superblock fails.
+fn super_line(kind: BadSuper) -> &'static [u8]
+    ensures { result.now ≡ codes "bad " ++ (super_word kind ++ codes "\n") }
+{
+    match kind {
+        BadSuper::Magic => b"bad magic\n",
+        BadSuper::Format => b"bad format\n",
+        BadSuper::Bsize => b"bad bsize\n",
+        BadSuper::Fsize => b"bad fsize\n",
+        BadSuper::Frag => b"bad frag\n",
+        BadSuper::Nindir => b"bad nindir\n",
+        BadSuper::Inopb => b"bad inopb\n",
+        BadSuper::Size => b"bad size\n",
+        BadSuper::Groups => b"bad groups\n",
+        BadSuper::Inodes => b"bad inodes\n",
+        BadSuper::Layout => b"bad layout\n",
+        BadSuper::Summary => b"bad summary\n",
     }
 }

@@ -1,0 +1,25 @@
+use Rattle.std.proofs.Common.{length}
+use Rattle.std.specs.List.{concat}
+use Rattle.std.specs.Fmt.{decimal}
+use Rattle.std.proofs.lemmas.Result.{on_ok_weaker, on_err_weaker}
+use Rattle.dg_text.specs.Replies.{file_text}
+use Rattle.dg_text.proofs.ToldSteps.{on_err}
+use Rattle.dg_text.proofs.FileLines.{took_ended, took_part_ended, took_part_unended}
+use Rattle.dg_text.proofs.replies.write_file.Goals as goal
+
+pub returns-in_err-write_lines-clause-err : goal.returns-in_err-write_lines-clause-err
+returns-in_err-write_lines-clause-err g c =
+    on_err c.from_residual.result
+    (took_part_unended (file_text c.args.lines.now) c.args.word.now (decimal (length (concat c.args.lines.now))) _ _ c.in_err-write_lines.ensures.err)
+
+pub returns-clause-ok : goal.returns-clause-ok
+returns-clause-ok g c =
+    on_ok_weaker c.write_count.result
+    (λ last. took_ended (file_text c.args.lines.now) c.args.word.now (length (concat c.args.lines.now)) c.bytes_in.result c.bytes_in.ensures _ _ _ c.in_ok-write_lines.ensures.ok last)
+    c.write_count.ensures.ok
+
+pub returns-clause-err : goal.returns-clause-err
+returns-clause-err g c =
+    on_err_weaker c.write_count.result
+    (λ last. took_part_ended (file_text c.args.lines.now) c.args.word.now (length (concat c.args.lines.now)) c.bytes_in.result c.bytes_in.ensures _ _ _ c.in_ok-write_lines.ensures.ok last)
+    c.write_count.ensures.err
