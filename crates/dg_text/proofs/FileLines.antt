@@ -8,7 +8,7 @@ use Rattle.std.specs.Prelude.{Option, codes}
 use Rattle.std.specs.Fmt.{decimal}
 use Rattle.dg_io.specs.Told.{Told, Took, TookPart}
 use Rattle.dg_text.specs.Replies.{bytes_line, file_text}
-use Rattle.dg_text.proofs.ToldSteps.{took_both, took_part_of_more, took_part_after}
+use Rattle.dg_text.specs.ToldSteps.{took_both, took_part_of_more, took_part_after}
 
 -- one line more
 pub text_more : (lines : List (List ℕ)) (i : ℕ) (line : List ℕ) → i < length lines → line ≡ get_or lines i line
@@ -46,7 +46,7 @@ took_part_of_lines lines i line bytes lt is same x y z before part =
     let P : List ℕ → Type 0 = λ l. Told (TookPart (bytes_line l)) y z in
     let so_far = took_part_after (file_text (take i lines)) (bytes_line line) x y z before (subst P same part) in
     let whole : (file_text (take i lines) ++ bytes_line line) ++ file_text (drop (i + 1) lines) ≡ file_text lines =
-        ap (λ (l : List ℕ). l ++ file_text (drop (i + 1) lines)) (sym (text_more lines i line lt is)) ∙ sym (text_cut lines (i + 1)) in
+    ap (λ (l : List ℕ). l ++ file_text (drop (i + 1) lines)) (sym (text_more lines i line lt is)) ∙ sym (text_cut lines (i + 1)) in
     let Q : List ℕ → Type 0 = λ l. Told (TookPart l) x z in
     subst Q whole (took_part_of_more (file_text (take i lines) ++ bytes_line line) (file_text (drop (i + 1) lines)) x z so_far)
 

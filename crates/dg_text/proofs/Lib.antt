@@ -4,5 +4,5 @@ mod HexWords
 mod PathWords
 mod Lengths
 mod WholeLines
-mod ToldSteps
 mod FileLines
+mod HexLineSteps

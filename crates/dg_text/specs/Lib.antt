@@ -1,2 +1,5 @@
+pub mod HexLineLaws
+pub mod HexLines
 pub mod Lines
 pub mod Replies
+pub mod ToldSteps

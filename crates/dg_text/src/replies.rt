@@ -145,8 +145,8 @@ pub fn write_usage<K: Sink>(sink: &mut K) -> Result<(), Failed>
     )
 }
 
-// Puts a piece at a place of a line, and answers where it ends.
-fn put(line: &mut [u8], at: usize, piece: &[u8]) -> usize
+/// Puts a piece at a place of a line, and answers where it ends.
+pub fn put(line: &mut [u8], at: usize, piece: &[u8]) -> usize
     requires { at + length piece.now ≤ length line.old }
     ensures end { result ≡ at + length piece.now }
     ensures text { take result line.new ≡ take at line.old ++ piece.now }
@@ -175,8 +175,8 @@ fn spell_bytes(line: &mut [u8], bytes: &[u8]) -> usize
     ensures text { take result line.new ≡ bytes_line bytes.now }
 {
     let start = put(line, 0, b"bytes ");
-    let end = put_hex(line, start, bytes);
-    put(line, end, b"\n")
+    let after = put_hex(line, start, bytes);
+    put(line, after, b"\n")
 }
 
 // Spells the line that ends a file, and answers where it ends.
@@ -188,8 +188,8 @@ fn spell_count(line: &mut [u8], word: &[u8], n: u32) -> usize
 {
     let mut digits = Buffer::new();
     let start = put(line, 0, word);
-    let end = put(line, start, digits.format(n).as_bytes());
-    put(line, end, b"\n")
+    let after = put(line, start, digits.format(n).as_bytes());
+    put(line, after, b"\n")
 }
 
 // Puts the hex digits of bytes at a place of a line, and answers where they end.

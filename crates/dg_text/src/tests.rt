@@ -1,9 +1,18 @@
+ghost use Rattle.std.specs.Prelude.{◌≡◌, ◌++◌, ◌∷◌, [], ℕ, List, length, codes, IfOk, OnOk, ◌≤◌, ◌<◌};
+ghost use Rattle.std.specs.List.{concat};
+ghost use Rattle.dg_io.specs.Told.{Told, Took};
+ghost use Rattle.dg_model.specs.Lists.{AreLines};
+ghost use Rattle.dg_text.specs.Replies.{file_text};
+ghost use Rattle.dg_text.specs.HexLines.{last_line};
+
 use crate::{
-    BadLine, longest_line, read_line, write_data, write_refusal, write_reply, write_usage,
+    BadLine, HexLines, longest_line, read_line, write_data, write_refusal, write_reply, write_usage,
 };
-use dg_io::MemSink;
-use dg_model::{Bytes, Event, Failed, Reply, Shape};
+use dg_io::{MemSink, Pieces, Sink};
+use dg_model::{Bytes, Event, Failed, Lines, Reply, Shape};
+use std::alloc::{AllocError, Global};
 use std::test::Fail;
+use ufs_model::{BadRead, BadSuper, PathRefusal};
 
 const SHAPE: Shape = Shape {
     l: 1024,
@@ -20,6 +29,7 @@ enum Want {
     Array,
     Write(u32, &'static [u8]),
     Read(u32),
+    Cat(&'static [u8]),
 }
 
 fn gives(answer: &Result<Event, BadLine>, want: &Want) -> bool {
@@ -30,6 +40,7 @@ fn gives(answer: &Result<Event, BadLine>, want: &Want) -> bool {
             *block == *at && bytes.as_slice() == *data
         }
         (Ok(Event::Read(block)), Want::Read(at)) => *block == *at,
+        (Ok(Event::Cat(path)), Want::Cat(bytes)) => path.as_slice() == *bytes,
         _ => false,
     }
 }
@@ -78,6 +89,48 @@ fn lines_spell_events_in_their_places(rt: HostRuntime) -> Result<(), Fail> {
 }
 
 #[test]
+fn paths_have_one_name(rt: HostRuntime) -> Result<(), Fail> {
+    let rows = [
+        ("cat /a", Want::Cat(b"/a")),
+        ("cat /x\\x20y", Want::Cat(b"/x y")),
+        ("cat /\\x5c", Want::Cat(b"/\\")),
+        ("cat /\\xff", Want::Cat(b"/\xff")),
+        ("cat /", Want::Refused),
+        ("cat a", Want::Refused),
+        ("cat /a/b", Want::Refused),
+        ("cat /\\x41", Want::Refused),
+        ("cat /\\x2F", Want::Refused),
+        ("cat /\\xfF", Want::Refused),
+        ("cat /a b", Want::Refused),
+        ("cat /\\x00", Want::Refused),
+        ("cat /\\x2", Want::Refused),
+        ("cat ", Want::Refused),
+        ("cat", Want::Refused),
+    ];
+    for (line, want) in rows {
+        let answer = read_line(rt.alloc(), line.as_bytes(), Some(&SHAPE))?;
+        assert!(rt; gives(&answer, &want), "{line}");
+    }
+    let first = read_line(rt.alloc(), b"cat /a", None)?;
+    assert!(rt; gives(&first, &Want::Refused));
+    Ok(())
+}
+
+#[test]
+fn a_name_is_at_most_255_bytes(rt: HostRuntime) -> Result<(), Fail> {
+    let mut line = Vec::from_slice(rt.alloc(), b"cat /")?;
+    for _ in 0..255 {
+        line.extend_from_slice(b"\\x01")?;
+    }
+    let whole = read_line(rt.alloc(), &line, Some(&SHAPE))?;
+    assert!(rt; whole.is_ok());
+    line.push(b'a')?;
+    let longer = read_line(rt.alloc(), &line, Some(&SHAPE))?;
+    assert!(rt; gives(&longer, &Want::Refused));
+    Ok(())
+}
+
+#[test]
 fn a_block_is_at_most_l_bytes(rt: HostRuntime) -> Result<(), Fail> {
     let mut line = Vec::from_slice(rt.alloc(), b"write 3 ")?;
     for _ in 0..1024 {
@@ -110,6 +163,73 @@ fn replies_are_written_as_lines(rt: HostRuntime) -> Result<(), Fail> {
     let text =
         b"ok\nrange\ndegraded\nunavailable\ndata 6869\ndata 00ff\ndata -\nline 2 form\nusage: dgraid replay | resume | cat PATH | ls PATH | status | trace ORDER B K M | drill SEED FILES\n";
     assert!(rt; sink.taken() == text.as_slice());
+    Ok(())
+}
+
+// A file of two lines.
+fn two_lines(alloc: Global, first: &[u8], second: &[u8]) -> Result<Lines, AllocError> {
+    let mut lines = Vec::new(alloc);
+    lines.push(Bytes::new(Vec::from_slice(alloc, first)?))?;
+    lines.push(Bytes::new(Vec::from_slice(alloc, second)?))?;
+    Ok(Lines::new(lines))
+}
+
+#[test]
+fn what_cat_answers_is_written(rt: HostRuntime) -> Result<(), Fail> {
+    let alloc = rt.alloc();
+    let mut sink = MemSink::new(alloc, 256, Vec::new(alloc))?;
+    let rows = [
+        PathRefusal::NotFound,
+        PathRefusal::NotDirectory,
+        PathRefusal::NotRegular,
+        PathRefusal::Bad(BadRead::Super(BadSuper::Magic)),
+        PathRefusal::Bad(BadRead::Super(BadSuper::Summary)),
+        PathRefusal::Bad(BadRead::Later),
+    ];
+    for refusal in rows {
+        write_reply(&mut sink, &Reply::Refused(refusal))?;
+    }
+    write_reply(&mut sink, &Reply::Cut(Lines::new(Vec::new(alloc))))?;
+    let text = b"notfound\nnotdir\nnotregular\nbad magic\nbad summary\nbad later\ncut 0\n";
+    assert!(rt; sink.taken() == text.as_slice());
+    Ok(())
+}
+
+// Writes two pieces as the lines of a file.
+fn write_pieces<K: Sink>(sink: &mut K, first: &[u8], second: &[u8], n: u32) -> Result<(), Failed>
+    ensures { OnOk result ((lines : List (List ℕ)) × AreLines 4 lines × (concat lines ≡ first.now ++ second.now) × Told (Took (file_text lines ++ last_line (codes "end ") n)) (K.taken sink.old) (K.taken sink.new)) }
+{
+    let mut lines = HexLines::new(&mut *sink, 4);
+    lines.piece(first)?;
+    lines.piece(second)?;
+    lines.end(n)
+}
+
+#[test]
+fn a_file_is_written_in_lines(rt: HostRuntime) -> Result<(), Fail> {
+    let alloc = rt.alloc();
+    let mut sink = MemSink::new(alloc, 256, Vec::new(alloc))?;
+    write_pieces(&mut sink, b"hello", b"world", 10)?;
+    write_pieces(&mut sink, b"", b"", 0)?;
+    let mut lines = HexLines::new(&mut sink, 4);
+    lines.piece(b"hello")?;
+    lines.piece(b"wor")?;
+    lines.piece(b"ld")?;
+    lines.cut(10)?;
+    let text =
+        b"bytes 68656c6c\nbytes 6f776f72\nbytes 6c64\nend 10\nend 0\nbytes 68656c6c\nbytes 6f776f72\nbytes 6c64\ncut 10\n";
+    assert!(rt; sink.taken() == text.as_slice());
+    Ok(())
+}
+
+#[test]
+fn a_line_of_a_file_may_fail(rt: HostRuntime) -> Result<(), Fail> {
+    let alloc = rt.alloc();
+    let mut sink = MemSink::new(alloc, 256, Vec::from_slice(alloc, &[1])?)?;
+    let mut lines = HexLines::new(&mut sink, 4);
+    lines.piece(b"hello")?;
+    assert_eq!(rt; lines.piece(b"world"), Err(Failed));
+    assert!(rt; sink.taken() == b"bytes 68656c6c\n".as_slice());
     Ok(())
 }
 

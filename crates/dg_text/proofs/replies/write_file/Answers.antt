@@ -3,7 +3,7 @@ use Rattle.std.specs.List.{concat}
 use Rattle.std.specs.Fmt.{decimal}
 use Rattle.std.proofs.lemmas.Result.{on_ok_weaker, on_err_weaker}
 use Rattle.dg_text.specs.Replies.{file_text}
-use Rattle.dg_text.proofs.ToldSteps.{on_err}
+use Rattle.dg_text.specs.ToldSteps.{on_err}
 use Rattle.dg_text.proofs.FileLines.{took_ended, took_part_ended, took_part_unended}
 use Rattle.dg_text.proofs.replies.write_file.Goals as goal
 

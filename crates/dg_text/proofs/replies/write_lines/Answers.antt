@@ -1,4 +1,4 @@
-use Rattle.dg_text.proofs.ToldSteps.{on_err}
+use Rattle.dg_text.specs.ToldSteps.{on_err}
 use Rattle.dg_text.proofs.FileLines.{took_part_of_lines}
 use Rattle.dg_text.proofs.replies.write_lines.Goals as goal
 
