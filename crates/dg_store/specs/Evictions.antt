@@ -1,5 +1,5 @@
 -- Sites that were given up to make room, and how they are taken back.
-use Rattle.std.specs.Prelude.{◌≡◌, ◌<◌, ◌++◌, ℕ, List, [], ◌∷◌, length}
+use Rattle.std.specs.Prelude.{◌≡◌, ◌<◌, ◌≤◌, ◌++◌, ℕ, List, [], ◌∷◌, length}
 use Rattle.dg_model.specs.Sites.{IsLeastSpread, has_site}
 use Rattle.dg_model.specs.Tables.{Table, sites_in, without_site}
 use Rattle.dg_model.specs.declared.sites.Site.{Site}
@@ -16,6 +16,10 @@ pub record IsLastSite (table : Table) (given : GivenUp) : Type 0 where
 abbrev pub GaveUp : List GivenUp → Table → Table → Type 0
 GaveUp [] old new = new ≡ old
 GaveUp (given ∷ more) old new = IsLastSite old given × GaveUp more (without_site old given.block given.site.boundary) new
+
+-- each block below this one has at most one site
+abbrev pub NoneSpreadBelow : Table → ℕ → Type 0
+NoneSpreadBelow table b = (a : ℕ) → a < b → length (sites_in table a) ≤ 1
 
 -- each block has a front of its sites, and at least one where it had one
 pub record IsThinned (old new : Table) : Type 0 where

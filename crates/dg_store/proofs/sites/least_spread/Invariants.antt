@@ -1,6 +1,5 @@
-use Rattle.std.proofs.Common.{ℕ, ◌<◌, ◌≤◌, length}
-use Rattle.dg_model.specs.Tables.{sites_in}
+use Rattle.dg_store.specs.Evictions.{NoneSpreadBelow}
 use Rattle.dg_store.proofs.sites.least_spread.Given as goal
 
 abbrev pub invariant-loop-spread : goal.invariant-loop-spread
-invariant-loop-spread l = (k : ℕ) → k < l.spread → length (sites_in l.map k) ≤ 1
+invariant-loop-spread l = NoneSpreadBelow l.map l.spread
