@@ -12,7 +12,7 @@ use Rattle.dg_model.specs.Shapes.{IsShape}
 use Rattle.dg_model.specs.Sites.{IsLeastSpread, has_site, without_last}
 use Rattle.dg_model.specs.Tables.{IsFree, IsTable, StandsIn, Table, count_on, put_site, sites_in, sites_off, used_in, without_site}
 use Rattle.dg_store.specs.declared.sites.GivenUp.{GivenUp}
-use Rattle.dg_store.specs.Evictions.{GaveUp, IsLastSite, IsThinned, NoneSpreadBelow}
+use Rattle.dg_store.specs.Evictions.{GaveUp, IsLastSite, IsThinned, NoneSpreadBelow, table_before}
 use Rattle.dg_store.proofs.SitesLists.{count_on-append, count_on-last, count_pos, front_none, has_site-some, off_last, single_off, split_last, take_others}
 
 -- the site that a boundary and a slot name
@@ -111,6 +111,17 @@ module _ (table : Table) (given : GivenUp) (ok : IsTable table) (last : IsLastSi
   pub thinned_once : IsThinned table (without_site table given.block given.site.boundary)
   thinned_once = record { shape = refl; front = front_left; written = written_left }
 
+  pub left_table : IsTable (without_site table given.block given.site.boundary)
+  left_table = IsTable-thinned table (without_site table given.block given.site.boundary) ok thinned_once (length-set table.rows given.block (sites_off given.site.boundary (sites_in table given.block)))
+
+  -- taken again, the site is the last one of its list
+  pub taken_again : put_site (without_site table given.block given.site.boundary) given.block given.site ≡ table
+  taken_again =
+      ap (λ rows. record { shape = table.shape; rows = rows })
+      (set-set table.rows given.block (sites_off given.site.boundary (sites_in table given.block)) (sites_in (without_site table given.block given.site.boundary) given.block ++ given.site ∷ [])
+      ∙ ap (λ row. set table.rows given.block row) (ap (λ xs. xs ++ given.site ∷ []) left_here ∙ sym last.list)
+      ∙ set-get_or table.rows given.block [])
+
   -- that site is the last one
   pub last_left : without_last table given.block ≡ without_site table given.block given.site.boundary
   last_left =
@@ -152,9 +163,7 @@ pub gave_thinned : (es : List GivenUp) (old new : Table) → IsTable old → Gav
 gave_thinned [] old new ok gave = subst (IsThinned old) (sym gave) (thinned_none old)
 gave_thinned (e ∷ es) old new ok gave =
     let mid : Table = without_site old e.block e.site.boundary in
-    let thin : IsThinned old mid = thinned_once old e ok gave.0 in
-    let sound : IsTable mid = IsTable-thinned old mid ok thin (length-set old.rows e.block (sites_off e.site.boundary (sites_in old e.block))) in
-    thinned_both old mid new thin (gave_thinned es mid new sound gave.1)
+    thinned_both old mid new (thinned_once old e ok gave.0) (gave_thinned es mid new (left_table old e ok gave.0) gave.1)
 
 pub gave_table : (es : List GivenUp) (old new : Table) → IsTable old → GaveUp es old new → IsTable new
 gave_table es old new ok gave = IsTable-thinned old new ok (gave_thinned es old new ok gave) (gave_size es old new gave)
@@ -162,6 +171,13 @@ gave_table es old new ok gave = IsTable-thinned old new ok (gave_thinned es old 
 pub gave_push : (es : List GivenUp) (e : GivenUp) (old mid new : Table) → GaveUp es old mid → IsLastSite mid e → new ≡ without_site mid e.block e.site.boundary → GaveUp (es ++ e ∷ []) old new
 gave_push [] e old mid new gave last is = (subst (λ t. IsLastSite t e) gave last, is ∙ ap (λ t. without_site t e.block e.site.boundary) gave)
 gave_push (x ∷ es) e old mid new gave last is = (gave.0, gave_push es e (without_site old x.block x.site.boundary) mid new gave.1 last is)
+
+-- the table before, from what is left
+pub gave_before : (es : List GivenUp) (old new : Table) → IsTable old → GaveUp es old new → table_before es new ≡ old
+gave_before [] old new ok gave = gave
+gave_before (e ∷ es) old new ok gave =
+    ap (λ t. put_site t e.block e.site) (gave_before es (without_site old e.block e.site.boundary) new (left_table old e ok gave.0) gave.1)
+    ∙ taken_again old e ok gave.0
 
 -- the table before the last site of a list was given up
 pub record GaveLast (es : List GivenUp) (e : GivenUp) (old new : Table) : Type 0 where

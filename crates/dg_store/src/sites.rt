@@ -2,7 +2,7 @@
 ghost use Rattle.std.specs.Prelude.{◌≡◌, ◌<◌, ◌-◌, ℕ, [], ◌∷◌, length, IfOk, IfSome, MatchOption, OnOk, OnErr, slice_get, Some};
 ghost use Rattle.dg_model.specs.Sites.{Evicts, IsFewest, IsGivenFirst, IsFirstBoundary, IsPacked, IsLeastSpread};
 ghost use Rattle.dg_model.specs.Tables.{Table, IsTable, sites_in, put_site, without_site};
-ghost use Rattle.dg_store.specs.Evictions.{GaveUp, IsEvicted, IsThinned, NoneSpreadBelow};
+ghost use Rattle.dg_store.specs.Evictions.{GaveUp, IsEvicted, IsThinned, NoneSpreadBelow, table_before};
 
 use dg_io::NoMemory;
 use dg_map::{Map, TakeFault};
@@ -27,6 +27,7 @@ pub fn give_first(map: &mut Map, block: u32, given_up: &mut Vec<GivenUp>) -> Res
     ensures given { IfOk result (λ site. IsGivenFirst map.old block map.new) }
     ensures last { IfOk result (λ site. sites_in map.new block ≡ site ∷ []) }
     ensures up { IfOk result (λ site. GaveUp given_up.new.items map.old (without_site map.new block site.boundary)) }
+    ensures before { IfOk result (λ site. table_before given_up.new.items (without_site map.new block site.boundary) ≡ map.old) }
     ensures others { IfOk result (λ site. IsThinned map.old (without_site map.new block site.boundary)) }
     ensures err { OnErr result (IsThinned map.old map.new) }
 {
