@@ -1,6 +1,10 @@
 mod Blocks
 mod Calls
 mod Changed
+mod EvictionCounts
+mod EvictionSteps
 mod Rows
+mod SitesGivenUp
+mod SitesLists
 mod Struck
 mod ViewLaws

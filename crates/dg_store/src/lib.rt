@@ -3,6 +3,8 @@
 
 mod boundaries;
 mod lengths;
+#[cfg(test)]
+mod site_tests;
 mod sites;
 mod store;
 #[cfg(test)]
