@@ -1,6 +1,9 @@
 mod Blocks
 mod Calls
 mod Changed
+mod PlaceLemmas
 mod Rows
+mod Sound
 mod Struck
+mod TableLemmas
 mod ViewLaws

@@ -3,6 +3,7 @@
 
 mod boundaries;
 mod lengths;
+mod places;
 mod sites;
 mod store;
 #[cfg(test)]

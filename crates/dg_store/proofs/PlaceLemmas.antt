@@ -1,0 +1,106 @@
+-- Lists of sites, and what reads and writes of them leave.
+use Rattle.std.proofs.Common.{◌≡◌, ◌≢◌, ◌⊎◌, inl, inr, ℕ, zero, suc, ◌+◌, ◌/◌, ◌<◌, true, false, Bool, List, [], ◌∷◌, length, refl, sym, ◌∙◌, ap, subst, arith, get_or}
+use Rattle.std.specs.Prelude.{Option, ◌&&◌}
+use Rattle.std.specs.List.{All, Contains}
+use Rattle.std.proofs.lemmas.Bool.{and_parts, and_from, cases_eq}
+use Rattle.std.proofs.lemmas.List.Elements.{All-head, All-tail, All-contains, Contains-append_cases, Contains-append_right}
+use Rattle.dg_model.specs.Members.{serves, is_lost, SlotHolds}
+use Rattle.dg_model.specs.Sites.{all_lost}
+use Rattle.dg_model.specs.declared.sites.Site.{Site}
+use Rattle.dg_model.specs.declared.members.MemberState.{MemberState}
+use Rattle.dg_model.specs.declared.members.MemberState.TheVariants.{Out}
+use Rattle.dg_store.specs.Rows.{KeepsSlots, KeepsOtherSlots, KeepsSlotsBut, LostAreOut}
+
+-- ---- sites on lost boundaries
+
+abbrev pub IsLostSite : (ℕ → MemberState) → Site → Type 0
+IsLostSite members site = is_lost members site.boundary ≡ true
+
+-- a site with these bytes
+abbrev pub IsHeld : ℕ → (ℕ → MemberState) → (ℕ → Option (List ℕ)) → List ℕ → Site → Type 0
+IsHeld l members bytes v site = SlotHolds l members bytes site.boundary site.slot v
+
+-- where the site is on a lost boundary, both its members are out
+abbrev pub IsOutWhereLost : (ℕ → MemberState) → Site → Type 0
+IsOutWhereLost members site = is_lost members site.boundary ≡ true → (q : ℕ) → q / 2 ≡ site.boundary → members q ≡ Out
+
+pub lost_from_all : (members : ℕ → MemberState) (sites : List Site) → All (IsLostSite members) sites → all_lost members sites ≡ true
+lost_from_all members [] all = refl
+lost_from_all members (site ∷ sites) all =
+    and_from (is_lost members site.boundary) (all_lost members sites) (All-head (IsLostSite members) site sites all) (lost_from_all members sites (All-tail (IsLostSite members) site sites all))
+
+pub lost_at_each : (members : ℕ → MemberState) (sites : List Site) → all_lost members sites ≡ true → All (IsLostSite members) sites
+lost_at_each members [] lost k d below = absurd (omega arith)
+lost_at_each members (site ∷ sites) lost zero d below = (and_parts (is_lost members site.boundary) (all_lost members sites) lost).0
+lost_at_each members (site ∷ sites) lost (suc k) d below = lost_at_each members sites (and_parts (is_lost members site.boundary) (all_lost members sites) lost).1 k d (omega arith)
+
+-- ---- whether a slot is one of the sites
+
+pub site_is : (site : Site) (s slot : ℕ) → site.boundary ≡ s → site.slot ≡ slot → site ≡ record { boundary = s; slot = slot }
+site_is site s slot at in_slot =
+    let f : ℕ → ℕ → Site = λ t x. record { boundary = t; slot = x } in
+    ap (λ (t : ℕ). f t site.slot) at ∙ ap (λ (x : ℕ). f s x) in_slot
+
+first_is : (site : Site) (sites : List Site) (s slot : ℕ) → Contains (site ∷ []) (record { boundary = s; slot = slot }) → (s ≡ site.boundary) × (slot ≡ site.slot)
+first_is site sites s slot (zero, below, is) = (ap (λ (x : Site). x.boundary) (sym is), ap (λ (x : Site). x.slot) (sym is))
+first_is site sites s slot (suc k, below, is) = absurd (omega arith)
+
+pub contains_or : (sites : List Site) (s slot : ℕ) → Contains sites (record { boundary = s; slot = slot }) ⊎ (¬ Contains sites (record { boundary = s; slot = slot }))
+contains_or [] s slot = inr (λ c. absurd (let below = c.1 in omega arith))
+contains_or (site ∷ sites) s slot = elim (contains_or sites s slot) [
+  | inl in_rest ↦ inl (Contains-append_right (site ∷ []) sites _ in_rest)
+  | inr off ↦ elim (cases_eq site.boundary s) [
+    | inl at ↦ elim (cases_eq site.slot slot) [
+      | inl same ↦ inl (0, omega arith, site_is site s slot at same)
+      | inr other ↦ inr (λ c. elim (Contains-append_cases (site ∷ []) sites _ c) [
+        | inl first ↦ other (sym (first_is site sites s slot first).1)
+        | inr rest ↦ off rest
+      ])
+    ]
+    | inr other ↦ inr (λ c. elim (Contains-append_cases (site ∷ []) sites _ c) [
+      | inl first ↦ other (sym (first_is site sites s slot first).0)
+      | inr rest ↦ off rest
+    ])
+  ]
+]
+
+-- ---- writes
+
+-- a boundary holds anything, where none of its members serves
+pub lost_holds : (l s slot : ℕ) (members : ℕ → MemberState) (bytes : ℕ → Option (List ℕ)) (v : List ℕ) → ((q : ℕ) → q / 2 ≡ s → members q ≡ Out) → SlotHolds l members bytes s slot v
+lost_holds l s slot members bytes v out q at serving = absurd (let e = ap (λ (m : MemberState). serves m slot) (out q at) in cc (sym e ∙ serving))
+
+module _ (l : ℕ) (old new : ℕ → MemberState) (before now : ℕ → Option (List ℕ)) where
+  -- one slot was written: each slot that had the same bytes has them
+  pub keep_or_put : (s at : ℕ) (v : List ℕ) → KeepsOtherSlots l s at old before new now → SlotHolds l new now s at v
+      → (t slot : ℕ) → SlotHolds l old before t slot v → SlotHolds l new now t slot v
+  keep_or_put s at v kept put t slot had = elim (cases_eq t s) [
+    | inl here ↦ elim (cases_eq slot at) [
+      | inl same ↦ subst (λ (x : ℕ). SlotHolds l new now x slot v) (sym here) (subst (λ (x : ℕ). SlotHolds l new now s x v) (sym same) put)
+      | inr other ↦ kept t slot v (λ is. other) had
+    ]
+    | inr other ↦ kept t slot v (λ is. absurd (other is)) had
+  ]
+
+  -- a write of one slot, which is one of the sites
+  pub but_these : (sites : List Site) (s at : ℕ) → Contains sites (record { boundary = s; slot = at }) → KeepsOtherSlots l s at old before new now → KeepsSlotsBut l sites old before new now
+  but_these sites s at in_sites kept t slot v off had =
+      kept t slot v (λ here same. off (subst (λ (x : ℕ). Contains sites (record { boundary = x; slot = slot })) (sym here) (subst (λ (x : ℕ). Contains sites (record { boundary = s; slot = x })) (sym same) in_sites))) had
+
+  -- a write of sites none of which is served
+  pub all_kept : (sites : List Site) → LostAreOut new sites → all_lost new sites ≡ true → KeepsSlotsBut l sites old before new now → KeepsSlots l old before new now
+  all_kept sites out lost kept t slot v had = elim (contains_or sites t slot) [
+    | inl in_sites ↦ lost_holds l t slot new now v (All-contains (IsOutWhereLost new) sites _ out in_sites (All-contains (IsLostSite new) sites _ (lost_at_each new sites lost) in_sites))
+    | inr off ↦ kept t slot v off had
+  ]
+
+  -- a write of one slot that isn't served
+  pub slot_kept : (s at : ℕ) → ((q : ℕ) → q / 2 ≡ s → new q ≡ Out) → KeepsOtherSlots l s at old before new now → KeepsSlots l old before new now
+  slot_kept s at out kept t slot v had = elim (cases_eq t s) [
+    | inl here ↦ lost_holds l t slot new now v (λ q is. out q (is ∙ here))
+    | inr other ↦ kept t slot v (λ is. absurd (other is)) had
+  ]
+
+-- further calls
+pub kept_both : (l : ℕ) (a b c : ℕ → MemberState) (x y z : ℕ → Option (List ℕ)) → KeepsSlots l a x b y → KeepsSlots l b y c z → KeepsSlots l a x c z
+kept_both l a b c x y z first second t slot v had = second t slot v (first t slot v had)
