@@ -7,7 +7,7 @@ use Rattle.std.proofs.lemmas.Bool.Decides.{nat_tests}
 use Rattle.std.proofs.lemmas.List.{get_or-set_same, get_or-set_other, set-set, set-get_or, append-nil, length-append}
 use Rattle.std.proofs.lemmas.List.Sums.{length-filter}
 use Rattle.std.proofs.lemmas.List.Filters.{length-filter_both}
-use Rattle.std.proofs.lemmas.List.Elements.{All-head, All-tail, All-nil, All-cons, All-filter, All-contains, All-contains_itself, Contains-get_or, filter-append}
+use Rattle.std.proofs.lemmas.List.Elements.{All-head, All-tail, All-nil, All-cons, All-filter, All-contains, All-contains_itself, Contains-get_or, filter-append, filter_passes}
 use Rattle.dg_model.specs.Sites.{has_site}
 use Rattle.dg_model.specs.Tables.{Table, IsTable, count_on, empty_table, put_site, sites_in, sites_off, without_site}
 use Rattle.dg_model.specs.declared.shapes.Shape.{Shape}
@@ -113,3 +113,27 @@ pub are_slots : (table : Table) (b boundaries : ℕ) → IsTable table → bound
 are_slots table b boundaries is count k d below =
     let there = Contains-get_or (sites_in table b) k d below in
     (let low = is.boundaries b _ _ there in omega (arith, low, count), let low = is.slots b _ _ there in omega (arith, low))
+
+-- a block has a site on the boundary
+pub some_on : (s : ℕ) (sites : List Site) → 0 < count_on s sites → (site : Site) × Contains sites site × (site.boundary ≡ s)
+some_on s sites some =
+    let test : Site → Bool = λ (x : Site). x.boundary == s in
+    let on = filter test sites in
+    let below : 0 < length on = omega (arith, length-filter test sites, some) in
+    let site = get_or on 0 (record { boundary = 0; slot = 0 }) in
+    let passes : (site.boundary == s) ≡ true = filter_passes test sites 0 (record { boundary = 0; slot = 0 }) below in
+    let at : site.boundary ≡ s = grind (arith, nat_tests) in
+    (site, All-filter test (Contains sites) sites (All-contains_itself sites) 0 (record { boundary = 0; slot = 0 }) below, at)
+
+pub count_put : (s : ℕ) (sites : List Site) (site : Site) → site.boundary ≡ s → 0 < count_on s (sites ++ site ∷ [])
+count_put s sites site at =
+    let test : Site → Bool = λ (x : Site). x.boundary == s in
+    let whole = filter-append test sites (site ∷ []) in
+    let one : filter test (site ∷ []) ≡ site ∷ [] = ap (λ (b : Bool). cond b (site ∷ []) []) (is_on site s at) in
+    omega (arith, length-filter test (sites ++ site ∷ []), ap length whole, length-append (filter test sites) (filter test (site ∷ [])), ap length one)
+
+pub on_boundary : (table : Table) (b s : ℕ) → IsTable table → 0 < count_on s (sites_in table b) → s < table.shape.b
+on_boundary table b s is some =
+    let there = some_on s (sites_in table b) some in
+    let low = is.boundaries b there.0.boundary there.0.slot there.1 in
+    omega (arith, low, there.2)
