@@ -166,3 +166,12 @@ out_more old new sites i d within others here out =
 
 pub but_both : (l : ℕ) (sites : List Site) (a b c : ℕ → MemberState) (x y z : ℕ → Option (List ℕ)) → KeepsSlotsBut l sites a x b y → KeepsSlotsBut l sites b y c z → KeepsSlotsBut l sites a x c z
 but_both l sites a b c x y z first second t slot v off had = second t slot v off (first t slot v off had)
+
+-- a boundary on which there is none of the sites was called
+pub lost_alike : (old new : ℕ → MemberState) (s : ℕ) (sites : List Site) → ((q : ℕ) → q / 2 ≢ s → new q ≡ old q) → All (λ (site : Site). site.boundary ≢ s) sites → all_lost new sites ≡ all_lost old sites
+lost_alike old new s [] same off = refl
+lost_alike old new s (site ∷ sites) same off =
+    let first : site.boundary ≢ s = All-head (λ (x : Site). x.boundary ≢ s) site sites off in
+    let here = lost_same old new site.boundary (λ q at. same q (λ is. first (sym at ∙ is))) in
+    ap (λ (b : Bool). b && all_lost new sites) here
+    ∙ ap (λ (b : Bool). is_lost old site.boundary && b) (lost_alike old new s sites same (All-tail (λ (x : Site). x.boundary ≢ s) site sites off))

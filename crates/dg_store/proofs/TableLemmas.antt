@@ -7,7 +7,7 @@ use Rattle.std.proofs.lemmas.Bool.Decides.{nat_tests}
 use Rattle.std.proofs.lemmas.List.{get_or-set_same, get_or-set_other, set-set, set-get_or, append-nil, length-append}
 use Rattle.std.proofs.lemmas.List.Sums.{length-filter}
 use Rattle.std.proofs.lemmas.List.Filters.{length-filter_both}
-use Rattle.std.proofs.lemmas.List.Elements.{All-head, All-tail, All-nil, All-cons, All-filter, All-contains, All-contains_itself, Contains-get_or, filter-append, filter_passes}
+use Rattle.std.proofs.lemmas.List.Elements.{All-head, All-tail, All-nil, All-cons, All-filter, All-contains, All-contains_itself, Contains-get_or, Contains-push, filter-append, filter_passes}
 use Rattle.dg_model.specs.Sites.{has_site}
 use Rattle.dg_model.specs.Tables.{Table, IsTable, count_on, empty_table, put_site, sites_in, sites_off, without_site}
 use Rattle.dg_model.specs.declared.shapes.Shape.{Shape}
@@ -137,3 +137,18 @@ on_boundary table b s is some =
     let there = some_on s (sites_in table b) some in
     let low = is.boundaries b there.0.boundary there.0.slot there.1 in
     omega (arith, low, there.2)
+
+-- the slot of a site that was put is one of the array
+pub put_slot : (table new : Table) (b : ℕ) (site : Site) → new ≡ put_site table b site → IsTable new → b < length table.rows → site.slot < table.shape.k + 1
+put_slot table new b site put is within =
+    let row : sites_in new b ≡ sites_in table b ++ site ∷ [] = ap (λ (t : Table). sites_in t b) put ∙ put_here table b site within in
+    let there = subst (λ (xs : List Site). Contains xs site) (sym row) (Contains-push (sites_in table b) site) in
+    let low = is.slots b site.boundary site.slot there in
+    let same : new.shape.k ≡ table.shape.k = ap (λ (t : Table). t.shape.k) put in
+    omega (arith, low, same)
+
+-- the slot of a block's only site
+pub only_slot : (table : Table) (b : ℕ) (site : Site) → sites_in table b ≡ site ∷ [] → IsTable table → (site.boundary < table.shape.b) × (site.slot < table.shape.k + 1)
+only_slot table b site row is =
+    let there = subst (λ (xs : List Site). Contains xs site) (sym row) (Contains-push [] site) in
+    (is.boundaries b site.boundary site.slot there, let low = is.slots b site.boundary site.slot there in omega (arith, low))

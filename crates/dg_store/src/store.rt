@@ -383,6 +383,7 @@ impl<R: Rack> Store<R> {
         requires boundary { boundary < (shape_of self.old).b }
         requires none { count_on boundary (sites_in (table_of self.old) block) ≡ 0 }
         ensures sound { IsSound R.bytes self.new }
+        ensures shape { shape_of self.new ≡ shape_of self.old }
         ensures full { IfOk result (λ answer. (answer ≡ PlaceAnswer.Full) ↔ ((shape_of self.old).k + 1 ≤ used_in (table_of self.old) boundary)) }
         ensures there { IfOk result (λ answer. answer ≢ PlaceAnswer.Gone) }
         ensures live { all_lost (members_of self.new) (sites_in (table_of self.old) block) ≡ all_lost (members_of self.old) (sites_in (table_of self.old) block) }
