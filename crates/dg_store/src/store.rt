@@ -318,8 +318,10 @@ impl<R: Rack> Store<R> {
             PairWrite::Lost => {
                 let undone = take_back(&mut self.map, block, site, &mut self.given_up);
                 self.given_up.clear();
-                undone?;
-                Ok(StoreWrite::AllLost)
+                match undone {
+                    Ok(()) => Ok(StoreWrite::AllLost),
+                    Err(NoMemory) => Err(NoMemory),
+                }
             }
         }
     }
