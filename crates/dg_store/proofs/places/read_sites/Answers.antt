@@ -1,4 +1,4 @@
-use Rattle.std.proofs.Common.{◌≡◌, ◌∙◌, ℕ, true, refl, arith}
+use Rattle.std.proofs.Common.{◌∙◌, refl, arith}
 use Rattle.dg_store.specs.Rows.{members_in}
 use Rattle.dg_store.specs.ReadLaws.{falls_both}
 use Rattle.dg_store.proofs.PlaceLemmas.{no_site, kept_both, lost_more, lost_whole, one_stands, rises_both}

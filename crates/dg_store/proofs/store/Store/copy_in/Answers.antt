@@ -1,6 +1,5 @@
-use Rattle.std.proofs.Common.{◌≡◌, ◌≢◌, ◌/◌, ◌<◌, List, ℕ, length, refl, sym, ◌∙◌, ap, subst, arith}
-use Rattle.dg_model.specs.Tables.{Table, IsFree, put_site, sites_in, without_site}
-use Rattle.dg_store.specs.Rows.{members_in}
+use Rattle.std.proofs.Common.{◌<◌, ℕ, length, sym, ◌∙◌, ap, subst, arith}
+use Rattle.dg_model.specs.Tables.{Table, IsFree, sites_in, without_site}
 use Rattle.dg_store.proofs.Blocks.{stands_free, stands_kept, stands_put}
 use Rattle.dg_store.proofs.PlaceLemmas.{lost_alike, slot_kept}
 use Rattle.dg_store.proofs.Sound.{sound_of}

@@ -1,6 +1,4 @@
-use Rattle.std.proofs.Common.{◌∙◌, ◌+◌, refl, List, ap, subst, sym}
-use Rattle.dg_model.specs.declared.shapes.Shape.{Shape}
-use Rattle.dg_store.specs.Rows.{RowStands}
+use Rattle.std.proofs.Common.{◌∙◌, refl}
 use Rattle.dg_store.proofs.Blocks.{stands_kept}
 use Rattle.dg_store.proofs.Sound.{sound_of}
 use Rattle.dg_store.proofs.Struck.{struck_keeps, struck_fits}

@@ -1,4 +1,3 @@
-use Rattle.std.proofs.Common.{◌∙◌, ap, sym}
 use Rattle.dg_store.proofs.TableLemmas.{are_slots}
 use Rattle.dg_store.proofs.store.Store.is_gone.Goals as goal
 

@@ -1,4 +1,4 @@
-use Rattle.std.proofs.Common.{◌/◌, ◌<◌, sym, ap, subst, ℕ}
+use Rattle.std.proofs.Common.{◌/◌, ◌<◌, sym, subst}
 use Rattle.dg_model.specs.declared.shapes.Shape.{Shape}
 use Rattle.dg_store.proofs.ViewLaws.{tells_good}
 use Rattle.dg_store.proofs.store.Store.place.Goals as goal

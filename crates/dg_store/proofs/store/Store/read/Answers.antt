@@ -1,4 +1,4 @@
-use Rattle.std.proofs.Common.{List, ℕ, refl, ◌∙◌}
+use Rattle.std.proofs.Common.{refl, ◌∙◌}
 use Rattle.dg_store.proofs.Sound.{sound_of}
 use Rattle.dg_store.proofs.TableLemmas.{are_slots}
 use Rattle.dg_store.proofs.store.Store.read.Goals as goal

@@ -1,7 +1,5 @@
-use Rattle.std.proofs.Common.{List, ℕ, refl, sym, ap, subst}
+use Rattle.std.proofs.Common.{ap}
 use Rattle.dg_model.specs.Tables.{Table}
-use Rattle.dg_model.specs.States.{StandsFor}
-use Rattle.dg_store.specs.Stores.{members_of}
 use Rattle.dg_store.proofs.Blocks.{stands_fewer, without_fewer}
 use Rattle.dg_store.proofs.Sound.{sound_of}
 use Rattle.dg_store.proofs.TableLemmas.{on_boundary}

@@ -1,4 +1,4 @@
-use Rattle.std.proofs.Common.{◌≡◌, ◌+◌, List, ℕ, length, refl, true, sym, ◌∙◌, subst}
+use Rattle.std.proofs.Common.{◌≡◌, refl, true, sym, ◌∙◌}
 use Rattle.dg_model.specs.Sites.{all_lost}
 use Rattle.dg_store.specs.Rows.{members_in}
 use Rattle.dg_store.proofs.Blocks.{same_fewer, stands_kept, stands_written}
