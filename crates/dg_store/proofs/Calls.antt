@@ -46,6 +46,10 @@ module _ (l slots s : ℕ) (row : List Boundary) (x y : Boundary) (within : s < 
     | inr off ↦ absurd (let out = own q (λ e. off (e ∙ (stands s x was).number)) in cc)
   ]
 
+  -- the members of the other boundaries
+  pub row_other : (q : ℕ) → q / 2 ≢ s → members_in (slice_set row s y) q ≡ members_in row q
+  row_other q off = (set_changed row s x y within was).other q off
+
   -- a slot of the row, as one of the boundary
   pub part_holds : (slot : ℕ) (v : List ℕ) (bytes : ℕ → Option (List ℕ)) → SlotHolds l (members_in row) bytes s slot v → SlotHolds (size_of x) (members_of x) bytes (number_of x) slot v
   part_holds slot v bytes had =

@@ -12,7 +12,7 @@ stays_out : (f g : ℕ → ℕ) (old new : ℕ → MemberState) (q : ℕ) → Me
 stays_out f g old new q falls out = elim (falls q) [ inl same ↦ same ∙ out | inr fell ↦ fell.out ]
 
 -- members that fell, and fell further
-falls_both : (f g h : ℕ → ℕ) (a b c : ℕ → MemberState) → ((q : ℕ) → f q ≤ g q) → ((q : ℕ) → g q ≤ h q) → MembersFall f g a b → MembersFall g h b c → MembersFall f h a c
+pub falls_both : (f g h : ℕ → ℕ) (a b c : ℕ → MemberState) → ((q : ℕ) → f q ≤ g q) → ((q : ℕ) → g q ≤ h q) → MembersFall f g a b → MembersFall g h b c → MembersFall f h a c
 falls_both f g h a b c early late first second q = elim (first q) [
   | inl same ↦ elim (second q) [
     | inl again ↦ inl (again ∙ same)

@@ -1,9 +1,11 @@
 -- A row of boundaries over a rack.
 use Rattle.std.specs.Prelude.{◌≡◌, ◌≢◌, ◌⊎◌, ◌/◌, ◌≤◌, ◌<◌, ℕ, true, List, Option, Some, None, slice_get}
+use Rattle.std.specs.List.{All, Contains}
 use Rattle.dg_model.specs.Causes.{Rose}
 use Rattle.dg_model.specs.Members.{is_lost, SlotHolds}
 use Rattle.dg_model.specs.declared.members.MemberState.{MemberState}
 use Rattle.dg_model.specs.declared.members.MemberState.TheVariants.{Good, Out}
+use Rattle.dg_model.specs.declared.sites.Site.{Site}
 use Rattle.dg_pair.specs.declared.boundaries.Boundary.{Boundary}
 use Rattle.dg_pair.specs.Boundaries.{IsWell, number_of, size_of, slots_of, members_of}
 use Rattle.dg_store.specs.Lengths.{IsZeroed}
@@ -46,3 +48,19 @@ KeepsSlots l old before new now = (s slot : ℕ) (v : List ℕ) → SlotHolds l 
 -- each slot but this one of boundary s has what it had
 abbrev pub KeepsOtherSlots : ℕ → ℕ → ℕ → (ℕ → MemberState) → (ℕ → Option (List ℕ)) → (ℕ → MemberState) → (ℕ → Option (List ℕ)) → Type 0
 KeepsOtherSlots l s at old before new now = (t slot : ℕ) (v : List ℕ) → (t ≡ s → slot ≢ at) → SlotHolds l old before t slot v → SlotHolds l new now t slot v
+
+-- each of these sites is a slot of one of so many boundaries
+abbrev pub AreSlots : ℕ → ℕ → List Site → Type 0
+AreSlots boundaries slots sites = All (λ site. (site.boundary < boundaries) × (site.slot < slots)) sites
+
+-- each slot that is none of these sites has what it had
+abbrev pub KeepsSlotsBut : ℕ → List Site → (ℕ → MemberState) → (ℕ → Option (List ℕ)) → (ℕ → MemberState) → (ℕ → Option (List ℕ)) → Type 0
+KeepsSlotsBut l sites old before new now = (t slot : ℕ) (v : List ℕ) → ¬ Contains sites (record { boundary = t; slot = slot }) → SlotHolds l old before t slot v → SlotHolds l new now t slot v
+
+-- each of these sites has these bytes
+abbrev pub SitesHold : ℕ → (ℕ → MemberState) → (ℕ → Option (List ℕ)) → List ℕ → List Site → Type 0
+SitesHold l members bytes v sites = All (λ site. SlotHolds l members bytes site.boundary site.slot v) sites
+
+-- where one of these sites is on a lost boundary, both its members are out
+abbrev pub LostAreOut : (ℕ → MemberState) → List Site → Type 0
+LostAreOut members sites = All (λ site. is_lost members site.boundary ≡ true → (q : ℕ) → q / 2 ≡ site.boundary → members q ≡ Out) sites

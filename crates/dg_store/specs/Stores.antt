@@ -1,5 +1,5 @@
 -- What a store means. The words below are all that the crates above cite; they say nothing of how a store keeps it.
-use Rattle.std.specs.Prelude.{◌/◌, ◌<◌, ◌≡◌, ◌+◌, ◌^◌, ℕ, zero, suc, List, length, Option, IsSome, if◌then◌else◌}
+use Rattle.std.specs.Prelude.{◌/◌, ◌<◌, ◌≡◌, ◌+◌, ◌^◌, ℕ, zero, suc, List, [], length, Option, IsSome, if◌then◌else◌}
 use Rattle.dg_model.specs.Members.{is_lost}
 use Rattle.dg_model.specs.States.{Counts, State, Holds}
 use Rattle.dg_model.specs.Tables.{Table, IsTable}
@@ -30,6 +30,8 @@ pub record IsSound {R : Type 0} (bytes : R → ℕ → Option (List ℕ)) (store
   pub table : IsTable store.map
   pub boundaries : length store.row.items ≡ store.map.shape.b
   pub stands : RowStands store.map.shape.l (store.map.shape.k + 1) store.row.items
+  pub block : length store.block.items ≡ store.map.shape.l
+  pub given_up : store.given_up.items ≡ []
   pub room : MembersFit store.map.shape.l (store.map.shape.k + 1) (members_in store.row.items) (bytes store.rack)
 
 -- the state that it is in, where these are its blocks

@@ -1,5 +1,5 @@
 // A row of boundaries, and one slot of it. These functions work on the parts of a store.
-ghost use Rattle.std.specs.Prelude.{◌≡◌, ◌↔◌, ◌+◌, ◌*◌, ◌/◌, ◌≤◌, ◌<◌, ℕ, List, length, IsTrue, true, IsSome, IfOk, All, Any};
+ghost use Rattle.std.specs.Prelude.{◌≡◌, ◌≢◌, ◌↔◌, ◌+◌, ◌*◌, ◌/◌, ◌≤◌, ◌<◌, ℕ, List, length, IsTrue, true, IsSome, IfOk, All, Any};
 ghost use Rattle.dg_model.specs.Causes.{Rose};
 ghost use Rattle.dg_model.specs.Members.{is_lost, SlotHolds, MembersFall, IsStruck};
 ghost use Rattle.dg_model.specs.Shapes.{IsShape};
@@ -7,9 +7,10 @@ ghost use Rattle.dg_model.specs.States.{CountsRise};
 ghost use Rattle.dg_io.specs.Told.{StillTold};
 ghost use Rattle.dg_pair.specs.Boundaries.{IsWell, MembersFit};
 ghost use Rattle.dg_store.specs.Lengths.{length_of};
+ghost use Rattle.dg_store.specs.Stores.{lost_bits};
 ghost use Rattle.dg_store.specs.Rows.{members_in, RowStands, RowBegins, AreZeroed, HasNoGood, KeepsSlots, KeepsOtherSlots};
 
-use crate::{Shape, member_length};
+use crate::{Shape, Site, member_length};
 use dg_io::{NoMemory, Rack};
 use dg_model::MemberState;
 use dg_pair::{Boundary, FailAnswer, PairRead, PairWrite};
@@ -53,7 +54,7 @@ pub fn has_lost(row: &[Boundary]) -> bool
 }
 
 /// Whether a boundary is lost, by its number.
-pub fn is_lost_at(row: &Vec<Boundary>, shape: &Shape, boundary: u32) -> bool
+pub fn is_lost_at(row: &Vec<Boundary>, shape: &Shape, boundary: u8) -> bool
     requires stands { RowStands shape.now.l (shape.now.k + 1) row.now.items }
     requires within { boundary < length row.now.items }
     ensures { result ≡ is_lost (members_in row.now.items) boundary }
@@ -61,28 +62,44 @@ pub fn is_lost_at(row: &Vec<Boundary>, shape: &Shape, boundary: u32) -> bool
     row[boundary as usize].is_lost()
 }
 
-/// Reads a slot of a boundary, by its number.
+/// The lost boundaries: bit s for boundary s.
+pub fn lost_bits_of(row: &Vec<Boundary>, shape: &Shape) -> u16
+    requires shape { IsShape shape.now }
+    requires stands { RowStands shape.now.l (shape.now.k + 1) row.now.items }
+    requires count { length row.now.items ≡ shape.now.b }
+    ensures { result ≡ lost_bits (members_in row.now.items) shape.now.b }
+{
+    let mut bits = 0;
+    for boundary in 0..shape.b {
+        if is_lost_at(row, shape, boundary) {
+            bits += 1u16 << boundary;
+        }
+    }
+    bits
+}
+
+/// Reads a slot of a boundary.
 pub fn read_slot<R: Rack>(
     row: &mut Vec<Boundary>,
     rack: &mut R,
     shape: &Shape,
-    boundary: u32,
-    slot: u32,
+    site: Site,
     buf: &mut [u8],
 ) -> PairRead
     requires stands { RowStands shape.now.l (shape.now.k + 1) row.old.items }
     requires room { MembersFit shape.now.l (shape.now.k + 1) (members_in row.old.items) (R.bytes rack.old) }
-    requires within { boundary < length row.old.items }
-    requires slot { slot < shape.now.k + 1 }
+    requires within { site.boundary < length row.old.items }
+    requires slot { site.slot < shape.now.k + 1 }
     requires size { length buf.old ≡ shape.now.l }
     ensures count { length row.new.items ≡ length row.old.items }
     ensures stands { RowStands shape.now.l (shape.now.k + 1) row.new.items }
     ensures room { MembersFit shape.now.l (shape.now.k + 1) (members_in row.new.items) (R.bytes rack.new) }
-    ensures lost { (result ≡ PairRead.Lost) ↔ (is_lost (members_in row.new.items) boundary ≡ true) }
+    ensures lost { (result ≡ PairRead.Lost) ↔ (is_lost (members_in row.new.items) site.boundary ≡ true) }
     ensures got { result ≡ PairRead.Got
-        → (v : List ℕ) → SlotHolds shape.now.l (members_in row.old.items) (R.bytes rack.old) boundary slot v
+        → (v : List ℕ) → SlotHolds shape.now.l (members_in row.old.items) (R.bytes rack.old) site.boundary site.slot v
         → ((q : ℕ) → members_in row.new.items q ≡ MemberState.Good → IsSome (R.bytes rack.new q)) → buf.new ≡ v }
     ensures kept { KeepsSlots shape.now.l (members_in row.old.items) (R.bytes rack.old) (members_in row.new.items) (R.bytes rack.new) }
+    ensures others { (q : ℕ) → q / 2 ≢ site.boundary → members_in row.new.items q ≡ members_in row.old.items q }
     ensures falls { MembersFall (R.counts rack.old).faults (R.counts rack.new).faults (members_in row.old.items) (members_in row.new.items) }
     ensures counts { CountsRise (R.counts rack.old) (R.counts rack.new) }
     ensures called { result ≡ PairRead.Got → Rose (R.counts rack.old).calls (R.counts rack.new).calls }
@@ -91,37 +108,37 @@ pub fn read_slot<R: Rack>(
     ensures tells { StillTold (R.bytes rack.old) (R.bytes rack.new) }
     ensures name { R.name rack.new ≡ R.name rack.old }
 {
-    row[boundary as usize].read(rack, slot, buf)
+    row[site.boundary as usize].read(rack, site.slot, buf)
 }
 
-/// Writes a slot of a boundary, by its number.
+/// Writes a slot of a boundary.
 pub fn write_slot<R: Rack>(
     row: &mut Vec<Boundary>,
     rack: &mut R,
     shape: &Shape,
-    boundary: u32,
-    slot: u32,
+    site: Site,
     buf: &[u8],
 ) -> PairWrite
     requires stands { RowStands shape.now.l (shape.now.k + 1) row.old.items }
     requires room { MembersFit shape.now.l (shape.now.k + 1) (members_in row.old.items) (R.bytes rack.old) }
-    requires within { boundary < length row.old.items }
-    requires slot { slot < shape.now.k + 1 }
+    requires within { site.boundary < length row.old.items }
+    requires slot { site.slot < shape.now.k + 1 }
     requires size { length buf.now ≡ shape.now.l }
     ensures count { length row.new.items ≡ length row.old.items }
     ensures stands { RowStands shape.now.l (shape.now.k + 1) row.new.items }
     ensures room { MembersFit shape.now.l (shape.now.k + 1) (members_in row.new.items) (R.bytes rack.new) }
-    ensures lost { (result ≡ PairWrite.Lost) ↔ (is_lost (members_in row.new.items) boundary ≡ true) }
-    ensures out { result ≡ PairWrite.Lost → (q : ℕ) → q / 2 ≡ boundary → members_in row.new.items q ≡ MemberState.Out }
-    ensures put { SlotHolds shape.now.l (members_in row.new.items) (R.bytes rack.new) boundary slot buf.now }
-    ensures kept { KeepsOtherSlots shape.now.l boundary slot (members_in row.old.items) (R.bytes rack.old) (members_in row.new.items) (R.bytes rack.new) }
+    ensures lost { (result ≡ PairWrite.Lost) ↔ (is_lost (members_in row.new.items) site.boundary ≡ true) }
+    ensures out { result ≡ PairWrite.Lost → (q : ℕ) → q / 2 ≡ site.boundary → members_in row.new.items q ≡ MemberState.Out }
+    ensures put { SlotHolds shape.now.l (members_in row.new.items) (R.bytes rack.new) site.boundary site.slot buf.now }
+    ensures kept { KeepsOtherSlots shape.now.l site.boundary site.slot (members_in row.old.items) (R.bytes rack.old) (members_in row.new.items) (R.bytes rack.new) }
+    ensures others { (q : ℕ) → q / 2 ≢ site.boundary → members_in row.new.items q ≡ members_in row.old.items q }
     ensures falls { MembersFall (R.counts rack.old).faults (R.counts rack.new).faults (members_in row.old.items) (members_in row.new.items) }
     ensures counts { CountsRise (R.counts rack.old) (R.counts rack.new) }
     ensures most { (R.counts rack.new).calls ≤ (R.counts rack.old).calls + 2 }
     ensures tells { StillTold (R.bytes rack.old) (R.bytes rack.new) }
     ensures name { R.name rack.new ≡ R.name rack.old }
 {
-    row[boundary as usize].write(rack, slot, buf)
+    row[site.boundary as usize].write(rack, site.slot, buf)
 }
 
 /// Makes a side (0 or 1) of a boundary fail, by the boundary's number.

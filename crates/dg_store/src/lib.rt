@@ -3,6 +3,7 @@
 
 mod boundaries;
 mod lengths;
+mod places;
 #[cfg(test)]
 mod site_tests;
 mod sites;

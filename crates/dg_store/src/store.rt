@@ -6,7 +6,7 @@ ghost use Rattle.dg_model.specs.Shapes.{IsShape};
 ghost use Rattle.dg_model.specs.Sites.{has_site, all_lost, is_gone, IsSited};
 ghost use Rattle.dg_model.specs.States.{CountsRise, IsBlank, HasLost, zeros, block_in};
 ghost use Rattle.dg_model.specs.Steps.{LosesSites};
-ghost use Rattle.dg_model.specs.Tables.{IsLowestFree, count_on, put_site, sites_in, used_in, without_site};
+ghost use Rattle.dg_model.specs.Tables.{Table, IsLowestFree, count_on, put_site, sites_in, used_in, without_site};
 ghost use Rattle.dg_model.specs.declared.sites.Site.{Site};
 ghost use Rattle.dg_io.specs.Told.{StillTold};
 ghost use Rattle.dg_pair.specs.Boundaries.{number_of, members_of as boundary_members};
@@ -14,12 +14,13 @@ ghost use Rattle.dg_store.specs.Lengths.{length_of, IsZeroed};
 ghost use Rattle.dg_store.specs.Stores.{rack_of, table_of, shape_of, members_of, state_of, IsSound, StandsFor, Tells, TellsAll, lost_bits};
 
 use crate::Shape;
-use crate::boundaries::{blank_row, fail_side, has_lost, is_lost_at, read_slot, write_slot};
+use crate::boundaries::{blank_row, fail_side, has_lost, lost_bits_of, write_slot};
+use crate::places::{all_lost_at, read_block, read_sites, write_sites};
 use crate::sites::{GivenUp, give_first, take_back};
 use dg_io::{Fetched, NoMemory, Rack};
-use dg_map::Map;
+use dg_map::{Map, TakeFault};
 use dg_model::MemberState;
-use dg_pair::{Boundary, FailAnswer, PairRead, PairWrite};
+use dg_pair::{Boundary, FailAnswer, PairWrite};
 use std::alloc::Global;
 
 /// A flat array over the members of a rack.
@@ -70,7 +71,19 @@ impl<R: Rack> Store<R> {
         ensures tells { IfOk result (λ store. StillTold (R.bytes rack) (R.bytes (rack_of store))) }
         ensures name { IfOk result (λ store. R.name (rack_of store) ≡ R.name rack) }
     {
-        todo!()
+        let mut rack = rack;
+        let map = Map::new(alloc, shape)?;
+        let Ok(block) = vec![in alloc; 0; shape.l as usize] else {
+            return Err(NoMemory);
+        };
+        let row = blank_row(alloc, &mut rack, &shape)?;
+        Ok(Store {
+            rack,
+            map,
+            row,
+            block,
+            given_up: Vec::new(alloc),
+        })
     }
 
     /// Gives the rack back.
@@ -110,7 +123,7 @@ impl<R: Rack> Store<R> {
         requires { IsSound R.bytes self.now }
         ensures { result ≡ lost_bits (members_of self.now) (shape_of self.now).b }
     {
-        todo!()
+        lost_bits_of(&self.row, self.map.shape())
     }
 
     /// Whether a boundary is lost.
@@ -136,7 +149,8 @@ impl<R: Rack> Store<R> {
         requires range { block < (shape_of self.now).n }
         ensures { result ≡ is_gone (table_of self.now) (members_of self.now) block }
     {
-        todo!()
+        let sites = self.map.sites(block);
+        !sites.is_empty() && all_lost_at(&self.row, self.map.shape(), sites)
     }
 
     /// Makes a member fail, given by its boundary and its side, 0 or 1. It is out then, and so is one that was refilled
@@ -152,7 +166,7 @@ impl<R: Rack> Store<R> {
         ensures struck { IsStruck (2 * boundary + side) (members_of self.old) (members_of self.new) }
         ensures stands { (V : List (List ℕ)) → StandsFor R.counts R.bytes self.old V → StandsFor R.counts R.bytes self.new V }
     {
-        todo!()
+        fail_side(&mut self.row, self.map.shape(), boundary, side)
     }
 
     /// Reads a block. One that isn't written reads as zeros. It is gone where it is written and all its sites are on lost
@@ -174,7 +188,18 @@ impl<R: Rack> Store<R> {
         ensures tells { StillTold (R.bytes (rack_of self.old)) (R.bytes (rack_of self.new)) }
         ensures name { R.name (rack_of self.new) ≡ R.name (rack_of self.old) }
     {
-        todo!()
+        let sites = self.map.sites(block);
+        if sites.is_empty() {
+            buf.fill(0);
+            return Fetched::Got;
+        }
+        read_sites(
+            &mut self.row,
+            &mut self.rack,
+            self.map.shape(),
+            sites,
+            buf,
+        )
     }
 
     /// Writes a block of L bytes to each member of its sites that serves. A block without sites gets its first one.
@@ -198,7 +223,11 @@ impl<R: Rack> Store<R> {
         ensures tells { StillTold (R.bytes (rack_of self.old)) (R.bytes (rack_of self.new)) }
         ensures name { R.name (rack_of self.new) ≡ R.name (rack_of self.old) }
     {
-        todo!()
+        if self.map.sites(block).is_empty() {
+            self.write_first(block, buf)
+        } else {
+            Ok(self.write_again(block, buf))
+        }
     }
 
     /// Copies a written block to the lowest free slot of a boundary on which it has no site. The spare slot is used only
@@ -223,7 +252,18 @@ impl<R: Rack> Store<R> {
         ensures tells { StillTold (R.bytes (rack_of self.old)) (R.bytes (rack_of self.new)) }
         ensures name { R.name (rack_of self.new) ≡ R.name (rack_of self.old) }
     {
-        todo!()
+        let most = if spare {
+            self.map.shape().k + 1
+        } else {
+            self.map.shape().k
+        };
+        if self.map.used(boundary) >= most {
+            return Ok(PlaceAnswer::Full);
+        }
+        if let Fetched::Gone = self.copy_out(block) {
+            return Ok(PlaceAnswer::Gone);
+        }
+        self.copy_in(block, boundary)
     }
 
     /// Gives up a block's site on a boundary. It has another one. It makes no call on the rack.
@@ -239,5 +279,139 @@ impl<R: Rack> Store<R> {
         ensures stands { (V : List (List ℕ)) → StandsFor R.counts R.bytes self.old V → StandsFor R.counts R.bytes self.new V }
     {
         self.map.drop_site(block, boundary);
+    }
+
+    /// Writes a block that has no site to its first one.
+    fn write_first(&mut self, block: u32, buf: &[u8]) -> Result<StoreWrite, NoMemory>
+        ghost before: { Table }
+        requires before { before ≡ table_of self.old }
+        requires sound { IsSound R.bytes self.old }
+        requires range { block < (shape_of self.old).n }
+        requires size { length buf.now ≡ (shape_of self.old).l }
+        requires blank { has_site (sites_in (table_of self.old) block) ≡ false }
+        ensures sound { IsSound R.bytes self.new }
+        ensures shape { shape_of self.new ≡ shape_of self.old }
+        ensures sited { IfOk result (λ answer. answer ≡ StoreWrite.Stored → IsSited (table_of self.old) block (table_of self.new)) }
+        ensures kept { IfOk result (λ answer. answer ≡ StoreWrite.Stored → all_lost (members_of self.new) (sites_in (table_of self.new) block) ≡ false) }
+        ensures value { IfOk result (λ answer. answer ≡ StoreWrite.Stored → (V : List (List ℕ)) → StandsFor R.counts R.bytes self.old V → StandsFor R.counts R.bytes self.new (slice_set V block buf.now)) }
+        ensures most { IfOk result (λ answer. answer ≡ StoreWrite.Stored → (R.counts (rack_of self.new)).calls ≤ (R.counts (rack_of self.old)).calls + 2 * length (sites_in (table_of self.new) block)) }
+        ensures lost { IfOk result (λ answer. answer ≡ StoreWrite.AllLost → LosesSites (table_of self.old) block (members_of self.new)) }
+        ensures refused { IfOk result (λ answer. answer ≡ StoreWrite.AllLost → table_of self.new ≡ table_of self.old) }
+        ensures same { IfOk result (λ answer. answer ≡ StoreWrite.AllLost → (V : List (List ℕ)) → StandsFor R.counts R.bytes self.old V → StandsFor R.counts R.bytes self.new V) }
+        ensures err_written { OnErr result ((c : ℕ) → has_site (sites_in (table_of self.new) c) ≡ has_site (sites_in (table_of self.old) c)) }
+        ensures err_same { OnErr result ((V : List (List ℕ)) → StandsFor R.counts R.bytes self.old V → StandsFor R.counts R.bytes self.new V) }
+        ensures falls { MembersFall (R.counts (rack_of self.old)).faults (R.counts (rack_of self.new)).faults (members_of self.old) (members_of self.new) }
+        ensures counts { CountsRise (R.counts (rack_of self.old)) (R.counts (rack_of self.new)) }
+        ensures tells { StillTold (R.bytes (rack_of self.old)) (R.bytes (rack_of self.new)) }
+        ensures name { R.name (rack_of self.new) ≡ R.name (rack_of self.old) }
+    {
+        let Ok(site) = give_first(&mut self.map, block, &mut self.given_up) else {
+            self.given_up.clear();
+            return Err(NoMemory);
+        };
+        let shape = self.map.shape();
+        match write_slot(&mut self.row, &mut self.rack, shape, site, buf) {
+            PairWrite::Kept => {
+                self.given_up.clear();
+                Ok(StoreWrite::Stored)
+            }
+            PairWrite::Lost => {
+                let undone = take_back(&mut self.map, block, site, &mut self.given_up);
+                self.given_up.clear();
+                match undone {
+                    Ok(()) => Ok(StoreWrite::AllLost),
+                    Err(NoMemory) => Err(NoMemory),
+                }
+            }
+        }
+    }
+
+    /// Writes a block to the sites that it has.
+    fn write_again(&mut self, block: u32, buf: &[u8]) -> StoreWrite
+        requires sound { IsSound R.bytes self.old }
+        requires range { block < (shape_of self.old).n }
+        requires size { length buf.now ≡ (shape_of self.old).l }
+        requires written { has_site (sites_in (table_of self.old) block) ≡ true }
+        ensures sound { IsSound R.bytes self.new }
+        ensures table { table_of self.new ≡ table_of self.old }
+        ensures lost { (result ≡ StoreWrite.AllLost) ↔ (all_lost (members_of self.new) (sites_in (table_of self.old) block) ≡ true) }
+        ensures value { result ≡ StoreWrite.Stored → (V : List (List ℕ)) → StandsFor R.counts R.bytes self.old V → StandsFor R.counts R.bytes self.new (slice_set V block buf.now) }
+        ensures same { result ≡ StoreWrite.AllLost → (V : List (List ℕ)) → StandsFor R.counts R.bytes self.old V → StandsFor R.counts R.bytes self.new V }
+        ensures falls { MembersFall (R.counts (rack_of self.old)).faults (R.counts (rack_of self.new)).faults (members_of self.old) (members_of self.new) }
+        ensures counts { CountsRise (R.counts (rack_of self.old)) (R.counts (rack_of self.new)) }
+        ensures most { (R.counts (rack_of self.new)).calls ≤ (R.counts (rack_of self.old)).calls + 2 * length (sites_in (table_of self.old) block) }
+        ensures tells { StillTold (R.bytes (rack_of self.old)) (R.bytes (rack_of self.new)) }
+        ensures name { R.name (rack_of self.new) ≡ R.name (rack_of self.old) }
+    {
+        let shape = self.map.shape();
+        let sites = self.map.sites(block);
+        write_sites(&mut self.row, &mut self.rack, shape, sites, buf);
+        if all_lost_at(&self.row, shape, sites) {
+            StoreWrite::AllLost
+        } else {
+            StoreWrite::Stored
+        }
+    }
+
+    /// Reads a block that is copied.
+    fn copy_out(&mut self, block: u32) -> Fetched
+        requires sound { IsSound R.bytes self.old }
+        requires range { block < (shape_of self.old).n }
+        ensures sound { IsSound R.bytes self.new }
+        ensures table { table_of self.new ≡ table_of self.old }
+        ensures gone { (result ≡ Fetched.Gone) ↔ (all_lost (members_of self.new) (sites_in (table_of self.old) block) ≡ true) }
+        ensures got { (V : List (List ℕ)) → StandsFor R.counts R.bytes self.old V → result ≡ Fetched.Got → Tells R.bytes self.new → self.new.block.items ≡ block_in V block }
+        ensures stands { (V : List (List ℕ)) → StandsFor R.counts R.bytes self.old V → StandsFor R.counts R.bytes self.new V }
+        ensures falls { MembersFall (R.counts (rack_of self.old)).faults (R.counts (rack_of self.new)).faults (members_of self.old) (members_of self.new) }
+        ensures counts { CountsRise (R.counts (rack_of self.old)) (R.counts (rack_of self.new)) }
+        ensures tells { StillTold (R.bytes (rack_of self.old)) (R.bytes (rack_of self.new)) }
+        ensures name { R.name (rack_of self.new) ≡ R.name (rack_of self.old) }
+    {
+        let shape = self.map.shape();
+        let sites = self.map.sites(block);
+        read_block(
+            &mut self.row,
+            &mut self.rack,
+            shape,
+            sites,
+            &mut self.block,
+        )
+    }
+
+    /// Gives a block one more site, and writes the bytes that were read there.
+    fn copy_in(&mut self, block: u32, boundary: u8) -> Result<PlaceAnswer, NoMemory>
+        requires sound { IsSound R.bytes self.old }
+        requires range { block < (shape_of self.old).n }
+        requires boundary { boundary < (shape_of self.old).b }
+        requires none { count_on boundary (sites_in (table_of self.old) block) ≡ 0 }
+        ensures sound { IsSound R.bytes self.new }
+        ensures shape { shape_of self.new ≡ shape_of self.old }
+        ensures full { IfOk result (λ answer. (answer ≡ PlaceAnswer.Full) ↔ ((shape_of self.old).k + 1 ≤ used_in (table_of self.old) boundary)) }
+        ensures there { IfOk result (λ answer. answer ≢ PlaceAnswer.Gone) }
+        ensures live { all_lost (members_of self.new) (sites_in (table_of self.old) block) ≡ all_lost (members_of self.old) (sites_in (table_of self.old) block) }
+        ensures lost { IfOk result (λ answer. answer ≢ PlaceAnswer.Full → (answer ≡ PlaceAnswer.Lost boundary) ↔ (is_lost (members_of self.new) boundary ≡ true)) }
+        ensures other { IfOk result (λ answer. (s : ℕ) → answer ≡ PlaceAnswer.Lost s → s ≡ boundary) }
+        ensures placed { IfOk result (λ answer. answer ≡ PlaceAnswer.Placed → (site : Site) × (site.boundary ≡ boundary) × IsLowestFree (table_of self.old) boundary site.slot × (table_of self.new ≡ put_site (table_of self.old) block site)) }
+        ensures refused { IfOk result (λ answer. answer ≢ PlaceAnswer.Placed → table_of self.new ≡ table_of self.old) }
+        ensures err { OnErr result (table_of self.new ≡ table_of self.old) }
+        ensures stands { (V : List (List ℕ)) → StandsFor R.counts R.bytes self.old V → self.old.block.items ≡ block_in V block → StandsFor R.counts R.bytes self.new V }
+        ensures falls { MembersFall (R.counts (rack_of self.old)).faults (R.counts (rack_of self.new)).faults (members_of self.old) (members_of self.new) }
+        ensures counts { CountsRise (R.counts (rack_of self.old)) (R.counts (rack_of self.new)) }
+        ensures tells { StillTold (R.bytes (rack_of self.old)) (R.bytes (rack_of self.new)) }
+        ensures name { R.name (rack_of self.new) ≡ R.name (rack_of self.old) }
+    {
+        let site = match self.map.take_spare(block, boundary) {
+            Ok(site) => site,
+            Err(TakeFault::Full) => return Ok(PlaceAnswer::Full),
+            Err(TakeFault::NoMemory) => return Err(NoMemory),
+        };
+        let shape = self.map.shape();
+        match write_slot(&mut self.row, &mut self.rack, shape, site, &self.block) {
+            PairWrite::Kept => Ok(PlaceAnswer::Placed),
+            PairWrite::Lost => {
+                self.map.drop_site(block, boundary);
+                Ok(PlaceAnswer::Lost(boundary))
+            }
+        }
     }
 }

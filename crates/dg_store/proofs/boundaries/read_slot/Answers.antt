@@ -1,5 +1,5 @@
 use Rattle.std.proofs.Common.{sym, ◌∙◌, arith}
-use Rattle.dg_store.proofs.Calls.{part_room, part_holds, row_stands, row_room, row_good, row_lost, row_falls, row_kept}
+use Rattle.dg_store.proofs.Calls.{part_room, part_holds, row_stands, row_room, row_good, row_lost, row_falls, row_other, row_kept}
 use Rattle.dg_store.proofs.Rows.{there}
 use Rattle.dg_store.proofs.boundaries.read_slot.Goals as goal
 
@@ -41,3 +41,6 @@ returns-clause-kept g c =
 
 pub returns-clause-falls : goal.returns-clause-falls
 returns-clause-falls g c = row_falls _ _ _ _ _ _ c.requires.within (there _ _ _ c.requires.within c.index_mut.ensures.value) c.requires.stands _ _ c.read.ensures.falls
+
+pub returns-clause-others : goal.returns-clause-others
+returns-clause-others g c q off = row_other _ _ _ _ _ _ c.requires.within (there _ _ _ c.requires.within c.index_mut.ensures.value) c.requires.stands q off

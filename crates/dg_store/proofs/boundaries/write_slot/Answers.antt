@@ -1,5 +1,5 @@
 use Rattle.std.proofs.Common.{sym, ◌∙◌, arith}
-use Rattle.dg_store.proofs.Calls.{part_room, row_stands, row_room, row_lost, row_falls, row_out, row_holds, row_kept_others}
+use Rattle.dg_store.proofs.Calls.{part_room, row_stands, row_room, row_lost, row_falls, row_other, row_out, row_holds, row_kept_others}
 use Rattle.dg_store.proofs.Rows.{there}
 use Rattle.dg_store.proofs.boundaries.write_slot.Goals as goal
 
@@ -40,3 +40,6 @@ returns-clause-kept g c =
 
 pub returns-clause-falls : goal.returns-clause-falls
 returns-clause-falls g c = row_falls _ _ _ _ _ _ c.requires.within (there _ _ _ c.requires.within c.index_mut.ensures.value) c.requires.stands _ _ c.write.ensures.falls
+
+pub returns-clause-others : goal.returns-clause-others
+returns-clause-others g c q off = row_other _ _ _ _ _ _ c.requires.within (there _ _ _ c.requires.within c.index_mut.ensures.value) c.requires.stands q off

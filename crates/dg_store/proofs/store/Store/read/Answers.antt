@@ -1,10 +1,21 @@
-use Rattle.std.proofs.Common.{refl, arith}
-use Rattle.dg_model.specs.States.{block_in}
-use Rattle.dg_store.proofs.Blocks.{holds_at, mark_is}
+use Rattle.std.proofs.Common.{refl, ◌∙◌}
+use Rattle.dg_store.proofs.Sound.{sound_of}
+use Rattle.dg_store.proofs.TableLemmas.{are_slots}
 use Rattle.dg_store.proofs.store.Store.read.Goals as goal
 
-pub returns-in-Got-clause-got : goal.returns-in-Got-clause-got
-returns-in-Got-clause-got g c V st is told =
-    let marked = mark_is c.args.self.now.written.items c.args.block c.index.result.now (omega (arith, c.requires.sound.marks, c.requires.range)) c.index.ensures c.if-not-index.false in
-    c.in-Got.ensures.got refl (block_in V c.args.block)
-    (holds_at c.args.self.now.shape c.args.block _ _ _ _ marked (st.held c.args.block c.requires.range)) told
+pub read_sites-requires-clause-stands : goal.read_sites-requires-clause-stands
+read_sites-requires-clause-stands g c = rw c.shape.ensures.shape c.requires.sound.stands
+
+pub read_sites-requires-clause-within : goal.read_sites-requires-clause-within
+read_sites-requires-clause-within g c = rw (c.shape.ensures.shape, c.sites-sites.ensures.sites) (are_slots c.args.self.now.map c.args.block _ c.requires.sound.table c.requires.sound.boundaries)
+
+pub returns-clause-sound : goal.returns-clause-sound
+returns-clause-sound g c =
+    let s = c.requires.sound in
+    let k = rw c.shape.ensures.shape at c.read_sites.ensures in
+    sound_of _ _ c.args.self.now.map.shape refl s.table (k.count ∙ s.boundaries) k.stands s.block s.given_up k.room
+
+pub returns-clause-got : goal.returns-clause-got
+returns-clause-got g c V st got told =
+    let k = rw (c.shape.ensures.shape, c.sites-sites.ensures.sites) at c.read_sites.ensures in
+    k.got got _ (st.held c.args.block c.requires.range) told

@@ -1,5 +1,5 @@
 use Rattle.std.proofs.Common.{◌<◌, ◌/◌, ◌∙◌, [], length, sym, ap, subst, arith}
-use Rattle.dg_model.specs.declared.shapes.Shape.{Shape}
+use Rattle.dg_model.specs.Tables.{Table}
 use Rattle.dg_store.proofs.ViewLaws.{gone_stays, tells_good, any_default}
 use Rattle.dg_store.proofs.views.StoreView.fetch.Goals as goal
 
@@ -8,12 +8,12 @@ returns-clause-keeps g c =
     let k = c.read.ensures in
     record {
       stands = k.stands;
-      told = λ told q below. k.tells q (told q (subst (λ (s : Shape). q / 2 < s.b) (sym k.shape) below));
-      stays = λ b gone. gone_stays _ _ _ _ _ _ b k.sites k.falls gone;
-      blocks = ap (λ (s : Shape). s.n) k.shape;
-      bytes = ap (λ (s : Shape). s.l) k.shape;
+      told = λ told q below. k.tells q (told q (subst (λ (t : Table). q / 2 < t.shape.b) (sym k.table) below));
+      stays = λ b gone. gone_stays _ _ _ _ _ _ b k.table k.falls gone;
+      blocks = ap (λ (t : Table). t.shape.n) k.table;
+      bytes = ap (λ (t : Table). t.shape.l) k.table;
       sound = k.sound;
-      goes = record { shape = k.shape; sites = k.sites; falls = k.falls; counted = k.counts; writes = k.writes; tells = k.tells; name = k.name };
+      goes = record { table = k.table; falls = k.falls; counted = k.counts; writes = k.writes; tells = k.tells; name = k.name };
     }
 
 pub returns-clause-bytes : goal.returns-clause-bytes

@@ -1,0 +1,154 @@
+-- Rows of a table: a site is put, or the sites on a boundary are taken from a block.
+use Rattle.std.proofs.Common.{◌≡◌, ◌≢◌, ◌⊎◌, inl, inr, ℕ, zero, suc, ◌+◌, ◌≤◌, ◌<◌, true, false, Bool, cond, List, [], ◌∷◌, ◌++◌, length, refl, sym, ◌∙◌, ap, subst, arith, get_or}
+use Rattle.std.specs.Prelude.{◌==◌, not, slice_set, replicate}
+use Rattle.std.specs.List.{All, Contains, filter}
+use Rattle.std.proofs.lemmas.Bool.{cases_eq}
+use Rattle.std.proofs.lemmas.Bool.Decides.{nat_tests}
+use Rattle.std.proofs.lemmas.List.{get_or-set_same, get_or-set_other, set-set, set-get_or, append-nil, length-append}
+use Rattle.std.proofs.lemmas.List.Sums.{length-filter}
+use Rattle.std.proofs.lemmas.List.Filters.{length-filter_both}
+use Rattle.std.proofs.lemmas.List.Elements.{All-head, All-tail, All-nil, All-cons, All-filter, All-contains, All-contains_itself, Contains-get_or, Contains-push, filter-append, filter_passes}
+use Rattle.dg_model.specs.Sites.{has_site}
+use Rattle.dg_model.specs.Tables.{Table, IsTable, count_on, empty_table, put_site, sites_in, sites_off, without_site}
+use Rattle.dg_model.specs.declared.shapes.Shape.{Shape}
+use Rattle.dg_model.specs.declared.sites.Site.{Site}
+use Rattle.dg_store.specs.Rows.{AreSlots}
+
+-- ---- lists of sites
+
+abbrev pub IsOff : ℕ → Site → Type 0
+IsOff s site = site.boundary ≢ s
+
+is_on : (site : Site) (s : ℕ) → site.boundary ≡ s → (site.boundary == s) ≡ true
+is_on site s at = grind (arith, nat_tests)
+
+is_off : (site : Site) (s : ℕ) → site.boundary ≢ s → (site.boundary == s) ≡ false
+is_off site s off = grind (arith, nat_tests)
+
+none_kept : (s : ℕ) (sites : List Site) → length (filter (λ (site : Site). site.boundary == s) sites) ≡ 0 → All (IsOff s) sites
+none_kept s [] none = All-nil (IsOff s)
+none_kept s (site ∷ sites) none =
+    let rest = filter (λ (x : Site). x.boundary == s) sites in
+    elim (cases_eq site.boundary s) [
+      | inl at ↦ absurd (let e = ap (λ (b : Bool). length (cond b (site ∷ rest) rest)) (is_on site s at) in omega (arith, e, none))
+      | inr off ↦ All-cons (IsOff s) site sites off (none_kept s sites (sym (ap (λ (b : Bool). length (cond b (site ∷ rest) rest)) (is_off site s off)) ∙ none))
+    ]
+
+pub none_on : (s : ℕ) (sites : List Site) → count_on s sites ≡ 0 → All (IsOff s) sites
+none_on s sites none = none_kept s sites (length-filter (λ (site : Site). site.boundary == s) sites ∙ none)
+
+off_all : (s : ℕ) (sites : List Site) → All (IsOff s) sites → sites_off s sites ≡ sites
+off_all s [] off = refl
+off_all s (site ∷ sites) off =
+    let rest = sites_off s sites in
+    ap (λ (b : Bool). cond (not b) (site ∷ rest) rest) (is_off site s (All-head (IsOff s) site sites off))
+    ∙ ap (λ (xs : List Site). site ∷ xs) (off_all s sites (All-tail (IsOff s) site sites off))
+
+off_one : (s : ℕ) (site : Site) → site.boundary ≡ s → sites_off s (site ∷ []) ≡ []
+off_one s site at = ap (λ (b : Bool). cond (not b) (site ∷ []) []) (is_on site s at)
+
+off_put : (s : ℕ) (sites : List Site) (site : Site) → count_on s sites ≡ 0 → site.boundary ≡ s → sites_off s (sites ++ site ∷ []) ≡ sites
+off_put s sites site none at =
+    filter-append (λ (x : Site). not (x.boundary == s)) sites (site ∷ [])
+    ∙ ap (λ (xs : List Site). sites_off s sites ++ xs) (off_one s site at)
+    ∙ append-nil (sites_off s sites)
+    ∙ off_all s sites (none_on s sites none)
+
+pub has_some : (sites : List Site) → 0 < length sites → has_site sites ≡ true
+has_some [] some = absurd (omega arith)
+has_some (site ∷ sites) some = refl
+
+pub has_put : (sites : List Site) (site : Site) → has_site (sites ++ site ∷ []) ≡ true
+has_put [] site = refl
+has_put (first ∷ sites) site = refl
+
+pub has_off : (s : ℕ) (sites : List Site) → 1 < length sites → count_on s sites ≤ 1 → has_site (sites_off s sites) ≡ true
+has_off s sites more one =
+    let both = length-filter_both (λ (site : Site). site.boundary == s) (λ (site : Site). not (site.boundary == s)) (λ (site : Site). refl) sites in
+    let on = length-filter (λ (site : Site). site.boundary == s) sites in
+    has_some (sites_off s sites) (omega (arith, both, on, one, more))
+
+pub off_within : (s : ℕ) (sites : List Site) (site : Site) → Contains (sites_off s sites) site → Contains sites site
+off_within s sites site in_off = All-contains (Contains sites) (sites_off s sites) site (All-filter (λ (x : Site). not (x.boundary == s)) (Contains sites) sites (All-contains_itself sites)) in_off
+
+-- ---- rows of a table
+
+module _ (table : Table) (b : ℕ) where
+  pub put_here : (site : Site) → b < length table.rows → sites_in (put_site table b site) b ≡ sites_in table b ++ site ∷ []
+  put_here site within = get_or-set_same table.rows b (sites_in table b ++ site ∷ []) [] within
+
+  pub put_other : (site : Site) (c : ℕ) → c ≢ b → sites_in (put_site table b site) c ≡ sites_in table c
+  put_other site c other = get_or-set_other table.rows b c (sites_in table b ++ site ∷ []) [] other
+
+  pub without_here : (s : ℕ) → b < length table.rows → sites_in (without_site table b s) b ≡ sites_off s (sites_in table b)
+  without_here s within = get_or-set_same table.rows b (sites_off s (sites_in table b)) [] within
+
+  pub without_other : (s c : ℕ) → c ≢ b → sites_in (without_site table b s) c ≡ sites_in table c
+  without_other s c other = get_or-set_other table.rows b c (sites_off s (sites_in table b)) [] other
+
+  rows_back : (s : ℕ) (site : Site) → b < length table.rows → count_on s (sites_in table b) ≡ 0 → site.boundary ≡ s
+      → slice_set (put_site table b site).rows b (sites_off s (sites_in (put_site table b site) b)) ≡ table.rows
+  rows_back s site within none at =
+      ap (λ (xs : List Site). slice_set (put_site table b site).rows b (sites_off s xs)) (put_here site within)
+      ∙ ap (λ (xs : List Site). slice_set (put_site table b site).rows b xs) (off_put s (sites_in table b) site none at)
+      ∙ set-set table.rows b (sites_in table b ++ site ∷ []) (sites_in table b)
+      ∙ set-get_or table.rows b []
+
+  -- a site that is put and taken away
+  pub put_back : (s : ℕ) (site : Site) → b < length table.rows → count_on s (sites_in table b) ≡ 0 → site.boundary ≡ s → without_site (put_site table b site) b s ≡ table
+  put_back s site within none at =
+      let with_rows : List (List Site) → Table = λ rows. record { shape = table.shape; rows = rows } in
+      ap with_rows (rows_back s site within none at)
+
+empty_at : (n b : ℕ) → get_or {A = List Site} (replicate {A = List Site} n []) b [] ≡ []
+empty_at zero b = refl
+empty_at (suc n) zero = refl
+empty_at (suc n) (suc b) = empty_at n b
+
+pub empty_in : (shape : Shape) (b : ℕ) → sites_in (empty_table shape) b ≡ []
+empty_in shape b = empty_at shape.n b
+
+-- the sites of a block are slots of the array
+pub are_slots : (table : Table) (b boundaries : ℕ) → IsTable table → boundaries ≡ table.shape.b → AreSlots boundaries (table.shape.k + 1) (sites_in table b)
+are_slots table b boundaries is count k d below =
+    let there = Contains-get_or (sites_in table b) k d below in
+    (let low = is.boundaries b _ _ there in omega (arith, low, count), let low = is.slots b _ _ there in omega (arith, low))
+
+-- a block has a site on the boundary
+pub some_on : (s : ℕ) (sites : List Site) → 0 < count_on s sites → (site : Site) × Contains sites site × (site.boundary ≡ s)
+some_on s sites some =
+    let test : Site → Bool = λ (x : Site). x.boundary == s in
+    let on = filter test sites in
+    let below : 0 < length on = omega (arith, length-filter test sites, some) in
+    let site = get_or on 0 (record { boundary = 0; slot = 0 }) in
+    let passes : (site.boundary == s) ≡ true = filter_passes test sites 0 (record { boundary = 0; slot = 0 }) below in
+    let at : site.boundary ≡ s = grind (arith, nat_tests) in
+    (site, All-filter test (Contains sites) sites (All-contains_itself sites) 0 (record { boundary = 0; slot = 0 }) below, at)
+
+pub count_put : (s : ℕ) (sites : List Site) (site : Site) → site.boundary ≡ s → 0 < count_on s (sites ++ site ∷ [])
+count_put s sites site at =
+    let test : Site → Bool = λ (x : Site). x.boundary == s in
+    let whole = filter-append test sites (site ∷ []) in
+    let one : filter test (site ∷ []) ≡ site ∷ [] = ap (λ (b : Bool). cond b (site ∷ []) []) (is_on site s at) in
+    omega (arith, length-filter test (sites ++ site ∷ []), ap length whole, length-append (filter test sites) (filter test (site ∷ [])), ap length one)
+
+pub on_boundary : (table : Table) (b s : ℕ) → IsTable table → 0 < count_on s (sites_in table b) → s < table.shape.b
+on_boundary table b s is some =
+    let there = some_on s (sites_in table b) some in
+    let low = is.boundaries b there.0.boundary there.0.slot there.1 in
+    omega (arith, low, there.2)
+
+-- the slot of a site that was put is one of the array
+pub put_slot : (table new : Table) (b : ℕ) (site : Site) → new ≡ put_site table b site → IsTable new → b < length table.rows → site.slot < table.shape.k + 1
+put_slot table new b site put is within =
+    let row : sites_in new b ≡ sites_in table b ++ site ∷ [] = ap (λ (t : Table). sites_in t b) put ∙ put_here table b site within in
+    let there = subst (λ (xs : List Site). Contains xs site) (sym row) (Contains-push (sites_in table b) site) in
+    let low = is.slots b site.boundary site.slot there in
+    let same : new.shape.k ≡ table.shape.k = ap (λ (t : Table). t.shape.k) put in
+    omega (arith, low, same)
+
+-- the slot of a block's only site
+pub only_slot : (table : Table) (b : ℕ) (site : Site) → sites_in table b ≡ site ∷ [] → IsTable table → (site.boundary < table.shape.b) × (site.slot < table.shape.k + 1)
+only_slot table b site row is =
+    let there = subst (λ (xs : List Site). Contains xs site) (sym row) (Contains-push [] site) in
+    (is.boundaries b site.boundary site.slot there, let low = is.slots b site.boundary site.slot there in omega (arith, low))

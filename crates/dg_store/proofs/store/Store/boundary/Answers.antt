@@ -1,0 +1,14 @@
+use Rattle.std.proofs.Common.{◌<◌, length, sym, arith}
+use Rattle.dg_store.proofs.Rows.{there, set_changed}
+use Rattle.dg_store.proofs.store.Store.boundary.Goals as goal
+
+pub returns-clause-number : goal.returns-clause-number
+returns-clause-number g c =
+    let within : c.args.boundary < length c.args.self.now.row.items = omega (arith, c.requires.boundary, c.requires.sound.boundaries) in
+    (c.requires.sound.stands _ _ (there _ _ _ within c.index.ensures)).number
+
+pub returns-clause-members : goal.returns-clause-members
+returns-clause-members g c q at =
+    let within : c.args.boundary < length c.args.self.now.row.items = omega (arith, c.requires.boundary, c.requires.sound.boundaries) in
+    let x = c.index.result.now in
+    sym ((set_changed c.args.self.now.row.items c.args.boundary x x within (there _ _ x within c.index.ensures)).was q at)

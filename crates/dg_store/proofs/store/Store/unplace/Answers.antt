@@ -1,0 +1,19 @@
+use Rattle.std.proofs.Common.{ap}
+use Rattle.dg_model.specs.Tables.{Table}
+use Rattle.dg_store.proofs.Blocks.{stands_fewer, without_fewer}
+use Rattle.dg_store.proofs.Sound.{sound_of}
+use Rattle.dg_store.proofs.TableLemmas.{on_boundary}
+use Rattle.dg_store.proofs.store.Store.unplace.Goals as goal
+
+pub drop_site-requires-clause-boundary : goal.drop_site-requires-clause-boundary
+drop_site-requires-clause-boundary g c = on_boundary c.args.self.now.map c.args.block c.args.boundary c.requires.sound.table c.requires.one
+
+pub returns-clause-sound : goal.returns-clause-sound
+returns-clause-sound g c =
+    let s = c.requires.sound in
+    sound_of _ _ c.args.self.now.map.shape (ap (λ (t : Table). t.shape) c.drop_site.ensures.dropped) c.drop_site.ensures.table s.boundaries s.stands s.block s.given_up s.room
+
+pub returns-clause-stands : goal.returns-clause-stands
+returns-clause-stands g c V st =
+    rw c.drop_site.ensures.dropped
+    (stands_fewer _ _ V c.args.self.now.map _ (without_fewer c.args.self.now.map c.args.block c.args.boundary c.requires.sound.table c.requires.range c.requires.other) st)
