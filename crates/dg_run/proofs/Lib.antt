@@ -1,4 +1,5 @@
 mod Answers
+mod FileSteps
 mod Inputs
 mod LineFeeds
 mod Ranges

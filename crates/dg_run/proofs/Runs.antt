@@ -5,7 +5,7 @@ use Rattle.std.proofs.lemmas.List.{append-nil}
 use Rattle.std.proofs.lemmas.List.Concat.{flat_map-append}
 use Rattle.std.proofs.lemmas.List.Elements.{All-append}
 use Rattle.dg_model.specs.States.{Counts, CountsRise, State}
-use Rattle.dg_model.specs.Steps.{Step}
+use Rattle.dg_model.specs.Steps.{Step, Stays}
 use Rattle.dg_model.specs.Runs.{Run}
 use Rattle.dg_model.specs.declared.shapes.Shape.{Shape}
 use Rattle.dg_model.specs.declared.events.Event.{Event}
@@ -183,3 +183,7 @@ struck_falls q before now old new was struck p = elim (cases_eq p q) [
 
 pub counts_stay : (before now : Counts) → now ≡ before → CountsRise before now
 counts_stay before now same = subst (λ (c : Counts). CountsRise before c) (sym same) (record { faults = λ q. omega arith; calls = omega arith; writes = omega arith })
+
+-- nothing was done
+pub stays_none : (s : State) → Stays s s
+stays_none s = record { goes = record { shape = refl; counts = counts_stay s.counts s.counts refl; members = λ q. inl refl }; blocks = refl; table = refl }

@@ -1,7 +1,6 @@
 pub mod Arrays
 pub mod Buffers
 pub mod Bytes
-pub mod Cats
 pub mod Events
 pub mod Inputs
 pub mod Lines

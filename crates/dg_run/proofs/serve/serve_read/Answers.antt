@@ -1,11 +1,11 @@
 use Rattle.std.proofs.Common.{◌≡◌, ◌<◌, ◌≤◌, ◌/◌, ℕ, List, refl, ap, subst, arith}
 use Rattle.dg_model.specs.declared.shapes.Shape.{Shape}
-use Rattle.dg_model.specs.declared.replies.Reply.TheVariants.{Unavailable, Data}
+use Rattle.dg_model.specs.declared.replies.Reply.TheVariants.{Range, Unavailable, Data}
 use Rattle.dg_model.specs.States.{IsTrimmed}
 use Rattle.dg_model.specs.Tables.{Table}
-use Rattle.dg_store.specs.Stores.{shape_of}
+use Rattle.dg_store.specs.Stores.{shape_of, state_of}
 use Rattle.dg_run.proofs.Answers.{answered}
-use Rattle.dg_run.proofs.Runs.{others_stay, tells_good, false_of}
+use Rattle.dg_run.proofs.Runs.{others_stay, tells_good, false_of, stays_none}
 use Rattle.dg_run.proofs.serve.serve_read.Goals as goal
 
 pub returns-in-Got-clause-answered : goal.returns-in-Got-clause-answered
@@ -45,3 +45,10 @@ returns-in-Gone-clause-answered g c =
       ),
     ))
     c.send-in-Gone.ensures.ok
+
+pub returns-then-b-shape-clause-answered : goal.returns-then-b-shape-clause-answered
+returns-then-b-shape-clause-answered g c =
+    let s = c.args.store.now in
+    let n : c.shape.result.now.n ≡ (shape_of s).n = ap (λ (x : Shape). x.n) c.shape.ensures in
+    let past : (shape_of s).n ≤ c.args.b = omega arith in
+    answered g.R.Rack.counts g.R.Rack.bytes _ Range _ _ s s c.send.result (λ V st. (V, st, λ told. (past, stays_none (state_of g.R.Rack.counts s V)))) c.send.ensures.ok
