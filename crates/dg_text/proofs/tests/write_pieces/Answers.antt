@@ -26,5 +26,5 @@ returns g c =
     let took = took_then g.K.Sink.taken c.new-lines.result c.piece.new.self c.piece-2.new.self c.args.first.now c.args.second.now c.in_ok-piece.ensures.ok c.in_ok-piece-2.ensures.ok in
     on_ok_weaker c.end.result
     (λ done. written g.K.Sink.taken c.new-lines.result c.piece-2.new.self c.end.new.self (c.args.first.now ++ c.args.second.now) (last_line (codes "end ") c.args.n)
-        c.args.sink.now _ c.new-lines.ensures.nothing c.new-lines.ensures.l c.new-lines.ensures.sink (search rules) took done)
+    c.args.sink.now _ c.new-lines.ensures.nothing c.new-lines.ensures.l c.new-lines.ensures.sink (search rules) took done)
     c.end.ensures.ok
