@@ -1,8 +1,8 @@
-ghost use Rattle.std.specs.Prelude.{◌≡◌, ◌++◌, ◌∷◌, [], ℕ, List, length, codes, IfOk, OnOk, ◌≤◌, ◌<◌};
+ghost use Rattle.std.specs.Prelude.{◌≡◌, ◌++◌, ℕ, List, length, codes, IfOk, OnOk};
 ghost use Rattle.std.specs.List.{concat};
 ghost use Rattle.dg_io.specs.Told.{Told, Took};
 ghost use Rattle.dg_model.specs.Lists.{AreLines};
-ghost use Rattle.dg_text.specs.Replies.{file_text};
+ghost use Rattle.dg_text.specs.Replies.{file_text, AreShort};
 ghost use Rattle.dg_text.specs.HexLines.{last_line};
 
 use crate::{
@@ -166,11 +166,22 @@ fn replies_are_written_as_lines(rt: HostRuntime) -> Result<(), Fail> {
     Ok(())
 }
 
+// The line of one byte.
+fn line_of(alloc: Global, byte: u8) -> Result<Bytes, AllocError>
+    ensures { IfOk result (λ line. length line ≡ 1) }
+{
+    let mut line = Vec::new(alloc);
+    line.push(byte)?;
+    Ok(Bytes::new(line))
+}
+
 // A file of two lines.
-fn two_lines(alloc: Global, first: &[u8], second: &[u8]) -> Result<Lines, AllocError> {
+fn two_lines(alloc: Global, first: u8, second: u8) -> Result<Lines, AllocError>
+    ensures { IfOk result AreShort }
+{
     let mut lines = Vec::new(alloc);
-    lines.push(Bytes::new(Vec::from_slice(alloc, first)?))?;
-    lines.push(Bytes::new(Vec::from_slice(alloc, second)?))?;
+    lines.push(line_of(alloc, first)?)?;
+    lines.push(line_of(alloc, second)?)?;
     Ok(Lines::new(lines))
 }
 
@@ -190,7 +201,9 @@ fn what_cat_answers_is_written(rt: HostRuntime) -> Result<(), Fail> {
         write_reply(&mut sink, &Reply::Refused(refusal))?;
     }
     write_reply(&mut sink, &Reply::Cut(Lines::new(Vec::new(alloc))))?;
-    let text = b"notfound\nnotdir\nnotregular\nbad magic\nbad summary\nbad later\ncut 0\n";
+    write_reply(&mut sink, &Reply::Given(two_lines(alloc, b'h', b'i')?))?;
+    let text =
+        b"notfound\nnotdir\nnotregular\nbad magic\nbad summary\nbad later\ncut 0\nbytes 68\nbytes 69\nend 2\n";
     assert!(rt; sink.taken() == text.as_slice());
     Ok(())
 }
