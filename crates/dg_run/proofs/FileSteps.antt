@@ -59,6 +59,6 @@ told_file word lines bytes n x y whole size told =
     let m = length (concat lines) in
     let count : n ≡ m = sym (ap length whole ∙ size) in
     let text : file_text lines ++ last_line word n ≡ (file_text lines ++ (word ++ decimal m)) ++ codes "\n" =
-        ap (λ (k : ℕ). file_text lines ++ last_line word k) count
-        ∙ sym (append_assoc (file_text lines) (word ++ decimal m) (codes "\n") ∙ ap (λ (l : List ℕ). file_text lines ++ l) (append_assoc word (decimal m) (codes "\n"))) in
+    ap (λ (k : ℕ). file_text lines ++ last_line word k) count
+    ∙ sym (append_assoc (file_text lines) (word ++ decimal m) (codes "\n") ∙ ap (λ (l : List ℕ). file_text lines ++ l) (append_assoc word (decimal m) (codes "\n"))) in
     subst (λ (l : List ℕ). Told (Took l) x y) text told

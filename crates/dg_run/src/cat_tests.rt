@@ -2,8 +2,8 @@
 // with 64 slots. Block b stands on boundary b mod 4. Calls 0 to 7 of the rack blank the members, and each write makes two.
 ghost use Rattle.std.specs.Prelude.{◌≡◌, IfOk, length};
 
-use crate::tests::replay;
 use crate::Status;
+use crate::tests::replay;
 use dg_io::MemSink;
 use itoa::Buffer;
 use std::alloc::Global;
@@ -80,7 +80,10 @@ fn files_of_the_root_are_read(rt: HostRuntime) -> Result<(), Fail> {
         ("cat /z\n", "end 0\n"),
         ("cat /a\n", "bytes 68656c6c6f\nend 5\n"),
         ("cat /d\n", "notregular\n"),
-        ("cat /d\ncat /a\nread 34\n", "notregular\nbytes 68656c6c6f\nend 5\ndata 68656c6c6f\n"),
+        (
+            "cat /d\ncat /a\nread 34\n",
+            "notregular\nbytes 68656c6c6f\nend 5\ndata 68656c6c6f\n",
+        ),
     ] {
         let answer = replies(alloc, &volume, lines, &[])?;
         assert!(rt; answer.as_slice() == wanted.as_bytes(), "{lines}");
@@ -93,7 +96,14 @@ fn files_of_the_root_are_read(rt: HostRuntime) -> Result<(), Fail> {
 fn a_hole_reads_as_zeros(rt: HostRuntime) -> Result<(), Fail> {
     let alloc = rt.alloc();
     let mut wanted = Vec::new(alloc);
-    for (digits, count) in [("00", 1024), ("00", 1024), ("00", 1024), ("00", 1024), ("68", 1024), ("68", 476)] {
+    for (digits, count) in [
+        ("00", 1024),
+        ("00", 1024),
+        ("00", 1024),
+        ("00", 1024),
+        ("68", 1024),
+        ("68", 476),
+    ] {
         wanted.extend_from_slice(b"bytes ")?;
         for _ in 0..count {
             wanted.extend_from_slice(digits.as_bytes())?;
@@ -126,10 +136,19 @@ fn a_lost_boundary_takes_the_files_that_need_it(rt: HostRuntime) -> Result<(), F
     let alloc = rt.alloc();
     let volume = image(alloc, Which::F)?;
     for (lines, wanted) in [
-        ("fail 3 0\nfail 3 1\ncat /a\n", "ok\nok\nbytes 68656c6c6f\nend 5\n"),
-        ("fail 2 0\nfail 2 1\ncat /a\ncat /z\n", "ok\nok\nunavailable\nend 0\n"),
+        (
+            "fail 3 0\nfail 3 1\ncat /a\n",
+            "ok\nok\nbytes 68656c6c6f\nend 5\n",
+        ),
+        (
+            "fail 2 0\nfail 2 1\ncat /a\ncat /z\n",
+            "ok\nok\nunavailable\nend 0\n",
+        ),
         ("fail 2 0\ncat /a\n", "ok\nbytes 68656c6c6f\nend 5\n"),
-        ("fail 1 0\nfail 1 1\ncat /z\ncat /x\n", "ok\nok\nunavailable\nunavailable\n"),
+        (
+            "fail 1 0\nfail 1 1\ncat /z\ncat /x\n",
+            "ok\nok\nunavailable\nunavailable\n",
+        ),
     ] {
         let answer = replies(alloc, &volume, lines, &[])?;
         assert!(rt; answer.as_slice() == wanted.as_bytes(), "{lines}");

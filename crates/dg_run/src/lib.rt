@@ -6,14 +6,14 @@
 #![tactic(auto)]
 
 mod buffers;
+#[cfg(test)]
+mod cat_tests;
 mod cats;
 mod events;
 mod input;
 mod lines;
 mod pieces;
 mod serve;
-#[cfg(test)]
-mod cat_tests;
 #[cfg(test)]
 mod tests;
 mod top;

@@ -45,7 +45,12 @@ fn rack_of(alloc: Global, fails: &[u64]) -> Result<MemRack, Fail> {
 }
 
 // A replay whose source and sink don't fail, and whose rack fails at the listed calls.
-pub fn replay(alloc: Global, input: &[u8], sink: &mut MemSink, fails: &[u64]) -> Result<Status, Fail> {
+pub fn replay(
+    alloc: Global,
+    input: &[u8],
+    sink: &mut MemSink,
+    fails: &[u64],
+) -> Result<Status, Fail> {
     let words = words_of(alloc, &["replay"])?;
     let mut source = source_of(alloc, input, &[])?;
     let mut rack = rack_of(alloc, fails)?;

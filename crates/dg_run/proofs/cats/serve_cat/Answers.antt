@@ -1,11 +1,9 @@
-use Rattle.std.proofs.Common.{◌≡◌, ◌∙◌, ℕ, List, ◌++◌, rules, subst, sym, ap}
+use Rattle.std.proofs.Common.{◌∙◌, ℕ, List, ◌++◌, rules, subst, sym, ap}
 use Rattle.std.specs.Prelude.{Some, None, Ok, Err, OnOk, codes}
-use Rattle.std.specs.List.{concat}
 use Rattle.dg_io.specs.Told.{Told, Took}
 use Rattle.dg_model.specs.Lists.{AreLines}
 use Rattle.dg_model.specs.declared.shapes.Shape.{Shape}
 use Rattle.dg_model.specs.declared.replies.Reply.TheVariants.{Given, Cut, Refused, Unavailable}
-use Rattle.dg_store.specs.Stores.{shape_of}
 use Rattle.dg_text.specs.Replies.{reply_line, file_text}
 use Rattle.dg_text.specs.HexLines.{last_line}
 use Rattle.dg_run.proofs.Answers.{answered}

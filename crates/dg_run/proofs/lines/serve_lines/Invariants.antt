@@ -1,4 +1,4 @@
-use Rattle.std.proofs.Common.{◌≤◌, ◌+◌, ◌-◌, ◌^◌, length}
+use Rattle.std.proofs.Common.{◌≤◌, ◌+◌, ◌-◌, ◌^◌}
 use Rattle.dg_store.specs.Stores.{shape_of}
 use Rattle.dg_run.specs.Inputs.{ahead}
 use Rattle.dg_run.specs.Buffers.{AreFor}
