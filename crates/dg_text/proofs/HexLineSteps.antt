@@ -1,5 +1,5 @@
 -- What a receiver has written after each of its steps.
-use Rattle.std.proofs.Common.{◌≡◌, ◌<◌, ◌≤◌, ◌+◌, ℕ, List, [], ◌∷◌, ◌++◌, length, take, drop, refl, sym, ◌∙◌, ap, subst, append_assoc, arith, take-append-drop}
+use Rattle.std.proofs.Common.{◌≡◌, ◌<◌, ℕ, List, [], ◌∷◌, ◌++◌, length, take, drop, refl, sym, ◌∙◌, ap, subst, append_assoc, arith, take-append-drop}
 use Rattle.std.specs.Prelude.{Option, All}
 use Rattle.std.specs.List.{concat}
 use Rattle.std.proofs.lemmas.List.{append-nil}
@@ -9,7 +9,7 @@ use Rattle.std.proofs.lemmas.Grind.{flat_map-append}
 use Rattle.dg_io.specs.Told.{Told, Took, TookPart}
 use Rattle.dg_model.specs.Lists.{AreLines}
 use Rattle.dg_text.specs.Replies.{bytes_line, file_text}
-use Rattle.dg_text.specs.HexLines.{waiting, rest_lines, InLines, TookBytes, TookBytesPart, WroteFile, WroteFilePart, Ends, EndsPart}
+use Rattle.dg_text.specs.HexLines.{waiting, rest_lines, TookBytes, TookBytesPart, Ends, EndsPart}
 use Rattle.dg_text.specs.HexLineLaws.{waits_short}
 use Rattle.dg_text.specs.ToldSteps.{took_both, took_part_after}
 use Rattle.dg_text.specs.declared.hex_lines.HexLines.{HexLines}

@@ -1,4 +1,4 @@
-use Rattle.std.proofs.Common.{rules, ◌≡◌, ◌++◌, ◌∙◌, sym, subst, ℕ, List, []}
+use Rattle.std.proofs.Common.{rules, ◌≡◌, ◌++◌, sym, subst, ℕ, List, []}
 use Rattle.std.specs.Prelude.{Option, codes}
 use Rattle.std.specs.List.{concat}
 use Rattle.std.proofs.lemmas.Result.{on_ok_weaker}

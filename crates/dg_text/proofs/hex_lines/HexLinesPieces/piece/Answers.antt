@@ -1,4 +1,4 @@
-use Rattle.std.proofs.Common.{◌≡◌, ◌+◌, ◌++◌, ◌∙◌, ap, sym, subst, arith, length, take, drop, ℕ, List, take-append-drop}
+use Rattle.std.proofs.Common.{◌≡◌, ◌+◌, ◌++◌, ◌∙◌, ap, sym, subst, arith, take, ℕ, List, take-append-drop}
 use Rattle.std.proofs.Math.Seq.{take-add}
 use Rattle.dg_text.specs.HexLines.{TookBytes, TookBytesPart}
 use Rattle.dg_text.specs.HexLineLaws.{took_then, took_then_part}
