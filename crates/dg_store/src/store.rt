@@ -193,13 +193,7 @@ impl<R: Rack> Store<R> {
             buf.fill(0);
             return Fetched::Got;
         }
-        read_sites(
-            &mut self.row,
-            &mut self.rack,
-            self.map.shape(),
-            sites,
-            buf,
-        )
+        read_sites(&mut self.row, &mut self.rack, self.map.shape(), sites, buf)
     }
 
     /// Writes a block of L bytes to each member of its sites that serves. A block without sites gets its first one.
@@ -369,13 +363,7 @@ impl<R: Rack> Store<R> {
     {
         let shape = self.map.shape();
         let sites = self.map.sites(block);
-        read_block(
-            &mut self.row,
-            &mut self.rack,
-            shape,
-            sites,
-            &mut self.block,
-        )
+        read_block(&mut self.row, &mut self.rack, shape, sites, &mut self.block)
     }
 
     /// Gives a block one more site, and writes the bytes that were read there.
@@ -409,7 +397,7 @@ impl<R: Rack> Store<R> {
         match write_slot(&mut self.row, &mut self.rack, shape, site, &self.block) {
             PairWrite::Kept => Ok(PlaceAnswer::Placed),
             PairWrite::Lost => {
-                self.map.drop_site(block, boundary);
+                self.map.drop_site(block, site.boundary);
                 Ok(PlaceAnswer::Lost(boundary))
             }
         }

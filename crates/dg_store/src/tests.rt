@@ -50,7 +50,10 @@ fn sites_on(map: &Map, block: u32, boundary: u8) -> usize
     ensures { result ≡ count_on boundary (sites_in map.now block) }
 {
     let sites = map.sites(block);
-    sites.iter().filter(|site| site.boundary == boundary).count()
+    sites
+        .iter()
+        .filter(|site| site.boundary == boundary)
+        .count()
 }
 
 // A write or a read, on an array of this shape.
@@ -84,7 +87,13 @@ fn act<R: Rack>(rt: &impl Abort, store: &mut Store<R>, step: Step)
             assert_eq!(rt; sites.len(), count);
             assert_eq!(rt; sites.last(), Some(&last));
         }
-        Step::Place(block, boundary, spare, want) => place(rt, store, (block, boundary), spare, want),
+        Step::Place(block, boundary, spare, want) => place(
+            rt,
+            store,
+            (block, boundary),
+            spare,
+            want,
+        ),
         Step::Unplace(block, boundary) => unplace(rt, store, block, boundary),
     }
 }
@@ -173,7 +182,14 @@ fn a_second_site_survives_the_first_boundary(rt: HostRuntime) -> Result<(), Fail
     let steps = [
         Step::Write(1, 5, StoreWrite::Stored),
         Step::Place(1, 0, false, PlaceAnswer::Placed),
-        Step::Sites(1, 2, Site { boundary: 0, slot: 0 }),
+        Step::Sites(
+            1,
+            2,
+            Site {
+                boundary: 0,
+                slot: 0,
+            },
+        ),
         // Both sites are written.
         Step::Write(1, 6, StoreWrite::Stored),
         Step::Lose(1),
@@ -193,9 +209,23 @@ fn a_site_that_is_given_up_is_free(rt: HostRuntime) -> Result<(), Fail> {
         Step::Write(1, 5, StoreWrite::Stored),
         Step::Place(1, 0, false, PlaceAnswer::Placed),
         Step::Unplace(1, 1),
-        Step::Sites(1, 1, Site { boundary: 0, slot: 0 }),
+        Step::Sites(
+            1,
+            1,
+            Site {
+                boundary: 0,
+                slot: 0,
+            },
+        ),
         Step::Write(3, 8, StoreWrite::Stored),
-        Step::Sites(3, 1, Site { boundary: 1, slot: 0 }),
+        Step::Sites(
+            3,
+            1,
+            Site {
+                boundary: 1,
+                slot: 0,
+            },
+        ),
         Step::Read(1, Some(5)),
         Step::Lose(0),
         Step::Lost(1),
@@ -215,14 +245,28 @@ fn a_copy_is_refused_where_it_has_no_place(rt: HostRuntime) -> Result<(), Fail> 
         Step::Write(3, 4, StoreWrite::Stored),
         Step::Place(1, 0, false, PlaceAnswer::Full),
         Step::Place(1, 0, true, PlaceAnswer::Placed),
-        Step::Sites(1, 2, Site { boundary: 0, slot: 2 }),
+        Step::Sites(
+            1,
+            2,
+            Site {
+                boundary: 0,
+                slot: 2,
+            },
+        ),
         // The spare slot is used, too.
         Step::Place(3, 0, true, PlaceAnswer::Full),
         Step::Unplace(1, 0),
         Step::Lose(1),
         Step::Place(3, 0, true, PlaceAnswer::Gone),
         Step::Place(2, 1, true, PlaceAnswer::Lost(1)),
-        Step::Sites(2, 1, Site { boundary: 0, slot: 1 }),
+        Step::Sites(
+            2,
+            1,
+            Site {
+                boundary: 0,
+                slot: 1,
+            },
+        ),
         Step::Read(2, Some(2)),
     ];
     assert_eq!(rt; play(&rt, rt.alloc(), &[], &steps)?, true);
@@ -237,11 +281,32 @@ fn a_first_site_is_where_there_is_room(rt: HostRuntime) -> Result<(), Fail> {
         Step::Place(1, 0, false, PlaceAnswer::Placed),
         // Boundary 0 is full.
         Step::Write(2, 3, StoreWrite::Stored),
-        Step::Sites(2, 1, Site { boundary: 1, slot: 1 }),
+        Step::Sites(
+            2,
+            1,
+            Site {
+                boundary: 1,
+                slot: 1,
+            },
+        ),
         // So is boundary 1: the second site of block 1 is given up.
         Step::Write(3, 4, StoreWrite::Stored),
-        Step::Sites(1, 1, Site { boundary: 1, slot: 0 }),
-        Step::Sites(3, 1, Site { boundary: 0, slot: 1 }),
+        Step::Sites(
+            1,
+            1,
+            Site {
+                boundary: 1,
+                slot: 0,
+            },
+        ),
+        Step::Sites(
+            3,
+            1,
+            Site {
+                boundary: 0,
+                slot: 1,
+            },
+        ),
         Step::Lose(0),
         Step::Read(0, None),
         Step::Read(1, Some(2)),
@@ -262,7 +327,14 @@ fn a_refused_write_gives_the_sites_back(rt: HostRuntime) -> Result<(), Fail> {
         Step::Lose(0),
         // Its first site would be on boundary 0, in the slot that block 1 would have given up.
         Step::Write(3, 4, StoreWrite::AllLost),
-        Step::Sites(1, 2, Site { boundary: 0, slot: 1 }),
+        Step::Sites(
+            1,
+            2,
+            Site {
+                boundary: 0,
+                slot: 1,
+            },
+        ),
         Step::Read(1, Some(2)),
         Step::Read(3, Some(0)),
     ];

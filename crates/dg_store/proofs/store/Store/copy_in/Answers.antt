@@ -1,4 +1,4 @@
-use Rattle.std.proofs.Common.{◌<◌, ℕ, length, sym, ◌∙◌, ap, subst, arith}
+use Rattle.std.proofs.Common.{◌<◌, ℕ, length, sym, ◌∙◌, ap, subst, arith, refl}
 use Rattle.dg_model.specs.Tables.{Table, IsFree, sites_in, without_site}
 use Rattle.dg_store.proofs.Blocks.{stands_free, stands_kept, stands_put}
 use Rattle.dg_store.proofs.PlaceLemmas.{lost_alike, slot_kept}
@@ -22,7 +22,7 @@ drop_site-requires-clause-one g c =
     let table = c.args.self.now.map in
     let within : c.args.block < length table.rows = omega (arith, c.requires.sound.table.size, c.requires.range) in
     let row = ap (λ (t : Table). sites_in t c.args.block) c.in-Ok.ensures.taken.2 ∙ put_here table c.args.block c.in-Ok.site within in
-    rw row (count_put c.args.boundary (sites_in table c.args.block) c.in-Ok.site c.in-Ok.ensures.taken.0)
+    rw row (count_put c.in-Ok.site.boundary (sites_in table c.args.block) c.in-Ok.site refl)
 
 pub returns-in-Kept-clause-sound : goal.returns-in-Kept-clause-sound
 returns-in-Kept-clause-sound g c =
@@ -53,8 +53,8 @@ returns-in-Lost-clause-refused g c other =
     let table = c.args.self.now.map in
     let within : c.args.block < length table.rows = omega (arith, c.requires.sound.table.size, c.requires.range) in
     c.drop_site.ensures.dropped
-    ∙ ap (λ (t : Table). without_site t c.args.block c.args.boundary) c.in-Ok.ensures.taken.2
-    ∙ put_back table c.args.block c.args.boundary c.in-Ok.site within c.requires.none c.in-Ok.ensures.taken.0
+    ∙ ap (λ (t : Table). without_site t c.args.block c.in-Ok.site.boundary) c.in-Ok.ensures.taken.2
+    ∙ put_back table c.args.block c.in-Ok.site.boundary c.in-Ok.site within (rw c.in-Ok.ensures.taken.0 c.requires.none) refl
 
 pub returns-in-Lost-clause-sound : goal.returns-in-Lost-clause-sound
 returns-in-Lost-clause-sound g c =
@@ -77,7 +77,7 @@ returns-in-Lost-clause-stands g c V st copied =
     let k = rw shape at c.write_slot.ensures in
     let within : c.args.block < length table.rows = omega (arith, c.requires.sound.table.size, c.requires.range) in
     let back =
-        c.drop_site.ensures.dropped
-        ∙ ap (λ (t : Table). without_site t c.args.block c.args.boundary) taken.2
-        ∙ put_back table c.args.block c.args.boundary c.in-Ok.site within c.requires.none taken.0 in
+    c.drop_site.ensures.dropped
+    ∙ ap (λ (t : Table). without_site t c.args.block c.in-Ok.site.boundary) taken.2
+    ∙ put_back table c.args.block c.in-Ok.site.boundary c.in-Ok.site within (rw taken.0 c.requires.none) refl in
     rw back (stands_kept _ _ _ _ V table (slot_kept table.shape.l _ _ _ _ c.in-Ok.site.boundary c.in-Ok.site.slot (k.out c.in-Lost.is) k.kept) st)
