@@ -87,6 +87,7 @@ pub fn read_block<R: Rack>(
     ensures kept { KeepsSlots shape.now.l (members_in row.old.items) (R.bytes rack.old) (members_in row.new.items) (R.bytes rack.new) }
     ensures falls { MembersFall (R.counts rack.old).faults (R.counts rack.new).faults (members_in row.old.items) (members_in row.new.items) }
     ensures counts { CountsRise (R.counts rack.old) (R.counts rack.new) }
+    ensures most { (R.counts rack.new).calls ≤ (R.counts rack.old).calls + 2 * length sites.now }
     ensures tells { StillTold (R.bytes rack.old) (R.bytes rack.new) }
     ensures name { R.name rack.new ≡ R.name rack.old }
 {

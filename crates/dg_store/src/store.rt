@@ -207,6 +207,7 @@ impl<R: Rack> Store<R> {
         ensures kept { IfOk result (λ answer. answer ≡ StoreWrite.Stored → all_lost (members_of self.new) (sites_in (table_of self.new) block) ≡ false) }
         ensures value { IfOk result (λ answer. answer ≡ StoreWrite.Stored → (V : List (List ℕ)) → StandsFor R.counts R.bytes self.old V → StandsFor R.counts R.bytes self.new (slice_set V block buf.now)) }
         ensures most { IfOk result (λ answer. answer ≡ StoreWrite.Stored → (R.counts (rack_of self.new)).calls ≤ (R.counts (rack_of self.old)).calls + 2 * length (sites_in (table_of self.new) block)) }
+        ensures at_most { (R.counts (rack_of self.new)).calls ≤ (R.counts (rack_of self.old)).calls + 2 * length (sites_in (table_of self.old) block) + 2 }
         ensures lost { IfOk result (λ answer. answer ≡ StoreWrite.AllLost → LosesSites (table_of self.old) block (members_of self.new)) }
         ensures refused { IfOk result (λ answer. answer ≡ StoreWrite.AllLost → table_of self.new ≡ table_of self.old) }
         ensures same { IfOk result (λ answer. answer ≡ StoreWrite.AllLost → (V : List (List ℕ)) → StandsFor R.counts R.bytes self.old V → StandsFor R.counts R.bytes self.new V) }
@@ -234,6 +235,7 @@ impl<R: Rack> Store<R> {
         requires none { count_on boundary (sites_in (table_of self.old) block) ≡ 0 }
         ensures sound { IsSound R.bytes self.new }
         ensures full { IfOk result (λ answer. (answer ≡ PlaceAnswer.Full) ↔ ((if spare then (shape_of self.old).k + 1 else (shape_of self.old).k) ≤ used_in (table_of self.old) boundary)) }
+        ensures quiet { IfOk result (λ answer. answer ≡ PlaceAnswer.Full → self.new ≡ self.old) }
         ensures gone { IfOk result (λ answer. answer ≢ PlaceAnswer.Full → (answer ≡ PlaceAnswer.Gone) ↔ (is_gone (table_of self.old) (members_of self.new) block ≡ true)) }
         ensures lost { IfOk result (λ answer. answer ≢ PlaceAnswer.Full → answer ≢ PlaceAnswer.Gone → (answer ≡ PlaceAnswer.Lost boundary) ↔ (is_lost (members_of self.new) boundary ≡ true)) }
         ensures other { IfOk result (λ answer. (s : ℕ) → answer ≡ PlaceAnswer.Lost s → s ≡ boundary) }
@@ -243,6 +245,7 @@ impl<R: Rack> Store<R> {
         ensures stands { TellsAll R.bytes self.new → (V : List (List ℕ)) → StandsFor R.counts R.bytes self.old V → StandsFor R.counts R.bytes self.new V }
         ensures falls { MembersFall (R.counts (rack_of self.old)).faults (R.counts (rack_of self.new)).faults (members_of self.old) (members_of self.new) }
         ensures counts { CountsRise (R.counts (rack_of self.old)) (R.counts (rack_of self.new)) }
+        ensures most { (R.counts (rack_of self.new)).calls ≤ (R.counts (rack_of self.old)).calls + 2 * length (sites_in (table_of self.old) block) + 2 }
         ensures tells { StillTold (R.bytes (rack_of self.old)) (R.bytes (rack_of self.new)) }
         ensures name { R.name (rack_of self.new) ≡ R.name (rack_of self.old) }
     {
@@ -289,6 +292,7 @@ impl<R: Rack> Store<R> {
         ensures kept { IfOk result (λ answer. answer ≡ StoreWrite.Stored → all_lost (members_of self.new) (sites_in (table_of self.new) block) ≡ false) }
         ensures value { IfOk result (λ answer. answer ≡ StoreWrite.Stored → (V : List (List ℕ)) → StandsFor R.counts R.bytes self.old V → StandsFor R.counts R.bytes self.new (slice_set V block buf.now)) }
         ensures most { IfOk result (λ answer. answer ≡ StoreWrite.Stored → (R.counts (rack_of self.new)).calls ≤ (R.counts (rack_of self.old)).calls + 2 * length (sites_in (table_of self.new) block)) }
+        ensures at_most { (R.counts (rack_of self.new)).calls ≤ (R.counts (rack_of self.old)).calls + 2 * length (sites_in (table_of self.old) block) + 2 }
         ensures lost { IfOk result (λ answer. answer ≡ StoreWrite.AllLost → LosesSites (table_of self.old) block (members_of self.new)) }
         ensures refused { IfOk result (λ answer. answer ≡ StoreWrite.AllLost → table_of self.new ≡ table_of self.old) }
         ensures same { IfOk result (λ answer. answer ≡ StoreWrite.AllLost → (V : List (List ℕ)) → StandsFor R.counts R.bytes self.old V → StandsFor R.counts R.bytes self.new V) }
@@ -358,6 +362,7 @@ impl<R: Rack> Store<R> {
         ensures stands { (V : List (List ℕ)) → StandsFor R.counts R.bytes self.old V → StandsFor R.counts R.bytes self.new V }
         ensures falls { MembersFall (R.counts (rack_of self.old)).faults (R.counts (rack_of self.new)).faults (members_of self.old) (members_of self.new) }
         ensures counts { CountsRise (R.counts (rack_of self.old)) (R.counts (rack_of self.new)) }
+        ensures most { (R.counts (rack_of self.new)).calls ≤ (R.counts (rack_of self.old)).calls + 2 * length (sites_in (table_of self.old) block) }
         ensures tells { StillTold (R.bytes (rack_of self.old)) (R.bytes (rack_of self.new)) }
         ensures name { R.name (rack_of self.new) ≡ R.name (rack_of self.old) }
     {
@@ -385,6 +390,7 @@ impl<R: Rack> Store<R> {
         ensures stands { (V : List (List ℕ)) → StandsFor R.counts R.bytes self.old V → self.old.block.items ≡ block_in V block → StandsFor R.counts R.bytes self.new V }
         ensures falls { MembersFall (R.counts (rack_of self.old)).faults (R.counts (rack_of self.new)).faults (members_of self.old) (members_of self.new) }
         ensures counts { CountsRise (R.counts (rack_of self.old)) (R.counts (rack_of self.new)) }
+        ensures most { (R.counts (rack_of self.new)).calls ≤ (R.counts (rack_of self.old)).calls + 2 }
         ensures tells { StillTold (R.bytes (rack_of self.old)) (R.bytes (rack_of self.new)) }
         ensures name { R.name (rack_of self.new) ≡ R.name (rack_of self.old) }
     {
