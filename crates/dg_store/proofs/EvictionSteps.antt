@@ -1,5 +1,5 @@
 -- Evictions, one after another, and the boundary with the fewest used slots.
-use Rattle.std.proofs.Common.{◌≡◌, ◌<◌, ◌≤◌, ◌%◌, ℕ, zero, suc, List, [], length, refl, sym, ◌∙◌, ap, subst, arith}
+use Rattle.std.proofs.Common.{◌≡◌, ◌<◌, ◌≤◌, ◌%◌, ℕ, zero, suc, List, [], length, sym, ◌∙◌, ap, subst, arith}
 use Rattle.std.specs.List.{sum_by}
 use Rattle.dg_model.specs.declared.shapes.Shape.{Shape}
 use Rattle.dg_model.specs.declared.sites.Site.{Site}
@@ -38,14 +38,6 @@ pub record HasEvicted (old : Table) (given_up : List GivenUp) (now : Table) : Ty
   pub count : ℕ
   pub evicting : Evicting count old now
   pub gave : GaveUp given_up old now
-
-pub evicted_none : (old : Table) (given_up : List GivenUp) → IsTable old → given_up ≡ [] → HasEvicted old given_up old
-evicted_none old given_up ok empty = record {
-  table = ok;
-  count = 0;
-  evicting = refl;
-  gave = subst (λ es. GaveUp es old old) (sym empty) refl;
-}
 
 pub evicted_more : (old now new : Table) (es more : List GivenUp) → HasEvicted old es now → IsPacked now → IsEvicted now new es more → IsTable new → HasEvicted old more new
 evicted_more old now new es more so_far packed one ok = record {

@@ -75,9 +75,6 @@ IsTable-thinned old new ok thin size = record {
 -- ---- one site that was given up
 
 module _ (table : Table) (given : GivenUp) (ok : IsTable table) (last : IsLastSite table given) where
-  after : Table
-  after = without_site table given.block given.site.boundary
-
   within : given.block < length table.rows
   within = let size = ok.size in let inside = last.within in omega (arith, size, inside)
 
