@@ -2,8 +2,12 @@ mod Bits
 mod Blocks
 mod Calls
 mod Changed
+mod EvictionCounts
+mod EvictionSteps
 mod PlaceLemmas
 mod Rows
+mod SitesGivenUp
+mod SitesLists
 mod Sound
 mod Struck
 mod TableLemmas

@@ -1,8 +1,7 @@
 -- Sites that were given up to make room, and how they are taken back.
 use Rattle.std.specs.Prelude.{◌≡◌, ◌<◌, ◌≤◌, ◌++◌, ℕ, List, [], ◌∷◌, length}
-use Rattle.dg_model.specs.Sites.{has_site}
-use Rattle.dg_model.specs.Tables.{Table, sites_in, without_site}
-use Rattle.dg_model.specs.declared.shapes.Shape.{Shape}
+use Rattle.dg_model.specs.Sites.{IsLeastSpread, has_site}
+use Rattle.dg_model.specs.Tables.{Table, put_site, sites_in, without_site}
 use Rattle.dg_model.specs.declared.sites.Site.{Site}
 use Rattle.dg_store.specs.declared.sites.GivenUp.{GivenUp}
 
@@ -18,8 +17,25 @@ abbrev pub GaveUp : List GivenUp → Table → Table → Type 0
 GaveUp [] old new = new ≡ old
 GaveUp (given ∷ more) old new = IsLastSite old given × GaveUp more (without_site old given.block given.site.boundary) new
 
+-- each block below this one has at most one site
+abbrev pub NoneSpreadBelow : Table → ℕ → Type 0
+NoneSpreadBelow table b = (a : ℕ) → a < b → length (sites_in table a) ≤ 1
+
 -- each block has a front of its sites, and at least one where it had one
 pub record IsThinned (old new : Table) : Type 0 where
   pub shape : new.shape ≡ old.shape
   pub front : (b : ℕ) → (rest : List Site) × (sites_in old b ≡ sites_in new b ++ rest)
   pub written : (b : ℕ) → has_site (sites_in new b) ≡ has_site (sites_in old b)
+
+-- the table before these sites were given up
+abbrev pub table_before : List GivenUp → Table → Table
+table_before [] now = now
+table_before (given ∷ more) now = put_site (table_before more now) given.block given.site
+
+-- the least block with more than one site gave up its last one, which joined the list
+pub record IsEvicted (old new : Table) (before after : List GivenUp) : Type 0 where
+  pub given : GivenUp
+  pub least : IsLeastSpread old given.block
+  pub last : IsLastSite old given
+  pub left : new ≡ without_site old given.block given.site.boundary
+  pub listed : after ≡ before ++ given ∷ []

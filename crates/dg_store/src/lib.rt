@@ -4,6 +4,8 @@
 mod boundaries;
 mod lengths;
 mod places;
+#[cfg(test)]
+mod site_tests;
 mod sites;
 mod store;
 #[cfg(test)]
