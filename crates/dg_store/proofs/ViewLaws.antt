@@ -1,6 +1,6 @@
 -- A gone block stays gone while the store is read.
 use Rattle.std.proofs.Common.{◌≡◌, inl, inr, ℕ, zero, suc, ◌+◌, ◌*◌, ◌/◌, get_or, ◌<◌, true, List, [], ◌∷◌, length, refl, sym, ◌∙◌, ap, subst, arith}
-use Rattle.std.specs.Prelude.{Option, IsSome, ◌&&◌, not}
+use Rattle.std.specs.Prelude.{Option, IsSome, not}
 use Rattle.std.proofs.lemmas.Bool.{and_parts, and_from, cases_lt}
 use Rattle.dg_model.specs.Members.{is_good, is_lost, MembersFall}
 use Rattle.dg_model.specs.Sites.{has_site, all_lost, is_gone}
