@@ -1,8 +1,7 @@
 -- Bits of lost boundaries.
-use Rattle.std.proofs.Common.{◌≡◌, ℕ, zero, suc, ◌+◌, ◌*◌, ◌%◌, ◌^◌, ◌≤◌, ◌<◌, true, false, Bool, refl, sym, ◌∙◌, ap, arith}
+use Rattle.std.proofs.Common.{◌≡◌, ℕ, zero, suc, ◌+◌, ◌*◌, ◌%◌, ◌^◌, ◌≤◌, ◌<◌, true, false, Bool, arith}
 use Rattle.std.specs.Prelude.{if◌then◌else◌}
 use Rattle.std.proofs.Math.Nat.{pow-le-pow_right}
-use Rattle.std.proofs.lemmas.Nat.{pow_pos}
 use Rattle.std.proofs.Math.Nat.{two-pow-succ}
 use Rattle.dg_model.specs.Members.{is_lost}
 use Rattle.dg_model.specs.declared.members.MemberState.{MemberState}
@@ -25,9 +24,3 @@ pub bits_fit : (members : ℕ → MemberState) (s : ℕ) → s < 16 → lost_bit
 bits_fit members s below =
     let most : 2 ^ s ≤ 2 ^ 15 = pow-le-pow_right {n = 2} (omega arith) {i = s} {j = 15} (omega arith) in
     omega (arith, most, bits_below members s)
-
-pub one_more : (members : ℕ → MemberState) (s : ℕ) → is_lost members s ≡ true → lost_bits members (suc s) ≡ lost_bits members s + 2 ^ s
-one_more members s lost = ap (λ (b : Bool). lost_bits members s + (if b then 2 ^ s else 0)) lost
-
-pub same_more : (members : ℕ → MemberState) (s : ℕ) → is_lost members s ≡ false → lost_bits members (suc s) ≡ lost_bits members s
-same_more members s lost = ap (λ (b : Bool). lost_bits members s + (if b then 2 ^ s else 0)) lost ∙ omega arith

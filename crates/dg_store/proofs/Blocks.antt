@@ -1,21 +1,21 @@
 -- The blocks that a store stands for, as its slots and its table change.
-use Rattle.std.proofs.Common.{◌≡◌, ◌≢◌, ◌⊎◌, inl, inr, ℕ, ◌+◌, ◌<◌, true, false, List, [], ◌∷◌, ◌++◌, length, refl, sym, ◌∙◌, ap, subst, arith, get_or}
-use Rattle.std.specs.Prelude.{Option, slice_set, replicate}
-use Rattle.std.specs.List.{All, Contains}
+use Rattle.std.proofs.Common.{◌≡◌, ◌≢◌, inl, inr, ℕ, ◌<◌, true, List, [], length, refl, sym, ◌∙◌, ap, subst, arith, get_or}
+use Rattle.std.specs.Prelude.{Option, slice_set}
+use Rattle.std.specs.List.{Contains}
 use Rattle.std.proofs.lemmas.Bool.{cases_eq}
-use Rattle.std.proofs.lemmas.List.{get_or-set_same, get_or-set_other, get_or-replicate, length-set, length-replicate}
-use Rattle.std.proofs.lemmas.List.Elements.{All-contains, All-push, All-nil, Contains-append_left, Contains-get_or}
+use Rattle.std.proofs.lemmas.List.{get_or-set_same, get_or-set_other, length-set}
+use Rattle.std.proofs.lemmas.List.Elements.{All-contains, All-push, Contains-append_left, Contains-get_or}
 use Rattle.dg_model.specs.Members.{SlotHolds}
 use Rattle.dg_model.specs.Sites.{has_site}
 use Rattle.dg_model.specs.States.{StandsFor, block_in, zeros}
-use Rattle.dg_model.specs.Tables.{Table, IsFree, IsTable, empty_table, put_site, sites_in, without_site}
+use Rattle.dg_model.specs.Tables.{Table, IsFree, IsTable, put_site, sites_in, without_site}
 use Rattle.dg_model.specs.declared.shapes.Shape.{Shape}
 use Rattle.dg_model.specs.declared.sites.Site.{Site}
 use Rattle.dg_model.specs.declared.members.MemberState.{MemberState}
 use Rattle.dg_store.specs.Evictions.{IsThinned}
 use Rattle.dg_store.specs.Rows.{KeepsSlots, KeepsOtherSlots, KeepsSlotsBut, SitesHold}
 use Rattle.dg_store.proofs.PlaceLemmas.{IsHeld, site_is}
-use Rattle.dg_store.proofs.TableLemmas.{put_here, put_other, has_put, without_here, without_other, has_off, has_some, off_within, empty_in}
+use Rattle.dg_store.proofs.TableLemmas.{put_here, put_other, has_put, without_here, without_other, has_off, has_some, off_within}
 
 -- each block has some of its sites, and at least one where it had one; but for one block
 pub record IsFewerBut (b : ℕ) (old new : Table) : Type 0 where
@@ -109,13 +109,6 @@ module _ (members : ℕ → MemberState) (bytes : ℕ → Option (List ℕ)) (V 
           | inr other ↦ subst (λ (xs : List Site). SitesHold table.shape.l members bytes (block_in V c) xs) (sym (put_other table b site c other)) (st.held c below)
         ];
       }
-
-pub stands_blank : (shape : Shape) (table : Table) (members : ℕ → MemberState) (bytes : ℕ → Option (List ℕ)) → table ≡ empty_table shape → StandsFor table members bytes (replicate shape.n (zeros shape.l))
-stands_blank shape table members bytes is = subst (λ (t : Table). StandsFor t members bytes (replicate shape.n (zeros shape.l))) (sym is) (record {
-  size = length-replicate shape.n (zeros shape.l);
-  blank = λ b below none. get_or-replicate shape.n b (zeros shape.l) [] below;
-  held = λ b below. subst (λ (sites : List Site). SitesHold shape.l members bytes (block_in (replicate shape.n (zeros shape.l)) b) sites) (sym (empty_in shape b)) (All-nil (IsHeld shape.l members bytes (block_in (replicate shape.n (zeros shape.l)) b)));
-})
 
 module _ (old new : ℕ → MemberState) (before now : ℕ → Option (List ℕ)) (V : List (List ℕ)) where
   -- where each slot has what it had, each block has its value

@@ -54,9 +54,9 @@ site_is site s slot at in_slot =
     let f : ℕ → ℕ → Site = λ t x. record { boundary = t; slot = x } in
     ap (λ (t : ℕ). f t site.slot) at ∙ ap (λ (x : ℕ). f s x) in_slot
 
-first_is : (site : Site) (sites : List Site) (s slot : ℕ) → Contains (site ∷ []) (record { boundary = s; slot = slot }) → (s ≡ site.boundary) × (slot ≡ site.slot)
-first_is site sites s slot (zero, below, is) = (ap (λ (x : Site). x.boundary) (sym is), ap (λ (x : Site). x.slot) (sym is))
-first_is site sites s slot (suc k, below, is) = absurd (omega arith)
+first_is : (site : Site) (s slot : ℕ) → Contains (site ∷ []) (record { boundary = s; slot = slot }) → (s ≡ site.boundary) × (slot ≡ site.slot)
+first_is site s slot (zero, below, is) = (ap (λ (x : Site). x.boundary) (sym is), ap (λ (x : Site). x.slot) (sym is))
+first_is site s slot (suc k, below, is) = absurd (omega arith)
 
 pub contains_or : (sites : List Site) (s slot : ℕ) → Contains sites (record { boundary = s; slot = slot }) ⊎ (¬ Contains sites (record { boundary = s; slot = slot }))
 contains_or [] s slot = inr (λ c. absurd (let below = c.1 in omega arith))
@@ -66,12 +66,12 @@ contains_or (site ∷ sites) s slot = elim (contains_or sites s slot) [
     | inl at ↦ elim (cases_eq site.slot slot) [
       | inl same ↦ inl (0, omega arith, site_is site s slot at same)
       | inr other ↦ inr (λ c. elim (Contains-append_cases (site ∷ []) sites _ c) [
-        | inl first ↦ other (sym (first_is site sites s slot first).1)
+        | inl first ↦ other (sym (first_is site s slot first).1)
         | inr rest ↦ off rest
       ])
     ]
     | inr other ↦ inr (λ c. elim (Contains-append_cases (site ∷ []) sites _ c) [
-      | inl first ↦ other (sym (first_is site sites s slot first).0)
+      | inl first ↦ other (sym (first_is site s slot first).0)
       | inr rest ↦ off rest
     ])
   ]

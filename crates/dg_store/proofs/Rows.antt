@@ -1,6 +1,6 @@
 -- Rows of boundaries: one is replaced, or one is added.
 use Rattle.std.proofs.Common.{◌≡◌, ◌≢◌, ◌⊎◌, inl, inr, ℕ, zero, suc, ◌+◌, ◌*◌, ◌/◌, ◌≤◌, ◌<◌, true, List, [], ◌∷◌, ◌++◌, length, refl, sym, ◌∙◌, ap, subst, arith, get_or}
-use Rattle.std.specs.Prelude.{Option, Some, None, All, Any, slice_get, slice_set}
+use Rattle.std.specs.Prelude.{Option, Some, None, Any, slice_get, slice_set}
 use Rattle.std.proofs.lemmas.Bool.{cases_eq}
 use Rattle.std.proofs.lemmas.Option.{slice_get-get_or, get_or_from_slice_get}
 use Rattle.dg_model.specs.Causes.{Rose}
@@ -8,7 +8,7 @@ use Rattle.dg_model.specs.Members.{is_lost}
 use Rattle.dg_model.specs.declared.members.MemberState.{MemberState}
 use Rattle.dg_model.specs.declared.members.MemberState.TheVariants.{Good, Out}
 use Rattle.dg_pair.specs.declared.boundaries.Boundary.{Boundary}
-use Rattle.dg_pair.specs.Boundaries.{IsWell, members_of}
+use Rattle.dg_pair.specs.Boundaries.{members_of}
 use Rattle.dg_store.specs.Rows.{member_at, members_in, StandsAt, RowStands, RowBegins, HasNoGood}
 use Rattle.dg_store.proofs.Changed.{IsChanged}
 
@@ -100,9 +100,6 @@ some_at : {X : Type 0} (xs : List X) (i : ℕ) → i < length xs → (x : X) × 
 some_at [] i h = absurd (omega arith)
 some_at (y ∷ ys) zero h = (y, refl)
 some_at (y ∷ ys) (suc i) h = some_at ys i (omega arith)
-
-pub row_well : (l slots : ℕ) (row : List Boundary) → RowStands l slots row → All IsWell row
-row_well l slots row stands k d within = (stands k (get_or row k d) (slice_get-get_or row k d within)).well
 
 -- boundary s of a row is lost by its own members
 pub lost_at : (row : List Boundary) (s : ℕ) (x : Boundary) → slice_get row s ≡ Some x → is_lost (members_in row) s ≡ is_lost (members_of x) s

@@ -1,6 +1,6 @@
 -- Rows of a table: a site is put, or the sites on a boundary are taken from a block.
-use Rattle.std.proofs.Common.{◌≡◌, ◌≢◌, ◌⊎◌, inl, inr, ℕ, zero, suc, ◌+◌, ◌≤◌, ◌<◌, true, false, Bool, cond, List, [], ◌∷◌, ◌++◌, length, refl, sym, ◌∙◌, ap, subst, arith, get_or}
-use Rattle.std.specs.Prelude.{◌==◌, not, slice_set, replicate}
+use Rattle.std.proofs.Common.{◌≡◌, ◌≢◌, inl, inr, ℕ, ◌+◌, ◌≤◌, ◌<◌, true, false, Bool, cond, List, [], ◌∷◌, ◌++◌, length, refl, sym, ◌∙◌, ap, subst, arith, get_or}
+use Rattle.std.specs.Prelude.{◌==◌, not, slice_set}
 use Rattle.std.specs.List.{All, Contains, filter}
 use Rattle.std.proofs.lemmas.Bool.{cases_eq}
 use Rattle.std.proofs.lemmas.Bool.Decides.{nat_tests}
@@ -9,8 +9,7 @@ use Rattle.std.proofs.lemmas.List.Sums.{length-filter}
 use Rattle.std.proofs.lemmas.List.Filters.{length-filter_both}
 use Rattle.std.proofs.lemmas.List.Elements.{All-head, All-tail, All-nil, All-cons, All-filter, All-contains, All-contains_itself, Contains-get_or, Contains-push, filter-append, filter_passes}
 use Rattle.dg_model.specs.Sites.{has_site}
-use Rattle.dg_model.specs.Tables.{Table, IsTable, count_on, empty_table, put_site, sites_in, sites_off, without_site}
-use Rattle.dg_model.specs.declared.shapes.Shape.{Shape}
+use Rattle.dg_model.specs.Tables.{Table, IsTable, count_on, put_site, sites_in, sites_off, without_site}
 use Rattle.dg_model.specs.declared.sites.Site.{Site}
 use Rattle.dg_store.specs.Rows.{AreSlots}
 
@@ -99,14 +98,6 @@ module _ (table : Table) (b : ℕ) where
   put_back s site within none at =
       let with_rows : List (List Site) → Table = λ rows. record { shape = table.shape; rows = rows } in
       ap with_rows (rows_back s site within none at)
-
-empty_at : (n b : ℕ) → get_or {A = List Site} (replicate {A = List Site} n []) b [] ≡ []
-empty_at zero b = refl
-empty_at (suc n) zero = refl
-empty_at (suc n) (suc b) = empty_at n b
-
-pub empty_in : (shape : Shape) (b : ℕ) → sites_in (empty_table shape) b ≡ []
-empty_in shape b = empty_at shape.n b
 
 -- the sites of a block are slots of the array
 pub are_slots : (table : Table) (b boundaries : ℕ) → IsTable table → boundaries ≡ table.shape.b → AreSlots boundaries (table.shape.k + 1) (sites_in table b)

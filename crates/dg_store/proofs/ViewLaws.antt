@@ -1,6 +1,6 @@
 -- A gone block stays gone while the store is read.
-use Rattle.std.proofs.Common.{◌≡◌, inl, inr, ℕ, zero, suc, ◌+◌, ◌*◌, ◌/◌, get_or, ◌<◌, true, List, [], ◌∷◌, length, refl, sym, ◌∙◌, ap, subst, arith}
-use Rattle.std.specs.Prelude.{Option, IsSome, ◌&&◌, not}
+use Rattle.std.proofs.Common.{◌≡◌, inl, inr, ℕ, ◌+◌, ◌*◌, ◌/◌, ◌<◌, true, List, [], ◌∷◌, length, refl, sym, ◌∙◌, ap, subst, arith}
+use Rattle.std.specs.Prelude.{Option, IsSome, not}
 use Rattle.std.proofs.lemmas.Bool.{and_parts, and_from, cases_lt}
 use Rattle.dg_model.specs.Members.{is_good, is_lost, MembersFall}
 use Rattle.dg_model.specs.Sites.{has_site, all_lost, is_gone}
@@ -41,8 +41,3 @@ tells_good b row bytes count told q good = elim (cases_lt (q / 2) b) [
   | inl below ↦ told q below
   | inr past ↦ let out = beyond row q (omega arith) in absurd (cc (good, out))
 ]
-
-pub any_default : {X : Type 0} (xs : List X) (i : ℕ) (d e : X) → i < length xs → get_or xs i d ≡ get_or xs i e
-any_default [] i d e h = absurd (omega arith)
-any_default (x ∷ xs) zero d e h = refl
-any_default (x ∷ xs) (suc i) d e h = any_default xs i d e (omega arith)

@@ -9,7 +9,7 @@ ghost use Rattle.dg_model.specs.Steps.{LosesSites};
 ghost use Rattle.dg_model.specs.Tables.{Table, IsLowestFree, count_on, put_site, sites_in, used_in, without_site};
 ghost use Rattle.dg_model.specs.declared.sites.Site.{Site};
 ghost use Rattle.dg_io.specs.Told.{StillTold};
-ghost use Rattle.dg_pair.specs.Boundaries.{number_of, members_of as boundary_members};
+ghost use Rattle.dg_pair.specs.Boundaries.{IsWell, number_of, members_of as boundary_members};
 ghost use Rattle.dg_store.specs.Lengths.{length_of, IsZeroed};
 ghost use Rattle.dg_store.specs.Stores.{rack_of, table_of, shape_of, members_of, state_of, IsSound, StandsFor, Tells, TellsAll, lost_bits};
 
@@ -112,6 +112,7 @@ impl<R: Rack> Store<R> {
     pub fn boundary(&self, boundary: u8) -> &Boundary
         requires sound { IsSound R.bytes self.now }
         requires boundary { boundary < (shape_of self.now).b }
+        ensures well { IsWell result.now }
         ensures number { number_of result.now ≡ boundary }
         ensures members { (q : ℕ) → q / 2 ≡ boundary → boundary_members result.now q ≡ members_of self.now q }
     {

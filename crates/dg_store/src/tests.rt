@@ -6,6 +6,7 @@ ghost use Rattle.dg_store.specs.Stores.{IsSound, shape_of};
 
 use super::*;
 use dg_io::{MemRack, Rack};
+use dg_model::MemberState;
 use std::alloc::Global;
 use std::process::Abort;
 use std::test::Fail;

@@ -2,6 +2,11 @@ use Rattle.std.proofs.Common.{◌<◌, length, sym, arith}
 use Rattle.dg_store.proofs.Rows.{there, set_changed}
 use Rattle.dg_store.proofs.store.Store.boundary.Goals as goal
 
+pub returns-clause-well : goal.returns-clause-well
+returns-clause-well g c =
+    let within : c.args.boundary < length c.args.self.now.row.items = omega (arith, c.requires.boundary, c.requires.sound.boundaries) in
+    (c.requires.sound.stands _ _ (there _ _ _ within c.index.ensures)).well
+
 pub returns-clause-number : goal.returns-clause-number
 returns-clause-number g c =
     let within : c.args.boundary < length c.args.self.now.row.items = omega (arith, c.requires.boundary, c.requires.sound.boundaries) in

@@ -1,4 +1,4 @@
-use Rattle.std.proofs.Common.{◌≡◌, ◌+◌, ◌<◌, List, ℕ, length, [], ◌∷◌, refl, true, sym, ◌∙◌, ap, subst, arith}
+use Rattle.std.proofs.Common.{◌<◌, List, [], sym, ◌∙◌, ap, subst, arith}
 use Rattle.std.proofs.lemmas.List.Elements.{All-nil, All-push, Contains-push}
 use Rattle.std.specs.List.{Contains}
 use Rattle.dg_model.specs.Sites.{has_site}

@@ -1,6 +1,7 @@
 use Rattle.std.proofs.Common.{◌<◌, ◌/◌, ◌∙◌, [], length, sym, ap, subst, arith}
+use Rattle.std.proofs.lemmas.List.{get_or_default}
 use Rattle.dg_model.specs.Tables.{Table}
-use Rattle.dg_store.proofs.ViewLaws.{gone_stays, tells_good, any_default}
+use Rattle.dg_store.proofs.ViewLaws.{gone_stays, tells_good}
 use Rattle.dg_store.proofs.views.StoreView.fetch.Goals as goal
 
 pub returns-clause-keeps : goal.returns-clause-keeps
@@ -20,4 +21,4 @@ pub returns-clause-bytes : goal.returns-clause-bytes
 returns-clause-bytes g c got told v st =
     let k = c.read.ensures in
     let within : c.args.block < length v = omega (arith, st.size, c.requires.within) in
-    k.got v st got (tells_good _ _ _ k.sound.boundaries told) ∙ any_default v c.args.block [] _ within
+    k.got v st got (tells_good _ _ _ k.sound.boundaries told) ∙ get_or_default v c.args.block [] _ within
