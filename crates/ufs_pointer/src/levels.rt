@@ -1,14 +1,15 @@
-ghost use Rattle.std.specs.Prelude.{◌≡◌, ◌+◌, ◌*◌, ◌^◌, ◌<◌, ◌≤◌, IfOk, IfSome, [], length, take};
+ghost use Rattle.std.specs.Prelude.{◌≡◌, ◌+◌, ◌-◌, ◌*◌, ◌^◌, ◌<◌, ◌≤◌, ◌++◌, IfOk, IfSome, [], length, replicate, take};
 ghost use Rattle.std.specs.Bool.{then_some};
 ghost use Rattle.dg_io.specs.Views.{KeepsView};
 ghost use Rattle.ufs_model.specs.Blocks.{area_of};
 ghost use Rattle.ufs_model.specs.Geometries.{IsGeometry, IsGeometryOn};
+ghost use Rattle.ufs_model.specs.Inodes.{block_span};
 ghost use Rattle.ufs_model.specs.Pointers.{chain_address, file_block_of};
 ghost use Rattle.ufs_model.specs.Readings.{ReadsAs};
 ghost use Rattle.ufs_model.specs.declared.numbers.Endian.TheVariants.{Little};
-ghost use Rattle.ufs_pointer.specs.Addresses.{IsInside, address_in};
+ghost use Rattle.ufs_pointer.specs.Addresses.{HasSpan, IsInside, address_in};
 ghost use Rattle.ufs_pointer.specs.Buffers.{Buffers};
-ghost use Rattle.ufs_pointer.specs.Chains.{IsChain};
+ghost use Rattle.ufs_pointer.specs.Chains.{IsChain, chain_span};
 
 use crate::addresses::{direct_address, indirect_address};
 use crate::answers::BlockAnswer;
@@ -49,6 +50,8 @@ impl Model for Levels {
     ghost view = { λ s. record { fragment = s.fragment; block = take s.filled s.bytes.items } };
 
     ghost invariant = { λ s. record {
+      least : 512 ≤ s.fragment;
+      most : s.fragment ≤ 65536;
       filled : s.filled ≤ length s.bytes.items;
       bytes : length s.bytes.items ≡ 8 * s.fragment;
       single : length s.single.items ≡ 8 * s.fragment;
@@ -60,7 +63,7 @@ impl Model for Levels {
 impl Levels {
     /// The buffers for fragments of `l` bytes. It takes all their memory.
     pub fn new(alloc: Global, l: u32) -> Result<Levels, NoMemory>
-        requires { l ≤ 65536 }
+        requires { (512 ≤ l) × (l ≤ 65536) }
         ensures fragment { IfOk result (λ levels. levels.fragment ≡ l) }
         ensures block { IfOk result (λ levels. levels.block ≡ []) }
     {
@@ -72,6 +75,15 @@ impl Levels {
             double: zeros(alloc, l)?,
             triple: zeros(alloc, l)?,
         })
+    }
+
+    /// The bytes of a fragment.
+    pub fn fragment_bytes(&self) -> u32
+        ensures value { result ≡ self.now.fragment }
+        ensures least { 512 ≤ result }
+        ensures most { result ≤ 65536 }
+    {
+        self.fragment
     }
 
     /// The block of data that was read last.
@@ -111,6 +123,15 @@ fn block_bytes(g: &Geometry) -> usize
     area_bytes(g.frag, g.fsize)
 }
 
+/// Makes the bytes of a buffer from one on up to another zeros.
+fn clear_range(buf: &mut [u8], start: usize, end: usize)
+    requires { (start ≤ end) × (end ≤ length buf.old) }
+    ensures value { take end buf.new ≡ take start buf.old ++ replicate (end - start) 0 }
+    ensures room { length buf.new ≡ length buf.old }
+{
+    buf[start..end].fill(0);
+}
+
 /// Reads `k` fragments of data from `a` on into the front of a buffer, which has so many bytes.
 fn read_front<V: View>(view: &mut V, a: u32, k: u32, bytes: usize, buf: &mut [u8]) -> bool
     requires sound { V.is_sound view.old }
@@ -143,6 +164,29 @@ impl Levels {
         read_front(view, a, k, self.filled, &mut self.bytes)
     }
 
+    /// Puts zeros after the block of data, which has `inside` fragments, so that it has `k`.
+    pub fn pad(&mut self, inside: u32, k: u32)
+        requires order { inside ≤ k }
+        requires most { k ≤ 8 }
+        requires inside { length self.old.block ≡ inside * self.old.fragment }
+        ensures fragment { self.new.fragment ≡ self.old.fragment }
+        ensures block { self.new.block ≡ self.old.block ++ replicate ((k - inside) * self.old.fragment) 0 }
+    {
+        let end = area_bytes(k, self.fragment);
+        clear_range(&mut self.bytes, self.filled, end);
+        self.filled = end;
+    }
+
+    /// Makes the block of data `k` fragments of zeros.
+    pub fn clear(&mut self, k: u32)
+        requires { k ≤ 8 }
+        ensures fragment { self.new.fragment ≡ self.old.fragment }
+        ensures block { self.new.block ≡ replicate (k * self.old.fragment) 0 }
+    {
+        self.filled = 0;
+        self.pad(0, k);
+    }
+
     /// What a chain leads to, by the slots of the inode and through indirect blocks. There is no answer
     /// where a fragment of one of these is gone.
     fn follow<V: View>(
@@ -159,6 +203,7 @@ impl Levels {
         ensures keeps { KeepsView V.stands_for V.tells V.is_gone V.count V.size V.is_sound V.goes_on view.old view.new }
         ensures buffers { self.new ≡ self.old }
         ensures inside { IfSome result (IsInside g.now) }
+        ensures span { IfSome result (HasSpan (chain_span g.now inode.now chain)) }
         ensures rule { ReadsAs (V.stands_for view.old) (V.is_gone view.old) (V.tells view.new) (V.is_gone view.new)
             (chain_address Little g.now inode.now chain) result }
     {
@@ -185,7 +230,7 @@ impl Levels {
 }
 
 /// The address of file block `n` of an inode, by the first trouble on the chain. It takes no memory.
-#[tactic(auto, unfolding(ufs_model::specs::Pointers::file_block_of))]
+#[tactic(auto, using(crate::proofs::ChainLaws::block_chain), unfolding(ufs_model::specs::Pointers::file_block_of))]
 pub fn file_block<V: View>(
     view: &mut V,
     g: &Geometry,
@@ -200,6 +245,7 @@ pub fn file_block<V: View>(
     ensures keeps { KeepsView V.stands_for V.tells V.is_gone V.count V.size V.is_sound V.goes_on view.old view.new }
     ensures buffers { levels.new ≡ levels.old }
     ensures inside { IfSome (address_in result) (IsInside g.now) }
+    ensures span { IfSome (address_in result) (HasSpan (block_span g.now inode.now n)) }
     ensures rule { ReadsAs (V.stands_for view.old) (V.is_gone view.old) (V.tells view.new) (V.is_gone view.new)
         (file_block_of Little g.now inode.now n) (address_in result) }
 {
