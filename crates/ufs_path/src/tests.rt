@@ -1,72 +1,12 @@
-ghost use Rattle.std.specs.Prelude.{◌≡◌, ◌++◌, ◌==◌, ◌||◌, true, IfOk, length};
-ghost use Rattle.std.specs.List.{list_any};
-ghost use Rattle.ufs_model.specs.Chunks.{is_name};
-ghost use Rattle.std.proofs.Common.{◌∙◌, ap, sym};
-ghost use Rattle.std.proofs.lemmas.List.{append_assoc, append-nil};
-ghost use Rattle.ufs_model.specs.Paths.{IsOneName};
+ghost use Rattle.std.specs.Prelude.{◌≡◌, IfOk, length};
 
-use crate::{BadRead, BadSuper, CatAnswer, Levels, cat};
-use dg_io::{Failed, Loss, MemView, Pieces, View};
+use crate::{
+    BadRead, BadSuper, CatAnswer, Inode, Levels, LookFault, cat, geometry, is_path, look,
+};
+use dg_io::{Loss, MemSink, MemView};
 use std::alloc::Global;
 use std::test::Fail;
 use ufs_rows::{Which, rows_image};
-
-/// Takes pieces while it has room for them whole.
-#[derive(Drop)]
-struct Taken {
-    bytes: Vec<u8>,
-    room: usize,
-    faults: u64,
-}
-
-impl Pieces for Taken {
-    ghost took = { λ a bytes b. b.bytes.items ≡ a.bytes.items ++ bytes };
-
-    ghost took_part = { λ _ _ _. Unit {0} };
-
-    ghost faults = { λ s. s.faults };
-
-    fn piece(&mut self, bytes: &[u8]) -> Result<(), Failed> {
-        let fits = bytes.len() <= self.room.saturating_sub(self.bytes.len());
-        if !fits || self.bytes.extend_from_slice(bytes).is_err() {
-            self.faults = self.faults.saturating_add(1);
-            return Err(Failed);
-        }
-        Ok(())
-    }
-
-    ghost nothing = { λ s. sym (append-nil s.bytes.items) };
-
-    ghost then = { λ a b c x y first second. second ∙ ap (λ z. z ++ y) first ∙ append_assoc a.bytes.items x y };
-
-    ghost then_part = { λ a b c x y first second. tt };
-
-    ghost part = { λ a b x y is. tt };
-}
-
-fn has_end(name: &[u8]) -> bool
-    ensures { result ≡ list_any (λ b. (b == 0) || (b == 47)) name.now }
-{
-    name.iter().any(|byte| *byte == 0 || *byte == b'/')
-}
-
-#[tactic(auto, unfolding(ufs_model::specs::Chunks::is_name))]
-fn is_name(name: &[u8]) -> bool
-    ensures { result ≡ is_name name.now }
-{
-    !name.is_empty() && !has_end(name)
-}
-
-/// Whether a path is a slash and one name.
-fn is_one_name(path: &[u8]) -> bool
-    ensures { result ≡ true → IsOneName path.now }
-{
-    if path.is_empty() {
-        return false;
-    }
-    let (slash, name) = path.split_at(1);
-    slash == b"/".as_slice() && is_name(name)
-}
 
 /// The 128 blocks of a volume.
 fn image(alloc: Global, which: Which) -> Result<Vec<u8>, Fail>
@@ -90,21 +30,57 @@ fn read(
     requires { length image.items ≡ 131072 }
 {
     let mut view = MemView::new(image, 1024, 128, vec![in alloc; loss]?);
-    let (size, _) = view.shape();
-    if size != 1024 {
-        return Err("shape".into());
-    }
-    let mut levels = Levels::new(alloc, 1024).ok().ok_or("memory")?;
-    let mut out = Taken {
-        bytes: Vec::with_capacity(alloc, room)?,
-        room,
-        faults: 0,
-    };
-    if !is_one_name(path) {
+    let mut levels = Levels::new(alloc, 1024)?;
+    let mut out = MemSink::new(alloc, room, Vec::new(alloc))?;
+    if !is_path(path) {
         return Err("path".into());
     }
     let answer = cat(&mut view, &mut levels, path, &mut out);
-    Ok((answer, out.bytes))
+    Ok((answer, Vec::from_slice(alloc, out.taken())?))
+}
+
+/// What a path leads to on a volume that loses a block.
+fn found(
+    alloc: Global,
+    image: Vec<u8>,
+    path: &[u8],
+    loss: Loss,
+) -> Result<Result<(u32, Inode), LookFault>, Fail>
+    requires { length image.items ≡ 131072 }
+{
+    let mut view = MemView::new(image, 1024, 128, vec![in alloc; loss]?);
+    let mut levels = Levels::new(alloc, 1024)?;
+    if !is_path(path) {
+        return Err("path".into());
+    }
+    Ok(look(&mut view, &mut levels, path))
+}
+
+/// Gives inode 3 the slots of inode 5, and so many bytes. Inode 2 stands at byte 28 * 1024 + 256.
+fn lengthen(image: &mut [u8], size: u64)
+    requires { length image.old ≡ 131072 }
+    ensures { length image.new ≡ length image.old }
+{
+    let (front, back) = image.split_at_mut(29_312);
+    front[29_056..29_184].copy_from_slice(&back[..128]);
+    front[29_064..29_072].copy_from_slice(&size.to_le_bytes());
+}
+
+/// The volume F, on which `/a` has the slots of `/d/b`, and so many bytes.
+fn long_image(alloc: Global, size: u64) -> Result<Vec<u8>, Fail>
+    ensures { IfOk result (λ image. length image.items ≡ 131072) }
+{
+    let mut image = image(alloc, Which::F)?;
+    lengthen(&mut image, size);
+    Ok(image)
+}
+
+/// Whether bytes are those of the long file, each of which tells its fragment.
+fn is_long(bytes: &[u8]) -> bool {
+    bytes
+        .iter()
+        .enumerate()
+        .all(|(at, byte)| *byte as usize == 1 + at / 1024)
 }
 
 /// Nothing that a file needs.
@@ -193,5 +169,98 @@ fn a_receiver_that_fails(rt: HostRuntime) -> Result<(), Fail> {
     let (answer, bytes) = read(alloc, image(alloc, Which::X)?, b"/p", NOTHING, 10000)?;
     assert_eq!(rt; answer, CatAnswer::SinkFault);
     assert!(rt; bytes.len() == 8192);
+    Ok(())
+}
+
+/// Twelve file blocks stand at direct slots, and the thirteenth is found through the blocks 84 to 87.
+#[test]
+fn files_past_their_direct_blocks(rt: HostRuntime) -> Result<(), Fail> {
+    let alloc = rt.alloc();
+    let (answer, bytes) = read(alloc, long_image(alloc, 53_248)?, b"/a", NOTHING, 65536)?;
+    assert_eq!(rt; answer, CatAnswer::Given(53_248));
+    assert!(rt; bytes.len() == 53_248 && is_long(&bytes));
+
+    let (answer, bytes) = read(alloc, long_image(alloc, 49_153)?, b"/a", NOTHING, 65536)?;
+    assert_eq!(rt; answer, CatAnswer::Given(49_153));
+    assert!(rt; bytes.len() == 49_153 && is_long(&bytes));
+
+    let loss = Loss {
+        block: 84,
+        fetch: 0,
+    };
+    let (answer, bytes) = read(alloc, long_image(alloc, 53_248)?, b"/a", loss, 65536)?;
+    assert_eq!(rt; answer, CatAnswer::Unavailable);
+    assert!(rt; bytes.is_empty());
+
+    let (answer, bytes) = read(alloc, long_image(alloc, 1 << 32)?, b"/a", NOTHING, 65536)?;
+    assert_eq!(rt; answer, CatAnswer::Bad(BadRead::Filesize));
+    assert!(rt; bytes.is_empty());
+    Ok(())
+}
+
+#[test]
+fn paths_of_several_names(rt: HostRuntime) -> Result<(), Fail> {
+    let alloc = rt.alloc();
+    let (answer, bytes) = read(alloc, image(alloc, Which::F)?, b"/d/b", NOTHING, 65536)?;
+    assert_eq!(rt; answer, CatAnswer::Given(53_248));
+    assert!(rt; bytes.len() == 53_248 && is_long(&bytes));
+    for (path, wanted) in [
+        (b"/d/x".as_slice(), CatAnswer::NotFound),
+        (b"/a/x".as_slice(), CatAnswer::NotDirectory),
+        (b"/d".as_slice(), CatAnswer::NotRegular),
+        (b"/".as_slice(), CatAnswer::NotRegular),
+    ] {
+        let (answer, bytes) = read(alloc, image(alloc, Which::F)?, path, NOTHING, 65536)?;
+        assert_eq!(rt; answer, wanted);
+        assert!(rt; bytes.is_empty());
+    }
+    Ok(())
+}
+
+#[test]
+fn inodes_at_paths(rt: HostRuntime) -> Result<(), Fail> {
+    let alloc = rt.alloc();
+    for (path, wanted, size) in [
+        (b"/".as_slice(), 2, 512),
+        (b"/a".as_slice(), 3, 5),
+        (b"/d/b".as_slice(), 5, 53_248),
+    ] {
+        match found(alloc, image(alloc, Which::F)?, path, NOTHING)? {
+            Ok((number, inode)) => {
+                assert_eq!(rt; number, wanted);
+                assert_eq!(rt; inode.size, size);
+            }
+            Err(_) => return Err("look".into()),
+        }
+    }
+    for (path, wanted) in [
+        (b"/d/x".as_slice(), LookFault::NotFound),
+        (b"/a/x".as_slice(), LookFault::NotDirectory),
+    ] {
+        match found(alloc, image(alloc, Which::F)?, path, NOTHING)? {
+            Ok(_) => return Err("look".into()),
+            Err(fault) => assert_eq!(rt; fault, wanted),
+        }
+    }
+
+    // The directory `/d` stands in block 35.
+    let loss = Loss {
+        block: 35,
+        fetch: 0,
+    };
+    let gone = found(alloc, image(alloc, Which::F)?, b"/d/b", loss)?;
+    assert!(rt; gone.is_err_and(|fault| fault == LookFault::Unavailable));
+    Ok(())
+}
+
+#[test]
+fn the_geometry_of_a_volume(rt: HostRuntime) -> Result<(), Fail> {
+    let alloc = rt.alloc();
+    let mut view = MemView::new(image(alloc, Which::F)?, 1024, 128, Vec::new(alloc));
+    let mut levels = Levels::new(alloc, 1024)?;
+    match geometry(&mut view, &mut levels) {
+        Ok(g) => assert!(rt; g.bsize == 4096 && g.size == 128),
+        Err(_) => return Err("geometry".into()),
+    }
     Ok(())
 }

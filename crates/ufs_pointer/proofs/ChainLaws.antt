@@ -51,6 +51,4 @@ near_or_far g inode n false far e whole = whole ∙ sym (whole_span g inode n e)
 pub block_chain : (g : Geometry) (inode : Inode) (n : ℕ) → chain_span g inode (locate_of g n) ≡ block_span g inode n
 unfolding locate_of
 block_chain g inode n =
-    let m : ℕ = n - 12 in
-    near_or_far g inode n _ (indirect_of g.nindir (n - 12)) refl
-    (far_span g inode _ _ _ _ _ _ _ _)
+    near_or_far g inode n _ (indirect_of g.nindir (n - 12)) refl (far_span g inode _ _ _ _ _ _ _ _)
