@@ -1,12 +1,12 @@
 -- The names of a path.
-use Rattle.std.proofs.Common.{◌≡◌, ◌∙◌, ℕ, zero, suc, ◌+◌, ◌-◌, ◌≤◌, ◌<◌, Bool, true, false, not, ◌==◌, ◌&&◌, nat_lt, List, [], ◌∷◌, Option, Some, None, length, take, drop, refl, sym, ap, arith}
+use Rattle.std.proofs.Common.{◌≡◌, ◌∙◌, ℕ, zero, suc, ◌+◌, ◌≤◌, Bool, true, false, not, ◌==◌, ◌&&◌, nat_lt, List, [], ◌∷◌, Option, Some, None, length, take, drop, refl, sym, ap, arith}
 use Rattle.std.specs.Prelude.{cond, filter, nat_le, ◌||◌}
 use Rattle.std.specs.List.{list_all, position, position_or_len}
 use Rattle.std.specs.Option.{unwrap_or}
 use Rattle.std.proofs.lemmas.Bool.Decides.{nat_tests}
 use Rattle.std.proofs.lemmas.Bool.{and_parts, false≢true}
 use Rattle.ufs_model.specs.Chunks.{is_name}
-use Rattle.ufs_model.specs.Paths.{in_part, is_path, is_path_name, names_after, names_of, parts_of}
+use Rattle.ufs_model.specs.Paths.{is_path, is_path_name, names_after, names_of, parts_of}
 use Rattle.std.specs.List.{list_any}
 
 abbrev pub is_slash : ℕ → Bool

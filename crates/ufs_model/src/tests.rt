@@ -1,6 +1,4 @@
-use crate::{
-    Endian, accepted_superblocks, is_path, own_blocks_of_groups, u16_at, u32_at, u64_at,
-};
+use crate::{Endian, accepted_superblocks, is_path, own_blocks_of_groups, u16_at, u32_at, u64_at};
 
 /// The magic number of a superblock after two bytes, as volumes of both orders have it.
 #[test]

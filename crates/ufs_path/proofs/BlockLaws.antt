@@ -1,4 +1,5 @@
 -- Reading a file block by its address.
+use Rattle.std.specs.Prelude.{IfOk}
 use Rattle.std.proofs.Common.{◌≡◌, ℕ, Bool, List, Some, None, Ok, Err, Result, Option}
 use Rattle.ufs_model.specs.Blocks.{Reading, Volume, bind, known}
 use Rattle.ufs_model.specs.Paths.{block_of, bytes_at}
@@ -13,6 +14,15 @@ use Rattle.ufs_model.specs.declared.pointers.Address.TheVariants.{Hole, Wild, At
 use Rattle.ufs_model.specs.declared.reads.BadRead.TheVariants.{Wild as BadWild}
 use Rattle.ufs_model.specs.declared.reads.PathRefusal.{PathRefusal}
 use Rattle.ufs_model.specs.declared.reads.PathRefusal.TheVariants.{Bad}
+use Rattle.ufs_path.specs.Parts.{IfData}
+use Rattle.ufs_path.specs.declared.blocks.FileBlock.{FileBlock}
+use Rattle.ufs_path.specs.declared.blocks.FileBlock.TheVariants.{Data, Hole as NoData}
+use Rattle.ufs_path.specs.declared.faults.LookFault.{LookFault}
+
+pub if_read : (P : Type 0) (found : Result FileBlock LookFault) → P → IfOk found (λ block. IfData block P)
+if_read P (Ok Data) holds = holds
+if_read P (Ok NoData) holds = tt
+if_read P (Err fault) holds = tt
 
 pub block_there : {stands still : Volume → Type 0} {tells told : Type 0} {before now after : ℕ → Bool} (g : Geometry) (inode : Inode) (n : ℕ) (address : Address) (answer : Option (Result (Option (List ℕ)) PathRefusal))
     → Grows before now → ((v : Volume) → stands v → still v) → (told → tells)

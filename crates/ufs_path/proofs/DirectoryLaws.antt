@@ -1,5 +1,5 @@
 -- Looking up a name in a directory, block after block.
-use Rattle.std.proofs.Common.{◌≡◌, ℕ, suc, ◌-◌, ◌/◌, ◌<◌, ◌≤◌, sym, subst, arith, Bool, List, Some, None, Ok, Err, Result, Option}
+use Rattle.std.proofs.Common.{◌≡◌, ℕ, suc, ◌-◌, ◌/◌, ◌<◌, ◌≤◌, refl, sym, subst, arith, Bool, List, Some, None, Ok, Err, Result, Option}
 use Rattle.std.specs.Option.{option_map}
 use Rattle.ufs_model.specs.Blocks.{Reading, Volume, known}
 use Rattle.ufs_model.specs.Inodes.{block_count}

@@ -1,8 +1,8 @@
 -- The file blocks of a file, and the bytes in them.
-use Rattle.std.proofs.Common.{◌≡◌, ◌∙◌, ℕ, ◌+◌, ◌-◌, ◌*◌, ◌/◌, ◌%◌, ◌^◌, ◌<◌, ◌≤◌, min, replicate, take, Bool, true, false, nat_le, nat_lt, if◌then◌else◌, refl, ap, arith}
+use Rattle.std.proofs.Common.{◌≡◌, ◌∙◌, ℕ, ◌+◌, ◌-◌, ◌*◌, ◌/◌, ◌%◌, ◌^◌, ◌<◌, ◌≤◌, min, Bool, true, false, nat_le, nat_lt, if◌then◌else◌, refl, ap, arith}
 use Rattle.std.specs.Int.{div_ceil}
 use Rattle.std.proofs.lemmas.Bool.Decides.{nat_tests}
-use Rattle.std.proofs.lemmas.Grind.{common_steps, div_ceil_times}
+use Rattle.std.proofs.lemmas.Grind.{div_ceil_times}
 use Rattle.std.proofs.lemmas.Nat.{div-mul-add}
 use Rattle.std.proofs.Math.Nat.{lt_of_mul-lt-mul_right, mod-eq-sub-div-mul}
 use Rattle.ufs_model.specs.Geometries.{IsGeometry}
@@ -63,7 +63,3 @@ block_fits g is = (let e = is.frag.3 in omega arith, let size = is.bsize in omeg
 -- the bytes up to a file block, and those in it
 pub bytes_through : (g : Geometry) (inode : Inode) (n : ℕ) → min (n * g.bsize) inode.size + bytes_in_block g inode n ≡ min ((n + 1) * g.bsize) inode.size
 bytes_through g inode n = let more : (n + 1) * g.bsize ≡ n * g.bsize + g.bsize = omega arith in omega arith
-
--- a hole's block has as many zeros as are wanted
-pub zeros_front : (count n : ℕ) → count ≤ n → take count (replicate n 0) ≡ replicate count 0
-zeros_front count n fits = grind (arith, common_steps)

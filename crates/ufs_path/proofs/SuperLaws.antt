@@ -33,12 +33,18 @@ none_read l a k (b ∷ buf) none room = absurd (let e : k * l ≡ 0 * l = ap (λ
 sub-times : (k m l : ℕ) → (k - m) * l ≡ k * l - m * l
 sub-times k m l = rw (mul_comm (k - m) l, mul_comm k l, mul_comm m l) (mul-sub l k m)
 
+-- no bytes
+pub none_there : (k l f : ℕ) (block : List ℕ) → k ≡ 0 → block ≡ replicate (0 * f) 0 → length block ≡ k * l
+none_there k l f block none e =
+    let zeros : 0 * f ≡ 0 * l = omega arith in
+    rw (e, none) (length-replicate {A = ℕ} (0 * f) 0 ∙ zeros)
+
 -- the bytes that are there, and zeros after them, are the whole
 pub padded : (k m l : ℕ) (front : List ℕ) → m ≤ k → length front ≡ m * l → length (front ++ replicate ((k - m) * l) 0) ≡ k * l
 padded k m l front low e =
     let times = sub-times k m l in
     let fits = mul-le-mul_right l low in
-    length-append front (replicate ((k - m) * l) 0) ∙ omega (arith, e, length-replicate ((k - m) * l) 0)
+    length-append front (replicate ((k - m) * l) 0) ∙ omega (arith, e, length-replicate {A = ℕ} ((k - m) * l) 0)
 
 -- the geometry by the bytes of the superblock
 pub geometry_read : {stands : Volume → Type 0} {tells : Type 0} {before after : ℕ → Bool} (l n a k : ℕ) (bytes : List ℕ) (answer : Option (Result Geometry PathRefusal)) → Grows before after

@@ -73,7 +73,7 @@ fn geometry_in(bytes: &[u8], l: u32, n: u32) -> Result<Geometry, LookFault>
 }
 
 /// The geometry of the volume on a view. The buffers are for blocks of the view's size.
-#[tactic(auto, using(crate::proofs::SuperLaws::geometry_read, crate::proofs::SuperLaws::geometry_unread))]
+#[tactic(auto, using(crate::proofs::SuperLaws::geometry_read, crate::proofs::SuperLaws::geometry_unread, crate::proofs::SuperLaws::superblock_fits))]
 pub fn geometry<V: View>(view: &mut V, levels: &mut Levels) -> Result<Geometry, LookFault>
     requires sound { V.is_sound view.old }
     requires levels { levels.old.fragment ≡ V.size view.old }

@@ -61,9 +61,10 @@ fn lengthen(image: &mut [u8], size: u64)
     requires { length image.old ≡ 131072 }
     ensures { length image.new ≡ length image.old }
 {
-    let (front, back) = image.split_at_mut(29_312);
-    front[29_056..29_184].copy_from_slice(&back[..128]);
-    front[29_064..29_072].copy_from_slice(&size.to_le_bytes());
+    let mut inode = [0; 128];
+    inode.copy_from_slice(&image[29_312..29_440]);
+    image[29_056..29_184].copy_from_slice(&inode);
+    image[29_064..29_072].copy_from_slice(&size.to_le_bytes());
 }
 
 /// The volume F, on which `/a` has the slots of `/d/b`, and so many bytes.

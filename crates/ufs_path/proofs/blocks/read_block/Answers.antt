@@ -1,5 +1,6 @@
-use Rattle.std.proofs.Common.{arith}
-use Rattle.ufs_path.proofs.BlockLaws.{block_gone, block_hole, block_there, block_wild}
+use Rattle.std.proofs.Common.{◌≤◌, length}
+use Rattle.ufs_model.specs.Paths.{bytes_in_block}
+use Rattle.ufs_path.proofs.BlockLaws.{block_gone, block_hole, block_there, block_wild, if_read}
 use Rattle.ufs_path.proofs.Sizes.{covers}
 use Rattle.ufs_path.proofs.blocks.read_block.Goals as goal
 
@@ -16,3 +17,9 @@ pub returns-in-At-clause-rule : goal.returns-in-At-clause-rule
 returns-in-At-clause-rule g c =
     let first = c.file_block.ensures.keeps in
     block_there _ _ _ _ _ first.stays first.stands c.read_run.ensures.keeps.told c.in-At.ensures.rule c.read_run.ensures.rule
+
+pub returns-in-At-clause-covered : goal.returns-in-At-clause-covered
+returns-in-At-clause-covered g c =
+    let room : bytes_in_block c.args.g.now c.args.inode.now c.args.n ≤ length c.read_run.new.levels.block =
+        rw (c.read_run.ensures.room, c.in-At.ensures.span) (covers c.args.g.now c.args.inode.now c.args.n c.requires.geometry.tests) in
+    if_read _ c.read_run.result room

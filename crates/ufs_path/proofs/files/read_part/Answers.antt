@@ -1,6 +1,6 @@
 use Rattle.std.proofs.Common.{◌∙◌, ap, take}
 use Rattle.ufs_path.proofs.FileLaws.{part_hole, part_read, part_unread}
-use Rattle.ufs_path.proofs.Sizes.{zeros_front}
+use Rattle.std.proofs.lemmas.List.{take-replicate}
 use Rattle.ufs_path.proofs.files.read_part.Goals as goal
 
 pub returns-in-Ok-Data-clause-rule : goal.returns-in-Ok-Data-clause-rule
@@ -11,7 +11,8 @@ returns-in-Ok-Data-clause-rule g c =
 pub returns-in-Ok-Hole-clause-rule : goal.returns-in-Ok-Hole-clause-rule
 returns-in-Ok-Hole-clause-rule g c =
     part_hole _ _ _ _ _ c.read_block.ensures.keeps.stays c.bytes_in_block-count.ensures.value
-    (ap (take c.bytes_in_block-count.result) c.clear.ensures.block ∙ zeros_front c.bytes_in_block-count.result _ ?)
+    (ap (take c.bytes_in_block-count.result) c.clear.ensures.block ∙ take-replicate c.bytes_in_block-count.result _ 0
+    (rw (c.read_block.ensures.levels, c.requires.levels, ← c.requires.geometry.fsize) c.bytes_in_block-count.ensures.fits))
     (rw c.in-Ok-Hole.field-0-is at c.in-Ok-Hole.ensures.rule)
 
 pub returns-in-Err-clause-rule : goal.returns-in-Err-clause-rule
