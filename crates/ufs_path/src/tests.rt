@@ -1,8 +1,6 @@
-ghost use Rattle.std.specs.Prelude.{◌≡◌, IfOk, length};
+ghost use Rattle.std.specs.Prelude.{◌≡◌, ◌+◌, ◌≤◌, IfOk, length};
 
-use crate::{
-    BadRead, BadSuper, CatAnswer, Inode, Levels, LookFault, cat, geometry, is_path, look,
-};
+use crate::{BadRead, BadSuper, CatAnswer, Inode, Levels, LookFault, cat, geometry, is_path, look};
 use dg_io::{Loss, MemSink, MemView};
 use std::alloc::Global;
 use std::test::Fail;
@@ -56,6 +54,14 @@ fn found(
     Ok(look(&mut view, &mut levels, path))
 }
 
+/// Writes bytes at a place.
+fn put(image: &mut [u8], at: usize, bytes: &[u8])
+    requires { at + length bytes.now ≤ length image.old }
+    ensures { length image.new ≡ length image.old }
+{
+    image[at..at + bytes.len()].copy_from_slice(bytes);
+}
+
 /// Gives inode 3 the slots of inode 5, and so many bytes. Inode 2 stands at byte 28 * 1024 + 256.
 fn lengthen(image: &mut [u8], size: u64)
     requires { length image.old ≡ 131072 }
@@ -63,8 +69,8 @@ fn lengthen(image: &mut [u8], size: u64)
 {
     let mut inode = [0; 128];
     inode.copy_from_slice(&image[29_312..29_440]);
-    image[29_056..29_184].copy_from_slice(&inode);
-    image[29_064..29_072].copy_from_slice(&size.to_le_bytes());
+    put(image, 29_056, &inode);
+    put(image, 29_064, &size.to_le_bytes());
 }
 
 /// The volume F, on which `/a` has the slots of `/d/b`, and so many bytes.

@@ -21,5 +21,5 @@ returns-in-At-clause-rule g c =
 pub returns-in-At-clause-covered : goal.returns-in-At-clause-covered
 returns-in-At-clause-covered g c =
     let room : bytes_in_block c.args.g.now c.args.inode.now c.args.n ≤ length c.read_run.new.levels.block =
-        rw (c.read_run.ensures.room, c.in-At.ensures.span) (covers c.args.g.now c.args.inode.now c.args.n c.requires.geometry.tests) in
+    rw (c.read_run.ensures.room, c.in-At.ensures.span) (covers c.args.g.now c.args.inode.now c.args.n c.requires.geometry.tests) in
     if_read _ c.read_run.result room

@@ -5,7 +5,7 @@ use Rattle.ufs_path.proofs.superblocks.read_within.Goals as goal
 pub returns-clause-rule : goal.returns-clause-rule
 returns-clause-rule g c =
     let inside : c.min-inside.result ≡ min c.args.k (g.V.View.count c.args.view.now - c.args.a) =
-        c.min-inside.ensures ∙ ap (λ x. min c.args.k x) (c.saturating_sub.ensures ∙ ap (λ n. n - c.args.a) c.shape-n.ensures.count) in
+    c.min-inside.ensures ∙ ap (λ x. min c.args.k x) (c.saturating_sub.ensures ∙ ap (λ n. n - c.args.a) c.shape-n.ensures.count) in
     rw c.pad.ensures.block
     (within (g.V.View.size c.args.view.now) (g.V.View.count c.args.view.now) c.args.a c.args.k c.min-inside.result c.read_any-got.result c.read_any-got.new.levels.block _ c.read_any-got.ensures.keeps.stays inside
     (ap (λ l. replicate ((c.args.k - c.min-inside.result) * l) 0) (c.read_any-got.ensures.levels ∙ c.requires.levels))
