@@ -1,7 +1,7 @@
 -- Reading a file block by its address.
 use Rattle.std.specs.Prelude.{IfOk}
-use Rattle.std.proofs.Common.{◌≡◌, ℕ, Bool, List, Some, None, Ok, Err, Result, Option}
-use Rattle.ufs_model.specs.Blocks.{Reading, Volume, bind, known}
+use Rattle.std.proofs.Common.{ℕ, Bool, List, Some, None, Ok, Err, Result, Option}
+use Rattle.ufs_model.specs.Blocks.{Volume}
 use Rattle.ufs_model.specs.Paths.{block_of, bytes_at}
 use Rattle.ufs_model.specs.Pointers.{file_block_of}
 use Rattle.ufs_model.specs.Readings.{Grows, ReadsAs}
@@ -10,7 +10,7 @@ use Rattle.ufs_model.specs.declared.geometries.Geometry.{Geometry}
 use Rattle.ufs_model.specs.declared.inodes.Inode.{Inode}
 use Rattle.ufs_model.specs.declared.numbers.Endian.TheVariants.{Little}
 use Rattle.ufs_model.specs.declared.pointers.Address.{Address}
-use Rattle.ufs_model.specs.declared.pointers.Address.TheVariants.{Hole, Wild, At}
+use Rattle.ufs_model.specs.declared.pointers.Address.TheVariants.{Hole, Wild}
 use Rattle.ufs_model.specs.declared.reads.BadRead.TheVariants.{Wild as BadWild}
 use Rattle.ufs_model.specs.declared.reads.PathRefusal.{PathRefusal}
 use Rattle.ufs_model.specs.declared.reads.PathRefusal.TheVariants.{Bad}

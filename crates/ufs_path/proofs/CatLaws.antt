@@ -1,5 +1,5 @@
 -- Answers of `cat`.
-use Rattle.std.proofs.Common.{◌≡◌, ◌∙◌, ℕ, ◌-◌, ◌≤◌, Bool, true, false, List, [], ◌∷◌, ◌++◌, Some, None, Ok, Err, Result, Option, length, take, drop, nat_lt, not, ◌||◌, ◌==◌, refl, sym, ap, subst}
+use Rattle.std.proofs.Common.{◌≡◌, ◌∙◌, ℕ, ◌≤◌, Bool, List, ◌++◌, Some, None, Ok, Err, Result, Option, length, drop, refl, sym, ap}
 use Rattle.std.specs.Option.{option_map}
 use Rattle.ufs_model.specs.Blocks.{Reading, Volume}
 use Rattle.ufs_model.specs.Paths.{cat_of, contents_of, front_of, look_from, names_of, volume_geometry}

@@ -1,7 +1,7 @@
 -- Reading the bytes of a file, part after part.
 use Rattle.std.proofs.Common.{◌≡◌, ◌∙◌, ℕ, zero, suc, ◌+◌, ◌-◌, ◌≤◌, Bool, List, [], ◌++◌, Some, None, Ok, Err, Result, Option, length, take, drop, replicate, refl, sym, ap, subst, arith}
 use Rattle.std.specs.Option.{option_map}
-use Rattle.std.proofs.lemmas.List.{append_assoc, append-nil, length-take-le, take-append-drop, take-append-le}
+use Rattle.std.proofs.lemmas.List.{append_assoc, append-nil}
 use Rattle.std.proofs.Math.Seq.{drop-append_seam}
 use Rattle.ufs_model.specs.Blocks.{Reading, Volume, bind, known}
 use Rattle.ufs_model.specs.Inodes.{block_count}

@@ -5,7 +5,7 @@ use Rattle.ufs_model.specs.Blocks.{Reading, Volume, area_of, bind, consult, know
 use Rattle.ufs_model.specs.Inodes.{inode_block, inode_byte, inode_in, inode_of}
 use Rattle.ufs_model.specs.Paths.{allocated, find_of, look_from, look_of, named_inode, names_after, names_of, volume_geometry}
 use Rattle.ufs_model.specs.Readings.{Continues, Grows, MeetsRule, ReadsAs, and_then}
-use Rattle.ufs_model.proofs.ReadingLaws.{reads_known, reads_map, reads_none, reads_on, reads_refused}
+use Rattle.ufs_model.proofs.ReadingLaws.{reads_map, reads_none, reads_on, reads_refused}
 use Rattle.ufs_model.specs.declared.geometries.Geometry.{Geometry}
 use Rattle.ufs_model.specs.declared.inodes.Inode.{Inode}
 use Rattle.ufs_model.specs.declared.numbers.Endian.TheVariants.{Little}

@@ -1,5 +1,5 @@
 -- Reading the superblock.
-use Rattle.std.proofs.Common.{◌≡◌, ℕ, ◌-◌, ◌*◌, ◌/◌, min, List, [], ◌∷◌, ◌++◌, length, take, drop, ◌<◌, ◌≤◌, ◌∙◌, sym, ap, arith, Bool, true, false, Some, None, Result, Option, replicate, subst}
+use Rattle.std.proofs.Common.{◌≡◌, ℕ, ◌-◌, ◌*◌, ◌/◌, min, List, [], ◌∷◌, ◌++◌, length, ◌<◌, ◌≤◌, ◌∙◌, ap, arith, Bool, true, false, Some, None, Result, Option, replicate}
 use Rattle.std.specs.Bool.{then_some}
 use Rattle.std.specs.Int.{div_ceil}
 use Rattle.std.proofs.lemmas.Grind.{div_ceil_times}

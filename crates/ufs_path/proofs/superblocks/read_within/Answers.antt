@@ -1,4 +1,4 @@
-use Rattle.std.proofs.Common.{◌≡◌, ◌∙◌, ◌-◌, ◌*◌, ◌≤◌, min, replicate, ap, arith}
+use Rattle.std.proofs.Common.{◌≡◌, ◌∙◌, ◌-◌, ◌*◌, min, replicate, ap, arith}
 use Rattle.ufs_path.proofs.SuperLaws.{padded, within}
 use Rattle.ufs_path.proofs.superblocks.read_within.Goals as goal
 
