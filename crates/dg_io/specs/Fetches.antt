@@ -1,5 +1,5 @@
 -- What a view in memory means, and its fetches.
-use Rattle.std.proofs.Common.{◌≡◌, ◌≤◌, ◌+◌, ◌-◌, ◌^◌, ℕ, List, [], ◌++◌, length, length-append, arith}
+use Rattle.std.proofs.Common.{◌≤◌, ◌+◌, ◌-◌, ◌^◌, ℕ, List, [], ◌++◌, length, length-append, arith}
 use Rattle.std.specs.Prelude.{Bool, min}
 use Rattle.dg_io.specs.MemViews.{gone_in, IsImage}
 use Rattle.dg_io.specs.declared.memory_views.MemView.{MemView}

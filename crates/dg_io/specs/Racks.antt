@@ -12,9 +12,20 @@ member_in rack q = option_map (λ member. member.items) (slice_get rack.members.
 abbrev pub counts_in : MemRack → Counts
 counts_in rack = record { faults = λ q. slice_index rack.faults q; calls = rack.calls; writes = rack.writes }
 
+-- how many bytes a member has room for, and the numbers of the calls that fail
+abbrev pub length_in : MemRack → ℕ
+length_in rack = rack.length
+
+abbrev pub rack_fails : MemRack → List ℕ
+rack_fails rack = rack.fails.items
+
 -- the bytes of a member, until there was no room
 abbrev pub sure_member : SureRack → ℕ → Option (List ℕ)
 sure_member rack q = if rack.told then option_map (λ member. member.items) (slice_get rack.members.items q) else None
 
 abbrev pub sure_counts : SureRack → Counts
 sure_counts rack = record { faults = λ q. 0; calls = rack.calls; writes = rack.writes }
+
+-- how many bytes a member has room for
+abbrev pub sure_length : SureRack → ℕ
+sure_length rack = rack.length

@@ -10,6 +10,17 @@ taken_in sink = sink.bytes.items
 abbrev pub sink_faults : MemSink → ℕ
 sink_faults sink = sink.faults
 
+-- how many bytes it has room for, and the numbers of the calls that fail
+abbrev pub room_in : MemSink → ℕ
+room_in sink = sink.room
+
+abbrev pub sink_fails : MemSink → List ℕ
+sink_fails sink = sink.fails.items
+
 -- the bytes taken, until there was no room
 abbrev pub sure_taken : SureSink → Option (List ℕ)
 sure_taken sink = if sink.told then Some sink.bytes.items else None
+
+-- how many bytes it has room for
+abbrev pub sure_room : SureSink → ℕ
+sure_room sink = sink.room

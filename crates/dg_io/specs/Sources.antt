@@ -10,5 +10,9 @@ left_in source = drop source.at source.bytes.items
 abbrev pub source_faults : MemSource → ℕ
 source_faults source = source.faults
 
+-- the numbers of the calls that fail
+abbrev pub source_fails : MemSource → List ℕ
+source_fails source = source.fails.items
+
 abbrev pub sure_left : SureSource → List ℕ
 sure_left source = drop source.at source.bytes.items

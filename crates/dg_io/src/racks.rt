@@ -3,7 +3,7 @@ ghost use Rattle.std.specs.Prelude.{◌≡◌, ◌≢◌, ◌+◌, ◌≤◌, �
 ghost use Rattle.dg_model.specs.Causes.{Rose, RoseByOne};
 ghost use Rattle.dg_io.specs.Faults.{HasCause};
 ghost use Rattle.dg_io.specs.Told.{patch};
-ghost use Rattle.dg_io.specs.Racks.{member_in, counts_in, sure_member, sure_counts};
+ghost use Rattle.dg_io.specs.Racks.{counts_in, length_in, member_in, rack_fails, sure_counts, sure_length, sure_member};
 
 use crate::calls::is_listed;
 use crate::{Failed, NoMemory, Rack};
@@ -71,6 +71,8 @@ impl MemRack {
         ensures faults { IfOk result (λ rack. (q : ℕ) → (counts_in rack).faults q ≡ 0) }
         ensures calls { IfOk result (λ rack. (counts_in rack).calls ≡ 0) }
         ensures writes { IfOk result (λ rack. (counts_in rack).writes ≡ 0) }
+        ensures length { IfOk result (λ rack. length_in rack ≡ length) }
+        ensures fails { IfOk result (λ rack. rack_fails rack ≡ fails.items) }
     {
         Ok(MemRack {
             members: empty_members(alloc, members, length)?,
@@ -174,6 +176,7 @@ impl SureRack {
         ensures empty { IfOk result (λ rack. (q : ℕ) → q < members → sure_member rack q ≡ Some []) }
         ensures calls { IfOk result (λ rack. (sure_counts rack).calls ≡ 0) }
         ensures writes { IfOk result (λ rack. (sure_counts rack).writes ≡ 0) }
+        ensures length { IfOk result (λ rack. sure_length rack ≡ length) }
     {
         Ok(SureRack {
             members: empty_members(alloc, members, length)?,

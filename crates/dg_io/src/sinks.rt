@@ -1,6 +1,6 @@
 // Sinks in memory. Their calls are counted from 0.
 ghost use Rattle.std.specs.Prelude.{◌≡◌, [], Some, None, IfOk, MatchOption};
-ghost use Rattle.dg_io.specs.Sinks.{taken_in, sink_faults, sure_taken};
+ghost use Rattle.dg_io.specs.Sinks.{sink_fails, room_in, taken_in, sink_faults, sure_room, sure_taken};
 ghost use Rattle.dg_io.specs.SinkPieces.{Taken, TakenPart, taken_none, taken_both, taken_part_after, taken_part_of_more};
 
 use crate::calls::is_listed;
@@ -22,6 +22,8 @@ impl MemSink {
     pub fn new(alloc: Global, room: usize, fails: Vec<u64>) -> Result<MemSink, NoMemory>
         ensures taken { IfOk result (λ sink. taken_in sink ≡ []) }
         ensures faults { IfOk result (λ sink. sink_faults sink ≡ 0) }
+        ensures room { IfOk result (λ sink. room_in sink ≡ room) }
+        ensures fails { IfOk result (λ sink. sink_fails sink ≡ fails.items) }
     {
         match Vec::with_capacity(alloc, room) {
             Ok(bytes) => Ok(MemSink {
@@ -92,7 +94,8 @@ pub struct SureSink {
 impl SureSink {
     /// An empty sink with room for so many bytes. It takes its memory here.
     pub fn new(alloc: Global, room: usize) -> Result<SureSink, NoMemory>
-        ensures { IfOk result (λ sink. sure_taken sink ≡ Some []) }
+        ensures taken { IfOk result (λ sink. sure_taken sink ≡ Some []) }
+        ensures room { IfOk result (λ sink. sure_room sink ≡ room) }
     {
         match Vec::with_capacity(alloc, room) {
             Ok(bytes) => Ok(SureSink {

@@ -30,12 +30,13 @@ pub struct MemSource {
 }
 
 impl MemSource {
-    ghost use Rattle.dg_io.specs.Sources.{left_in, source_faults};
+    ghost use Rattle.dg_io.specs.Sources.{left_in, source_fails, source_faults};
 
     /// A source of these bytes, whose listed calls fail.
     pub fn new(bytes: Vec<u8>, fails: Vec<u64>) -> Self
         ensures left { left_in result ≡ bytes.items }
         ensures faults { source_faults result ≡ 0 }
+        ensures fails { source_fails result ≡ fails.items }
     {
         MemSource {
             bytes,

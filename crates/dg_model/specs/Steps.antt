@@ -7,11 +7,12 @@ use Rattle.dg_model.specs.Sites.{all_lost, is_gone, IsSited}
 use Rattle.dg_model.specs.States.{State, CountsRise, HasLost, IsTrimmed, block_in, padded}
 use Rattle.dg_model.specs.Tables.{Table, sites_in}
 use Rattle.dg_model.specs.declared.events.Event.{Event}
-use Rattle.dg_model.specs.declared.events.Event.TheVariants.{Array, Write, Read, Fail, Cat}
+use Rattle.dg_model.specs.declared.events.Event.TheVariants.{Write, Read, Fail, Cat, Ls}
 use Rattle.dg_model.specs.declared.replies.Reply.{Reply}
-use Rattle.dg_model.specs.declared.replies.Reply.TheVariants.{Done, Range, Degraded, Unavailable, Already, Data, Given, Cut, Refused}
+use Rattle.dg_model.specs.declared.replies.Reply.TheVariants.{Done, Range, Degraded, Unavailable, Already, Data, Given, Cut, Listed as ListedReply, ListedCut, Refused}
 use Rattle.dg_model.specs.declared.members.MemberState.{MemberState}
 use Rattle.dg_model.specs.declared.members.MemberState.TheVariants.{Out}
+use Rattle.ufs_model.specs.Listings.{Listed, ls_of}
 use Rattle.ufs_model.specs.Paths.{cat_of}
 use Rattle.ufs_model.specs.Readings.{MeetsRule}
 use Rattle.ufs_model.specs.declared.numbers.Endian.TheVariants.{Little}
@@ -58,6 +59,10 @@ pub record LosesSites (old : Table) (b : ℕ) (members : ℕ → MemberState) : 
 abbrev pub MayRead : State → List ℕ → State → Option (Result (List ℕ) PathRefusal) → Type 0
 MayRead old path new answer = MeetsRule (is_gone old.table old.members) (is_gone new.table new.members) (cat_of Little old.table.shape.l old.table.shape.n path old.blocks) answer
 
+-- the same for the listing of the directory at a path
+abbrev pub MayList : State → List ℕ → State → Option (Result (List Listed) PathRefusal) → Type 0
+MayList old path new answer = MeetsRule (is_gone old.table old.members) (is_gone new.table new.members) (ls_of Little old.table.shape.l old.table.shape.n path old.blocks) answer
+
 abbrev pub Step : State → Event → Reply → State → Type 0
 Step old (Write b bytes) Range new = (old.table.shape.n ≤ b) × Stays old new
 Step old (Write b bytes) Degraded new = (b < old.table.shape.n) × (HasLost old.table.shape old.members ⊎ LosesSites old.table b new.members) × Stays old new
@@ -74,5 +79,11 @@ Step old (Cat path) Unavailable new = MayRead old path new None × Stays old new
 -- the lines so far, of a file of which a needed block became gone in the middle
 Step old (Cat path) (Cut lines) new =
     AreLines old.table.shape.l lines × ((rest : List ℕ) × MayRead old path new (Some (Ok (concat lines ++ rest)))) × MayRead old path new None × Stays old new
+Step old (Ls path) (ListedReply entries) new = MayList old path new (Some (Ok entries)) × Stays old new
+Step old (Ls path) (Refused refusal) new = MayList old path new (Some (Err refusal)) × Stays old new
+Step old (Ls path) Unavailable new = MayList old path new None × Stays old new
+-- the entries so far, of a directory for whose listing a needed block became gone in the middle
+Step old (Ls path) (ListedCut entries) new =
+    ((rest : List Listed) × MayList old path new (Some (Ok (entries ++ rest)))) × MayList old path new None × Stays old new
 -- the array is made by the first event of a run, and never anew, and no other reply is given
 Step old event reply new = ⊥

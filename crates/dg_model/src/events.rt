@@ -13,4 +13,6 @@ pub enum Event {
     Fail(u32, u32),
     /// Reads the file at a path of the volume, given by the path's bytes.
     Cat(Bytes),
+    /// Lists the directory at a path of the volume, given by the path's bytes.
+    Ls(Bytes),
 }

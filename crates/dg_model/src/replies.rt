@@ -1,4 +1,4 @@
-use crate::{Bytes, Lines};
+use crate::{Bytes, Lines, ListedEntries};
 use ufs_model::PathRefusal;
 
 /// The answer to an event.
@@ -20,6 +20,10 @@ pub enum Reply {
     Given(Lines),
     /// The first bytes of a file, in lines as before. A block that is needed for the others became gone in the middle.
     Cut(Lines),
-    /// There is no file to read at the path.
+    /// The used entries of a directory.
+    Listed(ListedEntries),
+    /// The first used entries of a directory. A block that is needed for the others became gone in the middle.
+    ListedCut(ListedEntries),
+    /// There is no file to read, or no directory to list, at the path.
     Refused(PathRefusal),
 }

@@ -3,3 +3,4 @@ pub mod RoleLaws
 pub mod ReadingLaws
 pub mod AreaLaws
 mod Rows
+mod PathLaws

@@ -10,3 +10,5 @@ pub mod GroupMaps
 pub mod Chunks
 pub mod Pointers
 pub mod Paths
+pub mod Listings
+pub mod Claims

@@ -1,7 +1,8 @@
 -- Reading by path: the names of a path, the entries of a directory, the contents of a file. The
 -- root is `ROOTINO` of `dinode.h`; directories are those of `dir.h`. What is refused, in which
 -- order, and that a file block is always consulted whole are this project's rules.
-use Rattle.std.specs.Prelude.{ℕ, zero, suc, ◌-◌, ◌*◌, ◌/◌, ◌%◌, ◌==◌, ◌&&◌, nat_lt, nat_le, min, Bool, true, false, List, [], ◌∷◌, ◌++◌, Option, Some, None, Result, Ok, Err, if◌then◌else◌, filter, length, replicate, take, drop}
+use Rattle.std.specs.Prelude.{ℕ, zero, suc, ◌-◌, ◌*◌, ◌/◌, ◌%◌, ◌^◌, ◌==◌, ◌&&◌, ◌||◌, nat_lt, nat_le, min, Bool, true, false, List, [], ◌∷◌, ◌++◌, Option, Some, None, Result, Ok, Err, if◌then◌else◌, filter, length, replicate, take, drop}
+use Rattle.std.specs.List.{list_all}
 use Rattle.std.specs.Option.{ok_or}
 use Rattle.ufs_model.specs.Blocks.{Reading, known, area_of, ◌>>=◌}
 use Rattle.ufs_model.specs.Chunks.{DirEntry, chunk_in, find_in, is_name, used_entries}
@@ -22,7 +23,7 @@ use Rattle.ufs_model.specs.declared.inodes.Kind.TheVariants.{Regular, Directory,
 use Rattle.ufs_model.specs.declared.numbers.Endian.{Endian}
 use Rattle.ufs_model.specs.declared.pointers.Address.{Address}
 use Rattle.ufs_model.specs.declared.pointers.Address.TheVariants.{Hole as AddressHole, Wild as AddressWild, At}
-use Rattle.ufs_model.specs.declared.reads.BadRead.TheVariants.{Super, Wild, Hole, Chunk, Entry, Later}
+use Rattle.ufs_model.specs.declared.reads.BadRead.TheVariants.{Super, Wild, Filesize, Hole, Chunk, Entry}
 use Rattle.ufs_model.specs.declared.reads.PathRefusal.{PathRefusal}
 use Rattle.ufs_model.specs.declared.reads.PathRefusal.TheVariants.{NotFound, NotDirectory, NotRegular, Bad}
 
@@ -40,9 +41,9 @@ refused_first (Some refusal) further = Some refusal
 
 -- ---- file blocks
 
--- Why a file of this size isn't read. For now files are read by their direct slots alone.
+-- why a file of this size isn't read
 abbrev pub size_refusal : Geometry → Inode → Option PathRefusal
-size_refusal g inode = if nat_lt (12 * g.bsize) inode.size then Some (Bad Later) else None
+size_refusal g inode = if nat_le (2 ^ 32) inode.size then Some (Bad Filesize) else None
 
 -- the bytes at an address; there are none in a hole
 unfoldable pub bytes_at : Geometry → Address → Reading (Result (Option (List ℕ)) PathRefusal)
@@ -253,3 +254,15 @@ is_path_name name = is_name name && nat_le (length name) 255
 unfoldable pub is_one_name : List ℕ → Bool
 is_one_name [] = false
 is_one_name (b ∷ name) = (b == 47) && is_path_name name
+
+-- the names that stand after slashes: a and b of `/a/b`, and none of no bytes
+abbrev pub names_after : List ℕ → List (List ℕ)
+names_after [] = []
+names_after (b ∷ bytes) = parts_of bytes
+
+-- A path: `/`, or names with a slash in front of each. It has at most 1023 bytes (`MAXPATHLEN` of `param.h` counts a zero byte
+-- at its end).
+unfoldable pub is_path : List ℕ → Bool
+is_path [] = false
+is_path (b ∷ bytes) =
+    (b == 47) && (nat_le (length (b ∷ bytes)) 1023 && (nat_le (length (b ∷ bytes)) 1 || list_all is_path_name (names_after (b ∷ bytes))))

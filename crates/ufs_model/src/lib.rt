@@ -7,6 +7,7 @@
 #![tactic(auto)]
 
 mod chunks;
+mod claims;
 mod geometries;
 mod group_maps;
 mod inodes;
@@ -20,12 +21,13 @@ mod roles;
 mod tests;
 
 pub use crate::chunks::{BadEntry, Found};
+pub use crate::claims::ClaimSource;
 pub use crate::geometries::{BadSuper, Geometry};
 pub use crate::group_maps::{BadGroup, Group};
 pub use crate::inodes::{Inode, Kind};
 pub use crate::laws::{accepted_superblocks, own_blocks_of_groups};
 pub use crate::numbers::{Endian, u16_at, u32_at, u64_at};
-pub use crate::paths::is_one_name;
+pub use crate::paths::{is_one_name, is_path, next_name, path_names};
 pub use crate::pointers::{Address, Chain};
 pub use crate::reads::{BadRead, PathRefusal};
 pub use crate::roles::{Role, SystemKind};

@@ -16,8 +16,6 @@ pub enum BadRead {
     Chunk,
     /// An inode that is needed has a number below 2 or past the last one, or is unallocated.
     Entry,
-    /// A file has more blocks than are read so far: its direct ones alone.
-    Later,
 }
 
 /// Why a path gives nothing to read.

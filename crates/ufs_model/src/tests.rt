@@ -1,4 +1,4 @@
-use crate::{Endian, accepted_superblocks, own_blocks_of_groups, u16_at, u32_at, u64_at};
+use crate::{Endian, accepted_superblocks, is_path, own_blocks_of_groups, u16_at, u32_at, u64_at};
 
 /// The magic number of a superblock after two bytes, as volumes of both orders have it.
 #[test]
@@ -18,4 +18,24 @@ fn numbers_in_both_orders(rt: HostRuntime) {
 fn laws_can_be_called(_rt: HostRuntime) {
     accepted_superblocks();
     own_blocks_of_groups();
+}
+
+/// Paths, and what is none.
+#[test]
+fn paths_by_their_form(rt: HostRuntime) {
+    for (path, wanted) in [
+        (b"/".as_slice(), true),
+        (b"/a".as_slice(), true),
+        (b"/d/b".as_slice(), true),
+        (b"".as_slice(), false),
+        (b"a".as_slice(), false),
+        (b"//".as_slice(), false),
+        (b"/a/".as_slice(), false),
+        (b"/a//b".as_slice(), false),
+        (b"/a\0".as_slice(), false),
+    ] {
+        assert_eq!(rt; is_path(path), wanted);
+    }
+    let longest = [b'a'; 256];
+    assert!(rt; !is_path(&longest));
 }

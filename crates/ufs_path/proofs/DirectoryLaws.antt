@@ -1,5 +1,5 @@
 -- Looking up a name in a directory, block after block.
-use Rattle.std.proofs.Common.{◌≡◌, ℕ, suc, ◌-◌, ◌/◌, ◌<◌, ◌≤◌, sym, subst, arith, Bool, List, Some, None, Ok, Err, Result, Option}
+use Rattle.std.proofs.Common.{◌≡◌, ℕ, suc, ◌-◌, ◌/◌, ◌<◌, ◌≤◌, refl, sym, subst, arith, Bool, List, Some, None, Ok, Err, Result, Option}
 use Rattle.std.specs.Option.{option_map}
 use Rattle.ufs_model.specs.Blocks.{Reading, Volume, known}
 use Rattle.ufs_model.specs.Inodes.{block_count}
@@ -14,8 +14,8 @@ use Rattle.ufs_model.specs.declared.reads.BadRead.TheVariants.{Hole}
 use Rattle.ufs_model.specs.declared.reads.PathRefusal.{PathRefusal}
 use Rattle.ufs_model.specs.declared.reads.PathRefusal.TheVariants.{Bad, NotFound}
 use Rattle.ufs_path.specs.Answers.{refusal_of}
-use Rattle.ufs_path.specs.declared.faults.ReadFault.{ReadFault}
-use Rattle.ufs_path.specs.declared.faults.ReadFault.TheVariants.{Refused}
+use Rattle.ufs_path.specs.declared.faults.LookFault.{LookFault}
+use Rattle.ufs_path.specs.declared.faults.LookFault.TheVariants.{Bad as FaultBad}
 
 -- the block's chunks, and what is found in them
 pub found_in : {stands : Volume → Type 0} {tells : Type 0} {before after : ℕ → Bool} (g : Geometry) (inode : Inode) (name : List ℕ) (n : ℕ) (bytes : List ℕ) (found : Found) (answer : Option (Result (Option ℕ) PathRefusal))
@@ -34,12 +34,12 @@ pub not_in_hole : {stands : Volume → Type 0} {tells : Type 0} {before after : 
     → ReadsAs stands before tells after (find_in_block Little g inode name n) (Some (Err (Bad Hole)))
 unfolding find_in_block chunks_of
 not_in_hole g inode name n grows reads =
-    reads_refused refusal_of _ (Refused (Bad Hole)) grows
+    reads_refused refusal_of _ (FaultBad Hole) grows
     (reads_on refusal_of _ None _ grows (λ v h. h) (λ h. h) reads
-    (reads_refused refusal_of _ (Refused (Bad Hole)) (λ b h. h) (reads_known (Err (Bad Hole)))))
+    (reads_refused refusal_of _ (FaultBad Hole) (λ b h. h) (reads_known (Err (Bad Hole)))))
 
 -- a block that isn't read
-pub block_unread : {stands : Volume → Type 0} {tells : Type 0} {before after : ℕ → Bool} (g : Geometry) (inode : Inode) (name : List ℕ) (n : ℕ) (fault : ReadFault)
+pub block_unread : {stands : Volume → Type 0} {tells : Type 0} {before after : ℕ → Bool} (g : Geometry) (inode : Inode) (name : List ℕ) (n : ℕ) (fault : LookFault)
     → Grows before after → ReadsAs stands before tells after (block_of Little g inode n) (option_map Err (refusal_of fault))
     → ReadsAs stands before tells after (find_in_block Little g inode name n) (option_map Err (refusal_of fault))
 unfolding find_in_block chunks_of
@@ -63,14 +63,27 @@ no_block {stands} {tells} {before} {now} {whole} g inode name n count past so_fa
 
 -- ---- a directory, or what is none
 
-pub directory_refused : {stands : Volume → Type 0} {tells : Type 0} {before after : ℕ → Bool} (g : Geometry) (inode : Inode) (name : List ℕ) (refusal : PathRefusal) → directory_refusal g inode ≡ Some refusal
-    → ReadsAs stands before tells after (find_of Little g inode name) (Some (Err refusal))
-unfolding find_of
-directory_refused {stands} {tells} {before} {after} g inode name refusal e =
-    subst (λ r. ReadsAs stands before tells after (unless_refused r (find_from Little g inode name 0 (block_count g inode))) (Some (Err refusal))) (sym e) (reads_known (Err refusal))
+refusal_said : (fault : LookFault) (refusal : Option PathRefusal) → Some (refusal_of fault) ≡ option_map Some refusal → refusal ≡ refusal_of fault
+refusal_said fault (Some refusal) e = cc
+refusal_said fault None e = cc
 
-pub directory_read : {stands : Volume → Type 0} {tells : Type 0} {before after : ℕ → Bool} (g : Geometry) (inode : Inode) (name : List ℕ) (count : ℕ) (answer : Option (Result ℕ PathRefusal)) → directory_refusal g inode ≡ None → count ≡ block_count g inode
+none_said : (refusal : Option PathRefusal) → None ≡ option_map Some refusal → refusal ≡ None
+none_said (Some refusal) e = cc
+none_said None e = refl
+
+refused_then : {stands : Volume → Type 0} {tells : Type 0} {before after : ℕ → Bool} {A : Type 0} (d : Reading (Result A PathRefusal)) (refusal said : Option PathRefusal) → refusal ≡ said → Some said ≡ option_map Some refusal
+    → ReadsAs stands before tells after (unless_refused refusal d) (option_map Err said)
+refused_then d (Some refusal) said e1 e2 = rw (← e1) (reads_known (Err refusal))
+refused_then d None said e1 e2 = cc
+
+pub directory_refused : {stands : Volume → Type 0} {tells : Type 0} {before after : ℕ → Bool} (g : Geometry) (inode : Inode) (name : List ℕ) (fault : LookFault) → Some (refusal_of fault) ≡ option_map Some (directory_refusal g inode)
+    → ReadsAs stands before tells after (find_of Little g inode name) (option_map Err (refusal_of fault))
+unfolding find_of
+directory_refused g inode name fault e =
+    refused_then _ (directory_refusal g inode) (refusal_of fault) (refusal_said fault _ e) e
+
+pub directory_read : {stands : Volume → Type 0} {tells : Type 0} {before after : ℕ → Bool} (g : Geometry) (inode : Inode) (name : List ℕ) (count : ℕ) (answer : Option (Result ℕ PathRefusal)) → None ≡ option_map Some (directory_refusal g inode) → count ≡ block_count g inode
     → ReadsAs stands before tells after (find_from Little g inode name 0 count) answer → ReadsAs stands before tells after (find_of Little g inode name) answer
 unfolding find_of
 directory_read {stands} {tells} {before} {after} g inode name count answer e1 e2 reads =
-    subst (λ r. ReadsAs stands before tells after (unless_refused r (find_from Little g inode name 0 (block_count g inode))) answer) (sym e1) (rw e2 at reads)
+    subst (λ r. ReadsAs stands before tells after (unless_refused r (find_from Little g inode name 0 (block_count g inode))) answer) (sym (none_said _ e1)) (rw e2 at reads)

@@ -1,7 +1,7 @@
 -- Reading the bytes of a file, part after part.
 use Rattle.std.proofs.Common.{◌≡◌, ◌∙◌, ℕ, zero, suc, ◌+◌, ◌-◌, ◌≤◌, Bool, List, [], ◌++◌, Some, None, Ok, Err, Result, Option, length, take, drop, replicate, refl, sym, ap, subst, arith}
 use Rattle.std.specs.Option.{option_map}
-use Rattle.std.proofs.lemmas.List.{append_assoc, append-nil, length-take-le, take-append-drop, take-append-le}
+use Rattle.std.proofs.lemmas.List.{append_assoc, append-nil}
 use Rattle.std.proofs.Math.Seq.{drop-append_seam}
 use Rattle.ufs_model.specs.Blocks.{Reading, Volume, bind, known}
 use Rattle.ufs_model.specs.Inodes.{block_count}
@@ -13,23 +13,17 @@ use Rattle.ufs_model.specs.declared.inodes.Inode.{Inode}
 use Rattle.ufs_model.specs.declared.numbers.Endian.TheVariants.{Little}
 use Rattle.ufs_model.specs.declared.reads.PathRefusal.{PathRefusal}
 use Rattle.ufs_path.specs.Answers.{refusal_of}
-use Rattle.ufs_path.specs.declared.faults.ReadFault.{ReadFault}
+use Rattle.ufs_path.specs.declared.faults.LookFault.{LookFault}
 
 -- ---- a part of a file
 
-take_front : (m n : ℕ) (xs : List ℕ) → m ≤ n → n ≤ length xs → take m (take n xs) ≡ take m xs
-take_front m n xs low fits =
-    let all : m ≤ length (take n xs) = rw (length-take-le n xs fits) low in
-    sym (take-append-le m (take n xs) (drop n xs) all) ∙ ap (take m) (take-append-drop n xs)
-
 -- the part of a block that is there
-pub part_read : {stands : Volume → Type 0} {tells : Type 0} {before after : ℕ → Bool} (g : Geometry) (inode : Inode) (n found count : ℕ) (buf : List ℕ)
-    → Grows before after → count ≡ bytes_in_block g inode n → count ≤ found → found ≤ length buf
-    → ReadsAs stands before tells after (block_of Little g inode n) (Some (Ok (Some (take found buf)))) → ReadsAs stands before tells after (part_of Little g inode n) (Some (Ok (take count buf)))
+pub part_read : {stands : Volume → Type 0} {tells : Type 0} {before after : ℕ → Bool} (g : Geometry) (inode : Inode) (n count : ℕ) (block : List ℕ)
+    → Grows before after → count ≡ bytes_in_block g inode n
+    → ReadsAs stands before tells after (block_of Little g inode n) (Some (Ok (Some block))) → ReadsAs stands before tells after (part_of Little g inode n) (Some (Ok (take count block)))
 unfolding part_of
-part_read g inode n found count buf grows e low fits reads =
-    rw (e, ← take_front (bytes_in_block g inode n) found buf (rw e at low) fits)
-    (reads_on refusal_of _ (Some (take found buf)) _ grows (λ v h. h) (λ h. h) reads (reads_known _))
+part_read g inode n count block grows e reads =
+    rw e (reads_on refusal_of _ (Some block) _ grows (λ v h. h) (λ h. h) reads (reads_known _))
 
 -- the part of a hole
 pub part_hole : {stands : Volume → Type 0} {tells : Type 0} {before after : ℕ → Bool} (g : Geometry) (inode : Inode) (n count : ℕ) (buf : List ℕ)
@@ -39,7 +33,7 @@ unfolding part_of
 part_hole g inode n count buf grows e zeros reads =
     rw (zeros, e) (reads_on refusal_of _ None _ grows (λ v h. h) (λ h. h) reads (reads_known _))
 
-pub part_unread : {stands : Volume → Type 0} {tells : Type 0} {before after : ℕ → Bool} (g : Geometry) (inode : Inode) (n : ℕ) (fault : ReadFault)
+pub part_unread : {stands : Volume → Type 0} {tells : Type 0} {before after : ℕ → Bool} (g : Geometry) (inode : Inode) (n : ℕ) (fault : LookFault)
     → Grows before after → ReadsAs stands before tells after (block_of Little g inode n) (option_map Err (refusal_of fault))
     → ReadsAs stands before tells after (part_of Little g inode n) (option_map Err (refusal_of fault))
 unfolding part_of
@@ -73,7 +67,7 @@ front_more g inode k x y grows further keeps tell one two =
     (reads_on refusal_of _ y _ further (λ v h. h) (λ h. h) two (reads_known (Ok (x ++ y))))
 
 -- one part that isn't read
-pub front_fails : {stands still : Volume → Type 0} {tells told : Type 0} {before now after : ℕ → Bool} (g : Geometry) (inode : Inode) (k : ℕ) (x : List ℕ) (fault : ReadFault)
+pub front_fails : {stands still : Volume → Type 0} {tells told : Type 0} {before now after : ℕ → Bool} (g : Geometry) (inode : Inode) (k : ℕ) (x : List ℕ) (fault : LookFault)
     → Grows before now → Grows now after → ((v : Volume) → stands v → still v) → (told → tells)
     → ReadsAs stands before tells now (front_of Little g inode k) (Some (Ok x)) → ReadsAs still now told after (part_of Little g inode k) (option_map Err (refusal_of fault))
     → ReadsAs stands before told after (front_of Little g inode (suc k)) (option_map Err (refusal_of fault))
@@ -81,7 +75,7 @@ unfolding front_of
 front_fails g inode k x fault grows further keeps tell one two =
     reads_on refusal_of _ x _ grows keeps tell one (reads_refused refusal_of _ fault further two)
 
-front_stays : {stands : Volume → Type 0} {tells : Type 0} {before after : ℕ → Bool} (g : Geometry) (inode : Inode) (k d : ℕ) (fault : ReadFault) → Grows before after
+front_stays : {stands : Volume → Type 0} {tells : Type 0} {before after : ℕ → Bool} (g : Geometry) (inode : Inode) (k d : ℕ) (fault : LookFault) → Grows before after
     → ReadsAs stands before tells after (front_of Little g inode k) (option_map Err (refusal_of fault)) → ReadsAs stands before tells after (front_of Little g inode (d + k)) (option_map Err (refusal_of fault))
 unfolding front_of
 front_stays {stands} {tells} {before} {after} g inode k zero fault grows h =
@@ -91,7 +85,7 @@ front_stays {stands} {tells} {before} {after} g inode k (suc d) fault grows h =
     (reads_refused refusal_of _ fault grows (front_stays g inode k d fault grows h))
 
 -- where a front isn't read, the whole isn't
-pub front_fails_whole : {stands : Volume → Type 0} {tells : Type 0} {before after : ℕ → Bool} (g : Geometry) (inode : Inode) (k count : ℕ) (fault : ReadFault) → Grows before after → k ≤ count
+pub front_fails_whole : {stands : Volume → Type 0} {tells : Type 0} {before after : ℕ → Bool} (g : Geometry) (inode : Inode) (k count : ℕ) (fault : LookFault) → Grows before after → k ≤ count
     → ReadsAs stands before tells after (front_of Little g inode k) (option_map Err (refusal_of fault)) → ReadsAs stands before tells after (front_of Little g inode count) (option_map Err (refusal_of fault))
 front_fails_whole {stands} {tells} {before} {after} g inode k count fault grows le h =
     subst (λ j. ReadsAs stands before tells after (front_of Little g inode j) (option_map Err (refusal_of fault))) (let e : (count - k) + k ≡ count = omega arith in e)

@@ -1,5 +1,5 @@
 pub mod Sizes
-pub mod Addresses
+pub mod BlockLaws
 pub mod SuperLaws
 pub mod LookLaws
 pub mod ChunkLaws

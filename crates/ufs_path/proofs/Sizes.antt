@@ -1,21 +1,21 @@
 -- The file blocks of a file, and the bytes in them.
-use Rattle.std.proofs.Common.{◌≡◌, ◌∙◌, ℕ, ◌+◌, ◌-◌, ◌*◌, ◌/◌, ◌%◌, ◌<◌, ◌≤◌, min, Bool, true, false, nat_le, nat_lt, if◌then◌else◌, refl, ap, arith}
+use Rattle.std.proofs.Common.{◌≡◌, ◌∙◌, ℕ, ◌+◌, ◌-◌, ◌*◌, ◌/◌, ◌%◌, ◌^◌, ◌<◌, ◌≤◌, min, Bool, true, false, nat_le, nat_lt, if◌then◌else◌, refl, ap, arith}
 use Rattle.std.specs.Int.{div_ceil}
 use Rattle.std.proofs.lemmas.Bool.Decides.{nat_tests}
 use Rattle.std.proofs.lemmas.Grind.{div_ceil_times}
 use Rattle.std.proofs.lemmas.Nat.{div-mul-add}
-use Rattle.std.proofs.Math.Nat.{lt_of_mul-lt-mul_right, mod-eq-sub-div-mul, mul-le-mul_right}
+use Rattle.std.proofs.Math.Nat.{lt_of_mul-lt-mul_right, mod-eq-sub-div-mul}
 use Rattle.ufs_model.specs.Geometries.{IsGeometry}
-use Rattle.ufs_model.specs.Inodes.{span}
+use Rattle.ufs_model.specs.Inodes.{block_span, span}
 use Rattle.ufs_model.specs.Paths.{bytes_in_block}
 use Rattle.ufs_model.specs.declared.geometries.Geometry.{Geometry}
 use Rattle.ufs_model.specs.declared.inodes.Inode.{Inode}
 
--- a file of at most twelve file blocks' bytes has at most twelve of them
-pub count_direct : (s b : ℕ) → 0 < b → s ≤ 12 * b → div_ceil s b ≤ 12
-count_direct s b some small =
-    let bound = (div_ceil_times s b some).1 in
-    let less : div_ceil s b * b < 13 * b = omega arith in
+-- a file of less than 2^32 bytes has at most 2^20 file blocks
+pub count_few : (s b : ℕ) → 4096 ≤ b → s < 2 ^ 32 → div_ceil s b ≤ 2 ^ 20
+count_few s b large small =
+    let bound = (div_ceil_times s b (omega arith)).1 in
+    let less : div_ceil s b * b < (2 ^ 20 + 1) * b = omega arith in
     let below = lt_of_mul-lt-mul_right b less in omega arith
 
 last_bytes : (s b n : ℕ) → n * b < s → s < (n + 1) * b → s % b ≡ s - n * b
@@ -38,20 +38,28 @@ covers_by frag f b s n e pos false false h1 h2 =
     let zeros : s - n * b ≡ 0 = omega arith in
     omega arith
 
--- the fragments of a direct block have the bytes of the file that stand in it
-pub covers : (g : Geometry) (inode : Inode) (n : ℕ) → IsGeometry g → n < 12 → bytes_in_block g inode n ≤ span g inode n * g.fsize
+covers_direct : (g : Geometry) (inode : Inode) (n : ℕ) → IsGeometry g → nat_le 12 n ≡ false → bytes_in_block g inode n ≤ block_span g inode n * g.fsize
 unfolding span
-covers g inode n is direct =
-    let not_indirect : nat_le 12 n ≡ false = grind (arith, nat_tests) in
+covers_direct g inode n is direct =
     let size = is.fsize in
-    rw not_indirect (covers_by g.frag g.fsize g.bsize inode.size n (is.frag.3) (omega arith) _ _ refl refl)
+    rw direct (covers_by g.frag g.fsize g.bsize inode.size n (is.frag.3) (omega arith) _ _ refl refl)
 
-pub at_most_eight : (k f : ℕ) → k ≤ 8 → k * f ≤ 8 * f
-at_most_eight k f low = mul-le-mul_right f low
+covers_whole : (g : Geometry) (inode : Inode) (n : ℕ) → IsGeometry g → nat_le 12 n ≡ true → bytes_in_block g inode n ≤ block_span g inode n * g.fsize
+unfolding span
+covers_whole g inode n is indirect = rw indirect (let e = is.frag.3 in omega arith)
 
--- eight fragments have the bytes of a file block
-pub block_fits : (g : Geometry) → IsGeometry g → (g.bsize ≤ 8 * g.fsize) × (g.bsize ≤ 65536)
-block_fits g is =
-    let frag = is.frag in
-    let bound = at_most_eight g.frag g.fsize (omega arith) in
-    (omega arith, let size = is.bsize in omega arith)
+covers_either : (g : Geometry) (inode : Inode) (n : ℕ) (indirect : Bool) → IsGeometry g → nat_le 12 n ≡ indirect → bytes_in_block g inode n ≤ block_span g inode n * g.fsize
+covers_either g inode n true is e = covers_whole g inode n is e
+covers_either g inode n false is e = covers_direct g inode n is e
+
+-- the fragments of a file block have the bytes of the file that stand in it
+pub covers : (g : Geometry) (inode : Inode) (n : ℕ) → IsGeometry g → bytes_in_block g inode n ≤ block_span g inode n * g.fsize
+covers g inode n is = covers_either g inode n _ is refl
+
+-- a file block has at most so many bytes
+pub block_fits : (g : Geometry) → IsGeometry g → (g.bsize ≤ g.frag * g.fsize) × (g.bsize ≤ 65536)
+block_fits g is = (let e = is.frag.3 in omega arith, let size = is.bsize in omega arith)
+
+-- the bytes up to a file block, and those in it
+pub bytes_through : (g : Geometry) (inode : Inode) (n : ℕ) → min (n * g.bsize) inode.size + bytes_in_block g inode n ≡ min ((n + 1) * g.bsize) inode.size
+bytes_through g inode n = let more : (n + 1) * g.bsize ≡ n * g.bsize + g.bsize = omega arith in omega arith

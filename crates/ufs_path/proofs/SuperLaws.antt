@@ -1,11 +1,10 @@
 -- Reading the superblock.
-use Rattle.std.proofs.Common.{◌≡◌, ℕ, ◌-◌, ◌*◌, ◌/◌, min, List, [], ◌∷◌, ◌++◌, length, take, drop, ◌≤◌, ◌∙◌, sym, ap, arith, Bool, true, false, Some, None, Result, Option, replicate, subst}
+use Rattle.std.proofs.Common.{◌≡◌, ℕ, ◌-◌, ◌*◌, ◌/◌, min, List, [], ◌∷◌, ◌++◌, length, ◌<◌, ◌≤◌, ◌∙◌, ap, arith, Bool, true, false, Some, None, Result, Option, replicate}
 use Rattle.std.specs.Bool.{then_some}
 use Rattle.std.specs.Int.{div_ceil}
 use Rattle.std.proofs.lemmas.Grind.{div_ceil_times}
-use Rattle.std.proofs.lemmas.List.{length-take-le}
-use Rattle.std.proofs.Math.Nat.{mul-le-mul_right, mul-sub, mul_comm}
-use Rattle.std.proofs.Math.Seq.{drop-append_seam}
+use Rattle.std.proofs.lemmas.List.{length-append, length-replicate}
+use Rattle.std.proofs.Math.Nat.{lt_of_mul-lt-mul_right, mul-le-mul_right, mul-sub, mul_comm}
 use Rattle.ufs_model.proofs.AreaLaws.{area_none}
 use Rattle.ufs_model.specs.Blocks.{Volume, area_of, area_within}
 use Rattle.ufs_model.specs.Paths.{or_bad_super, volume_geometry}
@@ -34,14 +33,18 @@ none_read l a k (b ∷ buf) none room = absurd (let e : k * l ≡ 0 * l = ap (λ
 sub-times : (k m l : ℕ) → (k - m) * l ≡ k * l - m * l
 sub-times k m l = rw (mul_comm (k - m) l, mul_comm k l, mul_comm m l) (mul-sub l k m)
 
--- the buffer after what is there
-pub cleared : (old new : List ℕ) (k m l : ℕ) → length old ≡ k * l → m ≤ k → new ≡ take (m * l) old ++ replicate (length old - m * l) 0
-    → drop (m * l) new ≡ replicate ((k - m) * l) 0
-cleared old new k m l room low e =
-    let fits : m * l ≤ length old = rw room (mul-le-mul_right l low) in
-    let front : length (take (m * l) old) ≡ m * l = length-take-le (m * l) old fits in
-    let left : length old - m * l ≡ (k - m) * l = ap (λ x. x - m * l) room ∙ sym (sub-times k m l) in
-    rw (e, ← left) (subst (λ n. drop n (take (m * l) old ++ replicate (length old - m * l) 0) ≡ replicate (length old - m * l) 0) front (drop-append_seam (take (m * l) old) _))
+-- no bytes
+pub none_there : (k l f : ℕ) (block : List ℕ) → k ≡ 0 → block ≡ replicate (0 * f) 0 → length block ≡ k * l
+none_there k l f block none e =
+    let zeros : 0 * f ≡ 0 * l = omega arith in
+    rw (e, none) (length-replicate {A = ℕ} (0 * f) 0 ∙ zeros)
+
+-- the bytes that are there, and zeros after them, are the whole
+pub padded : (k m l : ℕ) (front : List ℕ) → m ≤ k → length front ≡ m * l → length (front ++ replicate ((k - m) * l) 0) ≡ k * l
+padded k m l front low e =
+    let times = sub-times k m l in
+    let fits = mul-le-mul_right l low in
+    length-append front (replicate ((k - m) * l) 0) ∙ omega (arith, e, length-replicate {A = ℕ} ((k - m) * l) 0)
 
 -- the geometry by the bytes of the superblock
 pub geometry_read : {stands : Volume → Type 0} {tells : Type 0} {before after : ℕ → Bool} (l n a k : ℕ) (bytes : List ℕ) (answer : Option (Result Geometry PathRefusal)) → Grows before after
@@ -58,6 +61,9 @@ unfolding volume_geometry geometry_of superblock_of
 geometry_unread l n a k e1 e2 reads = reads_none _ (reads_none _ (rw (e1, e2) at reads))
 
 -- the blocks with the superblock have its bytes, and are at most eight
-pub superblock_fits : (l : ℕ) → 512 ≤ l → (1376 ≤ div_ceil 1376 l * l) × (div_ceil 1376 l * l ≤ 8 * l)
+pub superblock_fits : (l : ℕ) → 512 ≤ l → (1376 ≤ div_ceil 1376 l * l) × (div_ceil 1376 l ≤ 8)
 superblock_fits l large =
-    let bound = div_ceil_times 1376 l (omega arith) in (bound.0, omega arith)
+    let bound = div_ceil_times 1376 l (omega arith) in
+    let less : div_ceil 1376 l * l < 9 * l = omega arith in
+    let below = lt_of_mul-lt-mul_right l less in
+    (bound.0, omega arith)

@@ -3,14 +3,16 @@ use Rattle.std.specs.Prelude.{◌≡◌, ℕ, List, ◌++◌, length, Option, So
 use Rattle.dg_model.specs.Causes.{Rose}
 use Rattle.ufs_model.specs.declared.reads.PathRefusal.{PathRefusal}
 use Rattle.ufs_model.specs.declared.reads.PathRefusal.TheVariants.{NotFound as RefusedNotFound, NotDirectory as RefusedNotDirectory, NotRegular as RefusedNotRegular, Bad as RefusedBad}
-use Rattle.ufs_path.specs.declared.faults.ReadFault.{ReadFault}
-use Rattle.ufs_path.specs.declared.faults.ReadFault.TheVariants.{Refused, Unavailable as FaultUnavailable}
+use Rattle.ufs_path.specs.declared.faults.LookFault.{LookFault}
+use Rattle.ufs_path.specs.declared.faults.LookFault.TheVariants.{NotFound as FaultNotFound, NotDirectory as FaultNotDirectory, Bad as FaultBad, Unavailable as FaultUnavailable}
 use Rattle.ufs_path.specs.declared.faults.CatAnswer.{CatAnswer}
 use Rattle.ufs_path.specs.declared.faults.CatAnswer.TheVariants.{Given, NotFound, NotDirectory, Bad, Unavailable, NotRegular, Cut, SinkFault}
 
 -- what a fault says of a reading: nothing where a block is gone
-abbrev pub refusal_of : ReadFault → Option PathRefusal
-refusal_of (Refused refusal) = Some refusal
+abbrev pub refusal_of : LookFault → Option PathRefusal
+refusal_of FaultNotFound = Some RefusedNotFound
+refusal_of FaultNotDirectory = Some RefusedNotDirectory
+refusal_of (FaultBad bad) = Some (RefusedBad bad)
 refusal_of FaultUnavailable = None
 
 -- the answer of `cat` at a refusal, and at a fault
@@ -20,8 +22,10 @@ answer_at RefusedNotDirectory = NotDirectory
 answer_at RefusedNotRegular = NotRegular
 answer_at (RefusedBad bad) = Bad bad
 
-abbrev pub refused_answer : ReadFault → CatAnswer
-refused_answer (Refused refusal) = answer_at refusal
+abbrev pub refused_answer : LookFault → CatAnswer
+refused_answer FaultNotFound = NotFound
+refused_answer FaultNotDirectory = NotDirectory
+refused_answer (FaultBad bad) = Bad bad
 refused_answer FaultUnavailable = Unavailable
 
 -- What an answer of `cat` says of the reading of the file's bytes, by `reads`, and of what the

@@ -1,5 +1,5 @@
 // Directories.
-ghost use Rattle.std.specs.Prelude.{◌≡◌, ◌+◌, ◌*◌, ◌<◌, ◌≤◌, Some, length};
+ghost use Rattle.std.specs.Prelude.{◌≡◌, ◌+◌, ◌*◌, ◌^◌, ◌<◌, ◌≤◌, Some, length};
 ghost use Rattle.dg_io.specs.Views.{KeepsView};
 ghost use Rattle.ufs_model.specs.Geometries.{IsGeometryOn};
 ghost use Rattle.ufs_model.specs.Paths.{chunks_in, find_from, find_in_block, find_of, find_through, or_bad_chunk};
@@ -7,11 +7,12 @@ ghost use Rattle.ufs_model.specs.Readings.{ReadsAs, answered};
 ghost use Rattle.ufs_model.specs.declared.numbers.Endian.TheVariants.{Little};
 ghost use Rattle.ufs_path.specs.Answers.{refusal_of};
 
-use crate::blocks::{block_count, bytes_in_block, directory_refusal, read_block};
-use crate::faults::ReadFault;
+use crate::blocks::{FileBlock, block_count, bytes_in_block, directory_fault, read_block};
+use crate::faults::LookFault;
 use dg_io::View;
 use ufs_dir::{CHUNK_BYTES, find};
-use ufs_model::{BadRead, Found, Geometry, Inode, PathRefusal};
+use ufs_model::{BadRead, Found, Geometry, Inode};
+use ufs_pointer::Levels;
 
 /// The inode of the first used entry with the name in the first `count` chunks of a file block, up
 /// to a chunk that is refused.
@@ -32,13 +33,13 @@ fn find_through(bytes: &[u8], count: usize, name: &[u8]) -> Found
 }
 
 /// The inode that was found, if one was; a refused chunk makes its volume bad.
-fn or_bad_chunk(found: Found) -> Result<Option<u32>, ReadFault>
+fn or_bad_chunk(found: Found) -> Result<Option<u32>, LookFault>
     ensures { answered refusal_of result ≡ Some (or_bad_chunk found) }
 {
     match found {
         Found::At(inode) => Ok(Some(inode)),
         Found::Absent => Ok(None),
-        Found::Bad(_) => Err(ReadFault::Refused(PathRefusal::Bad(BadRead::Chunk))),
+        Found::Bad(_) => Err(LookFault::Bad(BadRead::Chunk)),
     }
 }
 
@@ -49,23 +50,23 @@ fn find_in_block<V: View>(
     inode: &Inode,
     name: &[u8],
     n: u32,
-    buf: &mut [u8],
-) -> Result<Option<u32>, ReadFault>
+    levels: &mut Levels,
+) -> Result<Option<u32>, LookFault>
     requires sound { V.is_sound view.old }
     requires geometry { IsGeometryOn (V.size view.old) (V.count view.old) g.now }
-    requires room { length buf.old ≡ 8 * g.now.fsize }
-    requires direct { n < 12 }
+    requires levels { levels.old.fragment ≡ V.size view.old }
+    requires block { n < 2 ^ 30 }
     ensures keeps { KeepsView V.stands_for V.tells V.is_gone V.count V.size V.is_sound V.goes_on view.old view.new }
-    ensures room { length buf.new ≡ length buf.old }
+    ensures levels { levels.new.fragment ≡ levels.old.fragment }
     ensures rule { ReadsAs (V.stands_for view.old) (V.is_gone view.old) (V.tells view.new) (V.is_gone view.new)
         (find_in_block Little g.now inode.now name.now n) (answered refusal_of result) }
 {
-    match read_block(view, g, inode, n, buf) {
-        Ok(Some(bytes)) => {
+    match read_block(view, g, inode, n, levels) {
+        Ok(FileBlock::Data) => {
             let chunks = bytes_in_block(g, inode, n) / CHUNK_BYTES;
-            or_bad_chunk(find_through(&buf[..bytes], chunks, name))
+            or_bad_chunk(find_through(levels.block(), chunks, name))
         }
-        Ok(None) => Err(ReadFault::Refused(PathRefusal::Bad(BadRead::Hole))),
+        Ok(FileBlock::Hole) => Err(LookFault::Bad(BadRead::Hole)),
         Err(fault) => Err(fault),
     }
 }
@@ -77,25 +78,25 @@ fn find_in_blocks<V: View>(
     inode: &Inode,
     name: &[u8],
     count: u32,
-    buf: &mut [u8],
-) -> Result<u32, ReadFault>
+    levels: &mut Levels,
+) -> Result<u32, LookFault>
     requires sound { V.is_sound view.old }
     requires geometry { IsGeometryOn (V.size view.old) (V.count view.old) g.now }
-    requires room { length buf.old ≡ 8 * g.now.fsize }
-    requires direct { count ≤ 12 }
+    requires levels { levels.old.fragment ≡ V.size view.old }
+    requires few { count ≤ 2 ^ 20 }
     ensures keeps { KeepsView V.stands_for V.tells V.is_gone V.count V.size V.is_sound V.goes_on view.old view.new }
-    ensures room { length buf.new ≡ length buf.old }
+    ensures levels { levels.new.fragment ≡ levels.old.fragment }
     ensures rule { ReadsAs (V.stands_for view.old) (V.is_gone view.old) (V.tells view.new) (V.is_gone view.new)
         (find_from Little g.now inode.now name.now 0 count) (answered refusal_of result) }
 {
     for n in 0..count {
-        match find_in_block(view, g, inode, name, n, buf) {
+        match find_in_block(view, g, inode, name, n, levels) {
             Ok(None) => {}
             Ok(Some(found)) => return Ok(found),
             Err(fault) => return Err(fault),
         }
     }
-    Err(ReadFault::Refused(PathRefusal::NotFound))
+    Err(LookFault::NotFound)
 }
 
 /// The inode under a name in a directory.
@@ -104,18 +105,18 @@ pub fn find_name<V: View>(
     g: &Geometry,
     inode: &Inode,
     name: &[u8],
-    buf: &mut [u8],
-) -> Result<u32, ReadFault>
+    levels: &mut Levels,
+) -> Result<u32, LookFault>
     requires sound { V.is_sound view.old }
     requires geometry { IsGeometryOn (V.size view.old) (V.count view.old) g.now }
-    requires room { length buf.old ≡ 8 * g.now.fsize }
+    requires levels { levels.old.fragment ≡ V.size view.old }
     ensures keeps { KeepsView V.stands_for V.tells V.is_gone V.count V.size V.is_sound V.goes_on view.old view.new }
-    ensures room { length buf.new ≡ length buf.old }
+    ensures levels { levels.new.fragment ≡ levels.old.fragment }
     ensures rule { ReadsAs (V.stands_for view.old) (V.is_gone view.old) (V.tells view.new) (V.is_gone view.new)
         (find_of Little g.now inode.now name.now) (answered refusal_of result) }
 {
-    match directory_refusal(g, inode) {
-        Some(refusal) => Err(ReadFault::Refused(refusal)),
-        None => find_in_blocks(view, g, inode, name, block_count(g, inode), buf),
+    match directory_fault(inode) {
+        Some(fault) => Err(fault),
+        None => find_in_blocks(view, g, inode, name, block_count(g, inode), levels),
     }
 }

@@ -1,10 +1,14 @@
-use ufs_model::{BadRead, PathRefusal};
+use ufs_model::BadRead;
 
-/// Why there is no answer.
+/// Why a path leads to no inode, or why nothing is read of a volume.
 #[derive(Clone, Copy, Debug, PartialEq, Eq)]
-pub enum ReadFault {
-    /// What is read says so.
-    Refused(PathRefusal),
+pub enum LookFault {
+    /// A directory on the path has no entry with the name.
+    NotFound,
+    /// A name is looked for in something else than a directory.
+    NotDirectory,
+    /// The volume isn't as it has to be.
+    Bad(BadRead),
     /// A block that is needed is gone.
     Unavailable,
 }
@@ -14,9 +18,9 @@ pub enum ReadFault {
 pub enum CatAnswer {
     /// The whole file was handed on, so many bytes.
     Given(u32),
-    /// The root has no entry with the name. Nothing was handed on.
+    /// A directory on the path has no entry with the name. Nothing was handed on.
     NotFound,
-    /// The root is no directory. Nothing was handed on.
+    /// A name is looked for in something else than a directory. Nothing was handed on.
     NotDirectory,
     /// The volume isn't as it has to be. Nothing was handed on.
     Bad(BadRead),

@@ -1,18 +1,19 @@
 // The contents of files.
-ghost use Rattle.std.specs.Prelude.{◌≡◌, ◌+◌, ◌*◌, ◌<◌, ◌≤◌, List, ℕ, Some, Ok, length, replicate, take, IfOk, OnOk, IfErr};
+ghost use Rattle.std.specs.Prelude.{◌≡◌, ◌*◌, ◌^◌, ◌<◌, ◌≤◌, List, ℕ, Some, Ok, length, IfOk, OnOk, IfErr};
 ghost use Rattle.std.specs.Option.{option_map};
 ghost use Rattle.dg_io.specs.Views.{KeepsView};
 ghost use Rattle.ufs_model.specs.Geometries.{IsGeometryOn};
-ghost use Rattle.ufs_model.specs.Paths.{contents_of, front_of, part_of};
+ghost use Rattle.ufs_model.specs.Paths.{bytes_in_block, contents_of, front_of, part_of};
 ghost use Rattle.ufs_model.specs.Readings.{ReadsAs};
 ghost use Rattle.ufs_model.specs.declared.numbers.Endian.TheVariants.{Little};
-ghost use Rattle.ufs_path.specs.Answers.{IsCat, refusal_of, refused_answer};
-ghost use Rattle.ufs_path.specs.Parts.{IsHanded, IsHandedPart, part_said};
+ghost use Rattle.ufs_path.specs.Answers.{IsCat, answer_at, refusal_of, refused_answer};
+ghost use Rattle.ufs_path.specs.Parts.{HasCount, IsHanded, IsHandedPart, part_said};
 
-use crate::blocks::{block_count, bytes_in_block, file_refusal, read_block};
-use crate::faults::{CatAnswer, ReadFault};
+use crate::blocks::{FileBlock, block_count, bytes_in_block, file_refusal, read_block};
+use crate::faults::{CatAnswer, LookFault};
 use dg_io::{Pieces, View};
 use ufs_model::{Geometry, Inode, PathRefusal};
+use ufs_pointer::Levels;
 
 /// What became of a part of a file that was to be handed on.
 #[derive(Clone, Copy)]
@@ -20,58 +21,61 @@ pub enum Handed {
     /// It was handed on, so many bytes.
     All(u32),
     /// It wasn't read.
-    Unread(ReadFault),
+    Unread(LookFault),
     /// Its piece failed.
     Failed,
 }
 
-/// The answer of `cat` where there is nothing to hand on.
-pub fn refused_answer(fault: ReadFault) -> CatAnswer
-    ensures { result ≡ refused_answer fault }
+/// The answer of `cat` at a refusal.
+fn answer_at(refusal: PathRefusal) -> CatAnswer
+    ensures { result ≡ answer_at refusal }
 {
-    match fault {
-        ReadFault::Refused(PathRefusal::NotFound) => CatAnswer::NotFound,
-        ReadFault::Refused(PathRefusal::NotDirectory) => CatAnswer::NotDirectory,
-        ReadFault::Refused(PathRefusal::NotRegular) => CatAnswer::NotRegular,
-        ReadFault::Refused(PathRefusal::Bad(bad)) => CatAnswer::Bad(bad),
-        ReadFault::Unavailable => CatAnswer::Unavailable,
+    match refusal {
+        PathRefusal::NotFound => CatAnswer::NotFound,
+        PathRefusal::NotDirectory => CatAnswer::NotDirectory,
+        PathRefusal::NotRegular => CatAnswer::NotRegular,
+        PathRefusal::Bad(bad) => CatAnswer::Bad(bad),
     }
 }
 
-/// Makes so many bytes at the front of the buffer zeros.
-fn clear_front(buf: &mut [u8], count: usize)
-    requires { count ≤ length buf.old }
-    ensures front { take count buf.new ≡ replicate count 0 }
-    ensures room { length buf.new ≡ length buf.old }
+/// The answer of `cat` at a fault.
+pub fn refused_answer(fault: LookFault) -> CatAnswer
+    ensures { result ≡ refused_answer fault }
 {
-    buf[..count].fill(0);
+    match fault {
+        LookFault::NotFound => CatAnswer::NotFound,
+        LookFault::NotDirectory => CatAnswer::NotDirectory,
+        LookFault::Bad(bad) => CatAnswer::Bad(bad),
+        LookFault::Unavailable => CatAnswer::Unavailable,
+    }
 }
 
-/// Reads the bytes of a file in its file block `n` to the front of the buffer, and answers how many
-/// they are. The fragments of the block are all consulted, also past the end of the file.
+/// Reads the bytes of a file in its file block `n` to the front of the block of data, and answers how
+/// many they are. The fragments of the block are all consulted, also past the end of the file.
 fn read_part<V: View>(
     view: &mut V,
     g: &Geometry,
     inode: &Inode,
     n: u32,
-    buf: &mut [u8],
-) -> Result<usize, ReadFault>
+    levels: &mut Levels,
+) -> Result<usize, LookFault>
     requires sound { V.is_sound view.old }
     requires geometry { IsGeometryOn (V.size view.old) (V.count view.old) g.now }
-    requires room { length buf.old ≡ 8 * g.now.fsize }
-    requires direct { n < 12 }
+    requires levels { levels.old.fragment ≡ V.size view.old }
+    requires block { n < 2 ^ 30 }
     ensures keeps { KeepsView V.stands_for V.tells V.is_gone V.count V.size V.is_sound V.goes_on view.old view.new }
-    ensures room { length buf.new ≡ length buf.old }
+    ensures levels { levels.new.fragment ≡ levels.old.fragment }
     ensures rule { ReadsAs (V.stands_for view.old) (V.is_gone view.old) (V.tells view.new) (V.is_gone view.new)
-        (part_of Little g.now inode.now n) (part_said result buf.new) }
-    ensures inside { IfOk result (λ count. count ≤ length buf.new) }
+        (part_of Little g.now inode.now n) (part_said result levels.new.block) }
+    ensures inside { IfOk result (λ count. count ≤ length levels.new.block) }
+    ensures count { IfOk result (λ count. count ≡ bytes_in_block g.now inode.now n) }
     ensures small { IfOk result (λ count. count ≤ 65536) }
 {
     let count = bytes_in_block(g, inode, n);
-    match read_block(view, g, inode, n, buf) {
-        Ok(Some(_)) => Ok(count),
-        Ok(None) => {
-            clear_front(buf, count);
+    match read_block(view, g, inode, n, levels) {
+        Ok(FileBlock::Data) => Ok(count),
+        Ok(FileBlock::Hole) => {
+            levels.clear(g.frag);
             Ok(count)
         }
         Err(fault) => Err(fault),
@@ -84,21 +88,21 @@ fn consult<V: View>(
     g: &Geometry,
     inode: &Inode,
     count: u32,
-    buf: &mut [u8],
-) -> Result<(), ReadFault>
+    levels: &mut Levels,
+) -> Result<(), LookFault>
     requires sound { V.is_sound view.old }
     requires geometry { IsGeometryOn (V.size view.old) (V.count view.old) g.now }
-    requires room { length buf.old ≡ 8 * g.now.fsize }
-    requires direct { count ≤ 12 }
+    requires levels { levels.old.fragment ≡ V.size view.old }
+    requires few { count ≤ 2 ^ 20 }
     ensures keeps { KeepsView V.stands_for V.tells V.is_gone V.count V.size V.is_sound V.goes_on view.old view.new }
-    ensures room { length buf.new ≡ length buf.old }
+    ensures levels { levels.new.fragment ≡ levels.old.fragment }
     ensures ok { OnOk result ((bytes : List ℕ) × ReadsAs (V.stands_for view.old) (V.is_gone view.old) (V.tells view.new) (V.is_gone view.new)
         (front_of Little g.now inode.now count) (Some (Ok bytes))) }
     ensures err { IfErr result (λ fault. ReadsAs (V.stands_for view.old) (V.is_gone view.old) (V.tells view.new) (V.is_gone view.new)
         (front_of Little g.now inode.now count) (option_map Err (refusal_of fault))) }
 {
     for n in 0..count {
-        match read_part(view, g, inode, n, buf) {
+        match read_part(view, g, inode, n, levels) {
             Ok(_) => {}
             Err(fault) => return Err(fault),
         }
@@ -113,20 +117,21 @@ fn hand_part<V: View, O: Pieces>(
     inode: &Inode,
     n: u32,
     out: &mut O,
-    buf: &mut [u8],
+    levels: &mut Levels,
 ) -> Handed
     requires sound { V.is_sound view.old }
     requires geometry { IsGeometryOn (V.size view.old) (V.count view.old) g.now }
-    requires room { length buf.old ≡ 8 * g.now.fsize }
-    requires direct { n < 12 }
+    requires levels { levels.old.fragment ≡ V.size view.old }
+    requires block { n < 2 ^ 30 }
     ensures keeps { KeepsView V.stands_for V.tells V.is_gone V.count V.size V.is_sound V.goes_on view.old view.new }
-    ensures room { length buf.new ≡ length buf.old }
+    ensures levels { levels.new.fragment ≡ levels.old.fragment }
     ensures later { O.faults out.old ≤ O.faults out.new }
     ensures rule { IsHandedPart O.took O.took_part O.faults out.old out.new
         (ReadsAs (V.stands_for view.old) (V.is_gone view.old) (V.tells view.new) (V.is_gone view.new) (part_of Little g.now inode.now n)) result }
+    ensures count { HasCount (bytes_in_block g.now inode.now n) result }
 {
-    match read_part(view, g, inode, n, buf) {
-        Ok(count) => match out.piece(&buf[..count]) {
+    match read_part(view, g, inode, n, levels) {
+        Ok(count) => match out.piece(&levels.block()[..count]) {
             Ok(()) => Handed::All(count as u32),
             Err(_) => Handed::Failed,
         },
@@ -141,21 +146,22 @@ fn hand_on<V: View, O: Pieces>(
     inode: &Inode,
     count: u32,
     out: &mut O,
-    buf: &mut [u8],
+    levels: &mut Levels,
 ) -> CatAnswer
     requires sound { V.is_sound view.old }
     requires geometry { IsGeometryOn (V.size view.old) (V.count view.old) g.now }
-    requires room { length buf.old ≡ 8 * g.now.fsize }
-    requires direct { count ≤ 12 }
+    requires levels { levels.old.fragment ≡ V.size view.old }
+    requires small { inode.now.size < 2 ^ 32 }
+    requires few { count ≤ 2 ^ 20 }
     ensures keeps { KeepsView V.stands_for V.tells V.is_gone V.count V.size V.is_sound V.goes_on view.old view.new }
-    ensures room { length buf.new ≡ length buf.old }
+    ensures levels { levels.new.fragment ≡ levels.old.fragment }
     ensures later { O.faults out.old ≤ O.faults out.new }
     ensures rule { IsHanded O.took O.took_part O.faults out.old out.new count
         (λ k. ReadsAs (V.stands_for view.old) (V.is_gone view.old) (V.tells view.new) (V.is_gone view.new) (front_of Little g.now inode.now k)) result }
 {
     let mut given = 0;
     for n in 0..count {
-        match hand_part(view, g, inode, n, out, buf) {
+        match hand_part(view, g, inode, n, out, levels) {
             Handed::All(bytes) => given += bytes,
             Handed::Unread(_) => return CatAnswer::Cut(given),
             Handed::Failed => return CatAnswer::SinkFault,
@@ -171,20 +177,21 @@ fn hand_twice<V: View, O: Pieces>(
     inode: &Inode,
     count: u32,
     out: &mut O,
-    buf: &mut [u8],
+    levels: &mut Levels,
 ) -> CatAnswer
     requires sound { V.is_sound view.old }
     requires geometry { IsGeometryOn (V.size view.old) (V.count view.old) g.now }
-    requires room { length buf.old ≡ 8 * g.now.fsize }
-    requires direct { count ≤ 12 }
+    requires levels { levels.old.fragment ≡ V.size view.old }
+    requires small { inode.now.size < 2 ^ 32 }
+    requires few { count ≤ 2 ^ 20 }
     ensures keeps { KeepsView V.stands_for V.tells V.is_gone V.count V.size V.is_sound V.goes_on view.old view.new }
-    ensures room { length buf.new ≡ length buf.old }
+    ensures levels { levels.new.fragment ≡ levels.old.fragment }
     ensures later { O.faults out.old ≤ O.faults out.new }
     ensures rule { IsCat O.took O.took_part O.faults out.old out.new
         (ReadsAs (V.stands_for view.old) (V.is_gone view.old) (V.tells view.new) (V.is_gone view.new) (front_of Little g.now inode.now count)) result }
 {
-    match consult(view, g, inode, count, buf) {
-        Ok(()) => hand_on(view, g, inode, count, out, buf),
+    match consult(view, g, inode, count, levels) {
+        Ok(()) => hand_on(view, g, inode, count, out, levels),
         Err(fault) => refused_answer(fault),
     }
 }
@@ -195,19 +202,19 @@ pub fn hand_file<V: View, O: Pieces>(
     g: &Geometry,
     inode: &Inode,
     out: &mut O,
-    buf: &mut [u8],
+    levels: &mut Levels,
 ) -> CatAnswer
     requires sound { V.is_sound view.old }
     requires geometry { IsGeometryOn (V.size view.old) (V.count view.old) g.now }
-    requires room { length buf.old ≡ 8 * g.now.fsize }
+    requires levels { levels.old.fragment ≡ V.size view.old }
     ensures keeps { KeepsView V.stands_for V.tells V.is_gone V.count V.size V.is_sound V.goes_on view.old view.new }
-    ensures room { length buf.new ≡ length buf.old }
+    ensures levels { levels.new.fragment ≡ levels.old.fragment }
     ensures later { O.faults out.old ≤ O.faults out.new }
     ensures rule { IsCat O.took O.took_part O.faults out.old out.new
         (ReadsAs (V.stands_for view.old) (V.is_gone view.old) (V.tells view.new) (V.is_gone view.new) (contents_of Little g.now inode.now)) result }
 {
-    match file_refusal(g, inode) {
-        Some(refusal) => refused_answer(ReadFault::Refused(refusal)),
-        None => hand_twice(view, g, inode, block_count(g, inode), out, buf),
+    match file_refusal(inode) {
+        Some(refusal) => answer_at(refusal),
+        None => hand_twice(view, g, inode, block_count(g, inode), out, levels),
     }
 }

@@ -1,9 +1,8 @@
 //! Reading a UFS1 volume by path, from a view of its blocks some of which may be gone.
 //!
-//! A read goes over the volume twice. The first time it consults all that its answer needs, and
-//! hands nothing on; so each refusal comes before any byte. The second time it hands on the bytes.
-//! For now a path has one name, and files are read by their direct blocks alone. No call takes
-//! memory but [`Levels::new`].
+//! A read of a file goes over the volume twice. The first time it consults all that its answer
+//! needs, and hands nothing on; so each refusal comes before any byte. The second time it hands on
+//! the bytes. No call takes memory but [`Levels::new`].
 #![tactic(auto)]
 
 mod blocks;
@@ -11,13 +10,14 @@ mod cats;
 mod directories;
 mod faults;
 mod files;
-mod levels;
 mod looks;
 mod superblocks;
 #[cfg(test)]
 mod tests;
 
 pub use cats::cat;
-pub use faults::CatAnswer;
-pub use levels::Levels;
-pub use ufs_model::{BadRead, BadSuper, is_one_name};
+pub use faults::{CatAnswer, LookFault};
+pub use looks::look;
+pub use superblocks::geometry;
+pub use ufs_model::{BadRead, BadSuper, Geometry, Inode, is_one_name, is_path};
+pub use ufs_pointer::Levels;

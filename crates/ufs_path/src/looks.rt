@@ -1,12 +1,10 @@
 // Paths.
-ghost use Rattle.std.specs.Prelude.{◌≡◌, ◌+◌, ◌*◌, ◌<◌, ◌≤◌, [], ◌∷◌, Some, drop, length, take};
-ghost use Rattle.std.specs.Bool.{then_some};
+ghost use Rattle.std.specs.Prelude.{◌≡◌, ◌+◌, ◌*◌, ◌<◌, ◌≤◌, Some, drop, length, take, true};
 ghost use Rattle.std.specs.Option.{ok_or};
 ghost use Rattle.dg_io.specs.Views.{KeepsView};
-ghost use Rattle.ufs_model.specs.Blocks.{consult};
 ghost use Rattle.ufs_model.specs.Geometries.{IsGeometryOn};
 ghost use Rattle.ufs_model.specs.Inodes.{inode_in};
-ghost use Rattle.ufs_model.specs.Paths.{allocated, look_from, named_inode};
+ghost use Rattle.ufs_model.specs.Paths.{allocated, is_path, look_from, look_of, named_inode, names_after, names_of};
 ghost use Rattle.ufs_model.specs.Readings.{ReadsAs, answered};
 ghost use Rattle.ufs_model.specs.declared.numbers.Endian.TheVariants.{Little};
 ghost use Rattle.ufs_model.specs.declared.reads.BadRead.TheVariants.{Entry};
@@ -14,10 +12,12 @@ ghost use Rattle.ufs_model.specs.declared.reads.PathRefusal.TheVariants.{Bad};
 ghost use Rattle.ufs_path.specs.Answers.{refusal_of};
 
 use crate::directories::find_name;
-use crate::faults::ReadFault;
-use dg_io::{Fetched, View};
+use crate::faults::LookFault;
+use crate::superblocks::geometry;
+use dg_io::View;
 use ufs_inode::{place_of, read_inode};
-use ufs_model::{BadRead, Geometry, Inode, PathRefusal};
+use ufs_model::{BadRead, Geometry, Inode, next_name, path_names};
+use ufs_pointer::Levels;
 
 /// The inode of the root (`ROOTINO`).
 const ROOT: u32 = 2;
@@ -25,28 +25,15 @@ const ROOT: u32 = 2;
 /// Bytes of an inode (`struct dinode`).
 const INODE_BYTES: usize = 128;
 
-/// Reads a block, and answers whether it could.
-fn read_fragment<V: View>(view: &mut V, block: u32, buf: &mut [u8]) -> bool
-    requires sound { V.is_sound view.old }
-    requires within { block < V.count view.old }
-    requires room { length buf.old ≡ V.size view.old }
-    ensures keeps { KeepsView V.stands_for V.tells V.is_gone V.count V.size V.is_sound V.goes_on view.old view.new }
-    ensures room { length buf.new ≡ length buf.old }
-    ensures rule { ReadsAs (V.stands_for view.old) (V.is_gone view.old) (V.tells view.new) (V.is_gone view.new)
-        (consult (V.size view.old) block) (then_some result buf.new) }
-{
-    view.fetch(block, buf) == Fetched::Got
-}
-
 /// The inode at a byte of its block. It has to be allocated.
-fn inode_at(block: &[u8], byte: u32) -> Result<Inode, ReadFault>
+fn inode_at(block: &[u8], byte: u32) -> Result<Inode, LookFault>
     requires { byte + 128 ≤ length block.now }
     ensures { answered refusal_of result ≡ Some (ok_or (inode_in Little (take 128 (drop byte block.now))) (Bad Entry)) }
 {
     let start = byte as usize;
     match read_inode(&block[start..start + INODE_BYTES]) {
         Some(inode) => Ok(inode),
-        None => Err(ReadFault::Refused(PathRefusal::Bad(BadRead::Entry))),
+        None => Err(LookFault::Bad(BadRead::Entry)),
     }
 }
 
@@ -56,22 +43,22 @@ fn read_allocated<V: View>(
     view: &mut V,
     g: &Geometry,
     number: u32,
-    buf: &mut [u8],
-) -> Result<Inode, ReadFault>
+    levels: &mut Levels,
+) -> Result<Inode, LookFault>
     requires sound { V.is_sound view.old }
     requires geometry { IsGeometryOn (V.size view.old) (V.count view.old) g.now }
     requires number { number < g.now.ncg * g.now.ipg }
-    requires room { length buf.old ≡ g.now.fsize }
+    requires levels { levels.old.fragment ≡ V.size view.old }
     ensures keeps { KeepsView V.stands_for V.tells V.is_gone V.count V.size V.is_sound V.goes_on view.old view.new }
-    ensures room { length buf.new ≡ length buf.old }
+    ensures levels { levels.new.fragment ≡ levels.old.fragment }
     ensures rule { ReadsAs (V.stands_for view.old) (V.is_gone view.old) (V.tells view.new) (V.is_gone view.new)
         (allocated Little g.now number) (answered refusal_of result) }
 {
     let (block, byte) = place_of(g, number);
-    if !read_fragment(view, block, buf) {
-        return Err(ReadFault::Unavailable);
+    if !levels.read_block(view, block, 1) {
+        return Err(LookFault::Unavailable);
     }
-    inode_at(buf, byte)
+    inode_at(levels.block(), byte)
 }
 
 /// An inode that a path leads to.
@@ -80,39 +67,83 @@ fn read_named<V: View>(
     view: &mut V,
     g: &Geometry,
     number: u32,
-    buf: &mut [u8],
-) -> Result<Inode, ReadFault>
+    levels: &mut Levels,
+) -> Result<Inode, LookFault>
     requires sound { V.is_sound view.old }
     requires geometry { IsGeometryOn (V.size view.old) (V.count view.old) g.now }
-    requires room { length buf.old ≡ 8 * g.now.fsize }
+    requires levels { levels.old.fragment ≡ V.size view.old }
     ensures keeps { KeepsView V.stands_for V.tells V.is_gone V.count V.size V.is_sound V.goes_on view.old view.new }
-    ensures room { length buf.new ≡ length buf.old }
+    ensures levels { levels.new.fragment ≡ levels.old.fragment }
     ensures rule { ReadsAs (V.stands_for view.old) (V.is_gone view.old) (V.tells view.new) (V.is_gone view.new)
         (named_inode Little g.now number) (answered refusal_of result) }
 {
     if number < ROOT || g.ncg * g.ipg <= number {
-        return Err(ReadFault::Refused(PathRefusal::Bad(BadRead::Entry)));
+        return Err(LookFault::Bad(BadRead::Entry));
     }
-    read_allocated(view, g, number, &mut buf[..g.fsize as usize])
+    read_allocated(view, g, number, levels)
 }
 
-/// The inode at the path of one name, with its number.
-pub fn look_up<V: View>(
+/// The inode at a path, with its number.
+fn follow_names<V: View>(
     view: &mut V,
     g: &Geometry,
-    name: &[u8],
-    buf: &mut [u8],
-) -> Result<(u32, Inode), ReadFault>
+    path: &[u8],
+    levels: &mut Levels,
+) -> Result<(u32, Inode), LookFault>
     requires sound { V.is_sound view.old }
     requires geometry { IsGeometryOn (V.size view.old) (V.count view.old) g.now }
-    requires room { length buf.old ≡ 8 * g.now.fsize }
+    requires levels { levels.old.fragment ≡ V.size view.old }
     ensures keeps { KeepsView V.stands_for V.tells V.is_gone V.count V.size V.is_sound V.goes_on view.old view.new }
-    ensures room { length buf.new ≡ length buf.old }
+    ensures levels { levels.new.fragment ≡ levels.old.fragment }
     ensures rule { ReadsAs (V.stands_for view.old) (V.is_gone view.old) (V.tells view.new) (V.is_gone view.new)
-        (look_from Little g.now (name.now ∷ []) 2) (answered refusal_of result) }
+        (look_from Little g.now (names_after path.now) 2) (answered refusal_of result) }
 {
-    let root = read_named(view, g, ROOT, buf)?;
-    let number = find_name(view, g, &root, name, buf)?;
-    let inode = read_named(view, g, number, buf)?;
+    let mut number = ROOT;
+    let mut rest = path;
+    while !rest.is_empty() {
+        let (name, after) = next_name(rest);
+        let inode = read_named(view, g, number, levels)?;
+        number = find_name(view, g, &inode, name, levels)?;
+        rest = after;
+    }
+    let inode = read_named(view, g, number, levels)?;
     Ok((number, inode))
+}
+
+/// The inode at a path of the volume with a geometry, with its number.
+pub fn look_below<V: View>(
+    view: &mut V,
+    g: &Geometry,
+    path: &[u8],
+    levels: &mut Levels,
+) -> Result<(u32, Inode), LookFault>
+    requires sound { V.is_sound view.old }
+    requires geometry { IsGeometryOn (V.size view.old) (V.count view.old) g.now }
+    requires levels { levels.old.fragment ≡ V.size view.old }
+    requires path { is_path path.now ≡ true }
+    ensures keeps { KeepsView V.stands_for V.tells V.is_gone V.count V.size V.is_sound V.goes_on view.old view.new }
+    ensures levels { levels.new.fragment ≡ levels.old.fragment }
+    ensures rule { ReadsAs (V.stands_for view.old) (V.is_gone view.old) (V.tells view.new) (V.is_gone view.new)
+        (look_from Little g.now (names_of path.now) 2) (answered refusal_of result) }
+{
+    follow_names(view, g, path_names(path), levels)
+}
+
+/// The inode at a path of the volume on a view, with its number. The buffers are for blocks of the
+/// view's size.
+pub fn look<V: View>(
+    view: &mut V,
+    levels: &mut Levels,
+    path: &[u8],
+) -> Result<(u32, Inode), LookFault>
+    requires sound { V.is_sound view.old }
+    requires levels { levels.old.fragment ≡ V.size view.old }
+    requires path { is_path path.now ≡ true }
+    ensures keeps { KeepsView V.stands_for V.tells V.is_gone V.count V.size V.is_sound V.goes_on view.old view.new }
+    ensures levels { levels.new.fragment ≡ levels.old.fragment }
+    ensures rule { ReadsAs (V.stands_for view.old) (V.is_gone view.old) (V.tells view.new) (V.is_gone view.new)
+        (look_of Little (V.size view.old) (V.count view.old) path.now) (answered refusal_of result) }
+{
+    let g = geometry(view, levels)?;
+    look_below(view, &g, path, levels)
 }

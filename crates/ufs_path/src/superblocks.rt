@@ -1,20 +1,19 @@
 // The superblock.
-ghost use Rattle.std.specs.Prelude.{◌≡◌, ◌+◌, ◌-◌, ◌*◌, ◌<◌, ◌≤◌, ◌++◌, length, replicate, take, Some, IfOk};
+ghost use Rattle.std.specs.Prelude.{◌≡◌, ◌+◌, ◌*◌, ◌<◌, ◌≤◌, length, Some, IfOk};
 ghost use Rattle.std.specs.Bool.{then_some};
-ghost use Rattle.std.specs.Int.{div_ceil};
 ghost use Rattle.dg_io.specs.Views.{KeepsView};
 ghost use Rattle.ufs_model.specs.Blocks.{area_of, area_within};
 ghost use Rattle.ufs_model.specs.Geometries.{IsGeometryOn};
 ghost use Rattle.ufs_model.specs.Paths.{or_bad_super, volume_geometry};
 ghost use Rattle.ufs_model.specs.Readings.{ReadsAs, answered};
-ghost use Rattle.ufs_model.specs.Superblocks.{geometry};
+ghost use Rattle.ufs_model.specs.Superblocks.{geometry as geometry_said};
 ghost use Rattle.ufs_model.specs.declared.numbers.Endian.TheVariants.{Little};
 ghost use Rattle.ufs_path.specs.Answers.{refusal_of};
 
-use crate::faults::ReadFault;
+use crate::faults::LookFault;
 use dg_io::View;
-use ufs_model::{BadRead, Geometry, PathRefusal};
-use ufs_pointer::read_area;
+use ufs_model::{BadRead, Geometry};
+use ufs_pointer::Levels;
 use ufs_super::read_super;
 
 /// The first byte of the superblock (`SBOFF`), and its bytes (`struct fs`).
@@ -22,91 +21,72 @@ const SUPERBLOCK: u32 = 8192;
 
 const SUPERBLOCK_BYTES: u32 = 1376;
 
-/// Makes the buffer's bytes from one on zeros.
-fn clear_from(buf: &mut [u8], start: usize)
-    requires { start ≤ length buf.old }
-    ensures { buf.new ≡ take start buf.old ++ replicate (length buf.old - start) 0 }
-{
-    buf[start..].fill(0);
-}
-
 /// Reads `k` blocks from `a` on, which are inside the view where there are any, and answers whether
 /// it could.
-fn read_any<V: View>(view: &mut V, a: u32, k: u32, buf: &mut [u8]) -> bool
+fn read_any<V: View>(view: &mut V, a: u32, k: u32, levels: &mut Levels) -> bool
     requires sound { V.is_sound view.old }
     requires within { 0 < k → a + k ≤ V.count view.old }
-    requires room { length buf.old ≡ k * V.size view.old }
+    requires levels { levels.old.fragment ≡ V.size view.old }
+    requires few { k ≤ 8 }
     ensures keeps { KeepsView V.stands_for V.tells V.is_gone V.count V.size V.is_sound V.goes_on view.old view.new }
-    ensures room { length buf.new ≡ length buf.old }
+    ensures levels { levels.new.fragment ≡ levels.old.fragment }
     ensures rule { ReadsAs (V.stands_for view.old) (V.is_gone view.old) (V.tells view.new) (V.is_gone view.new)
-        (area_of (V.size view.old) a k) (then_some result buf.new) }
+        (area_of (V.size view.old) a k) (then_some result levels.new.block) }
+    ensures room { length levels.new.block ≡ k * V.size view.old }
 {
     if k == 0 {
+        levels.clear(0);
         return true;
     }
-    read_area(view, a, k, buf)
+    levels.read_block(view, a, k)
 }
 
 /// Reads `k` blocks from `a` on, of which those past the last block are zeros, and answers whether
 /// it could.
-fn read_within<V: View>(view: &mut V, a: u32, k: u32, buf: &mut [u8]) -> bool
+fn read_within<V: View>(view: &mut V, a: u32, k: u32, levels: &mut Levels) -> bool
     requires sound { V.is_sound view.old }
-    requires room { length buf.old ≡ k * V.size view.old }
+    requires levels { levels.old.fragment ≡ V.size view.old }
+    requires few { k ≤ 8 }
     ensures keeps { KeepsView V.stands_for V.tells V.is_gone V.count V.size V.is_sound V.goes_on view.old view.new }
-    ensures room { length buf.new ≡ length buf.old }
+    ensures levels { levels.new.fragment ≡ levels.old.fragment }
     ensures rule { ReadsAs (V.stands_for view.old) (V.is_gone view.old) (V.tells view.new) (V.is_gone view.new)
-        (area_within (V.size view.old) (V.count view.old) a k) (then_some result buf.new) }
+        (area_within (V.size view.old) (V.count view.old) a k) (then_some result levels.new.block) }
+    ensures room { length levels.new.block ≡ k * V.size view.old }
 {
-    let (l, n) = view.shape();
+    let (_, n) = view.shape();
     let inside = k.min(n.saturating_sub(a));
-    let bytes = inside as usize * l as usize;
-    clear_from(buf, bytes);
-    read_any(view, a, inside, &mut buf[..bytes])
+    let got = read_any(view, a, inside, levels);
+    levels.pad(inside, k);
+    got
 }
 
 /// The geometry in the bytes of a superblock, for a volume on `n` blocks of `l` bytes.
-fn geometry_in(bytes: &[u8], l: u32, n: u32) -> Result<Geometry, ReadFault>
+fn geometry_in(bytes: &[u8], l: u32, n: u32) -> Result<Geometry, LookFault>
     requires { 1376 ≤ length bytes.now }
-    ensures value { answered refusal_of result ≡ Some (or_bad_super (geometry bytes.now l n)) }
+    ensures value { answered refusal_of result ≡ Some (or_bad_super (geometry_said bytes.now l n)) }
     ensures ok { IfOk result (λ g. IsGeometryOn l n g) }
 {
     match read_super(bytes, l, n) {
         Ok(g) => Ok(g),
-        Err(kind) => Err(ReadFault::Refused(PathRefusal::Bad(BadRead::Super(kind)))),
+        Err(kind) => Err(LookFault::Bad(BadRead::Super(kind))),
     }
 }
 
-/// Reads the superblock to a buffer of the blocks that it is in.
-#[tactic(auto, using(crate::proofs::SuperLaws::geometry_read, crate::proofs::SuperLaws::geometry_unread))]
-fn read_superblock<V: View>(view: &mut V, l: u32, buf: &mut [u8]) -> Result<Geometry, ReadFault>
+/// The geometry of the volume on a view. The buffers are for blocks of the view's size.
+#[tactic(auto, using(crate::proofs::SuperLaws::geometry_read, crate::proofs::SuperLaws::geometry_unread, crate::proofs::SuperLaws::superblock_fits))]
+pub fn geometry<V: View>(view: &mut V, levels: &mut Levels) -> Result<Geometry, LookFault>
     requires sound { V.is_sound view.old }
-    requires size { (l ≡ V.size view.old) × (512 ≤ l) }
-    requires room { length buf.old ≡ div_ceil 1376 l * l }
+    requires levels { levels.old.fragment ≡ V.size view.old }
     ensures keeps { KeepsView V.stands_for V.tells V.is_gone V.count V.size V.is_sound V.goes_on view.old view.new }
-    ensures room { length buf.new ≡ length buf.old }
+    ensures levels { levels.new.fragment ≡ levels.old.fragment }
     ensures rule { ReadsAs (V.stands_for view.old) (V.is_gone view.old) (V.tells view.new) (V.is_gone view.new)
         (volume_geometry Little (V.size view.old) (V.count view.old)) (answered refusal_of result) }
     ensures ok { IfOk result (λ g. IsGeometryOn (V.size view.old) (V.count view.old) g) }
 {
+    let l = levels.fragment_bytes();
     let (_, n) = view.shape();
-    if !read_within(view, SUPERBLOCK / l, SUPERBLOCK_BYTES.div_ceil(l), buf) {
-        return Err(ReadFault::Unavailable);
+    if !read_within(view, SUPERBLOCK / l, SUPERBLOCK_BYTES.div_ceil(l), levels) {
+        return Err(LookFault::Unavailable);
     }
-    geometry_in(buf, l, n)
-}
-
-/// The geometry of the volume.
-pub fn read_geometry<V: View>(view: &mut V, buf: &mut [u8]) -> Result<Geometry, ReadFault>
-    requires sound { V.is_sound view.old }
-    requires size { 512 ≤ V.size view.old }
-    requires room { length buf.old ≡ 8 * V.size view.old }
-    ensures keeps { KeepsView V.stands_for V.tells V.is_gone V.count V.size V.is_sound V.goes_on view.old view.new }
-    ensures room { length buf.new ≡ length buf.old }
-    ensures rule { ReadsAs (V.stands_for view.old) (V.is_gone view.old) (V.tells view.new) (V.is_gone view.new)
-        (volume_geometry Little (V.size view.old) (V.count view.old)) (answered refusal_of result) }
-    ensures ok { IfOk result (λ g. IsGeometryOn (V.size view.old) (V.count view.old) g) }
-{
-    let (l, _) = view.shape();
-    let bytes = SUPERBLOCK_BYTES.div_ceil(l) as usize * l as usize;
-    read_superblock(view, l, &mut buf[..bytes])
+    geometry_in(levels.block(), l, n)
 }

@@ -1,6 +1,6 @@
-ghost use Rattle.std.specs.Prelude.{◌≡◌, IfOk, length};
+ghost use Rattle.std.specs.Prelude.{◌≡◌, ◌+◌, ◌≤◌, IfOk, length};
 
-use crate::{BadRead, BadSuper, CatAnswer, Levels, cat, is_one_name};
+use crate::{BadRead, BadSuper, CatAnswer, Inode, Levels, LookFault, cat, geometry, is_path, look};
 use dg_io::{Loss, MemSink, MemView};
 use std::alloc::Global;
 use std::test::Fail;
@@ -30,11 +30,64 @@ fn read(
     let mut view = MemView::new(image, 1024, 128, vec![in alloc; loss]?);
     let mut levels = Levels::new(alloc, 1024)?;
     let mut out = MemSink::new(alloc, room, Vec::new(alloc))?;
-    if !is_one_name(path) {
+    if !is_path(path) {
         return Err("path".into());
     }
     let answer = cat(&mut view, &mut levels, path, &mut out);
     Ok((answer, Vec::from_slice(alloc, out.taken())?))
+}
+
+/// What a path leads to on a volume that loses a block.
+fn found(
+    alloc: Global,
+    image: Vec<u8>,
+    path: &[u8],
+    loss: Loss,
+) -> Result<Result<(u32, Inode), LookFault>, Fail>
+    requires { length image.items ≡ 131072 }
+{
+    let mut view = MemView::new(image, 1024, 128, vec![in alloc; loss]?);
+    let mut levels = Levels::new(alloc, 1024)?;
+    if !is_path(path) {
+        return Err("path".into());
+    }
+    Ok(look(&mut view, &mut levels, path))
+}
+
+/// Writes bytes at a place.
+fn put(image: &mut [u8], at: usize, bytes: &[u8])
+    requires { at + length bytes.now ≤ length image.old }
+    ensures { length image.new ≡ length image.old }
+{
+    image[at..at + bytes.len()].copy_from_slice(bytes);
+}
+
+/// Gives inode 3 the slots of inode 5, and so many bytes. Inode 2 stands at byte 28 * 1024 + 256.
+fn lengthen(image: &mut [u8], size: u64)
+    requires { length image.old ≡ 131072 }
+    ensures { length image.new ≡ length image.old }
+{
+    let mut inode = [0; 128];
+    inode.copy_from_slice(&image[29_312..29_440]);
+    put(image, 29_056, &inode);
+    put(image, 29_064, &size.to_le_bytes());
+}
+
+/// The volume F, on which `/a` has the slots of `/d/b`, and so many bytes.
+fn long_image(alloc: Global, size: u64) -> Result<Vec<u8>, Fail>
+    ensures { IfOk result (λ image. length image.items ≡ 131072) }
+{
+    let mut image = image(alloc, Which::F)?;
+    lengthen(&mut image, size);
+    Ok(image)
+}
+
+/// Whether bytes are those of the long file, each of which tells its fragment.
+fn is_long(bytes: &[u8]) -> bool {
+    bytes
+        .iter()
+        .enumerate()
+        .all(|(at, byte)| *byte as usize == 1 + at / 1024)
 }
 
 /// Nothing that a file needs.
@@ -123,5 +176,98 @@ fn a_receiver_that_fails(rt: HostRuntime) -> Result<(), Fail> {
     let (answer, bytes) = read(alloc, image(alloc, Which::X)?, b"/p", NOTHING, 10000)?;
     assert_eq!(rt; answer, CatAnswer::SinkFault);
     assert!(rt; bytes.len() == 8192);
+    Ok(())
+}
+
+/// Twelve file blocks stand at direct slots, and the thirteenth is found through the blocks 84 to 87.
+#[test]
+fn files_past_their_direct_blocks(rt: HostRuntime) -> Result<(), Fail> {
+    let alloc = rt.alloc();
+    let (answer, bytes) = read(alloc, long_image(alloc, 53_248)?, b"/a", NOTHING, 65536)?;
+    assert_eq!(rt; answer, CatAnswer::Given(53_248));
+    assert!(rt; bytes.len() == 53_248 && is_long(&bytes));
+
+    let (answer, bytes) = read(alloc, long_image(alloc, 49_153)?, b"/a", NOTHING, 65536)?;
+    assert_eq!(rt; answer, CatAnswer::Given(49_153));
+    assert!(rt; bytes.len() == 49_153 && is_long(&bytes));
+
+    let loss = Loss {
+        block: 84,
+        fetch: 0,
+    };
+    let (answer, bytes) = read(alloc, long_image(alloc, 53_248)?, b"/a", loss, 65536)?;
+    assert_eq!(rt; answer, CatAnswer::Unavailable);
+    assert!(rt; bytes.is_empty());
+
+    let (answer, bytes) = read(alloc, long_image(alloc, 1 << 32)?, b"/a", NOTHING, 65536)?;
+    assert_eq!(rt; answer, CatAnswer::Bad(BadRead::Filesize));
+    assert!(rt; bytes.is_empty());
+    Ok(())
+}
+
+#[test]
+fn paths_of_several_names(rt: HostRuntime) -> Result<(), Fail> {
+    let alloc = rt.alloc();
+    let (answer, bytes) = read(alloc, image(alloc, Which::F)?, b"/d/b", NOTHING, 65536)?;
+    assert_eq!(rt; answer, CatAnswer::Given(53_248));
+    assert!(rt; bytes.len() == 53_248 && is_long(&bytes));
+    for (path, wanted) in [
+        (b"/d/x".as_slice(), CatAnswer::NotFound),
+        (b"/a/x".as_slice(), CatAnswer::NotDirectory),
+        (b"/d".as_slice(), CatAnswer::NotRegular),
+        (b"/".as_slice(), CatAnswer::NotRegular),
+    ] {
+        let (answer, bytes) = read(alloc, image(alloc, Which::F)?, path, NOTHING, 65536)?;
+        assert_eq!(rt; answer, wanted);
+        assert!(rt; bytes.is_empty());
+    }
+    Ok(())
+}
+
+#[test]
+fn inodes_at_paths(rt: HostRuntime) -> Result<(), Fail> {
+    let alloc = rt.alloc();
+    for (path, wanted, size) in [
+        (b"/".as_slice(), 2, 512),
+        (b"/a".as_slice(), 3, 5),
+        (b"/d/b".as_slice(), 5, 53_248),
+    ] {
+        match found(alloc, image(alloc, Which::F)?, path, NOTHING)? {
+            Ok((number, inode)) => {
+                assert_eq!(rt; number, wanted);
+                assert_eq!(rt; inode.size, size);
+            }
+            Err(_) => return Err("look".into()),
+        }
+    }
+    for (path, wanted) in [
+        (b"/d/x".as_slice(), LookFault::NotFound),
+        (b"/a/x".as_slice(), LookFault::NotDirectory),
+    ] {
+        match found(alloc, image(alloc, Which::F)?, path, NOTHING)? {
+            Ok(_) => return Err("look".into()),
+            Err(fault) => assert_eq!(rt; fault, wanted),
+        }
+    }
+
+    // The directory `/d` stands in block 35.
+    let loss = Loss {
+        block: 35,
+        fetch: 0,
+    };
+    let gone = found(alloc, image(alloc, Which::F)?, b"/d/b", loss)?;
+    assert!(rt; gone.is_err_and(|fault| fault == LookFault::Unavailable));
+    Ok(())
+}
+
+#[test]
+fn the_geometry_of_a_volume(rt: HostRuntime) -> Result<(), Fail> {
+    let alloc = rt.alloc();
+    let mut view = MemView::new(image(alloc, Which::F)?, 1024, 128, Vec::new(alloc));
+    let mut levels = Levels::new(alloc, 1024)?;
+    match geometry(&mut view, &mut levels) {
+        Ok(g) => assert!(rt; g.bsize == 4096 && g.size == 128),
+        Err(_) => return Err("geometry".into()),
+    }
     Ok(())
 }

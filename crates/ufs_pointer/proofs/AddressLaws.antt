@@ -9,7 +9,7 @@ use Rattle.ufs_model.specs.Roles.{is_data_of, role}
 use Rattle.ufs_model.specs.declared.geometries.Geometry.{Geometry}
 use Rattle.ufs_model.specs.declared.pointers.Address.{Address}
 use Rattle.ufs_model.specs.declared.pointers.Address.TheVariants.{Hole, Wild, At}
-use Rattle.ufs_pointer.specs.Addresses.{IsInside, IsWhole}
+use Rattle.ufs_pointer.specs.Addresses.{HasSpan, IsInside, IsWhole}
 
 data_inside : (g : Geometry) (c b : ℕ) → is_data_of c (role g b) ≡ true → b < g.size
 unfolding role
@@ -35,3 +35,7 @@ address_inside g a k some most = address_cases (IsInside g) (a == 0) (is_data_ru
 pub address_whole : (g : Geometry) (a k : ℕ) → 1 ≤ k → k ≡ g.frag → IsWhole g (address g a k)
 unfolding address
 address_whole g a k some is = address_cases (IsWhole g) (a == 0) (is_data_run g a k) a k tt tt (λ run. (is, run_inside g a k some run))
+
+pub address_span : (g : Geometry) (a k : ℕ) → HasSpan k (address g a k)
+unfolding address
+address_span g a k = address_cases (HasSpan k) (a == 0) (is_data_run g a k) a k tt tt (λ run. refl)

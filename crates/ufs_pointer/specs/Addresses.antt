@@ -1,5 +1,5 @@
 -- What is answered for a file block.
-use Rattle.std.specs.Prelude.{◌≡◌, ◌+◌, ◌≤◌, Option, Some, None}
+use Rattle.std.specs.Prelude.{◌≡◌, ◌+◌, ◌≤◌, ℕ, Option, Some, None}
 use Rattle.ufs_model.specs.declared.geometries.Geometry.{Geometry}
 use Rattle.ufs_model.specs.declared.pointers.Address.{Address}
 use Rattle.ufs_model.specs.declared.pointers.Address.TheVariants.{Hole, Wild, At}
@@ -24,3 +24,9 @@ abbrev pub IsWhole : Geometry → Address → Type 0
 IsWhole g Hole = Unit {0}
 IsWhole g Wild = Unit {0}
 IsWhole g (At a k) = (k ≡ g.frag) × (a + k ≤ g.size)
+
+-- the fragments are so many
+abbrev pub HasSpan : ℕ → Address → Type 0
+HasSpan count Hole = Unit {0}
+HasSpan count Wild = Unit {0}
+HasSpan count (At a k) = k ≡ count

@@ -1,7 +1,8 @@
 ghost use Rattle.std.specs.Prelude.{◌≡◌, ◌≤◌};
 ghost use Rattle.ufs_model.specs.Geometries.{IsGeometry};
+ghost use Rattle.ufs_model.specs.Inodes.{span};
 ghost use Rattle.ufs_model.specs.Pointers.{address, slot_address};
-ghost use Rattle.ufs_pointer.specs.Addresses.{IsInside, IsWhole};
+ghost use Rattle.ufs_pointer.specs.Addresses.{HasSpan, IsInside, IsWhole};
 
 use ufs_inode::{Inode, slot_address, slot_of, span};
 use ufs_model::{Address, Geometry};
@@ -18,12 +19,13 @@ pub fn block_address(g: &Geometry, pointer: u32) -> Address
 }
 
 /// What a direct slot leads to.
-#[tactic(auto, using(crate::proofs::AddressLaws::address_inside))]
+#[tactic(auto, using(crate::proofs::AddressLaws::address_inside, crate::proofs::AddressLaws::address_span))]
 pub fn direct_address(g: &Geometry, inode: &Inode, slot: u8) -> Address
     requires geometry { IsGeometry g.now }
     requires slot { slot ≤ 11 }
     ensures value { result ≡ slot_address g.now inode.now slot }
     ensures inside { IsInside g.now result }
+    ensures span { HasSpan (span g.now inode.now slot) result }
 {
     address(g, slot_of(inode, slot), span(g, inode, slot))
 }

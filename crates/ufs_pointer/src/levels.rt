@@ -1,14 +1,15 @@
-ghost use Rattle.std.specs.Prelude.{◌≡◌, ◌+◌, ◌*◌, ◌^◌, ◌<◌, ◌≤◌, IfOk, IfSome, [], length, take};
+ghost use Rattle.std.specs.Prelude.{◌≡◌, ◌+◌, ◌-◌, ◌*◌, ◌^◌, ◌<◌, ◌≤◌, ◌++◌, IfOk, IfSome, [], length, replicate, take};
 ghost use Rattle.std.specs.Bool.{then_some};
 ghost use Rattle.dg_io.specs.Views.{KeepsView};
 ghost use Rattle.ufs_model.specs.Blocks.{area_of};
 ghost use Rattle.ufs_model.specs.Geometries.{IsGeometry, IsGeometryOn};
+ghost use Rattle.ufs_model.specs.Inodes.{block_span};
 ghost use Rattle.ufs_model.specs.Pointers.{chain_address, file_block_of};
 ghost use Rattle.ufs_model.specs.Readings.{ReadsAs};
 ghost use Rattle.ufs_model.specs.declared.numbers.Endian.TheVariants.{Little};
-ghost use Rattle.ufs_pointer.specs.Addresses.{IsInside, address_in};
+ghost use Rattle.ufs_pointer.specs.Addresses.{HasSpan, IsInside, address_in};
 ghost use Rattle.ufs_pointer.specs.Buffers.{Buffers};
-ghost use Rattle.ufs_pointer.specs.Chains.{IsChain};
+ghost use Rattle.ufs_pointer.specs.Chains.{IsChain, chain_span};
 ghost use Rattle.ufs_pointer.specs.Fetches.{Fetches};
 
 use crate::addresses::{direct_address, indirect_address};
@@ -32,13 +33,14 @@ const DOUBLE: u8 = 13;
 const TRIPLE: u8 = 14;
 
 /// The buffers of a reader of a volume: one for a block of each level of pointers, and one for a
-/// block of data. Each has room for eight fragments. Callers see the bytes of a fragment, and the
-/// block of data.
+/// block of data, each with room for eight fragments; and one for a fragment that is read while the
+/// block of data stays. Callers see the bytes of a fragment, the block of data, and that fragment.
 #[derive(Drop)]
 pub struct Levels {
     fragment: u32,
     filled: usize,
     bytes: Vec<u8>,
+    aside: Vec<u8>,
     single: Vec<u8>,
     double: Vec<u8>,
     triple: Vec<u8>,
@@ -47,11 +49,14 @@ pub struct Levels {
 impl Model for Levels {
     ghost Value = { Buffers };
 
-    ghost view = { λ s. record { fragment = s.fragment; block = take s.filled s.bytes.items } };
+    ghost view = { λ s. record { fragment = s.fragment; block = take s.filled s.bytes.items; aside = s.aside.items } };
 
     ghost invariant = { λ s. record {
+      least : 512 ≤ s.fragment;
+      most : s.fragment ≤ 65536;
       filled : s.filled ≤ length s.bytes.items;
       bytes : length s.bytes.items ≡ 8 * s.fragment;
+      aside : length s.aside.items ≡ s.fragment;
       single : length s.single.items ≡ 8 * s.fragment;
       double : length s.double.items ≡ 8 * s.fragment;
       triple : length s.triple.items ≡ 8 * s.fragment;
@@ -61,18 +66,28 @@ impl Model for Levels {
 impl Levels {
     /// The buffers for fragments of `l` bytes. It takes all their memory.
     pub fn new(alloc: Global, l: u32) -> Result<Levels, NoMemory>
-        requires { l ≤ 65536 }
+        requires { (512 ≤ l) × (l ≤ 65536) }
         ensures fragment { IfOk result (λ levels. levels.fragment ≡ l) }
         ensures block { IfOk result (λ levels. levels.block ≡ []) }
     {
         Ok(Levels {
             fragment: l,
             filled: 0,
-            bytes: zeros(alloc, l)?,
-            single: zeros(alloc, l)?,
-            double: zeros(alloc, l)?,
-            triple: zeros(alloc, l)?,
+            bytes: zeros(alloc, MOST_FRAGMENTS, l)?,
+            aside: zeros(alloc, 1, l)?,
+            single: zeros(alloc, MOST_FRAGMENTS, l)?,
+            double: zeros(alloc, MOST_FRAGMENTS, l)?,
+            triple: zeros(alloc, MOST_FRAGMENTS, l)?,
         })
+    }
+
+    /// The bytes of a fragment.
+    pub fn fragment_bytes(&self) -> u32
+        ensures value { result ≡ self.now.fragment }
+        ensures least { 512 ≤ result }
+        ensures most { result ≤ 65536 }
+    {
+        self.fragment
     }
 
     /// The block of data that was read last.
@@ -81,14 +96,21 @@ impl Levels {
     {
         &self.bytes[..self.filled]
     }
+
+    /// The fragment that was read last beside the block of data.
+    pub fn aside(&self) -> &[u8]
+        ensures { result.now ≡ self.now.aside }
+    {
+        &self.aside
+    }
 }
 
-/// Room for a block of eight fragments of `l` bytes.
-fn zeros(alloc: Global, l: u32) -> Result<Vec<u8>, NoMemory>
-    requires { l ≤ 65536 }
-    ensures { IfOk result (λ bytes. length bytes.items ≡ 8 * l) }
+/// Room for `k` fragments of `l` bytes.
+fn zeros(alloc: Global, k: usize, l: u32) -> Result<Vec<u8>, NoMemory>
+    requires { (k ≤ 8) × (l ≤ 65536) }
+    ensures { IfOk result (λ bytes. length bytes.items ≡ k * l) }
 {
-    match vec![in alloc; 0; MOST_FRAGMENTS * l as usize] {
+    match vec![in alloc; 0; k * l as usize] {
         Ok(bytes) => Ok(bytes),
         Err(_) => Err(NoMemory),
     }
@@ -110,6 +132,15 @@ fn block_bytes(g: &Geometry) -> usize
     ensures fits { result ≤ 8 * g.now.fsize }
 {
     area_bytes(g.frag, g.fsize)
+}
+
+/// Makes the bytes of a buffer from one on up to another zeros.
+fn clear_range(buf: &mut [u8], start: usize, end: usize)
+    requires { (start ≤ end) × (end ≤ length buf.old) }
+    ensures value { take end buf.new ≡ take start buf.old ++ replicate (end - start) 0 }
+    ensures room { length buf.new ≡ length buf.old }
+{
+    buf[start..end].fill(0);
 }
 
 /// Reads `k` fragments of data from `a` on into the front of a buffer, which has so many bytes.
@@ -138,6 +169,7 @@ impl Levels {
         requires fragment { self.old.fragment ≡ V.size view.old }
         ensures keeps { KeepsView V.stands_for V.tells V.is_gone V.count V.size V.is_sound V.goes_on view.old view.new }
         ensures fragment { self.new.fragment ≡ self.old.fragment }
+        ensures aside { self.new.aside ≡ self.old.aside }
         ensures room { length self.new.block ≡ k * V.size view.old }
         ensures rule { ReadsAs (V.stands_for view.old) (V.is_gone view.old) (V.tells view.new) (V.is_gone view.new)
             (area_of (V.size view.old) a k) (then_some result self.new.block) }
@@ -146,6 +178,49 @@ impl Levels {
     {
         self.filled = area_bytes(k, self.fragment);
         read_front(view, a, k, self.filled, &mut self.bytes)
+    }
+
+    /// Reads fragment `a` beside the block of data, which stays, and answers whether it could. Where it
+    /// is gone, the fragment beside the block has any bytes.
+    pub fn read_aside<V: View>(&mut self, view: &mut V, a: u32) -> bool
+        requires sound { V.is_sound view.old }
+        requires within { a < V.count view.old }
+        requires fragment { self.old.fragment ≡ V.size view.old }
+        ensures keeps { KeepsView V.stands_for V.tells V.is_gone V.count V.size V.is_sound V.goes_on view.old view.new }
+        ensures fragment { self.new.fragment ≡ self.old.fragment }
+        ensures block { self.new.block ≡ self.old.block }
+        ensures room { length self.new.aside ≡ V.size view.old }
+        ensures rule { ReadsAs (V.stands_for view.old) (V.is_gone view.old) (V.tells view.new) (V.is_gone view.new)
+            (area_of (V.size view.old) a 1) (then_some result self.new.aside) }
+        ensures fetched { Fetches V.fetched (V.stands_for view.old) (V.tells view.new)
+            (area_of (V.size view.old) a 1) (then_some result self.new.aside) view.old view.new }
+    {
+        read_area(view, a, 1, &mut self.aside)
+    }
+
+    /// Puts zeros after the block of data, which has `inside` fragments, so that it has `k`.
+    pub fn pad(&mut self, inside: u32, k: u32)
+        requires order { inside ≤ k }
+        requires most { k ≤ 8 }
+        requires inside { length self.old.block ≡ inside * self.old.fragment }
+        ensures fragment { self.new.fragment ≡ self.old.fragment }
+        ensures aside { self.new.aside ≡ self.old.aside }
+        ensures block { self.new.block ≡ self.old.block ++ replicate ((k - inside) * self.old.fragment) 0 }
+    {
+        let end = area_bytes(k, self.fragment);
+        clear_range(&mut self.bytes, self.filled, end);
+        self.filled = end;
+    }
+
+    /// Makes the block of data `k` fragments of zeros.
+    pub fn clear(&mut self, k: u32)
+        requires { k ≤ 8 }
+        ensures fragment { self.new.fragment ≡ self.old.fragment }
+        ensures aside { self.new.aside ≡ self.old.aside }
+        ensures block { self.new.block ≡ replicate (k * self.old.fragment) 0 }
+    {
+        self.filled = 0;
+        self.pad(0, k);
     }
 
     /// What a chain leads to, by the slots of the inode and through indirect blocks. There is no answer
@@ -164,6 +239,7 @@ impl Levels {
         ensures keeps { KeepsView V.stands_for V.tells V.is_gone V.count V.size V.is_sound V.goes_on view.old view.new }
         ensures buffers { self.new ≡ self.old }
         ensures inside { IfSome result (IsInside g.now) }
+        ensures span { IfSome result (HasSpan (chain_span g.now inode.now chain)) }
         ensures rule { ReadsAs (V.stands_for view.old) (V.is_gone view.old) (V.tells view.new) (V.is_gone view.new)
             (chain_address Little g.now inode.now chain) result }
         ensures fetched { Fetches V.fetched (V.stands_for view.old) (V.tells view.new)
@@ -192,7 +268,7 @@ impl Levels {
 }
 
 /// The address of file block `n` of an inode, by the first trouble on the chain. It takes no memory.
-#[tactic(auto, unfolding(ufs_model::specs::Pointers::file_block_of))]
+#[tactic(auto, using(crate::proofs::ChainLaws::block_chain), unfolding(ufs_model::specs::Pointers::file_block_of))]
 pub fn file_block<V: View>(
     view: &mut V,
     g: &Geometry,
@@ -207,6 +283,7 @@ pub fn file_block<V: View>(
     ensures keeps { KeepsView V.stands_for V.tells V.is_gone V.count V.size V.is_sound V.goes_on view.old view.new }
     ensures buffers { levels.new ≡ levels.old }
     ensures inside { IfSome (address_in result) (IsInside g.now) }
+    ensures span { IfSome (address_in result) (HasSpan (block_span g.now inode.now n)) }
     ensures rule { ReadsAs (V.stands_for view.old) (V.is_gone view.old) (V.tells view.new) (V.is_gone view.new)
         (file_block_of Little g.now inode.now n) (address_in result) }
     ensures fetched { Fetches V.fetched (V.stands_for view.old) (V.tells view.new)

@@ -8,17 +8,17 @@ use Rattle.ufs_path.proofs.cats.cat_below.Goals as goal
 
 pub returns-in-Ok-clause-rule : goal.returns-in-Ok-clause-rule
 returns-in-Ok-clause-rule g c =
-    let looked = c.look_up.ensures.keeps in
+    let looked = c.look_below.ensures.keeps in
     cat_map g.O.Pieces.took g.O.Pieces.took_part g.O.Pieces.faults c.args.out.now c.hand_file.new.out
-    {one = (ReadsAs (g.V.View.stands_for c.look_up.new.view) (g.V.View.is_gone c.look_up.new.view) (g.V.View.tells c.hand_file.new.view) (g.V.View.is_gone c.hand_file.new.view) (contents_of Little c.args.g.now c.in-Ok.inode))}
-    {two = (ReadsAs (g.V.View.stands_for c.args.view.now) (g.V.View.is_gone c.args.view.now) (g.V.View.tells c.hand_file.new.view) (g.V.View.is_gone c.hand_file.new.view) (cat_below Little c.args.name.now c.args.g.now))}
+    {one = (ReadsAs (g.V.View.stands_for c.look_below.new.view) (g.V.View.is_gone c.look_below.new.view) (g.V.View.tells c.hand_file.new.view) (g.V.View.is_gone c.hand_file.new.view) (contents_of Little c.args.g.now c.in-Ok.inode))}
+    {two = (ReadsAs (g.V.View.stands_for c.args.view.now) (g.V.View.is_gone c.args.view.now) (g.V.View.tells c.hand_file.new.view) (g.V.View.is_gone c.hand_file.new.view) (cat_below Little c.args.path.now c.args.g.now))}
     c.hand_file.result
-    (λ r reads. below_read c.args.g.now c.args.name.now _ c.in-Ok.inode r looked.stays looked.stands c.hand_file.ensures.keeps.told c.in-Ok.ensures.rule reads)
+    (λ r reads. below_read c.args.g.now c.args.path.now _ c.in-Ok.inode r looked.stays looked.stands c.hand_file.ensures.keeps.told c.in-Ok.ensures.rule reads)
     c.hand_file.ensures.rule
 
 pub returns-in-Err-clause-rule : goal.returns-in-Err-clause-rule
 returns-in-Err-clause-rule g c =
     rw c.refused_answer.ensures
     (cat_refused g.O.Pieces.took g.O.Pieces.took_part g.O.Pieces.faults c.args.out.now c.args.out.now
-    (ReadsAs (g.V.View.stands_for c.args.view.now) (g.V.View.is_gone c.args.view.now) (g.V.View.tells c.look_up.new.view) (g.V.View.is_gone c.look_up.new.view) (cat_below Little c.args.name.now c.args.g.now))
-    c.in-Err.fault refl (below_unread c.args.g.now c.args.name.now c.in-Err.fault c.look_up.ensures.keeps.stays c.in-Err.ensures.rule))
+    (ReadsAs (g.V.View.stands_for c.args.view.now) (g.V.View.is_gone c.args.view.now) (g.V.View.tells c.look_below.new.view) (g.V.View.is_gone c.look_below.new.view) (cat_below Little c.args.path.now c.args.g.now))
+    c.in-Err.fault refl (below_unread c.args.g.now c.args.path.now c.in-Err.fault c.look_below.ensures.keeps.stays c.in-Err.ensures.rule))

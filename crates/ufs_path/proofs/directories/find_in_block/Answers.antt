@@ -1,14 +1,14 @@
 use Rattle.ufs_path.proofs.DirectoryLaws.{block_unread, found_in, not_in_hole}
 use Rattle.ufs_path.proofs.directories.find_in_block.Goals as goal
 
-pub returns-in-Ok-Some-clause-rule : goal.returns-in-Ok-Some-clause-rule
-returns-in-Ok-Some-clause-rule g c =
-    found_in c.args.g.now c.args.inode.now c.args.name.now c.args.n _ _ _ c.read_block.ensures.keeps.stays
-    (rw c.bytes_in_block-chunks.ensures.value at c.find_through.ensures) c.or_bad_chunk.ensures (rw c.in-Ok-Some.field-0-is at c.in-Ok-Some.ensures.rule)
+pub returns-in-Ok-Data-clause-rule : goal.returns-in-Ok-Data-clause-rule
+returns-in-Ok-Data-clause-rule g c =
+    found_in c.args.g.now c.args.inode.now c.args.name.now c.args.n c.read_block.new.levels.block _ _ c.read_block.ensures.keeps.stays
+    (rw (c.bytes_in_block-chunks.ensures.value, c.block.ensures) at c.find_through.ensures) c.or_bad_chunk.ensures (rw c.in-Ok-Data.field-0-is at c.in-Ok-Data.ensures.rule)
 
-pub returns-in-Ok-None-clause-rule : goal.returns-in-Ok-None-clause-rule
-returns-in-Ok-None-clause-rule g c =
-    not_in_hole c.args.g.now c.args.inode.now c.args.name.now c.args.n c.read_block.ensures.keeps.stays (rw c.in-Ok-None.field-0-is at c.in-Ok-None.ensures.rule)
+pub returns-in-Ok-Hole-clause-rule : goal.returns-in-Ok-Hole-clause-rule
+returns-in-Ok-Hole-clause-rule g c =
+    not_in_hole c.args.g.now c.args.inode.now c.args.name.now c.args.n c.read_block.ensures.keeps.stays (rw c.in-Ok-Hole.field-0-is at c.in-Ok-Hole.ensures.rule)
 
 pub returns-in-Err-clause-rule : goal.returns-in-Err-clause-rule
 returns-in-Err-clause-rule g c =

@@ -24,7 +24,7 @@ returns-in-Err-clause-rule g c =
 pub loop-n-preserved : goal.loop-n-preserved
 loop-n-preserved g c = let so_far = c.loop-n.invariant.keeps in record {
   keeps = keeps_both g.met.V.View.further c.args.view.now c.loop-n.view c.find_in_block.new.view so_far c.find_in_block.ensures.keeps;
-  room = c.find_in_block.ensures.room ∙ c.loop-n.invariant.room;
+  levels = c.find_in_block.ensures.levels ∙ c.loop-n.invariant.levels;
   rest = rw add-one (goes_on _ None c.find_in_block.ensures.keeps.stays so_far.stands c.find_in_block.ensures.keeps.told
       (next_block c.args.g.now c.args.inode.now c.args.name.now c.loop-n.n c.args.count c.loop-n-test.true c.loop-n.invariant.rest)
       (rw c.in-Ok-None.field-0-is at c.in-Ok-None.ensures.rule));

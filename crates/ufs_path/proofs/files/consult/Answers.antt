@@ -6,7 +6,7 @@ use Rattle.ufs_path.proofs.files.consult.Goals as goal
 pub loop-n-init : goal.loop-n-init
 loop-n-init g c = record {
   keeps = keeps_same c.args.view.now c.requires.sound (g.met.V.View.unchanged c.args.view.now);
-  room = c.requires.room;
+  levels = c.requires.levels;
   reads = ([], front_none _ _ _ _ c.args.g.now c.args.inode.now);
 }
 
@@ -22,9 +22,9 @@ loop-n-preserved g c =
     let so_far = c.loop-n.invariant.keeps in
     let part = c.read_part.ensures.keeps in record {
       keeps = keeps_both g.met.V.View.further c.args.view.now c.loop-n.view c.read_part.new.view so_far part;
-      room = c.read_part.ensures.room ∙ c.loop-n.invariant.room;
+      levels = c.read_part.ensures.levels ∙ c.loop-n.invariant.levels;
       reads = (
-        c.loop-n.invariant.reads.0 ++ take c.in-Ok.field-0 c.read_part.new.buf,
+        c.loop-n.invariant.reads.0 ++ take c.in-Ok.field-0 c.read_part.new.levels.block,
         rw add-one (front_more c.args.g.now c.args.inode.now c.loop-n.n _ _ so_far.stays part.stays so_far.stands part.told (c.loop-n.invariant.reads.1) c.in-Ok.ensures.rule),
       );
     }

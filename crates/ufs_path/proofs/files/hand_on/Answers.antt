@@ -1,15 +1,16 @@
-use Rattle.std.proofs.Common.{◌++◌, ◌∙◌, [], suc, refl, add-one, arith}
+use Rattle.std.proofs.Common.{◌++◌, ◌∙◌, ◌+◌, ◌*◌, [], suc, min, ap, refl, add-one, arith}
 use Rattle.std.proofs.lemmas.List.{length-append}
 use Rattle.dg_io.specs.ViewLaws.{keeps_both, keeps_same}
 use Rattle.ufs_path.proofs.FileLaws.{front_fails, front_fails_whole, front_more, front_none, later_still}
+use Rattle.ufs_path.proofs.Sizes.{bytes_through}
 use Rattle.ufs_path.proofs.files.hand_on.Goals as goal
 
 pub loop-n-init : goal.loop-n-init
 loop-n-init g c = record {
   keeps = keeps_same c.args.view.now c.requires.sound (g.met.V.View.unchanged c.args.view.now);
-  room = c.requires.room;
+  levels = c.requires.levels;
   later = omega arith;
-  small = omega arith;
+  given = omega arith;
   handed = ([], refl, g.met.O.Pieces.nothing c.args.out.now, front_none _ _ _ _ c.args.g.now c.args.inode.now);
 }
 
@@ -51,11 +52,11 @@ loop-n-preserved g c =
     let part = c.hand_part.ensures.keeps in
     let handed = c.loop-n.invariant.handed in
     let all = c.in-All.ensures.rule in
-    let small = all.4 in record {
+    record {
       keeps = keeps_both g.met.V.View.further c.args.view.now c.loop-n.view c.hand_part.new.view so_far part;
-      room = c.hand_part.ensures.room ∙ c.loop-n.invariant.room;
+      levels = c.hand_part.ensures.levels ∙ c.loop-n.invariant.levels;
       later = let before = c.hand_part.ensures.later in omega arith;
-      small = omega arith;
+      given = ap (λ n. n + c.in-All.bytes) c.loop-n.invariant.given ∙ ap (λ n. min (c.loop-n.n * c.args.g.now.bsize) c.args.inode.now.size + n) c.in-All.ensures.count ∙ bytes_through c.args.g.now c.args.inode.now c.loop-n.n;
       handed = (
         handed.0 ++ all.0,
         (let a = handed.1 in let b = all.1 in let e = length-append (handed.0) (all.0) in omega arith),
