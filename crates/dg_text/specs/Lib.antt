@@ -1,3 +1,5 @@
+pub mod EntryLineLaws
+pub mod EntryLines
 pub mod HexLineLaws
 pub mod HexLines
 pub mod Lines

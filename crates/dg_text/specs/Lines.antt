@@ -8,8 +8,8 @@ use Rattle.hex.specs.Hex.{encode_lower}
 use Rattle.dg_model.specs.Shapes.{IsShape}
 use Rattle.dg_model.specs.declared.shapes.Shape.{Shape}
 use Rattle.dg_model.specs.declared.events.Event.{Event}
-use Rattle.dg_model.specs.declared.events.Event.TheVariants.{Array, Write, Read, Fail, Cat}
-use Rattle.ufs_model.specs.Paths.{is_one_name}
+use Rattle.dg_model.specs.declared.events.Event.TheVariants.{Array, Write, Read, Fail, Cat, Ls}
+use Rattle.ufs_model.specs.Paths.{is_path}
 
 -- bytes as a word
 abbrev pub hex_word : List ℕ → List ℕ
@@ -39,6 +39,7 @@ spelling (Write b bytes) = codes "write " ++ (decimal b ++ (codes " " ++ hex_wor
 spelling (Read b) = codes "read " ++ decimal b
 spelling (Fail s j) = codes "fail " ++ (decimal s ++ (codes " " ++ decimal j))
 spelling (Cat path) = codes "cat " ++ path_word path
+spelling (Ls path) = codes "ls " ++ path_word path
 
 -- its line
 abbrev pub line_of : Event → List ℕ
@@ -59,11 +60,13 @@ IsInPlace None (Write b bytes) = ⊥
 IsInPlace None (Read b) = ⊥
 IsInPlace None (Fail s j) = ⊥
 IsInPlace None (Cat path) = ⊥
+IsInPlace None (Ls path) = ⊥
 IsInPlace (Some shape) (Array s) = ⊥
 IsInPlace (Some shape) (Write b bytes) = (b < 2 ^ 32) × (length bytes ≤ shape.l) × AreBytes bytes
 IsInPlace (Some shape) (Read b) = b < 2 ^ 32
 IsInPlace (Some shape) (Fail s j) = (s < 2 ^ 32) × (j < 2 ^ 32)
-IsInPlace (Some shape) (Cat path) = (is_one_name path ≡ true) × AreBytes path
+IsInPlace (Some shape) (Cat path) = (is_path path ≡ true) × AreBytes path
+IsInPlace (Some shape) (Ls path) = (is_path path ≡ true) × AreBytes path
 
 -- the events of an input are in their places: the first makes an array, and the others follow it
 abbrev pub AreInPlace : List Event → Type 0
@@ -73,6 +76,7 @@ AreInPlace (Write b bytes ∷ events) = ⊥
 AreInPlace (Read b ∷ events) = ⊥
 AreInPlace (Fail s j ∷ events) = ⊥
 AreInPlace (Cat path ∷ events) = ⊥
+AreInPlace (Ls path ∷ events) = ⊥
 
 -- a bound on the bytes of a line, with its LF: a block as hex and 4201 more. Before the array a block counts as 512 bytes
 abbrev pub longest : Option Shape → ℕ

@@ -2,6 +2,7 @@
 //! in its place is refused.
 #![tactic(auto)]
 
+mod entry_lines;
 mod hex_lines;
 mod hex_words;
 mod lines;
@@ -11,6 +12,7 @@ mod replies;
 mod tests;
 mod words;
 
+pub use entry_lines::EntryLines;
 pub use hex_lines::HexLines;
 pub use lines::{BadLine, longest_line, read_line};
 pub use replies::{write_data, write_refusal, write_reply, write_usage};

@@ -69,6 +69,9 @@ fn event_of(alloc: Global, line: &[u8], shape: Option<&Shape>) -> Result<Option<
     if let Some(rest) = after_word(line, b"cat ") {
         return cat_of(alloc, rest);
     }
+    if let Some(rest) = after_word(line, b"ls ") {
+        return ls_of(alloc, rest);
+    }
     Ok(read_of(line))
 }
 
@@ -134,11 +137,23 @@ fn cat_of(alloc: Global, word: &[u8]) -> Result<Option<Event>, NoMemory>
     }
 }
 
+// The listing of a directory whose path the word behind `ls ` spells.
+fn ls_of(alloc: Global, word: &[u8]) -> Result<Option<Event>, NoMemory>
+    ensures spelled { IfOk result (λ r. IfSome r (λ event. codes "ls " ++ word.now ≡ spelling event)) }
+    ensures in_place { (shape : Shape) → IfOk result (λ r. IfSome r (IsInPlace (Some shape))) }
+    ensures exact { IfOk result (λ r. (shape : Shape) (event : Event) → IsInPlace (Some shape) event → codes "ls " ++ word.now ≡ spelling event → r ≡ Some event) }
+{
+    match read_path(alloc, word)? {
+        Some(path) => Ok(Some(Event::Ls(path))),
+        None => Ok(None),
+    }
+}
+
 // The read that a line spells.
 fn read_of(line: &[u8]) -> Option<Event>
     ensures spelled { IfSome result (λ event. line.now ≡ spelling event) }
     ensures in_place { (shape : Shape) → IfSome result (IsInPlace (Some shape)) }
-    ensures exact { (shape : Shape) (event : Event) → IsInPlace (Some shape) event → line.now ≡ spelling event → ((rest : List ℕ) → line.now ≢ codes "write " ++ rest) → ((rest : List ℕ) → line.now ≢ codes "fail " ++ rest) → ((rest : List ℕ) → line.now ≢ codes "cat " ++ rest) → result ≡ Some event }
+    ensures exact { (shape : Shape) (event : Event) → IsInPlace (Some shape) event → line.now ≡ spelling event → ((rest : List ℕ) → line.now ≢ codes "write " ++ rest) → ((rest : List ℕ) → line.now ≢ codes "fail " ++ rest) → ((rest : List ℕ) → line.now ≢ codes "cat " ++ rest) → ((rest : List ℕ) → line.now ≢ codes "ls " ++ rest) → result ≡ Some event }
 {
     let number = after_word(line, b"read ")?;
     Some(Event::Read(whole_number(number)?))

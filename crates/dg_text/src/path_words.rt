@@ -1,7 +1,7 @@
 // Words of paths: each byte by itself, or as `\x` and two hex digits in lower case.
 ghost use Rattle.std.specs.Prelude.{◌≡◌, ◌≤◌, ◌<◌, ◌++◌, ◌∷◌, [], ℕ, List, length, drop, codes, true, false, IfOk, IfSome, MatchOption};
 ghost use Rattle.hex.specs.Hex.{encode_lower};
-ghost use Rattle.ufs_model.specs.Paths.{is_one_name};
+ghost use Rattle.ufs_model.specs.Paths.{is_path};
 ghost use Rattle.dg_text.specs.Lines.{is_plain, spelled_byte, path_word, AreBytes};
 
 use crate::hex_words::is_lower_hex;
@@ -10,8 +10,8 @@ use dg_model::{Bytes, NoMemory};
 use hex::FromHex;
 use std::alloc::Global;
 
-// Bytes of the longest path of one name.
-const LONGEST_PATH: usize = 256;
+// Bytes of the longest path.
+const LONGEST_PATH: usize = 1023;
 
 // Whether a byte of a path stands for itself.
 fn is_plain(byte: u8) -> bool
@@ -69,7 +69,7 @@ fn next_byte(word: &[u8]) -> Option<(u8, usize)>
 // The bytes that a word spells, if they are no more than those of the longest path.
 fn spelled_bytes(alloc: Global, word: &[u8]) -> Result<Option<Vec<u8>>, NoMemory>
     ensures found { IfOk result (λ r. IfSome r (λ bytes. (word.now ≡ path_word bytes.items) × AreBytes bytes.items)) }
-    ensures exact { IfOk result (λ r. (bytes : List ℕ) → length bytes ≤ 256 → AreBytes bytes → word.now ≡ path_word bytes → MatchOption r ⊥ (λ found. found.items ≡ bytes)) }
+    ensures exact { IfOk result (λ r. (bytes : List ℕ) → length bytes ≤ 1023 → AreBytes bytes → word.now ≡ path_word bytes → MatchOption r ⊥ (λ found. found.items ≡ bytes)) }
 {
     let mut bytes = Vec::new(alloc);
     let mut at = 0;
@@ -89,15 +89,15 @@ fn spelled_bytes(alloc: Global, word: &[u8]) -> Result<Option<Vec<u8>>, NoMemory
     Ok(Some(bytes))
 }
 
-/// The path of one name that a word spells.
+/// The path that a word spells.
 pub fn read_path(alloc: Global, word: &[u8]) -> Result<Option<Bytes>, NoMemory>
-    ensures found { IfOk result (λ r. IfSome r (λ path. (word.now ≡ path_word path) × (is_one_name path ≡ true) × AreBytes path)) }
-    ensures exact { IfOk result (λ r. (path : List ℕ) → is_one_name path ≡ true → AreBytes path → word.now ≡ path_word path → r ≡ Some path) }
+    ensures found { IfOk result (λ r. IfSome r (λ path. (word.now ≡ path_word path) × (is_path path ≡ true) × AreBytes path)) }
+    ensures exact { IfOk result (λ r. (path : List ℕ) → is_path path ≡ true → AreBytes path → word.now ≡ path_word path → r ≡ Some path) }
 {
     let Some(bytes) = spelled_bytes(alloc, word)? else {
         return Ok(None);
     };
-    if !ufs_model::is_one_name(&bytes) {
+    if !ufs_model::is_path(&bytes) {
         return Ok(None);
     }
     Ok(Some(Bytes::new(bytes)))

@@ -25,8 +25,8 @@ const COUNT_ROOM: usize = 16;
 // Room for the answer to a refused line, whose number has at most 20 digits.
 const REFUSAL_ROOM: usize = 64;
 
-/// Writes the line of a reply, or a file's lines and the one that ends it. A line has at most 4096 bytes of a block or a
-/// file.
+/// Writes the line of a reply, or the lines of a file or a directory and the one that ends them. A line has at most 4096
+/// bytes of a block or a file.
 pub fn write_reply<K: Sink>(sink: &mut K, reply: &Reply) -> Result<(), Failed>
     requires { IsShort reply.now }
     ensures ok { OnOk result (Told (Took (reply_line reply.now)) (K.taken sink.old) (K.taken sink.new)) }
@@ -42,6 +42,8 @@ pub fn write_reply<K: Sink>(sink: &mut K, reply: &Reply) -> Result<(), Failed>
         Reply::Data(bytes) => write_data(sink, bytes.as_slice()),
         Reply::Given(lines) => write_file(sink, lines.as_slice(), b"end "),
         Reply::Cut(lines) => write_file(sink, lines.as_slice(), b"cut "),
+        Reply::Listed(entries) => write_listing(sink, entries.as_slice(), b"end "),
+        Reply::ListedCut(entries) => write_listing(sink, entries.as_slice(), b"cut "),
         Reply::Refused(refusal) => write_all(sink, refusal_line(*refusal)),
     }
 }
@@ -120,6 +122,65 @@ fn write_file<K: Sink>(sink: &mut K, lines: &[Bytes], word: &[u8]) -> Result<(),
 {
     write_lines(sink, lines)?;
     write_count(sink, word, bytes_in(lines))
+}
+
+// The letter of a kind of file.
+fn kind_letter(kind: Kind) -> &'static [u8]
+    ensures { result.now ≡ kind_letter kind }
+{
+    match kind {
+        Kind::Regular => b"r",
+        Kind::Directory => b"d",
+        Kind::Link => b"l",
+        Kind::Pipe => b"p",
+        Kind::Character => b"c",
+        Kind::Block => b"b",
+        Kind::Socket => b"s",
+        Kind::Unknown => b"u",
+    }
+}
+
+/// Writes the line of an entry of a directory.
+pub fn write_entry_line<K: Sink>(
+    sink: &mut K,
+    inode: u32,
+    kind: Kind,
+    size: u64,
+    name: &[u8],
+) -> Result<(), Failed>
+    requires { length name.now ≤ 255 }
+    ensures ok { (depth : ℕ) → OnOk result (Told (Took (entry_line (record { depth = depth; inode = inode; kind = kind; size = size; name = name.now }))) (K.taken sink.old) (K.taken sink.new)) }
+    ensures err { (depth : ℕ) → OnErr result (Told (TookPart (entry_line (record { depth = depth; inode = inode; kind = kind; size = size; name = name.now }))) (K.taken sink.old) (K.taken sink.new)) }
+    ensures cause { HasCause (K.faults sink.old) (K.faults sink.new) result }
+{
+    let mut line = [0u8; ENTRY_ROOM];
+    let end = spell_entry(&mut line, inode, kind, size, name);
+    write_all(sink, &line[..end])
+}
+
+// Writes the lines of the entries of a directory.
+fn write_entries<K: Sink>(sink: &mut K, entries: &[ListedEntry]) -> Result<(), Failed>
+    requires { All (λ entry. length entry.name ≤ 255) entries.now }
+    ensures ok { OnOk result (Told (Took (entries_text entries.now)) (K.taken sink.old) (K.taken sink.new)) }
+    ensures err { OnErr result (Told (TookPart (entries_text entries.now)) (K.taken sink.old) (K.taken sink.new)) }
+    ensures cause { HasCause (K.faults sink.old) (K.faults sink.new) result }
+{
+    for entry in entries {
+        write_entry_line(sink, entry.inode(), entry.kind(), entry.size(), entry.name())?;
+    }
+    Ok(())
+}
+
+// Writes the lines of a directory, and the one that ends it.
+fn write_listing<K: Sink>(sink: &mut K, entries: &[ListedEntry], word: &[u8]) -> Result<(), Failed>
+    requires entries { AreFew entries.now }
+    requires word { length word.now ≤ 4 }
+    ensures ok { OnOk result (Told (Took ((entries_text entries.now ++ (word.now ++ decimal (length entries.now))) ++ codes "\n")) (K.taken sink.old) (K.taken sink.new)) }
+    ensures err { OnErr result (Told (TookPart ((entries_text entries.now ++ (word.now ++ decimal (length entries.now))) ++ codes "\n")) (K.taken sink.old) (K.taken sink.new)) }
+    ensures cause { HasCause (K.faults sink.old) (K.faults sink.new) result }
+{
+    write_entries(sink, entries)?;
+    write_count(sink, word, entries.len() as u32)
 }
 
 /// Writes the answer to a refused line. The first line of an input has the number 1.
@@ -248,7 +309,6 @@ fn bad_line(bad: BadRead) -> &'static [u8]
         BadRead::Hole => b"bad hole\n",
         BadRead::Chunk => b"bad chunk\n",
         BadRead::Entry => b"bad entry\n",
-        BadRead::Later => b"bad later\n",
     }
 }
 

@@ -23,7 +23,7 @@ pub enum BadRead {
 pub enum PathRefusal {
     /// A directory on the path has no entry with the name.
     NotFound,
-    /// A name is looked for in something else than a directory.
+    /// A name is looked for in something else than a directory, or such a thing is to be listed.
     NotDirectory,
     /// Contents are asked of something else than a regular file.
     NotRegular,

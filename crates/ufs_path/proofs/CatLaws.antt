@@ -11,7 +11,7 @@ use Rattle.ufs_model.specs.declared.reads.PathRefusal.{PathRefusal}
 use Rattle.ufs_model.specs.declared.reads.PathRefusal.TheVariants.{NotFound as RefusedNotFound, NotDirectory as RefusedNotDirectory, NotRegular as RefusedNotRegular, Bad as RefusedBad}
 use Rattle.ufs_model.proofs.ReadingLaws.{reads_on, reads_refused}
 use Rattle.ufs_path.proofs.FileLaws.{rest_is}
-use Rattle.ufs_path.specs.Answers.{IsCat, answer_at, refusal_of, refused_answer}
+use Rattle.ufs_path.specs.Answers.{IsAnswer, answer_at, refusal_of, refused_answer}
 use Rattle.ufs_path.specs.Parts.{IsHanded, cat_below}
 use Rattle.ufs_path.specs.declared.faults.LookFault.{LookFault}
 use Rattle.ufs_path.specs.declared.faults.LookFault.TheVariants.{NotFound as FaultNotFound, NotDirectory as FaultNotDirectory, Bad as FaultBad, Unavailable as FaultUnavailable}
@@ -20,7 +20,7 @@ use Rattle.ufs_path.specs.declared.faults.CatAnswer.TheVariants.{Given, NotFound
 
 -- what an answer says of one reading it says of another
 pub cat_map : {S : Type 0} (took took_part : S → List ℕ → S → Type 0) (faults : S → ℕ) (old new : S) {one two : Option (Result (List ℕ) PathRefusal) → Type 0} (answer : CatAnswer)
-    → ((r : Option (Result (List ℕ) PathRefusal)) → one r → two r) → IsCat took took_part faults old new one answer → IsCat took took_part faults old new two answer
+    → ((r : Option (Result (List ℕ) PathRefusal)) → one r → two r) → IsAnswer took took_part faults old new one answer → IsAnswer took took_part faults old new two answer
 cat_map took took_part faults old new (Given n) go is = (is.0, is.1, is.2, go _ is.3)
 cat_map took took_part faults old new NotFound go is = (is.0, go _ is.1)
 cat_map took took_part faults old new NotDirectory go is = (is.0, go _ is.1)
@@ -32,7 +32,7 @@ cat_map took took_part faults old new SinkFault go is = (is.0, is.1, go _ is.2, 
 
 -- nothing is handed on at a fault
 pub cat_refused : {S : Type 0} (took took_part : S → List ℕ → S → Type 0) (faults : S → ℕ) (old new : S) (reads : Option (Result (List ℕ) PathRefusal) → Type 0) (fault : LookFault)
-    → new ≡ old → reads (option_map Err (refusal_of fault)) → IsCat took took_part faults old new reads (refused_answer fault)
+    → new ≡ old → reads (option_map Err (refusal_of fault)) → IsAnswer took took_part faults old new reads (refused_answer fault)
 cat_refused took took_part faults old new reads FaultNotFound same is = (same, is)
 cat_refused took took_part faults old new reads FaultNotDirectory same is = (same, is)
 cat_refused took took_part faults old new reads (FaultBad bad) same is = (same, is)
@@ -40,7 +40,7 @@ cat_refused took took_part faults old new reads FaultUnavailable same is = (same
 
 -- nor at a refusal
 pub cat_at : {S : Type 0} (took took_part : S → List ℕ → S → Type 0) (faults : S → ℕ) (old new : S) (reads : Option (Result (List ℕ) PathRefusal) → Type 0) (refusal : PathRefusal)
-    → new ≡ old → reads (Some (Err refusal)) → IsCat took took_part faults old new reads (answer_at refusal)
+    → new ≡ old → reads (Some (Err refusal)) → IsAnswer took took_part faults old new reads (answer_at refusal)
 cat_at took took_part faults old new reads RefusedNotFound same is = (same, is)
 cat_at took took_part faults old new reads RefusedNotDirectory same is = (same, is)
 cat_at took took_part faults old new reads RefusedNotRegular same is = (same, is)
@@ -98,7 +98,7 @@ pub handed_again : {S : Type 0} (took took_part : S → List ℕ → S → Type 
     → ((a b : S) (x y : List ℕ) → took_part a x b → took_part a (x ++ y) b)
     → ((v : Volume) → stands v → still v) → (told → tells) → ReadsAs stands before tells now (front_of Little g inode count) (Some (Ok bytes))
     → IsHanded took took_part faults old new count (λ k. ReadsAs still now told after (front_of Little g inode k)) answer
-    → IsCat took took_part faults old new (ReadsAs stands before told after (front_of Little g inode count)) answer
+    → IsAnswer took took_part faults old new (ReadsAs stands before told after (front_of Little g inode count)) answer
 handed_again took took_part faults old new after g inode count bytes (Given n) part keeps tell one is = (is.0, is.1, is.2, again (Ok bytes) (Ok is.0) keeps tell one is.3)
 handed_again took took_part faults old new after g inode count bytes (Cut n) part keeps tell one is =
     (is.0, drop (length is.0) bytes, is.4, is.5, fronts g inode is.1 count is.0 bytes is.3 keeps tell one is.6, none_now bytes (refusal_of is.2) keeps tell one is.7)

@@ -15,7 +15,7 @@ refusal_of FaultNotDirectory = Some RefusedNotDirectory
 refusal_of (FaultBad bad) = Some (RefusedBad bad)
 refusal_of FaultUnavailable = None
 
--- the answer of `cat` at a refusal, and at a fault
+-- the answer of `cat` and `ls` at a refusal, and at a fault
 abbrev pub answer_at : PathRefusal → CatAnswer
 answer_at RefusedNotFound = NotFound
 answer_at RefusedNotDirectory = NotDirectory
@@ -28,18 +28,19 @@ refused_answer FaultNotDirectory = NotDirectory
 refused_answer (FaultBad bad) = Bad bad
 refused_answer FaultUnavailable = Unavailable
 
--- What an answer of `cat` says of the reading of the file's bytes, by `reads`, and of what the
--- receiver took. `reads` is the reading rule: `reads (Some r)` says that r is the definition's
--- answer and that no block that it needs was gone before, `reads None` that such a block is gone
--- after. A refusal hands nothing on; what is cut, or fails, handed on a front of the bytes.
-abbrev pub IsCat : {S : Type 0} → (S → List ℕ → S → Type 0) → (S → List ℕ → S → Type 0) → (S → ℕ) → S → S → (Option (Result (List ℕ) PathRefusal) → Type 0) → CatAnswer → Type 0
-IsCat took took_part faults old new reads (Given n) = (bytes : List ℕ) × (length bytes ≡ n) × took old bytes new × reads (Some (Ok bytes))
-IsCat took took_part faults old new reads NotFound = (new ≡ old) × reads (Some (Err RefusedNotFound))
-IsCat took took_part faults old new reads NotDirectory = (new ≡ old) × reads (Some (Err RefusedNotDirectory))
-IsCat took took_part faults old new reads (Bad bad) = (new ≡ old) × reads (Some (Err (RefusedBad bad)))
-IsCat took took_part faults old new reads Unavailable = (new ≡ old) × reads None
-IsCat took took_part faults old new reads NotRegular = (new ≡ old) × reads (Some (Err RefusedNotRegular))
-IsCat took took_part faults old new reads (Cut n) =
-    (front : List ℕ) × (rest : List ℕ) × (length front ≡ n) × took old front new × reads (Some (Ok (front ++ rest))) × reads None
-IsCat took took_part faults old new reads SinkFault =
-    (bytes : List ℕ) × took_part old bytes new × reads (Some (Ok bytes)) × Rose (faults old) (faults new)
+-- What an answer of `cat` or `ls` says of the reading of the file's bytes, or the directory's
+-- entries, by `reads`, and of what the receiver took. `reads` is the reading rule: `reads (Some r)`
+-- says that r is the definition's answer and that no block that it needs was gone before, `reads
+-- None` that such a block is gone after. A refusal hands nothing on; what is cut, or fails, handed
+-- on a front of the items.
+abbrev pub IsAnswer : {S A : Type 0} → (S → List A → S → Type 0) → (S → List A → S → Type 0) → (S → ℕ) → S → S → (Option (Result (List A) PathRefusal) → Type 0) → CatAnswer → Type 0
+IsAnswer {S} {A} took took_part faults old new reads (Given n) = (items : List A) × (length items ≡ n) × took old items new × reads (Some (Ok items))
+IsAnswer {S} {A} took took_part faults old new reads NotFound = (new ≡ old) × reads (Some (Err RefusedNotFound))
+IsAnswer {S} {A} took took_part faults old new reads NotDirectory = (new ≡ old) × reads (Some (Err RefusedNotDirectory))
+IsAnswer {S} {A} took took_part faults old new reads (Bad bad) = (new ≡ old) × reads (Some (Err (RefusedBad bad)))
+IsAnswer {S} {A} took took_part faults old new reads Unavailable = (new ≡ old) × reads None
+IsAnswer {S} {A} took took_part faults old new reads NotRegular = (new ≡ old) × reads (Some (Err RefusedNotRegular))
+IsAnswer {S} {A} took took_part faults old new reads (Cut n) =
+    (front : List A) × (rest : List A) × (length front ≡ n) × took old front new × reads (Some (Ok (front ++ rest))) × reads None
+IsAnswer {S} {A} took took_part faults old new reads SinkFault =
+    (items : List A) × took_part old items new × reads (Some (Ok items)) × Rose (faults old) (faults new)

@@ -13,14 +13,15 @@ pub enum LookFault {
     Unavailable,
 }
 
-/// What became of a `cat`.
+/// What became of a `cat` or an `ls`. A refusal hands nothing on.
 #[derive(Clone, Copy, Debug, PartialEq, Eq)]
 pub enum CatAnswer {
-    /// The whole file was handed on, so many bytes.
+    /// All was handed on: so many bytes of a file, or entries of a directory.
     Given(u32),
     /// A directory on the path has no entry with the name. Nothing was handed on.
     NotFound,
-    /// A name is looked for in something else than a directory. Nothing was handed on.
+    /// A name is looked for in something else than a directory, or such a thing is to be listed. Nothing
+    /// was handed on.
     NotDirectory,
     /// The volume isn't as it has to be. Nothing was handed on.
     Bad(BadRead),
@@ -28,9 +29,9 @@ pub enum CatAnswer {
     Unavailable,
     /// The path leads to something else than a regular file. Nothing was handed on.
     NotRegular,
-    /// A block that is needed became gone in this call, after the file's first so many bytes were
+    /// A block that is needed became gone in this call, after the first so many bytes or entries were
     /// handed on.
     Cut(u32),
-    /// A piece failed, after some of the file's bytes were handed on.
+    /// The receiver failed, after some bytes or entries were handed on.
     SinkFault,
 }

@@ -6,7 +6,7 @@ ghost use Rattle.ufs_model.specs.Geometries.{IsGeometryOn};
 ghost use Rattle.ufs_model.specs.Paths.{bytes_in_block, contents_of, front_of, part_of};
 ghost use Rattle.ufs_model.specs.Readings.{ReadsAs};
 ghost use Rattle.ufs_model.specs.declared.numbers.Endian.TheVariants.{Little};
-ghost use Rattle.ufs_path.specs.Answers.{IsCat, answer_at, refusal_of, refused_answer};
+ghost use Rattle.ufs_path.specs.Answers.{IsAnswer, answer_at, refusal_of, refused_answer};
 ghost use Rattle.ufs_path.specs.Parts.{HasCount, IsHanded, IsHandedPart, part_said};
 
 use crate::blocks::{FileBlock, block_count, bytes_in_block, file_refusal, read_block};
@@ -187,7 +187,7 @@ fn hand_twice<V: View, O: Pieces>(
     ensures keeps { KeepsView V.stands_for V.tells V.is_gone V.count V.size V.is_sound V.goes_on view.old view.new }
     ensures levels { levels.new.fragment ≡ levels.old.fragment }
     ensures later { O.faults out.old ≤ O.faults out.new }
-    ensures rule { IsCat O.took O.took_part O.faults out.old out.new
+    ensures rule { IsAnswer O.took O.took_part O.faults out.old out.new
         (ReadsAs (V.stands_for view.old) (V.is_gone view.old) (V.tells view.new) (V.is_gone view.new) (front_of Little g.now inode.now count)) result }
 {
     match consult(view, g, inode, count, levels) {
@@ -210,7 +210,7 @@ pub fn hand_file<V: View, O: Pieces>(
     ensures keeps { KeepsView V.stands_for V.tells V.is_gone V.count V.size V.is_sound V.goes_on view.old view.new }
     ensures levels { levels.new.fragment ≡ levels.old.fragment }
     ensures later { O.faults out.old ≤ O.faults out.new }
-    ensures rule { IsCat O.took O.took_part O.faults out.old out.new
+    ensures rule { IsAnswer O.took O.took_part O.faults out.old out.new
         (ReadsAs (V.stands_for view.old) (V.is_gone view.old) (V.tells view.new) (V.is_gone view.new) (contents_of Little g.now inode.now)) result }
 {
     match file_refusal(inode) {
