@@ -1,3 +1,4 @@
 pub mod ChainLaws
 pub mod AddressLaws
 pub mod AreaFetches
+pub mod SuperLaws

@@ -12,6 +12,7 @@ mod chains;
 mod indirect_blocks;
 mod levels;
 mod pointers;
+mod superblocks;
 #[cfg(test)]
 mod tests;
 
@@ -20,4 +21,5 @@ pub use crate::areas::read_area;
 pub use crate::chains::locate;
 pub use crate::levels::{Levels, file_block};
 pub use crate::pointers::pointer;
+pub use crate::superblocks::read_geometry;
 pub use ufs_model::{Address, Chain};

@@ -1,5 +1,0 @@
-use Rattle.ufs_path.proofs.SuperLaws.{none_read, none_there}
-use Rattle.ufs_path.proofs.superblocks.read_any.Goals as goal
-
-pub returns-then-k-eq0-clause-rule : goal.returns-then-k-eq0-clause-rule
-returns-then-k-eq0-clause-rule g c = none_read _ c.args.a c.args.k _ c.if-k-eq0.true (none_there c.args.k _ _ _ c.if-k-eq0.true c.clear.ensures.block)
