@@ -12,3 +12,5 @@ pub mod Pointers
 pub mod Paths
 pub mod Listings
 pub mod Claims
+pub mod Malformations
+pub mod Metadata
