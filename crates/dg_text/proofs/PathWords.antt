@@ -40,11 +40,11 @@ byte_lower digits x small is =
 
 -- ---- the spelling of one byte
 
-plain_is : (x : ℕ) → is_plain x ≡ true → spelled_byte x ≡ x ∷ []
+pub plain_is : (x : ℕ) → is_plain x ≡ true → spelled_byte x ≡ x ∷ []
 unfolding spelled_byte
 plain_is x plain = rw plain refl
 
-escaped_is : (x : ℕ) → is_plain x ≡ false → spelled_byte x ≡ codes "\\x" ++ encode_lower (x ∷ [])
+pub escaped_is : (x : ℕ) → is_plain x ≡ false → spelled_byte x ≡ codes "\\x" ++ encode_lower (x ∷ [])
 unfolding spelled_byte
 escaped_is x escaped = rw escaped refl
 

@@ -13,8 +13,8 @@ use std::alloc::Global;
 // Bytes of the longest path.
 const LONGEST_PATH: usize = 1023;
 
-// Whether a byte of a path stands for itself.
-fn is_plain(byte: u8) -> bool
+/// Whether a byte of a path stands for itself.
+pub fn is_plain(byte: u8) -> bool
     ensures { result ≡ is_plain byte }
 {
     matches!(byte, 0x21..=0x7e) && byte != b'\\'

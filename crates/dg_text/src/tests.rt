@@ -195,7 +195,7 @@ fn what_cat_answers_is_written(rt: HostRuntime) -> Result<(), Fail> {
         PathRefusal::NotRegular,
         PathRefusal::Bad(BadRead::Super(BadSuper::Magic)),
         PathRefusal::Bad(BadRead::Super(BadSuper::Summary)),
-        PathRefusal::Bad(BadRead::Later),
+        PathRefusal::Bad(BadRead::Wild),
     ];
     for refusal in rows {
         write_reply(&mut sink, &Reply::Refused(refusal))?;
@@ -203,7 +203,7 @@ fn what_cat_answers_is_written(rt: HostRuntime) -> Result<(), Fail> {
     write_reply(&mut sink, &Reply::Cut(Lines::new(Vec::new(alloc))))?;
     write_reply(&mut sink, &Reply::Given(two_lines(alloc, b'h', b'i')?))?;
     let text =
-        b"notfound\nnotdir\nnotregular\nbad magic\nbad summary\nbad later\ncut 0\nbytes 68\nbytes 69\nend 2\n";
+        b"notfound\nnotdir\nnotregular\nbad magic\nbad summary\nbad wild\ncut 0\nbytes 68\nbytes 69\nend 2\n";
     assert!(rt; sink.taken() == text.as_slice());
     Ok(())
 }
