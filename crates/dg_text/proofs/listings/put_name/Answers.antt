@@ -1,4 +1,4 @@
-use Rattle.std.proofs.Common.{◌++◌, ◌∷◌, [], ◌∙◌, sym, ap, append_assoc, arith, take, get_or, ℕ, List}
+use Rattle.std.proofs.Common.{◌++◌, ◌∙◌, sym, ap, append_assoc, arith, take, get_or, ℕ, List}
 use Rattle.std.proofs.lemmas.List.{append-nil, take_more}
 use Rattle.dg_text.specs.Lines.{path_word, spelled_byte}
 use Rattle.dg_text.proofs.PathWords.{path_word_none, path_word_last}
