@@ -9,10 +9,10 @@ use Rattle.std.proofs.lemmas.Bool.{ltb-true}
 use Rattle.dg_model.specs.declared.shapes.Shape.{Shape}
 use Rattle.dg_model.specs.declared.events.Event.{Event}
 use Rattle.dg_model.specs.declared.events.Event.TheVariants.{Array, Write, Read, Fail, Cat, Ls}
-use Rattle.dg_text.specs.Lines.{IsLowerDigit, AreBytes, hex_word, path_word, shape_words, spelling, line_of, IsInPlace}
+use Rattle.dg_text.specs.Lines.{AreBytes, hex_word, path_word, shape_words, spelling, line_of, IsInPlace}
 use Rattle.dg_text.proofs.Cuts.{Lacks, Lacks-from_not, first_cut}
 use Rattle.dg_text.proofs.Numbers.{decimal_lacks}
-use Rattle.dg_text.proofs.HexWords.{encode_is_lower}
+use Rattle.dg_text.proofs.HexWords.{IsLowerDigit, encode_is_lower}
 use Rattle.dg_text.proofs.PathWords.{path_word_high}
 use Rattle.dg_text.proofs.Lengths.{block_small}
 
