@@ -1,8 +1,12 @@
 pub mod Sizes
+pub mod ReadsLaws
+pub mod PartLaws
 pub mod BlockLaws
 pub mod SuperLaws
 pub mod LookLaws
 pub mod ChunkLaws
+pub mod NameLaws
 pub mod DirectoryLaws
+pub mod EntryLaws
 pub mod FileLaws
 pub mod CatLaws
