@@ -18,34 +18,6 @@ use Rattle.ufs_path.specs.declared.faults.LookFault.TheVariants.{NotFound as Fau
 use Rattle.ufs_path.specs.declared.faults.CatAnswer.{CatAnswer}
 use Rattle.ufs_path.specs.declared.faults.CatAnswer.TheVariants.{Given, NotFound, NotDirectory, Bad, Unavailable, NotRegular, Cut, SinkFault}
 
--- what an answer says of one reading it says of another
-pub cat_map : {S : Type 0} (took took_part : S → List ℕ → S → Type 0) (faults : S → ℕ) (old new : S) {one two : Option (Result (List ℕ) PathRefusal) → Type 0} (answer : CatAnswer)
-    → ((r : Option (Result (List ℕ) PathRefusal)) → one r → two r) → IsAnswer took took_part faults old new one answer → IsAnswer took took_part faults old new two answer
-cat_map took took_part faults old new (Given n) go is = (is.0, is.1, is.2, go _ is.3)
-cat_map took took_part faults old new NotFound go is = (is.0, go _ is.1)
-cat_map took took_part faults old new NotDirectory go is = (is.0, go _ is.1)
-cat_map took took_part faults old new (Bad bad) go is = (is.0, go _ is.1)
-cat_map took took_part faults old new Unavailable go is = (is.0, go _ is.1)
-cat_map took took_part faults old new NotRegular go is = (is.0, go _ is.1)
-cat_map took took_part faults old new (Cut n) go is = (is.0, is.1, is.2, is.3, go _ is.4, go _ is.5)
-cat_map took took_part faults old new SinkFault go is = (is.0, is.1, go _ is.2, is.3)
-
--- nothing is handed on at a fault
-pub cat_refused : {S : Type 0} (took took_part : S → List ℕ → S → Type 0) (faults : S → ℕ) (old new : S) (reads : Option (Result (List ℕ) PathRefusal) → Type 0) (fault : LookFault)
-    → new ≡ old → reads (option_map Err (refusal_of fault)) → IsAnswer took took_part faults old new reads (refused_answer fault)
-cat_refused took took_part faults old new reads FaultNotFound same is = (same, is)
-cat_refused took took_part faults old new reads FaultNotDirectory same is = (same, is)
-cat_refused took took_part faults old new reads (FaultBad bad) same is = (same, is)
-cat_refused took took_part faults old new reads FaultUnavailable same is = (same, is)
-
--- nor at a refusal
-pub cat_at : {S : Type 0} (took took_part : S → List ℕ → S → Type 0) (faults : S → ℕ) (old new : S) (reads : Option (Result (List ℕ) PathRefusal) → Type 0) (refusal : PathRefusal)
-    → new ≡ old → reads (Some (Err refusal)) → IsAnswer took took_part faults old new reads (answer_at refusal)
-cat_at took took_part faults old new reads RefusedNotFound same is = (same, is)
-cat_at took took_part faults old new reads RefusedNotDirectory same is = (same, is)
-cat_at took took_part faults old new reads RefusedNotRegular same is = (same, is)
-cat_at took took_part faults old new reads (RefusedBad bad) same is = (same, is)
-
 -- ---- the second time
 
 -- the answer is that of the first time

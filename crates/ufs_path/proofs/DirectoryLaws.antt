@@ -80,15 +80,15 @@ no_block {stands} {tells} {before} {now} {whole} g inode name n count past so_fa
 
 -- ---- a directory, or what is none
 
-refusal_said : (fault : LookFault) (refusal : Option PathRefusal) → Some (refusal_of fault) ≡ option_map Some refusal → refusal ≡ refusal_of fault
+pub refusal_said : (fault : LookFault) (refusal : Option PathRefusal) → Some (refusal_of fault) ≡ option_map Some refusal → refusal ≡ refusal_of fault
 refusal_said fault (Some refusal) e = cc
 refusal_said fault None e = cc
 
-none_said : (refusal : Option PathRefusal) → None ≡ option_map Some refusal → refusal ≡ None
+pub none_said : (refusal : Option PathRefusal) → None ≡ option_map Some refusal → refusal ≡ None
 none_said (Some refusal) e = cc
 none_said None e = refl
 
-refused_then : {stands : Volume → Type 0} {tells : Type 0} {before after : ℕ → Bool} {A : Type 0} (d : Reading (Result A PathRefusal)) (refusal said : Option PathRefusal) → refusal ≡ said → Some said ≡ option_map Some refusal
+pub refused_then : {stands : Volume → Type 0} {tells : Type 0} {before after : ℕ → Bool} {A : Type 0} (d : Reading (Result A PathRefusal)) (refusal said : Option PathRefusal) → refusal ≡ said → Some said ≡ option_map Some refusal
     → ReadsAs stands before tells after (unless_refused refusal d) (option_map Err said)
 refused_then d (Some refusal) said e1 e2 = rw (← e1) (reads_known (Err refusal))
 refused_then d None said e1 e2 = cc

@@ -8,5 +8,8 @@ pub mod ChunkLaws
 pub mod NameLaws
 pub mod DirectoryLaws
 pub mod EntryLaws
+pub mod WalkLaws
 pub mod FileLaws
+pub mod AnswerLaws
 pub mod CatLaws
+pub mod ListLaws

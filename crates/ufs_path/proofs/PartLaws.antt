@@ -82,9 +82,12 @@ begins {front = front} {part = part} are k (suc d) v some all e1 e2 =
     let more = begins are k d v some one.0 e1 one.2 in
     (more.0 ++ one.1, one.3 ∙ ap (λ x. x ++ one.1) more.1 ∙ append_assoc some more.0 one.1)
 
--- what stands after the front
+-- what stands after a front
+pub after_front : {A : Type 0} (some all rest : List A) → all ≡ some ++ rest → all ≡ some ++ drop (length some) all
+after_front some all rest e = e ∙ ap (λ xs. some ++ xs) (sym (ap (drop (length some)) e ∙ drop-append_seam some rest))
+
 pub rest_is : {A R : Type 0} {front part : ℕ → Reading (Result (List A) R)} → AreFronts front part → (k count : ℕ) (v : Volume) (some all : List A) → k ≤ count → Ok some ≡ (front k v).value → Ok all ≡ (front count v).value
     → all ≡ some ++ drop (length some) all
 rest_is {front = front} are k count v some all le e1 e2 =
     let found = begins are k (count - k) v some all e1 (e2 ∙ ap (λ j. (front j v).value) (let e : count ≡ (count - k) + k = omega arith in e)) in
-    found.1 ∙ ap (λ rest. some ++ rest) (sym (ap (drop (length some)) found.1 ∙ drop-append_seam some found.0))
+    after_front some all found.0 found.1

@@ -57,9 +57,36 @@ refused_read f refusal grows one = reads_refused (λ refusal. refusal) f refusal
 
 -- ---- the same readings
 
+-- on the volumes that the view stands for, where it tells its blocks
+pub same_where : {A : Type 0} {stands : Volume → Type 0} {tells : Type 0} {before after : ℕ → Bool} {d e : Reading A} {r : Option A}
+    → (tells → (v : Volume) → stands v → d v ≡ e v) → ReadsAs stands before tells after d r → ReadsAs stands before tells after e r
+same_where {before = before} {after = after} {r = r} same reads = record { rule = λ is v holds. subst (λ c. MeetsRule before after c r) (same is v holds) (reads.rule is v holds) }
+
 pub same_read : {A : Type 0} {stands : Volume → Type 0} {tells : Type 0} {before after : ℕ → Bool} {d e : Reading A} {r : Option A}
     → ((v : Volume) → d v ≡ e v) → ReadsAs stands before tells after d r → ReadsAs stands before tells after e r
-same_read {before = before} {after = after} {r = r} same reads = record { rule = λ is v holds. subst (λ c. MeetsRule before after c r) (same v) (reads.rule is v holds) }
+same_read same reads = same_where (λ is v holds. same v) reads
+
+-- the same answer
+pub answer_where : {A : Type 0} {stands : Volume → Type 0} {tells : Type 0} {before after : ℕ → Bool} {d : Reading A} (a b : A)
+    → (tells → (v : Volume) → stands v → a ≡ b) → ReadsAs stands before tells after d (Some a) → ReadsAs stands before tells after d (Some b)
+answer_where a b same reads = record {
+  rule = λ is v holds. record {
+    unavailable = (reads.rule is v holds).unavailable;
+    answer = sym (same is v holds) ∙ (reads.rule is v holds).answer;
+    only = tt;
+  };
+}
+
+-- where there is an answer, a fault is no refusal
+pub none_now : {A R : Type 0} {stands : Volume → Type 0} {tells : Type 0} {before after : ℕ → Bool} {d : Reading (Result A R)} (a : A) (refusal : Option R)
+    → ReadsAs stands before tells after d (Some (Ok a)) → ReadsAs stands before tells after d (option_map Err refusal) → ReadsAs stands before tells after d None
+none_now a None one two = two
+none_now a (Some refusal) one two = record {
+  rule = λ is v holds.
+      let first = (one.rule is v holds).answer in
+      let second = (two.rule is v holds).answer in
+      let both = first ∙ sym second in cc;
+}
 
 -- what follows from something consulted
 abbrev pub then_consulted : {A B R : Type 0} → Consulted (Result A R) → (A → Reading (Result B R)) → Volume → Consulted (Result B R)
