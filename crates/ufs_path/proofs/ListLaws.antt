@@ -89,11 +89,11 @@ hands_front (inl stops) = record { front = stops.front; rest = stops.rest; whole
 hands_front {entries = entries} (inr lost) = record { front = entries; rest = []; whole = sym (append-nil entries); handed = lost.0 }
 
 -- all lines were handed on
-pub given_lines : {S : Type 0} {took took_part : S → List Listed → S → Type 0} {faults : S → ℕ} {stands still : Volume → Type 0} {told : Type 0} {before now after : ℕ → Bool} (g : Geometry) (inode : Inode) (count n : ℕ) (old new : S)
+pub given_lines : {S : Type 0} (took took_part : S → List Listed → S → Type 0) (faults : S → ℕ) {stands still : Volume → Type 0} {told : Type 0} {before now after : ℕ → Bool} (g : Geometry) (inode : Inode) (count n : ℕ) (old new : S)
     → Grows before now → ((v : Volume) → stands v → still v)
     → Through count (λ k. ReadsAs still now told after (entries_before Little g inode k)) (λ entries. AreHanded took old new entries (λ e. ReadsAs still now told after (listed_entries Little g 1 e)) n)
     → IsAnswer took took_part faults old new (ReadsAs stands before told after (lines_before Little g inode count)) (Given n)
-given_lines g inode count n old new grows keeps walked = (
+given_lines took took_part faults g inode count n old new grows keeps walked = (
   walked.are.lines,
   walked.are.count,
   walked.are.taken,
@@ -101,14 +101,14 @@ given_lines g inode count n old new grows keeps walked = (
 )
 
 -- a front of the lines, for want of a block
-pub cut_lines : {S : Type 0} {took took_part : S → List Listed → S → Type 0} {faults : S → ℕ} {stands still : Volume → Type 0} {tells told : Type 0} {before now after : ℕ → Bool} (g : Geometry) (inode : Inode) (count n : ℕ) (fault : LookFault) (old new : S)
+pub cut_lines : {S : Type 0} (took took_part : S → List Listed → S → Type 0) (faults : S → ℕ) {stands still : Volume → Type 0} {tells told : Type 0} {before now after : ℕ → Bool} (g : Geometry) (inode : Inode) (count n : ℕ) (fault : LookFault) (old new : S)
     → Grows before now → Grows now after → ((v : Volume) → stands v → still v) → (told → tells)
     → IsConsulted (ReadsAs stands before tells now (entries_before Little g inode count)) (λ e. ReadsAs stands before tells now (listed_entries Little g 1 e))
     → ThroughSome count (λ k. ReadsAs still now told after (entries_before Little g inode k)) (λ some.
         StopsUnread took old new some (λ e. ReadsAs still now told after (listed_entries Little g 1 e)) n fault
         ⊎ (AreHanded took old new some (λ e. ReadsAs still now told after (listed_entries Little g 1 e)) n × ReadsAs still now told after (entries_before Little g inode count) (option_map Err (refusal_of fault))))
     → IsAnswer took took_part faults old new (ReadsAs stands before told after (lines_before Little g inode count)) (Cut n)
-cut_lines g inode count n fault old new grows further keeps tell first walked =
+cut_lines took took_part faults g inode count n fault old new grows further keeps tell first walked =
     let hands = hands_front walked.through.are in
     let all = wider _ (λ b h. h) further (λ v h. h) tell first.before_is in
     let are = wider _ (λ b h. h) further (λ v h. h) tell first.lines_are in (
@@ -123,12 +123,12 @@ cut_lines g inode count n fault old new grows further keeps tell first walked =
     )
 
 -- a front of the lines, since the receiver failed
-pub failed_lines : {S : Type 0} {took took_part : S → List Listed → S → Type 0} {faults : S → ℕ} {stands still : Volume → Type 0} {tells told : Type 0} {before now after : ℕ → Bool} (g : Geometry) (inode : Inode) (count : ℕ) (old new : S)
+pub failed_lines : {S : Type 0} (took took_part : S → List Listed → S → Type 0) (faults : S → ℕ) {stands still : Volume → Type 0} {tells told : Type 0} {before now after : ℕ → Bool} (g : Geometry) (inode : Inode) (count : ℕ) (old new : S)
     → ((a b : S) (x y : List Listed) → took_part a x b → took_part a (x ++ y) b) → Grows before now → Grows now after → ((v : Volume) → stands v → still v) → (told → tells)
     → IsConsulted (ReadsAs stands before tells now (entries_before Little g inode count)) (λ e. ReadsAs stands before tells now (listed_entries Little g 1 e))
     → ThroughSome count (λ k. ReadsAs still now told after (entries_before Little g inode k)) (λ some. StopsFailed took_part faults old new some (λ e. ReadsAs still now told after (listed_entries Little g 1 e)))
     → IsAnswer took took_part faults old new (ReadsAs stands before told after (lines_before Little g inode count)) SinkFault
-failed_lines g inode count old new part grows further keeps tell first walked =
+failed_lines took took_part faults g inode count old new part grows further keeps tell first walked =
     let failed = walked.through.are in (
       failed.lines ++ drop (length failed.lines) first.lines,
       part old new failed.lines (drop (length failed.lines) first.lines) failed.taken,
