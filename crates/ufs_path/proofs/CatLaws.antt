@@ -1,22 +1,20 @@
 -- Answers of `cat`.
-use Rattle.std.proofs.Common.{◌≡◌, ◌∙◌, ℕ, ◌≤◌, Bool, List, ◌++◌, Some, None, Ok, Err, Result, Option, length, drop, refl, sym, ap}
+use Rattle.std.proofs.Common.{ℕ, ◌≤◌, Bool, List, ◌++◌, Some, Ok, Err, Result, Option, length, drop, ap}
 use Rattle.std.specs.Option.{option_map}
-use Rattle.ufs_model.specs.Blocks.{Reading, Volume}
+use Rattle.ufs_model.specs.Blocks.{Volume}
 use Rattle.ufs_model.specs.Paths.{cat_of, contents_of, front_of, look_from, names_of, volume_geometry}
 use Rattle.ufs_model.specs.Readings.{Grows, ReadsAs}
 use Rattle.ufs_model.specs.declared.geometries.Geometry.{Geometry}
 use Rattle.ufs_model.specs.declared.inodes.Inode.{Inode}
 use Rattle.ufs_model.specs.declared.numbers.Endian.TheVariants.{Little}
 use Rattle.ufs_model.specs.declared.reads.PathRefusal.{PathRefusal}
-use Rattle.ufs_model.specs.declared.reads.PathRefusal.TheVariants.{NotFound as RefusedNotFound, NotDirectory as RefusedNotDirectory, NotRegular as RefusedNotRegular, Bad as RefusedBad}
 use Rattle.ufs_model.proofs.ReadingLaws.{reads_on, reads_refused}
 use Rattle.ufs_path.proofs.FileLaws.{file_fronts}
 use Rattle.ufs_path.proofs.PartLaws.{rest_is}
 use Rattle.ufs_path.proofs.ReadsLaws.{answer_where, none_now, wider}
-use Rattle.ufs_path.specs.Answers.{IsAnswer, answer_at, refusal_of, refused_answer}
+use Rattle.ufs_path.specs.Answers.{IsAnswer, refusal_of}
 use Rattle.ufs_path.specs.Parts.{IsHanded, cat_below}
 use Rattle.ufs_path.specs.declared.faults.LookFault.{LookFault}
-use Rattle.ufs_path.specs.declared.faults.LookFault.TheVariants.{NotFound as FaultNotFound, NotDirectory as FaultNotDirectory, Bad as FaultBad, Unavailable as FaultUnavailable}
 use Rattle.ufs_path.specs.declared.faults.CatAnswer.{CatAnswer}
 use Rattle.ufs_path.specs.declared.faults.CatAnswer.TheVariants.{Given, NotFound, NotDirectory, Bad, Unavailable, NotRegular, Cut, SinkFault}
 

@@ -76,12 +76,12 @@ row_first : {A : Type 0} (first : Reading (Result A PathRefusal)) (d e : Reading
     → and_then first (λ a. and_then (in_a_row d e) (λ others. known (Ok (a ∷ others)))) v ≡ in_a_row (and_then first (λ a. and_then d (λ others. known (Ok (a ∷ others))))) e v
 row_first first d e v =
     then_back first _ _ v (λ a.
-        then_then d (λ x. and_then e (λ y. known (Ok (x ++ y)))) (λ others. known (Ok (a ∷ others))) v
-        ∙ then_back d _ (λ x. and_then e (λ y. known (Ok (a ∷ (x ++ y))))) v (λ x.
-            then_then e (λ y. known (Ok (x ++ y))) (λ others. known (Ok (a ∷ others))) v
-            ∙ then_back e _ _ v (λ y. then_known (x ++ y) (λ others. known (Ok (a ∷ others))) v))
-        ∙ sym (then_then d (λ others. known (Ok (a ∷ others))) (λ x. and_then e (λ y. known (Ok (x ++ y)))) v
-            ∙ then_back d _ _ v (λ x. then_known (a ∷ x) (λ z. and_then e (λ y. known (Ok (z ++ y)))) v)))
+    then_then d (λ x. and_then e (λ y. known (Ok (x ++ y)))) (λ others. known (Ok (a ∷ others))) v
+    ∙ then_back d _ (λ x. and_then e (λ y. known (Ok (a ∷ (x ++ y))))) v (λ x.
+    then_then e (λ y. known (Ok (x ++ y))) (λ others. known (Ok (a ∷ others))) v
+    ∙ then_back e _ _ v (λ y. then_known (x ++ y) (λ others. known (Ok (a ∷ others))) v))
+    ∙ sym (then_then d (λ others. known (Ok (a ∷ others))) (λ x. and_then e (λ y. known (Ok (x ++ y)))) v
+    ∙ then_back d _ _ v (λ x. then_known (a ∷ x) (λ z. and_then e (λ y. known (Ok (z ++ y)))) v)))
     ∙ sym (then_then first (λ a. and_then d (λ others. known (Ok (a ∷ others)))) (λ x. and_then e (λ y. known (Ok (x ++ y)))) v)
 
 listed_append : (g : Geometry) (depth : ℕ) (xs ys : List DirEntry) (v : Volume)
@@ -118,7 +118,7 @@ pub lines_begin : (g : Geometry) (depth : ℕ) (v : Volume) (xs ys : List DirEnt
     → (rest : List Listed) × (all ≡ some ++ rest)
 lines_begin g depth v xs ys some all e1 e2 =
     let one = joined_ok ((listed_entries Little g depth xs v).value) ((listed_entries Little g depth ys v).value) all
-        (e2 ∙ sym (ap (λ c. c.value) (listed_append g depth xs ys v)) ∙ value_both (listed_entries Little g depth xs) (listed_entries Little g depth ys) v) in
+    (e2 ∙ sym (ap (λ c. c.value) (listed_append g depth xs ys v)) ∙ value_both (listed_entries Little g depth xs) (listed_entries Little g depth ys) v) in
     let same : Ok one.0 ≡ Ok some = one.2 ∙ sym e1 in
     let equal : one.0 ≡ some = cc in
     (one.1, one.3 ∙ ap (λ x. x ++ one.1) equal)

@@ -1,8 +1,8 @@
 -- Answers of `ls`.
-use Rattle.std.proofs.Common.{◌≡◌, ◌∙◌, ◌⊎◌, inl, inr, ℕ, ◌≤◌, Bool, List, [], ◌++◌, Some, None, Ok, Err, Result, Option, length, drop, refl, sym, ap, subst}
+use Rattle.std.proofs.Common.{◌≡◌, ◌∙◌, ◌⊎◌, inl, inr, ℕ, ◌≤◌, Bool, List, [], ◌++◌, Some, None, Ok, Err, Result, Option, length, drop, sym, ap, subst}
 use Rattle.std.specs.Option.{option_map}
 use Rattle.std.proofs.lemmas.List.{append-nil, append_assoc}
-use Rattle.ufs_model.specs.Blocks.{Reading, Volume}
+use Rattle.ufs_model.specs.Blocks.{Volume}
 use Rattle.ufs_model.specs.Chunks.{DirEntry}
 use Rattle.ufs_model.specs.Inodes.{block_count}
 use Rattle.ufs_model.specs.Listings.{Listed, listed_entries, listing_of, ls_of}
@@ -53,11 +53,11 @@ front_lines : {stands : Volume → Type 0} {tells : Type 0} {before after : ℕ 
     → ReadsAs stands before tells after (lines_before Little g inode count) (Some (Ok (handed ++ drop (length handed) lines)))
 front_lines g inode blocks count some entries front rest handed lines le e all are before_are front_are =
     answer_where (Ok lines) (Ok (handed ++ drop (length handed) lines)) (λ is v holds.
-        let after = drop (length some) entries in
-        let whole = rest_is (entry_fronts g inode) blocks count v some entries le (before_are.rule is v holds).answer (all.rule is v holds).answer
-            ∙ ap (λ xs. xs ++ after) e ∙ append_assoc front rest after in
-        let begin = lines_begin g 1 v front (rest ++ after) handed lines (front_are.rule is v holds).answer ((are.rule is v holds).answer ∙ ap (λ xs. (listed_entries Little g 1 xs v).value) whole) in
-        ap Ok (after_front handed lines begin.0 begin.1))
+    let after = drop (length some) entries in
+    let whole = rest_is (entry_fronts g inode) blocks count v some entries le (before_are.rule is v holds).answer (all.rule is v holds).answer
+    ∙ ap (λ xs. xs ++ after) e ∙ append_assoc front rest after in
+    let begin = lines_begin g 1 v front (rest ++ after) handed lines (front_are.rule is v holds).answer ((are.rule is v holds).answer ∙ ap (λ xs. (listed_entries Little g 1 xs v).value) whole) in
+    ap Ok (after_front handed lines begin.0 begin.1))
     (lines_read g inode count entries (Some (Ok lines)) all are)
 
 -- ---- what was handed on
@@ -67,8 +67,8 @@ pub unread_lines : {S : Type 0} {took : S → List Listed → S → Type 0} {sta
     → Grows before now → Grows now after → ((v : Volume) → stands v → still v) → (told → tells)
     → ReadsAs stands before tells now (entries_before Little g inode count) (Some (Ok entries))
     → ThroughSome count (λ k. ReadsAs still now told after (entries_before Little g inode k)) (λ some.
-        StopsUnread took old new some (λ e. ReadsAs still now told after (listed_entries Little g 1 e)) n fault
-        ⊎ (AreHanded took old new some (λ e. ReadsAs still now told after (listed_entries Little g 1 e)) n × ReadsAs still now told after (entries_before Little g inode count) (option_map Err (refusal_of fault))))
+    StopsUnread took old new some (λ e. ReadsAs still now told after (listed_entries Little g 1 e)) n fault
+    ⊎ (AreHanded took old new some (λ e. ReadsAs still now told after (listed_entries Little g 1 e)) n × ReadsAs still now told after (entries_before Little g inode count) (option_map Err (refusal_of fault))))
     → ReadsAs stands before told after (lines_before Little g inode count) (option_map Err (refusal_of fault))
 unread_lines g inode count n entries fault old new grows further keeps tell all walked = elim (walked.through.are) [
   | inl stops ↦ front_unread g inode walked.blocks count walked.through.entries entries fault (λ b h. further b (grows b h)) walked.few
@@ -105,8 +105,8 @@ pub cut_lines : {S : Type 0} (took took_part : S → List Listed → S → Type 
     → Grows before now → Grows now after → ((v : Volume) → stands v → still v) → (told → tells)
     → IsConsulted (ReadsAs stands before tells now (entries_before Little g inode count)) (λ e. ReadsAs stands before tells now (listed_entries Little g 1 e))
     → ThroughSome count (λ k. ReadsAs still now told after (entries_before Little g inode k)) (λ some.
-        StopsUnread took old new some (λ e. ReadsAs still now told after (listed_entries Little g 1 e)) n fault
-        ⊎ (AreHanded took old new some (λ e. ReadsAs still now told after (listed_entries Little g 1 e)) n × ReadsAs still now told after (entries_before Little g inode count) (option_map Err (refusal_of fault))))
+    StopsUnread took old new some (λ e. ReadsAs still now told after (listed_entries Little g 1 e)) n fault
+    ⊎ (AreHanded took old new some (λ e. ReadsAs still now told after (listed_entries Little g 1 e)) n × ReadsAs still now told after (entries_before Little g inode count) (option_map Err (refusal_of fault))))
     → IsAnswer took took_part faults old new (ReadsAs stands before told after (lines_before Little g inode count)) (Cut n)
 cut_lines took took_part faults g inode count n fault old new grows further keeps tell first walked =
     let hands = hands_front walked.through.are in
@@ -117,9 +117,9 @@ cut_lines took took_part faults g inode count n fault old new grows further keep
       hands.handed.count,
       hands.handed.taken,
       front_lines g inode walked.blocks count walked.through.entries first.entries hands.front hands.rest hands.handed.lines first.lines walked.few hands.whole all are
-      (wider _ grows (λ b h. h) keeps (λ h. h) walked.through.read) (wider _ grows (λ b h. h) keeps (λ h. h) hands.handed.read),
+          (wider _ grows (λ b h. h) keeps (λ h. h) walked.through.read) (wider _ grows (λ b h. h) keeps (λ h. h) hands.handed.read),
       none_now first.lines (refusal_of fault) (lines_read g inode count first.entries (Some (Ok first.lines)) all are)
-      (unread_lines g inode count n first.entries fault old new grows further keeps tell first.before_is walked),
+          (unread_lines g inode count n first.entries fault old new grows further keeps tell first.before_is walked),
     )
 
 -- a front of the lines, since the receiver failed
@@ -133,8 +133,8 @@ failed_lines took took_part faults g inode count old new part grows further keep
       failed.lines ++ drop (length failed.lines) first.lines,
       part old new failed.lines (drop (length failed.lines) first.lines) failed.taken,
       front_lines g inode walked.blocks count walked.through.entries first.entries failed.front failed.rest failed.lines first.lines walked.few failed.whole
-      (wider _ (λ b h. h) further (λ v h. h) tell first.before_is) (wider _ (λ b h. h) further (λ v h. h) tell first.lines_are)
-      (wider _ grows (λ b h. h) keeps (λ h. h) walked.through.read) (wider _ grows (λ b h. h) keeps (λ h. h) failed.read),
+          (wider _ (λ b h. h) further (λ v h. h) tell first.before_is) (wider _ (λ b h. h) further (λ v h. h) tell first.lines_are)
+          (wider _ grows (λ b h. h) keeps (λ h. h) walked.through.read) (wider _ grows (λ b h. h) keeps (λ h. h) failed.read),
       failed.rose,
     )
 

@@ -1,8 +1,8 @@
 -- The length of a name stands in a byte (`d_namlen`).
-use Rattle.std.proofs.Common.{◌≡◌, ℕ, zero, suc, ◌+◌, ◌*◌, ◌-◌, ◌<◌, ◌≤◌, Bool, true, false, List, [], ◌∷◌, ◌++◌, Option, Some, None, All, if◌then◌else◌, get_or, length, take, drop, set, slice_index, refl, sym, ap, subst, arith}
-use Rattle.std.proofs.lemmas.List.{length-drop, length-take, take_all, take_more_set}
-use Rattle.std.proofs.lemmas.List.Elements.{All-cons, All-head, All-nil, All-push, All-tail}
-use Rattle.ufs_model.specs.Chunks.{DirEntry, entries_in, entry_before, entry_in, fault_at, has_inode, name_field, namlen_field, reclen_field}
+use Rattle.std.proofs.Common.{ℕ, zero, suc, ◌-◌, ◌<◌, ◌≤◌, Bool, true, false, List, [], ◌∷◌, Option, Some, None, All, if◌then◌else◌, length, take, drop, slice_index, arith}
+use Rattle.std.proofs.lemmas.List.{length-take}
+use Rattle.std.proofs.lemmas.List.Elements.{All-cons, All-head, All-nil, All-tail}
+use Rattle.ufs_model.specs.Chunks.{DirEntry, entries_in, entry_before, entry_in, fault_at, has_inode, namlen_field, reclen_field}
 use Rattle.ufs_model.specs.declared.chunks.BadEntry.{BadEntry}
 use Rattle.ufs_model.specs.declared.numbers.Endian.TheVariants.{Little}
 use Rattle.ufs_path.specs.Walks.{has_short_name}

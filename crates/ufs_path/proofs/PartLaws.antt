@@ -1,5 +1,5 @@
 -- Items that are read part after part, the parts end to end.
-use Rattle.std.proofs.Common.{◌≡◌, ◌∙◌, ℕ, zero, suc, ◌+◌, ◌-◌, ◌≤◌, Bool, List, [], ◌++◌, Some, None, Ok, Err, Result, Option, length, drop, refl, sym, ap, subst, arith}
+use Rattle.std.proofs.Common.{◌≡◌, ◌∙◌, ℕ, zero, suc, ◌+◌, ◌-◌, ◌≤◌, Bool, List, [], ◌++◌, Some, Ok, Err, Result, Option, length, drop, refl, sym, ap, subst, arith}
 use Rattle.std.specs.Option.{option_map}
 use Rattle.std.proofs.lemmas.List.{append_assoc, append-nil}
 use Rattle.std.proofs.Math.Seq.{drop-append_seam}
@@ -78,7 +78,7 @@ begins {front = front} are k zero v some all e1 e2 = (
 )
 begins {front = front} {part = part} are k (suc d) v some all e1 e2 =
     let one = joined_ok ((front (d + k) v).value) ((part (d + k) v).value) all
-        (e2 ∙ ap (λ j. (front j v).value) (let z : suc d + k ≡ suc (d + k) = omega arith in z) ∙ sym (ap (λ c. c.value) (are.more (d + k) v)) ∙ value_both (front (d + k)) (part (d + k)) v) in
+    (e2 ∙ ap (λ j. (front j v).value) (let z : suc d + k ≡ suc (d + k) = omega arith in z) ∙ sym (ap (λ c. c.value) (are.more (d + k) v)) ∙ value_both (front (d + k)) (part (d + k)) v) in
     let more = begins are k d v some one.0 e1 one.2 in
     (more.0 ++ one.1, one.3 ∙ ap (λ x. x ++ one.1) more.1 ∙ append_assoc some more.0 one.1)
 

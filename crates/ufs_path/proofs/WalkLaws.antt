@@ -1,9 +1,8 @@
 -- Handing on entries, some after others.
-use Rattle.std.proofs.Common.{◌≡◌, ◌∙◌, ℕ, suc, ◌+◌, ◌-◌, ◌*◌, ◌<◌, ◌≤◌, Bool, List, [], ◌∷◌, ◌++◌, Some, Ok, Err, Result, Option, drop, filter, length, min, take, refl, sym, ap, subst, arith}
+use Rattle.std.proofs.Common.{◌≡◌, ◌∙◌, ℕ, suc, ◌+◌, ◌-◌, ◌*◌, ◌<◌, ◌≤◌, Bool, List, [], ◌∷◌, ◌++◌, Some, Ok, Err, drop, take, refl, sym, ap, subst, arith}
 use Rattle.std.specs.Option.{option_map}
 use Rattle.std.proofs.lemmas.List.{append-nil, append_assoc, length-append}
 use Rattle.std.proofs.lemmas.List.Elements.{filter-append}
-use Rattle.dg_model.specs.Causes.{Rose}
 use Rattle.ufs_model.specs.Blocks.{Volume}
 use Rattle.ufs_model.specs.Chunks.{DirEntry, entries_in, is_used_entry, used_entries}
 use Rattle.ufs_model.specs.Listings.{Listed, listed_entries}
@@ -29,7 +28,7 @@ pub among_next : (count i : ℕ) (block chunk : List ℕ) (whole done : List Dir
     → whole ≡ done ++ (used_entries (entries_in Little 0 chunk) ++ entries_among (chunks_in (count - (i + 1)) (drop ((i + 1) * 512) block)))
 among_next count i block chunk whole done low is e =
     e ∙ ap (λ xs. done ++ xs) (ap entries_among (chunks_next count i block low)
-        ∙ ap (λ c. used_entries (entries_in Little 0 c) ++ entries_among (chunks_in (count - (i + 1)) (drop ((i + 1) * 512) block))) (sym is))
+    ∙ ap (λ c. used_entries (entries_in Little 0 c) ++ entries_among (chunks_in (count - (i + 1)) (drop ((i + 1) * 512) block))) (sym is))
 
 pub among_end : (count i : ℕ) (bytes : List ℕ) (whole done : List DirEntry) → count ≤ i → whole ≡ done ++ entries_among (chunks_in (count - i) bytes) → done ≡ whole
 among_end count i bytes whole done past e = sym (e ∙ ap (λ chunks. done ++ entries_among chunks) (chunks_end count i bytes past) ∙ append-nil done)

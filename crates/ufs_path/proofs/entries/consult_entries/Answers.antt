@@ -1,4 +1,4 @@
-use Rattle.std.proofs.Common.{◌++◌, ◌∙◌, [], suc, Ok, Some, add-one, arith}
+use Rattle.std.proofs.Common.{◌++◌, ◌∙◌, [], suc, add-one, arith}
 use Rattle.dg_io.specs.ViewLaws.{keeps_both, keeps_same}
 use Rattle.ufs_model.specs.Paths.{chunks_in}
 use Rattle.ufs_path.proofs.EntryLaws.{entry_fronts}

@@ -34,7 +34,7 @@ returns-in-Unread-clause-rule g c =
       read,
       front_fails_whole fronts (suc c.loop-n.n) c.args.count (refusal_of c.in-Unread.field-0) (λ b h. part.stays b (so_far.stays b h)) (omega arith)
           (front_fails fronts c.loop-n.n (handed.0) (refusal_of c.in-Unread.field-0) (λ b h. part.stays b (so_far.stays b h)) read
-              (wider _ so_far.stays (λ b h. h) so_far.stands (λ h. h) (unread.1))),
+          (wider _ so_far.stays (λ b h. h) so_far.stands (λ h. h) (unread.1))),
     )
 
 pub returns-in-Failed-clause-rule : goal.returns-in-Failed-clause-rule

@@ -1,4 +1,4 @@
-use Rattle.std.proofs.Common.{◌++◌, ◌∙◌, ◌*◌, ◌+◌, [], inl, inr, suc, add-one, ap, refl, sym, arith}
+use Rattle.std.proofs.Common.{◌++◌, ◌∙◌, [], inl, inr, suc, add-one, ap, sym, arith}
 use Rattle.std.proofs.lemmas.List.{append-nil}
 use Rattle.dg_io.specs.ViewLaws.{keeps_both, keeps_same}
 use Rattle.ufs_model.specs.Paths.{chunks_in}
@@ -75,8 +75,8 @@ returns-in-Err-clause-rule g c =
         are = inr (
           handed_later c.args.g.now block.stays block.told done.are,
           front_fails_whole fronts (suc c.loop-n.n) c.args.count (refusal_of c.in-Err.fault) (λ b h. block.stays b (so_far.stays b h)) (omega arith)
-          (front_fails fronts c.loop-n.n done.entries (refusal_of c.in-Err.fault) (λ b h. block.stays b (so_far.stays b h)) read
-          (wider _ so_far.stays (λ b h. h) so_far.stands (λ h. h) c.in-Err.ensures.rule)),
+              (front_fails fronts c.loop-n.n done.entries (refusal_of c.in-Err.fault) (λ b h. block.stays b (so_far.stays b h)) read
+              (wider _ so_far.stays (λ b h. h) so_far.stands (λ h. h) c.in-Err.ensures.rule)),
         );
       };
     }

@@ -1,6 +1,5 @@
-use Rattle.std.proofs.Common.{◌≡◌, ◌*◌, ◌≤◌, min, List, Some, Ok}
+use Rattle.std.proofs.Common.{◌≡◌, ◌*◌, ◌≤◌, min}
 use Rattle.dg_io.specs.Views.{KeepsView}
-use Rattle.ufs_model.specs.Chunks.{DirEntry}
 use Rattle.ufs_model.specs.Listings.{listed_entries}
 use Rattle.ufs_model.specs.Paths.{entries_before}
 use Rattle.ufs_model.specs.Readings.{ReadsAs}

@@ -44,7 +44,7 @@ loop-entry-preserved g c =
         handed.0 ++ used_entries (entry_of c.in-Entry.entry ∷ []),
         rw (used_front (entry_of c.in-Entry.entry) _ _ c.in-Entry.ensures.entries) at (handed.1) ∙ sym (append_assoc (handed.0) (used_entries (entry_of c.in-Entry.entry ∷ [])) (used_entries (entries_in Little 0 c.next.new.self))),
         handed_then c.args.g.now (handed.0) (used_entries (entry_of c.in-Entry.entry ∷ [])) c.loop-entry.given c.in-All.n c.args.out.now c.loop-entry.out c.list_entry.new.out g.met.O.Listing.then
-        so_far.stays step.stays so_far.stands step.told (handed.2) c.in-All.ensures.rule,
+            so_far.stays step.stays so_far.stands step.told (handed.2) c.in-All.ensures.rule,
       );
     }
 

@@ -57,7 +57,7 @@ loop-i-preserved g c =
         handed.0 ++ used_entries (entries_in Little 0 c.chunk_at-chunk.result),
         among_next c.args.count c.loop-i.i c.args.levels.now.block _ _ (handed.0) c.loop-i-test.true is (handed.1) ∙ sym (append_assoc (handed.0) (used_entries (entries_in Little 0 c.chunk_at-chunk.result)) _),
         handed_then c.args.g.now (handed.0) (used_entries (entries_in Little 0 c.chunk_at-chunk.result)) c.loop-i.given c.in-All.n c.args.out.now c.loop-i.out c.list_chunk.new.out g.met.O.Listing.then
-        so_far.stays step.stays so_far.stands step.told (handed.2) c.in-All.ensures.rule,
+            so_far.stays step.stays so_far.stands step.told (handed.2) c.in-All.ensures.rule,
       );
     }
 
