@@ -11,6 +11,8 @@ mod directories;
 mod entries;
 mod faults;
 mod files;
+#[cfg(test)]
+mod list_tests;
 mod listings;
 mod lists;
 mod looks;
