@@ -18,7 +18,7 @@ use Rattle.ufs_path.proofs.EntryLaws.{entry_fronts, lines_begin, lines_fail_whol
 use Rattle.ufs_path.proofs.PartLaws.{after_front, rest_is}
 use Rattle.ufs_path.proofs.ReadsLaws.{answer_where, both_read, none_now, refused_read, same_where, wider}
 use Rattle.ufs_path.specs.Answers.{IsAnswer, refusal_of}
-use Rattle.ufs_path.specs.Walks.{AreHanded, IsConsulted, StopsFailed, StopsUnread, Through, ThroughSome, lines_before, ls_below}
+use Rattle.ufs_path.specs.Walks.{AreHanded, AreConsulted, StopsFailed, StopsUnread, Through, ThroughSome, lines_before, ls_below}
 use Rattle.ufs_path.specs.declared.faults.LookFault.{LookFault}
 use Rattle.ufs_path.specs.declared.faults.CatAnswer.TheVariants.{Given, Cut, SinkFault}
 
@@ -103,7 +103,7 @@ given_lines took took_part faults g inode count n old new grows keeps walked = (
 -- a front of the lines, for want of a block
 pub cut_lines : {S : Type 0} (took took_part : S → List Listed → S → Type 0) (faults : S → ℕ) {stands still : Volume → Type 0} {tells told : Type 0} {before now after : ℕ → Bool} (g : Geometry) (inode : Inode) (count n : ℕ) (fault : LookFault) (old new : S)
     → Grows before now → Grows now after → ((v : Volume) → stands v → still v) → (told → tells)
-    → IsConsulted (ReadsAs stands before tells now (entries_before Little g inode count)) (λ e. ReadsAs stands before tells now (listed_entries Little g 1 e))
+    → AreConsulted (ReadsAs stands before tells now (entries_before Little g inode count)) (λ e. ReadsAs stands before tells now (listed_entries Little g 1 e))
     → ThroughSome count (λ k. ReadsAs still now told after (entries_before Little g inode k)) (λ some.
     StopsUnread took old new some (λ e. ReadsAs still now told after (listed_entries Little g 1 e)) n fault
     ⊎ (AreHanded took old new some (λ e. ReadsAs still now told after (listed_entries Little g 1 e)) n × ReadsAs still now told after (entries_before Little g inode count) (option_map Err (refusal_of fault))))
@@ -125,7 +125,7 @@ cut_lines took took_part faults g inode count n fault old new grows further keep
 -- a front of the lines, since the receiver failed
 pub failed_lines : {S : Type 0} (took took_part : S → List Listed → S → Type 0) (faults : S → ℕ) {stands still : Volume → Type 0} {tells told : Type 0} {before now after : ℕ → Bool} (g : Geometry) (inode : Inode) (count : ℕ) (old new : S)
     → ((a b : S) (x y : List Listed) → took_part a x b → took_part a (x ++ y) b) → Grows before now → Grows now after → ((v : Volume) → stands v → still v) → (told → tells)
-    → IsConsulted (ReadsAs stands before tells now (entries_before Little g inode count)) (λ e. ReadsAs stands before tells now (listed_entries Little g 1 e))
+    → AreConsulted (ReadsAs stands before tells now (entries_before Little g inode count)) (λ e. ReadsAs stands before tells now (listed_entries Little g 1 e))
     → ThroughSome count (λ k. ReadsAs still now told after (entries_before Little g inode k)) (λ some. StopsFailed took_part faults old new some (λ e. ReadsAs still now told after (listed_entries Little g 1 e)))
     → IsAnswer took took_part faults old new (ReadsAs stands before told after (lines_before Little g inode count)) SinkFault
 failed_lines took took_part faults g inode count old new part grows further keeps tell first walked =

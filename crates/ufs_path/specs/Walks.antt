@@ -105,7 +105,7 @@ IsWalked took took_part faults old new count before reads (Unread n fault) = Thr
 IsWalked took took_part faults old new count before reads Failed = ThroughSome count before (λ entries. StopsFailed took_part faults old new entries reads)
 
 -- all entries were consulted, and then the inodes that they name
-pub record IsConsulted (before : Option (Result (List DirEntry) PathRefusal) → Type 0) (reads : List DirEntry → Option (Result (List Listed) PathRefusal) → Type 0) : Type 0 where
+pub record AreConsulted (before : Option (Result (List DirEntry) PathRefusal) → Type 0) (reads : List DirEntry → Option (Result (List Listed) PathRefusal) → Type 0) : Type 0 where
   pub entries : List DirEntry
   pub lines : List Listed
   pub before_is : before (Some (Ok entries))

@@ -50,7 +50,7 @@ impl Listing for MemListing {
             self.faults = self.faults.saturating_add(1);
             return Err(Failed);
         }
-        self.room -= 1;
+        self.room = self.room.saturating_sub(1);
         Ok(())
     }
 
@@ -115,7 +115,8 @@ fn entries_of_the_root_with_a_link(rt: HostRuntime) -> Result<(), Fail> {
     put(&mut volume, LINK + 40, b"a");
     let (answer, text) = list(alloc, volume.clone()?, b"/", NOTHING, 9)?;
     assert_eq!(rt; answer, CatAnswer::Given(6));
-    let wanted = b"1 2 Directory 512 .\n1 2 Directory 512 ..\n1 3 Regular 5 a\n1 4 Directory 512 d\n1 6 Link 1 z\n1 7 Regular 5596 h\n";
+    let wanted =
+        b"1 2 Directory 512 .\n1 2 Directory 512 ..\n1 3 Regular 5 a\n1 4 Directory 512 d\n1 6 Link 1 z\n1 7 Regular 5596 h\n";
     assert!(rt; &*text == wanted.as_slice());
 
     let (answer, _) = read(alloc, volume.clone()?, b"/z", NOTHING, 8192)?;

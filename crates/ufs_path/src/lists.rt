@@ -8,7 +8,7 @@ ghost use Rattle.ufs_model.specs.Paths.{entries_before, is_path};
 ghost use Rattle.ufs_model.specs.Readings.{ReadsAs};
 ghost use Rattle.ufs_model.specs.declared.numbers.Endian.TheVariants.{Little};
 ghost use Rattle.ufs_path.specs.Answers.{IsAnswer, refusal_of};
-ghost use Rattle.ufs_path.specs.Walks.{IsConsulted, lines_before, ls_below};
+ghost use Rattle.ufs_path.specs.Walks.{AreConsulted, lines_before, ls_below};
 
 use crate::blocks::{block_count, directory_fault};
 use crate::entries::consult_entries;
@@ -38,7 +38,7 @@ fn consult_lines<V: View>(
     requires few { count ≤ 2 ^ 20 }
     ensures keeps { KeepsView V.stands_for V.tells V.is_gone V.count V.size V.is_sound V.goes_on view.old view.new }
     ensures levels { levels.new.fragment ≡ levels.old.fragment }
-    ensures ok { OnOk result (IsConsulted
+    ensures ok { OnOk result (AreConsulted
         (ReadsAs (V.stands_for view.old) (V.is_gone view.old) (V.tells view.new) (V.is_gone view.new) (entries_before Little g.now inode.now count))
         (λ entries. ReadsAs (V.stands_for view.old) (V.is_gone view.old) (V.tells view.new) (V.is_gone view.new) (listed_entries Little g.now 1 entries))) }
     ensures err { IfErr result (λ fault. ReadsAs (V.stands_for view.old) (V.is_gone view.old) (V.tells view.new) (V.is_gone view.new)
