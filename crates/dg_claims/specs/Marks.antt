@@ -1,0 +1,49 @@
+-- Which sources claim each fragment, as the table keeps it.
+use Rattle.std.specs.Prelude.{◌≡◌, ◌<◌, ◌^◌, ◌==◌, ◌↔◌, ◌⊎◌, ℕ, List, [], ◌∷◌, ◌++◌, Option, Some, None, cond, length, slice_index_or}
+use Rattle.std.specs.List.{Contains}
+use Rattle.std.specs.Global.{Vec}
+use Rattle.std.specs.Ordering.{nat_cmp}
+use Rattle.std.specs.BTreeMap.{BTreeMap, get}
+use Rattle.dg_claims.specs.Tables.{IsOnce}
+use Rattle.dg_claims.specs.declared.marks.Marks.{Marks}
+use Rattle.dg_claims.specs.declared.places.Place.{Place}
+
+-- the items of a vector that may be missing
+abbrev pub items_of : Option (Vec Place) → List Place
+items_of None = []
+items_of (Some v) = v.items
+
+-- the further sources of a fragment
+abbrev pub more_on : BTreeMap ℕ (Vec Place) → ℕ → List Place
+more_on more fragment = items_of (get nat_cmp more fragment)
+
+-- one, if there is one, and then the others
+abbrev pub joined : Option Place → List Place → List Place
+joined None others = others
+joined (Some place) others = place ∷ others
+
+-- the sources of a fragment
+unfoldable pub marked_on : Marks → ℕ → List Place
+marked_on marks fragment = joined (slice_index_or marks.first.items fragment None) (more_on marks.more fragment)
+
+-- each fragment has each source once, and fewer than 2^32
+pub record IsMarks (marks : Marks) : Type 0 where
+  pub once : (fragment : ℕ) → IsOnce (marked_on marks fragment)
+  pub few : (fragment : ℕ) → length (marked_on marks fragment) < 2 ^ 32
+
+-- there are as many fragments, and each has the sources that it had
+pub record SameMarks (old new : Marks) : Type 0 where
+  pub room : length new.first.items ≡ length old.first.items
+  pub all : (fragment : ℕ) → marked_on new fragment ≡ marked_on old fragment
+
+-- the fragment has this source too, and all else is the same
+pub record AddsMark (old new : Marks) (fragment : ℕ) (place : Place) : Type 0 where
+  pub room : length new.first.items ≡ length old.first.items
+  pub here : (other : Place) → Contains (marked_on new fragment) other ↔ (Contains (marked_on old fragment) other ⊎ (other ≡ place))
+  pub elsewhere : (other : ℕ) → (other ≡ fragment → ⊥) → marked_on new other ≡ marked_on old other
+
+-- the fragment hasn't this source any more, and all else is the same
+pub record DropsMark (old new : Marks) (fragment : ℕ) (place : Place) : Type 0 where
+  pub room : length new.first.items ≡ length old.first.items
+  pub here : (other : Place) → Contains (marked_on new fragment) other ↔ (Contains (marked_on old fragment) other × (other ≡ place → ⊥))
+  pub elsewhere : (other : ℕ) → (other ≡ fragment → ⊥) → marked_on new other ≡ marked_on old other
