@@ -1,5 +1,5 @@
 -- Which sources claim each fragment, as the table keeps it.
-use Rattle.std.specs.Prelude.{◌≡◌, ◌<◌, ◌^◌, ◌==◌, ◌↔◌, ◌⊎◌, ℕ, List, [], ◌∷◌, ◌++◌, Option, Some, None, cond, length, slice_index_or}
+use Rattle.std.specs.Prelude.{◌≡◌, ◌<◌, ◌^◌, ◌==◌, ◌↔◌, ◌⊎◌, ◌&&◌, Bool, false, not, filter, ℕ, List, [], ◌∷◌, ◌++◌, Option, Some, None, cond, length, slice_index_or}
 use Rattle.std.specs.List.{Contains}
 use Rattle.std.specs.Global.{Vec}
 use Rattle.std.specs.Ordering.{nat_cmp}
@@ -7,6 +7,7 @@ use Rattle.std.specs.BTreeMap.{BTreeMap, get}
 use Rattle.dg_claims.specs.Tables.{IsOnce}
 use Rattle.dg_claims.specs.declared.marks.Marks.{Marks}
 use Rattle.dg_claims.specs.declared.places.Place.{Place}
+use Rattle.dg_claims.specs.declared.places.Place.TheVariants.{Slot, Pointer}
 
 -- the items of a vector that may be missing
 abbrev pub items_of : Option (Vec Place) → List Place
@@ -16,6 +17,25 @@ items_of (Some v) = v.items
 -- the further sources of a fragment
 abbrev pub more_on : BTreeMap ℕ (Vec Place) → ℕ → List Place
 more_on more fragment = items_of (get nat_cmp more fragment)
+
+-- each fragment has the further sources that it had
+abbrev pub SameMore : BTreeMap ℕ (Vec Place) → BTreeMap ℕ (Vec Place) → Type 0
+SameMore old new = (fragment : ℕ) → more_on new fragment ≡ more_on old fragment
+
+-- the fragment has these further sources now, and each other one those that it had
+abbrev pub SetsMore : BTreeMap ℕ (Vec Place) → BTreeMap ℕ (Vec Place) → ℕ → List Place → Type 0
+SetsMore old new fragment places = (other : ℕ) → more_on new other ≡ cond (fragment == other) places (more_on old other)
+
+-- whether two sources are one
+abbrev pub same_place : Place → Place → Bool
+same_place (Slot inode slot) (Slot i s) = (inode == i) && (slot == s)
+same_place (Slot inode slot) (Pointer f l a) = false
+same_place (Pointer fragment level at) (Slot i s) = false
+same_place (Pointer fragment level at) (Pointer f l a) = (fragment == f) && ((level == l) && (at == a))
+
+-- the sources but this one
+abbrev pub without : Place → List Place → List Place
+without place places = filter (λ other. not (same_place other place)) places
 
 -- one, if there is one, and then the others
 abbrev pub joined : Option Place → List Place → List Place

@@ -1,5 +1,6 @@
 ghost use Rattle.std.specs.Prelude.{◌≡◌, ◌^◌, ◌≤◌, ◌<◌, IfSome, IfNone};
 ghost use Rattle.std.specs.Bool.{Decides};
+ghost use Rattle.dg_claims.specs.Marks.{same_place};
 ghost use Rattle.dg_claims.specs.Places.{index_of, place_of, source_of};
 
 use ufs_model::ClaimSource;
@@ -15,7 +16,8 @@ pub enum Place {
 
 /// Whether two sources are one.
 pub fn is_same(one: Place, other: Place) -> bool
-    ensures { Decides result (one ≡ other) }
+    ensures same { Decides result (one ≡ other) }
+    ensures test { result ≡ same_place one other }
 {
     one == other
 }
