@@ -1,5 +1,5 @@
 -- Which sources claim each fragment, as the table keeps it.
-use Rattle.std.specs.Prelude.{◌≡◌, ◌<◌, ◌^◌, ◌==◌, ◌↔◌, ◌⊎◌, ◌&&◌, Bool, false, not, filter, ℕ, List, [], ◌∷◌, ◌++◌, Option, Some, None, cond, length, slice_index_or}
+use Rattle.std.specs.Prelude.{◌≡◌, ◌<◌, ◌≤◌, ◌+◌, ◌^◌, ◌==◌, ◌↔◌, ◌⊎◌, ◌&&◌, Bool, false, not, filter, ℕ, List, [], ◌∷◌, ◌++◌, Option, Some, None, cond, length, slice_index_or}
 use Rattle.std.specs.List.{Contains}
 use Rattle.std.specs.Global.{Vec}
 use Rattle.std.specs.Ordering.{nat_cmp}
@@ -67,3 +67,9 @@ pub record DropsMark (old new : Marks) (fragment : ℕ) (place : Place) : Type 0
   pub room : length new.first.items ≡ length old.first.items
   pub here : (other : Place) → Contains (marked_on new fragment) other ↔ (Contains (marked_on old fragment) other × (other ≡ place → ⊥))
   pub elsewhere : (other : ℕ) → (other ≡ fragment → ⊥) → marked_on new other ≡ marked_on old other
+
+-- the source is taken from so many fragments from one on, and all else is the same
+pub record Unmarks (old new : Marks) (place : Place) (first count : ℕ) : Type 0 where
+  pub room : length new.first.items ≡ length old.first.items
+  pub here : (fragment : ℕ) → Contains (marked_on new fragment) place ↔ (Contains (marked_on old fragment) place × (first ≤ fragment → first + count ≤ fragment))
+  pub others : (fragment : ℕ) (other : Place) → (other ≡ place → ⊥) → Contains (marked_on new fragment) other ↔ Contains (marked_on old fragment) other

@@ -4,8 +4,11 @@
 //! Addresses are counted in fragments, and fragment f is block f of the view.
 #![tactic(auto)]
 
+mod claims;
 mod marks;
 mod places;
 mod runs;
+mod spans;
 
+pub use crate::claims::Claims;
 pub use ufs_model::{ClaimSource, Geometry, Inode};

@@ -1,0 +1,19 @@
+use Rattle.std.proofs.Common.{◌∙◌, arith, refl, sym, ap, ◌+◌}
+use Rattle.dg_claims.proofs.KeptLaws.{added_dropped, extended, next_fresh, same_kept, same_marked}
+use Rattle.dg_claims.proofs.claims.Claims.extend.Goals as goal
+
+pub overflow_add-fragment : goal.overflow_add-fragment
+overflow_add-fragment c = let fits = c.requires.run.fits in omega (arith, c.from.ensures, c.requires.more)
+
+pub add-requires-clause-fresh : goal.add-requires-clause-fresh
+add-requires-clause-fresh c =
+    next_fresh c.self.inside c.args.self.now c.args.place c.args.run.first c.args.done _ c.self.view_is c.self.invariant c.requires.so_far (ap (λ n. c.args.run.first + n) c.from.ensures)
+
+pub invariant_of-self : goal.invariant_of-self
+invariant_of-self c = same_kept c.self.inside _ _ c.self.invariant refl c.in_err-add.ensures.sound (same_marked _ _ c.in_err-add.ensures.added)
+
+pub invariant_of-self-in-Ok : goal.invariant_of-self-in-Ok
+invariant_of-self-in-Ok c = ?
+
+pub invariant_of-self-in-Err : goal.invariant_of-self-in-Err
+invariant_of-self-in-Err c = ?
