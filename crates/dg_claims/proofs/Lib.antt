@@ -1,5 +1,7 @@
 pub mod KeptLaws
 pub mod ListLaws
 pub mod MarkLaws
+pub mod OwnerLaws
 pub mod RunLaws
+pub mod SourceLaws
 pub mod SpanLaws

@@ -63,3 +63,12 @@ pub record IsKept (inside : Inside) : Type 0 where
 abbrev pub run_so_far : ℕ → ℕ → Option Run
 run_so_far first zero = None
 run_so_far first (suc done) = Some (record { first = first; count = suc done })
+
+-- The first n of some places claim these fragments now, and each other place claims what it claimed.
+pub record SetsFirst (old new : List (Place × Run)) (place_at : ℕ → Place) (fragments : ℕ → List ℕ) (n : ℕ) : Type 0 where
+  pub done : (k : ℕ) → k < n → run_fragments (run_at new (place_at k)) ≡ fragments k
+  pub others : (place : Place) → ((k : ℕ) → k < n → place ≡ place_at k → ⊥) → run_at new place ≡ run_at old place
+
+-- each source that claims anything is one of the volume
+abbrev pub HasSources : KeptClaims → Type 0
+HasSources kept = (place : Place) → IfSome (run_at kept.runs place) (λ run. IsSource kept.geometry place)

@@ -1,18 +1,33 @@
-ghost use Rattle.std.specs.Prelude.{◌≡◌, ◌+◌, ◌<◌, ℕ, Some, None, [], IfOk, IfSome, OnOk, length};
+ghost use Rattle.std.specs.Prelude.{◌≡◌, ◌+◌, ◌*◌, ◌<◌, ◌≤◌, ℕ, Some, None, [], IfNone, IfOk, IfSome, OnOk, length, true, false};
+ghost use Rattle.ufs_model.specs.Claims.{IsOnlyClaim};
 ghost use Rattle.ufs_model.specs.Geometries.{IsGeometry};
+ghost use Rattle.ufs_model.specs.Roles.{is_within};
 ghost use Rattle.ufs_model.specs.declared.claims.ClaimSource.{ClaimSource};
-ghost use Rattle.dg_claims.specs.Kept.{IsRun, IsSource, run_so_far, size_in, table_of};
+ghost use Rattle.ufs_model.specs.declared.geometries.Geometry.{Geometry};
+ghost use Rattle.dg_claims.specs.Kept.{HasSources, IsRun, IsSource, run_so_far, size_in, table_of};
 ghost use Rattle.dg_claims.specs.Marks.{IsMarks, Unmarks};
 ghost use Rattle.dg_claims.specs.Runs.{run_at};
+ghost use Rattle.dg_claims.specs.Places.{place_of};
+ghost use Rattle.dg_claims.specs.Tables.{AreClaimants, fragment_pointers, inode_fragments};
 ghost use Rattle.dg_claims.specs.declared.places.Place.{Place};
 
 use crate::marks::Marks;
-use crate::places::Place;
+use crate::places::{Place, place_of, source_of};
 use crate::runs::{Run, Runs};
+use crate::spans::{pointer_run, slot_run};
 use dg_io::NoMemory;
 use std::alloc::Global;
 use std::marker::Model;
-use ufs_model::Geometry;
+use ufs_model::{ClaimSource, Geometry, Inode};
+
+/// The first inode that may claim anything (`ROOTINO`).
+const FIRST_INODE: u32 = 2;
+
+/// Slots of an inode (`NDADDR`, `NIADDR`).
+const SLOTS: u8 = 15;
+
+/// Bytes of a pointer (`daddr_t`).
+const POINTER_BYTES: u32 = 4;
 
 /// The claims of a volume: what each slot and each pointer claims.
 #[derive(Drop)]
@@ -56,6 +71,107 @@ impl Claims {
             runs: Runs::new(alloc),
             marks,
         })
+    }
+
+    /// The geometry.
+    fn geometry(&self) -> Option<Geometry>
+        ensures value { result ≡ self.now.geometry }
+        ensures geometry { IfSome result IsGeometry }
+        ensures sources { HasSources self.now }
+    {
+        self.geometry
+    }
+
+    /// The geometry, where the inode is one from 2 to the last.
+    fn geometry_with(&self, number: u32) -> Option<Geometry>
+        ensures value { IfSome result (λ g. self.now.geometry ≡ Some g) }
+        ensures geometry { IfSome result IsGeometry }
+        ensures number { IfSome result (λ g. is_within 2 (g.ncg * g.ipg) number ≡ true) }
+        ensures none { IfNone result ((g : Geometry) → self.now.geometry ≡ Some g → is_within 2 (g.ncg * g.ipg) number ≡ false) }
+        ensures sources { HasSources self.now }
+    {
+        let g = self.geometry()?;
+        if number < FIRST_INODE || g.ncg * g.ipg <= number {
+            return None;
+        }
+        Some(g)
+    }
+
+    /// The slots of an inode claim what the inode says, and nothing that they claimed before. A number below 2 or past the
+    /// last one is no inode's: its slots claim nothing.
+    #[tactic(auto, using(crate::proofs::SourceLaws::no_inode, crate::proofs::SourceLaws::other_slots, crate::proofs::SourceLaws::all_slots))]
+    pub fn of_inode(&mut self, number: u32, inode: &Inode) -> Result<(), NoMemory>
+        ensures geometry { (table_of self.new).geometry ≡ (table_of self.old).geometry }
+        ensures slots { OnOk result ((slot : ℕ) → (table_of self.new).claimed (ClaimSource.Slot number slot) ≡ inode_fragments (table_of self.old).geometry number inode.now slot) }
+        ensures others { (source : ClaimSource) → ((slot : ℕ) → source ≡ ClaimSource.Slot number slot → ⊥) → (table_of self.new).claimed source ≡ (table_of self.old).claimed source }
+    {
+        let Some(g) = self.geometry_with(number) else {
+            return Ok(());
+        };
+        for slot in 0..SLOTS {
+            let place = Place::Slot {
+                inode: number,
+                slot,
+            };
+            self.set(place, slot_run(&g, inode, slot))?;
+        }
+        Ok(())
+    }
+
+    /// The pointers of a fragment that has a claim at a level, 1 to 3, claim what its bytes say, and nothing that they claimed
+    /// before.
+    #[tactic(auto, using(crate::proofs::SourceLaws::no_pointer, crate::proofs::SourceLaws::other_pointers, crate::proofs::SourceLaws::all_pointers))]
+    pub fn of_pointers(&mut self, fragment: u32, level: u8, bytes: &[u8]) -> Result<(), NoMemory>
+        requires low { 1 ≤ level }
+        requires high { level ≤ 3 }
+        requires bytes { IfSome (table_of self.old).geometry (λ g. length bytes.now ≡ g.fsize) }
+        ensures geometry { (table_of self.new).geometry ≡ (table_of self.old).geometry }
+        ensures pointers { OnOk result ((at : ℕ) → (table_of self.new).claimed (ClaimSource.Pointer fragment level at) ≡ fragment_pointers (table_of self.old).geometry bytes.now at) }
+        ensures others { (source : ClaimSource) → ((at : ℕ) → source ≡ ClaimSource.Pointer fragment level at → ⊥) → (table_of self.new).claimed source ≡ (table_of self.old).claimed source }
+    {
+        let Some(g) = self.geometry() else {
+            return Ok(());
+        };
+        for at in 0..g.fsize / POINTER_BYTES {
+            let place = Place::Pointer {
+                fragment,
+                level,
+                at: at as u16,
+            };
+            self.set(place, pointer_run(&g, bytes, at))?;
+        }
+        Ok(())
+    }
+
+    /// The source claims nothing from now on.
+    pub fn remove_source(&mut self, source: &ClaimSource)
+        ensures geometry { (table_of self.new).geometry ≡ (table_of self.old).geometry }
+        ensures removed { (table_of self.new).claimed source.now ≡ [] }
+        ensures others { (other : ClaimSource) → (other ≡ source.now → ⊥) → (table_of self.new).claimed other ≡ (table_of self.old).claimed other }
+    {
+        self.geometry();
+        if let Some(place) = place_of(*source) {
+            self.clear(place);
+        }
+    }
+
+    /// How many sources claim the fragment.
+    pub fn claims_on(&self, fragment: u32) -> u32
+        ensures { AreClaimants (table_of self.now).claimed fragment result }
+    {
+        self.marks.count(fragment)
+    }
+
+    /// The source of a fragment that has one claim.
+    pub fn claim(&self, fragment: u32) -> Option<ClaimSource>
+        ensures only { IfSome result (IsOnlyClaim (table_of self.now).claimed fragment) }
+        ensures none { IfNone result ((source : ClaimSource) → IsOnlyClaim (table_of self.now).claimed fragment source → ⊥) }
+        ensures source { IfSome result (λ source. IsSource (table_of self.now).geometry (place_of source)) }
+    {
+        match self.marks.only(fragment) {
+            Some(place) => Some(source_of(place)),
+            None => None,
+        }
     }
 
     /// The source claims one more fragment, behind those of its run so far.

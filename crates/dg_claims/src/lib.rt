@@ -6,6 +6,7 @@
 
 mod claims;
 mod marks;
+mod owners;
 mod places;
 mod runs;
 mod spans;
