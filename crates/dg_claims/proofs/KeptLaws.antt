@@ -1,5 +1,5 @@
 -- What a change of the run of one source does to a kept table.
-use Rattle.std.proofs.Common.{◌≡◌, ℕ, zero, suc, ◌+◌, ◌^◌, ◌<◌, ◌≤◌, ◌⊎◌, ◌↔◌, ◌∙◌, inl, inr, List, [], ◌∷◌, Bool, true, false, Contains, Option, Some, None, IfSome, length, refl, sym, ap, subst, arith, Decides, Result, Ok, Err, MatchResult}
+use Rattle.std.proofs.Common.{◌≡◌, ℕ, suc, ◌+◌, ◌^◌, ◌<◌, ◌≤◌, ◌⊎◌, ◌↔◌, ◌∙◌, inl, inr, List, [], Bool, true, false, Contains, Option, Some, None, IfSome, length, refl, sym, ap, subst, arith, Decides}
 use Rattle.std.proofs.lemmas.Bool.{cases_eq, false≢true}
 use Rattle.ufs_model.specs.Claims.{fragments_from}
 use Rattle.ufs_model.specs.Geometries.{IsGeometry}
@@ -65,12 +65,12 @@ remade old new place is made = record {
   marked = λ fragment other. elim (place_cases other place) [
     | inl same ↦ subst (λ p. Contains (marked_on new.marks fragment) p ↔ Contains (run_fragments (run_at new.runs.map.entries p)) fragment) (sym same) (made.here fragment)
     | inr apart ↦
-      let marks = made.marked fragment other apart in
-      let was = is.marked fragment other in
-      let same = made.others other apart in (
-        λ has. subst (λ run. Contains (run_fragments run) fragment) (sym same) (was.0 (marks.0 has)),
-        λ has. marks.1 (was.1 (subst (λ run. Contains (run_fragments run) fragment) same has)),
-      )
+        let marks = made.marked fragment other apart in
+        let was = is.marked fragment other in
+        let same = made.others other apart in (
+          λ has. subst (λ run. Contains (run_fragments run) fragment) (sym same) (was.0 (marks.0 has)),
+          λ has. marks.1 (was.1 (subst (λ run. Contains (run_fragments run) fragment) same has)),
+        )
   ];
 }
 
@@ -103,25 +103,25 @@ grown_marks old new place first done at adds next was fragment = elim (cases_eq 
     λ both. subst (λ f. Contains (marked_on new f) place) (sym same) ((adds.here place).1 (inr refl)),
   )
   | inr apart ↦
-    let stays = adds.elsewhere fragment apart in (
-      λ has. let both = (was fragment).0 (subst (λ xs. Contains xs place) stays has) in (both.0, omega (arith, both.1)),
-      λ both. subst (λ xs. Contains xs place) (sym stays) ((was fragment).1 (both.0, omega (arith, both.1, apart, next))),
-    )
+      let stays = adds.elsewhere fragment apart in (
+        λ has. let both = (was fragment).0 (subst (λ xs. Contains xs place) stays has) in (both.0, omega (arith, both.1)),
+        λ both. subst (λ xs. Contains xs place) (sym stays) ((was fragment).1 (both.0, omega (arith, both.1, apart, next))),
+      )
 ]
 
 added_others : (old new : Marks) (place other : Place) (at : ℕ) → AddsMark old new at place → (other ≡ place → ⊥)
     → (fragment : ℕ) → Contains (marked_on new fragment) other ↔ Contains (marked_on old fragment) other
 added_others old new place other at adds ne fragment = elim (cases_eq fragment at) [
   | inl same ↦
-    subst (λ f. Contains (marked_on new f) other ↔ Contains (marked_on old f) other) (sym same) (
-      λ has. elim ((adds.here other).0 has) [ inl h ↦ h | inr e ↦ absurd (ne e) ],
-      λ has. (adds.here other).1 (inl has),
-    )
+      subst (λ f. Contains (marked_on new f) other ↔ Contains (marked_on old f) other) (sym same) (
+        λ has. elim ((adds.here other).0 has) [ inl h ↦ h | inr e ↦ absurd (ne e) ],
+        λ has. (adds.here other).1 (inl has),
+      )
   | inr apart ↦
-    let stays = adds.elsewhere fragment apart in (
-      λ has. subst (λ xs. Contains xs other) stays has,
-      λ has. subst (λ xs. Contains xs other) (sym stays) has,
-    )
+      let stays = adds.elsewhere fragment apart in (
+        λ has. subst (λ xs. Contains xs other) stays has,
+        λ has. subst (λ xs. Contains xs other) (sym stays) has,
+      )
 ]
 
 pub extended : (old : Inside) (kept : KeptClaims) (runs : Runs) (marks : Marks) (place : Place) (first done at count : ℕ) → kept_of old ≡ kept → IsKept old
@@ -189,15 +189,15 @@ added_dropped old middle new at place fresh adds drops = record {
   room = drops.room ∙ adds.room;
   marked = λ fragment other. elim (cases_eq fragment at) [
     | inl same ↦
-      subst (λ f. Contains (marked_on new f) other ↔ Contains (marked_on old f) other) (sym same) (
-        λ has. let both = (drops.here other).0 has in elim ((adds.here other).0 (both.0)) [ inl h ↦ h | inr e ↦ absurd (both.1 e) ],
-        λ has. (drops.here other).1 ((adds.here other).1 (inl has), λ e. fresh (subst (λ p. Contains (marked_on old at) p) e has)),
-      )
+        subst (λ f. Contains (marked_on new f) other ↔ Contains (marked_on old f) other) (sym same) (
+          λ has. let both = (drops.here other).0 has in elim ((adds.here other).0 (both.0)) [ inl h ↦ h | inr e ↦ absurd (both.1 e) ],
+          λ has. (drops.here other).1 ((adds.here other).1 (inl has), λ e. fresh (subst (λ p. Contains (marked_on old at) p) e has)),
+        )
     | inr apart ↦
-      let stays : marked_on new fragment ≡ marked_on old fragment = drops.elsewhere fragment apart ∙ adds.elsewhere fragment apart in (
-        λ has. subst (λ xs. Contains xs other) stays has,
-        λ has. subst (λ xs. Contains xs other) (sym stays) has,
-      )
+        let stays : marked_on new fragment ≡ marked_on old fragment = drops.elsewhere fragment apart ∙ adds.elsewhere fragment apart in (
+          λ has. subst (λ xs. Contains xs other) stays has,
+          λ has. subst (λ xs. Contains xs other) (sym stays) has,
+        )
   ];
 }
 
@@ -220,22 +220,22 @@ unmarks_more old middle new place first done count at part drops next more = rec
       λ both. absurd (omega (arith, both.1 (omega (arith, same, next)), same, next, more)),
     )
     | inr apart ↦
-      let stays = drops.elsewhere fragment apart in (
-        λ has. let both = before.0 (subst (λ xs. Contains xs place) stays has) in (both.0, λ le. let past = both.1 le in omega (arith, past, apart, next, more)),
-        λ both. subst (λ xs. Contains xs place) (sym stays) (before.1 (both.0, λ le. let past = both.1 le in omega (arith, past, more))),
-      )
+        let stays = drops.elsewhere fragment apart in (
+          λ has. let both = before.0 (subst (λ xs. Contains xs place) stays has) in (both.0, λ le. let past = both.1 le in omega (arith, past, apart, next, more)),
+          λ both. subst (λ xs. Contains xs place) (sym stays) (before.1 (both.0, λ le. let past = both.1 le in omega (arith, past, more))),
+        )
   ];
   others = λ fragment other ne. let before = part.others fragment other ne in elim (cases_eq fragment at) [
     | inl same ↦
-      let here = drops.here other in (
-        λ has. before.0 (subst (λ f. Contains (marked_on middle f) other) (sym same) ((here.0 (subst (λ f. Contains (marked_on new f) other) same has)).0)),
-        λ has. subst (λ f. Contains (marked_on new f) other) (sym same) (here.1 (subst (λ f. Contains (marked_on middle f) other) same (before.1 has), ne)),
-      )
+        let here = drops.here other in (
+          λ has. before.0 (subst (λ f. Contains (marked_on middle f) other) (sym same) ((here.0 (subst (λ f. Contains (marked_on new f) other) same has)).0)),
+          λ has. subst (λ f. Contains (marked_on new f) other) (sym same) (here.1 (subst (λ f. Contains (marked_on middle f) other) same (before.1 has), ne)),
+        )
     | inr apart ↦
-      let stays = drops.elsewhere fragment apart in (
-        λ has. before.0 (subst (λ xs. Contains xs other) stays has),
-        λ has. subst (λ xs. Contains xs other) (sym stays) (before.1 has),
-      )
+        let stays = drops.elsewhere fragment apart in (
+          λ has. before.0 (subst (λ xs. Contains xs other) stays has),
+          λ has. subst (λ xs. Contains xs other) (sym stays) (before.1 has),
+        )
   ];
 }
 
@@ -254,10 +254,10 @@ cleared old runs marks place run is was sound drops none others =
       here = λ fragment.
           let covers = contains_run run fragment in (
             λ has.
-              let both = (drops.here fragment).0 has in
-              let within = covers.0 (subst (λ r. Contains (run_fragments r) fragment) was ((is.marked fragment place).0 (both.0))) in
-              let past = both.1 (within.0) in
-              absurd (omega (arith, within.1, past)),
+                let both = (drops.here fragment).0 has in
+                let within = covers.0 (subst (λ r. Contains (run_fragments r) fragment) was ((is.marked fragment place).0 (both.0))) in
+                let past = both.1 (within.0) in
+                absurd (omega (arith, within.1, past)),
             λ has. absurd (contains_none fragment (subst (λ r. Contains (run_fragments r) fragment) none has)),
           );
     })

@@ -1,11 +1,11 @@
 -- What a change of the sources of one fragment does.
-use Rattle.std.proofs.Common.{◌≡◌, ◌≢◌, ℕ, zero, suc, ◌+◌, ◌^◌, ◌<◌, ◌≤◌, ◌⊎◌, ◌↔◌, ◌∙◌, ◌==◌, inl, inr, List, [], ◌∷◌, ◌++◌, Bool, true, false, cond, not, Contains, Option, Some, None, length, filter, set, get_or, refl, sym, ap, subst, arith, is_none, is_some, length-append, ◌-◌, get_or-set_same, get_or-set_other, MatchResult, Result, Ok, Err, Decides}
+use Rattle.std.proofs.Common.{◌≡◌, ℕ, ◌+◌, ◌^◌, ◌<◌, ◌≤◌, ◌↔◌, ◌∙◌, ◌==◌, inl, inr, List, [], ◌∷◌, ◌++◌, Bool, true, false, cond, not, Contains, Option, Some, None, length, get_or, refl, sym, ap, subst, arith, is_none, is_some, length-append, ◌-◌, get_or-set_same, get_or-set_other, MatchResult, Result, Ok, Err, Decides}
 use Rattle.std.specs.Prelude.{slice_index_or, slice_set}
 use Rattle.std.proofs.lemmas.Bool.{cases_eq, false≢true}
 use Rattle.std.proofs.lemmas.Bool.Decides.{nat_tests}
 use Rattle.std.proofs.lemmas.List.{get_or_default}
-use Rattle.dg_claims.proofs.ListLaws.{contains_cons, contains_filter, contains_last, contains_none, length_filter, once_filter, once_last}
-use Rattle.dg_claims.specs.Marks.{AddsMark, DropsMark, IsMarks, SameMarks, SameMore, SetsMore, items_of, joined, marked_on, more_on, same_place, without}
+use Rattle.dg_claims.proofs.ListLaws.{contains_cons, contains_filter, contains_last, length_filter, once_filter, once_last}
+use Rattle.dg_claims.specs.Marks.{AddsMark, DropsMark, IsMarks, SameMarks, SameMore, SetsMore, joined, marked_on, more_on, same_place, without}
 use Rattle.dg_claims.specs.Tables.{IsOnce}
 use Rattle.dg_claims.specs.declared.marks.Marks.{Marks}
 use Rattle.dg_claims.specs.declared.places.Place.{Place}
@@ -179,7 +179,7 @@ pub added_more : {A E : Type 0} (r : Result A E) (old new : Marks) (fragment : �
 added_more (Ok a) old new fragment place sound fresh few some firsts more =
     let is = last_is old new fragment place some (on_more old new fragment (more_on old.more fragment ++ place ∷ []) firsts more) in
     let off : (other : ℕ) → (other ≡ fragment → ⊥) → marked_on new other ≡ marked_on old other =
-        λ other apart. off_more old new fragment other (more_on old.more fragment ++ place ∷ []) firsts more apart in (
+    λ other apart. off_more old new fragment other (more_on old.more fragment ++ place ∷ []) firsts more apart in (
       set_sources old new fragment (marked_on old fragment ++ place ∷ []) sound (once_last (marked_on old fragment) place (sound.once fragment) fresh)
           (omega (arith, length_last (marked_on old fragment) place)) is off,
       adds_last old new fragment place (ap (λ v. length v.items) firsts) is off,
@@ -247,7 +247,7 @@ dropped_more old new fragment place sound apart firsts more =
     let further = more_on old.more fragment in
     let is : marked_on new fragment ≡ joined one (without place further) = on_more old new fragment (without place further) firsts more in
     let off : (other : ℕ) → (other ≡ fragment → ⊥) → marked_on new other ≡ marked_on old other =
-        λ other ne. off_more old new fragment other (without place further) firsts more ne in
+    λ other ne. off_more old new fragment other (without place further) firsts more ne in
     let small = joined_length one further place in
     let few = sound.few fragment in (
       set_sources old new fragment (joined one (without place further)) sound (joined_once one further place (sound.once fragment)) (omega arith) is off,

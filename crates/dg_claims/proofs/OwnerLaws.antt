@@ -1,5 +1,5 @@
 -- The sources of a fragment, and its owner.
-use Rattle.std.proofs.Common.{◌≡◌, ℕ, zero, suc, ◌+◌, ◌<◌, ◌≤◌, ◌⊎◌, ◌↔◌, ◌∙◌, inl, inr, List, [], ◌∷◌, Contains, Option, Some, None, IfSome, length, map, refl, sym, ap, subst, arith}
+use Rattle.std.proofs.Common.{◌≡◌, ℕ, suc, ◌↔◌, ◌∙◌, inl, inr, List, [], ◌∷◌, Contains, Option, Some, None, IfSome, IfNone, length, map, refl, sym, ap, subst}
 use Rattle.ufs_model.specs.Claims.{IsOnlyClaim, IsOwner, by_own_slot, by_upper, level_of}
 use Rattle.ufs_model.specs.declared.claims.ClaimSource.{ClaimSource}
 use Rattle.ufs_model.specs.declared.claims.ClaimSource.TheVariants.{Slot, Pointer}
@@ -7,7 +7,7 @@ use Rattle.ufs_model.specs.declared.geometries.Geometry.{Geometry}
 use Rattle.dg_claims.proofs.ListLaws.{contains_cons, contains_none}
 use Rattle.dg_claims.proofs.SourceLaws.{place_is, source_is}
 use Rattle.dg_claims.specs.Kept.{IsKept, IsRun, IsSource, KeptClaims, claimed_by, kept_of, size_in}
-use Rattle.dg_claims.specs.Marks.{IsMarks, marked_on}
+use Rattle.dg_claims.specs.Marks.{marked_on}
 use Rattle.dg_claims.specs.Places.{place_of, source_of}
 use Rattle.dg_claims.specs.Runs.{run_at, run_fragments}
 use Rattle.dg_claims.specs.Tables.{AreClaimants, IsOnce}
@@ -99,8 +99,8 @@ pub no_claim : (inside : Inside) (kept : KeptClaims) (fragment : ℕ) → kept_o
 no_claim inside kept fragment view is many source one =
     many (one_only (marked_on inside.marks fragment) (place_of source) (is.marks.once fragment) ((claims_marked inside kept fragment source view is).1 one.claim)
     (λ other has.
-      let told : source_of other ≡ source = one.only (source_of other) ((claims_marked inside kept fragment (source_of other) view is).0 (subst (λ p. Contains (marked_on inside.marks fragment) p) (sym (place_is other)) has)) in
-      sym (place_is other) ∙ ap place_of told))
+    let told : source_of other ≡ source = one.only (source_of other) ((claims_marked inside kept fragment (source_of other) view is).0 (subst (λ p. Contains (marked_on inside.marks fragment) p) (sym (place_is other)) has)) in
+    sym (place_is other) ∙ ap place_of told))
 
 -- ---- owners
 
@@ -130,3 +130,31 @@ owner_upper claimed fragment upper above at one none inode level (by_own_slot {s
 owner_upper claimed fragment upper above at one none inode level (by_upper {upper = u} {at = t} {above = a} other is owner) =
     let same = one.only (Pointer u a t) other.claim in
     none inode (subst (λ x. IsOwner claimed x inode above) (upper_is u a t upper above at same) (subst (λ x. IsOwner claimed u inode x) (above_is u a t upper above at same) owner))
+
+-- ---- the answers of the calls
+
+pub if_none : {X P : Type 0} (o : Option X) → P → IfNone o P
+if_none None p = p
+if_none (Some x) p = tt
+
+pub owner_through : (claimed : ClaimSource → List ℕ) (fragment upper above at level : ℕ) (source : ClaimSource) (r : Option ℕ) → source ≡ Pointer upper above at
+    → IsOnlyClaim claimed fragment source → level_of source ≡ level → IfSome r (λ inode. IsOwner claimed upper inode above) → IfSome r (λ inode. IsOwner claimed fragment inode level)
+owner_through claimed fragment upper above at level source None is one same owner = tt
+owner_through claimed fragment upper above at level source (Some inode) is one same owner =
+    by_upper (subst (λ s. IsOnlyClaim claimed fragment s) is one) (ap level_of (sym is) ∙ same) owner
+
+pub owner_not_through : (claimed : ClaimSource → List ℕ) (fragment upper above at : ℕ) (source : ClaimSource) (r : Option ℕ) → source ≡ Pointer upper above at
+    → IsOnlyClaim claimed fragment source → IfNone r ((inode : ℕ) → IsOwner claimed upper inode above → ⊥)
+    → (level : ℕ) → IfNone r ((inode : ℕ) → IsOwner claimed fragment inode level → ⊥)
+owner_not_through claimed fragment upper above at source (Some inode) is one none level = tt
+owner_not_through claimed fragment upper above at source None is one none level =
+    λ inode. owner_upper claimed fragment upper above at (subst (λ s. IsOnlyClaim claimed fragment s) is one) none inode level
+
+pub owner_own : (claimed : ClaimSource → List ℕ) (fragment inode slot level : ℕ) (source : ClaimSource) → source ≡ Slot inode slot → IsOnlyClaim claimed fragment source → level_of source ≡ level
+    → IsOwner claimed fragment inode level
+owner_own claimed fragment inode slot level source is one same = by_own_slot (subst (λ s. IsOnlyClaim claimed fragment s) is one) (ap level_of (sym is) ∙ same)
+
+pub owner_one_level : (claimed : ClaimSource → List ℕ) (fragment level : ℕ) (source : ClaimSource) → IsOnlyClaim claimed fragment source → level ≡ level_of source
+    → ((inode : ℕ) → IsOwner claimed fragment inode level → ⊥) → (inode other : ℕ) → IsOwner claimed fragment inode other → ⊥
+owner_one_level claimed fragment level source one is none inode other owner =
+    none inode (subst (λ n. IsOwner claimed fragment inode n) (sym (owner_level claimed fragment source one inode other owner) ∙ sym is) owner)

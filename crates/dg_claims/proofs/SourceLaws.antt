@@ -1,5 +1,5 @@
 -- What the sources of an inode, and those of a fragment, claim in the end.
-use Rattle.std.proofs.Common.{◌≡◌, ℕ, zero, suc, ◌+◌, ◌*◌, ◌/◌, ◌<◌, ◌≤◌, ◌⊎◌, ◌∙◌, ◌==◌, ◌&&◌, inl, inr, List, [], ◌∷◌, Bool, true, false, cond, Option, Some, None, IfSome, nat_lt, nat_le, refl, sym, ap, subst, arith, div-le_self, ◌^◌, if◌then◌else◌}
+use Rattle.std.proofs.Common.{◌≡◌, ℕ, ◌+◌, ◌*◌, ◌/◌, ◌<◌, ◌≤◌, ◌⊎◌, ◌∙◌, ◌&&◌, inl, inr, List, [], Bool, true, false, cond, Option, Some, None, IfSome, nat_lt, refl, sym, ap, subst, arith, div-le_self, ◌^◌}
 use Rattle.std.proofs.lemmas.Bool.{cases_eq, false≢true}
 use Rattle.std.proofs.lemmas.Bool.Decides.{nat_tests}
 use Rattle.ufs_model.specs.Claims.{slot_fragments, pointer_fragments, fragments_at}
@@ -12,8 +12,7 @@ use Rattle.ufs_model.specs.declared.claims.ClaimSource.TheVariants.{Slot, Pointe
 use Rattle.ufs_model.specs.declared.geometries.Geometry.{Geometry}
 use Rattle.ufs_model.specs.declared.inodes.Inode.{Inode}
 use Rattle.ufs_model.specs.declared.numbers.Endian.TheVariants.{Little}
-use Rattle.dg_claims.proofs.KeptLaws.{place_cases}
-use Rattle.dg_claims.specs.Kept.{HasSources, IsSource, IsSourceOf, KeptClaims, SetsFirst, claimed_by}
+use Rattle.dg_claims.specs.Kept.{HasSources, IsSource, KeptClaims, SetsFirst, claimed_by}
 use Rattle.dg_claims.specs.Places.{index_of, place_of, source_of}
 use Rattle.dg_claims.specs.Runs.{run_at, run_fragments}
 use Rattle.dg_claims.specs.Tables.{fragment_pointers, inode_fragments}
@@ -108,8 +107,8 @@ all_slots kept g number inode new sources is within first slot =
     subst (λ o. run_fragments (run_at new (SlotPlace number slot)) ≡ inode_fragments o number inode slot) (sym is) (elim (slot_cases slot) [
       | inl lt ↦ first.done slot lt ∙ sym wanted
       | inr le ↦
-        ap run_fragments (first.others (SlotPlace number slot) (λ k lt e. omega (arith, slot_apart number slot k e, lt, le)) ∙ no_slot kept g number slot sources is le)
-        ∙ sym (past_slots g inode slot le) ∙ sym wanted
+          ap run_fragments (first.others (SlotPlace number slot) (λ k lt e. omega (arith, slot_apart number slot k e, lt, le)) ∙ no_slot kept g number slot sources is le)
+          ∙ sym (past_slots g inode slot le) ∙ sym wanted
     ])
 
 place_apart : (source : ClaimSource) (place : Place) → (source ≡ source_of place → ⊥) → place_of source ≡ place → ⊥
@@ -130,13 +129,13 @@ unfolding claimed_by inode_fragments
 no_inode kept number inode sources out slot =
     elim (kept.geometry) as (λ o. kept.geometry ≡ o → run_fragments (run_at kept.runs (SlotPlace number slot)) ≡ inode_fragments o number inode slot) [
       | None ↦ λ is. ap run_fragments (none_from (λ run. IsSource kept.geometry (SlotPlace number slot)) (run_at kept.runs (SlotPlace number slot)) (sources (SlotPlace number slot))
-        (λ run h. subst (λ o. IsSource o (SlotPlace number slot)) is h))
+          (λ run h. subst (λ o. IsSource o (SlotPlace number slot)) is h))
       | Some g ↦ λ is.
-        ap run_fragments (none_from (λ run. IsSource kept.geometry (SlotPlace number slot)) (run_at kept.runs (SlotPlace number slot)) (sources (SlotPlace number slot))
-        (λ run h.
+          ap run_fragments (none_from (λ run. IsSource kept.geometry (SlotPlace number slot)) (run_at kept.runs (SlotPlace number slot)) (sources (SlotPlace number slot))
+          (λ run h.
           let source : IsSource (Some g) (SlotPlace number slot) = subst (λ o. IsSource o (SlotPlace number slot)) is h in
           false≢true (sym (out g is) ∙ in_range number (g.ncg * g.ipg) (source.0) (source.1))))
-        ∙ sym (cond_false (is_within 2 (g.ncg * g.ipg) number) (slot_fragments g inode slot) [] (out g is))
+          ∙ sym (cond_false (is_within 2 (g.ncg * g.ipg) number) (slot_fragments g inode slot) [] (out g is))
     ] refl
 
 -- ---- pointers
@@ -166,8 +165,8 @@ all_pointers kept g fragment level bytes new sources is first at =
     subst (λ o. run_fragments (run_at new (PointerPlace fragment level at)) ≡ fragment_pointers o bytes at) (sym is) (elim (below_cases at (g.fsize / 4)) [
       | inl lt ↦ first.done at lt
       | inr le ↦
-        ap run_fragments (first.others (PointerPlace fragment level at) (λ k lt e. omega (arith, pointer_apart fragment level at k e, lt, le)) ∙ no_pointer_at kept g fragment level at sources is le)
-        ∙ sym (past_pointers g bytes at le)
+          ap run_fragments (first.others (PointerPlace fragment level at) (λ k lt e. omega (arith, pointer_apart fragment level at k e, lt, le)) ∙ no_pointer_at kept g fragment level at sources is le)
+          ∙ sym (past_pointers g bytes at le)
     ])
 
 pub other_pointers : (fragment level : ℕ) (old new : List (Place × Run)) → ((place : Place) → ((k : ℕ) → place ≡ PointerPlace fragment level k → ⊥) → run_at new place ≡ run_at old place)

@@ -1,5 +1,5 @@
 -- Which sources claim each fragment, as the table keeps it.
-use Rattle.std.specs.Prelude.{◌≡◌, ◌<◌, ◌≤◌, ◌+◌, ◌^◌, ◌==◌, ◌↔◌, ◌⊎◌, ◌&&◌, Bool, false, not, filter, ℕ, List, [], ◌∷◌, ◌++◌, Option, Some, None, cond, length, slice_index_or}
+use Rattle.std.specs.Prelude.{◌≡◌, ◌<◌, ◌≤◌, ◌+◌, ◌^◌, ◌==◌, ◌↔◌, ◌⊎◌, ◌&&◌, Bool, false, not, filter, ℕ, List, [], ◌∷◌, Option, Some, None, cond, length, slice_index_or}
 use Rattle.std.specs.List.{Contains}
 use Rattle.std.specs.Global.{Vec}
 use Rattle.std.specs.Ordering.{nat_cmp}

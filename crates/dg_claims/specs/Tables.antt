@@ -1,5 +1,5 @@
 -- What a table of claims says.
-use Rattle.std.specs.Prelude.{◌≡◌, ◌↔◌, ℕ, ◌*◌, ◌<◌, List, [], ◌∷◌, Option, Some, None, length, if◌then◌else◌}
+use Rattle.std.specs.Prelude.{◌≡◌, ◌↔◌, ℕ, ◌*◌, List, [], ◌∷◌, Option, Some, None, length, if◌then◌else◌}
 use Rattle.std.specs.List.{Contains}
 use Rattle.ufs_model.specs.Claims.{pointer_fragments, slot_fragments}
 use Rattle.ufs_model.specs.Roles.{is_within}

@@ -150,8 +150,9 @@ impl Claims {
         ensures others { (other : ClaimSource) → (other ≡ source.now → ⊥) → (table_of self.new).claimed other ≡ (table_of self.old).claimed other }
     {
         self.geometry();
-        if let Some(place) = place_of(*source) {
-            self.clear(place);
+        match place_of(*source) {
+            Some(place) => self.clear(place),
+            None => {}
         }
     }
 

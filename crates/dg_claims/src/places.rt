@@ -29,8 +29,16 @@ pub fn place_of(source: ClaimSource) -> Option<Place>
 {
     match source {
         ClaimSource::Slot { inode, slot } => Some(Place::Slot { inode, slot }),
-        ClaimSource::Pointer { fragment, level, at } => match u16::try_from(at) {
-            Ok(at) => Some(Place::Pointer { fragment, level, at }),
+        ClaimSource::Pointer {
+            fragment,
+            level,
+            at,
+        } => match u16::try_from(at) {
+            Ok(at) => Some(Place::Pointer {
+                fragment,
+                level,
+                at,
+            }),
             Err(_) => None,
         },
     }
@@ -42,7 +50,11 @@ pub fn source_of(place: Place) -> ClaimSource
 {
     match place {
         Place::Slot { inode, slot } => ClaimSource::Slot { inode, slot },
-        Place::Pointer { fragment, level, at } => ClaimSource::Pointer {
+        Place::Pointer {
+            fragment,
+            level,
+            at,
+        } => ClaimSource::Pointer {
             fragment,
             level,
             at: u32::from(at),

@@ -1,4 +1,3 @@
-use Rattle.std.proofs.Common.{◌≡◌}
 use Rattle.dg_claims.specs.Marks.{IsMarks, Unmarks}
 use Rattle.dg_claims.proofs.claims.unmark.Given as goal
 

@@ -1,5 +1,5 @@
-use Rattle.std.proofs.Common.{◌∙◌, sym}
-use Rattle.dg_claims.proofs.KeptLaws.{cleared, run_inside}
+use Rattle.std.proofs.Common.{sym}
+use Rattle.dg_claims.proofs.KeptLaws.{cleared}
 use Rattle.dg_claims.proofs.claims.Claims.clear.Goals as goal
 
 pub invariant_of-self : goal.invariant_of-self

@@ -1,4 +1,4 @@
-use Rattle.std.proofs.Common.{◌∙◌, arith, refl, sym, ap, ◌+◌}
+use Rattle.std.proofs.Common.{arith, refl, ap, ◌+◌}
 use Rattle.dg_claims.proofs.KeptLaws.{added_dropped, extended, next_fresh, same_kept, same_marked}
 use Rattle.dg_claims.proofs.claims.Claims.extend.Goals as goal
 

@@ -1,4 +1,4 @@
-use Rattle.std.proofs.Common.{◌≡◌, ◌/◌, arith, subst}
+use Rattle.std.proofs.Common.{◌≡◌, ◌/◌, arith, subst, sym}
 use Rattle.ufs_model.specs.Claims.{pointer_fragments}
 use Rattle.ufs_model.specs.declared.numbers.Endian.TheVariants.{Little}
 use Rattle.dg_claims.proofs.SourceLaws.{all_pointers, other_pointers, sets_cut}
@@ -14,7 +14,7 @@ returns-in_err-set-clause-others c =
 pub returns-clause-pointers : goal.returns-clause-pointers
 returns-clause-pointers c =
     let last : c.loop-at.at ≡ c.in-Some.g.fsize / 4 = omega (arith, c.loop-at-test.false, c.loop-at.auto.at-end) in
-    all_pointers c.args.self.now c.in-Some.g c.args.fragment c.args.level c.args.bytes.now c.loop-at.self.runs c.in-Some.ensures.sources ? 
+    all_pointers c.args.self.now c.in-Some.g c.args.fragment c.args.level c.args.bytes.now c.loop-at.self.runs c.in-Some.ensures.sources (sym c.in-Some.ensures.value)
     (subst (λ n. SetsFirst c.args.self.now.runs c.loop-at.self.runs (Pointer c.args.fragment c.args.level) (pointer_fragments Little c.in-Some.g c.args.bytes.now) n) last c.loop-at.invariant.pointers)
 
 pub returns-clause-others : goal.returns-clause-others

@@ -10,6 +10,6 @@ pub returns-in-Some-clause-others : goal.returns-in-Some-clause-others
 returns-in-Some-clause-others c = λ other ne.
     other_sources c.args.self.now.runs c.clear.new.self.runs c.args.source.now other c.in-Some.place c.in-Some.ensures.place c.clear.ensures.others ne
 
-pub returns-in_default-clause-removed : goal.returns-in_default-clause-removed
-returns-in_default-clause-removed c =
-    large_source c.args.self.now c.args.source.now c.geometry.ensures.sources (subst (λ o. IfSome o IsGeometry) c.geometry.ensures.value c.geometry.ensures.geometry) ?
+pub returns-in-None-clause-removed : goal.returns-in-None-clause-removed
+returns-in-None-clause-removed c =
+    large_source c.args.self.now c.args.source.now c.geometry.ensures.sources (subst (λ o. IfSome o IsGeometry) c.geometry.ensures.value c.geometry.ensures.geometry) c.in-None.ensures.large
