@@ -1,4 +1,5 @@
 pub mod KeptLaws
+pub mod LevelLaws
 pub mod ListLaws
 pub mod MarkLaws
 pub mod OwnerLaws

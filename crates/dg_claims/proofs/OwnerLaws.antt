@@ -39,7 +39,7 @@ length_sources [] = refl
 length_sources (p ∷ ps) = ap suc (length_sources ps)
 
 -- a source claims the fragment where it is marked there
-claims_marked : (inside : Inside) (kept : KeptClaims) (fragment : ℕ) (source : ClaimSource) → kept_of inside ≡ kept → IsKept inside
+pub claims_marked : (inside : Inside) (kept : KeptClaims) (fragment : ℕ) (source : ClaimSource) → kept_of inside ≡ kept → IsKept inside
     → Contains (marked_on inside.marks fragment) (place_of source) ↔ Contains (claimed_by kept.runs source) fragment
 unfolding claimed_by
 claims_marked inside kept fragment source view is =

@@ -1,5 +1,6 @@
 -- Sources as the table keeps them.
-use Rattle.std.specs.Prelude.{ℕ}
+use Rattle.std.specs.Prelude.{ℕ, Bool, ◌==◌}
+use Rattle.ufs_model.specs.Claims.{level_of}
 use Rattle.ufs_model.specs.declared.claims.ClaimSource.{ClaimSource}
 use Rattle.ufs_model.specs.declared.claims.ClaimSource.TheVariants.{Slot, Pointer}
 use Rattle.dg_claims.specs.declared.places.Place.{Place}
@@ -19,3 +20,7 @@ source_of (PointerPlace fragment level at) = Pointer fragment level at
 abbrev pub index_of : ClaimSource → ℕ
 index_of (Slot inode slot) = 0
 index_of (Pointer fragment level at) = at
+
+-- whether a source claims at the level
+abbrev pub is_at_level : ℕ → Place → Bool
+is_at_level level place = level_of (source_of place) == level

@@ -1,7 +1,7 @@
 -- What a table of claims says.
 use Rattle.std.specs.Prelude.{◌≡◌, ◌↔◌, ℕ, ◌*◌, List, [], ◌∷◌, Option, Some, None, length, if◌then◌else◌}
 use Rattle.std.specs.List.{Contains}
-use Rattle.ufs_model.specs.Claims.{pointer_fragments, slot_fragments}
+use Rattle.ufs_model.specs.Claims.{level_of, pointer_fragments, slot_fragments}
 use Rattle.ufs_model.specs.Roles.{is_within}
 use Rattle.ufs_model.specs.declared.claims.ClaimSource.{ClaimSource}
 use Rattle.ufs_model.specs.declared.geometries.Geometry.{Geometry}
@@ -34,3 +34,7 @@ pub record AreClaimants (claimed : ClaimSource → List ℕ) (fragment count : �
   pub once : IsOnce sources
   pub exactly : (source : ClaimSource) → Contains sources source ↔ Contains (claimed source) fragment
   pub number : count ≡ length sources
+
+-- the fragment has a claim at the level
+abbrev pub IsClaimedAt : (ClaimSource → List ℕ) → ℕ → ℕ → Type 0
+IsClaimedAt claimed level fragment = (source : ClaimSource) × (level_of source ≡ level) × Contains (claimed source) fragment

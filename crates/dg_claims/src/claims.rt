@@ -1,4 +1,5 @@
-ghost use Rattle.std.specs.Prelude.{◌≡◌, ◌+◌, ◌*◌, ◌<◌, ◌≤◌, ℕ, Some, None, [], IfNone, IfOk, IfSome, OnOk, length, true, false};
+ghost use Rattle.std.specs.Prelude.{◌≡◌, ◌+◌, ◌*◌, ◌<◌, ◌≤◌, ◌↔◌, ℕ, Some, None, [], ◌∷◌, ◌++◌, if◌then◌else◌, IfNone, IfOk, IfSome, OnOk, length, true, false};
+ghost use Rattle.std.specs.List.{Contains};
 ghost use Rattle.ufs_model.specs.Claims.{IsOnlyClaim};
 ghost use Rattle.ufs_model.specs.Geometries.{IsGeometry};
 ghost use Rattle.ufs_model.specs.Roles.{is_within};
@@ -8,7 +9,7 @@ ghost use Rattle.dg_claims.specs.Kept.{HasSources, IsRun, IsSource, run_so_far, 
 ghost use Rattle.dg_claims.specs.Marks.{IsMarks, Unmarks};
 ghost use Rattle.dg_claims.specs.Runs.{run_at};
 ghost use Rattle.dg_claims.specs.Places.{place_of};
-ghost use Rattle.dg_claims.specs.Tables.{AreClaimants, fragment_pointers, inode_fragments};
+ghost use Rattle.dg_claims.specs.Tables.{AreClaimants, IsClaimedAt, fragment_pointers, inode_fragments};
 ghost use Rattle.dg_claims.specs.declared.places.Place.{Place};
 
 use crate::marks::Marks;
@@ -21,7 +22,7 @@ use std::marker::Model;
 use ufs_model::{ClaimSource, Geometry, Inode};
 
 /// The first inode that may claim anything (`ROOTINO`).
-const FIRST_INODE: u32 = 2;
+pub(crate) const FIRST_INODE: u32 = 2;
 
 /// Slots of an inode (`NDADDR`, `NIADDR`).
 const SLOTS: u8 = 15;
@@ -175,6 +176,18 @@ impl Claims {
         }
     }
 
+    /// The fragments with a claim at the level, each once, ascending.
+    pub(crate) fn fragments_at(&self, alloc: Global, level: u8) -> Result<Vec<u32>, NoMemory>
+        ensures claimed { IfOk result (λ fragments. (fragment : ℕ) → Contains fragments.items fragment ↔ IsClaimedAt (table_of self.now).claimed level fragment) }
+        ensures inside { IfOk result (λ fragments. (fragment : ℕ) → Contains fragments.items fragment → fragment < size_in self.now.geometry) }
+    {
+        let mut fragments = Vec::new(alloc);
+        for fragment in 0..size_in(self.geometry) {
+            push_if(&mut fragments, fragment, self.marks.has_level(fragment, level))?;
+        }
+        Ok(fragments)
+    }
+
     /// The source claims one more fragment, behind those of its run so far.
     fn extend(&mut self, place: Place, run: Run, done: u8) -> Result<(), NoMemory>
         requires place { IsSource self.old.geometry place }
@@ -241,6 +254,16 @@ impl Claims {
             None => Ok(()),
         }
     }
+}
+
+/// Puts a fragment last in the list, if it is wanted there.
+fn push_if(fragments: &mut Vec<u32>, fragment: u32, wanted: bool) -> Result<(), NoMemory>
+    ensures { OnOk result (fragments.new.items ≡ fragments.old.items ++ (if wanted then fragment ∷ [] else [])) }
+{
+    if wanted {
+        return fragments.push(fragment).map_err(|_| NoMemory);
+    }
+    Ok(())
 }
 
 /// The source is taken from each fragment of the run.

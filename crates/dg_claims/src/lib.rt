@@ -9,6 +9,7 @@ mod marks;
 mod owners;
 mod places;
 mod runs;
+mod scans;
 mod spans;
 
 pub use crate::claims::Claims;

@@ -1,9 +1,10 @@
 ghost use Rattle.std.specs.Prelude.{◌≡◌, ◌<◌, ◌^◌, ℕ, Some, None, [], ◌∷◌, ◌++◌, IfOk, IfSome, IfNone, MatchResult, length, not, slice_index_or};
 ghost use Rattle.std.specs.Bool.{Decides};
-ghost use Rattle.std.specs.List.{Contains};
+ghost use Rattle.std.specs.List.{Contains, list_any};
+ghost use Rattle.dg_claims.specs.Places.{is_at_level};
 ghost use Rattle.dg_claims.specs.Marks.{AddsMark, DropsMark, IsMarks, SameMarks, SameMore, SetsMore, marked_on, more_on, same_place, without};
 
-use crate::places::{Place, is_same};
+use crate::places::{Place, is_at_level, is_same};
 use dg_io::NoMemory;
 use std::alloc::Global;
 use std::collections::BTreeMap;
@@ -71,6 +72,17 @@ impl Marks {
                 }
             }
             None => only_more(&self.more, fragment),
+        }
+    }
+
+    /// Whether the fragment has a source at the level.
+    #[tactic(auto, unfolding(crate::specs::Marks::marked_on))]
+    pub fn has_level(&self, fragment: u32, level: u8) -> bool
+        ensures { result ≡ list_any (is_at_level level) (marked_on self.now fragment) }
+    {
+        match self.first_at(fragment) {
+            Some(place) => is_at_level(place, level) || more_has_level(&self.more, fragment, level),
+            None => more_has_level(&self.more, fragment, level),
         }
     }
 
@@ -193,4 +205,14 @@ fn take_from(places: &mut Vec<Place>, place: Place)
             ensures { result ≡ not (same_place other.now place) }
         { !is_same(*other, place) },
     );
+}
+
+/// Whether one of the further sources of the fragment is at the level.
+fn more_has_level(more: &BTreeMap<u32, Vec<Place>>, fragment: u32, level: u8) -> bool
+    ensures { result ≡ list_any (is_at_level level) (more_on more.now fragment) }
+{
+    match more.get(&fragment) {
+        Some(places) => places.iter().any(|place| is_at_level(*place, level)),
+        None => false,
+    }
 }

@@ -1,9 +1,12 @@
 ghost use Rattle.std.specs.Prelude.{◌≡◌, ◌^◌, ◌≤◌, ◌<◌, IfSome, IfNone};
 ghost use Rattle.std.specs.Bool.{Decides};
 ghost use Rattle.dg_claims.specs.Marks.{same_place};
-ghost use Rattle.dg_claims.specs.Places.{index_of, place_of, source_of};
+ghost use Rattle.dg_claims.specs.Places.{index_of, is_at_level, place_of, source_of};
 
 use ufs_model::ClaimSource;
+
+/// The last direct slot of an inode (`NDADDR`).
+const LAST_DIRECT: u8 = 11;
 
 /// A source, in little room: a pointer's number in its fragment is below 2^16.
 #[derive(Clone, Copy, Debug, PartialEq, Eq, PartialOrd, Ord)]
@@ -59,5 +62,15 @@ pub fn source_of(place: Place) -> ClaimSource
             level,
             at: u32::from(at),
         },
+    }
+}
+
+/// Whether the source claims at this level: 0 for blocks of data.
+pub fn is_at_level(place: Place, level: u8) -> bool
+    ensures { result ≡ is_at_level level place }
+{
+    match place {
+        Place::Slot { slot, .. } => slot.saturating_sub(LAST_DIRECT) == level,
+        Place::Pointer { level: above, .. } => above.saturating_sub(1) == level,
     }
 }
