@@ -1,3 +1,4 @@
+pub mod FetchedLaws
 pub mod KeptLaws
 pub mod LevelLaws
 pub mod ListLaws
