@@ -5,5 +5,6 @@ pub mod ListLaws
 pub mod MarkLaws
 pub mod OwnerLaws
 pub mod RunLaws
+pub mod ScanLaws
 pub mod SourceLaws
 pub mod SpanLaws

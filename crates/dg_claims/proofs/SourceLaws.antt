@@ -151,7 +151,7 @@ no_pointer_at kept g fragment level at sources is le =
     none_from (λ run. IsSource kept.geometry (PointerPlace fragment level at)) (run_at kept.runs (PointerPlace fragment level at)) (sources (PointerPlace fragment level at))
     (λ run h. let source : IsSource (Some g) (PointerPlace fragment level at) = subst (λ o. IsSource o (PointerPlace fragment level at)) is h in omega (arith, source.2, le))
 
-below_cases : (a n : ℕ) → (a < n) ⊎ (n ≤ a)
+pub below_cases : (a n : ℕ) → (a < n) ⊎ (n ≤ a)
 below_cases a n = elim (nat_lt a n) as (λ b. nat_lt a n ≡ b → (a < n) ⊎ (n ≤ a)) [
   | true ↦ λ e. inl (grind (arith, nat_tests))
   | false ↦ λ e. inr (grind (arith, nat_tests))

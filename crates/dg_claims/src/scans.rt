@@ -88,3 +88,69 @@ fn claim_stored(
         None => Ok(()),
     }
 }
+
+/// Has the slots of an inode claim what the inode says. Its block is read where it isn't the one that is held. It answers
+/// whether the block could be read.
+fn scan_inode<V: View>(
+    view: &mut V,
+    g: &Geometry,
+    levels: &mut Levels,
+    claims: &mut Claims,
+    held: &mut Option<u32>,
+    number: u32,
+) -> Result<bool, NoMemory>
+    requires sound { V.is_sound view.old }
+    requires geometry { IsGeometryOn (V.size view.old) (V.count view.old) g.now }
+    requires levels { levels.old.fragment ≡ V.size view.old }
+    requires table { (table_of claims.old).geometry ≡ Some g.now }
+    requires low { 2 ≤ number }
+    requires high { number < g.now.ncg * g.now.ipg }
+    requires room { IfSome held.old (λ b. length levels.old.aside ≡ V.size view.old) }
+    requires bare { (slot : ℕ) → (table_of claims.old).claimed (ClaimSource.Slot number slot) ≡ [] }
+    ensures keeps { KeepsView V.stands_for V.tells V.is_gone V.count V.size V.is_sound V.goes_on view.old view.new }
+    ensures levels { levels.new.fragment ≡ levels.old.fragment }
+    ensures geometry { (table_of claims.new).geometry ≡ (table_of claims.old).geometry }
+    ensures room { IfOk result (λ got. got ≡ true → IfSome held.new (λ b. length levels.new.aside ≡ V.size view.old)) }
+    ensures slots { IfOk result (λ got. got ≡ true → V.tells view.new → (v : List (List ℕ)) → V.stands_for view.old v → HoldsIn (V.size view.old) v held.old levels.old.aside
+        → HoldsIn (V.size view.old) v held.new levels.new.aside × ((slot : ℕ) → (table_of claims.new).claimed (ClaimSource.Slot number slot) ≡ targets Little g.now v (ClaimSource.Slot number slot))) }
+    ensures others { (source : ClaimSource) → ((slot : ℕ) → source ≡ ClaimSource.Slot number slot → ⊥) → (table_of claims.new).claimed source ≡ (table_of claims.old).claimed source }
+    ensures lost { IfOk result (λ got. got ≡ false → LosesOne (V.stands_for view.old) (V.tells view.new) (λ v b. HasInode g.now b) (V.is_gone view.new)) }
+    ensures fetched { FetchesOnly V.fetched (V.stands_for view.old) (V.tells view.new) (λ v b. HasInode g.now b) view.old view.new }
+{
+    let (block, byte) = place_of(g, number);
+    if !hold(view, levels, held, block) {
+        return Ok(false);
+    }
+    claim_stored(claims, number, levels.aside(), byte)?;
+    Ok(true)
+}
+
+/// Has the slots of all inodes claim what the inodes say. It answers whether each block with an inode could be read.
+fn scan_inodes<V: View>(
+    view: &mut V,
+    g: &Geometry,
+    levels: &mut Levels,
+    claims: &mut Claims,
+) -> Result<bool, NoMemory>
+    requires sound { V.is_sound view.old }
+    requires geometry { IsGeometryOn (V.size view.old) (V.count view.old) g.now }
+    requires levels { levels.old.fragment ≡ V.size view.old }
+    requires table { (table_of claims.old).geometry ≡ Some g.now }
+    requires bare { (source : ClaimSource) → (table_of claims.old).claimed source ≡ [] }
+    ensures keeps { KeepsView V.stands_for V.tells V.is_gone V.count V.size V.is_sound V.goes_on view.old view.new }
+    ensures levels { levels.new.fragment ≡ levels.old.fragment }
+    ensures geometry { (table_of claims.new).geometry ≡ (table_of claims.old).geometry }
+    ensures slots { IfOk result (λ got. got ≡ true → V.tells view.new → (v : List (List ℕ)) → V.stands_for view.old v
+        → (number slot : ℕ) → (table_of claims.new).claimed (ClaimSource.Slot number slot) ≡ targets Little g.now v (ClaimSource.Slot number slot)) }
+    ensures pointers { IfOk result (λ got. got ≡ true → (fragment level at : ℕ) → (table_of claims.new).claimed (ClaimSource.Pointer fragment level at) ≡ []) }
+    ensures lost { IfOk result (λ got. got ≡ false → LosesOne (V.stands_for view.old) (V.tells view.new) (λ v b. HasInode g.now b) (V.is_gone view.new)) }
+    ensures fetched { FetchesOnly V.fetched (V.stands_for view.old) (V.tells view.new) (λ v b. HasInode g.now b) view.old view.new }
+{
+    let mut held = None;
+    for number in FIRST_INODE..g.ncg * g.ipg {
+        if !scan_inode(view, g, levels, claims, &mut held, number)? {
+            return Ok(false);
+        }
+    }
+    Ok(true)
+}
