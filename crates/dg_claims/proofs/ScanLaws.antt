@@ -83,3 +83,95 @@ slots_more g v old new at count more others here before number slot lt = elim (c
   | inl same ↦ subst (λ n. new (Slot n slot) ≡ targets Little g v (Slot n slot)) (sym same) (here slot)
   | inr apart ↦ others (Slot number slot) (λ s e. apart (slot_apart number at slot s e)) ∙ before number slot (omega (arith, lt, apart, more))
 ]
+
+-- ---- pointers
+
+pub pointer_target : (g : Geometry) (geometry : Option Geometry) (v : Volume) (fragment level at l : ℕ) (bytes : List ℕ) → geometry ≡ Some g → g.fsize ≡ l → bytes ≡ block_at l v fragment
+    → fragment_pointers geometry bytes at ≡ targets Little g v (Pointer fragment level at)
+unfolding fragment_pointers targets
+pointer_target g geometry v fragment level at l bytes is size has =
+    let whole : bytes ≡ block_at g.fsize v fragment = has ∙ ap (λ n. block_at n v fragment) (sym size) in
+    ap (λ o. fragment_pointers o bytes at) is ∙ ap (λ xs. pointer_fragments Little g xs at) whole
+
+pub fragment_apart : (f h : ℕ) (k l : ℕ) (a b : ℕ) → Pointer f k a ≡ Pointer h l b → f ≡ h
+fragment_apart f h k l a b e = cc
+
+pub level_apart : (f h : ℕ) (k l : ℕ) (a b : ℕ) → Pointer f k a ≡ Pointer h l b → k ≡ l
+level_apart f h k l a b e = cc
+
+-- ---- levels
+
+claim_level : (t : ClaimSource → List ℕ) (fragment upper level at : ℕ) → IsClaim t fragment (Pointer upper level at) → 0 < level
+claim_level t fragment upper level at (by_pointer above is low has) = low
+
+-- the fragments with a claim at a level are those of the volume, where all above is right
+pub indirect_of : (t claimed : ClaimSource → List ℕ) (level fragment : ℕ) → 1 ≤ level → HasNoPointers claimed level → IsRightAbove t claimed level → IsClaimedAt claimed level fragment
+    → (source : ClaimSource) × (level_of source ≡ level) × IsClaim t fragment source
+indirect_of t claimed level fragment low none right (Slot inode slot, is, has) = (Slot inode slot, is, by_slot ((right.slots fragment inode slot).0 has))
+indirect_of t claimed level fragment low none right (Pointer upper above at, is, has) =
+    (Pointer upper above at, is, (right.pointers fragment upper above at (omega (arith, is, low))).0 has)
+
+pub is_indirect : (t claimed : ClaimSource → List ℕ) (level fragment : ℕ) → 1 ≤ level → HasNoPointers claimed level → IsRightAbove t claimed level → IsClaimedAt claimed level fragment → IsIndirect t fragment
+is_indirect t claimed level fragment low none right at =
+    let some = indirect_of t claimed level fragment low none right at in (some.0, some.2, omega (arith, some.1, low))
+
+claimed_of : (t claimed : ClaimSource → List ℕ) (level fragment : ℕ) (source : ClaimSource) → IsRightAbove t claimed level → 0 < level → level_of source ≡ level → IsClaim t fragment source → IsClaimedAt claimed level fragment
+claimed_of t claimed level fragment (Slot inode slot) right low is (by_slot has) = (Slot inode slot, is, (right.slots fragment inode slot).1 has)
+claimed_of t claimed level fragment (Pointer upper above at) right low is claim =
+    (Pointer upper above at, is, (right.pointers fragment upper above at (omega (arith, is, low))).1 claim)
+
+contains_nil : {X : Type 0} (x : X) → Contains [] x → ⊥
+contains_nil x h = let l = h.1 in omega arith
+
+pointer_claim : (t : ClaimSource → List ℕ) (fragment upper level at : ℕ) → IsClaim t fragment (Pointer upper level at) → Contains (t (Pointer upper level at)) fragment
+pointer_claim t fragment upper level at (by_pointer above is low has) = has
+
+slot_claim : (t : ClaimSource → List ℕ) (fragment inode slot : ℕ) → IsClaim t fragment (Slot inode slot) → Contains (t (Slot inode slot)) fragment
+slot_claim t fragment inode slot (by_slot has) = has
+
+upper_listed : (t claimed : ClaimSource → List ℕ) (level : ℕ) (fragments : List ℕ) (fragment upper at : ℕ) → 0 < level → ((f : ℕ) → Contains fragments f ↔ IsClaimedAt claimed level f)
+    → IsRightAbove t claimed level → IsClaim t fragment (Pointer upper level at) → Contains fragments upper
+upper_listed t claimed level fragments fragment upper at low listed right (by_pointer {source = source} above is positive has) =
+    (listed upper).1 (claimed_of t claimed level upper source right low is above)
+
+-- one level more is right
+pub right_below : (t old new : ClaimSource → List ℕ) (level : ℕ) (fragments : List ℕ) → 1 ≤ level → HasNoPointers old level
+    → ((fragment : ℕ) → Contains fragments fragment ↔ IsClaimedAt old level fragment)
+    → ((fragment at : ℕ) → Contains fragments fragment → new (Pointer fragment level at) ≡ t (Pointer fragment level at))
+    → ((source : ClaimSource) → ((fragment at : ℕ) → Contains fragments fragment → source ≡ Pointer fragment level at → ⊥) → new source ≡ old source)
+    → ((upper : ℕ) → Contains fragments upper ⊎ (Contains fragments upper → ⊥))
+    → IsRightAbove t old level → IsRightAbove t new (level - 1)
+right_below t old new level fragments low none listed here others decide right = record {
+  slots = λ fragment inode slot. subst (λ xs. Contains xs fragment ↔ Contains (t (Slot inode slot)) fragment) (sym (others (Slot inode slot) (λ f a in_list e. pointer_no_slot f level a inode slot (sym e)))) (right.slots fragment inode slot);
+  pointers = λ fragment upper above at high. elim (cases_eq above level) [
+    | inl same ↦ subst (λ k. Contains (new (Pointer upper k at)) fragment ↔ IsClaim t fragment (Pointer upper k at)) (sym same) (elim (decide upper) [
+      | inl in_list ↦
+        let some = indirect_of t old level upper low none right ((listed upper).0 in_list) in (
+          λ has. by_pointer (some.2) (some.1) low (subst (λ xs. Contains xs fragment) (here upper at in_list) has),
+          λ claim. subst (λ xs. Contains xs fragment) (sym (here upper at in_list)) (pointer_claim t fragment upper level at claim),
+        )
+      | inr off ↦
+        let bare : new (Pointer upper level at) ≡ [] = others (Pointer upper level at) (λ f a in_list e. off (subst (λ x. Contains fragments x) (sym (fragment_apart upper f level level at a e)) in_list)) ∙ none upper level at (omega arith) in (
+          λ has. absurd (contains_nil fragment (subst (λ xs. Contains xs fragment) bare has)),
+          λ claim. absurd (off (upper_listed t old level fragments fragment upper at low listed right claim)),
+        )
+    ])
+    | inr apart ↦
+      subst (λ xs. Contains xs fragment ↔ IsClaim t fragment (Pointer upper above at)) (sym (others (Pointer upper above at) (λ f a in_list e. apart (level_apart upper f above level at a e))))
+      (right.pointers fragment upper above at (omega (arith, high, apart, low)))
+  ];
+}
+
+-- no level is left, so all is right
+pub right_in_the_end : (t claimed : ClaimSource → List ℕ) → HasNoPointers claimed 0 → IsRightAbove t claimed 0 → (fragment : ℕ) (source : ClaimSource) → Contains (claimed source) fragment ↔ IsClaim t fragment source
+right_in_the_end t claimed none right fragment (Slot inode slot) = (
+  λ has. by_slot ((right.slots fragment inode slot).0 has),
+  λ claim. (right.slots fragment inode slot).1 (slot_claim t fragment inode slot claim),
+)
+right_in_the_end t claimed none right fragment (Pointer upper level at) = elim (cases_eq level 0) [
+  | inl same ↦ (
+    λ has. absurd (contains_nil fragment (subst (λ xs. Contains xs fragment) (none upper level at (omega (arith, same))) has)),
+    λ claim. let low = claim_level t fragment upper level at claim in absurd (omega (arith, low, same)),
+  )
+  | inr apart ↦ right.pointers fragment upper level at (omega (arith, apart))
+]

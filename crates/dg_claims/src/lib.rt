@@ -5,11 +5,13 @@
 #![tactic(auto)]
 
 mod claims;
+mod inodes;
+mod levels;
 mod marks;
 mod owners;
 mod places;
 mod runs;
-mod scans;
+
 mod spans;
 
 pub use crate::claims::Claims;

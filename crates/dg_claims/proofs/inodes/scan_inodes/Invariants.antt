@@ -6,7 +6,7 @@ use Rattle.ufs_model.specs.declared.numbers.Endian.TheVariants.{Little}
 use Rattle.dg_claims.specs.Kept.{claimed_by}
 use Rattle.dg_claims.specs.Metadata.{FetchesOnly}
 use Rattle.dg_claims.specs.Scans.{HasInode, HoldsIn}
-use Rattle.dg_claims.proofs.scans.scan_inodes.Given as goal
+use Rattle.dg_claims.proofs.inodes.scan_inodes.Given as goal
 
 abbrev pub invariant-loop-number : goal.invariant-loop-number
 invariant-loop-number g l = record {

@@ -1,7 +1,7 @@
 use Rattle.std.proofs.Common.{◌∙◌, sym, subst, Option, ℕ}
 use Rattle.dg_claims.proofs.ScanLaws.{stored_target}
 use Rattle.dg_claims.specs.Scans.{HoldsIn}
-use Rattle.dg_claims.proofs.scans.scan_inode.Goals as goal
+use Rattle.dg_claims.proofs.inodes.scan_inode.Goals as goal
 
 pub returns-clause-slots : goal.returns-clause-slots
 returns-clause-slots g c = λ got is v holds had.

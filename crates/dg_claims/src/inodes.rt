@@ -21,7 +21,7 @@ use ufs_pointer::Levels;
 const INODE_BYTES: usize = 128;
 
 /// Reads a fragment beside the block of data, and answers whether it could.
-fn read_fragment<V: View>(view: &mut V, levels: &mut Levels, fragment: u32) -> bool
+pub(crate) fn read_fragment<V: View>(view: &mut V, levels: &mut Levels, fragment: u32) -> bool
     requires sound { V.is_sound view.old }
     requires within { fragment < V.count view.old }
     requires levels { levels.old.fragment ≡ V.size view.old }
@@ -126,7 +126,7 @@ fn scan_inode<V: View>(
 }
 
 /// Has the slots of all inodes claim what the inodes say. It answers whether each block with an inode could be read.
-fn scan_inodes<V: View>(
+pub(crate) fn scan_inodes<V: View>(
     view: &mut V,
     g: &Geometry,
     levels: &mut Levels,

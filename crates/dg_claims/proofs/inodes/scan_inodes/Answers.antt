@@ -6,7 +6,7 @@ use Rattle.dg_claims.proofs.ScanLaws.{low_target, past_target, pointer_no_slot, 
 use Rattle.dg_claims.proofs.SourceLaws.{below_cases}
 use Rattle.dg_claims.specs.Kept.{claimed_by}
 use Rattle.dg_claims.specs.Scans.{HasInode, HoldsIn}
-use Rattle.dg_claims.proofs.scans.scan_inodes.Goals as goal
+use Rattle.dg_claims.proofs.inodes.scan_inodes.Goals as goal
 
 pub loop-number-init : goal.loop-number-init
 loop-number-init g c = record {
