@@ -1,5 +1,5 @@
 -- What a reader fetched or lost, one reader after another.
-use Rattle.std.proofs.Common.{◌≡◌, ◌∙◌, ℕ, zero, suc, ◌+◌, ◌<◌, ◌⊎◌, List, [], ◌∷◌, ◌++◌, Bool, true, false, inl, inr, Option, Some, None, refl, sym, ap, subst, arith, All}
+use Rattle.std.proofs.Common.{◌≡◌, ◌∙◌, ℕ, zero, suc, ◌+◌, ◌<◌, ◌⊎◌, List, [], ◌∷◌, ◌++◌, Bool, true, false, inl, inr, Option, Some, None, Result, Ok, Err, IfOk, refl, sym, ap, subst, arith, All}
 use Rattle.std.specs.Bool.{then_some}
 use Rattle.std.specs.List.{list_any}
 use Rattle.std.proofs.lemmas.Bool.{or_cases, false≢true}
@@ -96,3 +96,9 @@ pub loses_along : {stands still : Volume → Type 0} {tells : Type 0} {kind othe
 loses_along keeps one = record {
   lost = λ is v holds. let on = keeps is v holds in let l = one.lost is v (on.0) in (l.0, on.1 (l.0) (l.1), l.2);
 }
+
+-- ---- answers of calls
+
+pub ok_map : {A E : Type 0} (r : Result A E) (P Q : A → Type 0) → ((a : A) → P a → Q a) → IfOk r P → IfOk r Q
+ok_map (Ok a) P Q f h = f a h
+ok_map (Err e) P Q f h = tt

@@ -1,7 +1,9 @@
 -- What a scan of a volume has claimed so far.
-use Rattle.std.proofs.Common.{◌≡◌, ◌∙◌, ℕ, zero, suc, ◌+◌, ◌-◌, ◌*◌, ◌<◌, ◌≤◌, ◌⊎◌, ◌↔◌, List, [], ◌∷◌, ◌++◌, Bool, true, false, cond, inl, inr, Option, Some, None, IfSome, refl, sym, ap, subst, arith, take, drop, length, Contains, if◌then◌else◌, nat_lt, nat_le}
+use Rattle.std.proofs.Common.{◌≡◌, ◌∙◌, ℕ, zero, suc, ◌+◌, ◌-◌, ◌*◌, ◌<◌, ◌≤◌, ◌⊎◌, ◌↔◌, List, [], ◌∷◌, ◌++◌, Bool, true, false, cond, inl, inr, Option, Some, None, IfSome, refl, sym, ap, subst, arith, take, drop, length, Contains, if◌then◌else◌, nat_lt, nat_le, get_or, take_all}
 use Rattle.std.proofs.lemmas.Bool.{cases_eq, false≢true}
 use Rattle.std.proofs.lemmas.Bool.Decides.{nat_tests}
+use Rattle.std.proofs.lemmas.List.{take_more}
+use Rattle.std.proofs.lemmas.List.Elements.{Contains-push_cases}
 use Rattle.ufs_model.specs.Blocks.{Volume, bind, block_at}
 use Rattle.ufs_model.specs.Claims.{IsClaim, by_pointer, by_slot, level_of, pointer_fragments, slot_fragments, slot_fragments_in, targets}
 use Rattle.ufs_model.specs.Inodes.{inode_block, inode_byte, inode_in, inode_of}
@@ -11,6 +13,7 @@ use Rattle.ufs_model.specs.declared.claims.ClaimSource.TheVariants.{Slot, Pointe
 use Rattle.ufs_model.specs.declared.geometries.Geometry.{Geometry}
 use Rattle.ufs_model.specs.declared.inodes.Inode.{Inode}
 use Rattle.ufs_model.specs.declared.numbers.Endian.TheVariants.{Little}
+use Rattle.dg_claims.proofs.ListLaws.{contains_cons}
 use Rattle.dg_claims.specs.Scans.{HasInode, HasNoPointers, HoldsIn, IsIndirect, IsRightAbove, stored_fragments}
 use Rattle.dg_claims.specs.Tables.{IsClaimedAt, fragment_pointers, inode_fragments}
 
@@ -174,4 +177,30 @@ right_in_the_end t claimed none right fragment (Pointer upper level at) = elim (
     λ claim. let low = claim_level t fragment upper level at claim in absurd (omega (arith, low, same)),
   )
   | inr apart ↦ right.pointers fragment upper level at (omega (arith, apart))
+]
+
+-- ---- a list of fragments
+
+contains_last : {X : Type 0} (xs : List X) (x y : X) → Contains (xs ++ x ∷ []) y → Contains xs y ⊎ (x ≡ y)
+contains_last xs x y has = Contains-push_cases xs x y has
+
+pub in_taken : (fragments : List ℕ) (i fragment : ℕ) → i < length fragments → (fragment ≡ get_or fragments i 0 → ⊥) → Contains (take (i + 1) fragments) fragment → Contains (take i fragments) fragment
+in_taken fragments i fragment lt apart has =
+    elim (contains_last (take i fragments) (get_or fragments i 0) fragment (subst (λ xs. Contains xs fragment) (take_more fragments i 0 lt) has)) [
+      | inl h ↦ h
+      | inr e ↦ absurd (apart (sym e))
+    ]
+
+pub in_whole : (fragments : List ℕ) (i fragment : ℕ) → length fragments ≤ i → Contains fragments fragment → Contains (take i fragments) fragment
+in_whole fragments i fragment le has = subst (λ xs. Contains xs fragment) (sym (take_all i fragments le)) has
+
+-- a list has a number, or it hasn't
+pub decided : (fragments : List ℕ) (x : ℕ) → Contains fragments x ⊎ (Contains fragments x → ⊥)
+decided [] x = inr (contains_nil x)
+decided (f ∷ fs) x = elim (cases_eq x f) [
+  | inl same ↦ inl (0, omega arith, sym same)
+  | inr apart ↦ elim (decided fs x) [
+    | inl has ↦ inl ((contains_cons f fs x).1 (inr has))
+    | inr none ↦ inr (λ has. elim ((contains_cons f fs x).0 has) [ inl e ↦ apart e | inr h ↦ none h ])
+  ]
 ]

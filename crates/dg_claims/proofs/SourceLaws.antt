@@ -81,7 +81,7 @@ cond_false b x y e = ap (λ t. cond t x y) e
 cond_true : {X : Type 0} (b : Bool) (x y : X) → b ≡ true → cond b x y ≡ x
 cond_true b x y e = ap (λ t. cond t x y) e
 
-past_slots : (g : Geometry) (inode : Inode) (slot : ℕ) → 15 ≤ slot → slot_fragments g inode slot ≡ []
+pub past_slots : (g : Geometry) (inode : Inode) (slot : ℕ) → 15 ≤ slot → slot_fragments g inode slot ≡ []
 unfolding slot_fragments
 past_slots g inode slot le =
     cond_false (has_pointers g inode && nat_lt slot 15) (fragments_at (slot_address g inode slot)) []

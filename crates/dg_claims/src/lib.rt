@@ -11,8 +11,10 @@ mod marks;
 mod owners;
 mod places;
 mod runs;
+mod scans;
 
 mod spans;
 
 pub use crate::claims::Claims;
+pub use crate::scans::scan;
 pub use ufs_model::{ClaimSource, Geometry, Inode};
