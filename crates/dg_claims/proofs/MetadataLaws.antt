@@ -1,7 +1,6 @@
 -- Which blocks are read for the claims of a volume, and what its claims are by its geometry.
-use Rattle.std.proofs.Common.{◌≡◌, ◌∙◌, ℕ, zero, suc, ◌+◌, ◌-◌, ◌*◌, ◌/◌, ◌%◌, ◌<◌, ◌≤◌, ◌⊎◌, ◌↔◌, List, [], ◌∷◌, ◌++◌, Bool, true, false, cond, min, inl, inr, Option, Some, None, Result, Ok, Err, refl, sym, ap, subst, arith, All, Contains, nat_lt, nat_le}
+use Rattle.std.proofs.Common.{◌≡◌, ◌∙◌, ℕ, zero, suc, ◌+◌, ◌-◌, ◌*◌, ◌/◌, ◌<◌, ◌≤◌, ◌↔◌, List, [], ◌∷◌, Bool, true, false, cond, min, inl, inr, Option, Some, None, Ok, Err, refl, sym, ap, subst, arith, All, Contains}
 use Rattle.std.specs.Int.{div_ceil}
-use Rattle.std.proofs.lemmas.Bool.{cases_Bool, false≢true}
 use Rattle.std.proofs.lemmas.Bool.Decides.{nat_tests}
 use Rattle.std.proofs.lemmas.Grind.{div_ceil_times}
 use Rattle.std.proofs.lemmas.List.{append-nil}
@@ -22,7 +21,7 @@ use Rattle.ufs_model.specs.declared.numbers.Endian.TheVariants.{Little}
 use Rattle.dg_claims.proofs.ListLaws.{contains_none}
 use Rattle.dg_claims.proofs.SourceLaws.{below_cases, past_slots}
 use Rattle.dg_claims.specs.Metadata.{IsMetadata, IsTableOf, accepted, of_claim, of_inode, of_super}
-use Rattle.dg_claims.specs.Scans.{HasInode, HasNoPointers, IsIndirect, IsRead, IsRightAbove}
+use Rattle.dg_claims.specs.Scans.{IsRead, IsRightAbove}
 use Rattle.dg_claims.specs.Tables.{ClaimTable}
 
 -- ---- the superblock's blocks

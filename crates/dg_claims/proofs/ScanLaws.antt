@@ -1,6 +1,6 @@
 -- What a scan of a volume has claimed so far.
-use Rattle.std.proofs.Common.{◌≡◌, ◌∙◌, ℕ, zero, suc, ◌+◌, ◌-◌, ◌*◌, ◌<◌, ◌≤◌, ◌⊎◌, ◌↔◌, List, [], ◌∷◌, ◌++◌, Bool, true, false, cond, inl, inr, Option, Some, None, IfSome, refl, sym, ap, subst, arith, take, drop, length, Contains, if◌then◌else◌, nat_lt, nat_le, get_or, take_all}
-use Rattle.std.proofs.lemmas.Bool.{cases_eq, false≢true}
+use Rattle.std.proofs.Common.{◌≡◌, ◌∙◌, ℕ, ◌+◌, ◌-◌, ◌*◌, ◌<◌, ◌≤◌, ◌⊎◌, ◌↔◌, List, [], ◌∷◌, ◌++◌, Bool, true, false, cond, inl, inr, Option, Some, None, refl, sym, ap, subst, arith, take, drop, length, Contains, get_or, take_all}
+use Rattle.std.proofs.lemmas.Bool.{cases_eq}
 use Rattle.std.proofs.lemmas.Bool.Decides.{nat_tests}
 use Rattle.std.proofs.lemmas.List.{take_more}
 use Rattle.std.proofs.lemmas.List.Elements.{Contains-push_cases}
@@ -14,7 +14,7 @@ use Rattle.ufs_model.specs.declared.geometries.Geometry.{Geometry}
 use Rattle.ufs_model.specs.declared.inodes.Inode.{Inode}
 use Rattle.ufs_model.specs.declared.numbers.Endian.TheVariants.{Little}
 use Rattle.dg_claims.proofs.ListLaws.{contains_cons}
-use Rattle.dg_claims.specs.Scans.{HasInode, HasNoPointers, HoldsIn, IsIndirect, IsRightAbove, stored_fragments}
+use Rattle.dg_claims.specs.Scans.{HasInode, HasNoPointers, IsIndirect, IsRightAbove, stored_fragments}
 use Rattle.dg_claims.specs.Tables.{IsClaimedAt, fragment_pointers, inode_fragments}
 
 -- ---- inodes
@@ -55,7 +55,7 @@ stored_target g geometry v number slot block byte l bytes is low high here at si
     let within = in_range number (g.ncg * g.ipg) low high in
     let whole : bytes ≡ block_at g.fsize v (inode_block g number) = has ∙ ap (λ b. block_at l v b) here ∙ ap (λ n. block_at n v (inode_block g number)) (sym size) in
     let read : inode_in Little (take 128 (drop byte bytes)) ≡ inode_in Little (take 128 (drop (inode_byte g number) (block_at g.fsize v (inode_block g number)))) =
-        ap (λ n. inode_in Little (take 128 (drop n bytes))) at ∙ ap (λ xs. inode_in Little (take 128 (drop (inode_byte g number) xs))) whole in
+    ap (λ n. inode_in Little (take 128 (drop n bytes))) at ∙ ap (λ xs. inode_in Little (take 128 (drop (inode_byte g number) xs))) whole in
     ap (λ o. stored_fragments o number (inode_in Little (take 128 (drop byte bytes))) slot) is
     ∙ stored g number slot (inode_in Little (take 128 (drop byte bytes))) within
     ∙ ap (slot_fragments_in g slot) read
@@ -149,19 +149,19 @@ right_below t old new level fragments low none listed here others decide right =
   pointers = λ fragment upper above at high. elim (cases_eq above level) [
     | inl same ↦ subst (λ k. Contains (new (Pointer upper k at)) fragment ↔ IsClaim t fragment (Pointer upper k at)) (sym same) (elim (decide upper) [
       | inl in_list ↦
-        let some = indirect_of t old level upper low none right ((listed upper).0 in_list) in (
-          λ has. by_pointer (some.2) (some.1) low (subst (λ xs. Contains xs fragment) (here upper at in_list) has),
-          λ claim. subst (λ xs. Contains xs fragment) (sym (here upper at in_list)) (pointer_claim t fragment upper level at claim),
-        )
+          let some = indirect_of t old level upper low none right ((listed upper).0 in_list) in (
+            λ has. by_pointer (some.2) (some.1) low (subst (λ xs. Contains xs fragment) (here upper at in_list) has),
+            λ claim. subst (λ xs. Contains xs fragment) (sym (here upper at in_list)) (pointer_claim t fragment upper level at claim),
+          )
       | inr off ↦
-        let bare : new (Pointer upper level at) ≡ [] = others (Pointer upper level at) (λ f a in_list e. off (subst (λ x. Contains fragments x) (sym (fragment_apart upper f level level at a e)) in_list)) ∙ none upper level at (omega arith) in (
-          λ has. absurd (contains_nil fragment (subst (λ xs. Contains xs fragment) bare has)),
-          λ claim. absurd (off (upper_listed t old level fragments fragment upper at low listed right claim)),
-        )
+          let bare : new (Pointer upper level at) ≡ [] = others (Pointer upper level at) (λ f a in_list e. off (subst (λ x. Contains fragments x) (sym (fragment_apart upper f level level at a e)) in_list)) ∙ none upper level at (omega arith) in (
+            λ has. absurd (contains_nil fragment (subst (λ xs. Contains xs fragment) bare has)),
+            λ claim. absurd (off (upper_listed t old level fragments fragment upper at low listed right claim)),
+          )
     ])
     | inr apart ↦
-      subst (λ xs. Contains xs fragment ↔ IsClaim t fragment (Pointer upper above at)) (sym (others (Pointer upper above at) (λ f a in_list e. apart (level_apart upper f above level at a e))))
-      (right.pointers fragment upper above at (omega (arith, high, apart, low)))
+        subst (λ xs. Contains xs fragment ↔ IsClaim t fragment (Pointer upper above at)) (sym (others (Pointer upper above at) (λ f a in_list e. apart (level_apart upper f above level at a e))))
+        (right.pointers fragment upper above at (omega (arith, high, apart, low)))
   ];
 }
 

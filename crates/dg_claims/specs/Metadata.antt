@@ -19,7 +19,7 @@ use Rattle.dg_claims.specs.Tables.{ClaimTable}
 pub data IsMetadata (endian : Endian) (l n : ℕ) (v : Volume) : ℕ → Type 0 where
   of_super : {b : ℕ} → has_super l b ≡ true → IsMetadata endian l n v b
   of_group : {b c : ℕ} {g : Geometry} → (geometry_of endian l n v).value ≡ Ok g → c < g.ncg → cgstart g c + g.cblkno ≤ b → b < cgstart g c + g.cblkno + div_ceil g.cgsize g.fsize
-    → IsMetadata endian l n v b
+      → IsMetadata endian l n v b
   of_inode : {b inode : ℕ} {g : Geometry} → (geometry_of endian l n v).value ≡ Ok g → inode < g.ncg * g.ipg → b ≡ inode_block g inode → IsMetadata endian l n v b
   of_claim : {b : ℕ} {source : ClaimSource} → IsClaim (volume_targets endian l n v) b source → 0 < level_of source → IsMetadata endian l n v b
 

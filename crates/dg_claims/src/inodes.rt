@@ -70,12 +70,7 @@ fn inode_at(block: &[u8], byte: u32) -> Option<Inode>
 }
 
 /// The slots of the inode at a byte of its block claim what it says. They claimed nothing.
-fn claim_stored(
-    claims: &mut Claims,
-    number: u32,
-    block: &[u8],
-    byte: u32,
-) -> Result<(), NoMemory>
+fn claim_stored(claims: &mut Claims, number: u32, block: &[u8], byte: u32) -> Result<(), NoMemory>
     requires inside { byte + 128 ≤ length block.now }
     requires bare { (slot : ℕ) → (table_of claims.old).claimed (ClaimSource.Slot number slot) ≡ [] }
     ensures geometry { (table_of claims.new).geometry ≡ (table_of claims.old).geometry }

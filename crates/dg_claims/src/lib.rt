@@ -12,7 +12,6 @@ mod owners;
 mod places;
 mod runs;
 mod scans;
-
 mod spans;
 
 pub use crate::claims::Claims;

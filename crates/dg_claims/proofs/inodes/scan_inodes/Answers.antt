@@ -1,4 +1,4 @@
-use Rattle.std.proofs.Common.{◌≡◌, ◌∙◌, ◌<◌, ◌≤◌, ◌*◌, ℕ, Option, refl, sym, subst, inl, inr, arith}
+use Rattle.std.proofs.Common.{◌∙◌, ℕ, refl, sym, subst, inl, inr, arith}
 use Rattle.dg_io.specs.ViewLaws.{keeps_both, keeps_same}
 use Rattle.ufs_model.specs.declared.claims.ClaimSource.TheVariants.{Slot, Pointer}
 use Rattle.dg_claims.proofs.FetchedLaws.{only_both, only_none}
@@ -42,7 +42,7 @@ loop-number-preserved g c =
       slots = λ is v holds.
           let before = so_far.slots (one.keeps.told is) v holds in
           let now = one.slots c.if-not-branch.false is v (so_far.keeps.stands v holds)
-              (subst (λ (l : ℕ). HoldsIn l v c.loop-number.held c.loop-number.levels.aside) (sym so_far.keeps.bytes) (before.0)) in (
+          (subst (λ (l : ℕ). HoldsIn l v c.loop-number.held c.loop-number.levels.aside) (sym so_far.keeps.bytes) (before.0)) in (
             subst (λ (l : ℕ). HoldsIn l v c.scan_inode.new.held c.scan_inode.new.levels.aside) so_far.keeps.bytes (now.0),
             slots_more c.args.g.now v (claimed_by c.loop-number.claims.runs) (claimed_by c.scan_inode.new.claims.runs) c.loop-number.number _ refl one.others (now.1) (before.1),
           );

@@ -1,4 +1,4 @@
-use Rattle.std.proofs.Common.{◌≡◌, ◌∙◌, ◌<◌, ◌≤◌, ℕ, List, Contains, get_or, refl, sym, ap, subst, inl, inr, arith}
+use Rattle.std.proofs.Common.{◌≡◌, ◌∙◌, Contains, get_or, sym, subst, inl, inr}
 use Rattle.std.proofs.lemmas.Bool.{cases_eq}
 use Rattle.std.proofs.lemmas.List.Elements.{Contains-get_or}
 use Rattle.dg_io.specs.ViewLaws.{keeps_both}
@@ -36,10 +36,10 @@ loop-fragment-preserved g c =
       geometry = one.geometry ∙ so_far.geometry;
       pointers = λ is v holds fragment at has. elim (cases_eq fragment (get_or c.args.fragments.now c.loop-fragment.fragment-index 0)) [
         | inl same ↦ subst (λ f. claimed_by c.scan_fragment.new.claims.runs (Pointer f c.args.level at) ≡ targets Little c.args.g.now v (Pointer f c.args.level at)) (sym same)
-          (one.pointers c.if-not-branch.false is v (so_far.keeps.stands v holds) at)
+            (one.pointers c.if-not-branch.false is v (so_far.keeps.stands v holds) at)
         | inr apart ↦
-          one.others (Pointer fragment c.args.level at) (λ a e. apart (fragment_apart fragment (get_or c.args.fragments.now c.loop-fragment.fragment-index 0) c.args.level c.args.level at a e))
-          ∙ so_far.pointers (one.keeps.told is) v holds fragment at (in_taken c.args.fragments.now c.loop-fragment.fragment-index fragment c.loop-fragment-test.true apart has)
+            one.others (Pointer fragment c.args.level at) (λ a e. apart (fragment_apart fragment (get_or c.args.fragments.now c.loop-fragment.fragment-index 0) c.args.level c.args.level at a e))
+            ∙ so_far.pointers (one.keeps.told is) v holds fragment at (in_taken c.args.fragments.now c.loop-fragment.fragment-index fragment c.loop-fragment-test.true apart has)
       ];
       others = λ source off. one.others source (λ a e. off (get_or c.args.fragments.now c.loop-fragment.fragment-index 0) a here e) ∙ so_far.others source off;
       fetched = only_both g.met.V.View.fetched_both one.keeps.told (λ is v holds. (so_far.keeps.stands v holds, λ b e. subst (λ f. Contains c.args.fragments.now f) (sym e) here)) so_far.fetched one.fetched;

@@ -1,4 +1,4 @@
-use Rattle.std.proofs.Common.{◌≡◌, ◌∙◌, ◌<◌, ◌-◌, ℕ, List, Contains, sym, ap, subst, Option}
+use Rattle.std.proofs.Common.{◌<◌, subst, Option}
 use Rattle.ufs_model.specs.Claims.{targets}
 use Rattle.ufs_model.specs.declared.geometries.Geometry.{Geometry}
 use Rattle.ufs_model.specs.declared.numbers.Endian.TheVariants.{Little}
@@ -21,10 +21,16 @@ returns-clause-right g c =
 pub returns-clause-lost : goal.returns-clause-lost
 returns-clause-lost g c =
     ok_map c.scan_fragments.result _ _ (λ got lost missed.
-    loses_along (λ is v both. (both.0, λ b has. is_indirect (targets Little c.args.g.now v) (claimed_by c.args.claims.now.runs) c.args.level b c.requires.low c.requires.none (both.1)
-    ((c.in_ok-fragments.ensures.claimed b).0 (rw c.deref.ensures.value at has)))) (lost missed)) c.scan_fragments.ensures.lost
+    loses_along (λ is v both. (
+      both.0,
+      λ b has. is_indirect (targets Little c.args.g.now v) (claimed_by c.args.claims.now.runs) c.args.level b c.requires.low c.requires.none (both.1)
+          ((c.in_ok-fragments.ensures.claimed b).0 (rw c.deref.ensures.value at has)),
+    )) (lost missed)) c.scan_fragments.ensures.lost
 
 pub returns-clause-fetched : goal.returns-clause-fetched
 returns-clause-fetched g c =
-    only_along (λ is v both. (both.0, λ b has. is_indirect (targets Little c.args.g.now v) (claimed_by c.args.claims.now.runs) c.args.level b c.requires.low c.requires.none (both.1)
-    ((c.in_ok-fragments.ensures.claimed b).0 (rw c.deref.ensures.value at has)))) c.scan_fragments.ensures.fetched
+    only_along (λ is v both. (
+      both.0,
+      λ b has. is_indirect (targets Little c.args.g.now v) (claimed_by c.args.claims.now.runs) c.args.level b c.requires.low c.requires.none (both.1)
+          ((c.in_ok-fragments.ensures.claimed b).0 (rw c.deref.ensures.value at has)),
+    )) c.scan_fragments.ensures.fetched
