@@ -13,6 +13,8 @@ mod places;
 mod runs;
 mod scans;
 mod spans;
+#[cfg(test)]
+mod tests;
 
 pub use crate::claims::Claims;
 pub use crate::scans::scan;
