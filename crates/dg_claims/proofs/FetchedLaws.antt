@@ -7,7 +7,7 @@ use Rattle.std.proofs.lemmas.List.Elements.{All-append, All-cons, All-head, All-
 use Rattle.ufs_model.specs.Blocks.{Volume, Consulted, Reading, area_of, bind, block_at}
 use Rattle.ufs_model.specs.Readings.{ReadsAs}
 use Rattle.ufs_pointer.specs.Fetches.{Fetches, IsConsulted}
-use Rattle.dg_claims.specs.Metadata.{FetchesOnly, LosesOne}
+use Rattle.dg_claims.specs.Readers.{FetchesOnly, LosesOne}
 
 -- ---- from a reading
 

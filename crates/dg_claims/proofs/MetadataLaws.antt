@@ -1,16 +1,11 @@
 -- Which blocks are read for the claims of a volume, and what its claims are by its geometry.
-use Rattle.std.proofs.Common.{◌≡◌, ◌∙◌, ℕ, zero, suc, ◌+◌, ◌-◌, ◌*◌, ◌/◌, ◌<◌, ◌≤◌, ◌↔◌, List, [], ◌∷◌, Bool, true, false, cond, min, inl, inr, Option, Some, None, Ok, Err, refl, sym, ap, subst, arith, All, Contains}
-use Rattle.std.specs.Int.{div_ceil}
-use Rattle.std.proofs.lemmas.Bool.Decides.{nat_tests}
-use Rattle.std.proofs.lemmas.Grind.{div_ceil_times}
+use Rattle.std.proofs.Common.{◌≡◌, ◌∙◌, ℕ, ◌*◌, ◌<◌, ◌≤◌, ◌↔◌, List, [], Bool, true, false, cond, inl, inr, Option, Some, None, Ok, Err, refl, sym, ap, subst, arith, All, Contains}
 use Rattle.std.proofs.lemmas.List.{append-nil}
-use Rattle.std.proofs.Common.{div-add-mod', mod-lt}
-use Rattle.std.proofs.lemmas.List.Elements.{All-append, All-cons, All-nil, All-weaker}
-use Rattle.std.proofs.Math.Nat.{mul-le-mul_right}
-use Rattle.ufs_model.specs.Blocks.{Volume, area_of, area_within, bind}
+use Rattle.std.proofs.lemmas.List.Elements.{All-contains_itself, All-weaker}
+use Rattle.ufs_model.specs.Blocks.{Volume, bind}
 use Rattle.ufs_model.specs.Claims.{IsClaim, by_pointer, by_slot, level_of, slot_fragments_in, targets, targets_in, volume_targets}
 use Rattle.ufs_model.specs.Inodes.{inode_of}
-use Rattle.ufs_model.specs.Roles.{has_super, is_within}
+use Rattle.ufs_model.specs.Roles.{is_within}
 use Rattle.ufs_model.specs.Superblocks.{geometry_of, superblock_of}
 use Rattle.ufs_model.specs.declared.claims.ClaimSource.{ClaimSource}
 use Rattle.ufs_model.specs.declared.claims.ClaimSource.TheVariants.{Slot, Pointer}
@@ -20,49 +15,19 @@ use Rattle.ufs_model.specs.declared.inodes.Inode.{Inode}
 use Rattle.ufs_model.specs.declared.numbers.Endian.TheVariants.{Little}
 use Rattle.dg_claims.proofs.ListLaws.{contains_none}
 use Rattle.dg_claims.proofs.SourceLaws.{below_cases, past_slots}
-use Rattle.dg_claims.specs.Metadata.{IsMetadata, IsTableOf, accepted, of_claim, of_inode, of_super}
+use Rattle.dg_claims.specs.Readers.{IsTableOf, accepted}
+use Rattle.ufs_model.specs.Metadata.{IsMetadata, by_geometry, of_indirect, of_inode, of_superblock}
 use Rattle.dg_claims.specs.Scans.{IsRead, IsRightAbove}
 use Rattle.dg_claims.specs.Tables.{ClaimTable}
 
 -- ---- the superblock's blocks
 
-area_inside : (l a k : ℕ) (v : Volume) → All (λ b. (a ≤ b) × (b < a + k)) ((area_of l a k v).needs)
-unfolding area_of bind
-area_inside l a zero v = All-nil (λ b. (a ≤ b) × (b < a + 0))
-area_inside l a (suc k) v =
-    All-append (λ b. (a ≤ b) × (b < a + suc k)) ((area_of l a k v).needs) ((a + k) ∷ [])
-    (All-weaker (λ b. (a ≤ b) × (b < a + k)) (λ b. (a ≤ b) × (b < a + suc k)) (λ b h. (h.0, omega (arith, h.1))) ((area_of l a k v).needs) (area_inside l a k v))
-    (All-cons (λ b. (a ≤ b) × (b < a + suc k)) (a + k) [] (omega arith, omega arith) (All-nil (λ b. (a ≤ b) × (b < a + suc k))))
-
-super_test : (l b : ℕ) → b * l < 9568 → 8192 < (b + 1) * l → has_super l b ≡ true
-super_test l b low high = grind (arith, nat_tests)
-
-super_block : (l b : ℕ) → 0 < l → 8192 / l ≤ b → b < 8192 / l + div_ceil 1376 l → has_super l b ≡ true
-super_block l b some from to =
-    let q = 8192 / l in
-    let d = div_ceil 1376 l in
-    let parts = div-add-mod' 8192 l in
-    let rest = mod-lt 8192 some in
-    let bound = div_ceil_times 1376 l some in
-    let above = mul-le-mul_right l (let le : q + 1 ≤ b + 1 = omega (arith, from) in le) in
-    let below = mul-le-mul_right l (let le : b + 1 ≤ q + d = omega (arith, to) in le) in
-    let one : (q + 1) * l ≡ q * l + l = omega arith in
-    let both : (q + d) * l ≡ q * l + d * l = omega arith in
-    let next : (b + 1) * l ≡ b * l + l = omega arith in
-    super_test l b (omega (arith, below, both, next, bound.1, parts)) (omega (arith, above, one, parts, rest))
-
-within_needs : (l n a k : ℕ) (v : Volume) → All (λ b. (a ≤ b) × (b < a + k)) ((area_within l n a k v).needs)
-unfolding area_within bind
-within_needs l n a k v =
-    subst (λ (xs : List ℕ). All (λ b. (a ≤ b) × (b < a + k)) xs) (sym (append-nil ((area_of l a (min k (n - a)) v).needs)))
-    (All-weaker (λ b. (a ≤ b) × (b < a + min k (n - a))) (λ b. (a ≤ b) × (b < a + k)) (λ b h. (h.0, omega (arith, h.1))) ((area_of l a (min k (n - a)) v).needs) (area_inside l a (min k (n - a)) v))
-
-pub super_needs : (l n : ℕ) (v : Volume) → 0 < l → All (IsMetadata Little l n v) ((geometry_of Little l n v).needs)
-unfolding geometry_of superblock_of bind
-super_needs l n v some =
-    subst (λ (xs : List ℕ). All (IsMetadata Little l n v) xs) (sym (append-nil ((area_within l n (8192 / l) (div_ceil 1376 l) v).needs)))
-    (All-weaker (λ b. (8192 / l ≤ b) × (b < 8192 / l + div_ceil 1376 l)) (IsMetadata Little l n v) (λ b h. of_super (super_block l b some (h.0) (h.1)))
-    ((area_within l n (8192 / l) (div_ceil 1376 l) v).needs) (within_needs l n (8192 / l) (div_ceil 1376 l) v))
+pub super_needs : (l n : ℕ) (v : Volume) → All (IsMetadata Little l n v) ((geometry_of Little l n v).needs)
+unfolding geometry_of bind
+super_needs l n v =
+    subst (λ (xs : List ℕ). All (IsMetadata Little l n v) xs) (sym (append-nil ((superblock_of l n v).needs)))
+    (All-weaker (Contains ((superblock_of l n v).needs)) (IsMetadata Little l n v) (λ b has. of_superblock has) ((superblock_of l n v).needs)
+    (All-contains_itself ((superblock_of l n v).needs)))
 
 -- ---- claims by the geometry
 
@@ -104,8 +69,8 @@ table_accepted l n v table g is geometry claims = record {
 }
 
 pub metadata_read : (l n : ℕ) (v : Volume) (g : Geometry) → Ok g ≡ (geometry_of Little l n v).value → (b : ℕ) → IsRead g v b → IsMetadata Little l n v b
-metadata_read l n v g is b (inl has) = of_inode (sym is) (has.1) (has.2)
-metadata_read l n v g is b (inr at) = of_claim (claim_along (targets Little g v) (volume_targets Little l n v) (volume_target l n v g is) (at.1)) (at.2)
+metadata_read l n v g is b (inl has) = by_geometry g (sym is) (of_inode has.0 (has.1) (has.2))
+metadata_read l n v g is b (inr at) = by_geometry g (sym is) (of_indirect at.0 (at.1) (at.2))
 
 -- ---- before any pointer
 

@@ -7,7 +7,7 @@ ghost use Rattle.ufs_model.specs.Inodes.{inode_in};
 ghost use Rattle.ufs_model.specs.declared.claims.ClaimSource.{ClaimSource};
 ghost use Rattle.ufs_model.specs.declared.numbers.Endian.TheVariants.{Little};
 ghost use Rattle.dg_claims.specs.Kept.{table_of};
-ghost use Rattle.dg_claims.specs.Metadata.{FetchesOnly, LosesOne};
+ghost use Rattle.dg_claims.specs.Readers.{FetchesOnly, LosesOne};
 ghost use Rattle.dg_claims.specs.Scans.{HasInode, HasNoPointers, HoldsIn, IsIndirect, IsRightAbove, stored_fragments};
 
 use crate::claims::{Claims, FIRST_INODE};

@@ -6,7 +6,7 @@ ghost use Rattle.ufs_model.specs.Geometries.{IsGeometryOn};
 ghost use Rattle.ufs_model.specs.declared.claims.ClaimSource.{ClaimSource};
 ghost use Rattle.ufs_model.specs.declared.numbers.Endian.TheVariants.{Little};
 ghost use Rattle.dg_claims.specs.Kept.{table_of};
-ghost use Rattle.dg_claims.specs.Metadata.{FetchesOnly, LosesOne};
+ghost use Rattle.dg_claims.specs.Readers.{FetchesOnly, LosesOne};
 ghost use Rattle.dg_claims.specs.Scans.{HasNoPointers, IsIndirect, IsRightAbove};
 
 use crate::claims::Claims;

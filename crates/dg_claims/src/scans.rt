@@ -6,7 +6,8 @@ ghost use Rattle.ufs_model.specs.Geometries.{IsGeometryOn};
 ghost use Rattle.ufs_model.specs.declared.claims.ClaimSource.{ClaimSource};
 ghost use Rattle.ufs_model.specs.declared.numbers.Endian.TheVariants.{Little};
 ghost use Rattle.dg_claims.specs.Kept.{table_of};
-ghost use Rattle.dg_claims.specs.Metadata.{FetchesOnly, IsMetadata, IsTableOf, LosesOne};
+ghost use Rattle.dg_claims.specs.Readers.{FetchesOnly, IsTableOf, LosesOne};
+ghost use Rattle.ufs_model.specs.Metadata.{IsMetadata};
 ghost use Rattle.dg_claims.specs.Scans.{IsRead};
 
 use crate::claims::Claims;
@@ -63,8 +64,6 @@ pub fn scan<V: View>(
     ensures fetched { FetchesOnly V.fetched (V.stands_for view.old) (V.tells view.new)
         (IsMetadata Little (V.size view.old) (V.count view.old)) view.old view.new }
 {
-    let l = levels.fragment_bytes();
-    prove!(0 < l);
     match read_geometry(view, levels) {
         Some(Ok(g)) => scan_volume(alloc, view, &g, levels),
         Some(Err(_)) => Ok(Some(Claims::new(alloc, None)?)),

@@ -4,7 +4,7 @@ use Rattle.ufs_model.specs.Claims.{targets}
 use Rattle.ufs_model.specs.declared.claims.ClaimSource.TheVariants.{Slot, Pointer}
 use Rattle.ufs_model.specs.declared.numbers.Endian.TheVariants.{Little}
 use Rattle.dg_claims.specs.Kept.{claimed_by}
-use Rattle.dg_claims.specs.Metadata.{FetchesOnly}
+use Rattle.dg_claims.specs.Readers.{FetchesOnly}
 use Rattle.dg_claims.specs.Scans.{HasInode, HoldsIn}
 use Rattle.dg_claims.proofs.inodes.scan_inodes.Given as goal
 

@@ -5,7 +5,7 @@ use Rattle.ufs_model.specs.declared.claims.ClaimSource.{ClaimSource}
 use Rattle.ufs_model.specs.declared.claims.ClaimSource.TheVariants.{Pointer}
 use Rattle.ufs_model.specs.declared.numbers.Endian.TheVariants.{Little}
 use Rattle.dg_claims.specs.Kept.{claimed_by}
-use Rattle.dg_claims.specs.Metadata.{FetchesOnly}
+use Rattle.dg_claims.specs.Readers.{FetchesOnly}
 use Rattle.dg_claims.proofs.levels.scan_fragments.Given as goal
 
 abbrev pub invariant-loop-fragment : goal.invariant-loop-fragment

@@ -3,7 +3,7 @@ use Rattle.dg_io.specs.Views.{KeepsView}
 use Rattle.ufs_model.specs.Claims.{targets}
 use Rattle.ufs_model.specs.declared.numbers.Endian.TheVariants.{Little}
 use Rattle.dg_claims.specs.Kept.{claimed_by}
-use Rattle.dg_claims.specs.Metadata.{FetchesOnly}
+use Rattle.dg_claims.specs.Readers.{FetchesOnly}
 use Rattle.dg_claims.specs.Scans.{HasNoPointers, IsIndirect, IsRightAbove}
 use Rattle.dg_claims.proofs.levels.scan_levels.Given as goal
 

@@ -1,16 +1,14 @@
-use Rattle.std.proofs.Common.{◌<◌, arith}
 use Rattle.ufs_model.specs.declared.numbers.Endian.TheVariants.{Little}
 use Rattle.dg_claims.proofs.FetchedLaws.{loses_along, loses_of, ok_none, ok_some, only_both, only_of}
 use Rattle.dg_claims.proofs.MetadataLaws.{metadata_read, super_needs, table_accepted, table_refused}
 use Rattle.dg_claims.specs.Kept.{table_of}
-use Rattle.dg_claims.specs.Metadata.{IsMetadata}
+use Rattle.ufs_model.specs.Metadata.{IsMetadata}
 use Rattle.dg_claims.proofs.scans.scan.Goals as goal
 
 pub returns-in_err-new-in-Some-Err-clause-fetched : goal.returns-in_err-new-in-Some-Err-clause-fetched
 returns-in_err-new-in-Some-Err-clause-fetched g c =
     let l = g.V.View.size c.args.view.now in
-    let some : 0 < l = omega (arith, c.if-prove.false, c.fragment_bytes-l.ensures.value, c.requires.levels) in
-    only_of (IsMetadata Little l (g.V.View.count c.args.view.now)) (λ v holds. super_needs l (g.V.View.count c.args.view.now) v some) c.read_geometry.ensures.fetched
+    only_of (IsMetadata Little l (g.V.View.count c.args.view.now)) (λ v holds. super_needs l (g.V.View.count c.args.view.now) v) c.read_geometry.ensures.fetched
 
 pub returns-in-Some-Ok-clause-claims : goal.returns-in-Some-Ok-clause-claims
 returns-in-Some-Ok-clause-claims g c =
@@ -34,10 +32,9 @@ returns-in-Some-Ok-clause-fetched g c =
     let keeps = c.in-Some-Ok.ensures.keeps in
     let l = g.V.View.size c.args.view.now in
     let n = g.V.View.count c.args.view.now in
-    let some : 0 < l = omega (arith, c.if-prove.false, c.fragment_bytes-l.ensures.value, c.requires.levels) in
     only_both g.met.V.View.fetched_both c.scan_volume.ensures.keeps.told
     (λ is v holds. (keeps.stands v holds, metadata_read l n v c.in-Some-Ok.g ((reads.rule (c.scan_volume.ensures.keeps.told is) v holds).answer)))
-    (only_of (IsMetadata Little l n) (λ v holds. super_needs l n v some) c.read_geometry.ensures.fetched) c.scan_volume.ensures.fetched
+    (only_of (IsMetadata Little l n) (λ v holds. super_needs l n v) c.read_geometry.ensures.fetched) c.scan_volume.ensures.fetched
 
 pub returns-in_ok-new-in-Some-Err-clause-claims : goal.returns-in_ok-new-in-Some-Err-clause-claims
 returns-in_ok-new-in-Some-Err-clause-claims g c = λ is v holds.
@@ -48,17 +45,14 @@ returns-in_ok-new-in-Some-Err-clause-claims g c = λ is v holds.
 pub returns-in_ok-new-in-Some-Err-clause-fetched : goal.returns-in_ok-new-in-Some-Err-clause-fetched
 returns-in_ok-new-in-Some-Err-clause-fetched g c =
     let l = g.V.View.size c.args.view.now in
-    let some : 0 < l = omega (arith, c.if-prove.false, c.fragment_bytes-l.ensures.value, c.requires.levels) in
-    only_of (IsMetadata Little l (g.V.View.count c.args.view.now)) (λ v holds. super_needs l (g.V.View.count c.args.view.now) v some) c.read_geometry.ensures.fetched
+    only_of (IsMetadata Little l (g.V.View.count c.args.view.now)) (λ v holds. super_needs l (g.V.View.count c.args.view.now) v) c.read_geometry.ensures.fetched
 
 pub returns-in-None-clause-lost : goal.returns-in-None-clause-lost
 returns-in-None-clause-lost g c =
     let l = g.V.View.size c.args.view.now in
-    let some : 0 < l = omega (arith, c.if-prove.false, c.fragment_bytes-l.ensures.value, c.requires.levels) in
-    loses_of (IsMetadata Little l (g.V.View.count c.args.view.now)) (λ v holds. super_needs l (g.V.View.count c.args.view.now) v some) c.in-None.ensures.rule
+    loses_of (IsMetadata Little l (g.V.View.count c.args.view.now)) (λ v holds. super_needs l (g.V.View.count c.args.view.now) v) c.in-None.ensures.rule
 
 pub returns-in-None-clause-fetched : goal.returns-in-None-clause-fetched
 returns-in-None-clause-fetched g c =
     let l = g.V.View.size c.args.view.now in
-    let some : 0 < l = omega (arith, c.if-prove.false, c.fragment_bytes-l.ensures.value, c.requires.levels) in
-    only_of (IsMetadata Little l (g.V.View.count c.args.view.now)) (λ v holds. super_needs l (g.V.View.count c.args.view.now) v some) c.read_geometry.ensures.fetched
+    only_of (IsMetadata Little l (g.V.View.count c.args.view.now)) (λ v holds. super_needs l (g.V.View.count c.args.view.now) v) c.read_geometry.ensures.fetched
