@@ -30,8 +30,8 @@ entries_among [] = []
 entries_among (chunk ∷ chunks) = used_entries (entries_in Little 0 chunk) ++ entries_among chunks
 
 -- the length of a name stands in a byte (`d_namlen`)
-abbrev pub has_short_name : DirEntry → Type 0
-has_short_name entry = length entry.name ≤ 255
+abbrev pub HasShortName : DirEntry → Type 0
+HasShortName entry = length entry.name ≤ 255
 
 -- the used entries in file block n of a directory
 unfoldable pub block_entries : Endian → Geometry → Inode → ℕ → Reading (Result (List DirEntry) PathRefusal)

@@ -8,7 +8,7 @@ ghost use Rattle.ufs_model.specs.Paths.{bytes_in_block, chunks_in, entries_befor
 ghost use Rattle.ufs_model.specs.Readings.{ReadsAs};
 ghost use Rattle.ufs_model.specs.declared.numbers.Endian.TheVariants.{Little};
 ghost use Rattle.ufs_path.specs.Answers.{refusal_of};
-ghost use Rattle.ufs_path.specs.Walks.{are_sound, block_entries, entries_said, has_short_name};
+ghost use Rattle.ufs_path.specs.Walks.{are_sound, block_entries, entries_said, HasShortName};
 
 use crate::blocks::{FileBlock, bytes_in_block, read_block};
 use crate::faults::LookFault;
@@ -35,7 +35,7 @@ fn are_sound(bytes: &[u8], count: usize) -> bool
 pub fn chunk_at(block: &[u8], i: usize) -> [u8; CHUNK_BYTES]
     requires { i * 512 + 512 ≤ length block.now }
     ensures value { result ≡ take 512 (drop (i * 512) block.now) }
-    ensures names { All has_short_name (entries_in Little 0 result) }
+    ensures names { All HasShortName (entries_in Little 0 result) }
 {
     let start = i * CHUNK_BYTES;
     let mut chunk = [0; CHUNK_BYTES];

@@ -6,7 +6,7 @@ use Rattle.ufs_dir.specs.Steps.{entry_of}
 use Rattle.ufs_model.specs.Chunks.{entries_in, used_entries}
 use Rattle.ufs_model.specs.declared.numbers.Endian.TheVariants.{Little}
 use Rattle.ufs_path.proofs.WalkLaws.{failed_then, handed_none, handed_then, unread_then, used_front}
-use Rattle.ufs_path.specs.Walks.{has_short_name}
+use Rattle.ufs_path.specs.Walks.{HasShortName}
 use Rattle.ufs_path.proofs.walks.list_chunk.Goals as goal
 
 pub loop-entry-init : goal.loop-entry-init
@@ -22,7 +22,7 @@ loop-entry-init g c = record {
 
 pub list_entry-requires-clause-short : goal.list_entry-requires-clause-short
 list_entry-requires-clause-short g c =
-    All-head has_short_name (entry_of c.in-Entry.entry) (entries_in Little 0 c.next.new.self) (subst (All has_short_name) c.in-Entry.ensures.entries c.loop-entry.invariant.names)
+    All-head HasShortName (entry_of c.in-Entry.entry) (entries_in Little 0 c.next.new.self) (subst (All HasShortName) c.in-Entry.ensures.entries c.loop-entry.invariant.names)
 
 pub loop-entry-preserved : goal.loop-entry-preserved
 loop-entry-preserved g c =
@@ -39,7 +39,7 @@ loop-entry-preserved g c =
       block = c.list_entry.ensures.block ∙ c.loop-entry.invariant.block;
       later = omega arith;
       few = omega arith;
-      names = All-tail has_short_name (entry_of c.in-Entry.entry) (entries_in Little 0 c.next.new.self) (subst (All has_short_name) c.in-Entry.ensures.entries c.loop-entry.invariant.names);
+      names = All-tail HasShortName (entry_of c.in-Entry.entry) (entries_in Little 0 c.next.new.self) (subst (All HasShortName) c.in-Entry.ensures.entries c.loop-entry.invariant.names);
       handed = (
         handed.0 ++ used_entries (entry_of c.in-Entry.entry ∷ []),
         rw (used_front (entry_of c.in-Entry.entry) _ _ c.in-Entry.ensures.entries) at (handed.1) ∙ sym (append_assoc (handed.0) (used_entries (entry_of c.in-Entry.entry ∷ [])) (used_entries (entries_in Little 0 c.next.new.self))),
