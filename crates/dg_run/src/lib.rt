@@ -9,6 +9,8 @@ mod buffers;
 #[cfg(test)]
 mod cat_tests;
 mod cats;
+#[cfg(test)]
+mod claim_tests;
 mod events;
 mod input;
 mod lines;

@@ -1,0 +1,114 @@
+// The claims of volumes that are written to an array in memory, block by block: 128 fragments of 1024 bytes on four boundaries
+// with 64 slots. Inode i stands at byte 28 * 1024 + 128 * i.
+ghost use Rattle.std.specs.Prelude.{◌≡◌, IfOk, length};
+ghost use Rattle.dg_store.specs.Stores.{IsSound, shape_of};
+
+use dg_claims::{Claims, scan};
+use dg_io::{Rack, SureRack};
+use dg_model::Shape;
+use dg_store::{Store, StoreWrite};
+use std::alloc::Global;
+use std::test::Fail;
+use ufs_path::Levels;
+use ufs_rows::{Which, rows_image};
+
+// Bytes of a member: a label, and 65 slots.
+const LENGTH: u64 = 512 + 65 * 1024;
+
+// The second direct slot of inode 3, the first one of inode 6, and the double indirect slot of inode 5.
+const SECOND_OF_3: usize = 29_100;
+
+const FIRST_OF_6: usize = 29_480;
+
+const DOUBLE_OF_5: usize = 29_404;
+
+// The volume F, with another number at a byte of its image.
+fn image(alloc: Global, at: usize, number: u32) -> Result<Vec<u8>, Fail>
+    ensures { IfOk result (λ image. length image.items ≡ 131072) }
+{
+    let Ok(mut image) = rows_image(alloc, Which::F) else {
+        return Err("memory".into());
+    };
+    if at > 131_068 {
+        return Err("place".into());
+    }
+    image[at..at + 4].copy_from_slice(&number.to_le_bytes());
+    Ok(image)
+}
+
+// Writes a block, where it isn't zero.
+fn put_block<R: Rack>(store: &mut Store<R>, block: usize, bytes: &[u8]) -> Result<(), Fail>
+    requires sound { IsSound R.bytes store.old }
+    ensures sound { IsSound R.bytes store.new }
+    ensures shape { shape_of store.new ≡ shape_of store.old }
+{
+    let shape = *store.shape();
+    if bytes.len() != shape.l as usize || block >= shape.n as usize {
+        return Err("shape".into());
+    }
+    if bytes.iter().all(|byte| *byte == 0) {
+        return Ok(());
+    }
+    match store.write(block as u32, bytes) {
+        Ok(StoreWrite::Stored) => Ok(()),
+        Ok(StoreWrite::AllLost) => Err("a write is refused".into()),
+        Err(_) => Err("memory".into()),
+    }
+}
+
+// The claims on a store, by a scan of it.
+fn scanned<R: Rack>(alloc: Global, store: &mut Store<R>) -> Result<Claims, Fail>
+    requires sound { IsSound R.bytes store.old }
+{
+    let l = store.shape().l;
+    if l != 1024 {
+        return Err("shape".into());
+    }
+    let Ok(mut levels) = Levels::new(alloc, l) else {
+        return Err("memory".into());
+    };
+    match scan(alloc, store, &mut levels) {
+        Ok(Some(claims)) => Ok(claims),
+        Ok(None) => Err("a block is gone".into()),
+        Err(_) => Err("memory".into()),
+    }
+}
+
+// The claims of the volume F with another number at a byte, which is written to an array.
+fn claims_of(alloc: Global, at: usize, number: u32) -> Result<Claims, Fail> {
+    let image = image(alloc, at, number)?;
+    let shape = Shape::check(1024, 128, 4, 64, 2).ok_or("shape")?;
+    let rack = SureRack::new(alloc, 8, LENGTH)?;
+    let mut store = Store::new(alloc, rack, shape)?;
+    for (block, bytes) in image.chunks(1024).enumerate() {
+        put_block(&mut store, block, bytes)?;
+    }
+    scanned(alloc, &mut store)
+}
+
+#[test]
+fn blocks_of_an_array_have_their_owners(rt: HostRuntime) -> Result<(), Fail> {
+    let alloc = rt.alloc();
+    // Inode 5 has its own slot again.
+    let claims = claims_of(alloc, DOUBLE_OF_5, 0)?;
+    assert_eq!(rt; claims.owner(88), Some((5, 0)));
+    assert_eq!(rt; claims.owner(84), Some((5, 1)));
+    assert_eq!(rt; claims.owner(8), None);
+    let claims = claims_of(alloc, SECOND_OF_3, 96)?;
+    assert_eq!(rt; claims.owner(96), Some((3, 0)));
+    assert_eq!(rt; claims.owner(34), Some((3, 0)));
+    Ok(())
+}
+
+#[test]
+fn shared_blocks_of_an_array_have_none(rt: HostRuntime) -> Result<(), Fail> {
+    let alloc = rt.alloc();
+    let claims = claims_of(alloc, FIRST_OF_6, 34)?;
+    assert_eq!(rt; claims.claims_on(34), 2);
+    assert_eq!(rt; claims.owner(34), None);
+    let claims = claims_of(alloc, DOUBLE_OF_5, 84)?;
+    assert_eq!(rt; claims.claims_on(84), 2);
+    assert_eq!(rt; claims.claims_on(88), 2);
+    assert_eq!(rt; claims.owner(88), None);
+    Ok(())
+}
