@@ -10,7 +10,7 @@ use Rattle.dg_claims.proofs.ListLaws.{contains_cons, contains_last, contains_non
 use Rattle.dg_claims.proofs.OwnerLaws.{claims_marked}
 use Rattle.dg_claims.proofs.RunLaws.{contains_run}
 use Rattle.dg_claims.proofs.SourceLaws.{place_is, source_is}
-use Rattle.dg_claims.specs.Kept.{IsKept, IsRun, IsSource, KeptClaims, claimed_by, kept_of, size_in}
+use Rattle.dg_claims.specs.Kept.{IsKept, IsRun, IsPlace, KeptClaims, claimed_by, kept_of, size_in}
 use Rattle.dg_claims.specs.Marks.{marked_on}
 use Rattle.dg_claims.specs.Places.{is_at_level, place_of, source_of}
 use Rattle.dg_claims.specs.Runs.{run_at, run_fragments}
@@ -50,7 +50,7 @@ claimed_at inside kept fragment level view is = (
       source_any level (marked_on inside.marks fragment) (place_of (h.0)) ((claims_marked inside kept fragment (h.0) view is).1 (h.2)) (ap level_of (source_is (h.0)) ∙ h.1),
 )
 
-inside_run : (geometry : Option Geometry) (size fragment : ℕ) (place : Place) (run : Option Run) → IfSome run (λ r. IsSource geometry place × IsRun size r) → Contains (run_fragments run) fragment → fragment < size
+inside_run : (geometry : Option Geometry) (size fragment : ℕ) (place : Place) (run : Option Run) → IfSome run (λ r. IsPlace geometry place × IsRun size r) → Contains (run_fragments run) fragment → fragment < size
 inside_run geometry size fragment place None h has = absurd (contains_none fragment has)
 inside_run geometry size fragment place (Some run) h has =
     let both = (contains_run run fragment).0 has in

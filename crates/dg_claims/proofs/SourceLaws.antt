@@ -12,7 +12,7 @@ use Rattle.ufs_model.specs.declared.claims.ClaimSource.TheVariants.{Slot, Pointe
 use Rattle.ufs_model.specs.declared.geometries.Geometry.{Geometry}
 use Rattle.ufs_model.specs.declared.inodes.Inode.{Inode}
 use Rattle.ufs_model.specs.declared.numbers.Endian.TheVariants.{Little}
-use Rattle.dg_claims.specs.Kept.{HasSources, IsSource, KeptClaims, SetsFirst, claimed_by}
+use Rattle.dg_claims.specs.Kept.{HasSources, IsPlace, KeptClaims, SetsFirst, claimed_by}
 use Rattle.dg_claims.specs.Places.{index_of, place_of, pointer_place, slot_place, source_of}
 use Rattle.dg_claims.specs.Runs.{run_at, run_fragments}
 use Rattle.dg_claims.specs.Tables.{fragment_pointers, inode_fragments}
@@ -89,8 +89,8 @@ past_slots g inode slot le =
 
 no_slot : (kept : KeptClaims) (g : Geometry) (number slot : ℕ) → HasSources kept → kept.geometry ≡ Some g → 15 ≤ slot → run_at kept.runs (slot_place number slot) ≡ None
 no_slot kept g number slot sources is le =
-    none_from (λ run. IsSource kept.geometry (slot_place number slot)) (run_at kept.runs (slot_place number slot)) (sources (slot_place number slot))
-    (λ run h. let source : IsSource (Some g) (slot_place number slot) = subst (λ o. IsSource o (slot_place number slot)) is h in omega (arith, source.2, le))
+    none_from (λ run. IsPlace kept.geometry (slot_place number slot)) (run_at kept.runs (slot_place number slot)) (sources (slot_place number slot))
+    (λ run h. let source : IsPlace (Some g) (slot_place number slot) = subst (λ o. IsPlace o (slot_place number slot)) is h in omega (arith, source.2, le))
 
 slot_cases : (slot : ℕ) → (slot < 15) ⊎ (15 ≤ slot)
 slot_cases slot = elim (nat_lt slot 15) as (λ b. nat_lt slot 15 ≡ b → (slot < 15) ⊎ (15 ≤ slot)) [
@@ -128,12 +128,12 @@ pub no_inode : (kept : KeptClaims) (number : ℕ) (inode : Inode) → HasSources
 unfolding claimed_by inode_fragments
 no_inode kept number inode sources out slot =
     elim (kept.geometry) as (λ o. kept.geometry ≡ o → run_fragments (run_at kept.runs (slot_place number slot)) ≡ inode_fragments o number inode slot) [
-      | None ↦ λ is. ap run_fragments (none_from (λ run. IsSource kept.geometry (slot_place number slot)) (run_at kept.runs (slot_place number slot)) (sources (slot_place number slot))
-          (λ run h. subst (λ o. IsSource o (slot_place number slot)) is h))
+      | None ↦ λ is. ap run_fragments (none_from (λ run. IsPlace kept.geometry (slot_place number slot)) (run_at kept.runs (slot_place number slot)) (sources (slot_place number slot))
+          (λ run h. subst (λ o. IsPlace o (slot_place number slot)) is h))
       | Some g ↦ λ is.
-          ap run_fragments (none_from (λ run. IsSource kept.geometry (slot_place number slot)) (run_at kept.runs (slot_place number slot)) (sources (slot_place number slot))
+          ap run_fragments (none_from (λ run. IsPlace kept.geometry (slot_place number slot)) (run_at kept.runs (slot_place number slot)) (sources (slot_place number slot))
           (λ run h.
-          let source : IsSource (Some g) (slot_place number slot) = subst (λ o. IsSource o (slot_place number slot)) is h in
+          let source : IsPlace (Some g) (slot_place number slot) = subst (λ o. IsPlace o (slot_place number slot)) is h in
           false≢true (sym (out g is) ∙ in_range number (g.ncg * g.ipg) (source.0) (source.1))))
           ∙ sym (cond_false (is_within 2 (g.ncg * g.ipg) number) (slot_fragments g inode slot) [] (out g is))
     ] refl
@@ -148,8 +148,8 @@ past_pointers g bytes at le =
 no_pointer_at : (kept : KeptClaims) (g : Geometry) (fragment level at : ℕ) → HasSources kept → kept.geometry ≡ Some g → g.fsize / 4 ≤ at
     → run_at kept.runs (pointer_place fragment level at) ≡ None
 no_pointer_at kept g fragment level at sources is le =
-    none_from (λ run. IsSource kept.geometry (pointer_place fragment level at)) (run_at kept.runs (pointer_place fragment level at)) (sources (pointer_place fragment level at))
-    (λ run h. let source : IsSource (Some g) (pointer_place fragment level at) = subst (λ o. IsSource o (pointer_place fragment level at)) is h in omega (arith, source.2, le))
+    none_from (λ run. IsPlace kept.geometry (pointer_place fragment level at)) (run_at kept.runs (pointer_place fragment level at)) (sources (pointer_place fragment level at))
+    (λ run h. let source : IsPlace (Some g) (pointer_place fragment level at) = subst (λ o. IsPlace o (pointer_place fragment level at)) is h in omega (arith, source.2, le))
 
 pub below_cases : (a n : ℕ) → (a < n) ⊎ (n ≤ a)
 below_cases a n = elim (nat_lt a n) as (λ b. nat_lt a n ≡ b → (a < n) ⊎ (n ≤ a)) [
@@ -181,8 +181,8 @@ pub no_pointer : (kept : KeptClaims) (fragment level : ℕ) (bytes : List ℕ) �
 unfolding claimed_by fragment_pointers
 no_pointer kept fragment level bytes sources is at =
     subst (λ o. run_fragments (run_at kept.runs (pointer_place fragment level at)) ≡ fragment_pointers o bytes at) (sym is)
-    (ap run_fragments (none_from (λ run. IsSource kept.geometry (pointer_place fragment level at)) (run_at kept.runs (pointer_place fragment level at)) (sources (pointer_place fragment level at))
-    (λ run h. subst (λ o. IsSource o (pointer_place fragment level at)) is h)))
+    (ap run_fragments (none_from (λ run. IsPlace kept.geometry (pointer_place fragment level at)) (run_at kept.runs (pointer_place fragment level at)) (sources (pointer_place fragment level at))
+    (λ run h. subst (λ o. IsPlace o (pointer_place fragment level at)) is h)))
 
 -- ---- one source
 
@@ -196,7 +196,7 @@ unfolding claimed_by
 other_sources old new source other place is others ne =
     ap run_fragments (others (place_of other) (λ e. ne (sym (source_is other) ∙ ap source_of (e ∙ is) ∙ source_is source)))
 
-no_large : (o : Option Geometry) (fragment level at : ℕ) → IfSome o IsGeometry → IsSource o (pointer_place fragment level at) → 2 ^ 16 ≤ at → ⊥
+no_large : (o : Option Geometry) (fragment level at : ℕ) → IfSome o IsGeometry → IsPlace o (pointer_place fragment level at) → 2 ^ 16 ≤ at → ⊥
 no_large None fragment level at is source le = source
 no_large (Some g) fragment level at is source le =
     let size = is.fsize in
@@ -208,5 +208,11 @@ pub large_source : (kept : KeptClaims) (source : ClaimSource) → HasSources kep
 unfolding claimed_by
 large_source kept (Slot inode slot) sources is le = absurd (omega (arith, le))
 large_source kept (Pointer fragment level at) sources is le =
-    ap run_fragments (none_from (λ run. IsSource kept.geometry (pointer_place fragment level at)) (run_at kept.runs (pointer_place fragment level at)) (sources (pointer_place fragment level at))
+    ap run_fragments (none_from (λ run. IsPlace kept.geometry (pointer_place fragment level at)) (run_at kept.runs (pointer_place fragment level at)) (sources (pointer_place fragment level at))
     (λ run h. no_large kept.geometry fragment level at is h le))
+
+-- without a geometry no source claims anything
+pub no_source : (kept : KeptClaims) (source : ClaimSource) → HasSources kept → kept.geometry ≡ None → claimed_by kept.runs source ≡ []
+unfolding claimed_by
+no_source kept source sources is =
+    ap run_fragments (none_from (λ run. IsPlace kept.geometry (place_of source)) (run_at kept.runs (place_of source)) (sources (place_of source)) (λ run h. subst (λ o. IsPlace o (place_of source)) is h))
