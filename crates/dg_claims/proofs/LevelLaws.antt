@@ -1,12 +1,11 @@
 -- Which fragments have a claim at a level.
-use Rattle.std.proofs.Common.{◌≡◌, ℕ, ◌+◌, ◌<◌, ◌↔◌, ◌∙◌, ◌==◌, inl, inr, List, [], ◌∷◌, ◌++◌, Bool, true, false, Contains, Option, Some, None, IfSome, refl, sym, ap, subst, arith, if◌then◌else◌}
+use Rattle.std.proofs.Common.{◌≡◌, ℕ, ◌+◌, ◌<◌, ◌↔◌, ◌∙◌, inl, inr, List, [], ◌∷◌, ◌++◌, Bool, true, false, Contains, Option, Some, None, IfSome, refl, sym, ap, subst, arith, if◌then◌else◌}
 use Rattle.std.specs.List.{list_any}
 use Rattle.std.proofs.lemmas.Bool.{cases_eq, false≢true, or_cases, or_left, or_right}
-use Rattle.std.proofs.lemmas.Bool.Decides.{nat_tests}
 use Rattle.std.proofs.lemmas.List.{append-nil}
 use Rattle.ufs_model.specs.Claims.{level_of}
 use Rattle.ufs_model.specs.declared.geometries.Geometry.{Geometry}
-use Rattle.dg_claims.proofs.ListLaws.{contains_cons, contains_last, contains_none}
+use Rattle.dg_claims.proofs.ListLaws.{number_is, same_number, contains_cons, contains_last, contains_none}
 use Rattle.dg_claims.proofs.OwnerLaws.{claims_marked}
 use Rattle.dg_claims.proofs.RunLaws.{contains_run}
 use Rattle.dg_claims.proofs.SourceLaws.{place_is, source_is}
@@ -19,24 +18,18 @@ use Rattle.dg_claims.specs.declared.claims.Claims.TheInside.{Inside}
 use Rattle.dg_claims.specs.declared.places.Place.{Place}
 use Rattle.dg_claims.specs.declared.runs.Run.{Run}
 
-same_from_test : (a b : ℕ) → (a == b) ≡ true → a ≡ b
-same_from_test a b e = grind (arith, nat_tests)
-
-test_from_same : (a b : ℕ) → a ≡ b → (a == b) ≡ true
-test_from_same a b e = grind (arith, nat_tests)
-
 -- one of the sources is at the level
 any_source : (level : ℕ) (places : List Place) → list_any (is_at_level level) places ≡ true → (place : Place) × Contains places place × (level_of (source_of place) ≡ level)
 any_source level [] h = absurd (false≢true h)
 any_source level (p ∷ ps) h = elim (or_cases (is_at_level level p) (list_any (is_at_level level) ps) h) [
-  | inl here ↦ (p, (contains_cons p ps p).1 (inl refl), same_from_test (level_of (source_of p)) level here)
+  | inl here ↦ (p, (contains_cons p ps p).1 (inl refl), number_is (level_of (source_of p)) level here)
   | inr rest ↦ let r = any_source level ps rest in (r.0, (contains_cons p ps (r.0)).1 (inr (r.1)), r.2)
 ]
 
 source_any : (level : ℕ) (places : List Place) (place : Place) → Contains places place → level_of (source_of place) ≡ level → list_any (is_at_level level) places ≡ true
 source_any level [] place has is = absurd (contains_none place has)
 source_any level (p ∷ ps) place has is = elim ((contains_cons p ps place).0 has) [
-  | inl e ↦ or_left (is_at_level level p) (list_any (is_at_level level) ps) (test_from_same (level_of (source_of p)) level (ap (λ q. level_of (source_of q)) (sym e) ∙ is))
+  | inl e ↦ or_left (is_at_level level p) (list_any (is_at_level level) ps) (same_number (level_of (source_of p)) level (ap (λ q. level_of (source_of q)) (sym e) ∙ is))
   | inr rest ↦ or_right (is_at_level level p) (list_any (is_at_level level) ps) (source_any level ps place rest is)
 ]
 
