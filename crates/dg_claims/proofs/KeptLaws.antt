@@ -7,7 +7,7 @@ use Rattle.ufs_model.specs.declared.geometries.Geometry.{Geometry}
 use Rattle.dg_claims.proofs.ListLaws.{contains_none}
 use Rattle.dg_claims.proofs.MarkLaws.{same_place_decides}
 use Rattle.dg_claims.proofs.RunLaws.{contains_from, contains_run, fragments_so_far}
-use Rattle.dg_claims.specs.Kept.{IsKept, IsRun, IsSource, KeptClaims, kept_of, run_so_far, size_in}
+use Rattle.dg_claims.specs.Kept.{IsKept, IsRun, IsPlace, KeptClaims, kept_of, run_so_far, size_in}
 use Rattle.dg_claims.specs.Marks.{AddsMark, DropsMark, IsMarks, SameMarks, Unmarks, marked_on, same_place}
 use Rattle.dg_claims.specs.Runs.{run_at, run_fragments}
 use Rattle.dg_claims.specs.Tables.{IsOnce}
@@ -35,7 +35,7 @@ empty_kept g runs marks is fits room none bare = record {
     once = λ fragment. subst (λ (xs : List Place). IsOnce xs) (sym (bare fragment)) tt;
     few = λ fragment. subst (λ xs. length xs < 2 ^ 32) (sym (bare fragment)) (omega arith);
   };
-  runs = λ place. subst (λ run. IfSome run (λ r. IsSource g place × IsRun (size_in g) r)) (sym (none place)) tt;
+  runs = λ place. subst (λ run. IfSome run (λ r. IsPlace g place × IsRun (size_in g) r)) (sym (none place)) tt;
   marked = λ fragment place. (
     λ has. absurd (contains_none place (subst (λ xs. Contains xs place) (bare fragment) has)),
     λ has. absurd (contains_none fragment (subst (λ run. Contains (run_fragments run) fragment) (none place) has)),
@@ -48,7 +48,7 @@ pub record Remakes (old new : Inside) (place : Place) : Type 0 where
   pub marks : IsMarks new.marks
   pub room : length new.marks.first.items ≡ length old.marks.first.items
   pub others : (other : Place) → (other ≡ place → ⊥) → run_at new.runs.map.entries other ≡ run_at old.runs.map.entries other
-  pub run : IfSome (run_at new.runs.map.entries place) (λ run. IsSource old.geometry place × IsRun (size_in old.geometry) run)
+  pub run : IfSome (run_at new.runs.map.entries place) (λ run. IsPlace old.geometry place × IsRun (size_in old.geometry) run)
   pub marked : (fragment : ℕ) (other : Place) → (other ≡ place → ⊥) → Contains (marked_on new.marks fragment) other ↔ Contains (marked_on old.marks fragment) other
   pub here : (fragment : ℕ) → Contains (marked_on new.marks fragment) place ↔ Contains (run_fragments (run_at new.runs.map.entries place)) fragment
 
@@ -58,9 +58,9 @@ remade old new place is made = record {
   fits = subst (λ g. size_in g < 2 ^ 32) (sym made.geometry) is.fits;
   room = made.room ∙ is.room ∙ ap size_in (sym made.geometry);
   marks = made.marks;
-  runs = λ other. subst (λ g. IfSome (run_at new.runs.map.entries other) (λ run. IsSource g other × IsRun (size_in g) run)) (sym made.geometry) (elim (place_cases other place) [
-    | inl same ↦ subst (λ p. IfSome (run_at new.runs.map.entries p) (λ run. IsSource old.geometry p × IsRun (size_in old.geometry) run)) (sym same) made.run
-    | inr apart ↦ subst (λ r. IfSome r (λ run. IsSource old.geometry other × IsRun (size_in old.geometry) run)) (sym (made.others other apart)) (is.runs other)
+  runs = λ other. subst (λ g. IfSome (run_at new.runs.map.entries other) (λ run. IsPlace g other × IsRun (size_in g) run)) (sym made.geometry) (elim (place_cases other place) [
+    | inl same ↦ subst (λ p. IfSome (run_at new.runs.map.entries p) (λ run. IsPlace old.geometry p × IsRun (size_in old.geometry) run)) (sym same) made.run
+    | inr apart ↦ subst (λ r. IfSome r (λ run. IsPlace old.geometry other × IsRun (size_in old.geometry) run)) (sym (made.others other apart)) (is.runs other)
   ]);
   marked = λ fragment other. elim (place_cases other place) [
     | inl same ↦ subst (λ p. Contains (marked_on new.marks fragment) p ↔ Contains (run_fragments (run_at new.runs.map.entries p)) fragment) (sym same) (made.here fragment)
@@ -125,7 +125,7 @@ added_others old new place other at adds ne fragment = elim (cases_eq fragment a
 ]
 
 pub extended : (old : Inside) (kept : KeptClaims) (runs : Runs) (marks : Marks) (place : Place) (first done at count : ℕ) → kept_of old ≡ kept → IsKept old
-    → IsSource kept.geometry place → run_at kept.runs place ≡ run_so_far first done → (run : Run) → IsRun (size_in kept.geometry) run → run.first ≡ first → done < run.count → at ≡ first + done → count ≡ done + 1
+    → IsPlace kept.geometry place → run_at kept.runs place ≡ run_so_far first done → (run : Run) → IsRun (size_in kept.geometry) run → run.first ≡ first → done < run.count → at ≡ first + done → count ≡ done + 1
     → IsMarks marks → AddsMark old.marks marks at place
     → run_at runs.map.entries place ≡ Some (record { first = first; count = count })
     → ((other : Place) → (other ≡ place → ⊥) → run_at runs.map.entries other ≡ run_at old.runs.map.entries other)
@@ -138,8 +138,8 @@ extended old kept runs marks place first done at count view is source so_far who
       marks = sound;
       room = adds.room;
       others = others;
-      run = subst (λ r. IfSome r (λ run. IsSource old.geometry place × IsRun (size_in old.geometry) run)) (sym here) (
-        subst (λ (k : KeptClaims). IsSource k.geometry place) (sym view) source,
+      run = subst (λ r. IfSome r (λ run. IsPlace old.geometry place × IsRun (size_in old.geometry) run)) (sym here) (
+        subst (λ (k : KeptClaims). IsPlace k.geometry place) (sym view) source,
         record {
           some = omega (arith, more);
           few = omega (arith, more, few, whole_run.few);
@@ -169,7 +169,7 @@ same_kept old runs marks is same sound stays = record {
   fits = is.fits;
   room = stays.room ∙ is.room;
   marks = sound;
-  runs = λ place. subst (λ es. IfSome (run_at es place) (λ run. IsSource old.geometry place × IsRun (size_in old.geometry) run)) (sym same) (is.runs place);
+  runs = λ place. subst (λ es. IfSome (run_at es place) (λ run. IsPlace old.geometry place × IsRun (size_in old.geometry) run)) (sym same) (is.runs place);
   marked = λ fragment place.
       let marks = stays.marked fragment place in
       let was = is.marked fragment place in (
@@ -249,7 +249,7 @@ cleared old runs marks place run is was sound drops none others =
       marks = sound;
       room = drops.room;
       others = others;
-      run = subst (λ r. IfSome r (λ run. IsSource old.geometry place × IsRun (size_in old.geometry) run)) (sym none) tt;
+      run = subst (λ r. IfSome r (λ run. IsPlace old.geometry place × IsRun (size_in old.geometry) run)) (sym none) tt;
       marked = λ fragment other ne. drops.others fragment other ne;
       here = λ fragment.
           let covers = contains_run run fragment in (
@@ -265,5 +265,5 @@ cleared old runs marks place run is was sound drops none others =
 -- the run of a source is inside the volume
 pub run_inside : (old : Inside) (place : Place) (run : Run) → IsKept old → run_at old.runs.map.entries place ≡ Some run → IsRun (length old.marks.first.items) run
 run_inside old place run is was =
-    let both : IsSource old.geometry place × IsRun (size_in old.geometry) run = subst (λ r. IfSome r (λ run. IsSource old.geometry place × IsRun (size_in old.geometry) run)) was (is.runs place) in
+    let both : IsPlace old.geometry place × IsRun (size_in old.geometry) run = subst (λ r. IfSome r (λ run. IsPlace old.geometry place × IsRun (size_in old.geometry) run)) was (is.runs place) in
     subst (λ n. IsRun n run) (sym is.room) (both.1)

@@ -1,16 +1,15 @@
 -- Which fragments have a claim at a level.
-use Rattle.std.proofs.Common.{◌≡◌, ℕ, ◌+◌, ◌<◌, ◌↔◌, ◌∙◌, ◌==◌, inl, inr, List, [], ◌∷◌, ◌++◌, Bool, true, false, Contains, Option, Some, None, IfSome, refl, sym, ap, subst, arith, if◌then◌else◌}
+use Rattle.std.proofs.Common.{◌≡◌, ℕ, ◌+◌, ◌<◌, ◌↔◌, ◌∙◌, inl, inr, List, [], ◌∷◌, ◌++◌, Bool, true, false, Contains, Option, Some, None, IfSome, refl, sym, ap, subst, arith, if◌then◌else◌}
 use Rattle.std.specs.List.{list_any}
 use Rattle.std.proofs.lemmas.Bool.{cases_eq, false≢true, or_cases, or_left, or_right}
-use Rattle.std.proofs.lemmas.Bool.Decides.{nat_tests}
 use Rattle.std.proofs.lemmas.List.{append-nil}
 use Rattle.ufs_model.specs.Claims.{level_of}
 use Rattle.ufs_model.specs.declared.geometries.Geometry.{Geometry}
-use Rattle.dg_claims.proofs.ListLaws.{contains_cons, contains_last, contains_none}
+use Rattle.dg_claims.proofs.ListLaws.{number_is, same_number, contains_cons, contains_last, contains_none}
 use Rattle.dg_claims.proofs.OwnerLaws.{claims_marked}
 use Rattle.dg_claims.proofs.RunLaws.{contains_run}
 use Rattle.dg_claims.proofs.SourceLaws.{place_is, source_is}
-use Rattle.dg_claims.specs.Kept.{IsKept, IsRun, IsSource, KeptClaims, claimed_by, kept_of, size_in}
+use Rattle.dg_claims.specs.Kept.{IsKept, IsRun, IsPlace, KeptClaims, claimed_by, kept_of, size_in}
 use Rattle.dg_claims.specs.Marks.{marked_on}
 use Rattle.dg_claims.specs.Places.{is_at_level, place_of, source_of}
 use Rattle.dg_claims.specs.Runs.{run_at, run_fragments}
@@ -19,24 +18,18 @@ use Rattle.dg_claims.specs.declared.claims.Claims.TheInside.{Inside}
 use Rattle.dg_claims.specs.declared.places.Place.{Place}
 use Rattle.dg_claims.specs.declared.runs.Run.{Run}
 
-same_from_test : (a b : ℕ) → (a == b) ≡ true → a ≡ b
-same_from_test a b e = grind (arith, nat_tests)
-
-test_from_same : (a b : ℕ) → a ≡ b → (a == b) ≡ true
-test_from_same a b e = grind (arith, nat_tests)
-
 -- one of the sources is at the level
 any_source : (level : ℕ) (places : List Place) → list_any (is_at_level level) places ≡ true → (place : Place) × Contains places place × (level_of (source_of place) ≡ level)
 any_source level [] h = absurd (false≢true h)
 any_source level (p ∷ ps) h = elim (or_cases (is_at_level level p) (list_any (is_at_level level) ps) h) [
-  | inl here ↦ (p, (contains_cons p ps p).1 (inl refl), same_from_test (level_of (source_of p)) level here)
+  | inl here ↦ (p, (contains_cons p ps p).1 (inl refl), number_is (level_of (source_of p)) level here)
   | inr rest ↦ let r = any_source level ps rest in (r.0, (contains_cons p ps (r.0)).1 (inr (r.1)), r.2)
 ]
 
 source_any : (level : ℕ) (places : List Place) (place : Place) → Contains places place → level_of (source_of place) ≡ level → list_any (is_at_level level) places ≡ true
 source_any level [] place has is = absurd (contains_none place has)
 source_any level (p ∷ ps) place has is = elim ((contains_cons p ps place).0 has) [
-  | inl e ↦ or_left (is_at_level level p) (list_any (is_at_level level) ps) (test_from_same (level_of (source_of p)) level (ap (λ q. level_of (source_of q)) (sym e) ∙ is))
+  | inl e ↦ or_left (is_at_level level p) (list_any (is_at_level level) ps) (same_number (level_of (source_of p)) level (ap (λ q. level_of (source_of q)) (sym e) ∙ is))
   | inr rest ↦ or_right (is_at_level level p) (list_any (is_at_level level) ps) (source_any level ps place rest is)
 ]
 
@@ -50,7 +43,7 @@ claimed_at inside kept fragment level view is = (
       source_any level (marked_on inside.marks fragment) (place_of (h.0)) ((claims_marked inside kept fragment (h.0) view is).1 (h.2)) (ap level_of (source_is (h.0)) ∙ h.1),
 )
 
-inside_run : (geometry : Option Geometry) (size fragment : ℕ) (place : Place) (run : Option Run) → IfSome run (λ r. IsSource geometry place × IsRun size r) → Contains (run_fragments run) fragment → fragment < size
+inside_run : (geometry : Option Geometry) (size fragment : ℕ) (place : Place) (run : Option Run) → IfSome run (λ r. IsPlace geometry place × IsRun size r) → Contains (run_fragments run) fragment → fragment < size
 inside_run geometry size fragment place None h has = absurd (contains_none fragment has)
 inside_run geometry size fragment place (Some run) h has =
     let both = (contains_run run fragment).0 has in

@@ -1,6 +1,7 @@
--- What lists contain, element after element, and lists in which each stands once.
-use Rattle.std.proofs.Common.{◌≡◌, ℕ, zero, suc, ◌<◌, ◌≤◌, ◌⊎◌, ◌↔◌, ◌∙◌, inl, inr, List, [], ◌∷◌, ◌++◌, Bool, true, false, cond, Contains, length, filter, refl, sym, ap, subst, arith}
+-- What lists contain, element after element, lists in which each stands once, and what tests of numbers say.
+use Rattle.std.proofs.Common.{◌≡◌, ℕ, zero, suc, ◌<◌, ◌≤◌, ◌⊎◌, ◌↔◌, ◌∙◌, inl, inr, List, [], ◌∷◌, ◌++◌, Bool, true, false, cond, Contains, length, filter, refl, sym, ap, subst, arith, ◌==◌, nat_lt}
 use Rattle.std.proofs.lemmas.Bool.{false≢true}
+use Rattle.std.proofs.lemmas.Bool.Decides.{nat_tests}
 use Rattle.std.proofs.lemmas.List.Elements.{Contains-append_left, Contains-push, Contains-push_cases}
 use Rattle.std.specs.Prelude.{slice_index_or}
 use Rattle.dg_claims.specs.Tables.{IsOnce}
@@ -75,3 +76,26 @@ length_filter p (y ∷ ys) =
       | true ↦ omega arith
       | false ↦ omega arith
     ]
+
+-- ---- tests
+
+pub cond_true : {X : Type 0} (b : Bool) (x y : X) → b ≡ true → cond b x y ≡ x
+cond_true b x y e = ap (λ t. cond t x y) e
+
+pub cond_false : {X : Type 0} (b : Bool) (x y : X) → b ≡ false → cond b x y ≡ y
+cond_false b x y e = ap (λ t. cond t x y) e
+
+pub same_number : (a b : ℕ) → a ≡ b → (a == b) ≡ true
+same_number a b e = grind (arith, nat_tests)
+
+pub apart_number : (a b : ℕ) → (b ≡ a → ⊥) → (a == b) ≡ false
+apart_number a b ne = grind (arith, nat_tests)
+
+pub number_is : (a b : ℕ) → (a == b) ≡ true → a ≡ b
+number_is a b e = grind (arith, nat_tests)
+
+pub below_cases : (a n : ℕ) → (a < n) ⊎ (n ≤ a)
+below_cases a n = elim (nat_lt a n) as (λ b. nat_lt a n ≡ b → (a < n) ⊎ (n ≤ a)) [
+  | true ↦ λ e. inl (grind (arith, nat_tests))
+  | false ↦ λ e. inr (grind (arith, nat_tests))
+] refl

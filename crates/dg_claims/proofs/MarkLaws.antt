@@ -1,10 +1,10 @@
 -- What a change of the sources of one fragment does.
-use Rattle.std.proofs.Common.{◌≡◌, ℕ, ◌+◌, ◌^◌, ◌<◌, ◌≤◌, ◌↔◌, ◌∙◌, ◌==◌, inl, inr, List, [], ◌∷◌, ◌++◌, Bool, true, false, cond, not, Contains, Option, Some, None, length, get_or, refl, sym, ap, subst, arith, is_none, is_some, length-append, ◌-◌, get_or-set_same, get_or-set_other, MatchResult, Result, Ok, Err, Decides}
+use Rattle.std.proofs.Common.{◌≡◌, ℕ, ◌+◌, ◌^◌, ◌<◌, ◌≤◌, ◌↔◌, ◌∙◌, ◌==◌, inl, inr, List, [], ◌∷◌, ◌++◌, Bool, true, false, not, Contains, Option, Some, None, length, get_or, refl, sym, ap, subst, arith, is_none, is_some, length-append, ◌-◌, get_or-set_same, get_or-set_other, MatchResult, Result, Ok, Err, Decides}
 use Rattle.std.specs.Prelude.{slice_index_or, slice_set}
 use Rattle.std.proofs.lemmas.Bool.{cases_eq, false≢true}
 use Rattle.std.proofs.lemmas.Bool.Decides.{nat_tests}
 use Rattle.std.proofs.lemmas.List.{get_or_default}
-use Rattle.dg_claims.proofs.ListLaws.{contains_cons, contains_filter, contains_last, length_filter, once_filter, once_last}
+use Rattle.dg_claims.proofs.ListLaws.{apart_number, cond_false, cond_true, same_number, contains_cons, contains_filter, contains_last, length_filter, once_filter, once_last}
 use Rattle.dg_claims.specs.Marks.{AddsMark, DropsMark, IsMarks, SameMarks, SameMore, SetsMore, joined, marked_on, more_on, same_place, without}
 use Rattle.dg_claims.specs.Tables.{IsOnce}
 use Rattle.dg_claims.specs.declared.marks.Marks.{Marks}
@@ -102,31 +102,19 @@ off_first old new fragment other one firsts more apart =
 
 -- ---- the further sources of a fragment are set
 
-cond_at : {X : Type 0} (b : Bool) (x y : X) → b ≡ true → cond b x y ≡ x
-cond_at b x y e = ap (λ t. cond t x y) e
-
-cond_off : {X : Type 0} (b : Bool) (x y : X) → b ≡ false → cond b x y ≡ y
-cond_off b x y e = ap (λ t. cond t x y) e
-
-same_number : (a b : ℕ) → a ≡ b → (a == b) ≡ true
-same_number a b e = grind (arith, nat_tests)
-
-apart_number : (a b : ℕ) → (b ≡ a → ⊥) → (a == b) ≡ false
-apart_number a b ne = grind (arith, nat_tests)
-
 on_more : (old new : Marks) (fragment : ℕ) (xs : List Place) → new.first ≡ old.first → SetsMore old.more new.more fragment xs
     → marked_on new fragment ≡ joined (slice_index_or old.first.items fragment None) xs
 unfolding marked_on
 on_more old new fragment xs firsts more =
     ap (λ v. joined (slice_index_or v.items fragment None) (more_on new.more fragment)) firsts
-    ∙ ap (λ ys. joined (slice_index_or old.first.items fragment None) ys) (more fragment ∙ cond_at (fragment == fragment) xs (more_on old.more fragment) (same_number fragment fragment refl))
+    ∙ ap (λ ys. joined (slice_index_or old.first.items fragment None) ys) (more fragment ∙ cond_true (fragment == fragment) xs (more_on old.more fragment) (same_number fragment fragment refl))
 
 off_more : (old new : Marks) (fragment other : ℕ) (xs : List Place) → new.first ≡ old.first → SetsMore old.more new.more fragment xs → (other ≡ fragment → ⊥)
     → marked_on new other ≡ marked_on old other
 unfolding marked_on
 off_more old new fragment other xs firsts more apart =
     ap (λ v. joined (slice_index_or v.items other None) (more_on new.more other)) firsts
-    ∙ ap (λ ys. joined (slice_index_or old.first.items other None) ys) (more other ∙ cond_off (fragment == other) xs (more_on old.more other) (apart_number fragment other apart))
+    ∙ ap (λ ys. joined (slice_index_or old.first.items other None) ys) (more other ∙ cond_false (fragment == other) xs (more_on old.more other) (apart_number fragment other apart))
 
 same_more : (old new : Marks) → new.first ≡ old.first → SameMore old.more new.more → SameMarks old new
 unfolding marked_on

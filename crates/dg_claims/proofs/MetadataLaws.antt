@@ -13,8 +13,8 @@ use Rattle.ufs_model.specs.declared.geometries.BadSuper.{BadSuper}
 use Rattle.ufs_model.specs.declared.geometries.Geometry.{Geometry}
 use Rattle.ufs_model.specs.declared.inodes.Inode.{Inode}
 use Rattle.ufs_model.specs.declared.numbers.Endian.TheVariants.{Little}
-use Rattle.dg_claims.proofs.ListLaws.{contains_none}
-use Rattle.dg_claims.proofs.SourceLaws.{below_cases, past_slots}
+use Rattle.dg_claims.proofs.ListLaws.{below_cases, contains_none}
+use Rattle.dg_claims.proofs.SourceLaws.{past_slots}
 use Rattle.dg_claims.specs.Readers.{IsTableOf, accepted}
 use Rattle.ufs_model.specs.Metadata.{IsMetadata, by_geometry, of_indirect, of_inode, of_superblock}
 use Rattle.dg_claims.specs.Scans.{IsRead, IsRightAbove}

@@ -6,11 +6,11 @@ use Rattle.ufs_model.specs.declared.claims.ClaimSource.TheVariants.{Slot, Pointe
 use Rattle.ufs_model.specs.declared.geometries.Geometry.{Geometry}
 use Rattle.dg_claims.proofs.ListLaws.{contains_cons, contains_none}
 use Rattle.dg_claims.proofs.SourceLaws.{place_is, source_is}
-use Rattle.dg_claims.specs.Kept.{IsKept, IsRun, IsSource, KeptClaims, claimed_by, kept_of, size_in}
+use Rattle.dg_claims.specs.Kept.{IsKept, IsRun, IsPlace, KeptClaims, claimed_by, kept_of, size_in}
 use Rattle.dg_claims.specs.Marks.{marked_on}
 use Rattle.dg_claims.specs.Places.{place_of, source_of}
 use Rattle.dg_claims.specs.Runs.{run_at, run_fragments}
-use Rattle.dg_claims.specs.Tables.{AreClaimants, IsOnce}
+use Rattle.dg_claims.specs.Tables.{AreClaimants, IsOnce, IsSource}
 use Rattle.dg_claims.specs.declared.claims.Claims.TheInside.{Inside}
 use Rattle.dg_claims.specs.declared.places.Place.{Place}
 use Rattle.dg_claims.specs.declared.runs.Run.{Run}
@@ -73,17 +73,16 @@ one_claim inside kept fragment place source view is one told =
           ];
     }
 
-source_from : (geometry : Option Geometry) (size fragment : ℕ) (place : Place) (run : Option Run) → IfSome run (λ r. IsSource geometry place × IsRun size r) → Contains (run_fragments run) fragment → IsSource geometry place
+source_from : (geometry : Option Geometry) (size fragment : ℕ) (place : Place) (run : Option Run) → IfSome run (λ r. IsPlace geometry place × IsRun size r) → Contains (run_fragments run) fragment → IsPlace geometry place
 source_from geometry size fragment place None h has = absurd (contains_none fragment has)
 source_from geometry size fragment place (Some run) h has = h.0
 
 pub claim_source : (inside : Inside) (kept : KeptClaims) (fragment : ℕ) (place : Place) (source : ClaimSource) → kept_of inside ≡ kept → IsKept inside
-    → marked_on inside.marks fragment ≡ place ∷ [] → source ≡ source_of place → IsSource kept.geometry (place_of source)
+    → marked_on inside.marks fragment ≡ place ∷ [] → source ≡ source_of place → IsSource kept.geometry source
 claim_source inside kept fragment place source view is one told =
-    let same : place_of source ≡ place = ap place_of told ∙ place_is place in
     let marked = subst (λ ps. Contains ps place) (sym one) ((contains_cons place [] place).1 (inl refl)) in
-    subst (λ p. IsSource kept.geometry p) (sym same)
-    (subst (λ (k : KeptClaims). IsSource k.geometry place) view
+    subst (λ s. IsSource kept.geometry s) (sym told)
+    (subst (λ (k : KeptClaims). IsPlace k.geometry place) view
     (source_from inside.geometry (size_in inside.geometry) fragment place (run_at inside.runs.map.entries place) (is.runs place) ((is.marked fragment place).0 marked)))
 
 one_only : (places : List Place) (place : Place) → IsOnce places → Contains places place → ((other : Place) → Contains places other → other ≡ place) → length places ≡ 1

@@ -1,5 +1,5 @@
 -- What a scan of a volume has claimed so far.
-use Rattle.std.proofs.Common.{◌≡◌, ◌∙◌, ℕ, ◌+◌, ◌-◌, ◌*◌, ◌<◌, ◌≤◌, ◌⊎◌, ◌↔◌, List, [], ◌∷◌, ◌++◌, Bool, true, false, cond, inl, inr, Option, Some, None, refl, sym, ap, subst, arith, take, drop, length, Contains, get_or, take_all}
+use Rattle.std.proofs.Common.{◌≡◌, ◌∙◌, ℕ, ◌+◌, ◌-◌, ◌*◌, ◌<◌, ◌≤◌, ◌⊎◌, ◌↔◌, List, [], ◌∷◌, true, false, inl, inr, Option, Some, None, refl, sym, ap, subst, arith, take, drop, length, Contains, get_or, take_all}
 use Rattle.std.proofs.lemmas.Bool.{cases_eq}
 use Rattle.std.proofs.lemmas.Bool.Decides.{nat_tests}
 use Rattle.std.proofs.lemmas.List.{take_more}
@@ -13,20 +13,12 @@ use Rattle.ufs_model.specs.declared.claims.ClaimSource.TheVariants.{Slot, Pointe
 use Rattle.ufs_model.specs.declared.geometries.Geometry.{Geometry}
 use Rattle.ufs_model.specs.declared.inodes.Inode.{Inode}
 use Rattle.ufs_model.specs.declared.numbers.Endian.TheVariants.{Little}
-use Rattle.dg_claims.proofs.ListLaws.{contains_cons}
+use Rattle.dg_claims.proofs.ListLaws.{cond_false, cond_true, contains_cons, contains_none}
+use Rattle.dg_claims.proofs.SourceLaws.{in_range}
 use Rattle.dg_claims.specs.Scans.{HasInode, HasNoPointers, IsIndirect, IsRightAbove, stored_fragments}
 use Rattle.dg_claims.specs.Tables.{IsClaimedAt, fragment_pointers, inode_fragments}
 
 -- ---- inodes
-
-cond_true : {X : Type 0} (b : Bool) (x y : X) → b ≡ true → cond b x y ≡ x
-cond_true b x y e = ap (λ t. cond t x y) e
-
-cond_false : {X : Type 0} (b : Bool) (x y : X) → b ≡ false → cond b x y ≡ y
-cond_false b x y e = ap (λ t. cond t x y) e
-
-in_range : (number n : ℕ) → 2 ≤ number → number < n → is_within 2 n number ≡ true
-in_range number n low high = grind (arith, nat_tests)
 
 past_range : (number n : ℕ) → n ≤ number → is_within 2 n number ≡ false
 past_range number n le = grind (arith, nat_tests)
@@ -123,9 +115,6 @@ claimed_of t claimed level fragment (Slot inode slot) right low is (by_slot has)
 claimed_of t claimed level fragment (Pointer upper above at) right low is claim =
     (Pointer upper above at, is, (right.pointers fragment upper above at (omega (arith, is, low))).1 claim)
 
-contains_nil : {X : Type 0} (x : X) → Contains [] x → ⊥
-contains_nil x h = let l = h.1 in omega arith
-
 pointer_claim : (t : ClaimSource → List ℕ) (fragment upper level at : ℕ) → IsClaim t fragment (Pointer upper level at) → Contains (t (Pointer upper level at)) fragment
 pointer_claim t fragment upper level at (by_pointer above is low has) = has
 
@@ -155,7 +144,7 @@ right_below t old new level fragments low none listed here others decide right =
           )
       | inr off ↦
           let bare : new (Pointer upper level at) ≡ [] = others (Pointer upper level at) (λ f a in_list e. off (subst (λ x. Contains fragments x) (sym (fragment_apart upper f level level at a e)) in_list)) ∙ none upper level at (omega arith) in (
-            λ has. absurd (contains_nil fragment (subst (λ xs. Contains xs fragment) bare has)),
+            λ has. absurd (contains_none fragment (subst (λ xs. Contains xs fragment) bare has)),
             λ claim. absurd (off (upper_listed t old level fragments fragment upper at low listed right claim)),
           )
     ])
@@ -173,7 +162,7 @@ right_in_the_end t claimed none right fragment (Slot inode slot) = (
 )
 right_in_the_end t claimed none right fragment (Pointer upper level at) = elim (cases_eq level 0) [
   | inl same ↦ (
-    λ has. absurd (contains_nil fragment (subst (λ xs. Contains xs fragment) (none upper level at (omega (arith, same))) has)),
+    λ has. absurd (contains_none fragment (subst (λ xs. Contains xs fragment) (none upper level at (omega (arith, same))) has)),
     λ claim. let low = claim_level t fragment upper level at claim in absurd (omega (arith, low, same)),
   )
   | inr apart ↦ right.pointers fragment upper level at (omega (arith, apart))
@@ -181,12 +170,9 @@ right_in_the_end t claimed none right fragment (Pointer upper level at) = elim (
 
 -- ---- a list of fragments
 
-contains_last : {X : Type 0} (xs : List X) (x y : X) → Contains (xs ++ x ∷ []) y → Contains xs y ⊎ (x ≡ y)
-contains_last xs x y has = Contains-push_cases xs x y has
-
 pub in_taken : (fragments : List ℕ) (i fragment : ℕ) → i < length fragments → (fragment ≡ get_or fragments i 0 → ⊥) → Contains (take (i + 1) fragments) fragment → Contains (take i fragments) fragment
 in_taken fragments i fragment lt apart has =
-    elim (contains_last (take i fragments) (get_or fragments i 0) fragment (subst (λ xs. Contains xs fragment) (take_more fragments i 0 lt) has)) [
+    elim (Contains-push_cases (take i fragments) (get_or fragments i 0) fragment (subst (λ xs. Contains xs fragment) (take_more fragments i 0 lt) has)) [
       | inl h ↦ h
       | inr e ↦ absurd (apart (sym e))
     ]
@@ -196,7 +182,7 @@ in_whole fragments i fragment le has = subst (λ xs. Contains xs fragment) (sym 
 
 -- a list has a number, or it hasn't
 pub decided : (fragments : List ℕ) (x : ℕ) → Contains fragments x ⊎ (Contains fragments x → ⊥)
-decided [] x = inr (contains_nil x)
+decided [] x = inr (contains_none x)
 decided (f ∷ fs) x = elim (cases_eq x f) [
   | inl same ↦ inl (0, omega arith, sym same)
   | inr apart ↦ elim (decided fs x) [

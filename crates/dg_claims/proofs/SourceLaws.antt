@@ -1,5 +1,5 @@
 -- What the sources of an inode, and those of a fragment, claim in the end.
-use Rattle.std.proofs.Common.{◌≡◌, ℕ, ◌+◌, ◌*◌, ◌/◌, ◌<◌, ◌≤◌, ◌⊎◌, ◌∙◌, ◌&&◌, inl, inr, List, [], Bool, true, false, cond, Option, Some, None, IfSome, nat_lt, refl, sym, ap, subst, arith, div-le_self, ◌^◌}
+use Rattle.std.proofs.Common.{◌≡◌, ℕ, ◌+◌, ◌*◌, ◌/◌, ◌<◌, ◌≤◌, ◌∙◌, ◌&&◌, inl, inr, List, [], Bool, true, false, Option, Some, None, IfSome, nat_lt, refl, sym, ap, subst, arith, div-le_self, ◌^◌}
 use Rattle.std.proofs.lemmas.Bool.{cases_eq, false≢true}
 use Rattle.std.proofs.lemmas.Bool.Decides.{nat_tests}
 use Rattle.ufs_model.specs.Claims.{slot_fragments, pointer_fragments, fragments_at}
@@ -12,7 +12,8 @@ use Rattle.ufs_model.specs.declared.claims.ClaimSource.TheVariants.{Slot, Pointe
 use Rattle.ufs_model.specs.declared.geometries.Geometry.{Geometry}
 use Rattle.ufs_model.specs.declared.inodes.Inode.{Inode}
 use Rattle.ufs_model.specs.declared.numbers.Endian.TheVariants.{Little}
-use Rattle.dg_claims.specs.Kept.{HasSources, IsSource, KeptClaims, SetsFirst, claimed_by}
+use Rattle.dg_claims.proofs.ListLaws.{below_cases, cond_false, cond_true}
+use Rattle.dg_claims.specs.Kept.{HasSources, IsPlace, KeptClaims, SetsFirst, claimed_by}
 use Rattle.dg_claims.specs.Places.{index_of, place_of, pointer_place, slot_place, source_of}
 use Rattle.dg_claims.specs.Runs.{run_at, run_fragments}
 use Rattle.dg_claims.specs.Tables.{fragment_pointers, inode_fragments}
@@ -75,12 +76,6 @@ and_false : (a b : Bool) → b ≡ false → (a && b) ≡ false
 and_false true b e = e
 and_false false b e = refl
 
-cond_false : {X : Type 0} (b : Bool) (x y : X) → b ≡ false → cond b x y ≡ y
-cond_false b x y e = ap (λ t. cond t x y) e
-
-cond_true : {X : Type 0} (b : Bool) (x y : X) → b ≡ true → cond b x y ≡ x
-cond_true b x y e = ap (λ t. cond t x y) e
-
 pub past_slots : (g : Geometry) (inode : Inode) (slot : ℕ) → 15 ≤ slot → slot_fragments g inode slot ≡ []
 unfolding slot_fragments
 past_slots g inode slot le =
@@ -89,14 +84,8 @@ past_slots g inode slot le =
 
 no_slot : (kept : KeptClaims) (g : Geometry) (number slot : ℕ) → HasSources kept → kept.geometry ≡ Some g → 15 ≤ slot → run_at kept.runs (slot_place number slot) ≡ None
 no_slot kept g number slot sources is le =
-    none_from (λ run. IsSource kept.geometry (slot_place number slot)) (run_at kept.runs (slot_place number slot)) (sources (slot_place number slot))
-    (λ run h. let source : IsSource (Some g) (slot_place number slot) = subst (λ o. IsSource o (slot_place number slot)) is h in omega (arith, source.2, le))
-
-slot_cases : (slot : ℕ) → (slot < 15) ⊎ (15 ≤ slot)
-slot_cases slot = elim (nat_lt slot 15) as (λ b. nat_lt slot 15 ≡ b → (slot < 15) ⊎ (15 ≤ slot)) [
-  | true ↦ λ e. inl (grind (arith, nat_tests))
-  | false ↦ λ e. inr (grind (arith, nat_tests))
-] refl
+    none_from (λ run. IsPlace kept.geometry (slot_place number slot)) (run_at kept.runs (slot_place number slot)) (sources (slot_place number slot))
+    (λ run h. let source : IsPlace (Some g) (slot_place number slot) = subst (λ o. IsPlace o (slot_place number slot)) is h in omega (arith, source.2, le))
 
 pub all_slots : (kept : KeptClaims) (g : Geometry) (number : ℕ) (inode : Inode) (new : List (Place × Run)) → HasSources kept → kept.geometry ≡ Some g
     → is_within 2 (g.ncg * g.ipg) number ≡ true → SetsFirst kept.runs new (slot_place number) (slot_fragments g inode) 15
@@ -104,7 +93,7 @@ pub all_slots : (kept : KeptClaims) (g : Geometry) (number : ℕ) (inode : Inode
 unfolding claimed_by inode_fragments
 all_slots kept g number inode new sources is within first slot =
     let wanted : inode_fragments (Some g) number inode slot ≡ slot_fragments g inode slot = cond_true (is_within 2 (g.ncg * g.ipg) number) (slot_fragments g inode slot) [] within in
-    subst (λ o. run_fragments (run_at new (slot_place number slot)) ≡ inode_fragments o number inode slot) (sym is) (elim (slot_cases slot) [
+    subst (λ o. run_fragments (run_at new (slot_place number slot)) ≡ inode_fragments o number inode slot) (sym is) (elim (below_cases slot 15) [
       | inl lt ↦ first.done slot lt ∙ sym wanted
       | inr le ↦
           ap run_fragments (first.others (slot_place number slot) (λ k lt e. omega (arith, slot_apart number slot k e, lt, le)) ∙ no_slot kept g number slot sources is le)
@@ -119,7 +108,7 @@ pub other_slots : (number : ℕ) (old new : List (Place × Run)) → ((place : P
 unfolding claimed_by
 other_slots number old new others source off = ap run_fragments (others (place_of source) (λ k. place_apart source (slot_place number k) (off k)))
 
-in_range : (number n : ℕ) → 2 ≤ number → number < n → is_within 2 n number ≡ true
+pub in_range : (number n : ℕ) → 2 ≤ number → number < n → is_within 2 n number ≡ true
 in_range number n low high = grind (arith, nat_tests)
 
 -- where the inode is none of the volume
@@ -128,12 +117,12 @@ pub no_inode : (kept : KeptClaims) (number : ℕ) (inode : Inode) → HasSources
 unfolding claimed_by inode_fragments
 no_inode kept number inode sources out slot =
     elim (kept.geometry) as (λ o. kept.geometry ≡ o → run_fragments (run_at kept.runs (slot_place number slot)) ≡ inode_fragments o number inode slot) [
-      | None ↦ λ is. ap run_fragments (none_from (λ run. IsSource kept.geometry (slot_place number slot)) (run_at kept.runs (slot_place number slot)) (sources (slot_place number slot))
-          (λ run h. subst (λ o. IsSource o (slot_place number slot)) is h))
+      | None ↦ λ is. ap run_fragments (none_from (λ run. IsPlace kept.geometry (slot_place number slot)) (run_at kept.runs (slot_place number slot)) (sources (slot_place number slot))
+          (λ run h. subst (λ o. IsPlace o (slot_place number slot)) is h))
       | Some g ↦ λ is.
-          ap run_fragments (none_from (λ run. IsSource kept.geometry (slot_place number slot)) (run_at kept.runs (slot_place number slot)) (sources (slot_place number slot))
+          ap run_fragments (none_from (λ run. IsPlace kept.geometry (slot_place number slot)) (run_at kept.runs (slot_place number slot)) (sources (slot_place number slot))
           (λ run h.
-          let source : IsSource (Some g) (slot_place number slot) = subst (λ o. IsSource o (slot_place number slot)) is h in
+          let source : IsPlace (Some g) (slot_place number slot) = subst (λ o. IsPlace o (slot_place number slot)) is h in
           false≢true (sym (out g is) ∙ in_range number (g.ncg * g.ipg) (source.0) (source.1))))
           ∙ sym (cond_false (is_within 2 (g.ncg * g.ipg) number) (slot_fragments g inode slot) [] (out g is))
     ] refl
@@ -148,14 +137,8 @@ past_pointers g bytes at le =
 no_pointer_at : (kept : KeptClaims) (g : Geometry) (fragment level at : ℕ) → HasSources kept → kept.geometry ≡ Some g → g.fsize / 4 ≤ at
     → run_at kept.runs (pointer_place fragment level at) ≡ None
 no_pointer_at kept g fragment level at sources is le =
-    none_from (λ run. IsSource kept.geometry (pointer_place fragment level at)) (run_at kept.runs (pointer_place fragment level at)) (sources (pointer_place fragment level at))
-    (λ run h. let source : IsSource (Some g) (pointer_place fragment level at) = subst (λ o. IsSource o (pointer_place fragment level at)) is h in omega (arith, source.2, le))
-
-pub below_cases : (a n : ℕ) → (a < n) ⊎ (n ≤ a)
-below_cases a n = elim (nat_lt a n) as (λ b. nat_lt a n ≡ b → (a < n) ⊎ (n ≤ a)) [
-  | true ↦ λ e. inl (grind (arith, nat_tests))
-  | false ↦ λ e. inr (grind (arith, nat_tests))
-] refl
+    none_from (λ run. IsPlace kept.geometry (pointer_place fragment level at)) (run_at kept.runs (pointer_place fragment level at)) (sources (pointer_place fragment level at))
+    (λ run h. let source : IsPlace (Some g) (pointer_place fragment level at) = subst (λ o. IsPlace o (pointer_place fragment level at)) is h in omega (arith, source.2, le))
 
 pub all_pointers : (kept : KeptClaims) (g : Geometry) (fragment level : ℕ) (bytes : List ℕ) (new : List (Place × Run)) → HasSources kept → kept.geometry ≡ Some g
     → SetsFirst kept.runs new (pointer_place fragment level) (pointer_fragments Little g bytes) (g.fsize / 4)
@@ -181,8 +164,8 @@ pub no_pointer : (kept : KeptClaims) (fragment level : ℕ) (bytes : List ℕ) �
 unfolding claimed_by fragment_pointers
 no_pointer kept fragment level bytes sources is at =
     subst (λ o. run_fragments (run_at kept.runs (pointer_place fragment level at)) ≡ fragment_pointers o bytes at) (sym is)
-    (ap run_fragments (none_from (λ run. IsSource kept.geometry (pointer_place fragment level at)) (run_at kept.runs (pointer_place fragment level at)) (sources (pointer_place fragment level at))
-    (λ run h. subst (λ o. IsSource o (pointer_place fragment level at)) is h)))
+    (ap run_fragments (none_from (λ run. IsPlace kept.geometry (pointer_place fragment level at)) (run_at kept.runs (pointer_place fragment level at)) (sources (pointer_place fragment level at))
+    (λ run h. subst (λ o. IsPlace o (pointer_place fragment level at)) is h)))
 
 -- ---- one source
 
@@ -196,7 +179,7 @@ unfolding claimed_by
 other_sources old new source other place is others ne =
     ap run_fragments (others (place_of other) (λ e. ne (sym (source_is other) ∙ ap source_of (e ∙ is) ∙ source_is source)))
 
-no_large : (o : Option Geometry) (fragment level at : ℕ) → IfSome o IsGeometry → IsSource o (pointer_place fragment level at) → 2 ^ 16 ≤ at → ⊥
+no_large : (o : Option Geometry) (fragment level at : ℕ) → IfSome o IsGeometry → IsPlace o (pointer_place fragment level at) → 2 ^ 16 ≤ at → ⊥
 no_large None fragment level at is source le = source
 no_large (Some g) fragment level at is source le =
     let size = is.fsize in
@@ -208,5 +191,11 @@ pub large_source : (kept : KeptClaims) (source : ClaimSource) → HasSources kep
 unfolding claimed_by
 large_source kept (Slot inode slot) sources is le = absurd (omega (arith, le))
 large_source kept (Pointer fragment level at) sources is le =
-    ap run_fragments (none_from (λ run. IsSource kept.geometry (pointer_place fragment level at)) (run_at kept.runs (pointer_place fragment level at)) (sources (pointer_place fragment level at))
+    ap run_fragments (none_from (λ run. IsPlace kept.geometry (pointer_place fragment level at)) (run_at kept.runs (pointer_place fragment level at)) (sources (pointer_place fragment level at))
     (λ run h. no_large kept.geometry fragment level at is h le))
+
+-- without a geometry no source claims anything
+pub no_source : (kept : KeptClaims) (source : ClaimSource) → HasSources kept → kept.geometry ≡ None → claimed_by kept.runs source ≡ []
+unfolding claimed_by
+no_source kept source sources is =
+    ap run_fragments (none_from (λ run. IsPlace kept.geometry (place_of source)) (run_at kept.runs (place_of source)) (sources (place_of source)) (λ run h. subst (λ o. IsPlace o (place_of source)) is h))

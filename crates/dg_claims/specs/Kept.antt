@@ -1,16 +1,15 @@
 -- How a table of claims is kept.
-use Rattle.std.specs.Prelude.{◌≡◌, ◌↔◌, ℕ, ◌+◌, ◌*◌, ◌/◌, ◌^◌, ◌<◌, ◌≤◌, List, Option, Some, None, zero, suc, length, IfSome}
+use Rattle.std.specs.Prelude.{◌≡◌, ◌↔◌, ℕ, ◌+◌, ◌^◌, ◌<◌, ◌≤◌, List, Option, Some, None, zero, suc, length, IfSome}
 use Rattle.std.specs.List.{Contains}
 use Rattle.ufs_model.specs.Geometries.{IsGeometry}
 use Rattle.ufs_model.specs.declared.claims.ClaimSource.{ClaimSource}
 use Rattle.ufs_model.specs.declared.geometries.Geometry.{Geometry}
 use Rattle.dg_claims.specs.Marks.{IsMarks, marked_on}
-use Rattle.dg_claims.specs.Places.{place_of}
+use Rattle.dg_claims.specs.Places.{place_of, source_of}
 use Rattle.dg_claims.specs.Runs.{run_at, run_fragments}
-use Rattle.dg_claims.specs.Tables.{ClaimTable}
+use Rattle.dg_claims.specs.Tables.{ClaimTable, IsSource}
 use Rattle.dg_claims.specs.declared.claims.Claims.TheInside.{Inside}
 use Rattle.dg_claims.specs.declared.places.Place.{Place}
-use Rattle.dg_claims.specs.declared.places.Place.TheVariants.{Slot, Pointer}
 use Rattle.dg_claims.specs.declared.runs.Run.{Run}
 
 -- a table as it is kept: the geometry, and the run of each source that claims anything
@@ -34,14 +33,9 @@ abbrev pub size_in : Option Geometry → ℕ
 size_in None = 0
 size_in (Some g) = g.size
 
--- a source of the volume: a slot of an inode from 2 to the last, or a pointer of a fragment that has a claim at a level 1 to 3
-abbrev pub IsSourceOf : Geometry → Place → Type 0
-IsSourceOf g (Slot slot inode) = (2 ≤ inode) × (inode < g.ncg * g.ipg) × (slot < 15)
-IsSourceOf g (Pointer level at fragment) = (1 ≤ level) × (level ≤ 3) × (at < g.fsize / 4)
-
-abbrev pub IsSource : Option Geometry → Place → Type 0
-IsSource None place = ⊥
-IsSource (Some g) place = IsSourceOf g place
+-- a place of a source of the volume
+abbrev pub IsPlace : Option Geometry → Place → Type 0
+IsPlace geometry place = IsSource geometry (source_of place)
 
 -- the run of a source: some fragments of the volume, at most those of a file block
 pub record IsRun (size : ℕ) (run : Run) : Type 0 where
@@ -56,7 +50,7 @@ pub record IsKept (inside : Inside) : Type 0 where
   pub fits : size_in inside.geometry < 2 ^ 32
   pub room : length inside.marks.first.items ≡ size_in inside.geometry
   pub marks : IsMarks inside.marks
-  pub runs : (place : Place) → IfSome (run_at inside.runs.map.entries place) (λ run. IsSource inside.geometry place × IsRun (size_in inside.geometry) run)
+  pub runs : (place : Place) → IfSome (run_at inside.runs.map.entries place) (λ run. IsPlace inside.geometry place × IsRun (size_in inside.geometry) run)
   pub marked : (fragment : ℕ) (place : Place) → Contains (marked_on inside.marks fragment) place ↔ Contains (run_fragments (run_at inside.runs.map.entries place)) fragment
 
 -- the first so many fragments of a run, if they are any
@@ -71,4 +65,4 @@ pub record SetsFirst (old new : List (Place × Run)) (place_at : ℕ → Place) 
 
 -- each source that claims anything is one of the volume
 abbrev pub HasSources : KeptClaims → Type 0
-HasSources kept = (place : Place) → IfSome (run_at kept.runs place) (λ run. IsSource kept.geometry place)
+HasSources kept = (place : Place) → IfSome (run_at kept.runs place) (λ run. IsPlace kept.geometry place)

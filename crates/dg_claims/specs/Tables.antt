@@ -1,9 +1,10 @@
 -- What a table of claims says.
-use Rattle.std.specs.Prelude.{◌≡◌, ◌↔◌, ℕ, ◌*◌, List, [], ◌∷◌, Option, Some, None, length, if◌then◌else◌}
+use Rattle.std.specs.Prelude.{◌≡◌, ◌↔◌, ◌≤◌, ◌<◌, ◌/◌, ℕ, ◌*◌, List, [], ◌∷◌, Option, Some, None, length, if◌then◌else◌}
 use Rattle.std.specs.List.{Contains}
 use Rattle.ufs_model.specs.Claims.{level_of, pointer_fragments, slot_fragments}
 use Rattle.ufs_model.specs.Roles.{is_within}
 use Rattle.ufs_model.specs.declared.claims.ClaimSource.{ClaimSource}
+use Rattle.ufs_model.specs.declared.claims.ClaimSource.TheVariants.{Slot, Pointer}
 use Rattle.ufs_model.specs.declared.geometries.Geometry.{Geometry}
 use Rattle.ufs_model.specs.declared.inodes.Inode.{Inode}
 use Rattle.ufs_model.specs.declared.numbers.Endian.TheVariants.{Little}
@@ -38,3 +39,13 @@ pub record AreClaimants (claimed : ClaimSource → List ℕ) (fragment count : �
 -- the fragment has a claim at the level
 abbrev pub IsClaimedAt : (ClaimSource → List ℕ) → ℕ → ℕ → Type 0
 IsClaimedAt claimed level fragment = (source : ClaimSource) × (level_of source ≡ level) × Contains (claimed source) fragment
+
+-- A source of the volume: a slot of an inode from 2 to the last, or a pointer of a fragment that has a claim at a level 1 to 3.
+abbrev pub IsSourceOf : Geometry → ClaimSource → Type 0
+IsSourceOf g (Slot inode slot) = (2 ≤ inode) × (inode < g.ncg * g.ipg) × (slot < 15)
+IsSourceOf g (Pointer fragment level at) = (1 ≤ level) × (level ≤ 3) × (at < g.fsize / 4)
+
+-- without a geometry there is none
+abbrev pub IsSource : Option Geometry → ClaimSource → Type 0
+IsSource None source = ⊥
+IsSource (Some g) source = IsSourceOf g source

@@ -5,11 +5,11 @@ ghost use Rattle.ufs_model.specs.Geometries.{IsGeometry};
 ghost use Rattle.ufs_model.specs.Roles.{is_within};
 ghost use Rattle.ufs_model.specs.declared.claims.ClaimSource.{ClaimSource};
 ghost use Rattle.ufs_model.specs.declared.geometries.Geometry.{Geometry};
-ghost use Rattle.dg_claims.specs.Kept.{HasSources, IsRun, IsSource, run_so_far, size_in, table_of};
+ghost use Rattle.dg_claims.specs.Kept.{HasSources, IsRun, IsPlace, run_so_far, size_in, table_of};
 ghost use Rattle.dg_claims.specs.Marks.{IsMarks, Unmarks};
 ghost use Rattle.dg_claims.specs.Runs.{run_at};
 ghost use Rattle.dg_claims.specs.Places.{place_of};
-ghost use Rattle.dg_claims.specs.Tables.{AreClaimants, IsClaimedAt, fragment_pointers, inode_fragments};
+ghost use Rattle.dg_claims.specs.Tables.{AreClaimants, IsClaimedAt, IsSource, fragment_pointers, inode_fragments};
 ghost use Rattle.dg_claims.specs.declared.places.Place.{Place};
 
 use crate::marks::Marks;
@@ -144,16 +144,25 @@ impl Claims {
         Ok(())
     }
 
+    /// The source as the table keeps it. There is none without a geometry, and none where the source has a number too large for
+    /// one that claims anything.
+    #[tactic(auto, using(crate::proofs::SourceLaws::large_source))]
+    fn place_in(&self, source: ClaimSource) -> Option<Place>
+        ensures place { IfSome result (λ place. place ≡ place_of source) }
+        ensures none { IfNone result ((table_of self.now).claimed source ≡ []) }
+    {
+        self.geometry()?;
+        place_of(source)
+    }
+
     /// The source claims nothing from now on.
     pub fn remove_source(&mut self, source: &ClaimSource)
         ensures geometry { (table_of self.new).geometry ≡ (table_of self.old).geometry }
         ensures removed { (table_of self.new).claimed source.now ≡ [] }
         ensures others { (other : ClaimSource) → (other ≡ source.now → ⊥) → (table_of self.new).claimed other ≡ (table_of self.old).claimed other }
     {
-        self.geometry();
-        match place_of(*source) {
-            Some(place) => self.clear(place),
-            None => {}
+        if let Some(place) = self.place_in(*source) {
+            self.clear(place);
         }
     }
 
@@ -168,7 +177,7 @@ impl Claims {
     pub fn claim(&self, fragment: u32) -> Option<ClaimSource>
         ensures only { IfSome result (IsOnlyClaim (table_of self.now).claimed fragment) }
         ensures none { IfNone result ((source : ClaimSource) → IsOnlyClaim (table_of self.now).claimed fragment source → ⊥) }
-        ensures source { IfSome result (λ source. IsSource (table_of self.now).geometry (place_of source)) }
+        ensures source { IfSome result (IsSource (table_of self.now).geometry) }
     {
         match self.marks.only(fragment) {
             Some(place) => Some(source_of(place)),
@@ -194,7 +203,7 @@ impl Claims {
 
     /// The source claims one more fragment, behind those of its run so far.
     fn extend(&mut self, place: Place, run: Run, done: u8) -> Result<(), NoMemory>
-        requires place { IsSource self.old.geometry place }
+        requires place { IsPlace self.old.geometry place }
         requires run { IsRun (size_in self.old.geometry) run }
         requires more { done < run.count }
         requires so_far { run_at self.old.runs place ≡ run_so_far run.first done }
@@ -219,7 +228,7 @@ impl Claims {
 
     /// Makes this run what the source claims, which claimed nothing.
     fn put(&mut self, place: Place, run: Run) -> Result<(), NoMemory>
-        requires place { IsSource self.old.geometry place }
+        requires place { IsPlace self.old.geometry place }
         requires run { IsRun (size_in self.old.geometry) run }
         requires none { run_at self.old.runs place ≡ None }
         ensures geometry { self.new.geometry ≡ self.old.geometry }
@@ -246,7 +255,7 @@ impl Claims {
 
     /// Makes this run what the source claims, in place of what it claimed.
     fn set(&mut self, place: Place, run: Option<Run>) -> Result<(), NoMemory>
-        requires place { IsSource self.old.geometry place }
+        requires place { IsPlace self.old.geometry place }
         requires run { IfSome run (IsRun (size_in self.old.geometry)) }
         ensures geometry { self.new.geometry ≡ self.old.geometry }
         ensures set { OnOk result (run_at self.new.runs place ≡ run) }

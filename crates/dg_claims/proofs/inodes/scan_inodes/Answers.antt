@@ -3,7 +3,7 @@ use Rattle.dg_io.specs.ViewLaws.{keeps_both, keeps_same}
 use Rattle.ufs_model.specs.declared.claims.ClaimSource.TheVariants.{Slot, Pointer}
 use Rattle.dg_claims.proofs.FetchedLaws.{only_both, only_none}
 use Rattle.dg_claims.proofs.ScanLaws.{low_target, past_target, pointer_no_slot, slot_apart, slots_more}
-use Rattle.dg_claims.proofs.SourceLaws.{below_cases}
+use Rattle.dg_claims.proofs.ListLaws.{below_cases}
 use Rattle.dg_claims.specs.Kept.{claimed_by}
 use Rattle.dg_claims.specs.Scans.{HasInode, HoldsIn}
 use Rattle.dg_claims.proofs.inodes.scan_inodes.Goals as goal
