@@ -12,8 +12,8 @@ use std::test::Fail;
 use ufs_path::Levels;
 use ufs_rows::{Which, rows_image};
 
-// Bytes of a member: a label, and 65 slots.
-const LENGTH: u64 = 512 + 65 * 1024;
+// Bytes of a member: a label, 65 slots, and room for a saved state.
+const LENGTH: u64 = 69_284;
 
 // The second direct slot of inode 3, the first one of inode 6, and the double indirect slot of inode 5.
 const SECOND_OF_3: usize = 29_100;
