@@ -1,2 +1,3 @@
 pub mod LeastLaws
 pub mod PassLaws
+pub mod GroupLaws
