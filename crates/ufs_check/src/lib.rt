@@ -6,6 +6,7 @@
 
 mod groups;
 mod notes;
+mod slots;
 mod verdicts;
 
 pub use crate::verdicts::Verdict;
