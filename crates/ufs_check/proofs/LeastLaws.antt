@@ -1,5 +1,5 @@
 -- The least number, one number after the other.
-use Rattle.std.proofs.Common.{◌≡◌, ℕ, suc, ◌<◌, inl, inr, Bool, true, false, Option, Some, None, refl, sym, subst, arith}
+use Rattle.std.proofs.Common.{◌≡◌, ℕ, suc, ◌+◌, ◌<◌, inl, inr, Bool, true, false, Option, Some, None, refl, sym, subst, add-one, arith}
 use Rattle.std.proofs.lemmas.Bool.{cases_order}
 use Rattle.std.specs.Bool.{Decides}
 use Rattle.ufs_check.specs.Least.{IsLeast, IsLeastBelow, kept}
@@ -30,3 +30,7 @@ least_same holds n None here so_far = record { least = none_more holds n so_far.
 pub least_all : (holds : ℕ → Type 0) (bound : ℕ) (r : Option ℕ) → ((m : ℕ) → holds m → m < bound) → IsLeastBelow holds bound r → IsLeast holds r
 least_all holds bound (Some n) within so_far = (so_far.least.1, so_far.least.2)
 least_all holds bound None within so_far = λ m is. so_far.least m (within m is) is
+
+-- a number that is noted
+pub least_noted : (holds : ℕ → Type 0) (n : ℕ) (old new : Option ℕ) (b : Bool) → new ≡ kept old n b → Decides b (holds n) → IsLeastBelow holds n old → IsLeastBelow holds (n + 1) new
+least_noted holds n old new b is decides so_far = rw (is, add-one) (least_more holds n old b decides so_far)

@@ -1,6 +1,7 @@
 -- What passes over a volume fetch and lose, one reader after another.
-use Rattle.std.proofs.Common.{◌≡◌, ℕ, List, [], ◌++◌, ◌<◌, inl, inr, length, Bool, true, Option, Some, None, subst, sym, arith}
+use Rattle.std.proofs.Common.{◌≡◌, ℕ, List, [], ◌++◌, ◌<◌, inl, inr, length, Bool, true, false, Option, Some, None, refl, subst, sym, arith}
 use Rattle.std.specs.Prelude.{Contains}
+use Rattle.std.specs.Bool.{then_some}
 use Rattle.std.specs.List.{list_any}
 use Rattle.std.proofs.lemmas.List.Elements.{Contains-append_cases, Contains-append_left}
 use Rattle.std.proofs.lemmas.List.Folds.{Any-from_list_any}
@@ -48,7 +49,15 @@ any_lost gone may needs are h = let any = Any-from_list_any gone needs h in reco
   lost = any.4;
 }
 
--- where a reading has no answer, one of its needs is gone
-pub lost_need : {A : Type 0} {stands : Volume → Type 0} {before after : ℕ → Bool} {tells : Type 0} {d : Reading A} (may : Volume → ℕ → Type 0)
-    → ((v : Volume) (block : ℕ) → Contains ((d v).needs) block → may v block) → ReadsAs stands before tells after d None → tells → (v : Volume) → stands v → LosesOne after (may v)
-lost_need {after = after} {d = d} may are read is v holds = any_lost after (may v) ((d v).needs) (are v) ((read.rule is v holds).only)
+-- what a reading that could be done gives
+pub read_value : {A : Type 0} {stands : Volume → Type 0} {before after : ℕ → Bool} {tells : Type 0} {d : Reading A} (could : Bool) (answer : A)
+    → ReadsAs stands before tells after d (then_some could answer) → could ≡ true → tells → (v : Volume) → stands v → answer ≡ (d v).value
+read_value true answer read could is v holds = (read.rule is v holds).answer
+read_value false answer read could is v holds = let no : false ≡ true = could in cc
+
+-- where it couldn't, one of its needs is gone
+pub read_lost : {A : Type 0} {stands : Volume → Type 0} {before after : ℕ → Bool} {tells : Type 0} {d : Reading A} (may : Volume → ℕ → Type 0) (could : Bool) (answer : A)
+    → ((v : Volume) (block : ℕ) → Contains ((d v).needs) block → may v block) → ReadsAs stands before tells after d (then_some could answer) → could ≡ false
+    → tells → (v : Volume) → stands v → LosesOne after (may v)
+read_lost may true answer are read could is v holds = let no : true ≡ false = could in cc
+read_lost {after = after} {d = d} may false answer are read could is v holds = any_lost after (may v) ((d v).needs) (are v) ((read.rule is v holds).only)

@@ -1,3 +1,4 @@
 pub mod Least
 pub mod Passes
 pub mod Groups
+pub mod Inodes

@@ -5,6 +5,7 @@
 #![tactic(auto)]
 
 mod groups;
+mod inodes;
 mod notes;
 mod slots;
 mod verdicts;

@@ -4,15 +4,15 @@ use Rattle.ufs_model.specs.Metadata.{IsMetadataBy}
 use Rattle.ufs_model.specs.Metadata.IsMetadataBy.{of_group}
 use Rattle.ufs_model.specs.declared.numbers.Endian.TheVariants.{Little}
 use Rattle.ufs_check.proofs.GroupLaws.{group_area}
-use Rattle.ufs_check.proofs.PassLaws.{lost_need, only_both, only_needs}
+use Rattle.ufs_check.proofs.PassLaws.{only_both, only_needs, read_lost}
 use Rattle.ufs_check.proofs.groups.check_groups.Goals as goal
 
 pub returns-then-not-read_block-clause-gone : goal.returns-then-not-read_block-clause-gone
 returns-then-not-read_block-clause-gone g c = λ told v stands.
     let so_far = c.loop-c.invariant.keeps in
     let area = group_area c.args.g.now c.loop-c.c _ _ (c.requires.geometry.fsize ∙ sym so_far.bytes) c.group_block.ensures.value in
-    lost_need (IsMetadataBy Little c.args.g.now) (λ v block needs. of_group c.loop-c.c c.loop-c-test.true needs)
-    (rw area at c.if-not-read_block.ensures.rule) told v (so_far.stands v stands)
+    read_lost (IsMetadataBy Little c.args.g.now) _ _ (λ v block needs. of_group c.loop-c.c c.loop-c-test.true needs)
+    (rw area at c.read_block.ensures.rule) c.if-not-read_block.true told v (so_far.stands v stands)
 
 pub returns-then-not-read_block-clause-fetched : goal.returns-then-not-read_block-clause-fetched
 returns-then-not-read_block-clause-fetched g c =
