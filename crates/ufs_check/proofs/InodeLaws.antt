@@ -1,14 +1,12 @@
 -- Where an inode is read, and what is noted of it.
-use Rattle.std.proofs.Common.{◌≡◌, ◌∙◌, ℕ, ◌+◌, ◌*◌, ◌/◌, ◌%◌, ◌<◌, ◌≤◌, List, [], ◌∷◌, Bool, true, false, Option, Some, None, take, drop, refl, sym, subst, ap, arith}
-use Rattle.std.specs.Prelude.{Contains, MatchOption, if◌then◌else◌, ◌&&◌, nat_le, nat_lt, not}
+use Rattle.std.proofs.Common.{◌≡◌, ◌∙◌, ℕ, ◌+◌, ◌*◌, ◌/◌, ◌%◌, ◌<◌, ◌≤◌, List, Bool, true, false, Some, take, drop, refl, sym, subst, arith}
+use Rattle.std.specs.Prelude.{Contains, MatchOption, nat_le, not}
 use Rattle.std.specs.Bool.{Decides}
 use Rattle.std.proofs.lemmas.Bool.Decides.{nat_tests}
 use Rattle.ufs_model.specs.Blocks.{Volume, area_of, bind, block_at, consult}
 use Rattle.ufs_model.specs.GroupMaps.{by_maps, group_bytes, group_in, is_marked_used, is_used}
 use Rattle.ufs_model.specs.Inodes.{has_pointers, inode_block, inode_byte, inode_in, inode_of}
 use Rattle.ufs_model.specs.Malformations.{IsInode, IsPointed, inode_at}
-use Rattle.ufs_model.specs.Metadata.{IsMetadataBy}
-use Rattle.ufs_model.specs.Metadata.IsMetadataBy.{of_inode}
 use Rattle.ufs_model.specs.Roles.{is_within}
 use Rattle.ufs_model.specs.declared.geometries.Geometry.{Geometry}
 use Rattle.ufs_model.specs.declared.inodes.Inode.{Inode}

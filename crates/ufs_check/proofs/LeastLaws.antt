@@ -1,5 +1,5 @@
 -- The least number, one number after the other.
-use Rattle.std.proofs.Common.{◌≡◌, ℕ, suc, ◌+◌, ◌<◌, inl, inr, Bool, true, false, Option, Some, None, refl, sym, subst, add-one, arith}
+use Rattle.std.proofs.Common.{◌≡◌, ℕ, suc, ◌+◌, ◌<◌, inl, inr, Bool, true, false, Option, Some, None, refl, subst, add-one, arith}
 use Rattle.std.proofs.lemmas.Bool.{cases_order}
 use Rattle.std.specs.Bool.{Decides}
 use Rattle.ufs_check.specs.Least.{IsLeast, IsLeastBelow, kept}

@@ -1,5 +1,5 @@
 -- What passes over a volume fetch and lose, one reader after another.
-use Rattle.std.proofs.Common.{◌≡◌, ℕ, List, [], ◌++◌, ◌<◌, inl, inr, length, Bool, true, false, Option, Some, None, refl, subst, sym, arith}
+use Rattle.std.proofs.Common.{◌≡◌, ℕ, List, [], ◌++◌, inl, inr, Bool, true, false, Option, Some, None, subst, sym, arith}
 use Rattle.std.specs.Prelude.{Contains}
 use Rattle.std.specs.Bool.{then_some}
 use Rattle.std.specs.List.{list_any}

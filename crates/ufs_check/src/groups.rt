@@ -31,11 +31,7 @@ fn note_group(g: &Geometry, c: u32, bytes: &[u8], faults: &mut GroupFaults)
 }
 
 /// What is wrong with the group blocks. There is no answer where a block of one is gone.
-pub fn check_groups<V: View>(
-    view: &mut V,
-    g: &Geometry,
-    levels: &mut Levels,
-) -> Option<GroupFaults>
+pub fn check_groups<V: View>(view: &mut V, g: &Geometry, levels: &mut Levels) -> Option<GroupFaults>
     requires sound { V.is_sound view.old }
     requires geometry { IsGeometryOn (V.size view.old) (V.count view.old) g.now }
     requires levels { levels.old.fragment ≡ V.size view.old }

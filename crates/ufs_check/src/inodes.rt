@@ -140,11 +140,7 @@ fn hold_inodes<V: View>(
 }
 
 /// What is wrong with the inodes. There is no answer where a block of inodes is gone, or one of a group.
-pub fn check_inodes<V: View>(
-    view: &mut V,
-    g: &Geometry,
-    levels: &mut Levels,
-) -> Option<InodeFaults>
+pub fn check_inodes<V: View>(view: &mut V, g: &Geometry, levels: &mut Levels) -> Option<InodeFaults>
     requires sound { V.is_sound view.old }
     requires geometry { IsGeometryOn (V.size view.old) (V.count view.old) g.now }
     requires levels { levels.old.fragment ≡ V.size view.old }

@@ -8,6 +8,8 @@ mod groups;
 mod inodes;
 mod notes;
 mod slots;
+#[cfg(test)]
+mod tests;
 mod verdicts;
 
 pub use crate::verdicts::Verdict;

@@ -32,11 +32,11 @@ loop-i-preserved g c =
     let second = c.hold_inodes.ensures.keeps in
     let two = keeps_both g.met.V.View.further c.loop-i.view c.hold_group.new.view c.hold_inodes.new.view first second in
     let holds_group : (told : g.V.View.tells c.hold_inodes.new.view) (v : Volume) (stands : g.V.View.stands_for c.args.view.now v) → c.hold_inodes.new.levels.block ≡ (group_bytes c.args.g.now (c.loop-i.i / c.args.g.now.ipg) v).value =
-        λ told v stands. c.hold_inodes.ensures.group ∙ c.hold_group.ensures.holds c.if-not-hold_group.false (second.told told) v (so_far.stands v stands)
-            (invariant.holds_group (two.told told) v stands) in
+    λ told v stands. c.hold_inodes.ensures.group ∙ c.hold_group.ensures.holds c.if-not-hold_group.false (second.told told) v (so_far.stands v stands)
+    (invariant.holds_group (two.told told) v stands) in
     let holds_inodes : (told : g.V.View.tells c.hold_inodes.new.view) (v : Volume) (stands : g.V.View.stands_for c.args.view.now v) → c.hold_inodes.new.levels.aside ≡ block_at c.args.g.now.fsize v (inode_block c.args.g.now c.loop-i.i) =
-        λ told v stands. rw (← c.place_of-block.ensures.block) (c.hold_inodes.ensures.holds c.if-not-hold_inodes.false told v (first.stands v (so_far.stands v stands))
-            (rw c.hold_group.ensures.aside (invariant.holds_inodes (two.told told) v stands))) in
+    λ told v stands. rw (← c.place_of-block.ensures.block) (c.hold_inodes.ensures.holds c.if-not-hold_inodes.false told v (first.stands v (so_far.stands v stands))
+    (rw c.hold_group.ensures.aside (invariant.holds_inodes (two.told told) v stands))) in
     record {
       keeps = keeps_both g.met.V.View.further c.args.view.now c.loop-i.view c.hold_inodes.new.view so_far two;
       levels = c.hold_inodes.ensures.levels ∙ c.hold_group.ensures.levels ∙ invariant.levels;
