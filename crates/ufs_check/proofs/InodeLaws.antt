@@ -8,6 +8,8 @@ use Rattle.ufs_model.specs.GroupMaps.{by_maps, group_bytes, group_in, is_marked_
 use Rattle.ufs_model.specs.Inodes.{has_pointers, inode_block, inode_byte, inode_in, inode_of}
 use Rattle.ufs_model.specs.Malformations.{IsInode, IsPointed, inode_at}
 use Rattle.ufs_model.specs.Roles.{is_within}
+use Rattle.ufs_model.specs.Metadata.{IsMetadataBy}
+use Rattle.ufs_model.specs.Metadata.IsMetadataBy.{of_inode}
 use Rattle.ufs_model.specs.declared.geometries.Geometry.{Geometry}
 use Rattle.ufs_model.specs.declared.inodes.Inode.{Inode}
 use Rattle.ufs_model.specs.declared.numbers.Endian.TheVariants.{Little}
@@ -51,3 +53,7 @@ long_decides n m = (λ h. grind (arith, nat_tests), λ h. grind (arith, nat_test
 pub unused_decides : (used marked : Bool) → marked ≡ used → Decides (not used) (marked ≡ false)
 unused_decides true marked is = (λ h. let no : false ≡ true = h in cc, λ h. let no : true ≡ false = sym is ∙ h in cc)
 unused_decides false marked is = (λ h. is, λ h. refl)
+
+-- the block of an inode, where it alone is read
+pub inode_needed : (g : Geometry) (i l a : ℕ) → i < g.ncg * g.ipg → a ≡ inode_block g i → (v : Volume) (block : ℕ) → Contains ((consult l a v).needs) block → IsMetadataBy Little g v block
+inode_needed g i l a high is v block needs = subst (IsMetadataBy Little g v) (sym (one_need l a v block needs)) (of_inode i high is)

@@ -4,6 +4,7 @@
 //! of each kind of fault that it looks for.
 #![tactic(auto)]
 
+mod entries;
 mod groups;
 mod inodes;
 mod notes;

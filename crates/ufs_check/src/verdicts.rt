@@ -38,3 +38,16 @@ pub struct InodeFaults {
     /// It is marked unused.
     pub unused: Option<u32>,
 }
+
+/// What is wrong with directories, each of which is looked at by itself: of each kind the least inode.
+#[derive(Clone, Copy, Debug, PartialEq, Eq)]
+pub struct DirectoryFaults {
+    /// It has a hole before its end.
+    pub hole: Option<u32>,
+    /// It doesn't consist of whole chunks, or one of them is refused.
+    pub chunk: Option<u32>,
+    /// It has an entry that names no allocated inode from 2 to the last.
+    pub entry: Option<u32>,
+    /// It has an entry with a type that isn't 0 and isn't that of the inode.
+    pub entry_type: Option<u32>,
+}
