@@ -4,3 +4,5 @@ pub mod GroupLaws
 pub mod InodeLaws
 pub mod ChunkLaws
 pub mod EntryLaws
+pub mod Sizes
+pub mod BlockLaws

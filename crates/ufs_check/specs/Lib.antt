@@ -3,3 +3,4 @@ pub mod Passes
 pub mod Groups
 pub mod Inodes
 pub mod Entries
+pub mod FileBlocks

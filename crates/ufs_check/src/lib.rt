@@ -5,6 +5,7 @@
 #![tactic(auto)]
 
 mod entries;
+mod file_blocks;
 mod groups;
 mod inodes;
 mod notes;
