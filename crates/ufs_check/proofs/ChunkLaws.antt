@@ -43,11 +43,11 @@ pub refused_further : (count i : ℕ) (bytes : List ℕ) (whole : Bool) → i < 
 refused_further count i bytes whole low is so_far =
     sym (or_none _ (list_any is_refused (chunks_in (count - (i + 1)) (drop ((i + 1) * 512) bytes))) is) ∙ sym (ap (list_any is_refused) (next_chunks count i bytes low)) ∙ so_far
 
-or_first : (a b : Bool) → (a || b) ≡ false → (a ≡ false) × (b ≡ false)
+pub or_first : (a b : Bool) → (a || b) ≡ false → (a ≡ false) × (b ≡ false)
 or_first true b is = (is, let no : true ≡ false = is in cc)
 or_first false b is = (refl, is)
 
-not_some : {A : Type 0} (o : Option A) → is_some o ≡ false → o ≡ None
+pub not_some : {A : Type 0} (o : Option A) → is_some o ≡ false → o ≡ None
 not_some None is = refl
 not_some (Some a) is = let no : true ≡ false = is in cc
 

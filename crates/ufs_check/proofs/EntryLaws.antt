@@ -13,7 +13,7 @@ use Rattle.ufs_model.specs.declared.numbers.Endian.TheVariants.{Little}
 use Rattle.ufs_check.specs.Entries.{AddsEntries, Completes, is_mistyped, mistyped_in, names_none}
 use Rattle.ufs_check.specs.declared.entries.EntryFaults.{EntryFaults}
 
-or_end : (a : Bool) → (a || false) ≡ a
+pub or_end : (a : Bool) → (a || false) ≡ a
 or_end true = refl
 or_end false = refl
 

@@ -6,3 +6,4 @@ pub mod ChunkLaws
 pub mod EntryLaws
 pub mod Sizes
 pub mod BlockLaws
+pub mod DirectoryLaws

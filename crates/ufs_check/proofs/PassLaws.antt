@@ -61,3 +61,16 @@ pub read_lost : {A : Type 0} {stands : Volume → Type 0} {before after : ℕ �
     → tells → (v : Volume) → stands v → LosesOne after (may v)
 read_lost may true answer are read could is v holds = let no : true ≡ false = could in cc
 read_lost {after = after} {d = d} may false answer are read could is v holds = any_lost after (may v) ((d v).needs) (are v) ((read.rule is v holds).only)
+
+-- what may be read for one thing may be read for another
+pub only_wider : {S : Type 0} {fetched : S → List ℕ → S → Type 0} {stands : Volume → Type 0} {tells : Type 0} {old new : S} (may more : Volume → ℕ → Type 0)
+    → (tells → (v : Volume) → stands v → (block : ℕ) → may v block → more v block) → FetchesOnly fetched stands tells may old new → FetchesOnly fetched stands tells more old new
+only_wider may more wider one = record { blocks = one.blocks; were = one.were; are = λ is v holds block h. wider is v holds block (one.are is v holds block h) }
+
+pub lost_wider : (gone : ℕ → Bool) (may more : ℕ → Type 0) → ((block : ℕ) → may block → more block) → LosesOne gone may → LosesOne gone more
+lost_wider gone may more wider one = record { block = one.block; is = wider (one.block) one.is; lost = one.lost }
+
+-- where a reading has no answer, one of its needs is gone
+pub lost_need : {A : Type 0} {stands : Volume → Type 0} {before after : ℕ → Bool} {tells : Type 0} {d : Reading A} (may : Volume → ℕ → Type 0)
+    → ((v : Volume) (block : ℕ) → Contains ((d v).needs) block → may v block) → ReadsAs stands before tells after d None → tells → (v : Volume) → stands v → LosesOne after (may v)
+lost_need {after = after} {d = d} may are read is v holds = any_lost after (may v) ((d v).needs) (are v) ((read.rule is v holds).only)

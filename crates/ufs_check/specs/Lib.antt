@@ -4,3 +4,4 @@ pub mod Groups
 pub mod Inodes
 pub mod Entries
 pub mod FileBlocks
+pub mod Directories

@@ -4,6 +4,7 @@
 //! of each kind of fault that it looks for.
 #![tactic(auto)]
 
+mod directories;
 mod entries;
 mod file_blocks;
 mod groups;
