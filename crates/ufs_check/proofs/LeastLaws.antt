@@ -34,3 +34,7 @@ least_all holds bound None within so_far = λ m is. so_far.least m (within m is)
 -- a number that is noted
 pub least_noted : (holds : ℕ → Type 0) (n : ℕ) (old new : Option ℕ) (b : Bool) → new ≡ kept old n b → Decides b (holds n) → IsLeastBelow holds n old → IsLeastBelow holds (n + 1) new
 least_noted holds n old new b is decides so_far = rw (is, add-one) (least_more holds n old b decides so_far)
+
+-- a number that is passed
+pub least_passed : (holds : ℕ → Type 0) (n : ℕ) (r : Option ℕ) → (holds n → ⊥) → IsLeastBelow holds n r → IsLeastBelow holds (n + 1) r
+least_passed holds n r none so_far = rw add-one (least_same holds n r none so_far)

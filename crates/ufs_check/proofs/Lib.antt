@@ -7,3 +7,4 @@ pub mod EntryLaws
 pub mod Sizes
 pub mod BlockLaws
 pub mod DirectoryLaws
+pub mod FaultLaws

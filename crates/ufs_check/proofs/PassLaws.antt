@@ -74,3 +74,17 @@ lost_wider gone may more wider one = record { block = one.block; is = wider (one
 pub lost_need : {A : Type 0} {stands : Volume → Type 0} {before after : ℕ → Bool} {tells : Type 0} {d : Reading A} (may : Volume → ℕ → Type 0)
     → ((v : Volume) (block : ℕ) → Contains ((d v).needs) block → may v block) → ReadsAs stands before tells after d None → tells → (v : Volume) → stands v → LosesOne after (may v)
 lost_need {after = after} {d = d} may are read is v holds = any_lost after (may v) ((d v).needs) (are v) ((read.rule is v holds).only)
+
+-- fetches, and then others that may be for another thing, on the volumes that the view stood for before
+pub only_after : {S : Type 0} {fetched : S → List ℕ → S → Type 0} {stands still : Volume → Type 0} {tells told : Type 0} {may other : Volume → ℕ → Type 0} {old middle new : S}
+    → ((s t u : S) (x y : List ℕ) → fetched s x t → fetched t y u → fetched s (x ++ y) u) → ((v : Volume) → stands v → still v) → (told → tells)
+    → FetchesOnly fetched stands tells may old middle → FetchesOnly fetched still told other middle new
+    → (told → (v : Volume) → stands v → (block : ℕ) → other v block → may v block) → FetchesOnly fetched stands told may old new
+only_after {old = old} {middle = middle} {new = new} both keeps tell one two wider = record {
+  blocks = one.blocks ++ two.blocks;
+  were = both old middle new (one.blocks) (two.blocks) one.were two.were;
+  are = λ is v holds block h. elim (Contains-append_cases (one.blocks) (two.blocks) block h) [
+    | inl first ↦ one.are (tell is) v holds block first
+    | inr second ↦ wider is v holds block (two.are is v (keeps v holds) block second)
+  ];
+}
