@@ -56,5 +56,5 @@ pub whole_here : (count i : ℕ) (bytes : List ℕ) → i < count → list_any i
     → (fault_in Little 0 (take 512 (drop (i * 512) bytes)) ≡ None) × (list_any is_refused (chunks_in (count - (i + 1)) (drop ((i + 1) * 512) bytes)) ≡ false)
 whole_here count i bytes low none =
     let parts = or_first (is_refused (take 512 (drop (i * 512) bytes))) (list_any is_refused (chunks_in (count - (i + 1)) (drop ((i + 1) * 512) bytes)))
-        (sym (ap (list_any is_refused) (next_chunks count i bytes low)) ∙ none) in
+    (sym (ap (list_any is_refused) (next_chunks count i bytes low)) ∙ none) in
     (not_some _ parts.0, parts.1)

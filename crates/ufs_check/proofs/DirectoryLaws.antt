@@ -127,10 +127,11 @@ says_joined : (g : Geometry) (v : Volume) (front entries : Result (List DirEntry
 says_joined g v (Err refusal) entries old_read new_read old new says read adds = read ∙ ap (λ b. b && is_ok entries) says
 says_joined g v (Ok front) (Err refusal) old_read new_read old new says read adds = read ∙ and_none old_read
 says_joined g v (Ok front) (Ok es) old_read new_read old new says read adds =
-    let added = adds es refl in
-    (read ∙ ap (λ b. b && true) says.0,
-    added.entry ∙ ap (λ b. b || list_any (names_none g v) es) says.1 ∙ sym (list_any-append (names_none g v) front es),
-    added.entry_type ∙ ap (λ b. b || list_any (is_mistyped g v) es) says.2 ∙ sym (list_any-append (is_mistyped g v) front es))
+    let added = adds es refl in (
+      read ∙ ap (λ b. b && true) says.0,
+      added.entry ∙ ap (λ b. b || list_any (names_none g v) es) says.1 ∙ sym (list_any-append (names_none g v) front es),
+      added.entry_type ∙ ap (λ b. b || list_any (is_mistyped g v) es) says.2 ∙ sym (list_any-append (is_mistyped g v) front es),
+    )
 
 pub scanned_next : (g : Geometry) (inode : Inode) (v : Volume) (n : ℕ) (old new : Scan) → ScannedBelow g inode v n old
     → ScansBlock g v (bytes_in_block g inode n / 512) ((block_of Little g inode n v).value) old new → ScannedBelow g inode v (n + 1) new

@@ -67,7 +67,7 @@ hole_decides g inode v n = subst (λ block. Decides (hole_said block) ((file_blo
 pub has_hole_decides : (g : Geometry) (inode : Inode) (v : Volume) (b : Bool) → b ≡ any_below (hole_at g inode v) (block_count g inode) → Decides b (HasHole Little g v inode)
 has_hole_decides g inode v b is = (
   λ h. let found = below_found (hole_at g inode v) (block_count g inode) (sym is ∙ h) in record { n = found.0; is = found.1; hole = (hole_decides g inode v found.0).0 found.2 },
-  λ h. is ∙ below_here (hole_at g inode v) (block_count g inode) h.n h.is ((hole_decides g inode v h.n).1 h.hole)
+  λ h. is ∙ below_here (hole_at g inode v) (block_count g inode) h.n h.is ((hole_decides g inode v h.n).1 h.hole),
 )
 
 -- ---- chunks
@@ -90,7 +90,7 @@ refused_is (Ok chunks) = (
   λ h. let any = Any-from_list_any is_refused chunks h in let fault = some_fault (fault_in Little 0 any.1) any.4 in
       record { all = chunks; chunk = any.1; bad = fault.0; are = refl; contains = (any.0, any.2, any.3); refused = fault.1 },
   λ h. let both : Ok chunks ≡ Ok h.all = h.are in let same : h.all ≡ chunks = cc in let here = subst (λ all. Contains all h.chunk) same h.contains in
-      list_any-from_Any is_refused chunks (here.0, h.chunk, here.1, here.2, ap is_some h.refused)
+      list_any-from_Any is_refused chunks (here.0, h.chunk, here.1, here.2, ap is_some h.refused),
 )
 
 refused_decides : (g : Geometry) (inode : Inode) (v : Volume) (n : ℕ) → Decides (refused_at g inode v n) (HasRefused ((chunks_of Little g inode n v).value))
@@ -103,7 +103,7 @@ refused_chunk_decides g inode v b is = (
       let one = (refused_decides g inode v found.0).0 found.2 in
       record { n = found.0; chunks = one.all; chunk = one.chunk; bad = one.bad; is = found.1; are = one.are; contains = one.contains; refused = one.refused },
   λ h. is ∙ below_here (refused_at g inode v) (block_count g inode) h.n h.is
-      ((refused_decides g inode v h.n).1 (record { all = h.chunks; chunk = h.chunk; bad = h.bad; are = h.are; contains = h.contains; refused = h.refused }))
+      ((refused_decides g inode v h.n).1 (record { all = h.chunks; chunk = h.chunk; bad = h.bad; are = h.are; contains = h.contains; refused = h.refused })),
 )
 
 pub bad_chunk_decides : (g : Geometry) (inode : Inode) (v : Volume) (b chunk : Bool) → b ≡ (not (inode.size % 512 == 0) || chunk) → chunk ≡ any_below (refused_at g inode v) (block_count g inode)
@@ -188,7 +188,7 @@ entry_decides : (test : DirEntry → Bool) (P : DirEntry → Type 0) → ((entry
 entry_decides test P each entries = (
   λ h. let any = Any-from_list_any test entries h in
       record { k = any.0; entry = any.1; here = slice_get_read entries (length entries) any.0 any.1 refl any.2 (sym any.3); is = (each any.1).0 any.4 },
-  λ h. list_any-from_Any test entries (h.k, h.entry, slice_get_within entries h.k h.entry h.here, get_or_from_slice_get entries h.k h.entry h.entry h.here, (each h.entry).1 h.is)
+  λ h. list_any-from_Any test entries (h.k, h.entry, slice_get_within entries h.k h.entry h.here, get_or_from_slice_get entries h.k h.entry h.entry h.here, (each h.entry).1 h.is),
 )
 
 none_is : (named : Option Inode) → Decides (is_none named) (named ≡ None)
@@ -229,7 +229,7 @@ bad_entry_decides g v i inode faults is kind read =
     let decides = entry_decides (names_none g v) (λ entry. inode_at Little g v entry.inode ≡ None) (none_decides g v) (read.entries) in (
       λ h. let found = decides.0 (sym read.entry ∙ h) in
           record { k = found.k; entry = found.entry; here = record { entries = read.entries; are = entries_are g v i inode (read.entries) is kind read.are; here = found.here }; none = found.is },
-      λ h. read.entry ∙ decides.1 (record { k = h.k; entry = h.entry; here = subst (λ es. slice_get es h.k ≡ Some h.entry) (entries_same g v i inode (read.entries) (h.here.entries) is read.are h.here.are) h.here.here; is = h.none })
+      λ h. read.entry ∙ decides.1 (record { k = h.k; entry = h.entry; here = subst (λ es. slice_get es h.k ≡ Some h.entry) (entries_same g v i inode (read.entries) (h.here.entries) is read.are h.here.are) h.here.here; is = h.none }),
     )
 
 pub bad_type_decides : (g : Geometry) (v : Volume) (i : ℕ) (inode : Inode) (faults : EntryFaults) → inode_at Little g v i ≡ Some inode → kind_of inode.mode ≡ Directory
@@ -238,7 +238,7 @@ bad_type_decides g v i inode faults is kind read =
     let decides = entry_decides (is_mistyped g v) (λ entry. (entry.kind ≢ 0) × IsInode Little g v entry.inode (λ inode. entry_type_of (kind_of inode.mode) ≢ Some entry.kind)) (mistyped_decides g v) (read.entries) in (
       λ h. let found = decides.0 (sym read.entry_type ∙ h) in
           record { k = found.k; entry = found.entry; here = record { entries = read.entries; are = entries_are g v i inode (read.entries) is kind read.are; here = found.here }; typed = found.is.0; other = found.is.1 },
-      λ h. read.entry_type ∙ decides.1 (record { k = h.k; entry = h.entry; here = subst (λ es. slice_get es h.k ≡ Some h.entry) (entries_same g v i inode (read.entries) (h.here.entries) is read.are h.here.are) h.here.here; is = (h.typed, h.other) })
+      λ h. read.entry_type ∙ decides.1 (record { k = h.k; entry = h.entry; here = subst (λ es. slice_get es h.k ≡ Some h.entry) (entries_same g v i inode (read.entries) (h.here.entries) is read.are h.here.are) h.here.here; is = (h.typed, h.other) }),
     )
 
 -- a directory has no more bytes than it may

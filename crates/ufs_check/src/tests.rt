@@ -1,9 +1,10 @@
 ghost use Rattle.std.specs.Prelude.{◌≡◌, ◌+◌, ◌*◌, ◌≤◌, IfOk, length};
 
 use crate::Levels;
+use crate::directories::check_directories;
 use crate::groups::check_groups;
 use crate::inodes::check_inodes;
-use crate::verdicts::{GroupFaults, InodeFaults};
+use crate::verdicts::{DirectoryFaults, GroupFaults, InodeFaults};
 use dg_io::{Loss, MemView};
 use std::alloc::Global;
 use std::test::Fail;
@@ -31,6 +32,14 @@ const SOUND_INODES: InodeFaults = InodeFaults {
     align: None,
     run: None,
     unused: None,
+};
+
+/// No fault of a directory.
+const SOUND_DIRECTORIES: DirectoryFaults = DirectoryFaults {
+    hole: None,
+    chunk: None,
+    entry: None,
+    entry_type: None,
 };
 
 /// The first byte of the group block, of its map of used inodes, and of inodes 3, 5, 6 and 7.
@@ -313,6 +322,150 @@ fn blocks_that_are_gone(rt: HostRuntime) -> Result<(), Fail> {
             has_inodes,
             "inodes without {block} from {fetch} on"
         );
+    }
+    Ok(())
+}
+
+/// The first byte of inode 4, the directory `/d`, and of its entry `b` for inode 5.
+const INODE_4: usize = 28 * 1024 + 4 * 128;
+
+const ENTRY_B: usize = 35 * 1024 + 24;
+
+/// The first byte of the root's entry `h` for inode 7.
+const ENTRY_H: usize = 33 * 1024 + 60;
+
+/// What is found of the directories of a volume, a block of which is gone.
+fn directories(
+    alloc: Global,
+    which: Which,
+    edits: &[Edit],
+    loss: Loss,
+) -> Result<Option<DirectoryFaults>, Fail> {
+    let image = edited(alloc, which, 128, edits)?;
+    if image.len() < 9568 {
+        return Err("image".into());
+    }
+    let g = read_super(&image[8192..9568], 1024, 128)?;
+    let mut levels = Levels::new(alloc, 1024)?;
+    let mut view = MemView::new(image, 1024, 128, vec![in alloc; loss]?);
+    Ok(check_directories(&mut view, &g, &mut levels))
+}
+
+#[test]
+fn the_rows_have_sound_directories(rt: HostRuntime) -> Result<(), Fail> {
+    for which in [Which::E, Which::F, Which::X] {
+        let faults = directories(rt.alloc(), which, &[], NOTHING)?;
+        assert_eq!(rt; faults, Some(SOUND_DIRECTORIES), "{which:?}");
+    }
+    Ok(())
+}
+
+#[test]
+fn faults_of_directories(rt: HostRuntime) -> Result<(), Fail> {
+    let hole = DirectoryFaults {
+        hole: Some(4),
+        ..SOUND_DIRECTORIES
+    };
+    let chunk = DirectoryFaults {
+        chunk: Some(4),
+        ..SOUND_DIRECTORIES
+    };
+    let entry = DirectoryFaults {
+        entry: Some(4),
+        ..SOUND_DIRECTORIES
+    };
+    let entry_type = DirectoryFaults {
+        entry_type: Some(4),
+        ..SOUND_DIRECTORIES
+    };
+    let cases: [(usize, &[u8], DirectoryFaults); 12] = [
+        (INODE_4 + 40, &[0], hole),
+        // 500 bytes, and an entry of no length.
+        (INODE_4 + 8, &[0xf4, 1], chunk),
+        (35 * 1024 + 4, &[0], chunk),
+        // Below the root, unallocated, and past the last inode.
+        (ENTRY_B, &[1], entry),
+        (ENTRY_B, &[9], entry),
+        (ENTRY_B, &[32], entry),
+        (
+            ENTRY_H,
+            &[8],
+            DirectoryFaults {
+                entry: Some(2),
+                ..SOUND_DIRECTORIES
+            },
+        ),
+        // A directory's type, no type, and an inode without a kind.
+        (ENTRY_B + 6, &[4], entry_type),
+        (ENTRY_B + 6, &[0], SOUND_DIRECTORIES),
+        (INODE_5, &[0xa4, 1], entry_type),
+        // A wild slot, and 2^32 bytes more: neither is looked at here.
+        (INODE_4 + 40, &[128], SOUND_DIRECTORIES),
+        (INODE_4 + 12, &[1], SOUND_DIRECTORIES),
+    ];
+    for (at, bytes, wanted) in cases {
+        let edits: [Edit; 1] = [(at, bytes)];
+        let faults = directories(rt.alloc(), Which::F, &edits, NOTHING)?;
+        assert_eq!(rt; faults, Some(wanted), "{bytes:?} at {at}");
+    }
+    Ok(())
+}
+
+/// A directory of two chunks, or of two file blocks, whose first entry `b` names an unallocated inode.
+/// Its second chunk is zeros, and so refused; then its entries aren't read. Where there is a second
+/// entry in its place, the fault of the first one counts.
+#[test]
+fn a_directory_is_judged_whole(rt: HostRuntime) -> Result<(), Fail> {
+    let torn = DirectoryFaults {
+        chunk: Some(4),
+        ..SOUND_DIRECTORIES
+    };
+    for (size, second, wanted) in [
+        ([0, 4], [0; 6], torn),
+        (
+            [0, 4],
+            [5, 0, 0, 0, 0, 2],
+            DirectoryFaults {
+                entry: Some(4),
+                ..SOUND_DIRECTORIES
+            },
+        ),
+        (
+            [0, 18],
+            [0; 6],
+            DirectoryFaults {
+                hole: Some(4),
+                ..torn
+            },
+        ),
+    ] {
+        let edits: [Edit; 4] = [
+            (INODE_4 + 8, &size),
+            (ENTRY_B, &[9]),
+            (35 * 1024 + 512, &second),
+            (35 * 1024 + 518, &[8, 1, b'c']),
+        ];
+        let faults = directories(rt.alloc(), Which::F, &edits, NOTHING)?;
+        assert_eq!(rt; faults, Some(wanted), "{size:?} bytes");
+    }
+    Ok(())
+}
+
+/// The inodes, the root's directory and `/d` are read; the group block and files aren't.
+#[test]
+fn blocks_of_directories_that_are_gone(rt: HostRuntime) -> Result<(), Fail> {
+    for (block, is_read) in [
+        (28, true),
+        (31, true),
+        (33, true),
+        (35, true),
+        (24, false),
+        (34, false),
+        (84, false),
+    ] {
+        let loss = Loss { block, fetch: 0 };
+        let faults = directories(rt.alloc(), Which::F, &[], loss)?;
+        assert_eq!(rt; faults.is_none(), is_read, "without {block}");
     }
     Ok(())
 }

@@ -25,9 +25,9 @@ pub returns-then-not-is_directory-clause-found : goal.returns-then-not-is_direct
 returns-then-not-is_directory-clause-found g c = λ could told v stands sizes so_far.
     directory_passed c.args.g.now v c.args.i _
     (λ holds h.
-        let there = sym (c.in-Some.ensures.found told v stands) ∙ c.in-Some-named.is in
-        let kind = (directory_is c.args.g.now v c.args.i holds c.in-Some-named.inode there h).0 in
-        let no : true ≡ false = sym (c.is_directory.ensures.1 kind) ∙ c.if-not-is_directory.true in cc)
+    let there = sym (c.in-Some.ensures.found told v stands) ∙ c.in-Some-named.is in
+    let kind = (directory_is c.args.g.now v c.args.i holds c.in-Some-named.inode there h).0 in
+    let no : true ≡ false = sym (c.is_directory.ensures.1 kind) ∙ c.if-not-is_directory.true in cc)
     so_far
 
 pub returns-then-not-is_directory-clause-fetched : goal.returns-then-not-is_directory-clause-fetched

@@ -13,7 +13,7 @@ pub scan_chunk-requires-clause-whole : goal.scan_chunk-requires-clause-whole
 scan_chunk-requires-clause-whole g c =
     let invariant = c.loop-i.invariant in
     let here : c.copy_from_slice.new.self ≡ take 512 (drop (c.loop-i.i * 512) c.args.levels.now.block) =
-        c.copy_from_slice.ensures.after ∙ rw (c.block.ensures, invariant.block) (chunk_bytes c.loop-i.i c.args.levels.now.block) in
+    c.copy_from_slice.ensures.after ∙ rw (c.block.ensures, invariant.block) (chunk_bytes c.loop-i.i c.args.levels.now.block) in
     rw here ((whole_here c.args.count c.loop-i.i c.args.levels.now.block c.loop-i-test.true invariant.whole).0)
 
 pub returns-then-not-scan_chunk-clause-fetched : goal.returns-then-not-scan_chunk-clause-fetched
@@ -27,7 +27,7 @@ loop-i-preserved g c =
     let so_far = invariant.keeps in
     let bytes = c.args.levels.now.block in
     let here : c.copy_from_slice.new.self ≡ take 512 (drop (c.loop-i.i * 512) c.args.levels.now.block) =
-        c.copy_from_slice.ensures.after ∙ rw (c.block.ensures, invariant.block) (chunk_bytes c.loop-i.i c.args.levels.now.block) in
+    c.copy_from_slice.ensures.after ∙ rw (c.block.ensures, invariant.block) (chunk_bytes c.loop-i.i c.args.levels.now.block) in
     record {
       keeps = keeps_both g.met.V.View.further c.args.view.now c.loop-i.view c.scan_chunk.new.view so_far c.scan_chunk.ensures.keeps;
       levels = c.scan_chunk.ensures.levels ∙ invariant.levels;
