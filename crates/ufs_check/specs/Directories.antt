@@ -1,5 +1,5 @@
 -- What is wrong with the directories of a volume, each of which is looked at by itself.
-use Rattle.std.specs.Prelude.{◌≡◌, ℕ, zero, suc, ◌/◌, ◌<◌, ◌||◌, ◌&&◌, Bool, true, false, List, Option, Some, None, Result, Ok, Err, Contains}
+use Rattle.std.specs.Prelude.{◌≡◌, ℕ, zero, suc, ◌/◌, ◌^◌, ◌<◌, ◌||◌, ◌&&◌, Bool, true, false, List, Option, Some, None, Result, Ok, Err, Contains}
 use Rattle.std.specs.List.{list_any}
 use Rattle.std.specs.Result.{is_ok}
 use Rattle.ufs_model.specs.Blocks.{Volume}
@@ -47,10 +47,15 @@ pub data IsFileRead (g : Geometry) (inode : Inode) (v : Volume) : ℕ → Type 0
   of_metadata : {block : ℕ} → IsMetadataBy Little g v block → IsFileRead g inode v block
   of_file : {block : ℕ} (n : ℕ) → n < block_count g inode → Contains ((block_of Little g inode n v).needs) block → IsFileRead g inode v block
 
+-- the same of an inode whose file blocks are looked at: it has fewer than 2^32 bytes
+pub record IsSmallRead (g : Geometry) (v : Volume) (block : ℕ) (inode : Inode) : Type 0 where
+  pub small : inode.size < 2 ^ 32
+  pub read : IsFileRead g inode v block
+
 -- a block that is read to look at the directories
 pub data IsDirectoryRead (g : Geometry) (v : Volume) : ℕ → Type 0 where
   by_metadata : {block : ℕ} → IsMetadataBy Little g v block → IsDirectoryRead g v block
-  by_directory : {block : ℕ} (i : ℕ) → IsDirectory Little g v i (λ inode. IsFileRead g inode v block) → IsDirectoryRead g v block
+  by_directory : {block : ℕ} (i : ℕ) → IsDirectory Little g v i (IsSmallRead g v block) → IsDirectoryRead g v block
 
 -- ---- one file block, of which this is read
 

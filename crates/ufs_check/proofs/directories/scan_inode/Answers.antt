@@ -1,7 +1,7 @@
-use Rattle.std.proofs.Common.{◌≡◌, ◌∙◌, true, false, sym}
+use Rattle.std.proofs.Common.{◌≡◌, ◌∙◌, ◌^◌, ◌<◌, true, false, sym, arith}
 use Rattle.ufs_model.specs.Metadata.{IsMetadataBy}
 use Rattle.ufs_model.specs.declared.numbers.Endian.TheVariants.{Little}
-use Rattle.ufs_check.specs.Directories.{IsDirectoryRead, IsFileRead}
+use Rattle.ufs_check.specs.Directories.{IsDirectoryRead, IsFileRead, IsSmallRead}
 use Rattle.ufs_check.specs.Directories.IsDirectoryRead.{by_directory, by_metadata}
 use Rattle.ufs_check.proofs.FaultLaws.{directory_is, directory_none, directory_passed, directory_there}
 use Rattle.ufs_check.proofs.PassLaws.{lost_wider, only_after, only_wider}
@@ -42,8 +42,9 @@ returns-in_default-scan_directory-clause-gone g c = λ could told v stands.
     let second = c.scan_directory.ensures.keeps in
     let there = sym (c.in-Some.ensures.found (second.told told) v stands) ∙ c.in-Some-named.is in
     let kind = c.is_directory.ensures.0 c.if-not-is_directory.false in
+    let small : c.in-Some-named.inode.size < 2 ^ 32 = omega arith in
     lost_wider _ (IsFileRead c.args.g.now c.in-Some-named.inode v) (IsDirectoryRead c.args.g.now v)
-    (λ block is. by_directory c.args.i (directory_there c.args.g.now v c.args.i (λ inode. IsFileRead c.args.g.now inode v block) c.in-Some-named.inode there kind is))
+    (λ block is. by_directory c.args.i (directory_there c.args.g.now v c.args.i (IsSmallRead c.args.g.now v block) c.in-Some-named.inode there kind (record { small = small; read = is })))
     (c.in_default-scan_directory.ensures.gone told v (first.stands v stands))
 
 pub returns-in_default-scan_directory-clause-fetched : goal.returns-in_default-scan_directory-clause-fetched
@@ -51,19 +52,21 @@ returns-in_default-scan_directory-clause-fetched g c =
     let first = c.read_named.ensures.keeps in
     let second = c.scan_directory.ensures.keeps in
     let kind = c.is_directory.ensures.0 c.if-not-is_directory.false in
+    let small : c.in-Some-named.inode.size < 2 ^ 32 = omega arith in
     only_after g.met.V.View.fetched_both first.stands second.told
     (only_wider (IsMetadataBy Little c.args.g.now) (IsDirectoryRead c.args.g.now) (λ told v stands block is. by_metadata is) c.read_named.ensures.fetched)
     c.scan_directory.ensures.fetched
-    (λ told v stands block is. by_directory c.args.i (directory_there c.args.g.now v c.args.i (λ inode. IsFileRead c.args.g.now inode v block) c.in-Some-named.inode
-    (sym (c.in-Some.ensures.found (second.told told) v stands) ∙ c.in-Some-named.is) kind is))
+    (λ told v stands block is. by_directory c.args.i (directory_there c.args.g.now v c.args.i (IsSmallRead c.args.g.now v block) c.in-Some-named.inode
+    (sym (c.in-Some.ensures.found (second.told told) v stands) ∙ c.in-Some-named.is) kind (record { small = small; read = is })))
 
 pub returns-clause-fetched : goal.returns-clause-fetched
 returns-clause-fetched g c =
     let first = c.read_named.ensures.keeps in
     let second = c.scan_directory.ensures.keeps in
     let kind = c.is_directory.ensures.0 c.if-not-is_directory.false in
+    let small : c.in-Some-named.inode.size < 2 ^ 32 = omega arith in
     only_after g.met.V.View.fetched_both first.stands second.told
     (only_wider (IsMetadataBy Little c.args.g.now) (IsDirectoryRead c.args.g.now) (λ told v stands block is. by_metadata is) c.read_named.ensures.fetched)
     c.scan_directory.ensures.fetched
-    (λ told v stands block is. by_directory c.args.i (directory_there c.args.g.now v c.args.i (λ inode. IsFileRead c.args.g.now inode v block) c.in-Some-named.inode
-    (sym (c.in-Some.ensures.found (second.told told) v stands) ∙ c.in-Some-named.is) kind is))
+    (λ told v stands block is. by_directory c.args.i (directory_there c.args.g.now v c.args.i (IsSmallRead c.args.g.now v block) c.in-Some-named.inode
+    (sym (c.in-Some.ensures.found (second.told told) v stands) ∙ c.in-Some-named.is) kind (record { small = small; read = is })))
