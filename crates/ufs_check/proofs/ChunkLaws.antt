@@ -6,7 +6,6 @@ use Rattle.std.specs.Option.{is_some}
 use Rattle.std.proofs.lemmas.List.{drop-drop}
 use Rattle.ufs_model.specs.Chunks.{fault_in}
 use Rattle.ufs_model.specs.Paths.{chunks_in}
-use Rattle.ufs_model.specs.declared.chunks.BadEntry.{BadEntry}
 use Rattle.ufs_model.specs.declared.numbers.Endian.TheVariants.{Little}
 use Rattle.ufs_check.specs.Entries.{is_refused}
 

@@ -1,12 +1,12 @@
 -- Looking at the file blocks of a directory, one after the other.
-use Rattle.std.proofs.Common.{◌≡◌, ◌∙◌, ℕ, suc, ◌+◌, ◌/◌, ◌<◌, Bool, true, false, List, [], ◌∷◌, ◌++◌, Option, Some, None, Result, Ok, Err, refl, sym, ap, subst, add-one}
-use Rattle.std.specs.Prelude.{◌||◌, ◌&&◌, Contains}
+use Rattle.std.proofs.Common.{◌≡◌, ◌∙◌, ℕ, suc, ◌+◌, ◌/◌, Bool, true, false, List, [], ◌∷◌, ◌++◌, Option, Some, None, Result, Ok, Err, refl, sym, ap, subst, add-one}
+use Rattle.std.specs.Prelude.{◌||◌, ◌&&◌}
 use Rattle.std.specs.List.{list_any}
 use Rattle.std.specs.Option.{is_some, ok_or}
 use Rattle.std.specs.Result.{is_ok}
 use Rattle.std.proofs.lemmas.List.Folds.{list_any-append}
 use Rattle.ufs_model.specs.Blocks.{Reading, Volume, bind, known}
-use Rattle.ufs_model.specs.Chunks.{DirEntry, chunk_in, entries_in, fault_in, used_entries}
+use Rattle.ufs_model.specs.Chunks.{DirEntry, chunk_in, entries_in, fault_in}
 use Rattle.ufs_model.specs.Paths.{block_of, bytes_in_block, chunks_in, chunks_of, entries_before, entries_then, entries_through}
 use Rattle.ufs_model.specs.Readings.{and_then, on_ok}
 use Rattle.ufs_model.specs.Superblocks.{unless_bad}
@@ -17,7 +17,7 @@ use Rattle.ufs_model.specs.declared.numbers.Endian.TheVariants.{Little}
 use Rattle.ufs_model.specs.declared.reads.BadRead.TheVariants.{Hole as BadHole, Chunk as BadChunk}
 use Rattle.ufs_model.specs.declared.reads.PathRefusal.{PathRefusal}
 use Rattle.ufs_model.specs.declared.reads.PathRefusal.TheVariants.{Bad}
-use Rattle.ufs_check.specs.Directories.{SaysEntries, ScannedBelow, ScansBlock, any_below, chunks_said, entries_said, hole_at, hole_said, refused_at, refused_said}
+use Rattle.ufs_check.specs.Directories.{SaysEntries, ScannedBelow, ScansBlock, chunks_said, entries_said, hole_at, hole_said, refused_at, refused_said}
 use Rattle.ufs_check.specs.Entries.{AddsEntries, entries_all, is_mistyped, is_refused, names_none}
 use Rattle.ufs_check.specs.declared.directories.Scan.{Scan}
 use Rattle.ufs_check.specs.declared.entries.EntryFaults.{EntryFaults}

@@ -1,11 +1,11 @@
 -- Looking at entries, one after the other.
-use Rattle.std.proofs.Common.{◌≡◌, ◌∙◌, ℕ, Bool, true, false, List, [], ◌∷◌, ◌++◌, Option, refl, sym, ap, subst}
+use Rattle.std.proofs.Common.{◌≡◌, ◌∙◌, Bool, true, false, List, [], ◌∷◌, ◌++◌, Option, refl, sym, ap}
 use Rattle.std.specs.Prelude.{◌||◌, filter, if◌then◌else◌}
 use Rattle.std.specs.List.{list_any}
 use Rattle.std.specs.Option.{is_none}
 use Rattle.std.proofs.lemmas.List.Folds.{list_any-append}
 use Rattle.ufs_model.specs.Blocks.{Volume}
-use Rattle.ufs_model.specs.Chunks.{DirEntry, entries_in, is_used_entry, used_entries}
+use Rattle.ufs_model.specs.Chunks.{DirEntry, is_used_entry, used_entries}
 use Rattle.ufs_model.specs.Malformations.{inode_at}
 use Rattle.ufs_model.specs.declared.geometries.Geometry.{Geometry}
 use Rattle.ufs_model.specs.declared.inodes.Inode.{Inode}

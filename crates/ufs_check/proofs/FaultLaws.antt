@@ -1,5 +1,5 @@
 -- What is found in a directory tells what is wrong with it.
-use Rattle.std.proofs.Common.{◌≡◌, ◌≢◌, ◌∙◌, ℕ, zero, suc, ◌+◌, ◌*◌, ◌/◌, ◌%◌, ◌^◌, ◌<◌, ◌≤◌, inl, inr, ◌⊎◌, length, Bool, true, false, List, [], ◌∷◌, Option, Some, None, Result, Ok, Err, refl, sym, ap, subst, arith}
+use Rattle.std.proofs.Common.{◌≡◌, ◌≢◌, ◌∙◌, ℕ, zero, suc, ◌+◌, ◌*◌, ◌%◌, ◌^◌, ◌<◌, ◌≤◌, inl, inr, ◌⊎◌, length, Bool, true, false, List, Option, Some, None, Result, Ok, Err, refl, sym, ap, subst, arith}
 use Rattle.std.specs.Prelude.{◌==◌, ◌||◌, ◌&&◌, Contains, MatchOption, not, if◌then◌else◌, slice_get, nat_le, nat_lt}
 use Rattle.std.specs.Bool.{Decides}
 use Rattle.std.specs.List.{list_any}
@@ -8,11 +8,11 @@ use Rattle.std.proofs.lemmas.Bool.{and_parts, cases_order, or_cases, or_left, or
 use Rattle.std.proofs.lemmas.Bool.Decides.{Decides-and, Decides-eqb, Decides-like, Decides-not, Decides-or, nat_tests}
 use Rattle.std.proofs.lemmas.List.Folds.{Any-from_list_any, list_any-from_Any}
 use Rattle.std.proofs.lemmas.Option.{get_or_from_slice_get, slice_get_read, slice_get_within}
-use Rattle.ufs_model.specs.Blocks.{Volume, bind, known}
+use Rattle.ufs_model.specs.Blocks.{Volume, bind}
 use Rattle.ufs_model.specs.Chunks.{DirEntry, fault_in}
 use Rattle.ufs_model.specs.Inodes.{block_count, entry_type_of, has_pointers, inode_of, kind_of}
-use Rattle.ufs_model.specs.Malformations.{HasBadChunk, HasBadEntry, HasBadType, HasEntries, HasHole, IsBad, IsDirectory, IsInode, IsPointed, inode_at}
-use Rattle.ufs_model.specs.Paths.{block_of, bytes_at, bytes_in_block, chunk_refusal, chunks_of, directory_refusal, entries_before, entries_of, is_directory, refused_first, size_refusal, unless_refused}
+use Rattle.ufs_model.specs.Malformations.{HasBadChunk, HasBadEntry, HasBadType, HasEntries, HasHole, IsBad, IsDirectory, IsInode, inode_at}
+use Rattle.ufs_model.specs.Paths.{block_of, bytes_at, chunks_of, directory_refusal, entries_before, entries_of}
 use Rattle.ufs_model.specs.Pointers.{file_block_of}
 use Rattle.ufs_model.specs.declared.chunks.BadEntry.{BadEntry}
 use Rattle.ufs_model.specs.declared.geometries.Geometry.{Geometry}
@@ -25,7 +25,7 @@ use Rattle.ufs_model.specs.declared.pointers.Address.TheVariants.{Hole, Wild, At
 use Rattle.ufs_model.specs.declared.reads.BadRead.TheVariants.{Chunk as BadChunk}
 use Rattle.ufs_model.specs.declared.reads.PathRefusal.{PathRefusal}
 use Rattle.ufs_model.specs.declared.reads.PathRefusal.TheVariants.{Bad}
-use Rattle.ufs_check.specs.Directories.{AreDirectoryFaults, AreDirectoryFaultsBelow, SaysEntries, any_below, chunks_said, hole_at, hole_said, refused_at, refused_said}
+use Rattle.ufs_check.specs.Directories.{AreDirectoryFaults, AreDirectoryFaultsBelow, SaysEntries, any_below, hole_at, hole_said, refused_at, refused_said}
 use Rattle.ufs_check.specs.Entries.{is_mistyped, is_refused, mistyped_in, names_none, type_differs}
 use Rattle.ufs_check.specs.declared.entries.EntryFaults.{EntryFaults}
 use Rattle.ufs_check.specs.declared.verdicts.DirectoryFaults.{DirectoryFaults}

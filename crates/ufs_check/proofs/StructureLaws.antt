@@ -1,14 +1,14 @@
 -- The blocks that are read to look at the directories have the volume's structure.
-use Rattle.std.proofs.Common.{◌≡◌, ◌∙◌, ℕ, zero, suc, ◌+◌, ◌-◌, ◌*◌, ◌/◌, ◌%◌, ◌^◌, ◌<◌, ◌≤◌, ◌⊎◌, lit<, inl, inr, length, get_or, take, drop, Bool, true, false, List, [], ◌∷◌, ◌++◌, Option, Some, None, Result, Ok, Err, refl, sym, ap, subst, arith}
-use Rattle.std.specs.Prelude.{◌==◌, ◌&&◌, Contains, MatchOption, if◌then◌else◌, nat_le, nat_lt, slice_get}
-use Rattle.std.proofs.lemmas.Bool.{and_from, cases_order}
+use Rattle.std.proofs.Common.{◌≡◌, ◌∙◌, ℕ, zero, suc, ◌+◌, ◌-◌, ◌*◌, ◌/◌, ◌%◌, ◌^◌, ◌<◌, ◌≤◌, ◌⊎◌, lit<, inl, inr, length, get_or, Bool, true, false, List, [], ◌∷◌, ◌++◌, Option, Some, None, Ok, refl, sym, ap, subst, arith}
+use Rattle.std.specs.Prelude.{◌==◌, Contains, MatchOption, if◌then◌else◌, nat_le, nat_lt, slice_get}
+use Rattle.std.proofs.lemmas.Bool.{cases_order}
 use Rattle.std.proofs.lemmas.Bool.Decides.{nat_tests}
 use Rattle.std.proofs.lemmas.List.{get_or-append-add, get_or-drop, get_or_append_left, length-append}
 use Rattle.std.proofs.lemmas.List.Elements.{Contains-append_cases}
 use Rattle.std.proofs.lemmas.Option.{get_or_from_slice_get, slice_get_within}
 use native.Mathlib.Numerals.{unary_clauses}
 use Rattle.std.proofs.Math.Nat.{div-lt_iff_lt-mul, mul-le-mul, mul-le-mul_right, one-mul, pow-suc}
-use Rattle.ufs_model.specs.Blocks.{Consulted, Volume, area_of, bind, block_at, consult, known}
+use Rattle.ufs_model.specs.Blocks.{Consulted, Volume, area_of, bind, block_at}
 use Rattle.ufs_model.specs.Claims.{IsClaim, fragments_at, fragments_from, level_of, pointer_fragments, slot_fragments, slot_fragments_in, targets}
 use Rattle.ufs_model.specs.Claims.IsClaim.{by_pointer, by_slot}
 use Rattle.ufs_model.specs.Geometries.{IsGeometry, is_block_size, is_fragment_count}
@@ -57,16 +57,16 @@ unfolding area_of bind
 area_at l a zero q r v whole low inside = absurd (omega arith)
 area_at l a (suc k) q r v whole low inside = elim (cases_order q k) [
   | inl same ↦
-    let long = area_length l a k v whole in
-    let place : q * l + r ≡ length ((area_of l a k v).value) + r = rw (long, same) refl in
-    rw (place, same) (get_or-append-add ((area_of l a k v).value) (block_at l v (a + k)) r 0)
+      let long = area_length l a k v whole in
+      let place : q * l + r ≡ length ((area_of l a k v).value) + r = rw (long, same) refl in
+      rw (place, same) (get_or-append-add ((area_of l a k v).value) (block_at l v (a + k)) r 0)
   | inr other ↦ elim other [
     | inl less ↦
-      let long = area_length l a k v whole in
-      let most : suc q * l ≤ k * l = mul-le-mul_right l less in
-      let next : suc q * l ≡ q * l + l = omega arith in
-      let before : q * l + r < length ((area_of l a k v).value) = omega arith in
-      get_or_append_left ((area_of l a k v).value) (block_at l v (a + k)) 0 (q * l + r) before ∙ area_at l a k q r v whole less inside
+        let long = area_length l a k v whole in
+        let most : suc q * l ≤ k * l = mul-le-mul_right l less in
+        let next : suc q * l ≡ q * l + l = omega arith in
+        let before : q * l + r < length ((area_of l a k v).value) = omega arith in
+        get_or_append_left ((area_of l a k v).value) (block_at l v (a + k)) 0 (q * l + r) before ∙ area_at l a k q r v whole less inside
     | inr greater ↦ absurd (omega arith)
   ]
 ]
@@ -75,8 +75,20 @@ area_at l a (suc k) q r v whole low inside = elim (cases_order q k) [
 same_number : (xs ys : List ℕ) (i j : ℕ) → ((m : ℕ) → m < 4 → get_or xs (i + m) 0 ≡ get_or ys (j + m) 0) → number_at Little 4 xs i ≡ number_at Little 4 ys j
 unfolding number_at
 same_number xs ys i j same =
-    rw (get_or-drop i xs 0 0, get_or-drop i xs 1 0, get_or-drop i xs 2 0, get_or-drop i xs 3 0, same 0 (omega arith), same 1 (omega arith), same 2 (omega arith), same 3 (omega arith),
-    get_or-drop j ys 0 0, get_or-drop j ys 1 0, get_or-drop j ys 2 0, get_or-drop j ys 3 0) refl
+    rw (
+      get_or-drop i xs 0 0,
+      get_or-drop i xs 1 0,
+      get_or-drop i xs 2 0,
+      get_or-drop i xs 3 0,
+      same 0 (omega arith),
+      same 1 (omega arith),
+      same 2 (omega arith),
+      same 3 (omega arith),
+      get_or-drop j ys 0 0,
+      get_or-drop j ys 1 0,
+      get_or-drop j ys 2 0,
+      get_or-drop j ys 3 0,
+    ) refl
 
 scaled : (l f q : ℕ) → l ≡ 4 * f → q * l ≡ 4 * (f * q)
 scaled l f q is = rw is (omega arith)
@@ -183,7 +195,7 @@ through_reached g v i level p a b j source whole fours some low one is =
     let inside : p % (g.fsize / 4) < g.fsize / 4 = omega arith in
     let same = pointer_at_fragment g.fsize a g.frag p v whole fours some low in
     let are : targets Little g v (Pointer (a + p / (g.fsize / 4)) (suc level) (p % (g.fsize / 4))) ≡ fragments_at (At b j) =
-        pointer_targets g v f (suc level) at inside ∙ ap (λ pointer. fragments_at (address g pointer g.frag)) (sym same) ∙ ap fragments_at is in
+    pointer_targets g v f (suc level) at inside ∙ ap (λ pointer. fragments_at (address g pointer g.frag)) (sym same) ∙ ap fragments_at is in
     let upper : slice_get (targets Little g v source) (p / (g.fsize / 4)) ≡ Some (a + p / (g.fsize / 4)) = rw one.are (fragments_get a g.frag (p / (g.fsize / 4)) low) in
     record {
       first = one.first + (p / (g.fsize / 4) * (g.fsize / 4) + p % (g.fsize / 4)) * g.nindir ^ (suc level - 1);
@@ -205,8 +217,10 @@ through_claimed g v i level p (At a k) whole fours some low one =
     let reached = one.reached a k refl in
     let upper = subst (λ k. IsReached g v i (suc level) reached.0 (At a k)) same reached.1 in
     record {
-      reached = λ b j is. (Pointer (a + p / (g.fsize / 4)) (suc level) (p % (g.fsize / 4)),
-          through_reached g v i level p a b j reached.0 whole fours some low upper (subst (λ k. address g (pointer_in Little ((area_of g.fsize a k v).value) p) g.frag ≡ At b j) same is));
+      reached = λ b j is. (
+        Pointer (a + p / (g.fsize / 4)) (suc level) (p % (g.fsize / 4)),
+        through_reached g v i level p a b j reached.0 whole fours some low upper (subst (λ k. address g (pointer_in Little ((area_of g.fsize a k v).value) p) g.frag ≡ At b j) same is),
+      );
       whole = λ above b j is. address_span g (pointer_in Little ((area_of g.fsize a k v).value) p) g.frag b j is;
     }
 
@@ -271,7 +285,7 @@ place_below g p is low =
 
 bounds_far : (nindir m : ℕ) (one two : Bool) → 1024 ≤ nindir → m < 2 ^ 30 → nat_lt m nindir ≡ one → nat_lt (m - nindir) (nindir ^ 2) ≡ two
     → IsChain nindir (if one then One m else if two then Two ((m - nindir) / nindir) ((m - nindir) % nindir)
-      else Three ((m - nindir - nindir ^ 2) / nindir ^ 2) ((m - nindir - nindir ^ 2) / nindir % nindir) ((m - nindir - nindir ^ 2) % nindir))
+    else Three ((m - nindir - nindir ^ 2) / nindir ^ 2) ((m - nindir - nindir ^ 2) / nindir % nindir) ((m - nindir - nindir ^ 2) % nindir))
 bounds_far nindir m true two large small is further = grind (arith, nat_tests)
 bounds_far nindir m false true large small is further =
     let low : m - nindir < nindir ^ 2 = grind (arith, nat_tests) in
@@ -333,13 +347,13 @@ chain_by g v i inode (Three p q r) owner low =
       claimed = through_claimed g v i 0 r ((through Little g q ((through Little g p (slot_address g inode 14) v).value) v).value) owner.whole quarter.0 quarter.1 (place_below g r owner.geometry low.2) one;
       needs = λ b h. elim (Contains-append_cases ((through Little g p (slot_address g inode 14) v).needs)
           ((through Little g q ((through Little g p (slot_address g inode 14) v).value) v).needs ++ (through Little g r ((through Little g q ((through Little g p (slot_address g inode 14) v).value) v).value) v).needs) b h) [
-        | inl first ↦ through_needs g v i 2 p b (slot_address g inode 14) top first
-        | inr others ↦ elim (Contains-append_cases ((through Little g q ((through Little g p (slot_address g inode 14) v).value) v).needs)
-            ((through Little g r ((through Little g q ((through Little g p (slot_address g inode 14) v).value) v).value) v).needs) b others) [
-          | inl second ↦ through_needs g v i 1 q b ((through Little g p (slot_address g inode 14) v).value) two second
-          | inr third ↦ through_needs g v i 0 r b ((through Little g q ((through Little g p (slot_address g inode 14) v).value) v).value) one third
-        ]
-      ];
+            | inl first ↦ through_needs g v i 2 p b (slot_address g inode 14) top first
+            | inr others ↦ elim (Contains-append_cases ((through Little g q ((through Little g p (slot_address g inode 14) v).value) v).needs)
+                ((through Little g r ((through Little g q ((through Little g p (slot_address g inode 14) v).value) v).value) v).needs) b others) [
+                  | inl second ↦ through_needs g v i 1 q b ((through Little g p (slot_address g inode 14) v).value) two second
+                  | inr third ↦ through_needs g v i 0 r b ((through Little g q ((through Little g p (slot_address g inode 14) v).value) v).value) one third
+                ]
+          ];
     }
 
 file_block_chained : (g : Geometry) (v : Volume) (i n : ℕ) (inode : Inode) → IsOwner g v i inode → n < 2 ^ 30 → IsChained g v i (file_block_of Little g inode n v)
@@ -379,10 +393,10 @@ file_structure l m g v i b inode has owner directory small (of_file n low needs)
     elim (block_needs g inode n b v needs) [
       | inl upper ↦ of_structure_metadata (by_geometry g has (chained.needs b upper))
       | inr bytes ↦
-        let here = bytes_need g v b ((file_block_of Little g inode n v).value) bytes in
-        let reached = chained.claimed.reached here.start here.count here.are in
-        let claim = reached.1.claims b here.here in
-        of_directory g i (reached.1.first) reached.0 has directory claim reached.1.owner
+          let here = bytes_need g v b ((file_block_of Little g inode n v).value) bytes in
+          let reached = chained.claimed.reached here.start here.count here.are in
+          let claim = reached.1.claims b here.here in
+          of_directory g i (reached.1.first) reached.0 has directory claim reached.1.owner
     ]
 
 directory_structure : (l m : ℕ) (g : Geometry) (v : Volume) (i b : ℕ) (found : Option Inode) → (geometry_of Little l m v).value ≡ Ok g → IsGeometry g → HasBlocks g.fsize v → inode_at Little g v i ≡ found

@@ -6,25 +6,24 @@ ghost use Rattle.ufs_model.specs.Blocks.{Volume};
 ghost use Rattle.ufs_model.specs.Geometries.{IsGeometry, IsGeometryOn};
 ghost use Rattle.ufs_model.specs.Inodes.{block_count, kind_of};
 ghost use Rattle.ufs_model.specs.Malformations.{inode_at};
-ghost use Rattle.ufs_model.specs.Metadata.{IsMetadataBy};
+ghost use Rattle.ufs_model.specs.Metadata.{IsMetadataBy, IsStructure};
 ghost use Rattle.ufs_model.specs.Paths.{block_of, bytes_in_block};
+ghost use Rattle.ufs_model.specs.Superblocks.{geometry_of};
 ghost use Rattle.ufs_model.specs.declared.geometries.Geometry.{Geometry};
 ghost use Rattle.ufs_model.specs.declared.inodes.Kind.TheVariants.{Directory};
 ghost use Rattle.ufs_model.specs.declared.numbers.Endian.TheVariants.{Little};
 ghost use Rattle.ufs_check.specs.Directories.{AreDirectoryFaults, AreDirectoryFaultsBelow, HasFilesizes, IsDirectoryRead, IsFileRead, ScannedBelow, ScansBlock};
-ghost use Rattle.ufs_check.specs.Passes.{FetchesOnly, LosesOne};
+ghost use Rattle.ufs_check.specs.Passes.{FetchesOnly, HasBlocks, LosesOne};
 
-use crate::entries::{EntryFaults, ROOT, has_refused, read_named, scan_chunks};
+use crate::entries::{EntryFaults, has_refused, read_named, scan_chunks};
 use crate::file_blocks::{FileBlock, block_count, bytes_in_block, read_block};
+use crate::inodes::{ROOT, TOO_LONG};
 use crate::notes::note;
 use crate::verdicts::DirectoryFaults;
 use dg_io::View;
 use ufs_dir::CHUNK_BYTES;
 use ufs_model::{Geometry, Inode, Kind};
 use ufs_pointer::Levels;
-
-/// Files of so many bytes are malformed, and longer ones.
-const TOO_LONG: u64 = 1 << 32;
 
 /// What is found in a directory.
 #[derive(Clone, Copy)]
@@ -249,3 +248,10 @@ pub fn check_directories<V: View>(
     }
     Some(faults)
 }
+
+/// What is read to look at the directories of a volume has its structure, where each block has as many
+/// bytes as a fragment.
+pub fn directories_are_structure()
+    ensures { (l n : ℕ) (g : Geometry) (v : Volume) (block : ℕ) → (geometry_of Little l n v).value ≡ Ok g → IsGeometry g → HasBlocks g.fsize v
+        → IsDirectoryRead g v block → IsStructure Little l n v block }
+{}

@@ -15,17 +15,12 @@ ghost use Rattle.ufs_model.specs.declared.numbers.Endian.TheVariants.{Little};
 ghost use Rattle.ufs_check.specs.Entries.{AddsEntries, entries_all, is_refused, mistyped_in};
 ghost use Rattle.ufs_check.specs.Passes.{FetchesOnly, LosesOne};
 
+use crate::inodes::{INODE_BYTES, ROOT};
 use dg_io::View;
 use ufs_dir::{CHUNK_BYTES, Entries, Entry, EntryStep, check};
 use ufs_inode::{place_of, read_inode};
 use ufs_model::{Geometry, Inode, Kind};
 use ufs_pointer::Levels;
-
-/// The inode of the root (`ROOTINO`), below which none is used.
-pub const ROOT: u32 = 2;
-
-/// Bytes of an inode (`struct dinode`).
-const INODE_BYTES: usize = 128;
 
 /// What is wrong with some entries of a directory.
 #[derive(Clone, Copy)]

@@ -21,13 +21,13 @@ use ufs_model::{Geometry, Inode, Kind};
 use ufs_pointer::Levels;
 
 /// The inode of the root (`ROOTINO`), below which none is used.
-const ROOT: u32 = 2;
+pub const ROOT: u32 = 2;
 
 /// Bytes of an inode (`struct dinode`).
-const INODE_BYTES: usize = 128;
+pub const INODE_BYTES: usize = 128;
 
 /// Files of so many bytes are malformed, and longer ones.
-const TOO_LONG: u64 = 1 << 32;
+pub const TOO_LONG: u64 = 1 << 32;
 
 /// Notes what is wrong with inode `i`, which has pointers, of the kinds that only such inodes have.
 fn note_pointed(g: &Geometry, i: u32, inode: &Inode, faults: &mut InodeFaults)

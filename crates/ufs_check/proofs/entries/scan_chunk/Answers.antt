@@ -1,4 +1,4 @@
-use Rattle.std.proofs.Common.{◌≡◌, ◌∙◌, ◌++◌, [], ◌∷◌, sym, ap}
+use Rattle.std.proofs.Common.{◌∙◌, [], ◌∷◌, sym, ap}
 use Rattle.dg_io.specs.ViewLaws.{keeps_both}
 use Rattle.ufs_dir.specs.Steps.{entry_of}
 use Rattle.ufs_model.specs.Chunks.{entries_in, used_entries}

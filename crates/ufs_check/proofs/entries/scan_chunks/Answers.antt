@@ -1,6 +1,6 @@
-use Rattle.std.proofs.Common.{◌≡◌, ◌∙◌, ◌++◌, ◌+◌, ◌-◌, ◌*◌, [], ◌∷◌, take, drop, sym, ap, None}
+use Rattle.std.proofs.Common.{◌≡◌, ◌∙◌, ◌++◌, ◌+◌, ◌-◌, ◌*◌, take, drop, sym, ap}
 use Rattle.dg_io.specs.ViewLaws.{keeps_both}
-use Rattle.ufs_model.specs.Chunks.{entries_in, fault_in, used_entries}
+use Rattle.ufs_model.specs.Chunks.{entries_in, used_entries}
 use Rattle.ufs_model.specs.Paths.{chunks_in}
 use Rattle.ufs_model.specs.declared.numbers.Endian.TheVariants.{Little}
 use Rattle.ufs_check.specs.Entries.{entries_all}

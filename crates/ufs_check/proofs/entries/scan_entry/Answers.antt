@@ -1,4 +1,4 @@
-use Rattle.std.proofs.Common.{◌≡◌, ◌∙◌, sym}
+use Rattle.std.proofs.Common.{◌∙◌, sym}
 use Rattle.ufs_dir.specs.Steps.{entry_of}
 use Rattle.ufs_check.proofs.EntryLaws.{adds_one}
 use Rattle.ufs_check.proofs.entries.scan_entry.Goals as goal

@@ -1,4 +1,3 @@
-use Rattle.std.proofs.Common.{sym}
 use Rattle.ufs_check.proofs.BlockLaws.{fetches_bytes, fetches_no_bytes}
 use Rattle.ufs_check.proofs.file_blocks.read_run.Goals as goal
 
