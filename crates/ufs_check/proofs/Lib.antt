@@ -1,0 +1,11 @@
+pub mod LeastLaws
+pub mod PassLaws
+pub mod GroupLaws
+pub mod InodeLaws
+pub mod ChunkLaws
+pub mod EntryLaws
+pub mod Sizes
+pub mod BlockLaws
+pub mod DirectoryLaws
+pub mod FaultLaws
+pub mod StructureLaws
