@@ -1,0 +1,4 @@
+pub mod LeastLaws
+pub mod PassLaws
+pub mod GroupLaws
+pub mod InodeLaws

@@ -1,0 +1,4 @@
+pub mod Least
+pub mod Passes
+pub mod Groups
+pub mod Inodes

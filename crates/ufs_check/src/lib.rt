@@ -1,0 +1,17 @@
+//! The first malformation of a UFS1 volume, from a view of its blocks some of which may be gone.
+//!
+//! A pass goes over one kind of structure, each block of which it reads once. It keeps the least number
+//! of each kind of fault that it looks for.
+#![tactic(auto)]
+
+mod groups;
+mod inodes;
+mod notes;
+mod slots;
+#[cfg(test)]
+mod tests;
+mod verdicts;
+
+pub use crate::verdicts::Verdict;
+pub use ufs_model::{BadKind, BadSuper, Geometry};
+pub use ufs_pointer::Levels;

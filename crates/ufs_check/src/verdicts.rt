@@ -1,0 +1,40 @@
+use ufs_model::BadKind;
+
+/// What a check of a volume finds.
+#[derive(Clone, Copy, Debug, PartialEq, Eq)]
+pub enum Verdict {
+    /// No malformation.
+    Sound,
+    /// The first malformation: its kind, and the least number of which it is.
+    Malformed(BadKind, u32),
+    /// A block with the volume's structure is gone.
+    Gone,
+}
+
+/// What is wrong with group blocks: of each kind the least group.
+#[derive(Clone, Copy, Debug, PartialEq, Eq)]
+pub struct GroupFaults {
+    /// It has another magic number, or is another group's.
+    pub magic: Option<u32>,
+    /// It counts its fragments wrong, or its maps don't fit.
+    pub map: Option<u32>,
+}
+
+/// What is wrong with inodes: of each kind the least inode.
+#[derive(Clone, Copy, Debug, PartialEq, Eq)]
+pub struct InodeFaults {
+    /// It has an unknown kind.
+    pub wrong_type: Option<u32>,
+    /// It has pointers, and 2^32 bytes or more.
+    pub filesize: Option<u32>,
+    /// It has a slot that isn't 0 and reaches no block of the file.
+    pub past: Option<u32>,
+    /// It has a slot to fragments that aren't all data of one group.
+    pub wild: Option<u32>,
+    /// It has a slot to a whole file block that doesn't begin at a multiple of its fragments.
+    pub align: Option<u32>,
+    /// Its short last block crosses from one whole file block into the next.
+    pub run: Option<u32>,
+    /// It is marked unused.
+    pub unused: Option<u32>,
+}
