@@ -1,0 +1,269 @@
+-- What a change of the run of one source does to a kept table.
+use Rattle.std.proofs.Common.{◌≡◌, ℕ, suc, ◌+◌, ◌^◌, ◌<◌, ◌≤◌, ◌⊎◌, ◌↔◌, ◌∙◌, inl, inr, List, [], Bool, true, false, Contains, Option, Some, None, IfSome, length, refl, sym, ap, subst, arith, Decides}
+use Rattle.std.proofs.lemmas.Bool.{cases_eq, false≢true}
+use Rattle.ufs_model.specs.Claims.{fragments_from}
+use Rattle.ufs_model.specs.Geometries.{IsGeometry}
+use Rattle.ufs_model.specs.declared.geometries.Geometry.{Geometry}
+use Rattle.dg_claims.proofs.ListLaws.{contains_none}
+use Rattle.dg_claims.proofs.MarkLaws.{same_place_decides}
+use Rattle.dg_claims.proofs.RunLaws.{contains_from, contains_run, fragments_so_far}
+use Rattle.dg_claims.specs.Kept.{IsKept, IsRun, IsSource, KeptClaims, kept_of, run_so_far, size_in}
+use Rattle.dg_claims.specs.Marks.{AddsMark, DropsMark, IsMarks, SameMarks, Unmarks, marked_on, same_place}
+use Rattle.dg_claims.specs.Runs.{run_at, run_fragments}
+use Rattle.dg_claims.specs.Tables.{IsOnce}
+use Rattle.dg_claims.specs.declared.claims.Claims.TheInside.{Inside}
+use Rattle.dg_claims.specs.declared.marks.Marks.{Marks}
+use Rattle.dg_claims.specs.declared.places.Place.{Place}
+use Rattle.dg_claims.specs.declared.runs.Run.{Run}
+use Rattle.dg_claims.specs.declared.runs.Runs.{Runs}
+
+decided : {P : Type 0} (b : Bool) → Decides b P → P ⊎ (P → ⊥)
+decided true d = inl (d.0 refl)
+decided false d = inr (λ p. false≢true (d.1 p))
+
+pub place_cases : (one other : Place) → (one ≡ other) ⊎ (one ≡ other → ⊥)
+place_cases one other = decided (same_place one other) (same_place_decides one other)
+
+-- nothing is claimed
+pub empty_kept : (g : Option Geometry) (runs : Runs) (marks : Marks) → IfSome g IsGeometry → size_in g < 2 ^ 32 → length marks.first.items ≡ size_in g
+    → ((place : Place) → run_at runs.map.entries place ≡ None) → ((fragment : ℕ) → marked_on marks fragment ≡ []) → IsKept (record { geometry = g; runs = runs; marks = marks })
+empty_kept g runs marks is fits room none bare = record {
+  geometry = is;
+  fits = fits;
+  room = room;
+  marks = record {
+    once = λ fragment. subst (λ (xs : List Place). IsOnce xs) (sym (bare fragment)) tt;
+    few = λ fragment. subst (λ xs. length xs < 2 ^ 32) (sym (bare fragment)) (omega arith);
+  };
+  runs = λ place. subst (λ run. IfSome run (λ r. IsSource g place × IsRun (size_in g) r)) (sym (none place)) tt;
+  marked = λ fragment place. (
+    λ has. absurd (contains_none place (subst (λ xs. Contains xs place) (bare fragment) has)),
+    λ has. absurd (contains_none fragment (subst (λ run. Contains (run_fragments run) fragment) (none place) has)),
+  );
+}
+
+-- the run of one source becomes another
+pub record Remakes (old new : Inside) (place : Place) : Type 0 where
+  pub geometry : new.geometry ≡ old.geometry
+  pub marks : IsMarks new.marks
+  pub room : length new.marks.first.items ≡ length old.marks.first.items
+  pub others : (other : Place) → (other ≡ place → ⊥) → run_at new.runs.map.entries other ≡ run_at old.runs.map.entries other
+  pub run : IfSome (run_at new.runs.map.entries place) (λ run. IsSource old.geometry place × IsRun (size_in old.geometry) run)
+  pub marked : (fragment : ℕ) (other : Place) → (other ≡ place → ⊥) → Contains (marked_on new.marks fragment) other ↔ Contains (marked_on old.marks fragment) other
+  pub here : (fragment : ℕ) → Contains (marked_on new.marks fragment) place ↔ Contains (run_fragments (run_at new.runs.map.entries place)) fragment
+
+pub remade : (old new : Inside) (place : Place) → IsKept old → Remakes old new place → IsKept new
+remade old new place is made = record {
+  geometry = subst (λ g. IfSome g IsGeometry) (sym made.geometry) is.geometry;
+  fits = subst (λ g. size_in g < 2 ^ 32) (sym made.geometry) is.fits;
+  room = made.room ∙ is.room ∙ ap size_in (sym made.geometry);
+  marks = made.marks;
+  runs = λ other. subst (λ g. IfSome (run_at new.runs.map.entries other) (λ run. IsSource g other × IsRun (size_in g) run)) (sym made.geometry) (elim (place_cases other place) [
+    | inl same ↦ subst (λ p. IfSome (run_at new.runs.map.entries p) (λ run. IsSource old.geometry p × IsRun (size_in old.geometry) run)) (sym same) made.run
+    | inr apart ↦ subst (λ r. IfSome r (λ run. IsSource old.geometry other × IsRun (size_in old.geometry) run)) (sym (made.others other apart)) (is.runs other)
+  ]);
+  marked = λ fragment other. elim (place_cases other place) [
+    | inl same ↦ subst (λ p. Contains (marked_on new.marks fragment) p ↔ Contains (run_fragments (run_at new.runs.map.entries p)) fragment) (sym same) (made.here fragment)
+    | inr apart ↦
+        let marks = made.marked fragment other apart in
+        let was = is.marked fragment other in
+        let same = made.others other apart in (
+          λ has. subst (λ run. Contains (run_fragments run) fragment) (sym same) (was.0 (marks.0 has)),
+          λ has. marks.1 (was.1 (subst (λ run. Contains (run_fragments run) fragment) same has)),
+        )
+  ];
+}
+
+-- ---- a run that grows
+
+-- what a source has claimed so far
+here_so_far : (old : Inside) (place : Place) (first done : ℕ) → IsKept old → run_at old.runs.map.entries place ≡ run_so_far first done
+    → (fragment : ℕ) → Contains (marked_on old.marks fragment) place ↔ ((first ≤ fragment) × (fragment < first + done))
+here_so_far old place first done is so_far fragment =
+    let marks = is.marked fragment place in
+    let from = contains_from done first fragment in
+    let same : run_fragments (run_at old.runs.map.entries place) ≡ fragments_from first done = ap run_fragments so_far ∙ fragments_so_far first done in (
+      λ has. from.0 (subst (λ xs. Contains xs fragment) same (marks.0 has)),
+      λ both. marks.1 (subst (λ xs. Contains xs fragment) (sym same) (from.1 both)),
+    )
+
+-- the next fragment isn't claimed by it yet
+pub next_fresh : (old : Inside) (kept : KeptClaims) (place : Place) (first done at : ℕ) → kept_of old ≡ kept → IsKept old
+    → run_at kept.runs place ≡ run_so_far first done → at ≡ first + done → Contains (marked_on old.marks at) place → ⊥
+next_fresh old kept place first done at view is so_far next has =
+    let both = (here_so_far old place first done is (ap (λ (k : KeptClaims). run_at k.runs place) view ∙ so_far) at).0 has in
+    omega (arith, both.1)
+
+grown_marks : (old new : Marks) (place : Place) (first done at : ℕ) → AddsMark old new at place → at ≡ first + done
+    → ((fragment : ℕ) → Contains (marked_on old fragment) place ↔ ((first ≤ fragment) × (fragment < first + done)))
+    → (fragment : ℕ) → Contains (marked_on new fragment) place ↔ ((first ≤ fragment) × (fragment < first + suc done))
+grown_marks old new place first done at adds next was fragment = elim (cases_eq fragment at) [
+  | inl same ↦ (
+    λ has. (omega (arith, same, next), omega (arith, same, next)),
+    λ both. subst (λ f. Contains (marked_on new f) place) (sym same) ((adds.here place).1 (inr refl)),
+  )
+  | inr apart ↦
+      let stays = adds.elsewhere fragment apart in (
+        λ has. let both = (was fragment).0 (subst (λ xs. Contains xs place) stays has) in (both.0, omega (arith, both.1)),
+        λ both. subst (λ xs. Contains xs place) (sym stays) ((was fragment).1 (both.0, omega (arith, both.1, apart, next))),
+      )
+]
+
+added_others : (old new : Marks) (place other : Place) (at : ℕ) → AddsMark old new at place → (other ≡ place → ⊥)
+    → (fragment : ℕ) → Contains (marked_on new fragment) other ↔ Contains (marked_on old fragment) other
+added_others old new place other at adds ne fragment = elim (cases_eq fragment at) [
+  | inl same ↦
+      subst (λ f. Contains (marked_on new f) other ↔ Contains (marked_on old f) other) (sym same) (
+        λ has. elim ((adds.here other).0 has) [ inl h ↦ h | inr e ↦ absurd (ne e) ],
+        λ has. (adds.here other).1 (inl has),
+      )
+  | inr apart ↦
+      let stays = adds.elsewhere fragment apart in (
+        λ has. subst (λ xs. Contains xs other) stays has,
+        λ has. subst (λ xs. Contains xs other) (sym stays) has,
+      )
+]
+
+pub extended : (old : Inside) (kept : KeptClaims) (runs : Runs) (marks : Marks) (place : Place) (first done at count : ℕ) → kept_of old ≡ kept → IsKept old
+    → IsSource kept.geometry place → run_at kept.runs place ≡ run_so_far first done → (run : Run) → IsRun (size_in kept.geometry) run → run.first ≡ first → done < run.count → at ≡ first + done → count ≡ done + 1
+    → IsMarks marks → AddsMark old.marks marks at place
+    → run_at runs.map.entries place ≡ Some (record { first = first; count = count })
+    → ((other : Place) → (other ≡ place → ⊥) → run_at runs.map.entries other ≡ run_at old.runs.map.entries other)
+    → IsKept (record { geometry = old.geometry; runs = runs; marks = marks })
+extended old kept runs marks place first done at count view is source so_far whole whole_run begins few next more sound adds here others =
+    let was = here_so_far old place first done is (ap (λ (k : KeptClaims). run_at k.runs place) view ∙ so_far) in
+    let size : size_in kept.geometry ≡ size_in old.geometry = ap (λ (k : KeptClaims). size_in k.geometry) (sym view) in
+    remade old (record { geometry = old.geometry; runs = runs; marks = marks }) place is (record {
+      geometry = refl;
+      marks = sound;
+      room = adds.room;
+      others = others;
+      run = subst (λ r. IfSome r (λ run. IsSource old.geometry place × IsRun (size_in old.geometry) run)) (sym here) (
+        subst (λ (k : KeptClaims). IsSource k.geometry place) (sym view) source,
+        record {
+          some = omega (arith, more);
+          few = omega (arith, more, few, whole_run.few);
+          inside = omega (arith, more, few, begins, whole_run.inside, size);
+          fits = omega (arith, more, few, begins, whole_run.fits);
+        },
+      );
+      marked = λ fragment other ne. added_others old.marks marks place other at adds ne fragment;
+      here = λ fragment.
+          let grown = grown_marks old.marks marks place first done at adds next was fragment in
+          let run = contains_run (record { first = first; count = count }) fragment in (
+            λ has. let both = grown.0 has in subst (λ r. Contains (run_fragments r) fragment) (sym here) (run.1 (both.0, omega (arith, both.1, more))),
+            λ has. let both = run.0 (subst (λ r. Contains (run_fragments r) fragment) here has) in grown.1 (both.0, omega (arith, both.1, more)),
+          );
+    })
+
+-- ---- the marks are as they were
+
+pub record SameMarked (old new : Marks) : Type 0 where
+  pub room : length new.first.items ≡ length old.first.items
+  pub marked : (fragment : ℕ) (place : Place) → Contains (marked_on new fragment) place ↔ Contains (marked_on old fragment) place
+
+pub same_kept : (old : Inside) (runs : Runs) (marks : Marks) → IsKept old → runs.map.entries ≡ old.runs.map.entries → IsMarks marks → SameMarked old.marks marks
+    → IsKept (record { geometry = old.geometry; runs = runs; marks = marks })
+same_kept old runs marks is same sound stays = record {
+  geometry = is.geometry;
+  fits = is.fits;
+  room = stays.room ∙ is.room;
+  marks = sound;
+  runs = λ place. subst (λ es. IfSome (run_at es place) (λ run. IsSource old.geometry place × IsRun (size_in old.geometry) run)) (sym same) (is.runs place);
+  marked = λ fragment place.
+      let marks = stays.marked fragment place in
+      let was = is.marked fragment place in (
+        λ has. subst (λ es. Contains (run_fragments (run_at es place)) fragment) (sym same) (was.0 (marks.0 has)),
+        λ has. marks.1 (was.1 (subst (λ es. Contains (run_fragments (run_at es place)) fragment) same has)),
+      );
+}
+
+pub same_marked : (old new : Marks) → SameMarks old new → SameMarked old new
+same_marked old new same = record {
+  room = same.room;
+  marked = λ fragment place. (λ has. subst (λ xs. Contains xs place) (same.all fragment) has, λ has. subst (λ xs. Contains xs place) (sym (same.all fragment)) has);
+}
+
+pub added_dropped : (old middle new : Marks) (at : ℕ) (place : Place) → (Contains (marked_on old at) place → ⊥) → AddsMark old middle at place → DropsMark middle new at place → SameMarked old new
+added_dropped old middle new at place fresh adds drops = record {
+  room = drops.room ∙ adds.room;
+  marked = λ fragment other. elim (cases_eq fragment at) [
+    | inl same ↦
+        subst (λ f. Contains (marked_on new f) other ↔ Contains (marked_on old f) other) (sym same) (
+          λ has. let both = (drops.here other).0 has in elim ((adds.here other).0 (both.0)) [ inl h ↦ h | inr e ↦ absurd (both.1 e) ],
+          λ has. (drops.here other).1 ((adds.here other).1 (inl has), λ e. fresh (subst (λ p. Contains (marked_on old at) p) e has)),
+        )
+    | inr apart ↦
+        let stays : marked_on new fragment ≡ marked_on old fragment = drops.elsewhere fragment apart ∙ adds.elsewhere fragment apart in (
+          λ has. subst (λ xs. Contains xs other) stays has,
+          λ has. subst (λ xs. Contains xs other) (sym stays) has,
+        )
+  ];
+}
+
+-- ---- a run that is forgotten
+
+pub unmarks_none : (old : Marks) (place : Place) (first : ℕ) → Unmarks old old place first 0
+unmarks_none old place first = record {
+  room = refl;
+  here = λ fragment. (λ has. (has, λ le. omega (arith, le)), λ both. both.0);
+  others = λ fragment other ne. (λ has. has, λ has. has);
+}
+
+pub unmarks_more : (old middle new : Marks) (place : Place) (first done count at : ℕ) → Unmarks old middle place first done → DropsMark middle new at place → at ≡ first + done → count ≡ done + 1
+    → Unmarks old new place first count
+unmarks_more old middle new place first done count at part drops next more = record {
+  room = drops.room ∙ part.room;
+  here = λ fragment. let before = part.here fragment in elim (cases_eq fragment at) [
+    | inl same ↦ (
+      λ has. absurd (((drops.here place).0 (subst (λ f. Contains (marked_on new f) place) same has)).1 refl),
+      λ both. absurd (omega (arith, both.1 (omega (arith, same, next)), same, next, more)),
+    )
+    | inr apart ↦
+        let stays = drops.elsewhere fragment apart in (
+          λ has. let both = before.0 (subst (λ xs. Contains xs place) stays has) in (both.0, λ le. let past = both.1 le in omega (arith, past, apart, next, more)),
+          λ both. subst (λ xs. Contains xs place) (sym stays) (before.1 (both.0, λ le. let past = both.1 le in omega (arith, past, more))),
+        )
+  ];
+  others = λ fragment other ne. let before = part.others fragment other ne in elim (cases_eq fragment at) [
+    | inl same ↦
+        let here = drops.here other in (
+          λ has. before.0 (subst (λ f. Contains (marked_on middle f) other) (sym same) ((here.0 (subst (λ f. Contains (marked_on new f) other) same has)).0)),
+          λ has. subst (λ f. Contains (marked_on new f) other) (sym same) (here.1 (subst (λ f. Contains (marked_on middle f) other) same (before.1 has), ne)),
+        )
+    | inr apart ↦
+        let stays = drops.elsewhere fragment apart in (
+          λ has. before.0 (subst (λ xs. Contains xs other) stays has),
+          λ has. subst (λ xs. Contains xs other) (sym stays) (before.1 has),
+        )
+  ];
+}
+
+pub cleared : (old : Inside) (runs : Runs) (marks : Marks) (place : Place) (run : Run) → IsKept old → run_at old.runs.map.entries place ≡ Some run
+    → IsMarks marks → Unmarks old.marks marks place run.first run.count → run_at runs.map.entries place ≡ None
+    → ((other : Place) → (other ≡ place → ⊥) → run_at runs.map.entries other ≡ run_at old.runs.map.entries other)
+    → IsKept (record { geometry = old.geometry; runs = runs; marks = marks })
+cleared old runs marks place run is was sound drops none others =
+    remade old (record { geometry = old.geometry; runs = runs; marks = marks }) place is (record {
+      geometry = refl;
+      marks = sound;
+      room = drops.room;
+      others = others;
+      run = subst (λ r. IfSome r (λ run. IsSource old.geometry place × IsRun (size_in old.geometry) run)) (sym none) tt;
+      marked = λ fragment other ne. drops.others fragment other ne;
+      here = λ fragment.
+          let covers = contains_run run fragment in (
+            λ has.
+                let both = (drops.here fragment).0 has in
+                let within = covers.0 (subst (λ r. Contains (run_fragments r) fragment) was ((is.marked fragment place).0 (both.0))) in
+                let past = both.1 (within.0) in
+                absurd (omega (arith, within.1, past)),
+            λ has. absurd (contains_none fragment (subst (λ r. Contains (run_fragments r) fragment) none has)),
+          );
+    })
+
+-- the run of a source is inside the volume
+pub run_inside : (old : Inside) (place : Place) (run : Run) → IsKept old → run_at old.runs.map.entries place ≡ Some run → IsRun (length old.marks.first.items) run
+run_inside old place run is was =
+    let both : IsSource old.geometry place × IsRun (size_in old.geometry) run = subst (λ r. IfSome r (λ run. IsSource old.geometry place × IsRun (size_in old.geometry) run)) was (is.runs place) in
+    subst (λ n. IsRun n run) (sym is.room) (both.1)

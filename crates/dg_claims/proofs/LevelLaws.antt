@@ -1,0 +1,108 @@
+-- Which fragments have a claim at a level.
+use Rattle.std.proofs.Common.{◌≡◌, ℕ, zero, suc, ◌+◌, ◌<◌, ◌≤◌, ◌⊎◌, ◌↔◌, ◌∙◌, ◌==◌, inl, inr, List, [], ◌∷◌, ◌++◌, Bool, true, false, cond, Contains, Option, Some, None, IfSome, refl, sym, ap, subst, arith, if◌then◌else◌}
+use Rattle.std.specs.List.{list_any}
+use Rattle.std.proofs.lemmas.Bool.{cases_eq, false≢true, or_cases, or_left, or_right}
+use Rattle.std.proofs.lemmas.Bool.Decides.{nat_tests}
+use Rattle.std.proofs.lemmas.List.{append-nil}
+use Rattle.ufs_model.specs.Claims.{level_of}
+use Rattle.ufs_model.specs.declared.claims.ClaimSource.{ClaimSource}
+use Rattle.ufs_model.specs.declared.geometries.Geometry.{Geometry}
+use Rattle.dg_claims.proofs.ListLaws.{contains_cons, contains_last, contains_none}
+use Rattle.dg_claims.proofs.OwnerLaws.{claims_marked}
+use Rattle.dg_claims.proofs.RunLaws.{contains_run}
+use Rattle.dg_claims.proofs.SourceLaws.{place_is, source_is}
+use Rattle.dg_claims.specs.Kept.{IsKept, IsRun, IsSource, KeptClaims, claimed_by, kept_of, size_in}
+use Rattle.dg_claims.specs.Marks.{marked_on}
+use Rattle.dg_claims.specs.Places.{is_at_level, place_of, source_of}
+use Rattle.dg_claims.specs.Runs.{run_at, run_fragments}
+use Rattle.dg_claims.specs.Tables.{IsClaimedAt}
+use Rattle.dg_claims.specs.declared.claims.Claims.TheInside.{Inside}
+use Rattle.dg_claims.specs.declared.places.Place.{Place}
+use Rattle.dg_claims.specs.declared.runs.Run.{Run}
+
+same_from_test : (a b : ℕ) → (a == b) ≡ true → a ≡ b
+same_from_test a b e = grind (arith, nat_tests)
+
+test_from_same : (a b : ℕ) → a ≡ b → (a == b) ≡ true
+test_from_same a b e = grind (arith, nat_tests)
+
+-- one of the sources is at the level
+any_source : (level : ℕ) (places : List Place) → list_any (is_at_level level) places ≡ true → (place : Place) × Contains places place × (level_of (source_of place) ≡ level)
+any_source level [] h = absurd (false≢true h)
+any_source level (p ∷ ps) h = elim (or_cases (is_at_level level p) (list_any (is_at_level level) ps) h) [
+  | inl here ↦ (p, (contains_cons p ps p).1 (inl refl), same_from_test (level_of (source_of p)) level here)
+  | inr rest ↦ let r = any_source level ps rest in (r.0, (contains_cons p ps (r.0)).1 (inr (r.1)), r.2)
+]
+
+source_any : (level : ℕ) (places : List Place) (place : Place) → Contains places place → level_of (source_of place) ≡ level → list_any (is_at_level level) places ≡ true
+source_any level [] place has is = absurd (contains_none place has)
+source_any level (p ∷ ps) place has is = elim ((contains_cons p ps place).0 has) [
+  | inl e ↦ or_left (is_at_level level p) (list_any (is_at_level level) ps) (test_from_same (level_of (source_of p)) level (ap (λ q. level_of (source_of q)) (sym e) ∙ is))
+  | inr rest ↦ or_right (is_at_level level p) (list_any (is_at_level level) ps) (source_any level ps place rest is)
+]
+
+pub claimed_at : (inside : Inside) (kept : KeptClaims) (fragment level : ℕ) → kept_of inside ≡ kept → IsKept inside
+    → (list_any (is_at_level level) (marked_on inside.marks fragment) ≡ true) ↔ IsClaimedAt (claimed_by kept.runs) level fragment
+claimed_at inside kept fragment level view is = (
+  λ h.
+    let some = any_source level (marked_on inside.marks fragment) h in
+    (source_of (some.0), some.2, (claims_marked inside kept fragment (source_of (some.0)) view is).0 (subst (λ p. Contains (marked_on inside.marks fragment) p) (sym (place_is (some.0))) (some.1))),
+  λ h.
+    source_any level (marked_on inside.marks fragment) (place_of (h.0)) ((claims_marked inside kept fragment (h.0) view is).1 (h.2)) (ap level_of (source_is (h.0)) ∙ h.1),
+)
+
+inside_run : (geometry : Option Geometry) (size fragment : ℕ) (place : Place) (run : Option Run) → IfSome run (λ r. IsSource geometry place × IsRun size r) → Contains (run_fragments run) fragment → fragment < size
+inside_run geometry size fragment place None h has = absurd (contains_none fragment has)
+inside_run geometry size fragment place (Some run) h has =
+    let both = (contains_run run fragment).0 has in
+    let within = h.1 in
+    omega (arith, both.1, within.inside)
+
+-- what is claimed is inside the volume
+pub claimed_inside : (inside : Inside) (kept : KeptClaims) (fragment level : ℕ) → kept_of inside ≡ kept → IsKept inside → IsClaimedAt (claimed_by kept.runs) level fragment → fragment < size_in kept.geometry
+claimed_inside inside kept fragment level view is h =
+    let marked = (claims_marked inside kept fragment (h.0) view is).1 (h.2) in
+    let place = place_of (h.0) in
+    subst (λ (k : KeptClaims). fragment < size_in k.geometry) view
+    (inside_run inside.geometry (size_in inside.geometry) fragment place (run_at inside.runs.map.entries place) (is.runs place) ((is.marked fragment place).0 marked))
+
+-- ---- the list of them
+
+pub push_true : (items : List ℕ) (fragment : ℕ) (wanted : Bool) → wanted ≡ true → items ++ (if wanted then fragment ∷ [] else []) ≡ items ++ fragment ∷ []
+push_true items fragment wanted e = ap (λ b. items ++ (if b then fragment ∷ [] else [])) e
+
+push_false : (items : List ℕ) (fragment : ℕ) (wanted : Bool) → wanted ≡ false → items ++ (if wanted then fragment ∷ [] else []) ≡ items
+push_false items fragment wanted e = ap (λ b. items ++ (if b then fragment ∷ [] else [])) e ∙ append-nil items
+
+pub fragments_more : (P : ℕ → Type 0) (items : List ℕ) (at count : ℕ) (wanted : Bool) → (wanted ≡ true) ↔ P at → count ≡ at + 1
+    → ((fragment : ℕ) → Contains items fragment ↔ ((fragment < at) × P fragment))
+    → (fragment : ℕ) → Contains (items ++ (if wanted then at ∷ [] else [])) fragment ↔ ((fragment < count) × P fragment)
+fragments_more P items at count true test more before fragment =
+    let listed = contains_last items at fragment in (
+      λ has. elim (listed.0 has) [
+        | inl h ↦ let b = (before fragment).0 h in (omega (arith, b.0, more), b.1)
+        | inr e ↦ (omega (arith, e, more), subst P (sym e) (test.0 refl))
+      ],
+      λ both. listed.1 (elim (cases_eq fragment at) [
+        | inl e ↦ inr e
+        | inr ne ↦ inl ((before fragment).1 (omega (arith, both.0, ne, more), both.1))
+      ]),
+    )
+fragments_more P items at count false test more before fragment =
+    let none : items ++ [] ≡ items = append-nil items in (
+      λ has. let b = (before fragment).0 (subst (λ xs. Contains xs fragment) none has) in (omega (arith, b.0, more), b.1),
+      λ both. subst (λ xs. Contains xs fragment) (sym none) (elim (cases_eq fragment at) [
+        | inl e ↦ absurd (false≢true (test.1 (subst P e (both.1))))
+        | inr ne ↦ (before fragment).1 (omega (arith, both.0, ne, more), both.1)
+      ]),
+    )
+
+pub fragments_none : (P : ℕ → Type 0) (fragment : ℕ) → Contains [] fragment ↔ ((fragment < 0) × P fragment)
+fragments_none P fragment = (λ has. absurd (contains_none fragment has), λ both. absurd (omega (arith, both.0)))
+
+by_test : {P : Type 0} (b t : Bool) → b ≡ t → (t ≡ true) ↔ P → (b ≡ true) ↔ P
+by_test b t e iff = (λ h. iff.0 (sym e ∙ h), λ p. e ∙ iff.1 p)
+
+pub wanted_at : (inside : Inside) (kept : KeptClaims) (fragment level : ℕ) (wanted : Bool) → kept_of inside ≡ kept → IsKept inside → wanted ≡ list_any (is_at_level level) (marked_on inside.marks fragment)
+    → (wanted ≡ true) ↔ IsClaimedAt (claimed_by kept.runs) level fragment
+wanted_at inside kept fragment level wanted view is e = by_test wanted (list_any (is_at_level level) (marked_on inside.marks fragment)) e (claimed_at inside kept fragment level view is)

@@ -1,0 +1,212 @@
+-- What the sources of an inode, and those of a fragment, claim in the end.
+use Rattle.std.proofs.Common.{◌≡◌, ℕ, ◌+◌, ◌*◌, ◌/◌, ◌<◌, ◌≤◌, ◌⊎◌, ◌∙◌, ◌&&◌, inl, inr, List, [], Bool, true, false, cond, Option, Some, None, IfSome, nat_lt, refl, sym, ap, subst, arith, div-le_self, ◌^◌}
+use Rattle.std.proofs.lemmas.Bool.{cases_eq, false≢true}
+use Rattle.std.proofs.lemmas.Bool.Decides.{nat_tests}
+use Rattle.ufs_model.specs.Claims.{slot_fragments, pointer_fragments, fragments_at}
+use Rattle.ufs_model.specs.Geometries.{IsGeometry}
+use Rattle.ufs_model.specs.Inodes.{has_pointers}
+use Rattle.ufs_model.specs.Pointers.{address, pointer_in, slot_address}
+use Rattle.ufs_model.specs.Roles.{is_within}
+use Rattle.ufs_model.specs.declared.claims.ClaimSource.{ClaimSource}
+use Rattle.ufs_model.specs.declared.claims.ClaimSource.TheVariants.{Slot, Pointer}
+use Rattle.ufs_model.specs.declared.geometries.Geometry.{Geometry}
+use Rattle.ufs_model.specs.declared.inodes.Inode.{Inode}
+use Rattle.ufs_model.specs.declared.numbers.Endian.TheVariants.{Little}
+use Rattle.dg_claims.specs.Kept.{HasSources, IsSource, KeptClaims, SetsFirst, claimed_by}
+use Rattle.dg_claims.specs.Places.{index_of, place_of, source_of}
+use Rattle.dg_claims.specs.Runs.{run_at, run_fragments}
+use Rattle.dg_claims.specs.Tables.{fragment_pointers, inode_fragments}
+use Rattle.dg_claims.specs.declared.places.Place.{Place}
+use Rattle.dg_claims.specs.declared.places.Place.TheVariants.{Slot as SlotPlace, Pointer as PointerPlace}
+use Rattle.dg_claims.specs.declared.runs.Run.{Run}
+
+-- ---- places
+
+pub source_is : (source : ClaimSource) → source_of (place_of source) ≡ source
+source_is (Slot inode slot) = refl
+source_is (Pointer fragment level at) = refl
+
+pub place_is : (place : Place) → place_of (source_of place) ≡ place
+place_is (SlotPlace inode slot) = refl
+place_is (PointerPlace fragment level at) = refl
+
+pub slot_apart : (inode i j : ℕ) → SlotPlace inode i ≡ SlotPlace inode j → i ≡ j
+slot_apart inode i j e = cc
+
+pub pointer_apart : (fragment level i j : ℕ) → PointerPlace fragment level i ≡ PointerPlace fragment level j → i ≡ j
+pointer_apart fragment level i j e = cc
+
+-- ---- the first of some places
+
+pub sets_none : (runs : List (Place × Run)) (place_at : ℕ → Place) (fragments : ℕ → List ℕ) → SetsFirst runs runs place_at fragments 0
+sets_none runs place_at fragments = record {
+  done = λ k lt. absurd (omega (arith, lt));
+  others = λ place apart. refl;
+}
+
+pub sets_more : (old middle new : List (Place × Run)) (place_at : ℕ → Place) (fragments : ℕ → List ℕ) (n count : ℕ) (run : Option Run)
+    → ((i j : ℕ) → place_at i ≡ place_at j → i ≡ j) → SetsFirst old middle place_at fragments n
+    → run_at new (place_at n) ≡ run → run_fragments run ≡ fragments n → count ≡ n + 1
+    → ((place : Place) → (place ≡ place_at n → ⊥) → run_at new place ≡ run_at middle place) → SetsFirst old new place_at fragments count
+sets_more old middle new place_at fragments n count run apart first here is more others = record {
+  done = λ k lt. elim (cases_eq k n) [
+    | inl same ↦ subst (λ m. run_fragments (run_at new (place_at m)) ≡ fragments m) (sym same) (ap run_fragments here ∙ is)
+    | inr ne ↦ ap run_fragments (others (place_at k) (λ e. ne (apart k n e))) ∙ first.done k (omega (arith, lt, ne, more))
+  ];
+  others = λ place off. others place (λ e. off n (omega (arith, more)) e) ∙ first.others place (λ k lt e. off k (omega (arith, lt, more)) e);
+}
+
+-- one that wasn't set in the end
+pub sets_cut : (old middle new : List (Place × Run)) (place_at : ℕ → Place) (fragments : ℕ → List ℕ) (n : ℕ) → SetsFirst old middle place_at fragments n
+    → ((place : Place) → (place ≡ place_at n → ⊥) → run_at new place ≡ run_at middle place)
+    → (place : Place) → ((k : ℕ) → place ≡ place_at k → ⊥) → run_at new place ≡ run_at old place
+sets_cut old middle new place_at fragments n first others place off = others place (off n) ∙ first.others place (λ k lt e. off k e)
+
+none_from : {X : Type 0} (P : X → Type 0) (o : Option X) → IfSome o P → ((x : X) → P x → ⊥) → o ≡ None
+none_from P None h nobody = refl
+none_from P (Some x) h nobody = absurd (nobody x h)
+
+-- ---- slots
+
+nat_lt_false : (a b : ℕ) → b ≤ a → nat_lt a b ≡ false
+nat_lt_false a b le = grind (arith, nat_tests)
+
+and_false : (a b : Bool) → b ≡ false → (a && b) ≡ false
+and_false true b e = e
+and_false false b e = refl
+
+cond_false : {X : Type 0} (b : Bool) (x y : X) → b ≡ false → cond b x y ≡ y
+cond_false b x y e = ap (λ t. cond t x y) e
+
+cond_true : {X : Type 0} (b : Bool) (x y : X) → b ≡ true → cond b x y ≡ x
+cond_true b x y e = ap (λ t. cond t x y) e
+
+past_slots : (g : Geometry) (inode : Inode) (slot : ℕ) → 15 ≤ slot → slot_fragments g inode slot ≡ []
+unfolding slot_fragments
+past_slots g inode slot le =
+    cond_false (has_pointers g inode && nat_lt slot 15) (fragments_at (slot_address g inode slot)) []
+    (and_false (has_pointers g inode) (nat_lt slot 15) (nat_lt_false slot 15 le))
+
+no_slot : (kept : KeptClaims) (g : Geometry) (number slot : ℕ) → HasSources kept → kept.geometry ≡ Some g → 15 ≤ slot → run_at kept.runs (SlotPlace number slot) ≡ None
+no_slot kept g number slot sources is le =
+    none_from (λ run. IsSource kept.geometry (SlotPlace number slot)) (run_at kept.runs (SlotPlace number slot)) (sources (SlotPlace number slot))
+    (λ run h. let source : IsSource (Some g) (SlotPlace number slot) = subst (λ o. IsSource o (SlotPlace number slot)) is h in omega (arith, source.2, le))
+
+slot_cases : (slot : ℕ) → (slot < 15) ⊎ (15 ≤ slot)
+slot_cases slot = elim (nat_lt slot 15) as (λ b. nat_lt slot 15 ≡ b → (slot < 15) ⊎ (15 ≤ slot)) [
+  | true ↦ λ e. inl (grind (arith, nat_tests))
+  | false ↦ λ e. inr (grind (arith, nat_tests))
+] refl
+
+pub all_slots : (kept : KeptClaims) (g : Geometry) (number : ℕ) (inode : Inode) (new : List (Place × Run)) → HasSources kept → kept.geometry ≡ Some g
+    → is_within 2 (g.ncg * g.ipg) number ≡ true → SetsFirst kept.runs new (SlotPlace number) (slot_fragments g inode) 15
+    → (slot : ℕ) → claimed_by new (Slot number slot) ≡ inode_fragments kept.geometry number inode slot
+unfolding claimed_by inode_fragments
+all_slots kept g number inode new sources is within first slot =
+    let wanted : inode_fragments (Some g) number inode slot ≡ slot_fragments g inode slot = cond_true (is_within 2 (g.ncg * g.ipg) number) (slot_fragments g inode slot) [] within in
+    subst (λ o. run_fragments (run_at new (SlotPlace number slot)) ≡ inode_fragments o number inode slot) (sym is) (elim (slot_cases slot) [
+      | inl lt ↦ first.done slot lt ∙ sym wanted
+      | inr le ↦
+          ap run_fragments (first.others (SlotPlace number slot) (λ k lt e. omega (arith, slot_apart number slot k e, lt, le)) ∙ no_slot kept g number slot sources is le)
+          ∙ sym (past_slots g inode slot le) ∙ sym wanted
+    ])
+
+place_apart : (source : ClaimSource) (place : Place) → (source ≡ source_of place → ⊥) → place_of source ≡ place → ⊥
+place_apart source place ne e = ne (sym (source_is source) ∙ ap source_of e)
+
+pub other_slots : (number : ℕ) (old new : List (Place × Run)) → ((place : Place) → ((k : ℕ) → place ≡ SlotPlace number k → ⊥) → run_at new place ≡ run_at old place)
+    → (source : ClaimSource) → ((slot : ℕ) → source ≡ Slot number slot → ⊥) → claimed_by new source ≡ claimed_by old source
+unfolding claimed_by
+other_slots number old new others source off = ap run_fragments (others (place_of source) (λ k. place_apart source (SlotPlace number k) (off k)))
+
+in_range : (number n : ℕ) → 2 ≤ number → number < n → is_within 2 n number ≡ true
+in_range number n low high = grind (arith, nat_tests)
+
+-- where the inode is none of the volume
+pub no_inode : (kept : KeptClaims) (number : ℕ) (inode : Inode) → HasSources kept → ((g : Geometry) → kept.geometry ≡ Some g → is_within 2 (g.ncg * g.ipg) number ≡ false)
+    → (slot : ℕ) → claimed_by kept.runs (Slot number slot) ≡ inode_fragments kept.geometry number inode slot
+unfolding claimed_by inode_fragments
+no_inode kept number inode sources out slot =
+    elim (kept.geometry) as (λ o. kept.geometry ≡ o → run_fragments (run_at kept.runs (SlotPlace number slot)) ≡ inode_fragments o number inode slot) [
+      | None ↦ λ is. ap run_fragments (none_from (λ run. IsSource kept.geometry (SlotPlace number slot)) (run_at kept.runs (SlotPlace number slot)) (sources (SlotPlace number slot))
+          (λ run h. subst (λ o. IsSource o (SlotPlace number slot)) is h))
+      | Some g ↦ λ is.
+          ap run_fragments (none_from (λ run. IsSource kept.geometry (SlotPlace number slot)) (run_at kept.runs (SlotPlace number slot)) (sources (SlotPlace number slot))
+          (λ run h.
+          let source : IsSource (Some g) (SlotPlace number slot) = subst (λ o. IsSource o (SlotPlace number slot)) is h in
+          false≢true (sym (out g is) ∙ in_range number (g.ncg * g.ipg) (source.0) (source.1))))
+          ∙ sym (cond_false (is_within 2 (g.ncg * g.ipg) number) (slot_fragments g inode slot) [] (out g is))
+    ] refl
+
+-- ---- pointers
+
+past_pointers : (g : Geometry) (bytes : List ℕ) (at : ℕ) → g.fsize / 4 ≤ at → pointer_fragments Little g bytes at ≡ []
+unfolding pointer_fragments
+past_pointers g bytes at le =
+    cond_false (nat_lt at (g.fsize / 4)) (fragments_at (address g (pointer_in Little bytes at) g.frag)) [] (nat_lt_false at (g.fsize / 4) le)
+
+no_pointer_at : (kept : KeptClaims) (g : Geometry) (fragment level at : ℕ) → HasSources kept → kept.geometry ≡ Some g → g.fsize / 4 ≤ at
+    → run_at kept.runs (PointerPlace fragment level at) ≡ None
+no_pointer_at kept g fragment level at sources is le =
+    none_from (λ run. IsSource kept.geometry (PointerPlace fragment level at)) (run_at kept.runs (PointerPlace fragment level at)) (sources (PointerPlace fragment level at))
+    (λ run h. let source : IsSource (Some g) (PointerPlace fragment level at) = subst (λ o. IsSource o (PointerPlace fragment level at)) is h in omega (arith, source.2, le))
+
+below_cases : (a n : ℕ) → (a < n) ⊎ (n ≤ a)
+below_cases a n = elim (nat_lt a n) as (λ b. nat_lt a n ≡ b → (a < n) ⊎ (n ≤ a)) [
+  | true ↦ λ e. inl (grind (arith, nat_tests))
+  | false ↦ λ e. inr (grind (arith, nat_tests))
+] refl
+
+pub all_pointers : (kept : KeptClaims) (g : Geometry) (fragment level : ℕ) (bytes : List ℕ) (new : List (Place × Run)) → HasSources kept → kept.geometry ≡ Some g
+    → SetsFirst kept.runs new (PointerPlace fragment level) (pointer_fragments Little g bytes) (g.fsize / 4)
+    → (at : ℕ) → claimed_by new (Pointer fragment level at) ≡ fragment_pointers kept.geometry bytes at
+unfolding claimed_by fragment_pointers
+all_pointers kept g fragment level bytes new sources is first at =
+    subst (λ o. run_fragments (run_at new (PointerPlace fragment level at)) ≡ fragment_pointers o bytes at) (sym is) (elim (below_cases at (g.fsize / 4)) [
+      | inl lt ↦ first.done at lt
+      | inr le ↦
+          ap run_fragments (first.others (PointerPlace fragment level at) (λ k lt e. omega (arith, pointer_apart fragment level at k e, lt, le)) ∙ no_pointer_at kept g fragment level at sources is le)
+          ∙ sym (past_pointers g bytes at le)
+    ])
+
+pub other_pointers : (fragment level : ℕ) (old new : List (Place × Run)) → ((place : Place) → ((k : ℕ) → place ≡ PointerPlace fragment level k → ⊥) → run_at new place ≡ run_at old place)
+    → (source : ClaimSource) → ((at : ℕ) → source ≡ Pointer fragment level at → ⊥) → claimed_by new source ≡ claimed_by old source
+unfolding claimed_by
+other_pointers fragment level old new others source off =
+    ap run_fragments (others (place_of source) (λ k. place_apart source (PointerPlace fragment level k) (off k)))
+
+-- without a geometry
+pub no_pointer : (kept : KeptClaims) (fragment level : ℕ) (bytes : List ℕ) → HasSources kept → kept.geometry ≡ None
+    → (at : ℕ) → claimed_by kept.runs (Pointer fragment level at) ≡ fragment_pointers kept.geometry bytes at
+unfolding claimed_by fragment_pointers
+no_pointer kept fragment level bytes sources is at =
+    subst (λ o. run_fragments (run_at kept.runs (PointerPlace fragment level at)) ≡ fragment_pointers o bytes at) (sym is)
+    (ap run_fragments (none_from (λ run. IsSource kept.geometry (PointerPlace fragment level at)) (run_at kept.runs (PointerPlace fragment level at)) (sources (PointerPlace fragment level at))
+    (λ run h. subst (λ o. IsSource o (PointerPlace fragment level at)) is h)))
+
+-- ---- one source
+
+pub removed_source : (new : List (Place × Run)) (source : ClaimSource) (place : Place) → place ≡ place_of source → run_at new place ≡ None → claimed_by new source ≡ []
+unfolding claimed_by
+removed_source new source place is none = ap run_fragments (ap (run_at new) (sym is) ∙ none)
+
+pub other_sources : (old new : List (Place × Run)) (source other : ClaimSource) (place : Place) → place ≡ place_of source
+    → ((q : Place) → (q ≡ place → ⊥) → run_at new q ≡ run_at old q) → (other ≡ source → ⊥) → claimed_by new other ≡ claimed_by old other
+unfolding claimed_by
+other_sources old new source other place is others ne =
+    ap run_fragments (others (place_of other) (λ e. ne (sym (source_is other) ∙ ap source_of (e ∙ is) ∙ source_is source)))
+
+no_large : (o : Option Geometry) (fragment level at : ℕ) → IfSome o IsGeometry → IsSource o (PointerPlace fragment level at) → 2 ^ 16 ≤ at → ⊥
+no_large None fragment level at is source le = source
+no_large (Some g) fragment level at is source le =
+    let size = is.fsize in
+    let quarter : g.fsize / 4 ≤ g.fsize = div-le_self g.fsize 4 in
+    omega (arith, source.2, size.1, quarter, le)
+
+-- a source with a large number claims nothing
+pub large_source : (kept : KeptClaims) (source : ClaimSource) → HasSources kept → IfSome kept.geometry IsGeometry → 2 ^ 16 ≤ index_of source → claimed_by kept.runs source ≡ []
+unfolding claimed_by
+large_source kept (Slot inode slot) sources is le = absurd (omega (arith, le))
+large_source kept (Pointer fragment level at) sources is le =
+    ap run_fragments (none_from (λ run. IsSource kept.geometry (PointerPlace fragment level at)) (run_at kept.runs (PointerPlace fragment level at)) (sources (PointerPlace fragment level at))
+    (λ run h. no_large kept.geometry fragment level at is h le))

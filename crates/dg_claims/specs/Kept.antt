@@ -1,0 +1,74 @@
+-- How a table of claims is kept.
+use Rattle.std.specs.Prelude.{◌≡◌, ◌↔◌, ℕ, ◌+◌, ◌*◌, ◌/◌, ◌^◌, ◌<◌, ◌≤◌, List, Option, Some, None, zero, suc, length, IfSome}
+use Rattle.std.specs.List.{Contains}
+use Rattle.ufs_model.specs.Geometries.{IsGeometry}
+use Rattle.ufs_model.specs.declared.claims.ClaimSource.{ClaimSource}
+use Rattle.ufs_model.specs.declared.geometries.Geometry.{Geometry}
+use Rattle.dg_claims.specs.Marks.{IsMarks, marked_on}
+use Rattle.dg_claims.specs.Places.{place_of}
+use Rattle.dg_claims.specs.Runs.{run_at, run_fragments}
+use Rattle.dg_claims.specs.Tables.{ClaimTable}
+use Rattle.dg_claims.specs.declared.claims.Claims.TheInside.{Inside}
+use Rattle.dg_claims.specs.declared.places.Place.{Place}
+use Rattle.dg_claims.specs.declared.places.Place.TheVariants.{Slot, Pointer}
+use Rattle.dg_claims.specs.declared.runs.Run.{Run}
+
+-- a table as it is kept: the geometry, and the run of each source that claims anything
+pub record KeptClaims : Type 0 where
+  pub geometry : Option Geometry
+  pub runs : List (Place × Run)
+
+abbrev pub kept_of : Inside → KeptClaims
+kept_of inside = record { geometry = inside.geometry; runs = inside.runs.map.entries }
+
+-- the fragments that a source claims, by the runs that are kept
+unfoldable pub claimed_by : List (Place × Run) → ClaimSource → List ℕ
+claimed_by runs source = run_fragments (run_at runs (place_of source))
+
+-- the table that is kept so
+abbrev pub table_of : KeptClaims → ClaimTable
+table_of kept = record { geometry = kept.geometry; claimed = claimed_by kept.runs }
+
+-- the fragments of the volume; none without a geometry
+abbrev pub size_in : Option Geometry → ℕ
+size_in None = 0
+size_in (Some g) = g.size
+
+-- a source of the volume: a slot of an inode from 2 to the last, or a pointer of a fragment that has a claim at a level 1 to 3
+abbrev pub IsSourceOf : Geometry → Place → Type 0
+IsSourceOf g (Slot inode slot) = (2 ≤ inode) × (inode < g.ncg * g.ipg) × (slot < 15)
+IsSourceOf g (Pointer fragment level at) = (1 ≤ level) × (level ≤ 3) × (at < g.fsize / 4)
+
+abbrev pub IsSource : Option Geometry → Place → Type 0
+IsSource None place = ⊥
+IsSource (Some g) place = IsSourceOf g place
+
+-- the run of a source: some fragments of the volume, at most those of a file block
+pub record IsRun (size : ℕ) (run : Run) : Type 0 where
+  pub some : 1 ≤ run.count
+  pub few : run.count ≤ 8
+  pub inside : run.first + run.count ≤ size
+  pub fits : run.first + run.count < 2 ^ 32
+
+-- what a kept table keeps
+pub record IsKept (inside : Inside) : Type 0 where
+  pub geometry : IfSome inside.geometry IsGeometry
+  pub fits : size_in inside.geometry < 2 ^ 32
+  pub room : length inside.marks.first.items ≡ size_in inside.geometry
+  pub marks : IsMarks inside.marks
+  pub runs : (place : Place) → IfSome (run_at inside.runs.map.entries place) (λ run. IsSource inside.geometry place × IsRun (size_in inside.geometry) run)
+  pub marked : (fragment : ℕ) (place : Place) → Contains (marked_on inside.marks fragment) place ↔ Contains (run_fragments (run_at inside.runs.map.entries place)) fragment
+
+-- the first so many fragments of a run, if they are any
+abbrev pub run_so_far : ℕ → ℕ → Option Run
+run_so_far first zero = None
+run_so_far first (suc done) = Some (record { first = first; count = suc done })
+
+-- The first n of some places claim these fragments now, and each other place claims what it claimed.
+pub record SetsFirst (old new : List (Place × Run)) (place_at : ℕ → Place) (fragments : ℕ → List ℕ) (n : ℕ) : Type 0 where
+  pub done : (k : ℕ) → k < n → run_fragments (run_at new (place_at k)) ≡ fragments k
+  pub others : (place : Place) → ((k : ℕ) → k < n → place ≡ place_at k → ⊥) → run_at new place ≡ run_at old place
+
+-- each source that claims anything is one of the volume
+abbrev pub HasSources : KeptClaims → Type 0
+HasSources kept = (place : Place) → IfSome (run_at kept.runs place) (λ run. IsSource kept.geometry place)

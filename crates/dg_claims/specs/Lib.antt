@@ -1,0 +1,7 @@
+pub mod Kept
+pub mod Marks
+pub mod Metadata
+pub mod Places
+pub mod Runs
+pub mod Scans
+pub mod Tables

@@ -1,0 +1,26 @@
+-- Sources as the table keeps them.
+use Rattle.std.specs.Prelude.{ℕ, Bool, ◌==◌}
+use Rattle.ufs_model.specs.Claims.{level_of}
+use Rattle.ufs_model.specs.declared.claims.ClaimSource.{ClaimSource}
+use Rattle.ufs_model.specs.declared.claims.ClaimSource.TheVariants.{Slot, Pointer}
+use Rattle.dg_claims.specs.declared.places.Place.{Place}
+use Rattle.dg_claims.specs.declared.places.Place.TheVariants.{Slot as SlotPlace, Pointer as PointerPlace}
+
+-- a source as it is kept
+abbrev pub place_of : ClaimSource → Place
+place_of (Slot inode slot) = SlotPlace inode slot
+place_of (Pointer fragment level at) = PointerPlace fragment level at
+
+-- the source that is kept so
+abbrev pub source_of : Place → ClaimSource
+source_of (SlotPlace inode slot) = Slot inode slot
+source_of (PointerPlace fragment level at) = Pointer fragment level at
+
+-- the number of a pointer, and 0 of a slot
+abbrev pub index_of : ClaimSource → ℕ
+index_of (Slot inode slot) = 0
+index_of (Pointer fragment level at) = at
+
+-- whether a source claims at the level
+abbrev pub is_at_level : ℕ → Place → Bool
+is_at_level level place = level_of (source_of place) == level

@@ -1,0 +1,279 @@
+ghost use Rattle.std.specs.Prelude.{◌≡◌, ◌+◌, ◌*◌, ◌<◌, ◌≤◌, ◌↔◌, ℕ, Some, None, [], ◌∷◌, ◌++◌, if◌then◌else◌, IfNone, IfOk, IfSome, OnOk, length, true, false};
+ghost use Rattle.std.specs.List.{Contains};
+ghost use Rattle.ufs_model.specs.Claims.{IsOnlyClaim};
+ghost use Rattle.ufs_model.specs.Geometries.{IsGeometry};
+ghost use Rattle.ufs_model.specs.Roles.{is_within};
+ghost use Rattle.ufs_model.specs.declared.claims.ClaimSource.{ClaimSource};
+ghost use Rattle.ufs_model.specs.declared.geometries.Geometry.{Geometry};
+ghost use Rattle.dg_claims.specs.Kept.{HasSources, IsRun, IsSource, run_so_far, size_in, table_of};
+ghost use Rattle.dg_claims.specs.Marks.{IsMarks, Unmarks};
+ghost use Rattle.dg_claims.specs.Runs.{run_at};
+ghost use Rattle.dg_claims.specs.Places.{place_of};
+ghost use Rattle.dg_claims.specs.Tables.{AreClaimants, IsClaimedAt, fragment_pointers, inode_fragments};
+ghost use Rattle.dg_claims.specs.declared.places.Place.{Place};
+
+use crate::marks::Marks;
+use crate::places::{Place, place_of, source_of};
+use crate::runs::{Run, Runs};
+use crate::spans::{pointer_run, slot_run};
+use dg_io::NoMemory;
+use std::alloc::Global;
+use std::marker::Model;
+use ufs_model::{ClaimSource, Geometry, Inode};
+
+/// The first inode that may claim anything (`ROOTINO`).
+pub(crate) const FIRST_INODE: u32 = 2;
+
+/// Slots of an inode (`NDADDR`, `NIADDR`).
+const SLOTS: u8 = 15;
+
+/// Bytes of a pointer (`daddr_t`).
+const POINTER_BYTES: u32 = 4;
+
+/// The claims of a volume: what each slot and each pointer claims.
+#[derive(Drop)]
+pub struct Claims {
+    geometry: Option<Geometry>,
+    runs: Runs,
+    marks: Marks,
+}
+
+impl Model for Claims {
+    ghost use Rattle.dg_claims.specs.Kept.{IsKept, KeptClaims, kept_of};
+
+    ghost Value = { KeptClaims };
+
+    ghost view = { kept_of };
+
+    ghost invariant = { IsKept };
+}
+
+/// The fragments of a volume.
+fn size_in(g: Option<Geometry>) -> u32
+    ensures { result ≡ size_in g }
+{
+    match g {
+        Some(g) => g.size,
+        None => 0,
+    }
+}
+
+impl Claims {
+    /// No source claims anything. It takes the memory for one claim of each fragment.
+    #[tactic(auto, unfolding(crate::specs::Kept::claimed_by))]
+    pub fn new(alloc: Global, g: Option<Geometry>) -> Result<Claims, NoMemory>
+        requires { IfSome g IsGeometry }
+        ensures geometry { IfOk result (λ claims. (table_of claims).geometry ≡ g) }
+        ensures none { IfOk result (λ claims. (source : ClaimSource) → (table_of claims).claimed source ≡ []) }
+    {
+        let marks = Marks::new(alloc, size_in(g))?;
+        Ok(Claims {
+            geometry: g,
+            runs: Runs::new(alloc),
+            marks,
+        })
+    }
+
+    /// The geometry.
+    fn geometry(&self) -> Option<Geometry>
+        ensures value { result ≡ self.now.geometry }
+        ensures geometry { IfSome result IsGeometry }
+        ensures sources { HasSources self.now }
+    {
+        self.geometry
+    }
+
+    /// The geometry, where the inode is one from 2 to the last.
+    fn geometry_with(&self, number: u32) -> Option<Geometry>
+        ensures value { IfSome result (λ g. self.now.geometry ≡ Some g) }
+        ensures geometry { IfSome result IsGeometry }
+        ensures number { IfSome result (λ g. is_within 2 (g.ncg * g.ipg) number ≡ true) }
+        ensures none { IfNone result ((g : Geometry) → self.now.geometry ≡ Some g → is_within 2 (g.ncg * g.ipg) number ≡ false) }
+        ensures sources { HasSources self.now }
+    {
+        let g = self.geometry()?;
+        if number < FIRST_INODE || g.ncg * g.ipg <= number {
+            return None;
+        }
+        Some(g)
+    }
+
+    /// The slots of an inode claim what the inode says, and nothing that they claimed before. A number below 2 or past the
+    /// last one is no inode's: its slots claim nothing.
+    #[tactic(auto, using(crate::proofs::SourceLaws::no_inode, crate::proofs::SourceLaws::other_slots, crate::proofs::SourceLaws::all_slots))]
+    pub fn of_inode(&mut self, number: u32, inode: &Inode) -> Result<(), NoMemory>
+        ensures geometry { (table_of self.new).geometry ≡ (table_of self.old).geometry }
+        ensures slots { OnOk result ((slot : ℕ) → (table_of self.new).claimed (ClaimSource.Slot number slot) ≡ inode_fragments (table_of self.old).geometry number inode.now slot) }
+        ensures others { (source : ClaimSource) → ((slot : ℕ) → source ≡ ClaimSource.Slot number slot → ⊥) → (table_of self.new).claimed source ≡ (table_of self.old).claimed source }
+    {
+        let Some(g) = self.geometry_with(number) else {
+            return Ok(());
+        };
+        for slot in 0..SLOTS {
+            let place = Place::Slot {
+                inode: number,
+                slot,
+            };
+            self.set(place, slot_run(&g, inode, slot))?;
+        }
+        Ok(())
+    }
+
+    /// The pointers of a fragment that has a claim at a level, 1 to 3, claim what its bytes say, and nothing that they claimed
+    /// before.
+    #[tactic(auto, using(crate::proofs::SourceLaws::no_pointer, crate::proofs::SourceLaws::other_pointers, crate::proofs::SourceLaws::all_pointers))]
+    pub fn of_pointers(&mut self, fragment: u32, level: u8, bytes: &[u8]) -> Result<(), NoMemory>
+        requires low { 1 ≤ level }
+        requires high { level ≤ 3 }
+        requires bytes { IfSome (table_of self.old).geometry (λ g. length bytes.now ≡ g.fsize) }
+        ensures geometry { (table_of self.new).geometry ≡ (table_of self.old).geometry }
+        ensures pointers { OnOk result ((at : ℕ) → (table_of self.new).claimed (ClaimSource.Pointer fragment level at) ≡ fragment_pointers (table_of self.old).geometry bytes.now at) }
+        ensures others { (source : ClaimSource) → ((at : ℕ) → source ≡ ClaimSource.Pointer fragment level at → ⊥) → (table_of self.new).claimed source ≡ (table_of self.old).claimed source }
+    {
+        let Some(g) = self.geometry() else {
+            return Ok(());
+        };
+        for at in 0..g.fsize / POINTER_BYTES {
+            let place = Place::Pointer {
+                fragment,
+                level,
+                at: at as u16,
+            };
+            self.set(place, pointer_run(&g, bytes, at))?;
+        }
+        Ok(())
+    }
+
+    /// The source claims nothing from now on.
+    pub fn remove_source(&mut self, source: &ClaimSource)
+        ensures geometry { (table_of self.new).geometry ≡ (table_of self.old).geometry }
+        ensures removed { (table_of self.new).claimed source.now ≡ [] }
+        ensures others { (other : ClaimSource) → (other ≡ source.now → ⊥) → (table_of self.new).claimed other ≡ (table_of self.old).claimed other }
+    {
+        self.geometry();
+        match place_of(*source) {
+            Some(place) => self.clear(place),
+            None => {}
+        }
+    }
+
+    /// How many sources claim the fragment.
+    pub fn claims_on(&self, fragment: u32) -> u32
+        ensures { AreClaimants (table_of self.now).claimed fragment result }
+    {
+        self.marks.count(fragment)
+    }
+
+    /// The source of a fragment that has one claim.
+    pub fn claim(&self, fragment: u32) -> Option<ClaimSource>
+        ensures only { IfSome result (IsOnlyClaim (table_of self.now).claimed fragment) }
+        ensures none { IfNone result ((source : ClaimSource) → IsOnlyClaim (table_of self.now).claimed fragment source → ⊥) }
+        ensures source { IfSome result (λ source. IsSource (table_of self.now).geometry (place_of source)) }
+    {
+        match self.marks.only(fragment) {
+            Some(place) => Some(source_of(place)),
+            None => None,
+        }
+    }
+
+    /// The fragments with a claim at the level, each once, ascending.
+    pub(crate) fn fragments_at(&self, alloc: Global, level: u8) -> Result<Vec<u32>, NoMemory>
+        ensures claimed { IfOk result (λ fragments. (fragment : ℕ) → Contains fragments.items fragment ↔ IsClaimedAt (table_of self.now).claimed level fragment) }
+        ensures inside { IfOk result (λ fragments. (fragment : ℕ) → Contains fragments.items fragment → fragment < size_in self.now.geometry) }
+    {
+        let mut fragments = Vec::new(alloc);
+        for fragment in 0..size_in(self.geometry) {
+            push_if(&mut fragments, fragment, self.marks.has_level(fragment, level))?;
+        }
+        Ok(fragments)
+    }
+
+    /// The source claims one more fragment, behind those of its run so far.
+    fn extend(&mut self, place: Place, run: Run, done: u8) -> Result<(), NoMemory>
+        requires place { IsSource self.old.geometry place }
+        requires run { IsRun (size_in self.old.geometry) run }
+        requires more { done < run.count }
+        requires so_far { run_at self.old.runs place ≡ run_so_far run.first done }
+        ensures geometry { self.new.geometry ≡ self.old.geometry }
+        ensures grown { OnOk result (run_at self.new.runs place ≡ run_so_far run.first (done + 1)) }
+        ensures others { (other : Place) → (other ≡ place → ⊥) → run_at self.new.runs other ≡ run_at self.old.runs other }
+    {
+        let fragment = run.first + u32::from(done);
+        self.marks.add(fragment, place)?;
+        let grown = Run {
+            first: run.first,
+            count: done + 1,
+        };
+        match self.runs.put(place, grown) {
+            Ok(()) => Ok(()),
+            Err(NoMemory) => {
+                self.marks.remove(fragment, place);
+                Err(NoMemory)
+            }
+        }
+    }
+
+    /// Makes this run what the source claims, which claimed nothing.
+    fn put(&mut self, place: Place, run: Run) -> Result<(), NoMemory>
+        requires place { IsSource self.old.geometry place }
+        requires run { IsRun (size_in self.old.geometry) run }
+        requires none { run_at self.old.runs place ≡ None }
+        ensures geometry { self.new.geometry ≡ self.old.geometry }
+        ensures put { OnOk result (run_at self.new.runs place ≡ Some run) }
+        ensures others { (other : Place) → (other ≡ place → ⊥) → run_at self.new.runs other ≡ run_at self.old.runs other }
+    {
+        for done in 0..run.count {
+            self.extend(place, run, done)?;
+        }
+        Ok(())
+    }
+
+    /// The source claims nothing from now on.
+    fn clear(&mut self, place: Place)
+        ensures geometry { self.new.geometry ≡ self.old.geometry }
+        ensures none { run_at self.new.runs place ≡ None }
+        ensures others { (other : Place) → (other ≡ place → ⊥) → run_at self.new.runs other ≡ run_at self.old.runs other }
+    {
+        if let Some(run) = self.runs.get(place) {
+            unmark(&mut self.marks, place, run);
+            self.runs.remove(place);
+        }
+    }
+
+    /// Makes this run what the source claims, in place of what it claimed.
+    fn set(&mut self, place: Place, run: Option<Run>) -> Result<(), NoMemory>
+        requires place { IsSource self.old.geometry place }
+        requires run { IfSome run (IsRun (size_in self.old.geometry)) }
+        ensures geometry { self.new.geometry ≡ self.old.geometry }
+        ensures set { OnOk result (run_at self.new.runs place ≡ run) }
+        ensures others { (other : Place) → (other ≡ place → ⊥) → run_at self.new.runs other ≡ run_at self.old.runs other }
+    {
+        self.clear(place);
+        match run {
+            Some(run) => self.put(place, run),
+            None => Ok(()),
+        }
+    }
+}
+
+/// Puts a fragment last in the list, if it is wanted there.
+fn push_if(fragments: &mut Vec<u32>, fragment: u32, wanted: bool) -> Result<(), NoMemory>
+    ensures { OnOk result (fragments.new.items ≡ fragments.old.items ++ (if wanted then fragment ∷ [] else [])) }
+{
+    if wanted {
+        return fragments.push(fragment).map_err(|_| NoMemory);
+    }
+    Ok(())
+}
+
+/// The source is taken from each fragment of the run.
+fn unmark(marks: &mut Marks, place: Place, run: Run)
+    requires sound { IsMarks marks.old }
+    requires run { IsRun (length marks.old.first.items) run }
+    ensures sound { IsMarks marks.new }
+    ensures unmarked { Unmarks marks.old marks.new place run.first run.count }
+{
+    for i in 0..run.count {
+        marks.remove(run.first + u32::from(i), place);
+    }
+}
