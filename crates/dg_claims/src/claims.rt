@@ -1,4 +1,5 @@
 ghost use Rattle.std.specs.Prelude.{◌≡◌, ◌+◌, ◌*◌, ◌<◌, ◌≤◌, ◌↔◌, ℕ, Some, None, [], ◌∷◌, ◌++◌, if◌then◌else◌, IfNone, IfOk, IfSome, OnOk, length, true, false};
+ghost use Rattle.std.specs.Bool.{Decides};
 ghost use Rattle.std.specs.List.{Contains};
 ghost use Rattle.ufs_model.specs.Claims.{IsOnlyClaim};
 ghost use Rattle.ufs_model.specs.Geometries.{IsGeometry};
@@ -174,6 +175,13 @@ impl Claims {
             Some(place) => Some(source_of(place)),
             None => None,
         }
+    }
+
+    /// Whether a source claims the fragment at the level.
+    pub fn has_level(&self, fragment: u32, level: u8) -> bool
+        ensures { Decides result (IsClaimedAt (table_of self.now).claimed level fragment) }
+    {
+        self.marks.has_level(fragment, level)
     }
 
     /// The fragments with a claim at the level, each once, ascending.
