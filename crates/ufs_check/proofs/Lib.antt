@@ -2,3 +2,5 @@ pub mod LeastLaws
 pub mod PassLaws
 pub mod GroupLaws
 pub mod InodeLaws
+pub mod ClaimLaws
+pub mod PointerLaws

@@ -2,3 +2,5 @@ pub mod Least
 pub mod Passes
 pub mod Groups
 pub mod Inodes
+pub mod Pointers
+pub mod Fragments

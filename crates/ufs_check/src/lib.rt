@@ -4,9 +4,11 @@
 //! of each kind of fault that it looks for.
 #![tactic(auto)]
 
+mod fragments;
 mod groups;
 mod inodes;
 mod notes;
+mod pointers;
 mod slots;
 #[cfg(test)]
 mod tests;

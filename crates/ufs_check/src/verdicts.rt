@@ -38,3 +38,17 @@ pub struct InodeFaults {
     /// It is marked unused.
     pub unused: Option<u32>,
 }
+
+/// What is wrong with fragments: of each kind the least fragment.
+#[derive(Clone, Copy, Debug, PartialEq, Eq)]
+pub struct FragmentFaults {
+    /// It is of an indirect block, and has a pointer to fragments that aren't all data of one group.
+    pub wild_in: Option<u32>,
+    /// It is of an indirect block, and has a pointer to a whole file block that doesn't begin at a
+    /// multiple of its fragments.
+    pub align_in: Option<u32>,
+    /// It has two or more claims.
+    pub twice: Option<u32>,
+    /// It has a claim, and is marked free.
+    pub free: Option<u32>,
+}
