@@ -4,3 +4,5 @@ pub mod GroupLaws
 pub mod InodeLaws
 pub mod ClaimLaws
 pub mod PointerLaws
+pub mod RunLaws
+pub mod ReachLaws

@@ -1,13 +1,14 @@
 -- What is wrong with the fragments of a volume.
-use Rattle.std.specs.Prelude.{◌≡◌, ◌<◌, ◌↔◌, ℕ, Contains}
+use Rattle.std.specs.Prelude.{◌≡◌, ◌<◌, ◌↔◌, ℕ, None, Contains}
 use Rattle.ufs_model.specs.Blocks.{Volume}
 use Rattle.ufs_model.specs.Claims.{IsClaim, level_of, targets}
 use Rattle.ufs_model.specs.Malformations.{IsBad}
 use Rattle.ufs_model.specs.declared.claims.ClaimSource.{ClaimSource}
 use Rattle.ufs_model.specs.declared.geometries.Geometry.{Geometry}
-use Rattle.ufs_model.specs.declared.malformations.BadKind.TheVariants.{WildIn, AlignIn, Twice, Free}
+use Rattle.ufs_model.specs.declared.malformations.BadKind.TheVariants.{WildIn, AlignIn, Twice, PastIn, Free}
 use Rattle.ufs_model.specs.declared.numbers.Endian.TheVariants.{Little}
 use Rattle.dg_claims.specs.Tables.{ClaimTable}
+use Rattle.ufs_check.specs.Reaches.{HasNoTwice}
 use Rattle.ufs_check.specs.Least.{IsLeast, IsLeastBelow}
 use Rattle.ufs_check.specs.declared.verdicts.FragmentFaults.{FragmentFaults}
 
@@ -23,17 +24,19 @@ IsClaimedBy stands g table v = stands v × HasClaims g table v
 abbrev pub IsUpperIn : ClaimTable → ℕ → Type 0
 IsUpperIn table f = (source : ClaimSource) × (0 < level_of source) × Contains (table.claimed source) f
 
--- each kind has its least fragment
+-- Each kind has its least fragment. What is reached through a pointer is told where no fragment has two claims.
 pub record AreFragmentFaults (g : Geometry) (v : Volume) (faults : FragmentFaults) : Type 0 where
   pub wild_in : IsLeast (IsBad Little g v WildIn) faults.wild_in
   pub align_in : IsLeast (IsBad Little g v AlignIn) faults.align_in
   pub twice : IsLeast (IsBad Little g v Twice) faults.twice
+  pub past_in : faults.twice ≡ None → IsLeast (IsBad Little g v PastIn) faults.past_in
   pub free : IsLeast (IsBad Little g v Free) faults.free
 
 -- its least below a bound, of the kinds that speak of pointers
 pub record ArePointerFaultsBelow (g : Geometry) (v : Volume) (bound : ℕ) (faults : FragmentFaults) : Type 0 where
   pub wild_in : IsLeastBelow (IsBad Little g v WildIn) bound faults.wild_in
   pub align_in : IsLeastBelow (IsBad Little g v AlignIn) bound faults.align_in
+  pub past_in : HasNoTwice g v → IsLeastBelow (IsBad Little g v PastIn) bound faults.past_in
 
 -- its least below a bound, of the kinds that speak of all claims
 pub record AreClaimFaultsBelow (g : Geometry) (v : Volume) (bound : ℕ) (faults : FragmentFaults) : Type 0 where

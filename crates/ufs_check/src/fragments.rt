@@ -9,11 +9,14 @@ ghost use Rattle.ufs_model.specs.Metadata.{IsMetadataBy};
 ghost use Rattle.ufs_model.specs.declared.numbers.Endian.TheVariants.{Little};
 ghost use Rattle.dg_claims.specs.Kept.{table_of};
 ghost use Rattle.ufs_check.specs.Fragments.{AreClaimFaultsBelow, AreFragmentFaults, AreFragmentFaultsBelow, ArePointerFaultsBelow, HasClaims, IsClaimedBy, IsUpperIn};
+ghost use Rattle.ufs_check.specs.Limits.{IsInLimits, IsLimit};
 ghost use Rattle.ufs_check.specs.Passes.{FetchesOnly, LosesOne};
+ghost use Rattle.ufs_check.specs.Reaches.{HasNoTwice};
 
 use crate::inodes::hold_group;
+use crate::limits::{Limit, read_limit};
 use crate::notes::note;
-use crate::pointers::{has_misaligned_pointer, has_wild_pointer};
+use crate::pointers::{has_misaligned_pointer, has_past_pointer, has_wild_pointer};
 use crate::verdicts::FragmentFaults;
 use dg_claims::Claims;
 use dg_io::View;
@@ -53,6 +56,7 @@ fn note_claims(g: &Geometry, f: u32, bytes: &[u8], claims: &Claims, faults: &mut
     requires bytes { g.now.bsize ≤ length bytes.now }
     ensures wild_in { faults.new.wild_in ≡ faults.old.wild_in }
     ensures align_in { faults.new.align_in ≡ faults.old.align_in }
+    ensures past_in { faults.new.past_in ≡ faults.old.past_in }
     ensures claimed { (v : Volume) → HasClaims g.now (table_of claims.now) v → bytes.now ≡ (group_bytes g.now (f / g.now.fpg) v).value
         → AreClaimFaultsBelow g.now v f faults.old → AreClaimFaultsBelow g.now v (f + 1) faults.new }
 {
@@ -63,17 +67,26 @@ fn note_claims(g: &Geometry, f: u32, bytes: &[u8], claims: &Claims, faults: &mut
 
 /// Notes what is wrong with the pointers of fragment `f` of an indirect block, which has the bytes, where
 /// what is wrong with fragments of lower numbers is noted.
-fn note_pointers(g: &Geometry, f: u32, bytes: &[u8], claims: &Claims, faults: &mut FragmentFaults)
+fn note_pointers(
+    g: &Geometry,
+    f: u32,
+    bytes: &[u8],
+    claims: &Claims,
+    limit: Option<Limit>,
+    faults: &mut FragmentFaults,
+)
     requires geometry { IsGeometry g.now }
+    requires limit { IfSome limit IsInLimits }
     requires bytes { length bytes.now ≡ g.now.fsize }
     requires upper { IsUpperIn (table_of claims.now) f }
     ensures twice { faults.new.twice ≡ faults.old.twice }
     ensures free { faults.new.free ≡ faults.old.free }
     ensures pointers { (v : Volume) → HasClaims g.now (table_of claims.now) v → bytes.now ≡ block_at g.now.fsize v f
-        → ArePointerFaultsBelow g.now v f faults.old → ArePointerFaultsBelow g.now v (f + 1) faults.new }
+        → (HasNoTwice g.now v → IsLimit g.now v f limit) → ArePointerFaultsBelow g.now v f faults.old → ArePointerFaultsBelow g.now v (f + 1) faults.new }
 {
     note(&mut faults.wild_in, f, has_wild_pointer(g, bytes));
     note(&mut faults.align_in, f, has_misaligned_pointer(g, bytes));
+    note(&mut faults.past_in, f, has_past_pointer(g, bytes, limit));
 }
 
 /// Reads fragment `f`, if it is one of an indirect block, and notes what is wrong with its pointers. It
@@ -89,6 +102,7 @@ fn check_pointers<V: View>(
     requires sound { V.is_sound view.old }
     requires geometry { IsGeometryOn (V.size view.old) (V.count view.old) g.now }
     requires levels { levels.old.fragment ≡ V.size view.old }
+    requires table { (table_of claims.now).geometry ≡ Some g.now }
     requires inside { f < g.now.size }
     ensures keeps { KeepsView V.stands_for V.tells V.is_gone V.count V.size V.is_sound V.goes_on view.old view.new }
     ensures levels { levels.new.fragment ≡ levels.old.fragment }
@@ -104,10 +118,13 @@ fn check_pointers<V: View>(
     if !is_upper(claims, f) {
         return true;
     }
+    let Some(limit) = read_limit(view, g, f, levels, claims) else {
+        return false;
+    };
     if !levels.read_aside(view, f) {
         return false;
     }
-    note_pointers(g, f, levels.aside(), claims, faults);
+    note_pointers(g, f, levels.aside(), claims, limit, faults);
     true
 }
 
@@ -136,6 +153,7 @@ pub fn check_fragments<V: View>(
         wild_in: None,
         align_in: None,
         twice: None,
+        past_in: None,
         free: None,
     };
     let mut group = None;

@@ -7,8 +7,10 @@
 mod fragments;
 mod groups;
 mod inodes;
+mod limits;
 mod notes;
 mod pointers;
+mod reaches;
 mod slots;
 #[cfg(test)]
 mod tests;

@@ -1,9 +1,11 @@
 // What may be wrong with the pointers in a fragment of an indirect block (`NINDIR` in `fs.h`).
-ghost use Rattle.std.specs.Prelude.{◌≡◌, length};
+ghost use Rattle.std.specs.Prelude.{◌≡◌, IfSome, length};
 ghost use Rattle.std.specs.Bool.{Decides};
 ghost use Rattle.ufs_model.specs.Geometries.{IsGeometry};
-ghost use Rattle.ufs_check.specs.Pointers.{HasMisalignedPointer, HasWildPointer};
+ghost use Rattle.ufs_check.specs.Limits.{IsInLimits};
+ghost use Rattle.ufs_check.specs.Pointers.{HasMisalignedPointer, HasPastPointer, HasWildPointer};
 
+use crate::limits::{Limit, is_past};
 use ufs_model::{Address, Geometry};
 use ufs_pointer::pointer;
 use ufs_super::address;
@@ -36,6 +38,24 @@ pub fn has_misaligned_pointer(g: &Geometry, bytes: &[u8]) -> bool
             if count == g.frag && start % g.frag != 0 {
                 return true;
             }
+        }
+    }
+    false
+}
+
+/// A pointer isn't 0, though no block of the file is reached through it.
+pub fn has_past_pointer(g: &Geometry, bytes: &[u8], limit: Option<Limit>) -> bool
+    requires geometry { IsGeometry g.now }
+    requires bytes { length bytes.now ≡ g.now.fsize }
+    requires limit { IfSome limit IsInLimits }
+    ensures { Decides result (HasPastPointer g.now bytes.now limit) }
+{
+    let Some(limit) = limit else {
+        return false;
+    };
+    for at in 0..g.fsize / POINTER_BYTES {
+        if pointer(bytes, at) != 0 && is_past(&limit, at) {
+            return true;
         }
     }
     false

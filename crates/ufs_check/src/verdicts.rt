@@ -49,6 +49,9 @@ pub struct FragmentFaults {
     pub align_in: Option<u32>,
     /// It has two or more claims.
     pub twice: Option<u32>,
+    /// It is of an indirect block, and has a pointer that isn't 0 and reaches no block of the file. It is
+    /// told only where no fragment has two claims.
+    pub past_in: Option<u32>,
     /// It has a claim, and is marked free.
     pub free: Option<u32>,
 }
