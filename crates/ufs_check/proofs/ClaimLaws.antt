@@ -167,3 +167,12 @@ fetches_claimed g table one = record {
 pub loses_claimed : (g : Geometry) (table : ClaimTable) (v : Volume) (gone : ℕ → Bool) → HasClaims g table v
     → LosesOne gone (λ block. HasClaims g table v → IsMetadataBy Little g v block) → LosesOne gone (IsMetadataBy Little g v)
 loses_claimed g table v gone has one = record { block = one.block; is = one.is has; lost = one.lost }
+
+-- the same blocks, on fewer volumes
+pub fetches_fewer : {S : Type 0} {fetched : S → List ℕ → S → Type 0} {stands : Volume → Type 0} {tells : Type 0} {may : Volume → ℕ → Type 0} {old new : S} (g : Geometry) (table : ClaimTable)
+    → FetchesOnly fetched stands tells may old new → FetchesOnly fetched (IsClaimedBy stands g table) tells may old new
+fetches_fewer g table one = record {
+  blocks = one.blocks;
+  were = one.were;
+  are = λ told v claimed block h. one.are told v (claimed.0) block h;
+}

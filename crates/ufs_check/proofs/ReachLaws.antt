@@ -2,6 +2,7 @@
 use Rattle.std.proofs.Common.{◌≡◌, ◌∙◌, ℕ, zero, suc, ◌+◌, ◌-◌, ◌*◌, ◌/◌, ◌^◌, ◌<◌, ◌≤◌, ◌⊎◌, inl, inr, List, Option, Some, None, refl, sym, ap, subst, arith}
 use Rattle.std.specs.Prelude.{Bool, Contains, slice_get}
 use Rattle.std.specs.Bool.{Decides}
+use Rattle.std.proofs.Math.Nat.{add-mul}
 use Rattle.std.proofs.lemmas.Bool.{cases_eq, cases_order}
 use Rattle.ufs_model.specs.Blocks.{Volume}
 use Rattle.ufs_model.specs.Claims.{IsClaim, IsOnlyClaim, by_pointer, by_slot, fragments_from, level_of, targets}
@@ -15,8 +16,9 @@ use Rattle.dg_claims.specs.Kept.{IsSource}
 use Rattle.dg_claims.specs.Places.{place_of}
 use Rattle.dg_claims.specs.Tables.{ClaimTable}
 use Rattle.ufs_check.proofs.RunLaws.{contains_from, contains_got, from_contains, from_get, get_from, upper_run}
-use Rattle.ufs_check.specs.Fragments.{HasClaims}
-use Rattle.ufs_check.specs.Reaches.{HasNoTwice, IsBefore, IsPlaceIn, ReachesAs}
+use Rattle.ufs_check.specs.Fragments.{HasClaims, IsUpperIn}
+use Rattle.ufs_check.specs.Reaches.{HasNoTwice, IsBefore, IsPlaceIn, IsReach, ReachesAs}
+use Rattle.ufs_check.specs.declared.reaches.Reach.{Reach}
 
 -- ---- one claim
 
@@ -231,3 +233,79 @@ pub claimed_decides : (claimed : ClaimSource → List ℕ) (f : ℕ) (other sour
     → Decides b (IsOnlyClaim claimed f source)
 claimed_decides claimed f other source b one same =
     (λ test. subst (λ s. IsOnlyClaim claimed f s) (same.0 test) one, λ two. same.1 (two.only other one.claim))
+
+-- a fragment through whose pointers blocks are reached is one of an indirect block
+pub reach_upper : (g : Geometry) (table : ClaimTable) (v : Volume) (f level at i n : ℕ) → HasClaims g table v → FirstBlock Little g v (Pointer f level at) i n → IsUpperIn table f
+reach_upper g table v f level at i n has h =
+    let up = above_of g v f level at i n h in (
+      up.source,
+      (let of_level = up.of_level in let above = up.above in omega arith),
+      (has.claims f (up.source)).1 (above_claim g v f level at i n up),
+    )
+
+-- ---- what is reached through each pointer of a fragment
+
+reach_none : (g : Geometry) (v : Volume) (f : ℕ) (r : Option Reach) → r ≡ None → ((level at i n : ℕ) → IsAbove g v f level at i n → ⊥) → IsReach g v f r
+reach_none g v f r empty none = rw empty (record {
+  is = tt;
+  only = λ level at i n h. tt;
+  some = λ level at i n h e. none level at i n (above_of g v f level at i n h);
+})
+
+pub reach_no_claim : (g : Geometry) (table : ClaimTable) (v : Volume) (f : ℕ) (r : Option Reach) → r ≡ None → HasClaims g table v → HasNoTwice g v
+    → ((source : ClaimSource) → IsOnlyClaim table.claimed f source → ⊥) → IsReach g v f r
+reach_no_claim g table v f r empty has once none =
+    reach_none g v f r empty (λ level at i n up. none (up.source) (only_claim g table v f (up.source) has once (above_claim g v f level at i n up)))
+
+pub reach_data : (g : Geometry) (table : ClaimTable) (v : Volume) (f : ℕ) (source : ClaimSource) (r : Option Reach) → r ≡ None → HasClaims g table v
+    → IsOnlyClaim table.claimed f source → level_of source ≡ 0 → IsReach g v f r
+reach_data g table v f source r empty has one data_level =
+    reach_none g v f r empty (λ level at i n up.
+    let same = ap level_of (above_same g table v f level at i n source has one up) in
+    let of_level = up.of_level in
+    let above = up.above in
+    omega arith)
+
+-- the level of what is above a fragment
+above_level : (g : Geometry) (table : ClaimTable) (v : Volume) (f level other at i n : ℕ) (source : ClaimSource) → HasClaims g table v → IsOnlyClaim table.claimed f source → level ≡ level_of source
+    → IsAbove g v f other at i n → other ≡ level
+above_level g table v f level other at i n source has one is up =
+    sym up.of_level ∙ ap level_of (above_same g table v f other at i n source has one up) ∙ sym is
+
+-- the first pointer of a fragment, by another one
+first_pointer : (g : Geometry) (v : Volume) (f level at i n : ℕ) (up : IsAbove g v f level at i n)
+    → FirstBlock Little g v (Pointer f level 0) i (up.m + (up.place * (g.fsize / 4) + 0) * g.nindir ^ (level - 1))
+first_pointer g v f level at i n up = of_pointer (up.place) up.before up.here up.of_level up.above
+
+pub reach_no_upper : (g : Geometry) (table : ClaimTable) (v : Volume) (f level : ℕ) (source : ClaimSource) (r : Option Reach) → r ≡ None → HasClaims g table v
+    → IsOnlyClaim table.claimed f source → level ≡ level_of source → ReachesAs g v (Pointer f level 0) None → IsReach g v f r
+reach_no_upper g table v f level source r empty has one is reach =
+    reach_none g v f r empty (λ other at i n up0.
+    let up : IsAbove g v f level at i n = subst (λ l. IsAbove g v f l at i n) (above_level g table v f level other at i n source has one is up0) up0 in
+    let no = reach.only i (up.m + (up.place * (g.fsize / 4) + 0) * g.nindir ^ (level - 1)) (first_pointer g v f level at i n up) in cc)
+
+-- from the first pointer to another one
+step_to : (m q at w first : ℕ) → first ≡ m + (q + 0) * w → m + (q + at) * w ≡ first + at * w
+step_to m q at w first is =
+    let zero_more : q + 0 ≡ q = omega arith in
+    let first_is : first ≡ m + q * w = rw zero_more at is in
+    omega (arith, add-mul q at w, first_is)
+
+pub reach_some : (g : Geometry) (table : ClaimTable) (v : Volume) (f level i first : ℕ) (source : ClaimSource) → HasClaims g table v → IsOnlyClaim table.claimed f source → level ≡ level_of source
+    → ReachesAs g v (Pointer f level 0) (Some (i, first)) → IsReach g v f (Some (record { level = level; inode = i; first = first }))
+reach_some g table v f level i first source has one is reach = record {
+  is = λ at.
+      let up = above_of g v f level 0 i first reach.is in
+      subst (λ n. FirstBlock Little g v (Pointer f level at) i n) (step_to (up.m) (up.place * (g.fsize / 4)) at (g.nindir ^ (level - 1)) first up.total)
+      (of_pointer (up.place) up.before up.here up.of_level up.above);
+  only = λ other at j n h.
+      let up0 = above_of g v f other at j n h in
+      let same = above_level g table v f level other at j n source has one is up0 in
+      let up : IsAbove g v f level at j n = subst (λ l. IsAbove g v f l at j n) same up0 in
+      let block = up.m + (up.place * (g.fsize / 4) + 0) * g.nindir ^ (level - 1) in
+      let answer : IsAnswer (Some (i, first)) (Some (j, block)) = reach.only j block (first_pointer g v f level at j n up) in
+      let inode : i ≡ j = ap inode_in answer in
+      let start : first ≡ block = ap block_in answer in
+      (same, sym inode, up.total ∙ step_to (up.m) (up.place * (g.fsize / 4)) at (g.nindir ^ (level - 1)) first start);
+  some = λ other at j n h e. let no : Some (record { level = level; inode = i; first = first }) ≡ None = e in cc;
+}
