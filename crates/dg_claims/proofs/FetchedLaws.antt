@@ -1,13 +1,13 @@
 -- What a reader fetched or lost, one reader after another.
-use Rattle.std.proofs.Common.{◌≡◌, ◌∙◌, ℕ, zero, suc, ◌+◌, ◌<◌, ◌⊎◌, List, [], ◌∷◌, ◌++◌, Bool, true, false, inl, inr, Option, Some, None, refl, sym, ap, subst, arith, All}
+use Rattle.std.proofs.Common.{◌≡◌, ◌∙◌, ℕ, ◌+◌, List, [], ◌∷◌, ◌++◌, Bool, true, false, inl, inr, Option, Some, None, Result, Ok, Err, IfOk, IfSome, IfNone, sym, ap, subst, arith, All}
 use Rattle.std.specs.Bool.{then_some}
 use Rattle.std.specs.List.{list_any}
 use Rattle.std.proofs.lemmas.Bool.{or_cases, false≢true}
 use Rattle.std.proofs.lemmas.List.Elements.{All-append, All-cons, All-head, All-nil, All-tail, All-weaker}
 use Rattle.ufs_model.specs.Blocks.{Volume, Consulted, Reading, area_of, bind, block_at}
-use Rattle.ufs_model.specs.Readings.{Grows, MeetsRule, ReadsAs}
-use Rattle.ufs_pointer.specs.Fetches.{BeginsWith, Fetches, IsConsulted}
-use Rattle.dg_claims.specs.Metadata.{FetchesOnly, LosesOne}
+use Rattle.ufs_model.specs.Readings.{ReadsAs}
+use Rattle.ufs_pointer.specs.Fetches.{Fetches, IsConsulted}
+use Rattle.dg_claims.specs.Readers.{FetchesOnly, LosesOne}
 
 -- ---- from a reading
 
@@ -96,3 +96,19 @@ pub loses_along : {stands still : Volume → Type 0} {tells : Type 0} {kind othe
 loses_along keeps one = record {
   lost = λ is v holds. let on = keeps is v holds in let l = one.lost is v (on.0) in (l.0, on.1 (l.0) (l.1), l.2);
 }
+
+-- ---- answers of calls
+
+pub ok_map : {A E : Type 0} (r : Result A E) (P Q : A → Type 0) → ((a : A) → P a → Q a) → IfOk r P → IfOk r Q
+ok_map (Ok a) P Q f h = f a h
+ok_map (Err e) P Q f h = tt
+
+pub ok_some : {A E : Type 0} (r : Result (Option A) E) (P Q R : A → Type 0) → ((a : A) → P a → Q a → R a) → IfOk r (λ s. IfSome s P) → IfOk r (λ s. IfSome s Q) → IfOk r (λ s. IfSome s R)
+ok_some (Ok (Some a)) P Q R f p q = f a p q
+ok_some (Ok None) P Q R f p q = tt
+ok_some (Err e) P Q R f p q = tt
+
+pub ok_none : {A E : Type 0} (r : Result (Option A) E) (P Q : Type 0) → (P → Q) → IfOk r (λ s. IfNone s P) → IfOk r (λ s. IfNone s Q)
+ok_none (Ok (Some a)) P Q f p = tt
+ok_none (Ok None) P Q f p = f p
+ok_none (Err e) P Q f p = tt

@@ -1,5 +1,5 @@
 -- Which fragments have a claim at a level.
-use Rattle.std.proofs.Common.{◌≡◌, ℕ, zero, suc, ◌+◌, ◌<◌, ◌≤◌, ◌⊎◌, ◌↔◌, ◌∙◌, ◌==◌, inl, inr, List, [], ◌∷◌, ◌++◌, Bool, true, false, cond, Contains, Option, Some, None, IfSome, refl, sym, ap, subst, arith, if◌then◌else◌}
+use Rattle.std.proofs.Common.{◌≡◌, ℕ, ◌+◌, ◌<◌, ◌↔◌, ◌∙◌, ◌==◌, inl, inr, List, [], ◌∷◌, ◌++◌, Bool, true, false, Contains, Option, Some, None, IfSome, refl, sym, ap, subst, arith, if◌then◌else◌}
 use Rattle.std.specs.List.{list_any}
 use Rattle.std.proofs.lemmas.Bool.{cases_eq, false≢true, or_cases, or_left, or_right}
 use Rattle.std.proofs.lemmas.Bool.Decides.{nat_tests}
@@ -46,10 +46,10 @@ pub claimed_at : (inside : Inside) (kept : KeptClaims) (fragment level : ℕ) �
     → (list_any (is_at_level level) (marked_on inside.marks fragment) ≡ true) ↔ IsClaimedAt (claimed_by kept.runs) level fragment
 claimed_at inside kept fragment level view is = (
   λ h.
-    let some = any_source level (marked_on inside.marks fragment) h in
-    (source_of (some.0), some.2, (claims_marked inside kept fragment (source_of (some.0)) view is).0 (subst (λ p. Contains (marked_on inside.marks fragment) p) (sym (place_is (some.0))) (some.1))),
+      let some = any_source level (marked_on inside.marks fragment) h in
+      (source_of (some.0), some.2, (claims_marked inside kept fragment (source_of (some.0)) view is).0 (subst (λ p. Contains (marked_on inside.marks fragment) p) (sym (place_is (some.0))) (some.1))),
   λ h.
-    source_any level (marked_on inside.marks fragment) (place_of (h.0)) ((claims_marked inside kept fragment (h.0) view is).1 (h.2)) (ap level_of (source_is (h.0)) ∙ h.1),
+      source_any level (marked_on inside.marks fragment) (place_of (h.0)) ((claims_marked inside kept fragment (h.0) view is).1 (h.2)) (ap level_of (source_is (h.0)) ∙ h.1),
 )
 
 inside_run : (geometry : Option Geometry) (size fragment : ℕ) (place : Place) (run : Option Run) → IfSome run (λ r. IsSource geometry place × IsRun size r) → Contains (run_fragments run) fragment → fragment < size

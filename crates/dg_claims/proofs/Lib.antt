@@ -3,7 +3,9 @@ pub mod KeptLaws
 pub mod LevelLaws
 pub mod ListLaws
 pub mod MarkLaws
+pub mod MetadataLaws
 pub mod OwnerLaws
 pub mod RunLaws
+pub mod ScanLaws
 pub mod SourceLaws
 pub mod SpanLaws

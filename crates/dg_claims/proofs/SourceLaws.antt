@@ -13,7 +13,7 @@ use Rattle.ufs_model.specs.declared.geometries.Geometry.{Geometry}
 use Rattle.ufs_model.specs.declared.inodes.Inode.{Inode}
 use Rattle.ufs_model.specs.declared.numbers.Endian.TheVariants.{Little}
 use Rattle.dg_claims.specs.Kept.{HasSources, IsSource, KeptClaims, SetsFirst, claimed_by}
-use Rattle.dg_claims.specs.Places.{index_of, place_of, source_of}
+use Rattle.dg_claims.specs.Places.{index_of, place_of, pointer_place, slot_place, source_of}
 use Rattle.dg_claims.specs.Runs.{run_at, run_fragments}
 use Rattle.dg_claims.specs.Tables.{fragment_pointers, inode_fragments}
 use Rattle.dg_claims.specs.declared.places.Place.{Place}
@@ -27,13 +27,13 @@ source_is (Slot inode slot) = refl
 source_is (Pointer fragment level at) = refl
 
 pub place_is : (place : Place) → place_of (source_of place) ≡ place
-place_is (SlotPlace inode slot) = refl
-place_is (PointerPlace fragment level at) = refl
+place_is (SlotPlace slot inode) = refl
+place_is (PointerPlace level at fragment) = refl
 
-pub slot_apart : (inode i j : ℕ) → SlotPlace inode i ≡ SlotPlace inode j → i ≡ j
+pub slot_apart : (inode i j : ℕ) → slot_place inode i ≡ slot_place inode j → i ≡ j
 slot_apart inode i j e = cc
 
-pub pointer_apart : (fragment level i j : ℕ) → PointerPlace fragment level i ≡ PointerPlace fragment level j → i ≡ j
+pub pointer_apart : (fragment level i j : ℕ) → pointer_place fragment level i ≡ pointer_place fragment level j → i ≡ j
 pointer_apart fragment level i j e = cc
 
 -- ---- the first of some places
@@ -81,16 +81,16 @@ cond_false b x y e = ap (λ t. cond t x y) e
 cond_true : {X : Type 0} (b : Bool) (x y : X) → b ≡ true → cond b x y ≡ x
 cond_true b x y e = ap (λ t. cond t x y) e
 
-past_slots : (g : Geometry) (inode : Inode) (slot : ℕ) → 15 ≤ slot → slot_fragments g inode slot ≡ []
+pub past_slots : (g : Geometry) (inode : Inode) (slot : ℕ) → 15 ≤ slot → slot_fragments g inode slot ≡ []
 unfolding slot_fragments
 past_slots g inode slot le =
     cond_false (has_pointers g inode && nat_lt slot 15) (fragments_at (slot_address g inode slot)) []
     (and_false (has_pointers g inode) (nat_lt slot 15) (nat_lt_false slot 15 le))
 
-no_slot : (kept : KeptClaims) (g : Geometry) (number slot : ℕ) → HasSources kept → kept.geometry ≡ Some g → 15 ≤ slot → run_at kept.runs (SlotPlace number slot) ≡ None
+no_slot : (kept : KeptClaims) (g : Geometry) (number slot : ℕ) → HasSources kept → kept.geometry ≡ Some g → 15 ≤ slot → run_at kept.runs (slot_place number slot) ≡ None
 no_slot kept g number slot sources is le =
-    none_from (λ run. IsSource kept.geometry (SlotPlace number slot)) (run_at kept.runs (SlotPlace number slot)) (sources (SlotPlace number slot))
-    (λ run h. let source : IsSource (Some g) (SlotPlace number slot) = subst (λ o. IsSource o (SlotPlace number slot)) is h in omega (arith, source.2, le))
+    none_from (λ run. IsSource kept.geometry (slot_place number slot)) (run_at kept.runs (slot_place number slot)) (sources (slot_place number slot))
+    (λ run h. let source : IsSource (Some g) (slot_place number slot) = subst (λ o. IsSource o (slot_place number slot)) is h in omega (arith, source.2, le))
 
 slot_cases : (slot : ℕ) → (slot < 15) ⊎ (15 ≤ slot)
 slot_cases slot = elim (nat_lt slot 15) as (λ b. nat_lt slot 15 ≡ b → (slot < 15) ⊎ (15 ≤ slot)) [
@@ -99,25 +99,25 @@ slot_cases slot = elim (nat_lt slot 15) as (λ b. nat_lt slot 15 ≡ b → (slot
 ] refl
 
 pub all_slots : (kept : KeptClaims) (g : Geometry) (number : ℕ) (inode : Inode) (new : List (Place × Run)) → HasSources kept → kept.geometry ≡ Some g
-    → is_within 2 (g.ncg * g.ipg) number ≡ true → SetsFirst kept.runs new (SlotPlace number) (slot_fragments g inode) 15
+    → is_within 2 (g.ncg * g.ipg) number ≡ true → SetsFirst kept.runs new (slot_place number) (slot_fragments g inode) 15
     → (slot : ℕ) → claimed_by new (Slot number slot) ≡ inode_fragments kept.geometry number inode slot
 unfolding claimed_by inode_fragments
 all_slots kept g number inode new sources is within first slot =
     let wanted : inode_fragments (Some g) number inode slot ≡ slot_fragments g inode slot = cond_true (is_within 2 (g.ncg * g.ipg) number) (slot_fragments g inode slot) [] within in
-    subst (λ o. run_fragments (run_at new (SlotPlace number slot)) ≡ inode_fragments o number inode slot) (sym is) (elim (slot_cases slot) [
+    subst (λ o. run_fragments (run_at new (slot_place number slot)) ≡ inode_fragments o number inode slot) (sym is) (elim (slot_cases slot) [
       | inl lt ↦ first.done slot lt ∙ sym wanted
       | inr le ↦
-          ap run_fragments (first.others (SlotPlace number slot) (λ k lt e. omega (arith, slot_apart number slot k e, lt, le)) ∙ no_slot kept g number slot sources is le)
+          ap run_fragments (first.others (slot_place number slot) (λ k lt e. omega (arith, slot_apart number slot k e, lt, le)) ∙ no_slot kept g number slot sources is le)
           ∙ sym (past_slots g inode slot le) ∙ sym wanted
     ])
 
 place_apart : (source : ClaimSource) (place : Place) → (source ≡ source_of place → ⊥) → place_of source ≡ place → ⊥
 place_apart source place ne e = ne (sym (source_is source) ∙ ap source_of e)
 
-pub other_slots : (number : ℕ) (old new : List (Place × Run)) → ((place : Place) → ((k : ℕ) → place ≡ SlotPlace number k → ⊥) → run_at new place ≡ run_at old place)
+pub other_slots : (number : ℕ) (old new : List (Place × Run)) → ((place : Place) → ((k : ℕ) → place ≡ slot_place number k → ⊥) → run_at new place ≡ run_at old place)
     → (source : ClaimSource) → ((slot : ℕ) → source ≡ Slot number slot → ⊥) → claimed_by new source ≡ claimed_by old source
 unfolding claimed_by
-other_slots number old new others source off = ap run_fragments (others (place_of source) (λ k. place_apart source (SlotPlace number k) (off k)))
+other_slots number old new others source off = ap run_fragments (others (place_of source) (λ k. place_apart source (slot_place number k) (off k)))
 
 in_range : (number n : ℕ) → 2 ≤ number → number < n → is_within 2 n number ≡ true
 in_range number n low high = grind (arith, nat_tests)
@@ -127,13 +127,13 @@ pub no_inode : (kept : KeptClaims) (number : ℕ) (inode : Inode) → HasSources
     → (slot : ℕ) → claimed_by kept.runs (Slot number slot) ≡ inode_fragments kept.geometry number inode slot
 unfolding claimed_by inode_fragments
 no_inode kept number inode sources out slot =
-    elim (kept.geometry) as (λ o. kept.geometry ≡ o → run_fragments (run_at kept.runs (SlotPlace number slot)) ≡ inode_fragments o number inode slot) [
-      | None ↦ λ is. ap run_fragments (none_from (λ run. IsSource kept.geometry (SlotPlace number slot)) (run_at kept.runs (SlotPlace number slot)) (sources (SlotPlace number slot))
-          (λ run h. subst (λ o. IsSource o (SlotPlace number slot)) is h))
+    elim (kept.geometry) as (λ o. kept.geometry ≡ o → run_fragments (run_at kept.runs (slot_place number slot)) ≡ inode_fragments o number inode slot) [
+      | None ↦ λ is. ap run_fragments (none_from (λ run. IsSource kept.geometry (slot_place number slot)) (run_at kept.runs (slot_place number slot)) (sources (slot_place number slot))
+          (λ run h. subst (λ o. IsSource o (slot_place number slot)) is h))
       | Some g ↦ λ is.
-          ap run_fragments (none_from (λ run. IsSource kept.geometry (SlotPlace number slot)) (run_at kept.runs (SlotPlace number slot)) (sources (SlotPlace number slot))
+          ap run_fragments (none_from (λ run. IsSource kept.geometry (slot_place number slot)) (run_at kept.runs (slot_place number slot)) (sources (slot_place number slot))
           (λ run h.
-          let source : IsSource (Some g) (SlotPlace number slot) = subst (λ o. IsSource o (SlotPlace number slot)) is h in
+          let source : IsSource (Some g) (slot_place number slot) = subst (λ o. IsSource o (slot_place number slot)) is h in
           false≢true (sym (out g is) ∙ in_range number (g.ncg * g.ipg) (source.0) (source.1))))
           ∙ sym (cond_false (is_within 2 (g.ncg * g.ipg) number) (slot_fragments g inode slot) [] (out g is))
     ] refl
@@ -146,43 +146,43 @@ past_pointers g bytes at le =
     cond_false (nat_lt at (g.fsize / 4)) (fragments_at (address g (pointer_in Little bytes at) g.frag)) [] (nat_lt_false at (g.fsize / 4) le)
 
 no_pointer_at : (kept : KeptClaims) (g : Geometry) (fragment level at : ℕ) → HasSources kept → kept.geometry ≡ Some g → g.fsize / 4 ≤ at
-    → run_at kept.runs (PointerPlace fragment level at) ≡ None
+    → run_at kept.runs (pointer_place fragment level at) ≡ None
 no_pointer_at kept g fragment level at sources is le =
-    none_from (λ run. IsSource kept.geometry (PointerPlace fragment level at)) (run_at kept.runs (PointerPlace fragment level at)) (sources (PointerPlace fragment level at))
-    (λ run h. let source : IsSource (Some g) (PointerPlace fragment level at) = subst (λ o. IsSource o (PointerPlace fragment level at)) is h in omega (arith, source.2, le))
+    none_from (λ run. IsSource kept.geometry (pointer_place fragment level at)) (run_at kept.runs (pointer_place fragment level at)) (sources (pointer_place fragment level at))
+    (λ run h. let source : IsSource (Some g) (pointer_place fragment level at) = subst (λ o. IsSource o (pointer_place fragment level at)) is h in omega (arith, source.2, le))
 
-below_cases : (a n : ℕ) → (a < n) ⊎ (n ≤ a)
+pub below_cases : (a n : ℕ) → (a < n) ⊎ (n ≤ a)
 below_cases a n = elim (nat_lt a n) as (λ b. nat_lt a n ≡ b → (a < n) ⊎ (n ≤ a)) [
   | true ↦ λ e. inl (grind (arith, nat_tests))
   | false ↦ λ e. inr (grind (arith, nat_tests))
 ] refl
 
 pub all_pointers : (kept : KeptClaims) (g : Geometry) (fragment level : ℕ) (bytes : List ℕ) (new : List (Place × Run)) → HasSources kept → kept.geometry ≡ Some g
-    → SetsFirst kept.runs new (PointerPlace fragment level) (pointer_fragments Little g bytes) (g.fsize / 4)
+    → SetsFirst kept.runs new (pointer_place fragment level) (pointer_fragments Little g bytes) (g.fsize / 4)
     → (at : ℕ) → claimed_by new (Pointer fragment level at) ≡ fragment_pointers kept.geometry bytes at
 unfolding claimed_by fragment_pointers
 all_pointers kept g fragment level bytes new sources is first at =
-    subst (λ o. run_fragments (run_at new (PointerPlace fragment level at)) ≡ fragment_pointers o bytes at) (sym is) (elim (below_cases at (g.fsize / 4)) [
+    subst (λ o. run_fragments (run_at new (pointer_place fragment level at)) ≡ fragment_pointers o bytes at) (sym is) (elim (below_cases at (g.fsize / 4)) [
       | inl lt ↦ first.done at lt
       | inr le ↦
-          ap run_fragments (first.others (PointerPlace fragment level at) (λ k lt e. omega (arith, pointer_apart fragment level at k e, lt, le)) ∙ no_pointer_at kept g fragment level at sources is le)
+          ap run_fragments (first.others (pointer_place fragment level at) (λ k lt e. omega (arith, pointer_apart fragment level at k e, lt, le)) ∙ no_pointer_at kept g fragment level at sources is le)
           ∙ sym (past_pointers g bytes at le)
     ])
 
-pub other_pointers : (fragment level : ℕ) (old new : List (Place × Run)) → ((place : Place) → ((k : ℕ) → place ≡ PointerPlace fragment level k → ⊥) → run_at new place ≡ run_at old place)
+pub other_pointers : (fragment level : ℕ) (old new : List (Place × Run)) → ((place : Place) → ((k : ℕ) → place ≡ pointer_place fragment level k → ⊥) → run_at new place ≡ run_at old place)
     → (source : ClaimSource) → ((at : ℕ) → source ≡ Pointer fragment level at → ⊥) → claimed_by new source ≡ claimed_by old source
 unfolding claimed_by
 other_pointers fragment level old new others source off =
-    ap run_fragments (others (place_of source) (λ k. place_apart source (PointerPlace fragment level k) (off k)))
+    ap run_fragments (others (place_of source) (λ k. place_apart source (pointer_place fragment level k) (off k)))
 
 -- without a geometry
 pub no_pointer : (kept : KeptClaims) (fragment level : ℕ) (bytes : List ℕ) → HasSources kept → kept.geometry ≡ None
     → (at : ℕ) → claimed_by kept.runs (Pointer fragment level at) ≡ fragment_pointers kept.geometry bytes at
 unfolding claimed_by fragment_pointers
 no_pointer kept fragment level bytes sources is at =
-    subst (λ o. run_fragments (run_at kept.runs (PointerPlace fragment level at)) ≡ fragment_pointers o bytes at) (sym is)
-    (ap run_fragments (none_from (λ run. IsSource kept.geometry (PointerPlace fragment level at)) (run_at kept.runs (PointerPlace fragment level at)) (sources (PointerPlace fragment level at))
-    (λ run h. subst (λ o. IsSource o (PointerPlace fragment level at)) is h)))
+    subst (λ o. run_fragments (run_at kept.runs (pointer_place fragment level at)) ≡ fragment_pointers o bytes at) (sym is)
+    (ap run_fragments (none_from (λ run. IsSource kept.geometry (pointer_place fragment level at)) (run_at kept.runs (pointer_place fragment level at)) (sources (pointer_place fragment level at))
+    (λ run h. subst (λ o. IsSource o (pointer_place fragment level at)) is h)))
 
 -- ---- one source
 
@@ -196,7 +196,7 @@ unfolding claimed_by
 other_sources old new source other place is others ne =
     ap run_fragments (others (place_of other) (λ e. ne (sym (source_is other) ∙ ap source_of (e ∙ is) ∙ source_is source)))
 
-no_large : (o : Option Geometry) (fragment level at : ℕ) → IfSome o IsGeometry → IsSource o (PointerPlace fragment level at) → 2 ^ 16 ≤ at → ⊥
+no_large : (o : Option Geometry) (fragment level at : ℕ) → IfSome o IsGeometry → IsSource o (pointer_place fragment level at) → 2 ^ 16 ≤ at → ⊥
 no_large None fragment level at is source le = source
 no_large (Some g) fragment level at is source le =
     let size = is.fsize in
@@ -208,5 +208,5 @@ pub large_source : (kept : KeptClaims) (source : ClaimSource) → HasSources kep
 unfolding claimed_by
 large_source kept (Slot inode slot) sources is le = absurd (omega (arith, le))
 large_source kept (Pointer fragment level at) sources is le =
-    ap run_fragments (none_from (λ run. IsSource kept.geometry (PointerPlace fragment level at)) (run_at kept.runs (PointerPlace fragment level at)) (sources (PointerPlace fragment level at))
+    ap run_fragments (none_from (λ run. IsSource kept.geometry (pointer_place fragment level at)) (run_at kept.runs (pointer_place fragment level at)) (sources (pointer_place fragment level at))
     (λ run h. no_large kept.geometry fragment level at is h le))

@@ -36,8 +36,8 @@ size_in (Some g) = g.size
 
 -- a source of the volume: a slot of an inode from 2 to the last, or a pointer of a fragment that has a claim at a level 1 to 3
 abbrev pub IsSourceOf : Geometry → Place → Type 0
-IsSourceOf g (Slot inode slot) = (2 ≤ inode) × (inode < g.ncg * g.ipg) × (slot < 15)
-IsSourceOf g (Pointer fragment level at) = (1 ≤ level) × (level ≤ 3) × (at < g.fsize / 4)
+IsSourceOf g (Slot slot inode) = (2 ≤ inode) × (inode < g.ncg * g.ipg) × (slot < 15)
+IsSourceOf g (Pointer level at fragment) = (1 ≤ level) × (level ≤ 3) × (at < g.fsize / 4)
 
 abbrev pub IsSource : Option Geometry → Place → Type 0
 IsSource None place = ⊥

@@ -1,6 +1,6 @@
 pub mod Kept
 pub mod Marks
-pub mod Metadata
+pub mod Readers
 pub mod Places
 pub mod Runs
 pub mod Scans

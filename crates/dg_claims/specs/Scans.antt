@@ -1,13 +1,14 @@
 -- The state of a scan of a volume.
-use Rattle.std.specs.Prelude.{◌≡◌, ℕ, ◌*◌, ◌-◌, ◌<◌, ◌≤◌, ◌↔◌, List, [], Option, Some, None, IfSome, length}
+use Rattle.std.specs.Prelude.{◌≡◌, ℕ, ◌*◌, ◌<◌, ◌≤◌, ◌↔◌, ◌⊎◌, List, [], Option, Some, None, IfSome}
 use Rattle.std.specs.List.{Contains}
 use Rattle.ufs_model.specs.Blocks.{Volume, block_at}
-use Rattle.ufs_model.specs.Claims.{IsClaim, level_of}
+use Rattle.ufs_model.specs.Claims.{IsClaim, level_of, targets}
 use Rattle.ufs_model.specs.Inodes.{inode_block}
 use Rattle.ufs_model.specs.declared.claims.ClaimSource.{ClaimSource}
 use Rattle.ufs_model.specs.declared.claims.ClaimSource.TheVariants.{Slot, Pointer}
 use Rattle.ufs_model.specs.declared.geometries.Geometry.{Geometry}
 use Rattle.ufs_model.specs.declared.inodes.Inode.{Inode}
+use Rattle.ufs_model.specs.declared.numbers.Endian.TheVariants.{Little}
 use Rattle.dg_claims.specs.Tables.{inode_fragments}
 
 -- a block in which an inode of the volume stands
@@ -36,3 +37,7 @@ HoldsIn l v held buffer = IfSome held (λ b. buffer ≡ block_at l v b)
 abbrev pub stored_fragments : Option Geometry → ℕ → Option Inode → ℕ → List ℕ
 stored_fragments g number None slot = []
 stored_fragments g number (Some inode) slot = inode_fragments g number inode slot
+
+-- a block that is read for the claims of a volume with this geometry
+abbrev pub IsRead : Geometry → Volume → ℕ → Type 0
+IsRead g v b = HasInode g b ⊎ IsIndirect (targets Little g v) b

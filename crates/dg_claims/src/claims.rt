@@ -199,7 +199,11 @@ impl Claims {
     {
         let mut fragments = Vec::new(alloc);
         for fragment in 0..size_in(self.geometry) {
-            push_if(&mut fragments, fragment, self.marks.has_level(fragment, level))?;
+            push_if(
+                &mut fragments,
+                fragment,
+                self.marks.has_level(fragment, level),
+            )?;
         }
         Ok(fragments)
     }

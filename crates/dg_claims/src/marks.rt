@@ -9,7 +9,7 @@ use dg_io::NoMemory;
 use std::alloc::Global;
 use std::collections::BTreeMap;
 
-/// Which sources claim each fragment. Most fragments have one at most.
+/// Which sources claim each fragment. Most fragments have one at most, in 12 bytes.
 #[derive(Drop)]
 pub struct Marks {
     alloc: Global,
@@ -18,6 +18,8 @@ pub struct Marks {
     /// The further sources of the fragments that have more.
     more: BTreeMap<u32, Vec<Place>>,
 }
+
+const _: () = prove!(size_of::<Option<Place>>() == 12);
 
 impl Marks {
     /// So many fragments, of which none is claimed. It takes the memory for one source of each.

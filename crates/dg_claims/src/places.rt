@@ -8,14 +8,16 @@ use ufs_model::ClaimSource;
 /// The last direct slot of an inode (`NDADDR`).
 const LAST_DIRECT: u8 = 11;
 
-/// A source, in little room: a pointer's number in its fragment is below 2^16.
+/// A source, in 8 bytes: a pointer's number in its fragment is below 2^16.
 #[derive(Clone, Copy, Debug, PartialEq, Eq, PartialOrd, Ord)]
 pub enum Place {
     /// A slot of an inode.
-    Slot { inode: u32, slot: u8 },
+    Slot { slot: u8, inode: u32 },
     /// A pointer in a fragment of an indirect block, with the level of the fragment's claim.
-    Pointer { fragment: u32, level: u8, at: u16 },
+    Pointer { level: u8, at: u16, fragment: u32 },
 }
+
+const _: () = prove!(size_of::<Place>() == 8);
 
 /// Whether two sources are one.
 pub fn is_same(one: Place, other: Place) -> bool

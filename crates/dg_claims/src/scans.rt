@@ -1,90 +1,72 @@
-ghost use Rattle.std.specs.Prelude.{◌≡◌, ◌+◌, ◌*◌, ◌-◌, ◌<◌, ◌≤◌, ℕ, List, [], IfOk, IfSome, OnOk, Ok, Some, None, drop, length, take, true, false};
+ghost use Rattle.std.specs.Prelude.{◌≡◌, ◌⊎◌, ℕ, List, IfNone, IfOk, IfSome, Some, ◌↔◌};
+ghost use Rattle.std.specs.List.{Contains};
 ghost use Rattle.dg_io.specs.Views.{KeepsView};
-ghost use Rattle.ufs_model.specs.Blocks.{block_at};
-ghost use Rattle.ufs_model.specs.Claims.{targets};
+ghost use Rattle.ufs_model.specs.Claims.{IsClaim, targets};
 ghost use Rattle.ufs_model.specs.Geometries.{IsGeometryOn};
-ghost use Rattle.ufs_model.specs.Inodes.{inode_in};
 ghost use Rattle.ufs_model.specs.declared.claims.ClaimSource.{ClaimSource};
 ghost use Rattle.ufs_model.specs.declared.numbers.Endian.TheVariants.{Little};
 ghost use Rattle.dg_claims.specs.Kept.{table_of};
-ghost use Rattle.dg_claims.specs.Metadata.{FetchesOnly, LosesOne};
-ghost use Rattle.dg_claims.specs.Scans.{HasInode, HasNoPointers, HoldsIn, IsIndirect, IsRightAbove, stored_fragments};
+ghost use Rattle.dg_claims.specs.Readers.{FetchesOnly, IsTableOf, LosesOne};
+ghost use Rattle.ufs_model.specs.Metadata.{IsMetadata};
+ghost use Rattle.dg_claims.specs.Scans.{IsRead};
 
-use crate::claims::{Claims, FIRST_INODE};
+use crate::claims::Claims;
+use crate::inodes::scan_inodes;
+use crate::levels::scan_levels;
 use dg_io::{NoMemory, View};
 use std::alloc::Global;
-use ufs_inode::{place_of, read_inode};
-use ufs_model::{ClaimSource, Geometry, Inode};
-use ufs_pointer::Levels;
+use ufs_model::Geometry;
+use ufs_pointer::{Levels, read_geometry};
 
-/// Bytes of an inode (`struct dinode`).
-const INODE_BYTES: usize = 128;
-
-/// Reads a fragment beside the block of data, and answers whether it could.
-fn read_fragment<V: View>(view: &mut V, levels: &mut Levels, fragment: u32) -> bool
+/// The claims of a volume with this geometry. There are none where a block that has to be read is gone.
+fn scan_volume<V: View>(
+    alloc: Global,
+    view: &mut V,
+    g: &Geometry,
+    levels: &mut Levels,
+) -> Result<Option<Claims>, NoMemory>
     requires sound { V.is_sound view.old }
-    requires within { fragment < V.count view.old }
+    requires geometry { IsGeometryOn (V.size view.old) (V.count view.old) g.now }
     requires levels { levels.old.fragment ≡ V.size view.old }
     ensures keeps { KeepsView V.stands_for V.tells V.is_gone V.count V.size V.is_sound V.goes_on view.old view.new }
     ensures levels { levels.new.fragment ≡ levels.old.fragment }
-    ensures room { length levels.new.aside ≡ V.size view.old }
-    ensures bytes { result ≡ true → V.tells view.new → (v : List (List ℕ)) → V.stands_for view.old v → levels.new.aside ≡ block_at (V.size view.old) v fragment }
-    ensures lost { result ≡ false → LosesOne (V.stands_for view.old) (V.tells view.new) (λ v b. b ≡ fragment) (V.is_gone view.new) }
-    ensures fetched { FetchesOnly V.fetched (V.stands_for view.old) (V.tells view.new) (λ v b. b ≡ fragment) view.old view.new }
+    ensures geometry { IfOk result (λ scanned. IfSome scanned (λ claims. (table_of claims).geometry ≡ Some g.now)) }
+    ensures claims { IfOk result (λ scanned. IfSome scanned (λ claims. V.tells view.new → (v : List (List ℕ)) → V.stands_for view.old v
+        → (fragment : ℕ) (source : ClaimSource) → Contains ((table_of claims).claimed source) fragment ↔ IsClaim (targets Little g.now v) fragment source)) }
+    ensures lost { IfOk result (λ scanned. IfNone scanned (LosesOne (V.stands_for view.old) (V.tells view.new) (λ v b. IsRead g.now v b) (V.is_gone view.new))) }
+    ensures fetched { FetchesOnly V.fetched (V.stands_for view.old) (V.tells view.new) (λ v b. IsRead g.now v b) view.old view.new }
 {
-    levels.read_aside(view, fragment)
+    let mut claims = Claims::new(alloc, Some(*g))?;
+    if !scan_inodes(view, g, levels, &mut claims)? {
+        return Ok(None);
+    }
+    if !scan_levels(alloc, view, g, levels, &mut claims)? {
+        return Ok(None);
+    }
+    Ok(Some(claims))
 }
 
-/// Has a block beside the block of data, which is read where it isn't the one that is held there, and answers whether it could.
-fn hold<V: View>(view: &mut V, levels: &mut Levels, held: &mut Option<u32>, block: u32) -> bool
+/// The claims of the volume on a view. A volume whose superblock is refused has none. There is no table where a metadata block is
+/// gone. The buffers are for blocks of the view's size.
+pub fn scan<V: View>(
+    alloc: Global,
+    view: &mut V,
+    levels: &mut Levels,
+) -> Result<Option<Claims>, NoMemory>
     requires sound { V.is_sound view.old }
-    requires within { block < V.count view.old }
     requires levels { levels.old.fragment ≡ V.size view.old }
-    requires room { IfSome held.old (λ b. length levels.old.aside ≡ V.size view.old) }
     ensures keeps { KeepsView V.stands_for V.tells V.is_gone V.count V.size V.is_sound V.goes_on view.old view.new }
     ensures levels { levels.new.fragment ≡ levels.old.fragment }
-    ensures held { result ≡ true → (held.new ≡ Some block) × (length levels.new.aside ≡ V.size view.old) }
-    ensures bytes { result ≡ true → V.tells view.new → (v : List (List ℕ)) → V.stands_for view.old v → HoldsIn (V.size view.old) v held.old levels.old.aside
-        → levels.new.aside ≡ block_at (V.size view.old) v block }
-    ensures lost { result ≡ false → LosesOne (V.stands_for view.old) (V.tells view.new) (λ v b. b ≡ block) (V.is_gone view.new) }
-    ensures fetched { FetchesOnly V.fetched (V.stands_for view.old) (V.tells view.new) (λ v b. b ≡ block) view.old view.new }
+    ensures claims { IfOk result (λ scanned. IfSome scanned (λ claims. V.tells view.new → (v : List (List ℕ)) → V.stands_for view.old v
+        → IsTableOf Little (V.size view.old) (V.count view.old) v (table_of claims))) }
+    ensures lost { IfOk result (λ scanned. IfNone scanned (LosesOne (V.stands_for view.old) (V.tells view.new)
+        (IsMetadata Little (V.size view.old) (V.count view.old)) (V.is_gone view.new))) }
+    ensures fetched { FetchesOnly V.fetched (V.stands_for view.old) (V.tells view.new)
+        (IsMetadata Little (V.size view.old) (V.count view.old)) view.old view.new }
 {
-    if *held == Some(block) {
-        return true;
-    }
-    *held = None;
-    if !read_fragment(view, levels, block) {
-        return false;
-    }
-    *held = Some(block);
-    true
-}
-
-/// The inode at a byte of its block. There is none where it is unallocated.
-fn inode_at(block: &[u8], byte: u32) -> Option<Inode>
-    requires { byte + 128 ≤ length block.now }
-    ensures { result ≡ inode_in Little (take 128 (drop byte block.now)) }
-{
-    let start = byte as usize;
-    read_inode(&block[start..start + INODE_BYTES])
-}
-
-/// The slots of the inode at a byte of its block claim what it says. They claimed nothing.
-fn claim_stored(
-    claims: &mut Claims,
-    number: u32,
-    block: &[u8],
-    byte: u32,
-) -> Result<(), NoMemory>
-    requires inside { byte + 128 ≤ length block.now }
-    requires bare { (slot : ℕ) → (table_of claims.old).claimed (ClaimSource.Slot number slot) ≡ [] }
-    ensures geometry { (table_of claims.new).geometry ≡ (table_of claims.old).geometry }
-    ensures slots { OnOk result ((slot : ℕ) → (table_of claims.new).claimed (ClaimSource.Slot number slot)
-        ≡ stored_fragments (table_of claims.old).geometry number (inode_in Little (take 128 (drop byte block.now))) slot) }
-    ensures others { (source : ClaimSource) → ((slot : ℕ) → source ≡ ClaimSource.Slot number slot → ⊥) → (table_of claims.new).claimed source ≡ (table_of claims.old).claimed source }
-{
-    match inode_at(block, byte) {
-        Some(inode) => claims.of_inode(number, &inode),
-        None => Ok(()),
+    match read_geometry(view, levels) {
+        Some(Ok(g)) => scan_volume(alloc, view, &g, levels),
+        Some(Err(_)) => Ok(Some(Claims::new(alloc, None)?)),
+        None => Ok(None),
     }
 }

@@ -1,4 +1,4 @@
-use Rattle.std.proofs.Common.{ℕ, ◌+◌, ◌<◌, ◌↔◌, ◌≡◌, ◌∙◌, arith, refl, sym, ap, subst, List, Contains}
+use Rattle.std.proofs.Common.{ℕ, ◌+◌, ◌<◌, ◌↔◌, ◌∙◌, arith, refl, sym, ap, subst, List, Contains}
 use Rattle.dg_claims.proofs.LevelLaws.{claimed_inside, fragments_more, wanted_at}
 use Rattle.dg_claims.specs.Kept.{KeptClaims, claimed_by, size_in}
 use Rattle.dg_claims.specs.Tables.{IsClaimedAt}
@@ -16,8 +16,8 @@ returns-clause-claimed c = λ fragment.
       λ has. (listed.0 has).1,
       λ at. listed.1 (
         (let inside = claimed_inside c.self.inside c.args.self.now fragment c.args.level c.self.view_is c.self.invariant at in
-        let size = c.size_in-fragment-end.ensures ∙ ap (λ (k : KeptClaims). size_in k.geometry) c.self.view_is in
-        omega (arith, inside, size, c.loop-fragment-test.false)),
+            let size = c.size_in-fragment-end.ensures ∙ ap (λ (k : KeptClaims). size_in k.geometry) c.self.view_is in
+            omega (arith, inside, size, c.loop-fragment-test.false)),
         at,
       ),
     )

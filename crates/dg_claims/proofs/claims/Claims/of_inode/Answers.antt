@@ -2,19 +2,19 @@ use Rattle.std.proofs.Common.{◌≡◌, arith, subst}
 use Rattle.ufs_model.specs.Claims.{slot_fragments}
 use Rattle.dg_claims.proofs.SourceLaws.{all_slots, other_slots, sets_cut}
 use Rattle.dg_claims.specs.Kept.{SetsFirst}
-use Rattle.dg_claims.specs.declared.places.Place.TheVariants.{Slot}
+use Rattle.dg_claims.specs.Places.{slot_place}
 use Rattle.dg_claims.proofs.claims.Claims.of_inode.Goals as goal
 
 pub returns-in_err-set-clause-others : goal.returns-in_err-set-clause-others
 returns-in_err-set-clause-others c =
     other_slots c.args.number c.args.self.now.runs c.set.new.self.runs
-    (sets_cut c.args.self.now.runs c.loop-slot.self.runs c.set.new.self.runs (Slot c.args.number) (slot_fragments c.in-Some.g c.args.inode.now) c.loop-slot.slot c.loop-slot.invariant.slots c.set.ensures.others)
+    (sets_cut c.args.self.now.runs c.loop-slot.self.runs c.set.new.self.runs (slot_place c.args.number) (slot_fragments c.in-Some.g c.args.inode.now) c.loop-slot.slot c.loop-slot.invariant.slots c.set.ensures.others)
 
 pub returns-clause-slots : goal.returns-clause-slots
 returns-clause-slots c =
     let last : c.loop-slot.slot ≡ 15 = omega (arith, c.loop-slot-test.false, c.loop-slot.auto.slot-end) in
     all_slots c.args.self.now c.in-Some.g c.args.number c.args.inode.now c.loop-slot.self.runs c.in-Some.ensures.sources c.in-Some.ensures.value c.in-Some.ensures.number
-    (subst (λ n. SetsFirst c.args.self.now.runs c.loop-slot.self.runs (Slot c.args.number) (slot_fragments c.in-Some.g c.args.inode.now) n) last c.loop-slot.invariant.slots)
+    (subst (λ n. SetsFirst c.args.self.now.runs c.loop-slot.self.runs (slot_place c.args.number) (slot_fragments c.in-Some.g c.args.inode.now) n) last c.loop-slot.invariant.slots)
 
 pub returns-clause-others : goal.returns-clause-others
 returns-clause-others c =

@@ -3,19 +3,19 @@ use Rattle.ufs_model.specs.Claims.{pointer_fragments}
 use Rattle.ufs_model.specs.declared.numbers.Endian.TheVariants.{Little}
 use Rattle.dg_claims.proofs.SourceLaws.{all_pointers, other_pointers, sets_cut}
 use Rattle.dg_claims.specs.Kept.{SetsFirst}
-use Rattle.dg_claims.specs.declared.places.Place.TheVariants.{Pointer}
+use Rattle.dg_claims.specs.Places.{pointer_place}
 use Rattle.dg_claims.proofs.claims.Claims.of_pointers.Goals as goal
 
 pub returns-in_err-set-clause-others : goal.returns-in_err-set-clause-others
 returns-in_err-set-clause-others c =
     other_pointers c.args.fragment c.args.level c.args.self.now.runs c.set.new.self.runs
-    (sets_cut c.args.self.now.runs c.loop-at.self.runs c.set.new.self.runs (Pointer c.args.fragment c.args.level) (pointer_fragments Little c.in-Some.g c.args.bytes.now) c.loop-at.at c.loop-at.invariant.pointers c.set.ensures.others)
+    (sets_cut c.args.self.now.runs c.loop-at.self.runs c.set.new.self.runs (pointer_place c.args.fragment c.args.level) (pointer_fragments Little c.in-Some.g c.args.bytes.now) c.loop-at.at c.loop-at.invariant.pointers c.set.ensures.others)
 
 pub returns-clause-pointers : goal.returns-clause-pointers
 returns-clause-pointers c =
     let last : c.loop-at.at ≡ c.in-Some.g.fsize / 4 = omega (arith, c.loop-at-test.false, c.loop-at.auto.at-end) in
     all_pointers c.args.self.now c.in-Some.g c.args.fragment c.args.level c.args.bytes.now c.loop-at.self.runs c.in-Some.ensures.sources (sym c.in-Some.ensures.value)
-    (subst (λ n. SetsFirst c.args.self.now.runs c.loop-at.self.runs (Pointer c.args.fragment c.args.level) (pointer_fragments Little c.in-Some.g c.args.bytes.now) n) last c.loop-at.invariant.pointers)
+    (subst (λ n. SetsFirst c.args.self.now.runs c.loop-at.self.runs (pointer_place c.args.fragment c.args.level) (pointer_fragments Little c.in-Some.g c.args.bytes.now) n) last c.loop-at.invariant.pointers)
 
 pub returns-clause-others : goal.returns-clause-others
 returns-clause-others c =

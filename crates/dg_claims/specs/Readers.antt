@@ -1,27 +1,14 @@
--- The blocks of a volume that say where everything else stands (`fs.h`), and what a reader of them fetched or lost.
-use Rattle.std.specs.Prelude.{◌≡◌, ℕ, ◌+◌, ◌*◌, ◌<◌, ◌≤◌, List, Bool, true, Option, Some, None, Result, Ok, Err, ◌↔◌}
-use Rattle.std.specs.Int.{div_ceil}
+-- The table of a volume, and which blocks a reader of it fetched or lost.
+use Rattle.std.specs.Prelude.{◌≡◌, ℕ, List, Bool, true, Option, Some, None, Result, Ok, Err, ◌↔◌}
 use Rattle.std.specs.List.{All, Contains}
 use Rattle.ufs_model.specs.Blocks.{Volume}
-use Rattle.ufs_model.specs.Claims.{IsClaim, level_of, volume_targets}
-use Rattle.ufs_model.specs.Geometries.{cgstart}
-use Rattle.ufs_model.specs.Inodes.{inode_block}
-use Rattle.ufs_model.specs.Roles.{has_super}
+use Rattle.ufs_model.specs.Claims.{IsClaim, volume_targets}
 use Rattle.ufs_model.specs.Superblocks.{geometry_of}
 use Rattle.ufs_model.specs.declared.claims.ClaimSource.{ClaimSource}
 use Rattle.ufs_model.specs.declared.geometries.BadSuper.{BadSuper}
 use Rattle.ufs_model.specs.declared.geometries.Geometry.{Geometry}
 use Rattle.ufs_model.specs.declared.numbers.Endian.{Endian}
 use Rattle.dg_claims.specs.Tables.{ClaimTable}
-
--- A metadata block of a volume of n blocks of l bytes: one with bytes of the superblock; and where there is a geometry, one of a
--- group block, one in which an inode stands, and a fragment with a claim at a level above 0.
-pub data IsMetadata (endian : Endian) (l n : ℕ) (v : Volume) : ℕ → Type 0 where
-  of_super : {b : ℕ} → has_super l b ≡ true → IsMetadata endian l n v b
-  of_group : {b c : ℕ} {g : Geometry} → (geometry_of endian l n v).value ≡ Ok g → c < g.ncg → cgstart g c + g.cblkno ≤ b → b < cgstart g c + g.cblkno + div_ceil g.cgsize g.fsize
-    → IsMetadata endian l n v b
-  of_inode : {b inode : ℕ} {g : Geometry} → (geometry_of endian l n v).value ≡ Ok g → inode < g.ncg * g.ipg → b ≡ inode_block g inode → IsMetadata endian l n v b
-  of_claim : {b : ℕ} {source : ClaimSource} → IsClaim (volume_targets endian l n v) b source → 0 < level_of source → IsMetadata endian l n v b
 
 -- the geometry, if the superblock isn't refused
 abbrev pub accepted : Result Geometry BadSuper → Option Geometry

@@ -1,0 +1,153 @@
+ghost use Rattle.std.specs.Prelude.{◌≡◌, ◌-◌, ◌<◌, ◌≤◌, ℕ, List, [], IfOk, Ok, Some, length, true, false};
+ghost use Rattle.std.specs.List.{Contains};
+ghost use Rattle.dg_io.specs.Views.{KeepsView};
+ghost use Rattle.ufs_model.specs.Claims.{targets};
+ghost use Rattle.ufs_model.specs.Geometries.{IsGeometryOn};
+ghost use Rattle.ufs_model.specs.declared.claims.ClaimSource.{ClaimSource};
+ghost use Rattle.ufs_model.specs.declared.numbers.Endian.TheVariants.{Little};
+ghost use Rattle.dg_claims.specs.Kept.{table_of};
+ghost use Rattle.dg_claims.specs.Readers.{FetchesOnly, LosesOne};
+ghost use Rattle.dg_claims.specs.Scans.{HasNoPointers, IsIndirect, IsRightAbove};
+
+use crate::claims::Claims;
+use crate::inodes::read_fragment;
+use dg_io::{NoMemory, View};
+use std::alloc::Global;
+use ufs_model::{ClaimSource, Geometry};
+use ufs_pointer::Levels;
+
+/// The highest level of an indirect block (`NIADDR`).
+const HIGHEST: u8 = 3;
+
+/// Has the pointers of a fragment that has a claim at a level claim what its bytes say. It answers whether the fragment could be
+/// read.
+fn scan_fragment<V: View>(
+    view: &mut V,
+    g: &Geometry,
+    levels: &mut Levels,
+    claims: &mut Claims,
+    fragment: u32,
+    level: u8,
+) -> Result<bool, NoMemory>
+    requires sound { V.is_sound view.old }
+    requires geometry { IsGeometryOn (V.size view.old) (V.count view.old) g.now }
+    requires levels { levels.old.fragment ≡ V.size view.old }
+    requires table { (table_of claims.old).geometry ≡ Some g.now }
+    requires inside { fragment < g.now.size }
+    requires low { 1 ≤ level }
+    requires high { level ≤ 3 }
+    ensures keeps { KeepsView V.stands_for V.tells V.is_gone V.count V.size V.is_sound V.goes_on view.old view.new }
+    ensures levels { levels.new.fragment ≡ levels.old.fragment }
+    ensures geometry { (table_of claims.new).geometry ≡ (table_of claims.old).geometry }
+    ensures pointers { IfOk result (λ got. got ≡ true → V.tells view.new → (v : List (List ℕ)) → V.stands_for view.old v
+        → (at : ℕ) → (table_of claims.new).claimed (ClaimSource.Pointer fragment level at) ≡ targets Little g.now v (ClaimSource.Pointer fragment level at)) }
+    ensures others { (source : ClaimSource) → ((at : ℕ) → source ≡ ClaimSource.Pointer fragment level at → ⊥) → (table_of claims.new).claimed source ≡ (table_of claims.old).claimed source }
+    ensures lost { IfOk result (λ got. got ≡ false → LosesOne (V.stands_for view.old) (V.tells view.new) (λ v b. b ≡ fragment) (V.is_gone view.new)) }
+    ensures fetched { FetchesOnly V.fetched (V.stands_for view.old) (V.tells view.new) (λ v b. b ≡ fragment) view.old view.new }
+{
+    if !read_fragment(view, levels, fragment) {
+        return Ok(false);
+    }
+    claims.of_pointers(fragment, level, levels.aside())?;
+    Ok(true)
+}
+
+/// Has the pointers of these fragments, which have a claim at a level, claim what their bytes say. It answers whether each of
+/// them could be read.
+fn scan_fragments<V: View>(
+    view: &mut V,
+    g: &Geometry,
+    levels: &mut Levels,
+    claims: &mut Claims,
+    fragments: &[u32],
+    level: u8,
+) -> Result<bool, NoMemory>
+    requires sound { V.is_sound view.old }
+    requires geometry { IsGeometryOn (V.size view.old) (V.count view.old) g.now }
+    requires levels { levels.old.fragment ≡ V.size view.old }
+    requires table { (table_of claims.old).geometry ≡ Some g.now }
+    requires inside { (fragment : ℕ) → Contains fragments.now fragment → fragment < g.now.size }
+    requires low { 1 ≤ level }
+    requires high { level ≤ 3 }
+    ensures keeps { KeepsView V.stands_for V.tells V.is_gone V.count V.size V.is_sound V.goes_on view.old view.new }
+    ensures levels { levels.new.fragment ≡ levels.old.fragment }
+    ensures geometry { (table_of claims.new).geometry ≡ (table_of claims.old).geometry }
+    ensures pointers { IfOk result (λ got. got ≡ true → V.tells view.new → (v : List (List ℕ)) → V.stands_for view.old v
+        → (fragment at : ℕ) → Contains fragments.now fragment → (table_of claims.new).claimed (ClaimSource.Pointer fragment level at) ≡ targets Little g.now v (ClaimSource.Pointer fragment level at)) }
+    ensures others { (source : ClaimSource) → ((fragment at : ℕ) → Contains fragments.now fragment → source ≡ ClaimSource.Pointer fragment level at → ⊥)
+        → (table_of claims.new).claimed source ≡ (table_of claims.old).claimed source }
+    ensures lost { IfOk result (λ got. got ≡ false → LosesOne (V.stands_for view.old) (V.tells view.new) (λ v b. Contains fragments.now b) (V.is_gone view.new)) }
+    ensures fetched { FetchesOnly V.fetched (V.stands_for view.old) (V.tells view.new) (λ v b. Contains fragments.now b) view.old view.new }
+{
+    for fragment in fragments {
+        if !scan_fragment(view, g, levels, claims, *fragment, level)? {
+            return Ok(false);
+        }
+    }
+    Ok(true)
+}
+
+/// Has the pointers of all fragments with a claim at a level claim what they do. It answers whether each of these fragments could
+/// be read.
+fn scan_level<V: View>(
+    alloc: Global,
+    view: &mut V,
+    g: &Geometry,
+    levels: &mut Levels,
+    claims: &mut Claims,
+    level: u8,
+) -> Result<bool, NoMemory>
+    requires sound { V.is_sound view.old }
+    requires geometry { IsGeometryOn (V.size view.old) (V.count view.old) g.now }
+    requires levels { levels.old.fragment ≡ V.size view.old }
+    requires table { (table_of claims.old).geometry ≡ Some g.now }
+    requires low { 1 ≤ level }
+    requires high { level ≤ 3 }
+    requires none { HasNoPointers (table_of claims.old).claimed level }
+    ensures keeps { KeepsView V.stands_for V.tells V.is_gone V.count V.size V.is_sound V.goes_on view.old view.new }
+    ensures levels { levels.new.fragment ≡ levels.old.fragment }
+    ensures geometry { (table_of claims.new).geometry ≡ (table_of claims.old).geometry }
+    ensures none { HasNoPointers (table_of claims.new).claimed (level - 1) }
+    ensures right { IfOk result (λ got. got ≡ true → V.tells view.new → (v : List (List ℕ)) → V.stands_for view.old v
+        → IsRightAbove (targets Little g.now v) (table_of claims.old).claimed level → IsRightAbove (targets Little g.now v) (table_of claims.new).claimed (level - 1)) }
+    ensures lost { IfOk result (λ got. got ≡ false → LosesOne (λ v. V.stands_for view.old v × IsRightAbove (targets Little g.now v) (table_of claims.old).claimed level) (V.tells view.new)
+        (λ v b. IsIndirect (targets Little g.now v) b) (V.is_gone view.new)) }
+    ensures fetched { FetchesOnly V.fetched (λ v. V.stands_for view.old v × IsRightAbove (targets Little g.now v) (table_of claims.old).claimed level) (V.tells view.new)
+        (λ v b. IsIndirect (targets Little g.now v) b) view.old view.new }
+{
+    let fragments = claims.fragments_at(alloc, level)?;
+    scan_fragments(view, g, levels, claims, &fragments, level)
+}
+
+/// Has all pointers of fragments with a claim claim what they do, level by level from the top. It answers whether each fragment
+/// with a claim at a level above 0 could be read.
+pub(crate) fn scan_levels<V: View>(
+    alloc: Global,
+    view: &mut V,
+    g: &Geometry,
+    levels: &mut Levels,
+    claims: &mut Claims,
+) -> Result<bool, NoMemory>
+    requires sound { V.is_sound view.old }
+    requires geometry { IsGeometryOn (V.size view.old) (V.count view.old) g.now }
+    requires levels { levels.old.fragment ≡ V.size view.old }
+    requires table { (table_of claims.old).geometry ≡ Some g.now }
+    requires none { HasNoPointers (table_of claims.old).claimed 3 }
+    ensures keeps { KeepsView V.stands_for V.tells V.is_gone V.count V.size V.is_sound V.goes_on view.old view.new }
+    ensures levels { levels.new.fragment ≡ levels.old.fragment }
+    ensures geometry { (table_of claims.new).geometry ≡ (table_of claims.old).geometry }
+    ensures none { IfOk result (λ got. got ≡ true → HasNoPointers (table_of claims.new).claimed 0) }
+    ensures right { IfOk result (λ got. got ≡ true → V.tells view.new → (v : List (List ℕ)) → V.stands_for view.old v
+        → IsRightAbove (targets Little g.now v) (table_of claims.old).claimed 3 → IsRightAbove (targets Little g.now v) (table_of claims.new).claimed 0) }
+    ensures lost { IfOk result (λ got. got ≡ false → LosesOne (λ v. V.stands_for view.old v × IsRightAbove (targets Little g.now v) (table_of claims.old).claimed 3) (V.tells view.new)
+        (λ v b. IsIndirect (targets Little g.now v) b) (V.is_gone view.new)) }
+    ensures fetched { FetchesOnly V.fetched (λ v. V.stands_for view.old v × IsRightAbove (targets Little g.now v) (table_of claims.old).claimed 3) (V.tells view.new)
+        (λ v b. IsIndirect (targets Little g.now v) b) view.old view.new }
+{
+    for done in 0..HIGHEST {
+        if !scan_level(alloc, view, g, levels, claims, HIGHEST - done)? {
+            return Ok(false);
+        }
+    }
+    Ok(true)
+}
