@@ -1,5 +1,5 @@
 -- Which fragments have a claim at a level.
-use Rattle.std.proofs.Common.{◌≡◌, ℕ, ◌+◌, ◌<◌, ◌↔◌, ◌∙◌, ◌==◌, inl, inr, List, [], ◌∷◌, ◌++◌, Bool, true, false, Contains, Option, Some, None, IfSome, refl, sym, ap, subst, arith, if◌then◌else◌}
+use Rattle.std.proofs.Common.{◌≤◌, ◌≡◌, ℕ, ◌+◌, ◌<◌, ◌↔◌, ◌∙◌, ◌==◌, inl, inr, List, [], ◌∷◌, ◌++◌, Bool, true, false, Contains, Option, Some, None, IfSome, refl, sym, ap, subst, arith, if◌then◌else◌}
 use Rattle.std.specs.List.{list_any}
 use Rattle.std.proofs.lemmas.Bool.{cases_eq, false≢true, or_cases, or_left, or_right}
 use Rattle.std.proofs.lemmas.Bool.Decides.{nat_tests}

@@ -76,8 +76,8 @@ impl Claims {
     }
 
     /// The geometry.
-    fn geometry(&self) -> Option<Geometry>
-        ensures value { result ≡ self.now.geometry }
+    pub fn geometry(&self) -> Option<Geometry>
+        ensures value { result ≡ (table_of self.now).geometry }
         ensures geometry { IfSome result IsGeometry }
         ensures sources { HasSources self.now }
     {
