@@ -31,8 +31,8 @@ upper_last table f one two three levels first no_first second no_second third = 
   λ upper. third.1 (
     upper.0,
     three_left (level_of (upper.0)) (upper.1) (levels (upper.0) (upper.2))
-    (λ is. not_from_Decides one first no_first (upper.0, is, upper.2))
-    (λ is. not_from_Decides two second no_second (upper.0, is, upper.2)),
+        (λ is. not_from_Decides one first no_first (upper.0, is, upper.2))
+        (λ is. not_from_Decides two second no_second (upper.0, is, upper.2)),
     upper.2,
   ),
 )
@@ -98,16 +98,16 @@ pub twice_decides : (g : Geometry) (table : ClaimTable) (v : Volume) (f number :
     → Decides (nat_le 2 number) (HasTwoClaims Little g v f)
 twice_decides g table v f number has all = (
   λ test.
-    let two = two_of (all.sources) all.once (two_at_least (all.sources) number all.number test) in record {
-      one = two.0;
-      other = two.1;
-      differ = two.2;
-      first = (has.claims f (two.0)).0 ((all.exactly (two.0)).0 (two.3));
-      second = (has.claims f (two.1)).0 ((all.exactly (two.1)).0 (two.4));
-    },
+      let two = two_of (all.sources) all.once (two_at_least (all.sources) number all.number test) in record {
+        one = two.0;
+        other = two.1;
+        differ = two.2;
+        first = (has.claims f (two.0)).0 ((all.exactly (two.0)).0 (two.3));
+        second = (has.claims f (two.1)).0 ((all.exactly (two.1)).0 (two.4));
+      },
   λ two. at_least_two (all.sources) number all.number
-    (two_long (all.sources) (two.one) (two.other) ((all.exactly (two.one)).1 ((has.claims f (two.one)).1 two.first))
-    ((all.exactly (two.other)).1 ((has.claims f (two.other)).1 two.second)) two.differ),
+      (two_long (all.sources) (two.one) (two.other) ((all.exactly (two.one)).1 ((has.claims f (two.one)).1 two.first))
+      ((all.exactly (two.other)).1 ((has.claims f (two.other)).1 two.second)) two.differ),
 )
 
 -- ---- claimed fragments that are marked free
@@ -130,12 +130,12 @@ pub free_claimed : (g : Geometry) (table : ClaimTable) (v : Volume) (f number : 
     → (is_marked_free Little g f v).value ≡ marked → Decides marked (IsFree Little g v f)
 free_claimed g table v f number marked has all some is = (
   λ test.
-    let number_is = all.number in
-    let one = one_of (all.sources) (omega arith) in record {
-      source = one.0;
-      claim = (has.claims f (one.0)).0 ((all.exactly (one.0)).0 (one.1));
-      free = is ∙ test;
-    },
+      let number_is = all.number in
+      let one = one_of (all.sources) (omega arith) in record {
+        source = one.0;
+        claim = (has.claims f (one.0)).0 ((all.exactly (one.0)).0 (one.1));
+        free = is ∙ test;
+      },
   λ free. sym is ∙ free.free,
 )
 
@@ -148,9 +148,9 @@ pub free_unclaimed : (g : Geometry) (table : ClaimTable) (v : Volume) (f number 
 free_unclaimed g table v f number has all none = (
   λ test. absurd (not_some number none test),
   λ free.
-    let number_is = all.number in
-    let long = one_long (all.sources) (free.source) ((all.exactly (free.source)).1 ((has.claims f (free.source)).1 free.claim)) in
-    absurd (omega arith),
+      let number_is = all.number in
+      let long = one_long (all.sources) (free.source) ((all.exactly (free.source)).1 ((has.claims f (free.source)).1 free.claim)) in
+      absurd (omega arith),
 )
 
 -- ---- what a pass fetches and loses, by the claims of the volume

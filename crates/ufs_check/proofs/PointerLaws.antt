@@ -29,13 +29,13 @@ pub wild_decides : (g : Geometry) (table : ClaimTable) (v : Volume) (f : ℕ) (b
 wild_decides g table v f bytes b has upper is decides =
     let above = upper_of g table v f has upper in (
       λ test.
-        let one = decides.0 test in record {
-          level = above.0;
-          at = one.at;
-          upper = above.1;
-          is = one.is;
-          wild = subst (λ bytes. address g (pointer_in Little bytes (one.at)) g.frag ≡ Wild) is one.wild;
-        },
+          let one = decides.0 test in record {
+            level = above.0;
+            at = one.at;
+            upper = above.1;
+            is = one.is;
+            wild = subst (λ bytes. address g (pointer_in Little bytes (one.at)) g.frag ≡ Wild) is one.wild;
+          },
       λ one. decides.1 (record {
         at = one.at;
         is = one.is;
@@ -48,15 +48,15 @@ pub misaligned_decides : (g : Geometry) (table : ClaimTable) (v : Volume) (f : �
 misaligned_decides g table v f bytes b has upper is decides =
     let above = upper_of g table v f has upper in (
       λ test.
-        let one = decides.0 test in record {
-          level = above.0;
-          at = one.at;
-          start = one.start;
-          upper = above.1;
-          is = one.is;
-          whole = subst (λ bytes. address g (pointer_in Little bytes (one.at)) g.frag ≡ At (one.start) g.frag) is one.whole;
-          middle = one.middle;
-        },
+          let one = decides.0 test in record {
+            level = above.0;
+            at = one.at;
+            start = one.start;
+            upper = above.1;
+            is = one.is;
+            whole = subst (λ bytes. address g (pointer_in Little bytes (one.at)) g.frag ≡ At (one.start) g.frag) is one.whole;
+            middle = one.middle;
+          },
       λ one. decides.1 (record {
         at = one.at;
         start = one.start;
@@ -73,19 +73,19 @@ pub past_decides : (g : Geometry) (v : Volume) (f : ℕ) (bytes : List ℕ) (lim
     → Decides b (HasPastPointer g bytes limit) → Decides b (HasPastIn Little g v f)
 past_decides g v f bytes limit b is limits decides = (
   λ test.
-    let one = decides.0 test in
-    let past = (limits.past (one.at)).1 one.past in record {
-      level = past.level;
-      at = one.at;
-      i = past.i;
-      inode = past.inode;
-      block = past.block;
-      is = one.is;
-      some = subst (λ bytes. pointer_in Little bytes (one.at) ≢ 0) is one.some;
-      reaches = past.reaches;
-      owner = past.owner;
-      past = past.past;
-    },
+      let one = decides.0 test in
+      let past = (limits.past (one.at)).1 one.past in record {
+        level = past.level;
+        at = one.at;
+        i = past.i;
+        inode = past.inode;
+        block = past.block;
+        is = one.is;
+        some = subst (λ bytes. pointer_in Little bytes (one.at) ≢ 0) is one.some;
+        reaches = past.reaches;
+        owner = past.owner;
+        past = past.past;
+      },
   λ one. decides.1 (record {
     at = one.at;
     is = one.is;
@@ -117,7 +117,7 @@ faults_all g table v bound faults has is inside end so_far =
       twice = least_all (IsBad Little g v Twice) bound faults.twice (λ f two. let lt = below f (two.one) two.first in omega arith) so_far.claimed.twice;
       past_in = λ none.
           let once : HasNoTwice g v = least_none_at (IsBad Little g v Twice) faults.twice none
-              (least_all (IsBad Little g v Twice) bound faults.twice (λ f two. let lt = below f (two.one) two.first in omega arith) so_far.claimed.twice) in
+          (least_all (IsBad Little g v Twice) bound faults.twice (λ f two. let lt = below f (two.one) two.first in omega arith) so_far.claimed.twice) in
           least_all (IsBad Little g v PastIn) bound faults.past_in
           (λ f one. let upper = reach_upper g table v f (one.level) (one.at) (one.i) (one.block) has one.reaches in
           let lt : f < g.size = subst (λ geometry. f < size_in geometry) is (inside f (upper.0) (upper.2)) in omega arith)

@@ -72,10 +72,10 @@ place_some claimed source f a most place within outside low high before stop = e
   | inr other ↦ elim other [
     | inl less ↦ absurd (stop (omega arith, within (f - (place + 1)) (omega arith) (omega arith)))
     | inr greater ↦
-      let last = before (place - 1) (omega arith) in
-      let inside = last.0 in
-      let above : a ≤ f - (place - 1 + 1) = outside (f - (place - 1 + 1)) (last.1) in
-      absurd (omega arith)
+        let last = before (place - 1) (omega arith) in
+        let inside = last.0 in
+        let above : a ≤ f - (place - 1 + 1) = outside (f - (place - 1 + 1)) (last.1) in
+        absurd (omega arith)
   ]
 ]
 
@@ -107,10 +107,10 @@ placed g table v source f r has none claim above place =
     let run = upper_run g v source f above (claim_contains (targets Little g v) f source claim) in
     let inside = from_contains (run.0) g.frag f (subst (λ xs. Contains xs f) (run.1) (claim_contains (targets Little g v) f source claim)) in
     let within = λ (x : ℕ) (low : run.0 ≤ x) (high : x < run.0 + g.frag).
-        only_claim g table v x source has none
-        (same_claim (targets Little g v) f x source claim (subst (λ xs. Contains xs x) (sym (run.1)) (contains_from (run.0) g.frag x low high))) in
+    only_claim g table v x source has none
+    (same_claim (targets Little g v) f x source claim (subst (λ xs. Contains xs x) (sym (run.1)) (contains_from (run.0) g.frag x low high))) in
     let outside = λ (x : ℕ) (one : IsOnlyClaim table.claimed x source).
-        (from_contains (run.0) g.frag x (subst (λ xs. Contains xs x) (run.1) (claim_contains (targets Little g v) x source ((has.claims x source).0 one.claim)))).0 in
+    (from_contains (run.0) g.frag x (subst (λ xs. Contains xs x) (run.1) (claim_contains (targets Little g v) x source ((has.claims x source).0 one.claim)))).0 in
     place_by g v source f (run.0) table.claimed r (run.1) within outside (inside.0) (inside.1) place
 
 -- ---- a pointer, by what is above it

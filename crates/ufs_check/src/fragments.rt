@@ -62,7 +62,11 @@ fn note_claims(g: &Geometry, f: u32, bytes: &[u8], claims: &Claims, faults: &mut
 {
     let number = claims.claims_on(f);
     note(&mut faults.twice, f, 2 <= number);
-    note(&mut faults.free, f, 1 <= number && is_marked_free(g, f, bytes));
+    note(
+        &mut faults.free,
+        f,
+        1 <= number && is_marked_free(g, f, bytes),
+    );
 }
 
 /// Notes what is wrong with the pointers of fragment `f` of an indirect block, which has the bytes, where

@@ -24,7 +24,7 @@ use ufs_pointer::Levels;
 const ROOT: u32 = 2;
 
 /// Bytes of an inode (`struct dinode`).
-const INODE_BYTES: usize = 128;
+pub const INODE_BYTES: usize = 128;
 
 /// Files of so many bytes are malformed, and longer ones.
 const TOO_LONG: u64 = 1 << 32;

@@ -4,6 +4,8 @@
 //! of each kind of fault that it looks for.
 #![tactic(auto)]
 
+#[cfg(test)]
+mod fragment_tests;
 mod fragments;
 mod groups;
 mod inodes;

@@ -13,15 +13,13 @@ ghost use Rattle.ufs_check.specs.Limits.{IsInLimits, IsLimit, IsPastLimit};
 ghost use Rattle.ufs_check.specs.Passes.{FetchesOnly, LosesOne};
 ghost use Rattle.ufs_check.specs.Reaches.{HasNoTwice, IsReach};
 
+use crate::inodes::INODE_BYTES;
 use crate::reaches::{Reach, reach_of, width};
 use dg_claims::Claims;
 use dg_io::View;
 use ufs_inode::{place_of, read_inode};
 use ufs_model::{Geometry, Inode};
 use ufs_pointer::Levels;
-
-/// Bytes of an inode (`struct dinode`).
-const INODE_BYTES: usize = 128;
 
 /// Which pointers of a fragment of an indirect block reach no block of their file.
 #[derive(Clone, Copy, Debug, PartialEq, Eq)]

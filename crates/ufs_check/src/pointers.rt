@@ -6,12 +6,10 @@ ghost use Rattle.ufs_check.specs.Limits.{IsInLimits};
 ghost use Rattle.ufs_check.specs.Pointers.{HasMisalignedPointer, HasPastPointer, HasWildPointer};
 
 use crate::limits::{Limit, is_past};
+use crate::reaches::POINTER_BYTES;
 use ufs_model::{Address, Geometry};
 use ufs_pointer::pointer;
 use ufs_super::address;
-
-/// Bytes of a pointer (`daddr_t`).
-const POINTER_BYTES: u32 = 4;
 
 /// A pointer leads to fragments that aren't all data of one group.
 pub fn has_wild_pointer(g: &Geometry, bytes: &[u8]) -> bool

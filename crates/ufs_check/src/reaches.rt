@@ -17,7 +17,7 @@ use ufs_model::Geometry;
 const LAST_DIRECT: u8 = 11;
 
 /// Bytes of a pointer (`daddr_t`).
-const POINTER_BYTES: u32 = 4;
+pub const POINTER_BYTES: u32 = 4;
 
 /// What is reached through the pointers of a fragment of an indirect block.
 #[derive(Clone, Copy, Debug, PartialEq, Eq)]

@@ -42,8 +42,11 @@ loop-f-preserved g c =
           record {
             claimed = record { twice = rw c.check_pointers.ensures.twice own.twice; free = rw c.check_pointers.ensures.free own.free };
             pointers = c.check_pointers.ensures.found c.if-not-check_pointers.false told v (stands, claimed.1)
-                (record { wild_in = rw c.note_claims.ensures.wild_in before.pointers.wild_in; align_in = rw c.note_claims.ensures.align_in before.pointers.align_in;
-                  past_in = λ once. rw c.note_claims.ensures.past_in (before.pointers.past_in once) });
+                (record {
+                  wild_in = rw c.note_claims.ensures.wild_in before.pointers.wild_in;
+                  align_in = rw c.note_claims.ensures.align_in before.pointers.align_in;
+                  past_in = λ once. rw c.note_claims.ensures.past_in (before.pointers.past_in once);
+                });
           };
       fetched = only_both g.met.V.View.fetched_both (λ v claimed. (first.stands v (so_far.stands v (claimed.0)), claimed.1)) second.told
           (only_both g.met.V.View.fetched_both (λ v claimed. so_far.stands v (claimed.0)) first.told invariant.fetched c.hold_group.ensures.fetched)
