@@ -9,3 +9,7 @@ pub mod BlockLaws
 pub mod DirectoryLaws
 pub mod FaultLaws
 pub mod StructureLaws
+pub mod ClaimLaws
+pub mod PointerLaws
+pub mod RunLaws
+pub mod ReachLaws

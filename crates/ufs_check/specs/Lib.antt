@@ -5,3 +5,7 @@ pub mod Inodes
 pub mod Entries
 pub mod FileBlocks
 pub mod Directories
+pub mod Reaches
+pub mod Limits
+pub mod Pointers
+pub mod Fragments

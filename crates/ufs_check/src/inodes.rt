@@ -79,7 +79,7 @@ fn is_marked_used(g: &Geometry, i: u32, bytes: &[u8]) -> bool
 }
 
 /// Reads the block of group `c`, where that of another group is held, and answers whether it could.
-fn hold_group<V: View>(
+pub fn hold_group<V: View>(
     view: &mut V,
     g: &Geometry,
     c: u32,

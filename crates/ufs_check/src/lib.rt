@@ -7,9 +7,15 @@
 mod directories;
 mod entries;
 mod file_blocks;
+#[cfg(test)]
+mod fragment_tests;
+mod fragments;
 mod groups;
 mod inodes;
+mod limits;
 mod notes;
+mod pointers;
+mod reaches;
 mod slots;
 #[cfg(test)]
 mod tests;

@@ -16,7 +16,7 @@ const DIRECT: u8 = 12;
 const SLOTS: u8 = 15;
 
 /// The first file block that is reached through a slot.
-fn first_block(g: &Geometry, slot: u8) -> u64
+pub fn first_block(g: &Geometry, slot: u8) -> u64
     requires { slot ≤ 14 }
     ensures { result ≡ first_block g.now slot }
 {

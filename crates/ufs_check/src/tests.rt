@@ -12,10 +12,10 @@ use ufs_rows::{Which, rows_image};
 use ufs_super::read_super;
 
 /// Bytes that are put in at a place of an image.
-type Edit<'a> = (usize, &'a [u8]);
+pub type Edit<'a> = (usize, &'a [u8]);
 
 /// A block that no pass reads.
-const NOTHING: Loss = Loss { block: 1, fetch: 0 };
+pub const NOTHING: Loss = Loss { block: 1, fetch: 0 };
 
 /// No fault of a group block.
 const SOUND_GROUPS: GroupFaults = GroupFaults {
@@ -43,15 +43,15 @@ const SOUND_DIRECTORIES: DirectoryFaults = DirectoryFaults {
 };
 
 /// The first byte of the group block, of its map of used inodes, and of inodes 3, 5, 6 and 7.
-const GROUP: usize = 24 * 1024;
+pub const GROUP: usize = 24 * 1024;
 
 const INODE_MAP: usize = GROUP + 256;
 
 const INODE_3: usize = 28 * 1024 + 3 * 128;
 
-const INODE_5: usize = 28 * 1024 + 5 * 128;
+pub const INODE_5: usize = 28 * 1024 + 5 * 128;
 
-const INODE_6: usize = 28 * 1024 + 6 * 128;
+pub const INODE_6: usize = 28 * 1024 + 6 * 128;
 
 const INODE_7: usize = 28 * 1024 + 7 * 128;
 
@@ -75,7 +75,7 @@ fn lay_out(image: &mut [u8], rows: &[u8], edits: &[Edit])
 }
 
 /// A volume with more blocks of zeros after it, and with bytes put in.
-fn edited(alloc: Global, which: Which, count: u32, edits: &[Edit]) -> Result<Vec<u8>, Fail>
+pub fn edited(alloc: Global, which: Which, count: u32, edits: &[Edit]) -> Result<Vec<u8>, Fail>
     requires { count ≤ 256 }
     ensures { IfOk result (λ image. length image.items ≡ count * 1024) }
 {

@@ -51,3 +51,20 @@ pub struct DirectoryFaults {
     /// It has an entry with a type that isn't 0 and isn't that of the inode.
     pub entry_type: Option<u32>,
 }
+
+/// What is wrong with fragments: of each kind the least fragment.
+#[derive(Clone, Copy, Debug, PartialEq, Eq)]
+pub struct FragmentFaults {
+    /// It is of an indirect block, and has a pointer to fragments that aren't all data of one group.
+    pub wild_in: Option<u32>,
+    /// It is of an indirect block, and has a pointer to a whole file block that doesn't begin at a
+    /// multiple of its fragments.
+    pub align_in: Option<u32>,
+    /// It has two or more claims.
+    pub twice: Option<u32>,
+    /// It is of an indirect block, and has a pointer that isn't 0 and reaches no block of the file. It is
+    /// told only where no fragment has two claims.
+    pub past_in: Option<u32>,
+    /// It has a claim, and is marked free.
+    pub free: Option<u32>,
+}
