@@ -12,8 +12,9 @@ import sys
 import tempfile
 import time
 
-from volumes import FRAGMENT, Volume
+from volumes import Volume
 
+FRAGMENT = 1024
 BOUNDARIES = 4
 FILE_BYTES = 4 << 20
 READS = 8
@@ -24,7 +25,7 @@ def write_trace(path, blocks, volume, reads):
     with open(path, "w") as out:
         out.write(f"array {FRAGMENT} {blocks} {BOUNDARIES} {2 * blocks // BOUNDARIES} 2\n")
         out.writelines(volume.events())
-        out.writelines(["cat /f\n"] * reads)
+        out.writelines(["cat /f0\n"] * reads)
 
 
 def replay(program, folder, trace, replies):
@@ -65,7 +66,7 @@ class Array:
         self.folder = os.path.join(folder, str(bits))
         self.replies = os.path.join(folder, f"replies-{bits}")
         os.mkdir(self.folder)
-        volume = Volume(1 << bits, contents)
+        volume = Volume(FRAGMENT, 1 << bits, [contents])
         self.traces = [os.path.join(folder, f"trace-{bits}-{reads}") for reads in (0, READS)]
         for trace, reads in zip(self.traces, (0, READS)):
             write_trace(trace, 1 << bits, volume, reads)

@@ -21,7 +21,7 @@ use Rattle.dg_map.proofs.AgreeLemmas.{agrees_empty, agrees_kept, agrees_put, agr
 use Rattle.dg_map.proofs.SlotLemmas.{count_below}
 use Rattle.dg_map.proofs.TableLemmas.{IsTable-empty, IsTable-put, IsTable-without, block_within, site_at}
 use Rattle.dg_map.specs.Rows.{Appends, SameRows, SetsRow, row_of}
-use Rattle.dg_map.proofs.RowLemmas.{apart_test, same_test}
+use Rattle.dg_model.proofs.SiteLists.{apart_test, same_test}
 
 pub row_at : (rows : BTreeMap ℕ (Vec Site)) (n b : ℕ) → b < n → get_or (map (row_of rows) (range_with_len 0 n)) b [] ≡ row_of rows b
 row_at rows n b lt = get_or-map-range_with_len (row_of rows) 0 n b b [] lt (omega arith)

@@ -1,48 +1,19 @@
 -- What a list of sites says once a site joins it, or once those on a boundary leave it.
-use Rattle.std.proofs.Common.{◌≡◌, ◌<◌, ◌≤◌, ◌+◌, ◌==◌, ◌≢◌, ℕ, suc, zero, Bool, true, false, cond, not, List, [], ◌∷◌, ◌++◌, length, get_or, refl, sym, ◌∙◌, ap, subst, arith}
+use Rattle.std.proofs.Common.{◌≡◌, ◌<◌, ◌≤◌, ◌==◌, ◌≢◌, ℕ, suc, zero, Bool, true, false, cond, not, List, [], ◌∷◌, length, get_or, refl, sym, ◌∙◌, ap, subst, arith}
 use Rattle.std.specs.List.{Contains}
 use Rattle.std.proofs.lemmas.Bool.{false≢true}
 use Rattle.std.proofs.lemmas.Bool.Decides.{nat_tests}
-use Rattle.std.proofs.lemmas.List.Elements.{All-contains, All-contains_itself, All-filter, filter-append, filter_passes, Contains-append_right}
-use Rattle.std.proofs.lemmas.List.{append-nil}
-use Rattle.std.proofs.lemmas.List.Sums.{get_or-le-sum_by, sum_by-cons, sum_by_push}
+use Rattle.std.proofs.lemmas.List.Elements.{All-contains, All-contains_itself, All-filter, filter_passes, Contains-append_right}
+use Rattle.dg_model.proofs.SiteLists.{apart_test, count_on-cons, count_pos, one_if, same_test, zero_if}
 use Rattle.dg_model.specs.declared.sites.Site.{Site}
 use Rattle.dg_model.specs.Tables.{count_on, sites_off}
-
-pub same_test : (a b : ℕ) → a ≡ b → (a == b) ≡ true
-same_test a b e = grind (arith, nat_tests)
-
-pub apart_test : (a b : ℕ) → a ≢ b → (a == b) ≡ false
-apart_test a b ne = grind (arith, nat_tests)
 
 pub same_from_test : (a b : ℕ) → (a == b) ≡ true → a ≡ b
 same_from_test a b e = grind (arith, nat_tests)
 
-pub one_if : (b : Bool) → b ≡ true → ◌≡◌ {A = ℕ} (cond b 1 0) 1
-one_if b e = ap (λ v. cond {A = ℕ} v 1 0) e
-
-pub zero_if : (b : Bool) → b ≡ false → ◌≡◌ {A = ℕ} (cond b 1 0) 0
-zero_if b e = ap (λ v. cond {A = ℕ} v 1 0) e
-
--- a site on a boundary counts there
-pub count_pos : (s : ℕ) (xs : List Site) (x : Site) → Contains xs x → x.boundary ≡ s → 0 < count_on s xs
-count_pos s xs x (i, lt, at) e =
-    omega (
-      arith,
-      get_or-le-sum_by (λ (y : Site). cond (y.boundary == s) 1 0) xs i x lt,
-      one_if ((get_or xs i x).boundary == s) (same_test (get_or xs i x).boundary s (ap (λ (y : Site). y.boundary) at ∙ e)),
-    )
-
 -- where a boundary has no site, none of the sites is on it
 pub none_on : (s : ℕ) (xs : List Site) (x : Site) → count_on s xs ≡ 0 → Contains xs x → x.boundary ≡ s → ⊥
 none_on s xs x none there e = absurd (omega (arith, count_pos s xs x there e))
-
--- one more site
-pub count_on-push : (s : ℕ) (xs : List Site) (x : Site) → count_on s (xs ++ x ∷ []) ≡ count_on s xs + cond (x.boundary == s) 1 0
-count_on-push s xs x = sum_by_push (λ (y : Site). cond (y.boundary == s) 1 0) xs x
-
-count_on-cons : (s : ℕ) (x : Site) (xs : List Site) → count_on s (x ∷ xs) ≡ cond (x.boundary == s) 1 0 + count_on s xs
-count_on-cons s x xs = sum_by-cons (λ (y : Site). cond (y.boundary == s) 1 0) x xs
 
 off_same_step : (b : Bool) (s : ℕ) (x : Site) (xs : List Site) → (x.boundary == s) ≡ b → count_on s xs ≡ 0 → count_on s (cond (not b) (x ∷ xs) xs) ≡ 0
 off_same_step true s x xs e h = h
@@ -101,27 +72,3 @@ one_on s (z ∷ zs) x y few (suc i, lt, at) (zero, lu, au) e f =
     absurd (one_on_head s z zs x few (ap (λ (w : Site). w.boundary) au ∙ f) (Contains-tail z zs x i lt at) e)
 one_on s (z ∷ zs) x y few (suc i, lt, at) (suc j, lu, au) e f =
     one_on s zs x y (omega (arith, count_on-cons s z zs)) (Contains-tail z zs x i lt at) (Contains-tail z zs y j lu au) e f
-
-none_off_step : (b : Bool) (y : Site) (ys zs : List Site) → b ≡ false → zs ≡ ys → cond (not b) (y ∷ zs) zs ≡ y ∷ ys
-none_off_step true y ys zs e h = absurd (false≢true (sym e))
-none_off_step false y ys zs e h = ap (λ xs. y ∷ xs) h
-
--- where none of the sites is on boundary s, all stay
-pub none_off : (s : ℕ) (xs : List Site) → count_on s xs ≡ 0 → sites_off s xs ≡ xs
-none_off s [] none = refl
-none_off s (y ∷ ys) none =
-    none_off_step (y.boundary == s) y ys (sites_off s ys)
-    (apart_test y.boundary s (λ e. absurd (omega (arith, count_on-cons s y ys, one_if (y.boundary == s) (same_test y.boundary s e)))))
-    (none_off s ys (omega (arith, count_on-cons s y ys)))
-
-last_off : (b : Bool) (x : Site) → b ≡ true → cond (not b) (x ∷ []) [] ≡ []
-last_off true x e = refl
-last_off false x e = absurd (false≢true e)
-
--- where the last site is the only one on its boundary, the others stay
-pub off_last : (xs : List Site) (x : Site) → count_on x.boundary (xs ++ x ∷ []) ≤ 1 → sites_off x.boundary (xs ++ x ∷ []) ≡ xs
-off_last xs x few =
-    filter-append (λ (y : Site). not (y.boundary == x.boundary)) xs (x ∷ [])
-    ∙ ap (λ ys. sites_off x.boundary xs ++ ys) (last_off (x.boundary == x.boundary) x (same_test x.boundary x.boundary refl))
-    ∙ append-nil (sites_off x.boundary xs)
-    ∙ none_off x.boundary xs (omega (arith, count_on-push x.boundary xs x, one_if (x.boundary == x.boundary) (same_test x.boundary x.boundary refl)))

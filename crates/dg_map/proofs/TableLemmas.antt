@@ -10,7 +10,8 @@ use Rattle.dg_model.specs.declared.sites.Site.{Site}
 use Rattle.dg_model.specs.declared.shapes.Shape.{Shape}
 use Rattle.dg_model.specs.Shapes.{IsShape}
 use Rattle.dg_model.specs.Tables.{IsFree, IsTable, StandsIn, Table, count_on, empty_table, put_site, sites_in, used_in, without_site, sites_off}
-use Rattle.dg_map.proofs.RowLemmas.{apart_test, count_off_other, count_off_same, count_on-push, off-Contains, off_last, one_if, same_test, zero_if, Contains-off, Contains-off_apart}
+use Rattle.dg_model.proofs.SiteLists.{apart_test, count_on-push, off_last, one_if, same_test, zero_if}
+use Rattle.dg_map.proofs.RowLemmas.{count_off_other, count_off_same, off-Contains, Contains-off, Contains-off_apart}
 
 -- the site that a boundary and a slot name
 abbrev pub site_at : ℕ → ℕ → Site

@@ -1,5 +1,5 @@
 mod Answers
-mod FileSteps
+mod PathSteps
 mod Inputs
 mod LineFeeds
 mod Ranges

@@ -8,7 +8,7 @@ use Rattle.dg_model.specs.States.{Counts, State, IsBlank, zeros}
 use Rattle.dg_model.specs.Tables.{Table}
 use Rattle.dg_model.specs.declared.shapes.Shape.{Shape}
 use Rattle.dg_model.specs.declared.events.Event.{Event}
-use Rattle.dg_model.specs.declared.events.Event.TheVariants.{Array, Write, Read, Fail, Cat}
+use Rattle.dg_model.specs.declared.events.Event.TheVariants.{Array, Write, Read, Fail, Cat, Ls}
 use Rattle.dg_model.specs.declared.replies.Reply.{Reply}
 use Rattle.dg_model.specs.declared.replies.Reply.TheVariants.{Done}
 use Rattle.dg_model.specs.declared.members.MemberState.TheVariants.{Out}
@@ -106,6 +106,7 @@ module _ (before now : Counts) (bytes : ℕ → Option (List ℕ)) (shape : Shap
   no_input events a b text line cut (Read n ∷ es) input is = absurd input.in_place
   no_input events a b text line cut (Fail s j ∷ es) input is = absurd input.in_place
   no_input events a b text line cut (Cat path ∷ es) input is = absurd input.in_place
+  no_input events a b text line cut (Ls path ∷ es) input is = absurd input.in_place
   no_input events a b text line cut (Array s ∷ es) input is =
       let same : Array s ≡ Array shape = line.only (Array s) (input_of es) input.in_place.0 is in
       let shapes : s ≡ shape = cc same in
@@ -142,6 +143,7 @@ first_no_input text none (Write n bs ∷ es) input is = input.in_place
 first_no_input text none (Read n ∷ es) input is = input.in_place
 first_no_input text none (Fail s j ∷ es) input is = input.in_place
 first_no_input text none (Cat path ∷ es) input is = input.in_place
+first_no_input text none (Ls path ∷ es) input is = input.in_place
 first_no_input text none (Array s ∷ es) input is =
     let over = none (Array s) (input_of es) input.in_place.0 is in
     let budget = input.budget in

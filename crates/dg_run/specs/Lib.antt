@@ -4,6 +4,7 @@ pub mod Bytes
 pub mod Events
 pub mod Inputs
 pub mod Lines
+pub mod Paths
 pub mod Replays
 pub mod Scans
 pub mod Statuses

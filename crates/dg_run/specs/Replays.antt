@@ -4,7 +4,7 @@ use Rattle.dg_model.specs.States.{Counts, State, Holds}
 use Rattle.dg_model.specs.Runs.{Trace}
 use Rattle.dg_model.specs.declared.shapes.Shape.{Shape}
 use Rattle.dg_model.specs.declared.events.Event.{Event}
-use Rattle.dg_model.specs.declared.events.Event.TheVariants.{Array, Write, Read, Fail, Cat}
+use Rattle.dg_model.specs.declared.events.Event.TheVariants.{Array, Write, Read, Fail, Cat, Ls}
 use Rattle.dg_model.specs.declared.replies.Reply.{Reply}
 use Rattle.dg_io.specs.Told.{Told, Took}
 use Rattle.dg_text.specs.Lines.{line_of, input_of, IsInPlace, AreInPlace}
@@ -19,6 +19,7 @@ shape_after (Write b bytes ∷ events) = None
 shape_after (Read b ∷ events) = None
 shape_after (Fail s j ∷ events) = None
 shape_after (Cat path ∷ events) = None
+shape_after (Ls path ∷ events) = None
 
 -- The events are in their places, and their lines keep to the budget of 2^40 bytes. They had these replies, in steps of
 -- the flat array from nothing to a state that the rack holds, its counts among it. The steps are known where each member

@@ -11,10 +11,10 @@ use std::test::Fail;
 use ufs_rows::{Which, rows_image};
 
 // Bytes of all replies.
-const OUTPUT: usize = 65536;
+const OUTPUT: usize = 131072;
 
 // Writes of blocks of a volume that aren't zero.
-const F_BLOCKS: usize = 62;
+pub const F_BLOCKS: usize = 62;
 
 // The line that writes a block.
 fn push_write(text: &mut Vec<u8>, number: usize, block: &[u8]) -> Result<(), Fail> {
@@ -43,7 +43,7 @@ fn lines_of(alloc: Global, image: &[u8]) -> Result<Vec<u8>, Fail> {
 }
 
 // The image of a volume.
-fn image(alloc: Global, which: Which) -> Result<Vec<u8>, Fail>
+pub fn image(alloc: Global, which: Which) -> Result<Vec<u8>, Fail>
     ensures { IfOk result (λ image. length image.items ≡ 131072) }
 {
     match rows_image(alloc, which) {
@@ -53,7 +53,7 @@ fn image(alloc: Global, which: Which) -> Result<Vec<u8>, Fail>
 }
 
 // The replies behind those to the array and to the writes of an image, which are all `ok`.
-fn replies(alloc: Global, image: &[u8], lines: &str, fails: &[u64]) -> Result<Vec<u8>, Fail> {
+pub fn replies(alloc: Global, image: &[u8], lines: &str, fails: &[u64]) -> Result<Vec<u8>, Fail> {
     let mut input = lines_of(alloc, image)?;
     let count = input.iter().filter(|byte| **byte == b'\n').count();
     input.extend_from_slice(lines.as_bytes())?;
@@ -71,8 +71,58 @@ fn replies(alloc: Global, image: &[u8], lines: &str, fails: &[u64]) -> Result<Ve
     Ok(Vec::from_slice(alloc, rest)?)
 }
 
+// The calls of a rack from one on, to more than any trace here makes.
+pub fn calls_from(alloc: Global, first: u64) -> Result<Vec<u64>, Fail> {
+    let mut calls = Vec::new(alloc);
+    for call in first..400 {
+        calls.push(call)?;
+    }
+    Ok(calls)
+}
+
+// The first lines of an answer, so many of them, and the line that says that these are so many bytes or entries.
+pub fn cut_after(alloc: Global, whole: &[u8], lines: usize, count: usize) -> Result<Vec<u8>, Fail> {
+    let mut text = Vec::new(alloc);
+    let mut passed = 0;
+    for byte in whole {
+        if passed < lines {
+            text.push(*byte)?;
+            if *byte == b'\n' {
+                passed += 1;
+            }
+        }
+    }
+    let mut digits = Buffer::new();
+    text.extend_from_slice(b"cut ")?;
+    text.extend_from_slice(digits.format(count).as_bytes())?;
+    text.push(b'\n')?;
+    Ok(text)
+}
+
+// The line of so many bytes of a file that are the same.
+fn push_bytes(text: &mut Vec<u8>, byte: u8, count: usize) -> Result<(), Fail> {
+    let mut word = [0u8; 2];
+    let _ = hex::encode_to_slice([byte], &mut word);
+    text.extend_from_slice(b"bytes ")?;
+    for _ in 0..count {
+        text.extend_from_slice(&word)?;
+    }
+    text.push(b'\n')?;
+    Ok(())
+}
+
+// The answer to `cat /d/b`: fragment i of the file has the bytes i + 1.
+fn long_file(alloc: Global) -> Result<Vec<u8>, Fail> {
+    let mut text = Vec::new(alloc);
+    for byte in 1..53 {
+        push_bytes(&mut text, byte, 1024)?;
+    }
+    text.extend_from_slice(b"end 53248\n")?;
+    Ok(text)
+}
+
 #[test]
-fn files_of_the_root_are_read(rt: HostRuntime) -> Result<(), Fail> {
+fn files_are_read(rt: HostRuntime) -> Result<(), Fail> {
     let alloc = rt.alloc();
     let volume = image(alloc, Which::F)?;
     for (lines, wanted) in [
@@ -80,6 +130,9 @@ fn files_of_the_root_are_read(rt: HostRuntime) -> Result<(), Fail> {
         ("cat /z\n", "end 0\n"),
         ("cat /a\n", "bytes 68656c6c6f\nend 5\n"),
         ("cat /d\n", "notregular\n"),
+        ("cat /\n", "notregular\n"),
+        ("cat /d/x\n", "notfound\n"),
+        ("cat /a/x\n", "notdir\n"),
         (
             "cat /d\ncat /a\nread 34\n",
             "notregular\nbytes 68656c6c6f\nend 5\ndata 68656c6c6f\n",
@@ -91,32 +144,52 @@ fn files_of_the_root_are_read(rt: HostRuntime) -> Result<(), Fail> {
     Ok(())
 }
 
+// The bytes of `/d/b` from 49,152 on stand behind the indirect block, which is block 84.
+#[test]
+fn a_file_is_read_through_its_indirect_block(rt: HostRuntime) -> Result<(), Fail> {
+    let alloc = rt.alloc();
+    let mut volume = image(alloc, Which::F)?;
+    let answer = replies(alloc, &volume, "cat /d/b\n", &[])?;
+    assert!(rt; answer == long_file(alloc)?);
+
+    // The first pointer of the indirect block leads to that block itself.
+    volume[86016..86020].copy_from_slice(&84_u32.to_le_bytes());
+    let mut wanted = Vec::new(alloc);
+    for byte in 1..49 {
+        push_bytes(&mut wanted, byte, 1024)?;
+    }
+    wanted.extend_from_slice(b"bytes 54")?;
+    for _ in 0..1023 {
+        wanted.extend_from_slice(b"00")?;
+    }
+    wanted.push(b'\n')?;
+    for _ in 0..3 {
+        push_bytes(&mut wanted, 0, 1024)?;
+    }
+    wanted.extend_from_slice(b"end 53248\n")?;
+    let answer = replies(alloc, &volume, "cat /d/b\n", &[])?;
+    assert!(rt; answer == wanted);
+    Ok(())
+}
+
 // A hole of 4096 bytes, and 1500 bytes behind it.
 #[test]
 fn a_hole_reads_as_zeros(rt: HostRuntime) -> Result<(), Fail> {
     let alloc = rt.alloc();
     let mut wanted = Vec::new(alloc);
-    for (digits, count) in [
-        ("00", 1024),
-        ("00", 1024),
-        ("00", 1024),
-        ("00", 1024),
-        ("68", 1024),
-        ("68", 476),
-    ] {
-        wanted.extend_from_slice(b"bytes ")?;
-        for _ in 0..count {
-            wanted.extend_from_slice(digits.as_bytes())?;
-        }
-        wanted.push(b'\n')?;
+    for _ in 0..4 {
+        push_bytes(&mut wanted, 0, 1024)?;
     }
+    push_bytes(&mut wanted, b'h', 1024)?;
+    push_bytes(&mut wanted, b'h', 476)?;
     wanted.extend_from_slice(b"end 5596\n")?;
     let answer = replies(alloc, &image(alloc, Which::F)?, "cat /h\n", &[])?;
     assert!(rt; answer == wanted);
     Ok(())
 }
 
-// Inode 3, of `/a`, stands in block 28 at byte 384; its size at byte 8 of it.
+// Inode 3, of `/a`, stands in block 28 at byte 384; its size at byte 8 of it, in 64 bits. The entry `b` of `/d` stands in
+// block 35 at byte 24.
 #[test]
 fn volumes_are_refused(rt: HostRuntime) -> Result<(), Fail> {
     let alloc = rt.alloc();
@@ -125,8 +198,17 @@ fn volumes_are_refused(rt: HostRuntime) -> Result<(), Fail> {
 
     let mut volume = image(alloc, Which::F)?;
     volume[29064..29068].copy_from_slice(&49_153_u32.to_le_bytes());
-    let later = replies(alloc, &volume, "cat /a\n", &[])?;
-    assert!(rt; later.as_slice() == b"bad later\n".as_slice());
+    let long = replies(alloc, &volume, "cat /a\n", &[])?;
+    assert!(rt; long.starts_with(b"bytes 68656c6c6f00"));
+    assert!(rt; long.ends_with(b"\nbytes 00\nend 49153\n"));
+
+    volume[29064..29072].copy_from_slice(&4_294_967_296_u64.to_le_bytes());
+    let large = replies(alloc, &volume, "cat /a\n", &[])?;
+    assert!(rt; large.as_slice() == b"bad filesize\n".as_slice());
+
+    volume[35864..35868].copy_from_slice(&2_u32.to_le_bytes());
+    let directory = replies(alloc, &volume, "cat /d/b\n", &[])?;
+    assert!(rt; directory.as_slice() == b"notregular\n".as_slice());
     Ok(())
 }
 
@@ -149,6 +231,40 @@ fn a_lost_boundary_takes_the_files_that_need_it(rt: HostRuntime) -> Result<(), F
             "fail 1 0\nfail 1 1\ncat /z\ncat /x\n",
             "ok\nok\nunavailable\nunavailable\n",
         ),
+    ] {
+        let answer = replies(alloc, &volume, lines, &[])?;
+        assert!(rt; answer.as_slice() == wanted.as_bytes(), "{lines}");
+    }
+    Ok(())
+}
+
+// `/d/b` needs blocks on each boundary, and so it does where it has one fragment alone, which is block 36, but for boundary
+// 2. Its inode 5 stands in block 28 at byte 640.
+#[test]
+fn a_lost_boundary_takes_all_of_a_file(rt: HostRuntime) -> Result<(), Fail> {
+    let alloc = rt.alloc();
+    let mut volume = image(alloc, Which::F)?;
+    for lines in [
+        "fail 0 0\nfail 0 1\ncat /d/b\n",
+        "fail 1 0\nfail 1 1\ncat /d/b\n",
+        "fail 2 0\nfail 2 1\ncat /d/b\n",
+        "fail 3 0\nfail 3 1\ncat /d/b\n",
+    ] {
+        let answer = replies(alloc, &volume, lines, &[])?;
+        assert!(rt;
+            answer.as_slice() == b"ok\nok\nunavailable\n".as_slice(),
+            "{lines}"
+        );
+    }
+
+    volume[29320..29324].copy_from_slice(&1_u32.to_le_bytes());
+    for (lines, wanted) in [
+        (
+            "fail 2 0\nfail 2 1\ncat /d/b\n",
+            "ok\nok\nbytes 01\nend 1\n",
+        ),
+        ("fail 0 0\nfail 0 1\ncat /d/b\n", "ok\nok\nunavailable\n"),
+        ("fail 3 0\nfail 3 1\ncat /d/b\n", "ok\nok\nunavailable\n"),
     ] {
         let answer = replies(alloc, &volume, lines, &[])?;
         assert!(rt; answer.as_slice() == wanted.as_bytes(), "{lines}");
@@ -189,5 +305,33 @@ fn failing_calls_make_a_file_unavailable_or_cut_it(rt: HostRuntime) -> Result<()
         }
         assert!(rt; rest == b"cut 4096\n".as_slice());
     }
+    Ok(())
+}
+
+// The path `/d/b` takes seven calls, and its file twice 53: four for each of thirteen file blocks, and one for the indirect
+// block, of which the other three blocks are zeros that were never written.
+#[test]
+fn a_rack_that_fails_from_a_call_on_cuts_a_file(rt: HostRuntime) -> Result<(), Fail> {
+    let alloc = rt.alloc();
+    let volume = image(alloc, Which::F)?;
+    let whole = long_file(alloc)?;
+    let first = 8 + 2 * F_BLOCKS as u64;
+    for passed in [0, 6, 40, 59] {
+        let fails = calls_from(alloc, first + passed)?;
+        let answer = replies(alloc, &volume, "cat /d/b\n", &fails)?;
+        assert!(rt;
+            answer.as_slice() == b"unavailable\n".as_slice(),
+            "{passed}"
+        );
+    }
+    for (passed, lines) in [(60, 0), (63, 0), (64, 4), (107, 44), (108, 48), (112, 48)] {
+        let fails = calls_from(alloc, first + passed)?;
+        let answer = replies(alloc, &volume, "cat /d/b\n", &fails)?;
+        let wanted = cut_after(alloc, &whole, lines, 1024 * lines)?;
+        assert!(rt; answer == wanted, "{passed}");
+    }
+    let fails = calls_from(alloc, first + 113)?;
+    let answer = replies(alloc, &volume, "cat /d/b\n", &fails)?;
+    assert!(rt; answer == whole);
     Ok(())
 }

@@ -12,6 +12,10 @@ mod cats;
 mod events;
 mod input;
 mod lines;
+#[cfg(test)]
+mod list_tests;
+mod listings;
+mod paths;
 mod pieces;
 mod serve;
 #[cfg(test)]

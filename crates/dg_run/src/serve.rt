@@ -12,6 +12,7 @@ ghost use Rattle.dg_run.specs.Stores.{IsReady, GoesOn, StepsTo, Answered};
 use crate::buffers::Buffers;
 use crate::cats::serve_cat;
 use crate::events::Fault;
+use crate::listings::serve_ls;
 use dg_io::{Rack, Sink};
 use dg_model::{Bytes, Event, NoMemory, Reply};
 use dg_store::{FailAnswer, Fetched, Store, StoreWrite};
@@ -203,6 +204,7 @@ pub fn serve<R: Rack, K: Sink>(
         Event::Read(b) => serve_read(store, sink, *b, &mut buffers.block),
         Event::Fail(s, j) => serve_fail(store, sink, *s, *j),
         Event::Cat(path) => serve_cat(store, sink, path, &mut buffers.levels),
+        Event::Ls(path) => serve_ls(store, sink, path, &mut buffers.levels),
         Event::Array(_) => unreachable!(),
     }
 }

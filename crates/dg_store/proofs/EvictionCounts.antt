@@ -6,7 +6,7 @@ use Rattle.std.proofs.lemmas.List.Sums.{sum_by-cons}
 use Rattle.dg_model.specs.declared.sites.Site.{Site}
 use Rattle.dg_model.specs.Sites.{IsPacked}
 use Rattle.dg_model.specs.Tables.{IsTable, Table, count_on, sites_in, used_in}
-use Rattle.dg_store.proofs.SitesLists.{apart_test, count_on-cons, one_if, same_test, zero_if}
+use Rattle.dg_model.proofs.SiteLists.{apart_test, count_on-cons, one_if, same_test, zero_if}
 
 -- the sum of the numbers of so many boundaries
 abbrev sum_upto : ℕ → (ℕ → ℕ) → ℕ

@@ -13,7 +13,8 @@ use Rattle.dg_model.specs.Sites.{IsLeastSpread, has_site, without_last}
 use Rattle.dg_model.specs.Tables.{IsFree, IsTable, StandsIn, Table, count_on, put_site, sites_in, sites_off, used_in, without_site}
 use Rattle.dg_store.specs.declared.sites.GivenUp.{GivenUp}
 use Rattle.dg_store.specs.Evictions.{GaveUp, IsLastSite, IsThinned, NoneSpreadBelow, table_before}
-use Rattle.dg_store.proofs.SitesLists.{count_on-append, count_on-last, count_pos, front_none, has_site-some, off_last, single_off, split_last, take_others}
+use Rattle.dg_model.proofs.SiteLists.{count_on-append, count_on-last, count_pos, off_last, single_off}
+use Rattle.dg_store.proofs.SitesLists.{front_none, has_site-some, split_last, take_others}
 
 -- the site that a boundary and a slot name
 abbrev site_at : ℕ → ℕ → Site

@@ -1,26 +1,25 @@
--- The lines of a file, one after the other.
+-- Lines, one after the other: those of a file, or of a directory.
 use Rattle.std.proofs.Common.{◌≡◌, ◌<◌, ◌≤◌, ◌+◌, ℕ, List, [], ◌∷◌, ◌++◌, length, take, drop, get_or, sym, ◌∙◌, ap, subst, append_assoc, length-append, arith, take-append-drop}
-use Rattle.std.specs.List.{concat}
+use Rattle.std.specs.List.{concat, flat_map}
 use Rattle.std.proofs.lemmas.List.{take_more, append-nil}
 use Rattle.std.proofs.lemmas.List.Folds.{concat-append}
 use Rattle.std.proofs.lemmas.Grind.{flat_map-append}
 use Rattle.std.specs.Prelude.{Option, codes}
 use Rattle.std.specs.Fmt.{decimal}
 use Rattle.dg_io.specs.Told.{Told, Took, TookPart}
-use Rattle.dg_text.specs.Replies.{bytes_line, file_text}
 use Rattle.dg_text.specs.ToldSteps.{took_both, took_part_of_more, took_part_after}
 
 -- one line more
-pub text_more : (lines : List (List ℕ)) (i : ℕ) (line : List ℕ) → i < length lines → line ≡ get_or lines i line
-    → file_text (take (i + 1) lines) ≡ file_text (take i lines) ++ bytes_line line
-text_more lines i line lt is =
-    ap file_text (take_more lines i line lt)
-    ∙ flat_map-append bytes_line (take i lines) (get_or lines i line ∷ [])
-    ∙ ap (λ (l : List ℕ). file_text (take i lines) ++ l) (append-nil (bytes_line (get_or lines i line)) ∙ ap bytes_line (sym is))
+pub text_more : {A : Type 0} (line_of : A → List ℕ) (xs : List A) (i : ℕ) (x : A) → i < length xs → x ≡ get_or xs i x
+    → flat_map line_of (take (i + 1) xs) ≡ flat_map line_of (take i xs) ++ line_of x
+text_more line_of xs i x lt is =
+    ap (λ l. flat_map line_of l) (take_more xs i x lt)
+    ∙ flat_map-append line_of (take i xs) (get_or xs i x ∷ [])
+    ∙ ap (λ (l : List ℕ). flat_map line_of (take i xs) ++ l) (append-nil (line_of (get_or xs i x)) ∙ ap line_of (sym is))
 
 -- and those after it
-pub text_cut : (lines : List (List ℕ)) (n : ℕ) → file_text lines ≡ file_text (take n lines) ++ file_text (drop n lines)
-text_cut lines n = ap file_text (sym (take-append-drop n lines)) ∙ flat_map-append bytes_line (take n lines) (drop n lines)
+text_cut : {A : Type 0} (line_of : A → List ℕ) (xs : List A) (n : ℕ) → flat_map line_of xs ≡ flat_map line_of (take n xs) ++ flat_map line_of (drop n xs)
+text_cut line_of xs n = ap (λ l. flat_map line_of l) (sym (take-append-drop n xs)) ∙ flat_map-append line_of (take n xs) (drop n xs)
 
 pub concat_more : (lines : List (List ℕ)) (i : ℕ) (line : List ℕ) → i < length lines → line ≡ get_or lines i line
     → length (concat (take (i + 1) lines)) ≡ length (concat (take i lines)) + length line
@@ -39,18 +38,26 @@ concat_within lines n =
 
 -- ---- what a sink took of the lines
 
--- the lines before this one, and a part of it
-pub took_part_of_lines : (lines : List (List ℕ)) (i : ℕ) (line bytes : List ℕ) → i < length lines → line ≡ get_or lines i line → bytes ≡ line
-    → (x y z : Option (List ℕ)) → Told (Took (file_text (take i lines))) x y → Told (TookPart (bytes_line bytes)) y z → Told (TookPart (file_text lines)) x z
-took_part_of_lines lines i line bytes lt is same x y z before part =
-    let P : List ℕ → Type 0 = λ l. Told (TookPart (bytes_line l)) y z in
-    let so_far = took_part_after (file_text (take i lines)) (bytes_line line) x y z before (subst P same part) in
-    let whole : (file_text (take i lines) ++ bytes_line line) ++ file_text (drop (i + 1) lines) ≡ file_text lines =
-    ap (λ (l : List ℕ). l ++ file_text (drop (i + 1) lines)) (sym (text_more lines i line lt is)) ∙ sym (text_cut lines (i + 1)) in
-    let Q : List ℕ → Type 0 = λ l. Told (TookPart l) x z in
-    subst Q whole (took_part_of_more (file_text (take i lines) ++ bytes_line line) (file_text (drop (i + 1) lines)) x z so_far)
+-- the lines before this one, and it
+pub took_line_more : {A : Type 0} (line_of : A → List ℕ) (xs : List A) (i : ℕ) (x : A) (line : List ℕ) → i < length xs → x ≡ get_or xs i x → line ≡ line_of x
+    → (a b c : Option (List ℕ)) → Told (Took (flat_map line_of (take i xs))) a b → Told (Took line) b c → Told (Took (flat_map line_of (take (i + 1) xs))) a c
+took_line_more line_of xs i x line lt is same a b c before last =
+    let P : List ℕ → Type 0 = λ l. Told (Took l) b c in
+    let Q : List ℕ → Type 0 = λ l. Told (Took l) a c in
+    subst Q (sym (text_more line_of xs i x lt is)) (took_both (flat_map line_of (take i xs)) (line_of x) a b c before (subst P same last))
 
--- the text of a file and the line that ends it
+-- the lines before this one, and a part of it
+pub took_part_of_lines : {A : Type 0} (line_of : A → List ℕ) (xs : List A) (i : ℕ) (x : A) (line : List ℕ) → i < length xs → x ≡ get_or xs i x → line ≡ line_of x
+    → (a b c : Option (List ℕ)) → Told (Took (flat_map line_of (take i xs))) a b → Told (TookPart line) b c → Told (TookPart (flat_map line_of xs)) a c
+took_part_of_lines line_of xs i x line lt is same a b c before part =
+    let P : List ℕ → Type 0 = λ l. Told (TookPart l) b c in
+    let so_far = took_part_after (flat_map line_of (take i xs)) (line_of x) a b c before (subst P same part) in
+    let whole : (flat_map line_of (take i xs) ++ line_of x) ++ flat_map line_of (drop (i + 1) xs) ≡ flat_map line_of xs =
+    ap (λ (l : List ℕ). l ++ flat_map line_of (drop (i + 1) xs)) (sym (text_more line_of xs i x lt is)) ∙ sym (text_cut line_of xs (i + 1)) in
+    let Q : List ℕ → Type 0 = λ l. Told (TookPart l) a c in
+    subst Q whole (took_part_of_more (flat_map line_of (take i xs) ++ line_of x) (flat_map line_of (drop (i + 1) xs)) a c so_far)
+
+-- the text of lines and the line that ends them
 ended : (text word number : List ℕ) → text ++ (word ++ (number ++ codes "\n")) ≡ (text ++ (word ++ number)) ++ codes "\n"
 ended text word number = ap (λ (l : List ℕ). text ++ l) (sym (append_assoc word number (codes "\n"))) ∙ sym (append_assoc text (word ++ number) (codes "\n"))
 

@@ -8,11 +8,14 @@ use Rattle.hex.specs.Hex.{lower_digits}
 use Rattle.hex.proofs.HexLemmas.{length-encode_with}
 use Rattle.dg_model.specs.declared.shapes.Shape.{Shape}
 use Rattle.dg_model.specs.declared.events.Event.{Event}
-use Rattle.dg_model.specs.declared.events.Event.TheVariants.{Array, Write, Read, Fail, Cat}
+use Rattle.dg_model.specs.declared.events.Event.TheVariants.{Array, Write, Read, Fail, Cat, Ls}
 use Rattle.dg_text.specs.Lines.{hex_word, line_of, IsInPlace, longest}
 use Rattle.dg_text.proofs.PathWords.{length-path_word}
-use Rattle.ufs_model.specs.Paths.{is_one_name, is_path_name}
-use Rattle.std.proofs.Common.{true}
+use Rattle.ufs_model.specs.Paths.{is_path, is_path_name, names_after}
+use Rattle.std.proofs.Common.{◌&&◌, true}
+use Rattle.std.specs.Prelude.{◌==◌, ◌||◌, nat_le}
+use Rattle.std.specs.List.{list_all}
+use Rattle.std.proofs.lemmas.Bool.{and_parts}
 use Rattle.std.proofs.lemmas.Bool.Decides.{nat_tests}
 
 pub length_hex_word : (bytes : List ℕ) → length (hex_word bytes) ≤ 2 * length bytes + 1
@@ -25,11 +28,14 @@ short n lt = length-decimal-le 10 n (omega arith) (omega arith) (omega arith)
 pub block_small : (l : ℕ) → (l ≡ 512) ⊎ (l ≡ 1024) ⊎ (l ≡ 2048) ⊎ (l ≡ 4096) → l < 2 ^ 32
 block_small l h = omega (arith, h)
 
--- a path of one name has at most 256 bytes
-pub one_name_short : (path : List ℕ) → is_one_name path ≡ true → length path ≤ 256
-unfolding is_one_name is_path_name
-one_name_short [] is = omega arith
-one_name_short (b ∷ name) is = grind (arith, nat_tests)
+-- a path has at most 1023 bytes
+pub path_short : (path : List ℕ) → is_path path ≡ true → length path ≤ 1023
+unfolding is_path
+path_short [] is = omega arith
+path_short (b ∷ bytes) is =
+    let form = and_parts (b == 47) (nat_le (length (b ∷ bytes)) 1023 && (nat_le (length (b ∷ bytes)) 1 || list_all is_path_name (names_after (b ∷ bytes)))) is in
+    let size = (and_parts (nat_le (length (b ∷ bytes)) 1023) (nat_le (length (b ∷ bytes)) 1 || list_all is_path_name (names_after (b ∷ bytes))) form.1).0 in
+    grind (arith, nat_tests)
 
 pub line_fits : (shape : Option Shape) (event : Event) → IsInPlace shape event → length (line_of event) ≤ longest shape
 line_fits None (Array s) h =
@@ -43,6 +49,7 @@ line_fits None (Write b bytes) h = absurd h
 line_fits None (Read b) h = absurd h
 line_fits None (Fail s j) h = absurd h
 line_fits None (Cat path) h = absurd h
+line_fits None (Ls path) h = absurd h
 line_fits (Some shape) (Array s) h = absurd h
 line_fits (Some shape) (Write b bytes) h =
     let number = short b h.0 in
@@ -56,6 +63,10 @@ line_fits (Some shape) (Fail s j) h =
     let side = short j h.1 in
     simp length-append (omega arith)
 line_fits (Some shape) (Cat path) h =
-    let bytes = one_name_short path h.0 in
+    let bytes = path_short path h.0 in
+    let word = length-path_word path in
+    simp length-append (omega arith)
+line_fits (Some shape) (Ls path) h =
+    let bytes = path_short path h.0 in
     let word = length-path_word path in
     simp length-append (omega arith)

@@ -8,19 +8,19 @@ use Rattle.std.proofs.lemmas.Bool.Decides.{nat_tests}
 use Rattle.std.proofs.lemmas.Grind.{flat_map-append}
 use Rattle.hex.specs.Hex.{decode_sized, encode_lower, encode_with}
 use Rattle.hex.proofs.HexLemmas.{decode_sized-ok, decode_sized-twice, decode_sized-encode_lower, decode_of-ok}
-use Rattle.dg_text.specs.Lines.{IsLowerDigit, AreBytes, is_plain, spelled_byte, path_word}
-use Rattle.dg_text.proofs.HexWords.{spelled_by_decoded, encode_is_lower, IsBytes-from}
+use Rattle.dg_text.specs.Lines.{IsNotUpper, AreBytes, is_plain, spelled_byte, path_word}
+use Rattle.dg_text.proofs.HexWords.{IsLowerDigit, spelled_by_decoded, encode_is_lower, encode_has_no_upper, IsBytes-from}
 
 -- two digits that decode spell their byte
-pub byte_found : (digits bytes : List ℕ) → All IsLowerDigit digits → decode_sized digits 1 ≡ Ok bytes → digits ≡ encode_lower (slice_index bytes 0 ∷ [])
-byte_found digits [] lower is =
+pub byte_found : (digits bytes : List ℕ) → All IsNotUpper digits → decode_sized digits 1 ≡ Ok bytes → digits ≡ encode_lower (slice_index bytes 0 ∷ [])
+byte_found digits [] high is =
     let two = decode_sized-ok digits 1 [] is in
     let facts = decode_of-ok digits [] (sym (decode_sized-twice digits 1 two) ∙ is) in
     absurd (omega (arith, facts.2))
-byte_found digits (x ∷ []) lower is =
+byte_found digits (x ∷ []) high is =
     let two = decode_sized-ok digits 1 (x ∷ []) is in
-    spelled_by_decoded digits (x ∷ []) (omega arith) lower (sym (decode_sized-twice digits 1 two) ∙ is)
-byte_found digits (x ∷ y ∷ more) lower is =
+    spelled_by_decoded digits (x ∷ []) high (sym (decode_sized-twice digits 1 two) ∙ is)
+byte_found digits (x ∷ y ∷ more) high is =
     let two = decode_sized-ok digits 1 (x ∷ y ∷ more) is in
     let facts = decode_of-ok digits (x ∷ y ∷ more) (sym (decode_sized-twice digits 1 two) ∙ is) in
     absurd (omega (arith, facts.2))
@@ -33,18 +33,16 @@ pub byte_exact : (digits : List ℕ) (x : ℕ) → x < 256 → digits ≡ encode
 byte_exact digits x small is =
     ap (λ (l : List ℕ). decode_sized l 1) is ∙ decode_sized-encode_lower (x ∷ []) 1 refl (IsBytes-from (x ∷ []) (one_byte x small))
 
-pub byte_lower : (digits : List ℕ) (x : ℕ) → x < 256 → digits ≡ encode_lower (x ∷ []) → All IsLowerDigit digits
-byte_lower digits x small is =
-    let P : List ℕ → Type 0 = λ l. All IsLowerDigit l in
-    subst P (sym is) (encode_is_lower (x ∷ []) (one_byte x small))
+pub byte_has_no_upper : (digits : List ℕ) (x : ℕ) → x < 256 → digits ≡ encode_lower (x ∷ []) → All IsNotUpper digits
+byte_has_no_upper digits x small is = encode_has_no_upper digits (x ∷ []) (one_byte x small) is
 
 -- ---- the spelling of one byte
 
-plain_is : (x : ℕ) → is_plain x ≡ true → spelled_byte x ≡ x ∷ []
+pub plain_is : (x : ℕ) → is_plain x ≡ true → spelled_byte x ≡ x ∷ []
 unfolding spelled_byte
 plain_is x plain = rw plain refl
 
-escaped_is : (x : ℕ) → is_plain x ≡ false → spelled_byte x ≡ codes "\\x" ++ encode_lower (x ∷ [])
+pub escaped_is : (x : ℕ) → is_plain x ≡ false → spelled_byte x ≡ codes "\\x" ++ encode_lower (x ∷ [])
 unfolding spelled_byte
 escaped_is x escaped = rw escaped refl
 

@@ -8,11 +8,11 @@ use Rattle.std.proofs.lemmas.List.Elements.{All-append, All-weaker}
 use Rattle.std.proofs.lemmas.Bool.{ltb-true}
 use Rattle.dg_model.specs.declared.shapes.Shape.{Shape}
 use Rattle.dg_model.specs.declared.events.Event.{Event}
-use Rattle.dg_model.specs.declared.events.Event.TheVariants.{Array, Write, Read, Fail, Cat}
-use Rattle.dg_text.specs.Lines.{IsLowerDigit, AreBytes, hex_word, path_word, shape_words, spelling, line_of, IsInPlace}
+use Rattle.dg_model.specs.declared.events.Event.TheVariants.{Array, Write, Read, Fail, Cat, Ls}
+use Rattle.dg_text.specs.Lines.{AreBytes, hex_word, path_word, shape_words, spelling, line_of, IsInPlace}
 use Rattle.dg_text.proofs.Cuts.{Lacks, Lacks-from_not, first_cut}
 use Rattle.dg_text.proofs.Numbers.{decimal_lacks}
-use Rattle.dg_text.proofs.HexWords.{encode_is_lower}
+use Rattle.dg_text.proofs.HexWords.{IsLowerDigit, encode_is_lower}
 use Rattle.dg_text.proofs.PathWords.{path_word_high}
 use Rattle.dg_text.proofs.Lengths.{block_small}
 
@@ -57,6 +57,7 @@ spelling_lacks None (Write b bytes) h = absurd h
 spelling_lacks None (Read b) h = absurd h
 spelling_lacks None (Fail s j) h = absurd h
 spelling_lacks None (Cat path) h = absurd h
+spelling_lacks None (Ls path) h = absurd h
 spelling_lacks (Some shape) (Array s) h = absurd h
 spelling_lacks (Some shape) (Write b bytes) h =
     joined (codes "write ") _ (plain (codes "write ") refl)
@@ -66,6 +67,7 @@ spelling_lacks (Some shape) (Fail s j) h =
     joined (codes "fail ") _ (plain (codes "fail ") refl)
     (joined (decimal s) _ (number s h.0) (joined (codes " ") (decimal j) space (number j h.1)))
 spelling_lacks (Some shape) (Cat path) h = joined (codes "cat ") (path_word path) (plain (codes "cat ") refl) (path_lacks path h.1)
+spelling_lacks (Some shape) (Ls path) h = joined (codes "ls ") (path_word path) (plain (codes "ls ") refl) (path_lacks path h.1)
 
 -- where a line and its LF begin a text that begins with an event's line, the line spells the event
 pub whole_line : (shape : Option Shape) (event : Event) (line more tail : List ℕ) → IsInPlace shape event → (Contains line 10 → ⊥)

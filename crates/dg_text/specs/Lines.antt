@@ -83,6 +83,6 @@ abbrev pub longest : Option Shape → ℕ
 longest None = 2 * 512 + 4201
 longest (Some shape) = 2 * shape.l + 4201
 
--- a hex digit in lower case
-abbrev pub IsLowerDigit : ℕ → Type 0
-IsLowerDigit c = ((48 ≤ c) × (c ≤ 57)) ⊎ ((97 ≤ c) × (c ≤ 102))
+-- no letter in upper case
+abbrev pub IsNotUpper : ℕ → Type 0
+IsNotUpper c = (c < 65) ⊎ (90 < c)

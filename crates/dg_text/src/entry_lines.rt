@@ -1,5 +1,6 @@
 // The entries of a directory as lines.
-use crate::replies::{write_count, write_entry_line};
+use crate::listings::write_entry_line;
+use crate::replies::write_count;
 use dg_io::Sink;
 use dg_model::Failed;
 use ufs_model::Kind;

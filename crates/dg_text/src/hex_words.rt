@@ -1,16 +1,16 @@
 // Hex words: bytes as pairs of hex digits in lower case, and `-` for none.
 ghost use Rattle.std.specs.Prelude.{◌≡◌, ◌≤◌, ◌↔◌, ℕ, List, length, All, IsTrue, IfOk, IfSome};
-ghost use Rattle.dg_text.specs.Lines.{hex_word, AreBytes, IsLowerDigit};
+ghost use Rattle.dg_text.specs.Lines.{hex_word, AreBytes, IsNotUpper};
 
 use dg_model::{Bytes, NoMemory};
 use hex::FromHexError;
 use std::alloc::Global;
 
-/// Whether all bytes are hex digits in lower case.
-pub fn is_lower_hex(word: &[u8]) -> bool
-    ensures { IsTrue result ↔ All IsLowerDigit word.now }
+/// Whether no byte is a letter in upper case. `hex::decode` refuses what is no digit, but takes digits of both cases.
+pub fn has_no_upper(word: &[u8]) -> bool
+    ensures { IsTrue result ↔ All IsNotUpper word.now }
 {
-    word.iter().all(|x| matches!(*x, b'0'..=b'9' | b'a'..=b'f'))
+    word.iter().all(|x| !x.is_ascii_uppercase())
 }
 
 /// The bytes that a word spells, if they are at most so many.
@@ -27,7 +27,7 @@ pub fn read_hex(alloc: Global, word: &[u8], most: usize) -> Result<Option<Bytes>
     if word.len() / 2 > most {
         return Ok(None);
     }
-    if !is_lower_hex(word) {
+    if !has_no_upper(word) {
         return Ok(None);
     }
     match hex::decode(alloc, word) {

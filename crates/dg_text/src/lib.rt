@@ -6,6 +6,7 @@ mod entry_lines;
 mod hex_lines;
 mod hex_words;
 mod lines;
+mod listings;
 mod path_words;
 mod replies;
 #[cfg(test)]

@@ -4,7 +4,7 @@ ghost use Rattle.hex.specs.Hex.{encode_lower};
 ghost use Rattle.ufs_model.specs.Paths.{is_path};
 ghost use Rattle.dg_text.specs.Lines.{is_plain, spelled_byte, path_word, AreBytes};
 
-use crate::hex_words::is_lower_hex;
+use crate::hex_words::has_no_upper;
 use crate::words::after_word;
 use dg_model::{Bytes, NoMemory};
 use hex::FromHex;
@@ -13,8 +13,8 @@ use std::alloc::Global;
 // Bytes of the longest path.
 const LONGEST_PATH: usize = 1023;
 
-// Whether a byte of a path stands for itself.
-fn is_plain(byte: u8) -> bool
+/// Whether a byte of a path stands for itself.
+pub fn is_plain(byte: u8) -> bool
     ensures { result ≡ is_plain byte }
 {
     matches!(byte, 0x21..=0x7e) && byte != b'\\'
@@ -25,7 +25,7 @@ fn hex_byte(digits: &[u8]) -> Option<u8>
     ensures found { IfSome result (λ x. digits.now ≡ encode_lower (x ∷ [])) }
     ensures exact { (x : ℕ) → x < 256 → digits.now ≡ encode_lower (x ∷ []) → result ≡ Some x }
 {
-    if !is_lower_hex(digits) {
+    if !has_no_upper(digits) {
         return None;
     }
     let Ok(bytes) = <[u8; 1] as FromHex>::from_hex(digits) else {

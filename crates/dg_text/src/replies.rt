@@ -8,6 +8,7 @@ ghost use Rattle.hex.specs.Hex.{encode_lower};
 ghost use Rattle.dg_text.specs.Replies.{reply_line, refusal, kind_of, usage, bytes_line, file_text, super_word, bad_word, refusal_words, AreShort, IsShort};
 
 use crate::BadLine;
+use crate::listings::write_listing;
 use dg_io::{Sink, write_all};
 use dg_model::{Bytes, Failed, Reply};
 use itoa::Buffer;
@@ -124,65 +125,6 @@ fn write_file<K: Sink>(sink: &mut K, lines: &[Bytes], word: &[u8]) -> Result<(),
     write_count(sink, word, bytes_in(lines))
 }
 
-// The letter of a kind of file.
-fn kind_letter(kind: Kind) -> &'static [u8]
-    ensures { result.now ≡ kind_letter kind }
-{
-    match kind {
-        Kind::Regular => b"r",
-        Kind::Directory => b"d",
-        Kind::Link => b"l",
-        Kind::Pipe => b"p",
-        Kind::Character => b"c",
-        Kind::Block => b"b",
-        Kind::Socket => b"s",
-        Kind::Unknown => b"u",
-    }
-}
-
-/// Writes the line of an entry of a directory.
-pub fn write_entry_line<K: Sink>(
-    sink: &mut K,
-    inode: u32,
-    kind: Kind,
-    size: u64,
-    name: &[u8],
-) -> Result<(), Failed>
-    requires { length name.now ≤ 255 }
-    ensures ok { (depth : ℕ) → OnOk result (Told (Took (entry_line (record { depth = depth; inode = inode; kind = kind; size = size; name = name.now }))) (K.taken sink.old) (K.taken sink.new)) }
-    ensures err { (depth : ℕ) → OnErr result (Told (TookPart (entry_line (record { depth = depth; inode = inode; kind = kind; size = size; name = name.now }))) (K.taken sink.old) (K.taken sink.new)) }
-    ensures cause { HasCause (K.faults sink.old) (K.faults sink.new) result }
-{
-    let mut line = [0u8; ENTRY_ROOM];
-    let end = spell_entry(&mut line, inode, kind, size, name);
-    write_all(sink, &line[..end])
-}
-
-// Writes the lines of the entries of a directory.
-fn write_entries<K: Sink>(sink: &mut K, entries: &[ListedEntry]) -> Result<(), Failed>
-    requires { All (λ entry. length entry.name ≤ 255) entries.now }
-    ensures ok { OnOk result (Told (Took (entries_text entries.now)) (K.taken sink.old) (K.taken sink.new)) }
-    ensures err { OnErr result (Told (TookPart (entries_text entries.now)) (K.taken sink.old) (K.taken sink.new)) }
-    ensures cause { HasCause (K.faults sink.old) (K.faults sink.new) result }
-{
-    for entry in entries {
-        write_entry_line(sink, entry.inode(), entry.kind(), entry.size(), entry.name())?;
-    }
-    Ok(())
-}
-
-// Writes the lines of a directory, and the one that ends it.
-fn write_listing<K: Sink>(sink: &mut K, entries: &[ListedEntry], word: &[u8]) -> Result<(), Failed>
-    requires entries { AreFew entries.now }
-    requires word { length word.now ≤ 4 }
-    ensures ok { OnOk result (Told (Took ((entries_text entries.now ++ (word.now ++ decimal (length entries.now))) ++ codes "\n")) (K.taken sink.old) (K.taken sink.new)) }
-    ensures err { OnErr result (Told (TookPart ((entries_text entries.now ++ (word.now ++ decimal (length entries.now))) ++ codes "\n")) (K.taken sink.old) (K.taken sink.new)) }
-    ensures cause { HasCause (K.faults sink.old) (K.faults sink.new) result }
-{
-    write_entries(sink, entries)?;
-    write_count(sink, word, entries.len() as u32)
-}
-
 /// Writes the answer to a refused line. The first line of an input has the number 1.
 pub fn write_refusal<K: Sink>(sink: &mut K, number: u64, kind: BadLine) -> Result<(), Failed>
     ensures ok { OnOk result (Told (Took (refusal number kind)) (K.taken sink.old) (K.taken sink.new)) }
@@ -253,8 +195,8 @@ fn spell_count(line: &mut [u8], word: &[u8], n: u32) -> usize
     put(line, after, b"\n")
 }
 
-// Puts the hex digits of bytes at a place of a line, and answers where they end.
-fn put_hex(line: &mut [u8], at: usize, bytes: &[u8]) -> usize
+/// Puts the hex digits of bytes at a place of a line, and answers where they end.
+pub fn put_hex(line: &mut [u8], at: usize, bytes: &[u8]) -> usize
     requires { at + 2 * length bytes.now ≤ length line.old }
     ensures end { result ≡ at + 2 * length bytes.now }
     ensures text { take result line.new ≡ take at line.old ++ encode_lower bytes.now }

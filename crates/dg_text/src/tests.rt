@@ -1,18 +1,20 @@
-ghost use Rattle.std.specs.Prelude.{◌≡◌, ◌++◌, ℕ, List, length, codes, IfOk, OnOk};
+ghost use Rattle.std.specs.Prelude.{◌≡◌, ◌≤◌, ◌++◌, ℕ, List, length, codes, IfOk, OnOk};
 ghost use Rattle.std.specs.List.{concat};
 ghost use Rattle.dg_io.specs.Told.{Told, Took};
 ghost use Rattle.dg_model.specs.Lists.{AreLines};
-ghost use Rattle.dg_text.specs.Replies.{file_text, AreShort};
+ghost use Rattle.dg_text.specs.Replies.{file_text, AreFew, AreShort};
 ghost use Rattle.dg_text.specs.HexLines.{last_line};
 
 use crate::{
-    BadLine, HexLines, longest_line, read_line, write_data, write_refusal, write_reply, write_usage,
+    BadLine, EntryLines, HexLines, longest_line, read_line, write_data, write_refusal, write_reply,
+    write_usage,
 };
 use dg_io::{MemSink, Pieces, Sink};
-use dg_model::{Bytes, Event, Failed, Lines, Reply, Shape};
+use dg_model::{Bytes, Event, Failed, Lines, ListedEntries, ListedEntry, Reply, Shape};
 use std::alloc::{AllocError, Global};
 use std::test::Fail;
-use ufs_model::{BadRead, BadSuper, PathRefusal};
+use ufs_model::{BadRead, BadSuper, Kind, PathRefusal};
+use ufs_path::Listing;
 
 const SHAPE: Shape = Shape {
     l: 1024,
@@ -30,6 +32,7 @@ enum Want {
     Write(u32, &'static [u8]),
     Read(u32),
     Cat(&'static [u8]),
+    Ls(&'static [u8]),
 }
 
 fn gives(answer: &Result<Event, BadLine>, want: &Want) -> bool {
@@ -41,6 +44,7 @@ fn gives(answer: &Result<Event, BadLine>, want: &Want) -> bool {
         }
         (Ok(Event::Read(block)), Want::Read(at)) => *block == *at,
         (Ok(Event::Cat(path)), Want::Cat(bytes)) => path.as_slice() == *bytes,
+        (Ok(Event::Ls(path)), Want::Ls(bytes)) => path.as_slice() == *bytes,
         _ => false,
     }
 }
@@ -89,16 +93,22 @@ fn lines_spell_events_in_their_places(rt: HostRuntime) -> Result<(), Fail> {
 }
 
 #[test]
-fn paths_have_one_name(rt: HostRuntime) -> Result<(), Fail> {
+fn paths_have_one_spelling(rt: HostRuntime) -> Result<(), Fail> {
     let rows = [
         ("cat /a", Want::Cat(b"/a")),
+        ("cat /a/b", Want::Cat(b"/a/b")),
+        ("cat /", Want::Cat(b"/")),
         ("cat /x\\x20y", Want::Cat(b"/x y")),
         ("cat /\\x5c", Want::Cat(b"/\\")),
         ("cat /\\xff", Want::Cat(b"/\xff")),
-        ("cat /", Want::Refused),
+        ("ls /d", Want::Ls(b"/d")),
+        ("ls /", Want::Ls(b"/")),
+        ("ls /a/\\x80b", Want::Ls(b"/a/\x80b")),
         ("cat a", Want::Refused),
-        ("cat /a/b", Want::Refused),
+        ("cat //", Want::Refused),
+        ("cat /a/", Want::Refused),
         ("cat /\\x41", Want::Refused),
+        ("cat /a\\x2fb", Want::Refused),
         ("cat /\\x2F", Want::Refused),
         ("cat /\\xfF", Want::Refused),
         ("cat /a b", Want::Refused),
@@ -106,13 +116,41 @@ fn paths_have_one_name(rt: HostRuntime) -> Result<(), Fail> {
         ("cat /\\x2", Want::Refused),
         ("cat ", Want::Refused),
         ("cat", Want::Refused),
+        ("ls //", Want::Refused),
+        ("ls /a/", Want::Refused),
+        ("ls a", Want::Refused),
+        ("ls ", Want::Refused),
+        ("ls", Want::Refused),
+        ("ls  /d", Want::Refused),
     ];
     for (line, want) in rows {
         let answer = read_line(rt.alloc(), line.as_bytes(), Some(&SHAPE))?;
         assert!(rt; gives(&answer, &want), "{line}");
     }
-    let first = read_line(rt.alloc(), b"cat /a", None)?;
+    let first = read_line(rt.alloc(), b"ls /a", None)?;
     assert!(rt; gives(&first, &Want::Refused));
+    Ok(())
+}
+
+// A word, and then a path of 1023 bytes: three names of 255 bytes, and one of 254.
+fn longest_path(alloc: Global, word: &[u8]) -> Result<Vec<u8>, AllocError> {
+    let mut line = Vec::from_slice(alloc, word)?;
+    for i in 0..1023 {
+        line.push(if i % 256 == 0 { b'/' } else { b'a' })?;
+    }
+    Ok(line)
+}
+
+#[test]
+fn a_path_is_at_most_1023_bytes(rt: HostRuntime) -> Result<(), Fail> {
+    for word in ["cat ", "ls "] {
+        let mut line = longest_path(rt.alloc(), word.as_bytes())?;
+        let whole = read_line(rt.alloc(), &line, Some(&SHAPE))?;
+        assert!(rt; whole.is_ok(), "{word}");
+        line.push(b'a')?;
+        let longer = read_line(rt.alloc(), &line, Some(&SHAPE))?;
+        assert!(rt; gives(&longer, &Want::Refused), "{word}");
+    }
     Ok(())
 }
 
@@ -195,7 +233,7 @@ fn what_cat_answers_is_written(rt: HostRuntime) -> Result<(), Fail> {
         PathRefusal::NotRegular,
         PathRefusal::Bad(BadRead::Super(BadSuper::Magic)),
         PathRefusal::Bad(BadRead::Super(BadSuper::Summary)),
-        PathRefusal::Bad(BadRead::Later),
+        PathRefusal::Bad(BadRead::Wild),
     ];
     for refusal in rows {
         write_reply(&mut sink, &Reply::Refused(refusal))?;
@@ -203,8 +241,110 @@ fn what_cat_answers_is_written(rt: HostRuntime) -> Result<(), Fail> {
     write_reply(&mut sink, &Reply::Cut(Lines::new(Vec::new(alloc))))?;
     write_reply(&mut sink, &Reply::Given(two_lines(alloc, b'h', b'i')?))?;
     let text =
-        b"notfound\nnotdir\nnotregular\nbad magic\nbad summary\nbad later\ncut 0\nbytes 68\nbytes 69\nend 2\n";
+        b"notfound\nnotdir\nnotregular\nbad magic\nbad summary\nbad wild\ncut 0\nbytes 68\nbytes 69\nend 2\n";
     assert!(rt; sink.taken() == text.as_slice());
+    Ok(())
+}
+
+// An entry of the directory that is listed.
+fn entry_of(
+    alloc: Global,
+    inode: u32,
+    kind: Kind,
+    size: u64,
+    name: &[u8],
+) -> Result<ListedEntry, AllocError>
+    requires { length name.now ≤ 255 }
+    ensures { IfOk result (λ entry. length entry.name ≤ 255) }
+{
+    let bytes = Bytes::new(Vec::from_slice(alloc, name)?);
+    Ok(ListedEntry::new(1, inode, kind, size, bytes))
+}
+
+// A directory `/d` with a file b, listed.
+fn three_entries(alloc: Global) -> Result<ListedEntries, AllocError>
+    ensures { IfOk result AreFew }
+{
+    let mut entries = Vec::new(alloc);
+    entries.push(entry_of(alloc, 4, Kind::Directory, 512, b".")?)?;
+    entries.push(entry_of(alloc, 2, Kind::Directory, 512, b"..")?)?;
+    entries.push(entry_of(alloc, 5, Kind::Regular, 53248, b"b")?)?;
+    Ok(ListedEntries::new(entries))
+}
+
+// One entry, whose name has bytes that don't stand for themselves.
+fn one_entry(alloc: Global) -> Result<ListedEntries, AllocError>
+    ensures { IfOk result AreFew }
+{
+    let mut entries = Vec::new(alloc);
+    entries.push(entry_of(alloc, 6, Kind::Link, 3, b"x y\x80\\")?)?;
+    Ok(ListedEntries::new(entries))
+}
+
+#[test]
+fn what_ls_answers_is_written(rt: HostRuntime) -> Result<(), Fail> {
+    let alloc = rt.alloc();
+    let mut sink = MemSink::new(alloc, 256, Vec::new(alloc))?;
+    write_reply(&mut sink, &Reply::Listed(three_entries(alloc)?))?;
+    write_reply(&mut sink, &Reply::ListedCut(one_entry(alloc)?))?;
+    let nothing = ListedEntries::new(Vec::new(alloc));
+    write_reply(&mut sink, &Reply::ListedCut(nothing))?;
+    let text =
+        b"entry 4 d 512 .\nentry 2 d 512 ..\nentry 5 r 53248 b\nend 3\nentry 6 l 3 x\\x20y\\x80\\x5c\ncut 1\ncut 0\n";
+    assert!(rt; sink.taken() == text.as_slice());
+    Ok(())
+}
+
+// Hands on the same entries, one by one.
+fn hand_three<L: Listing>(listing: &mut L) -> Result<(), Failed> {
+    listing.line(1, 4, Kind::Directory, 512, b".")?;
+    listing.line(1, 2, Kind::Directory, 512, b"..")?;
+    listing.line(1, 5, Kind::Regular, 53248, b"b")
+}
+
+#[test]
+fn entries_are_written_one_by_one(rt: HostRuntime) -> Result<(), Fail> {
+    let alloc = rt.alloc();
+    let mut sink = MemSink::new(alloc, 256, Vec::new(alloc))?;
+    let mut lines = EntryLines::new(&mut sink);
+    hand_three(&mut lines)?;
+    lines.end(3)?;
+    lines.line(2, 4294967295, Kind::Socket, 18446744073709551615, b"\xff")?;
+    lines.cut(1)?;
+    let text =
+        b"entry 4 d 512 .\nentry 2 d 512 ..\nentry 5 r 53248 b\nend 3\nentry 4294967295 s 18446744073709551615 \\xff\ncut 1\n";
+    assert!(rt; sink.taken() == text.as_slice());
+    Ok(())
+}
+
+// A sink that takes at most eight bytes a call.
+#[derive(Drop)]
+struct NarrowSink {
+    inner: MemSink,
+}
+
+impl Sink for NarrowSink {
+    ghost use Rattle.std.specs.Prelude.{Some};
+    ghost use Rattle.dg_io.specs.Sinks.{taken_in, sink_faults};
+
+    ghost taken = { λ s. Some (taken_in s.inner) };
+
+    ghost faults = { λ s. sink_faults s.inner };
+
+    fn write(&mut self, piece: &[u8]) -> Result<usize, Failed> {
+        let (front, _) = piece.split_at(piece.len().min(8));
+        self.inner.write(front)
+    }
+}
+
+#[test]
+fn a_line_of_an_entry_may_fail_in_the_middle(rt: HostRuntime) -> Result<(), Fail> {
+    let alloc = rt.alloc();
+    let inner = MemSink::new(alloc, 256, Vec::from_slice(alloc, &[4])?)?;
+    let mut sink = NarrowSink { inner };
+    let mut lines = EntryLines::new(&mut sink);
+    assert_eq!(rt; hand_three(&mut lines), Err(Failed));
+    assert!(rt; sink.inner.taken() == b"entry 4 d 512 .\nentry 2 d 512 ..".as_slice());
     Ok(())
 }
 

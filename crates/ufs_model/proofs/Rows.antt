@@ -13,7 +13,11 @@ use Rattle.ufs_model.specs.GroupMaps.{group_in, group_fields, group_magic_holds,
 use Rattle.ufs_model.specs.Chunks.{chunk_in, entries_in, fault_in, fault_at, reclen_holds, is_name, entry_in, find_in}
 use Rattle.ufs_model.specs.Pointers.{locate_of, is_data_run, address, through, file_block_of}
 use Rattle.ufs_model.specs.Readings.{and_then}
-use Rattle.ufs_model.specs.Paths.{block_of, bytes_at, cat_of, chunks_of, contents_of, find_from, find_in_block, find_of, find_through, front_of, directory_refusal, file_refusal, look_from, named_inode, names_of, part_of, volume_geometry}
+use Rattle.ufs_model.specs.Paths.{block_of, bytes_at, cat_of, chunks_of, contents_of, entries_before, entries_of, find_from, find_in_block, find_of, find_through, front_of, directory_refusal, file_refusal, look_from, named_inode, names_of, part_of, volume_geometry}
+use Rattle.ufs_model.specs.Claims.{level_of, pointer_fragments, slot_fragments, targets}
+use Rattle.ufs_model.specs.Listings.{listed_entries, listed_entry, listing_of}
+use Rattle.ufs_model.specs.Malformations.{first_block}
+use Rattle.ufs_model.specs.declared.claims.ClaimSource.TheVariants.{Slot, Pointer}
 use Rattle.ufs_model.specs.declared.numbers.Endian.{Endian}
 use Rattle.ufs_model.specs.declared.numbers.Endian.TheVariants.{Little, Big}
 use Rattle.ufs_model.specs.declared.geometries.Geometry.{Geometry}
@@ -297,3 +301,47 @@ volumes_without_a_superblock : map (λ n. cat_of Little 1024 n (47 ∷ 97 ∷ []
     ∷ record { value = Err (PathBad (BadSuperblock Magic)); needs = 8 ∷ 9 ∷ [] } ∷ []
 unfolding cat_of volume_geometry geometry_of superblock_of area_within area_of bind and_then look_from named_inode inode_of inode_in inode_block inode_byte find_of directory_refusal file_refusal kind_of find_from find_in_block chunks_of block_of bytes_at file_block_of locate_of address is_data_run role role_in span find_through find_in chunk_in fault_in entries_in fault_at entry_in reclen_holds is_name contents_of front_of part_of geometry_in fields number_at format_holds frag_holds is_block_size is_fragment_count groups_hold inodes_hold layout_holds group_fits cgstart cgbase end_of summary_holds
 volumes_without_a_superblock = refl
+
+-- ---- listings
+
+abbrev root_inode : Inode
+root_inode = record { mode = 0x41ed; size = 512; db = 33 ∷ replicate 11 0; ib = 0 ∷ 0 ∷ 0 ∷ [] }
+
+-- a volume whose root has its two own entries alone
+abbrev empty_volume : Volume
+empty_volume = replicate 28 [] ++ (gap 256 ++ inode_row 0x41ed 512 33 0 ++ gap 640) ∷ replicate 4 [] ++ root_chunk ∷ []
+
+listing_of_an_empty_root : listing_of Little small root_inode empty_volume
+    ≡ record {
+      value = Ok (record { depth = 1; inode = 2; kind = Directory; size = 512; name = 46 ∷ [] } ∷ record { depth = 1; inode = 2; kind = Directory; size = 512; name = 46 ∷ 46 ∷ [] } ∷ []);
+      needs = 33 ∷ 28 ∷ 28 ∷ [];
+    }
+unfolding listing_of listed_entries listed_entry entries_of entries_before area_of bind and_then named_inode inode_of inode_in inode_block inode_byte directory_refusal kind_of chunks_of block_of bytes_at file_block_of locate_of address is_data_run role role_in span chunk_in fault_in entries_in fault_at entry_in reclen_holds is_name number_at cgstart cgbase
+listing_of_an_empty_root = refl
+
+-- ---- claims
+
+-- five bytes claim one fragment, an indirect slot a whole file block, and so does a slot past the end of the file
+slots_claim : (map (slot_fragments small small_file) (0 ∷ 1 ∷ 12 ∷ []) ≡ (34 ∷ []) ∷ [] ∷ [] ∷ [])
+    × (map (slot_fragments small long_file) (12 ∷ 13 ∷ 15 ∷ []) ≡ (84 ∷ 85 ∷ 86 ∷ 87 ∷ []) ∷ [] ∷ [] ∷ [])
+    × (slot_fragments small (record { mode = 0x81a4; size = 5; db = 34 ∷ 96 ∷ replicate 10 0; ib = 0 ∷ 0 ∷ 0 ∷ [] }) 1 ≡ 96 ∷ 97 ∷ 98 ∷ 99 ∷ [])
+unfolding slot_fragments span kind_of address is_data_run role role_in cgstart cgbase
+slots_claim = (refl, refl, refl)
+
+-- a pointer of an indirect block claims a whole file block; 0 and a wild one claim nothing, and so does one past the fragment
+pointers_claim : map (pointer_fragments Little small (88 ∷ gap 7 ++ 28 ∷ gap 1015 ++ 88 ∷ gap 3)) (0 ∷ 1 ∷ 2 ∷ 256 ∷ []) ≡ (88 ∷ 89 ∷ 90 ∷ 91 ∷ []) ∷ [] ∷ [] ∷ [] ∷ []
+unfolding pointer_fragments number_at address is_data_run role role_in cgstart cgbase
+pointers_claim = refl
+
+-- of a volume: the file `a`, the end of the sparse file, no slot of inode 1, and none of an unallocated inode
+sources_claim : map (targets Little small path_volume) (Slot 3 0 ∷ Slot 4 1 ∷ Slot 1 0 ∷ Slot 5 0 ∷ []) ≡ (34 ∷ []) ∷ (36 ∷ []) ∷ [] ∷ [] ∷ []
+unfolding targets slot_fragments inode_of inode_in inode_block inode_byte number_at span kind_of address is_data_run role role_in cgstart cgbase bind
+sources_claim = refl
+
+levels : map level_of (Slot 3 0 ∷ Slot 3 11 ∷ Slot 3 12 ∷ Slot 3 14 ∷ Pointer 84 1 0 ∷ Pointer 84 3 0 ∷ []) ≡ 0 ∷ 0 ∷ 1 ∷ 3 ∷ 0 ∷ 2 ∷ []
+levels = refl
+
+-- ---- malformations
+
+first_blocks : map (first_block small) (0 ∷ 11 ∷ 12 ∷ 13 ∷ 14 ∷ []) ≡ 0 ∷ 11 ∷ 12 ∷ 1036 ∷ 1049612 ∷ []
+first_blocks = refl

@@ -72,7 +72,7 @@ level_of (Pointer fragment level at) = level - 1
 pub data IsClaim (claimed : ClaimSource → List ℕ) : ℕ → ClaimSource → Type 0 where
   by_slot : {fragment inode slot : ℕ} → Contains (claimed (Slot inode slot)) fragment → IsClaim claimed fragment (Slot inode slot)
   by_pointer : {fragment upper level at : ℕ} {source : ClaimSource} → IsClaim claimed upper source → level_of source ≡ level → 0 < level
-    → Contains (claimed (Pointer upper level at)) fragment → IsClaim claimed fragment (Pointer upper level at)
+      → Contains (claimed (Pointer upper level at)) fragment → IsClaim claimed fragment (Pointer upper level at)
 
 -- ---- owners
 
@@ -85,6 +85,6 @@ pub record IsOnlyClaim (claimed : ClaimSource → List ℕ) (fragment : ℕ) (so
 -- fragment upwards, where each fragment on the chain has one claim.
 pub data IsOwner (claimed : ClaimSource → List ℕ) : ℕ → ℕ → ℕ → Type 0 where
   by_own_slot : {fragment inode slot level : ℕ} → IsOnlyClaim claimed fragment (Slot inode slot) → level_of (Slot inode slot) ≡ level
-    → IsOwner claimed fragment inode level
+      → IsOwner claimed fragment inode level
   by_upper : {fragment upper at inode level above : ℕ} → IsOnlyClaim claimed fragment (Pointer upper above at)
-    → level_of (Pointer upper above at) ≡ level → IsOwner claimed upper inode above → IsOwner claimed fragment inode level
+      → level_of (Pointer upper above at) ≡ level → IsOwner claimed upper inode above → IsOwner claimed fragment inode level

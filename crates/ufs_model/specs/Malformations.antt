@@ -131,8 +131,8 @@ module _ (endian : Endian) (g : Geometry) (v : Volume) where
   pub data FirstBlock : ClaimSource → ℕ → ℕ → Type 0 where
     of_slot : {i slot : ℕ} → FirstBlock (Slot i slot) i (first_block g slot)
     of_pointer : {f level at i n : ℕ} {source : ClaimSource} (place : ℕ) → FirstBlock source i n → slice_get (targets endian g v source) place ≡ Some f
-      → level_of source ≡ level → 0 < level
-      → FirstBlock (Pointer f level at) i (n + (place * (g.fsize / 4) + at) * g.nindir ^ (level - 1))
+        → level_of source ≡ level → 0 < level
+        → FirstBlock (Pointer f level at) i (n + (place * (g.fsize / 4) + at) * g.nindir ^ (level - 1))
 
   -- a pointer that isn't 0, though no block of the file is reached through it
   pub record HasPastIn (f : ℕ) : Type 0 where

@@ -26,4 +26,4 @@ pub data IsMetadata (endian : Endian) (l n : ℕ) (v : Volume) : ℕ → Type 0 
 pub data IsStructure (endian : Endian) (l n : ℕ) (v : Volume) : ℕ → Type 0 where
   of_metadata : {b : ℕ} → IsMetadata endian l n v b → IsStructure endian l n v b
   of_directory : {b : ℕ} (g : Geometry) (i first : ℕ) (source : ClaimSource) → (geometry_of endian l n v).value ≡ Ok g
-    → IsDirectory endian g v i (λ _. Unit {0}) → IsClaim (targets endian g v) b source → FirstBlock endian g v source i first → IsStructure endian l n v b
+      → IsDirectory endian g v i (λ _. Unit {0}) → IsClaim (targets endian g v) b source → FirstBlock endian g v source i first → IsStructure endian l n v b

@@ -1,114 +1,58 @@
 -- Answers of `cat`.
-use Rattle.std.proofs.Common.{◌≡◌, ◌∙◌, ℕ, ◌≤◌, Bool, List, ◌++◌, Some, None, Ok, Err, Result, Option, length, drop, refl, sym, ap}
+use Rattle.std.proofs.Common.{ℕ, ◌≤◌, Bool, List, ◌++◌, Some, Ok, Err, Result, Option, length, drop, ap}
 use Rattle.std.specs.Option.{option_map}
-use Rattle.ufs_model.specs.Blocks.{Reading, Volume}
+use Rattle.ufs_model.specs.Blocks.{Volume}
 use Rattle.ufs_model.specs.Paths.{cat_of, contents_of, front_of, look_from, names_of, volume_geometry}
 use Rattle.ufs_model.specs.Readings.{Grows, ReadsAs}
 use Rattle.ufs_model.specs.declared.geometries.Geometry.{Geometry}
 use Rattle.ufs_model.specs.declared.inodes.Inode.{Inode}
 use Rattle.ufs_model.specs.declared.numbers.Endian.TheVariants.{Little}
 use Rattle.ufs_model.specs.declared.reads.PathRefusal.{PathRefusal}
-use Rattle.ufs_model.specs.declared.reads.PathRefusal.TheVariants.{NotFound as RefusedNotFound, NotDirectory as RefusedNotDirectory, NotRegular as RefusedNotRegular, Bad as RefusedBad}
 use Rattle.ufs_model.proofs.ReadingLaws.{reads_on, reads_refused}
-use Rattle.ufs_path.proofs.FileLaws.{rest_is}
-use Rattle.ufs_path.specs.Answers.{IsAnswer, answer_at, refusal_of, refused_answer}
+use Rattle.ufs_path.proofs.FileLaws.{file_fronts}
+use Rattle.ufs_path.proofs.PartLaws.{rest_is}
+use Rattle.ufs_path.proofs.ReadsLaws.{answer_where, none_now, wider}
+use Rattle.ufs_path.specs.Answers.{IsAnswer, refusal_of}
 use Rattle.ufs_path.specs.Parts.{IsHanded, cat_below}
 use Rattle.ufs_path.specs.declared.faults.LookFault.{LookFault}
-use Rattle.ufs_path.specs.declared.faults.LookFault.TheVariants.{NotFound as FaultNotFound, NotDirectory as FaultNotDirectory, Bad as FaultBad, Unavailable as FaultUnavailable}
 use Rattle.ufs_path.specs.declared.faults.CatAnswer.{CatAnswer}
 use Rattle.ufs_path.specs.declared.faults.CatAnswer.TheVariants.{Given, NotFound, NotDirectory, Bad, Unavailable, NotRegular, Cut, SinkFault}
 
--- what an answer says of one reading it says of another
-pub cat_map : {S : Type 0} (took took_part : S → List ℕ → S → Type 0) (faults : S → ℕ) (old new : S) {one two : Option (Result (List ℕ) PathRefusal) → Type 0} (answer : CatAnswer)
-    → ((r : Option (Result (List ℕ) PathRefusal)) → one r → two r) → IsAnswer took took_part faults old new one answer → IsAnswer took took_part faults old new two answer
-cat_map took took_part faults old new (Given n) go is = (is.0, is.1, is.2, go _ is.3)
-cat_map took took_part faults old new NotFound go is = (is.0, go _ is.1)
-cat_map took took_part faults old new NotDirectory go is = (is.0, go _ is.1)
-cat_map took took_part faults old new (Bad bad) go is = (is.0, go _ is.1)
-cat_map took took_part faults old new Unavailable go is = (is.0, go _ is.1)
-cat_map took took_part faults old new NotRegular go is = (is.0, go _ is.1)
-cat_map took took_part faults old new (Cut n) go is = (is.0, is.1, is.2, is.3, go _ is.4, go _ is.5)
-cat_map took took_part faults old new SinkFault go is = (is.0, is.1, go _ is.2, is.3)
-
--- nothing is handed on at a fault
-pub cat_refused : {S : Type 0} (took took_part : S → List ℕ → S → Type 0) (faults : S → ℕ) (old new : S) (reads : Option (Result (List ℕ) PathRefusal) → Type 0) (fault : LookFault)
-    → new ≡ old → reads (option_map Err (refusal_of fault)) → IsAnswer took took_part faults old new reads (refused_answer fault)
-cat_refused took took_part faults old new reads FaultNotFound same is = (same, is)
-cat_refused took took_part faults old new reads FaultNotDirectory same is = (same, is)
-cat_refused took took_part faults old new reads (FaultBad bad) same is = (same, is)
-cat_refused took took_part faults old new reads FaultUnavailable same is = (same, is)
-
--- nor at a refusal
-pub cat_at : {S : Type 0} (took took_part : S → List ℕ → S → Type 0) (faults : S → ℕ) (old new : S) (reads : Option (Result (List ℕ) PathRefusal) → Type 0) (refusal : PathRefusal)
-    → new ≡ old → reads (Some (Err refusal)) → IsAnswer took took_part faults old new reads (answer_at refusal)
-cat_at took took_part faults old new reads RefusedNotFound same is = (same, is)
-cat_at took took_part faults old new reads RefusedNotDirectory same is = (same, is)
-cat_at took took_part faults old new reads RefusedNotRegular same is = (same, is)
-cat_at took took_part faults old new reads (RefusedBad bad) same is = (same, is)
-
 -- ---- the second time
 
--- the answer is that of the first time
-again : {A : Type 0} {stands still : Volume → Type 0} {tells told : Type 0} {before now after : ℕ → Bool} {d : Reading A} (x y : A)
-    → ((v : Volume) → stands v → still v) → (told → tells)
-    → ReadsAs stands before tells now d (Some x) → ReadsAs still now told after d (Some y) → ReadsAs stands before told after d (Some y)
-again x y keeps tell one two = record {
-  rule = λ is v holds. record {
-    unavailable = (one.rule (tell is) v holds).unavailable;
-    answer = (two.rule is v (keeps v holds)).answer;
-    only = tt;
-  };
-}
-
 -- a front, and what was after it the first time
-fronts : {stands still : Volume → Type 0} {tells told : Type 0} {before now after : ℕ → Bool} (g : Geometry) (inode : Inode) (k count : ℕ) (front bytes : List ℕ) → k ≤ count
-    → ((v : Volume) → stands v → still v) → (told → tells)
-    → ReadsAs stands before tells now (front_of Little g inode count) (Some (Ok bytes)) → ReadsAs still now told after (front_of Little g inode k) (Some (Ok front))
-    → ReadsAs stands before told after (front_of Little g inode count) (Some (Ok (front ++ drop (length front) bytes)))
-fronts g inode k count front bytes le keeps tell one two = record {
-  rule = λ is v holds.
-      let first = one.rule (tell is) v holds in
-      let second = two.rule is v (keeps v holds) in
-      record {
-        unavailable = first.unavailable;
-        answer = ap Ok (sym (rest_is g inode k count v front bytes le second.answer first.answer)) ∙ first.answer;
-        only = tt;
-      };
-}
-
--- where there was an answer the first time, there is no refusal
-none_now : {A : Type 0} {stands still : Volume → Type 0} {tells told : Type 0} {before now after : ℕ → Bool} {d : Reading (Result A PathRefusal)} (x : A) (refusal : Option PathRefusal)
-    → ((v : Volume) → stands v → still v) → (told → tells)
-    → ReadsAs stands before tells now d (Some (Ok x)) → ReadsAs still now told after d (option_map Err refusal) → ReadsAs stands before told after d None
-none_now x (Some refusal) keeps tell one two = record {
-  rule = λ is v holds.
-      let first = (one.rule (tell is) v holds).answer in
-      let second = (two.rule is v (keeps v holds)).answer in
-      let both = first ∙ sym second in cc;
-}
-none_now x None keeps tell one two = record {
-  rule = λ is v holds. record {
-    unavailable = λ h. refl;
-    answer = tt;
-    only = (two.rule is v (keeps v holds)).only;
-  };
-}
+front_bytes : {stands : Volume → Type 0} {tells : Type 0} {before after : ℕ → Bool} (g : Geometry) (inode : Inode) (k count : ℕ) (front bytes : List ℕ) → k ≤ count
+    → ReadsAs stands before tells after (front_of Little g inode count) (Some (Ok bytes)) → ReadsAs stands before tells after (front_of Little g inode k) (Some (Ok front))
+    → ReadsAs stands before tells after (front_of Little g inode count) (Some (Ok (front ++ drop (length front) bytes)))
+front_bytes g inode k count front bytes le one two =
+    answer_where (Ok bytes) (Ok (front ++ drop (length front) bytes)) (λ is v holds. ap Ok (rest_is (file_fronts g inode) k count v front bytes le (two.rule is v holds).answer (one.rule is v holds).answer)) one
 
 pub handed_again : {S : Type 0} (took took_part : S → List ℕ → S → Type 0) (faults : S → ℕ) (old new : S) {stands still : Volume → Type 0} {tells told : Type 0} {before now : ℕ → Bool} (after : ℕ → Bool) (g : Geometry) (inode : Inode) (count : ℕ) (bytes : List ℕ) (answer : CatAnswer)
     → ((a b : S) (x y : List ℕ) → took_part a x b → took_part a (x ++ y) b)
-    → ((v : Volume) → stands v → still v) → (told → tells) → ReadsAs stands before tells now (front_of Little g inode count) (Some (Ok bytes))
+    → Grows before now → Grows now after → ((v : Volume) → stands v → still v) → (told → tells) → ReadsAs stands before tells now (front_of Little g inode count) (Some (Ok bytes))
     → IsHanded took took_part faults old new count (λ k. ReadsAs still now told after (front_of Little g inode k)) answer
     → IsAnswer took took_part faults old new (ReadsAs stands before told after (front_of Little g inode count)) answer
-handed_again took took_part faults old new after g inode count bytes (Given n) part keeps tell one is = (is.0, is.1, is.2, again (Ok bytes) (Ok is.0) keeps tell one is.3)
-handed_again took took_part faults old new after g inode count bytes (Cut n) part keeps tell one is =
-    (is.0, drop (length is.0) bytes, is.4, is.5, fronts g inode is.1 count is.0 bytes is.3 keeps tell one is.6, none_now bytes (refusal_of is.2) keeps tell one is.7)
-handed_again took took_part faults old new after g inode count bytes SinkFault part keeps tell one is =
-    (is.0 ++ drop (length is.0) bytes, part old new is.0 (drop (length is.0) bytes) is.3, fronts g inode is.1 count is.0 bytes is.2 keeps tell one is.4, is.5)
-handed_again took took_part faults old new after g inode count bytes NotFound part keeps tell one is = absurd is
-handed_again took took_part faults old new after g inode count bytes NotDirectory part keeps tell one is = absurd is
-handed_again took took_part faults old new after g inode count bytes (Bad bad) part keeps tell one is = absurd is
-handed_again took took_part faults old new after g inode count bytes Unavailable part keeps tell one is = absurd is
-handed_again took took_part faults old new after g inode count bytes NotRegular part keeps tell one is = absurd is
+handed_again took took_part faults old new after g inode count bytes (Given n) part grows further keeps tell one is = (is.0, is.1, is.2, wider _ grows (λ b h. h) keeps (λ h. h) is.3)
+handed_again took took_part faults old new after g inode count bytes (Cut n) part grows further keeps tell one is =
+    let first = wider _ (λ b h. h) further (λ v h. h) tell one in (
+      is.0,
+      drop (length is.0) bytes,
+      is.4,
+      is.5,
+      front_bytes g inode is.1 count is.0 bytes is.3 first (wider _ grows (λ b h. h) keeps (λ h. h) is.6),
+      none_now bytes (refusal_of is.2) first (wider _ grows (λ b h. h) keeps (λ h. h) is.7),
+    )
+handed_again took took_part faults old new after g inode count bytes SinkFault part grows further keeps tell one is = (
+  is.0 ++ drop (length is.0) bytes,
+  part old new is.0 (drop (length is.0) bytes) is.3,
+  front_bytes g inode is.1 count is.0 bytes is.2 (wider _ (λ b h. h) further (λ v h. h) tell one) (wider _ grows (λ b h. h) keeps (λ h. h) is.4),
+  is.5,
+)
+handed_again took took_part faults old new after g inode count bytes NotFound part grows further keeps tell one is = absurd is
+handed_again took took_part faults old new after g inode count bytes NotDirectory part grows further keeps tell one is = absurd is
+handed_again took took_part faults old new after g inode count bytes (Bad bad) part grows further keeps tell one is = absurd is
+handed_again took took_part faults old new after g inode count bytes Unavailable part grows further keeps tell one is = absurd is
+handed_again took took_part faults old new after g inode count bytes NotRegular part grows further keeps tell one is = absurd is
 
 -- ---- the file at a path
 

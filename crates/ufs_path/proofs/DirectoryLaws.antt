@@ -17,34 +17,51 @@ use Rattle.ufs_path.specs.Answers.{refusal_of}
 use Rattle.ufs_path.specs.declared.faults.LookFault.{LookFault}
 use Rattle.ufs_path.specs.declared.faults.LookFault.TheVariants.{Bad as FaultBad}
 
--- the block's chunks, and what is found in them
+-- ---- the chunks of a block
+
+pub chunks_read : {stands : Volume → Type 0} {tells : Type 0} {before after : ℕ → Bool} (g : Geometry) (inode : Inode) (n : ℕ) (bytes : List ℕ)
+    → Grows before after → ReadsAs stands before tells after (block_of Little g inode n) (Some (Ok (Some bytes)))
+    → ReadsAs stands before tells after (chunks_of Little g inode n) (Some (Ok (chunks_in (bytes_in_block g inode n / 512) bytes)))
+unfolding chunks_of
+chunks_read g inode n bytes grows reads =
+    reads_on refusal_of _ (Some bytes) _ grows (λ v h. h) (λ h. h) reads
+    (reads_on refusal_of _ bytes _ (λ b h. h) (λ v h. h) (λ h. h) (reads_known (Ok bytes)) (reads_known _))
+
+-- there are none in a hole
+pub chunks_hole : {stands : Volume → Type 0} {tells : Type 0} {before after : ℕ → Bool} (g : Geometry) (inode : Inode) (n : ℕ)
+    → Grows before after → ReadsAs stands before tells after (block_of Little g inode n) (Some (Ok None))
+    → ReadsAs stands before tells after (chunks_of Little g inode n) (Some (Err (Bad Hole)))
+unfolding chunks_of
+chunks_hole g inode n grows reads =
+    reads_on refusal_of _ None _ grows (λ v h. h) (λ h. h) reads
+    (reads_refused refusal_of _ (FaultBad Hole) (λ b h. h) (reads_known (Err (Bad Hole))))
+
+-- a block that isn't read
+pub chunks_unread : {stands : Volume → Type 0} {tells : Type 0} {before after : ℕ → Bool} (g : Geometry) (inode : Inode) (n : ℕ) (fault : LookFault)
+    → Grows before after → ReadsAs stands before tells after (block_of Little g inode n) (option_map Err (refusal_of fault))
+    → ReadsAs stands before tells after (chunks_of Little g inode n) (option_map Err (refusal_of fault))
+unfolding chunks_of
+chunks_unread g inode n fault grows reads = reads_refused refusal_of _ fault grows reads
+
+-- what is found in them
 pub found_in : {stands : Volume → Type 0} {tells : Type 0} {before after : ℕ → Bool} (g : Geometry) (inode : Inode) (name : List ℕ) (n : ℕ) (bytes : List ℕ) (found : Found) (answer : Option (Result (Option ℕ) PathRefusal))
     → Grows before after → found ≡ find_through Little name (chunks_in (bytes_in_block g inode n / 512) bytes) → answer ≡ Some (or_bad_chunk found)
     → ReadsAs stands before tells after (block_of Little g inode n) (Some (Ok (Some bytes))) → ReadsAs stands before tells after (find_in_block Little g inode name n) answer
-unfolding find_in_block chunks_of
+unfolding find_in_block
 found_in g inode name n bytes found answer grows e1 e2 reads =
-    rw (e2, e1) (reads_on refusal_of _ _ _ grows (λ v h. h) (λ h. h)
-    (reads_on refusal_of _ (Some bytes) _ grows (λ v h. h) (λ h. h) reads
-    (reads_on refusal_of _ bytes _ (λ b h. h) (λ v h. h) (λ h. h) (reads_known (Ok bytes)) (reads_known _)))
-    (reads_known _))
+    rw (e2, e1) (reads_on refusal_of _ _ _ grows (λ v h. h) (λ h. h) (chunks_read g inode n bytes grows reads) (reads_known _))
 
--- a hole
 pub not_in_hole : {stands : Volume → Type 0} {tells : Type 0} {before after : ℕ → Bool} (g : Geometry) (inode : Inode) (name : List ℕ) (n : ℕ)
     → Grows before after → ReadsAs stands before tells after (block_of Little g inode n) (Some (Ok None))
     → ReadsAs stands before tells after (find_in_block Little g inode name n) (Some (Err (Bad Hole)))
-unfolding find_in_block chunks_of
-not_in_hole g inode name n grows reads =
-    reads_refused refusal_of _ (FaultBad Hole) grows
-    (reads_on refusal_of _ None _ grows (λ v h. h) (λ h. h) reads
-    (reads_refused refusal_of _ (FaultBad Hole) (λ b h. h) (reads_known (Err (Bad Hole)))))
+unfolding find_in_block
+not_in_hole g inode name n grows reads = reads_refused refusal_of _ (FaultBad Hole) grows (chunks_hole g inode n grows reads)
 
--- a block that isn't read
 pub block_unread : {stands : Volume → Type 0} {tells : Type 0} {before after : ℕ → Bool} (g : Geometry) (inode : Inode) (name : List ℕ) (n : ℕ) (fault : LookFault)
     → Grows before after → ReadsAs stands before tells after (block_of Little g inode n) (option_map Err (refusal_of fault))
     → ReadsAs stands before tells after (find_in_block Little g inode name n) (option_map Err (refusal_of fault))
-unfolding find_in_block chunks_of
-block_unread g inode name n fault grows reads =
-    reads_refused refusal_of _ fault grows (reads_refused refusal_of _ fault grows reads)
+unfolding find_in_block
+block_unread g inode name n fault grows reads = reads_refused refusal_of _ fault grows (chunks_unread g inode n fault grows reads)
 
 -- ---- block after block
 
@@ -63,15 +80,15 @@ no_block {stands} {tells} {before} {now} {whole} g inode name n count past so_fa
 
 -- ---- a directory, or what is none
 
-refusal_said : (fault : LookFault) (refusal : Option PathRefusal) → Some (refusal_of fault) ≡ option_map Some refusal → refusal ≡ refusal_of fault
+pub refusal_said : (fault : LookFault) (refusal : Option PathRefusal) → Some (refusal_of fault) ≡ option_map Some refusal → refusal ≡ refusal_of fault
 refusal_said fault (Some refusal) e = cc
 refusal_said fault None e = cc
 
-none_said : (refusal : Option PathRefusal) → None ≡ option_map Some refusal → refusal ≡ None
+pub none_said : (refusal : Option PathRefusal) → None ≡ option_map Some refusal → refusal ≡ None
 none_said (Some refusal) e = cc
 none_said None e = refl
 
-refused_then : {stands : Volume → Type 0} {tells : Type 0} {before after : ℕ → Bool} {A : Type 0} (d : Reading (Result A PathRefusal)) (refusal said : Option PathRefusal) → refusal ≡ said → Some said ≡ option_map Some refusal
+pub refused_then : {stands : Volume → Type 0} {tells : Type 0} {before after : ℕ → Bool} {A : Type 0} (d : Reading (Result A PathRefusal)) (refusal said : Option PathRefusal) → refusal ≡ said → Some said ≡ option_map Some refusal
     → ReadsAs stands before tells after (unless_refused refusal d) (option_map Err said)
 refused_then d (Some refusal) said e1 e2 = rw (← e1) (reads_known (Err refusal))
 refused_then d None said e1 e2 = cc

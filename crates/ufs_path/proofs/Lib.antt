@@ -1,8 +1,15 @@
 pub mod Sizes
+pub mod ReadsLaws
+pub mod PartLaws
 pub mod BlockLaws
 pub mod LookLaws
 pub mod ChunkLaws
+pub mod NameLaws
 pub mod DirectoryLaws
+pub mod EntryLaws
+pub mod WalkLaws
 pub mod FileLaws
+pub mod AnswerLaws
 pub mod CatLaws
 pub mod SuperLaws
+pub mod ListLaws

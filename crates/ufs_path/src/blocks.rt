@@ -53,7 +53,7 @@ pub fn file_refusal(inode: &Inode) -> Option<PathRefusal>
     }
 }
 
-/// Why no name is looked for in an inode, if none is.
+/// Why no entries are read of an inode, if none are.
 #[tactic(auto, unfolding(ufs_model::specs::Paths::directory_refusal))]
 pub fn directory_fault(inode: &Inode) -> Option<LookFault>
     ensures value { (g : Geometry) → option_map refusal_of result ≡ option_map Some (directory_refusal g inode.now) }

@@ -38,7 +38,7 @@ fn answer_at(refusal: PathRefusal) -> CatAnswer
     }
 }
 
-/// The answer of `cat` at a fault.
+/// The answer of `cat` and `ls` at a fault.
 pub fn refused_answer(fault: LookFault) -> CatAnswer
     ensures { result ≡ refused_answer fault }
 {

@@ -1,24 +1,30 @@
 //! Reading a UFS1 volume by path, from a view of its blocks some of which may be gone.
 //!
-//! A read of a file or a directory goes over the volume twice. The first time it consults all that
-//! its answer needs, and hands nothing on; so each refusal comes before any byte or entry. The second
-//! time it hands on the bytes or entries. No call takes memory but [`Levels::new`].
+//! A read of a file or a directory first consults all that its answer needs, and hands nothing on; so
+//! each refusal comes before any byte or entry. Then it reads it again, and hands on the bytes or
+//! entries. No call takes memory but [`Levels::new`].
 #![tactic(auto)]
 
 mod blocks;
 mod cats;
 mod directories;
+mod entries;
 mod faults;
 mod files;
+#[cfg(test)]
+mod list_tests;
 mod listings;
+mod lists;
 mod looks;
 mod superblocks;
 #[cfg(test)]
 mod tests;
+mod walks;
 
 pub use cats::cat;
 pub use faults::{CatAnswer, LookFault};
 pub use listings::Listing;
+pub use lists::ls;
 pub use looks::look;
 pub use superblocks::geometry;
 pub use ufs_model::{BadRead, BadSuper, Geometry, Inode, is_one_name, is_path};

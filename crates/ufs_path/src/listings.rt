@@ -44,3 +44,37 @@ pub trait Listing {
     /// A part of entries is a part of them and of those after them.
     ghost part: { (a b : Self) (x y : List Listed) → took_part a x b → took_part a (x ++ y) b };
 }
+
+/// Takes each entry, and keeps none.
+#[derive(Drop)]
+pub struct Nowhere;
+
+impl Listing for Nowhere {
+    ghost use Rattle.std.specs.Prelude.{◌≡◌, ℕ, List};
+    ghost use Rattle.ufs_model.specs.Listings.{Listed};
+
+    ghost took = { λ old entries new. Unit {0} };
+
+    ghost took_part = { λ old entries new. Unit {0} };
+
+    ghost faults = { λ nowhere. 0 };
+
+    fn line(
+        &mut self,
+        _depth: u32,
+        _inode: u32,
+        _kind: Kind,
+        _size: u64,
+        _name: &[u8],
+    ) -> Result<(), Failed> {
+        Ok(())
+    }
+
+    ghost nothing = { λ s. tt };
+
+    ghost then = { λ a b c x y first second. tt };
+
+    ghost then_part = { λ a b c x y first second. tt };
+
+    ghost part = { λ a b x y first. tt };
+}

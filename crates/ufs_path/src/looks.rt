@@ -37,7 +37,7 @@ fn inode_at(block: &[u8], byte: u32) -> Result<Inode, LookFault>
     }
 }
 
-/// An inode of the volume, which has to be allocated.
+/// An inode of the volume, which has to be allocated. The block of data stays.
 #[tactic(auto, using(crate::proofs::LookLaws::inode_read, crate::proofs::LookLaws::inode_unread))]
 fn read_allocated<V: View>(
     view: &mut V,
@@ -51,19 +51,20 @@ fn read_allocated<V: View>(
     requires levels { levels.old.fragment ≡ V.size view.old }
     ensures keeps { KeepsView V.stands_for V.tells V.is_gone V.count V.size V.is_sound V.goes_on view.old view.new }
     ensures levels { levels.new.fragment ≡ levels.old.fragment }
+    ensures block { levels.new.block ≡ levels.old.block }
     ensures rule { ReadsAs (V.stands_for view.old) (V.is_gone view.old) (V.tells view.new) (V.is_gone view.new)
         (allocated Little g.now number) (answered refusal_of result) }
 {
     let (block, byte) = place_of(g, number);
-    if !levels.read_block(view, block, 1) {
+    if !levels.read_aside(view, block) {
         return Err(LookFault::Unavailable);
     }
-    inode_at(levels.block(), byte)
+    inode_at(levels.aside(), byte)
 }
 
-/// An inode that a path leads to.
+/// An inode that a path leads to. The block of data stays.
 #[tactic(auto, unfolding(ufs_model::specs::Paths::named_inode))]
-fn read_named<V: View>(
+pub fn read_named<V: View>(
     view: &mut V,
     g: &Geometry,
     number: u32,
@@ -74,6 +75,7 @@ fn read_named<V: View>(
     requires levels { levels.old.fragment ≡ V.size view.old }
     ensures keeps { KeepsView V.stands_for V.tells V.is_gone V.count V.size V.is_sound V.goes_on view.old view.new }
     ensures levels { levels.new.fragment ≡ levels.old.fragment }
+    ensures block { levels.new.block ≡ levels.old.block }
     ensures rule { ReadsAs (V.stands_for view.old) (V.is_gone view.old) (V.tells view.new) (V.is_gone view.new)
         (named_inode Little g.now number) (answered refusal_of result) }
 {

@@ -7,7 +7,7 @@ use std::test::Fail;
 use ufs_rows::{Which, rows_image};
 
 /// The 128 blocks of a volume.
-fn image(alloc: Global, which: Which) -> Result<Vec<u8>, Fail>
+pub fn image(alloc: Global, which: Which) -> Result<Vec<u8>, Fail>
     ensures { IfOk result (λ image. length image.items ≡ 131072) }
 {
     match rows_image(alloc, which) {
@@ -18,7 +18,7 @@ fn image(alloc: Global, which: Which) -> Result<Vec<u8>, Fail>
 
 /// What `cat` answers on a volume that loses a block, and the bytes that it hands on to a receiver
 /// with so much room.
-fn read(
+pub fn read(
     alloc: Global,
     image: Vec<u8>,
     path: &[u8],
@@ -55,7 +55,7 @@ fn found(
 }
 
 /// Writes bytes at a place.
-fn put(image: &mut [u8], at: usize, bytes: &[u8])
+pub fn put(image: &mut [u8], at: usize, bytes: &[u8])
     requires { at + length bytes.now ≤ length image.old }
     ensures { length image.new ≡ length image.old }
 {
@@ -91,7 +91,7 @@ fn is_long(bytes: &[u8]) -> bool {
 }
 
 /// Nothing that a file needs.
-const NOTHING: Loss = Loss {
+pub const NOTHING: Loss = Loss {
     block: 127,
     fetch: 0,
 };
@@ -257,6 +257,70 @@ fn inodes_at_paths(rt: HostRuntime) -> Result<(), Fail> {
     };
     let gone = found(alloc, image(alloc, Which::F)?, b"/d/b", loss)?;
     assert!(rt; gone.is_err_and(|fault| fault == LookFault::Unavailable));
+    Ok(())
+}
+
+/// The inode 2 of the root stands at byte 28 * 1024 + 256.
+const ROOT_INODE: usize = 28_928;
+
+/// The root has a second chunk, of zeros, which is refused.
+#[test]
+fn a_name_is_looked_for_up_to_its_chunk(rt: HostRuntime) -> Result<(), Fail> {
+    let alloc = rt.alloc();
+    let mut volume = image(alloc, Which::F)?;
+    put(&mut volume, ROOT_INODE + 8, b"\0\x04");
+    let (answer, bytes) = read(alloc, volume.clone()?, b"/a", NOTHING, 8192)?;
+    assert_eq!(rt; answer, CatAnswer::Given(5));
+    assert!(rt; &*bytes == b"hello".as_slice());
+    let (answer, _) = read(alloc, volume, b"/x", NOTHING, 8192)?;
+    assert_eq!(rt; answer, CatAnswer::Bad(BadRead::Chunk));
+    Ok(())
+}
+
+#[test]
+fn sizes_of_a_directory(rt: HostRuntime) -> Result<(), Fail> {
+    let alloc = rt.alloc();
+    for (size, wanted) in [
+        (513, BadRead::Chunk),
+        ((1u64 << 32) + 1, BadRead::Filesize),
+        (1 << 32, BadRead::Filesize),
+    ] {
+        let mut volume = image(alloc, Which::F)?;
+        put(&mut volume, ROOT_INODE + 8, &size.to_le_bytes());
+        let (answer, _) = read(alloc, volume, b"/a", NOTHING, 8192)?;
+        assert_eq!(rt; answer, CatAnswer::Bad(wanted), "size {size}");
+    }
+    Ok(())
+}
+
+/// The entry `d` of the root, and the entry `b` of `/d`, name an inode below the root, past the last,
+/// or unallocated; then a directory.
+#[test]
+fn inodes_on_a_path(rt: HostRuntime) -> Result<(), Fail> {
+    let alloc = rt.alloc();
+    for (at, named, wanted) in [
+        (33_828, 1, CatAnswer::Bad(BadRead::Entry)),
+        (33_828, 8, CatAnswer::Bad(BadRead::Entry)),
+        (33_828, 32, CatAnswer::Bad(BadRead::Entry)),
+        (35_864, 1, CatAnswer::Bad(BadRead::Entry)),
+        (35_864, 8, CatAnswer::Bad(BadRead::Entry)),
+        (35_864, 32, CatAnswer::Bad(BadRead::Entry)),
+        (35_864, 2, CatAnswer::NotRegular),
+    ] {
+        let mut volume = image(alloc, Which::F)?;
+        if at + 1 <= volume.len() {
+            put(&mut volume, at, &[named]);
+        }
+        let (answer, bytes) = read(alloc, volume, b"/d/b", NOTHING, 8192)?;
+        assert_eq!(rt; answer, wanted, "inode {named} at {at}");
+        assert!(rt; bytes.is_empty());
+    }
+
+    // The root isn't allocated.
+    let mut volume = image(alloc, Which::F)?;
+    put(&mut volume, ROOT_INODE, b"\0\0");
+    let gone = found(alloc, volume, b"/", NOTHING)?;
+    assert!(rt; gone.is_err_and(|fault| fault == LookFault::Bad(BadRead::Entry)));
     Ok(())
 }
 

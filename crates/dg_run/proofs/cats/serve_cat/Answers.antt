@@ -1,15 +1,15 @@
-use Rattle.std.proofs.Common.{◌∙◌, ℕ, List, ◌++◌, rules, subst, sym, ap}
-use Rattle.std.specs.Prelude.{Some, None, Ok, Err, OnOk, codes}
+use Rattle.std.proofs.Common.{◌∙◌, ℕ, List, ◌++◌, rules, subst, sym, ap, length}
+use Rattle.std.specs.Prelude.{Some, None, Ok, OnOk, codes}
+use Rattle.std.specs.List.{concat}
 use Rattle.dg_io.specs.Told.{Told, Took}
 use Rattle.dg_model.specs.Lists.{AreLines}
 use Rattle.dg_model.specs.declared.shapes.Shape.{Shape}
-use Rattle.dg_model.specs.declared.replies.Reply.TheVariants.{Given, Cut, Refused, Unavailable}
+use Rattle.dg_model.specs.declared.replies.Reply.TheVariants.{Given, Cut}
 use Rattle.dg_text.specs.Replies.{reply_line, file_text}
-use Rattle.dg_text.specs.HexLines.{last_line}
-use Rattle.dg_run.proofs.Answers.{answered}
-use Rattle.dg_run.proofs.FileSteps.{Reads, refused_steps, unavailable_steps, given_steps, cut_steps, told_file}
+use Rattle.dg_text.specs.HexLines.{last_line, TookBytes, TookBytesPart}
+use Rattle.dg_text.specs.declared.hex_lines.HexLines.{HexLines}
+use Rattle.dg_run.proofs.PathSteps.{Reads, cat_nothing, given_steps, cut_steps, told_lines}
 use Rattle.dg_run.proofs.cats.serve_cat.Goals as goal
-use Rattle.ufs_model.specs.declared.reads.PathRefusal.TheVariants.{NotFound, NotDirectory, NotRegular, Bad}
 
 pub returns-in-Ok-clause-answered : goal.returns-in-Ok-clause-answered
 returns-in-Ok-clause-answered g c =
@@ -26,7 +26,7 @@ returns-in-Ok-clause-answered g c =
     record {
       reply = Given file.lines;
       steps = given_steps g.R.Rack.counts g.R.Rack.bytes g.R.Rack.name c.args.path.now file.lines a b (record { stands = keeps.stands; goes = keeps.goes }) are reads;
-      output = subst (λ k. Told (Took (reply_line (Given file.lines))) (g.K.Sink.taken c.args.sink.now) (g.K.Sink.taken k)) (search rules) (told_file (codes "end ") file.lines given.0 c.in-Given.n _ _ file.whole given.1 told);
+      output = subst (λ k. Told (Took (reply_line (Given file.lines))) (g.K.Sink.taken c.args.sink.now) (g.K.Sink.taken k)) (search rules) (told_lines (file_text file.lines) (codes "end ") (concat file.lines) c.in-Given.n _ _ (ap length file.whole ∙ given.1) told);
     }
 
 pub returns-in-Ok-cut-clause-answered : goal.returns-in-Ok-cut-clause-answered
@@ -45,60 +45,22 @@ returns-in-Ok-cut-clause-answered g c =
     record {
       reply = Cut file.lines;
       steps = cut_steps g.R.Rack.counts g.R.Rack.bytes g.R.Rack.name c.args.path.now file.lines cut.1 a b (record { stands = keeps.stands; goes = keeps.goes }) are reads lost;
-      output = subst (λ k. Told (Took (reply_line (Cut file.lines))) (g.K.Sink.taken c.args.sink.now) (g.K.Sink.taken k)) (search rules) (told_file (codes "cut ") file.lines cut.0 c.in-Cut.n _ _ file.whole cut.2 told);
+      output = subst (λ k. Told (Took (reply_line (Cut file.lines))) (g.K.Sink.taken c.args.sink.now) (g.K.Sink.taken k)) (search rules) (told_lines (file_text file.lines) (codes "cut ") (concat file.lines) c.in-Cut.n _ _ (ap length file.whole ∙ cut.2) told);
     }
 
-pub returns-in-NotFound-clause-answered : goal.returns-in-NotFound-clause-answered
-returns-in-NotFound-clause-answered g c =
+pub returns-in_default : goal.returns-in_default
+returns-in_default g c =
     let a = c.args.store.now in
     let b = c.cat.new.view in
     let keeps = c.cat.ensures.keeps in
-    let refused = c.in-NotFound.ensures.rule in
-    let reads = subst (λ (p : List ℕ). Reads g.R.Rack.counts g.R.Rack.bytes g.R.Rack.name p a b (Some (Err NotFound))) c.as_slice.ensures refused.1 in
-    answered g.R.Rack.counts g.R.Rack.bytes _ (Refused NotFound) _ _ a b c.send.result
-    (refused_steps g.R.Rack.counts g.R.Rack.bytes g.R.Rack.name c.args.path.now NotFound a b (record { stands = keeps.stands; goes = keeps.goes }) reads)
-    (subst (λ k. OnOk c.send.result (Told (Took (reply_line (Refused NotFound))) (g.K.Sink.taken k) (g.K.Sink.taken c.send.new.sink))) (search rules) c.send.ensures.ok)
-
-pub returns-in-NotDirectory-clause-answered : goal.returns-in-NotDirectory-clause-answered
-returns-in-NotDirectory-clause-answered g c =
-    let a = c.args.store.now in
-    let b = c.cat.new.view in
-    let keeps = c.cat.ensures.keeps in
-    let refused = c.in-NotDirectory.ensures.rule in
-    let reads = subst (λ (p : List ℕ). Reads g.R.Rack.counts g.R.Rack.bytes g.R.Rack.name p a b (Some (Err NotDirectory))) c.as_slice.ensures refused.1 in
-    answered g.R.Rack.counts g.R.Rack.bytes _ (Refused NotDirectory) _ _ a b c.send-in-NotDirectory.result
-    (refused_steps g.R.Rack.counts g.R.Rack.bytes g.R.Rack.name c.args.path.now NotDirectory a b (record { stands = keeps.stands; goes = keeps.goes }) reads)
-    (subst (λ k. OnOk c.send-in-NotDirectory.result (Told (Took (reply_line (Refused NotDirectory))) (g.K.Sink.taken k) (g.K.Sink.taken c.send-in-NotDirectory.new.sink))) (search rules) c.send-in-NotDirectory.ensures.ok)
-
-pub returns-in-NotRegular-clause-answered : goal.returns-in-NotRegular-clause-answered
-returns-in-NotRegular-clause-answered g c =
-    let a = c.args.store.now in
-    let b = c.cat.new.view in
-    let keeps = c.cat.ensures.keeps in
-    let refused = c.in-NotRegular.ensures.rule in
-    let reads = subst (λ (p : List ℕ). Reads g.R.Rack.counts g.R.Rack.bytes g.R.Rack.name p a b (Some (Err NotRegular))) c.as_slice.ensures refused.1 in
-    answered g.R.Rack.counts g.R.Rack.bytes _ (Refused NotRegular) _ _ a b c.send-in-NotRegular.result
-    (refused_steps g.R.Rack.counts g.R.Rack.bytes g.R.Rack.name c.args.path.now NotRegular a b (record { stands = keeps.stands; goes = keeps.goes }) reads)
-    (subst (λ k. OnOk c.send-in-NotRegular.result (Told (Took (reply_line (Refused NotRegular))) (g.K.Sink.taken k) (g.K.Sink.taken c.send-in-NotRegular.new.sink))) (search rules) c.send-in-NotRegular.ensures.ok)
-
-pub returns-in-Bad-clause-answered : goal.returns-in-Bad-clause-answered
-returns-in-Bad-clause-answered g c =
-    let a = c.args.store.now in
-    let b = c.cat.new.view in
-    let keeps = c.cat.ensures.keeps in
-    let refused = c.in-Bad.ensures.rule in
-    let reads = subst (λ (p : List ℕ). Reads g.R.Rack.counts g.R.Rack.bytes g.R.Rack.name p a b (Some (Err (Bad c.in-Bad.bad)))) c.as_slice.ensures refused.1 in
-    answered g.R.Rack.counts g.R.Rack.bytes _ (Refused (Bad c.in-Bad.bad)) _ _ a b c.send-in-Bad.result
-    (refused_steps g.R.Rack.counts g.R.Rack.bytes g.R.Rack.name c.args.path.now (Bad c.in-Bad.bad) a b (record { stands = keeps.stands; goes = keeps.goes }) reads)
-    (subst (λ k. OnOk c.send-in-Bad.result (Told (Took (reply_line (Refused (Bad c.in-Bad.bad)))) (g.K.Sink.taken k) (g.K.Sink.taken c.send-in-Bad.new.sink))) (search rules) c.send-in-Bad.ensures.ok)
-
-pub returns-in-Unavailable-clause-answered : goal.returns-in-Unavailable-clause-answered
-returns-in-Unavailable-clause-answered g c =
-    let a = c.args.store.now in
-    let b = c.cat.new.view in
-    let keeps = c.cat.ensures.keeps in
-    let none = c.in-Unavailable.ensures.rule in
-    let reads = subst (λ (p : List ℕ). Reads g.R.Rack.counts g.R.Rack.bytes g.R.Rack.name p a b None) c.as_slice.ensures none.1 in
-    answered g.R.Rack.counts g.R.Rack.bytes _ Unavailable _ _ a b c.send-in-Unavailable.result
-    (unavailable_steps g.R.Rack.counts g.R.Rack.bytes g.R.Rack.name c.args.path.now a b (record { stands = keeps.stands; goes = keeps.goes }) reads)
-    (subst (λ k. OnOk c.send-in-Unavailable.result (Told (Took (reply_line Unavailable)) (g.K.Sink.taken k) (g.K.Sink.taken c.send-in-Unavailable.new.sink))) (search rules) c.send-in-Unavailable.ensures.ok)
+    record {
+      goes = search rules;
+      levels = search rules;
+      answered = cat_nothing g.R.Rack.counts g.R.Rack.bytes g.R.Rack.name (TookBytes g.K.Sink.taken) (TookBytesPart g.K.Sink.taken) (λ (s : HexLines g.row.K.Denot). g.K.Sink.faults s.sink.now) c.new-lines.result c.cat.new.out
+          c.as_slice.result.now c.args.path.now (g.K.Sink.taken c.args.sink.now) (g.K.Sink.taken c.send_nothing.new.sink) a b c.send_nothing.result c.cat.result
+          c.in_default.not-Given c.in_default.not-Cut c.in_default.not-SinkFault c.as_slice.ensures (record { stands = keeps.stands; goes = keeps.goes }) c.cat.ensures.rule
+          (λ same reply is. subst (λ k. OnOk c.send_nothing.result (Told (Took (reply_line reply)) (g.K.Sink.taken k) (g.K.Sink.taken c.send_nothing.new.sink))) (search (rules, same)) (c.send_nothing.ensures.ok reply is));
+      later = search rules;
+      read = search rules;
+      write = search rules;
+    }

@@ -13,7 +13,7 @@ use Rattle.std.specs.Prelude.{nat_eq}
 use Rattle.hex.proofs.HexLemmas.{decode_of-same}
 use Rattle.dg_text.specs.Lines.{hex_word, AreBytes}
 use Rattle.dg_text.proofs.Lengths.{length_hex_word}
-use Rattle.dg_text.proofs.HexWords.{dash_is_none, hex_word_nonempty, hex_found, hex_exact, hex_is_lower}
+use Rattle.dg_text.proofs.HexWords.{dash_is_none, hex_word_nonempty, hex_found, hex_exact, hex_has_no_upper}
 use Rattle.dg_text.proofs.hex_words.read_hex.Goals as goal
 
 same : (word dash : List ℕ) → true ≡ pointwise nat_eq word dash → dash ≡ codes "-" → word ≡ codes "-"
@@ -49,17 +49,17 @@ returns-then-word-most-clause-exact c bytes fits are is =
     let len = ap length is in
     absurd (omega arith)
 
-pub returns-then-not-is_lower_hex-clause-exact : goal.returns-then-not-is_lower_hex-clause-exact
-returns-then-not-is_lower_hex-clause-exact c bytes fits are is =
+pub returns-then-not-has_no_upper-clause-exact : goal.returns-then-not-has_no_upper-clause-exact
+returns-then-not-has_no_upper-clause-exact c bytes fits are is =
     let digits = other c.args.word.now c.as_slice.result.now c.if-eq.ensures c.as_slice.ensures in
-    let lower = hex_is_lower c.args.word.now bytes digits are is in
-    let yes = c.is_lower_hex.ensures.1 lower in
+    let lower = hex_has_no_upper c.args.word.now bytes digits are is in
+    let yes = c.has_no_upper.ensures.1 lower in
     absurd (cc yes)
 
 pub returns-in-Ok-clause-found : goal.returns-in-Ok-clause-found
 returns-in-Ok-clause-found c =
-    let yes : c.is_lower_hex.result ≡ true = search rules in
-    let lower = c.is_lower_hex.ensures.0 yes in
+    let yes : c.has_no_upper.result ≡ true = search rules in
+    let lower = c.has_no_upper.ensures.0 yes in
     let found = hex_found c.args.word.now c.in-Ok.bytes.items c.args.most (nonempty c.args.word.now c.if-is_empty.ensures) (omega arith) lower c.in-Ok.ensures.ok in
     let P : List ℕ → Type 0 = λ b. (c.args.word.now ≡ hex_word b) × (length b ≤ c.args.most) × AreBytes b in
     subst P (sym c.new-in-Ok.ensures) found

@@ -1,12 +1,12 @@
 use Rattle.std.proofs.Common.{ℕ, List, slice_index, ◌≡◌, ◌∷◌, [], sym, ap}
 use Rattle.std.specs.Prelude.{Some}
-use Rattle.dg_text.proofs.PathWords.{byte_found, byte_exact, byte_lower}
+use Rattle.dg_text.proofs.PathWords.{byte_found, byte_exact, byte_has_no_upper}
 use Rattle.dg_text.proofs.path_words.hex_byte.Goals as goal
 
-pub returns-then-not-is_lower_hex-clause-exact : goal.returns-then-not-is_lower_hex-clause-exact
-returns-then-not-is_lower_hex-clause-exact c x small is =
-    let yes = c.is_lower_hex.ensures.1 (byte_lower c.args.digits.now x small is) in
-    absurd (cc (yes, c.if-not-is_lower_hex.true))
+pub returns-then-not-has_no_upper-clause-exact : goal.returns-then-not-has_no_upper-clause-exact
+returns-then-not-has_no_upper-clause-exact c x small is =
+    let yes = c.has_no_upper.ensures.1 (byte_has_no_upper c.args.digits.now x small is) in
+    absurd (cc (yes, c.if-not-has_no_upper.true))
 
 pub returns-in_default-clause-exact : goal.returns-in_default-clause-exact
 returns-in_default-clause-exact c x small is =
@@ -15,7 +15,7 @@ returns-in_default-clause-exact c x small is =
 
 pub returns-clause-found : goal.returns-clause-found
 returns-clause-found c =
-    byte_found c.args.digits.now c.in-Ok.bytes (c.is_lower_hex.ensures.0 c.if-not-is_lower_hex.false) (sym c.in-Ok.ensures)
+    byte_found c.args.digits.now c.in-Ok.bytes (c.has_no_upper.ensures.0 c.if-not-has_no_upper.false) (sym c.in-Ok.ensures)
 
 pub returns-clause-exact : goal.returns-clause-exact
 returns-clause-exact c x small is =

@@ -1,4 +1,4 @@
-use Rattle.std.proofs.Common.{◌≡◌, ◌<◌, ◌+◌, ◌++◌, ◌∷◌, [], ◌∙◌, sym, ap, subst, arith, length, drop, ℕ, List, length-append}
+use Rattle.std.proofs.Common.{◌≡◌, ◌<◌, ◌+◌, ◌++◌, ◌∷◌, [], ◌∙◌, sym, ap, subst, arith, length, drop, ℕ, List}
 use Rattle.std.proofs.lemmas.List.{drop-drop}
 use Rattle.std.proofs.lemmas.List.Elements.{All-nil, All-push}
 use Rattle.dg_text.specs.Lines.{path_word, spelled_byte, AreBytes}
@@ -22,7 +22,6 @@ loop-at-init c =
       within = omega arith;
       front = ap (λ (l : List ℕ). l ++ c.args.word.now) (sym (ap path_word none ∙ path_word_none));
       bytes = subst P (sym none) (All-nil (λ x. x < 256));
-      count = omega (arith, ap length none);
       exact = λ path are is. let Q : List ℕ → Type 0 = λ l. IsFront c.args.word.now l 0 path in subst Q (sym none) (front_none c.args.word.now path is);
     }
 
@@ -47,7 +46,6 @@ loop-at-preserved c =
       within = omega (arith, found.2, c.split_at.ensures.back_len);
       front = rw new (word_more word old at c.in-Some.count byte c.loop-at.invariant.front here);
       bytes = subst P (sym new) (All-push (λ x. x < 256) old byte c.loop-at.invariant.bytes found.3);
-      count = omega (arith, ap length new, length-append old (byte ∷ []), c.len.ensures);
       exact = λ path are is. preserved_path word old c.push.new.self.items at c.in-Some.count byte path c.loop-at-test.true are (c.loop-at.invariant.exact path are is) new
           (λ x rest small begins. let read = c.in-Some.ensures.exact x rest small (back ∙ begins) in (read.0, ap (λ (l : List ℕ). drop c.in-Some.count l) (sym back) ∙ read.1));
     }

@@ -8,7 +8,6 @@ invariant-loop-at l = record {
   within : l.at ≤ length l.word;
   front : l.word ≡ path_word l.bytes.items ++ drop l.at l.word;
   bytes : AreBytes l.bytes.items;
-  count : length l.bytes.items ≤ 256;
   exact : (path : List ℕ) → AreBytes path → l.word ≡ path_word path → IsFront l.word l.bytes.items l.at path;
 }
 

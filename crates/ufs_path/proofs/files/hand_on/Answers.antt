@@ -1,8 +1,11 @@
 use Rattle.std.proofs.Common.{◌++◌, ◌∙◌, ◌+◌, ◌*◌, [], suc, min, ap, refl, add-one, arith}
 use Rattle.std.proofs.lemmas.List.{length-append}
 use Rattle.dg_io.specs.ViewLaws.{keeps_both, keeps_same}
-use Rattle.ufs_path.proofs.FileLaws.{front_fails, front_fails_whole, front_more, front_none, later_still}
+use Rattle.ufs_path.proofs.FileLaws.{file_fronts}
+use Rattle.ufs_path.proofs.PartLaws.{front_fails, front_fails_whole, front_more, front_none}
+use Rattle.ufs_path.proofs.ReadsLaws.{wider}
 use Rattle.ufs_path.proofs.Sizes.{bytes_through}
+use Rattle.ufs_path.specs.Answers.{refusal_of}
 use Rattle.ufs_path.proofs.files.hand_on.Goals as goal
 
 pub loop-n-init : goal.loop-n-init
@@ -11,7 +14,7 @@ loop-n-init g c = record {
   levels = c.requires.levels;
   later = omega arith;
   given = omega arith;
-  handed = ([], refl, g.met.O.Pieces.nothing c.args.out.now, front_none _ _ _ _ c.args.g.now c.args.inode.now);
+  handed = ([], refl, g.met.O.Pieces.nothing c.args.out.now, front_none (file_fronts c.args.g.now c.args.inode.now));
 }
 
 pub returns-in-Unread-clause-rule : goal.returns-in-Unread-clause-rule
@@ -19,16 +22,19 @@ returns-in-Unread-clause-rule g c =
     let so_far = c.loop-n.invariant.keeps in
     let part = c.hand_part.ensures.keeps in
     let handed = c.loop-n.invariant.handed in
-    let unread = c.in-Unread.ensures.rule in (
+    let unread = c.in-Unread.ensures.rule in
+    let fronts = file_fronts c.args.g.now c.args.inode.now in
+    let read = wider _ (λ b h. h) part.stays (λ v h. h) part.told (handed.3) in (
       handed.0,
       c.loop-n.n,
       c.in-Unread.field-0,
       omega arith,
       handed.1,
       rw (unread.0) (handed.2),
-      later_still _ part.told (handed.3),
-      front_fails_whole c.args.g.now c.args.inode.now (suc c.loop-n.n) c.args.count c.in-Unread.field-0 (λ b h. part.stays b (so_far.stays b h)) (omega arith)
-          (front_fails c.args.g.now c.args.inode.now c.loop-n.n _ c.in-Unread.field-0 so_far.stays part.stays so_far.stands part.told (handed.3) (unread.1)),
+      read,
+      front_fails_whole fronts (suc c.loop-n.n) c.args.count (refusal_of c.in-Unread.field-0) (λ b h. part.stays b (so_far.stays b h)) (omega arith)
+          (front_fails fronts c.loop-n.n (handed.0) (refusal_of c.in-Unread.field-0) (λ b h. part.stays b (so_far.stays b h)) read
+          (wider _ so_far.stays (λ b h. h) so_far.stands (λ h. h) (unread.1))),
     )
 
 pub returns-in-Failed-clause-rule : goal.returns-in-Failed-clause-rule
@@ -42,7 +48,8 @@ returns-in-Failed-clause-rule g c =
       suc c.loop-n.n,
       omega arith,
       g.met.O.Pieces.then_part _ _ _ (handed.0) (failed.0) (handed.2) (failed.1),
-      front_more c.args.g.now c.args.inode.now c.loop-n.n _ _ so_far.stays part.stays so_far.stands part.told (handed.3) (failed.2),
+      front_more (file_fronts c.args.g.now c.args.inode.now) c.loop-n.n (handed.0) (failed.0)
+          (wider _ (λ b h. h) part.stays (λ v h. h) part.told (handed.3)) (wider _ so_far.stays (λ b h. h) so_far.stands (λ h. h) (failed.2)),
       omega arith,
     )
 
@@ -61,6 +68,7 @@ loop-n-preserved g c =
         handed.0 ++ all.0,
         (let a = handed.1 in let b = all.1 in let e = length-append (handed.0) (all.0) in omega arith),
         g.met.O.Pieces.then _ _ _ (handed.0) (all.0) (handed.2) (all.2),
-        rw add-one (front_more c.args.g.now c.args.inode.now c.loop-n.n _ _ so_far.stays part.stays so_far.stands part.told (handed.3) (all.3)),
+        rw add-one (front_more (file_fronts c.args.g.now c.args.inode.now) c.loop-n.n (handed.0) (all.0)
+            (wider _ (λ b h. h) part.stays (λ v h. h) part.told (handed.3)) (wider _ so_far.stays (λ b h. h) so_far.stands (λ h. h) (all.3))),
       );
     }

@@ -1,0 +1,33 @@
+use Rattle.std.proofs.Common.{◌≡◌, ◌∷◌, [], ℕ, List, refl, sym, subst}
+use Rattle.std.specs.Prelude.{Option}
+use Rattle.std.proofs.lemmas.List.{append-nil}
+use Rattle.std.proofs.lemmas.Result.{on_ok_weaker, on_err_weaker}
+use Rattle.dg_io.specs.Told.{Told, Took, TookPart}
+use Rattle.dg_text.specs.Replies.{entry_line, entries_text}
+use Rattle.dg_text.specs.EntryLines.{TookEntries, TookEntriesPart}
+use Rattle.dg_text.specs.declared.entry_lines.EntryLines.{EntryLines}
+use Rattle.dg_text.proofs.entry_lines.EntryLinesListing.line.Goals as goal
+use Rattle.ufs_model.specs.Listings.{Listed}
+
+one_line : (entry : Listed) → entry_line entry ≡ entries_text (entry ∷ [])
+one_line entry = sym (append-nil (entry_line entry))
+
+took_one : {K : Type 0} (taken : K → Option (List ℕ)) (old new : EntryLines K) (entry : Listed) → new.sink.ghost_name ≡ old.sink.ghost_name
+    → Told (Took (entry_line entry)) (taken old.sink.now) (taken new.sink.now) → TookEntries taken old (entry ∷ []) new
+took_one taken old new entry same told =
+    let P : List ℕ → Type 0 = λ l. Told (Took l) (taken old.sink.now) (taken new.sink.now) in
+    record { same = same; told = subst P (one_line entry) told }
+
+took_part_of_one : {K : Type 0} (taken : K → Option (List ℕ)) (old new : EntryLines K) (entry : Listed) → new.sink.ghost_name ≡ old.sink.ghost_name
+    → Told (TookPart (entry_line entry)) (taken old.sink.now) (taken new.sink.now) → TookEntriesPart taken old (entry ∷ []) new
+took_part_of_one taken old new entry same told =
+    let P : List ℕ → Type 0 = λ l. Told (TookPart l) (taken old.sink.now) (taken new.sink.now) in
+    record { same = same; told = subst P (one_line entry) told }
+
+pub returns-clause-ok : goal.returns-clause-ok
+returns-clause-ok g c =
+    on_ok_weaker c.write_entry_line.result (λ told. took_one g.K.Sink.taken c.args.self.now _ _ refl told) (c.write_entry_line.ensures.ok c.args._depth)
+
+pub returns-clause-err : goal.returns-clause-err
+returns-clause-err g c =
+    on_err_weaker c.write_entry_line.result (λ told. took_part_of_one g.K.Sink.taken c.args.self.now _ _ refl told) (c.write_entry_line.ensures.err c.args._depth)

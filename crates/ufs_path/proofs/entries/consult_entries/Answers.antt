@@ -1,0 +1,40 @@
+use Rattle.std.proofs.Common.{◌++◌, ◌∙◌, [], suc, add-one, arith}
+use Rattle.dg_io.specs.ViewLaws.{keeps_both, keeps_same}
+use Rattle.ufs_model.specs.Paths.{chunks_in}
+use Rattle.ufs_path.proofs.EntryLaws.{entry_fronts}
+use Rattle.ufs_path.proofs.PartLaws.{front_fails, front_fails_whole, front_more, front_none}
+use Rattle.ufs_path.proofs.ReadsLaws.{wider}
+use Rattle.ufs_path.specs.Answers.{refusal_of}
+use Rattle.ufs_path.specs.Walks.{entries_among}
+use Rattle.ufs_path.proofs.entries.consult_entries.Goals as goal
+
+pub loop-n-init : goal.loop-n-init
+loop-n-init g c = record {
+  keeps = keeps_same c.args.view.now c.requires.sound (g.met.V.View.unchanged c.args.view.now);
+  levels = c.requires.levels;
+  reads = ([], front_none (entry_fronts c.args.g.now c.args.inode.now));
+}
+
+pub returns-in-Err-clause-err : goal.returns-in-Err-clause-err
+returns-in-Err-clause-err g c =
+    let so_far = c.loop-n.invariant.keeps in
+    let block = c.read_entries.ensures.keeps in
+    let fronts = entry_fronts c.args.g.now c.args.inode.now in
+    front_fails_whole fronts (suc c.loop-n.n) c.args.count (refusal_of c.in-Err.fault) (λ b h. block.stays b (so_far.stays b h)) (omega arith)
+    (front_fails fronts c.loop-n.n _ (refusal_of c.in-Err.fault) (λ b h. block.stays b (so_far.stays b h))
+    (wider _ (λ b h. h) block.stays (λ v h. h) block.told (c.loop-n.invariant.reads.1))
+    (wider _ so_far.stays (λ b h. h) so_far.stands (λ h. h) c.in-Err.ensures.rule))
+
+pub loop-n-preserved : goal.loop-n-preserved
+loop-n-preserved g c =
+    let so_far = c.loop-n.invariant.keeps in
+    let block = c.read_entries.ensures.keeps in record {
+      keeps = keeps_both g.met.V.View.further c.args.view.now c.loop-n.view c.read_entries.new.view so_far block;
+      levels = c.read_entries.ensures.levels ∙ c.loop-n.invariant.levels;
+      reads = (
+        c.loop-n.invariant.reads.0 ++ entries_among (chunks_in c.in-Ok.field-0 c.read_entries.new.levels.block),
+        rw add-one (front_more (entry_fronts c.args.g.now c.args.inode.now) c.loop-n.n _ _
+            (wider _ (λ b h. h) block.stays (λ v h. h) block.told (c.loop-n.invariant.reads.1))
+            (wider _ so_far.stays (λ b h. h) so_far.stands (λ h. h) c.in-Ok.ensures.rule)),
+      );
+    }

@@ -1,0 +1,14 @@
+use Rattle.ufs_path.proofs.EntryLaws.{block_hole, block_read, block_unread}
+use Rattle.ufs_path.proofs.entries.read_entries.Goals as goal
+
+pub returns-in-Ok-Data-clause-rule : goal.returns-in-Ok-Data-clause-rule
+returns-in-Ok-Data-clause-rule g c =
+    block_read c.args.g.now c.args.inode.now c.args.n c.read_block.new.levels.block _ c.read_block.ensures.keeps.stays
+    (rw (c.bytes_in_block.ensures.value, c.block.ensures) at c.judged.ensures.rule) (rw c.in-Ok-Data.field-0-is at c.in-Ok-Data.ensures.rule)
+
+pub returns-in-Ok-Hole-clause-rule : goal.returns-in-Ok-Hole-clause-rule
+returns-in-Ok-Hole-clause-rule g c =
+    block_hole c.args.g.now c.args.inode.now c.args.n c.read_block.ensures.keeps.stays (rw c.in-Ok-Hole.field-0-is at c.in-Ok-Hole.ensures.rule)
+
+pub returns-in-Err-clause-rule : goal.returns-in-Err-clause-rule
+returns-in-Err-clause-rule g c = block_unread c.args.g.now c.args.inode.now c.args.n c.in-Err.fault c.read_block.ensures.keeps.stays c.in-Err.ensures.rule

@@ -1,0 +1,65 @@
+use Rattle.std.proofs.Common.{◌++◌, ◌∙◌, ◌∷◌, [], All, refl, subst, sym, arith}
+use Rattle.std.proofs.lemmas.List.{append_assoc}
+use Rattle.std.proofs.lemmas.List.Elements.{All-head, All-tail}
+use Rattle.dg_io.specs.ViewLaws.{keeps_both, keeps_same}
+use Rattle.ufs_dir.specs.Steps.{entry_of}
+use Rattle.ufs_model.specs.Chunks.{entries_in, used_entries}
+use Rattle.ufs_model.specs.declared.numbers.Endian.TheVariants.{Little}
+use Rattle.ufs_path.proofs.WalkLaws.{failed_then, handed_none, handed_then, unread_then, used_front}
+use Rattle.ufs_path.specs.Walks.{has_short_name}
+use Rattle.ufs_path.proofs.walks.list_chunk.Goals as goal
+
+pub loop-entry-init : goal.loop-entry-init
+loop-entry-init g c = record {
+  keeps = keeps_same c.args.view.now c.requires.sound (g.met.V.View.unchanged c.args.view.now);
+  levels = c.requires.levels;
+  block = refl;
+  later = omega arith;
+  few = rw (c.new-entries.ensures, c.requires.chunk) (omega arith);
+  names = rw c.new-entries.ensures c.requires.names;
+  handed = ([], rw c.new-entries.ensures refl, handed_none c.args.g.now c.args.out.now g.met.O.Listing.nothing);
+}
+
+pub list_entry-requires-clause-short : goal.list_entry-requires-clause-short
+list_entry-requires-clause-short g c =
+    All-head has_short_name (entry_of c.in-Entry.entry) (entries_in Little 0 c.next.new.self) (subst (All has_short_name) c.in-Entry.ensures.entries c.loop-entry.invariant.names)
+
+pub loop-entry-preserved : goal.loop-entry-preserved
+loop-entry-preserved g c =
+    let so_far = c.loop-entry.invariant.keeps in
+    let step = c.list_entry.ensures.keeps in
+    let handed = c.loop-entry.invariant.handed in
+    let shorter = c.in-Entry.ensures.shorter in
+    let few = c.loop-entry.invariant.few in
+    let one = c.in-All.ensures.few in
+    let before = c.loop-entry.invariant.later in
+    let after = c.list_entry.ensures.later in record {
+      keeps = keeps_both g.met.V.View.further c.args.view.now c.loop-entry.view c.list_entry.new.view so_far step;
+      levels = c.list_entry.ensures.levels ∙ c.loop-entry.invariant.levels;
+      block = c.list_entry.ensures.block ∙ c.loop-entry.invariant.block;
+      later = omega arith;
+      few = omega arith;
+      names = All-tail has_short_name (entry_of c.in-Entry.entry) (entries_in Little 0 c.next.new.self) (subst (All has_short_name) c.in-Entry.ensures.entries c.loop-entry.invariant.names);
+      handed = (
+        handed.0 ++ used_entries (entry_of c.in-Entry.entry ∷ []),
+        rw (used_front (entry_of c.in-Entry.entry) _ _ c.in-Entry.ensures.entries) at (handed.1) ∙ sym (append_assoc (handed.0) (used_entries (entry_of c.in-Entry.entry ∷ [])) (used_entries (entries_in Little 0 c.next.new.self))),
+        handed_then c.args.g.now (handed.0) (used_entries (entry_of c.in-Entry.entry ∷ [])) c.loop-entry.given c.in-All.n c.args.out.now c.loop-entry.out c.list_entry.new.out g.met.O.Listing.then
+            so_far.stays step.stays so_far.stands step.told (handed.2) c.in-All.ensures.rule,
+      );
+    }
+
+pub returns-in-Unread-clause-rule : goal.returns-in-Unread-clause-rule
+returns-in-Unread-clause-rule g c =
+    let so_far = c.loop-entry.invariant.keeps in
+    let step = c.list_entry.ensures.keeps in
+    let handed = c.loop-entry.invariant.handed in
+    unread_then c.args.g.now (handed.0) (used_entries (entry_of c.in-Entry.entry ∷ [])) (used_entries (entries_in Little 0 c.next.new.self)) _ c.loop-entry.given c.in-Unread.n c.in-Unread.fault c.args.out.now c.loop-entry.out c.list_entry.new.out g.met.O.Listing.then
+    so_far.stays step.stays so_far.stands step.told (rw (used_front (entry_of c.in-Entry.entry) _ _ c.in-Entry.ensures.entries) at (handed.1)) (handed.2) c.in-Unread.ensures.rule
+
+pub returns-in-Failed-clause-rule : goal.returns-in-Failed-clause-rule
+returns-in-Failed-clause-rule g c =
+    let so_far = c.loop-entry.invariant.keeps in
+    let step = c.list_entry.ensures.keeps in
+    let handed = c.loop-entry.invariant.handed in
+    failed_then c.args.g.now (handed.0) (used_entries (entry_of c.in-Entry.entry ∷ [])) (used_entries (entries_in Little 0 c.next.new.self)) _ c.loop-entry.given c.args.out.now c.loop-entry.out c.list_entry.new.out g.met.O.Listing.then_part c.loop-entry.invariant.later
+    so_far.stays step.stays so_far.stands step.told (rw (used_front (entry_of c.in-Entry.entry) _ _ c.in-Entry.ensures.entries) at (handed.1)) (handed.2) c.in-Failed.ensures.rule
