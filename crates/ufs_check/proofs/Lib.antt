@@ -8,3 +8,4 @@ pub mod Sizes
 pub mod BlockLaws
 pub mod DirectoryLaws
 pub mod FaultLaws
+pub mod OwnedLaws

@@ -5,3 +5,4 @@ pub mod Inodes
 pub mod Entries
 pub mod FileBlocks
 pub mod Directories
+pub mod OwnedEntries

@@ -24,7 +24,7 @@ use ufs_model::{Geometry, Inode, Kind};
 use ufs_pointer::Levels;
 
 /// Files of so many bytes are malformed, and longer ones.
-const TOO_LONG: u64 = 1 << 32;
+pub const TOO_LONG: u64 = 1 << 32;
 
 /// What is found in a directory.
 #[derive(Clone, Copy)]
@@ -174,7 +174,7 @@ fn note_directory(i: u32, inode: &Inode, scan: &Scan, faults: &mut DirectoryFaul
 }
 
 /// The inode is a directory's.
-fn is_directory(inode: &Inode) -> bool
+pub fn is_directory(inode: &Inode) -> bool
     ensures { Decides result (kind_of inode.now.mode ≡ Directory) }
 {
     inode.kind() == Kind::Directory

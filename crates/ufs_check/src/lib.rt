@@ -10,6 +10,7 @@ mod file_blocks;
 mod groups;
 mod inodes;
 mod notes;
+mod owned_entries;
 mod slots;
 #[cfg(test)]
 mod tests;
