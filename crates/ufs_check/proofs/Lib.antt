@@ -9,3 +9,4 @@ pub mod BlockLaws
 pub mod DirectoryLaws
 pub mod FaultLaws
 pub mod OwnedLaws
+pub mod NameLaws

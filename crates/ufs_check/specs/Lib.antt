@@ -6,3 +6,4 @@ pub mod Entries
 pub mod FileBlocks
 pub mod Directories
 pub mod OwnedEntries
+pub mod Names

@@ -9,6 +9,7 @@ mod entries;
 mod file_blocks;
 mod groups;
 mod inodes;
+mod names;
 mod notes;
 mod owned_entries;
 mod slots;
