@@ -83,7 +83,7 @@ data_whole g v k bytes scan faults none adds = record {
 
 -- ---- the entries of one more file block
 
-abbrev joined : Result (List DirEntry) PathRefusal → Result (List DirEntry) PathRefusal → Result (List DirEntry) PathRefusal
+abbrev pub joined : Result (List DirEntry) PathRefusal → Result (List DirEntry) PathRefusal → Result (List DirEntry) PathRefusal
 joined (Err refusal) further = Err refusal
 joined (Ok front) (Ok entries) = Ok (front ++ entries)
 joined (Ok front) (Err refusal) = Err refusal
@@ -115,7 +115,7 @@ pub chunks_value : (g : Geometry) (inode : Inode) (n : ℕ) (v : Volume) → (ch
 unfolding chunks_of and_then bind
 chunks_value g inode n v = said_part v (bytes_in_block g inode n / 512) ((block_of Little g inode n v).value)
 
-before_next : (g : Geometry) (inode : Inode) (n : ℕ) (v : Volume)
+pub before_next : (g : Geometry) (inode : Inode) (n : ℕ) (v : Volume)
     → (entries_before Little g inode (suc n) v).value ≡ joined ((entries_before Little g inode n v).value) (entries_said ((chunks_of Little g inode n v).value))
 unfolding entries_before and_then bind
 before_next g inode n v = front_part v ((entries_before Little g inode n v).value) (chunks_of Little g inode n)

@@ -133,12 +133,12 @@ directory_none g v i holds is h = subst (λ o. MatchOption o ⊥ (λ inode. (kin
 
 -- ---- whether its entries are read
 
-whole_entries : (g : Geometry) (inode : Inode) (v : Volume) → kind_of inode.mode ≡ Directory → inode.size < 2 ^ 32 → (inode.size % 512 == 0) ≡ true
+pub whole_entries : (g : Geometry) (inode : Inode) (v : Volume) → kind_of inode.mode ≡ Directory → inode.size < 2 ^ 32 → (inode.size % 512 == 0) ≡ true
     → (entries_of Little g inode v).value ≡ (entries_before Little g inode (block_count g inode) v).value
 unfolding entries_of directory_refusal
 whole_entries g inode v kind small whole = let fits : nat_le (2 ^ 32) inode.size ≡ false = grind (arith, nat_tests) in rw (kind, fits, whole) refl
 
-torn_entries : (g : Geometry) (inode : Inode) (v : Volume) → kind_of inode.mode ≡ Directory → inode.size < 2 ^ 32 → (inode.size % 512 == 0) ≡ false
+pub torn_entries : (g : Geometry) (inode : Inode) (v : Volume) → kind_of inode.mode ≡ Directory → inode.size < 2 ^ 32 → (inode.size % 512 == 0) ≡ false
     → (entries_of Little g inode v).value ≡ Err (Bad BadChunk)
 unfolding entries_of directory_refusal
 torn_entries g inode v kind small torn = let fits : nat_le (2 ^ 32) inode.size ≡ false = grind (arith, nat_tests) in rw (kind, fits, torn) refl
@@ -213,11 +213,11 @@ unfolding is_mistyped
 mistyped_decides g v entry = mistyped_is entry.kind (inode_at Little g v entry.inode)
 
 -- the entries of a directory are these
-entries_are : (g : Geometry) (v : Volume) (i : ℕ) (inode : Inode) (entries : List DirEntry) → inode_at Little g v i ≡ Some inode → kind_of inode.mode ≡ Directory
+pub entries_are : (g : Geometry) (v : Volume) (i : ℕ) (inode : Inode) (entries : List DirEntry) → inode_at Little g v i ≡ Some inode → kind_of inode.mode ≡ Directory
     → (entries_of Little g inode v).value ≡ Ok entries → HasEntries Little g v i entries
 entries_are g v i inode entries is kind value = subst (λ o. MatchOption o ⊥ (λ inode. (kind_of inode.mode ≡ Directory) × ((entries_of Little g inode v).value ≡ Ok entries))) (sym is) (kind, value)
 
-entries_same : (g : Geometry) (v : Volume) (i : ℕ) (inode : Inode) (entries others : List DirEntry) → inode_at Little g v i ≡ Some inode
+pub entries_same : (g : Geometry) (v : Volume) (i : ℕ) (inode : Inode) (entries others : List DirEntry) → inode_at Little g v i ≡ Some inode
     → (entries_of Little g inode v).value ≡ Ok entries → HasEntries Little g v i others → others ≡ entries
 entries_same g v i inode entries others is value has =
     let other = directory_is g v i (λ inode. (entries_of Little g inode v).value ≡ Ok others) inode is has in

@@ -13,3 +13,5 @@ pub mod ClaimLaws
 pub mod PointerLaws
 pub mod RunLaws
 pub mod ReachLaws
+pub mod OwnedLaws
+pub mod NameLaws

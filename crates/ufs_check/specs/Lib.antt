@@ -9,3 +9,5 @@ pub mod Reaches
 pub mod Limits
 pub mod Pointers
 pub mod Fragments
+pub mod OwnedEntries
+pub mod Names

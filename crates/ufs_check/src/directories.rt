@@ -173,7 +173,7 @@ fn note_directory(i: u32, inode: &Inode, scan: &Scan, faults: &mut DirectoryFaul
 }
 
 /// The inode is a directory's.
-fn is_directory(inode: &Inode) -> bool
+pub fn is_directory(inode: &Inode) -> bool
     ensures { Decides result (kind_of inode.now.mode ≡ Directory) }
 {
     inode.kind() == Kind::Directory

@@ -16,6 +16,8 @@ mod limits;
 mod notes;
 mod pointers;
 mod reaches;
+mod names;
+mod owned_entries;
 mod slots;
 #[cfg(test)]
 mod tests;
