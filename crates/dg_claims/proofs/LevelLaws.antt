@@ -61,12 +61,12 @@ claimed_inside inside kept fragment level view is h =
     (inside_run inside.geometry (size_in inside.geometry) fragment place (run_at inside.runs.map.entries place) (is.runs place) ((is.marked fragment place).0 marked))
 
 -- at a level of 0 to 3
-level_most : (geometry : Option Geometry) (source : ClaimSource) → IsSource geometry (place_of source) → level_of source ≤ 3
+level_most : (geometry : Option Geometry) (source : ClaimSource) → IsPlace geometry (place_of source) → level_of source ≤ 3
 level_most None source is = absurd is
 level_most (Some g) (Slot inode slot) is = let below = is.2 in omega arith
 level_most (Some g) (Pointer fragment level at) is = let most = is.1 in omega arith
 
-run_source : (geometry : Option Geometry) (size fragment : ℕ) (place : Place) (run : Option Run) → IfSome run (λ r. IsSource geometry place × IsRun size r) → Contains (run_fragments run) fragment → IsSource geometry place
+run_source : (geometry : Option Geometry) (size fragment : ℕ) (place : Place) (run : Option Run) → IfSome run (λ r. IsPlace geometry place × IsRun size r) → Contains (run_fragments run) fragment → IsPlace geometry place
 run_source geometry size fragment place None h has = absurd (contains_none fragment has)
 run_source geometry size fragment place (Some run) h has = h.0
 
