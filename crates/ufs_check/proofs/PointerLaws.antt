@@ -1,7 +1,8 @@
 -- What is wrong with the pointers of a fragment of an indirect block, by its bytes.
-use Rattle.std.proofs.Common.{◌≡◌, ◌≢◌, ℕ, ◌+◌, ◌<◌, ◌≤◌, List, Bool, Option, None, Some, sym, subst, add-one, arith}
+use Rattle.std.proofs.Common.{◌≡◌, ◌≢◌, ℕ, suc, inl, inr, length, ◌+◌, ◌<◌, ◌≤◌, List, Bool, Option, None, Some, sym, subst, add-one, arith}
 use Rattle.std.specs.Prelude.{Contains}
 use Rattle.std.specs.Bool.{Decides}
+use Rattle.std.proofs.lemmas.Bool.{cases_order}
 use Rattle.ufs_model.specs.Blocks.{Volume, block_at}
 use Rattle.ufs_model.specs.Claims.{level_of}
 use Rattle.ufs_model.specs.Malformations.{HasMisalignedIn, HasPastIn, HasWildIn, IsBad}
@@ -16,7 +17,7 @@ use Rattle.dg_claims.specs.Tables.{ClaimTable}
 use Rattle.ufs_check.proofs.ClaimLaws.{claim_inside, upper_in, upper_of}
 use Rattle.ufs_check.proofs.ReachLaws.{reach_upper}
 use Rattle.ufs_check.proofs.LeastLaws.{least_all, least_same}
-use Rattle.ufs_check.specs.Fragments.{AreFragmentFaults, AreFragmentFaultsBelow, ArePointerFaultsBelow, HasClaims, IsUpperIn}
+use Rattle.ufs_check.specs.Fragments.{AreFragmentFaults, AreFragmentFaultsBelow, ArePointerFaultsBelow, HasClaims, HasWholeUppers, IsUpperIn}
 use Rattle.ufs_check.specs.Least.{IsLeast, IsLeastBelow}
 use Rattle.ufs_check.specs.Limits.{IsLimit}
 use Rattle.ufs_check.specs.Pointers.{HasMisalignedPointer, HasPastPointer, HasWildPointer}
@@ -124,3 +125,19 @@ faults_all g table v bound faults has is inside end so_far =
           (so_far.pointers.past_in once);
       free = least_all (IsBad Little g v Free) bound faults.free (λ f one. let lt = below f (one.source) one.claim in omega arith) so_far.claimed.free;
     }
+
+-- ---- fragments of indirect blocks have their bytes
+
+pub uppers_more : (g : Geometry) (table : ClaimTable) (v : Volume) (f : ℕ) → ((m : ℕ) → m < f → IsUpperIn table m → length (block_at g.fsize v m) ≡ g.fsize)
+    → (IsUpperIn table f → length (block_at g.fsize v f) ≡ g.fsize) → (m : ℕ) → m < suc f → IsUpperIn table m → length (block_at g.fsize v m) ≡ g.fsize
+uppers_more g table v f below here m lt upper = elim (cases_order m f) [
+  | inl same ↦ rw same (here (rw (← same) upper))
+  | inr other ↦ elim other [ inl less ↦ below m less upper | inr greater ↦ absurd (omega arith) ]
+]
+
+pub uppers_all : (g : Geometry) (table : ClaimTable) (v : Volume) (bound : ℕ) → HasClaims g table v → table.geometry ≡ Some g
+    → ((f : ℕ) (source : ClaimSource) → Contains (table.claimed source) f → f < size_in table.geometry) → g.size ≤ bound
+    → ((m : ℕ) → m < bound → IsUpperIn table m → length (block_at g.fsize v m) ≡ g.fsize) → HasWholeUppers g v
+uppers_all g table v bound has is inside end below = λ f source claim above.
+    let lt = claim_inside g table v f source has is inside claim in
+    below f (omega arith) (source, above, (has.claims f source).1 claim)

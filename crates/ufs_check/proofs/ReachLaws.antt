@@ -12,8 +12,7 @@ use Rattle.ufs_model.specs.declared.claims.ClaimSource.{ClaimSource}
 use Rattle.ufs_model.specs.declared.claims.ClaimSource.TheVariants.{Slot, Pointer}
 use Rattle.ufs_model.specs.declared.geometries.Geometry.{Geometry}
 use Rattle.ufs_model.specs.declared.numbers.Endian.TheVariants.{Little}
-use Rattle.dg_claims.specs.Kept.{IsSource}
-use Rattle.dg_claims.specs.Places.{place_of}
+use Rattle.dg_claims.specs.Tables.{IsSource}
 use Rattle.dg_claims.specs.Tables.{ClaimTable}
 use Rattle.ufs_check.proofs.RunLaws.{contains_from, contains_got, from_contains, from_get, get_from, upper_run}
 use Rattle.ufs_check.specs.Fragments.{HasClaims, IsUpperIn}
@@ -147,8 +146,8 @@ above_same g table v f level at i n source has one up = one.only (up.source) ((h
 
 -- ---- what is reached through a source
 
-pub pointer_level : (g : Geometry) (source : ClaimSource) (f level at : ℕ) → source ≡ Pointer f level at → IsSource (Some g) (place_of source) → 0 < level
-pointer_level g source f level at is from = let one = (subst (λ s. IsSource (Some g) (place_of s)) is from).0 in omega arith
+pub pointer_level : (g : Geometry) (source : ClaimSource) (f level at : ℕ) → source ≡ Pointer f level at → IsSource (Some g) source → 0 < level
+pointer_level g source f level at is from = let one = (subst (λ s. IsSource (Some g) s) is from).0 in omega arith
 
 abbrev IsAnswer : Option (ℕ × ℕ) → Option (ℕ × ℕ) → Type 0
 IsAnswer r answer = r ≡ answer

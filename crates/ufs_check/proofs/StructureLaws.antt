@@ -38,35 +38,35 @@ use Rattle.ufs_pointer.specs.Chains.{IsChain}
 use Rattle.ufs_check.specs.Directories.{IsDirectoryRead, IsFileRead, IsSmallRead}
 use Rattle.ufs_check.specs.Directories.IsDirectoryRead.{by_directory, by_metadata}
 use Rattle.ufs_check.specs.Directories.IsFileRead.{of_file, of_metadata}
-use Rattle.ufs_check.specs.Passes.{HasBlocks}
+use Rattle.ufs_check.specs.Fragments.{HasWholeUppers}
 use Rattle.ufs_check.proofs.FaultLaws.{directory_there}
 use Rattle.ufs_check.proofs.Sizes.{count_few}
 
 -- ---- blocks end to end
 
-area_length : (l a k : ℕ) (v : Volume) → HasBlocks l v → length ((area_of l a k v).value) ≡ k * l
+area_length : (l a k : ℕ) (v : Volume) → ((j : ℕ) → j < k → length (block_at l v (a + j)) ≡ l) → length ((area_of l a k v).value) ≡ k * l
 unfolding area_of bind
 area_length l a zero v whole = omega arith
 area_length l a (suc k) v whole =
-    let front = area_length l a k v whole in
-    let last = whole (a + k) in
+    let front = area_length l a k v (λ j lt. whole j (omega arith)) in
+    let last = whole k (omega arith) in
     simp length-append (omega arith)
 
-pub area_at : (l a k q r : ℕ) (v : Volume) → HasBlocks l v → q < k → r < l → get_or ((area_of l a k v).value) (q * l + r) 0 ≡ get_or (block_at l v (a + q)) r 0
+pub area_at : (l a k q r : ℕ) (v : Volume) → ((j : ℕ) → j < k → length (block_at l v (a + j)) ≡ l) → q < k → r < l → get_or ((area_of l a k v).value) (q * l + r) 0 ≡ get_or (block_at l v (a + q)) r 0
 unfolding area_of bind
 area_at l a zero q r v whole low inside = absurd (omega arith)
 area_at l a (suc k) q r v whole low inside = elim (cases_order q k) [
   | inl same ↦
-      let long = area_length l a k v whole in
+      let long = area_length l a k v (λ j lt. whole j (omega arith)) in
       let place : q * l + r ≡ length ((area_of l a k v).value) + r = rw (long, same) refl in
       rw (place, same) (get_or-append-add ((area_of l a k v).value) (block_at l v (a + k)) r 0)
   | inr other ↦ elim other [
     | inl less ↦
-        let long = area_length l a k v whole in
+        let long = area_length l a k v (λ j lt. whole j (omega arith)) in
         let most : suc q * l ≤ k * l = mul-le-mul_right l less in
         let next : suc q * l ≡ q * l + l = omega arith in
         let before : q * l + r < length ((area_of l a k v).value) = omega arith in
-        get_or_append_left ((area_of l a k v).value) (block_at l v (a + k)) 0 (q * l + r) before ∙ area_at l a k q r v whole less inside
+        get_or_append_left ((area_of l a k v).value) (block_at l v (a + k)) 0 (q * l + r) before ∙ area_at l a k q r v (λ j lt. whole j (omega arith)) less inside
     | inr greater ↦ absurd (omega arith)
   ]
 ]
@@ -94,7 +94,7 @@ scaled : (l f q : ℕ) → l ≡ 4 * f → q * l ≡ 4 * (f * q)
 scaled l f q is = rw is (omega arith)
 
 -- a pointer of an indirect block stands in one of its fragments
-pub pointer_at_fragment : (l a k p : ℕ) (v : Volume) → HasBlocks l v → l ≡ 4 * (l / 4) → 0 < l / 4 → p / (l / 4) < k
+pub pointer_at_fragment : (l a k p : ℕ) (v : Volume) → ((j : ℕ) → j < k → length (block_at l v (a + j)) ≡ l) → l ≡ 4 * (l / 4) → 0 < l / 4 → p / (l / 4) < k
     → pointer_in Little ((area_of l a k v).value) p ≡ pointer_in Little (block_at l v (a + p / (l / 4))) (p % (l / 4))
 pointer_at_fragment l a k p v whole fours some low =
     let split : l / 4 * (p / (l / 4)) + p % (l / 4) ≡ p = omega arith in
@@ -170,7 +170,7 @@ slot_whole : (g : Geometry) (inode : Inode) (slot : ℕ) → 12 ≤ slot → spa
 unfolding span
 slot_whole g inode slot high = let past : nat_le 12 slot ≡ true = grind (arith, nat_tests) in rw past refl
 
-slot_claimed : (g : Geometry) (v : Volume) (i slot : ℕ) (inode : Inode) → inode_at Little g v i ≡ Some inode → has_pointers g inode ≡ true → slot < 15
+pub slot_claimed : (g : Geometry) (v : Volume) (i slot : ℕ) (inode : Inode) → inode_at Little g v i ≡ Some inode → has_pointers g inode ≡ true → slot < 15
     → IsClaimed g v i (slot - 11) (slot_address g inode slot)
 slot_claimed g v i slot inode is pointers low = record {
   reached = λ a k at.
@@ -186,14 +186,21 @@ pointer_targets : (g : Geometry) (v : Volume) (f level at : ℕ) → at < g.fsiz
 unfolding targets pointer_fragments
 pointer_targets g v f level at low = let within : nat_lt at (g.fsize / 4) ≡ true = grind (arith, nat_tests) in rw within refl
 
-through_reached : (g : Geometry) (v : Volume) (i level p a b j : ℕ) (source : ClaimSource) → HasBlocks g.fsize v → g.fsize ≡ 4 * (g.fsize / 4) → 0 < g.fsize / 4 → p / (g.fsize / 4) < g.frag
+-- the fragments of an indirect block have their bytes
+pub upper_blocks : (g : Geometry) (v : Volume) (i level a : ℕ) (source : ClaimSource) → HasWholeUppers g v → IsReached g v i (suc level) source (At a g.frag)
+    → (j : ℕ) → j < g.frag → length (block_at g.fsize v (a + j)) ≡ g.fsize
+upper_blocks g v i level a source whole one j low =
+    let of_level = one.of_level in
+    whole (a + j) source (one.claims (a + j) (fragments_have a g.frag (a + j) (omega arith) (omega arith))) (omega arith)
+
+through_reached : (g : Geometry) (v : Volume) (i level p a b j : ℕ) (source : ClaimSource) → HasWholeUppers g v → g.fsize ≡ 4 * (g.fsize / 4) → 0 < g.fsize / 4 → p / (g.fsize / 4) < g.frag
     → IsReached g v i (suc level) source (At a g.frag) → address g (pointer_in Little ((area_of g.fsize a g.frag v).value) p) g.frag ≡ At b j
     → IsReached g v i level (Pointer (a + p / (g.fsize / 4)) (suc level) (p % (g.fsize / 4))) (At b j)
 through_reached g v i level p a b j source whole fours some low one is =
     let f = a + p / (g.fsize / 4) in
     let at = p % (g.fsize / 4) in
     let inside : p % (g.fsize / 4) < g.fsize / 4 = omega arith in
-    let same = pointer_at_fragment g.fsize a g.frag p v whole fours some low in
+    let same = pointer_at_fragment g.fsize a g.frag p v (upper_blocks g v i level a source whole one) fours some low in
     let are : targets Little g v (Pointer (a + p / (g.fsize / 4)) (suc level) (p % (g.fsize / 4))) ≡ fragments_at (At b j) =
     pointer_targets g v f (suc level) at inside ∙ ap (λ pointer. fragments_at (address g pointer g.frag)) (sym same) ∙ ap fragments_at is in
     let upper : slice_get (targets Little g v source) (p / (g.fsize / 4)) ≡ Some (a + p / (g.fsize / 4)) = rw one.are (fragments_get a g.frag (p / (g.fsize / 4)) low) in
@@ -205,7 +212,7 @@ through_reached g v i level p a b j source whole fours some low one is =
       claims = λ h inside. by_pointer (one.claims f (fragments_have a g.frag f (omega arith) (omega arith))) one.of_level (omega arith) (subst (λ fragments. Contains fragments h) (sym are) inside);
     }
 
-through_claimed : (g : Geometry) (v : Volume) (i level p : ℕ) (at : Address) → HasBlocks g.fsize v → g.fsize ≡ 4 * (g.fsize / 4) → 0 < g.fsize / 4 → p / (g.fsize / 4) < g.frag
+pub through_claimed : (g : Geometry) (v : Volume) (i level p : ℕ) (at : Address) → HasWholeUppers g v → g.fsize ≡ 4 * (g.fsize / 4) → 0 < g.fsize / 4 → p / (g.fsize / 4) < g.frag
     → IsClaimed g v i (suc level) at → IsClaimed g v i level ((through Little g p at v).value)
 unfolding through bind
 through_claimed g v i level p Hole whole fours some low one =
@@ -263,7 +270,7 @@ unfolding is_fragment_count
 share frag fsize k h e = grind (arith, nat_tests)
 
 -- a fragment has whole pointers
-quarters : (g : Geometry) → IsGeometry g → (g.fsize ≡ 4 * (g.fsize / 4)) × (0 < g.fsize / 4)
+pub quarters : (g : Geometry) → IsGeometry g → (g.fsize ≡ 4 * (g.fsize / 4)) × (0 < g.fsize / 4)
 quarters g is =
     let k = kibibytes g.bsize (is.bsize.0) in
     let e : 1024 * (g.bsize / 1024) ≡ g.frag * g.fsize = let product = is.frag.3 in omega arith in
@@ -272,7 +279,7 @@ quarters g is =
     (share g.frag g.fsize (g.bsize / 1024) (is.frag.0) e, omega arith)
 
 -- a pointer of an indirect block is in one of its fragments
-place_below : (g : Geometry) (p : ℕ) → IsGeometry g → p < g.nindir → p / (g.fsize / 4) < g.frag
+pub place_below : (g : Geometry) (p : ℕ) → IsGeometry g → p < g.nindir → p / (g.fsize / 4) < g.frag
 place_below g p is low =
     let quarter = quarters g is in
     let product = is.frag.3 in
@@ -296,7 +303,7 @@ bounds_near : (g : Geometry) (n : ℕ) (direct : Bool) (far : Chain) → nat_lt 
 bounds_near g n true far is whole = grind (arith, nat_tests)
 bounds_near g n false far is whole = whole
 
-chain_bounds : (g : Geometry) (n : ℕ) → IsGeometry g → n < 2 ^ 30 → IsChain g.nindir (locate_of g n)
+pub chain_bounds : (g : Geometry) (n : ℕ) → IsGeometry g → n < 2 ^ 30 → IsChain g.nindir (locate_of g n)
 unfolding locate_of
 chain_bounds g n is small =
     let large = pointers_many g is in
@@ -308,11 +315,11 @@ record IsChained (g : Geometry) (v : Volume) (i : ℕ) (reading : Consulted Addr
   needs : (b : ℕ) → Contains reading.needs b → IsMetadataBy Little g v b
 
 -- the facts of an inode with pointers
-record IsOwner (g : Geometry) (v : Volume) (i : ℕ) (inode : Inode) : Type 0 where
-  geometry : IsGeometry g
-  whole : HasBlocks g.fsize v
-  there : inode_at Little g v i ≡ Some inode
-  pointers : has_pointers g inode ≡ true
+pub record IsOwner (g : Geometry) (v : Volume) (i : ℕ) (inode : Inode) : Type 0 where
+  pub geometry : IsGeometry g
+  pub whole : HasWholeUppers g v
+  pub there : inode_at Little g v i ≡ Some inode
+  pub pointers : has_pointers g inode ≡ true
 
 chain_by : (g : Geometry) (v : Volume) (i : ℕ) (inode : Inode) (chain : Chain) → IsOwner g v i inode → IsChain g.nindir chain → IsChained g v i (chain_address Little g inode chain v)
 unfolding bind
@@ -399,7 +406,7 @@ file_structure l m g v i b inode has owner directory small (of_file n low needs)
           of_directory g i (reached.1.first) reached.0 has directory claim reached.1.owner
     ]
 
-directory_structure : (l m : ℕ) (g : Geometry) (v : Volume) (i b : ℕ) (found : Option Inode) → (geometry_of Little l m v).value ≡ Ok g → IsGeometry g → HasBlocks g.fsize v → inode_at Little g v i ≡ found
+directory_structure : (l m : ℕ) (g : Geometry) (v : Volume) (i b : ℕ) (found : Option Inode) → (geometry_of Little l m v).value ≡ Ok g → IsGeometry g → HasWholeUppers g v → inode_at Little g v i ≡ found
     → MatchOption found ⊥ (λ inode. (kind_of inode.mode ≡ Directory) × IsSmallRead g v b inode) → IsStructure Little l m v b
 directory_structure l m g v i b None has geometry whole is h = absurd h
 directory_structure l m g v i b (Some inode) has geometry whole is h =
@@ -407,6 +414,6 @@ directory_structure l m g v i b (Some inode) has geometry whole is h =
     (directory_there g v i (λ inode. Unit {0}) inode is h.0 tt) h.1.small h.1.read
 
 -- what is read to look at directories has the structure of the volume, where each block has its bytes
-pub read_is_structure : (l m : ℕ) (g : Geometry) (v : Volume) (b : ℕ) → (geometry_of Little l m v).value ≡ Ok g → IsGeometry g → HasBlocks g.fsize v → IsDirectoryRead g v b → IsStructure Little l m v b
+pub read_is_structure : (l m : ℕ) (g : Geometry) (v : Volume) (b : ℕ) → (geometry_of Little l m v).value ≡ Ok g → IsGeometry g → HasWholeUppers g v → IsDirectoryRead g v b → IsStructure Little l m v b
 read_is_structure l m g v b has geometry whole (by_metadata is) = of_structure_metadata (by_geometry g has is)
 read_is_structure l m g v b has geometry whole (by_directory i h) = directory_structure l m g v i b (inode_at Little g v i) has geometry whole refl h

@@ -1,6 +1,6 @@
 -- What is wrong with the fragments of a volume.
-use Rattle.std.specs.Prelude.{◌≡◌, ◌<◌, ◌↔◌, ℕ, None, Contains}
-use Rattle.ufs_model.specs.Blocks.{Volume}
+use Rattle.std.specs.Prelude.{◌≡◌, ◌<◌, ◌↔◌, ℕ, None, Contains, length}
+use Rattle.ufs_model.specs.Blocks.{Volume, block_at}
 use Rattle.ufs_model.specs.Claims.{IsClaim, level_of, targets}
 use Rattle.ufs_model.specs.Malformations.{IsBad}
 use Rattle.ufs_model.specs.declared.claims.ClaimSource.{ClaimSource}
@@ -19,6 +19,10 @@ pub record HasClaims (g : Geometry) (table : ClaimTable) (v : Volume) : Type 0 w
 -- a volume of a view, of which the claims are those of a table
 abbrev pub IsClaimedBy : (Volume → Type 0) → Geometry → ClaimTable → Volume → Type 0
 IsClaimedBy stands g table v = stands v × HasClaims g table v
+
+-- each fragment of an indirect block has its bytes
+abbrev pub HasWholeUppers : Geometry → Volume → Type 0
+HasWholeUppers g v = (f : ℕ) (source : ClaimSource) → IsClaim (targets Little g v) f source → 0 < level_of source → length (block_at g.fsize v f) ≡ g.fsize
 
 -- by a table a fragment has a claim at a level above 0
 abbrev pub IsUpperIn : ClaimTable → ℕ → Type 0

@@ -1,6 +1,6 @@
 -- What a pass over a volume may read, and what it loses.
-use Rattle.std.specs.Prelude.{◌≡◌, ℕ, List, Bool, true, Contains, length}
-use Rattle.ufs_model.specs.Blocks.{Volume, block_at}
+use Rattle.std.specs.Prelude.{◌≡◌, ℕ, List, Bool, true, Contains}
+use Rattle.ufs_model.specs.Blocks.{Volume}
 
 -- Only blocks of which something holds on the volume were fetched. It is a word on the volumes that a view stands for, where it
 -- tells its blocks in the end.
@@ -14,7 +14,3 @@ pub record LosesOne (gone : ℕ → Bool) (may : ℕ → Type 0) : Type 0 where
   pub block : ℕ
   pub is : may block
   pub lost : gone block ≡ true
-
--- each block has its l bytes
-abbrev pub HasBlocks : ℕ → Volume → Type 0
-HasBlocks l v = (block : ℕ) → length (block_at l v block) ≡ l

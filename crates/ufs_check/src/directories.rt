@@ -13,7 +13,8 @@ ghost use Rattle.ufs_model.specs.declared.geometries.Geometry.{Geometry};
 ghost use Rattle.ufs_model.specs.declared.inodes.Kind.TheVariants.{Directory};
 ghost use Rattle.ufs_model.specs.declared.numbers.Endian.TheVariants.{Little};
 ghost use Rattle.ufs_check.specs.Directories.{AreDirectoryFaults, AreDirectoryFaultsBelow, HasFilesizes, IsDirectoryRead, IsFileRead, ScannedBelow, ScansBlock};
-ghost use Rattle.ufs_check.specs.Passes.{FetchesOnly, HasBlocks, LosesOne};
+ghost use Rattle.ufs_check.specs.Fragments.{HasWholeUppers};
+ghost use Rattle.ufs_check.specs.Passes.{FetchesOnly, LosesOne};
 
 use crate::entries::{EntryFaults, has_refused, read_named, scan_chunks};
 use crate::file_blocks::{FileBlock, block_count, bytes_in_block, read_block};
@@ -249,9 +250,9 @@ pub fn check_directories<V: View>(
     Some(faults)
 }
 
-/// What is read to look at the directories of a volume has its structure, where each block has as many
-/// bytes as a fragment.
+/// What is read to look at the directories of a volume has its structure, where each fragment of an
+/// indirect block has its bytes.
 pub fn directories_are_structure()
-    ensures { (l n : ℕ) (g : Geometry) (v : Volume) (block : ℕ) → (geometry_of Little l n v).value ≡ Ok g → IsGeometry g → HasBlocks g.fsize v
+    ensures { (l n : ℕ) (g : Geometry) (v : Volume) (block : ℕ) → (geometry_of Little l n v).value ≡ Ok g → IsGeometry g → HasWholeUppers g v
         → IsDirectoryRead g v block → IsStructure Little l n v block }
 {}

@@ -8,7 +8,7 @@ ghost use Rattle.ufs_model.specs.GroupMaps.{by_maps, group_bytes, group_in, is_f
 ghost use Rattle.ufs_model.specs.Metadata.{IsMetadataBy};
 ghost use Rattle.ufs_model.specs.declared.numbers.Endian.TheVariants.{Little};
 ghost use Rattle.dg_claims.specs.Kept.{table_of};
-ghost use Rattle.ufs_check.specs.Fragments.{AreClaimFaultsBelow, AreFragmentFaults, AreFragmentFaultsBelow, ArePointerFaultsBelow, HasClaims, IsClaimedBy, IsUpperIn};
+ghost use Rattle.ufs_check.specs.Fragments.{AreClaimFaultsBelow, AreFragmentFaults, AreFragmentFaultsBelow, ArePointerFaultsBelow, HasClaims, HasWholeUppers, IsClaimedBy, IsUpperIn};
 ghost use Rattle.ufs_check.specs.Limits.{IsInLimits, IsLimit};
 ghost use Rattle.ufs_check.specs.Passes.{FetchesOnly, LosesOne};
 ghost use Rattle.ufs_check.specs.Reaches.{HasNoTwice};
@@ -115,6 +115,8 @@ fn check_pointers<V: View>(
     ensures free { faults.new.free ≡ faults.old.free }
     ensures found { result ≡ true → V.tells view.new → (v : Volume) → IsClaimedBy (V.stands_for view.old) g.now (table_of claims.now) v
         → ArePointerFaultsBelow g.now v f faults.old → ArePointerFaultsBelow g.now v (f + 1) faults.new }
+    ensures whole { result ≡ true → V.tells view.new → (v : Volume) → V.stands_for view.old v → IsUpperIn (table_of claims.now) f
+        → length (block_at g.now.fsize v f) ≡ g.now.fsize }
     ensures gone { result ≡ false → V.tells view.new → (v : Volume) → IsClaimedBy (V.stands_for view.old) g.now (table_of claims.now) v
         → LosesOne (V.is_gone view.new) (IsMetadataBy Little g.now v) }
     ensures fetched { FetchesOnly V.fetched (IsClaimedBy (V.stands_for view.old) g.now (table_of claims.now)) (V.tells view.new) (IsMetadataBy Little g.now) view.old view.new }
@@ -148,6 +150,8 @@ pub fn check_fragments<V: View>(
     ensures levels { levels.new.fragment ≡ levels.old.fragment }
     ensures found { IfSome result (λ faults. V.tells view.new → (v : Volume) → IsClaimedBy (V.stands_for view.old) g.now (table_of claims.now) v
         → AreFragmentFaults g.now v faults) }
+    ensures whole { IfSome result (λ faults. V.tells view.new → (v : Volume) → IsClaimedBy (V.stands_for view.old) g.now (table_of claims.now) v
+        → HasWholeUppers g.now v) }
     ensures gone { IfNone result (V.tells view.new → (v : Volume) → IsClaimedBy (V.stands_for view.old) g.now (table_of claims.now) v
         → LosesOne (V.is_gone view.new) (IsMetadataBy Little g.now v)) }
     ensures fetched { FetchesOnly V.fetched (IsClaimedBy (V.stands_for view.old) g.now (table_of claims.now)) (V.tells view.new) (IsMetadataBy Little g.now) view.old view.new }

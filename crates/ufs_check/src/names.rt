@@ -10,7 +10,7 @@ ghost use Rattle.ufs_model.specs.declared.numbers.Endian.TheVariants.{Little};
 ghost use Rattle.ufs_check.specs.Names.{AreNameFaultsBelow, HasSameIn, is_plain, names_root};
 ghost use Rattle.ufs_check.specs.OwnedEntries.{owned_all, owned_of};
 
-use crate::entries::ROOT;
+use crate::inodes::ROOT;
 use crate::notes::note;
 use crate::owned_entries::OwnedEntry;
 use dg_io::NoMemory;

@@ -4,8 +4,8 @@ ghost use Rattle.std.specs.Bool.{Decides};
 ghost use Rattle.ufs_model.specs.Blocks.{Volume};
 ghost use Rattle.ufs_model.specs.Claims.{IsOnlyClaim, level_of};
 ghost use Rattle.ufs_model.specs.Geometries.{IsGeometry};
-ghost use Rattle.dg_claims.specs.Kept.{IsSource, table_of};
-ghost use Rattle.dg_claims.specs.Places.{place_of};
+ghost use Rattle.dg_claims.specs.Kept.{table_of};
+ghost use Rattle.dg_claims.specs.Tables.{IsSource};
 ghost use Rattle.ufs_check.specs.Fragments.{HasClaims};
 ghost use Rattle.ufs_check.specs.Reaches.{HasNoTwice, IsBefore, IsPlaceIn, IsReach, ReachesAs};
 
@@ -106,7 +106,7 @@ fn blocks_before(g: &Geometry, level: u8, place: u32, at: u32) -> u64
 fn first_through(claims: &Claims, g: &Geometry, source: ClaimSource) -> Option<(u32, u64)>
     requires geometry { IsGeometry g.now }
     requires table { (table_of claims.now).geometry ≡ Some g.now }
-    requires source { IsSource (Some g.now) (place_of source) }
+    requires source { IsSource (Some g.now) source }
     ensures reaches { (v : Volume) → HasClaims g.now (table_of claims.now) v → HasNoTwice g.now v → ReachesAs g.now v source result }
     ensures inode { IfSome result (λ first. (2 ≤ first.0) × (first.0 < g.now.ncg * g.now.ipg)) }
     ensures most { IfSome result (λ first. first.1 + level_of source * 2 ^ 46 ≤ 2 ^ 48) }

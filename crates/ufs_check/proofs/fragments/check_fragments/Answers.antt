@@ -1,10 +1,10 @@
-use Rattle.std.proofs.Common.{◌≡◌, ◌∙◌, ◌/◌}
+use Rattle.std.proofs.Common.{◌≡◌, ◌∙◌, ◌/◌, add-one}
 use Rattle.dg_io.specs.ViewLaws.{keeps_both}
 use Rattle.ufs_model.specs.Blocks.{Volume}
 use Rattle.ufs_model.specs.GroupMaps.{group_bytes}
 use Rattle.dg_claims.specs.Kept.{table_of}
 use Rattle.ufs_check.proofs.PassLaws.{only_both}
-use Rattle.ufs_check.proofs.PointerLaws.{faults_all}
+use Rattle.ufs_check.proofs.PointerLaws.{faults_all, uppers_all, uppers_more}
 use Rattle.ufs_check.proofs.fragments.check_fragments.Goals as goal
 
 pub returns-then-not-hold_group-clause-fetched : goal.returns-then-not-hold_group-clause-fetched
@@ -48,6 +48,8 @@ loop-f-preserved g c =
                   past_in = λ once. rw c.note_claims.ensures.past_in (before.pointers.past_in once);
                 });
           };
+      whole = λ told v stands. rw add-one (uppers_more c.args.g.now (table_of c.args.claims.now) v c.loop-f.f (invariant.whole (two.told told) v stands)
+          (c.check_pointers.ensures.whole c.if-not-check_pointers.false told v (first.stands v (so_far.stands v stands))));
       fetched = only_both g.met.V.View.fetched_both (λ v claimed. (first.stands v (so_far.stands v (claimed.0)), claimed.1)) second.told
           (only_both g.met.V.View.fetched_both (λ v claimed. so_far.stands v (claimed.0)) first.told invariant.fetched c.hold_group.ensures.fetched)
           c.check_pointers.ensures.fetched;
@@ -57,3 +59,8 @@ pub returns-clause-found : goal.returns-clause-found
 returns-clause-found g c = λ told v claimed.
     faults_all c.args.g.now (table_of c.args.claims.now) v c.loop-f.f c.loop-f.faults (claimed.1) c.requires.table c.claims_inside.ensures.inside c.loop-f-test.false
     (c.loop-f.invariant.found told v claimed)
+
+pub returns-clause-whole : goal.returns-clause-whole
+returns-clause-whole g c = λ told v claimed.
+    uppers_all c.args.g.now (table_of c.args.claims.now) v c.loop-f.f (claimed.1) c.requires.table c.claims_inside.ensures.inside c.loop-f-test.false
+    (c.loop-f.invariant.whole told v (claimed.0))

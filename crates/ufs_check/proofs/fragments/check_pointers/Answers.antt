@@ -44,6 +44,16 @@ returns-clause-found g c = λ is told v claimed so_far.
     (λ once. c.in-Some.ensures.found (c.read_aside.ensures.keeps.told told) v (claimed.0) (claimed.1) once)
     so_far
 
+pub returns-then-not-is_upper-clause-whole : goal.returns-then-not-is_upper-clause-whole
+returns-then-not-is_upper-clause-whole g c = λ is told v stands upper.
+    absurd (not_from_Decides c.is_upper.result c.is_upper.ensures c.if-not-is_upper.true upper)
+
+pub returns-clause-whole : goal.returns-clause-whole
+returns-clause-whole g c = λ is told v stands upper.
+    let before = c.read_limit.ensures.keeps in
+    let read = read_value c.read_aside.result _ (rw one_block at c.read_aside.ensures.rule) c.if-not-read_aside.false told v (before.stands v stands) in
+    rw (c.requires.geometry.fsize, ← before.bytes, ← read) c.read_aside.ensures.room
+
 pub returns-clause-fetched : goal.returns-clause-fetched
 returns-clause-fetched g c =
     let table = table_of c.args.claims.now in
