@@ -50,7 +50,7 @@ below_here test (suc m) n lt is = elim (cases_order n m) [
 
 -- ---- holes
 
-block_value : (g : Geometry) (inode : Inode) (n : ℕ) (v : Volume) → (block_of Little g inode n v).value ≡ (bytes_at g ((file_block_of Little g inode n v).value) v).value
+pub block_value : (g : Geometry) (inode : Inode) (n : ℕ) (v : Volume) → (block_of Little g inode n v).value ≡ (bytes_at g ((file_block_of Little g inode n v).value) v).value
 unfolding block_of bind
 block_value g inode n v = refl
 
@@ -72,19 +72,19 @@ has_hole_decides g inode v b is = (
 
 -- ---- chunks
 
-record HasRefused (chunks : Result (List (List ℕ)) PathRefusal) : Type 0 where
-  all : List (List ℕ)
-  chunk : List ℕ
-  bad : BadEntry
-  are : chunks ≡ Ok all
-  contains : Contains all chunk
-  refused : fault_in Little 0 chunk ≡ Some bad
+pub record HasRefused (chunks : Result (List (List ℕ)) PathRefusal) : Type 0 where
+  pub all : List (List ℕ)
+  pub chunk : List ℕ
+  pub bad : BadEntry
+  pub are : chunks ≡ Ok all
+  pub contains : Contains all chunk
+  pub refused : fault_in Little 0 chunk ≡ Some bad
 
 some_fault : (fault : Option BadEntry) → is_some fault ≡ true → (bad : BadEntry) × (fault ≡ Some bad)
 some_fault None is = let no : false ≡ true = is in cc
 some_fault (Some bad) is = (bad, refl)
 
-refused_is : (chunks : Result (List (List ℕ)) PathRefusal) → Decides (refused_said chunks) (HasRefused chunks)
+pub refused_is : (chunks : Result (List (List ℕ)) PathRefusal) → Decides (refused_said chunks) (HasRefused chunks)
 refused_is (Err refusal) = (λ h. let no : false ≡ true = h in cc, λ h. let no : Err refusal ≡ Ok h.all = h.are in cc)
 refused_is (Ok chunks) = (
   λ h. let any = Any-from_list_any is_refused chunks h in let fault = some_fault (fault_in Little 0 any.1) any.4 in

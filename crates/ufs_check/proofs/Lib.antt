@@ -15,3 +15,5 @@ pub mod RunLaws
 pub mod ReachLaws
 pub mod OwnedLaws
 pub mod NameLaws
+pub mod WildLaws
+pub mod FirstLaws

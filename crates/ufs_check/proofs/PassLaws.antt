@@ -1,6 +1,6 @@
 -- What passes over a volume fetch and lose, one reader after another.
 use Rattle.std.proofs.Common.{◌≡◌, ℕ, List, [], ◌++◌, inl, inr, Bool, true, false, Option, Some, None, subst, sym, arith}
-use Rattle.std.specs.Prelude.{Contains}
+use Rattle.std.specs.Prelude.{Contains, IfNone}
 use Rattle.std.specs.Bool.{then_some}
 use Rattle.std.specs.List.{list_any}
 use Rattle.std.proofs.lemmas.List.Elements.{Contains-append_cases, Contains-append_left}
@@ -87,4 +87,17 @@ only_after {old = old} {middle = middle} {new = new} both keeps tell one two wid
     | inl first ↦ one.are (tell is) v holds block first
     | inr second ↦ wider is v holds block (two.are is v (keeps v holds) block second)
   ];
+}
+
+pub if_none : {A : Type 0} (r : Option A) (P : Type 0) → P → IfNone r P
+if_none None P h = h
+if_none (Some a) P h = tt
+
+-- fetches on fewer volumes, where the blocks are told
+pub only_told : {S : Type 0} {fetched : S → List ℕ → S → Type 0} {stands still : Volume → Type 0} {tells : Type 0} {old new : S} (may more : Volume → ℕ → Type 0)
+    → (tells → (v : Volume) → stands v → still v × ((block : ℕ) → may v block → more v block)) → FetchesOnly fetched still tells may old new → FetchesOnly fetched stands tells more old new
+only_told may more along one = record {
+  blocks = one.blocks;
+  were = one.were;
+  are = λ is v holds block h. let both = along is v holds in both.1 block (one.are is v (both.0) block h);
 }

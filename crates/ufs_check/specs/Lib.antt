@@ -11,3 +11,5 @@ pub mod Pointers
 pub mod Fragments
 pub mod OwnedEntries
 pub mod Names
+pub mod Links
+pub mod Verdicts

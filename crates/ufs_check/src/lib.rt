@@ -4,8 +4,10 @@
 //! of each kind of fault that it looks for.
 #![tactic(auto)]
 
+mod checks;
 mod directories;
 mod entries;
+mod faults;
 mod file_blocks;
 #[cfg(test)]
 mod fragment_tests;
@@ -13,6 +15,7 @@ mod fragments;
 mod groups;
 mod inodes;
 mod limits;
+mod links;
 mod notes;
 mod pointers;
 mod reaches;

@@ -3,7 +3,7 @@ use Rattle.std.specs.Prelude.{◌==◌}
 use Rattle.std.proofs.lemmas.Bool.Decides.{nat_tests}
 use Rattle.ufs_model.specs.Metadata.{IsMetadataBy}
 use Rattle.ufs_model.specs.declared.numbers.Endian.TheVariants.{Little}
-use Rattle.ufs_check.specs.Directories.{IsDirectoryRead, IsFileRead}
+use Rattle.ufs_check.specs.Directories.{IsDirectoryRead, IsFileRead, IsSmallRead}
 use Rattle.ufs_check.specs.Directories.IsDirectoryRead.{by_directory, by_metadata}
 use Rattle.ufs_check.proofs.FaultLaws.{directory_there}
 use Rattle.ufs_check.proofs.OwnedLaws.{gathers_at, if_gone, if_ok, long_unread, torn_unread}
@@ -54,10 +54,11 @@ returns-clause-gone g c =
     let first = c.read_named.ensures.keeps in
     let second = c.gather_blocks.ensures.keeps in
     let kind = c.is_directory.ensures.0 c.if-not-is_directory.false in
+    let small : c.in-Some-named.inode.size < 2 ^ 32 = omega arith in
     if_ok c.gather_blocks.result _ _ (λ gathered h. if_gone gathered _ _ (λ lost told v stands.
     let there = sym (c.in-Some.ensures.found (second.told told) v stands) ∙ c.in-Some-named.is in
     lost_wider _ (IsFileRead c.args.g.now c.in-Some-named.inode v) (IsDirectoryRead c.args.g.now v)
-    (λ block is. by_directory c.args.i (directory_there c.args.g.now v c.args.i (λ inode. IsFileRead c.args.g.now inode v block) c.in-Some-named.inode there kind is))
+    (λ block is. by_directory c.args.i (directory_there c.args.g.now v c.args.i (IsSmallRead c.args.g.now v block) c.in-Some-named.inode there kind (record { small = small; read = is })))
     (lost told v (first.stands v stands))) h) c.gather_blocks.ensures.gone
 
 pub returns-clause-fetched : goal.returns-clause-fetched
@@ -65,8 +66,9 @@ returns-clause-fetched g c =
     let first = c.read_named.ensures.keeps in
     let second = c.gather_blocks.ensures.keeps in
     let kind = c.is_directory.ensures.0 c.if-not-is_directory.false in
+    let small : c.in-Some-named.inode.size < 2 ^ 32 = omega arith in
     only_after g.met.V.View.fetched_both first.stands second.told
     (only_wider (IsMetadataBy Little c.args.g.now) (IsDirectoryRead c.args.g.now) (λ told v stands block is. by_metadata is) c.read_named.ensures.fetched)
     c.gather_blocks.ensures.fetched
-    (λ told v stands block is. by_directory c.args.i (directory_there c.args.g.now v c.args.i (λ inode. IsFileRead c.args.g.now inode v block) c.in-Some-named.inode
-    (sym (c.in-Some.ensures.found (second.told told) v stands) ∙ c.in-Some-named.is) kind is))
+    (λ told v stands block is. by_directory c.args.i (directory_there c.args.g.now v c.args.i (IsSmallRead c.args.g.now v block) c.in-Some-named.inode
+    (sym (c.in-Some.ensures.found (second.told told) v stands) ∙ c.in-Some-named.is) kind (record { small = small; read = is })))
