@@ -17,3 +17,4 @@ pub mod OwnedLaws
 pub mod NameLaws
 pub mod WildLaws
 pub mod FirstLaws
+pub mod CheckLaws
