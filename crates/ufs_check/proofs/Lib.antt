@@ -10,3 +10,5 @@ pub mod DirectoryLaws
 pub mod FaultLaws
 pub mod OwnedLaws
 pub mod NameLaws
+pub mod ParentLaws
+pub mod LinkLaws

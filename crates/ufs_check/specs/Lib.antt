@@ -7,3 +7,4 @@ pub mod FileBlocks
 pub mod Directories
 pub mod OwnedEntries
 pub mod Names
+pub mod Links

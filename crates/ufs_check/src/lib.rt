@@ -10,8 +10,10 @@ mod file_blocks;
 mod groups;
 mod inodes;
 mod names;
+mod links;
 mod notes;
 mod owned_entries;
+mod parents;
 mod slots;
 #[cfg(test)]
 mod tests;
