@@ -21,7 +21,7 @@ loop-i-preserved g c =
       keeps = keeps_both g.met.V.View.further c.args.view.now c.loop-i.view c.link_inode.new.view so_far c.link_inode.ensures.keeps;
       levels = c.link_inode.ensures.levels ∙ invariant.levels;
       found = λ told v stands.
-          c.in_ok-link_inode.ensures.found c.if-not-link_inode.false told v (so_far.stands v stands) (invariant.found (c.link_inode.ensures.keeps.told told) v stands);
+          c.in_ok-link_inode.ensures.found c.if-not-branch.false told v (so_far.stands v stands) (invariant.found (c.link_inode.ensures.keeps.told told) v stands);
       fetched = only_both g.met.V.View.fetched_both so_far.stands c.link_inode.ensures.keeps.told invariant.fetched c.link_inode.ensures.fetched;
     }
 
