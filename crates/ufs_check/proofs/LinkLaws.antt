@@ -42,7 +42,7 @@ there_decides : (g : Geometry) (v : Volume) (bound d : ℕ) (kept : Option (Opti
     → Decides (is_some kept) (IsDirectory Little g v d (λ _. Unit {0}))
 there_decides g v bound d None all last h = (
   λ is. let no : false ≡ true = is in cc,
-  λ directory. let found = all d directory in let high = (entries_within g v d found.0 found.1).1 in absurd (h found.0 (omega arith) found.1)
+  λ directory. let found = all d directory in let high = (entries_within g v d found.0 found.1).1 in absurd (h found.0 (omega arith) found.1),
 )
 there_decides g v bound d (Some up) all last h = (λ is. directory_with g v d (h.entries) h.are, λ directory. refl)
 
@@ -59,7 +59,7 @@ fits_decides : (g : Geometry) (v : Volume) (bound i p : ℕ) (kept : Option Pare
 fits_decides g v bound i p None last h = (λ is d parent. absurd (h d (parent.k) (before_end g v bound i d (parent.k) last parent.entry)), λ only. refl)
 fits_decides g v bound i p (Some parent) last h =
     let least : (other k : ℕ) → other < parent.directory → PlainAt Little g v other k i → ⊥ =
-        λ other k less plain. let low = h.least other k (before_end g v bound i other k last plain) in absurd (omega arith) in
+    λ other k less plain. let low = h.least other k (before_end g v bound i other k last plain) in absurd (omega arith) in
     let is : IsParent Little g v i parent.directory = record { k = h.j; entry = h.entry.plain; least = least } in
     Decides-like (parent.directory == p)
     (λ same d other. elim (cases_order parent.directory d) [
@@ -131,11 +131,11 @@ bad_by : (g : Geometry) (v : Volume) (bound i : ℕ) (kept : Option (Option ℕ)
     → Decides (bad_up kept test) (IsBad Little g v Dots i)
 bad_by g v bound i None test last h tests = (
   λ is. let no : false ≡ true = is in cc,
-  λ bad. let high = (entries_within g v i bad.0.0 bad.0.1).1 in absurd (h bad.0.0 (omega arith) bad.0.1)
+  λ bad. let high = (entries_within g v i bad.0.0 bad.0.1).1 in absurd (h bad.0.0 (omega arith) bad.0.1),
 )
 bad_by g v bound i (Some None) test last h tests = (
   λ is. ((h.entries, h.are), λ dots. h.up_is ((dots.up).inode) (dots_fit_them g v i (h.entries) h.are dots)),
-  λ bad. refl
+  λ bad. refl,
 )
 bad_by g v bound i (Some (Some p)) test last h tests =
     Decides-like (not (test p))
@@ -168,15 +168,18 @@ twice_decides g v d table faults read =
       first = h.1.first.plain;
       second = h.1.second.plain;
     })
-    (λ h. (h.directory, record {
-      one = h.i;
-      one_place = h.j;
-      other = h.k;
-      other_place = h.l;
-      differ = h.differ;
-      first = before_end g v (read.bound) d (h.i) (h.j) last h.first;
-      second = before_end g v (read.bound) d (h.k) (h.l) last h.second;
-    }))
+    (λ h. (
+      h.directory,
+      record {
+        one = h.i;
+        one_place = h.j;
+        other = h.k;
+        other_place = h.l;
+        differ = h.differ;
+        first = before_end g v (read.bound) d (h.i) (h.j) last h.first;
+        second = before_end g v (read.bound) d (h.k) (h.l) last h.second;
+      },
+    ))
     (Decides-and (is_some (get nat_cmp table.ups d)) (is_twice (get nat_cmp table.parents d))
     (there_decides g v (read.bound) d (get nat_cmp table.ups d) read.read last (links.ups.each d))
     (two_decides g v (read.bound) d (get nat_cmp table.parents d) (links.parents.each d)))

@@ -134,15 +134,18 @@ linked_kept g v i k n (Some parent) plain h = record {
     | inl old ↦ h.least d j (record { plain = before.plain; before = old })
     | inr at ↦ let low = before_le i k parent.directory (h.j) h.entry.before in let same = at.0 in omega arith
   ];
-  twice = (λ is. record {
-    one = parent.directory;
-    one_place = h.j;
-    other = i;
-    other_place = k;
-    differ = before_differ i k parent.directory (h.j) h.entry.before;
-    first = grown g v i k n parent.directory (h.j) h.entry;
-    second = record { plain = plain; before = inr (refl, omega arith) };
-  }, λ two. refl);
+  twice = (
+    λ is. record {
+      one = parent.directory;
+      one_place = h.j;
+      other = i;
+      other_place = k;
+      differ = before_differ i k parent.directory (h.j) h.entry.before;
+      first = grown g v i k n parent.directory (h.j) h.entry;
+      second = record { plain = plain; before = inr (refl, omega arith) };
+    },
+    λ two. refl,
+  );
 }
 
 next_by : (g : Geometry) (v : Volume) (i k n : ℕ) (entries : List DirEntry) (entry : DirEntry) (old : BTreeMap ℕ Parent) (b : Bool) → HasEntries Little g v i entries → slice_get entries k ≡ Some entry

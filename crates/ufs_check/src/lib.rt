@@ -9,8 +9,10 @@ mod entries;
 mod file_blocks;
 mod groups;
 mod inodes;
-mod names;
+#[cfg(test)]
+mod link_tests;
 mod links;
+mod names;
 mod notes;
 mod owned_entries;
 mod parents;

@@ -58,11 +58,7 @@ fn linked(parent: Option<Parent>, i: u32) -> Parent
 }
 
 /// Keeps an entry of directory `i`, if it is neither `.` nor `..`.
-fn add_link(
-    parents: &mut BTreeMap<u32, Parent>,
-    i: u32,
-    entry: &OwnedEntry,
-) -> Result<(), NoMemory>
+fn add_link(parents: &mut BTreeMap<u32, Parent>, i: u32, entry: &OwnedEntry) -> Result<(), NoMemory>
     ensures { OnOk result (AddsLink parents.old parents.new i (owned_of entry.now)) }
 {
     if !is_plain(entry) {
@@ -113,11 +109,7 @@ fn up_of(i: u32, entries: &[OwnedEntry]) -> Option<u32>
 }
 
 /// Keeps where `..` of directory `i` leads.
-fn add_up(
-    ups: &mut BTreeMap<u32, Option<u32>>,
-    i: u32,
-    up: Option<u32>,
-) -> Result<(), NoMemory>
+fn add_up(ups: &mut BTreeMap<u32, Option<u32>>, i: u32, up: Option<u32>) -> Result<(), NoMemory>
     ensures { OnOk result (SetsUp ups.old ups.new i up) }
 {
     if ups.insert(i, up).is_err() {
@@ -127,11 +119,7 @@ fn add_up(
 }
 
 /// Keeps what the entries of directory `i` say, where those of lower directories are kept.
-pub fn add_directory(
-    table: &mut LinkTable,
-    i: u32,
-    entries: &[OwnedEntry],
-) -> Result<(), NoMemory>
+pub fn add_directory(table: &mut LinkTable, i: u32, entries: &[OwnedEntry]) -> Result<(), NoMemory>
     ensures { OnOk result ((g : Geometry) (v : Volume) → HasEntries Little g v i (owned_all entries.now)
         → TableBelow g v i table.old → TableBelow g v (i + 1) table.new) }
 {

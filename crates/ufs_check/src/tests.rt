@@ -11,10 +11,10 @@ use ufs_rows::{Which, rows_image};
 use ufs_super::read_super;
 
 /// Bytes that are put in at a place of an image.
-type Edit<'a> = (usize, &'a [u8]);
+pub type Edit<'a> = (usize, &'a [u8]);
 
 /// A block that no pass reads.
-const NOTHING: Loss = Loss { block: 1, fetch: 0 };
+pub const NOTHING: Loss = Loss { block: 1, fetch: 0 };
 
 /// No fault of a group block.
 const SOUND_GROUPS: GroupFaults = GroupFaults {
@@ -66,7 +66,7 @@ fn lay_out(image: &mut [u8], rows: &[u8], edits: &[Edit])
 }
 
 /// A volume with more blocks of zeros after it, and with bytes put in.
-fn edited(alloc: Global, which: Which, count: u32, edits: &[Edit]) -> Result<Vec<u8>, Fail>
+pub fn edited(alloc: Global, which: Which, count: u32, edits: &[Edit]) -> Result<Vec<u8>, Fail>
     requires { count ≤ 256 }
     ensures { IfOk result (λ image. length image.items ≡ count * 1024) }
 {

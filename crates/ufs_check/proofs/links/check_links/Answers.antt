@@ -28,3 +28,13 @@ loop-i-preserved g c =
 pub returns-clause-found : goal.returns-clause-found
 returns-clause-found g c = λ told v stands read.
     c.judge_links.ensures v (record { read = read; bound = c.loop-i.i; last = c.loop-i-test.false; links = c.loop-i.invariant.found told v stands })
+
+pub returns-in_err-link_inode-clause-fetched : goal.returns-in_err-link_inode-clause-fetched
+returns-in_err-link_inode-clause-fetched g c =
+    let so_far = c.loop-i.invariant.keeps in
+    only_both g.met.V.View.fetched_both so_far.stands c.link_inode.ensures.keeps.told c.loop-i.invariant.fetched c.link_inode.ensures.fetched
+
+pub returns-then-not-branch-clause-fetched : goal.returns-then-not-branch-clause-fetched
+returns-then-not-branch-clause-fetched g c =
+    let so_far = c.loop-i.invariant.keeps in
+    only_both g.met.V.View.fetched_both so_far.stands c.link_inode.ensures.keeps.told c.loop-i.invariant.fetched c.link_inode.ensures.fetched
