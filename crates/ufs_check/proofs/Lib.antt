@@ -18,3 +18,5 @@ pub mod NameLaws
 pub mod WildLaws
 pub mod FirstLaws
 pub mod CheckLaws
+pub mod ParentLaws
+pub mod LinkLaws

@@ -97,7 +97,7 @@ met_by : (entries : List DirEntry) (i : ℕ) (entry : DirEntry) (name : List ℕ
 met_by entries i entry name true before here test met = (λ h. record { j = i; entry = entry; below = omega arith; here = here; same = test.0 refl }, λ h. refl)
 met_by entries i entry name false before here test met = (
   λ h. let old = met.0 h in record { j = old.j; entry = old.entry; below = let lt = old.below in omega arith; here = old.here; same = old.same },
-  λ h. met.1 (met_further entries i entry name here h (λ same. let no : false ≡ true = test.1 same in cc))
+  λ h. met.1 (met_further entries i entry name here h (λ same. let no : false ≡ true = test.1 same in cc)),
 )
 
 pub met_next : (entries : List DirEntry) (i : ℕ) (entry : DirEntry) (name k : List ℕ) (before after : Bool) → slice_get entries i ≡ Some entry → k ≡ entry.name
@@ -132,14 +132,22 @@ pub distinct_none : (entries : List DirEntry) → AreDistinct entries 0
 distinct_none entries = record { differ = λ j k one other less below first second same. absurd (omega arith) }
 
 pub distinct_next : (entries : List DirEntry) (i : ℕ) (entry : DirEntry) → slice_get entries i ≡ Some entry → (IsMet entries i entry.name → ⊥) → AreDistinct entries i → AreDistinct entries (i + 1)
-distinct_next entries i entry here new so_far = record { differ = λ j k one other less below first second same. elim (cases_order k i) [
-  | inl last ↦ new (record { j = j; entry = one; below = omega arith; here = first; same = same ∙ ap (λ (e : DirEntry). e.name)
-      (let both : Some other ≡ Some entry = sym second ∙ ap (slice_get entries) last ∙ here in let e : other ≡ entry = cc in e) })
-  | inr order ↦ elim order [
-    | inl front ↦ so_far.differ j k one other less front first second same
-    | inr past ↦ absurd (omega arith)
-  ]
-] }
+distinct_next entries i entry here new so_far = record {
+  differ = λ j k one other less below first second same. elim (cases_order k i) [
+    | inl last ↦ new (record {
+      j = j;
+      entry = one;
+      below = omega arith;
+      here = first;
+      same = same ∙ ap (λ (e : DirEntry). e.name)
+          (let both : Some other ≡ Some entry = sym second ∙ ap (slice_get entries) last ∙ here in let e : other ≡ entry = cc in e);
+    })
+    | inr order ↦ elim order [
+      | inl front ↦ so_far.differ j k one other less front first second same
+      | inr past ↦ absurd (omega arith)
+    ]
+  ];
+}
 
 pub met_same : (entries : List DirEntry) (i : ℕ) (entry : DirEntry) → slice_get entries i ≡ Some entry → IsMet entries i entry.name → HasSameIn entries
 met_same entries i entry here met = record {
@@ -180,13 +188,21 @@ plain_decides g v entry = Decides-like (is_plain entry) (plain_parts g v entry) 
 pub names_decides : (g : Geometry) (v : Volume) (i : ℕ) (entries : List DirEntry) (b : Bool) → HasEntries Little g v i entries → Decides b (HasSameIn entries) → Decides b (HasSameNames Little g v i)
 names_decides g v i entries b has decides = Decides-like b
     (λ h. record {
-      j = h.j; k = h.k; one = h.one; other = h.other; differ = h.differ;
+      j = h.j;
+      k = h.k;
+      one = h.one;
+      other = h.other;
+      differ = h.differ;
       first = entry_at g v i (h.j) entries (h.one) has h.first;
       second = entry_at g v i (h.k) entries (h.other) has h.second;
       same = h.same;
     })
     (λ h. record {
-      j = h.j; k = h.k; one = h.one; other = h.other; differ = h.differ;
+      j = h.j;
+      k = h.k;
+      one = h.one;
+      other = h.other;
+      differ = h.differ;
       first = entry_here g v i (h.j) entries (h.one) has h.first;
       second = entry_here g v i (h.k) entries (h.other) has h.second;
       same = h.same;
@@ -201,17 +217,19 @@ pub root_named_decides : (g : Geometry) (v : Volume) (i : ℕ) (entries : List O
 root_named_decides g v i entries has = (
   λ h. let any = Any-from_list_any (λ entry. names_root (owned_of entry)) entries h in
       let here = slice_get_read entries (length entries) any.0 any.1 refl any.2 (sym any.3) in
-      let root = (root_decides g v (owned_of any.1)).0 any.4 in
-      (any.0, record {
-        entry = owned_of any.1;
-        here = entry_at g v i any.0 (owned_all entries) (owned_of any.1) has (slice_get-map owned_of entries any.0 ∙ ap (option_map owned_of) here);
-        plain = root.0;
-        names = root.1;
-      }),
+      let root = (root_decides g v (owned_of any.1)).0 any.4 in (
+        any.0,
+        record {
+          entry = owned_of any.1;
+          here = entry_at g v i any.0 (owned_all entries) (owned_of any.1) has (slice_get-map owned_of entries any.0 ∙ ap (option_map owned_of) here);
+          plain = root.0;
+          names = root.1;
+        },
+      ),
   λ h. let found = owned_from entries h.0 (h.1.entry) (entry_here g v i h.0 (owned_all entries) (h.1.entry) has h.1.here) in
       let root : names_root (owned_of (found.owned)) ≡ true = subst (λ entry. names_root entry ≡ true) (sym found.is) ((root_decides g v (h.1.entry)).1 (h.1.plain, h.1.names)) in
       list_any-from_Any (λ entry. names_root (owned_of entry)) entries
-      (h.0, found.owned, slice_get_within entries h.0 (found.owned) found.here, get_or_from_slice_get entries h.0 (found.owned) (found.owned) found.here, root)
+      (h.0, found.owned, slice_get_within entries h.0 (found.owned) found.here, get_or_from_slice_get entries h.0 (found.owned) (found.owned) found.here, root),
 )
 
 -- a directory whose entries aren't read is passed

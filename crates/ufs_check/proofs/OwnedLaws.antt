@@ -1,6 +1,6 @@
 -- Gathering the entries of a directory.
 use Rattle.std.proofs.Common.{◌≡◌, ◌∙◌, ℕ, zero, suc, ◌+◌, ◌/◌, ◌%◌, ◌^◌, ◌<◌, ◌≤◌, inl, inr, Bool, true, false, List, [], ◌∷◌, ◌++◌, Option, Some, None, Result, Ok, Err, refl, sym, ap, subst, add-one, append_assoc, append-nil, arith}
-use Rattle.std.specs.Prelude.{◌==◌, IfOk, nat_le}
+use Rattle.std.specs.Prelude.{◌==◌, IfOk, OnOk, nat_le}
 use Rattle.std.specs.List.{list_any}
 use Rattle.std.proofs.lemmas.Bool.{cases_order}
 use Rattle.std.proofs.lemmas.Bool.Decides.{nat_tests}
@@ -33,6 +33,10 @@ append_next now new some rest whole here here_is new_is so_far =
 pub if_ok : {A E : Type 0} (r : Result A E) (P Q : A → Type 0) → ((a : A) → P a → Q a) → IfOk r P → IfOk r Q
 if_ok (Ok a) P Q more h = more a h
 if_ok (Err e) P Q more h = tt
+
+pub on_ok : {A E : Type 0} (r : Result A E) (P Q : Type 0) → (P → Q) → OnOk r P → OnOk r Q
+on_ok (Ok a) P Q more h = more h
+on_ok (Err e) P Q more h = tt
 
 pub if_gone : (gathered : Gathered) (P Q : Type 0) → (P → Q) → IfGone gathered P → IfGone gathered Q
 if_gone All P Q more h = tt

@@ -15,17 +15,21 @@ mod fragments;
 mod groups;
 mod inodes;
 mod limits;
+#[cfg(test)]
+mod link_tests;
 mod links;
+mod names;
 mod notes;
+mod owned_entries;
+mod parents;
 mod pointers;
 mod reaches;
-mod names;
-mod owned_entries;
 mod slots;
 #[cfg(test)]
 mod tests;
 mod verdicts;
 
+pub use crate::checks::check;
 pub use crate::verdicts::Verdict;
 pub use ufs_model::{BadKind, BadSuper, Geometry};
 pub use ufs_pointer::Levels;

@@ -72,11 +72,7 @@ fn gather_entry(
 }
 
 /// Gathers the entries of a chunk that isn't refused.
-fn gather_chunk(
-    alloc: Global,
-    chunk: &[u8],
-    entries: &mut Vec<OwnedEntry>,
-) -> Result<(), NoMemory>
+fn gather_chunk(alloc: Global, chunk: &[u8], entries: &mut Vec<OwnedEntry>) -> Result<(), NoMemory>
     requires chunk { length chunk.now ≡ CHUNK_BYTES }
     requires whole { fault_in Little 0 chunk.now ≡ None }
     ensures { OnOk result (owned_all entries.new.items ≡ owned_all entries.old.items ++ used_entries (entries_in Little 0 chunk.now)) }
@@ -146,7 +142,7 @@ fn gather_block<V: View>(
     ensures levels { levels.new.fragment ≡ levels.old.fragment }
     ensures found { IfOk result (λ gathered. V.tells view.new → (v : Volume) → V.stands_for view.old v
         → Gathers gathered (entries_said (chunks_said (bytes_in_block g.now inode.now n / 512) ((block_of Little g.now inode.now n v).value)))
-            (owned_all entries.old.items) (owned_all entries.new.items)) }
+        (owned_all entries.old.items) (owned_all entries.new.items)) }
     ensures gone { IfOk result (λ gathered. IfGone gathered (V.tells view.new → (v : Volume) → V.stands_for view.old v
         → LosesOne (V.is_gone view.new) (IsFileRead g.now inode.now v))) }
     ensures fetched { FetchesOnly V.fetched (V.stands_for view.old) (V.tells view.new) (IsFileRead g.now inode.now) view.old view.new }
@@ -179,7 +175,7 @@ fn gather_blocks<V: View>(
     ensures levels { levels.new.fragment ≡ levels.old.fragment }
     ensures found { IfOk result (λ gathered. V.tells view.new → (v : Volume) → V.stands_for view.old v
         → Gathers gathered ((entries_before Little g.now inode.now (block_count g.now inode.now) v).value)
-            (owned_all entries.old.items) (owned_all entries.new.items)) }
+        (owned_all entries.old.items) (owned_all entries.new.items)) }
     ensures gone { IfOk result (λ gathered. IfGone gathered (V.tells view.new → (v : Volume) → V.stands_for view.old v
         → LosesOne (V.is_gone view.new) (IsFileRead g.now inode.now v))) }
     ensures fetched { FetchesOnly V.fetched (V.stands_for view.old) (V.tells view.new) (IsFileRead g.now inode.now) view.old view.new }

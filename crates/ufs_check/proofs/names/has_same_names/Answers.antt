@@ -17,7 +17,7 @@ loop-entry-preserved c =
     let item = c.entry-item.result in
     let key = c.as_slice.ensures.value in
     let here : slice_get (owned_all c.args.entries.now) c.loop-entry.entry-index ≡ Some (owned_of c.entry-item.result) =
-        owned_read c.args.entries.now index item c.loop-entry-test.true c.entry-item.is in
+    owned_read c.args.entries.now index item c.loop-entry-test.true c.entry-item.is in
     record {
       met = λ q. met_next entries index (owned_of item) q.now c.as_slice.result.now _ _ here key (c.in-Ok.ensures.updates.0 q) (c.loop-entry.invariant.met q);
       distinct = distinct_next entries index (owned_of item) here
@@ -30,9 +30,11 @@ returns-then-not-added c =
     let index = c.loop-entry.entry-index in
     let item = c.entry-item.result in
     let here : slice_get (owned_all c.args.entries.now) c.loop-entry.entry-index ≡ Some (owned_of c.entry-item.result) =
-        owned_read c.args.entries.now index item c.loop-entry-test.true c.entry-item.is in
-    (λ h. met_same entries index (owned_of item) here
-    (met_before entries index c.as_slice.result.now item.name.items _ _ c.as_slice.ensures.value c.in-Ok.ensures.added c.if-not-added.true (c.loop-entry.invariant.met c.as_slice.result)), λ h. refl)
+    owned_read c.args.entries.now index item c.loop-entry-test.true c.entry-item.is in (
+      λ h. met_same entries index (owned_of item) here
+          (met_before entries index c.as_slice.result.now item.name.items _ _ c.as_slice.ensures.value c.in-Ok.ensures.added c.if-not-added.true (c.loop-entry.invariant.met c.as_slice.result)),
+      λ h. refl,
+    )
 
 pub returns : goal.returns
 returns c = (λ h. absurd (let no : false ≡ true = h in cc), λ h. absurd (distinct_all c.args.entries.now c.loop-entry.entry-index c.loop-entry-test.false c.loop-entry.invariant.distinct h))
