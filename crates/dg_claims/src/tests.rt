@@ -1,4 +1,4 @@
-ghost use Rattle.std.specs.Prelude.{◌≡◌, ◌<◌, IfOk, length};
+ghost use Rattle.std.specs.Prelude.{◌≡◌, ◌+◌, ◌<◌, ◌≤◌, IfOk, length};
 ghost use Rattle.ufs_model.specs.Geometries.{IsGeometry};
 
 use crate::{ClaimSource, Claims, scan};
@@ -208,5 +208,56 @@ fn a_table(rt: HostRuntime) -> Result<(), Fail> {
     assert_eq!(rt; (claims.claims_on(36), claims.claims_on(39)), (1, 1));
     assert_eq!(rt; claims.owner(36), Some((6, 0)));
     assert_eq!(rt; claims.claims_on(40), 2);
+    Ok(())
+}
+
+/// So many zeros.
+fn zeros(alloc: Global, count: usize) -> Result<Vec<u8>, Fail>
+    ensures { IfOk result (λ bytes. length bytes.items ≡ count) }
+{
+    match vec![in alloc; 0; count] {
+        Ok(bytes) => Ok(bytes),
+        Err(_) => Err("memory".into()),
+    }
+}
+
+/// Writes bytes at a place.
+fn put(image: &mut [u8], at: usize, bytes: &[u8])
+    requires { at + length bytes.now ≤ length image.old }
+    ensures { length image.new ≡ length image.old }
+{
+    image[at..at + bytes.len()].copy_from_slice(bytes);
+}
+
+/// The volume F on 2^16 blocks: its one group goes on to the end (`fs_size`, `fs_fpg`), and inode 3 has the last file block as
+/// its second one.
+fn large_volume(alloc: Global) -> Result<Vec<u8>, Fail>
+    ensures { IfOk result (λ image. length image.items ≡ 67108864) }
+{
+    let small = volume_f(alloc)?;
+    let mut image = zeros(alloc, 67_108_864)?;
+    put(&mut image, 0, &small);
+    put(&mut image, 8228, &65_536u32.to_le_bytes());
+    put(&mut image, 8380, &65_536u32.to_le_bytes());
+    put(&mut image, 29_100, &65_532u32.to_le_bytes());
+    Ok(image)
+}
+
+/// The 61 fragments of F are claimed, and the last four.
+#[test]
+fn a_volume_of_2_to_the_16_fragments_is_scanned(rt: HostRuntime) -> Result<(), Fail> {
+    let alloc = rt.alloc();
+    let mut view = MemView::new(large_volume(alloc)?, 1024, 65_536, Vec::new(alloc));
+    let Ok(mut levels) = Levels::new(alloc, 1024) else {
+        return Err("levels".into());
+    };
+    let Ok(Some(claims)) = scan(alloc, &mut view, &mut levels) else {
+        return Err("no claims".into());
+    };
+    assert_eq!(rt; claims.owner(88), Some((5, 0)));
+    assert_eq!(rt; claims.owner(65_535), Some((3, 0)));
+    assert_eq!(rt; claims.owner(65_531), None);
+    let claimed = (0..65_536).filter(|fragment| claims.claims_on(*fragment) > 0);
+    assert_eq!(rt; claimed.count(), 65);
     Ok(())
 }

@@ -12,6 +12,8 @@ mod entries;
 mod faults;
 mod files;
 #[cfg(test)]
+mod level_tests;
+#[cfg(test)]
 mod list_tests;
 mod listings;
 mod lists;
