@@ -150,7 +150,7 @@ block_these g v i n inode is low =
     let count = bytes_in_block g inode n / 512 in
     let chunks : (chunks_of Little g inode n v).value ≡ Ok (chunks_in (bytes_in_block g inode n / 512) (block.bytes)) = chunks_value g inode n v ∙ ap (chunks_said count) block.are in
     let none = none_refused (Ok (chunks_in count (block.bytes))) (list_any is_refused (chunks_in count (block.bytes))) refl
-        (λ h. is.chunk (record { n = n; chunks = h.all; chunk = h.chunk; bad = h.bad; is = low; are = chunks ∙ h.are; contains = h.contains; refused = h.refused })) in
+    (λ h. is.chunk (record { n = n; chunks = h.all; chunk = h.chunk; bad = h.bad; is = low; are = chunks ∙ h.are; contains = h.contains; refused = h.refused })) in
     record { these = entries_all (chunks_in count (block.bytes)); are = ap entries_said chunks ∙ through_whole (chunks_in count (block.bytes)) none }
 
 before_these : (g : Geometry) (v : Volume) (i k : ℕ) (inode : Inode) → IsReadable g v i inode → k ≤ block_count g inode → HasThese ((entries_before Little g inode k v).value)
@@ -201,7 +201,7 @@ entries_by g v i (Some inode) none is h =
     let able = readable g v i inode none is h.0 in
     let all = before_these g v i (block_count g inode) inode able (omega arith) in
     let whole = whole_by (inode.size % 512) (inode.size % 512 == 0) (Decides-eqb (inode.size % 512) 0)
-        (λ torn. none.chunk i (directory_there g v i (λ inode. (inode.size % 512 ≢ 0) ⊎ HasBadChunk Little g v inode) inode is h.0 (inl torn))) in
+    (λ torn. none.chunk i (directory_there g v i (λ inode. (inode.size % 512 ≢ 0) ⊎ HasBadChunk Little g v inode) inode is h.0 (inl torn))) in
     (all.these, entries_are g v i inode (all.these) is h.0 (whole_entries g inode v h.0 able.small whole ∙ all.are))
 
 pub all_entries : (g : Geometry) (v : Volume) → IsGeometry g → HasWholeUppers g v → HasFilesizes g v → ((m : ℕ) → IsBad Little g v WildSlot m → ⊥) → ((m : ℕ) → IsBad Little g v WildIn m → ⊥)

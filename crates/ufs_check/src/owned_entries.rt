@@ -15,9 +15,9 @@ ghost use Rattle.ufs_check.specs.OwnedEntries.{Gathers, GathersAt, IfGone, owned
 ghost use Rattle.ufs_check.specs.Passes.{FetchesOnly, LosesOne};
 
 use crate::directories::is_directory;
-use crate::inodes::TOO_LONG;
 use crate::entries::{has_refused, read_named};
 use crate::file_blocks::{FileBlock, block_count, bytes_in_block, read_block};
+use crate::inodes::TOO_LONG;
 use dg_io::{NoMemory, View};
 use std::alloc::Global;
 use ufs_dir::{CHUNK_BYTES, Entries, Entry, EntryStep};

@@ -30,8 +30,10 @@ returns-in_default-check_directories-clause-fetched g c =
     let second = c.check_directories.ensures.keeps in
     only_both g.met.V.View.fetched_both (λ v on. on) second.told
     (only_told (IsMetadataBy Little gg) (IsStructure Little l n) (λ told v on. ((on.0, on.1), λ block is. metadata_structure l n gg v block (on.2) is)) c.check_metadata.ensures.fetched)
-    (only_told (IsDirectoryRead gg) (IsStructure Little l n) (λ told v on. (first.stands v (on.0),
-    λ block read. c.directories_are_structure.ensures l n gg v block (on.2) c.requires.geometry.tests ((c.in-Some.ensures.found (second.told told) v (on.0, on.1)).whole) read)) c.check_directories.ensures.fetched)
+    (only_told (IsDirectoryRead gg) (IsStructure Little l n) (λ told v on. (
+      first.stands v (on.0),
+      λ block read. c.directories_are_structure.ensures l n gg v block (on.2) c.requires.geometry.tests ((c.in-Some.ensures.found (second.told told) v (on.0, on.1)).whole) read,
+    )) c.check_directories.ensures.fetched)
 
 pub returns-in_err-links-clause-fetched : goal.returns-in_err-links-clause-fetched
 returns-in_err-links-clause-fetched g c =
@@ -44,10 +46,14 @@ returns-in_err-links-clause-fetched g c =
     only_both g.met.V.View.fetched_both (λ v on. on) third.told
     (only_both g.met.V.View.fetched_both (λ v on. on) second.told
     (only_told (IsMetadataBy Little gg) (IsStructure Little l n) (λ told v on. ((on.0, on.1), λ block is. metadata_structure l n gg v block (on.2) is)) c.check_metadata.ensures.fetched)
-    (only_told (IsDirectoryRead gg) (IsStructure Little l n) (λ told v on. (first.stands v (on.0),
-    λ block read. c.directories_are_structure.ensures l n gg v block (on.2) c.requires.geometry.tests ((c.in-Some.ensures.found (second.told told) v (on.0, on.1)).whole) read)) c.check_directories.ensures.fetched))
-    (only_told (IsDirectoryRead gg) (IsStructure Little l n) (λ told v on. (second.stands v (first.stands v (on.0)),
-    λ block read. c.directories_are_structure.ensures l n gg v block (on.2) c.requires.geometry.tests ((c.in-Some.ensures.found (second.told (third.told told)) v (on.0, on.1)).whole) read)) c.check_links.ensures.fetched)
+    (only_told (IsDirectoryRead gg) (IsStructure Little l n) (λ told v on. (
+      first.stands v (on.0),
+      λ block read. c.directories_are_structure.ensures l n gg v block (on.2) c.requires.geometry.tests ((c.in-Some.ensures.found (second.told told) v (on.0, on.1)).whole) read,
+    )) c.check_directories.ensures.fetched))
+    (only_told (IsDirectoryRead gg) (IsStructure Little l n) (λ told v on. (
+      second.stands v (first.stands v (on.0)),
+      λ block read. c.directories_are_structure.ensures l n gg v block (on.2) c.requires.geometry.tests ((c.in-Some.ensures.found (second.told (third.told told)) v (on.0, on.1)).whole) read,
+    )) c.check_links.ensures.fetched)
 
 pub returns-in_default-2-clause-fetched : goal.returns-in_default-2-clause-fetched
 returns-in_default-2-clause-fetched g c =
@@ -60,10 +66,14 @@ returns-in_default-2-clause-fetched g c =
     only_both g.met.V.View.fetched_both (λ v on. on) third.told
     (only_both g.met.V.View.fetched_both (λ v on. on) second.told
     (only_told (IsMetadataBy Little gg) (IsStructure Little l n) (λ told v on. ((on.0, on.1), λ block is. metadata_structure l n gg v block (on.2) is)) c.check_metadata.ensures.fetched)
-    (only_told (IsDirectoryRead gg) (IsStructure Little l n) (λ told v on. (first.stands v (on.0),
-    λ block read. c.directories_are_structure.ensures l n gg v block (on.2) c.requires.geometry.tests ((c.in-Some.ensures.found (second.told told) v (on.0, on.1)).whole) read)) c.check_directories.ensures.fetched))
-    (only_told (IsDirectoryRead gg) (IsStructure Little l n) (λ told v on. (second.stands v (first.stands v (on.0)),
-    λ block read. c.directories_are_structure.ensures l n gg v block (on.2) c.requires.geometry.tests ((c.in-Some.ensures.found (second.told (third.told told)) v (on.0, on.1)).whole) read)) c.check_links.ensures.fetched)
+    (only_told (IsDirectoryRead gg) (IsStructure Little l n) (λ told v on. (
+      first.stands v (on.0),
+      λ block read. c.directories_are_structure.ensures l n gg v block (on.2) c.requires.geometry.tests ((c.in-Some.ensures.found (second.told told) v (on.0, on.1)).whole) read,
+    )) c.check_directories.ensures.fetched))
+    (only_told (IsDirectoryRead gg) (IsStructure Little l n) (λ told v on. (
+      second.stands v (first.stands v (on.0)),
+      λ block read. c.directories_are_structure.ensures l n gg v block (on.2) c.requires.geometry.tests ((c.in-Some.ensures.found (second.told (third.told told)) v (on.0, on.1)).whole) read,
+    )) c.check_links.ensures.fetched)
 
 pub returns-clause-fetched : goal.returns-clause-fetched
 returns-clause-fetched g c =
@@ -76,10 +86,14 @@ returns-clause-fetched g c =
     only_both g.met.V.View.fetched_both (λ v on. on) third.told
     (only_both g.met.V.View.fetched_both (λ v on. on) second.told
     (only_told (IsMetadataBy Little gg) (IsStructure Little l n) (λ told v on. ((on.0, on.1), λ block is. metadata_structure l n gg v block (on.2) is)) c.check_metadata.ensures.fetched)
-    (only_told (IsDirectoryRead gg) (IsStructure Little l n) (λ told v on. (first.stands v (on.0),
-    λ block read. c.directories_are_structure.ensures l n gg v block (on.2) c.requires.geometry.tests ((c.in-Some.ensures.found (second.told told) v (on.0, on.1)).whole) read)) c.check_directories.ensures.fetched))
-    (only_told (IsDirectoryRead gg) (IsStructure Little l n) (λ told v on. (second.stands v (first.stands v (on.0)),
-    λ block read. c.directories_are_structure.ensures l n gg v block (on.2) c.requires.geometry.tests ((c.in-Some.ensures.found (second.told (third.told told)) v (on.0, on.1)).whole) read)) c.check_links.ensures.fetched)
+    (only_told (IsDirectoryRead gg) (IsStructure Little l n) (λ told v on. (
+      first.stands v (on.0),
+      λ block read. c.directories_are_structure.ensures l n gg v block (on.2) c.requires.geometry.tests ((c.in-Some.ensures.found (second.told told) v (on.0, on.1)).whole) read,
+    )) c.check_directories.ensures.fetched))
+    (only_told (IsDirectoryRead gg) (IsStructure Little l n) (λ told v on. (
+      second.stands v (first.stands v (on.0)),
+      λ block read. c.directories_are_structure.ensures l n gg v block (on.2) c.requires.geometry.tests ((c.in-Some.ensures.found (second.told (third.told told)) v (on.0, on.1)).whole) read,
+    )) c.check_links.ensures.fetched)
 
 pub returns-in_default-2-clause-gone : goal.returns-in_default-2-clause-gone
 returns-in_default-2-clause-gone g c =
