@@ -7,10 +7,9 @@ ghost use Rattle.ufs_model.specs.Malformations.{IsFirstMalformation, IsSoundVolu
 ghost use Rattle.ufs_model.specs.Metadata.{IsMetadataBy, IsStructure};
 ghost use Rattle.ufs_model.specs.declared.numbers.Endian.TheVariants.{Little};
 ghost use Rattle.dg_claims.specs.Kept.{table_of};
-ghost use Rattle.dg_claims.specs.Readers.{IsTableOf};
 ghost use Rattle.ufs_check.specs.Fragments.{IsClaimedBy};
 ghost use Rattle.ufs_check.specs.Passes.{FetchesOnly, LosesOne};
-ghost use Rattle.ufs_check.specs.Verdicts.{AreFaults, AreMetadataFaults, IsOnView};
+ghost use Rattle.ufs_check.specs.Verdicts.{AreFaults, AreMetadataFaults, IsOnView, IsTabled};
 
 use crate::directories::{check_directories, directories_are_structure};
 use crate::faults::{Faults, MetadataFaults, verdict_of};
@@ -95,8 +94,8 @@ fn check_volume<V: View>(
     }))
 }
 
-/// The first malformation of the volume on a view, of which the table has the claims. The buffers are
-/// for blocks of the view's size.
+/// The first malformation of the volume on a view, where the table has the volume's claims. The buffers
+/// are for blocks of the view's size.
 pub fn check<V: View>(
     alloc: Global,
     view: &mut V,
@@ -105,16 +104,15 @@ pub fn check<V: View>(
 ) -> Result<Verdict, NoMemory>
     requires sound { V.is_sound view.old }
     requires levels { levels.old.fragment ≡ V.size view.old }
-    requires claims { (v : Volume) → V.stands_for view.old v → IsTableOf Little (V.size view.old) (V.count view.old) v (table_of claims.now) }
     ensures keeps { KeepsView V.stands_for V.tells V.is_gone V.count V.size V.is_sound V.goes_on view.old view.new }
     ensures levels { levels.new.fragment ≡ levels.old.fragment }
-    ensures is_sound { result ≡ Ok Verdict.Sound → V.tells view.new → (v : Volume) → V.stands_for view.old v
+    ensures is_sound { result ≡ Ok Verdict.Sound → V.tells view.new → (v : Volume) → IsTabled (V.stands_for view.old) (V.size view.old) (V.count view.old) (table_of claims.now) v
         → IsSoundVolume Little (V.size view.old) (V.count view.old) v }
-    ensures malformed { (kind : BadKind) (n : ℕ) → result ≡ Ok (Verdict.Malformed kind n) → V.tells view.new → (v : Volume) → V.stands_for view.old v
+    ensures malformed { (kind : BadKind) (n : ℕ) → result ≡ Ok (Verdict.Malformed kind n) → V.tells view.new → (v : Volume) → IsTabled (V.stands_for view.old) (V.size view.old) (V.count view.old) (table_of claims.now) v
         → IsFirstMalformation Little (V.size view.old) (V.count view.old) v kind n }
-    ensures gone { result ≡ Ok Verdict.Gone → V.tells view.new → (v : Volume) → V.stands_for view.old v
+    ensures gone { result ≡ Ok Verdict.Gone → V.tells view.new → (v : Volume) → IsTabled (V.stands_for view.old) (V.size view.old) (V.count view.old) (table_of claims.now) v
         → LosesOne (V.is_gone view.new) (IsStructure Little (V.size view.old) (V.count view.old) v) }
-    ensures fetched { FetchesOnly V.fetched (V.stands_for view.old) (V.tells view.new) (IsStructure Little (V.size view.old) (V.count view.old)) view.old view.new }
+    ensures fetched { FetchesOnly V.fetched (IsTabled (V.stands_for view.old) (V.size view.old) (V.count view.old) (table_of claims.now)) (V.tells view.new) (IsStructure Little (V.size view.old) (V.count view.old)) view.old view.new }
 {
     let g = match read_geometry(view, levels) {
         None => return Ok(Verdict::Gone),
