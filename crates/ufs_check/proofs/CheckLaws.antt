@@ -1,5 +1,5 @@
 -- The check of a volume, by its superblock and by its geometry.
-use Rattle.std.proofs.Common.{◌≡◌, ℕ, ◌<◌, ap, List, Result, Ok, Err, refl, sym, subst, arith}
+use Rattle.std.proofs.Common.{◌≡◌, ℕ, ap, List, Ok, Err, refl, sym, subst, arith}
 use Rattle.std.specs.Prelude.{Contains}
 use Rattle.std.proofs.lemmas.List.{append-nil}
 use Rattle.ufs_model.specs.Blocks.{Volume, bind}
@@ -10,7 +10,7 @@ use Rattle.ufs_model.specs.declared.claims.ClaimSource.TheVariants.{Pointer, Slo
 use Rattle.dg_claims.specs.Readers.{IsTableOf}
 use Rattle.dg_claims.specs.Tables.{ClaimTable}
 use Rattle.ufs_check.specs.Fragments.{HasClaims}
-use Rattle.ufs_model.specs.Malformations.{IsBadBy, IsFirstMalformation, IsMalformed, IsSoundVolume, order_of}
+use Rattle.ufs_model.specs.Malformations.{IsBadBy, IsFirstMalformation, IsMalformed, IsSoundVolume}
 use Rattle.ufs_model.specs.Metadata.{IsMetadataBy, IsStructure}
 use Rattle.ufs_model.specs.Metadata.IsMetadata.{by_geometry, of_superblock}
 use Rattle.ufs_model.specs.Metadata.IsStructure.{of_metadata}
@@ -20,7 +20,7 @@ use Rattle.ufs_model.specs.declared.geometries.Geometry.{Geometry}
 use Rattle.ufs_model.specs.declared.malformations.BadKind.{BadKind}
 use Rattle.ufs_model.specs.declared.malformations.BadKind.TheVariants.{Super}
 use Rattle.ufs_model.specs.declared.numbers.Endian.TheVariants.{Little}
-use Rattle.ufs_check.specs.Verdicts.{IsFirstBad, Judges}
+use Rattle.ufs_check.specs.Verdicts.{Judges}
 use Rattle.ufs_check.specs.declared.verdicts.Verdict.TheVariants.{Malformed, Sound}
 
 pub super_structure : (l n : ℕ) (v : Volume) (block : ℕ) → Contains ((geometry_of Little l n v).needs) block → IsStructure Little l n v block

@@ -1,5 +1,5 @@
 -- The first of all kinds that are found.
-use Rattle.std.proofs.Common.{◌≡◌, ◌∙◌, ℕ, suc, ◌-◌, ◌<◌, ◌≤◌, inl, inr, lit<, List, [], ◌∷◌, Option, Some, None, refl, sym, ap, subst, arith}
+use Rattle.std.proofs.Common.{◌≡◌, ◌∙◌, ℕ, suc, ◌-◌, ◌<◌, inl, inr, lit<, List, [], ◌∷◌, Option, Some, None, refl, sym, ap, subst, arith}
 use Rattle.std.specs.Prelude.{slice_get}
 use Rattle.std.proofs.lemmas.Bool.{cases_order}
 use Rattle.ufs_model.specs.Blocks.{Volume}
@@ -11,9 +11,8 @@ use Rattle.ufs_model.specs.declared.malformations.BadKind.TheVariants.{Super, Gr
 use Rattle.ufs_model.specs.declared.numbers.Endian.TheVariants.{Little}
 use Rattle.ufs_check.specs.Least.{IsLeast}
 use Rattle.ufs_check.specs.Links.{HasAllEntries}
-use Rattle.ufs_check.specs.Verdicts.{AreFaults, IsFirstBad, Judges, all_kinds, first_by, found_in, later}
+use Rattle.ufs_check.specs.Verdicts.{AreFaults, Judges, all_kinds, first_by, found_in, later}
 use Rattle.ufs_check.specs.declared.faults.Faults.{Faults}
-use Rattle.ufs_check.specs.declared.verdicts.Verdict.{Verdict}
 use Rattle.ufs_check.specs.declared.verdicts.Verdict.TheVariants.{Sound, Malformed}
 use Rattle.ufs_check.proofs.WildLaws.{all_entries}
 

@@ -1,6 +1,6 @@
 -- What the entries of all directories tell.
-use Rattle.std.proofs.Common.{◌≡◌, ◌≢◌, ◌∙◌, ℕ, ◌+◌, ◌*◌, ◌<◌, ◌≤◌, inl, inr, ◌⊎◌, Bool, true, false, List, [], ◌++◌, Option, Some, None, Ok, refl, sym, ap, subst, arith}
-use Rattle.std.specs.Prelude.{◌==◌, ◌&&◌, not, if◌then◌else◌, MatchOption, slice_get}
+use Rattle.std.proofs.Common.{◌≡◌, ◌≢◌, ◌∙◌, ℕ, ◌+◌, ◌*◌, ◌<◌, ◌≤◌, inl, inr, Bool, true, false, List, [], ◌++◌, Option, Some, None, Ok, refl, sym, ap, subst, arith}
+use Rattle.std.specs.Prelude.{◌==◌, not, if◌then◌else◌, MatchOption}
 use Rattle.std.specs.Bool.{Decides}
 use Rattle.std.specs.BTreeMap.{get}
 use Rattle.std.specs.Option.{is_some}
@@ -10,14 +10,14 @@ use Rattle.std.proofs.lemmas.Bool.Decides.{Decides-and, Decides-eqb, Decides-lik
 use Rattle.ufs_model.specs.Blocks.{Volume}
 use Rattle.ufs_model.specs.Chunks.{DirEntry}
 use Rattle.ufs_model.specs.Inodes.{kind_of}
-use Rattle.ufs_model.specs.Malformations.{HasDots, HasEntries, IsBad, IsDirectory, IsNamedTwice, IsParent, IsUp, PlainAt, inode_at}
+use Rattle.ufs_model.specs.Malformations.{HasDots, HasEntries, IsBad, IsDirectory, IsParent, IsUp, PlainAt, inode_at}
 use Rattle.ufs_model.specs.Paths.{entries_of}
 use Rattle.ufs_model.specs.declared.geometries.Geometry.{Geometry}
 use Rattle.ufs_model.specs.declared.inodes.Inode.{Inode}
 use Rattle.ufs_model.specs.declared.inodes.Kind.TheVariants.{Directory}
 use Rattle.ufs_model.specs.declared.malformations.BadKind.TheVariants.{Dots, Names, DirTwice, RootNamed}
 use Rattle.ufs_model.specs.declared.numbers.Endian.TheVariants.{Little}
-use Rattle.ufs_check.specs.Least.{IsLeast, IsLeastBelow}
+use Rattle.ufs_check.specs.Least.{IsLeastBelow}
 use Rattle.ufs_check.specs.Links.{AreLinkFaults, AreLinksBelow, FitsDots, HasAllEntries, HasRead, IsEmptyTable, ParentAt, PlainBefore, TwoBefore, UpAt, bad_dots_in, bad_up, fits_parent, is_twice, is_up_in, named_twice_in}
 use Rattle.ufs_check.specs.OwnedEntries.{GathersEntries, owned_all}
 use Rattle.ufs_check.specs.declared.names.NameFaults.{NameFaults}

@@ -4,7 +4,6 @@ use Rattle.std.specs.Prelude.{Contains}
 use Rattle.std.specs.Bool.{Decides}
 use Rattle.std.proofs.lemmas.Bool.{cases_order}
 use Rattle.ufs_model.specs.Blocks.{Volume, block_at}
-use Rattle.ufs_model.specs.Claims.{level_of}
 use Rattle.ufs_model.specs.Malformations.{HasMisalignedIn, HasPastIn, HasWildIn, IsBad}
 use Rattle.ufs_model.specs.Pointers.{address, pointer_in}
 use Rattle.ufs_model.specs.declared.claims.ClaimSource.{ClaimSource}

@@ -1,5 +1,5 @@
 -- Where no pointer is wild, no directory has a hole and none of its chunks is refused, the entries of all directories are read.
-use Rattle.std.proofs.Common.{◌≡◌, ◌≢◌, ◌∙◌, ℕ, zero, suc, ◌+◌, ◌*◌, ◌/◌, ◌%◌, ◌^◌, ◌<◌, ◌≤◌, ◌⊎◌, inl, inr, lit<, Bool, true, false, List, [], ◌++◌, Option, Some, None, Result, Ok, Err, refl, sym, ap, subst, arith}
+use Rattle.std.proofs.Common.{◌≡◌, ◌≢◌, ◌∙◌, ℕ, zero, suc, ◌+◌, ◌*◌, ◌/◌, ◌%◌, ◌^◌, ◌<◌, ◌≤◌, ◌⊎◌, inl, inr, lit<, Bool, true, false, List, [], ◌++◌, Option, Some, None, Result, Ok, refl, sym, ap, subst, arith}
 use Rattle.std.specs.Prelude.{◌==◌, MatchOption}
 use Rattle.std.specs.Bool.{Decides}
 use Rattle.std.specs.List.{list_any}
@@ -10,13 +10,13 @@ use Rattle.ufs_model.specs.Chunks.{DirEntry}
 use Rattle.ufs_model.specs.declared.claims.ClaimSource.{ClaimSource}
 use Rattle.ufs_model.specs.Geometries.{IsGeometry}
 use Rattle.ufs_model.specs.Inodes.{block_count, has_pointers, kind_of}
-use Rattle.ufs_model.specs.Malformations.{HasBadChunk, HasEntries, HasHole, HasWild, HasWildIn, IsBad, IsDirectory, inode_at}
+use Rattle.ufs_model.specs.Malformations.{HasBadChunk, HasEntries, HasHole, HasWild, HasWildIn, IsBad, inode_at}
 use Rattle.ufs_model.specs.Paths.{block_of, bytes_at, bytes_in_block, chunks_in, chunks_of, entries_before}
 use Rattle.ufs_model.specs.Pointers.{address, chain_address, file_block_of, locate_of, pointer_in, slot_address, through}
 use Rattle.ufs_model.specs.declared.geometries.Geometry.{Geometry}
 use Rattle.ufs_model.specs.declared.inodes.Inode.{Inode}
 use Rattle.ufs_model.specs.declared.inodes.Kind.TheVariants.{Directory}
-use Rattle.ufs_model.specs.declared.malformations.BadKind.TheVariants.{Filesize, Wild as WildSlot, WildIn, Hole as HoleIn, Chunk}
+use Rattle.ufs_model.specs.declared.malformations.BadKind.TheVariants.{Wild as WildSlot, WildIn, Hole as HoleIn, Chunk}
 use Rattle.ufs_model.specs.declared.numbers.Endian.TheVariants.{Little}
 use Rattle.ufs_model.specs.declared.pointers.Address.{Address}
 use Rattle.ufs_model.specs.declared.pointers.Address.TheVariants.{At, Hole, Wild}

@@ -1,4 +1,4 @@
-use Rattle.std.proofs.Common.{◌≡◌, ◌∙◌, Some, subst, sym, ap}
+use Rattle.std.proofs.Common.{subst}
 use Rattle.ufs_check.specs.Verdicts.{found_in}
 use Rattle.ufs_check.proofs.FirstLaws.{IsFirstBelow, malformed_judges, sound_judges, whole_first}
 use Rattle.ufs_check.proofs.faults.verdict_of.Goals as goal

@@ -1,4 +1,4 @@
-use Rattle.std.proofs.Common.{◌≡◌, ◌<◌, ◌≤◌, length, Some, refl, false, true, subst, sym, arith}
+use Rattle.std.proofs.Common.{◌≡◌, Some, refl, false, true}
 use Rattle.std.specs.Prelude.{slice_get}
 use Rattle.ufs_check.specs.OwnedEntries.{owned_all, owned_of}
 use Rattle.ufs_check.proofs.NameLaws.{distinct_all, distinct_next, distinct_none, met_before, met_never, met_next, met_none, met_same, owned_read}

@@ -1,4 +1,4 @@
-use Rattle.std.proofs.Common.{◌≡◌, ◌∙◌, ◌/◌, sym}
+use Rattle.std.proofs.Common.{◌/◌}
 use Rattle.ufs_model.specs.Paths.{bytes_in_block}
 use Rattle.ufs_check.specs.Directories.{IsFileRead}
 use Rattle.ufs_check.specs.Directories.IsFileRead.{of_file}

@@ -1,5 +1,4 @@
-use Rattle.std.proofs.Common.{◌∙◌, ◌<◌, arith, refl, sym}
-use Rattle.ufs_model.specs.Claims.{level_of}
+use Rattle.std.proofs.Common.{◌∙◌, arith, refl, sym}
 use Rattle.dg_claims.specs.Kept.{table_of}
 use Rattle.ufs_check.proofs.ReachLaws.{pointer_level, reaches_no_claim, reaches_no_place, reaches_no_upper, reaches_other_level, reaches_slot, reaches_through}
 use Rattle.ufs_check.proofs.reaches.+first_through.Goals as goal

@@ -1,4 +1,4 @@
-use Rattle.std.proofs.Common.{ℕ, ◌+◌, ◌<◌, arith}
+use Rattle.std.proofs.Common.{arith}
 use borrow.Author.Count.{below_more}
 use Rattle.dg_claims.specs.Kept.{table_of}
 use Rattle.ufs_check.specs.Reaches.{IsBefore}
