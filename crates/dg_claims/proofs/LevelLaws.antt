@@ -1,9 +1,11 @@
 -- Which fragments have a claim at a level.
-use Rattle.std.proofs.Common.{◌≡◌, ℕ, ◌+◌, ◌<◌, ◌↔◌, ◌∙◌, inl, inr, List, [], ◌∷◌, ◌++◌, Bool, true, false, Contains, Option, Some, None, IfSome, refl, sym, ap, subst, arith, if◌then◌else◌}
+use Rattle.std.proofs.Common.{◌≡◌, ℕ, ◌+◌, ◌<◌, ◌↔◌, ◌∙◌, inl, inr, List, [], ◌∷◌, ◌++◌, Bool, true, false, Contains, Option, Some, None, IfSome, refl, sym, ap, subst, arith, if◌then◌else◌, ◌≤◌, ◌==◌}
 use Rattle.std.specs.List.{list_any}
 use Rattle.std.proofs.lemmas.Bool.{cases_eq, false≢true, or_cases, or_left, or_right}
 use Rattle.std.proofs.lemmas.List.{append-nil}
 use Rattle.ufs_model.specs.Claims.{level_of}
+use Rattle.ufs_model.specs.declared.claims.ClaimSource.{ClaimSource}
+use Rattle.ufs_model.specs.declared.claims.ClaimSource.TheVariants.{Slot, Pointer}
 use Rattle.ufs_model.specs.declared.geometries.Geometry.{Geometry}
 use Rattle.dg_claims.proofs.ListLaws.{number_is, same_number, contains_cons, contains_last, contains_none}
 use Rattle.dg_claims.proofs.OwnerLaws.{claims_marked}
@@ -57,6 +59,23 @@ claimed_inside inside kept fragment level view is h =
     let place = place_of (h.0) in
     subst (λ (k : KeptClaims). fragment < size_in k.geometry) view
     (inside_run inside.geometry (size_in inside.geometry) fragment place (run_at inside.runs.map.entries place) (is.runs place) ((is.marked fragment place).0 marked))
+
+-- at a level of 0 to 3
+level_most : (geometry : Option Geometry) (source : ClaimSource) → IsPlace geometry (place_of source) → level_of source ≤ 3
+level_most None source is = absurd is
+level_most (Some g) (Slot inode slot) is = let below = is.2 in omega arith
+level_most (Some g) (Pointer fragment level at) is = let most = is.1 in omega arith
+
+run_source : (geometry : Option Geometry) (size fragment : ℕ) (place : Place) (run : Option Run) → IfSome run (λ r. IsPlace geometry place × IsRun size r) → Contains (run_fragments run) fragment → IsPlace geometry place
+run_source geometry size fragment place None h has = absurd (contains_none fragment has)
+run_source geometry size fragment place (Some run) h has = h.0
+
+pub claimed_level : (inside : Inside) (kept : KeptClaims) (fragment : ℕ) (source : ClaimSource) → kept_of inside ≡ kept → IsKept inside → Contains (claimed_by kept.runs source) fragment → level_of source ≤ 3
+claimed_level inside kept fragment source view is has =
+    let marked = (claims_marked inside kept fragment source view is).1 has in
+    let place = place_of source in
+    level_most inside.geometry source
+    (run_source inside.geometry (size_in inside.geometry) fragment place (run_at inside.runs.map.entries place) (is.runs place) ((is.marked fragment place).0 marked))
 
 -- ---- the list of them
 

@@ -1,6 +1,7 @@
 ghost use Rattle.std.specs.Prelude.{◌≡◌, ◌+◌, ◌*◌, ◌<◌, ◌≤◌, ◌↔◌, ℕ, Some, None, [], ◌∷◌, ◌++◌, if◌then◌else◌, IfNone, IfOk, IfSome, OnOk, length, true, false};
+ghost use Rattle.std.specs.Bool.{Decides};
 ghost use Rattle.std.specs.List.{Contains};
-ghost use Rattle.ufs_model.specs.Claims.{IsOnlyClaim};
+ghost use Rattle.ufs_model.specs.Claims.{IsOnlyClaim, level_of};
 ghost use Rattle.ufs_model.specs.Geometries.{IsGeometry};
 ghost use Rattle.ufs_model.specs.Roles.{is_within};
 ghost use Rattle.ufs_model.specs.declared.claims.ClaimSource.{ClaimSource};
@@ -75,8 +76,8 @@ impl Claims {
     }
 
     /// The geometry.
-    fn geometry(&self) -> Option<Geometry>
-        ensures value { result ≡ self.now.geometry }
+    pub fn geometry(&self) -> Option<Geometry>
+        ensures value { result ≡ (table_of self.now).geometry }
         ensures geometry { IfSome result IsGeometry }
         ensures sources { HasSources self.now }
     {
@@ -183,6 +184,21 @@ impl Claims {
             Some(place) => Some(source_of(place)),
             None => None,
         }
+    }
+
+    /// Whether a source claims the fragment at the level.
+    pub fn has_level(&self, fragment: u32, level: u8) -> bool
+        ensures { Decides result (IsClaimedAt (table_of self.now).claimed level fragment) }
+    {
+        self.marks.has_level(fragment, level)
+    }
+
+    /// What is claimed is inside the volume, and claimed at a level of 0 to 3.
+    pub fn claims_inside(&self)
+        ensures inside { (fragment : ℕ) (source : ClaimSource) → Contains ((table_of self.now).claimed source) fragment → fragment < size_in (table_of self.now).geometry }
+        ensures levels { (fragment : ℕ) (source : ClaimSource) → Contains ((table_of self.now).claimed source) fragment → level_of source ≤ 3 }
+    {
+        let _geometry = self.geometry;
     }
 
     /// The fragments with a claim at the level, each once, ascending.

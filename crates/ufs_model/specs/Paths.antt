@@ -250,11 +250,6 @@ cat_of endian l n path =
 unfoldable pub is_path_name : List ℕ → Bool
 is_path_name name = is_name name && nat_le (length name) 255
 
--- a path of one name: a slash and the name
-unfoldable pub is_one_name : List ℕ → Bool
-is_one_name [] = false
-is_one_name (b ∷ name) = (b == 47) && is_path_name name
-
 -- the names that stand after slashes: a and b of `/a/b`, and none of no bytes
 abbrev pub names_after : List ℕ → List (List ℕ)
 names_after [] = []

@@ -29,7 +29,7 @@ pub use crate::inodes::{Inode, Kind};
 pub use crate::laws::{accepted_superblocks, own_blocks_of_groups};
 pub use crate::malformations::BadKind;
 pub use crate::numbers::{Endian, u16_at, u32_at, u64_at};
-pub use crate::paths::{is_one_name, is_path, next_name, path_names};
+pub use crate::paths::{is_path, next_name, path_names};
 pub use crate::pointers::{Address, Chain};
 pub use crate::reads::{BadRead, PathRefusal};
 pub use crate::roles::{Role, SystemKind};

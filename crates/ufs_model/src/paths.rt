@@ -2,7 +2,7 @@
 ghost use Rattle.std.specs.Prelude.{◌≡◌, ◌≤◌, ◌<◌, ◌∷◌, ◌==◌, ◌||◌, length, true};
 ghost use Rattle.std.specs.List.{list_all, list_any, position};
 ghost use Rattle.ufs_model.specs.Chunks.{is_name};
-ghost use Rattle.ufs_model.specs.Paths.{is_one_name, is_path, is_path_name, names_after, names_of};
+ghost use Rattle.ufs_model.specs.Paths.{is_path, is_path_name, names_after, names_of};
 
 /// Bytes of the longest name (`MAXNAMLEN`).
 const LONGEST_NAME: usize = 255;
@@ -31,17 +31,6 @@ fn is_path_name(name: &[u8]) -> bool
     ensures { result ≡ is_path_name name.now }
 {
     is_name(name) && name.len() <= LONGEST_NAME
-}
-
-/// Whether a path is a slash and one name of 1 to 255 bytes, none of them 0 or a slash.
-#[tactic(auto, unfolding(crate::specs::Paths::is_one_name))]
-pub fn is_one_name(path: &[u8]) -> bool
-    ensures { result ≡ is_one_name path.now }
-{
-    match path.split_first() {
-        Some((first, name)) => *first == b'/' && is_path_name(name),
-        None => false,
-    }
 }
 
 /// Where the first slash is, if there is one.

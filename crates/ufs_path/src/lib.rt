@@ -29,5 +29,5 @@ pub use listings::Listing;
 pub use lists::ls;
 pub use looks::look;
 pub use superblocks::geometry;
-pub use ufs_model::{BadRead, BadSuper, Geometry, Inode, is_one_name, is_path};
+pub use ufs_model::{BadRead, BadSuper, Geometry, Inode, is_path};
 pub use ufs_pointer::Levels;

@@ -1,0 +1,152 @@
+-- Looking at the file blocks of a directory, one after the other.
+use Rattle.std.proofs.Common.{◌≡◌, ◌∙◌, ℕ, suc, ◌+◌, ◌/◌, Bool, true, false, List, [], ◌∷◌, ◌++◌, Option, Some, None, Result, Ok, Err, refl, sym, ap, subst, add-one}
+use Rattle.std.specs.Prelude.{◌||◌, ◌&&◌}
+use Rattle.std.specs.List.{list_any}
+use Rattle.std.specs.Option.{is_some, ok_or}
+use Rattle.std.specs.Result.{is_ok}
+use Rattle.std.proofs.lemmas.List.Folds.{list_any-append}
+use Rattle.ufs_model.specs.Blocks.{Reading, Volume, bind, known}
+use Rattle.ufs_model.specs.Chunks.{DirEntry, chunk_in, entries_in, fault_in}
+use Rattle.ufs_model.specs.Paths.{block_of, bytes_in_block, chunks_in, chunks_of, entries_before, entries_then, entries_through}
+use Rattle.ufs_model.specs.Readings.{and_then, on_ok}
+use Rattle.ufs_model.specs.Superblocks.{unless_bad}
+use Rattle.ufs_model.specs.declared.chunks.BadEntry.{BadEntry}
+use Rattle.ufs_model.specs.declared.geometries.Geometry.{Geometry}
+use Rattle.ufs_model.specs.declared.inodes.Inode.{Inode}
+use Rattle.ufs_model.specs.declared.numbers.Endian.TheVariants.{Little}
+use Rattle.ufs_model.specs.declared.reads.BadRead.TheVariants.{Hole as BadHole, Chunk as BadChunk}
+use Rattle.ufs_model.specs.declared.reads.PathRefusal.{PathRefusal}
+use Rattle.ufs_model.specs.declared.reads.PathRefusal.TheVariants.{Bad}
+use Rattle.ufs_check.specs.Directories.{SaysEntries, ScannedBelow, ScansBlock, chunks_said, entries_said, hole_at, hole_said, refused_at, refused_said}
+use Rattle.ufs_check.specs.Entries.{AddsEntries, entries_all, is_mistyped, is_refused, names_none}
+use Rattle.ufs_check.specs.declared.directories.Scan.{Scan}
+use Rattle.ufs_check.specs.declared.entries.EntryFaults.{EntryFaults}
+use Rattle.ufs_check.proofs.ChunkLaws.{not_some, or_first}
+use Rattle.ufs_check.proofs.EntryLaws.{or_end}
+
+-- ---- the entries of chunks
+
+chunk_case : (chunk : List ℕ) (fault : Option BadEntry) → fault_in Little 0 chunk ≡ fault → chunk_in Little chunk ≡ unless_bad fault (entries_in Little 0 chunk)
+unfolding chunk_in
+chunk_case chunk fault is = rw is refl
+
+pub through_whole : (chunks : List (List ℕ)) → list_any is_refused chunks ≡ false → entries_through Little chunks ≡ Ok (entries_all chunks)
+through_whole [] none = refl
+through_whole (chunk ∷ chunks) none =
+    let parts = or_first (is_refused chunk) (list_any is_refused chunks) none in
+    rw (chunk_case chunk None (not_some (fault_in Little 0 chunk) parts.0), through_whole chunks parts.1) refl
+
+refused_then : (fault : Option BadEntry) (chunk : List ℕ) (chunks : List (List ℕ)) → fault_in Little 0 chunk ≡ fault → (is_some fault || list_any is_refused chunks) ≡ true
+    → (list_any is_refused chunks ≡ true → entries_through Little chunks ≡ Err (Bad BadChunk)) → entries_then (chunk_in Little chunk) (entries_through Little chunks) ≡ Err (Bad BadChunk)
+refused_then (Some bad) chunk chunks is some rest = rw (chunk_case chunk (Some bad) is) refl
+refused_then None chunk chunks is some rest = rw (chunk_case chunk None is, rest some) refl
+
+pub through_refused : (chunks : List (List ℕ)) → list_any is_refused chunks ≡ true → entries_through Little chunks ≡ Err (Bad BadChunk)
+through_refused [] some = let no : false ≡ true = some in cc
+through_refused (chunk ∷ chunks) some = refused_then (fault_in Little 0 chunk) chunk chunks refl some (through_refused chunks)
+
+-- ---- the chunks of a file block
+
+and_none : (a : Bool) → (a && false) ≡ false
+and_none true = refl
+and_none false = refl
+
+and_all : (a : Bool) → (a && true) ≡ a
+and_all true = refl
+and_all false = refl
+
+or_all : (a : Bool) → (a || true) ≡ true
+or_all true = refl
+or_all false = refl
+
+pub data_refused : (g : Geometry) (v : Volume) (k : ℕ) (bytes : List ℕ) (scan : Scan) → list_any is_refused (chunks_in k bytes) ≡ true
+    → ScansBlock g v k (Ok (Some bytes)) scan (record { hole = scan.hole; chunk = true; read = false; entries = scan.entries })
+data_refused g v k bytes scan some = record {
+  hole = sym (or_end scan.hole);
+  chunk = rw some (sym (or_all scan.chunk));
+  read = rw (through_refused (chunks_in k bytes) some) (sym (and_none scan.read));
+  entries = λ entries is. let no : Err (Bad BadChunk) ≡ Ok entries = sym (through_refused (chunks_in k bytes) some) ∙ is in cc;
+}
+
+pub data_whole : (g : Geometry) (v : Volume) (k : ℕ) (bytes : List ℕ) (scan : Scan) (faults : EntryFaults) → list_any is_refused (chunks_in k bytes) ≡ false
+    → AddsEntries g v (entries_all (chunks_in k bytes)) scan.entries faults
+    → ScansBlock g v k (Ok (Some bytes)) scan (record { hole = scan.hole; chunk = scan.chunk; read = scan.read; entries = faults })
+data_whole g v k bytes scan faults none adds = record {
+  hole = sym (or_end scan.hole);
+  chunk = rw none (sym (or_end scan.chunk));
+  read = rw (through_whole (chunks_in k bytes) none) (sym (and_all scan.read));
+  entries = λ entries is.
+      let both : Ok (entries_all (chunks_in k bytes)) ≡ Ok entries = sym (through_whole (chunks_in k bytes) none) ∙ is in
+      let same : entries_all (chunks_in k bytes) ≡ entries = cc in
+      subst (λ es. AddsEntries g v es scan.entries faults) same adds;
+}
+
+-- ---- the entries of one more file block
+
+abbrev pub joined : Result (List DirEntry) PathRefusal → Result (List DirEntry) PathRefusal → Result (List DirEntry) PathRefusal
+joined (Err refusal) further = Err refusal
+joined (Ok front) (Ok entries) = Ok (front ++ entries)
+joined (Ok front) (Err refusal) = Err refusal
+
+last_part : (v : Volume) (front : List DirEntry) (entries : Result (List DirEntry) PathRefusal) → (on_ok entries (λ entries. known (Ok (front ++ entries))) v).value ≡ joined (Ok front) entries
+last_part v front (Ok entries) = refl
+last_part v front (Err refusal) = refl
+
+chunk_part : (v : Volume) (front : List DirEntry) (chunks : Result (List (List ℕ)) PathRefusal)
+    → (on_ok chunks (λ chunks. and_then (known (entries_through Little chunks)) (λ entries. known (Ok (front ++ entries)))) v).value ≡ joined (Ok front) (entries_said chunks)
+unfolding and_then bind
+chunk_part v front (Ok chunks) = last_part v front (entries_through Little chunks)
+chunk_part v front (Err refusal) = refl
+
+front_part : (v : Volume) (front : Result (List DirEntry) PathRefusal) (chunks : Reading (Result (List (List ℕ)) PathRefusal))
+    → (on_ok front (λ front. and_then chunks (λ chunks. and_then (known (entries_through Little chunks)) (λ entries. known (Ok (front ++ entries))))) v).value ≡ joined front (entries_said ((chunks v).value))
+unfolding and_then bind
+front_part v (Ok front) chunks = chunk_part v front ((chunks v).value)
+front_part v (Err refusal) chunks = refl
+
+said_part : (v : Volume) (k : ℕ) (block : Result (Option (List ℕ)) PathRefusal)
+    → (on_ok block (λ block. and_then (known (ok_or block (Bad BadHole))) (λ bytes. known (Ok (chunks_in k bytes)))) v).value ≡ chunks_said k block
+unfolding and_then bind
+said_part v k (Ok None) = refl
+said_part v k (Ok (Some bytes)) = refl
+said_part v k (Err refusal) = refl
+
+pub chunks_value : (g : Geometry) (inode : Inode) (n : ℕ) (v : Volume) → (chunks_of Little g inode n v).value ≡ chunks_said (bytes_in_block g inode n / 512) ((block_of Little g inode n v).value)
+unfolding chunks_of and_then bind
+chunks_value g inode n v = said_part v (bytes_in_block g inode n / 512) ((block_of Little g inode n v).value)
+
+pub before_next : (g : Geometry) (inode : Inode) (n : ℕ) (v : Volume)
+    → (entries_before Little g inode (suc n) v).value ≡ joined ((entries_before Little g inode n v).value) (entries_said ((chunks_of Little g inode n v).value))
+unfolding entries_before and_then bind
+before_next g inode n v = front_part v ((entries_before Little g inode n v).value) (chunks_of Little g inode n)
+
+-- ---- what is found in one more file block
+
+says_joined : (g : Geometry) (v : Volume) (front entries : Result (List DirEntry) PathRefusal) (old_read new_read : Bool) (old new : EntryFaults)
+    → SaysEntries g v old_read old front → new_read ≡ (old_read && is_ok entries) → ((es : List DirEntry) → entries ≡ Ok es → AddsEntries g v es old new) → SaysEntries g v new_read new (joined front entries)
+says_joined g v (Err refusal) entries old_read new_read old new says read adds = read ∙ ap (λ b. b && is_ok entries) says
+says_joined g v (Ok front) (Err refusal) old_read new_read old new says read adds = read ∙ and_none old_read
+says_joined g v (Ok front) (Ok es) old_read new_read old new says read adds =
+    let added = adds es refl in (
+      read ∙ ap (λ b. b && true) says.0,
+      added.entry ∙ ap (λ b. b || list_any (names_none g v) es) says.1 ∙ sym (list_any-append (names_none g v) front es),
+      added.entry_type ∙ ap (λ b. b || list_any (is_mistyped g v) es) says.2 ∙ sym (list_any-append (is_mistyped g v) front es),
+    )
+
+pub scanned_next : (g : Geometry) (inode : Inode) (v : Volume) (n : ℕ) (old new : Scan) → ScannedBelow g inode v n old
+    → ScansBlock g v (bytes_in_block g inode n / 512) ((block_of Little g inode n v).value) old new → ScannedBelow g inode v (n + 1) new
+unfolding hole_at refused_at
+scanned_next g inode v n old new so_far one = rw add-one (record {
+  hole = one.hole ∙ ap (λ b. b || hole_said ((block_of Little g inode n v).value)) so_far.hole;
+  chunk = one.chunk ∙ ap (λ b. b || refused_said (chunks_said (bytes_in_block g inode n / 512) ((block_of Little g inode n v).value))) so_far.chunk;
+  entries = subst (λ entries. SaysEntries g v new.read new.entries entries)
+      (sym (before_next g inode n v ∙ ap (λ chunks. joined ((entries_before Little g inode n v).value) (entries_said chunks)) (chunks_value g inode n v)))
+      (says_joined g v ((entries_before Little g inode n v).value) (entries_said (chunks_said (bytes_in_block g inode n / 512) ((block_of Little g inode n v).value)))
+      old.read new.read old.entries new.entries so_far.entries one.read one.entries);
+})
+
+-- nothing is found in no file block
+pub scanned_none : (g : Geometry) (inode : Inode) (v : Volume)
+    → ScannedBelow g inode v 0 (record { hole = false; chunk = false; read = true; entries = record { entry = false; entry_type = false } })
+unfolding entries_before
+scanned_none g inode v = record { hole = refl; chunk = refl; entries = (refl, refl, refl) }

@@ -1,0 +1,285 @@
+-- What is found in a directory tells what is wrong with it.
+use Rattle.std.proofs.Common.{◌≡◌, ◌≢◌, ◌∙◌, ℕ, zero, suc, ◌+◌, ◌*◌, ◌%◌, ◌^◌, ◌<◌, ◌≤◌, inl, inr, ◌⊎◌, length, Bool, true, false, List, Option, Some, None, Result, Ok, Err, refl, sym, ap, subst, arith}
+use Rattle.std.specs.Prelude.{◌==◌, ◌||◌, ◌&&◌, Contains, MatchOption, not, if◌then◌else◌, slice_get, nat_le, nat_lt}
+use Rattle.std.specs.Bool.{Decides}
+use Rattle.std.specs.List.{list_any}
+use Rattle.std.specs.Option.{is_none, is_some}
+use Rattle.std.proofs.lemmas.Bool.{and_parts, cases_order, or_cases, or_left, or_right}
+use Rattle.std.proofs.lemmas.Bool.Decides.{Decides-and, Decides-eqb, Decides-like, Decides-not, Decides-or, nat_tests}
+use Rattle.std.proofs.lemmas.List.Folds.{Any-from_list_any, list_any-from_Any}
+use Rattle.std.proofs.lemmas.Option.{get_or_from_slice_get, slice_get_read, slice_get_within}
+use Rattle.ufs_model.specs.Blocks.{Volume, bind}
+use Rattle.ufs_model.specs.Chunks.{DirEntry, fault_in}
+use Rattle.ufs_model.specs.Inodes.{block_count, entry_type_of, has_pointers, inode_of, kind_of}
+use Rattle.ufs_model.specs.Malformations.{HasBadChunk, HasBadEntry, HasBadType, HasEntries, HasHole, IsBad, IsDirectory, IsInode, inode_at}
+use Rattle.ufs_model.specs.Paths.{block_of, bytes_at, chunks_of, directory_refusal, entries_before, entries_of}
+use Rattle.ufs_model.specs.Pointers.{file_block_of}
+use Rattle.ufs_model.specs.declared.chunks.BadEntry.{BadEntry}
+use Rattle.ufs_model.specs.declared.geometries.Geometry.{Geometry}
+use Rattle.ufs_model.specs.declared.inodes.Inode.{Inode}
+use Rattle.ufs_model.specs.declared.inodes.Kind.TheVariants.{Directory}
+use Rattle.ufs_model.specs.declared.malformations.BadKind.TheVariants.{Hole as HoleIn, Chunk, Entry, EntryType, Filesize}
+use Rattle.ufs_model.specs.declared.numbers.Endian.TheVariants.{Little}
+use Rattle.ufs_model.specs.declared.pointers.Address.{Address}
+use Rattle.ufs_model.specs.declared.pointers.Address.TheVariants.{Hole, Wild, At}
+use Rattle.ufs_model.specs.declared.reads.BadRead.TheVariants.{Chunk as BadChunk}
+use Rattle.ufs_model.specs.declared.reads.PathRefusal.{PathRefusal}
+use Rattle.ufs_model.specs.declared.reads.PathRefusal.TheVariants.{Bad}
+use Rattle.ufs_check.specs.Directories.{AreDirectoryFaults, AreDirectoryFaultsBelow, SaysEntries, any_below, hole_at, hole_said, refused_at, refused_said}
+use Rattle.ufs_check.specs.Entries.{is_mistyped, is_refused, mistyped_in, names_none, type_differs}
+use Rattle.ufs_check.specs.declared.entries.EntryFaults.{EntryFaults}
+use Rattle.ufs_check.specs.declared.verdicts.DirectoryFaults.{DirectoryFaults}
+use Rattle.ufs_check.proofs.DirectoryLaws.{chunks_value}
+use Rattle.ufs_check.proofs.LeastLaws.{least_all, least_passed}
+
+-- ---- a file block below a bound
+
+below_found : (test : ℕ → Bool) (bound : ℕ) → any_below test bound ≡ true → (n : ℕ) × (n < bound) × (test n ≡ true)
+below_found test zero is = let no : false ≡ true = is in cc
+below_found test (suc n) is = elim (or_cases (any_below test n) (test n) is) [
+  | inl below ↦ let h = below_found test n below in (h.0, let lt = h.1 in omega arith, h.2)
+  | inr here ↦ (n, omega arith, here)
+]
+
+below_here : (test : ℕ → Bool) (bound n : ℕ) → n < bound → test n ≡ true → any_below test bound ≡ true
+below_here test zero n lt is = absurd (omega arith)
+below_here test (suc m) n lt is = elim (cases_order n m) [
+  | inl same ↦ or_right (any_below test m) (test m) (subst (λ k. test k ≡ true) same is)
+  | inr other ↦ elim other [ inl less ↦ or_left (any_below test m) (test m) (below_here test m n less is) | inr greater ↦ absurd (omega arith) ]
+]
+
+-- ---- holes
+
+pub block_value : (g : Geometry) (inode : Inode) (n : ℕ) (v : Volume) → (block_of Little g inode n v).value ≡ (bytes_at g ((file_block_of Little g inode n v).value) v).value
+unfolding block_of bind
+block_value g inode n v = refl
+
+hole_is : (g : Geometry) (v : Volume) (address : Address) → Decides (hole_said ((bytes_at g address v).value)) (address ≡ Hole)
+unfolding bytes_at bind
+hole_is g v Hole = (λ h. refl, λ h. refl)
+hole_is g v Wild = (λ h. let no : false ≡ true = h in cc, λ h. let no : Wild ≡ Hole = h in cc)
+hole_is g v (At a k) = (λ h. let no : false ≡ true = h in cc, λ h. let no : At a k ≡ Hole = h in cc)
+
+hole_decides : (g : Geometry) (inode : Inode) (v : Volume) (n : ℕ) → Decides (hole_at g inode v n) ((file_block_of Little g inode n v).value ≡ Hole)
+unfolding hole_at
+hole_decides g inode v n = subst (λ block. Decides (hole_said block) ((file_block_of Little g inode n v).value ≡ Hole)) (sym (block_value g inode n v)) (hole_is g v ((file_block_of Little g inode n v).value))
+
+pub has_hole_decides : (g : Geometry) (inode : Inode) (v : Volume) (b : Bool) → b ≡ any_below (hole_at g inode v) (block_count g inode) → Decides b (HasHole Little g v inode)
+has_hole_decides g inode v b is = (
+  λ h. let found = below_found (hole_at g inode v) (block_count g inode) (sym is ∙ h) in record { n = found.0; is = found.1; hole = (hole_decides g inode v found.0).0 found.2 },
+  λ h. is ∙ below_here (hole_at g inode v) (block_count g inode) h.n h.is ((hole_decides g inode v h.n).1 h.hole),
+)
+
+-- ---- chunks
+
+pub record HasRefused (chunks : Result (List (List ℕ)) PathRefusal) : Type 0 where
+  pub all : List (List ℕ)
+  pub chunk : List ℕ
+  pub bad : BadEntry
+  pub are : chunks ≡ Ok all
+  pub contains : Contains all chunk
+  pub refused : fault_in Little 0 chunk ≡ Some bad
+
+some_fault : (fault : Option BadEntry) → is_some fault ≡ true → (bad : BadEntry) × (fault ≡ Some bad)
+some_fault None is = let no : false ≡ true = is in cc
+some_fault (Some bad) is = (bad, refl)
+
+pub refused_is : (chunks : Result (List (List ℕ)) PathRefusal) → Decides (refused_said chunks) (HasRefused chunks)
+refused_is (Err refusal) = (λ h. let no : false ≡ true = h in cc, λ h. let no : Err refusal ≡ Ok h.all = h.are in cc)
+refused_is (Ok chunks) = (
+  λ h. let any = Any-from_list_any is_refused chunks h in let fault = some_fault (fault_in Little 0 any.1) any.4 in
+      record { all = chunks; chunk = any.1; bad = fault.0; are = refl; contains = (any.0, any.2, any.3); refused = fault.1 },
+  λ h. let both : Ok chunks ≡ Ok h.all = h.are in let same : h.all ≡ chunks = cc in let here = subst (λ all. Contains all h.chunk) same h.contains in
+      list_any-from_Any is_refused chunks (here.0, h.chunk, here.1, here.2, ap is_some h.refused),
+)
+
+refused_decides : (g : Geometry) (inode : Inode) (v : Volume) (n : ℕ) → Decides (refused_at g inode v n) (HasRefused ((chunks_of Little g inode n v).value))
+unfolding refused_at
+refused_decides g inode v n = subst (λ chunks. Decides (refused_said chunks) (HasRefused ((chunks_of Little g inode n v).value))) (chunks_value g inode n v) (refused_is ((chunks_of Little g inode n v).value))
+
+refused_chunk_decides : (g : Geometry) (inode : Inode) (v : Volume) (b : Bool) → b ≡ any_below (refused_at g inode v) (block_count g inode) → Decides b (HasBadChunk Little g v inode)
+refused_chunk_decides g inode v b is = (
+  λ h. let found = below_found (refused_at g inode v) (block_count g inode) (sym is ∙ h) in
+      let one = (refused_decides g inode v found.0).0 found.2 in
+      record { n = found.0; chunks = one.all; chunk = one.chunk; bad = one.bad; is = found.1; are = one.are; contains = one.contains; refused = one.refused },
+  λ h. is ∙ below_here (refused_at g inode v) (block_count g inode) h.n h.is
+      ((refused_decides g inode v h.n).1 (record { all = h.chunks; chunk = h.chunk; bad = h.bad; are = h.are; contains = h.contains; refused = h.refused })),
+)
+
+pub bad_chunk_decides : (g : Geometry) (inode : Inode) (v : Volume) (b chunk : Bool) → b ≡ (not (inode.size % 512 == 0) || chunk) → chunk ≡ any_below (refused_at g inode v) (block_count g inode)
+    → Decides b ((inode.size % 512 ≢ 0) ⊎ HasBadChunk Little g v inode)
+bad_chunk_decides g inode v b chunk is found =
+    subst (λ b. Decides b ((inode.size % 512 ≢ 0) ⊎ HasBadChunk Little g v inode)) (sym is)
+    (Decides-or (not (inode.size % 512 == 0)) chunk (Decides-not (inode.size % 512 == 0) (Decides-eqb (inode.size % 512) 0)) (refused_chunk_decides g inode v chunk found))
+
+-- ---- a directory
+
+pub directory_decides : (g : Geometry) (v : Volume) (i : ℕ) (holds : Inode → Type 0) (inode : Inode) (b : Bool) → inode_at Little g v i ≡ Some inode
+    → kind_of inode.mode ≡ Directory → Decides b (holds inode) → Decides b (IsDirectory Little g v i holds)
+directory_decides g v i holds inode b is kind decides =
+    subst (λ o. Decides b (MatchOption o ⊥ (λ inode. (kind_of inode.mode ≡ Directory) × holds inode))) (sym is) (λ h. (kind, decides.0 h), λ h. decides.1 (h.1))
+
+-- what is known of a directory is known of its inode
+pub directory_is : (g : Geometry) (v : Volume) (i : ℕ) (holds : Inode → Type 0) (inode : Inode) → inode_at Little g v i ≡ Some inode
+    → IsDirectory Little g v i holds → (kind_of inode.mode ≡ Directory) × holds inode
+directory_is g v i holds inode is h = subst (λ o. MatchOption o ⊥ (λ inode. (kind_of inode.mode ≡ Directory) × holds inode)) is h
+
+pub directory_there : (g : Geometry) (v : Volume) (i : ℕ) (holds : Inode → Type 0) (inode : Inode) → inode_at Little g v i ≡ Some inode
+    → kind_of inode.mode ≡ Directory → holds inode → IsDirectory Little g v i holds
+directory_there g v i holds inode is kind h = subst (λ o. MatchOption o ⊥ (λ inode. (kind_of inode.mode ≡ Directory) × holds inode)) (sym is) (kind, h)
+
+pub directory_none : (g : Geometry) (v : Volume) (i : ℕ) (holds : Inode → Type 0) → inode_at Little g v i ≡ None → IsDirectory Little g v i holds → ⊥
+directory_none g v i holds is h = subst (λ o. MatchOption o ⊥ (λ inode. (kind_of inode.mode ≡ Directory) × holds inode)) is h
+
+-- ---- whether its entries are read
+
+pub whole_entries : (g : Geometry) (inode : Inode) (v : Volume) → kind_of inode.mode ≡ Directory → inode.size < 2 ^ 32 → (inode.size % 512 == 0) ≡ true
+    → (entries_of Little g inode v).value ≡ (entries_before Little g inode (block_count g inode) v).value
+unfolding entries_of directory_refusal
+whole_entries g inode v kind small whole = let fits : nat_le (2 ^ 32) inode.size ≡ false = grind (arith, nat_tests) in rw (kind, fits, whole) refl
+
+pub torn_entries : (g : Geometry) (inode : Inode) (v : Volume) → kind_of inode.mode ≡ Directory → inode.size < 2 ^ 32 → (inode.size % 512 == 0) ≡ false
+    → (entries_of Little g inode v).value ≡ Err (Bad BadChunk)
+unfolding entries_of directory_refusal
+torn_entries g inode v kind small torn = let fits : nat_le (2 ^ 32) inode.size ≡ false = grind (arith, nat_tests) in rw (kind, fits, torn) refl
+
+-- the entries that are read, with their faults
+pub record AreRead (g : Geometry) (v : Volume) (inode : Inode) (faults : EntryFaults) : Type 0 where
+  pub entries : List DirEntry
+  pub are : (entries_of Little g inode v).value ≡ Ok entries
+  pub entry : faults.entry ≡ list_any (names_none g v) entries
+  pub entry_type : faults.entry_type ≡ list_any (is_mistyped g v) entries
+
+said_read : (g : Geometry) (v : Volume) (inode : Inode) (entries : Result (List DirEntry) PathRefusal) (read : Bool) (faults : EntryFaults) → SaysEntries g v read faults entries → read ≡ true
+    → (entries_of Little g inode v).value ≡ entries → AreRead g v inode faults
+said_read g v inode (Err refusal) read faults says is value = let no : false ≡ true = sym says ∙ is in cc
+said_read g v inode (Ok entries) read faults says is value = record { entries = entries; are = value; entry = says.1; entry_type = says.2 }
+
+said_unread : (g : Geometry) (v : Volume) (entries : Result (List DirEntry) PathRefusal) (read : Bool) (faults : EntryFaults) (es : List DirEntry) → SaysEntries g v read faults entries → read ≡ false
+    → entries ≡ Ok es → ⊥
+said_unread g v (Err refusal) read faults es says is value = let no : Err refusal ≡ Ok es = value in cc
+said_unread g v (Ok entries) read faults es says is value = let no : true ≡ false = sym says.0 ∙ is in cc
+
+pub entries_read : (g : Geometry) (inode : Inode) (v : Volume) (read : Bool) (faults : EntryFaults) → kind_of inode.mode ≡ Directory → inode.size < 2 ^ 32 → ((inode.size % 512 == 0) && read) ≡ true
+    → SaysEntries g v read faults ((entries_before Little g inode (block_count g inode) v).value) → AreRead g v inode faults
+entries_read g inode v read faults kind small is says =
+    let parts = and_parts (inode.size % 512 == 0) read is in
+    said_read g v inode ((entries_before Little g inode (block_count g inode) v).value) read faults says parts.1 (whole_entries g inode v kind small parts.0)
+
+unread_by : (g : Geometry) (inode : Inode) (v : Volume) (whole read : Bool) (faults : EntryFaults) (es : List DirEntry) → kind_of inode.mode ≡ Directory → inode.size < 2 ^ 32 → (inode.size % 512 == 0) ≡ whole
+    → (whole && read) ≡ false → SaysEntries g v read faults ((entries_before Little g inode (block_count g inode) v).value) → (entries_of Little g inode v).value ≡ Ok es → ⊥
+unread_by g inode v true read faults es kind small whole is says value =
+    said_unread g v ((entries_before Little g inode (block_count g inode) v).value) read faults es says is (sym (whole_entries g inode v kind small whole) ∙ value)
+unread_by g inode v false read faults es kind small whole is says value = let no : Err (Bad BadChunk) ≡ Ok es = sym (torn_entries g inode v kind small whole) ∙ value in cc
+
+pub entries_unread : (g : Geometry) (inode : Inode) (v : Volume) (read : Bool) (faults : EntryFaults) (es : List DirEntry) → kind_of inode.mode ≡ Directory → inode.size < 2 ^ 32 → ((inode.size % 512 == 0) && read) ≡ false
+    → SaysEntries g v read faults ((entries_before Little g inode (block_count g inode) v).value) → (entries_of Little g inode v).value ≡ Ok es → ⊥
+entries_unread g inode v read faults es kind small is says value = unread_by g inode v (inode.size % 512 == 0) read faults es kind small refl is says value
+
+-- ---- entries
+
+record HasEntry (P : DirEntry → Type 0) (entries : List DirEntry) : Type 0 where
+  k : ℕ
+  entry : DirEntry
+  here : slice_get entries k ≡ Some entry
+  is : P entry
+
+entry_decides : (test : DirEntry → Bool) (P : DirEntry → Type 0) → ((entry : DirEntry) → Decides (test entry) (P entry)) → (entries : List DirEntry) → Decides (list_any test entries) (HasEntry P entries)
+entry_decides test P each entries = (
+  λ h. let any = Any-from_list_any test entries h in
+      record { k = any.0; entry = any.1; here = slice_get_read entries (length entries) any.0 any.1 refl any.2 (sym any.3); is = (each any.1).0 any.4 },
+  λ h. list_any-from_Any test entries (h.k, h.entry, slice_get_within entries h.k h.entry h.here, get_or_from_slice_get entries h.k h.entry h.entry h.here, (each h.entry).1 h.is),
+)
+
+none_is : (named : Option Inode) → Decides (is_none named) (named ≡ None)
+none_is None = (λ h. refl, λ h. refl)
+none_is (Some inode) = (λ h. let no : false ≡ true = h in cc, λ h. let no : Some inode ≡ None = h in cc)
+
+none_decides : (g : Geometry) (v : Volume) (entry : DirEntry) → Decides (names_none g v entry) (inode_at Little g v entry.inode ≡ None)
+unfolding names_none
+none_decides g v entry = none_is (inode_at Little g v entry.inode)
+
+type_decides : (kind : ℕ) (type : Option ℕ) → Decides (type_differs kind type) (type ≢ Some kind)
+type_decides kind None = (λ h e. let no : None ≡ Some kind = e in cc, λ h. refl)
+type_decides kind (Some type) = Decides-not (type == kind) (Decides-like (type == kind) (λ e. ap Some e) (λ e. let both : Some type ≡ Some kind = e in cc) (Decides-eqb type kind))
+
+mistyped_is : (kind : ℕ) (named : Option Inode) → Decides (mistyped_in kind named) ((kind ≢ 0) × MatchOption named ⊥ (λ inode. entry_type_of (kind_of inode.mode) ≢ Some kind))
+mistyped_is kind None = (λ h. let no : false ≡ true = h in cc, λ h. absurd h.1)
+mistyped_is kind (Some inode) = Decides-and (not (kind == 0)) (type_differs kind (entry_type_of (kind_of inode.mode))) (Decides-not (kind == 0) (Decides-eqb kind 0)) (type_decides kind (entry_type_of (kind_of inode.mode)))
+
+mistyped_decides : (g : Geometry) (v : Volume) (entry : DirEntry)
+    → Decides (is_mistyped g v entry) ((entry.kind ≢ 0) × IsInode Little g v entry.inode (λ inode. entry_type_of (kind_of inode.mode) ≢ Some entry.kind))
+unfolding is_mistyped
+mistyped_decides g v entry = mistyped_is entry.kind (inode_at Little g v entry.inode)
+
+-- the entries of a directory are these
+pub entries_are : (g : Geometry) (v : Volume) (i : ℕ) (inode : Inode) (entries : List DirEntry) → inode_at Little g v i ≡ Some inode → kind_of inode.mode ≡ Directory
+    → (entries_of Little g inode v).value ≡ Ok entries → HasEntries Little g v i entries
+entries_are g v i inode entries is kind value = subst (λ o. MatchOption o ⊥ (λ inode. (kind_of inode.mode ≡ Directory) × ((entries_of Little g inode v).value ≡ Ok entries))) (sym is) (kind, value)
+
+pub entries_same : (g : Geometry) (v : Volume) (i : ℕ) (inode : Inode) (entries others : List DirEntry) → inode_at Little g v i ≡ Some inode
+    → (entries_of Little g inode v).value ≡ Ok entries → HasEntries Little g v i others → others ≡ entries
+entries_same g v i inode entries others is value has =
+    let other = directory_is g v i (λ inode. (entries_of Little g inode v).value ≡ Ok others) inode is has in
+    let both : Ok others ≡ Ok entries = sym other.1 ∙ value in cc
+
+pub bad_entry_decides : (g : Geometry) (v : Volume) (i : ℕ) (inode : Inode) (faults : EntryFaults) → inode_at Little g v i ≡ Some inode → kind_of inode.mode ≡ Directory
+    → AreRead g v inode faults → Decides faults.entry (HasBadEntry Little g v i)
+bad_entry_decides g v i inode faults is kind read =
+    let decides = entry_decides (names_none g v) (λ entry. inode_at Little g v entry.inode ≡ None) (none_decides g v) (read.entries) in (
+      λ h. let found = decides.0 (sym read.entry ∙ h) in
+          record { k = found.k; entry = found.entry; here = record { entries = read.entries; are = entries_are g v i inode (read.entries) is kind read.are; here = found.here }; none = found.is },
+      λ h. read.entry ∙ decides.1 (record { k = h.k; entry = h.entry; here = subst (λ es. slice_get es h.k ≡ Some h.entry) (entries_same g v i inode (read.entries) (h.here.entries) is read.are h.here.are) h.here.here; is = h.none }),
+    )
+
+pub bad_type_decides : (g : Geometry) (v : Volume) (i : ℕ) (inode : Inode) (faults : EntryFaults) → inode_at Little g v i ≡ Some inode → kind_of inode.mode ≡ Directory
+    → AreRead g v inode faults → Decides faults.entry_type (HasBadType Little g v i)
+bad_type_decides g v i inode faults is kind read =
+    let decides = entry_decides (is_mistyped g v) (λ entry. (entry.kind ≢ 0) × IsInode Little g v entry.inode (λ inode. entry_type_of (kind_of inode.mode) ≢ Some entry.kind)) (mistyped_decides g v) (read.entries) in (
+      λ h. let found = decides.0 (sym read.entry_type ∙ h) in
+          record { k = found.k; entry = found.entry; here = record { entries = read.entries; are = entries_are g v i inode (read.entries) is kind read.are; here = found.here }; typed = found.is.0; other = found.is.1 },
+      λ h. read.entry_type ∙ decides.1 (record { k = h.k; entry = h.entry; here = subst (λ es. slice_get es h.k ≡ Some h.entry) (entries_same g v i inode (read.entries) (h.here.entries) is read.are h.here.are) h.here.here; is = (h.typed, h.other) }),
+    )
+
+-- a directory has no more bytes than it may
+pub not_too_long : (g : Geometry) (v : Volume) (i : ℕ) (inode : Inode) → inode_at Little g v i ≡ Some inode → kind_of inode.mode ≡ Directory → 2 ^ 32 ≤ inode.size
+    → (IsBad Little g v Filesize i → ⊥) → ⊥
+not_too_long g v i inode is kind long none =
+    none (subst (λ o. MatchOption o ⊥ (λ inode. (has_pointers g inode ≡ true) × (2 ^ 32 ≤ inode.size))) (sym is) (rw kind refl, long))
+
+-- an inode that is no directory is passed
+pub directory_passed : (g : Geometry) (v : Volume) (i : ℕ) (faults : DirectoryFaults) → ((holds : Inode → Type 0) → IsDirectory Little g v i holds → ⊥)
+    → AreDirectoryFaultsBelow g v i faults → AreDirectoryFaultsBelow g v (i + 1) faults
+directory_passed g v i faults none so_far = record {
+  hole = least_passed (IsBad Little g v HoleIn) i faults.hole (none (HasHole Little g v)) so_far.hole;
+  chunk = least_passed (IsBad Little g v Chunk) i faults.chunk (none (λ inode. (inode.size % 512 ≢ 0) ⊎ HasBadChunk Little g v inode)) so_far.chunk;
+  entry = least_passed (IsBad Little g v Entry) i faults.entry (λ h. none (λ inode. (entries_of Little g inode v).value ≡ Ok (h.here.entries)) h.here.are) so_far.entry;
+  entry_type = least_passed (IsBad Little g v EntryType) i faults.entry_type (λ h. none (λ inode. (entries_of Little g inode v).value ≡ Ok (h.here.entries)) h.here.are) so_far.entry_type;
+}
+
+-- ---- all inodes
+
+within : (g : Geometry) (v : Volume) (i : ℕ) (low high : Bool) (holds : Inode → Type 0) → nat_le 2 i ≡ low → nat_lt i (g.ncg * g.ipg) ≡ high
+    → MatchOption (if low && high then (inode_of Little g i v).value else None) ⊥ holds → (2 ≤ i) × (i < g.ncg * g.ipg)
+within g v i true true holds low high h = (grind (arith, nat_tests), grind (arith, nat_tests))
+within g v i true false holds low high h = absurd h
+within g v i false true holds low high h = absurd h
+within g v i false false holds low high h = absurd h
+
+-- an inode that is there is one from 2 to the last
+pub inode_within : (g : Geometry) (v : Volume) (i : ℕ) (holds : Inode → Type 0) → IsInode Little g v i holds → (2 ≤ i) × (i < g.ncg * g.ipg)
+inode_within g v i holds h = within g v i (nat_le 2 i) (nat_lt i (g.ncg * g.ipg)) holds refl refl h
+
+directory_within : (g : Geometry) (v : Volume) (i : ℕ) (holds : Inode → Type 0) → IsDirectory Little g v i holds → (2 ≤ i) × (i < g.ncg * g.ipg)
+directory_within g v i holds h = inode_within g v i (λ inode. (kind_of inode.mode ≡ Directory) × holds inode) h
+
+-- the least of all are those below the last
+pub directories_all : (g : Geometry) (v : Volume) (bound : ℕ) (faults : DirectoryFaults) → g.ncg * g.ipg ≤ bound → AreDirectoryFaultsBelow g v bound faults → AreDirectoryFaults g v faults
+directories_all g v bound faults last so_far = record {
+  hole = least_all (IsBad Little g v HoleIn) bound faults.hole (λ m h. let low = (directory_within g v m (HasHole Little g v) h).1 in omega arith) so_far.hole;
+  chunk = least_all (IsBad Little g v Chunk) bound faults.chunk (λ m h. let low = (directory_within g v m (λ inode. (inode.size % 512 ≢ 0) ⊎ HasBadChunk Little g v inode) h).1 in omega arith) so_far.chunk;
+  entry = least_all (IsBad Little g v Entry) bound faults.entry
+      (λ m h. let low = (directory_within g v m (λ inode. (entries_of Little g inode v).value ≡ Ok (h.here.entries)) h.here.are).1 in omega arith) so_far.entry;
+  entry_type = least_all (IsBad Little g v EntryType) bound faults.entry_type
+      (λ m h. let low = (directory_within g v m (λ inode. (entries_of Little g inode v).value ≡ Ok (h.here.entries)) h.here.are).1 in omega arith) so_far.entry_type;
+}

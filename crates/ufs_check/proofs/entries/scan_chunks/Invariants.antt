@@ -1,0 +1,21 @@
+use Rattle.std.proofs.Common.{◌≡◌, ◌-◌, ◌*◌, drop, false}
+use Rattle.std.specs.List.{list_any}
+use Rattle.dg_io.specs.Views.{KeepsView}
+use Rattle.ufs_model.specs.Blocks.{Volume}
+use Rattle.ufs_model.specs.Metadata.{IsMetadataBy}
+use Rattle.ufs_model.specs.Paths.{chunks_in}
+use Rattle.ufs_model.specs.declared.numbers.Endian.TheVariants.{Little}
+use Rattle.ufs_check.specs.Entries.{Completes, entries_all, is_refused}
+use Rattle.ufs_check.specs.Passes.{FetchesOnly}
+use Rattle.ufs_check.proofs.entries.scan_chunks.Given as goal
+
+abbrev pub invariant-loop-i : goal.invariant-loop-i
+invariant-loop-i g l = record {
+  keeps : KeepsView g.V.View.stands_for g.V.View.tells g.V.View.is_gone g.V.View.count g.V.View.size g.V.View.is_sound g.V.View.goes_on l.fn.view l.view;
+  levels : l.levels.fragment ≡ l.fn.levels.fragment;
+  block : l.levels.block ≡ l.fn.levels.block;
+  whole : list_any is_refused (chunks_in (l.count - l.i) (drop (l.i * 512) l.fn.levels.block)) ≡ false;
+  found : g.V.View.tells l.view → (v : Volume) → g.V.View.stands_for l.fn.view v
+      → Completes l.g v (entries_all (chunks_in l.count l.fn.levels.block)) (entries_all (chunks_in (l.count - l.i) (drop (l.i * 512) l.fn.levels.block))) l.fn.faults l.faults;
+  fetched : FetchesOnly g.V.View.fetched (g.V.View.stands_for l.fn.view) (g.V.View.tells l.view) (IsMetadataBy Little l.g) l.fn.view l.view;
+}

@@ -1,0 +1,40 @@
+use Rattle.std.proofs.Common.{◌∙◌}
+use Rattle.dg_io.specs.ViewLaws.{keeps_both, keeps_same}
+use Rattle.ufs_check.specs.Directories.{IsDirectoryRead}
+use Rattle.ufs_check.proofs.LinkLaws.{links_none}
+use Rattle.ufs_check.proofs.PassLaws.{only_both, only_none}
+use Rattle.ufs_check.proofs.links.check_links.Goals as goal
+
+pub loop-i-init : goal.loop-i-init
+loop-i-init g c = record {
+  keeps = keeps_same c.args.view.now c.requires.sound (g.met.V.View.unchanged c.args.view.now);
+  levels = c.requires.levels;
+  found = λ told v stands. links_none c.args.g.now v c.empty_table-table.result c.empty_table-table.ensures;
+  fetched = only_none (IsDirectoryRead c.args.g.now) c.args.view.now (g.met.V.View.fetched_none c.args.view.now);
+}
+
+pub loop-i-preserved : goal.loop-i-preserved
+loop-i-preserved g c =
+    let invariant = c.loop-i.invariant in
+    let so_far = invariant.keeps in
+    record {
+      keeps = keeps_both g.met.V.View.further c.args.view.now c.loop-i.view c.link_inode.new.view so_far c.link_inode.ensures.keeps;
+      levels = c.link_inode.ensures.levels ∙ invariant.levels;
+      found = λ told v stands.
+          c.in_ok-link_inode.ensures.found c.if-not-branch.false told v (so_far.stands v stands) (invariant.found (c.link_inode.ensures.keeps.told told) v stands);
+      fetched = only_both g.met.V.View.fetched_both so_far.stands c.link_inode.ensures.keeps.told invariant.fetched c.link_inode.ensures.fetched;
+    }
+
+pub returns-clause-found : goal.returns-clause-found
+returns-clause-found g c = λ told v stands read.
+    c.judge_links.ensures v (record { read = read; bound = c.loop-i.i; last = c.loop-i-test.false; links = c.loop-i.invariant.found told v stands })
+
+pub returns-in_err-link_inode-clause-fetched : goal.returns-in_err-link_inode-clause-fetched
+returns-in_err-link_inode-clause-fetched g c =
+    let so_far = c.loop-i.invariant.keeps in
+    only_both g.met.V.View.fetched_both so_far.stands c.link_inode.ensures.keeps.told c.loop-i.invariant.fetched c.link_inode.ensures.fetched
+
+pub returns-then-not-branch-clause-fetched : goal.returns-then-not-branch-clause-fetched
+returns-then-not-branch-clause-fetched g c =
+    let so_far = c.loop-i.invariant.keeps in
+    only_both g.met.V.View.fetched_both so_far.stands c.link_inode.ensures.keeps.told c.loop-i.invariant.fetched c.link_inode.ensures.fetched

@@ -1,0 +1,15 @@
+pub mod Least
+pub mod Passes
+pub mod Groups
+pub mod Inodes
+pub mod Entries
+pub mod FileBlocks
+pub mod Directories
+pub mod Reaches
+pub mod Limits
+pub mod Pointers
+pub mod Fragments
+pub mod OwnedEntries
+pub mod Names
+pub mod Links
+pub mod Verdicts

@@ -1,0 +1,35 @@
+-- What is wrong with the names of a directory's entries. The words of this file are this crate's own.
+use Rattle.std.specs.Prelude.{◌≡◌, ◌≢◌, ℕ, ◌==◌, ◌&&◌, not, Bool, List, Some, slice_get}
+use Rattle.std.specs.Cmp.Lexicographic.{pointwise}
+use Rattle.ufs_model.specs.Blocks.{Volume}
+use Rattle.ufs_model.specs.Chunks.{DirEntry}
+use Rattle.ufs_model.specs.Malformations.{IsBad, dot, dot_dot}
+use Rattle.ufs_model.specs.declared.geometries.Geometry.{Geometry}
+use Rattle.ufs_model.specs.declared.malformations.BadKind.TheVariants.{Names, RootNamed}
+use Rattle.ufs_model.specs.declared.numbers.Endian.TheVariants.{Little}
+use Rattle.ufs_check.specs.Least.{IsLeastBelow}
+use Rattle.ufs_check.specs.declared.names.NameFaults.{NameFaults}
+
+-- an entry is neither `.` nor `..`
+abbrev pub is_plain : DirEntry → Bool
+is_plain entry = not (pointwise ◌==◌ entry.name dot) && not (pointwise ◌==◌ entry.name dot_dot)
+
+-- a plain entry names the root
+abbrev pub names_root : DirEntry → Bool
+names_root entry = is_plain entry && (entry.inode == 2)
+
+-- two entries of one name
+pub record HasSameIn (entries : List DirEntry) : Type 0 where
+  pub j : ℕ
+  pub k : ℕ
+  pub one : DirEntry
+  pub other : DirEntry
+  pub differ : j ≢ k
+  pub first : slice_get entries j ≡ Some one
+  pub second : slice_get entries k ≡ Some other
+  pub same : one.name ≡ other.name
+
+-- both kinds have their least directory below a bound
+pub record AreNameFaultsBelow (g : Geometry) (v : Volume) (bound : ℕ) (faults : NameFaults) : Type 0 where
+  pub names : IsLeastBelow (IsBad Little g v Names) bound faults.names
+  pub root_named : IsLeastBelow (IsBad Little g v RootNamed) bound faults.root_named

@@ -1,0 +1,123 @@
+-- The first malformation of a volume, by what the passes over it found.
+use Rattle.std.specs.Prelude.{◌≡◌, ℕ, ◌<◌, List, [], ◌∷◌, Option, Some, None, Ok}
+use Rattle.ufs_model.specs.Blocks.{Volume}
+use Rattle.ufs_model.specs.Malformations.{IsBad, order_of}
+use Rattle.ufs_model.specs.Superblocks.{geometry_of}
+use Rattle.ufs_model.specs.declared.geometries.Geometry.{Geometry}
+use Rattle.ufs_model.specs.declared.malformations.BadKind.{BadKind}
+use Rattle.ufs_model.specs.declared.malformations.BadKind.TheVariants.{Super, GroupMagic, GroupMap, WrongType, Filesize, Past, Wild, WildIn, Align, AlignIn, Run, Twice, PastIn, Free, Unused, Hole, Chunk, Entry, EntryType, Dots, Names, DirTwice, RootNamed}
+use Rattle.ufs_model.specs.declared.numbers.Endian.TheVariants.{Little}
+use Rattle.dg_claims.specs.Readers.{IsTableOf}
+use Rattle.dg_claims.specs.Tables.{ClaimTable}
+use Rattle.ufs_check.specs.Directories.{AreDirectoryFaults, HasFilesizes}
+use Rattle.ufs_check.specs.Fragments.{AreFragmentFaults, HasClaims, HasWholeUppers}
+use Rattle.ufs_check.specs.Groups.{AreGroupFaults}
+use Rattle.ufs_check.specs.Inodes.{AreInodeFaults}
+use Rattle.ufs_check.specs.Links.{AreLinkFaults, HasAllEntries}
+use Rattle.ufs_check.specs.declared.faults.Faults.{Faults}
+use Rattle.ufs_check.specs.declared.faults.MetadataFaults.{MetadataFaults}
+use Rattle.ufs_check.specs.declared.verdicts.Verdict.{Verdict}
+use Rattle.ufs_check.specs.declared.verdicts.Verdict.TheVariants.{Sound, Malformed, Gone}
+
+-- a volume of a view, with n blocks of l bytes, which has this geometry and the claims of a table
+abbrev pub IsOnView : (Volume → Type 0) → ℕ → ℕ → Geometry → ClaimTable → Volume → Type 0
+IsOnView stands l n g table v = stands v × HasClaims g table v × ((geometry_of Little l n v).value ≡ Ok g)
+
+-- a volume of a view, with n blocks of l bytes, of which a table has the claims
+abbrev pub IsTabled : (Volume → Type 0) → ℕ → ℕ → ClaimTable → Volume → Type 0
+IsTabled stands l n table v = stands v × IsTableOf Little l n v table
+
+-- ---- what the passes find
+
+-- what is found by metadata alone
+pub record AreMetadataFaults (g : Geometry) (v : Volume) (faults : MetadataFaults) : Type 0 where
+  pub groups : AreGroupFaults g v faults.groups
+  pub inodes : AreInodeFaults g v faults.inodes
+  pub fragments : AreFragmentFaults g v faults.fragments
+  pub whole : HasWholeUppers g v
+
+-- what is found in all; of directories where it can be told
+pub record AreFaults (g : Geometry) (v : Volume) (faults : Faults) : Type 0 where
+  pub metadata : AreMetadataFaults g v faults.metadata
+  pub directories : HasFilesizes g v → AreDirectoryFaults g v faults.directories
+  pub links : HasAllEntries g v → AreLinkFaults g v faults.links
+
+-- the least number that is found of a kind
+abbrev pub found_in : Faults → BadKind → Option ℕ
+found_in faults (Super bad) = None
+found_in faults GroupMagic = faults.metadata.groups.magic
+found_in faults GroupMap = faults.metadata.groups.map
+found_in faults WrongType = faults.metadata.inodes.wrong_type
+found_in faults Filesize = faults.metadata.inodes.filesize
+found_in faults Past = faults.metadata.inodes.past
+found_in faults Wild = faults.metadata.inodes.wild
+found_in faults WildIn = faults.metadata.fragments.wild_in
+found_in faults Align = faults.metadata.inodes.align
+found_in faults AlignIn = faults.metadata.fragments.align_in
+found_in faults Run = faults.metadata.inodes.run
+found_in faults Twice = faults.metadata.fragments.twice
+found_in faults PastIn = faults.metadata.fragments.past_in
+found_in faults Free = faults.metadata.fragments.free
+found_in faults Unused = faults.metadata.inodes.unused
+found_in faults Hole = faults.directories.hole
+found_in faults Chunk = faults.directories.chunk
+found_in faults Entry = faults.directories.entry
+found_in faults EntryType = faults.directories.entry_type
+found_in faults Dots = faults.links.dots
+found_in faults Names = faults.links.names
+found_in faults DirTwice = faults.links.dir_twice
+found_in faults RootNamed = faults.links.root_named
+
+-- ---- the first of it
+
+-- the kinds that are found beside those of the superblock, in their order
+abbrev pub all_kinds : List BadKind
+all_kinds =
+    GroupMagic
+    ∷ GroupMap
+    ∷ WrongType
+    ∷ Filesize
+    ∷ Past
+    ∷ Wild
+    ∷ WildIn
+    ∷ Align
+    ∷ AlignIn
+    ∷ Run
+    ∷ Twice
+    ∷ PastIn
+    ∷ Free
+    ∷ Unused
+    ∷ Hole
+    ∷ Chunk
+    ∷ Entry
+    ∷ EntryType
+    ∷ Dots
+    ∷ Names
+    ∷ DirTwice
+    ∷ RootNamed
+    ∷ []
+
+-- what is kept, or else this kind with its number
+abbrev pub later : Option (BadKind × ℕ) → BadKind → Option ℕ → Option (BadKind × ℕ)
+later (Some first) kind number = Some first
+later None kind (Some n) = Some (kind, n)
+later None kind None = None
+
+-- what is kept, or else the first of these kinds that is found
+abbrev pub first_by : (BadKind → Option ℕ) → Option (BadKind × ℕ) → List BadKind → Option (BadKind × ℕ)
+first_by number first [] = first
+first_by number first (kind ∷ kinds) = first_by number (later first kind (number kind)) kinds
+
+-- ---- what it tells
+
+-- the first kind that is there, with the least number of which it is, where the superblock gives a geometry
+pub record IsFirstBad (g : Geometry) (v : Volume) (kind : BadKind) (n : ℕ) : Type 0 where
+  pub here : IsBad Little g v kind n
+  pub least : (m : ℕ) → m < n → IsBad Little g v kind m → ⊥
+  pub first : (other : BadKind) (m : ℕ) → order_of other < order_of kind → IsBad Little g v other m → ⊥
+
+-- what a verdict tells of a volume with this geometry, of which no block was missed
+abbrev pub Judges : Geometry → Volume → Verdict → Type 0
+Judges g v Sound = (kind : BadKind) (n : ℕ) → IsBad Little g v kind n → ⊥
+Judges g v (Malformed kind n) = IsFirstBad g v kind n
+Judges g v Gone = ⊥

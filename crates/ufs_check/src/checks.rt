@@ -1,0 +1,129 @@
+// The first malformation of a volume.
+ghost use Rattle.std.specs.Prelude.{◌≡◌, ℕ, Ok, Some, IfNone, IfOk, IfSome};
+ghost use Rattle.dg_io.specs.Views.{KeepsView};
+ghost use Rattle.ufs_model.specs.Blocks.{Volume};
+ghost use Rattle.ufs_model.specs.Geometries.{IsGeometryOn};
+ghost use Rattle.ufs_model.specs.Malformations.{IsFirstMalformation, IsSoundVolume};
+ghost use Rattle.ufs_model.specs.Metadata.{IsMetadataBy, IsStructure};
+ghost use Rattle.ufs_model.specs.declared.numbers.Endian.TheVariants.{Little};
+ghost use Rattle.dg_claims.specs.Kept.{table_of};
+ghost use Rattle.ufs_check.specs.Fragments.{IsClaimedBy};
+ghost use Rattle.ufs_check.specs.Passes.{FetchesOnly, LosesOne};
+ghost use Rattle.ufs_check.specs.Verdicts.{AreFaults, AreMetadataFaults, IsOnView, IsTabled};
+
+use crate::directories::{check_directories, directories_are_structure};
+use crate::faults::{Faults, MetadataFaults, verdict_of};
+use crate::fragments::check_fragments;
+use crate::groups::check_groups;
+use crate::inodes::check_inodes;
+use crate::links::check_links;
+use crate::verdicts::Verdict;
+use dg_claims::Claims;
+use dg_io::{NoMemory, View};
+use std::alloc::Global;
+use ufs_model::{BadKind, Geometry};
+use ufs_pointer::{Levels, read_geometry};
+
+/// What is wrong by metadata alone, by the claims of the volume. There is no answer where a block of it
+/// is gone.
+fn check_metadata<V: View>(
+    view: &mut V,
+    g: &Geometry,
+    levels: &mut Levels,
+    claims: &Claims,
+) -> Option<MetadataFaults>
+    requires sound { V.is_sound view.old }
+    requires geometry { IsGeometryOn (V.size view.old) (V.count view.old) g.now }
+    requires levels { levels.old.fragment ≡ V.size view.old }
+    requires table { (table_of claims.now).geometry ≡ Some g.now }
+    ensures keeps { KeepsView V.stands_for V.tells V.is_gone V.count V.size V.is_sound V.goes_on view.old view.new }
+    ensures levels { levels.new.fragment ≡ levels.old.fragment }
+    ensures found { IfSome result (λ faults. V.tells view.new → (v : Volume) → IsClaimedBy (V.stands_for view.old) g.now (table_of claims.now) v
+        → AreMetadataFaults g.now v faults) }
+    ensures gone { IfNone result (V.tells view.new → (v : Volume) → IsClaimedBy (V.stands_for view.old) g.now (table_of claims.now) v
+        → LosesOne (V.is_gone view.new) (IsMetadataBy Little g.now v)) }
+    ensures fetched { FetchesOnly V.fetched (IsClaimedBy (V.stands_for view.old) g.now (table_of claims.now)) (V.tells view.new) (IsMetadataBy Little g.now) view.old view.new }
+{
+    let groups = check_groups(view, g, levels)?;
+    let inodes = check_inodes(view, g, levels)?;
+    let fragments = check_fragments(view, g, levels, claims)?;
+    Some(MetadataFaults {
+        groups,
+        inodes,
+        fragments,
+    })
+}
+
+/// What all passes find, by the claims of the volume. There is no answer where a block with the volume's
+/// structure is gone.
+fn check_volume<V: View>(
+    alloc: Global,
+    view: &mut V,
+    g: &Geometry,
+    levels: &mut Levels,
+    claims: &Claims,
+) -> Result<Option<Faults>, NoMemory>
+    requires sound { V.is_sound view.old }
+    requires geometry { IsGeometryOn (V.size view.old) (V.count view.old) g.now }
+    requires levels { levels.old.fragment ≡ V.size view.old }
+    requires table { (table_of claims.now).geometry ≡ Some g.now }
+    ensures keeps { KeepsView V.stands_for V.tells V.is_gone V.count V.size V.is_sound V.goes_on view.old view.new }
+    ensures levels { levels.new.fragment ≡ levels.old.fragment }
+    ensures found { IfOk result (λ answer. IfSome answer (λ faults. V.tells view.new → (v : Volume) → IsClaimedBy (V.stands_for view.old) g.now (table_of claims.now) v
+        → AreFaults g.now v faults)) }
+    ensures gone { IfOk result (λ answer. IfNone answer (V.tells view.new → (v : Volume)
+        → IsOnView (V.stands_for view.old) (V.size view.old) (V.count view.old) g.now (table_of claims.now) v
+        → LosesOne (V.is_gone view.new) (IsStructure Little (V.size view.old) (V.count view.old) v))) }
+    ensures fetched { FetchesOnly V.fetched (IsOnView (V.stands_for view.old) (V.size view.old) (V.count view.old) g.now (table_of claims.now)) (V.tells view.new)
+        (IsStructure Little (V.size view.old) (V.count view.old)) view.old view.new }
+{
+    directories_are_structure();
+    let Some(metadata) = check_metadata(view, g, levels, claims) else {
+        return Ok(None);
+    };
+    let Some(directories) = check_directories(view, g, levels) else {
+        return Ok(None);
+    };
+    let Some(links) = check_links(alloc, view, g, levels)? else {
+        return Ok(None);
+    };
+    Ok(Some(Faults {
+        metadata,
+        directories,
+        links,
+    }))
+}
+
+/// The first malformation of the volume on a view, where the table has the volume's claims. The buffers
+/// are for blocks of the view's size.
+pub fn check<V: View>(
+    alloc: Global,
+    view: &mut V,
+    levels: &mut Levels,
+    claims: &Claims,
+) -> Result<Verdict, NoMemory>
+    requires sound { V.is_sound view.old }
+    requires levels { levels.old.fragment ≡ V.size view.old }
+    ensures keeps { KeepsView V.stands_for V.tells V.is_gone V.count V.size V.is_sound V.goes_on view.old view.new }
+    ensures levels { levels.new.fragment ≡ levels.old.fragment }
+    ensures is_sound { result ≡ Ok Verdict.Sound → V.tells view.new → (v : Volume) → IsTabled (V.stands_for view.old) (V.size view.old) (V.count view.old) (table_of claims.now) v
+        → IsSoundVolume Little (V.size view.old) (V.count view.old) v }
+    ensures malformed { (kind : BadKind) (n : ℕ) → result ≡ Ok (Verdict.Malformed kind n) → V.tells view.new → (v : Volume) → IsTabled (V.stands_for view.old) (V.size view.old) (V.count view.old) (table_of claims.now) v
+        → IsFirstMalformation Little (V.size view.old) (V.count view.old) v kind n }
+    ensures gone { result ≡ Ok Verdict.Gone → V.tells view.new → (v : Volume) → IsTabled (V.stands_for view.old) (V.size view.old) (V.count view.old) (table_of claims.now) v
+        → LosesOne (V.is_gone view.new) (IsStructure Little (V.size view.old) (V.count view.old) v) }
+    ensures fetched { FetchesOnly V.fetched (IsTabled (V.stands_for view.old) (V.size view.old) (V.count view.old) (table_of claims.now)) (V.tells view.new) (IsStructure Little (V.size view.old) (V.count view.old)) view.old view.new }
+{
+    let g = match read_geometry(view, levels) {
+        None => return Ok(Verdict::Gone),
+        Some(Err(bad)) => return Ok(Verdict::Malformed(BadKind::Super(bad), 0)),
+        Some(Ok(g)) => g,
+    };
+    if claims.geometry() != Some(g) {
+        return Ok(Verdict::Gone);
+    }
+    match check_volume(alloc, view, &g, levels, claims)? {
+        None => Ok(Verdict::Gone),
+        Some(faults) => Ok(verdict_of(&faults)),
+    }
+}

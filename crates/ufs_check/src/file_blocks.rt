@@ -1,0 +1,104 @@
+// File blocks of directories.
+ghost use Rattle.std.specs.Prelude.{◌≡◌, ◌+◌, ◌*◌, ◌^◌, ◌<◌, ◌≤◌, IfSome, length};
+ghost use Rattle.dg_io.specs.Views.{KeepsView};
+ghost use Rattle.ufs_model.specs.Geometries.{IsGeometry, IsGeometryOn};
+ghost use Rattle.ufs_model.specs.Inodes.{block_count};
+ghost use Rattle.ufs_model.specs.Paths.{block_of, bytes_at, bytes_in_block};
+ghost use Rattle.ufs_model.specs.Readings.{ReadsAs};
+ghost use Rattle.ufs_model.specs.declared.numbers.Endian.TheVariants.{Little};
+ghost use Rattle.ufs_model.specs.declared.pointers.Address.TheVariants.{At};
+ghost use Rattle.ufs_pointer.specs.Fetches.{Fetches};
+ghost use Rattle.ufs_check.specs.FileBlocks.{IfData, block_said};
+
+use dg_io::View;
+use ufs_model::{Geometry, Inode};
+use ufs_pointer::{BlockAnswer, Levels, file_block};
+
+/// What there is of a file block.
+#[derive(Clone, Copy)]
+pub enum FileBlock {
+    /// Its bytes are in the buffer.
+    Data,
+    /// A pointer on the way to it is 0.
+    Hole,
+    /// A pointer on the way to it is wild.
+    Wild,
+}
+
+/// The file blocks of a file.
+pub fn block_count(g: &Geometry, inode: &Inode) -> u32
+    requires geometry { IsGeometry g.now }
+    requires small { inode.now.size < 2 ^ 32 }
+    ensures value { result ≡ block_count g.now inode.now }
+    ensures few { result ≤ 2 ^ 20 }
+{
+    inode.size.div_ceil(u64::from(g.bsize)) as u32
+}
+
+/// The bytes of a file that stand in its file block `n`.
+#[tactic(auto, using(crate::proofs::Sizes::block_fits))]
+pub fn bytes_in_block(g: &Geometry, inode: &Inode, n: u32) -> usize
+    requires { IsGeometry g.now }
+    ensures value { result ≡ bytes_in_block g.now inode.now n }
+    ensures small { result ≤ 65536 }
+{
+    let before = u64::from(n) * u64::from(g.bsize);
+    u64::from(g.bsize).min(inode.size.saturating_sub(before)) as usize
+}
+
+/// Reads `k` fragments from `a` on, end to end.
+#[tactic(auto, unfolding(ufs_model::specs::Paths::bytes_at, ufs_model::specs::Blocks::bind))]
+fn read_run<V: View>(
+    view: &mut V,
+    g: &Geometry,
+    a: u32,
+    k: u32,
+    levels: &mut Levels,
+) -> Option<FileBlock>
+    requires sound { V.is_sound view.old }
+    requires geometry { IsGeometryOn (V.size view.old) (V.count view.old) g.now }
+    requires levels { levels.old.fragment ≡ V.size view.old }
+    requires inside { a + k ≤ g.now.size }
+    requires few { k ≤ 8 }
+    ensures keeps { KeepsView V.stands_for V.tells V.is_gone V.count V.size V.is_sound V.goes_on view.old view.new }
+    ensures levels { levels.new.fragment ≡ levels.old.fragment }
+    ensures room { length levels.new.block ≡ k * g.now.fsize }
+    ensures rule { ReadsAs (V.stands_for view.old) (V.is_gone view.old) (V.tells view.new) (V.is_gone view.new)
+        (bytes_at g.now (At a k)) (block_said result levels.new.block) }
+    ensures fetched { Fetches V.fetched (V.stands_for view.old) (V.tells view.new)
+        (bytes_at g.now (At a k)) (block_said result levels.new.block) view.old view.new }
+{
+    if !levels.read_block(view, a, k) {
+        return None;
+    }
+    Some(FileBlock::Data)
+}
+
+/// Reads file block `n`, with every fragment that it claims. There is no answer where a block on the way
+/// to it, or one of its own, is gone.
+pub fn read_block<V: View>(
+    view: &mut V,
+    g: &Geometry,
+    inode: &Inode,
+    n: u32,
+    levels: &mut Levels,
+) -> Option<FileBlock>
+    requires sound { V.is_sound view.old }
+    requires geometry { IsGeometryOn (V.size view.old) (V.count view.old) g.now }
+    requires levels { levels.old.fragment ≡ V.size view.old }
+    requires block { n < 2 ^ 30 }
+    ensures keeps { KeepsView V.stands_for V.tells V.is_gone V.count V.size V.is_sound V.goes_on view.old view.new }
+    ensures levels { levels.new.fragment ≡ levels.old.fragment }
+    ensures covered { IfSome result (λ found. IfData found (bytes_in_block g.now inode.now n ≤ length levels.new.block)) }
+    ensures rule { ReadsAs (V.stands_for view.old) (V.is_gone view.old) (V.tells view.new) (V.is_gone view.new)
+        (block_of Little g.now inode.now n) (block_said result levels.new.block) }
+    ensures fetched { Fetches V.fetched (V.stands_for view.old) (V.tells view.new)
+        (block_of Little g.now inode.now n) (block_said result levels.new.block) view.old view.new }
+{
+    match file_block(view, g, inode, n, levels) {
+        BlockAnswer::Hole => Some(FileBlock::Hole),
+        BlockAnswer::Wild => Some(FileBlock::Wild),
+        BlockAnswer::Gone => None,
+        BlockAnswer::At(a, k) => read_run(view, g, a, k, levels),
+    }
+}

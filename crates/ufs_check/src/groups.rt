@@ -1,0 +1,56 @@
+// The pass over the group blocks.
+ghost use Rattle.std.specs.Prelude.{◌≡◌, ◌+◌, ◌<◌, ◌≤◌, ℕ, List, IfNone, IfSome, length};
+ghost use Rattle.dg_io.specs.Views.{KeepsView};
+ghost use Rattle.ufs_model.specs.Blocks.{Volume};
+ghost use Rattle.ufs_model.specs.Geometries.{IsGeometry, IsGeometryOn};
+ghost use Rattle.ufs_model.specs.GroupMaps.{group_bytes};
+ghost use Rattle.ufs_model.specs.Metadata.{IsMetadataBy};
+ghost use Rattle.ufs_model.specs.declared.numbers.Endian.TheVariants.{Little};
+ghost use Rattle.ufs_check.specs.Groups.{AreGroupFaults, AreGroupFaultsBelow};
+ghost use Rattle.ufs_check.specs.Passes.{FetchesOnly, LosesOne};
+
+use crate::notes::note;
+use crate::verdicts::GroupFaults;
+use dg_io::View;
+use ufs_group::{BadGroup, group_block, read_group};
+use ufs_model::Geometry;
+use ufs_pointer::Levels;
+
+/// Notes what is wrong with the block of group `c`, where what is wrong with those of lower numbers is
+/// noted.
+fn note_group(g: &Geometry, c: u32, bytes: &[u8], faults: &mut GroupFaults)
+    requires geometry { IsGeometry g.now }
+    requires group { c < g.now.ncg }
+    requires bytes { g.now.bsize ≤ length bytes.now }
+    ensures { (v : Volume) → bytes.now ≡ (group_bytes g.now c v).value → AreGroupFaultsBelow g.now v c faults.old
+        → AreGroupFaultsBelow g.now v (c + 1) faults.new }
+{
+    let refused = read_group(bytes, g, c).err();
+    note(&mut faults.magic, c, refused == Some(BadGroup::Magic));
+    note(&mut faults.map, c, refused == Some(BadGroup::Map));
+}
+
+/// What is wrong with the group blocks. There is no answer where a block of one is gone.
+pub fn check_groups<V: View>(view: &mut V, g: &Geometry, levels: &mut Levels) -> Option<GroupFaults>
+    requires sound { V.is_sound view.old }
+    requires geometry { IsGeometryOn (V.size view.old) (V.count view.old) g.now }
+    requires levels { levels.old.fragment ≡ V.size view.old }
+    ensures keeps { KeepsView V.stands_for V.tells V.is_gone V.count V.size V.is_sound V.goes_on view.old view.new }
+    ensures levels { levels.new.fragment ≡ levels.old.fragment }
+    ensures found { IfSome result (λ faults. V.tells view.new → (v : Volume) → V.stands_for view.old v → AreGroupFaults g.now v faults) }
+    ensures gone { IfNone result (V.tells view.new → (v : Volume) → V.stands_for view.old v
+        → LosesOne (V.is_gone view.new) (IsMetadataBy Little g.now v)) }
+    ensures fetched { FetchesOnly V.fetched (V.stands_for view.old) (V.tells view.new) (IsMetadataBy Little g.now) view.old view.new }
+{
+    let mut faults = GroupFaults {
+        magic: None,
+        map: None,
+    };
+    for c in 0..g.ncg {
+        if !levels.read_block(view, group_block(g, c), g.frag) {
+            return None;
+        }
+        note_group(g, c, levels.block(), &mut faults);
+    }
+    Some(faults)
+}

@@ -1,0 +1,35 @@
+//! The first malformation of a UFS1 volume, from a view of its blocks some of which may be gone.
+//!
+//! A pass goes over one kind of structure, each block of which it reads once. It keeps the least number
+//! of each kind of fault that it looks for.
+#![tactic(auto)]
+
+mod checks;
+mod directories;
+mod entries;
+mod faults;
+mod file_blocks;
+#[cfg(test)]
+mod fragment_tests;
+mod fragments;
+mod groups;
+mod inodes;
+mod limits;
+#[cfg(test)]
+mod link_tests;
+mod links;
+mod names;
+mod notes;
+mod owned_entries;
+mod parents;
+mod pointers;
+mod reaches;
+mod slots;
+#[cfg(test)]
+mod tests;
+mod verdicts;
+
+pub use crate::checks::check;
+pub use crate::verdicts::Verdict;
+pub use ufs_model::{BadKind, BadSuper, Geometry};
+pub use ufs_pointer::Levels;
