@@ -25,8 +25,10 @@ use Rattle.ufs_model.specs.declared.pointers.Address.TheVariants.{Hole, Wild, At
 use Rattle.ufs_model.specs.declared.reads.BadRead.TheVariants.{Chunk as BadChunk}
 use Rattle.ufs_model.specs.declared.reads.PathRefusal.{PathRefusal}
 use Rattle.ufs_model.specs.declared.reads.PathRefusal.TheVariants.{Bad}
-use Rattle.ufs_check.specs.Directories.{AreDirectoryFaults, AreDirectoryFaultsBelow, SaysEntries, any_below, hole_at, hole_said, refused_at, refused_said}
+use Rattle.ufs_check.specs.Directories.{AreDirectoryFaults, AreDirectoryFaultsBelow, HasNoHole, SaysEntries, ScannedBelow, ScannedWhole, any_below, hole_at, hole_said, refused_at, refused_said}
 use Rattle.ufs_check.specs.Entries.{is_mistyped, is_refused, mistyped_in, names_none, type_differs}
+use Rattle.ufs_check.specs.Least.{IsLeast, IsLeastBelow}
+use Rattle.ufs_check.specs.declared.directories.Scan.{Scan}
 use Rattle.ufs_check.specs.declared.entries.EntryFaults.{EntryFaults}
 use Rattle.ufs_check.specs.declared.verdicts.DirectoryFaults.{DirectoryFaults}
 use Rattle.ufs_check.proofs.DirectoryLaws.{chunks_value}
@@ -49,6 +51,13 @@ below_here test (suc m) n lt is = elim (cases_order n m) [
 ]
 
 -- ---- holes
+
+-- the first hole was met
+pub scanned_hole : (g : Geometry) (inode : Inode) (v : Volume) (n : ℕ) (scan : Scan) → n < block_count g inode → scan.hole ≡ true → ScannedBelow g inode v n scan → ScannedWhole g inode v scan
+scanned_hole g inode v n scan lt has so_far = record {
+  hole = has ∙ sym (let found = below_found (hole_at g inode v) n (sym so_far.hole ∙ has) in below_here (hole_at g inode v) (block_count g inode) found.0 (let low = found.1 in omega arith) found.2);
+  below = λ none. let no : true ≡ false = sym has ∙ none in cc;
+}
 
 pub block_value : (g : Geometry) (inode : Inode) (n : ℕ) (v : Volume) → (block_of Little g inode n v).value ≡ (bytes_at g ((file_block_of Little g inode n v).value) v).value
 unfolding block_of bind
@@ -247,14 +256,24 @@ pub not_too_long : (g : Geometry) (v : Volume) (i : ℕ) (inode : Inode) → ino
 not_too_long g v i inode is kind long none =
     none (subst (λ o. MatchOption o ⊥ (λ inode. (has_pointers g inode ≡ true) × (2 ^ 32 ≤ inode.size))) (sym is) (rw kind refl, long))
 
+not_true : (b : Bool) → (b ≡ true → ⊥) → b ≡ false
+not_true true none = absurd (none refl)
+not_true false none = refl
+
+-- no hole is found where there is none
+pub scanned_clear : (g : Geometry) (v : Volume) (i : ℕ) (inode : Inode) (scan : Scan) → inode_at Little g v i ≡ Some inode → kind_of inode.mode ≡ Directory → HasNoHole g v
+    → ScannedWhole g inode v scan → ScannedBelow g inode v (block_count g inode) scan
+scanned_clear g v i inode scan is kind none whole =
+    whole.below (not_true scan.hole (λ has. none i (directory_there g v i (HasHole Little g v) inode is kind ((has_hole_decides g inode v scan.hole whole.hole).0 has))))
+
 -- an inode that is no directory is passed
 pub directory_passed : (g : Geometry) (v : Volume) (i : ℕ) (faults : DirectoryFaults) → ((holds : Inode → Type 0) → IsDirectory Little g v i holds → ⊥)
     → AreDirectoryFaultsBelow g v i faults → AreDirectoryFaultsBelow g v (i + 1) faults
 directory_passed g v i faults none so_far = record {
   hole = least_passed (IsBad Little g v HoleIn) i faults.hole (none (HasHole Little g v)) so_far.hole;
-  chunk = least_passed (IsBad Little g v Chunk) i faults.chunk (none (λ inode. (inode.size % 512 ≢ 0) ⊎ HasBadChunk Little g v inode)) so_far.chunk;
-  entry = least_passed (IsBad Little g v Entry) i faults.entry (λ h. none (λ inode. (entries_of Little g inode v).value ≡ Ok (h.here.entries)) h.here.are) so_far.entry;
-  entry_type = least_passed (IsBad Little g v EntryType) i faults.entry_type (λ h. none (λ inode. (entries_of Little g inode v).value ≡ Ok (h.here.entries)) h.here.are) so_far.entry_type;
+  chunk = λ holes. least_passed (IsBad Little g v Chunk) i faults.chunk (none (λ inode. (inode.size % 512 ≢ 0) ⊎ HasBadChunk Little g v inode)) (so_far.chunk holes);
+  entry = λ holes. least_passed (IsBad Little g v Entry) i faults.entry (λ h. none (λ inode. (entries_of Little g inode v).value ≡ Ok (h.here.entries)) h.here.are) (so_far.entry holes);
+  entry_type = λ holes. least_passed (IsBad Little g v EntryType) i faults.entry_type (λ h. none (λ inode. (entries_of Little g inode v).value ≡ Ok (h.here.entries)) h.here.are) (so_far.entry_type holes);
 }
 
 -- ---- all inodes
@@ -273,13 +292,22 @@ inode_within g v i holds h = within g v i (nat_le 2 i) (nat_lt i (g.ncg * g.ipg)
 directory_within : (g : Geometry) (v : Volume) (i : ℕ) (holds : Inode → Type 0) → IsDirectory Little g v i holds → (2 ≤ i) × (i < g.ncg * g.ipg)
 directory_within g v i holds h = inode_within g v i (λ inode. (kind_of inode.mode ≡ Directory) × holds inode) h
 
+hole_all : (g : Geometry) (v : Volume) (bound : ℕ) (faults : DirectoryFaults) → g.ncg * g.ipg ≤ bound → IsLeastBelow (IsBad Little g v HoleIn) bound faults.hole → IsLeast (IsBad Little g v HoleIn) faults.hole
+hole_all g v bound faults last so_far = least_all (IsBad Little g v HoleIn) bound faults.hole (λ m h. let low = (directory_within g v m (HasHole Little g v) h).1 in omega arith) so_far
+
+-- no hole was found
+no_hole : (g : Geometry) (v : Volume) (r : Option ℕ) → IsLeast (IsBad Little g v HoleIn) r → r ≡ None → HasNoHole g v
+no_hole g v r least none = subst (IsLeast (IsBad Little g v HoleIn)) none least
+
 -- the least of all are those below the last
 pub directories_all : (g : Geometry) (v : Volume) (bound : ℕ) (faults : DirectoryFaults) → g.ncg * g.ipg ≤ bound → AreDirectoryFaultsBelow g v bound faults → AreDirectoryFaults g v faults
-directories_all g v bound faults last so_far = record {
-  hole = least_all (IsBad Little g v HoleIn) bound faults.hole (λ m h. let low = (directory_within g v m (HasHole Little g v) h).1 in omega arith) so_far.hole;
-  chunk = least_all (IsBad Little g v Chunk) bound faults.chunk (λ m h. let low = (directory_within g v m (λ inode. (inode.size % 512 ≢ 0) ⊎ HasBadChunk Little g v inode) h).1 in omega arith) so_far.chunk;
-  entry = least_all (IsBad Little g v Entry) bound faults.entry
-      (λ m h. let low = (directory_within g v m (λ inode. (entries_of Little g inode v).value ≡ Ok (h.here.entries)) h.here.are).1 in omega arith) so_far.entry;
-  entry_type = least_all (IsBad Little g v EntryType) bound faults.entry_type
-      (λ m h. let low = (directory_within g v m (λ inode. (entries_of Little g inode v).value ≡ Ok (h.here.entries)) h.here.are).1 in omega arith) so_far.entry_type;
-}
+directories_all g v bound faults last so_far =
+    let hole = hole_all g v bound faults last so_far.hole in record {
+      hole = hole;
+      chunk = λ none. least_all (IsBad Little g v Chunk) bound faults.chunk
+          (λ m h. let low = (directory_within g v m (λ inode. (inode.size % 512 ≢ 0) ⊎ HasBadChunk Little g v inode) h).1 in omega arith) (so_far.chunk (no_hole g v faults.hole hole none));
+      entry = λ none. least_all (IsBad Little g v Entry) bound faults.entry
+          (λ m h. let low = (directory_within g v m (λ inode. (entries_of Little g inode v).value ≡ Ok (h.here.entries)) h.here.are).1 in omega arith) (so_far.entry (no_hole g v faults.hole hole none));
+      entry_type = λ none. least_all (IsBad Little g v EntryType) bound faults.entry_type
+          (λ m h. let low = (directory_within g v m (λ inode. (entries_of Little g inode v).value ≡ Ok (h.here.entries)) h.here.are).1 in omega arith) (so_far.entry_type (no_hole g v faults.hole hole none));
+    }

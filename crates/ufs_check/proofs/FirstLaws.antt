@@ -1,5 +1,5 @@
 -- The first of all kinds that are found.
-use Rattle.std.proofs.Common.{◌≡◌, ◌∙◌, ℕ, suc, ◌-◌, ◌<◌, inl, inr, lit<, List, [], ◌∷◌, Option, Some, None, refl, sym, ap, subst, arith}
+use Rattle.std.proofs.Common.{◌≡◌, ◌∙◌, ℕ, suc, ◌-◌, ◌<◌, ◌≤◌, inl, inr, lit<, List, [], ◌∷◌, Option, Some, None, refl, sym, ap, true, subst, arith}
 use Rattle.std.specs.Prelude.{slice_get}
 use Rattle.std.proofs.lemmas.Bool.{cases_order}
 use Rattle.ufs_model.specs.Blocks.{Volume}
@@ -10,8 +10,9 @@ use Rattle.ufs_model.specs.declared.malformations.BadKind.{BadKind}
 use Rattle.ufs_model.specs.declared.malformations.BadKind.TheVariants.{Super, GroupMagic, GroupMap, WrongType, Filesize, Past, Wild, WildIn, Align, AlignIn, Run, Twice, PastIn, Free, Unused, Hole, Chunk, Entry, EntryType, Dots, Names, DirTwice, RootNamed}
 use Rattle.ufs_model.specs.declared.numbers.Endian.TheVariants.{Little}
 use Rattle.ufs_check.specs.Least.{IsLeast}
-use Rattle.ufs_check.specs.Links.{HasAllEntries}
-use Rattle.ufs_check.specs.Verdicts.{AreFaults, Judges, all_kinds, first_by, found_in, later}
+use Rattle.ufs_check.specs.Directories.{AreDirectoryFaults}
+use Rattle.ufs_check.specs.Links.{AreLinkFaults, HasAllEntries}
+use Rattle.ufs_check.specs.Verdicts.{AreFaults, Judges, all_kinds, first_by, found_in, later, no_directory_fault, no_metadata_fault}
 use Rattle.ufs_check.specs.declared.faults.Faults.{Faults}
 use Rattle.ufs_check.specs.declared.verdicts.Verdict.TheVariants.{Sound, Malformed}
 use Rattle.ufs_check.proofs.WildLaws.{all_entries}
@@ -155,16 +156,56 @@ whole_first faults slots claims entries links first second third fourth =
 pub not_there : (holds : ℕ → Type 0) (r : Option ℕ) → r ≡ None → IsLeast holds r → (n : ℕ) → holds n → ⊥
 not_there holds r none least = subst (IsLeast holds) none least
 
+-- where nothing of a lower order is found, nothing is found of the metadata
+no_metadata : (faults : Faults) (order : ℕ) → 15 ≤ order → NoneBelow (found_in faults) order → no_metadata_fault faults.metadata ≡ true
+no_metadata faults order high none =
+    let magic : faults.metadata.groups.magic ≡ None = none GroupMagic (omega arith) in
+    let map : faults.metadata.groups.map ≡ None = none GroupMap (omega arith) in
+    let wrong_type : faults.metadata.inodes.wrong_type ≡ None = none WrongType (omega arith) in
+    let filesize : faults.metadata.inodes.filesize ≡ None = none Filesize (omega arith) in
+    let past : faults.metadata.inodes.past ≡ None = none Past (omega arith) in
+    let wild : faults.metadata.inodes.wild ≡ None = none Wild (omega arith) in
+    let wild_in : faults.metadata.fragments.wild_in ≡ None = none WildIn (omega arith) in
+    let align : faults.metadata.inodes.align ≡ None = none Align (omega arith) in
+    let align_in : faults.metadata.fragments.align_in ≡ None = none AlignIn (omega arith) in
+    let run : faults.metadata.inodes.run ≡ None = none Run (omega arith) in
+    let twice : faults.metadata.fragments.twice ≡ None = none Twice (omega arith) in
+    let past_in : faults.metadata.fragments.past_in ≡ None = none PastIn (omega arith) in
+    let free : faults.metadata.fragments.free ≡ None = none Free (omega arith) in
+    let unused : faults.metadata.inodes.unused ≡ None = none Unused (omega arith) in
+    rw (magic, map, wrong_type, filesize, past, wild, align, run, unused, wild_in, align_in, twice, past_in, free) refl
+
+-- and nothing of directories by themselves
+no_directory : (faults : Faults) (order : ℕ) → 19 ≤ order → NoneBelow (found_in faults) order → no_directory_fault faults.directories ≡ true
+no_directory faults order high none =
+    let hole : faults.directories.hole ≡ None = none Hole (omega arith) in
+    let chunk : faults.directories.chunk ≡ None = none Chunk (omega arith) in
+    let entry : faults.directories.entry ≡ None = none Entry (omega arith) in
+    let entry_type : faults.directories.entry_type ≡ None = none EntryType (omega arith) in
+    rw (hole, chunk, entry, entry_type) refl
+
+-- so directories are told
+directories_told : (g : Geometry) (v : Volume) (faults : Faults) (order : ℕ) → 15 ≤ order → AreFaults g v faults → NoneBelow (found_in faults) order → AreDirectoryFaults g v faults.directories
+directories_told g v faults order high are none =
+    are.directories (no_metadata faults order high none)
+    (not_there (IsBad Little g v Filesize) faults.metadata.inodes.filesize (none Filesize (omega arith)) are.metadata.inodes.filesize)
+
 -- the entries of all directories are read
-entries_all : (g : Geometry) (v : Volume) (faults : Faults) → IsGeometry g → AreFaults g v faults → found_in faults Filesize ≡ None → found_in faults Wild ≡ None → found_in faults WildIn ≡ None
-    → found_in faults Hole ≡ None → found_in faults Chunk ≡ None → HasAllEntries g v
-entries_all g v faults is are filesize wild wild_in hole chunk =
-    let sizes = not_there (IsBad Little g v Filesize) faults.metadata.inodes.filesize filesize are.metadata.inodes.filesize in
-    all_entries g v is are.metadata.whole sizes
-    (not_there (IsBad Little g v Wild) faults.metadata.inodes.wild wild are.metadata.inodes.wild)
-    (not_there (IsBad Little g v WildIn) faults.metadata.fragments.wild_in wild_in are.metadata.fragments.wild_in)
-    (not_there (IsBad Little g v Hole) faults.directories.hole hole (are.directories sizes).hole)
-    (not_there (IsBad Little g v Chunk) faults.directories.chunk chunk (are.directories sizes).chunk)
+entries_all : (g : Geometry) (v : Volume) (faults : Faults) (order : ℕ) → 19 ≤ order → IsGeometry g → AreFaults g v faults → NoneBelow (found_in faults) order → HasAllEntries g v
+entries_all g v faults order high is are none =
+    let told = directories_told g v faults order (omega arith) are none in
+    let hole : faults.directories.hole ≡ None = none Hole (omega arith) in
+    all_entries g v is are.metadata.whole
+    (not_there (IsBad Little g v Filesize) faults.metadata.inodes.filesize (none Filesize (omega arith)) are.metadata.inodes.filesize)
+    (not_there (IsBad Little g v Wild) faults.metadata.inodes.wild (none Wild (omega arith)) are.metadata.inodes.wild)
+    (not_there (IsBad Little g v WildIn) faults.metadata.fragments.wild_in (none WildIn (omega arith)) are.metadata.fragments.wild_in)
+    (not_there (IsBad Little g v Hole) faults.directories.hole hole told.hole)
+    (not_there (IsBad Little g v Chunk) faults.directories.chunk (none Chunk (omega arith)) (told.chunk hole))
+
+-- so links are told
+links_told : (g : Geometry) (v : Volume) (faults : Faults) (order : ℕ) → 19 ≤ order → IsGeometry g → AreFaults g v faults → NoneBelow (found_in faults) order → AreLinkFaults g v faults.links
+links_told g v faults order high is are none =
+    are.links (no_metadata faults order (omega arith) none) (no_directory faults order high none) (entries_all g v faults order high is are none)
 
 -- of each kind, where none of a lower order is found
 least_found : (g : Geometry) (v : Volume) (faults : Faults) (kind : BadKind) → IsGeometry g → AreFaults g v faults → NoneBelow (found_in faults) (order_of kind)
@@ -184,18 +225,14 @@ least_found g v faults Twice is are none = are.metadata.fragments.twice
 least_found g v faults PastIn is are none = are.metadata.fragments.past_in (none Twice (lit< tt))
 least_found g v faults Free is are none = are.metadata.fragments.free
 least_found g v faults Unused is are none = are.metadata.inodes.unused
-least_found g v faults Hole is are none = (are.directories (not_there (IsBad Little g v Filesize) faults.metadata.inodes.filesize (none Filesize (lit< tt)) are.metadata.inodes.filesize)).hole
-least_found g v faults Chunk is are none = (are.directories (not_there (IsBad Little g v Filesize) faults.metadata.inodes.filesize (none Filesize (lit< tt)) are.metadata.inodes.filesize)).chunk
-least_found g v faults Entry is are none = (are.directories (not_there (IsBad Little g v Filesize) faults.metadata.inodes.filesize (none Filesize (lit< tt)) are.metadata.inodes.filesize)).entry
-least_found g v faults EntryType is are none = (are.directories (not_there (IsBad Little g v Filesize) faults.metadata.inodes.filesize (none Filesize (lit< tt)) are.metadata.inodes.filesize)).entry_type
-least_found g v faults Dots is are none =
-    (are.links (entries_all g v faults is are (none Filesize (lit< tt)) (none Wild (lit< tt)) (none WildIn (lit< tt)) (none Hole (lit< tt)) (none Chunk (lit< tt)))).dots
-least_found g v faults Names is are none =
-    (are.links (entries_all g v faults is are (none Filesize (lit< tt)) (none Wild (lit< tt)) (none WildIn (lit< tt)) (none Hole (lit< tt)) (none Chunk (lit< tt)))).names
-least_found g v faults DirTwice is are none =
-    (are.links (entries_all g v faults is are (none Filesize (lit< tt)) (none Wild (lit< tt)) (none WildIn (lit< tt)) (none Hole (lit< tt)) (none Chunk (lit< tt)))).dir_twice
-least_found g v faults RootNamed is are none =
-    (are.links (entries_all g v faults is are (none Filesize (lit< tt)) (none Wild (lit< tt)) (none WildIn (lit< tt)) (none Hole (lit< tt)) (none Chunk (lit< tt)))).root_named
+least_found g v faults Hole is are none = (directories_told g v faults 15 (lit< tt) are none).hole
+least_found g v faults Chunk is are none = (directories_told g v faults 16 (lit< tt) are none).chunk (none Hole (lit< tt))
+least_found g v faults Entry is are none = (directories_told g v faults 17 (lit< tt) are none).entry (none Hole (lit< tt))
+least_found g v faults EntryType is are none = (directories_told g v faults 18 (lit< tt) are none).entry_type (none Hole (lit< tt))
+least_found g v faults Dots is are none = (links_told g v faults 19 (lit< tt) is are none).dots
+least_found g v faults Names is are none = (links_told g v faults 20 (lit< tt) is are none).names
+least_found g v faults DirTwice is are none = (links_told g v faults 21 (lit< tt) is are none).dir_twice
+least_found g v faults RootNamed is are none = (links_told g v faults 22 (lit< tt) is are none).root_named
 
 -- ---- the verdict
 

@@ -23,19 +23,23 @@ use Rattle.ufs_check.specs.declared.verdicts.DirectoryFaults.{DirectoryFaults}
 
 -- ---- the pass
 
--- each kind has its least inode
+-- no directory has a hole
+abbrev pub HasNoHole : Geometry → Volume → Type 0
+HasNoHole g v = (m : ℕ) → IsBad Little g v HoleIn m → ⊥
+
+-- Each kind has its least inode. A directory with a hole isn't looked at behind that, so the other kinds are told where there is none.
 pub record AreDirectoryFaults (g : Geometry) (v : Volume) (faults : DirectoryFaults) : Type 0 where
   pub hole : IsLeast (IsBad Little g v HoleIn) faults.hole
-  pub chunk : IsLeast (IsBad Little g v Chunk) faults.chunk
-  pub entry : IsLeast (IsBad Little g v Entry) faults.entry
-  pub entry_type : IsLeast (IsBad Little g v EntryType) faults.entry_type
+  pub chunk : faults.hole ≡ None → IsLeast (IsBad Little g v Chunk) faults.chunk
+  pub entry : faults.hole ≡ None → IsLeast (IsBad Little g v Entry) faults.entry
+  pub entry_type : faults.hole ≡ None → IsLeast (IsBad Little g v EntryType) faults.entry_type
 
 -- its least below a bound
 pub record AreDirectoryFaultsBelow (g : Geometry) (v : Volume) (bound : ℕ) (faults : DirectoryFaults) : Type 0 where
   pub hole : IsLeastBelow (IsBad Little g v HoleIn) bound faults.hole
-  pub chunk : IsLeastBelow (IsBad Little g v Chunk) bound faults.chunk
-  pub entry : IsLeastBelow (IsBad Little g v Entry) bound faults.entry
-  pub entry_type : IsLeastBelow (IsBad Little g v EntryType) bound faults.entry_type
+  pub chunk : HasNoHole g v → IsLeastBelow (IsBad Little g v Chunk) bound faults.chunk
+  pub entry : HasNoHole g v → IsLeastBelow (IsBad Little g v Entry) bound faults.entry
+  pub entry_type : HasNoHole g v → IsLeastBelow (IsBad Little g v EntryType) bound faults.entry_type
 
 -- no inode with pointers has 2^32 bytes or more
 abbrev pub HasFilesizes : Geometry → Volume → Type 0
@@ -113,3 +117,8 @@ pub record ScannedBelow (g : Geometry) (inode : Inode) (v : Volume) (n : ℕ) (s
   pub hole : scan.hole ≡ any_below (hole_at g inode v) n
   pub chunk : scan.chunk ≡ any_below (refused_at g inode v) n
   pub entries : SaysEntries g v scan.read scan.entries ((entries_before Little g inode n v).value)
+
+-- what is found in a directory: whether it has a hole, and all of it where it has none
+pub record ScannedWhole (g : Geometry) (inode : Inode) (v : Volume) (scan : Scan) : Type 0 where
+  pub hole : scan.hole ≡ any_below (hole_at g inode v) (block_count g inode)
+  pub below : scan.hole ≡ false → ScannedBelow g inode v (block_count g inode) scan

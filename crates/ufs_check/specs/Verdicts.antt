@@ -1,5 +1,6 @@
 -- The first malformation of a volume, by what the passes over it found.
-use Rattle.std.specs.Prelude.{◌≡◌, ℕ, ◌<◌, List, [], ◌∷◌, Option, Some, None, Ok}
+use Rattle.std.specs.Prelude.{◌≡◌, ℕ, ◌<◌, ◌&&◌, Bool, true, List, [], ◌∷◌, Option, Some, None, Ok}
+use Rattle.std.specs.Option.{is_none}
 use Rattle.ufs_model.specs.Blocks.{Volume}
 use Rattle.ufs_model.specs.Malformations.{IsBad, order_of}
 use Rattle.ufs_model.specs.Superblocks.{geometry_of}
@@ -16,6 +17,10 @@ use Rattle.ufs_check.specs.Inodes.{AreInodeFaults}
 use Rattle.ufs_check.specs.Links.{AreLinkFaults, HasAllEntries}
 use Rattle.ufs_check.specs.declared.faults.Faults.{Faults}
 use Rattle.ufs_check.specs.declared.faults.MetadataFaults.{MetadataFaults}
+use Rattle.ufs_check.specs.declared.verdicts.DirectoryFaults.{DirectoryFaults}
+use Rattle.ufs_check.specs.declared.verdicts.FragmentFaults.{FragmentFaults}
+use Rattle.ufs_check.specs.declared.verdicts.GroupFaults.{GroupFaults}
+use Rattle.ufs_check.specs.declared.verdicts.InodeFaults.{InodeFaults}
 use Rattle.ufs_check.specs.declared.verdicts.Verdict.{Verdict}
 use Rattle.ufs_check.specs.declared.verdicts.Verdict.TheVariants.{Sound, Malformed, Gone}
 
@@ -36,11 +41,30 @@ pub record AreMetadataFaults (g : Geometry) (v : Volume) (faults : MetadataFault
   pub fragments : AreFragmentFaults g v faults.fragments
   pub whole : HasWholeUppers g v
 
--- what is found in all; of directories where it can be told
+-- nothing is found
+abbrev pub no_group_fault : GroupFaults → Bool
+no_group_fault faults = is_none faults.magic && is_none faults.map
+
+abbrev pub no_slot_fault : InodeFaults → Bool
+no_slot_fault faults = ((is_none faults.past && is_none faults.wild) && is_none faults.align) && is_none faults.run
+
+abbrev pub no_inode_fault : InodeFaults → Bool
+no_inode_fault faults = ((is_none faults.wrong_type && is_none faults.filesize) && no_slot_fault faults) && is_none faults.unused
+
+abbrev pub no_fragment_fault : FragmentFaults → Bool
+no_fragment_fault faults = (((is_none faults.wild_in && is_none faults.align_in) && is_none faults.twice) && is_none faults.past_in) && is_none faults.free
+
+abbrev pub no_metadata_fault : MetadataFaults → Bool
+no_metadata_fault faults = (no_group_fault faults.groups && no_inode_fault faults.inodes) && no_fragment_fault faults.fragments
+
+abbrev pub no_directory_fault : DirectoryFaults → Bool
+no_directory_fault faults = ((is_none faults.hole && is_none faults.chunk) && is_none faults.entry) && is_none faults.entry_type
+
+-- what is found in all; of directories where nothing else is found before, and it can be told
 pub record AreFaults (g : Geometry) (v : Volume) (faults : Faults) : Type 0 where
   pub metadata : AreMetadataFaults g v faults.metadata
-  pub directories : HasFilesizes g v → AreDirectoryFaults g v faults.directories
-  pub links : HasAllEntries g v → AreLinkFaults g v faults.links
+  pub directories : no_metadata_fault faults.metadata ≡ true → HasFilesizes g v → AreDirectoryFaults g v faults.directories
+  pub links : no_metadata_fault faults.metadata ≡ true → no_directory_fault faults.directories ≡ true → HasAllEntries g v → AreLinkFaults g v faults.links
 
 -- the least number that is found of a kind
 abbrev pub found_in : Faults → BadKind → Option ℕ

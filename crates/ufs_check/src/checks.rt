@@ -16,8 +16,8 @@ use crate::faults::{Faults, MetadataFaults, verdict_of};
 use crate::fragments::check_fragments;
 use crate::groups::check_groups;
 use crate::inodes::check_inodes;
-use crate::links::check_links;
-use crate::verdicts::Verdict;
+use crate::links::{NO_LINK_FAULTS, check_links};
+use crate::verdicts::{NO_DIRECTORY_FAULTS, Verdict};
 use dg_claims::Claims;
 use dg_io::{NoMemory, View};
 use std::alloc::Global;
@@ -54,8 +54,9 @@ fn check_metadata<V: View>(
     })
 }
 
-/// What all passes find, by the claims of the volume. There is no answer where a block with the volume's
-/// structure is gone.
+/// What the passes find, by the claims of the volume, up to the first that finds something: so the blocks
+/// of directories are gone over only where no fragment has two claims. There is no answer where a block
+/// with the volume's structure is gone.
 fn check_volume<V: View>(
     alloc: Global,
     view: &mut V,
@@ -81,9 +82,23 @@ fn check_volume<V: View>(
     let Some(metadata) = check_metadata(view, g, levels, claims) else {
         return Ok(None);
     };
+    if !metadata.is_none() {
+        return Ok(Some(Faults {
+            metadata,
+            directories: NO_DIRECTORY_FAULTS,
+            links: NO_LINK_FAULTS,
+        }));
+    }
     let Some(directories) = check_directories(view, g, levels) else {
         return Ok(None);
     };
+    if !directories.is_none() {
+        return Ok(Some(Faults {
+            metadata,
+            directories,
+            links: NO_LINK_FAULTS,
+        }));
+    }
     let Some(links) = check_links(alloc, view, g, levels)? else {
         return Ok(None);
     };

@@ -12,7 +12,7 @@ ghost use Rattle.ufs_model.specs.Superblocks.{geometry_of};
 ghost use Rattle.ufs_model.specs.declared.geometries.Geometry.{Geometry};
 ghost use Rattle.ufs_model.specs.declared.inodes.Kind.TheVariants.{Directory};
 ghost use Rattle.ufs_model.specs.declared.numbers.Endian.TheVariants.{Little};
-ghost use Rattle.ufs_check.specs.Directories.{AreDirectoryFaults, AreDirectoryFaultsBelow, HasFilesizes, IsDirectoryRead, IsFileRead, ScannedBelow, ScansBlock};
+ghost use Rattle.ufs_check.specs.Directories.{AreDirectoryFaults, AreDirectoryFaultsBelow, HasFilesizes, IsDirectoryRead, IsFileRead, ScannedWhole, ScansBlock};
 ghost use Rattle.ufs_check.specs.Fragments.{HasWholeUppers};
 ghost use Rattle.ufs_check.specs.Passes.{FetchesOnly, LosesOne};
 
@@ -20,7 +20,7 @@ use crate::entries::{EntryFaults, has_refused, read_named, scan_chunks};
 use crate::file_blocks::{FileBlock, block_count, bytes_in_block, read_block};
 use crate::inodes::{ROOT, TOO_LONG};
 use crate::notes::note;
-use crate::verdicts::DirectoryFaults;
+use crate::verdicts::{DirectoryFaults, NO_DIRECTORY_FAULTS};
 use dg_io::View;
 use ufs_dir::CHUNK_BYTES;
 use ufs_model::{Geometry, Inode, Kind};
@@ -108,7 +108,8 @@ fn scan_block<V: View>(
     }
 }
 
-/// What is found in a directory. There is no answer where a block that is read for it is gone.
+/// What is found in a directory, up to its first hole. There is no answer where a block that is read for
+/// it is gone.
 fn scan_directory<V: View>(
     view: &mut V,
     g: &Geometry,
@@ -122,7 +123,7 @@ fn scan_directory<V: View>(
     ensures keeps { KeepsView V.stands_for V.tells V.is_gone V.count V.size V.is_sound V.goes_on view.old view.new }
     ensures levels { levels.new.fragment ≡ levels.old.fragment }
     ensures found { IfSome result (λ scan. V.tells view.new → (v : Volume) → V.stands_for view.old v
-        → ScannedBelow g.now inode.now v (block_count g.now inode.now) scan) }
+        → ScannedWhole g.now inode.now v scan) }
     ensures gone { IfNone result (V.tells view.new → (v : Volume) → V.stands_for view.old v → LosesOne (V.is_gone view.new) (IsFileRead g.now inode.now v)) }
     ensures fetched { FetchesOnly V.fetched (V.stands_for view.old) (V.tells view.new) (IsFileRead g.now inode.now) view.old view.new }
 {
@@ -136,6 +137,9 @@ fn scan_directory<V: View>(
         },
     };
     for n in 0..block_count(g, inode) {
+        if scan.hole {
+            return Some(scan);
+        }
         if !scan_block(view, g, inode, n, levels, &mut scan) {
             return None;
         }
@@ -162,7 +166,7 @@ fn has_entries(inode: &Inode, scan: &Scan) -> bool
 fn note_directory(i: u32, inode: &Inode, scan: &Scan, faults: &mut DirectoryFaults)
     requires { inode.now.size < 2 ^ 32 }
     ensures { (g : Geometry) (v : Volume) → inode_at Little g v i ≡ Some inode.now → kind_of inode.now.mode ≡ Directory
-        → ScannedBelow g inode.now v (block_count g inode.now) scan.now → AreDirectoryFaultsBelow g v i faults.old → AreDirectoryFaultsBelow g v (i + 1) faults.new }
+        → ScannedWhole g inode.now v scan.now → AreDirectoryFaultsBelow g v i faults.old → AreDirectoryFaultsBelow g v (i + 1) faults.new }
 {
     note(&mut faults.hole, i, scan.hole);
     note(&mut faults.chunk, i, has_bad_chunk(inode, scan));
@@ -236,12 +240,7 @@ pub fn check_directories<V: View>(
         → LosesOne (V.is_gone view.new) (IsDirectoryRead g.now v)) }
     ensures fetched { FetchesOnly V.fetched (V.stands_for view.old) (V.tells view.new) (IsDirectoryRead g.now) view.old view.new }
 {
-    let mut faults = DirectoryFaults {
-        hole: None,
-        chunk: None,
-        entry: None,
-        entry_type: None,
-    };
+    let mut faults = NO_DIRECTORY_FAULTS;
     for i in ROOT..g.ncg * g.ipg {
         if !scan_inode(view, g, i, levels, &mut faults) {
             return None;

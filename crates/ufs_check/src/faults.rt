@@ -4,7 +4,7 @@ ghost use Rattle.ufs_model.specs.Blocks.{Volume};
 ghost use Rattle.ufs_model.specs.Geometries.{IsGeometry};
 ghost use Rattle.ufs_model.specs.declared.geometries.Geometry.{Geometry};
 ghost use Rattle.ufs_model.specs.declared.malformations.BadKind.TheVariants.{GroupMagic, GroupMap, WrongType, Filesize, Past, Wild, WildIn, Align, AlignIn, Run, Twice, PastIn, Free, Unused, Hole, Chunk, Entry, EntryType, Dots, Names, DirTwice, RootNamed};
-ghost use Rattle.ufs_check.specs.Verdicts.{AreFaults, Judges, first_by, found_in, later};
+ghost use Rattle.ufs_check.specs.Verdicts.{AreFaults, Judges, first_by, found_in, later, no_metadata_fault};
 
 use crate::links::LinkFaults;
 use crate::verdicts::{DirectoryFaults, FragmentFaults, GroupFaults, InodeFaults, Verdict};
@@ -21,7 +21,16 @@ pub struct MetadataFaults {
     pub fragments: FragmentFaults,
 }
 
-/// What all passes find.
+impl MetadataFaults {
+    /// Nothing is found.
+    pub fn is_none(&self) -> bool
+        ensures { result ≡ no_metadata_fault self.now }
+    {
+        self.groups.is_none() && self.inodes.is_none() && self.fragments.is_none()
+    }
+}
+
+/// What all passes find, up to the first that finds something.
 #[derive(Clone, Copy, Debug, PartialEq, Eq)]
 pub struct Faults {
     /// By metadata alone.

@@ -34,6 +34,14 @@ pub struct LinkFaults {
     pub root_named: Option<u32>,
 }
 
+/// Nothing is found between the entries of directories.
+pub const NO_LINK_FAULTS: LinkFaults = LinkFaults {
+    dots: None,
+    names: None,
+    dir_twice: None,
+    root_named: None,
+};
+
 /// `..` of directory `i` may name inode `p`.
 fn is_up(i: u32, p: u32, table: &LinkTable) -> bool
     ensures { result ≡ is_up_in table.now i p }

@@ -1,3 +1,6 @@
+ghost use Rattle.std.specs.Prelude.{◌≡◌};
+ghost use Rattle.ufs_check.specs.Verdicts.{no_directory_fault, no_fragment_fault, no_group_fault, no_inode_fault, no_slot_fault};
+
 use ufs_model::BadKind;
 
 /// What a check of a volume finds.
@@ -67,4 +70,65 @@ pub struct FragmentFaults {
     pub past_in: Option<u32>,
     /// It has a claim, and is marked free.
     pub free: Option<u32>,
+}
+
+/// Nothing is found of directories.
+pub const NO_DIRECTORY_FAULTS: DirectoryFaults = DirectoryFaults {
+    hole: None,
+    chunk: None,
+    entry: None,
+    entry_type: None,
+};
+
+impl GroupFaults {
+    /// Nothing is found.
+    pub fn is_none(&self) -> bool
+        ensures { result ≡ no_group_fault self.now }
+    {
+        self.magic.is_none() && self.map.is_none()
+    }
+}
+
+impl InodeFaults {
+    /// Nothing is found of slots.
+    fn has_sound_slots(&self) -> bool
+        ensures { result ≡ no_slot_fault self.now }
+    {
+        self.past.is_none() && self.wild.is_none() && self.align.is_none() && self.run.is_none()
+    }
+
+    /// Nothing is found.
+    pub fn is_none(&self) -> bool
+        ensures { result ≡ no_inode_fault self.now }
+    {
+        self.wrong_type.is_none()
+            && self.filesize.is_none()
+            && self.has_sound_slots()
+            && self.unused.is_none()
+    }
+}
+
+impl FragmentFaults {
+    /// Nothing is found.
+    pub fn is_none(&self) -> bool
+        ensures { result ≡ no_fragment_fault self.now }
+    {
+        self.wild_in.is_none()
+            && self.align_in.is_none()
+            && self.twice.is_none()
+            && self.past_in.is_none()
+            && self.free.is_none()
+    }
+}
+
+impl DirectoryFaults {
+    /// Nothing is found.
+    pub fn is_none(&self) -> bool
+        ensures { result ≡ no_directory_fault self.now }
+    {
+        self.hole.is_none()
+            && self.chunk.is_none()
+            && self.entry.is_none()
+            && self.entry_type.is_none()
+    }
 }

@@ -21,6 +21,27 @@ returns-in_default-clause-fetched g c =
     let first = c.check_metadata.ensures.keeps in
     only_told (IsMetadataBy Little gg) (IsStructure Little l n) (λ told v on. ((on.0, on.1), λ block is. metadata_structure l n gg v block (on.2) is)) c.check_metadata.ensures.fetched
 
+pub returns-then-not-is_none-clause-fetched : goal.returns-then-not-is_none-clause-fetched
+returns-then-not-is_none-clause-fetched g c =
+    let gg = c.args.g.now in
+    let l = g.V.View.size c.args.view.now in
+    let n = g.V.View.count c.args.view.now in
+    only_told (IsMetadataBy Little gg) (IsStructure Little l n) (λ told v on. ((on.0, on.1), λ block is. metadata_structure l n gg v block (on.2) is)) c.check_metadata.ensures.fetched
+
+pub returns-then-not-is_none-2-clause-fetched : goal.returns-then-not-is_none-2-clause-fetched
+returns-then-not-is_none-2-clause-fetched g c =
+    let gg = c.args.g.now in
+    let l = g.V.View.size c.args.view.now in
+    let n = g.V.View.count c.args.view.now in
+    let first = c.check_metadata.ensures.keeps in
+    let second = c.check_directories.ensures.keeps in
+    only_both g.met.V.View.fetched_both (λ v on. on) second.told
+    (only_told (IsMetadataBy Little gg) (IsStructure Little l n) (λ told v on. ((on.0, on.1), λ block is. metadata_structure l n gg v block (on.2) is)) c.check_metadata.ensures.fetched)
+    (only_told (IsDirectoryRead gg) (IsStructure Little l n) (λ told v on. (
+      first.stands v (on.0),
+      λ block read. c.directories_are_structure.ensures l n gg v block (on.2) c.requires.geometry.tests ((c.in-Some.ensures.found (second.told told) v (on.0, on.1)).whole) read,
+    )) c.check_directories.ensures.fetched)
+
 pub returns-in_default-check_directories-clause-fetched : goal.returns-in_default-check_directories-clause-fetched
 returns-in_default-check_directories-clause-fetched g c =
     let gg = c.args.g.now in
@@ -119,6 +140,6 @@ returns-clause-found g c =
     let links = rw c.in-Some-2.is at c.in_ok-links.ensures.found in
     λ told v claimed. record {
       metadata = c.in-Some.ensures.found (second.told (third.told told)) v claimed;
-      directories = λ sizes. c.in-Some-check_directories.ensures.found (third.told told) v (first.stands v (claimed.0)) sizes;
-      links = λ all. links told v (second.stands v (first.stands v (claimed.0))) all;
+      directories = λ nothing sizes. c.in-Some-check_directories.ensures.found (third.told told) v (first.stands v (claimed.0)) sizes;
+      links = λ nothing no_more all. links told v (second.stands v (first.stands v (claimed.0))) all;
     }

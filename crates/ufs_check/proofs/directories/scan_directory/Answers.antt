@@ -2,6 +2,7 @@ use Rattle.std.proofs.Common.{◌∙◌}
 use Rattle.dg_io.specs.ViewLaws.{keeps_both, keeps_same}
 use Rattle.ufs_check.specs.Directories.{IsFileRead}
 use Rattle.ufs_check.proofs.DirectoryLaws.{scanned_next, scanned_none}
+use Rattle.ufs_check.proofs.FaultLaws.{scanned_hole}
 use Rattle.ufs_check.proofs.PassLaws.{only_both, only_none}
 use Rattle.ufs_check.proofs.directories.scan_directory.Goals as goal
 
@@ -12,6 +13,10 @@ loop-n-init g c = record {
   found = λ told v stands. scanned_none c.args.g.now c.args.inode.now v;
   fetched = only_none (IsFileRead c.args.g.now c.args.inode.now) c.args.view.now (g.met.V.View.fetched_none c.args.view.now);
 }
+
+pub returns-then-scan-clause-found : goal.returns-then-scan-clause-found
+returns-then-scan-clause-found g c = λ told v stands.
+    scanned_hole c.args.g.now c.args.inode.now v c.loop-n.n c.loop-n.scan (rw c.block_count-n-end.ensures.value at c.loop-n-test.true) c.if-scan.true (c.loop-n.invariant.found told v stands)
 
 pub returns-then-not-scan_block-clause-fetched : goal.returns-then-not-scan_block-clause-fetched
 returns-then-not-scan_block-clause-fetched g c =
