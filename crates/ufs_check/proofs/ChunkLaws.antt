@@ -21,9 +21,6 @@ next_chunks count i bytes low =
     let place : (i + 1) * 512 ≡ i * 512 + 512 = omega arith in
     rw (more, place, ← drop-drop 512 (i * 512) bytes) refl
 
-pub no_chunks : (count i : ℕ) (bytes : List ℕ) → count ≤ i → chunks_in (count - i) bytes ≡ []
-no_chunks count i bytes past = let none : count - i ≡ 0 = omega arith in rw none refl
-
 -- ---- refused chunks
 
 or_true : (a b : Bool) → a ≡ true → (a || b) ≡ true

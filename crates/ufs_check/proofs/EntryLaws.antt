@@ -54,9 +54,3 @@ completes_next g v all here some rest old now new is so_far one = record {
   entry = further (names_none g v) some rest now.entry new.entry _ (ap (λ es. now.entry || list_any (names_none g v) es) (sym is) ∙ so_far.entry) one.entry;
   entry_type = further (is_mistyped g v) some rest now.entry_type new.entry_type _ (ap (λ es. now.entry_type || list_any (is_mistyped g v) es) (sym is) ∙ so_far.entry_type) one.entry_type;
 }
-
-pub completes_end : (g : Geometry) (v : Volume) (all rest : List DirEntry) (old now : EntryFaults) → rest ≡ [] → Completes g v all rest old now → AddsEntries g v all old now
-completes_end g v all rest old now none so_far = record {
-  entry = sym (or_end now.entry) ∙ ap (λ es. now.entry || list_any (names_none g v) es) (sym none) ∙ so_far.entry;
-  entry_type = sym (or_end now.entry_type) ∙ ap (λ es. now.entry_type || list_any (is_mistyped g v) es) (sym none) ∙ so_far.entry_type;
-}

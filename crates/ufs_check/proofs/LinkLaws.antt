@@ -225,7 +225,3 @@ root_low g v = least_none (IsBad Little g v RootNamed) 2 (λ m low bad. let high
 -- nothing is noted below the root
 pub links_none : (g : Geometry) (v : Volume) (table : LinkTable) → IsEmptyTable table → AreLinksBelow g v 2 table (record { names = None; root_named = None })
 links_none g v table empty = record { kept = table_empty g v table empty; names = record { names = names_low g v; root_named = root_low g v } }
-
--- the entries of a directory that were gathered behind none
-pub gathered_alone : (g : Geometry) (v : Volume) (i : ℕ) (old : List OwnedEntry) (new : List DirEntry) → old ≡ [] → GathersEntries g v i (owned_all old) new → HasEntries Little g v i new
-gathered_alone g v i old new none h = subst (HasEntries Little g v i) (sym (h.new_is ∙ ap (λ old. owned_all old ++ h.entries) none)) h.are

@@ -104,11 +104,6 @@ pub unread_from : (g : Geometry) (inode : Inode) (v : Volume) (n m : ℕ) → n 
 unread_from g inode v n m lt none =
     unread_more g inode v (suc n) m (omega arith) (λ entries is. joined_said _ _ entries (sym (said_next g inode n v) ∙ is) none)
 
--- the end of the loop
-pub gathers_end : (g : Geometry) (inode : Inode) (v : Volume) (n m : ℕ) (old new : List DirEntry) → n ≡ m → GathersAll ((entries_before Little g inode n v).value) old new
-    → GathersAll ((entries_before Little g inode m v).value) old new
-gathers_end g inode v n m old new is h = subst (λ n. GathersAll ((entries_before Little g inode n v).value) old new) is h
-
 -- ---- a directory
 
 long_entries : (g : Geometry) (inode : Inode) (v : Volume) → kind_of inode.mode ≡ Directory → 2 ^ 32 ≤ inode.size → (entries_of Little g inode v).value ≡ Err (Bad BadFilesize)

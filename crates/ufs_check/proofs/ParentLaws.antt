@@ -216,15 +216,6 @@ dots_fit i entries own up first second is =
     let parts = (dots_decides i own up).0 is in
     record { own = own; up = up; first = first; second = second; own_name = parts.0; own_inode = parts.1.0; up_name = parts.1.1; up_inode = refl }
 
-pub dots_unfit : (i p : ℕ) (entries : List DirEntry) (own up : DirEntry) → slice_get entries 0 ≡ Some own → slice_get entries 1 ≡ Some up → are_dots i own up ≡ false → FitsDots i entries p → ⊥
-dots_unfit i p entries own up first second is h =
-    let one : Some (h.own) ≡ Some own = sym h.first ∙ first in
-    let two : Some (h.up) ≡ Some up = sym h.second ∙ second in
-    let own_is : h.own ≡ own = cc in
-    let up_is : h.up ≡ up = cc in
-    let no : true ≡ false = sym ((dots_decides i own up).1 (subst (λ (e : DirEntry). e.name ≡ dot) own_is h.own_name, (subst (λ (e : DirEntry). e.inode ≡ i) own_is h.own_inode, subst (λ (e : DirEntry). e.name ≡ dot_dot) up_is h.up_name))) ∙ is in
-    cc
-
 -- ---- one more directory
 
 up_more : (g : Geometry) (v : Volume) (i d : ℕ) (kept : Option (Option ℕ)) → ((entries : List DirEntry) → d ≡ i → HasEntries Little g v d entries → ⊥) → UpAt g v i d kept → UpAt g v (i + 1) d kept
