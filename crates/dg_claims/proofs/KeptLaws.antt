@@ -203,13 +203,6 @@ added_dropped old middle new at place fresh adds drops = record {
 
 -- ---- a run that is forgotten
 
-pub unmarks_none : (old : Marks) (place : Place) (first : ℕ) → Unmarks old old place first 0
-unmarks_none old place first = record {
-  room = refl;
-  here = λ fragment. (λ has. (has, λ le. omega (arith, le)), λ both. both.0);
-  others = λ fragment other ne. (λ has. has, λ has. has);
-}
-
 pub unmarks_more : (old middle new : Marks) (place : Place) (first done count at : ℕ) → Unmarks old middle place first done → DropsMark middle new at place → at ≡ first + done → count ≡ done + 1
     → Unmarks old new place first count
 unmarks_more old middle new place first done count at part drops next more = record {

@@ -1,5 +1,5 @@
 -- Which fragments have a claim at a level.
-use Rattle.std.proofs.Common.{◌≡◌, ℕ, ◌+◌, ◌<◌, ◌↔◌, ◌∙◌, inl, inr, List, [], ◌∷◌, ◌++◌, Bool, true, false, Contains, Option, Some, None, IfSome, refl, sym, ap, subst, arith, if◌then◌else◌, ◌≤◌, ◌==◌}
+use Rattle.std.proofs.Common.{◌≡◌, ℕ, ◌+◌, ◌<◌, ◌↔◌, ◌∙◌, inl, inr, List, [], ◌∷◌, ◌++◌, Bool, true, false, Contains, Option, Some, None, IfSome, refl, sym, ap, subst, arith, if◌then◌else◌, ◌≤◌}
 use Rattle.std.specs.List.{list_any}
 use Rattle.std.proofs.lemmas.Bool.{cases_eq, false≢true, or_cases, or_left, or_right}
 use Rattle.std.proofs.lemmas.List.{append-nil}
@@ -79,12 +79,6 @@ claimed_level inside kept fragment source view is has =
 
 -- ---- the list of them
 
-pub push_true : (items : List ℕ) (fragment : ℕ) (wanted : Bool) → wanted ≡ true → items ++ (if wanted then fragment ∷ [] else []) ≡ items ++ fragment ∷ []
-push_true items fragment wanted e = ap (λ b. items ++ (if b then fragment ∷ [] else [])) e
-
-push_false : (items : List ℕ) (fragment : ℕ) (wanted : Bool) → wanted ≡ false → items ++ (if wanted then fragment ∷ [] else []) ≡ items
-push_false items fragment wanted e = ap (λ b. items ++ (if b then fragment ∷ [] else [])) e ∙ append-nil items
-
 pub fragments_more : (P : ℕ → Type 0) (items : List ℕ) (at count : ℕ) (wanted : Bool) → (wanted ≡ true) ↔ P at → count ≡ at + 1
     → ((fragment : ℕ) → Contains items fragment ↔ ((fragment < at) × P fragment))
     → (fragment : ℕ) → Contains (items ++ (if wanted then at ∷ [] else [])) fragment ↔ ((fragment < count) × P fragment)
@@ -107,9 +101,6 @@ fragments_more P items at count false test more before fragment =
         | inr ne ↦ (before fragment).1 (omega (arith, both.0, ne, more), both.1)
       ]),
     )
-
-pub fragments_none : (P : ℕ → Type 0) (fragment : ℕ) → Contains [] fragment ↔ ((fragment < 0) × P fragment)
-fragments_none P fragment = (λ has. absurd (contains_none fragment has), λ both. absurd (omega (arith, both.0)))
 
 by_test : {P : Type 0} (b t : Bool) → b ≡ t → (t ≡ true) ↔ P → (b ≡ true) ↔ P
 by_test b t e iff = (λ h. iff.0 (sym e ∙ h), λ p. e ∙ iff.1 p)

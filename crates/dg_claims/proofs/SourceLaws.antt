@@ -1,6 +1,6 @@
 -- What the sources of an inode, and those of a fragment, claim in the end.
-use Rattle.std.proofs.Common.{◌≡◌, ℕ, ◌+◌, ◌*◌, ◌/◌, ◌<◌, ◌≤◌, ◌∙◌, ◌&&◌, inl, inr, List, [], Bool, true, false, Option, Some, None, IfSome, nat_lt, refl, sym, ap, subst, arith, div-le_self, ◌^◌}
-use Rattle.std.proofs.lemmas.Bool.{cases_eq, false≢true}
+use Rattle.std.proofs.Common.{◌≡◌, ℕ, ◌*◌, ◌/◌, ◌<◌, ◌≤◌, ◌∙◌, ◌&&◌, inl, inr, List, [], Bool, true, false, Option, Some, None, IfSome, nat_lt, refl, sym, ap, subst, arith, div-le_self, ◌^◌}
+use Rattle.std.proofs.lemmas.Bool.{false≢true}
 use Rattle.std.proofs.lemmas.Bool.Decides.{nat_tests}
 use Rattle.ufs_model.specs.Claims.{slot_fragments, pointer_fragments, fragments_at}
 use Rattle.ufs_model.specs.Geometries.{IsGeometry}
@@ -38,24 +38,6 @@ pub pointer_apart : (fragment level i j : ℕ) → pointer_place fragment level 
 pointer_apart fragment level i j e = cc
 
 -- ---- the first of some places
-
-pub sets_none : (runs : List (Place × Run)) (place_at : ℕ → Place) (fragments : ℕ → List ℕ) → SetsFirst runs runs place_at fragments 0
-sets_none runs place_at fragments = record {
-  done = λ k lt. absurd (omega (arith, lt));
-  others = λ place apart. refl;
-}
-
-pub sets_more : (old middle new : List (Place × Run)) (place_at : ℕ → Place) (fragments : ℕ → List ℕ) (n count : ℕ) (run : Option Run)
-    → ((i j : ℕ) → place_at i ≡ place_at j → i ≡ j) → SetsFirst old middle place_at fragments n
-    → run_at new (place_at n) ≡ run → run_fragments run ≡ fragments n → count ≡ n + 1
-    → ((place : Place) → (place ≡ place_at n → ⊥) → run_at new place ≡ run_at middle place) → SetsFirst old new place_at fragments count
-sets_more old middle new place_at fragments n count run apart first here is more others = record {
-  done = λ k lt. elim (cases_eq k n) [
-    | inl same ↦ subst (λ m. run_fragments (run_at new (place_at m)) ≡ fragments m) (sym same) (ap run_fragments here ∙ is)
-    | inr ne ↦ ap run_fragments (others (place_at k) (λ e. ne (apart k n e))) ∙ first.done k (omega (arith, lt, ne, more))
-  ];
-  others = λ place off. others place (λ e. off n (omega (arith, more)) e) ∙ first.others place (λ k lt e. off k (omega (arith, lt, more)) e);
-}
 
 -- one that wasn't set in the end
 pub sets_cut : (old middle new : List (Place × Run)) (place_at : ℕ → Place) (fragments : ℕ → List ℕ) (n : ℕ) → SetsFirst old middle place_at fragments n

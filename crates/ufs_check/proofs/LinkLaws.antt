@@ -1,5 +1,5 @@
 -- What the entries of all directories tell.
-use Rattle.std.proofs.Common.{◌≡◌, ◌≢◌, ◌∙◌, ℕ, ◌+◌, ◌*◌, ◌<◌, ◌≤◌, inl, inr, Bool, true, false, List, [], ◌++◌, Option, Some, None, Ok, refl, sym, ap, subst, arith}
+use Rattle.std.proofs.Common.{◌≡◌, ◌≢◌, ◌∙◌, ℕ, ◌+◌, ◌*◌, ◌<◌, ◌≤◌, inl, inr, Bool, true, false, List, Option, Some, None, Ok, refl, sym, ap, subst, arith}
 use Rattle.std.specs.Prelude.{◌==◌, not, if◌then◌else◌, MatchOption}
 use Rattle.std.specs.Bool.{Decides}
 use Rattle.std.specs.BTreeMap.{get}
@@ -19,9 +19,7 @@ use Rattle.ufs_model.specs.declared.malformations.BadKind.TheVariants.{Dots, Nam
 use Rattle.ufs_model.specs.declared.numbers.Endian.TheVariants.{Little}
 use Rattle.ufs_check.specs.Least.{IsLeastBelow}
 use Rattle.ufs_check.specs.Links.{AreLinkFaults, AreLinksBelow, FitsDots, HasAllEntries, HasRead, IsEmptyTable, ParentAt, PlainBefore, TwoBefore, UpAt, bad_dots_in, bad_up, fits_parent, is_twice, is_up_in, named_twice_in}
-use Rattle.ufs_check.specs.OwnedEntries.{GathersEntries, owned_all}
 use Rattle.ufs_check.specs.declared.names.NameFaults.{NameFaults}
-use Rattle.ufs_check.specs.declared.owned_entries.OwnedEntry.{OwnedEntry}
 use Rattle.ufs_check.specs.declared.parents.LinkTable.{LinkTable}
 use Rattle.ufs_check.specs.declared.parents.Parent.{Parent}
 use Rattle.ufs_check.proofs.LeastLaws.{least_all, least_none}
