@@ -1,7 +1,6 @@
 pub mod Sizes
 pub mod ReadsLaws
 pub mod PartLaws
-pub mod BlockLaws
 pub mod LookLaws
 pub mod ChunkLaws
 pub mod NameLaws

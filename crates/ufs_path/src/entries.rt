@@ -10,12 +10,12 @@ ghost use Rattle.ufs_model.specs.declared.numbers.Endian.TheVariants.{Little};
 ghost use Rattle.ufs_path.specs.Answers.{refusal_of};
 ghost use Rattle.ufs_path.specs.Walks.{are_sound, block_entries, entries_said, HasShortName};
 
-use crate::blocks::{FileBlock, bytes_in_block, read_block};
+use crate::blocks::{BlockContents, read_block};
 use crate::faults::LookFault;
 use dg_io::View;
 use ufs_dir::{CHUNK_BYTES, check};
 use ufs_model::{BadRead, Geometry, Inode};
-use ufs_pointer::Levels;
+use ufs_pointer::{Levels, bytes_in_block};
 
 /// Whether none of the first `count` chunks of a file block is refused.
 fn are_sound(bytes: &[u8], count: usize) -> bool
@@ -79,8 +79,11 @@ pub fn read_entries<V: View>(
     ensures small { IfOk result (λ chunks. chunks ≤ 128) }
 {
     match read_block(view, g, inode, n, levels) {
-        Ok(FileBlock::Data) => judged(levels.block(), bytes_in_block(g, inode, n) / CHUNK_BYTES),
-        Ok(FileBlock::Hole) => Err(LookFault::Bad(BadRead::Hole)),
+        Ok(BlockContents::Data) => judged(
+            levels.block(),
+            bytes_in_block(g, inode, n) / CHUNK_BYTES,
+        ),
+        Ok(BlockContents::Hole) => Err(LookFault::Bad(BadRead::Hole)),
         Err(fault) => Err(fault),
     }
 }

@@ -1,4 +1,4 @@
-// File blocks of directories.
+// File blocks, read by their addresses.
 ghost use Rattle.std.specs.Prelude.{◌≡◌, ◌+◌, ◌*◌, ◌^◌, ◌<◌, ◌≤◌, IfSome, length};
 ghost use Rattle.dg_io.specs.Views.{KeepsView};
 ghost use Rattle.ufs_model.specs.Geometries.{IsGeometry, IsGeometryOn};
@@ -8,14 +8,15 @@ ghost use Rattle.ufs_model.specs.Readings.{ReadsAs};
 ghost use Rattle.ufs_model.specs.declared.numbers.Endian.TheVariants.{Little};
 ghost use Rattle.ufs_model.specs.declared.pointers.Address.TheVariants.{At};
 ghost use Rattle.ufs_pointer.specs.Fetches.{Fetches};
-ghost use Rattle.ufs_check.specs.FileBlocks.{IfData, block_said};
+ghost use Rattle.ufs_pointer.specs.FileBlocks.{IfData, block_said};
 
+use crate::answers::BlockAnswer;
+use crate::levels::{Levels, file_block};
 use dg_io::View;
 use ufs_model::{Geometry, Inode};
-use ufs_pointer::{BlockAnswer, Levels, file_block};
 
 /// What there is of a file block.
-#[derive(Clone, Copy)]
+#[derive(Clone, Copy, Debug, PartialEq, Eq)]
 pub enum FileBlock {
     /// Its bytes are in the buffer.
     Data,
@@ -41,6 +42,7 @@ pub fn bytes_in_block(g: &Geometry, inode: &Inode, n: u32) -> usize
     requires { IsGeometry g.now }
     ensures value { result ≡ bytes_in_block g.now inode.now n }
     ensures small { result ≤ 65536 }
+    ensures fits { result ≤ g.now.frag * g.now.fsize }
 {
     let before = u64::from(n) * u64::from(g.bsize);
     u64::from(g.bsize).min(inode.size.saturating_sub(before)) as usize
@@ -76,7 +78,7 @@ fn read_run<V: View>(
 
 /// Reads file block `n`, with every fragment that it claims. There is no answer where a block on the way
 /// to it, or one of its own, is gone.
-pub fn read_block<V: View>(
+pub fn read_file_block<V: View>(
     view: &mut V,
     g: &Geometry,
     inode: &Inode,
