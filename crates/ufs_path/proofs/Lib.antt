@@ -3,7 +3,6 @@ pub mod ReadsLaws
 pub mod PartLaws
 pub mod LookLaws
 pub mod ChunkLaws
-pub mod NameLaws
 pub mod DirectoryLaws
 pub mod EntryLaws
 pub mod WalkLaws

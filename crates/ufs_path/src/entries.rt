@@ -1,14 +1,14 @@
 // The entries of directories, block by block.
-ghost use Rattle.std.specs.Prelude.{◌≡◌, ◌+◌, ◌*◌, ◌^◌, ◌<◌, ◌≤◌, All, List, ℕ, Some, Ok, true, drop, length, take, IfOk, IfErr, OnOk};
+ghost use Rattle.std.specs.Prelude.{◌≡◌, ◌+◌, ◌*◌, ◌^◌, ◌<◌, ◌≤◌, List, ℕ, Some, Ok, true, drop, length, take, IfOk, IfErr, OnOk};
 ghost use Rattle.std.specs.Option.{option_map};
 ghost use Rattle.dg_io.specs.Views.{KeepsView};
-ghost use Rattle.ufs_model.specs.Chunks.{DirEntry, entries_in};
+ghost use Rattle.ufs_model.specs.Chunks.{DirEntry};
 ghost use Rattle.ufs_model.specs.Geometries.{IsGeometryOn};
 ghost use Rattle.ufs_model.specs.Paths.{bytes_in_block, chunks_in, entries_before, entries_through};
 ghost use Rattle.ufs_model.specs.Readings.{ReadsAs};
 ghost use Rattle.ufs_model.specs.declared.numbers.Endian.TheVariants.{Little};
 ghost use Rattle.ufs_path.specs.Answers.{refusal_of};
-ghost use Rattle.ufs_path.specs.Walks.{are_sound, block_entries, entries_said, HasShortName};
+ghost use Rattle.ufs_path.specs.Walks.{are_sound, block_entries, entries_said};
 
 use crate::blocks::{BlockContents, read_block};
 use crate::faults::LookFault;
@@ -31,17 +31,14 @@ fn are_sound(bytes: &[u8], count: usize) -> bool
     true
 }
 
-/// The chunk `i` of a file block. A name is no longer than its length in a byte says (`d_namlen`).
+/// The chunk `i` of a file block.
 pub fn chunk_at(block: &[u8], i: usize) -> [u8; CHUNK_BYTES]
     requires { i * 512 + 512 ≤ length block.now }
-    ensures value { result ≡ take 512 (drop (i * 512) block.now) }
-    ensures names { All HasShortName (entries_in Little 0 result) }
+    ensures { result ≡ take 512 (drop (i * 512) block.now) }
 {
     let start = i * CHUNK_BYTES;
     let mut chunk = [0; CHUNK_BYTES];
-    for at in 0..CHUNK_BYTES {
-        chunk[at] = block[start + at];
-    }
+    chunk.copy_from_slice(&block[start..start + CHUNK_BYTES]);
     chunk
 }
 
