@@ -18,7 +18,7 @@ use ufs_model::{Geometry, Inode};
 /// What there is of a file block.
 #[derive(Clone, Copy, Debug, PartialEq, Eq)]
 pub enum FileBlock {
-    /// Its bytes are in the buffer.
+    /// Its bytes are the block of data, [`Levels::block`].
     Data,
     /// A pointer on the way to it is 0.
     Hole,
@@ -26,7 +26,7 @@ pub enum FileBlock {
     Wild,
 }
 
-/// The file blocks of a file.
+/// The number of file blocks of a file of less than 2^32 bytes.
 pub fn block_count(g: &Geometry, inode: &Inode) -> u32
     requires geometry { IsGeometry g.now }
     requires small { inode.now.size < 2 ^ 32 }
@@ -36,7 +36,7 @@ pub fn block_count(g: &Geometry, inode: &Inode) -> u32
     inode.size.div_ceil(u64::from(g.bsize)) as u32
 }
 
-/// The bytes of a file that stand in its file block `n`.
+/// How many bytes of a file stand in its file block `n`: none past its end.
 #[tactic(auto, using(crate::proofs::Sizes::block_fits))]
 pub fn bytes_in_block(g: &Geometry, inode: &Inode, n: u32) -> usize
     requires { IsGeometry g.now }
@@ -76,8 +76,8 @@ fn read_run<V: View>(
     Some(FileBlock::Data)
 }
 
-/// Reads file block `n`, with every fragment that it claims. There is no answer where a block on the way
-/// to it, or one of its own, is gone.
+/// Reads file block `n`, with every fragment that it claims, into the block of data. There is no answer
+/// where a block on the way to it, or one of its own, is gone.
 pub fn read_file_block<V: View>(
     view: &mut V,
     g: &Geometry,

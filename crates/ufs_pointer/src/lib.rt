@@ -1,6 +1,6 @@
 //! Where the file blocks of an inode of a UFS1 volume stand, by its direct slots and through indirect
-//! blocks (`NDADDR`, `NIADDR` in `dinode.h`, `NINDIR` in `fs.h` of 4.4BSD), read from a view of the
-//! volume some of whose blocks may be gone.
+//! blocks (`NDADDR`, `NIADDR` in `dinode.h`, `NINDIR` in `fs.h` of 4.4BSD), and their bytes, read from
+//! a view of the volume some of whose blocks may be gone.
 //!
 //! Addresses are counted in fragments, and fragment f is block f of the view.
 #![tactic(auto)]
