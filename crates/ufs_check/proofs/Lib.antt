@@ -5,7 +5,6 @@ pub mod InodeLaws
 pub mod ChunkLaws
 pub mod EntryLaws
 pub mod Sizes
-pub mod BlockLaws
 pub mod DirectoryLaws
 pub mod FaultLaws
 pub mod StructureLaws

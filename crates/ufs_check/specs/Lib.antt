@@ -3,7 +3,6 @@ pub mod Passes
 pub mod Groups
 pub mod Inodes
 pub mod Entries
-pub mod FileBlocks
 pub mod Directories
 pub mod Reaches
 pub mod Limits

@@ -17,14 +17,13 @@ ghost use Rattle.ufs_check.specs.Fragments.{HasWholeUppers};
 ghost use Rattle.ufs_check.specs.Passes.{FetchesOnly, LosesOne};
 
 use crate::entries::{EntryFaults, has_refused, read_named, scan_chunks};
-use crate::file_blocks::{FileBlock, block_count, bytes_in_block, read_block};
 use crate::inodes::{ROOT, TOO_LONG};
 use crate::notes::note;
 use crate::verdicts::{DirectoryFaults, NO_DIRECTORY_FAULTS};
 use dg_io::View;
 use ufs_dir::CHUNK_BYTES;
 use ufs_model::{Geometry, Inode, Kind};
-use ufs_pointer::Levels;
+use ufs_pointer::{FileBlock, Levels, block_count, bytes_in_block, read_file_block};
 
 /// What is found in a directory.
 #[derive(Clone, Copy)]
@@ -90,7 +89,7 @@ fn scan_block<V: View>(
     ensures gone { result ≡ false → V.tells view.new → (v : Volume) → V.stands_for view.old v → LosesOne (V.is_gone view.new) (IsFileRead g.now inode.now v) }
     ensures fetched { FetchesOnly V.fetched (V.stands_for view.old) (V.tells view.new) (IsFileRead g.now inode.now) view.old view.new }
 {
-    match read_block(view, g, inode, n, levels) {
+    match read_file_block(view, g, inode, n, levels) {
         None => false,
         Some(FileBlock::Hole) => {
             scan.hole = true;

@@ -8,7 +8,6 @@ mod checks;
 mod directories;
 mod entries;
 mod faults;
-mod file_blocks;
 #[cfg(test)]
 mod fragment_tests;
 mod fragments;

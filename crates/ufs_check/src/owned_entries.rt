@@ -16,13 +16,12 @@ ghost use Rattle.ufs_check.specs.Passes.{FetchesOnly, LosesOne};
 
 use crate::directories::is_directory;
 use crate::entries::{has_refused, read_named};
-use crate::file_blocks::{FileBlock, block_count, bytes_in_block, read_block};
 use crate::inodes::TOO_LONG;
 use dg_io::{NoMemory, View};
 use std::alloc::Global;
 use ufs_dir::{CHUNK_BYTES, Entries, Entry, EntryStep};
 use ufs_model::{Geometry, Inode};
-use ufs_pointer::Levels;
+use ufs_pointer::{FileBlock, Levels, block_count, bytes_in_block, read_file_block};
 
 /// A used entry of a directory, with a name of its own.
 #[derive(Drop)]
@@ -147,7 +146,7 @@ fn gather_block<V: View>(
         → LosesOne (V.is_gone view.new) (IsFileRead g.now inode.now v))) }
     ensures fetched { FetchesOnly V.fetched (V.stands_for view.old) (V.tells view.new) (IsFileRead g.now inode.now) view.old view.new }
 {
-    match read_block(view, g, inode, n, levels) {
+    match read_file_block(view, g, inode, n, levels) {
         None => Ok(Gathered::Gone),
         Some(FileBlock::Hole) => Ok(Gathered::Unread),
         Some(FileBlock::Wild) => Ok(Gathered::Unread),

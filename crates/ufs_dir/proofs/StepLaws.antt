@@ -62,6 +62,7 @@ gives_entry bytes entry after some split = record {
   shorter = let s : length after ≡ length (drop (reclen_field Little bytes) bytes) = ap length split.after_is in let m = split.moves in let i = split.inside in omega (arith, length-drop {A = ℕ});
   unused = split.unused;
   used = split.used;
+  short = split.short;
 }
 
 pub gives_bad : (bytes : List ℕ) (bad : BadEntry) → 0 < length bytes → fault_at Little bytes ≡ Some bad → GivesBad bytes bad bytes

@@ -12,6 +12,7 @@ pub record IsSplit (bytes : List ℕ) (entry : DirEntry) (after : List ℕ) : Ty
   pub inside : reclen_field Little bytes ≤ length bytes
   pub unused : entry.inode ≡ 0 → entry.name ≡ []
   pub used : entry.inode ≢ 0 → is_name entry.name ≡ true
+  pub short : length entry.name ≤ 255
 
 -- the inode of an entry that is used and has the name
 abbrev pub inode_under : List ℕ → DirEntry → Option ℕ

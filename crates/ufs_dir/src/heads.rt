@@ -67,7 +67,8 @@ fn is_name(name: &[u8]) -> bool
 fn name_of(bytes: &[u8]) -> &[u8]
     requires head { HEAD_BYTES ≤ length bytes.now }
     requires named { has_inode Little bytes.now ≡ true → HEAD_BYTES + namlen_field bytes.now ≤ length bytes.now }
-    ensures { result.now ≡ (entry_in Little bytes.now).name }
+    ensures value { result.now ≡ (entry_in Little bytes.now).name }
+    ensures short { length result.now ≤ 255 }
 {
     if has_inode(bytes) {
         &bytes[HEAD_BYTES..HEAD_BYTES + bytes[7] as usize]

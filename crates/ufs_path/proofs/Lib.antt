@@ -1,10 +1,8 @@
 pub mod Sizes
 pub mod ReadsLaws
 pub mod PartLaws
-pub mod BlockLaws
 pub mod LookLaws
 pub mod ChunkLaws
-pub mod NameLaws
 pub mod DirectoryLaws
 pub mod EntryLaws
 pub mod WalkLaws

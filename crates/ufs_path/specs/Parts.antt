@@ -12,18 +12,18 @@ use Rattle.ufs_path.specs.Answers.{refusal_of}
 use Rattle.ufs_path.specs.declared.faults.LookFault.{LookFault}
 use Rattle.ufs_path.specs.declared.faults.CatAnswer.{CatAnswer}
 use Rattle.ufs_path.specs.declared.faults.CatAnswer.TheVariants.{Given, NotFound, NotDirectory, Bad, Unavailable, NotRegular, Cut, SinkFault}
-use Rattle.ufs_path.specs.declared.blocks.FileBlock.{FileBlock}
-use Rattle.ufs_path.specs.declared.blocks.FileBlock.TheVariants.{Data, Hole}
+use Rattle.ufs_path.specs.declared.blocks.BlockContents.{BlockContents}
+use Rattle.ufs_path.specs.declared.blocks.BlockContents.TheVariants.{Data, Hole}
 use Rattle.ufs_path.specs.declared.files.Handed.{Handed}
 use Rattle.ufs_path.specs.declared.files.Handed.TheVariants.{All, Unread, Failed}
 
 -- where there are bytes
-abbrev pub IfData : FileBlock → Type 0 → Type 0
+abbrev pub IfData : BlockContents → Type 0 → Type 0
 IfData Data holds = holds
 IfData Hole holds = Unit {0}
 
 -- what a read of a file block says, whose bytes are in the buffer
-abbrev pub block_said : Result FileBlock LookFault → List ℕ → Option (Result (Option (List ℕ)) PathRefusal)
+abbrev pub block_said : Result BlockContents LookFault → List ℕ → Option (Result (Option (List ℕ)) PathRefusal)
 block_said (Ok Hole) block = Some (Ok None)
 block_said (Ok Data) block = Some (Ok (Some block))
 block_said (Err fault) block = option_map Err (refusal_of fault)

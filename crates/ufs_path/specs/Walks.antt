@@ -29,10 +29,6 @@ abbrev pub entries_among : List (List ℕ) → List DirEntry
 entries_among [] = []
 entries_among (chunk ∷ chunks) = used_entries (entries_in Little 0 chunk) ++ entries_among chunks
 
--- the length of a name stands in a byte (`d_namlen`)
-abbrev pub HasShortName : DirEntry → Type 0
-HasShortName entry = length entry.name ≤ 255
-
 -- the used entries in file block n of a directory
 unfoldable pub block_entries : Endian → Geometry → Inode → ℕ → Reading (Result (List DirEntry) PathRefusal)
 block_entries endian g inode n = and_then (chunks_of endian g inode n) (λ chunks. known (entries_through endian chunks))

@@ -7,12 +7,12 @@ ghost use Rattle.ufs_model.specs.Readings.{ReadsAs, answered};
 ghost use Rattle.ufs_model.specs.declared.numbers.Endian.TheVariants.{Little};
 ghost use Rattle.ufs_path.specs.Answers.{refusal_of};
 
-use crate::blocks::{FileBlock, block_count, bytes_in_block, directory_fault, read_block};
+use crate::blocks::{BlockContents, directory_fault, read_block};
 use crate::faults::LookFault;
 use dg_io::View;
 use ufs_dir::{CHUNK_BYTES, find};
 use ufs_model::{BadRead, Found, Geometry, Inode};
-use ufs_pointer::Levels;
+use ufs_pointer::{Levels, block_count, bytes_in_block};
 
 /// The inode of the first used entry with the name in the first `count` chunks of a file block, up
 /// to a chunk that is refused.
@@ -62,11 +62,11 @@ fn find_in_block<V: View>(
         (find_in_block Little g.now inode.now name.now n) (answered refusal_of result) }
 {
     match read_block(view, g, inode, n, levels) {
-        Ok(FileBlock::Data) => {
+        Ok(BlockContents::Data) => {
             let chunks = bytes_in_block(g, inode, n) / CHUNK_BYTES;
             or_bad_chunk(find_through(levels.block(), chunks, name))
         }
-        Ok(FileBlock::Hole) => Err(LookFault::Bad(BadRead::Hole)),
+        Ok(BlockContents::Hole) => Err(LookFault::Bad(BadRead::Hole)),
         Err(fault) => Err(fault),
     }
 }

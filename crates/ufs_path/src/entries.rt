@@ -1,21 +1,21 @@
 // The entries of directories, block by block.
-ghost use Rattle.std.specs.Prelude.{◌≡◌, ◌+◌, ◌*◌, ◌^◌, ◌<◌, ◌≤◌, All, List, ℕ, Some, Ok, true, drop, length, take, IfOk, IfErr, OnOk};
+ghost use Rattle.std.specs.Prelude.{◌≡◌, ◌+◌, ◌*◌, ◌^◌, ◌<◌, ◌≤◌, List, ℕ, Some, Ok, true, drop, length, take, IfOk, IfErr, OnOk};
 ghost use Rattle.std.specs.Option.{option_map};
 ghost use Rattle.dg_io.specs.Views.{KeepsView};
-ghost use Rattle.ufs_model.specs.Chunks.{DirEntry, entries_in};
+ghost use Rattle.ufs_model.specs.Chunks.{DirEntry};
 ghost use Rattle.ufs_model.specs.Geometries.{IsGeometryOn};
 ghost use Rattle.ufs_model.specs.Paths.{bytes_in_block, chunks_in, entries_before, entries_through};
 ghost use Rattle.ufs_model.specs.Readings.{ReadsAs};
 ghost use Rattle.ufs_model.specs.declared.numbers.Endian.TheVariants.{Little};
 ghost use Rattle.ufs_path.specs.Answers.{refusal_of};
-ghost use Rattle.ufs_path.specs.Walks.{are_sound, block_entries, entries_said, HasShortName};
+ghost use Rattle.ufs_path.specs.Walks.{are_sound, block_entries, entries_said};
 
-use crate::blocks::{FileBlock, bytes_in_block, read_block};
+use crate::blocks::{BlockContents, read_block};
 use crate::faults::LookFault;
 use dg_io::View;
 use ufs_dir::{CHUNK_BYTES, check};
 use ufs_model::{BadRead, Geometry, Inode};
-use ufs_pointer::Levels;
+use ufs_pointer::{Levels, bytes_in_block};
 
 /// Whether none of the first `count` chunks of a file block is refused.
 fn are_sound(bytes: &[u8], count: usize) -> bool
@@ -31,17 +31,14 @@ fn are_sound(bytes: &[u8], count: usize) -> bool
     true
 }
 
-/// The chunk `i` of a file block. A name is no longer than its length in a byte says (`d_namlen`).
+/// The chunk `i` of a file block.
 pub fn chunk_at(block: &[u8], i: usize) -> [u8; CHUNK_BYTES]
     requires { i * 512 + 512 ≤ length block.now }
-    ensures value { result ≡ take 512 (drop (i * 512) block.now) }
-    ensures names { All HasShortName (entries_in Little 0 result) }
+    ensures { result ≡ take 512 (drop (i * 512) block.now) }
 {
     let start = i * CHUNK_BYTES;
     let mut chunk = [0; CHUNK_BYTES];
-    for at in 0..CHUNK_BYTES {
-        chunk[at] = block[start + at];
-    }
+    chunk.copy_from_slice(&block[start..start + CHUNK_BYTES]);
     chunk
 }
 
@@ -79,8 +76,11 @@ pub fn read_entries<V: View>(
     ensures small { IfOk result (λ chunks. chunks ≤ 128) }
 {
     match read_block(view, g, inode, n, levels) {
-        Ok(FileBlock::Data) => judged(levels.block(), bytes_in_block(g, inode, n) / CHUNK_BYTES),
-        Ok(FileBlock::Hole) => Err(LookFault::Bad(BadRead::Hole)),
+        Ok(BlockContents::Data) => judged(
+            levels.block(),
+            bytes_in_block(g, inode, n) / CHUNK_BYTES,
+        ),
+        Ok(BlockContents::Hole) => Err(LookFault::Bad(BadRead::Hole)),
         Err(fault) => Err(fault),
     }
 }

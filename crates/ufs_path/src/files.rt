@@ -9,11 +9,11 @@ ghost use Rattle.ufs_model.specs.declared.numbers.Endian.TheVariants.{Little};
 ghost use Rattle.ufs_path.specs.Answers.{IsAnswer, answer_at, refusal_of, refused_answer};
 ghost use Rattle.ufs_path.specs.Parts.{HasCount, IsHanded, IsHandedPart, part_said};
 
-use crate::blocks::{FileBlock, block_count, bytes_in_block, file_refusal, read_block};
+use crate::blocks::{BlockContents, file_refusal, read_block};
 use crate::faults::{CatAnswer, LookFault};
 use dg_io::{Pieces, View};
 use ufs_model::{Geometry, Inode, PathRefusal};
-use ufs_pointer::Levels;
+use ufs_pointer::{Levels, block_count, bytes_in_block};
 
 /// What became of a part of a file that was to be handed on.
 #[derive(Clone, Copy)]
@@ -73,8 +73,8 @@ fn read_part<V: View>(
 {
     let count = bytes_in_block(g, inode, n);
     match read_block(view, g, inode, n, levels) {
-        Ok(FileBlock::Data) => Ok(count),
-        Ok(FileBlock::Hole) => {
+        Ok(BlockContents::Data) => Ok(count),
+        Ok(BlockContents::Hole) => {
             levels.clear(g.frag);
             Ok(count)
         }

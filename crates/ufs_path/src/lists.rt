@@ -10,7 +10,7 @@ ghost use Rattle.ufs_model.specs.declared.numbers.Endian.TheVariants.{Little};
 ghost use Rattle.ufs_path.specs.Answers.{IsAnswer, refusal_of};
 ghost use Rattle.ufs_path.specs.Walks.{AreConsulted, lines_before, ls_below};
 
-use crate::blocks::{block_count, directory_fault};
+use crate::blocks::directory_fault;
 use crate::entries::consult_entries;
 use crate::faults::{CatAnswer, LookFault};
 use crate::files::refused_answer;
@@ -20,7 +20,7 @@ use crate::superblocks::geometry;
 use crate::walks::{Walked, list_blocks};
 use dg_io::View;
 use ufs_model::{Geometry, Inode};
-use ufs_pointer::Levels;
+use ufs_pointer::{Levels, block_count};
 
 /// Consults the entries in the first `count` file blocks of a directory, and then the inodes that
 /// they name.

@@ -1,5 +1,5 @@
 // Handing on the entries of directories, with the inodes that they name.
-ghost use Rattle.std.specs.Prelude.{◌≡◌, ◌+◌, ◌*◌, ◌^◌, ◌<◌, ◌≤◌, ◌∷◌, [], All, List, ℕ, length};
+ghost use Rattle.std.specs.Prelude.{◌≡◌, ◌+◌, ◌*◌, ◌^◌, ◌<◌, ◌≤◌, ◌∷◌, [], List, ℕ, length};
 ghost use Rattle.dg_io.specs.Views.{KeepsView};
 ghost use Rattle.ufs_dir.specs.Steps.{entry_of};
 ghost use Rattle.ufs_model.specs.Chunks.{entries_in, used_entries};
@@ -8,7 +8,7 @@ ghost use Rattle.ufs_model.specs.Listings.{listed_entries};
 ghost use Rattle.ufs_model.specs.Paths.{chunks_in, entries_before};
 ghost use Rattle.ufs_model.specs.Readings.{ReadsAs};
 ghost use Rattle.ufs_model.specs.declared.numbers.Endian.TheVariants.{Little};
-ghost use Rattle.ufs_path.specs.Walks.{IsFew, IsListed, IsWalked, entries_among, HasShortName};
+ghost use Rattle.ufs_path.specs.Walks.{IsFew, IsListed, IsWalked, entries_among};
 
 use crate::entries::{chunk_at, read_entries};
 use crate::faults::LookFault;
@@ -41,7 +41,7 @@ fn hand_entry<V: View, O: Listing>(
     requires sound { V.is_sound view.old }
     requires geometry { IsGeometryOn (V.size view.old) (V.count view.old) g.now }
     requires levels { levels.old.fragment ≡ V.size view.old }
-    requires short { HasShortName (entry_of entry.now) }
+    requires short { length entry.now.name.now ≤ 255 }
     ensures keeps { KeepsView V.stands_for V.tells V.is_gone V.count V.size V.is_sound V.goes_on view.old view.new }
     ensures levels { levels.new.fragment ≡ levels.old.fragment }
     ensures block { levels.new.block ≡ levels.old.block }
@@ -70,7 +70,7 @@ fn list_entry<V: View, O: Listing>(
     requires sound { V.is_sound view.old }
     requires geometry { IsGeometryOn (V.size view.old) (V.count view.old) g.now }
     requires levels { levels.old.fragment ≡ V.size view.old }
-    requires short { HasShortName (entry_of entry.now) }
+    requires short { length entry.now.name.now ≤ 255 }
     ensures keeps { KeepsView V.stands_for V.tells V.is_gone V.count V.size V.is_sound V.goes_on view.old view.new }
     ensures levels { levels.new.fragment ≡ levels.old.fragment }
     ensures block { levels.new.block ≡ levels.old.block }
@@ -98,7 +98,6 @@ fn list_chunk<V: View, O: Listing>(
     requires geometry { IsGeometryOn (V.size view.old) (V.count view.old) g.now }
     requires levels { levels.old.fragment ≡ V.size view.old }
     requires chunk { length chunk.now ≡ CHUNK_BYTES }
-    requires names { All HasShortName (entries_in Little 0 chunk.now) }
     ensures keeps { KeepsView V.stands_for V.tells V.is_gone V.count V.size V.is_sound V.goes_on view.old view.new }
     ensures levels { levels.new.fragment ≡ levels.old.fragment }
     ensures block { levels.new.block ≡ levels.old.block }

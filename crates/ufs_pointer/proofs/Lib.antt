@@ -2,3 +2,5 @@ pub mod ChainLaws
 pub mod AddressLaws
 pub mod AreaFetches
 pub mod SuperLaws
+pub mod Sizes
+pub mod BlockLaws

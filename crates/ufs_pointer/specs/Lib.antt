@@ -3,3 +3,4 @@ pub mod Addresses
 pub mod Buffers
 pub mod Fetches
 pub mod FetchLaws
+pub mod FileBlocks

@@ -1,6 +1,6 @@
 //! Where the file blocks of an inode of a UFS1 volume stand, by its direct slots and through indirect
-//! blocks (`NDADDR`, `NIADDR` in `dinode.h`, `NINDIR` in `fs.h` of 4.4BSD), read from a view of the
-//! volume some of whose blocks may be gone.
+//! blocks (`NDADDR`, `NIADDR` in `dinode.h`, `NINDIR` in `fs.h` of 4.4BSD), and their bytes, read from
+//! a view of the volume some of whose blocks may be gone.
 //!
 //! Addresses are counted in fragments, and fragment f is block f of the view.
 #![tactic(auto)]
@@ -9,6 +9,7 @@ mod addresses;
 mod answers;
 mod areas;
 mod chains;
+mod file_blocks;
 mod indirect_blocks;
 mod levels;
 mod pointers;
@@ -19,6 +20,7 @@ mod tests;
 pub use crate::answers::BlockAnswer;
 pub use crate::areas::read_area;
 pub use crate::chains::locate;
+pub use crate::file_blocks::{FileBlock, block_count, bytes_in_block, read_file_block};
 pub use crate::levels::{Levels, file_block};
 pub use crate::pointers::pointer;
 pub use crate::superblocks::read_geometry;

@@ -1,7 +1,9 @@
 ghost use Rattle.std.specs.Prelude.{◌≡◌, ◌+◌, ◌*◌, ◌^◌, ◌<◌, ◌≤◌, IfOk, length};
 ghost use Rattle.ufs_model.specs.Geometries.{IsGeometryOn};
 
-use crate::{BlockAnswer, Chain, Levels, file_block, locate, pointer, read_area};
+use crate::{
+    BlockAnswer, Chain, FileBlock, Levels, file_block, locate, pointer, read_area, read_file_block,
+};
 use dg_io::{Loss, MemView};
 use std::alloc::Global;
 use std::test::Fail;
@@ -404,6 +406,39 @@ fn a_file_with_an_indirect_block(rt: HostRuntime) -> Result<(), Fail> {
         let loss = Loss { block, fetch: 0 };
         assert_eq!(rt;
             in_volume_f(rt.alloc(), n, loss)?,
+            wanted,
+            "block {n} without {block}"
+        );
+    }
+    Ok(())
+}
+
+/// What is read of file block `n` of that file.
+fn read_of_volume_f(alloc: Global, n: u32, loss: Loss) -> Result<Option<FileBlock>, Fail>
+    requires { n < 2 ^ 30 }
+{
+    let image = volume_f(alloc)?;
+    let g = read_super(&image[8192..9568], 1024, 128)?;
+    let inode = read_inode(&image[29312..29440]).ok_or("inode")?;
+    let mut view = MemView::new(image, 1024, 128, vec![in alloc; loss]?);
+    let mut levels = Levels::new(alloc, 1024).ok().ok_or("levels")?;
+    Ok(read_file_block(&mut view, &g, &inode, n, &mut levels))
+}
+
+/// Its last block has data, unless one of its fragments or its indirect block is gone. Behind it is
+/// a hole.
+#[test]
+fn file_blocks_that_are_read(rt: HostRuntime) -> Result<(), Fail> {
+    for (n, block, wanted) in [
+        (12, 87, None),
+        (12, 91, None),
+        (12, 92, Some(FileBlock::Data)),
+        (13, 91, Some(FileBlock::Hole)),
+    ] {
+        assert!(rt; n < 0x4000_0000);
+        let loss = Loss { block, fetch: 0 };
+        assert_eq!(rt;
+            read_of_volume_f(rt.alloc(), n, loss)?,
             wanted,
             "block {n} without {block}"
         );

@@ -10,21 +10,21 @@ returns-in-None-clause-gone g c = λ none.
     lost_need (IsFileRead c.args.g.now c.args.inode.now) (λ v block needs. of_file c.args.n c.requires.block needs) c.in-None.ensures.rule
 
 pub returns-in-None-clause-fetched : goal.returns-in-None-clause-fetched
-returns-in-None-clause-fetched g c = only_needs (IsFileRead c.args.g.now c.args.inode.now) (λ v block needs. of_file c.args.n c.requires.block needs) c.read_block.ensures.fetched
+returns-in-None-clause-fetched g c = only_needs (IsFileRead c.args.g.now c.args.inode.now) (λ v block needs. of_file c.args.n c.requires.block needs) c.read_file_block.ensures.fetched
 
 pub returns-in-Some-Hole-clause-fetched : goal.returns-in-Some-Hole-clause-fetched
-returns-in-Some-Hole-clause-fetched g c = only_needs (IsFileRead c.args.g.now c.args.inode.now) (λ v block needs. of_file c.args.n c.requires.block needs) c.read_block.ensures.fetched
+returns-in-Some-Hole-clause-fetched g c = only_needs (IsFileRead c.args.g.now c.args.inode.now) (λ v block needs. of_file c.args.n c.requires.block needs) c.read_file_block.ensures.fetched
 
 pub returns-in-Some-Wild-clause-fetched : goal.returns-in-Some-Wild-clause-fetched
-returns-in-Some-Wild-clause-fetched g c = only_needs (IsFileRead c.args.g.now c.args.inode.now) (λ v block needs. of_file c.args.n c.requires.block needs) c.read_block.ensures.fetched
+returns-in-Some-Wild-clause-fetched g c = only_needs (IsFileRead c.args.g.now c.args.inode.now) (λ v block needs. of_file c.args.n c.requires.block needs) c.read_file_block.ensures.fetched
 
 pub returns-in-Some-Data-clause-gone : goal.returns-in-Some-Data-clause-gone
 returns-in-Some-Data-clause-gone g c = λ could told v stands.
     lost_wider _ (IsMetadataBy Little c.args.g.now v) (IsFileRead c.args.g.now c.args.inode.now v) (λ block is. of_metadata is)
-    (c.scan_data.ensures.gone could told v (c.read_block.ensures.keeps.stands v stands))
+    (c.scan_data.ensures.gone could told v (c.read_file_block.ensures.keeps.stands v stands))
 
 pub returns-in-Some-Data-clause-fetched : goal.returns-in-Some-Data-clause-fetched
 returns-in-Some-Data-clause-fetched g c =
-    only_both g.met.V.View.fetched_both c.read_block.ensures.keeps.stands c.scan_data.ensures.keeps.told
-    (only_needs (IsFileRead c.args.g.now c.args.inode.now) (λ v block needs. of_file c.args.n c.requires.block needs) c.read_block.ensures.fetched)
+    only_both g.met.V.View.fetched_both c.read_file_block.ensures.keeps.stands c.scan_data.ensures.keeps.told
+    (only_needs (IsFileRead c.args.g.now c.args.inode.now) (λ v block needs. of_file c.args.n c.requires.block needs) c.read_file_block.ensures.fetched)
     (only_wider (IsMetadataBy Little c.args.g.now) (IsFileRead c.args.g.now c.args.inode.now) (λ told v stands block is. of_metadata is) c.scan_data.ensures.fetched)

@@ -1,12 +1,10 @@
-use Rattle.std.proofs.Common.{◌++◌, ◌∙◌, ◌∷◌, [], All, refl, subst, sym, arith}
+use Rattle.std.proofs.Common.{◌++◌, ◌∙◌, ◌∷◌, [], refl, sym, arith}
 use Rattle.std.proofs.lemmas.List.{append_assoc}
-use Rattle.std.proofs.lemmas.List.Elements.{All-head, All-tail}
 use Rattle.dg_io.specs.ViewLaws.{keeps_both, keeps_same}
 use Rattle.ufs_dir.specs.Steps.{entry_of}
 use Rattle.ufs_model.specs.Chunks.{entries_in, used_entries}
 use Rattle.ufs_model.specs.declared.numbers.Endian.TheVariants.{Little}
 use Rattle.ufs_path.proofs.WalkLaws.{failed_then, handed_none, handed_then, unread_then, used_front}
-use Rattle.ufs_path.specs.Walks.{HasShortName}
 use Rattle.ufs_path.proofs.walks.list_chunk.Goals as goal
 
 pub loop-entry-init : goal.loop-entry-init
@@ -16,13 +14,8 @@ loop-entry-init g c = record {
   block = refl;
   later = omega arith;
   few = rw (c.new-entries.ensures, c.requires.chunk) (omega arith);
-  names = rw c.new-entries.ensures c.requires.names;
   handed = ([], rw c.new-entries.ensures refl, handed_none c.args.g.now c.args.out.now g.met.O.Listing.nothing);
 }
-
-pub list_entry-requires-clause-short : goal.list_entry-requires-clause-short
-list_entry-requires-clause-short g c =
-    All-head HasShortName (entry_of c.in-Entry.entry) (entries_in Little 0 c.next.new.self) (subst (All HasShortName) c.in-Entry.ensures.entries c.loop-entry.invariant.names)
 
 pub loop-entry-preserved : goal.loop-entry-preserved
 loop-entry-preserved g c =
@@ -39,7 +32,6 @@ loop-entry-preserved g c =
       block = c.list_entry.ensures.block ∙ c.loop-entry.invariant.block;
       later = omega arith;
       few = omega arith;
-      names = All-tail HasShortName (entry_of c.in-Entry.entry) (entries_in Little 0 c.next.new.self) (subst (All HasShortName) c.in-Entry.ensures.entries c.loop-entry.invariant.names);
       handed = (
         handed.0 ++ used_entries (entry_of c.in-Entry.entry ∷ []),
         rw (used_front (entry_of c.in-Entry.entry) _ _ c.in-Entry.ensures.entries) at (handed.1) ∙ sym (append_assoc (handed.0) (used_entries (entry_of c.in-Entry.entry ∷ [])) (used_entries (entries_in Little 0 c.next.new.self))),

@@ -1,10 +1,10 @@
-use Rattle.std.proofs.Common.{◌≡◌, ◌+◌, ◌≤◌, ◌++◌, All, List, length}
+use Rattle.std.proofs.Common.{◌≡◌, ◌+◌, ◌≤◌, ◌++◌, List, length}
 use Rattle.dg_io.specs.Views.{KeepsView}
 use Rattle.ufs_model.specs.Chunks.{DirEntry, entries_in, used_entries}
 use Rattle.ufs_model.specs.Listings.{listed_entries}
 use Rattle.ufs_model.specs.Readings.{ReadsAs}
 use Rattle.ufs_model.specs.declared.numbers.Endian.TheVariants.{Little}
-use Rattle.ufs_path.specs.Walks.{AreHanded, HasShortName}
+use Rattle.ufs_path.specs.Walks.{AreHanded}
 use Rattle.ufs_path.proofs.walks.list_chunk.Given as goal
 
 abbrev pub invariant-loop-entry : goal.invariant-loop-entry
@@ -14,7 +14,6 @@ invariant-loop-entry g l = record {
   block : l.levels.block ≡ l.fn.levels.block;
   later : g.O.Listing.faults l.fn.out ≤ g.O.Listing.faults l.out;
   few : l.given + length l.entries ≤ 512;
-  names : All HasShortName (entries_in Little 0 l.entries);
   handed : (done : List DirEntry) × (used_entries (entries_in Little 0 l.chunk) ≡ done ++ used_entries (entries_in Little 0 l.entries))
       × AreHanded g.O.Listing.took l.fn.out l.out done
       (λ entries. ReadsAs (g.V.View.stands_for l.fn.view) (g.V.View.is_gone l.fn.view) (g.V.View.tells l.view) (g.V.View.is_gone l.view) (listed_entries Little l.g 1 entries)) l.given;

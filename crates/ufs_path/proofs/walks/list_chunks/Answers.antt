@@ -25,7 +25,7 @@ returns-in-Unread-clause-rule g c =
     let so_far = c.loop-i.invariant.keeps in
     let step = c.list_chunk.ensures.keeps in
     let handed = c.loop-i.invariant.handed in
-    let is : c.chunk_at-chunk.result ≡ take 512 (drop (c.loop-i.i * 512) c.args.levels.now.block) = rw (c.block.ensures, c.loop-i.invariant.block) at c.chunk_at-chunk.ensures.value in
+    let is : c.chunk_at-chunk.result ≡ take 512 (drop (c.loop-i.i * 512) c.args.levels.now.block) = rw (c.block.ensures, c.loop-i.invariant.block) at c.chunk_at-chunk.ensures in
     unread_then c.args.g.now (handed.0) (used_entries (entries_in Little 0 c.chunk_at-chunk.result)) _ _ c.loop-i.given c.in-Unread.n c.in-Unread.fault c.args.out.now c.loop-i.out c.list_chunk.new.out g.met.O.Listing.then
     so_far.stays step.stays so_far.stands step.told (among_next c.args.count c.loop-i.i c.args.levels.now.block _ _ (handed.0) c.loop-i-test.true is (handed.1)) (handed.2) c.in-Unread.ensures.rule
 
@@ -34,7 +34,7 @@ returns-in-Failed-clause-rule g c =
     let so_far = c.loop-i.invariant.keeps in
     let step = c.list_chunk.ensures.keeps in
     let handed = c.loop-i.invariant.handed in
-    let is : c.chunk_at-chunk.result ≡ take 512 (drop (c.loop-i.i * 512) c.args.levels.now.block) = rw (c.block.ensures, c.loop-i.invariant.block) at c.chunk_at-chunk.ensures.value in
+    let is : c.chunk_at-chunk.result ≡ take 512 (drop (c.loop-i.i * 512) c.args.levels.now.block) = rw (c.block.ensures, c.loop-i.invariant.block) at c.chunk_at-chunk.ensures in
     failed_then c.args.g.now (handed.0) (used_entries (entries_in Little 0 c.chunk_at-chunk.result)) _ _ c.loop-i.given c.args.out.now c.loop-i.out c.list_chunk.new.out g.met.O.Listing.then_part c.loop-i.invariant.later
     so_far.stays step.stays so_far.stands step.told (among_next c.args.count c.loop-i.i c.args.levels.now.block _ _ (handed.0) c.loop-i-test.true is (handed.1)) (handed.2) c.in-Failed.ensures.rule
 
@@ -43,7 +43,7 @@ loop-i-preserved g c =
     let so_far = c.loop-i.invariant.keeps in
     let step = c.list_chunk.ensures.keeps in
     let handed = c.loop-i.invariant.handed in
-    let is : c.chunk_at-chunk.result ≡ take 512 (drop (c.loop-i.i * 512) c.args.levels.now.block) = rw (c.block.ensures, c.loop-i.invariant.block) at c.chunk_at-chunk.ensures.value in
+    let is : c.chunk_at-chunk.result ≡ take 512 (drop (c.loop-i.i * 512) c.args.levels.now.block) = rw (c.block.ensures, c.loop-i.invariant.block) at c.chunk_at-chunk.ensures in
     let few = c.loop-i.invariant.few in
     let more = c.in-All.ensures.few in
     let before = c.loop-i.invariant.later in

@@ -1,5 +1,5 @@
-use Rattle.ufs_check.proofs.BlockLaws.{fetches_bytes, fetches_no_bytes}
-use Rattle.ufs_check.proofs.file_blocks.read_run.Goals as goal
+use Rattle.ufs_pointer.proofs.BlockLaws.{fetches_bytes, fetches_no_bytes}
+use Rattle.ufs_pointer.proofs.file_blocks.read_run.Goals as goal
 
 pub returns-then-not-read_block-clause-fetched : goal.returns-then-not-read_block-clause-fetched
 returns-then-not-read_block-clause-fetched g c =

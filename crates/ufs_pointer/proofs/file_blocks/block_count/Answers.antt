@@ -1,6 +1,6 @@
 use Rattle.std.proofs.Common.{arith}
-use Rattle.ufs_path.proofs.Sizes.{count_few}
-use Rattle.ufs_path.proofs.blocks.block_count.Goals as goal
+use Rattle.ufs_pointer.proofs.Sizes.{count_few}
+use Rattle.ufs_pointer.proofs.file_blocks.block_count.Goals as goal
 
 pub returns-clause-few : goal.returns-clause-few
 returns-clause-few c =

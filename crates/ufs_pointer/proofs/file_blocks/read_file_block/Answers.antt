@@ -1,8 +1,8 @@
 use Rattle.std.proofs.Common.{◌≤◌, length}
 use Rattle.ufs_model.specs.Paths.{bytes_in_block}
-use Rattle.ufs_check.proofs.BlockLaws.{block_gone, block_hole, block_there, block_wild, fetches_gone, fetches_hole, fetches_there, fetches_wild, if_read}
-use Rattle.ufs_check.proofs.Sizes.{covers}
-use Rattle.ufs_check.proofs.file_blocks.read_block.Goals as goal
+use Rattle.ufs_pointer.proofs.BlockLaws.{block_gone, block_hole, block_there, block_wild, fetches_gone, fetches_hole, fetches_there, fetches_wild, if_read}
+use Rattle.ufs_pointer.proofs.Sizes.{covers}
+use Rattle.ufs_pointer.proofs.file_blocks.read_file_block.Goals as goal
 
 pub returns-in-Hole-clause-rule : goal.returns-in-Hole-clause-rule
 returns-in-Hole-clause-rule g c = block_hole _ _ _ c.file_block.ensures.keeps.stays c.in-Hole.ensures.rule

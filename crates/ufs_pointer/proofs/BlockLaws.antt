@@ -16,9 +16,9 @@ use Rattle.ufs_model.specs.declared.reads.PathRefusal.{PathRefusal}
 use Rattle.ufs_model.specs.declared.reads.PathRefusal.TheVariants.{Bad}
 use Rattle.ufs_pointer.specs.Fetches.{Fetches}
 use Rattle.ufs_pointer.specs.FetchLaws.{fetches_known, fetches_map, fetches_none, fetches_then}
-use Rattle.ufs_check.specs.FileBlocks.{IfData}
-use Rattle.ufs_check.specs.declared.file_blocks.FileBlock.{FileBlock}
-use Rattle.ufs_check.specs.declared.file_blocks.FileBlock.TheVariants.{Data, Hole as NoData, Wild as WildData}
+use Rattle.ufs_pointer.specs.FileBlocks.{IfData}
+use Rattle.ufs_pointer.specs.declared.file_blocks.FileBlock.{FileBlock}
+use Rattle.ufs_pointer.specs.declared.file_blocks.FileBlock.TheVariants.{Data, Hole as NoData, Wild as WildData}
 
 pub if_read : (P : Type 0) (found : Option FileBlock) → P → IfSome found (λ block. IfData block P)
 if_read P (Some Data) holds = holds

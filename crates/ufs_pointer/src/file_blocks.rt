@@ -1,4 +1,4 @@
-// File blocks of directories.
+// File blocks, read by their addresses.
 ghost use Rattle.std.specs.Prelude.{◌≡◌, ◌+◌, ◌*◌, ◌^◌, ◌<◌, ◌≤◌, IfSome, length};
 ghost use Rattle.dg_io.specs.Views.{KeepsView};
 ghost use Rattle.ufs_model.specs.Geometries.{IsGeometry, IsGeometryOn};
@@ -8,16 +8,17 @@ ghost use Rattle.ufs_model.specs.Readings.{ReadsAs};
 ghost use Rattle.ufs_model.specs.declared.numbers.Endian.TheVariants.{Little};
 ghost use Rattle.ufs_model.specs.declared.pointers.Address.TheVariants.{At};
 ghost use Rattle.ufs_pointer.specs.Fetches.{Fetches};
-ghost use Rattle.ufs_check.specs.FileBlocks.{IfData, block_said};
+ghost use Rattle.ufs_pointer.specs.FileBlocks.{IfData, block_said};
 
+use crate::answers::BlockAnswer;
+use crate::levels::{Levels, file_block};
 use dg_io::View;
 use ufs_model::{Geometry, Inode};
-use ufs_pointer::{BlockAnswer, Levels, file_block};
 
 /// What there is of a file block.
-#[derive(Clone, Copy)]
+#[derive(Clone, Copy, Debug, PartialEq, Eq)]
 pub enum FileBlock {
-    /// Its bytes are in the buffer.
+    /// Its bytes are the block of data, [`Levels::block`].
     Data,
     /// A pointer on the way to it is 0.
     Hole,
@@ -25,7 +26,7 @@ pub enum FileBlock {
     Wild,
 }
 
-/// The file blocks of a file.
+/// The number of file blocks of a file of less than 2^32 bytes.
 pub fn block_count(g: &Geometry, inode: &Inode) -> u32
     requires geometry { IsGeometry g.now }
     requires small { inode.now.size < 2 ^ 32 }
@@ -35,12 +36,13 @@ pub fn block_count(g: &Geometry, inode: &Inode) -> u32
     inode.size.div_ceil(u64::from(g.bsize)) as u32
 }
 
-/// The bytes of a file that stand in its file block `n`.
+/// How many bytes of a file stand in its file block `n`: none past its end.
 #[tactic(auto, using(crate::proofs::Sizes::block_fits))]
 pub fn bytes_in_block(g: &Geometry, inode: &Inode, n: u32) -> usize
     requires { IsGeometry g.now }
     ensures value { result ≡ bytes_in_block g.now inode.now n }
     ensures small { result ≤ 65536 }
+    ensures fits { result ≤ g.now.frag * g.now.fsize }
 {
     let before = u64::from(n) * u64::from(g.bsize);
     u64::from(g.bsize).min(inode.size.saturating_sub(before)) as usize
@@ -74,9 +76,9 @@ fn read_run<V: View>(
     Some(FileBlock::Data)
 }
 
-/// Reads file block `n`, with every fragment that it claims. There is no answer where a block on the way
-/// to it, or one of its own, is gone.
-pub fn read_block<V: View>(
+/// Reads file block `n`, with every fragment that it claims, into the block of data. There is no answer
+/// where a block on the way to it, or one of its own, is gone.
+pub fn read_file_block<V: View>(
     view: &mut V,
     g: &Geometry,
     inode: &Inode,

@@ -1,10 +1,10 @@
--- What a reader of file blocks answers. The words of this file are this crate's own.
+-- What a read of a file block says.
 use Rattle.std.specs.Prelude.{ℕ, List, Option, Some, None, Result, Ok, Err}
 use Rattle.ufs_model.specs.declared.reads.BadRead.TheVariants.{Wild as BadWild}
 use Rattle.ufs_model.specs.declared.reads.PathRefusal.{PathRefusal}
 use Rattle.ufs_model.specs.declared.reads.PathRefusal.TheVariants.{Bad}
-use Rattle.ufs_check.specs.declared.file_blocks.FileBlock.{FileBlock}
-use Rattle.ufs_check.specs.declared.file_blocks.FileBlock.TheVariants.{Data, Hole, Wild}
+use Rattle.ufs_pointer.specs.declared.file_blocks.FileBlock.{FileBlock}
+use Rattle.ufs_pointer.specs.declared.file_blocks.FileBlock.TheVariants.{Data, Hole, Wild}
 
 -- where there are bytes
 abbrev pub IfData : FileBlock → Type 0 → Type 0
