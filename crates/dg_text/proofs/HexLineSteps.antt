@@ -59,10 +59,6 @@ line_part taken old new bytes line count l same is full told =
 
 -- ---- the bytes that wait in the end
 
-pub rest_text_none : (rest : List ℕ) → length rest ≡ 0 → file_text (rest_lines rest) ≡ []
-rest_text_none [] none = refl
-rest_text_none (x ∷ rest) none = absurd (omega arith)
-
 pub rest_text_some : (rest : List ℕ) → 0 < length rest → file_text (rest_lines rest) ≡ bytes_line rest
 rest_text_some [] some = absurd (omega arith)
 rest_text_some (x ∷ rest) some = append-nil (bytes_line (x ∷ rest))

@@ -21,10 +21,6 @@ pub took_none : (x : Option (List ℕ)) → Told (Took []) x x
 took_none None = tt
 took_none (Some a) = sym (append-nil a)
 
-pub took_part_none : (piece : List ℕ) (x : Option (List ℕ)) → Told (TookPart piece) x x
-took_part_none piece None = tt
-took_part_none piece (Some a) = (0, sym (append-nil a))
-
 -- bytes, and then others
 pub took_both : (s t : List ℕ) (x y z : Option (List ℕ)) → Told (Took s) x y → Told (Took t) y z → Told (Took (s ++ t)) x z
 took_both s t x y z p q = Told-then (Took s) (Took t) (Took (s ++ t)) (λ a b c f g. g ∙ ap (λ (l : List ℕ). l ++ t) f ∙ append_assoc a s t) x y z p q

@@ -1,13 +1,11 @@
 -- The search for a name among the entries of a chunk, entry by entry.
-use Rattle.std.proofs.Common.{◌≡◌, ◌∙◌, ℕ, true, false, List, [], ◌∷◌, Option, Some, None, find, if◌then◌else◌, refl, sym, ap}
-use Rattle.std.specs.Option.{option_or}
+use Rattle.std.proofs.Common.{◌≡◌, ◌∙◌, ℕ, List, [], Option, Some, None, find, refl, sym, ap}
 use Rattle.ufs_model.specs.Chunks.{DirEntry, chunk_in, entries_in, fault_in, find_in, found_of, has_name}
 use Rattle.ufs_model.specs.declared.numbers.Endian.TheVariants.{Little}
 use Rattle.ufs_model.specs.declared.chunks.BadEntry.{BadEntry}
 use Rattle.ufs_model.specs.declared.chunks.Found.{Found}
 use Rattle.ufs_model.specs.declared.chunks.Found.TheVariants.{At, Absent, Bad}
-use Rattle.ufs_dir.specs.Parts.{inode_under}
-use Rattle.ufs_dir.specs.Steps.{GivesBad, GivesEnd, GivesEntry}
+use Rattle.ufs_dir.specs.Steps.{GivesBad, GivesEnd}
 
 -- what is found with this inode, or without one
 abbrev pub found_at : Option ℕ → Found
@@ -23,22 +21,6 @@ found_further name (Some inode) entries = At inode
 pub record IsSearched (name chunk : List ℕ) (first : Option ℕ) (rest : List ℕ) : Type 0 where
   pub fault : fault_in Little 0 rest ≡ fault_in Little 0 chunk
   pub found : found_further name first (entries_in Little 0 rest) ≡ found_of (find (has_name name) (entries_in Little 0 chunk))
-
-found_further-front : (name : List ℕ) (first : Option ℕ) (entry : DirEntry) (entries : List DirEntry)
-    → found_further name (option_or first (inode_under name entry)) entries ≡ found_further name first (entry ∷ entries)
-found_further-front name (Some inode) entry entries = refl
-found_further-front name None entry entries =
-    elim (has_name name entry) as (λ b. found_further name (if b then Some entry.inode else None) entries ≡ found_of (if b then Some entry else find (has_name name) entries)) [ true ↦ refl | false ↦ refl ]
-
-pub searched-begins : (name chunk : List ℕ) → IsSearched name chunk None chunk
-searched-begins name chunk = record { fault = refl; found = refl }
-
-pub searched-entry : (name chunk : List ℕ) (first : Option ℕ) (entry : DirEntry) (rest after : List ℕ)
-    → IsSearched name chunk first rest → GivesEntry rest entry after → IsSearched name chunk (option_or first (inode_under name entry)) after
-searched-entry name chunk first entry rest after so step = record {
-  fault = sym step.fault ∙ so.fault;
-  found = found_further-front name first entry (entries_in Little 0 after) ∙ ap (found_further name first) (sym step.entries) ∙ so.found;
-}
 
 found_further-none : (name : List ℕ) (first : Option ℕ) → found_at first ≡ found_further name first []
 found_further-none name None = refl

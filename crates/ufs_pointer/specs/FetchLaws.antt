@@ -1,7 +1,7 @@
 -- What readers in a row fetched. For the crates that read a volume.
-use Rattle.std.proofs.Common.{◌≡◌, ◌∙◌, ℕ, List, [], ◌∷◌, ◌++◌, Bool, Option, Some, None, refl, sym, ap, subst}
+use Rattle.std.proofs.Common.{◌≡◌, ◌∙◌, ℕ, List, [], ◌++◌, Bool, Option, Some, None, refl, sym, ap, subst}
 use Rattle.std.proofs.lemmas.List.{append_assoc}
-use Rattle.ufs_model.specs.Blocks.{Volume, Consulted, Reading, known, consult, bind}
+use Rattle.ufs_model.specs.Blocks.{Volume, Consulted, Reading, known, bind}
 use Rattle.ufs_model.specs.Readings.{ReadsAs}
 use Rattle.ufs_pointer.specs.Fetches.{BeginsWith, IsConsulted, Fetches}
 
@@ -33,12 +33,6 @@ needs_none v d f x one = record {
 pub fetches_known : {S A : Type 0} {fetched : S → List ℕ → S → Type 0} {stands : Volume → Type 0} {tells : Type 0} {old new : S} (a : A)
     → fetched old [] new → Fetches fetched stands tells (known a) (Some a) old new
 fetches_known a none = record { blocks = []; were = none; consulted = λ is v holds. refl }
-
--- one block
-pub fetches_one : {S : Type 0} {fetched : S → List ℕ → S → Type 0} {stands : Volume → Type 0} {tells : Type 0} {old new : S} (l b : ℕ) (r : Option (List ℕ))
-    → fetched old (b ∷ []) new → Fetches fetched stands tells (consult l b) r old new
-fetches_one l b None one = record { blocks = b ∷ []; were = one; consulted = λ is v holds. record { rest = []; whole = refl } }
-fetches_one l b (Some bytes) one = record { blocks = b ∷ []; were = one; consulted = λ is v holds. refl }
 
 -- an answer, and then what follows from it
 pub fetches_then : {S A B : Type 0} {fetched : S → List ℕ → S → Type 0} {stands still : Volume → Type 0} {tells told : Type 0} {before now : ℕ → Bool} {d : Reading A} (f : A → Reading B) {a : A} {r : Option B} {old middle new : S}
