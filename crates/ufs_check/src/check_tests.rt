@@ -172,7 +172,7 @@ fn further_volumes(rt: HostRuntime) -> Result<(), Fail> {
 #[test]
 fn volumes_that_stay_sound(rt: HostRuntime) -> Result<(), Fail> {
     let volumes: [&[Edit]; 5] = [
-        // A type that isn't told, a short last block in the middle of a file block, bytes of a file.
+        // A type that isn't told, a short last block at the end of a whole file block, bytes of a file.
         &[(ENTRY_B + 6, &[0])],
         &[(INODE_3 + 40, &[95]), (FRAGMENT_MAP + 11, &[0x40])],
         &[(34 * 1024, b"HELLO")],

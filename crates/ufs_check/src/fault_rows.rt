@@ -75,8 +75,7 @@ pub const TWICE_88: Fault = (
 // The indirect block leads to itself.
 pub const TWICE_84: Fault = (&[(INDIRECT, &[84])], BadKind::Twice, 84);
 
-// The file has as many blocks as lead to the indirect block's first pointer. No fragment from 96 to 103
-// is marked free.
+// The file ends with the block that the first pointer reaches. No fragment from 96 to 103 is marked free.
 pub const PAST_IN_84: Fault = (
     &[(INDIRECT + 4, &[96]), (FRAGMENT_MAP + 12, &[0])],
     BadKind::PastIn,
