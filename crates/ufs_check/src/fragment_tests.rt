@@ -1,4 +1,4 @@
-ghost use Rattle.std.specs.Prelude.{◌≡◌, ◌*◌, Some};
+ghost use Rattle.std.specs.Prelude.{◌≡◌, ◌*◌, ◌≤◌, Some};
 ghost use Rattle.std.specs.Bool.{OnTrue};
 ghost use Rattle.dg_claims.specs.Kept.{table_of};
 
@@ -24,9 +24,9 @@ const SOUND: FragmentFaults = FragmentFaults {
 };
 
 /// The first byte of the map of free fragments, and of the indirect block of inode 5.
-const FRAGMENT_MAP: usize = GROUP + 260;
+pub const FRAGMENT_MAP: usize = GROUP + 260;
 
-const INDIRECT: usize = 84 * 1024;
+pub const INDIRECT: usize = 84 * 1024;
 
 /// No fragment from 88 to 111 is marked free.
 const ALL_USED: Edit = (FRAGMENT_MAP + 11, &[0; 3]);
@@ -38,13 +38,20 @@ fn has_geometry(claims: &Claims, g: &Geometry) -> bool
     claims.geometry() == Some(*g)
 }
 
-/// The claims of the volume F with bytes put in.
-fn claims_of(alloc: Global, edits: &[Edit], levels: &mut Levels) -> Result<Claims, Fail>
-    requires { levels.old.fragment ≡ 1024 }
+/// The claims of a volume of so many blocks with bytes put in.
+pub fn claims_of(
+    alloc: Global,
+    which: Which,
+    count: u32,
+    edits: &[Edit],
+    levels: &mut Levels,
+) -> Result<Claims, Fail>
+    requires count { count ≤ 256 }
+    requires levels { levels.old.fragment ≡ 1024 }
     ensures { levels.new.fragment ≡ 1024 }
 {
-    let image = edited(alloc, Which::F, 128, edits)?;
-    let mut view = MemView::new(image, 1024, 128, Vec::new(alloc));
+    let image = edited(alloc, which, count, edits)?;
+    let mut view = MemView::new(image, 1024, count, Vec::new(alloc));
     match scan(alloc, &mut view, levels) {
         Ok(Some(claims)) => Ok(claims),
         Ok(None) => Err("claims".into()),
@@ -61,7 +68,7 @@ fn found(alloc: Global, edits: &[Edit], loss: Loss) -> Result<Option<FragmentFau
     }
     let g = read_super(&image[8192..9568], 1024, 128)?;
     let mut levels = Levels::new(alloc, 1024)?;
-    let claims = claims_of(alloc, edits, &mut levels)?;
+    let claims = claims_of(alloc, Which::F, 128, edits, &mut levels)?;
     if !has_geometry(&claims, &g) {
         return Err("geometry".into());
     }

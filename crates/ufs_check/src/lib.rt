@@ -4,9 +4,13 @@
 //! of each kind of fault that it looks for.
 #![tactic(auto)]
 
+#[cfg(test)]
+mod check_tests;
 mod checks;
 mod directories;
 mod entries;
+#[cfg(test)]
+mod fault_rows;
 mod faults;
 #[cfg(test)]
 mod fragment_tests;
@@ -20,6 +24,8 @@ mod links;
 mod names;
 mod notes;
 mod owned_entries;
+#[cfg(test)]
+mod pair_tests;
 mod parents;
 mod pointers;
 mod reaches;

@@ -8,9 +8,9 @@ use ufs_rows::Which;
 use ufs_super::read_super;
 
 /// The chunks of the root's directory and of `/d`, inode 4.
-const ROOT: usize = 33 * 1024;
+pub const ROOT: usize = 33 * 1024;
 
-const D: usize = 35 * 1024;
+pub const D: usize = 35 * 1024;
 
 /// No fault between entries.
 const SOUND_LINKS: LinkFaults = LinkFaults {

@@ -45,15 +45,15 @@ const SOUND_DIRECTORIES: DirectoryFaults = DirectoryFaults {
 /// The first byte of the group block, of its map of used inodes, and of inodes 3, 5, 6 and 7.
 pub const GROUP: usize = 24 * 1024;
 
-const INODE_MAP: usize = GROUP + 256;
+pub const INODE_MAP: usize = GROUP + 256;
 
-const INODE_3: usize = 28 * 1024 + 3 * 128;
+pub const INODE_3: usize = 28 * 1024 + 3 * 128;
 
 pub const INODE_5: usize = 28 * 1024 + 5 * 128;
 
 pub const INODE_6: usize = 28 * 1024 + 6 * 128;
 
-const INODE_7: usize = 28 * 1024 + 7 * 128;
+pub const INODE_7: usize = 28 * 1024 + 7 * 128;
 
 /// Writes bytes at a place, if they fit.
 fn put(image: &mut [u8], at: usize, bytes: &[u8])
@@ -327,12 +327,12 @@ fn blocks_that_are_gone(rt: HostRuntime) -> Result<(), Fail> {
 }
 
 /// The first byte of inode 4, the directory `/d`, and of its entry `b` for inode 5.
-const INODE_4: usize = 28 * 1024 + 4 * 128;
+pub const INODE_4: usize = 28 * 1024 + 4 * 128;
 
-const ENTRY_B: usize = 35 * 1024 + 24;
+pub const ENTRY_B: usize = 35 * 1024 + 24;
 
 /// The first byte of the root's entry `h` for inode 7.
-const ENTRY_H: usize = 33 * 1024 + 60;
+pub const ENTRY_H: usize = 33 * 1024 + 60;
 
 /// What is found of the directories of a volume, a block of which is gone.
 fn directories(
