@@ -203,19 +203,20 @@ fn volumes_with_a_block_gone(rt: HostRuntime) -> Result<(), Fail> {
     Ok(())
 }
 
-/// A fault isn't told where a block of the structure is gone, except that of the superblock, without
-/// which nothing is known to be of the structure.
+/// A fault isn't told where a block is gone that is read for it: the superblock, then the metadata, then
+/// the directories too.
 #[test]
 fn faults_with_a_block_gone(rt: HostRuntime) -> Result<(), Fail> {
     let super_fault: [Edit; 1] = [(8192 + 48, &[0, 0x30])];
     let bad = Verdict::Malformed(BadKind::Super(BadSuper::Bsize), 0);
     let past = Verdict::Malformed(BadKind::Past, 3);
-    let rows: [(&[Edit], u32, Verdict); 6] = [
+    let rows: [(&[Edit], u32, Verdict); 7] = [
         (&super_fault, 9, Verdict::Gone),
         (&super_fault, 24, bad),
         (PAST_3.0, 24, Verdict::Gone),
-        (PAST_3.0, 35, Verdict::Gone),
-        (PAST_3.0, 34, past),
+        (ENTRY_4.0, 33, Verdict::Gone),
+        (PAST_3.0, 33, past),
+        (PAST_3.0, 35, past),
         (PAST_3.0, 96, past),
     ];
     for (edits, block, wanted) in rows {
