@@ -1,5 +1,5 @@
-// The claims of volumes that are written to an array in memory, block by block: 128 fragments of 1024 bytes on four boundaries
-// with 64 slots. Inode i stands at byte 28 * 1024 + 128 * i.
+// The claims and the first malformation of volumes that are written to an array in memory, block by block: 128 fragments of
+// 1024 bytes on four boundaries with 64 slots. Inode i stands at byte 28 * 1024 + 128 * i.
 ghost use Rattle.std.specs.Prelude.{◌≡◌, IfOk, length};
 ghost use Rattle.dg_store.specs.Stores.{IsSound, shape_of};
 
@@ -9,18 +9,22 @@ use dg_model::Shape;
 use dg_store::{Store, StoreWrite};
 use std::alloc::Global;
 use std::test::Fail;
+use ufs_check::{BadKind, Verdict, check};
 use ufs_path::Levels;
 use ufs_rows::{Which, rows_image};
 
 // Bytes of a member: a label, 65 slots, and room for a saved state.
 const LENGTH: u64 = 69_284;
 
-// The second direct slot of inode 3, the first one of inode 6, and the double indirect slot of inode 5.
+// The second direct slot of inode 3, the first one of inode 6, the double indirect slot of inode 5, and the first pointer of
+// its indirect block.
 const SECOND_OF_3: usize = 29_100;
 
 const FIRST_OF_6: usize = 29_480;
 
 const DOUBLE_OF_5: usize = 29_404;
+
+const FIRST_OF_84: usize = 86_016;
 
 // The volume F, with another number at a byte of its image.
 fn image(alloc: Global, at: usize, number: u32) -> Result<Vec<u8>, Fail>
@@ -56,8 +60,8 @@ fn put_block<R: Rack>(store: &mut Store<R>, block: usize, bytes: &[u8]) -> Resul
     }
 }
 
-// The claims on a store, by a scan of it.
-fn scanned<R: Rack>(alloc: Global, store: &mut Store<R>) -> Result<Claims, Fail>
+// The claims on a store, by a scan of it, and what a check tells of it.
+fn read<R: Rack>(alloc: Global, store: &mut Store<R>) -> Result<(Claims, Verdict), Fail>
     requires sound { IsSound R.bytes store.old }
 {
     let l = store.shape().l;
@@ -67,15 +71,17 @@ fn scanned<R: Rack>(alloc: Global, store: &mut Store<R>) -> Result<Claims, Fail>
     let Ok(mut levels) = Levels::new(alloc, l) else {
         return Err("memory".into());
     };
-    match scan(alloc, store, &mut levels) {
-        Ok(Some(claims)) => Ok(claims),
-        Ok(None) => Err("a block is gone".into()),
+    let Ok(Some(claims)) = scan(alloc, store, &mut levels) else {
+        return Err("claims".into());
+    };
+    match check(alloc, store, &mut levels, &claims) {
+        Ok(verdict) => Ok((claims, verdict)),
         Err(_) => Err("memory".into()),
     }
 }
 
-// The claims of the volume F with another number at a byte, which is written to an array.
-fn claims_of(alloc: Global, at: usize, number: u32) -> Result<Claims, Fail> {
+// The same of the volume F with another number at a byte, which is written to an array.
+fn told_of(alloc: Global, at: usize, number: u32) -> Result<(Claims, Verdict), Fail> {
     let image = image(alloc, at, number)?;
     let shape = Shape::check(1024, 128, 4, 64, 2).ok_or("shape")?;
     let rack = SureRack::new(alloc, 8, LENGTH)?;
@@ -83,32 +89,39 @@ fn claims_of(alloc: Global, at: usize, number: u32) -> Result<Claims, Fail> {
     for (block, bytes) in image.chunks(1024).enumerate() {
         put_block(&mut store, block, bytes)?;
     }
-    scanned(alloc, &mut store)
+    read(alloc, &mut store)
 }
 
 #[test]
 fn blocks_of_an_array_have_their_owners(rt: HostRuntime) -> Result<(), Fail> {
     let alloc = rt.alloc();
     // Inode 5 has its own slot again.
-    let claims = claims_of(alloc, DOUBLE_OF_5, 0)?;
+    let (claims, verdict) = told_of(alloc, DOUBLE_OF_5, 0)?;
     assert_eq!(rt; claims.owner(88), Some((5, 0)));
     assert_eq!(rt; claims.owner(84), Some((5, 1)));
     assert_eq!(rt; claims.owner(8), None);
-    let claims = claims_of(alloc, SECOND_OF_3, 96)?;
+    assert_eq!(rt; verdict, Verdict::Sound);
+    let (claims, verdict) = told_of(alloc, SECOND_OF_3, 96)?;
     assert_eq!(rt; claims.owner(96), Some((3, 0)));
     assert_eq!(rt; claims.owner(34), Some((3, 0)));
+    assert_eq!(rt; verdict, Verdict::Malformed(BadKind::Past, 3));
     Ok(())
 }
 
 #[test]
 fn shared_blocks_of_an_array_have_none(rt: HostRuntime) -> Result<(), Fail> {
     let alloc = rt.alloc();
-    let claims = claims_of(alloc, FIRST_OF_6, 34)?;
+    let (claims, verdict) = told_of(alloc, FIRST_OF_6, 34)?;
     assert_eq!(rt; claims.claims_on(34), 2);
     assert_eq!(rt; claims.owner(34), None);
-    let claims = claims_of(alloc, DOUBLE_OF_5, 84)?;
+    assert_eq!(rt; verdict, Verdict::Malformed(BadKind::Past, 6));
+    let (claims, verdict) = told_of(alloc, FIRST_OF_84, 84)?;
+    assert_eq!(rt; claims.claims_on(84), 2);
+    assert_eq!(rt; verdict, Verdict::Malformed(BadKind::Twice, 84));
+    let (claims, verdict) = told_of(alloc, DOUBLE_OF_5, 84)?;
     assert_eq!(rt; claims.claims_on(84), 2);
     assert_eq!(rt; claims.claims_on(88), 2);
     assert_eq!(rt; claims.owner(88), None);
+    assert_eq!(rt; verdict, Verdict::Malformed(BadKind::Past, 5));
     Ok(())
 }
