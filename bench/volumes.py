@@ -84,7 +84,7 @@ class Volume:
             self.put(self.group_size * c + self.first + 2 * FRAGMENTS, self.group(c))
 
     def about(self):
-        return f"{self.groups} groups, {self.files:,} files in {self.directories:,} directories"
+        return f"groups: {self.groups:,}, files: {self.files:,}, directories: {self.directories:,}"
 
     def tree(self, files, in_directory):
         """The bytes of the directories and the files, in the order of their inodes from 2 on."""
