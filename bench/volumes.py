@@ -1,4 +1,4 @@
-"""Volumes for the benchmarks: UFS1 of one cylinder group with files in the root, as blocks that aren't zero.
+"""Volumes for the benchmarks: UFS1 with files in the root or in directories of it, as blocks that aren't zero.
 
 The fields and their places are those of `fs.h`, `dinode.h` and `dir.h` of 4.4BSD. A file block has eight fragments.
 """
@@ -40,43 +40,84 @@ def chunks_of(entries):
     return b"".join(entry(*one) for chunk, _ in chunks for one in chunk)
 
 
-class Volume:
-    """A volume of so many fragments of so many bytes, whose root has files `/f0`, `/f1` and so on with these bytes."""
+def bits(marked, count):
+    """A map of so many bits, of which these are set."""
+    one = bytearray((count + 7) // 8)
+    for at in marked:
+        one[at // 8] |= 1 << at % 8
+    return one
 
-    def __init__(self, fragment, fragments, files):
+
+class Volume:
+    """A volume of so many fragments of so many bytes, with files `f0`, `f1` and so on with these bytes.
+
+    They are in the root, or by turns of `in_directory` in directories `d0`, `d1` and so on of the root. A group has at most 128 * 128
+    fragments, so that its maps fit into its block.
+    """
+
+    def __init__(self, fragment, fragments, files, in_directory=0):
         self.image = {}
         self.fragment = fragment
+        self.fragments = fragments
         self.block = FRAGMENTS * fragment
         self.pointers = self.block // 4
+        self.group_size = min(fragments, 1 << 14)
+        self.groups = -(-fragments // self.group_size)
+        listings, contents = self.tree(files, in_directory)
+        self.files, self.directories = len(contents), len(listings)
+        self.used = 2 + len(listings) + len(contents)
         in_block = self.block // 128
-        self.inodes = (len(files) + 3 + in_block - 1) // in_block * in_block
-        first = 16384 // fragment
-        self.inodes_at = first + 4 * FRAGMENTS
+        each = -(-self.used // self.groups)
+        self.inodes = -(-each // in_block) * in_block
+        self.first = 16384 // fragment
+        self.inodes_at = self.first + 4 * FRAGMENTS
         self.data_at = self.inodes_at + self.inodes // in_block * FRAGMENTS
+        self.summary_at = self.data_at
         self.free = self.data_at + FRAGMENTS
-        self.put(8192 // fragment, self.superblock(fragments, first))
-        self.put(first + 2 * FRAGMENTS, self.group(fragments))
-        names = [(2, 4, b"."), (2, 4, b"..")] + [(3 + i, 8, b"f%d" % i) for i in range(len(files))]
-        table = bytearray(128 * self.inodes)
-        for number, (mode, data) in enumerate([(DIRECTORY, chunks_of(names))] + [(REGULAR, data) for data in files], 2):
+        self.put(8192 // fragment, self.superblock())
+        modes = [DIRECTORY] * len(listings) + [REGULAR] * len(contents)
+        table = bytearray(128 * self.inodes * self.groups)
+        for number, (mode, data) in enumerate(zip(modes, listings + contents), 2):
             table[128 * number:128 * number + 128] = inode(mode, len(data), self.slots(data))
-        self.put(self.inodes_at, table)
+        for c in range(self.groups):
+            self.put(self.group_size * c + self.inodes_at, table[128 * self.inodes * c:128 * self.inodes * (c + 1)])
+            self.put(self.group_size * c + self.first + 2 * FRAGMENTS, self.group(c))
 
-    def superblock(self, fragments, first):
-        fields = {8: first, 12: first + 2 * FRAGMENTS, 16: self.inodes_at, 20: self.data_at, 36: fragments, 44: 1}
+    def about(self):
+        return f"groups: {self.groups:,}, files: {self.files:,}, directories: {self.directories:,}"
+
+    def tree(self, files, in_directory):
+        """The bytes of the directories and the files, in the order of their inodes from 2 on."""
+        turns = -(-len(files) // in_directory) if in_directory else 0
+        named = [(3 + turns + i, 8, b"f%d" % i) for i in range(len(files))]
+        own = [(3 + i, 4, b"d%d" % i) for i in range(turns)] if turns else named
+        listings = [chunks_of([(2, 4, b"."), (2, 4, b"..")] + own)]
+        for i in range(turns):
+            inside = named[i * in_directory:(i + 1) * in_directory]
+            listings.append(chunks_of([(3 + i, 4, b"."), (2, 4, b"..")] + inside))
+        return listings, files
+
+    def superblock(self):
+        first = self.first
+        fields = {8: first, 12: first + 2 * FRAGMENTS, 16: self.inodes_at, 20: self.data_at, 36: self.fragments, 44: self.groups}
         fields.update({48: self.block, 52: self.fragment, 56: FRAGMENTS, 116: self.pointers, 120: self.block // 128})
-        fields.update({152: self.data_at, 156: self.fragment, 160: self.block, 184: self.inodes, 188: fragments})
+        fields.update({152: self.summary_at, 156: self.fragment, 160: self.block, 184: self.inodes, 188: self.group_size})
         fields.update({1320: 60, 1324: 2, 1372: 0x00011954})
         block = bytearray(1376)
         for place, value in fields.items():
             struct.pack_into("<I", block, place, value)
         return block
 
-    def group(self, fragments):
-        """The group block. All inodes and fragments are marked used; its maps are those of a small group alone."""
+    def group(self, c):
+        """The block of group c, once the files have their fragments: the maps of its used inodes and of its free fragments."""
+        count = min(self.group_size, self.fragments - self.group_size * c)
+        used = bits(range(max(0, min(self.inodes, self.used - self.inodes * c))), self.inodes)
+        start = max(self.data_at, min(count, self.free - self.group_size * c))
+        free = bits(range(start, count), count)
         block = bytearray(self.block)
-        for place, value in {4: 0x00090255, 20: fragments, 92: 128, 96: 128 + self.inodes // 8}.items():
+        for place, value in {4: 0x00090255, 12: c, 20: count, 92: 168, 96: 168 + len(used)}.items():
             struct.pack_into("<I", block, place, value)
+        block[168:168 + len(used) + len(free)] = used + free
         return block
 
     def put(self, at, data):
@@ -87,8 +128,11 @@ class Volume:
 
     def take(self, data):
         """Puts bytes at the next free file block, and answers where that is."""
+        if self.free % self.group_size == 0:
+            self.free += self.data_at
         at = self.free
         self.free += FRAGMENTS
+        assert self.free <= self.fragments, "the files don't fit"
         self.put(at, data)
         return at
 
