@@ -1,7 +1,7 @@
 //! The first malformation of a UFS1 volume, from a view of its blocks some of which may be gone.
 //!
-//! A pass goes over one kind of structure, each block of which it reads once. It keeps the least number
-//! of each kind of fault that it looks for.
+//! Each pass goes once over one kind of structure, and keeps the least number of each kind of fault that
+//! it looks for. The passes over directories are made only where those before find nothing.
 #![tactic(auto)]
 
 #[cfg(test)]
