@@ -1,6 +1,6 @@
 use Rattle.dg_io.specs.Racks.{sure_member}
 use Rattle.dg_store.specs.Stores.{IsSound}
-use Rattle.dg_run.proofs.claim_tests.claims_of.Given as goal
+use Rattle.dg_run.proofs.claim_tests.told_of.Given as goal
 
 abbrev pub invariant-loop-block : goal.invariant-loop-block
 invariant-loop-block l =
