@@ -13,7 +13,7 @@ pub type Fault<'a> = (&'a [Edit<'a>], BadKind, u32);
 /// The first byte of the root's inode, and of the root's entry `z` for inode 6.
 pub const INODE_2: usize = 28 * 1024 + 2 * 128;
 
-const ENTRY_Z: usize = ROOT + 48;
+pub const ENTRY_Z: usize = ROOT + 48;
 
 pub const GROUP_MAGIC_0: Fault = (&[(GROUP + 4, &[0])], BadKind::GroupMagic, 0);
 

@@ -7,6 +7,8 @@
 #[cfg(test)]
 mod check_tests;
 mod checks;
+#[cfg(test)]
+mod corner_tests;
 mod directories;
 mod entries;
 #[cfg(test)]

@@ -95,7 +95,7 @@ const UNUSED_41: Fault = (&[(160 * 1024 + 257, &[0])], BadKind::Unused, 41);
 
 /// The volume F where inode 2 is a file, and inodes 3 and 4 are directories that nothing names, each its
 /// own parent.
-const NO_ROOT: [Edit; 5] = [
+pub const NO_ROOT: [Edit; 5] = [
     (INODE_2, &[0xa4, 0x81]),
     (D + 12, &[4]),
     (INODE_3, &[0xed, 0x41]),
