@@ -12,6 +12,9 @@ use ufs_rows::Which;
 /// The chunk of inode 3, where that is a directory.
 const C: usize = 34 * 1024;
 
+/// Two chunks of `/d`.
+const TWO_CHUNKS: Edit = (INODE_4 + 8, &[0, 4]);
+
 const DOTS_3: Verdict = Verdict::Malformed(BadKind::Dots, 3);
 
 const DOTS_4: Verdict = Verdict::Malformed(BadKind::Dots, 4);
@@ -53,7 +56,6 @@ fn parents_of_directories(rt: HostRuntime) -> Result<(), Fail> {
 /// The used entries of `/d` count, in whichever chunk they stand.
 #[test]
 fn entries_of_a_directory(rt: HostRuntime) -> Result<(), Fail> {
-    let two_chunks: Edit = (INODE_4 + 8, &[0, 4]);
     let rows: [(&[Edit], Verdict); 8] = [
         // No bytes, no used entry, and `.` alone.
         (&[(INODE_4 + 8, &[0, 0]), (INODE_4 + 40, &[0])], DOTS_4),
@@ -61,7 +63,7 @@ fn entries_of_a_directory(rt: HostRuntime) -> Result<(), Fail> {
         (&[(D + 4, &[0, 2])], DOTS_4),
         (
             &[
-                two_chunks,
+                TWO_CHUNKS,
                 (D + 4, &[0, 2]),
                 (D + 512, b"\x02\0\0\0\0\x02\x04\x02.."),
             ],
@@ -82,7 +84,7 @@ fn entries_of_a_directory(rt: HostRuntime) -> Result<(), Fail> {
         ),
         // A second `b` in another chunk, and an unused one.
         (
-            &[two_chunks, (D + 512, b"\x05\0\0\0\0\x02\x08\x01b")],
+            &[TWO_CHUNKS, (D + 512, b"\x05\0\0\0\0\x02\x08\x01b")],
             NAMES_4,
         ),
         (
