@@ -13,11 +13,10 @@ ghost use Rattle.ufs_check.specs.Limits.{IsInLimits, IsLimit, IsPastLimit};
 ghost use Rattle.ufs_check.specs.Passes.{FetchesOnly, LosesOne};
 ghost use Rattle.ufs_check.specs.Reaches.{HasNoTwice, IsReach};
 
-use crate::inodes::INODE_BYTES;
+use crate::entries::read_named;
 use crate::reaches::{Reach, reach_of, width};
 use dg_claims::Claims;
 use dg_io::View;
-use ufs_inode::{place_of, read_inode};
 use ufs_model::{Geometry, Inode};
 use ufs_pointer::Levels;
 
@@ -58,32 +57,6 @@ fn limit_of(g: &Geometry, reach: &Reach, inode: Option<Inode>) -> Option<Limit>
     })
 }
 
-/// Reads inode `i` beside the block. There is no answer where its block is gone.
-fn read_inode_beside<V: View>(
-    view: &mut V,
-    g: &Geometry,
-    i: u32,
-    levels: &mut Levels,
-) -> Option<Option<Inode>>
-    requires sound { V.is_sound view.old }
-    requires geometry { IsGeometryOn (V.size view.old) (V.count view.old) g.now }
-    requires levels { levels.old.fragment ≡ V.size view.old }
-    requires number { (2 ≤ i) × (i < g.now.ncg * g.now.ipg) }
-    ensures keeps { KeepsView V.stands_for V.tells V.is_gone V.count V.size V.is_sound V.goes_on view.old view.new }
-    ensures levels { levels.new.fragment ≡ levels.old.fragment }
-    ensures block { levels.new.block ≡ levels.old.block }
-    ensures found { IfSome result (λ inode. V.tells view.new → (v : Volume) → V.stands_for view.old v → inode_at Little g.now v i ≡ inode) }
-    ensures gone { IfNone result (V.tells view.new → (v : Volume) → V.stands_for view.old v → LosesOne (V.is_gone view.new) (IsMetadataBy Little g.now v)) }
-    ensures fetched { FetchesOnly V.fetched (V.stands_for view.old) (V.tells view.new) (IsMetadataBy Little g.now) view.old view.new }
-{
-    let (block, byte) = place_of(g, i);
-    if !levels.read_aside(view, block) {
-        return None;
-    }
-    let start = byte as usize;
-    Some(read_inode(&levels.aside()[start..start + INODE_BYTES]))
-}
-
 /// Reads what the limit of the pointers of fragment `f` takes: the inode above it. There is no answer
 /// where that is gone.
 pub fn read_limit<V: View>(
@@ -109,6 +82,6 @@ pub fn read_limit<V: View>(
     let Some(reach) = reach_of(claims, g, f) else {
         return Some(None);
     };
-    let inode = read_inode_beside(view, g, reach.inode, levels)?;
+    let inode = read_named(view, g, reach.inode, levels)?;
     Some(limit_of(g, &reach, inode))
 }
