@@ -1,4 +1,1 @@
-pub mod FreeLaws
-pub mod KnownLaws
-pub mod ShapeLaws
 pub mod SiteLists
