@@ -1,1 +1,3 @@
+pub mod ClaimSearch
+pub mod MarkLaws
 pub mod SiteLists
