@@ -1,4 +1,6 @@
 pub mod ClaimSearch
+pub mod FirstSites
+pub mod FreeLaws
 pub mod KnownLaws
 pub mod MarkLaws
 pub mod SiteLists
