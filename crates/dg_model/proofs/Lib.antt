@@ -4,6 +4,7 @@ pub mod FreeLaws
 pub mod KnownLaws
 pub mod MarkLaws
 pub mod MemberLaws
+mod PlanRows
 pub mod RunLaws
 pub mod SiteLists
 pub mod StepLaws

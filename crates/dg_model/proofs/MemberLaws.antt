@@ -9,11 +9,12 @@ use Rattle.dg_model.specs.Causes.{NoneRose, Rose}
 use Rattle.dg_model.specs.Members.{ArePaired, HasFallen, IsStruck, MembersFall, is_filling, is_good, is_lost, partner_of}
 use Rattle.dg_model.specs.Sites.{all_lost, has_site, is_gone}
 use Rattle.dg_model.specs.States.{IsLeastLost, has_lost}
-use Rattle.dg_model.specs.Tables.{Table, sites_in}
+use Rattle.dg_model.specs.Tables.{Table, least_upto, sites_in}
 use Rattle.dg_model.specs.declared.members.MemberState.{MemberState}
 use Rattle.dg_model.specs.declared.members.MemberState.TheVariants.{Good, Filling, Out}
 use Rattle.dg_model.specs.declared.shapes.Shape.{Shape}
 use Rattle.dg_model.specs.declared.sites.Site.{Site}
+use Rattle.dg_model.proofs.FreeLaws.{least_below, least_there}
 
 -- ---- counts of faults
 
@@ -166,3 +167,14 @@ one_least_lost shape members s t a b = elim (cases_order s t) [
     | inr high ↦ absurd (false≢true (sym (a.least t high) ∙ b.lost))
   ]
 ]
+
+-- where some boundary is lost, one is the least
+pub least_lost_from : (shape : Shape) (members : ℕ → MemberState) → has_lost shape members ≡ true → (s : ℕ) × IsLeastLost shape members s
+least_lost_from shape members lost =
+    let some = has_lost_from shape members lost in
+    let found = least_upto shape.b (is_lost members) in
+    let low : least_upto shape.b (is_lost members) < shape.b = elim (cases_lt found shape.b) [
+      | inl low ↦ low
+      | inr high ↦ absurd (false≢true (sym (least_below shape.b (is_lost members) some.0 (omega (arith, high, some.1))) ∙ some.2))
+    ] in
+    (found, record { within = low; lost = least_there shape.b (is_lost members) low; least = λ t less. least_below shape.b (is_lost members) t less })
