@@ -5,6 +5,7 @@ pub mod KnownLaws
 pub mod MarkLaws
 pub mod MemberLaws
 mod PlanRows
+mod RefillRows
 pub mod RunLaws
 pub mod SiteLists
 pub mod StepLaws

@@ -128,9 +128,35 @@ moved_by_none : moves targets_three (Some 0) table_three ≡ []
 unfolding missing targets_of moves round tidying lowest_free
 moved_by_none = refl
 
+abbrev pub on : ℕ → ℕ → Site
+on s slot = record { boundary = s; slot = slot }
+
+-- blocks without a site, and blocks that stand on one boundary alone
+abbrev none_of : ℕ → List (List Site)
+none_of count = replicate count []
+
+abbrev alone_on : ℕ → List ℕ → List (List Site)
+alone_on s slots = map (λ slot. on s slot ∷ []) slots
+
+-- once all placements are met, blocks stand so: file 5 on boundary 2, the others on boundary 3
+abbrev pub rows_placed : List (List Site)
+rows_placed =
+    none_of 8
+    ++ (on 0 0 ∷ on 1 16 ∷ []) ∷ (on 1 0 ∷ on 2 14 ∷ []) ∷ none_of 14
+    ++ (on 0 1 ∷ on 1 17 ∷ []) ∷ none_of 3 ++ (on 0 2 ∷ on 1 18 ∷ []) ∷ none_of 4 ++ (on 1 1 ∷ on 2 15 ∷ [])
+    ∷ (on 3 14 ∷ []) ∷ (on 3 0 ∷ on 0 18 ∷ [])
+    ∷ alone_on 2 (
+      0 ∷ 16 ∷ 1 ∷ 17 ∷ 18 ∷ 19 ∷ 2 ∷ 20 ∷ 21 ∷ 22 ∷ 3 ∷ 23 ∷ 24 ∷ 25 ∷ 4 ∷ 26 ∷ 27 ∷ 28 ∷ 5 ∷ 29 ∷ 30 ∷ 31 ∷ 6 ∷ 32 ∷ 33
+          ∷ 34 ∷ 7 ∷ 35 ∷ 36 ∷ 37 ∷ 8 ∷ 38 ∷ 39 ∷ 40 ∷ 9 ∷ 41 ∷ 42 ∷ 43 ∷ 10 ∷ 44 ∷ 45 ∷ 46 ∷ 11 ∷ 47 ∷ 48 ∷ 49 ∷ 12 ∷ 50 ∷ 51 ∷ []
+    )
+    ++ none_of 3 ++ alone_on 2 (52 ∷ 53 ∷ 13 ∷ 54 ∷ []) ++ alone_on 3 (1 ∷ 2 ∷ []) ++ none_of 34
+
 abbrev pub table_placed : Table
+table_placed = record { shape = shape_of 4 64 2; rows = rows_placed }
+
+all_met : moved targets_three None table_three ≡ table_placed
 unfolding missing targets_of moves round tidying lowest_free
-table_placed = moved targets_three None table_three
+all_met = refl
 
 -- once all are met, there is nothing left to do
 nothing_left : moves targets_three (Some 99) table_placed ≡ []
@@ -138,7 +164,6 @@ unfolding missing targets_of moves round tidying lowest_free
 nothing_left = refl
 
 used_in_the_end : map (used_in table_placed) (0 ∷ 1 ∷ 2 ∷ 3 ∷ []) ≡ 4 ∷ 5 ∷ 55 ∷ 4 ∷ []
-unfolding missing targets_of moves round tidying lowest_free
 used_in_the_end = refl
 
 -- ---- two full boundaries: files 3 and 4 of one directory have 16 blocks each, and each other block is written too
@@ -196,7 +221,13 @@ unfolding plan place_kept stay place_with place_stray roomiest
 stray_place = refl
 
 abbrev pub table_stray : Table
+table_stray = record {
+  shape = shape_of 4 64 2;
+  rows = none_of 8 ++ (on 0 0 ∷ on 1 2 ∷ []) ∷ (on 1 0 ∷ on 2 1 ∷ []) ∷ none_of 14
+      ++ (on 0 1 ∷ on 1 3 ∷ []) ∷ none_of 3 ++ (on 0 2 ∷ on 1 4 ∷ []) ∷ none_of 4 ++ (on 1 1 ∷ on 2 2 ∷ []) ∷ (on 3 0 ∷ []) ∷ none_of 93;
+}
+
+stray_met : moved (targets_of (shape_of 4 64 2) wants_stray (record { homes = []; strays = record { block = 34; boundary = 3 } ∷ [] })) None
+    (written_up (shape_of 4 64 2) wants_stray) ≡ table_stray
 unfolding missing targets_of moves round tidying lowest_free
-table_stray =
-    moved (targets_of (shape_of 4 64 2) wants_stray (record { homes = []; strays = record { block = 34; boundary = 3 } ∷ [] })) None
-    (written_up (shape_of 4 64 2) wants_stray)
+stray_met = refl
