@@ -1,5 +1,6 @@
 pub mod ClaimSearch
 pub mod FirstSites
+mod FormatRows
 pub mod FreeLaws
 pub mod KnownLaws
 pub mod MarkLaws
@@ -11,3 +12,4 @@ pub mod SiteLists
 pub mod StepLaws
 pub mod TableLaws
 pub mod TrimLaws
+mod VerdictRows
