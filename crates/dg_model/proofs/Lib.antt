@@ -10,6 +10,7 @@ mod RefillRows
 pub mod RunLaws
 pub mod SiteLists
 pub mod StepLaws
+mod StepRows
 pub mod TableLaws
 pub mod TrimLaws
 mod VerdictRows

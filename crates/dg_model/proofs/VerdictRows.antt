@@ -16,23 +16,23 @@ use Rattle.dg_model.specs.declared.wants.Want.TheVariants.{Stray}
 use Rattle.dg_model.proofs.MarkLaws.{unclaimed_without}
 use Rattle.dg_model.proofs.PlanRows.{on}
 
-abbrev blocks : Volume
+abbrev pub blocks : Volume
 blocks = replicate 2 (replicate 512 0)
 
-no_volume : geometry_on 512 2 blocks ≡ Err Magic
+pub no_volume : geometry_on 512 2 blocks ≡ Err Magic
 unfolding geometry_of superblock_of area_within area_of bind geometry_in geometry_by endian_of fields number_at
 no_volume = refl
 
 abbrev table : Table
 table = record { shape = record { l = 512; n = 2; b = 2; k = 2; m = 1 }; rows = (on 0 0 ∷ []) ∷ [] ∷ [] }
 
-not_special : (b : ℕ) → IsSpecial 512 2 blocks b → ⊥
+pub not_special : (b : ℕ) → IsSpecial 512 2 blocks b → ⊥
 not_special b e = elim e [ inl system ↦ absurd (rw no_volume at system) | inr outside ↦ absurd (rw no_volume at outside) ]
 
-plain : (b : ℕ) → IsPlain table blocks b
+pub plain : (b : ℕ) → IsPlain table blocks b
 plain b = record { role = not_special b; unclaimed = unclaimed_without 512 2 blocks Magic b no_volume }
 
-not_dead : (marks : List Bool) (b : ℕ) → IsDead table blocks marks b → ⊥
+pub not_dead : (marks : List Bool) (b : ℕ) → IsDead table blocks marks b → ⊥
 not_dead marks b dead = absurd (rw no_volume at dead.free)
 
 is_pending : IsVerdict table blocks (true ∷ false ∷ []) 0 Pending
@@ -68,9 +68,9 @@ mark_dropped left =
 -- ---- wants
 
 -- without a volume each written block is nobody's
-owner_claims : (b i level : ℕ) → BelongsTo 512 2 blocks b i level → IsClaimed 512 2 blocks b
+pub owner_claims : (b i level : ℕ) → BelongsTo 512 2 blocks b i level → IsClaimed 512 2 blocks b
 owner_claims b i level (IsOwner.by_own_slot only is) = (_, only.claim)
 owner_claims b i level (IsOwner.by_upper only is above) = (_, only.claim)
 
-is_stray : (b : ℕ) → IsWant 512 2 blocks b Stray
+pub is_stray : (b : ℕ) → IsWant 512 2 blocks b Stray
 is_stray b = ((λ system. (plain b).role (inl system)), (λ i h. (plain b).unclaimed (owner_claims b i h.0 h.1)))
