@@ -14,3 +14,4 @@ mod StepRows
 pub mod TableLaws
 pub mod TrimLaws
 mod VerdictRows
+pub mod RereadLaws
