@@ -8,6 +8,7 @@ pub mod MemberLaws
 mod PlanRows
 mod RefillRows
 pub mod RunLaws
+mod SettledRows
 pub mod SiteLists
 pub mod StepLaws
 mod StepRows

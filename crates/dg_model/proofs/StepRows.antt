@@ -47,7 +47,7 @@ use Rattle.dg_model.proofs.VerdictRows.{blocks, is_stray, no_volume, owner_claim
 -- ---- the array
 
 -- the four members of two boundaries
-pub all_good : ℕ → MemberState
+unfoldable pub all_good : ℕ → MemberState
 all_good zero = Good
 all_good (suc zero) = Good
 all_good (suc (suc zero)) = Good
@@ -186,10 +186,10 @@ tended = (
 -- ---- no other number is a step: the wants, the parents and the plan are these alone
 
 owned : (b i : ℕ) → (level : ℕ) × BelongsTo 512 2 blocks b i level → ⊥
-owned b i h = (plain b).unclaimed (owner_claims b i h.0 h.1)
+owned b i h = (plain [] b).unclaimed (owner_claims b i h.0 h.1)
 
 not_kept : (b : ℕ) → IsWant 512 2 blocks b Kept → ⊥
-not_kept b h = elim h [ inl system ↦ (plain b).role (inl system) | inr other ↦ owned b other.0 other.1 ]
+not_kept b h = elim h [ inl system ↦ (plain [] b).role (inl system) | inr other ↦ owned b other.0 other.1 ]
 
 not_file : (b i : ℕ) → IsWant 512 2 blocks b (File i) → ⊥
 not_file b i h = owned b i h.0
