@@ -5,6 +5,7 @@ pub mod FreeLaws
 pub mod KnownLaws
 pub mod MarkLaws
 pub mod MemberLaws
+mod OpeningRows
 mod PlanRows
 mod RefillRows
 pub mod RunLaws

@@ -48,7 +48,7 @@ both_on_0 = table_with (on 0 0 ∷ []) (on 0 1 ∷ [])
 abbrev pub at_home : Rest
 at_home = record { homes = home 3 0 ∷ []; copies = []; phase = Settled; recent = [] }
 
-abbrev of_file : List (Option Want)
+abbrev pub of_file : List (Option Want)
 of_file = Some (File 3) ∷ Some (File 3) ∷ []
 
 written : (b : ℕ) → is_some (want_of of_file b) ≡ has_site (sites_in both_on_1 b)
@@ -88,7 +88,7 @@ copied = record { homes = home 3 0 ∷ []; copies = home 3 1 ∷ []; phase = Set
 abbrev on_both : Table
 on_both = table_with (on 0 0 ∷ on 1 0 ∷ []) (on 0 1 ∷ on 1 1 ∷ [])
 
-written_0 : (b : ℕ) → is_some (want_of of_file b) ≡ has_site (sites_in both_on_0 b)
+pub written_0 : (b : ℕ) → is_some (want_of of_file b) ≡ has_site (sites_in both_on_0 b)
 written_0 zero = refl
 written_0 (suc zero) = refl
 written_0 (suc (suc b)) = refl
