@@ -9,6 +9,7 @@ mod OpeningRows
 mod PlanRows
 mod RefillRows
 pub mod RunLaws
+pub mod SealLaws
 mod SettledRows
 pub mod SiteLists
 pub mod StepLaws

@@ -5,7 +5,7 @@ use Rattle.std.specs.Prelude.{◌↔◌, ◌==◌, ◌/◌, ◌%◌, IsSome, Opt
 use Rattle.std.specs.Option.{unwrap_or}
 use Rattle.std.specs.List.{list_any}
 use Rattle.dg_model.specs.Causes.{Rose}
-use Rattle.dg_model.specs.Changes.{IsSettled, SeesWants}
+use Rattle.dg_model.specs.Changes.{IsInOrder, SeesWants}
 use Rattle.dg_model.specs.Homes.{home_of}
 use Rattle.dg_model.specs.Marks.{AreLeft}
 use Rattle.dg_model.specs.Members.{is_good}
@@ -221,7 +221,7 @@ phase_apart Worn a b = worn_apart a
 not_loose : Settled ≡ Loose → ⊥
 not_loose e = cc
 
-holds : IsSettled ⊥ opened_state
+holds : IsInOrder ⊥ opened_state
 holds = record {
   wants = of_file;
   seen = record { fit = record { size = refl; written = written_0 }; are = λ told. absurd told };
