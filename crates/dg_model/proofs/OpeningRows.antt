@@ -1,22 +1,18 @@
 -- What an opening takes of four members, three of which have the last save, and what it doesn't.
-use Rattle.std.proofs.Common.{◌≡◌, ◌≢◌, ◌<◌, ◌≤◌, ◌⊎◌, inl, inr, ℕ, zero, suc, Bool, true, false, cond, List, [], ◌∷◌, ap, refl, arith, sym, ◌∙◌, length}
+use Rattle.std.proofs.Common.{◌≡◌, ◌<◌, ◌≤◌, ◌⊎◌, inl, inr, ℕ, zero, suc, Bool, true, false, cond, [], ◌∷◌, ap, refl, arith, sym, ◌∙◌, length}
 use Rattle.std.proofs.lemmas.Bool.{false≢true}
 use Rattle.std.specs.Prelude.{◌↔◌, ◌==◌, ◌/◌, ◌%◌, IsSome, Option, Some, None, is_some, nat_lt, ◌+◌, ◌||◌}
-use Rattle.std.specs.Option.{unwrap_or}
 use Rattle.std.specs.List.{list_any}
 use Rattle.dg_model.specs.Causes.{Rose}
-use Rattle.dg_model.specs.Changes.{IsInOrder, SeesWants}
-use Rattle.dg_model.specs.Homes.{home_of}
-use Rattle.dg_model.specs.Marks.{AreLeft}
+use Rattle.dg_model.specs.Changes.{IsInOrder}
 use Rattle.dg_model.specs.Members.{is_good}
-use Rattle.dg_model.specs.Openings.{Found, HasLength, IsNewest, IsReopened, IsSource, IsUnclean, MayBeGood, Opens}
+use Rattle.dg_model.specs.Openings.{Found, HasLength, IsReopened, IsSource, IsUnclean, MayBeGood, Opens}
 use Rattle.dg_model.specs.Placed.{IsPlaced, StandsOnJust, boundaries_with}
-use Rattle.dg_model.specs.Plans.{count_of, is_kept, places_of}
+use Rattle.dg_model.specs.Plans.{is_kept}
 use Rattle.dg_model.specs.Saves.{Label, SavedState, body_of}
 use Rattle.dg_model.specs.States.{Counts, State, is_broken, saved_of}
-use Rattle.dg_model.specs.Tables.{Table, is_on}
+use Rattle.dg_model.specs.Tables.{is_on}
 use Rattle.dg_model.specs.Wants.{want_of}
-use Rattle.dg_model.specs.declared.homes.Home.{Home}
 use Rattle.dg_model.specs.declared.members.MemberState.{MemberState}
 use Rattle.dg_model.specs.declared.members.MemberState.TheVariants.{Good, Out}
 use Rattle.dg_model.specs.declared.phases.Phase.{Phase}

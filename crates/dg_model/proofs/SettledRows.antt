@@ -1,5 +1,5 @@
 -- Steps of a settled array of two blocks over members that tell nothing, and what is no step. Both blocks are of file 3.
-use Rattle.std.proofs.Common.{◌≡◌, ◌≢◌, ◌<◌, ◌≤◌, ◌⊎◌, inl, inr, ℕ, zero, suc, Bool, true, false, List, [], ◌∷◌, ap, refl, arith, sym, subst, ◌∙◌, length}
+use Rattle.std.proofs.Common.{◌≡◌, ◌≢◌, inl, inr, ℕ, zero, suc, Bool, true, false, List, [], ◌∷◌, ap, refl, arith, sym, ◌∙◌, length}
 use Rattle.std.proofs.lemmas.Bool.{false≢true}
 use Rattle.std.specs.Prelude.{Option, Some, None, Result, Ok, Err, cond, is_some, ◌==◌}
 use Rattle.std.specs.List.{list_any}
@@ -17,7 +17,7 @@ use Rattle.ufs_model.specs.declared.reads.PathRefusal.TheVariants.{Bad}
 use Rattle.dg_model.specs.Changes.{SeesWants}
 use Rattle.dg_model.specs.Copies.{emptiest, spread_over}
 use Rattle.dg_model.specs.Marks.{is_marked}
-use Rattle.dg_model.specs.Members.{is_filling, is_good, is_lost, partner_of}
+use Rattle.dg_model.specs.Members.{is_filling, is_good, partner_of}
 use Rattle.dg_model.specs.Moves.{missing, moves, round, tidying}
 use Rattle.dg_model.specs.Plans.{place_kept, place_stray, place_with, plan, roomiest, stay, targets_of}
 use Rattle.dg_model.specs.Saves.{body_of}
@@ -28,14 +28,13 @@ use Rattle.dg_model.specs.Sites.{has_site}
 use Rattle.dg_model.specs.Tables.{Table, lowest_free, sites_in}
 use Rattle.dg_model.specs.Wants.{want_of}
 use Rattle.dg_model.specs.declared.events.Event.TheVariants.{Diffuse, Home as HomeEvent, Pending, Rebuild, Replace, Save, Settle, Tree, Who}
-use Rattle.dg_model.specs.declared.homes.Home.{Home}
 use Rattle.dg_model.specs.declared.members.MemberState.{MemberState}
 use Rattle.dg_model.specs.declared.members.MemberState.TheVariants.{Good, Filling, Out}
 use Rattle.dg_model.specs.declared.phases.Phase.TheVariants.{Loose, Settled, Worn}
-use Rattle.dg_model.specs.declared.replies.Reply.TheVariants.{Blocks, Copied, Diffused, Done, HomeAt, Listed as ListedReply, Lost, NoHome, NotOut, NotSettled, Refused, Saved, Settled as SettledReply, Unavailable, Verdict}
-use Rattle.dg_model.specs.declared.verdicts.Who.TheVariants.{Dead, Idle, Pending as IsPending}
+use Rattle.dg_model.specs.declared.replies.Reply.TheVariants.{Blocks, Copied, Diffused, Done, HomeAt, Listed as ListedReply, Lost, Refused, Saved, Settled as SettledReply, Unavailable, Verdict}
+use Rattle.dg_model.specs.declared.verdicts.Who.TheVariants.{Dead, Pending as IsPending}
 use Rattle.dg_model.specs.declared.wants.Want.{Want}
-use Rattle.dg_model.specs.declared.wants.Want.TheVariants.{Kept, File, Stray}
+use Rattle.dg_model.specs.declared.wants.Want.TheVariants.{File}
 use Rattle.dg_model.proofs.PlanRows.{home, on}
 use Rattle.dg_model.proofs.StepRows.{Rest, all_good, array_with, before, both_on_1, goes, is_loose, not_filling, nothing, stays, table_with}
 use Rattle.dg_model.proofs.VerdictRows.{blocks, not_dead, plain}

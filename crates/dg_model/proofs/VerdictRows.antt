@@ -1,7 +1,7 @@
 -- What is told of blocks, and of paths, where there is no volume; and what isn't.
-use Rattle.std.proofs.Common.{◌≡◌, ◌⊎◌, inl, inr, ℕ, Bool, true, false, List, [], ◌∷◌, ap, refl, sym, ◌∙◌, replicate, length, arith}
+use Rattle.std.proofs.Common.{◌≡◌, inl, inr, ℕ, Bool, true, false, List, [], ◌∷◌, refl, sym, replicate}
 use Rattle.std.proofs.lemmas.Bool.{false≢true}
-use Rattle.std.specs.Prelude.{Ok, Err, Result}
+use Rattle.std.specs.Prelude.{Err}
 use Rattle.ufs_model.specs.Blocks.{Volume, area_of, area_within, bind}
 use Rattle.ufs_model.specs.Numbers.{number_at}
 use Rattle.ufs_model.specs.Owners.{BelongsTo, IsOwner}
