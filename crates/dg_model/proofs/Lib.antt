@@ -8,12 +8,15 @@ pub mod MemberLaws
 mod OpeningRows
 mod PlanRows
 mod RefillRows
+pub mod RoomLaws
 pub mod RunLaws
 pub mod SealLaws
 mod SettledRows
 pub mod SiteLists
+pub mod SpareLaws
 pub mod StepLaws
 mod StepRows
+pub mod SumLaws
 pub mod TableLaws
 pub mod TrimLaws
 mod VerdictRows
