@@ -1,5 +1,5 @@
 -- Lengths and bytes of what is saved, computed, and what they are not.
-use Rattle.std.proofs.Common.{◌≡◌, ◌<◌, ◌≤◌, ◌⊎◌, ℕ, ◌++◌, Bool, true, false, List, [], ◌∷◌, length, ap, sym, ◌∙◌, refl, inl, inr, arith}
+use Rattle.std.proofs.Common.{◌≡◌, ◌≤◌, ◌⊎◌, ℕ, ◌++◌, Bool, true, false, List, [], ◌∷◌, length, ap, sym, ◌∙◌, refl, inl, inr, arith}
 use Rattle.std.specs.Prelude.{Option, Some, None, drop, slice_index, take}
 use Rattle.std.proofs.lemmas.Bool.{false≢true}
 use Rattle.dg_model.specs.Changes.{AreGoodMarks}
@@ -7,14 +7,12 @@ use Rattle.dg_model.specs.Members.{is_good}
 use Rattle.dg_model.specs.Saves.{BeginsWith, CanBeSaved, HasForm, IsBody, IsLabel, Label, SavedState, body_of, front_of_body, label_bytes, member_length, phase_byte, rest_of_body}
 use Rattle.dg_model.specs.Seals.{KeepsLabel, LastLabel, label_after}
 use Rattle.dg_model.specs.States.{State}
-use Rattle.dg_model.specs.Tables.{Table}
 use Rattle.dg_model.specs.declared.members.MemberState.{MemberState}
-use Rattle.dg_model.specs.declared.members.MemberState.TheVariants.{Good, Out}
+use Rattle.dg_model.specs.declared.members.MemberState.TheVariants.{Out}
 use Rattle.dg_model.specs.declared.homes.Home.{Home}
 use Rattle.dg_model.specs.declared.phases.Phase.{Phase}
 use Rattle.dg_model.specs.declared.phases.Phase.TheVariants.{Loose, Settled, Worn}
 use Rattle.dg_model.specs.declared.shapes.Shape.{Shape}
-use Rattle.dg_model.specs.declared.sites.Site.{Site}
 
 abbrev shape : Shape
 shape = record { l = 1024; n = 128; b = 4; k = 64; m = 2 }

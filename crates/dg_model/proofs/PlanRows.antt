@@ -1,10 +1,8 @@
 -- Plans and moves of small volumes, computed. What each block is for is written out by hand.
-use Rattle.std.proofs.Common.{◌≡◌, ◌≢◌, ◌+◌, ◌%◌, ◌++◌, Bool, true, false, ℕ, zero, suc, List, [], ◌∷◌, length, map, ap, refl, sym, ◌∙◌, arith}
-use Rattle.std.specs.Prelude.{Option, Some, None, Result, Ok, Err, IfOk, replicate, slice_index, slice_set}
-use Rattle.std.proofs.lemmas.Bool.{false≢true}
+use Rattle.std.proofs.Common.{◌≡◌, ◌+◌, ◌%◌, ◌++◌, Bool, ℕ, suc, List, [], ◌∷◌, length, map, refl}
+use Rattle.std.specs.Prelude.{Option, Some, None, Result, Ok, Err, replicate, slice_index, slice_set}
 use Rattle.dg_model.specs.Homes.{home_of}
-use Rattle.dg_model.specs.Moves.{all_done, missing, missing_in, moved, moves, round, tidying}
-use Rattle.dg_model.specs.Placed.{IsPlaced}
+use Rattle.dg_model.specs.Moves.{missing, missing_in, moved, moves, round, tidying}
 use Rattle.dg_model.specs.Plans.{Plan, place_kept, place_stray, place_with, plan, roomiest, stay, targets_of}
 use Rattle.dg_model.specs.Tables.{Table, lowest_free, used_in}
 use Rattle.dg_model.specs.declared.homes.Home.{Home}
@@ -146,8 +144,8 @@ rows_placed =
     ++ (on 0 1 ∷ on 1 17 ∷ []) ∷ none_of 3 ++ (on 0 2 ∷ on 1 18 ∷ []) ∷ none_of 4 ++ (on 1 1 ∷ on 2 15 ∷ [])
     ∷ (on 3 14 ∷ []) ∷ (on 3 0 ∷ on 0 18 ∷ [])
     ∷ alone_on 2 (
-      0 ∷ 16 ∷ 1 ∷ 17 ∷ 18 ∷ 19 ∷ 2 ∷ 20 ∷ 21 ∷ 22 ∷ 3 ∷ 23 ∷ 24 ∷ 25 ∷ 4 ∷ 26 ∷ 27 ∷ 28 ∷ 5 ∷ 29 ∷ 30 ∷ 31 ∷ 6 ∷ 32 ∷ 33
-          ∷ 34 ∷ 7 ∷ 35 ∷ 36 ∷ 37 ∷ 8 ∷ 38 ∷ 39 ∷ 40 ∷ 9 ∷ 41 ∷ 42 ∷ 43 ∷ 10 ∷ 44 ∷ 45 ∷ 46 ∷ 11 ∷ 47 ∷ 48 ∷ 49 ∷ 12 ∷ 50 ∷ 51 ∷ []
+    0 ∷ 16 ∷ 1 ∷ 17 ∷ 18 ∷ 19 ∷ 2 ∷ 20 ∷ 21 ∷ 22 ∷ 3 ∷ 23 ∷ 24 ∷ 25 ∷ 4 ∷ 26 ∷ 27 ∷ 28 ∷ 5 ∷ 29 ∷ 30 ∷ 31 ∷ 6 ∷ 32 ∷ 33
+    ∷ 34 ∷ 7 ∷ 35 ∷ 36 ∷ 37 ∷ 8 ∷ 38 ∷ 39 ∷ 40 ∷ 9 ∷ 41 ∷ 42 ∷ 43 ∷ 10 ∷ 44 ∷ 45 ∷ 46 ∷ 11 ∷ 47 ∷ 48 ∷ 49 ∷ 12 ∷ 50 ∷ 51 ∷ []
     )
     ++ none_of 3 ++ alone_on 2 (52 ∷ 53 ∷ 13 ∷ 54 ∷ []) ++ alone_on 3 (1 ∷ 2 ∷ []) ++ none_of 34
 

@@ -1,25 +1,15 @@
 -- Steps of an array of two blocks over members that hold no volume, and what is no step. Where bytes are told, the blocks are nobody's.
-use Rattle.std.proofs.Common.{◌≡◌, ◌≢◌, ◌<◌, ◌≤◌, ◌⊎◌, inl, inr, ℕ, zero, suc, Bool, true, false, List, [], ◌∷◌, ◌++◌, ap, refl, arith, sym, subst, ◌∙◌, length, take}
+use Rattle.std.proofs.Common.{◌≡◌, ◌<◌, inl, inr, ℕ, zero, suc, Bool, true, false, List, [], ◌∷◌, ◌++◌, ap, refl, arith, sym, subst, ◌∙◌, length, take}
 use Rattle.std.proofs.lemmas.Bool.{false≢true}
 use Rattle.std.proofs.lemmas.List.{take_all}
 use Rattle.std.specs.Prelude.{Option, Some, None, Result, Ok, Err, is_some}
 use Rattle.std.specs.Option.{unwrap_or}
-use Rattle.std.specs.List.{Contains}
-use Rattle.ufs_model.specs.Malformations.{IsFirstMalformation, IsMalformed, IsSoundVolume, order_of}
+use Rattle.ufs_model.specs.Malformations.{IsFirstMalformation, IsMalformed}
 use Rattle.ufs_model.specs.Owners.{BelongsTo}
-use Rattle.ufs_model.specs.Readings.{MeetsRule, and_then}
-use Rattle.ufs_model.specs.Blocks.{area_of, area_within, bind}
-use Rattle.ufs_model.specs.Numbers.{number_at}
-use Rattle.ufs_model.specs.Paths.{volume_geometry}
-use Rattle.ufs_model.specs.Superblocks.{endian_of, fields, geometry_by, geometry_in, geometry_of, superblock_of}
-use Rattle.ufs_model.specs.Trees.{tree_of}
 use Rattle.ufs_model.specs.declared.geometries.BadSuper.TheVariants.{Magic}
-use Rattle.ufs_model.specs.declared.malformations.BadKind.{BadKind}
 use Rattle.ufs_model.specs.declared.malformations.BadKind.TheVariants.{Super}
-use Rattle.ufs_model.specs.declared.reads.BadRead.TheVariants.{Super as BadSuperblock}
-use Rattle.ufs_model.specs.declared.reads.PathRefusal.TheVariants.{Bad}
-use Rattle.dg_model.specs.Changes.{Goes, Passes, SeesWants, Stays, Tends}
-use Rattle.dg_model.specs.Members.{is_filling, is_good, is_lost, partner_of}
+use Rattle.dg_model.specs.Changes.{Goes, SeesWants, Stays, Tends}
+use Rattle.dg_model.specs.Members.{is_filling, is_good, partner_of}
 use Rattle.dg_model.specs.Moves.{Action, IsCutOff, all_done, copy_to, give_up, missing, missing_in, moved, moves, round, tidying}
 use Rattle.dg_model.specs.Plans.{Plan, place_kept, place_stray, place_with, plan, roomiest, stay, targets_of}
 use Rattle.dg_model.specs.States.{State}
@@ -27,17 +17,16 @@ use Rattle.dg_model.specs.Steps.{Step}
 use Rattle.dg_model.specs.Sites.{has_site}
 use Rattle.dg_model.specs.Tables.{Table, lowest_free, sites_in}
 use Rattle.dg_model.specs.Wants.{AreParents, IsWant, want_of}
-use Rattle.dg_model.specs.declared.events.Event.TheVariants.{Diffuse, Home as HomeEvent, Pending, Rebuild, Replace, Save, Settle, Tend, Tree, Who}
+use Rattle.dg_model.specs.declared.events.Event.TheVariants.{Settle, Tend}
 use Rattle.dg_model.specs.declared.homes.Home.{Home}
 use Rattle.dg_model.specs.declared.members.MemberState.{MemberState}
-use Rattle.dg_model.specs.declared.members.MemberState.TheVariants.{Good, Filling, Out}
+use Rattle.dg_model.specs.declared.members.MemberState.TheVariants.{Good, Out}
 use Rattle.dg_model.specs.declared.parents.Parent.{Parent}
 use Rattle.dg_model.specs.declared.phases.Phase.{Phase}
-use Rattle.dg_model.specs.declared.phases.Phase.TheVariants.{Loose, Settled, Worn}
-use Rattle.dg_model.specs.declared.replies.Reply.TheVariants.{Blocks, Malformed, NoSpace, Refused, Settled as SettledReply, Tended, Verdict}
+use Rattle.dg_model.specs.declared.phases.Phase.TheVariants.{Loose, Settled}
+use Rattle.dg_model.specs.declared.replies.Reply.TheVariants.{Malformed, NoSpace, Settled as SettledReply, Tended}
 use Rattle.dg_model.specs.declared.shapes.Shape.{Shape}
 use Rattle.dg_model.specs.declared.sites.Site.{Site}
-use Rattle.dg_model.specs.declared.verdicts.Who.TheVariants.{Idle, Pending as IsPending}
 use Rattle.dg_model.specs.declared.wants.NoRoom.{NoRoom}
 use Rattle.dg_model.specs.declared.wants.Want.{Want}
 use Rattle.dg_model.specs.declared.wants.Want.TheVariants.{Kept, File, Stray}
@@ -47,7 +36,7 @@ use Rattle.dg_model.proofs.VerdictRows.{blocks, is_stray, no_volume, owner_claim
 -- ---- the array
 
 -- the four members of two boundaries
-pub all_good : ℕ → MemberState
+unfoldable pub all_good : ℕ → MemberState
 all_good zero = Good
 all_good (suc zero) = Good
 all_good (suc (suc zero)) = Good
@@ -186,10 +175,10 @@ tended = (
 -- ---- no other number is a step: the wants, the parents and the plan are these alone
 
 owned : (b i : ℕ) → (level : ℕ) × BelongsTo 512 2 blocks b i level → ⊥
-owned b i h = (plain b).unclaimed (owner_claims b i h.0 h.1)
+owned b i h = (plain [] b).unclaimed (owner_claims b i h.0 h.1)
 
 not_kept : (b : ℕ) → IsWant 512 2 blocks b Kept → ⊥
-not_kept b h = elim h [ inl system ↦ (plain b).role (inl system) | inr other ↦ owned b other.0 other.1 ]
+not_kept b h = elim h [ inl system ↦ (plain [] b).role (inl system) | inr other ↦ owned b other.0 other.1 ]
 
 not_file : (b i : ℕ) → IsWant 512 2 blocks b (File i) → ⊥
 not_file b i h = owned b i h.0
