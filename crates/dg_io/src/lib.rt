@@ -4,6 +4,7 @@
 
 mod calls;
 mod lent;
+mod members;
 mod memory_views;
 mod outside;
 mod pieces;

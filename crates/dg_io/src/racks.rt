@@ -1,11 +1,13 @@
 // Racks in memory. Their calls are counted from 0.
-ghost use Rattle.std.specs.Prelude.{◌≡◌, ◌≢◌, ◌+◌, ◌≤◌, ◌<◌, ◌^◌, [], ℕ, length, replicate, slice_index, OnOk, IfOk, IsErr, All, Some};
+ghost use Rattle.std.specs.Prelude.{◌≡◌, ◌≢◌, ◌⊎◌, ◌↔◌, ◌+◌, ◌≤◌, ◌<◌, [], ℕ, Option, None, true, false, length, slice_index, OnOk, OnErr, IfOk, IfSome, IsSome, IsErr, IsTrue, All, Some};
 ghost use Rattle.dg_model.specs.Causes.{Rose, RoseByOne};
+ghost use Rattle.dg_io.specs.Calls.{LeavesRack};
 ghost use Rattle.dg_io.specs.Faults.{HasCause};
-ghost use Rattle.dg_io.specs.Told.{patch};
-ghost use Rattle.dg_io.specs.Racks.{counts_in, length_in, member_in, rack_fails, sure_counts, sure_length, sure_member};
+ghost use Rattle.dg_io.specs.Told.{Told, IsSame, IsZeros, Measures, IsEmpty, Reads, Patched, Torn, FitsIn, Extended, KeepsFront, IsHeader, OldOrNew};
+ghost use Rattle.dg_io.specs.Racks.{counts_in, member_in, there_in, members_in, room_in, rack_fails, IsListed, IsAbsent, IsPast, sure_counts, sure_room_in, sure_member};
 
 use crate::calls::is_listed;
+use crate::members::MemMember;
 use crate::{Failed, NoMemory, Rack};
 use std::alloc::Global;
 
@@ -14,43 +16,23 @@ const MEMBERS: usize = 256;
 /// A rack of members in memory.
 #[derive(Drop)]
 pub struct MemRack {
-    members: Vec<Vec<u8>>,
-    length: u64,
+    members: Vec<MemMember>,
     fails: Vec<u64>,
     calls: u64,
     writes: u64,
     faults: [u64; MEMBERS],
 }
 
-/// Puts a piece in the place of the bytes that stand there.
-fn put(bytes: &mut [u8], place: usize, piece: &[u8])
-    requires { place + length piece.now ≤ length bytes.old }
-    ensures { bytes.new ≡ patch bytes.old place piece.now }
-{
-    bytes[place..place + piece.len()].copy_from_slice(piece);
-}
-
-/// Makes so many zeros of a member.
-fn fill_zeros(bytes: &mut Vec<u8>, n: usize) -> Result<(), Failed>
-    ensures { OnOk result (bytes.new.items ≡ replicate n 0) }
-{
-    bytes.clear();
-    match bytes.resize(n, 0) {
-        Ok(()) => Ok(()),
-        Err(_) => Err(Failed),
-    }
-}
-
 /// Empty members, each with room for so many bytes.
-fn empty_members(alloc: Global, count: u8, room: u64) -> Result<Vec<Vec<u8>>, NoMemory>
+fn empty_members(alloc: Global, count: u8, room: u64) -> Result<Vec<MemMember>, NoMemory>
     ensures count { IfOk result (λ all. length all.items ≡ count) }
-    ensures empty { IfOk result (λ all. All (λ member. member.items ≡ []) all.items) }
+    ensures empty { IfOk result (λ all. All (λ member. member.bytes.items ≡ []) all.items) }
+    ensures room { IfOk result (λ all. All (λ member. member.room ≡ room) all.items) }
+    ensures there { IfOk result (λ all. All (λ member. member.there ≡ true) all.items) }
 {
     let mut all = Vec::new(alloc);
     while all.len() < count as usize {
-        let Ok(member) = Vec::with_capacity(alloc, room as usize) else {
-            return Err(NoMemory);
-        };
+        let member = MemMember::new(alloc, room as usize)?;
         if all.push(member).is_err() {
             return Err(NoMemory);
         }
@@ -59,24 +41,25 @@ fn empty_members(alloc: Global, count: u8, room: u64) -> Result<Vec<Vec<u8>>, No
 }
 
 impl MemRack {
-    /// A rack of so many members, all of them empty, whose listed calls fail. It takes its memory here: a member has room
-    /// for `length` bytes, and a blank that is longer counts as a failed call.
+    /// A rack of so many members, all of them there and empty, whose listed calls fail. It takes its memory here: a
+    /// member has room for `length` bytes, and a call that would make one longer counts as a failed call.
     pub fn new(
         alloc: Global,
         members: u8,
         length: u64,
         fails: Vec<u64>,
     ) -> Result<MemRack, NoMemory>
-        ensures empty { IfOk result (λ rack. (q : ℕ) → q < members → member_in rack q ≡ Some []) }
+        ensures members { IfOk result (λ rack. members_in rack ≡ members) }
+        ensures empty { IfOk result (λ rack. (q : ℕ) → member_in rack q ≡ Some []) }
+        ensures there { IfOk result (λ rack. (q : ℕ) → q < members → there_in rack q ≡ true) }
+        ensures room { IfOk result (λ rack. (q : ℕ) → q < members → room_in rack q ≡ length) }
         ensures faults { IfOk result (λ rack. (q : ℕ) → (counts_in rack).faults q ≡ 0) }
         ensures calls { IfOk result (λ rack. (counts_in rack).calls ≡ 0) }
         ensures writes { IfOk result (λ rack. (counts_in rack).writes ≡ 0) }
-        ensures length { IfOk result (λ rack. length_in rack ≡ length) }
         ensures fails { IfOk result (λ rack. rack_fails rack ≡ fails.items) }
     {
         Ok(MemRack {
             members: empty_members(alloc, members, length)?,
-            length,
             fails,
             calls: 0,
             writes: 0,
@@ -84,11 +67,42 @@ impl MemRack {
         })
     }
 
+    /// Takes a member away. A blank makes it anew.
+    pub fn remove(&mut self, member: u8)
+        ensures absent { IsAbsent self.new member }
+        ensures bytes { member_in self.new member ≡ Some [] }
+        ensures others { (q : ℕ) → q ≢ member → member_in self.new q ≡ member_in self.old q }
+        ensures others_there { (q : ℕ) → q ≢ member → there_in self.new q ≡ there_in self.old q }
+        ensures members { members_in self.new ≡ members_in self.old }
+        ensures room { (q : ℕ) → room_in self.new q ≡ room_in self.old q }
+        ensures counts { counts_in self.new ≡ counts_in self.old }
+        ensures fails { rack_fails self.new ≡ rack_fails self.old }
+    {
+        let at = member as usize;
+        if at < self.members.len() {
+            self.members[at].remove();
+        }
+    }
+
+    /// From now on no call is one that fails.
+    pub fn mend(&mut self)
+        ensures fails { rack_fails self.new ≡ [] }
+        ensures bytes { (q : ℕ) → member_in self.new q ≡ member_in self.old q }
+        ensures there { (q : ℕ) → there_in self.new q ≡ there_in self.old q }
+        ensures members { members_in self.new ≡ members_in self.old }
+        ensures room { (q : ℕ) → room_in self.new q ≡ room_in self.old q }
+        ensures counts { counts_in self.new ≡ counts_in self.old }
+    {
+        self.fails.clear();
+    }
+
     // One more call. It fails where it is listed, and then counts that.
     fn begin(&mut self, member: u8) -> Result<(), Failed>
         ensures members { self.new.members ≡ self.old.members }
+        ensures lists { self.new.fails ≡ self.old.fails }
         ensures calls { RoseByOne self.old.calls self.new.calls }
         ensures writes { self.new.writes ≡ self.old.writes }
+        ensures fails { IsErr result ↔ IsListed self.old }
         ensures cause { HasCause (slice_index self.old.faults member) (slice_index self.new.faults member) result }
         ensures others { (q : ℕ) → q ≢ member → slice_index self.new.faults q ≡ slice_index self.old.faults q }
     {
@@ -103,6 +117,7 @@ impl MemRack {
     // The call fails.
     fn fault(&mut self, member: u8) -> Result<(), Failed>
         ensures members { self.new.members ≡ self.old.members }
+        ensures lists { self.new.fails ≡ self.old.fails }
         ensures calls { self.new.calls ≡ self.old.calls }
         ensures writes { self.new.writes ≡ self.old.writes }
         ensures err { IsErr result }
@@ -123,16 +138,34 @@ impl Rack for MemRack {
 
     ghost counts = { counts_in };
 
-    fn blank(&mut self, member: u8, length: u64) -> Result<(), Failed> {
+    ghost stands = { λ _ _. Unit {0} };
+
+    ghost steady = { λ _. Unit {0} };
+
+    /// It fails exactly where the call is listed, or the member can't have so many bytes.
+    fn blank(&mut self, member: u8, length: u64) -> Result<(), Failed>
+        ensures ok { OnOk result (Told (IsZeros length) (member_in self.old member) (member_in self.new member)) }
+        ensures leaves { LeavesRack (λ _. 0) member_in counts_in (λ _ _. Unit {0}) (λ _. Unit {0}) member result self.old self.new }
+        ensures writes { RoseByOne (counts_in self.old).writes (counts_in self.new).writes }
+        ensures fails { IsErr result ↔ (IsListed self.old ⊎ IsPast self.old member length) }
+    {
         self.writes = self.writes.saturating_add(1);
         self.begin(member)?;
         let at = member as usize;
-        if at >= self.members.len() || length > self.length {
+        if at >= self.members.len() {
             return self.fault(member);
         }
-        match fill_zeros(&mut self.members[at], length as usize) {
+        match self.members[at].blank(length) {
             Ok(()) => Ok(()),
             Err(_) => self.fault(member),
+        }
+    }
+
+    fn attach(&mut self, member: u8) -> Result<Option<u64>, Failed> {
+        self.begin(member)?;
+        match self.members.get(member as usize) {
+            Some(found) if found.there => Ok(Some(found.bytes.len() as u64)),
+            _ => Ok(None),
         }
     }
 
@@ -142,9 +175,10 @@ impl Rack for MemRack {
         if at >= self.members.len() {
             return self.fault(member);
         }
-        let from = place as usize;
-        buf.copy_from_slice(&self.members[at][from..from + buf.len()]);
-        Ok(())
+        match self.members[at].read(place, buf) {
+            Ok(()) => Ok(()),
+            Err(_) => self.fault(member),
+        }
     }
 
     fn write(&mut self, member: u8, place: u64, buf: &[u8]) -> Result<(), Failed> {
@@ -154,8 +188,23 @@ impl Rack for MemRack {
         if at >= self.members.len() {
             return self.fault(member);
         }
-        put(&mut self.members[at], place as usize, buf);
-        Ok(())
+        match self.members[at].write(place, buf) {
+            Ok(()) => Ok(()),
+            Err(_) => self.fault(member),
+        }
+    }
+
+    fn extend(&mut self, member: u8, length: u64) -> Result<(), Failed> {
+        self.writes = self.writes.saturating_add(1);
+        self.begin(member)?;
+        let at = member as usize;
+        if at >= self.members.len() {
+            return self.fault(member);
+        }
+        match self.members[at].extend(length) {
+            Ok(()) => Ok(()),
+            Err(_) => self.fault(member),
+        }
     }
 }
 
@@ -163,8 +212,7 @@ impl Rack for MemRack {
 /// tells no bytes from then on.
 #[derive(Drop)]
 pub struct SureRack {
-    members: Vec<Vec<u8>>,
-    length: u64,
+    members: Vec<MemMember>,
     told: bool,
     calls: u64,
     writes: u64,
@@ -173,14 +221,13 @@ pub struct SureRack {
 impl SureRack {
     /// A rack of so many members, all of them empty, each with room for so many bytes. It takes its memory here.
     pub fn new(alloc: Global, members: u8, length: u64) -> Result<SureRack, NoMemory>
-        ensures empty { IfOk result (λ rack. (q : ℕ) → q < members → sure_member rack q ≡ Some []) }
+        ensures empty { IfOk result (λ rack. (q : ℕ) → sure_member rack q ≡ Some []) }
+        ensures room { IfOk result (λ rack. (q : ℕ) → q < members → sure_room_in rack q ≡ length) }
         ensures calls { IfOk result (λ rack. (sure_counts rack).calls ≡ 0) }
         ensures writes { IfOk result (λ rack. (sure_counts rack).writes ≡ 0) }
-        ensures length { IfOk result (λ rack. sure_length rack ≡ length) }
     {
         Ok(SureRack {
             members: empty_members(alloc, members, length)?,
-            length,
             told: true,
             calls: 0,
             writes: 0,
@@ -195,25 +242,33 @@ impl Rack for SureRack {
 
     ghost counts = { sure_counts };
 
+    ghost stands = { λ _ _. Unit {0} };
+
+    ghost steady = { λ _. Unit {0} };
+
     fn blank(&mut self, member: u8, length: u64) -> Result<(), Failed> {
         self.calls = self.calls.saturating_add(1);
         self.writes = self.writes.saturating_add(1);
         let at = member as usize;
-        if at >= self.members.len()
-            || length > self.length
-            || fill_zeros(&mut self.members[at], length as usize).is_err()
-        {
+        if at >= self.members.len() || self.members[at].blank(length).is_err() {
             self.told = false;
         }
         Ok(())
     }
 
+    fn attach(&mut self, member: u8) -> Result<Option<u64>, Failed> {
+        self.calls = self.calls.saturating_add(1);
+        match self.members.get(member as usize) {
+            Some(found) => Ok(Some(found.bytes.len() as u64)),
+            None => Ok(None),
+        }
+    }
+
     fn read(&mut self, member: u8, place: u64, buf: &mut [u8]) -> Result<(), Failed> {
         self.calls = self.calls.saturating_add(1);
         let at = member as usize;
-        if self.told && at < self.members.len() {
-            let from = place as usize;
-            buf.copy_from_slice(&self.members[at][from..from + buf.len()]);
+        if self.told && at < self.members.len() && self.members[at].read(place, buf).is_err() {
+            self.told = false;
         }
         Ok(())
     }
@@ -222,8 +277,18 @@ impl Rack for SureRack {
         self.calls = self.calls.saturating_add(1);
         self.writes = self.writes.saturating_add(1);
         let at = member as usize;
-        if self.told && at < self.members.len() {
-            put(&mut self.members[at], place as usize, buf);
+        if self.told && at < self.members.len() && self.members[at].write(place, buf).is_err() {
+            self.told = false;
+        }
+        Ok(())
+    }
+
+    fn extend(&mut self, member: u8, length: u64) -> Result<(), Failed> {
+        self.calls = self.calls.saturating_add(1);
+        self.writes = self.writes.saturating_add(1);
+        let at = member as usize;
+        if self.told && (at >= self.members.len() || self.members[at].extend(length).is_err()) {
+            self.told = false;
         }
         Ok(())
     }
