@@ -38,6 +38,16 @@ room_in rack q = room_of (slice_get rack.members.items q)
 abbrev pub counts_in : MemRack → Counts
 counts_in rack = record { faults = λ q. slice_index rack.faults q; calls = rack.calls; writes = rack.writes }
 
+-- each of its members stands, it is steady, and it isn't lent
+abbrev pub stands_in : MemRack → ℕ → Type 0
+stands_in rack q = Unit {0}
+
+abbrev pub steady_in : MemRack → Type 0
+steady_in rack = Unit {0}
+
+abbrev pub name_in : MemRack → ℕ
+name_in rack = 0
+
 -- the numbers of the calls that fail, from 0
 abbrev pub rack_fails : MemRack → List ℕ
 rack_fails rack = rack.fails.items
@@ -53,6 +63,12 @@ IsAbsent rack q = there_in rack q ≡ false
 -- the member can't have so many bytes
 abbrev pub IsPast : MemRack → ℕ → ℕ → Type 0
 IsPast rack q size = (members_in rack ≤ q) ⊎ (room_in rack q < size)
+
+-- what it was made with stays: how many members, their room, and which calls fail
+pub record StaysMade (old new : MemRack) : Type 0 where
+  pub members : members_in new ≡ members_in old
+  pub room : (q : ℕ) → room_in new q ≡ room_in old q
+  pub fails : rack_fails new ≡ rack_fails old
 
 -- the bytes of a member, until there was no room
 abbrev pub sure_member : SureRack → ℕ → Option (List ℕ)

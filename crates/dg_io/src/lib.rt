@@ -13,6 +13,7 @@ mod sinks;
 mod sources;
 #[cfg(test)]
 mod tests;
+mod stored;
 mod views;
 
 pub use dg_model::{Failed, NoMemory};

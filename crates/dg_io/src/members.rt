@@ -13,6 +13,7 @@ pub struct MemMember {
     pub room: usize,
     pub there: bool,
     ghost fits: { room ≤ vec_capacity bytes },
+    ghost gone: { there ≡ false → bytes.items ≡ [] },
 }
 
 /// Puts a piece in the place of the bytes that stand there.

@@ -4,10 +4,11 @@ ghost use Rattle.dg_model.specs.Causes.{Rose, RoseByOne};
 ghost use Rattle.dg_io.specs.Calls.{LeavesRack};
 ghost use Rattle.dg_io.specs.Faults.{HasCause};
 ghost use Rattle.dg_io.specs.Told.{Told, IsSame, IsZeros, Measures, IsEmpty, Reads, Patched, Torn, FitsIn, Extended, KeepsFront, IsHeader, OldOrNew};
-ghost use Rattle.dg_io.specs.Racks.{counts_in, member_in, there_in, members_in, room_in, rack_fails, IsListed, IsAbsent, IsPast, sure_counts, sure_room_in, sure_member};
+ghost use Rattle.dg_io.specs.Racks.{name_in, counts_in, member_in, stands_in, steady_in, there_in, members_in, room_in, rack_fails, IsListed, IsAbsent, IsPast, StaysMade, sure_counts, sure_room_in, sure_member};
 
 use crate::calls::is_listed;
 use crate::members::MemMember;
+use crate::stored::{blank_at, empty_members, extend_at, read_at, write_at};
 use crate::{Failed, NoMemory, Rack};
 use std::alloc::Global;
 
@@ -21,23 +22,6 @@ pub struct MemRack {
     calls: u64,
     writes: u64,
     faults: [u64; MEMBERS],
-}
-
-/// Empty members, each with room for so many bytes.
-fn empty_members(alloc: Global, count: u8, room: u64) -> Result<Vec<MemMember>, NoMemory>
-    ensures count { IfOk result (λ all. length all.items ≡ count) }
-    ensures empty { IfOk result (λ all. All (λ member. member.bytes.items ≡ []) all.items) }
-    ensures room { IfOk result (λ all. All (λ member. member.room ≡ room) all.items) }
-    ensures there { IfOk result (λ all. All (λ member. member.there ≡ true) all.items) }
-{
-    let mut all = Vec::new(alloc);
-    while all.len() < count as usize {
-        let member = MemMember::new(alloc, room as usize)?;
-        if all.push(member).is_err() {
-            return Err(NoMemory);
-        }
-    }
-    Ok(all)
 }
 
 impl MemRack {
@@ -132,36 +116,46 @@ impl MemRack {
 }
 
 impl Rack for MemRack {
-    ghost name = { λ _. 0 };
+    ghost name = { name_in };
 
     ghost bytes = { member_in };
 
     ghost counts = { counts_in };
 
-    ghost stands = { λ _ _. Unit {0} };
+    ghost stands = { stands_in };
 
-    ghost steady = { λ _. Unit {0} };
+    ghost steady = { steady_in };
 
     /// It fails exactly where the call is listed, or the member can't have so many bytes.
     fn blank(&mut self, member: u8, length: u64) -> Result<(), Failed>
         ensures ok { OnOk result (Told (IsZeros length) (member_in self.old member) (member_in self.new member)) }
-        ensures leaves { LeavesRack (λ _. 0) member_in counts_in (λ _ _. Unit {0}) (λ _. Unit {0}) member result self.old self.new }
+        ensures leaves { LeavesRack name_in member_in counts_in stands_in steady_in member result self.old self.new }
         ensures writes { RoseByOne (counts_in self.old).writes (counts_in self.new).writes }
         ensures fails { IsErr result ↔ (IsListed self.old ⊎ IsPast self.old member length) }
+        ensures there { OnOk result (there_in self.new member ≡ true) }
+        ensures others_there { (q : ℕ) → q ≢ member → there_in self.new q ≡ there_in self.old q }
+        ensures stays { StaysMade self.old self.new }
     {
         self.writes = self.writes.saturating_add(1);
         self.begin(member)?;
-        let at = member as usize;
-        if at >= self.members.len() {
-            return self.fault(member);
-        }
-        match self.members[at].blank(length) {
+        match blank_at(&mut self.members, member, length) {
             Ok(()) => Ok(()),
             Err(_) => self.fault(member),
         }
     }
 
-    fn attach(&mut self, member: u8) -> Result<Option<u64>, Failed> {
+    /// It fails exactly where the call is listed, and finds exactly the members that are there.
+    fn attach(&mut self, member: u8) -> Result<Option<u64>, Failed>
+        ensures found { IfOk result (λ found. IfSome found (λ n. Told (Measures n) (member_in self.old member) (member_in self.new member))) }
+        ensures absent { IfOk result (λ found. found ≡ None → Told IsEmpty (member_in self.old member) (member_in self.new member)) }
+        ensures same { Told IsSame (member_in self.old member) (member_in self.new member) }
+        ensures leaves { LeavesRack name_in member_in counts_in stands_in steady_in member result self.old self.new }
+        ensures writes { (counts_in self.new).writes ≡ (counts_in self.old).writes }
+        ensures fails { IsErr result ↔ IsListed self.old }
+        ensures finds { IfOk result (λ found. IsSome found ↔ (there_in self.old member ≡ true)) }
+        ensures there { (q : ℕ) → there_in self.new q ≡ there_in self.old q }
+        ensures stays { StaysMade self.old self.new }
+    {
         self.begin(member)?;
         match self.members.get(member as usize) {
             Some(found) if found.there => Ok(Some(found.bytes.len() as u64)),
@@ -169,39 +163,60 @@ impl Rack for MemRack {
         }
     }
 
-    fn read(&mut self, member: u8, place: u64, buf: &mut [u8]) -> Result<(), Failed> {
+    /// It fails exactly where the call is listed, or the member isn't there.
+    fn read(&mut self, member: u8, place: u64, buf: &mut [u8]) -> Result<(), Failed>
+        requires range { IfSome (member_in self.old member) (λ all. place + length buf.old ≤ length all) }
+        ensures ok { OnOk result (Told (Reads place buf.new) (member_in self.old member) (member_in self.new member)) }
+        ensures same { Told IsSame (member_in self.old member) (member_in self.new member) }
+        ensures leaves { LeavesRack name_in member_in counts_in stands_in steady_in member result self.old self.new }
+        ensures writes { (counts_in self.new).writes ≡ (counts_in self.old).writes }
+        ensures fails { IsErr result ↔ (IsListed self.old ⊎ IsAbsent self.old member) }
+        ensures there { (q : ℕ) → there_in self.new q ≡ there_in self.old q }
+        ensures stays { StaysMade self.old self.new }
+    {
         self.begin(member)?;
-        let at = member as usize;
-        if at >= self.members.len() {
-            return self.fault(member);
-        }
-        match self.members[at].read(place, buf) {
+        match read_at(&self.members, member, place, buf) {
             Ok(()) => Ok(()),
             Err(_) => self.fault(member),
         }
     }
 
-    fn write(&mut self, member: u8, place: u64, buf: &[u8]) -> Result<(), Failed> {
+    /// It fails exactly where the call is listed, or the member isn't there. A failed one changes nothing.
+    fn write(&mut self, member: u8, place: u64, buf: &[u8]) -> Result<(), Failed>
+        requires range { IfSome (member_in self.old member) (λ all. place + length buf.now ≤ length all) }
+        ensures ok { OnOk result (Told (Patched place buf.now) (member_in self.old member) (member_in self.new member)) }
+        ensures err { OnErr result (Told (Torn place (length buf.now)) (member_in self.old member) (member_in self.new member)) }
+        ensures whole { OnErr result (steady_in self.old → IsHeader place buf.now
+            → Told (OldOrNew place buf.now) (member_in self.old member) (member_in self.new member)) }
+        ensures leaves { LeavesRack name_in member_in counts_in stands_in steady_in member result self.old self.new }
+        ensures writes { RoseByOne (counts_in self.old).writes (counts_in self.new).writes }
+        ensures fails { IsErr result ↔ (IsListed self.old ⊎ IsAbsent self.old member) }
+        ensures there { (q : ℕ) → there_in self.new q ≡ there_in self.old q }
+        ensures stays { StaysMade self.old self.new }
+    {
         self.writes = self.writes.saturating_add(1);
         self.begin(member)?;
-        let at = member as usize;
-        if at >= self.members.len() {
-            return self.fault(member);
-        }
-        match self.members[at].write(place, buf) {
+        match write_at(&mut self.members, member, place, buf) {
             Ok(()) => Ok(()),
             Err(_) => self.fault(member),
         }
     }
 
-    fn extend(&mut self, member: u8, length: u64) -> Result<(), Failed> {
+    /// It fails exactly where the call is listed, or the member isn't there or can't have so many bytes. A failed one
+    /// changes nothing.
+    fn extend(&mut self, member: u8, length: u64) -> Result<(), Failed>
+        requires longer { IfSome (member_in self.old member) (FitsIn length) }
+        ensures ok { OnOk result (Told (Extended length) (member_in self.old member) (member_in self.new member)) }
+        ensures err { OnErr result (Told KeepsFront (member_in self.old member) (member_in self.new member)) }
+        ensures leaves { LeavesRack name_in member_in counts_in stands_in steady_in member result self.old self.new }
+        ensures writes { RoseByOne (counts_in self.old).writes (counts_in self.new).writes }
+        ensures fails { IsErr result ↔ (IsListed self.old ⊎ (IsAbsent self.old member ⊎ (room_in self.old member < length))) }
+        ensures there { (q : ℕ) → there_in self.new q ≡ there_in self.old q }
+        ensures stays { StaysMade self.old self.new }
+    {
         self.writes = self.writes.saturating_add(1);
         self.begin(member)?;
-        let at = member as usize;
-        if at >= self.members.len() {
-            return self.fault(member);
-        }
-        match self.members[at].extend(length) {
+        match extend_at(&mut self.members, member, length) {
             Ok(()) => Ok(()),
             Err(_) => self.fault(member),
         }
@@ -249,8 +264,7 @@ impl Rack for SureRack {
     fn blank(&mut self, member: u8, length: u64) -> Result<(), Failed> {
         self.calls = self.calls.saturating_add(1);
         self.writes = self.writes.saturating_add(1);
-        let at = member as usize;
-        if at >= self.members.len() || self.members[at].blank(length).is_err() {
+        if blank_at(&mut self.members, member, length).is_err() {
             self.told = false;
         }
         Ok(())
@@ -266,8 +280,7 @@ impl Rack for SureRack {
 
     fn read(&mut self, member: u8, place: u64, buf: &mut [u8]) -> Result<(), Failed> {
         self.calls = self.calls.saturating_add(1);
-        let at = member as usize;
-        if self.told && at < self.members.len() && self.members[at].read(place, buf).is_err() {
+        if self.told && read_at(&self.members, member, place, buf).is_err() {
             self.told = false;
         }
         Ok(())
@@ -276,8 +289,7 @@ impl Rack for SureRack {
     fn write(&mut self, member: u8, place: u64, buf: &[u8]) -> Result<(), Failed> {
         self.calls = self.calls.saturating_add(1);
         self.writes = self.writes.saturating_add(1);
-        let at = member as usize;
-        if self.told && at < self.members.len() && self.members[at].write(place, buf).is_err() {
+        if self.told && write_at(&mut self.members, member, place, buf).is_err() {
             self.told = false;
         }
         Ok(())
@@ -286,8 +298,7 @@ impl Rack for SureRack {
     fn extend(&mut self, member: u8, length: u64) -> Result<(), Failed> {
         self.calls = self.calls.saturating_add(1);
         self.writes = self.writes.saturating_add(1);
-        let at = member as usize;
-        if self.told && (at >= self.members.len() || self.members[at].extend(length).is_err()) {
+        if self.told && extend_at(&mut self.members, member, length).is_err() {
             self.told = false;
         }
         Ok(())
