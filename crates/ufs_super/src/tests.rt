@@ -1,8 +1,8 @@
 ghost use Rattle.std.specs.Prelude.{◌+◌, ◌≤◌};
 
 use crate::{
-    Address, BadSuper, Role, SystemKind, address, cgbase, cgstart, end_of, group_of, is_data_run,
-    read_super, role,
+    Address, BadSuper, Geometry, Role, SystemKind, address, cgbase, cgstart, end_of, group_of,
+    is_data_run, read_super, role,
 };
 use std::test::Fail;
 use ufs_model::Endian;
