@@ -5,7 +5,6 @@ ghost use Rattle.ufs_model.specs.Geometries.{IsGeometry, IsGeometryOn};
 ghost use Rattle.ufs_model.specs.Inodes.{block_count};
 ghost use Rattle.ufs_model.specs.Paths.{block_of, bytes_at, bytes_in_block};
 ghost use Rattle.ufs_model.specs.Readings.{ReadsAs};
-ghost use Rattle.ufs_model.specs.declared.numbers.Endian.TheVariants.{Little};
 ghost use Rattle.ufs_model.specs.declared.pointers.Address.TheVariants.{At};
 ghost use Rattle.ufs_pointer.specs.Fetches.{Fetches};
 ghost use Rattle.ufs_pointer.specs.FileBlocks.{IfData, block_said};

@@ -3,7 +3,6 @@ ghost use Rattle.dg_io.specs.Views.{KeepsView};
 ghost use Rattle.ufs_model.specs.Geometries.{IsGeometryOn};
 ghost use Rattle.ufs_model.specs.Pointers.{through};
 ghost use Rattle.ufs_model.specs.Readings.{ReadsAs};
-ghost use Rattle.ufs_model.specs.declared.numbers.Endian.TheVariants.{Little};
 ghost use Rattle.ufs_pointer.specs.Addresses.{IsWhole};
 ghost use Rattle.ufs_pointer.specs.Fetches.{Fetches};
 
@@ -42,7 +41,7 @@ pub fn through<V: View>(
             if !read_area(view, a, k, buf) {
                 return None;
             }
-            Some(block_address(g, pointer(buf, i)))
+            Some(block_address(g, pointer(buf, i, g.endian)))
         }
     }
 }

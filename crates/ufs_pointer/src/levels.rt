@@ -6,7 +6,6 @@ ghost use Rattle.ufs_model.specs.Geometries.{IsGeometry, IsGeometryOn};
 ghost use Rattle.ufs_model.specs.Inodes.{block_span};
 ghost use Rattle.ufs_model.specs.Pointers.{chain_address, file_block_of};
 ghost use Rattle.ufs_model.specs.Readings.{ReadsAs};
-ghost use Rattle.ufs_model.specs.declared.numbers.Endian.TheVariants.{Little};
 ghost use Rattle.ufs_pointer.specs.Addresses.{HasSpan, IsInside, address_in};
 ghost use Rattle.ufs_pointer.specs.Buffers.{Buffers};
 ghost use Rattle.ufs_pointer.specs.Chains.{IsChain, chain_span};
