@@ -20,3 +20,4 @@ pub mod SumLaws
 pub mod TableLaws
 pub mod TrimLaws
 mod VerdictRows
+pub mod RereadLaws
