@@ -8,6 +8,7 @@ pub mod MemberLaws
 mod OpeningRows
 mod PlanRows
 mod RefillRows
+pub mod RereadLaws
 pub mod RoomLaws
 pub mod RunLaws
 pub mod SealLaws
@@ -20,4 +21,4 @@ pub mod SumLaws
 pub mod TableLaws
 pub mod TrimLaws
 mod VerdictRows
-pub mod RereadLaws
+mod WriteRows

@@ -1,9 +1,9 @@
 -- Of calls after a write. A library for the crates above.
-use Rattle.std.proofs.Common.{◌≡◌, ◌≤◌, ◌+◌, ◌*◌, ℕ, List, [], arith}
+use Rattle.std.proofs.Common.{◌≤◌, ◌+◌, ◌*◌, ℕ, [], arith}
 use Rattle.std.specs.Prelude.{length}
 use Rattle.std.proofs.lemmas.List.Elements.{All-nil}
 use Rattle.ufs_model.specs.Blocks.{Volume}
-use Rattle.dg_model.specs.Changes.{WritesFew, seal_calls}
+use Rattle.dg_model.specs.Changes.{WritesFew}
 use Rattle.dg_model.specs.Rereads.{IsBeside, IsChangedAt, Rereads}
 use Rattle.dg_model.specs.States.{State}
 use Rattle.dg_model.specs.Tables.{sites_in}

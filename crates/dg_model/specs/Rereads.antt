@@ -1,6 +1,6 @@
 -- What a write of a block gives reason to read of the volume, so that what blocks belong to is known after it. The rules are this
 -- project's own; the structures are those of `fs.h` and `dinode.h`.
-use Rattle.std.specs.Prelude.{◌≡◌, ◌≢◌, ◌⊎◌, ◌+◌, ◌*◌, ◌<◌, ◌≤◌, ℕ, Bool, List, Option, Some, None, Result, Ok, IsOkAnd, if◌then◌else◌, length}
+use Rattle.std.specs.Prelude.{◌≡◌, ◌≢◌, ◌⊎◌, ◌+◌, ◌*◌, ◌<◌, ℕ, List, IsOkAnd, length}
 use Rattle.std.specs.List.{All, AllPairs, Contains}
 use Rattle.ufs_model.specs.Blocks.{Volume}
 use Rattle.ufs_model.specs.Claims.{IsClaimedAt, VolumeClaims}
@@ -18,8 +18,8 @@ pub record ClaimPlace : Type 0 where
 pub record IsChangedAt (l n : ℕ) (old new : Volume) (place : ClaimPlace) : Type 0 where
   pub above : 0 < place.level
   pub changed :
-    (IsClaimedAt (VolumeClaims l n old) place.level place.fragment × (IsClaimedAt (VolumeClaims l n new) place.level place.fragment → ⊥))
-    ⊎ (IsClaimedAt (VolumeClaims l n new) place.level place.fragment × (IsClaimedAt (VolumeClaims l n old) place.level place.fragment → ⊥))
+      (IsClaimedAt (VolumeClaims l n old) place.level place.fragment × (IsClaimedAt (VolumeClaims l n new) place.level place.fragment → ⊥))
+      ⊎ (IsClaimedAt (VolumeClaims l n new) place.level place.fragment × (IsClaimedAt (VolumeClaims l n old) place.level place.fragment → ⊥))
 
 -- two blocks of one group block
 pub record AreOfGroup (g : Geometry) (v : Volume) (b f : ℕ) : Type 0 where
