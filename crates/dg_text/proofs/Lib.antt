@@ -6,3 +6,4 @@ mod Lengths
 mod WholeLines
 mod FileLines
 mod HexLineSteps
+mod Spellings
