@@ -3,6 +3,9 @@ pub mod FirstSites
 pub mod FreeLaws
 pub mod KnownLaws
 pub mod MarkLaws
+pub mod MemberLaws
+pub mod RunLaws
 pub mod SiteLists
 pub mod StepLaws
 pub mod TableLaws
+pub mod TrimLaws
