@@ -1,5 +1,5 @@
 -- Lines, one after the other: those of a file, or of a directory.
-use Rattle.std.proofs.Common.{◌≡◌, ◌<◌, ◌≤◌, ◌+◌, ℕ, List, [], ◌∷◌, ◌++◌, length, take, drop, get_or, sym, ◌∙◌, ap, subst, append_assoc, length-append, arith, refl, take-append-drop}
+use Rattle.std.proofs.Common.{◌≡◌, ◌<◌, ◌≤◌, ◌+◌, ℕ, zero, suc, List, [], ◌∷◌, ◌++◌, length, take, drop, get_or, sym, ◌∙◌, ap, subst, append_assoc, length-append, arith, refl, take-append-drop}
 use Rattle.std.specs.List.{concat, flat_map}
 use Rattle.std.proofs.lemmas.List.{take_more, append-nil}
 use Rattle.std.proofs.lemmas.List.Folds.{concat-append}
@@ -37,6 +37,12 @@ concat_within lines n =
     let parts = ap length (concat-append (take n lines) (drop n lines)) in
     let sizes = length-append (concat (take n lines)) (concat (drop n lines)) in
     omega arith
+
+-- an item, whatever is taken past the end
+pub item_is : {A : Type 0} (xs : List A) (i : ℕ) (past : A) → i < length xs → get_or xs i past ≡ get_or xs i (get_or xs i past)
+item_is [] i past lt = absurd (omega (arith, lt))
+item_is (x ∷ xs) zero past lt = refl
+item_is (x ∷ xs) (suc i) past lt = item_is xs i past (omega (arith, lt))
 
 -- the digits of one byte
 abbrev pub digits_of : ℕ → List ℕ

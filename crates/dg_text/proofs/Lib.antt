@@ -7,3 +7,4 @@ mod WholeLines
 mod FileLines
 mod HexLineSteps
 mod Spellings
+mod ReplyLines

@@ -1,6 +1,6 @@
 // The entries of a directory as lines.
+use crate::counts::write_number;
 use crate::listings::{Form, write_entry_line};
-use crate::numbers::write_number;
 use dg_io::Sink;
 use dg_model::Failed;
 use ufs_model::Kind;

@@ -1,7 +1,7 @@
 // The bytes of a file as lines of one length.
 ghost use Rattle.std.specs.Prelude.{◌<◌, ◌≤◌};
 
-use crate::numbers::write_number;
+use crate::counts::write_number;
 use crate::replies::{put, write_bytes_line};
 use dg_io::{Pieces, Sink};
 use dg_model::Failed;

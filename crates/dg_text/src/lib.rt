@@ -2,13 +2,13 @@
 //! in its place is refused.
 #![tactic(auto)]
 
+mod counts;
 mod entry_lines;
 mod hex_lines;
 mod hex_words;
 mod laws;
 mod lines;
 mod listings;
-mod numbers;
 mod path_words;
 mod replies;
 #[cfg(test)]

@@ -7,7 +7,7 @@ ghost use Rattle.dg_text.specs.Lines.{path_word, spelled_byte};
 ghost use Rattle.dg_text.specs.Listings.{front_in, line_in, listing_text};
 ghost use Rattle.dg_text.specs.Replies.{kind_letter};
 
-use crate::numbers::write_number;
+use crate::counts::write_number;
 use crate::path_words::is_plain;
 use crate::replies::{put, put_hex};
 use dg_io::{Sink, write_all};

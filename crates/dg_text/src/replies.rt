@@ -8,9 +8,9 @@ ghost use Rattle.hex.specs.Hex.{encode_lower};
 ghost use Rattle.dg_text.specs.Replies.{reply_line, refusal, kind_of, usage, bytes_line, file_text, blocks_text, super_word, bad_word, refusal_words};
 
 use crate::BadLine;
+use crate::counts::{write_number, write_numbers};
 use crate::listings::{Form, write_listing};
-use crate::numbers::{write_number, write_numbers};
-use crate::verdicts::{write_malformation, write_no_room, write_verdict};
+use crate::verdicts::{write_home, write_malformation, write_no_room, write_verdict};
 use dg_io::{Sink, write_all};
 use dg_model::{Bytes, Failed, Reply};
 use itoa::Buffer;
@@ -63,8 +63,7 @@ pub fn write_reply<K: Sink>(sink: &mut K, reply: &Reply) -> Result<(), Failed>
         Reply::Nodes(entries) => write_listing(sink, Form::Volume, entries.as_slice(), b"end "),
         Reply::NodesCut(entries) => write_listing(sink, Form::Volume, entries.as_slice(), b"cut "),
         Reply::Refused(refusal) => write_all(sink, refusal_line(*refusal)),
-        Reply::HomeAt(s, Some(copy)) => write_numbers(sink, b"home ", *s, b" copy ", *copy),
-        Reply::HomeAt(s, None) => write_number(sink, b"home ", *s as u128),
+        Reply::HomeAt(s, copy) => write_home(sink, *s, *copy),
         Reply::NoHome => write_all(sink, b"home none\n"),
         Reply::Saved(sequence) => write_number(sink, b"saved ", *sequence as u128),
     }

@@ -1,11 +1,11 @@
-// Lines that say what blocks belong to, what is wrong with a volume, and what found no room.
+// Lines that say what blocks belong to, where files stand, what is wrong with a volume, and what found no room.
 ghost use Rattle.std.specs.Prelude.{◌≡◌, ◌≤◌, ◌++◌, length, codes, OnOk, OnErr};
 ghost use Rattle.dg_io.specs.Told.{Told, Took, TookPart};
 ghost use Rattle.dg_io.specs.Faults.{HasCause};
 ghost use Rattle.dg_text.specs.Replies.{reply_line, malformation_word, room_words, super_word, system_word, who_words};
 ghost use Rattle.dg_model.specs.declared.replies.Reply.{Reply};
 
-use crate::numbers::{write_number, write_numbers};
+use crate::counts::{write_number, write_numbers};
 use dg_io::{Sink, write_all};
 use dg_model::{Failed, NoRoom, Who};
 use ufs_model::{BadKind, BadSuper, SystemKind};
@@ -47,6 +47,18 @@ pub fn write_malformation<K: Sink>(sink: &mut K, kind: BadKind, n: u32) -> Resul
     ensures cause { HasCause (K.faults sink.old) (K.faults sink.new) result }
 {
     write_number(sink, malformed_by(kind), n as u128)
+}
+
+/// Writes the line that says where a file stands, and where its copy, if it has one.
+pub fn write_home<K: Sink>(sink: &mut K, s: u32, copy: Option<u32>) -> Result<(), Failed>
+    ensures ok { OnOk result (Told (Took (reply_line (Reply.HomeAt s copy))) (K.taken sink.old) (K.taken sink.new)) }
+    ensures err { OnErr result (Told (TookPart (reply_line (Reply.HomeAt s copy))) (K.taken sink.old) (K.taken sink.new)) }
+    ensures cause { HasCause (K.faults sink.old) (K.faults sink.new) result }
+{
+    match copy {
+        Some(t) => write_numbers(sink, b"home ", s, b" copy ", t),
+        None => write_number(sink, b"home ", s as u128),
+    }
 }
 
 // The line of a block of the file system itself.
