@@ -1,0 +1,4 @@
+pub mod LocalLaws
+pub mod BlockLaws
+pub mod PathLaws
+pub mod VolumeLaws
