@@ -4,3 +4,4 @@ pub mod PathLaws
 pub mod VolumeLaws
 pub mod FragmentLaws
 pub mod ReachLaws
+pub mod ClaimLaws
