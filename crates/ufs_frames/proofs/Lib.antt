@@ -5,3 +5,6 @@ pub mod VolumeLaws
 pub mod FragmentLaws
 pub mod ReachLaws
 pub mod ClaimLaws
+pub mod DataLaws
+pub mod MalformationLaws
+pub mod StructureLaws

@@ -12,7 +12,7 @@ local_known l a = record { same = λ v w agree. refl }
 pub local_consult : (l b : ℕ) → IsLocal l (consult l b)
 local_consult l b = record { same = λ v w agree. ap (λ (block : List ℕ). record { value = block; needs = b ∷ [] }) (agree b (0, lit< tt, refl)) }
 
-bind_same : {A B : Type 0} (d : Reading A) (f : A → Reading B) (v w : Volume) → d w ≡ d v → f ((d v).value) w ≡ f ((d v).value) v → bind d f w ≡ bind d f v
+pub bind_same : {A B : Type 0} (d : Reading A) (f : A → Reading B) (v w : Volume) → d w ≡ d v → f ((d v).value) w ≡ f ((d v).value) v → bind d f w ≡ bind d f v
 unfolding bind
 bind_same {A} {B} d f v w one two =
     ap (λ (c : Consulted A). record { value = (f (c.value) w).value; needs = c.needs ++ (f (c.value) w).needs }) one
