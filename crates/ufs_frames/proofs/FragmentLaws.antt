@@ -119,7 +119,7 @@ in_one a b h = let first : h.0 ≡ 0 = let lt = h.1 in omega arith in sym (rw fi
 pub in_none : (b : ℕ) → Contains [] b → ⊥
 in_none b h = let lt = h.1 in omega arith
 
-area_range : (l a k b : ℕ) (v : Volume) → Contains ((area_of l a k v).needs) b → (a ≤ b) × (b < a + k)
+pub area_range : (l a k b : ℕ) (v : Volume) → Contains ((area_of l a k v).needs) b → (a ≤ b) × (b < a + k)
 unfolding area_of bind
 area_range l a zero b v h = absurd (in_none b h)
 area_range l a (suc k) b v h = elim (Contains-append_cases ((area_of l a k v).needs) ((a + k) ∷ []) b h) [

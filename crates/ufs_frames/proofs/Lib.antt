@@ -8,3 +8,4 @@ pub mod ClaimLaws
 pub mod DataLaws
 pub mod MalformationLaws
 pub mod StructureLaws
+pub mod RoleLaws
