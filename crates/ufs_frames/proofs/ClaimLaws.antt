@@ -75,7 +75,7 @@ shared_along c d same (by_chain {fragment = f} {upper = upper} {level = level} {
 
 -- ---- by a geometry
 
-inode_needs : (g : Geometry) (v : Volume) (i b : ℕ) → Contains ((inode_of g i v).needs) b → b ≡ inode_block g i
+pub inode_needs : (g : Geometry) (v : Volume) (i b : ℕ) → Contains ((inode_of g i v).needs) b → b ≡ inode_block g i
 unfolding inode_of bind
 inode_needs g v i b h = in_one (inode_block g i) b h
 

@@ -9,3 +9,4 @@ pub mod DataLaws
 pub mod MalformationLaws
 pub mod StructureLaws
 pub mod RoleLaws
+pub mod UseLaws

@@ -152,7 +152,7 @@ small_by true true further is = let no : Some (Bad Filesize) ≡ None = is in cc
 small_by true false further is = refl
 small_by false large further is = let no : Some NotDirectory ≡ None = is in cc
 
-small_directory : (inode : Inode) → directory_refusal inode ≡ None → inode.size < 2 ^ 32
+pub small_directory : (inode : Inode) → directory_refusal inode ≡ None → inode.size < 2 ^ 32
 unfolding directory_refusal
 small_directory inode is =
     let small : nat_le (2 ^ 32) inode.size ≡ false = small_by (is_directory (kind_of inode.mode)) (nat_le (2 ^ 32) inode.size) (chunk_refusal inode) is in
