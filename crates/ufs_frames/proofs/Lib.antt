@@ -10,3 +10,4 @@ pub mod MalformationLaws
 pub mod StructureLaws
 pub mod RoleLaws
 pub mod UseLaws
+pub mod LooseLaws

@@ -56,7 +56,7 @@ local_superblock : (l n : ℕ) → IsLocal l (superblock_of l n)
 unfolding superblock_of
 local_superblock l n = local_within l n (8192 / l) (div_ceil 1376 l)
 
-geometry_needs : (l n : ℕ) (v : Volume) (b : ℕ) → Contains ((geometry_of l n v).needs) b → Contains ((superblock_of l n v).needs) b
+pub geometry_needs : (l n : ℕ) (v : Volume) (b : ℕ) → Contains ((geometry_of l n v).needs) b → Contains ((superblock_of l n v).needs) b
 unfolding geometry_of bind
 geometry_needs l n v b h = elim (Contains-append_cases ((superblock_of l n v).needs) [] b h) [
   | inl here ↦ here

@@ -42,7 +42,7 @@ pub record Needs {A : Type 0} (kind : ℕ → Type 0) (v : Volume) (d : Reading 
 
 -- ---- readings one after another
 
-needs_known : {A : Type 0} (kind : ℕ → Type 0) (v : Volume) (a : A) → Needs kind v (known a)
+pub needs_known : {A : Type 0} (kind : ℕ → Type 0) (v : Volume) (a : A) → Needs kind v (known a)
 needs_known kind v a = record { each = λ b h. absurd (in_none b h) }
 
 pub needs_bind : {A B : Type 0} (kind : ℕ → Type 0) (v : Volume) (d : Reading A) (f : A → Reading B) → Needs kind v d → Needs kind v (f ((d v).value)) → Needs kind v (bind d f)
@@ -63,7 +63,7 @@ pub needs_then : {A B R : Type 0} (kind : ℕ → Type 0) (v : Volume) (d : Read
 unfolding and_then
 needs_then kind v d f one two = needs_bind kind v d (λ answer. on_ok answer f) one (needs_on kind v ((d v).value) f two)
 
-needs_if : {A : Type 0} (kind : ℕ → Type 0) (v : Volume) (test : Bool) (one other : Reading A) → (test ≡ true → Needs kind v one) → (test ≡ false → Needs kind v other) → Needs kind v (if test then one else other)
+pub needs_if : {A : Type 0} (kind : ℕ → Type 0) (v : Volume) (test : Bool) (one other : Reading A) → (test ≡ true → Needs kind v one) → (test ≡ false → Needs kind v other) → Needs kind v (if test then one else other)
 needs_if kind v true one other first second = first refl
 needs_if kind v false one other first second = second refl
 

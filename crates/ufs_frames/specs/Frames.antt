@@ -1,12 +1,15 @@
 -- Volumes that agree on some of their blocks, and what is then the same of them. The words are this project's own.
-use Rattle.std.specs.Prelude.{◌≡◌, ◌↔◌, ◌<◌, ℕ, true, false, List, Bool, Option, Some, Result, Ok, length, Contains}
+use Rattle.std.specs.Prelude.{◌≡◌, ◌↔◌, ◌<◌, ℕ, true, List, Ok, length, Contains}
 use Rattle.ufs_model.specs.Blocks.{Volume, Reading, block_at}
 use Rattle.ufs_model.specs.Claims.{VolumeClaims, level_of}
 use Rattle.ufs_model.specs.Malformations.{IsMalformed}
 use Rattle.ufs_model.specs.Metadata.{IsMetadata, IsStructure}
 use Rattle.ufs_model.specs.Owners.{BelongsTo, IsSharedOn}
+use Rattle.ufs_model.specs.Listings.{ls_of}
+use Rattle.ufs_model.specs.Paths.{cat_of, look_of}
 use Rattle.ufs_model.specs.Roles.{is_system, role}
 use Rattle.ufs_model.specs.Superblocks.{geometry_of}
+use Rattle.ufs_model.specs.Trees.{file_of, tree_of}
 use Rattle.ufs_model.specs.declared.claims.ClaimSource.{ClaimSource}
 use Rattle.ufs_model.specs.declared.geometries.Geometry.{Geometry}
 use Rattle.ufs_model.specs.declared.malformations.BadKind.{BadKind}
@@ -38,9 +41,28 @@ pub record HaveSameStructure (l n : ℕ) (v w : Volume) : Type 0 where
   pub malformations : (kind : BadKind) (number : ℕ) → IsMalformed l n w kind number ↔ IsMalformed l n v kind number
   pub structure : (b : ℕ) → IsStructure l n w b ↔ IsStructure l n v b
 
--- A block that is claimed by nothing, and is no block of the file system itself, on a volume with a geometry.
+-- A block of the file system itself, or a claimed one.
+pub data IsUsed (l n : ℕ) (v : Volume) (b : ℕ) : Type 0 where
+  of_system : (g : Geometry) → (geometry_of l n v).value ≡ Ok g → is_system (role g b) ≡ true → IsUsed l n v b
+  of_claim : (source : ClaimSource) → VolumeClaims l n v b source → IsUsed l n v b
+
+-- a block that is neither, on a volume with a geometry
 pub record IsLoose (l n : ℕ) (v : Volume) (b : ℕ) : Type 0 where
   pub geometry : Geometry
   pub accepted : (geometry_of l n v).value ≡ Ok geometry
-  pub no_system : is_system (role geometry b) ≡ false
-  pub unclaimed : (source : ClaimSource) → VolumeClaims l n v b source → ⊥
+  pub unused : IsUsed l n v b → ⊥
+
+-- Whatever is read of two volumes by a path is the same, by the same blocks.
+pub record ReadTheSame (l n : ℕ) (v w : Volume) : Type 0 where
+  pub look : (path : List ℕ) → look_of l n path w ≡ look_of l n path v
+  pub cat : (path : List ℕ) → cat_of l n path w ≡ cat_of l n path v
+  pub ls : (path : List ℕ) → ls_of l n path w ≡ ls_of l n path v
+  pub file : (path : List ℕ) → file_of l n path w ≡ file_of l n path v
+  pub tree : tree_of l n w ≡ tree_of l n v
+
+-- Two volumes are the same but for blocks that are loose on both.
+pub record DifferLoosely (l n : ℕ) (v w : Volume) : Type 0 where
+  pub structure : HaveSameStructure l n v w
+  pub reads : ReadTheSame l n v w
+  pub whole : HasWholeIndirects l n w
+  pub loose : (b : ℕ) → IsLoose l n w b ↔ IsLoose l n v b
