@@ -1,11 +1,11 @@
 -- Inodes, marks and file blocks are read locally.
-use Rattle.std.proofs.Common.{◌≡◌, ℕ, zero, suc, ◌+◌, ◌/◌, ◌%◌, Bool, true, false, List, [], ◌∷◌, ◌++◌, Option, Some, None, Result, Ok, Err, not}
+use Rattle.std.proofs.Common.{ℕ, ◌+◌, ◌/◌, ◌%◌, Some, None, Ok, Err, not}
 use Rattle.std.specs.Option.{ok_or}
-use Rattle.ufs_model.specs.Blocks.{Reading, area_of, consult, known}
+use Rattle.ufs_model.specs.Blocks.{area_of, consult, known}
 use Rattle.ufs_model.specs.Geometries.{cgstart}
 use Rattle.ufs_model.specs.GroupMaps.{by_maps, group_bytes, group_in, is_free, is_marked_free, is_marked_unused, is_used}
 use Rattle.ufs_model.specs.Inodes.{inode_block, inode_bytes, inode_in, inode_of}
-use Rattle.ufs_model.specs.Paths.{block_of, bytes_at, bytes_in_block, chunks_in, chunks_of, front_in}
+use Rattle.ufs_model.specs.Paths.{block_of, bytes_at, bytes_in_block, chunks_in, chunks_of}
 use Rattle.ufs_model.specs.Pointers.{address, chain_address, file_block_of, locate_of, pointer_in, slot_address, through}
 use Rattle.ufs_model.specs.declared.geometries.Geometry.{Geometry}
 use Rattle.ufs_model.specs.declared.inodes.Inode.{Inode}
@@ -14,7 +14,6 @@ use Rattle.ufs_model.specs.declared.pointers.Address.TheVariants.{At, Hole, Wild
 use Rattle.ufs_model.specs.declared.pointers.Chain.{Chain}
 use Rattle.ufs_model.specs.declared.pointers.Chain.TheVariants.{Direct, One, Two, Three}
 use Rattle.ufs_model.specs.declared.reads.BadRead.TheVariants.{Hole as BadHole, Wild as BadWild}
-use Rattle.ufs_model.specs.declared.reads.PathRefusal.{PathRefusal}
 use Rattle.ufs_model.specs.declared.reads.PathRefusal.TheVariants.{Bad}
 use Rattle.ufs_frames.specs.Frames.{IsLocal}
 use Rattle.ufs_frames.proofs.LocalLaws.{local_area, local_bind, local_consult, local_known, local_then}

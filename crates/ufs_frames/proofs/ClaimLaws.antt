@@ -1,9 +1,9 @@
 -- Volumes that agree on metadata have the same claims.
-use Rattle.std.proofs.Common.{◌≡◌, ◌∙◌, ℕ, zero, suc, ◌*◌, ◌<◌, ◌↔◌, Bool, true, false, List, [], ◌∷◌, Option, Some, None, Ok, refl, sym, ap, subst, arith}
+use Rattle.std.proofs.Common.{◌≡◌, ℕ, ◌*◌, ◌<◌, ◌↔◌, Bool, true, false, List, [], Option, Some, None, refl, sym, ap, subst, arith}
 use Rattle.std.specs.Prelude.{Contains, if◌then◌else◌, slice_get}
 use Rattle.std.proofs.lemmas.Bool.Decides.{nat_tests}
 use Rattle.ufs_model.specs.Blocks.{Consulted, Volume, bind, block_at}
-use Rattle.ufs_model.specs.Claims.{AreClaimsOn, HasClaimCount, IsClaim, fragments_at, level_of, pointer_fragments, slot_fragments_in, source_fragments}
+use Rattle.ufs_model.specs.Claims.{HasClaimCount, IsClaim, level_of, pointer_fragments, slot_fragments_in, source_fragments}
 use Rattle.ufs_model.specs.Claims.IsClaim.{by_pointer, by_slot}
 use Rattle.ufs_model.specs.GroupMaps.{group_bytes}
 use Rattle.ufs_model.specs.Inodes.{inode_block, inode_of, is_inode_number}
@@ -18,7 +18,7 @@ use Rattle.ufs_model.specs.declared.claims.ClaimSource.{ClaimSource}
 use Rattle.ufs_model.specs.declared.claims.ClaimSource.TheVariants.{Pointer, Slot}
 use Rattle.ufs_model.specs.declared.geometries.Geometry.{Geometry}
 use Rattle.ufs_model.specs.declared.inodes.Inode.{Inode}
-use Rattle.ufs_frames.specs.Frames.{AgreeOn, IsLocal}
+use Rattle.ufs_frames.specs.Frames.{AgreeOn}
 use Rattle.ufs_frames.proofs.BlockLaws.{local_group, local_inode}
 use Rattle.ufs_frames.proofs.FragmentLaws.{contains_got, in_one}
 

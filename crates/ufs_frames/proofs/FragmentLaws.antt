@@ -1,6 +1,6 @@
 -- The bytes of a file block are those of its fragments, and a pointer of an indirect block stands in one of them.
-use Rattle.std.proofs.Common.{◌≡◌, ◌∙◌, ℕ, zero, suc, ◌+◌, ◌-◌, ◌*◌, ◌/◌, ◌%◌, ◌^◌, ◌<◌, ◌≤◌, ◌⊎◌, inl, inr, length, get_or, Bool, true, false, List, [], ◌∷◌, ◌++◌, Option, Some, None, refl, sym, ap, subst, arith}
-use Rattle.std.specs.Prelude.{◌==◌, Contains, if◌then◌else◌, nat_le, nat_lt, slice_get}
+use Rattle.std.proofs.Common.{◌≡◌, ◌∙◌, ℕ, zero, suc, ◌+◌, ◌-◌, ◌*◌, ◌/◌, ◌%◌, ◌^◌, ◌<◌, ◌≤◌, inl, inr, length, get_or, Bool, true, false, List, [], ◌∷◌, Some, refl, sym, ap, arith}
+use Rattle.std.specs.Prelude.{Contains, if◌then◌else◌, nat_lt, slice_get}
 use Rattle.std.proofs.lemmas.Bool.{cases_order}
 use Rattle.std.proofs.lemmas.Bool.Decides.{nat_tests}
 use Rattle.std.proofs.lemmas.List.{get_or-append-add, get_or-drop, get_or_append_left, length-append}
@@ -10,7 +10,7 @@ use Rattle.std.specs.Int.{div_ceil}
 use Rattle.std.proofs.lemmas.Grind.{div_ceil_times}
 use native.Mathlib.Numerals.{unary_clauses}
 use Rattle.std.proofs.Math.Nat.{div-lt_iff_lt-mul, lt_of_mul-lt-mul_right, mul-le-mul, mul-le-mul_right, one-mul, pow-suc}
-use Rattle.ufs_model.specs.Blocks.{Consulted, Volume, area_of, bind, block_at}
+use Rattle.ufs_model.specs.Blocks.{Volume, area_of, bind, block_at}
 use Rattle.ufs_model.specs.Claims.{fragments_from}
 use Rattle.ufs_model.specs.Geometries.{IsGeometry, is_block_size, is_fragment_count}
 use Rattle.ufs_model.specs.Numbers.{number_at}

@@ -1,8 +1,8 @@
 -- Readings one after another are local where each of them is.
-use Rattle.std.proofs.Common.{◌≡◌, ◌∙◌, ℕ, zero, suc, ◌+◌, ◌-◌, ◌*◌, Bool, true, false, List, [], ◌∷◌, ◌++◌, Option, Some, None, Result, Ok, Err, refl, sym, ap, subst, arith, min, replicate, lit<}
+use Rattle.std.proofs.Common.{◌≡◌, ◌∙◌, ℕ, zero, suc, ◌+◌, ◌-◌, ◌*◌, Bool, true, false, List, [], ◌∷◌, ◌++◌, Result, Ok, Err, refl, ap, subst, min, replicate, lit<}
 use Rattle.std.specs.Prelude.{Contains, if◌then◌else◌}
 use Rattle.std.proofs.lemmas.List.Elements.{Contains-append_left, Contains-append_right}
-use Rattle.ufs_model.specs.Blocks.{Consulted, Reading, Volume, area_of, area_within, bind, block_at, consult, known}
+use Rattle.ufs_model.specs.Blocks.{Consulted, Reading, Volume, area_of, area_within, bind, consult, known}
 use Rattle.ufs_model.specs.Readings.{and_then, on_ok}
 use Rattle.ufs_frames.specs.Frames.{AgreeOn, IsLocal}
 

@@ -1,27 +1,21 @@
 -- What is read of a volume, and its structure, need used blocks alone, so that the others may change.
-use Rattle.std.proofs.Common.{◌≡◌, ◌≢◌, ◌∙◌, ◌⊎◌, ◌↔◌, ℕ, ◌*◌, ◌<◌, inl, inr, length, Bool, true, false, List, [], ◌++◌, Result, Ok, Err, refl, sym, ap, subst}
-use Rattle.std.specs.Prelude.{Contains, if◌then◌else◌}
-use Rattle.std.proofs.lemmas.Bool.{cases_eq, false≢true}
-use Rattle.std.proofs.lemmas.List.Elements.{Contains-append_cases}
-use Rattle.ufs_model.specs.Blocks.{Consulted, Reading, Volume, bind, block_at, known}
-use Rattle.ufs_model.specs.Claims.{VolumeClaims, level_of}
+use Rattle.std.proofs.Common.{◌≡◌, ◌≢◌, ◌∙◌, ℕ, ◌*◌, length, List, Result, Ok, Err, sym, ap, subst}
+use Rattle.std.specs.Prelude.{Contains}
+use Rattle.ufs_model.specs.Blocks.{Consulted, Reading, Volume, block_at, known}
 use Rattle.ufs_model.specs.Inodes.{kind_of}
-use Rattle.ufs_model.specs.Listings.{listing_of, ls_of}
+use Rattle.ufs_model.specs.Listings.{ls_of}
 use Rattle.ufs_model.specs.Metadata.{IsMetadata, IsStructure}
 use Rattle.ufs_model.specs.Metadata.IsMetadata.{by_geometry, of_superblock}
 use Rattle.ufs_model.specs.Metadata.IsStructure.{of_directory, of_metadata}
-use Rattle.ufs_model.specs.Paths.{cat_of, contents_of, is_directory, is_regular, look_from, look_of, named_inode, names_of, volume_geometry}
+use Rattle.ufs_model.specs.Paths.{cat_of, is_directory, look_of, named_inode, names_of, volume_geometry}
 use Rattle.ufs_model.specs.Readings.{and_then}
-use Rattle.ufs_model.specs.Roles.{is_system, role}
 use Rattle.ufs_model.specs.Superblocks.{geometry_of, superblock_of}
 use Rattle.ufs_model.specs.Trees.{file_of, tree_below, tree_of}
-use Rattle.ufs_model.specs.declared.claims.ClaimSource.{ClaimSource}
 use Rattle.ufs_model.specs.declared.geometries.BadSuper.{BadSuper}
 use Rattle.ufs_model.specs.declared.geometries.Geometry.{Geometry}
-use Rattle.ufs_model.specs.declared.inodes.Inode.{Inode}
 use Rattle.ufs_model.specs.declared.reads.PathRefusal.{PathRefusal}
 use Rattle.ufs_model.specs.declared.reads.PathRefusal.TheVariants.{NotDirectory}
-use Rattle.ufs_frames.specs.Frames.{AgreeOn, DifferLoosely, HasWholeIndirects, HaveSameClaims, HaveSameStructure, IsLoose, IsUsed, ReadTheSame}
+use Rattle.ufs_frames.specs.Frames.{AgreeOn, DifferLoosely, HasWholeIndirects, HaveSameStructure, IsLoose, IsUsed, ReadTheSame}
 use Rattle.ufs_frames.specs.Frames.IsUsed.{of_claim, of_system}
 use Rattle.ufs_frames.proofs.RoleLaws.{superblock_system}
 use Rattle.ufs_frames.proofs.StructureLaws.{claims_by, geometry_needs, same_structure, whole_by}

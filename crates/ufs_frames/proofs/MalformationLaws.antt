@@ -1,18 +1,18 @@
 -- Volumes that are alike in what malformations speak of have the same malformations.
-use Rattle.std.proofs.Common.{◌≡◌, ◌≢◌, ◌∙◌, ◌⊎◌, ◌↔◌, ℕ, zero, suc, ◌*◌, ◌/◌, ◌%◌, ◌^◌, ◌<◌, ◌≤◌, inl, inr, Bool, true, List, Option, Some, None, Result, Ok, Err, refl, sym, ap, subst}
-use Rattle.std.specs.Prelude.{Contains, MatchOption, false, if◌then◌else◌, slice_get}
-use Rattle.ufs_model.specs.Blocks.{Consulted, Volume, bind, block_at}
+use Rattle.std.proofs.Common.{◌≡◌, ◌≢◌, ◌∙◌, ◌⊎◌, ◌↔◌, ℕ, ◌/◌, ◌%◌, ◌^◌, ◌<◌, ◌≤◌, inl, inr, Bool, true, List, Option, Some, None, Result, Ok, Err, refl, sym, ap, subst}
+use Rattle.std.specs.Prelude.{MatchOption, false, if◌then◌else◌}
+use Rattle.ufs_model.specs.Blocks.{Consulted, Volume, block_at}
 use Rattle.ufs_model.specs.Chunks.{DirEntry}
 use Rattle.ufs_model.specs.Claims.{IsClaim, level_of, source_fragments}
 use Rattle.ufs_model.specs.Geometries.{IsGeometry}
 use Rattle.ufs_model.specs.GroupMaps.{group_bytes, group_in, is_marked_free, is_marked_unused}
 use Rattle.ufs_model.specs.Inodes.{block_count, entry_type_of, has_pointers, inode_of, is_inode_number, kind_of}
-use Rattle.ufs_model.specs.Malformations.{Claims, EntryAt, FirstBlock, HasBadChunk, HasBadEntry, HasBadType, HasCrossing, HasDots, HasEntries, HasHole, HasMisaligned, HasMisalignedIn, HasPast, HasPastIn, HasSameNames, HasTwoClaims, HasWild, HasWildIn, IsBad, IsDirectory, IsFree, IsInode, IsNamed, IsNamedTwice, IsParent, IsPlain, IsPointed, IsUp, IsUpper, PlainAt, dot, dot_dot, inode_at, pointer_at}
+use Rattle.ufs_model.specs.Malformations.{Claims, EntryAt, FirstBlock, HasBadChunk, HasBadEntry, HasBadType, HasCrossing, HasDots, HasEntries, HasHole, HasMisaligned, HasMisalignedIn, HasPast, HasPastIn, HasSameNames, HasTwoClaims, HasWild, HasWildIn, IsBad, IsDirectory, IsFree, IsInode, IsNamed, IsNamedTwice, IsParent, IsPlain, IsPointed, IsUp, IsUpper, PlainAt, inode_at, pointer_at}
 use Rattle.ufs_model.specs.Malformations.FirstBlock.{of_pointer}
 use Rattle.ufs_model.specs.Owners.{IsOwner}
 use Rattle.ufs_model.specs.Owners.IsOwner.{by_own_slot, by_upper}
 use Rattle.ufs_model.specs.Paths.{chunks_of, entries_of}
-use Rattle.ufs_model.specs.Pointers.{address, file_block_of, pointer_in, slot_address}
+use Rattle.ufs_model.specs.Pointers.{address, file_block_of, pointer_in}
 use Rattle.ufs_model.specs.declared.claims.ClaimSource.{ClaimSource}
 use Rattle.ufs_model.specs.declared.claims.ClaimSource.TheVariants.{Pointer, Slot}
 use Rattle.ufs_model.specs.declared.geometries.Geometry.{Geometry}
@@ -23,9 +23,8 @@ use Rattle.ufs_model.specs.declared.inodes.Kind.TheVariants.{Directory, Unknown}
 use Rattle.ufs_model.specs.declared.malformations.BadKind.{BadKind}
 use Rattle.ufs_model.specs.declared.malformations.BadKind.TheVariants.{Super, GroupMagic, GroupMap, WrongType, Filesize, Past, Wild as WildSlot, WildIn, Align, AlignIn, Run, Twice, PastIn, Free, Unused, Hole as HoleIn, Chunk, Entry, EntryType, Dots, Names, DirTwice, RootNamed}
 use Rattle.ufs_model.specs.declared.pointers.Address.{Address}
-use Rattle.ufs_model.specs.declared.pointers.Address.TheVariants.{At, Hole, Wild}
 use Rattle.ufs_model.specs.declared.reads.PathRefusal.{PathRefusal}
-use Rattle.ufs_frames.proofs.ClaimLaws.{number_below, other_way, owner_along}
+use Rattle.ufs_frames.proofs.ClaimLaws.{number_below, owner_along}
 use Rattle.ufs_frames.proofs.DataLaws.{claim_data, data_group, inode_group}
 use Rattle.ufs_frames.proofs.LocalLaws.{bind_same}
 

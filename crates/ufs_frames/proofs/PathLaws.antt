@@ -1,5 +1,5 @@
 -- Directories, files and paths are read locally.
-use Rattle.std.proofs.Common.{◌≡◌, ℕ, zero, suc, ◌+◌, ◌*◌, Bool, true, false, List, [], ◌∷◌, ◌++◌, Option, Some, None, Result, Ok, Err}
+use Rattle.std.proofs.Common.{ℕ, zero, suc, ◌+◌, List, [], ◌∷◌, ◌++◌, Option, Some, None, Result, Ok, Err}
 use Rattle.std.specs.Prelude.{filter}
 use Rattle.std.specs.Option.{ok_or}
 use Rattle.ufs_model.specs.Blocks.{Reading, known}

@@ -1,5 +1,5 @@
 -- What is read as metadata at a fixed place is a block of the file system itself.
-use Rattle.std.proofs.Common.{◌≡◌, ◌∙◌, ℕ, zero, suc, ◌+◌, ◌-◌, ◌*◌, ◌/◌, ◌%◌, ◌<◌, ◌≤◌, ◌⊎◌, inl, inr, Bool, true, false, ◌&&◌, List, [], min, refl, sym, ap, subst, arith}
+use Rattle.std.proofs.Common.{◌≡◌, ℕ, ◌+◌, ◌-◌, ◌*◌, ◌/◌, ◌%◌, ◌<◌, ◌≤◌, inl, inr, Bool, true, false, [], min, refl, sym, ap, subst, arith}
 use Rattle.std.specs.Prelude.{Contains, if◌then◌else◌, nat_le, nat_lt}
 use Rattle.std.specs.Int.{div_ceil}
 use Rattle.std.proofs.Math.Nat.{add-mul, div-add-mod', div-lt_iff_lt-mul, div-mul-le_self, lt_of_mul-lt-mul_right, mul-le-mul_right}

@@ -1,25 +1,21 @@
 -- Volumes that agree on metadata have the same claims, and those that agree on the structure the same malformations.
-use Rattle.std.proofs.Common.{◌≡◌, ◌∙◌, ◌⊎◌, ◌↔◌, ℕ, zero, suc, ◌+◌, ◌*◌, ◌/◌, ◌^◌, ◌<◌, ◌≤◌, inl, inr, length, Bool, true, false, List, [], ◌∷◌, ◌++◌, Option, Some, None, Result, Ok, Err, refl, sym, ap, subst, arith}
-use Rattle.std.specs.Prelude.{◌==◌, Contains, MatchOption, if◌then◌else◌, nat_le}
+use Rattle.std.proofs.Common.{◌≡◌, ◌∙◌, ◌↔◌, ℕ, zero, suc, ◌/◌, ◌^◌, ◌<◌, ◌≤◌, inl, inr, length, Bool, true, false, List, [], Option, Some, None, Result, Ok, Err, refl, sym, ap, subst, arith}
+use Rattle.std.specs.Prelude.{Contains, MatchOption, if◌then◌else◌, nat_le}
 use Rattle.std.specs.Int.{div_ceil}
 use Rattle.std.proofs.lemmas.Bool.Decides.{nat_tests}
 use Rattle.std.proofs.lemmas.List.Elements.{Contains-append_cases}
 use Rattle.ufs_model.specs.Blocks.{Consulted, Reading, Volume, bind, block_at, known}
-use Rattle.ufs_model.specs.Chunks.{DirEntry}
-use Rattle.ufs_model.specs.Claims.{IsClaim, VolumeClaims, level_of, source_fragments, source_fragments_in, volume_fragments}
-use Rattle.ufs_model.specs.Geometries.{IsGeometry}
-use Rattle.ufs_model.specs.GroupMaps.{group_bytes}
-use Rattle.ufs_model.specs.Inodes.{block_count, has_pointers, kind_of}
-use Rattle.ufs_model.specs.Malformations.{FirstBlock, IsBad, IsBadBy, IsDirectory, IsMalformed, inode_at}
+use Rattle.ufs_model.specs.Claims.{IsClaim, VolumeClaims, source_fragments, source_fragments_in, volume_fragments}
+use Rattle.ufs_model.specs.Inodes.{block_count, kind_of}
+use Rattle.ufs_model.specs.Malformations.{IsBadBy, IsDirectory, IsMalformed, inode_at}
 use Rattle.ufs_model.specs.Metadata.{IsMetadata, IsMetadataBy, IsStructure}
 use Rattle.ufs_model.specs.Metadata.IsMetadata.{by_geometry, of_superblock}
 use Rattle.ufs_model.specs.Metadata.IsMetadataBy.{of_group, of_indirect, of_inode}
 use Rattle.ufs_model.specs.Metadata.IsStructure.{of_directory, of_metadata}
-use Rattle.ufs_model.specs.Owners.{BelongsTo, IsSharedOn}
 use Rattle.ufs_model.specs.Paths.{block_of, chunk_refusal, chunks_of, directory_refusal, entries_before, entries_of, is_directory, refused_first, unless_refused}
 use Rattle.ufs_model.specs.Pointers.{file_block_of}
 use Rattle.ufs_model.specs.Readings.{and_then, on_ok}
-use Rattle.ufs_model.specs.Superblocks.{geometry_in, geometry_of, superblock_of}
+use Rattle.ufs_model.specs.Superblocks.{geometry_of, superblock_of}
 use Rattle.ufs_model.specs.declared.claims.ClaimSource.{ClaimSource}
 use Rattle.ufs_model.specs.declared.claims.ClaimSource.TheVariants.{Pointer, Slot}
 use Rattle.ufs_model.specs.declared.geometries.BadSuper.{BadSuper}
@@ -172,14 +168,24 @@ whole_by l n v g is whole =
 directory_found : (g : Geometry) (v : Volume) (i : ℕ) (inode : Inode) → inode_at g v i ≡ Some inode → kind_of inode.mode ≡ Directory → IsDirectory g v i (λ _. Unit {0})
 directory_found g v i inode there is = subst (λ found. MatchOption found ⊥ (λ inode. (kind_of inode.mode ≡ Directory) × Unit {0})) (sym there) (is, tt)
 
+-- the blocks that are needed to read a directory
+of_file : (l n : ℕ) (v : Volume) (g : Geometry) → (geometry_of l n v).value ≡ Ok g → (i b : ℕ) → IsDirectory g v i (λ _. Unit {0}) → IsOfFile g v i b → IsStructure l n v b
+of_file l n v g is i b directory (of_indirects h) = of_metadata (by_geometry g is h)
+of_file l n v g is i b directory (of_data first source claim reaches) = of_directory g i first source is directory claim reaches
+
+pub directory_needs : (l n : ℕ) (v : Volume) → HasWholeIndirects l n v → (g : Geometry) → (geometry_of l n v).value ≡ Ok g → (i : ℕ) (inode : Inode) → inode_at g v i ≡ Some inode
+    → kind_of inode.mode ≡ Directory → inode.size < 2 ^ 32 → (k : ℕ) → k < block_count g inode → (b : ℕ) → Contains ((block_of g inode k v).needs) b → IsStructure l n v b
+directory_needs l n v whole g is i inode there directory small k low b h =
+    let file : IsFile g v i inode = record { there = there; pointers = rw directory refl } in
+    of_file l n v g is i b (directory_found g v i inode there directory) (block_of_needs g v i k b inode (whole_by l n v g is whole) file small low h)
+
 module _ (l n : ℕ) (v w : Volume) (whole : HasWholeIndirects l n v) (agree : AgreeOn l (IsStructure l n v) v w) where
   pub agree_metadata : AgreeOn l (IsMetadata l n v) v w
   agree_metadata b h = agree b (of_metadata h)
 
   agree_file : (g : Geometry) → (geometry_of l n v).value ≡ Ok g → (i b : ℕ) → IsDirectory g v i (λ _. Unit {0}) → IsOfFile g v i b → block_at g.fsize w b ≡ block_at g.fsize v b
-  agree_file g is i b directory (of_indirects h) = metadata_agree l n v w agree_metadata g is b h
-  agree_file g is i b directory (of_data first source claim reaches) =
-      subst (λ (k : ℕ). block_at k w b ≡ block_at k v b) (sym ((geometry_is l n v g is).fsize)) (agree b (of_directory g i first source is directory claim reaches))
+  agree_file g is i b directory h =
+      subst (λ (k : ℕ). block_at k w b ≡ block_at k v b) (sym ((geometry_is l n v g is).fsize)) (agree b (of_file l n v g is i b directory h))
 
   -- what is read of one directory
   module _ (g : Geometry) (is : (geometry_of l n v).value ≡ Ok g) (i : ℕ) (inode : Inode) (there : inode_at g v i ≡ Some inode) (directory : kind_of inode.mode ≡ Directory) (small : inode.size < 2 ^ 32) where

@@ -1,19 +1,19 @@
 -- What is read by a path needs blocks of the file system itself, and claimed ones.
-use Rattle.std.proofs.Common.{◌≡◌, ◌∙◌, ◌⊎◌, ℕ, zero, suc, ◌+◌, ◌*◌, ◌/◌, ◌%◌, ◌^◌, ◌<◌, ◌≤◌, inl, inr, Bool, true, false, List, [], ◌∷◌, ◌++◌, Option, Some, None, Result, Ok, Err, refl, sym, ap, subst, arith}
+use Rattle.std.proofs.Common.{◌≡◌, ℕ, zero, suc, ◌+◌, ◌^◌, ◌<◌, ◌≤◌, inl, inr, Bool, true, false, List, [], ◌∷◌, Option, Some, None, Result, Ok, Err, refl, sym, subst, arith}
 use Rattle.std.specs.Prelude.{Contains, filter, if◌then◌else◌, nat_le}
 use Rattle.std.specs.Option.{ok_or}
 use Rattle.std.proofs.lemmas.Bool.Decides.{nat_tests}
 use Rattle.std.proofs.lemmas.List.Elements.{Contains-append_cases}
-use Rattle.ufs_model.specs.Blocks.{Consulted, Reading, Volume, bind, known}
+use Rattle.ufs_model.specs.Blocks.{Reading, Volume, bind, known}
 use Rattle.ufs_model.specs.Chunks.{DirEntry}
 use Rattle.ufs_model.specs.Claims.{IsClaim, source_fragments}
 use Rattle.ufs_model.specs.Geometries.{IsGeometry}
-use Rattle.ufs_model.specs.Inodes.{block_count, has_pointers, inode_block, inode_bytes, inode_in, inode_of, is_inode_number, kind_of}
-use Rattle.ufs_model.specs.Listings.{Listed, listed_as, listed_entries, listed_entry, listing_of}
+use Rattle.ufs_model.specs.Inodes.{block_count, inode_of, is_inode_number, kind_of}
+use Rattle.ufs_model.specs.Listings.{Listed, listed_entries, listed_entry, listing_of}
 use Rattle.ufs_model.specs.Malformations.{inode_at}
 use Rattle.ufs_model.specs.Metadata.{IsMetadataBy}
 use Rattle.ufs_model.specs.Metadata.IsMetadataBy.{of_group, of_indirect, of_inode}
-use Rattle.ufs_model.specs.Paths.{allocated, block_of, bytes_in_block, chunk_refusal, chunks_of, contents_of, directory_refusal, entries_before, entries_of, entries_through, file_refusal, find_from, find_in_block, find_of, find_through, found_else, front_in, front_of, is_directory, is_regular, look_from, named_inode, or_bad_chunk, part_of, size_refusal, unless_refused}
+use Rattle.ufs_model.specs.Paths.{allocated, block_of, chunks_of, contents_of, directory_refusal, entries_before, entries_of, file_refusal, find_from, find_in_block, find_of, found_else, front_of, is_directory, is_regular, look_from, named_inode, part_of, size_refusal, unless_refused}
 use Rattle.ufs_model.specs.Readings.{and_then, on_ok}
 use Rattle.ufs_model.specs.Roles.{is_system, role}
 use Rattle.ufs_model.specs.Trees.{branches, if_directory, is_plain, tree_below}

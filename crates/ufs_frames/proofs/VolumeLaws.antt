@@ -1,19 +1,18 @@
 -- What is read of a volume by its superblock is local.
-use Rattle.std.proofs.Common.{◌≡◌, ◌∙◌, ℕ, ◌+◌, ◌*◌, ◌/◌, Bool, true, false, List, Result, Ok, Err, refl, sym, subst, arith}
+use Rattle.std.proofs.Common.{◌≡◌, ℕ, ◌*◌, ◌/◌, List, Result, Ok, Err, subst, arith}
 use Rattle.std.specs.Prelude.{if◌then◌else◌}
 use Rattle.std.specs.Int.{div_ceil}
 use Rattle.ufs_model.specs.Blocks.{Reading, Volume, bind, known}
 use Rattle.ufs_model.specs.Geometries.{IsGeometryOn}
 use Rattle.ufs_model.specs.Inodes.{kind_of}
-use Rattle.ufs_model.specs.Listings.{listing_of, ls_of}
-use Rattle.ufs_model.specs.Paths.{cat_of, contents_of, is_directory, is_regular, look_from, look_of, named_inode, names_of, or_bad_super, volume_geometry}
+use Rattle.ufs_model.specs.Listings.{ls_of}
+use Rattle.ufs_model.specs.Paths.{cat_of, is_directory, is_regular, look_from, look_of, named_inode, names_of, or_bad_super, volume_geometry}
 use Rattle.ufs_model.specs.Superblocks.{geometry_in, geometry_of, superblock_of}
 use Rattle.ufs_model.specs.Trees.{file_of, tree_below, tree_of}
 use Rattle.ufs_model.specs.declared.geometries.BadSuper.{BadSuper}
 use Rattle.ufs_model.specs.declared.geometries.Geometry.{Geometry}
-use Rattle.ufs_model.specs.declared.reads.BadRead.TheVariants.{Super}
 use Rattle.ufs_model.specs.declared.reads.PathRefusal.{PathRefusal}
-use Rattle.ufs_model.specs.declared.reads.PathRefusal.TheVariants.{Bad, NotDirectory, NotRegular}
+use Rattle.ufs_model.specs.declared.reads.PathRefusal.TheVariants.{NotDirectory, NotRegular}
 use Rattle.ufs_model.proofs.GeometryLaws.{accepted_is}
 use Rattle.ufs_frames.specs.Frames.{IsLocal}
 use Rattle.ufs_frames.proofs.LocalLaws.{local_bind, local_if, local_known, local_ok, local_then, local_within}
