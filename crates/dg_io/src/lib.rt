@@ -4,12 +4,14 @@
 
 mod calls;
 mod lent;
+mod members;
 mod memory_views;
 mod outside;
 mod pieces;
 mod racks;
 mod sinks;
 mod sources;
+mod stored;
 #[cfg(test)]
 mod tests;
 mod views;
