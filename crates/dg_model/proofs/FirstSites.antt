@@ -1,13 +1,13 @@
 -- First sites: a block is sited in one way, its site is on a boundary of the array, and where no block is evicted the site is computed.
 -- A library for the crates above.
-use Rattle.std.proofs.Common.{◌≡◌, ◌<◌, ◌≤◌, ◌+◌, ◌-◌, ◌%◌, ◌++◌, ◌⊎◌, inl, inr, ℕ, zero, suc, Bool, true, false, cond, List, [], ◌∷◌, length, take, refl, sym, ◌∙◌, ap, subst, arith}
+use Rattle.std.proofs.Common.{◌≡◌, ◌<◌, ◌≤◌, ◌-◌, ◌%◌, ◌++◌, inl, inr, ℕ, zero, suc, Bool, true, false, cond, List, [], ◌∷◌, length, take, refl, sym, ◌∙◌, ap, subst, arith}
 use Rattle.std.specs.Prelude.{All, slice_set, slice_index_or, replicate, if◌then◌else◌, nat_lt}
-use Rattle.std.proofs.lemmas.Bool.{cases_lt, cases_order, cases_eq, cases_Bool, false≢true, lt-ltb, le-ltb, ltb-true, ltb-false}
+use Rattle.std.proofs.lemmas.Bool.{cases_lt, cases_order, cases_eq, cases_Bool, false≢true, ltb-true, ltb-false}
 use Rattle.std.proofs.lemmas.List.{length-set, length-replicate, get_or-set_same, get_or-set_other, set_past}
 use Rattle.std.proofs.lemmas.List.Elements.{All-same, All-take, All-append, All-cons, All-nil}
 use Rattle.std.proofs.lemmas.Nat.{mod_below}
 use Rattle.dg_model.specs.Tables.{Table, IsLowestFree, empty_table, lowest_free, put_site, sites_in, used_in}
-use Rattle.dg_model.specs.Sites.{has_site, IsFewest, IsFirstBoundary, IsLeastSpread, Evicts, IsPacked, without_last, IsGivenFirst, IsSited}
+use Rattle.dg_model.specs.Sites.{has_site, IsFewest, IsFirstBoundary, IsLeastSpread, Evicts, without_last, IsGivenFirst, IsSited}
 use Rattle.dg_model.specs.declared.shapes.Shape.{Shape}
 use Rattle.dg_model.specs.declared.sites.Site.{Site}
 use Rattle.dg_model.proofs.FreeLaws.{lowest_free_is, one_lowest_free}

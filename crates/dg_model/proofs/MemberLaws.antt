@@ -1,19 +1,19 @@
 -- Members that fall, boundaries that are lost, and blocks that are gone. A library for the crates above.
-use Rattle.std.proofs.Common.{◌≡◌, ◌≢◌, ◌<◌, ◌≤◌, ◌+◌, ◌*◌, ◌/◌, ◌⊎◌, inl, inr, ℕ, zero, suc, Bool, true, false, not, ◌&&◌, List, [], ◌∷◌, refl, sym, subst, ◌∙◌, ap, arith}
-use Rattle.std.specs.Prelude.{length}
-use Rattle.std.specs.List.{Any, list_any, range_with_len}
+use Rattle.std.proofs.Common.{◌≡◌, ◌<◌, ◌≤◌, ◌+◌, ◌*◌, ◌⊎◌, inl, inr, ℕ, Bool, true, false, not, List, [], ◌∷◌, refl, sym, subst, ◌∙◌, ap, arith}
+use Rattle.std.specs.List.{range_with_len}
 use Rattle.std.proofs.lemmas.Bool.{and_from, and_parts, both_ways, cases_Bool, cases_lt, cases_order, false≢true, not-true}
 use Rattle.std.proofs.lemmas.List.Folds.{Any-from_list_any, list_any_at}
 use Rattle.std.proofs.lemmas.List.FromFn.{get_or-range_with_len, length-range_with_len}
 use Rattle.dg_model.specs.Causes.{NoneRose, Rose}
-use Rattle.dg_model.specs.Members.{ArePaired, HasFallen, IsStruck, MembersFall, is_filling, is_good, is_lost, partner_of}
+use Rattle.dg_model.specs.Members.{IsStruck, MembersFall, is_filling, is_good, is_lost, partner_of}
 use Rattle.dg_model.specs.Sites.{all_lost, has_site, is_gone}
 use Rattle.dg_model.specs.States.{IsLeastLost, has_lost}
-use Rattle.dg_model.specs.Tables.{Table, sites_in}
+use Rattle.dg_model.specs.Tables.{Table, least_upto, sites_in}
 use Rattle.dg_model.specs.declared.members.MemberState.{MemberState}
-use Rattle.dg_model.specs.declared.members.MemberState.TheVariants.{Good, Filling, Out}
+use Rattle.dg_model.specs.declared.members.MemberState.TheVariants.{Out}
 use Rattle.dg_model.specs.declared.shapes.Shape.{Shape}
 use Rattle.dg_model.specs.declared.sites.Site.{Site}
+use Rattle.dg_model.proofs.FreeLaws.{least_below, least_there}
 
 -- ---- counts of faults
 
@@ -54,11 +54,13 @@ falls_both a b c old mid new first second one other q = elim (other q) [
   where
     out_stays : (p : ℕ) → mid p ≡ Out → new p ≡ Out
     out_stays p out = elim (other p) [ inl same ↦ same ∙ out | inr fell ↦ fell.out ]
+
     before : Rose (a q) (b q) ⊎ ((is_filling (old q) ≡ true) × (mid (partner_of q) ≡ Out)) → Rose (a q) (c q) ⊎ ((is_filling (old q) ≡ true) × (new (partner_of q) ≡ Out))
     before h = elim h [
       | inl rose ↦ inl (rose_after (a q) (b q) (c q) rose (second q))
       | inr left ↦ inr (left.0, out_stays (partner_of q) left.1)
     ]
+
     later : mid q ≡ old q → Rose (b q) (c q) ⊎ ((is_filling (mid q) ≡ true) × (new (partner_of q) ≡ Out)) → Rose (a q) (c q) ⊎ ((is_filling (old q) ≡ true) × (new (partner_of q) ≡ Out))
     later still h = elim h [
       | inl rose ↦ inl (rose_before (a q) (b q) (c q) (first q) rose)
@@ -166,3 +168,14 @@ one_least_lost shape members s t a b = elim (cases_order s t) [
     | inr high ↦ absurd (false≢true (sym (a.least t high) ∙ b.lost))
   ]
 ]
+
+-- where some boundary is lost, one is the least
+pub least_lost_from : (shape : Shape) (members : ℕ → MemberState) → has_lost shape members ≡ true → (s : ℕ) × IsLeastLost shape members s
+least_lost_from shape members lost =
+    let some = has_lost_from shape members lost in
+    let found = least_upto shape.b (is_lost members) in
+    let low : least_upto shape.b (is_lost members) < shape.b = elim (cases_lt found shape.b) [
+      | inl low ↦ low
+      | inr high ↦ absurd (false≢true (sym (least_below shape.b (is_lost members) some.0 (omega (arith, high, some.1))) ∙ some.2))
+    ] in
+    (found, record { within = low; lost = least_there shape.b (is_lost members) low; least = λ t less. least_below shape.b (is_lost members) t less })

@@ -1,13 +1,13 @@
 -- What each step keeps, whatever its event. A library for the crates above.
-use Rattle.std.proofs.Common.{◌≡◌, ◌≤◌, ◌⊎◌, inl, inr, ◌∙◌, ap, refl, sym, subst, arith, ℕ, zero, suc, Bool, true, false, List, [], ◌∷◌, length}
-use Rattle.std.specs.Prelude.{Option, Some, None, take, slice_set}
+use Rattle.std.proofs.Common.{◌≡◌, inl, inr, ◌∙◌, ap, sym, subst, arith, ℕ, Bool, true, false, List, [], ◌∷◌, length}
+use Rattle.std.specs.Prelude.{Option, Some, None, take}
 use Rattle.std.proofs.lemmas.List.{length-set}
 use Rattle.dg_model.specs.Blocks.{padded}
-use Rattle.dg_model.specs.Copies.{Spread, spread_over}
-use Rattle.dg_model.specs.Changes.{BreaksOff, Goes, IsCut, PassesSlots, Settles, Spreads, Stays, Strikes, Tends, Writes, spread_in}
+use Rattle.dg_model.specs.Copies.{Spread}
+use Rattle.dg_model.specs.Changes.{IsCut, PassesSlots, Settles, Spreads, Stays, Strikes, Tends, Writes, spread_in}
 use Rattle.dg_model.specs.Marks.{AreNext, with_mark}
 use Rattle.dg_model.specs.Members.{ArePaired}
-use Rattle.dg_model.specs.Moves.{all_done, moves, moved}
+use Rattle.dg_model.specs.Moves.{moves, moved}
 use Rattle.dg_model.specs.Plans.{targets_of}
 use Rattle.dg_model.specs.Runs.{Run}
 use Rattle.dg_model.specs.States.{Counts, CountsRise, State, is_broken}
@@ -124,8 +124,8 @@ keeps_settles Known old new h = record {
 keeps_spreads : (Known : Type 0) (old : State) (count gained : ℕ) (new : State) → Spreads Known old count gained new → Keeps old new
 keeps_spreads Known old count gained new h = record {
   table =
-    subst (λ (t : Table). IsSized old.table t) (sym (ap (λ (s : Spread). s.table) h.spread))
-    (spread_over_sized h.wants old.homes (take count old.recent) (spread_in old));
+      subst (λ (t : Table). IsSized old.table t) (sym (ap (λ (s : Spread). s.table) h.spread))
+      (spread_over_sized h.wants old.homes (take count old.recent) (spread_in old));
   blocks = ap (λ s. length s.blocks) h.rest;
   marks = ap (λ s. length s.pending) h.rest;
   counts = h.goes.passes.counts;
