@@ -1,1 +1,4 @@
+pub mod FreeLaws
+pub mod KnownLaws
+pub mod ShapeLaws
 pub mod SiteLists
