@@ -1,10 +1,13 @@
+pub mod Calls
 pub mod Faults
 pub mod Fetches
 pub mod MemViews
+pub mod RackWords
 pub mod Racks
 pub mod SinkPieces
 pub mod Sinks
 pub mod Sources
 pub mod Told
 pub mod ViewLaws
+pub mod ViewWords
 pub mod Views

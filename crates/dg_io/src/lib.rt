@@ -4,6 +4,7 @@
 
 mod calls;
 mod lent;
+mod members;
 mod memory_views;
 mod outside;
 mod pieces;
@@ -12,6 +13,7 @@ mod sinks;
 mod sources;
 #[cfg(test)]
 mod tests;
+mod stored;
 mod views;
 
 pub use dg_model::{Failed, NoMemory};

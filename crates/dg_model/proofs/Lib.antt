@@ -1,4 +1,6 @@
-pub mod FreeLaws
+pub mod ClaimSearch
 pub mod KnownLaws
-pub mod ShapeLaws
+pub mod MarkLaws
 pub mod SiteLists
+pub mod StepLaws
+pub mod TableLaws

@@ -1,5 +1,5 @@
 -- What the tests of a superblock say of its geometry.
-use Rattle.std.proofs.Common.{◌≡◌, ℕ, zero, suc, ◌+◌, ◌-◌, ◌*◌, ◌/◌, ◌%◌, ◌^◌, ◌<◌, ◌≤◌, inl, inr, Bool, true, false, ◌&&◌, not, List, [], ◌∷◌, arith, refl, sym, subst}
+use Rattle.std.proofs.Common.{◌≡◌, ℕ, zero, suc, ◌+◌, ◌-◌, ◌*◌, ◌/◌, ◌%◌, ◌^◌, ◌<◌, ◌≤◌, inl, inr, Bool, true, false, ◌&&◌, not, List, [], ◌∷◌, arith, refl, sym, subst, ap, ◌∙◌}
 use Rattle.std.specs.Prelude.{Option, Some, None, Ok, find, cond, ◌==◌, nat_le}
 use Rattle.std.specs.Int.{div_ceil}
 use Rattle.std.specs.List.{list_all}
@@ -7,7 +7,7 @@ use Rattle.std.proofs.lemmas.Bool.{cases_lt, and_from, and_parts}
 use Rattle.std.proofs.lemmas.Bool.Decides.{nat_tests}
 use Rattle.ufs_model.specs.Numbers.{all_below}
 use Rattle.ufs_model.specs.Geometries.{IsGeometry, IsGeometryOn, cgstart, end_of, is_block_size, is_fragment_count}
-use Rattle.ufs_model.specs.Superblocks.{IsSuperblock, magic_of, inodefmt_of, fields, geometry_in, unless_bad, super_tests, passes, format_holds, frag_holds, groups_hold, inodes_hold, group_fits, layout_holds, summary_holds}
+use Rattle.ufs_model.specs.Superblocks.{IsSuperblock, magic_of, inodefmt_of, endian_of, fields, geometry_by, geometry_in, unless_bad, super_tests, passes, format_holds, frag_holds, groups_hold, inodes_hold, group_fits, layout_holds, summary_holds}
 use Rattle.ufs_model.specs.declared.numbers.Endian.{Endian}
 use Rattle.ufs_model.specs.declared.geometries.Geometry.{Geometry}
 use Rattle.ufs_model.specs.declared.geometries.BadSuper.{BadSuper}
@@ -176,21 +176,34 @@ unless_bad_ok : (o : Option BadSuper) (a g : Geometry) → unless_bad o a ≡ Ok
 unless_bad_ok None a g e = (refl, grind (arith, e))
 unless_bad_ok (Some bad) a g e = grind (arith, e)
 
-pub accepted_is : (endian : Endian) (bytes : List ℕ) (l n : ℕ) (g : Geometry) → geometry_in endian bytes l n ≡ Ok g → IsSuperblock endian bytes l n g
-unfolding geometry_in
-accepted_is endian bytes l n g accepted =
+fields_order : (endian : Endian) (bytes : List ℕ) → (fields endian bytes).endian ≡ endian
+unfolding fields
+fields_order endian bytes = refl
+
+pub accepted_is : (bytes : List ℕ) (l n : ℕ) (g : Geometry) → geometry_in bytes l n ≡ Ok g → IsSuperblock bytes l n g
+unfolding geometry_in geometry_by
+accepted_is bytes l n g accepted =
+    let endian : Endian = endian_of bytes in
     let parts = unless_bad_ok (find (λ kind. not (passes endian bytes l n (fields endian bytes) kind)) super_tests) (fields endian bytes) g accepted in
     let pass = none_fails (passes endian bytes l n (fields endian bytes)) (parts.0) in
+    let order : endian ≡ g.endian = sym (fields_order endian bytes) ∙ ap (λ (h : Geometry). h.endian) (parts.1) in
     record {
-      magic = equal_fact (magic_of endian bytes) 0x00011954 (pass Magic);
-      inodefmt = (format_fact (inodefmt_of endian bytes) (fields endian bytes) (pass Format)).0;
-      stands = parts.1;
+      order = order;
+      magic = subst (λ (e : Endian). magic_of e bytes ≡ 0x00011954) order (equal_fact (magic_of endian bytes) 0x00011954 (pass Magic));
+      inodefmt = subst (λ (e : Endian). inodefmt_of e bytes ≡ 2) order (format_fact (inodefmt_of endian bytes) (fields endian bytes) (pass Format)).0;
+      stands = subst (λ (e : Endian). fields e bytes ≡ g) order (parts.1);
       geometry = subst (λ (h : Geometry). IsGeometryOn l n h) (parts.1) (tests_make endian bytes l n (fields endian bytes) pass);
     }
 
-pub is_accepted : (endian : Endian) (bytes : List ℕ) (l n : ℕ) (g : Geometry) → IsSuperblock endian bytes l n g → geometry_in endian bytes l n ≡ Ok g
+accepted_by : (endian : Endian) (bytes : List ℕ) (l n : ℕ) (g : Geometry) → magic_of endian bytes ≡ 0x00011954 → inodefmt_of endian bytes ≡ 2
+    → fields endian bytes ≡ g → IsGeometryOn l n g → geometry_by endian bytes l n ≡ Ok g
+unfolding geometry_by
+accepted_by endian bytes l n g magic inodefmt stands geometry =
+    let tests = subst (λ (h : Geometry). IsGeometryOn l n h) (sym stands) geometry in
+    let none = none_found (passes endian bytes l n (fields endian bytes)) (tests_pass endian bytes l n (fields endian bytes) magic inodefmt tests) in
+    rw (none, stands) refl
+
+pub is_accepted : (bytes : List ℕ) (l n : ℕ) (g : Geometry) → IsSuperblock bytes l n g → geometry_in bytes l n ≡ Ok g
 unfolding geometry_in
-is_accepted endian bytes l n g is =
-    let tests = subst (λ (h : Geometry). IsGeometryOn l n h) (sym is.stands) is.geometry in
-    let none = none_found (passes endian bytes l n (fields endian bytes)) (tests_pass endian bytes l n (fields endian bytes) is.magic is.inodefmt tests) in
-    rw (none, is.stands) refl
+is_accepted bytes l n g is =
+    subst (λ (e : Endian). geometry_by e bytes l n ≡ Ok g) (sym is.order) (accepted_by g.endian bytes l n g is.magic is.inodefmt is.stands is.geometry)

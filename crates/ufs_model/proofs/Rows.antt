@@ -1,12 +1,12 @@
 -- The definitions, computed on small volumes. The expected values are worked out by hand from the
 -- formats.
-use Rattle.std.proofs.Common.{◌≡◌, ℕ, ◌+◌, ◌<◌, ◌++◌, List, [], ◌∷◌, map, refl, replicate, take, drop, zero, suc, arith}
+use Rattle.std.proofs.Common.{option_map, ◌≡◌, ℕ, ◌+◌, ◌<◌, ◌++◌, List, [], ◌∷◌, map, refl, replicate, take, drop, zero, suc, arith}
 use Rattle.std.specs.Prelude.{◌≤◌, Some, None, Ok, Err, true, false}
 use Rattle.byteorder.specs.Endian.{big_bytes, little_bytes}
 use Rattle.ufs_model.specs.Numbers.{number_at}
 use Rattle.ufs_model.specs.Blocks.{Volume, bind, area_of, area_within}
 use Rattle.ufs_model.specs.Geometries.{cgbase, cgstart, end_of, is_block_size, is_fragment_count, IsGeometry}
-use Rattle.ufs_model.specs.Superblocks.{geometry, geometry_in, geometry_of, superblock_of, fields, format_holds, frag_holds, groups_hold, inodes_hold, group_fits, layout_holds, summary_holds}
+use Rattle.ufs_model.specs.Superblocks.{endian_of, geometry_by, geometry_in, geometry_of, superblock_of, fields, format_holds, frag_holds, groups_hold, inodes_hold, group_fits, layout_holds, summary_holds}
 use Rattle.ufs_model.specs.Roles.{role, role_in}
 use Rattle.ufs_model.specs.Inodes.{inode_in, inode_of, kind_of, inode_block, inode_byte, span}
 use Rattle.ufs_model.specs.GroupMaps.{group_in, group_fields, group_magic_holds, maps_hold, is_set, is_free, is_used}
@@ -14,14 +14,15 @@ use Rattle.ufs_model.specs.Chunks.{chunk_in, entries_in, fault_in, fault_at, rec
 use Rattle.ufs_model.specs.Pointers.{locate_of, is_data_run, address, through, file_block_of}
 use Rattle.ufs_model.specs.Readings.{and_then}
 use Rattle.ufs_model.specs.Paths.{block_of, bytes_at, cat_of, chunks_of, contents_of, entries_before, entries_of, find_from, find_in_block, find_of, find_through, front_of, directory_refusal, file_refusal, look_from, named_inode, names_of, part_of, volume_geometry}
-use Rattle.ufs_model.specs.Claims.{level_of, pointer_fragments, slot_fragments, targets}
+use Rattle.ufs_model.specs.Claims.{is_earlier_claim, level_of, pointer_fragments, slot_fragments, source_fragments}
 use Rattle.ufs_model.specs.Listings.{listed_entries, listed_entry, listing_of}
 use Rattle.ufs_model.specs.Malformations.{first_block}
 use Rattle.ufs_model.specs.declared.claims.ClaimSource.TheVariants.{Slot, Pointer}
 use Rattle.ufs_model.specs.declared.numbers.Endian.{Endian}
 use Rattle.ufs_model.specs.declared.numbers.Endian.TheVariants.{Little, Big}
 use Rattle.ufs_model.specs.declared.geometries.Geometry.{Geometry}
-use Rattle.ufs_model.specs.declared.geometries.BadSuper.TheVariants.{Magic, Fsize, Size}
+use Rattle.ufs_model.specs.declared.claims.ClaimSource.{ClaimSource}
+use Rattle.ufs_model.specs.declared.geometries.BadSuper.TheVariants.{Format, Magic, Fsize, Size}
 use Rattle.ufs_model.specs.declared.roles.Role.TheVariants.{Outside, System, Data}
 use Rattle.ufs_model.specs.declared.roles.SystemKind.TheVariants.{Super, Boot, Copy, Group, Inodes, Summary}
 use Rattle.ufs_model.specs.declared.inodes.Inode.{Inode}
@@ -57,6 +58,7 @@ small = record {
   ipg = 32;
   fpg = 128;
   maxsymlinklen = 60;
+  endian = Little;
 }
 
 small_is_a_geometry : IsGeometry small
@@ -112,6 +114,7 @@ large = record {
   ipg = 256;
   fpg = 2048;
   maxsymlinklen = 60;
+  endian = Little;
 }
 
 starts_of_large : map (cgstart large) (0 ∷ 1 ∷ 2 ∷ 3 ∷ []) ≡ 0 ∷ 2080 ∷ 4160 ∷ 6240 ∷ []
@@ -145,19 +148,20 @@ small_superblock e =
     ++ gap 56 ++ four e 1024 ++ four e 32 ++ gap 28 ++ four e 32 ++ four e 16 ++ four e 4096
     ++ gap 20 ++ four e 32 ++ four e 128 ++ gap 1128 ++ four e 60 ++ four e 2 ++ gap 44 ++ four e 0x00011954
 
-small_is_read : geometry (small_superblock Little) 1024 128 ≡ Ok small
-unfolding geometry_in fields number_at format_holds frag_holds is_block_size is_fragment_count groups_hold inodes_hold layout_holds group_fits cgstart cgbase end_of summary_holds
+small_is_read : geometry_in (small_superblock Little) 1024 128 ≡ Ok small
+unfolding geometry_in geometry_by endian_of fields number_at format_holds frag_holds is_block_size is_fragment_count groups_hold inodes_hold layout_holds group_fits cgstart cgbase end_of summary_holds
 small_is_read = refl
 
-small_is_read_in_the_other_order : geometry_in Big (small_superblock Big) 1024 128 ≡ Ok small
-unfolding geometry_in fields number_at format_holds frag_holds is_block_size is_fragment_count groups_hold inodes_hold layout_holds group_fits cgstart cgbase end_of summary_holds
+small_is_read_in_the_other_order : geometry_in (small_superblock Big) 1024 128 ≡ Ok (record small { endian = Big })
+unfolding geometry_in geometry_by endian_of fields number_at format_holds frag_holds is_block_size is_fragment_count groups_hold inodes_hold layout_holds group_fits cgstart cgbase end_of summary_holds
 small_is_read_in_the_other_order = refl
 
 small_is_refused :
-    (geometry (small_superblock Little) 1024 127 ≡ Err Size) × (geometry (small_superblock Little) 512 128 ≡ Err Fsize)
-    × (geometry (small_superblock Big) 1024 128 ≡ Err Magic)
-unfolding geometry_in fields number_at format_holds frag_holds is_block_size is_fragment_count groups_hold inodes_hold layout_holds group_fits cgstart cgbase end_of summary_holds
-small_is_refused = (refl, refl, refl)
+    (geometry_in (small_superblock Little) 1024 127 ≡ Err Size) × (geometry_in (small_superblock Little) 512 128 ≡ Err Fsize)
+    × (geometry_in (take 1372 (small_superblock Big) ++ four Little 0x00011954) 1024 128 ≡ Err Format)
+    × (geometry_in (take 1372 (small_superblock Big) ++ four Big 0x00011955) 1024 128 ≡ Err Magic)
+unfolding geometry_in geometry_by endian_of fields number_at format_holds frag_holds is_block_size is_fragment_count groups_hold inodes_hold layout_holds group_fits cgstart cgbase end_of summary_holds
+small_is_refused = (refl, refl, refl, refl)
 
 -- ---- inodes
 
@@ -193,7 +197,7 @@ abbrev small_group : List ℕ
 small_group = gap 4 ++ four Little 0x00090255 ++ gap 4 ++ four Little 0 ++ gap 4 ++ four Little 128 ++ gap 68
     ++ four Little 256 ++ four Little 260 ++ gap 156 ++ 0x0f ∷ 0x80 ∷ gap 2 ++ gap 4 ++ 0x04 ∷ []
 
-small_group_is_read : group_in Little small 0 small_group ≡ Ok (record { c = 0; iusedoff = 256; freeoff = 260; count = 128 })
+small_group_is_read : group_in small 0 small_group ≡ Ok (record { c = 0; iusedoff = 256; freeoff = 260; count = 128 })
 unfolding group_in group_fields group_magic_holds maps_hold number_at cgbase end_of
 small_group_is_read = refl
 
@@ -251,7 +255,7 @@ long_file = record { mode = 0x81a4; size = 53248; db = replicate 12 36; ib = 84 
 abbrev small_volume : Volume
 small_volume = replicate 84 [] ++ (88 ∷ gap 1023) ∷ gap 1024 ∷ gap 1024 ∷ gap 1024 ∷ []
 
-the_last_block_of_a_long_file : file_block_of Little small long_file 12 small_volume ≡ record { value = At 88 4; needs = 84 ∷ 85 ∷ 86 ∷ 87 ∷ [] }
+the_last_block_of_a_long_file : file_block_of small long_file 12 small_volume ≡ record { value = At 88 4; needs = 84 ∷ 85 ∷ 86 ∷ 87 ∷ [] }
 unfolding file_block_of locate_of through address is_data_run role role_in cgstart cgbase area_of bind number_at span
 the_last_block_of_a_long_file = refl
 
@@ -275,31 +279,31 @@ path_volume = replicate 8 [] ++ take 1024 (small_superblock Little) ∷ drop 102
     ++ replicate 18 [] ++ (gap 256 ++ inode_row 0x41ed 512 33 0 ++ inode_row 0x81a4 5 34 0 ++ inode_row 0x81a4 4100 0 36 ++ gap 512) ∷ []
     ++ replicate 4 [] ++ root_block ∷ (104 ∷ 101 ∷ 108 ∷ 108 ∷ 111 ∷ gap 1019) ∷ [] ∷ (replicate 1024 104) ∷ []
 
-cat_of_a_small_file : cat_of Little 1024 128 (47 ∷ 97 ∷ []) path_volume
+cat_of_a_small_file : cat_of 1024 128 (47 ∷ 97 ∷ []) path_volume
     ≡ record { value = Ok (104 ∷ 101 ∷ 108 ∷ 108 ∷ 111 ∷ []); needs = 8 ∷ 9 ∷ 28 ∷ 33 ∷ 28 ∷ 34 ∷ [] }
-unfolding cat_of volume_geometry geometry_of superblock_of area_within area_of bind and_then look_from named_inode inode_of inode_in inode_block inode_byte find_of directory_refusal file_refusal kind_of find_from find_in_block chunks_of block_of bytes_at file_block_of locate_of address is_data_run role role_in span find_through find_in chunk_in fault_in entries_in fault_at entry_in reclen_holds is_name contents_of front_of part_of geometry_in fields number_at format_holds frag_holds is_block_size is_fragment_count groups_hold inodes_hold layout_holds group_fits cgstart cgbase end_of summary_holds
+unfolding cat_of volume_geometry geometry_of superblock_of area_within area_of bind and_then look_from named_inode inode_of inode_in inode_block inode_byte find_of directory_refusal file_refusal kind_of find_from find_in_block chunks_of block_of bytes_at file_block_of locate_of address is_data_run role role_in span find_through find_in chunk_in fault_in entries_in fault_at entry_in reclen_holds is_name contents_of front_of part_of geometry_in geometry_by endian_of fields number_at format_holds frag_holds is_block_size is_fragment_count groups_hold inodes_hold layout_holds group_fits cgstart cgbase end_of summary_holds
 cat_of_a_small_file = refl
 
 -- the first file block is a hole; of the second every fragment is consulted that its four bytes take
-cat_of_a_sparse_file : cat_of Little 1024 128 (47 ∷ 104 ∷ []) path_volume
+cat_of_a_sparse_file : cat_of 1024 128 (47 ∷ 104 ∷ []) path_volume
     ≡ record { value = Ok (gap 4096 ++ replicate 4 104); needs = 8 ∷ 9 ∷ 28 ∷ 33 ∷ 28 ∷ 36 ∷ [] }
-unfolding cat_of volume_geometry geometry_of superblock_of area_within area_of bind and_then look_from named_inode inode_of inode_in inode_block inode_byte find_of directory_refusal file_refusal kind_of find_from find_in_block chunks_of block_of bytes_at file_block_of locate_of address is_data_run role role_in span find_through find_in chunk_in fault_in entries_in fault_at entry_in reclen_holds is_name contents_of front_of part_of geometry_in fields number_at format_holds frag_holds is_block_size is_fragment_count groups_hold inodes_hold layout_holds group_fits cgstart cgbase end_of summary_holds
+unfolding cat_of volume_geometry geometry_of superblock_of area_within area_of bind and_then look_from named_inode inode_of inode_in inode_block inode_byte find_of directory_refusal file_refusal kind_of find_from find_in_block chunks_of block_of bytes_at file_block_of locate_of address is_data_run role role_in span find_through find_in chunk_in fault_in entries_in fault_at entry_in reclen_holds is_name contents_of front_of part_of geometry_in geometry_by endian_of fields number_at format_holds frag_holds is_block_size is_fragment_count groups_hold inodes_hold layout_holds group_fits cgstart cgbase end_of summary_holds
 cat_of_a_sparse_file = refl
 
 -- no such name; a name below a file; the root itself; an entry for an unallocated inode; and a volume of zeros, or of one block
-refused_paths : map (λ path. cat_of Little 1024 128 path path_volume) ((47 ∷ 122 ∷ []) ∷ (47 ∷ 97 ∷ 47 ∷ 98 ∷ []) ∷ (47 ∷ []) ∷ (47 ∷ 120 ∷ []) ∷ [])
+refused_paths : map (λ path. cat_of 1024 128 path path_volume) ((47 ∷ 122 ∷ []) ∷ (47 ∷ 97 ∷ 47 ∷ 98 ∷ []) ∷ (47 ∷ []) ∷ (47 ∷ 120 ∷ []) ∷ [])
     ≡ record { value = Err NotFound; needs = 8 ∷ 9 ∷ 28 ∷ 33 ∷ [] }
     ∷ record { value = Err NotDirectory; needs = 8 ∷ 9 ∷ 28 ∷ 33 ∷ 28 ∷ [] }
     ∷ record { value = Err NotRegular; needs = 8 ∷ 9 ∷ 28 ∷ [] }
     ∷ record { value = Err (PathBad Entry); needs = 8 ∷ 9 ∷ 28 ∷ 33 ∷ 28 ∷ [] } ∷ []
-unfolding cat_of volume_geometry geometry_of superblock_of area_within area_of bind and_then look_from named_inode inode_of inode_in inode_block inode_byte find_of directory_refusal file_refusal kind_of find_from find_in_block chunks_of block_of bytes_at file_block_of locate_of address is_data_run role role_in span find_through find_in chunk_in fault_in entries_in fault_at entry_in reclen_holds is_name contents_of front_of part_of geometry_in fields number_at format_holds frag_holds is_block_size is_fragment_count groups_hold inodes_hold layout_holds group_fits cgstart cgbase end_of summary_holds
+unfolding cat_of volume_geometry geometry_of superblock_of area_within area_of bind and_then look_from named_inode inode_of inode_in inode_block inode_byte find_of directory_refusal file_refusal kind_of find_from find_in_block chunks_of block_of bytes_at file_block_of locate_of address is_data_run role role_in span find_through find_in chunk_in fault_in entries_in fault_at entry_in reclen_holds is_name contents_of front_of part_of geometry_in geometry_by endian_of fields number_at format_holds frag_holds is_block_size is_fragment_count groups_hold inodes_hold layout_holds group_fits cgstart cgbase end_of summary_holds
 refused_paths = refl
 
-volumes_without_a_superblock : map (λ n. cat_of Little 1024 n (47 ∷ 97 ∷ []) (replicate 128 [])) (1 ∷ 9 ∷ 128 ∷ [])
+volumes_without_a_superblock : map (λ n. cat_of 1024 n (47 ∷ 97 ∷ []) (replicate 128 [])) (1 ∷ 9 ∷ 128 ∷ [])
     ≡ record { value = Err (PathBad (BadSuperblock Magic)); needs = [] }
     ∷ record { value = Err (PathBad (BadSuperblock Magic)); needs = 8 ∷ [] }
     ∷ record { value = Err (PathBad (BadSuperblock Magic)); needs = 8 ∷ 9 ∷ [] } ∷ []
-unfolding cat_of volume_geometry geometry_of superblock_of area_within area_of bind and_then look_from named_inode inode_of inode_in inode_block inode_byte find_of directory_refusal file_refusal kind_of find_from find_in_block chunks_of block_of bytes_at file_block_of locate_of address is_data_run role role_in span find_through find_in chunk_in fault_in entries_in fault_at entry_in reclen_holds is_name contents_of front_of part_of geometry_in fields number_at format_holds frag_holds is_block_size is_fragment_count groups_hold inodes_hold layout_holds group_fits cgstart cgbase end_of summary_holds
+unfolding cat_of volume_geometry geometry_of superblock_of area_within area_of bind and_then look_from named_inode inode_of inode_in inode_block inode_byte find_of directory_refusal file_refusal kind_of find_from find_in_block chunks_of block_of bytes_at file_block_of locate_of address is_data_run role role_in span find_through find_in chunk_in fault_in entries_in fault_at entry_in reclen_holds is_name contents_of front_of part_of geometry_in geometry_by endian_of fields number_at format_holds frag_holds is_block_size is_fragment_count groups_hold inodes_hold layout_holds group_fits cgstart cgbase end_of summary_holds
 volumes_without_a_superblock = refl
 
 -- ---- listings
@@ -311,7 +315,7 @@ root_inode = record { mode = 0x41ed; size = 512; db = 33 ∷ replicate 11 0; ib 
 abbrev empty_volume : Volume
 empty_volume = replicate 28 [] ++ (gap 256 ++ inode_row 0x41ed 512 33 0 ++ gap 640) ∷ replicate 4 [] ++ root_chunk ∷ []
 
-listing_of_an_empty_root : listing_of Little small root_inode empty_volume
+listing_of_an_empty_root : listing_of small root_inode empty_volume
     ≡ record {
       value = Ok (record { depth = 1; inode = 2; kind = Directory; size = 512; name = 46 ∷ [] } ∷ record { depth = 1; inode = 2; kind = Directory; size = 512; name = 46 ∷ 46 ∷ [] } ∷ []);
       needs = 33 ∷ 28 ∷ 28 ∷ [];
@@ -329,13 +333,13 @@ unfolding slot_fragments span kind_of address is_data_run role role_in cgstart c
 slots_claim = (refl, refl, refl)
 
 -- a pointer of an indirect block claims a whole file block; 0 and a wild one claim nothing, and so does one past the fragment
-pointers_claim : map (pointer_fragments Little small (88 ∷ gap 7 ++ 28 ∷ gap 1015 ++ 88 ∷ gap 3)) (0 ∷ 1 ∷ 2 ∷ 256 ∷ []) ≡ (88 ∷ 89 ∷ 90 ∷ 91 ∷ []) ∷ [] ∷ [] ∷ [] ∷ []
+pointers_claim : map (pointer_fragments small (88 ∷ gap 7 ++ 28 ∷ gap 1015 ++ 88 ∷ gap 3)) (0 ∷ 1 ∷ 2 ∷ 256 ∷ []) ≡ (88 ∷ 89 ∷ 90 ∷ 91 ∷ []) ∷ [] ∷ [] ∷ [] ∷ []
 unfolding pointer_fragments number_at address is_data_run role role_in cgstart cgbase
 pointers_claim = refl
 
 -- of a volume: the file `a`, the end of the sparse file, no slot of inode 1, and none of an unallocated inode
-sources_claim : map (targets Little small path_volume) (Slot 3 0 ∷ Slot 4 1 ∷ Slot 1 0 ∷ Slot 5 0 ∷ []) ≡ (34 ∷ []) ∷ (36 ∷ []) ∷ [] ∷ [] ∷ []
-unfolding targets slot_fragments inode_of inode_in inode_block inode_byte number_at span kind_of address is_data_run role role_in cgstart cgbase bind
+sources_claim : map (source_fragments small path_volume) (Slot 3 0 ∷ Slot 4 1 ∷ Slot 1 0 ∷ Slot 5 0 ∷ []) ≡ (34 ∷ []) ∷ (36 ∷ []) ∷ [] ∷ [] ∷ []
+unfolding source_fragments slot_fragments inode_of inode_in inode_block inode_byte number_at span kind_of address is_data_run role role_in cgstart cgbase bind
 sources_claim = refl
 
 levels : map level_of (Slot 3 0 ∷ Slot 3 11 ∷ Slot 3 12 ∷ Slot 3 14 ∷ Pointer 84 1 0 ∷ Pointer 84 3 0 ∷ []) ≡ 0 ∷ 0 ∷ 1 ∷ 3 ∷ 0 ∷ 2 ∷ []
@@ -345,3 +349,38 @@ levels = refl
 
 first_blocks : map (first_block small) (0 ∷ 11 ∷ 12 ∷ 13 ∷ 14 ∷ []) ≡ 0 ∷ 11 ∷ 12 ∷ 1036 ∷ 1049612 ∷ []
 first_blocks = refl
+
+-- claims on a fragment stand in the order of their levels, then slots before pointers, and these by their numbers
+claims_in_order : map (λ (pair : ClaimSource × ClaimSource). is_earlier_claim pair.0 pair.1)
+    ((Slot 5 0, Slot 3 12) ∷ (Slot 3 12, Slot 5 0) ∷ (Slot 3 1, Slot 5 0) ∷ (Slot 5 1, Slot 5 0) ∷ (Slot 9 0, Pointer 4 1 0)
+    ∷ (Pointer 4 2 9, Pointer 4 2 10) ∷ (Pointer 5 2 0, Pointer 4 2 10) ∷ (Slot 5 0, Slot 5 0) ∷ [])
+    ≡ true ∷ false ∷ true ∷ false ∷ true ∷ true ∷ false ∷ false ∷ []
+claims_in_order = refl
+
+-- ---- the other order of bytes
+
+inode_in_the_other_order :
+    inode_in Big (129 ∷ 164 ∷ gap 6 ++ gap 7 ++ 5 ∷ gap 24 ++ four Big 34 ++ gap 84) ≡ Some small_file
+unfolding inode_in number_at
+inode_in_the_other_order = refl
+
+-- the same bytes read in the wrong order are another inode
+inode_in_the_wrong_order : option_map (λ inode. inode.mode) (inode_in Little (129 ∷ 164 ∷ gap 126)) ≡ Some 0xa481
+unfolding inode_in number_at
+inode_in_the_wrong_order = refl
+
+entries_in_the_other_order :
+    chunk_in Big (gap 3 ++ 2 ∷ 0 ∷ 12 ∷ 4 ∷ 1 ∷ 46 ∷ gap 3 ++ gap 3 ++ 2 ∷ 1 ∷ 244 ∷ 4 ∷ 2 ∷ 46 ∷ 46 ∷ gap 490)
+    ≡ Ok (record { inode = 2; kind = 4; name = 46 ∷ [] } ∷ record { inode = 2; kind = 4; name = 46 ∷ 46 ∷ [] } ∷ [])
+unfolding chunk_in fault_in entries_in fault_at entry_in reclen_holds is_name number_at
+entries_in_the_other_order = refl
+
+-- a chunk of the one order is refused in the other: its first entry would have 3072 bytes
+entries_in_the_wrong_order : chunk_in Big root_chunk ≡ Err Reclen
+unfolding chunk_in fault_in entries_in fault_at entry_in reclen_holds is_name number_at
+entries_in_the_wrong_order = refl
+
+pointers_in_the_other_order :
+    map (pointer_fragments (record small { endian = Big }) (gap 3 ++ 88 ∷ gap 3 ++ 28 ∷ gap 1016)) (0 ∷ 1 ∷ 2 ∷ []) ≡ (88 ∷ 89 ∷ 90 ∷ 91 ∷ []) ∷ [] ∷ [] ∷ []
+unfolding pointer_fragments number_at address is_data_run role role_in cgstart cgbase
+pointers_in_the_other_order = refl

@@ -31,14 +31,14 @@ maps_hold g group =
     && (nat_le (group.iusedoff + div_ceil g.ipg 8) g.cgsize && nat_le (group.freeoff + div_ceil group.count 8) g.cgsize)
 
 -- whether a group block passes a test
-abbrev pub group_passes : Endian → Geometry → List ℕ → Group → BadGroup → Bool
-group_passes endian g bytes group Magic = group_magic_holds endian group.c bytes
-group_passes endian g bytes group Map = maps_hold g group
+abbrev pub group_passes : Geometry → List ℕ → Group → BadGroup → Bool
+group_passes g bytes group Magic = group_magic_holds g.endian group.c bytes
+group_passes g bytes group Map = maps_hold g group
 
 -- where the maps of group c stand, or the first test that fails
-unfoldable pub group_in : Endian → Geometry → ℕ → List ℕ → Result Group BadGroup
-group_in endian g c bytes =
-    unless_bad (find (λ kind. not (group_passes endian g bytes (group_fields endian c bytes) kind)) (Magic ∷ Map ∷ [])) (group_fields endian c bytes)
+unfoldable pub group_in : Geometry → ℕ → List ℕ → Result Group BadGroup
+group_in g c bytes =
+    unless_bad (find (λ kind. not (group_passes g bytes (group_fields g.endian c bytes) kind)) (Magic ∷ Map ∷ [])) (group_fields g.endian c bytes)
 
 -- bit i of the map that begins at a byte (`isset` in `param.h`)
 unfoldable pub is_set : List ℕ → ℕ → ℕ → Bool
@@ -62,11 +62,11 @@ by_maps (Err bad) test = false
 by_maps (Ok group) test = test group
 
 -- a fragment of the volume is marked free
-unfoldable pub is_marked_free : Endian → Geometry → ℕ → Reading Bool
-is_marked_free endian g f =
-    group_bytes g (f / g.fpg) >>= λ bytes. known (by_maps (group_in endian g (f / g.fpg) bytes) (λ group. is_free bytes group (f % g.fpg)))
+unfoldable pub is_marked_free : Geometry → ℕ → Reading Bool
+is_marked_free g f =
+    group_bytes g (f / g.fpg) >>= λ bytes. known (by_maps (group_in g (f / g.fpg) bytes) (λ group. is_free bytes group (f % g.fpg)))
 
--- an inode of the volume is marked used
-unfoldable pub is_marked_used : Endian → Geometry → ℕ → Reading Bool
-is_marked_used endian g i =
-    group_bytes g (i / g.ipg) >>= λ bytes. known (by_maps (group_in endian g (i / g.ipg) bytes) (λ group. is_used bytes group (i % g.ipg)))
+-- an inode of the volume is marked unused
+unfoldable pub is_marked_unused : Geometry → ℕ → Reading Bool
+is_marked_unused g i =
+    group_bytes g (i / g.ipg) >>= λ bytes. known (by_maps (group_in g (i / g.ipg) bytes) (λ group. not (is_used bytes group (i % g.ipg))))

@@ -1,5 +1,5 @@
 -- Inodes (`struct dinode` in `dinode.h`): their fields, kinds and places, and what their slots span.
-use Rattle.std.specs.Prelude.{ℕ, zero, suc, ◌+◌, ◌-◌, ◌*◌, ◌/◌, ◌%◌, ◌==◌, nat_lt, nat_le, Bool, true, false, List, [], ◌∷◌, Option, Some, None, if◌then◌else◌, bit_and, take, drop, slice_index}
+use Rattle.std.specs.Prelude.{ℕ, zero, suc, ◌+◌, ◌-◌, ◌*◌, ◌/◌, ◌%◌, ◌==◌, nat_lt, nat_le, ◌&&◌, Bool, true, false, List, [], ◌∷◌, Option, Some, None, if◌then◌else◌, bit_and, take, drop, slice_index}
 use Rattle.std.specs.Int.{div_ceil}
 use Rattle.ufs_model.specs.Numbers.{number_at}
 use Rattle.ufs_model.specs.Blocks.{Reading, known, consult, ◌>>=◌}
@@ -78,13 +78,17 @@ inode_block g i = inode_area g i + inode_offset g i / g.fsize
 unfoldable pub inode_byte : Geometry → ℕ → ℕ
 inode_byte g i = inode_offset g i % g.fsize
 
+-- inodes are read from 2 on, which is the root's (`ROOTINO`), to the last
+abbrev pub is_inode_number : Geometry → ℕ → Bool
+is_inode_number g i = nat_le 2 i && nat_lt i (g.ncg * g.ipg)
+
 -- the bytes of inode i in its block
 abbrev pub inode_bytes : Geometry → ℕ → List ℕ → List ℕ
 inode_bytes g i block = take 128 (drop (inode_byte g i) block)
 
 -- inode i of a volume
-unfoldable pub inode_of : Endian → Geometry → ℕ → Reading (Option Inode)
-inode_of endian g i = consult g.fsize (inode_block g i) >>= λ block. known (inode_in endian (inode_bytes g i block))
+unfoldable pub inode_of : Geometry → ℕ → Reading (Option Inode)
+inode_of g i = consult g.fsize (inode_block g i) >>= λ block. known (inode_in g.endian (inode_bytes g i block))
 
 -- the pointer in a slot: 0 to 11 are the direct ones, 12 to 14 the indirect ones
 abbrev pub slot_of : Inode → ℕ → ℕ

@@ -12,5 +12,7 @@ pub mod Pointers
 pub mod Paths
 pub mod Listings
 pub mod Claims
+pub mod Owners
 pub mod Malformations
+pub mod Trees
 pub mod Metadata

@@ -9,7 +9,6 @@ use Rattle.ufs_model.specs.Readings.{and_then}
 use Rattle.ufs_model.specs.declared.geometries.Geometry.{Geometry}
 use Rattle.ufs_model.specs.declared.inodes.Inode.{Inode}
 use Rattle.ufs_model.specs.declared.inodes.Kind.{Kind}
-use Rattle.ufs_model.specs.declared.numbers.Endian.{Endian}
 use Rattle.ufs_model.specs.declared.reads.PathRefusal.{PathRefusal}
 
 -- What a listing says of an entry: how deep it is below the directory that is listed, whose own entries have depth 1; the inode
@@ -26,24 +25,24 @@ abbrev pub listed_as : ℕ → DirEntry → Inode → Listed
 listed_as depth entry inode = record { depth = depth; inode = entry.inode; kind = kind_of inode.mode; size = inode.size; name = entry.name }
 
 -- an entry, whose inode is consulted
-unfoldable pub listed_entry : Endian → Geometry → ℕ → DirEntry → Reading (Result Listed PathRefusal)
-listed_entry endian g depth entry = and_then (named_inode endian g entry.inode) (λ inode. known (Ok (listed_as depth entry inode)))
+unfoldable pub listed_entry : Geometry → ℕ → DirEntry → Reading (Result Listed PathRefusal)
+listed_entry g depth entry = and_then (named_inode g entry.inode) (λ inode. known (Ok (listed_as depth entry inode)))
 
 -- entries in their order; the first whose inode is refused ends them
-unfoldable pub listed_entries : Endian → Geometry → ℕ → List DirEntry → Reading (Result (List Listed) PathRefusal)
-listed_entries endian g depth [] = known (Ok [])
-listed_entries endian g depth (entry ∷ entries) =
-    and_then (listed_entry endian g depth entry) (λ first.
-    and_then (listed_entries endian g depth entries) (λ others.
+unfoldable pub listed_entries : Geometry → ℕ → List DirEntry → Reading (Result (List Listed) PathRefusal)
+listed_entries g depth [] = known (Ok [])
+listed_entries g depth (entry ∷ entries) =
+    and_then (listed_entry g depth entry) (λ first.
+    and_then (listed_entries g depth entries) (λ others.
     known (Ok (first ∷ others))))
 
 -- The used entries of a directory. All of them are consulted, chunk after chunk, before the first inode that one of them names.
-unfoldable pub listing_of : Endian → Geometry → Inode → Reading (Result (List Listed) PathRefusal)
-listing_of endian g inode = and_then (entries_of endian g inode) (λ entries. listed_entries endian g 1 entries)
+unfoldable pub listing_of : Geometry → Inode → Reading (Result (List Listed) PathRefusal)
+listing_of g inode = and_then (entries_of g inode) (λ entries. listed_entries g 1 entries)
 
 -- the listing of the directory at a path
-unfoldable pub ls_of : Endian → ℕ → ℕ → List ℕ → Reading (Result (List Listed) PathRefusal)
-ls_of endian l n path =
-    and_then (volume_geometry endian l n) (λ g.
-    and_then (look_from endian g (names_of path) 2) (λ found.
-    listing_of endian g found.1))
+unfoldable pub ls_of : ℕ → ℕ → List ℕ → Reading (Result (List Listed) PathRefusal)
+ls_of l n path =
+    and_then (volume_geometry l n) (λ g.
+    and_then (look_from g (names_of path) 2) (λ found.
+    listing_of g found.1))

@@ -1,14 +1,14 @@
 -- What is wrong with a volume: for each kind, of which numbers it is there. The structures are those of `fs.h`, `dinode.h` and
 -- `dir.h`; the kinds and their order are this project's own.
-use Rattle.std.specs.Prelude.{◌≡◌, ◌≢◌, ◌⊎◌, ◌+◌, ◌*◌, ◌/◌, ◌%◌, ◌^◌, ◌-◌, ◌<◌, ◌≤◌, ◌==◌, ℕ, true, false, List, [], ◌∷◌, Option, Some, None, Result, Ok, Err, MatchOption, Contains, if◌then◌else◌, slice_get}
+use Rattle.std.specs.Prelude.{◌≡◌, ◌≢◌, ◌⊎◌, ◌+◌, ◌*◌, ◌/◌, ◌%◌, ◌^◌, ◌-◌, ◌<◌, ◌≤◌, ◌==◌, ℕ, true, List, [], ◌∷◌, Option, Some, None, Result, Ok, Err, MatchOption, Contains, if◌then◌else◌, slice_get}
 use Rattle.ufs_model.specs.Blocks.{Volume, block_at}
 use Rattle.ufs_model.specs.Chunks.{DirEntry, fault_in}
-use Rattle.ufs_model.specs.Claims.{IsClaim, level_of, targets}
-use Rattle.ufs_model.specs.GroupMaps.{group_bytes, group_in, is_marked_free, is_marked_used}
-use Rattle.ufs_model.specs.Inodes.{block_count, entry_type_of, has_pointers, inode_of, kind_of, slot_of}
+use Rattle.ufs_model.specs.Claims.{IsClaim, level_of, source_fragments}
+use Rattle.ufs_model.specs.Owners.{IsOwner}
+use Rattle.ufs_model.specs.GroupMaps.{group_bytes, group_in, is_marked_free, is_marked_unused}
+use Rattle.ufs_model.specs.Inodes.{block_count, entry_type_of, has_pointers, inode_of, is_inode_number, kind_of, slot_of}
 use Rattle.ufs_model.specs.Paths.{chunks_of, entries_of}
 use Rattle.ufs_model.specs.Pointers.{address, file_block_of, pointer_in, slot_address}
-use Rattle.ufs_model.specs.Roles.{is_within}
 use Rattle.ufs_model.specs.Superblocks.{geometry_of}
 use Rattle.ufs_model.specs.declared.claims.ClaimSource.{ClaimSource}
 use Rattle.ufs_model.specs.declared.claims.ClaimSource.TheVariants.{Slot, Pointer}
@@ -20,7 +20,6 @@ use Rattle.ufs_model.specs.declared.inodes.Inode.{Inode}
 use Rattle.ufs_model.specs.declared.inodes.Kind.TheVariants.{Directory, Unknown}
 use Rattle.ufs_model.specs.declared.malformations.BadKind.{BadKind}
 use Rattle.ufs_model.specs.declared.malformations.BadKind.TheVariants.{Super, GroupMagic, GroupMap, WrongType, Filesize, Past, Wild as WildSlot, WildIn, Align, AlignIn, Run, Twice, PastIn, Free, Unused, Hole as HoleIn, Chunk, Entry, EntryType, Dots, Names, DirTwice, RootNamed}
-use Rattle.ufs_model.specs.declared.numbers.Endian.{Endian}
 use Rattle.ufs_model.specs.declared.pointers.Address.TheVariants.{Hole, Wild, At}
 
 -- the first file block that is reached through a slot
@@ -38,12 +37,12 @@ abbrev pub dot_dot : List ℕ
 dot_dot = 46 ∷ 46 ∷ []
 
 -- A volume v with a geometry g.
-module _ (endian : Endian) (g : Geometry) (v : Volume) where
+module _ (g : Geometry) (v : Volume) where
   -- ---- inodes
 
   -- inode i, if it is one from 2 to the last, and allocated
   abbrev pub inode_at : ℕ → Option Inode
-  inode_at i = if is_within 2 (g.ncg * g.ipg) i then (inode_of endian g i v).value else None
+  inode_at i = if is_inode_number g i then (inode_of g i v).value else None
 
   -- such an inode of which something holds
   abbrev pub IsInode : ℕ → (Inode → Type 0) → Type 0
@@ -90,7 +89,7 @@ module _ (endian : Endian) (g : Geometry) (v : Volume) where
   -- ---- fragments
 
   abbrev pub Claims : ℕ → ClaimSource → Type 0
-  Claims = IsClaim (targets endian g v)
+  Claims = IsClaim (source_fragments g v)
 
   -- a fragment of an indirect block: it is claimed at a level above 0
   pub record IsUpper (f level : ℕ) : Type 0 where
@@ -101,7 +100,7 @@ module _ (endian : Endian) (g : Geometry) (v : Volume) where
 
   -- pointer number at in a fragment
   abbrev pub pointer_at : ℕ → ℕ → ℕ
-  pointer_at f at = pointer_in endian (block_at g.fsize v f) at
+  pointer_at f at = pointer_in g.endian (block_at g.fsize v f) at
 
   pub record HasWildIn (f : ℕ) : Type 0 where
     pub level : ℕ
@@ -130,17 +129,18 @@ module _ (endian : Endian) (g : Geometry) (v : Volume) where
   -- pointers before it in its indirect block, each of which reaches as many blocks, and by what the block itself is reached through.
   pub data FirstBlock : ClaimSource → ℕ → ℕ → Type 0 where
     of_slot : {i slot : ℕ} → FirstBlock (Slot i slot) i (first_block g slot)
-    of_pointer : {f level at i n : ℕ} {source : ClaimSource} (place : ℕ) → FirstBlock source i n → slice_get (targets endian g v source) place ≡ Some f
+    of_pointer : {f level at i n : ℕ} {source : ClaimSource} (place : ℕ) → FirstBlock source i n → slice_get (source_fragments g v source) place ≡ Some f
         → level_of source ≡ level → 0 < level
         → FirstBlock (Pointer f level at) i (n + (place * (g.fsize / 4) + at) * g.nindir ^ (level - 1))
 
-  -- a pointer that isn't 0, though no block of the file is reached through it
+  -- a pointer that isn't 0, in a fragment with an owner, though no block of the owner's file is reached through it
   pub record HasPastIn (f : ℕ) : Type 0 where
     pub level : ℕ
     pub at : ℕ
     pub i : ℕ
     pub inode : Inode
     pub block : ℕ
+    pub owned : IsOwner Claims f i level
     pub is : at < g.fsize / 4
     pub some : pointer_at f at ≢ 0
     pub reaches : FirstBlock (Pointer f level at) i block
@@ -150,7 +150,7 @@ module _ (endian : Endian) (g : Geometry) (v : Volume) where
   pub record IsFree (f : ℕ) : Type 0 where
     pub source : ClaimSource
     pub claim : Claims f source
-    pub free : (is_marked_free endian g f v).value ≡ true
+    pub free : (is_marked_free g f v).value ≡ true
 
   -- ---- directories
 
@@ -158,28 +158,32 @@ module _ (endian : Endian) (g : Geometry) (v : Volume) where
   pub record HasHole (inode : Inode) : Type 0 where
     pub n : ℕ
     pub is : n < block_count g inode
-    pub hole : (file_block_of endian g inode n v).value ≡ Hole
+    pub hole : (file_block_of g inode n v).value ≡ Hole
 
-  -- a chunk that is refused
+  -- a chunk that is refused, in a file block that is neither a hole nor wild
   pub record HasBadChunk (inode : Inode) : Type 0 where
     pub n : ℕ
     pub chunks : List (List ℕ)
     pub chunk : List ℕ
     pub bad : BadEntry
     pub is : n < block_count g inode
-    pub are : (chunks_of endian g inode n v).value ≡ Ok chunks
+    pub are : (chunks_of g inode n v).value ≡ Ok chunks
     pub contains : Contains chunks chunk
-    pub refused : fault_in endian 0 chunk ≡ Some bad
+    pub refused : fault_in g.endian 0 chunk ≡ Some bad
 
   -- directory i has these used entries, none of its chunks is refused
   abbrev pub HasEntries : ℕ → List DirEntry → Type 0
-  HasEntries i entries = IsDirectory i (λ inode. (entries_of endian g inode v).value ≡ Ok entries)
+  HasEntries i entries = IsDirectory i (λ inode. (entries_of g inode v).value ≡ Ok entries)
 
   -- used entry number k of directory i
   pub record EntryAt (i k : ℕ) (entry : DirEntry) : Type 0 where
     pub entries : List DirEntry
     pub are : HasEntries i entries
     pub here : slice_get entries k ≡ Some entry
+
+  -- an entry that names an allocated inode from 2 to the last: no other is judged further
+  abbrev pub IsNamed : DirEntry → Type 0
+  IsNamed entry = IsInode entry.inode (λ _. Unit {0})
 
   -- an entry that isn't `.` or `..`
   pub record IsPlain (entry : DirEntry) : Type 0 where
@@ -220,16 +224,14 @@ module _ (endian : Endian) (g : Geometry) (v : Volume) where
     pub root : i ≡ 2 → p ≡ 2
     pub parent : i ≢ 2 → (d : ℕ) → IsParent i d → p ≡ d
 
-  -- the first two entries of directory i are `.` for itself and `..`
+  -- the first two entries of directory i are `.` for itself and `..`, as far as they are judged
   pub record HasDots (i : ℕ) : Type 0 where
     pub own : DirEntry
     pub up : DirEntry
     pub first : EntryAt i 0 own
     pub second : EntryAt i 1 up
-    pub own_name : own.name ≡ dot
-    pub own_inode : own.inode ≡ i
-    pub up_name : up.name ≡ dot_dot
-    pub up_inode : IsUp i up.inode
+    pub is_own : IsNamed own → (own.name ≡ dot) × (own.inode ≡ i)
+    pub is_up : IsNamed up → (up.name ≡ dot_dot) × IsUp i up.inode
 
   -- two entries of one name
   pub record HasSameNames (i : ℕ) : Type 0 where
@@ -240,6 +242,8 @@ module _ (endian : Endian) (g : Geometry) (v : Volume) where
     pub differ : j ≢ k
     pub first : EntryAt i j one
     pub second : EntryAt i k other
+    pub one_named : IsNamed one
+    pub other_named : IsNamed other
     pub same : one.name ≡ other.name
 
   -- two plain entries for directory d
@@ -255,11 +259,12 @@ module _ (endian : Endian) (g : Geometry) (v : Volume) where
 
   -- ---- all kinds
 
-  -- of which numbers a kind is there: groups, inodes, fragments, inodes of directories
+  -- Of which numbers a kind is there: groups, inodes, fragments, inodes of directories. A refused group has its first refusal alone, and
+  -- its inodes aren't judged as unused. Of a directory that is too large neither holes nor chunks are judged.
   abbrev pub IsBad : BadKind → ℕ → Type 0
   IsBad (Super kind) n = ⊥
-  IsBad GroupMagic c = (c < g.ncg) × (group_in endian g c (group_bytes g c v).value ≡ Err BadMagic)
-  IsBad GroupMap c = (c < g.ncg) × (group_in endian g c (group_bytes g c v).value ≡ Err BadMap)
+  IsBad GroupMagic c = (c < g.ncg) × (group_in g c (group_bytes g c v).value ≡ Err BadMagic)
+  IsBad GroupMap c = (c < g.ncg) × (group_in g c (group_bytes g c v).value ≡ Err BadMap)
   IsBad WrongType i = IsInode i (λ inode. kind_of inode.mode ≡ Unknown)
   IsBad Filesize i = IsPointed i (λ inode. 2 ^ 32 ≤ inode.size)
   IsBad Past i = IsPointed i HasPast
@@ -271,24 +276,24 @@ module _ (endian : Endian) (g : Geometry) (v : Volume) where
   IsBad Twice f = HasTwoClaims f
   IsBad PastIn f = HasPastIn f
   IsBad Free f = IsFree f
-  IsBad Unused i = IsInode i (λ _. (is_marked_used endian g i v).value ≡ false)
-  IsBad HoleIn i = IsDirectory i HasHole
-  IsBad Chunk i = IsDirectory i (λ inode. (inode.size % 512 ≢ 0) ⊎ HasBadChunk inode)
+  IsBad Unused i = IsInode i (λ _. (is_marked_unused g i v).value ≡ true)
+  IsBad HoleIn i = IsDirectory i (λ inode. (inode.size < 2 ^ 32) × HasHole inode)
+  IsBad Chunk i = IsDirectory i (λ inode. (inode.size < 2 ^ 32) × ((inode.size % 512 ≢ 0) ⊎ HasBadChunk inode))
   IsBad Entry i = HasBadEntry i
   IsBad EntryType i = HasBadType i
   IsBad Dots i = ((entries : List DirEntry) × HasEntries i entries) × (HasDots i → ⊥)
   IsBad Names i = HasSameNames i
   IsBad DirTwice d = IsNamedTwice d
-  IsBad RootNamed i = (k : ℕ) × PlainAt i k 2
+  IsBad RootNamed i = IsInode 2 (λ _. Unit {0}) × ((k : ℕ) × PlainAt i k 2)
 
 -- a kind is there of a number, on a volume whose superblock gives this
-abbrev pub IsBadBy : Endian → Volume → Result Geometry BadSuper → BadKind → ℕ → Type 0
-IsBadBy endian v (Err bad) kind n = (kind ≡ Super bad) × (n ≡ 0)
-IsBadBy endian v (Ok g) kind n = IsBad endian g v kind n
+abbrev pub IsBadBy : Volume → Result Geometry BadSuper → BadKind → ℕ → Type 0
+IsBadBy v (Err bad) kind n = (kind ≡ Super bad) × (n ≡ 0)
+IsBadBy v (Ok g) kind n = IsBad g v kind n
 
 -- on a volume of n blocks of l bytes
-unfoldable pub IsMalformed : Endian → ℕ → ℕ → Volume → BadKind → ℕ → Type 0
-IsMalformed endian l n v kind number = IsBadBy endian v ((geometry_of endian l n v).value) kind number
+unfoldable pub IsMalformed : ℕ → ℕ → Volume → BadKind → ℕ → Type 0
+IsMalformed l n v kind number = IsBadBy v ((geometry_of l n v).value) kind number
 
 -- the order of the kinds
 abbrev pub order_of : BadKind → ℕ
@@ -317,11 +322,11 @@ order_of DirTwice = 21
 order_of RootNamed = 22
 
 -- The first malformation: the first kind that is there, with the least number of which it is.
-pub record IsFirstMalformation (endian : Endian) (l n : ℕ) (v : Volume) (kind : BadKind) (number : ℕ) : Type 0 where
-  pub here : IsMalformed endian l n v kind number
-  pub least : (m : ℕ) → m < number → IsMalformed endian l n v kind m → ⊥
-  pub first : (other : BadKind) (m : ℕ) → order_of other < order_of kind → IsMalformed endian l n v other m → ⊥
+pub record IsFirstMalformation (l n : ℕ) (v : Volume) (kind : BadKind) (number : ℕ) : Type 0 where
+  pub here : IsMalformed l n v kind number
+  pub least : (m : ℕ) → m < number → IsMalformed l n v kind m → ⊥
+  pub first : (other : BadKind) (m : ℕ) → order_of other < order_of kind → IsMalformed l n v other m → ⊥
 
 -- a sound volume has none
-abbrev pub IsSoundVolume : Endian → ℕ → ℕ → Volume → Type 0
-IsSoundVolume endian l n v = (kind : BadKind) (number : ℕ) → IsMalformed endian l n v kind number → ⊥
+abbrev pub IsSoundVolume : ℕ → ℕ → Volume → Type 0
+IsSoundVolume l n v = (kind : BadKind) (number : ℕ) → IsMalformed l n v kind number → ⊥

@@ -6,10 +6,9 @@ use Rattle.std.specs.List.{list_all}
 use Rattle.std.specs.Option.{ok_or}
 use Rattle.ufs_model.specs.Blocks.{Reading, known, area_of, ◌>>=◌}
 use Rattle.ufs_model.specs.Chunks.{DirEntry, chunk_in, find_in, is_name, used_entries}
-use Rattle.ufs_model.specs.Inodes.{block_count, inode_of, kind_of}
+use Rattle.ufs_model.specs.Inodes.{block_count, inode_of, is_inode_number, kind_of}
 use Rattle.ufs_model.specs.Pointers.{file_block_of}
 use Rattle.ufs_model.specs.Readings.{and_then}
-use Rattle.ufs_model.specs.Roles.{is_within}
 use Rattle.ufs_model.specs.Superblocks.{geometry_of}
 use Rattle.ufs_model.specs.declared.chunks.BadEntry.{BadEntry}
 use Rattle.ufs_model.specs.declared.chunks.Found.{Found}
@@ -42,8 +41,8 @@ refused_first (Some refusal) further = Some refusal
 -- ---- file blocks
 
 -- why a file of this size isn't read
-abbrev pub size_refusal : Geometry → Inode → Option PathRefusal
-size_refusal g inode = if nat_le (2 ^ 32) inode.size then Some (Bad Filesize) else None
+abbrev pub size_refusal : Inode → Option PathRefusal
+size_refusal inode = if nat_le (2 ^ 32) inode.size then Some (Bad Filesize) else None
 
 -- the bytes at an address; there are none in a hole
 unfoldable pub bytes_at : Geometry → Address → Reading (Result (Option (List ℕ)) PathRefusal)
@@ -52,8 +51,8 @@ bytes_at g AddressWild = known (Err (Bad Wild))
 bytes_at g (At a k) = area_of g.fsize a k >>= λ bytes. known (Ok (Some bytes))
 
 -- File block n: every fragment that it claims is consulted, also past the end of the file.
-unfoldable pub block_of : Endian → Geometry → Inode → ℕ → Reading (Result (Option (List ℕ)) PathRefusal)
-block_of endian g inode n = file_block_of endian g inode n >>= bytes_at g
+unfoldable pub block_of : Geometry → Inode → ℕ → Reading (Result (Option (List ℕ)) PathRefusal)
+block_of g inode n = file_block_of g inode n >>= bytes_at g
 
 -- how many bytes of the file stand in file block n
 abbrev pub bytes_in_block : Geometry → Inode → ℕ → ℕ
@@ -67,16 +66,16 @@ front_in count None = replicate count 0
 front_in count (Some bytes) = take count bytes
 
 -- the bytes of a file that stand in its file block n
-unfoldable pub part_of : Endian → Geometry → Inode → ℕ → Reading (Result (List ℕ) PathRefusal)
-part_of endian g inode n =
-    and_then (block_of endian g inode n) (λ block. known (Ok (front_in (bytes_in_block g inode n) block)))
+unfoldable pub part_of : Geometry → Inode → ℕ → Reading (Result (List ℕ) PathRefusal)
+part_of g inode n =
+    and_then (block_of g inode n) (λ block. known (Ok (front_in (bytes_in_block g inode n) block)))
 
 -- the bytes of a file that stand in its first k file blocks
-unfoldable pub front_of : Endian → Geometry → Inode → ℕ → Reading (Result (List ℕ) PathRefusal)
-front_of endian g inode zero = known (Ok [])
-front_of endian g inode (suc k) =
-    and_then (front_of endian g inode k) (λ front.
-    and_then (part_of endian g inode k) (λ part.
+unfoldable pub front_of : Geometry → Inode → ℕ → Reading (Result (List ℕ) PathRefusal)
+front_of g inode zero = known (Ok [])
+front_of g inode (suc k) =
+    and_then (front_of g inode k) (λ front.
+    and_then (part_of g inode k) (λ part.
     known (Ok (front ++ part))))
 
 abbrev pub is_regular : Kind → Bool
@@ -90,12 +89,12 @@ is_regular Socket = false
 is_regular Unknown = false
 
 -- why the contents of an inode aren't read
-unfoldable pub file_refusal : Geometry → Inode → Option PathRefusal
-file_refusal g inode = if is_regular (kind_of inode.mode) then size_refusal g inode else Some NotRegular
+unfoldable pub file_refusal : Inode → Option PathRefusal
+file_refusal inode = if is_regular (kind_of inode.mode) then size_refusal inode else Some NotRegular
 
 -- the bytes of a regular file
-unfoldable pub contents_of : Endian → Geometry → Inode → Reading (Result (List ℕ) PathRefusal)
-contents_of endian g inode = unless_refused (file_refusal g inode) (front_of endian g inode (block_count g inode))
+unfoldable pub contents_of : Geometry → Inode → Reading (Result (List ℕ) PathRefusal)
+contents_of g inode = unless_refused (file_refusal inode) (front_of g inode (block_count g inode))
 
 -- ---- directories
 
@@ -114,9 +113,9 @@ abbrev pub chunk_refusal : Inode → Option PathRefusal
 chunk_refusal inode = if inode.size % 512 == 0 then None else Some (Bad Chunk)
 
 -- why no name is looked for in an inode
-unfoldable pub directory_refusal : Geometry → Inode → Option PathRefusal
-directory_refusal g inode =
-    if is_directory (kind_of inode.mode) then refused_first (size_refusal g inode) (chunk_refusal inode) else Some NotDirectory
+unfoldable pub directory_refusal : Inode → Option PathRefusal
+directory_refusal inode =
+    if is_directory (kind_of inode.mode) then refused_first (size_refusal inode) (chunk_refusal inode) else Some NotDirectory
 
 -- so many chunks from the front of a file block
 abbrev pub chunks_in : ℕ → List ℕ → List (List ℕ)
@@ -124,9 +123,9 @@ chunks_in zero bytes = []
 chunks_in (suc count) bytes = take 512 bytes ∷ chunks_in count (drop 512 bytes)
 
 -- the chunks in file block n of a directory, which has no hole
-unfoldable pub chunks_of : Endian → Geometry → Inode → ℕ → Reading (Result (List (List ℕ)) PathRefusal)
-chunks_of endian g inode n =
-    and_then (block_of endian g inode n) (λ block.
+unfoldable pub chunks_of : Geometry → Inode → ℕ → Reading (Result (List (List ℕ)) PathRefusal)
+chunks_of g inode n =
+    and_then (block_of g inode n) (λ block.
     and_then (known (ok_or block (Bad Hole))) (λ bytes.
     known (Ok (chunks_in (bytes_in_block g inode n / 512) bytes))))
 
@@ -142,17 +141,17 @@ entries_through endian [] = Ok []
 entries_through endian (chunk ∷ chunks) = entries_then (chunk_in endian chunk) (entries_through endian chunks)
 
 -- the used entries in the first k file blocks of a directory
-unfoldable pub entries_before : Endian → Geometry → Inode → ℕ → Reading (Result (List DirEntry) PathRefusal)
-entries_before endian g inode zero = known (Ok [])
-entries_before endian g inode (suc k) =
-    and_then (entries_before endian g inode k) (λ front.
-    and_then (chunks_of endian g inode k) (λ chunks.
-    and_then (known (entries_through endian chunks)) (λ entries.
+unfoldable pub entries_before : Geometry → Inode → ℕ → Reading (Result (List DirEntry) PathRefusal)
+entries_before g inode zero = known (Ok [])
+entries_before g inode (suc k) =
+    and_then (entries_before g inode k) (λ front.
+    and_then (chunks_of g inode k) (λ chunks.
+    and_then (known (entries_through g.endian chunks)) (λ entries.
     known (Ok (front ++ entries)))))
 
 -- the used entries of a directory, chunk after chunk
-unfoldable pub entries_of : Endian → Geometry → Inode → Reading (Result (List DirEntry) PathRefusal)
-entries_of endian g inode = unless_refused (directory_refusal g inode) (entries_before endian g inode (block_count g inode))
+unfoldable pub entries_of : Geometry → Inode → Reading (Result (List DirEntry) PathRefusal)
+entries_of g inode = unless_refused (directory_refusal inode) (entries_before g inode (block_count g inode))
 
 -- this, or, where the name is absent, what is found further on
 abbrev pub found_or : Found → Found → Found
@@ -172,9 +171,9 @@ or_bad_chunk (FoundBad bad) = Err (Bad Chunk)
 or_bad_chunk Absent = Ok None
 
 -- the inode under a name in file block n of a directory, if it has the name
-unfoldable pub find_in_block : Endian → Geometry → Inode → List ℕ → ℕ → Reading (Result (Option ℕ) PathRefusal)
-find_in_block endian g inode name n =
-    and_then (chunks_of endian g inode n) (λ chunks. known (or_bad_chunk (find_through endian name chunks)))
+unfoldable pub find_in_block : Geometry → Inode → List ℕ → ℕ → Reading (Result (Option ℕ) PathRefusal)
+find_in_block g inode name n =
+    and_then (chunks_of g inode n) (λ chunks. known (or_bad_chunk (find_through g.endian name chunks)))
 
 -- the inode that was found, or what is read where there is none
 abbrev pub found_else : Option ℕ → Reading (Result ℕ PathRefusal) → Reading (Result ℕ PathRefusal)
@@ -182,15 +181,15 @@ found_else (Some i) further = known (Ok i)
 found_else None further = further
 
 -- the inode under a name in count file blocks of a directory from block n on; the first that has it ends the search
-unfoldable pub find_from : Endian → Geometry → Inode → List ℕ → ℕ → ℕ → Reading (Result ℕ PathRefusal)
-find_from endian g inode name n zero = known (Err NotFound)
-find_from endian g inode name n (suc count) =
-    and_then (find_in_block endian g inode name n) (λ found.
-    found_else found (find_from endian g inode name (suc n) count))
+unfoldable pub find_from : Geometry → Inode → List ℕ → ℕ → ℕ → Reading (Result ℕ PathRefusal)
+find_from g inode name n zero = known (Err NotFound)
+find_from g inode name n (suc count) =
+    and_then (find_in_block g inode name n) (λ found.
+    found_else found (find_from g inode name (suc n) count))
 
 -- the inode under a name in a directory
-unfoldable pub find_of : Endian → Geometry → Inode → List ℕ → Reading (Result ℕ PathRefusal)
-find_of endian g inode name = unless_refused (directory_refusal g inode) (find_from endian g inode name 0 (block_count g inode))
+unfoldable pub find_of : Geometry → Inode → List ℕ → Reading (Result ℕ PathRefusal)
+find_of g inode name = unless_refused (directory_refusal inode) (find_from g inode name 0 (block_count g inode))
 
 -- ---- paths
 
@@ -209,20 +208,20 @@ abbrev pub names_of : List ℕ → List (List ℕ)
 names_of path = filter (λ part. nat_lt 0 (length part)) (parts_of path)
 
 -- an inode that has to be allocated
-abbrev pub allocated : Endian → Geometry → ℕ → Reading (Result Inode PathRefusal)
-allocated endian g i = inode_of endian g i >>= λ found. known (ok_or found (Bad Entry))
+abbrev pub allocated : Geometry → ℕ → Reading (Result Inode PathRefusal)
+allocated g i = inode_of g i >>= λ found. known (ok_or found (Bad Entry))
 
 -- an inode that a path leads to; the root is the first that there may be
-unfoldable pub named_inode : Endian → Geometry → ℕ → Reading (Result Inode PathRefusal)
-named_inode endian g i = if is_within 2 (g.ncg * g.ipg) i then allocated endian g i else known (Err (Bad Entry))
+unfoldable pub named_inode : Geometry → ℕ → Reading (Result Inode PathRefusal)
+named_inode g i = if is_inode_number g i then allocated g i else known (Err (Bad Entry))
 
 -- where names lead, one after the other, from inode i
-unfoldable pub look_from : Endian → Geometry → List (List ℕ) → ℕ → Reading (Result (ℕ × Inode) PathRefusal)
-look_from endian g [] i = and_then (named_inode endian g i) (λ inode. known (Ok (i, inode)))
-look_from endian g (name ∷ names) i =
-    and_then (named_inode endian g i) (λ inode.
-    and_then (find_of endian g inode name) (λ next.
-    look_from endian g names next))
+unfoldable pub look_from : Geometry → List (List ℕ) → ℕ → Reading (Result (ℕ × Inode) PathRefusal)
+look_from g [] i = and_then (named_inode g i) (λ inode. known (Ok (i, inode)))
+look_from g (name ∷ names) i =
+    and_then (named_inode g i) (λ inode.
+    and_then (find_of g inode name) (λ next.
+    look_from g names next))
 
 -- a superblock that is refused makes its volume bad
 abbrev pub or_bad_super : Result Geometry BadSuper → Result Geometry PathRefusal
@@ -230,21 +229,21 @@ or_bad_super (Ok g) = Ok g
 or_bad_super (Err kind) = Err (Bad (Super kind))
 
 -- the geometry of a volume on n blocks of l bytes
-unfoldable pub volume_geometry : Endian → ℕ → ℕ → Reading (Result Geometry PathRefusal)
-volume_geometry endian l n = geometry_of endian l n >>= λ found. known (or_bad_super found)
+unfoldable pub volume_geometry : ℕ → ℕ → Reading (Result Geometry PathRefusal)
+volume_geometry l n = geometry_of l n >>= λ found. known (or_bad_super found)
 
 -- the inode at a path, with its number
-unfoldable pub look_of : Endian → ℕ → ℕ → List ℕ → Reading (Result (ℕ × Inode) PathRefusal)
-look_of endian l n path =
-    and_then (volume_geometry endian l n) (λ g.
-    look_from endian g (names_of path) 2)
+unfoldable pub look_of : ℕ → ℕ → List ℕ → Reading (Result (ℕ × Inode) PathRefusal)
+look_of l n path =
+    and_then (volume_geometry l n) (λ g.
+    look_from g (names_of path) 2)
 
 -- the bytes of the file at a path
-unfoldable pub cat_of : Endian → ℕ → ℕ → List ℕ → Reading (Result (List ℕ) PathRefusal)
-cat_of endian l n path =
-    and_then (volume_geometry endian l n) (λ g.
-    and_then (look_from endian g (names_of path) 2) (λ found.
-    contents_of endian g found.1))
+unfoldable pub cat_of : ℕ → ℕ → List ℕ → Reading (Result (List ℕ) PathRefusal)
+cat_of l n path =
+    and_then (volume_geometry l n) (λ g.
+    and_then (look_from g (names_of path) 2) (λ found.
+    contents_of g found.1))
 
 -- a name of a path: 1 to 255 bytes (`MAXNAMLEN`), none of them 0 or a slash
 unfoldable pub is_path_name : List ℕ → Bool

@@ -5,9 +5,9 @@ use Rattle.ufs_model.specs.Numbers.{number_at, all_below}
 use Rattle.ufs_model.specs.Blocks.{Reading, known, area_of, ◌>>=◌}
 use Rattle.ufs_model.specs.Roles.{role, is_data_of}
 use Rattle.ufs_model.specs.Inodes.{slot_of, span}
-use Rattle.ufs_model.specs.declared.numbers.Endian.{Endian}
 use Rattle.ufs_model.specs.declared.geometries.Geometry.{Geometry}
 use Rattle.ufs_model.specs.declared.inodes.Inode.{Inode}
+use Rattle.ufs_model.specs.declared.numbers.Endian.{Endian}
 use Rattle.ufs_model.specs.declared.pointers.Chain.{Chain}
 use Rattle.ufs_model.specs.declared.pointers.Chain.TheVariants.{Direct, One, Two, Three}
 use Rattle.ufs_model.specs.declared.pointers.Address.{Address}
@@ -42,23 +42,23 @@ abbrev pub slot_address : Geometry → Inode → ℕ → Address
 slot_address g inode slot = address g (slot_of inode slot) (span g inode slot)
 
 -- what pointer i of an indirect block leads to, of which all fragments are consulted
-unfoldable pub through : Endian → Geometry → ℕ → Address → Reading Address
-through endian g i Hole = known Hole
-through endian g i Wild = known Wild
-through endian g i (At a k) = area_of g.fsize a k >>= λ bytes. known (address g (pointer_in endian bytes i) g.frag)
+unfoldable pub through : Geometry → ℕ → Address → Reading Address
+through g i Hole = known Hole
+through g i Wild = known Wild
+through g i (At a k) = area_of g.fsize a k >>= λ bytes. known (address g (pointer_in g.endian bytes i) g.frag)
 
 -- what a chain leads to; the first hole or wild pointer on it ends it
-abbrev pub chain_address : Endian → Geometry → Inode → Chain → Reading Address
-chain_address endian g inode (Direct slot) = known (slot_address g inode slot)
-chain_address endian g inode (One i) = through endian g i (slot_address g inode 12)
-chain_address endian g inode (Two i j) = do
-  one ← through endian g i (slot_address g inode 13)
-  through endian g j one
-chain_address endian g inode (Three i j k) = do
-  two ← through endian g i (slot_address g inode 14)
-  one ← through endian g j two
-  through endian g k one
+abbrev pub chain_address : Geometry → Inode → Chain → Reading Address
+chain_address g inode (Direct slot) = known (slot_address g inode slot)
+chain_address g inode (One i) = through g i (slot_address g inode 12)
+chain_address g inode (Two i j) = do
+  one ← through g i (slot_address g inode 13)
+  through g j one
+chain_address g inode (Three i j k) = do
+  two ← through g i (slot_address g inode 14)
+  one ← through g j two
+  through g k one
 
 -- the address of file block n of an inode
-unfoldable pub file_block_of : Endian → Geometry → Inode → ℕ → Reading Address
-file_block_of endian g inode n = chain_address endian g inode (locate_of g n)
+unfoldable pub file_block_of : Geometry → Inode → ℕ → Reading Address
+file_block_of g inode n = chain_address g inode (locate_of g n)

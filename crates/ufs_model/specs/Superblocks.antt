@@ -1,12 +1,12 @@
 -- The superblock (`struct fs` in `fs.h`): its fields, its tests in order, and the geometry. Which
 -- tests there are and their order is this project's rule.
-use Rattle.std.specs.Prelude.{◌≡◌, ℕ, ◌+◌, ◌-◌, ◌*◌, ◌/◌, ◌%◌, ◌^◌, ◌==◌, nat_lt, nat_le, not, ◌&&◌, Bool, List, [], ◌∷◌, Option, Some, None, Result, Ok, Err, find}
+use Rattle.std.specs.Prelude.{◌≡◌, ℕ, ◌+◌, ◌-◌, ◌*◌, ◌/◌, ◌%◌, ◌^◌, ◌==◌, nat_lt, nat_le, not, ◌&&◌, Bool, List, [], ◌∷◌, Option, Some, None, Result, Ok, Err, find, if◌then◌else◌}
 use Rattle.std.specs.Int.{div_ceil}
 use Rattle.ufs_model.specs.Numbers.{number_at, all_below}
 use Rattle.ufs_model.specs.Blocks.{Reading, known, area_within, ◌>>=◌}
 use Rattle.ufs_model.specs.Geometries.{IsGeometryOn, cgstart, end_of, is_block_size, is_fragment_count}
 use Rattle.ufs_model.specs.declared.numbers.Endian.{Endian}
-use Rattle.ufs_model.specs.declared.numbers.Endian.TheVariants.{Little}
+use Rattle.ufs_model.specs.declared.numbers.Endian.TheVariants.{Little, Big}
 use Rattle.ufs_model.specs.declared.geometries.Geometry.{Geometry}
 use Rattle.ufs_model.specs.declared.geometries.BadSuper.{BadSuper}
 use Rattle.ufs_model.specs.declared.geometries.BadSuper.TheVariants.{Magic, Format, Bsize, Fsize, Frag, Nindir, Inopb, Size, Groups, Inodes, Layout, Summary}
@@ -15,9 +15,15 @@ use Rattle.ufs_model.specs.declared.geometries.BadSuper.TheVariants.{Magic, Form
 abbrev pub field : Endian → List ℕ → ℕ → ℕ
 field endian bytes at = number_at endian 4 bytes at
 
--- the fields of a geometry, as they stand
+-- The order of the bytes of numbers, which the magic number tells (`FS_MAGIC`): the highest first where it reads so in this order,
+-- and else the lowest.
+unfoldable pub endian_of : List ℕ → Endian
+endian_of bytes = if field Big bytes 1372 == 0x00011954 then Big else Little
+
+-- the fields of a geometry, as they stand, and their order of bytes
 unfoldable pub fields : Endian → List ℕ → Geometry
 fields endian bytes = record {
+  endian = endian;
   sblkno = field endian bytes 8;
   cblkno = field endian bytes 12;
   iblkno = field endian bytes 16;
@@ -99,26 +105,28 @@ abbrev pub unless_bad : {A E : Type 0} → Option E → A → Result A E
 unless_bad None a = Ok a
 unless_bad (Some bad) a = Err bad
 
--- the geometry in the bytes of a superblock, or the first test that fails
-unfoldable pub geometry_in : Endian → List ℕ → ℕ → ℕ → Result Geometry BadSuper
-geometry_in endian bytes l n =
+-- the geometry in the bytes of a superblock that are read in an order, or the first test that fails
+unfoldable pub geometry_by : Endian → List ℕ → ℕ → ℕ → Result Geometry BadSuper
+geometry_by endian bytes l n =
     unless_bad (find (λ kind. not (passes endian bytes l n (fields endian bytes) kind)) super_tests) (fields endian bytes)
 
--- the same where the bytes of numbers stand the lowest first
-abbrev pub geometry : List ℕ → ℕ → ℕ → Result Geometry BadSuper
-geometry bytes l n = geometry_in Little bytes l n
+-- the same in the order that the magic number tells; where it is the magic number in neither order, that test fails
+unfoldable pub geometry_in : List ℕ → ℕ → ℕ → Result Geometry BadSuper
+geometry_in bytes l n = geometry_by (endian_of bytes) bytes l n
 
--- the blocks with the superblock, which stands at byte 8192 (`SBOFF`) and has 1376 bytes
+-- The blocks with the superblock, which stands at byte 8192 (`SBOFF`) and has 1376 bytes. So l divides 8192, as the size of each
+-- block of an array does.
 unfoldable pub superblock_of : ℕ → ℕ → Reading (List ℕ)
 superblock_of l n = area_within l n (8192 / l) (div_ceil 1376 l)
 
 -- the geometry of a volume of n blocks of l bytes
-unfoldable pub geometry_of : Endian → ℕ → ℕ → Reading (Result Geometry BadSuper)
-geometry_of endian l n = superblock_of l n >>= λ bytes. known (geometry_in endian bytes l n)
+unfoldable pub geometry_of : ℕ → ℕ → Reading (Result Geometry BadSuper)
+geometry_of l n = superblock_of l n >>= λ bytes. known (geometry_in bytes l n)
 
 -- The bytes are a superblock with this geometry, said without the order of the tests.
-pub record IsSuperblock (endian : Endian) (bytes : List ℕ) (l n : ℕ) (g : Geometry) : Type 0 where
-  pub magic : magic_of endian bytes ≡ 0x00011954
-  pub inodefmt : inodefmt_of endian bytes ≡ 2
-  pub stands : fields endian bytes ≡ g
+pub record IsSuperblock (bytes : List ℕ) (l n : ℕ) (g : Geometry) : Type 0 where
+  pub order : endian_of bytes ≡ g.endian
+  pub magic : magic_of g.endian bytes ≡ 0x00011954
+  pub inodefmt : inodefmt_of g.endian bytes ≡ 2
+  pub stands : fields g.endian bytes ≡ g
   pub geometry : IsGeometryOn l n g

@@ -1,3 +1,5 @@
+use crate::numbers::Endian;
+
 /// The numbers of a superblock that tell where everything else on its volume stands. They have the
 /// names of `struct fs` in `fs.h`, without the prefix `fs_`.
 #[derive(Clone, Copy, Debug, PartialEq, Eq)]
@@ -40,6 +42,8 @@ pub struct Geometry {
     pub fpg: u32,
     /// Symbolic links of fewer bytes than this stand in their inode.
     pub maxsymlinklen: u32,
+    /// The order of the bytes of every number of the volume.
+    pub endian: Endian,
 }
 
 /// The first test of a superblock that fails, in the order of the tests.

@@ -3,13 +3,12 @@ ghost use Rattle.ufs_model.specs.Geometries.{IsGeometry};
 ghost use Rattle.ufs_model.specs.Roles.{HasOwnBlocks};
 ghost use Rattle.ufs_model.specs.Superblocks.{geometry_in, IsSuperblock};
 ghost use Rattle.ufs_model.specs.declared.geometries.Geometry.{Geometry};
-ghost use Rattle.ufs_model.specs.declared.numbers.Endian.{Endian};
 
 /// The tests of a superblock, one after the other, accept just the superblocks whose geometry meets
 /// the condition of the calls that are handed one.
 pub fn accepted_superblocks()
-    ensures { (endian : Endian) (bytes : List ℕ) (l n : ℕ) (g : Geometry)
-        → (geometry_in endian bytes l n ≡ Ok g) ↔ IsSuperblock endian bytes l n g }
+    ensures { (bytes : List ℕ) (l n : ℕ) (g : Geometry)
+        → (geometry_in bytes l n ≡ Ok g) ↔ IsSuperblock bytes l n g }
 {}
 
 /// By the tests of a geometry the own blocks of each group are inside it and after the superblock,
