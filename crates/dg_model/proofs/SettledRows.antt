@@ -31,12 +31,12 @@ use Rattle.dg_model.specs.declared.events.Event.TheVariants.{Diffuse, Home as Ho
 use Rattle.dg_model.specs.declared.members.MemberState.{MemberState}
 use Rattle.dg_model.specs.declared.members.MemberState.TheVariants.{Good, Filling, Out}
 use Rattle.dg_model.specs.declared.phases.Phase.TheVariants.{Loose, Settled, Worn}
-use Rattle.dg_model.specs.declared.replies.Reply.TheVariants.{Blocks, Copied, Diffused, Done, HomeAt, Listed as ListedReply, Lost, Refused, Saved, Settled as SettledReply, Unavailable, Verdict}
+use Rattle.dg_model.specs.declared.replies.Reply.TheVariants.{Blocks, Copied, Diffused, Done, HomeAt, Nodes, Lost, Refused, Saved, Settled as SettledReply, Unavailable, Verdict}
 use Rattle.dg_model.specs.declared.verdicts.Who.TheVariants.{Dead, Pending as IsPending}
 use Rattle.dg_model.specs.declared.wants.Want.{Want}
 use Rattle.dg_model.specs.declared.wants.Want.TheVariants.{File}
 use Rattle.dg_model.proofs.PlanRows.{home, on}
-use Rattle.dg_model.proofs.StepRows.{Rest, all_good, array_with, before, both_on_1, goes, is_loose, not_filling, nothing, stays, table_with}
+use Rattle.dg_model.proofs.StepRows.{Rest, all_good, array_read, array_with, before, both_on_1, goes, is_loose, not_filling, nothing, reads, stays, table_with}
 use Rattle.dg_model.proofs.VerdictRows.{blocks, not_dead, plain}
 
 -- ---- settled: both blocks stand on boundary 0, which is the file's home
@@ -136,9 +136,9 @@ diffuses_loose Known old gained new h = is_loose h.0
 
 -- ---- homes and trees
 
-home_told : Step ⊥ (array_with on_both copied 5) (HomeEvent []) (HomeAt 0 (Some 1)) (array_with on_both copied 9)
+home_told : Step ⊥ (array_with on_both copied 5) (HomeEvent []) (HomeAt 0 (Some 1)) (array_read on_both copied 9)
 unfolding all_good
-home_told = (refl, (3, record { rule = λ told. absurd told; cause = tt }, refl, refl), stays on_both copied)
+home_told = (refl, (3, record { rule = λ told. absurd told; cause = tt; unwritten = refl }, refl, refl), reads on_both copied)
 
 not_on_1 : (b : Bool) → ◌≡◌ {A = Option ℕ} (cond b (Some 0) None) (Some 1) → ⊥
 not_on_1 true e = let at = ap (λ (o : Option ℕ). unwrap_or o 0) e in omega (arith, at)
@@ -157,7 +157,7 @@ tree_is : (tree_of 512 2 blocks).value ≡ Err (Bad (BadSuperblock Magic))
 unfolding tree_of volume_geometry geometry_of superblock_of area_within area_of bind and_then geometry_in geometry_by endian_of fields number_at
 tree_is = refl
 
-tree_refused : Step (Unit {0}) (array_with both_on_0 at_home 5) Tree (Refused (Bad (BadSuperblock Magic))) (array_with both_on_0 at_home 9)
+tree_refused : Step (Unit {0}) (array_with both_on_0 at_home 5) Tree (Refused (Bad (BadSuperblock Magic))) (array_read both_on_0 at_home 9)
 unfolding all_good
 tree_refused = (
   refl,
@@ -168,8 +168,9 @@ tree_refused = (
       only = tt;
     };
     cause = tt;
+    unwritten = refl;
   },
-  stays both_on_0 at_home,
+  reads both_on_0 at_home,
 )
 
 is_refused : {A E : Type 0} → Result A E → Bool
@@ -177,7 +178,7 @@ is_refused (Ok a) = false
 is_refused (Err e) = true
 
 -- and not listed
-tree_listed : (entries : List Listed) (new : State) → Step (Unit {0}) (array_with both_on_0 at_home 5) Tree (ListedReply entries) new → ⊥
+tree_listed : (entries : List Listed) (new : State) → Step (Unit {0}) (array_with both_on_0 at_home 5) Tree (Nodes entries) new → ⊥
 unfolding is_refused
 tree_listed entries new h = false≢true (ap (λ r. is_refused r) ((h.1.rule tt).answer ∙ tree_is))
 

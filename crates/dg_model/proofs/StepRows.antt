@@ -97,6 +97,24 @@ goes t u x y = record {
 pub stays : (t : Table) (x : Rest) → Stays (array_with t x 5) (array_with t x 9)
 stays t x = record { goes = goes t t x x; rest = refl }
 
+-- the array after calls that only read, up to so many
+abbrev pub array_read : Table → Rest → ℕ → State
+array_read table rest calls = record (array_with table rest 5) { counts = record { faults = λ q. 0; calls = calls; writes = 5 } }
+
+pub reads : (t : Table) (x : Rest) → Stays (array_with t x 5) (array_read t x 9)
+unfolding all_good
+reads t x = record {
+  goes = record {
+    passes = record {
+      counts = record { faults = λ q. omega arith; calls = omega arith; writes = omega arith };
+      label = record { opens = false; rose = λ less. absurd (omega (arith, less)); stood = λ e below. refl; is = refl };
+      paired = not_filling;
+    };
+    members = λ q. inl refl;
+  };
+  rest = refl;
+}
+
 -- both blocks stand on boundary 1, or each on its own
 abbrev pub both_on_1 : Table
 both_on_1 = table_with (on 1 0 ∷ []) (on 1 1 ∷ [])

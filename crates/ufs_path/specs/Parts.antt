@@ -6,7 +6,6 @@ use Rattle.ufs_model.specs.Blocks.{Reading}
 use Rattle.ufs_model.specs.Paths.{contents_of, look_from, names_of}
 use Rattle.ufs_model.specs.Readings.{and_then}
 use Rattle.ufs_model.specs.declared.geometries.Geometry.{Geometry}
-use Rattle.ufs_model.specs.declared.numbers.Endian.{Endian}
 use Rattle.ufs_model.specs.declared.reads.PathRefusal.{PathRefusal}
 use Rattle.ufs_path.specs.Answers.{refusal_of}
 use Rattle.ufs_path.specs.declared.faults.LookFault.{LookFault}
@@ -61,5 +60,5 @@ IsHanded took took_part faults old new count reads Unavailable = ⊥
 IsHanded took took_part faults old new count reads NotRegular = ⊥
 
 -- the bytes of the file at a path of a volume with this geometry
-unfoldable pub cat_below : Endian → List ℕ → Geometry → Reading (Result (List ℕ) PathRefusal)
-cat_below endian path g = and_then (look_from endian g (names_of path) 2) (λ found. contents_of endian g found.1)
+unfoldable pub cat_below : List ℕ → Geometry → Reading (Result (List ℕ) PathRefusal)
+cat_below path g = and_then (look_from g (names_of path) 2) (λ found. contents_of g found.1)

@@ -11,7 +11,6 @@ use Rattle.ufs_model.specs.Readings.{and_then}
 use Rattle.ufs_model.specs.declared.geometries.Geometry.{Geometry}
 use Rattle.ufs_model.specs.declared.inodes.Inode.{Inode}
 use Rattle.ufs_model.specs.declared.numbers.Endian.{Endian}
-use Rattle.ufs_model.specs.declared.numbers.Endian.TheVariants.{Little}
 use Rattle.ufs_model.specs.declared.reads.PathRefusal.{PathRefusal}
 use Rattle.ufs_path.specs.Answers.{refusal_of}
 use Rattle.ufs_path.specs.declared.faults.LookFault.{LookFault}
@@ -21,22 +20,22 @@ use Rattle.ufs_path.specs.declared.walks.Walked.TheVariants.{All, Unread, Failed
 -- ---- chunks
 
 -- no chunk is refused
-abbrev pub are_sound : List (List ℕ) → Bool
-are_sound chunks = list_all (λ chunk. is_none (fault_in Little 0 chunk)) chunks
+abbrev pub are_sound : Endian → List (List ℕ) → Bool
+are_sound endian chunks = list_all (λ chunk. is_none (fault_in endian 0 chunk)) chunks
 
 -- the used entries of chunks
-abbrev pub entries_among : List (List ℕ) → List DirEntry
-entries_among [] = []
-entries_among (chunk ∷ chunks) = used_entries (entries_in Little 0 chunk) ++ entries_among chunks
+abbrev pub entries_among : Endian → List (List ℕ) → List DirEntry
+entries_among endian [] = []
+entries_among endian (chunk ∷ chunks) = used_entries (entries_in endian 0 chunk) ++ entries_among endian chunks
 
 -- the used entries in file block n of a directory
-unfoldable pub block_entries : Endian → Geometry → Inode → ℕ → Reading (Result (List DirEntry) PathRefusal)
-block_entries endian g inode n = and_then (chunks_of endian g inode n) (λ chunks. known (entries_through endian chunks))
+unfoldable pub block_entries : Geometry → Inode → ℕ → Reading (Result (List DirEntry) PathRefusal)
+block_entries g inode n = and_then (chunks_of g inode n) (λ chunks. known (entries_through g.endian chunks))
 
 -- what a read of them says, which leaves so many chunks at the front of the buffer
-abbrev pub entries_said : Result ℕ LookFault → List ℕ → Option (Result (List DirEntry) PathRefusal)
-entries_said (Ok count) block = Some (Ok (entries_among (chunks_in count block)))
-entries_said (Err fault) block = option_map Err (refusal_of fault)
+abbrev pub entries_said : Endian → Result ℕ LookFault → List ℕ → Option (Result (List DirEntry) PathRefusal)
+entries_said endian (Ok count) block = Some (Ok (entries_among endian (chunks_in count block)))
+entries_said endian (Err fault) block = option_map Err (refusal_of fault)
 
 -- ---- entries that are handed on
 
@@ -108,9 +107,9 @@ pub record AreConsulted (before : Option (Result (List DirEntry) PathRefusal) �
   pub lines_are : reads entries (Some (Ok lines))
 
 -- the lines of the entries in the first count file blocks of a directory
-unfoldable pub lines_before : Endian → Geometry → Inode → ℕ → Reading (Result (List Listed) PathRefusal)
-lines_before endian g inode count = and_then (entries_before endian g inode count) (λ entries. listed_entries endian g 1 entries)
+unfoldable pub lines_before : Geometry → Inode → ℕ → Reading (Result (List Listed) PathRefusal)
+lines_before g inode count = and_then (entries_before g inode count) (λ entries. listed_entries g 1 entries)
 
 -- the lines of the directory at a path of a volume with this geometry
-unfoldable pub ls_below : Endian → List ℕ → Geometry → Reading (Result (List Listed) PathRefusal)
-ls_below endian path g = and_then (look_from endian g (names_of path) 2) (λ found. listing_of endian g found.1)
+unfoldable pub ls_below : List ℕ → Geometry → Reading (Result (List Listed) PathRefusal)
+ls_below path g = and_then (look_from g (names_of path) 2) (λ found. listing_of g found.1)

@@ -5,8 +5,6 @@ ghost use Rattle.dg_io.specs.Views.{KeepsView};
 ghost use Rattle.ufs_model.specs.Geometries.{IsGeometryOn};
 ghost use Rattle.ufs_model.specs.Paths.{block_of, bytes_in_block, directory_refusal, file_refusal};
 ghost use Rattle.ufs_model.specs.Readings.{ReadsAs};
-ghost use Rattle.ufs_model.specs.declared.geometries.Geometry.{Geometry};
-ghost use Rattle.ufs_model.specs.declared.numbers.Endian.TheVariants.{Little};
 ghost use Rattle.ufs_path.specs.Answers.{refusal_of};
 ghost use Rattle.ufs_path.specs.Parts.{IfData, block_said};
 
@@ -31,7 +29,7 @@ pub enum BlockContents {
 /// Why the contents of an inode aren't read, if they aren't.
 #[tactic(auto, unfolding(ufs_model::specs::Paths::file_refusal))]
 pub fn file_refusal(inode: &Inode) -> Option<PathRefusal>
-    ensures value { (g : Geometry) → result ≡ file_refusal g inode.now }
+    ensures value { result ≡ file_refusal inode.now }
     ensures small { IfNone result (inode.now.size < 2 ^ 32) }
 {
     match inode.kind() {
@@ -54,7 +52,7 @@ pub fn file_refusal(inode: &Inode) -> Option<PathRefusal>
 /// Why no entries are read of an inode, if none are.
 #[tactic(auto, unfolding(ufs_model::specs::Paths::directory_refusal))]
 pub fn directory_fault(inode: &Inode) -> Option<LookFault>
-    ensures value { (g : Geometry) → option_map refusal_of result ≡ option_map Some (directory_refusal g inode.now) }
+    ensures value { option_map refusal_of result ≡ option_map Some (directory_refusal inode.now) }
     ensures small { IfNone result (inode.now.size < 2 ^ 32) }
 {
     match inode.kind() {
@@ -93,7 +91,7 @@ pub fn read_block<V: View>(
     ensures keeps { KeepsView V.stands_for V.tells V.is_gone V.count V.size V.is_sound V.goes_on view.old view.new }
     ensures levels { levels.new.fragment ≡ levels.old.fragment }
     ensures rule { ReadsAs (V.stands_for view.old) (V.is_gone view.old) (V.tells view.new) (V.is_gone view.new)
-        (block_of Little g.now inode.now n) (block_said result levels.new.block) }
+        (block_of g.now inode.now n) (block_said result levels.new.block) }
     ensures covered { IfOk result (λ found. IfData found (bytes_in_block g.now inode.now n ≤ length levels.new.block)) }
 {
     match read_file_block(view, g, inode, n, levels) {

@@ -4,7 +4,6 @@ ghost use Rattle.dg_io.specs.Views.{KeepsView};
 ghost use Rattle.ufs_model.specs.Geometries.{IsGeometryOn};
 ghost use Rattle.ufs_model.specs.Paths.{cat_of, is_path};
 ghost use Rattle.ufs_model.specs.Readings.{ReadsAs};
-ghost use Rattle.ufs_model.specs.declared.numbers.Endian.TheVariants.{Little};
 ghost use Rattle.ufs_path.specs.Answers.{IsAnswer};
 ghost use Rattle.ufs_path.specs.Parts.{cat_below};
 
@@ -32,7 +31,7 @@ fn cat_below<V: View, O: Pieces>(
     ensures levels { levels.new.fragment ≡ levels.old.fragment }
     ensures later { O.faults out.old ≤ O.faults out.new }
     ensures rule { IsAnswer O.took O.took_part O.faults out.old out.new
-        (ReadsAs (V.stands_for view.old) (V.is_gone view.old) (V.tells view.new) (V.is_gone view.new) (cat_below Little path.now g.now)) result }
+        (ReadsAs (V.stands_for view.old) (V.is_gone view.old) (V.tells view.new) (V.is_gone view.new) (cat_below path.now g.now)) result }
 {
     match look_below(view, g, path, levels) {
         Ok((_, inode)) => hand_file(view, g, &inode, out, levels),
@@ -55,7 +54,7 @@ pub fn cat<V: View, O: Pieces>(
     ensures levels { levels.new.fragment ≡ levels.old.fragment }
     ensures later { O.faults out.old ≤ O.faults out.new }
     ensures rule { IsAnswer O.took O.took_part O.faults out.old out.new
-        (ReadsAs (V.stands_for view.old) (V.is_gone view.old) (V.tells view.new) (V.is_gone view.new) (cat_of Little (V.size view.old) (V.count view.old) path.now)) result }
+        (ReadsAs (V.stands_for view.old) (V.is_gone view.old) (V.tells view.new) (V.is_gone view.new) (cat_of (V.size view.old) (V.count view.old) path.now)) result }
 {
     match geometry(view, levels) {
         Ok(g) => cat_below(view, &g, path, out, levels),

@@ -11,19 +11,19 @@ use crate::blocks::{BlockContents, directory_fault, read_block};
 use crate::faults::LookFault;
 use dg_io::View;
 use ufs_dir::{CHUNK_BYTES, find};
-use ufs_model::{BadRead, Found, Geometry, Inode};
+use ufs_model::{BadRead, Endian, Found, Geometry, Inode};
 use ufs_pointer::{Levels, block_count, bytes_in_block};
 
 /// The inode of the first used entry with the name in the first `count` chunks of a file block, up
 /// to a chunk that is refused.
 #[tactic(auto, using(crate::proofs::ChunkLaws::no_chunk))]
-fn find_through(bytes: &[u8], count: usize, name: &[u8]) -> Found
+fn find_through(bytes: &[u8], count: usize, name: &[u8], endian: Endian) -> Found
     requires { count * 512 ≤ length bytes.now }
-    ensures { result ≡ find_through Little name.now (chunks_in count bytes.now) }
+    ensures { result ≡ find_through endian name.now (chunks_in count bytes.now) }
 {
     for i in 0..count {
         let start = i * CHUNK_BYTES;
-        match find(&bytes[start..start + CHUNK_BYTES], name) {
+        match find(&bytes[start..start + CHUNK_BYTES], name, endian) {
             Found::Absent => {}
             Found::At(inode) => return Found::At(inode),
             Found::Bad(bad) => return Found::Bad(bad),
@@ -59,12 +59,12 @@ fn find_in_block<V: View>(
     ensures keeps { KeepsView V.stands_for V.tells V.is_gone V.count V.size V.is_sound V.goes_on view.old view.new }
     ensures levels { levels.new.fragment ≡ levels.old.fragment }
     ensures rule { ReadsAs (V.stands_for view.old) (V.is_gone view.old) (V.tells view.new) (V.is_gone view.new)
-        (find_in_block Little g.now inode.now name.now n) (answered refusal_of result) }
+        (find_in_block g.now inode.now name.now n) (answered refusal_of result) }
 {
     match read_block(view, g, inode, n, levels) {
         Ok(BlockContents::Data) => {
             let chunks = bytes_in_block(g, inode, n) / CHUNK_BYTES;
-            or_bad_chunk(find_through(levels.block(), chunks, name))
+            or_bad_chunk(find_through(levels.block(), chunks, name, g.endian))
         }
         Ok(BlockContents::Hole) => Err(LookFault::Bad(BadRead::Hole)),
         Err(fault) => Err(fault),
@@ -87,7 +87,7 @@ fn find_in_blocks<V: View>(
     ensures keeps { KeepsView V.stands_for V.tells V.is_gone V.count V.size V.is_sound V.goes_on view.old view.new }
     ensures levels { levels.new.fragment ≡ levels.old.fragment }
     ensures rule { ReadsAs (V.stands_for view.old) (V.is_gone view.old) (V.tells view.new) (V.is_gone view.new)
-        (find_from Little g.now inode.now name.now 0 count) (answered refusal_of result) }
+        (find_from g.now inode.now name.now 0 count) (answered refusal_of result) }
 {
     for n in 0..count {
         match find_in_block(view, g, inode, name, n, levels) {
@@ -113,7 +113,7 @@ pub fn find_name<V: View>(
     ensures keeps { KeepsView V.stands_for V.tells V.is_gone V.count V.size V.is_sound V.goes_on view.old view.new }
     ensures levels { levels.new.fragment ≡ levels.old.fragment }
     ensures rule { ReadsAs (V.stands_for view.old) (V.is_gone view.old) (V.tells view.new) (V.is_gone view.new)
-        (find_of Little g.now inode.now name.now) (answered refusal_of result) }
+        (find_of g.now inode.now name.now) (answered refusal_of result) }
 {
     match directory_fault(inode) {
         Some(fault) => Err(fault),

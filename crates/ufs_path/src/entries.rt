@@ -14,17 +14,17 @@ use crate::blocks::{BlockContents, read_block};
 use crate::faults::LookFault;
 use dg_io::View;
 use ufs_dir::{CHUNK_BYTES, check};
-use ufs_model::{BadRead, Geometry, Inode};
+use ufs_model::{BadRead, Endian, Geometry, Inode};
 use ufs_pointer::{Levels, bytes_in_block};
 
 /// Whether none of the first `count` chunks of a file block is refused.
-fn are_sound(bytes: &[u8], count: usize) -> bool
+fn are_sound(bytes: &[u8], count: usize, endian: Endian) -> bool
     requires { count * 512 ≤ length bytes.now }
-    ensures { result ≡ are_sound (chunks_in count bytes.now) }
+    ensures { result ≡ are_sound endian (chunks_in count bytes.now) }
 {
     for i in 0..count {
         let start = i * CHUNK_BYTES;
-        if check(&bytes[start..start + CHUNK_BYTES]).is_some() {
+        if check(&bytes[start..start + CHUNK_BYTES], endian).is_some() {
             return false;
         }
     }
@@ -43,12 +43,12 @@ pub fn chunk_at(block: &[u8], i: usize) -> [u8; CHUNK_BYTES]
 }
 
 /// The number of chunks, if none of them is refused.
-fn judged(block: &[u8], count: usize) -> Result<usize, LookFault>
+fn judged(block: &[u8], count: usize, endian: Endian) -> Result<usize, LookFault>
     requires { count * 512 ≤ length block.now }
-    ensures rule { entries_said result block.now ≡ Some (entries_through Little (chunks_in count block.now)) }
+    ensures rule { entries_said endian result block.now ≡ Some (entries_through endian (chunks_in count block.now)) }
     ensures all { IfOk result (λ chunks. chunks ≡ count) }
 {
-    if !are_sound(block, count) {
+    if !are_sound(block, count, endian) {
         return Err(LookFault::Bad(BadRead::Chunk));
     }
     Ok(count)
@@ -70,7 +70,7 @@ pub fn read_entries<V: View>(
     ensures keeps { KeepsView V.stands_for V.tells V.is_gone V.count V.size V.is_sound V.goes_on view.old view.new }
     ensures levels { levels.new.fragment ≡ levels.old.fragment }
     ensures rule { ReadsAs (V.stands_for view.old) (V.is_gone view.old) (V.tells view.new) (V.is_gone view.new)
-        (block_entries Little g.now inode.now n) (entries_said result levels.new.block) }
+        (block_entries g.now inode.now n) (entries_said g.now.endian result levels.new.block) }
     ensures inside { IfOk result (λ chunks. chunks * 512 ≤ length levels.new.block) }
     ensures few { IfOk result (λ chunks. chunks * 512 ≤ bytes_in_block g.now inode.now n) }
     ensures small { IfOk result (λ chunks. chunks ≤ 128) }
@@ -79,6 +79,7 @@ pub fn read_entries<V: View>(
         Ok(BlockContents::Data) => judged(
             levels.block(),
             bytes_in_block(g, inode, n) / CHUNK_BYTES,
+            g.endian,
         ),
         Ok(BlockContents::Hole) => Err(LookFault::Bad(BadRead::Hole)),
         Err(fault) => Err(fault),
@@ -100,9 +101,9 @@ pub fn consult_entries<V: View>(
     ensures keeps { KeepsView V.stands_for V.tells V.is_gone V.count V.size V.is_sound V.goes_on view.old view.new }
     ensures levels { levels.new.fragment ≡ levels.old.fragment }
     ensures ok { OnOk result ((entries : List DirEntry) × ReadsAs (V.stands_for view.old) (V.is_gone view.old) (V.tells view.new) (V.is_gone view.new)
-        (entries_before Little g.now inode.now count) (Some (Ok entries))) }
+        (entries_before g.now inode.now count) (Some (Ok entries))) }
     ensures err { IfErr result (λ fault. ReadsAs (V.stands_for view.old) (V.is_gone view.old) (V.tells view.new) (V.is_gone view.new)
-        (entries_before Little g.now inode.now count) (option_map Err (refusal_of fault))) }
+        (entries_before g.now inode.now count) (option_map Err (refusal_of fault))) }
 {
     for n in 0..count {
         match read_entries(view, g, inode, n, levels) {

@@ -5,7 +5,6 @@ ghost use Rattle.dg_io.specs.Views.{KeepsView};
 ghost use Rattle.ufs_model.specs.Geometries.{IsGeometryOn};
 ghost use Rattle.ufs_model.specs.Paths.{bytes_in_block, contents_of, front_of, part_of};
 ghost use Rattle.ufs_model.specs.Readings.{ReadsAs};
-ghost use Rattle.ufs_model.specs.declared.numbers.Endian.TheVariants.{Little};
 ghost use Rattle.ufs_path.specs.Answers.{IsAnswer, answer_at, refusal_of, refused_answer};
 ghost use Rattle.ufs_path.specs.Parts.{HasCount, IsHanded, IsHandedPart, part_said};
 
@@ -66,7 +65,7 @@ fn read_part<V: View>(
     ensures keeps { KeepsView V.stands_for V.tells V.is_gone V.count V.size V.is_sound V.goes_on view.old view.new }
     ensures levels { levels.new.fragment ≡ levels.old.fragment }
     ensures rule { ReadsAs (V.stands_for view.old) (V.is_gone view.old) (V.tells view.new) (V.is_gone view.new)
-        (part_of Little g.now inode.now n) (part_said result levels.new.block) }
+        (part_of g.now inode.now n) (part_said result levels.new.block) }
     ensures inside { IfOk result (λ count. count ≤ length levels.new.block) }
     ensures count { IfOk result (λ count. count ≡ bytes_in_block g.now inode.now n) }
     ensures small { IfOk result (λ count. count ≤ 65536) }
@@ -97,9 +96,9 @@ fn consult<V: View>(
     ensures keeps { KeepsView V.stands_for V.tells V.is_gone V.count V.size V.is_sound V.goes_on view.old view.new }
     ensures levels { levels.new.fragment ≡ levels.old.fragment }
     ensures ok { OnOk result ((bytes : List ℕ) × ReadsAs (V.stands_for view.old) (V.is_gone view.old) (V.tells view.new) (V.is_gone view.new)
-        (front_of Little g.now inode.now count) (Some (Ok bytes))) }
+        (front_of g.now inode.now count) (Some (Ok bytes))) }
     ensures err { IfErr result (λ fault. ReadsAs (V.stands_for view.old) (V.is_gone view.old) (V.tells view.new) (V.is_gone view.new)
-        (front_of Little g.now inode.now count) (option_map Err (refusal_of fault))) }
+        (front_of g.now inode.now count) (option_map Err (refusal_of fault))) }
 {
     for n in 0..count {
         match read_part(view, g, inode, n, levels) {
@@ -127,7 +126,7 @@ fn hand_part<V: View, O: Pieces>(
     ensures levels { levels.new.fragment ≡ levels.old.fragment }
     ensures later { O.faults out.old ≤ O.faults out.new }
     ensures rule { IsHandedPart O.took O.took_part O.faults out.old out.new
-        (ReadsAs (V.stands_for view.old) (V.is_gone view.old) (V.tells view.new) (V.is_gone view.new) (part_of Little g.now inode.now n)) result }
+        (ReadsAs (V.stands_for view.old) (V.is_gone view.old) (V.tells view.new) (V.is_gone view.new) (part_of g.now inode.now n)) result }
     ensures count { HasCount (bytes_in_block g.now inode.now n) result }
 {
     match read_part(view, g, inode, n, levels) {
@@ -157,7 +156,7 @@ fn hand_on<V: View, O: Pieces>(
     ensures levels { levels.new.fragment ≡ levels.old.fragment }
     ensures later { O.faults out.old ≤ O.faults out.new }
     ensures rule { IsHanded O.took O.took_part O.faults out.old out.new count
-        (λ k. ReadsAs (V.stands_for view.old) (V.is_gone view.old) (V.tells view.new) (V.is_gone view.new) (front_of Little g.now inode.now k)) result }
+        (λ k. ReadsAs (V.stands_for view.old) (V.is_gone view.old) (V.tells view.new) (V.is_gone view.new) (front_of g.now inode.now k)) result }
 {
     let mut given = 0;
     for n in 0..count {
@@ -188,7 +187,7 @@ fn hand_twice<V: View, O: Pieces>(
     ensures levels { levels.new.fragment ≡ levels.old.fragment }
     ensures later { O.faults out.old ≤ O.faults out.new }
     ensures rule { IsAnswer O.took O.took_part O.faults out.old out.new
-        (ReadsAs (V.stands_for view.old) (V.is_gone view.old) (V.tells view.new) (V.is_gone view.new) (front_of Little g.now inode.now count)) result }
+        (ReadsAs (V.stands_for view.old) (V.is_gone view.old) (V.tells view.new) (V.is_gone view.new) (front_of g.now inode.now count)) result }
 {
     match consult(view, g, inode, count, levels) {
         Ok(()) => hand_on(view, g, inode, count, out, levels),
@@ -211,7 +210,7 @@ pub fn hand_file<V: View, O: Pieces>(
     ensures levels { levels.new.fragment ≡ levels.old.fragment }
     ensures later { O.faults out.old ≤ O.faults out.new }
     ensures rule { IsAnswer O.took O.took_part O.faults out.old out.new
-        (ReadsAs (V.stands_for view.old) (V.is_gone view.old) (V.tells view.new) (V.is_gone view.new) (contents_of Little g.now inode.now)) result }
+        (ReadsAs (V.stands_for view.old) (V.is_gone view.old) (V.tells view.new) (V.is_gone view.new) (contents_of g.now inode.now)) result }
 {
     match file_refusal(inode) {
         Some(refusal) => answer_at(refusal),

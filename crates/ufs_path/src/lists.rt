@@ -6,7 +6,6 @@ ghost use Rattle.ufs_model.specs.Geometries.{IsGeometryOn};
 ghost use Rattle.ufs_model.specs.Listings.{listed_entries, listing_of, ls_of};
 ghost use Rattle.ufs_model.specs.Paths.{entries_before, is_path};
 ghost use Rattle.ufs_model.specs.Readings.{ReadsAs};
-ghost use Rattle.ufs_model.specs.declared.numbers.Endian.TheVariants.{Little};
 ghost use Rattle.ufs_path.specs.Answers.{IsAnswer, refusal_of};
 ghost use Rattle.ufs_path.specs.Walks.{AreConsulted, lines_before, ls_below};
 
@@ -39,10 +38,10 @@ fn consult_lines<V: View>(
     ensures keeps { KeepsView V.stands_for V.tells V.is_gone V.count V.size V.is_sound V.goes_on view.old view.new }
     ensures levels { levels.new.fragment ≡ levels.old.fragment }
     ensures ok { OnOk result (AreConsulted
-        (ReadsAs (V.stands_for view.old) (V.is_gone view.old) (V.tells view.new) (V.is_gone view.new) (entries_before Little g.now inode.now count))
-        (λ entries. ReadsAs (V.stands_for view.old) (V.is_gone view.old) (V.tells view.new) (V.is_gone view.new) (listed_entries Little g.now 1 entries))) }
+        (ReadsAs (V.stands_for view.old) (V.is_gone view.old) (V.tells view.new) (V.is_gone view.new) (entries_before g.now inode.now count))
+        (λ entries. ReadsAs (V.stands_for view.old) (V.is_gone view.old) (V.tells view.new) (V.is_gone view.new) (listed_entries g.now 1 entries))) }
     ensures err { IfErr result (λ fault. ReadsAs (V.stands_for view.old) (V.is_gone view.old) (V.tells view.new) (V.is_gone view.new)
-        (lines_before Little g.now inode.now count) (option_map Err (refusal_of fault))) }
+        (lines_before g.now inode.now count) (option_map Err (refusal_of fault))) }
 {
     match consult_entries(view, g, inode, count, levels) {
         Ok(()) => {
@@ -76,7 +75,7 @@ fn list_consulted<V: View, O: Listing>(
     ensures levels { levels.new.fragment ≡ levels.old.fragment }
     ensures later { O.faults out.old ≤ O.faults out.new }
     ensures rule { IsAnswer O.took O.took_part O.faults out.old out.new
-        (ReadsAs (V.stands_for view.old) (V.is_gone view.old) (V.tells view.new) (V.is_gone view.new) (lines_before Little g.now inode.now count)) result }
+        (ReadsAs (V.stands_for view.old) (V.is_gone view.old) (V.tells view.new) (V.is_gone view.new) (lines_before g.now inode.now count)) result }
 {
     match consult_lines(view, g, inode, count, levels) {
         Ok(()) => match list_blocks(view, g, inode, count, out, levels) {
@@ -103,7 +102,7 @@ fn list_directory<V: View, O: Listing>(
     ensures levels { levels.new.fragment ≡ levels.old.fragment }
     ensures later { O.faults out.old ≤ O.faults out.new }
     ensures rule { IsAnswer O.took O.took_part O.faults out.old out.new
-        (ReadsAs (V.stands_for view.old) (V.is_gone view.old) (V.tells view.new) (V.is_gone view.new) (listing_of Little g.now inode.now)) result }
+        (ReadsAs (V.stands_for view.old) (V.is_gone view.old) (V.tells view.new) (V.is_gone view.new) (listing_of g.now inode.now)) result }
 {
     match directory_fault(inode) {
         Some(fault) => refused_answer(fault),
@@ -127,7 +126,7 @@ fn ls_below<V: View, O: Listing>(
     ensures levels { levels.new.fragment ≡ levels.old.fragment }
     ensures later { O.faults out.old ≤ O.faults out.new }
     ensures rule { IsAnswer O.took O.took_part O.faults out.old out.new
-        (ReadsAs (V.stands_for view.old) (V.is_gone view.old) (V.tells view.new) (V.is_gone view.new) (ls_below Little path.now g.now)) result }
+        (ReadsAs (V.stands_for view.old) (V.is_gone view.old) (V.tells view.new) (V.is_gone view.new) (ls_below path.now g.now)) result }
 {
     match look_below(view, g, path, levels) {
         Ok((_, inode)) => list_directory(view, g, &inode, out, levels),
@@ -151,7 +150,7 @@ pub fn ls<V: View, O: Listing>(
     ensures later { O.faults out.old ≤ O.faults out.new }
     ensures rule { IsAnswer O.took O.took_part O.faults out.old out.new
         (ReadsAs (V.stands_for view.old) (V.is_gone view.old) (V.tells view.new) (V.is_gone view.new)
-        (ls_of Little (V.size view.old) (V.count view.old) path.now)) result }
+        (ls_of (V.size view.old) (V.count view.old) path.now)) result }
 {
     match geometry(view, levels) {
         Ok(g) => ls_below(view, &g, path, out, levels),

@@ -16,22 +16,16 @@ use crate::faults::LookFault;
 use crate::superblocks::geometry;
 use dg_io::View;
 use ufs_inode::{place_of, read_inode};
-use ufs_model::{BadRead, Geometry, Inode, next_name, path_names};
+use ufs_model::{BadRead, Endian, Geometry, INODE_BYTES, Inode, ROOT_INODE, next_name, path_names};
 use ufs_pointer::Levels;
 
-/// The inode of the root (`ROOTINO`).
-const ROOT: u32 = 2;
-
-/// Bytes of an inode (`struct dinode`).
-const INODE_BYTES: usize = 128;
-
 /// The inode at a byte of its block. It has to be allocated.
-fn inode_at(block: &[u8], byte: u32) -> Result<Inode, LookFault>
+fn inode_at(block: &[u8], byte: u32, endian: Endian) -> Result<Inode, LookFault>
     requires { byte + 128 ≤ length block.now }
-    ensures { answered refusal_of result ≡ Some (ok_or (inode_in Little (take 128 (drop byte block.now))) (Bad Entry)) }
+    ensures { answered refusal_of result ≡ Some (ok_or (inode_in endian (take 128 (drop byte block.now))) (Bad Entry)) }
 {
     let start = byte as usize;
-    match read_inode(&block[start..start + INODE_BYTES]) {
+    match read_inode(&block[start..start + INODE_BYTES as usize], endian) {
         Some(inode) => Ok(inode),
         None => Err(LookFault::Bad(BadRead::Entry)),
     }
@@ -53,13 +47,13 @@ fn read_allocated<V: View>(
     ensures levels { levels.new.fragment ≡ levels.old.fragment }
     ensures block { levels.new.block ≡ levels.old.block }
     ensures rule { ReadsAs (V.stands_for view.old) (V.is_gone view.old) (V.tells view.new) (V.is_gone view.new)
-        (allocated Little g.now number) (answered refusal_of result) }
+        (allocated g.now number) (answered refusal_of result) }
 {
     let (block, byte) = place_of(g, number);
     if !levels.read_aside(view, block) {
         return Err(LookFault::Unavailable);
     }
-    inode_at(levels.aside(), byte)
+    inode_at(levels.aside(), byte, g.endian)
 }
 
 /// An inode that a path leads to. The block of data stays.
@@ -77,9 +71,9 @@ pub fn read_named<V: View>(
     ensures levels { levels.new.fragment ≡ levels.old.fragment }
     ensures block { levels.new.block ≡ levels.old.block }
     ensures rule { ReadsAs (V.stands_for view.old) (V.is_gone view.old) (V.tells view.new) (V.is_gone view.new)
-        (named_inode Little g.now number) (answered refusal_of result) }
+        (named_inode g.now number) (answered refusal_of result) }
 {
-    if number < ROOT || g.ncg * g.ipg <= number {
+    if number < ROOT_INODE || g.ncg * g.ipg <= number {
         return Err(LookFault::Bad(BadRead::Entry));
     }
     read_allocated(view, g, number, levels)
@@ -98,9 +92,9 @@ fn follow_names<V: View>(
     ensures keeps { KeepsView V.stands_for V.tells V.is_gone V.count V.size V.is_sound V.goes_on view.old view.new }
     ensures levels { levels.new.fragment ≡ levels.old.fragment }
     ensures rule { ReadsAs (V.stands_for view.old) (V.is_gone view.old) (V.tells view.new) (V.is_gone view.new)
-        (look_from Little g.now (names_after path.now) 2) (answered refusal_of result) }
+        (look_from g.now (names_after path.now) 2) (answered refusal_of result) }
 {
-    let mut number = ROOT;
+    let mut number = ROOT_INODE;
     let mut rest = path;
     while !rest.is_empty() {
         let (name, after) = next_name(rest);
@@ -126,7 +120,7 @@ pub fn look_below<V: View>(
     ensures keeps { KeepsView V.stands_for V.tells V.is_gone V.count V.size V.is_sound V.goes_on view.old view.new }
     ensures levels { levels.new.fragment ≡ levels.old.fragment }
     ensures rule { ReadsAs (V.stands_for view.old) (V.is_gone view.old) (V.tells view.new) (V.is_gone view.new)
-        (look_from Little g.now (names_of path.now) 2) (answered refusal_of result) }
+        (look_from g.now (names_of path.now) 2) (answered refusal_of result) }
 {
     follow_names(view, g, path_names(path), levels)
 }
@@ -144,7 +138,7 @@ pub fn look<V: View>(
     ensures keeps { KeepsView V.stands_for V.tells V.is_gone V.count V.size V.is_sound V.goes_on view.old view.new }
     ensures levels { levels.new.fragment ≡ levels.old.fragment }
     ensures rule { ReadsAs (V.stands_for view.old) (V.is_gone view.old) (V.tells view.new) (V.is_gone view.new)
-        (look_of Little (V.size view.old) (V.count view.old) path.now) (answered refusal_of result) }
+        (look_of (V.size view.old) (V.count view.old) path.now) (answered refusal_of result) }
 {
     let g = geometry(view, levels)?;
     look_below(view, &g, path, levels)

@@ -4,7 +4,6 @@ ghost use Rattle.dg_io.specs.Views.{KeepsView};
 ghost use Rattle.ufs_model.specs.Geometries.{IsGeometryOn};
 ghost use Rattle.ufs_model.specs.Paths.{volume_geometry};
 ghost use Rattle.ufs_model.specs.Readings.{ReadsAs, answered};
-ghost use Rattle.ufs_model.specs.declared.numbers.Endian.TheVariants.{Little};
 ghost use Rattle.ufs_path.specs.Answers.{refusal_of};
 
 use crate::faults::LookFault;
@@ -19,7 +18,7 @@ pub fn geometry<V: View>(view: &mut V, levels: &mut Levels) -> Result<Geometry, 
     ensures keeps { KeepsView V.stands_for V.tells V.is_gone V.count V.size V.is_sound V.goes_on view.old view.new }
     ensures levels { levels.new.fragment ≡ levels.old.fragment }
     ensures rule { ReadsAs (V.stands_for view.old) (V.is_gone view.old) (V.tells view.new) (V.is_gone view.new)
-        (volume_geometry Little (V.size view.old) (V.count view.old)) (answered refusal_of result) }
+        (volume_geometry (V.size view.old) (V.count view.old)) (answered refusal_of result) }
     ensures ok { IfOk result (λ g. IsGeometryOn (V.size view.old) (V.count view.old) g) }
 {
     match read_geometry(view, levels) {

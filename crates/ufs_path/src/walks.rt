@@ -48,7 +48,7 @@ fn hand_entry<V: View, O: Listing>(
     ensures later { O.faults out.old ≤ O.faults out.new }
     ensures few { IsFew 1 result }
     ensures rule { IsListed O.took O.took_part O.faults out.old out.new (entry_of entry.now ∷ [])
-        (λ entries. ReadsAs (V.stands_for view.old) (V.is_gone view.old) (V.tells view.new) (V.is_gone view.new) (listed_entries Little g.now 1 entries)) result }
+        (λ entries. ReadsAs (V.stands_for view.old) (V.is_gone view.old) (V.tells view.new) (V.is_gone view.new) (listed_entries g.now 1 entries)) result }
 {
     match read_named(view, g, entry.inode, levels) {
         Ok(inode) => match out.line(1, entry.inode, inode.kind(), inode.size, entry.name) {
@@ -77,7 +77,7 @@ fn list_entry<V: View, O: Listing>(
     ensures later { O.faults out.old ≤ O.faults out.new }
     ensures few { IsFew 1 result }
     ensures rule { IsListed O.took O.took_part O.faults out.old out.new (used_entries (entry_of entry.now ∷ []))
-        (λ entries. ReadsAs (V.stands_for view.old) (V.is_gone view.old) (V.tells view.new) (V.is_gone view.new) (listed_entries Little g.now 1 entries)) result }
+        (λ entries. ReadsAs (V.stands_for view.old) (V.is_gone view.old) (V.tells view.new) (V.is_gone view.new) (listed_entries g.now 1 entries)) result }
 {
     if entry.is_used() {
         hand_entry(view, g, entry, out, levels)
@@ -103,10 +103,10 @@ fn list_chunk<V: View, O: Listing>(
     ensures block { levels.new.block ≡ levels.old.block }
     ensures later { O.faults out.old ≤ O.faults out.new }
     ensures few { IsFew 512 result }
-    ensures rule { IsListed O.took O.took_part O.faults out.old out.new (used_entries (entries_in Little 0 chunk.now))
-        (λ entries. ReadsAs (V.stands_for view.old) (V.is_gone view.old) (V.tells view.new) (V.is_gone view.new) (listed_entries Little g.now 1 entries)) result }
+    ensures rule { IsListed O.took O.took_part O.faults out.old out.new (used_entries (entries_in g.now.endian 0 chunk.now))
+        (λ entries. ReadsAs (V.stands_for view.old) (V.is_gone view.old) (V.tells view.new) (V.is_gone view.new) (listed_entries g.now 1 entries)) result }
 {
-    let mut entries = Entries::new(chunk);
+    let mut entries = Entries::new(chunk, g.endian);
     let mut given = 0;
     while let EntryStep::Entry(entry) = entries.next() {
         match list_entry(view, g, &entry, out, levels) {
@@ -135,8 +135,8 @@ fn list_chunks<V: View, O: Listing>(
     ensures levels { levels.new.fragment ≡ levels.old.fragment }
     ensures later { O.faults out.old ≤ O.faults out.new }
     ensures few { IsFew (count * 512) result }
-    ensures rule { IsListed O.took O.took_part O.faults out.old out.new (entries_among (chunks_in count levels.old.block))
-        (λ entries. ReadsAs (V.stands_for view.old) (V.is_gone view.old) (V.tells view.new) (V.is_gone view.new) (listed_entries Little g.now 1 entries)) result }
+    ensures rule { IsListed O.took O.took_part O.faults out.old out.new (entries_among g.now.endian (chunks_in count levels.old.block))
+        (λ entries. ReadsAs (V.stands_for view.old) (V.is_gone view.old) (V.tells view.new) (V.is_gone view.new) (listed_entries g.now 1 entries)) result }
 {
     let mut given = 0;
     for i in 0..count {
@@ -168,8 +168,8 @@ pub fn list_blocks<V: View, O: Listing>(
     ensures levels { levels.new.fragment ≡ levels.old.fragment }
     ensures later { O.faults out.old ≤ O.faults out.new }
     ensures rule { IsWalked O.took O.took_part O.faults out.old out.new count
-        (λ k. ReadsAs (V.stands_for view.old) (V.is_gone view.old) (V.tells view.new) (V.is_gone view.new) (entries_before Little g.now inode.now k))
-        (λ entries. ReadsAs (V.stands_for view.old) (V.is_gone view.old) (V.tells view.new) (V.is_gone view.new) (listed_entries Little g.now 1 entries)) result }
+        (λ k. ReadsAs (V.stands_for view.old) (V.is_gone view.old) (V.tells view.new) (V.is_gone view.new) (entries_before g.now inode.now k))
+        (λ entries. ReadsAs (V.stands_for view.old) (V.is_gone view.old) (V.tells view.new) (V.is_gone view.new) (listed_entries g.now 1 entries)) result }
 {
     let mut given = 0;
     for n in 0..count {

@@ -1,7 +1,6 @@
 use Rattle.std.proofs.Common.{refl}
 use Rattle.ufs_model.specs.Paths.{cat_of}
 use Rattle.ufs_model.specs.Readings.{ReadsAs}
-use Rattle.ufs_model.specs.declared.numbers.Endian.TheVariants.{Little}
 use Rattle.ufs_path.specs.Parts.{cat_below}
 use Rattle.ufs_path.proofs.AnswerLaws.{at_fault, map_answer}
 use Rattle.ufs_path.proofs.CatLaws.{path_read, path_unread}
@@ -11,8 +10,8 @@ pub returns-in-Ok-clause-rule : goal.returns-in-Ok-clause-rule
 returns-in-Ok-clause-rule g c =
     let first = c.geometry.ensures.keeps in
     map_answer g.O.Pieces.took g.O.Pieces.took_part g.O.Pieces.faults c.args.out.now c.cat_below.new.out
-    {one = (ReadsAs (g.V.View.stands_for c.geometry.new.view) (g.V.View.is_gone c.geometry.new.view) (g.V.View.tells c.cat_below.new.view) (g.V.View.is_gone c.cat_below.new.view) (cat_below Little c.args.path.now c.in-Ok.g))}
-    {two = (ReadsAs (g.V.View.stands_for c.args.view.now) (g.V.View.is_gone c.args.view.now) (g.V.View.tells c.cat_below.new.view) (g.V.View.is_gone c.cat_below.new.view) (cat_of Little (g.V.View.size c.args.view.now) (g.V.View.count c.args.view.now) c.args.path.now))}
+    {one = (ReadsAs (g.V.View.stands_for c.geometry.new.view) (g.V.View.is_gone c.geometry.new.view) (g.V.View.tells c.cat_below.new.view) (g.V.View.is_gone c.cat_below.new.view) (cat_below c.args.path.now c.in-Ok.g))}
+    {two = (ReadsAs (g.V.View.stands_for c.args.view.now) (g.V.View.is_gone c.args.view.now) (g.V.View.tells c.cat_below.new.view) (g.V.View.is_gone c.cat_below.new.view) (cat_of (g.V.View.size c.args.view.now) (g.V.View.count c.args.view.now) c.args.path.now))}
     c.cat_below.result
     (λ r reads. path_read _ _ c.args.path.now c.in-Ok.g r first.stays first.stands c.cat_below.ensures.keeps.told c.in-Ok.ensures.rule reads)
     c.cat_below.ensures.rule
@@ -22,5 +21,5 @@ returns-in-Err-clause-rule g c =
     rw c.refused_answer.ensures
     (at_fault g.O.Pieces.took g.O.Pieces.took_part g.O.Pieces.faults c.args.out.now c.args.out.now
     (ReadsAs (g.V.View.stands_for c.args.view.now) (g.V.View.is_gone c.args.view.now) (g.V.View.tells c.geometry.new.view) (g.V.View.is_gone c.geometry.new.view)
-    (cat_of Little (g.V.View.size c.args.view.now) (g.V.View.count c.args.view.now) c.args.path.now))
+    (cat_of (g.V.View.size c.args.view.now) (g.V.View.count c.args.view.now) c.args.path.now))
     c.in-Err.fault refl (path_unread _ _ c.args.path.now c.in-Err.fault c.geometry.ensures.keeps.stays c.in-Err.ensures.rule))

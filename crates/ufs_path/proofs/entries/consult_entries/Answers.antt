@@ -32,7 +32,7 @@ loop-n-preserved g c =
       keeps = keeps_both g.met.V.View.further c.args.view.now c.loop-n.view c.read_entries.new.view so_far block;
       levels = c.read_entries.ensures.levels ∙ c.loop-n.invariant.levels;
       reads = (
-        c.loop-n.invariant.reads.0 ++ entries_among (chunks_in c.in-Ok.field-0 c.read_entries.new.levels.block),
+        c.loop-n.invariant.reads.0 ++ entries_among c.args.g.now.endian (chunks_in c.in-Ok.field-0 c.read_entries.new.levels.block),
         rw add-one (front_more (entry_fronts c.args.g.now c.args.inode.now) c.loop-n.n _ _
             (wider _ (λ b h. h) block.stays (λ v h. h) block.told (c.loop-n.invariant.reads.1))
             (wider _ so_far.stays (λ b h. h) so_far.stands (λ h. h) c.in-Ok.ensures.rule)),

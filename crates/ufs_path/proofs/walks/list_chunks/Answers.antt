@@ -5,7 +5,6 @@ use Rattle.ufs_model.specs.Chunks.{entries_in, used_entries}
 use Rattle.ufs_model.specs.Listings.{listed_entries}
 use Rattle.ufs_model.specs.Paths.{chunks_in}
 use Rattle.ufs_model.specs.Readings.{ReadsAs}
-use Rattle.ufs_model.specs.declared.numbers.Endian.TheVariants.{Little}
 use Rattle.ufs_path.proofs.WalkLaws.{among_end, among_next, failed_then, handed_none, handed_then, unread_then}
 use Rattle.ufs_path.specs.Walks.{AreHanded, entries_among}
 use Rattle.ufs_path.proofs.walks.list_chunks.Goals as goal
@@ -17,7 +16,7 @@ loop-i-init g c = record {
   block = refl;
   later = omega arith;
   few = omega arith;
-  handed = ([], ap (λ k. entries_among (chunks_in k c.args.levels.now.block)) (let e : c.args.count ≡ c.args.count - 0 = omega arith in e), handed_none c.args.g.now c.args.out.now g.met.O.Listing.nothing);
+  handed = ([], ap (λ k. entries_among c.args.g.now.endian (chunks_in k c.args.levels.now.block)) (let e : c.args.count ≡ c.args.count - 0 = omega arith in e), handed_none c.args.g.now c.args.out.now g.met.O.Listing.nothing);
 }
 
 pub returns-in-Unread-clause-rule : goal.returns-in-Unread-clause-rule
@@ -26,8 +25,8 @@ returns-in-Unread-clause-rule g c =
     let step = c.list_chunk.ensures.keeps in
     let handed = c.loop-i.invariant.handed in
     let is : c.chunk_at-chunk.result ≡ take 512 (drop (c.loop-i.i * 512) c.args.levels.now.block) = rw (c.block.ensures, c.loop-i.invariant.block) at c.chunk_at-chunk.ensures in
-    unread_then c.args.g.now (handed.0) (used_entries (entries_in Little 0 c.chunk_at-chunk.result)) _ _ c.loop-i.given c.in-Unread.n c.in-Unread.fault c.args.out.now c.loop-i.out c.list_chunk.new.out g.met.O.Listing.then
-    so_far.stays step.stays so_far.stands step.told (among_next c.args.count c.loop-i.i c.args.levels.now.block _ _ (handed.0) c.loop-i-test.true is (handed.1)) (handed.2) c.in-Unread.ensures.rule
+    unread_then c.args.g.now (handed.0) (used_entries (entries_in c.args.g.now.endian 0 c.chunk_at-chunk.result)) _ _ c.loop-i.given c.in-Unread.n c.in-Unread.fault c.args.out.now c.loop-i.out c.list_chunk.new.out g.met.O.Listing.then
+    so_far.stays step.stays so_far.stands step.told (among_next c.args.g.now.endian c.args.count c.loop-i.i c.args.levels.now.block _ _ (handed.0) c.loop-i-test.true is (handed.1)) (handed.2) c.in-Unread.ensures.rule
 
 pub returns-in-Failed-clause-rule : goal.returns-in-Failed-clause-rule
 returns-in-Failed-clause-rule g c =
@@ -35,8 +34,8 @@ returns-in-Failed-clause-rule g c =
     let step = c.list_chunk.ensures.keeps in
     let handed = c.loop-i.invariant.handed in
     let is : c.chunk_at-chunk.result ≡ take 512 (drop (c.loop-i.i * 512) c.args.levels.now.block) = rw (c.block.ensures, c.loop-i.invariant.block) at c.chunk_at-chunk.ensures in
-    failed_then c.args.g.now (handed.0) (used_entries (entries_in Little 0 c.chunk_at-chunk.result)) _ _ c.loop-i.given c.args.out.now c.loop-i.out c.list_chunk.new.out g.met.O.Listing.then_part c.loop-i.invariant.later
-    so_far.stays step.stays so_far.stands step.told (among_next c.args.count c.loop-i.i c.args.levels.now.block _ _ (handed.0) c.loop-i-test.true is (handed.1)) (handed.2) c.in-Failed.ensures.rule
+    failed_then c.args.g.now (handed.0) (used_entries (entries_in c.args.g.now.endian 0 c.chunk_at-chunk.result)) _ _ c.loop-i.given c.args.out.now c.loop-i.out c.list_chunk.new.out g.met.O.Listing.then_part c.loop-i.invariant.later
+    so_far.stays step.stays so_far.stands step.told (among_next c.args.g.now.endian c.args.count c.loop-i.i c.args.levels.now.block _ _ (handed.0) c.loop-i-test.true is (handed.1)) (handed.2) c.in-Failed.ensures.rule
 
 pub loop-i-preserved : goal.loop-i-preserved
 loop-i-preserved g c =
@@ -54,9 +53,9 @@ loop-i-preserved g c =
       later = omega arith;
       few = omega arith;
       handed = (
-        handed.0 ++ used_entries (entries_in Little 0 c.chunk_at-chunk.result),
-        among_next c.args.count c.loop-i.i c.args.levels.now.block _ _ (handed.0) c.loop-i-test.true is (handed.1) ∙ sym (append_assoc (handed.0) (used_entries (entries_in Little 0 c.chunk_at-chunk.result)) _),
-        handed_then c.args.g.now (handed.0) (used_entries (entries_in Little 0 c.chunk_at-chunk.result)) c.loop-i.given c.in-All.n c.args.out.now c.loop-i.out c.list_chunk.new.out g.met.O.Listing.then
+        handed.0 ++ used_entries (entries_in c.args.g.now.endian 0 c.chunk_at-chunk.result),
+        among_next c.args.g.now.endian c.args.count c.loop-i.i c.args.levels.now.block _ _ (handed.0) c.loop-i-test.true is (handed.1) ∙ sym (append_assoc (handed.0) (used_entries (entries_in c.args.g.now.endian 0 c.chunk_at-chunk.result)) _),
+        handed_then c.args.g.now (handed.0) (used_entries (entries_in c.args.g.now.endian 0 c.chunk_at-chunk.result)) c.loop-i.given c.in-All.n c.args.out.now c.loop-i.out c.list_chunk.new.out g.met.O.Listing.then
             so_far.stays step.stays so_far.stands step.told (handed.2) c.in-All.ensures.rule,
       );
     }
@@ -65,5 +64,5 @@ pub returns-clause-rule : goal.returns-clause-rule
 returns-clause-rule g c =
     let handed = c.loop-i.invariant.handed in
     subst (λ done. AreHanded g.O.Listing.took c.args.out.now c.loop-i.out done
-    (λ entries. ReadsAs (g.V.View.stands_for c.args.view.now) (g.V.View.is_gone c.args.view.now) (g.V.View.tells c.loop-i.view) (g.V.View.is_gone c.loop-i.view) (listed_entries Little c.args.g.now 1 entries)) c.loop-i.given)
-    (among_end c.args.count c.loop-i.i _ _ (handed.0) (omega arith) (handed.1)) (handed.2)
+    (λ entries. ReadsAs (g.V.View.stands_for c.args.view.now) (g.V.View.is_gone c.args.view.now) (g.V.View.tells c.loop-i.view) (g.V.View.is_gone c.loop-i.view) (listed_entries c.args.g.now 1 entries)) c.loop-i.given)
+    (among_end c.args.g.now.endian c.args.count c.loop-i.i _ _ (handed.0) (omega arith) (handed.1)) (handed.2)
