@@ -11,9 +11,9 @@ mod pieces;
 mod racks;
 mod sinks;
 mod sources;
+mod stored;
 #[cfg(test)]
 mod tests;
-mod stored;
 mod views;
 
 pub use dg_model::{Failed, NoMemory};

@@ -53,7 +53,12 @@ pub fn read_at(members: &[MemMember], at: u8, place: u64, buf: &mut [u8]) -> Res
 }
 
 /// Writes to a member at a place.
-pub fn write_at(members: &mut Vec<MemMember>, at: u8, place: u64, piece: &[u8]) -> Result<(), Failed>
+pub fn write_at(
+    members: &mut Vec<MemMember>,
+    at: u8,
+    place: u64,
+    piece: &[u8],
+) -> Result<(), Failed>
     requires { place + length piece.now ≤ length (bytes_of (slice_get members.old.items at)) }
     ensures fails { IsErr result ↔ (is_there (slice_get members.old.items at) ≡ false) }
     ensures ok { OnOk result (bytes_of (slice_get members.new.items at) ≡ patch (bytes_of (slice_get members.old.items at)) place piece.now) }
