@@ -25,7 +25,7 @@ long_room : (shape : Shape) (told : Option (List ℕ)) → IfSome told (λ all. 
 long_room shape None long = tt
 long_room shape (Some all) long = omega arith
 
-still_long : (shape : Shape) (place n : ℕ) (before now : Option (List ℕ)) → Told (Torn place n) before now
+pub still_long : (shape : Shape) (place n : ℕ) (before now : Option (List ℕ)) → Told (Torn place n) before now
     → IfSome before (λ all. member_length 1 shape ≤ length all) → IfSome now (λ all. member_length 1 shape ≤ length all)
 still_long shape place n before None same long = tt
 still_long shape place n None (Some b) same long = absurd same
@@ -38,7 +38,7 @@ same_long shape None (Some b) same long = absurd same
 same_long shape (Some a) (Some b) same long = subst (λ (all : List ℕ). member_length 1 shape ≤ length all) (sym same) long
 
 -- a member that isn't out wasn't
-was_in : (f g : ℕ → ℕ) (old new : ℕ → MemberState) → MembersFall f g old new → (q : ℕ) → new q ≢ Out → old q ≢ Out
+pub was_in : (f g : ℕ → ℕ) (old new : ℕ → MemberState) → MembersFall f g old new → (q : ℕ) → new q ≢ Out → old q ≢ Out
 was_in f g old new falls q stands out = elim (falls q) [ inl same ↦ stands (same ∙ out) | inr fell ↦ stands fell.out ]
 
 module _ (l slots s : ℕ) (row : List Boundary) (x y : Boundary) (within : s < length row) (was : slice_get row s ≡ Some x) (stands : RowStands l slots row) where

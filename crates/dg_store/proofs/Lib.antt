@@ -6,6 +6,8 @@ mod EvictionCounts
 mod EvictionSteps
 mod PlaceLemmas
 mod Quiet
+mod Refills
+mod RowLaws
 mod Rows
 mod SitesGivenUp
 mod SitesLists

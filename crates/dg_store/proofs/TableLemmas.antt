@@ -1,17 +1,21 @@
 -- Rows of a table: a site is put, or the sites on a boundary are taken from a block.
 use Rattle.std.proofs.Common.{◌≡◌, ◌≢◌, inl, inr, ℕ, ◌+◌, ◌≤◌, ◌<◌, true, false, Bool, cond, List, [], ◌∷◌, ◌++◌, length, refl, sym, ◌∙◌, ap, subst, arith, get_or}
-use Rattle.std.specs.Prelude.{◌==◌, not, slice_set}
+use Rattle.std.specs.Prelude.{◌==◌, IfOk, OnErr, Result, Ok, Err, not, slice_set}
 use Rattle.std.specs.List.{All, Contains, filter}
-use Rattle.std.proofs.lemmas.Bool.{cases_eq}
+use Rattle.std.proofs.lemmas.Bool.{cases_eq, false≢true}
 use Rattle.std.proofs.lemmas.Bool.Decides.{nat_tests}
 use Rattle.std.proofs.lemmas.List.{get_or-set_same, get_or-set_other, set-set, set-get_or, append-nil, length-append}
 use Rattle.std.proofs.lemmas.List.Sums.{length-filter}
 use Rattle.std.proofs.lemmas.List.Filters.{length-filter_both}
 use Rattle.std.proofs.lemmas.List.Elements.{All-head, All-tail, All-nil, All-cons, All-filter, All-contains, All-contains_itself, Contains-get_or, Contains-push, filter-append, filter_passes}
-use Rattle.dg_model.specs.Sites.{has_site}
+use Rattle.dg_model.specs.Sites.{IsGivenFirst, IsSited, has_site}
 use Rattle.dg_model.specs.Tables.{Table, IsTable, count_on, put_site, sites_in, sites_off, without_site}
 use Rattle.dg_model.specs.declared.sites.Site.{Site}
+use Rattle.dg_model.specs.declared.failures.NoMemory.{NoMemory}
+use Rattle.dg_store.specs.Answers.{IsPlaced, SameWritten}
 use Rattle.dg_store.specs.Slots.{AreSlots}
+use Rattle.dg_store.specs.declared.store.PlaceAnswer.{PlaceAnswer}
+use Rattle.dg_store.specs.declared.store.PlaceAnswer.TheVariants.{Full, Gone, Lost, Placed}
 
 -- ---- lists of sites
 
@@ -143,3 +147,50 @@ pub only_slot : (table : Table) (b : ℕ) (site : Site) → sites_in table b ≡
 only_slot table b site row is =
     let there = subst (λ (xs : List Site). Contains xs site) (sym row) (Contains-push [] site) in
     (is.boundaries b site.boundary site.slot there, let low = is.slots b site.boundary site.slot there in omega (arith, low))
+
+-- a written block has one more site
+pub put_written : (old new : Table) (b s : ℕ) → b < length old.rows → has_site (sites_in old b) ≡ true → IsPlaced old b s new → SameWritten old new
+put_written old new b s within has placed c =
+    let site = placed.site in
+    let is : sites_in new c ≡ sites_in (put_site old b site) c = ap (λ (t : Table). sites_in t c) placed.takes.taken in
+    ap has_site is
+    ∙ elim (cases_eq c b) [
+      | inl here ↦
+          ap (λ (e : ℕ). has_site (sites_in (put_site old b site) e)) here
+          ∙ ap has_site (put_here old b site within)
+          ∙ has_put (sites_in old b) site
+          ∙ sym has
+          ∙ ap (λ (e : ℕ). has_site (sites_in old e)) (sym here)
+      | inr other ↦ ap has_site (put_other old b site c other)
+    ]
+
+-- the same by the answer of a copy
+pub written_by : (r : Result PlaceAnswer NoMemory) (old new : Table) (b s : ℕ) → b < length old.rows → has_site (sites_in old b) ≡ true
+    → IfOk r (λ answer. answer ≡ Placed → IsPlaced old b s new) → IfOk r (λ answer. answer ≢ Placed → new ≡ old) → OnErr r (new ≡ old) → SameWritten old new
+written_by (Ok Placed) old new b s within has placed refused err = put_written old new b s within has (placed refl)
+written_by (Ok Full) old new b s within has placed refused err c = ap (λ (t : Table). has_site (sites_in t c)) (refused (λ is. absurd (cc is)))
+written_by (Ok Gone) old new b s within has placed refused err c = ap (λ (t : Table). has_site (sites_in t c)) (refused (λ is. absurd (cc is)))
+written_by (Ok (Lost t)) old new b s within has placed refused err c = ap (λ (t : Table). has_site (sites_in t c)) (refused (λ is. absurd (cc is)))
+written_by (Err e) old new b s within has placed refused err c = ap (λ (t : Table). has_site (sites_in t c)) err
+
+pub ok_map : {A E : Type 0} (r : Result A E) (P Q : A → Type 0) → ((a : A) → P a → Q a) → IfOk r P → IfOk r Q
+ok_map (Ok a) P Q step had = step a had
+ok_map (Err e) P Q step had = tt
+
+pub err_map : {A E : Type 0} (r : Result A E) (P Q : Type 0) → (P → Q) → OnErr r P → OnErr r Q
+err_map (Ok a) P Q step had = tt
+err_map (Err e) P Q step had = step had
+
+-- a block's sites after a write
+
+pub sited_first : (old new : Table) (b : ℕ) → has_site (sites_in old b) ≡ false → IsGivenFirst old b new → IsSited old b new
+sited_first old new b none given = record {
+  kept = λ has. absurd (false≢true (sym none ∙ has));
+  first = λ blank. given;
+}
+
+pub sited_again : (old new : Table) (b : ℕ) → has_site (sites_in old b) ≡ true → new ≡ old → IsSited old b new
+sited_again old new b has same = record {
+  kept = λ some. same;
+  first = λ none. absurd (false≢true (sym none ∙ has));
+}

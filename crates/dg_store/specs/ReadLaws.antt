@@ -165,10 +165,10 @@ given_before f g table old new falls b given =
     still false now stays h = refl
     still true now stays h = absurd (false≢true (sym (ap not (stays refl)) ∙ h))
 
-none_first : (a b c : ℕ → ℕ) → ((q : ℕ) → b q ≤ c q) → NoneRose a c → NoneRose a b
+pub none_first : (a b c : ℕ → ℕ) → ((q : ℕ) → b q ≤ c q) → NoneRose a c → NoneRose a b
 none_first a b c late none q rose = none q (let l = late q in omega arith)
 
-none_second : (a b c : ℕ → ℕ) → ((q : ℕ) → a q ≤ b q) → NoneRose a c → NoneRose b c
+pub none_second : (a b c : ℕ → ℕ) → ((q : ℕ) → a q ≤ b q) → NoneRose a c → NoneRose b c
 none_second a b c early none q rose = none q (let e = early q in omega arith)
 
 module _ {R : Type 0} (rack : Ghosts R) where

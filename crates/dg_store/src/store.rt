@@ -554,6 +554,7 @@ impl<R: Rack> Store<R> {
         ensures full { IfOk result (λ answer. (answer ≡ PlaceAnswer.Full) ↔ ((shape_of self.old).k + 1 ≤ used_in (table_of self.old) boundary)) }
         ensures there { IfOk result (λ answer. answer ≢ PlaceAnswer.Gone) }
         ensures members { (q : ℕ) → q / 2 ≢ boundary → members_of self.new q ≡ members_of self.old q }
+        ensures live { all_lost (members_of self.new) (sites_in (table_of self.old) block) ≡ all_lost (members_of self.old) (sites_in (table_of self.old) block) }
         ensures lost { IfOk result (λ answer. answer ≢ PlaceAnswer.Full
             → (answer ≡ PlaceAnswer.Lost boundary) ↔ (is_lost (members_of self.new) boundary ≡ true)) }
         ensures other { IfOk result (λ answer. (s : ℕ) → answer ≡ PlaceAnswer.Lost s → s ≡ boundary) }

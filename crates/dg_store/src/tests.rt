@@ -31,10 +31,10 @@ enum Step {
 
 // The byte that the block is filled with, where it isn't gone.
 fn filler<R: Rack>(store: &mut Store<R>, block: u32) -> Option<u8>
-    requires sound { IsSound R.bytes store.old }
+    requires sound { IsSound R.Rack store.old }
     requires range { block < (shape_of store.old).n }
     requires size { (shape_of store.old).l ≡ 512 }
-    ensures sound { IsSound R.bytes store.new }
+    ensures sound { IsSound R.Rack store.new }
     ensures shape { shape_of store.new ≡ shape_of store.old }
 {
     let mut buf = [0xee; 512];
@@ -59,11 +59,11 @@ fn sites_on(map: &Map, block: u32, boundary: u8) -> usize
 
 // A write or a read, on an array of this shape.
 fn act<R: Rack>(rt: &impl Abort, store: &mut Store<R>, step: Step)
-    requires sound { IsSound R.bytes store.old }
+    requires sound { IsSound R.Rack store.old }
     requires blocks { (shape_of store.old).n ≡ 4 }
     requires boundaries { (shape_of store.old).b ≡ 2 }
     requires size { (shape_of store.old).l ≡ 512 }
-    ensures sound { IsSound R.bytes store.new }
+    ensures sound { IsSound R.Rack store.new }
     ensures shape { shape_of store.new ≡ shape_of store.old }
 {
     match step {
@@ -107,10 +107,10 @@ fn place<R: Rack>(
     spare: bool,
     want: PlaceAnswer,
 )
-    requires sound { IsSound R.bytes store.old }
+    requires sound { IsSound R.Rack store.old }
     requires blocks { (shape_of store.old).n ≡ 4 }
     requires boundaries { (shape_of store.old).b ≡ 2 }
-    ensures sound { IsSound R.bytes store.new }
+    ensures sound { IsSound R.Rack store.new }
     ensures shape { shape_of store.new ≡ shape_of store.old }
 {
     let (block, boundary) = to;
@@ -123,9 +123,9 @@ fn place<R: Rack>(
 
 // A site of a block that has another one.
 fn unplace<R: Rack>(rt: &impl Abort, store: &mut Store<R>, block: u32, boundary: u8)
-    requires sound { IsSound R.bytes store.old }
+    requires sound { IsSound R.Rack store.old }
     requires blocks { (shape_of store.old).n ≡ 4 }
-    ensures sound { IsSound R.bytes store.new }
+    ensures sound { IsSound R.Rack store.new }
     ensures shape { shape_of store.new ≡ shape_of store.old }
 {
     assert!(rt; block < 4);

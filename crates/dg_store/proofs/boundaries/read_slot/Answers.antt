@@ -1,11 +1,8 @@
-use Rattle.std.proofs.Common.{◌≡◌, ◌≤◌, ◌/◌, ℕ, sym, ◌∙◌, ap, subst, arith}
-use Rattle.dg_model.specs.Members.{is_lost}
-use Rattle.dg_pair.specs.Boundaries.{goods_in, members_of}
+use Rattle.std.proofs.Common.{refl, sym, ◌∙◌, arith}
+use Rattle.dg_pair.specs.Boundaries.{members_of, number_of}
 use Rattle.dg_store.proofs.Calls.{part_room, part_stand, part_holds, row_good, row_keeps, row_lost, row_other, row_kept}
-use Rattle.dg_store.proofs.PlaceLemmas.{lost_same}
-use Rattle.dg_store.proofs.Quiet.{goods_none, goods_same, none_fell}
-use Rattle.dg_store.proofs.Rows.{set_changed, there}
-use Rattle.dg_store.proofs.Sound.{row_paired}
+use Rattle.dg_store.proofs.Quiet.{goods_most, goods_none, still_good}
+use Rattle.dg_store.proofs.Rows.{there}
 use Rattle.dg_store.proofs.boundaries.read_slot.Goals as goal
 
 pub read-requires-clause-well : goal.read-requires-clause-well
@@ -47,11 +44,19 @@ returns-clause-kept g c =
 pub returns-clause-others : goal.returns-clause-others
 returns-clause-others g c q off = row_other _ _ _ _ _ _ c.requires.within (there _ _ _ c.requires.within c.index_mut.ensures.value) c.requires.row.stands q off
 
+-- how many calls were made
+
 pub returns-clause-most : goal.returns-clause-most
-returns-clause-most g c = ?
+returns-clause-most g c = omega (arith, c.read.ensures.most, goods_most (members_of c.index_mut.result.now) (number_of c.index_mut.result.now))
 
 pub returns-clause-once : goal.returns-clause-once
-returns-clause-once g c none = ?
+returns-clause-once g c none =
+    let was = there _ _ _ c.requires.within c.index_mut.ensures.value in
+    c.read.ensures.once (still_good g.R.Rack c.args.shape.now _ _ _ c.read.new.self _ _ c.requires.within was c.requires.row none c.read.ensures.leaves)
 
 pub returns-clause-quiet : goal.returns-clause-quiet
-returns-clause-quiet g c none lost = ?
+returns-clause-quiet g c none lost =
+    let was = there _ _ _ c.requires.within c.index_mut.ensures.value in
+    let x = c.index_mut.result.now in
+    let still = still_good g.R.Rack c.args.shape.now _ _ _ c.read.new.self _ _ c.requires.within was c.requires.row none c.read.ensures.leaves in
+    omega (arith, c.read.ensures.most, still, goods_none (members_of c.read.new.self) (number_of x) (c.read.ensures.lost.0 lost))
