@@ -4,15 +4,16 @@ use Rattle.std.specs.Prelude.{◌==◌, IfOk, OnErr, Result, Ok, Err, not, slice
 use Rattle.std.specs.List.{All, Contains, filter}
 use Rattle.std.proofs.lemmas.Bool.{cases_eq, false≢true}
 use Rattle.std.proofs.lemmas.Bool.Decides.{nat_tests}
-use Rattle.std.proofs.lemmas.List.{get_or-set_same, get_or-set_other, set-set, set-get_or, append-nil, length-append}
+use Rattle.std.proofs.lemmas.List.{get_or-set_same, get_or-set_other, set-set, set-get_or, append-nil, length-append, nil_from_length}
 use Rattle.std.proofs.lemmas.List.Sums.{length-filter}
 use Rattle.std.proofs.lemmas.List.Filters.{length-filter_both}
 use Rattle.std.proofs.lemmas.List.Elements.{All-head, All-tail, All-nil, All-cons, All-filter, All-contains, All-contains_itself, Contains-get_or, Contains-push, filter-append, filter_passes}
+use Rattle.dg_model.proofs.SiteLists.{count_pos}
 use Rattle.dg_model.specs.Sites.{IsGivenFirst, IsSited, has_site}
 use Rattle.dg_model.specs.Tables.{Table, IsTable, count_on, put_site, sites_in, sites_off, without_site}
 use Rattle.dg_model.specs.declared.sites.Site.{Site}
 use Rattle.dg_model.specs.declared.failures.NoMemory.{NoMemory}
-use Rattle.dg_store.specs.Answers.{IsPlaced, SameWritten}
+use Rattle.dg_store.specs.Answers.{IsPlaced, SameWritten, reaped}
 use Rattle.dg_store.specs.Slots.{AreSlots}
 use Rattle.dg_store.specs.declared.store.PlaceAnswer.{PlaceAnswer}
 use Rattle.dg_store.specs.declared.store.PlaceAnswer.TheVariants.{Full, Gone, Lost, Placed}
@@ -194,3 +195,31 @@ sited_again old new b has same = record {
   kept = λ some. same;
   first = λ none. absurd (false≢true (sym none ∙ has));
 }
+
+-- ---- a block that gives up all its sites
+
+-- the table once block b has these sites
+abbrev pub with_sites : Table → ℕ → List Site → Table
+with_sites table b sites = record table { rows = slice_set table.rows b sites }
+
+pub with_same : (table : Table) (b : ℕ) → table ≡ with_sites table b (sites_in table b)
+with_same table b = ap (λ (rows : List (List Site)). record table { rows = rows }) (sym (set-get_or table.rows b []))
+
+-- one more site is given up
+pub with_less : (old now new : Table) (b s : ℕ) → b < length now.rows → now ≡ with_sites old b (sites_in now b) → new ≡ without_site now b s → new ≡ with_sites old b (sites_in new b)
+with_less old now new b s within is less =
+    let off = sites_off s (sites_in now b) in
+    let here : sites_in new b ≡ off = ap (λ (t : Table). sites_in t b) less ∙ without_here now b s within in
+    less
+    ∙ ap (λ (t : Table). with_sites t b off) is
+    ∙ ap (λ (rows : List (List Site)). record old { rows = rows }) (set-set old.rows b (sites_in now b) off)
+    ∙ ap (with_sites old b) (sym here)
+
+pub fewer_sites : (now new : Table) (b : ℕ) (site : Site) → b < length now.rows → Contains (sites_in now b) site → new ≡ without_site now b site.boundary → length (sites_in new b) < length (sites_in now b)
+fewer_sites now new b site within there less =
+    let test : Site → Bool = λ (x : Site). x.boundary == site.boundary in
+    let here : sites_in new b ≡ sites_off site.boundary (sites_in now b) = ap (λ (t : Table). sites_in t b) less ∙ without_here now b site.boundary within in
+    omega (arith, ap length here, length-filter_both test (λ (x : Site). not (x.boundary == site.boundary)) (λ (x : Site). refl) (sites_in now b), length-filter test (sites_in now b), count_pos site.boundary (sites_in now b) site there refl)
+
+pub all_given : (old now : Table) (b : ℕ) → now ≡ with_sites old b (sites_in now b) → length (sites_in now b) ≡ 0 → now ≡ reaped old b
+all_given old now b is none = is ∙ ap (with_sites old b) (nil_from_length (sites_in now b) none)
