@@ -41,7 +41,7 @@ zeroed_now size (Some a) (Some b) made = made
 
 long_zeroed : (shape : Shape) (told : Option (List ℕ)) → IsZeroed (member_length 2 shape) told → IfSome told (λ all. member_length 1 shape ≤ length all)
 long_zeroed shape None zeros = tt
-long_zeroed shape (Some all) zeros = omega (arith, ap length zeros, length-replicate (member_length 2 shape) 0)
+long_zeroed shape (Some all) zeros = omega (arith, ap length zeros, length-replicate {A = ℕ} (member_length 2 shape) 0)
 
 -- members that were blanked are long enough
 pub blank_long : (shape : Shape) (n : ℕ) (f g : ℕ → ℕ) (members : ℕ → MemberState) (bytes : ℕ → Option (List ℕ)) → AreBlank n f g members → AreZeroed (member_length 2 shape) members bytes → AreLong shape members bytes

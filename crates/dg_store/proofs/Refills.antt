@@ -62,7 +62,7 @@ replaced_changed a s p x y old new at changed is q = elim (cases_eq (q / 2) s) [
 blank_is_long : (shape : Shape) (size : ℕ) (before now : Option (List ℕ)) → member_length 1 shape ≤ size → Told (IsZeros size) before now → IsLong shape now
 blank_is_long shape size before None least made = tt
 blank_is_long shape size None (Some b) least made = absurd made
-blank_is_long shape size (Some a) (Some b) least made = omega (arith, ap length made, length-replicate size 0)
+blank_is_long shape size (Some a) (Some b) least made = omega (arith, ap length made, length-replicate {A = ℕ} size 0)
 
 -- each member is long enough after a replacement
 pub replaced_long : (shape : Shape) (p size : ℕ) (a : ReplaceAnswer) (x y : ℕ → MemberState) (before now : ℕ → Option (List ℕ)) → member_length 1 shape ≤ size
@@ -185,21 +185,25 @@ patched_long : (shape : Shape) (place : ℕ) (piece : List ℕ) (before now : Op
 patched_long shape place piece before None made fits long = tt
 patched_long shape place piece None (Some b) made fits long = absurd made
 patched_long shape place piece (Some a) (Some b) made fits long =
-    omega (
+    let size : length (take place a ++ piece ++ drop (place + length piece) a) ≡ length a = omega (
       arith,
-      long,
       fits,
-      ap length made,
-      length-append (take place a) (piece ++ drop (place + length piece) a),
-      length-append piece (drop (place + length piece) a),
+      length-append (take place a ++ piece) (drop (place + length piece) a),
+      length-append (take place a) piece,
       length-take-le place a (omega (arith, fits)),
       length-drop (place + length piece) a,
-    )
+    ) in
+    subst (λ (n : ℕ). member_length 1 shape ≤ n) (sym (ap length made ∙ size)) long
 
 extended_long : (shape : Shape) (n : ℕ) (before now : Option (List ℕ)) → Told (Extended n) before now → IsLong shape before → IsLong shape now
 extended_long shape n before None made long = tt
 extended_long shape n None (Some b) made long = absurd made
 extended_long shape n (Some a) (Some b) made long = omega (arith, long, ap length made, length-append a (replicate (n - length a) 0))
+
+is_good_by : (m : MemberState) → (m ≢ Good → ⊥) → m ≡ Good
+is_good_by Good never = refl
+is_good_by (Filling have) never = absurd (never (λ is. absurd (cc is)))
+is_good_by Out never = absurd (never (λ is. absurd (cc is)))
 
 -- each member is long enough after a note
 pub noted_long : (shape : Shape) (p place : ℕ) (piece : List ℕ) (a : NoteAnswer) (x y : ℕ → MemberState) (before now : ℕ → Option (List ℕ))
@@ -220,11 +224,6 @@ noted_long shape p place piece a x y before now was fits not_good fell made othe
     here Noted stands not_good fell made quiet long = patched_long shape place piece (before p) (now p) (made refl) (fits (is_good_by (x p) (λ ne. let e = not_good.1 ne in absurd (cc e)))) (long (was p stands))
     here NotGood stands not_good fell made quiet long = subst (λ (b : ℕ → Option (List ℕ)). IsLong shape (b p)) (sym (quiet refl)) (long (was p stands))
     here NoteFell stands not_good fell made quiet long = absurd (stands (fell refl))
-
-    is_good_by : (m : MemberState) → (m ≢ Good → ⊥) → m ≡ Good
-    is_good_by Good never = refl
-    is_good_by (Filling have) never = absurd (never (λ is. absurd (cc is)))
-    is_good_by Out never = absurd (never (λ is. absurd (cc is)))
 
 -- the same after it was made longer
 pub extended_is_long : (shape : Shape) (p size : ℕ) (a : ExtendAnswer) (x y : ℕ → MemberState) (before now : ℕ → Option (List ℕ))

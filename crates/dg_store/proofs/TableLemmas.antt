@@ -1,7 +1,7 @@
 -- Rows of a table: a site is put, or the sites on a boundary are taken from a block.
 use Rattle.std.proofs.Common.{◌≡◌, ◌≢◌, inl, inr, ℕ, ◌+◌, ◌≤◌, ◌<◌, true, false, Bool, cond, List, [], ◌∷◌, ◌++◌, length, refl, sym, ◌∙◌, ap, subst, arith, get_or}
-use Rattle.std.specs.Prelude.{◌==◌, IfOk, OnErr, Result, Ok, Err, not, slice_set}
-use Rattle.std.specs.List.{All, Contains, filter}
+use Rattle.std.specs.Prelude.{◌==◌, IfOk, MatchOption, None, OnErr, Option, Result, Ok, Err, Some, not, slice_set}
+use Rattle.std.specs.List.{All, Contains, filter, range_with_len}
 use Rattle.std.proofs.lemmas.Bool.{cases_eq, false≢true}
 use Rattle.std.proofs.lemmas.Bool.Decides.{nat_tests}
 use Rattle.std.proofs.lemmas.List.{get_or-set_same, get_or-set_other, set-set, set-get_or, append-nil, length-append, nil_from_length}
@@ -10,6 +10,13 @@ use Rattle.std.proofs.lemmas.List.Filters.{length-filter_both}
 use Rattle.std.proofs.lemmas.List.Elements.{All-head, All-tail, All-nil, All-cons, All-filter, All-contains, All-contains_itself, Contains-get_or, Contains-push, filter-append, filter_passes}
 use Rattle.dg_model.proofs.SiteLists.{count_pos}
 use Rattle.dg_model.specs.Sites.{IsGivenFirst, IsSited, has_site}
+use Rattle.dg_model.specs.Members.{is_lost}
+use Rattle.dg_model.specs.States.{IsLeastLost, has_lost}
+use Rattle.dg_model.specs.declared.members.MemberState.{MemberState}
+use Rattle.dg_model.specs.declared.shapes.Shape.{Shape}
+use Rattle.std.proofs.lemmas.List.Folds.{list_any-from_Any, list_any_none}
+use Rattle.std.proofs.lemmas.List.FromFn.{get_or-range_with_len, length-range_with_len}
+use Rattle.std.specs.Option.{is_some}
 use Rattle.dg_model.specs.Tables.{Table, IsTable, count_on, put_site, sites_in, sites_off, without_site}
 use Rattle.dg_model.specs.declared.sites.Site.{Site}
 use Rattle.dg_model.specs.declared.failures.NoMemory.{NoMemory}
@@ -168,7 +175,7 @@ put_written old new b s within has placed c =
 -- the same by the answer of a copy
 pub written_by : (r : Result PlaceAnswer NoMemory) (old new : Table) (b s : ℕ) → b < length old.rows → has_site (sites_in old b) ≡ true
     → IfOk r (λ answer. answer ≡ Placed → IsPlaced old b s new) → IfOk r (λ answer. answer ≢ Placed → new ≡ old) → OnErr r (new ≡ old) → SameWritten old new
-written_by (Ok Placed) old new b s within has placed refused err = put_written old new b s within has (placed refl)
+written_by (Ok Placed) old new b s within has placed refused err c = put_written old new b s within has (placed refl) c
 written_by (Ok Full) old new b s within has placed refused err c = ap (λ (t : Table). has_site (sites_in t c)) (refused (λ is. absurd (cc is)))
 written_by (Ok Gone) old new b s within has placed refused err c = ap (λ (t : Table). has_site (sites_in t c)) (refused (λ is. absurd (cc is)))
 written_by (Ok (Lost t)) old new b s within has placed refused err c = ap (λ (t : Table). has_site (sites_in t c)) (refused (λ is. absurd (cc is)))
@@ -223,3 +230,22 @@ fewer_sites now new b site within there less =
 
 pub all_given : (old now : Table) (b : ℕ) → now ≡ with_sites old b (sites_in now b) → length (sites_in now b) ≡ 0 → now ≡ reaped old b
 all_given old now b is none = is ∙ ap (with_sites old b) (nil_from_length (sites_in now b) none)
+
+pub shaped_within : (old now : Table) (b : ℕ) → now ≡ with_sites old b (sites_in now b) → IsTable now → b < old.shape.n → b < length now.rows
+shaped_within old now b is table below = let same : now.shape.n ≡ old.shape.n = ap (λ (t : Table). t.shape.n) is in omega (arith, table.size, same, below)
+
+-- ---- lost boundaries
+
+pub none_lost : (shape : Shape) (members : ℕ → MemberState) → ((t : ℕ) → t < shape.b → is_lost members t ≡ false) → has_lost shape members ≡ false
+none_lost shape members none =
+    list_any_none (λ (s : ℕ). is_lost members s) (range_with_len 0 shape.b)
+    (λ k d within. none (get_or (range_with_len 0 shape.b) k d) (omega (arith, get_or-range_with_len 0 shape.b k d (omega (arith, length-range_with_len 0 shape.b)), length-range_with_len 0 shape.b)))
+
+some_lost : (shape : Shape) (members : ℕ → MemberState) (s : ℕ) → s < shape.b → is_lost members s ≡ true → has_lost shape members ≡ true
+some_lost shape members s below lost =
+    list_any-from_Any (λ (t : ℕ). is_lost members t) (range_with_len 0 shape.b)
+    (s, s, omega (arith, length-range_with_len 0 shape.b), (let at = get_or-range_with_len 0 shape.b s s below in omega (arith, at)), lost)
+
+pub degraded : (shape : Shape) (members : ℕ → MemberState) (least : Option ℕ) → MatchOption least (has_lost shape members ≡ false) (IsLeastLost shape members) → is_some least ≡ has_lost shape members
+degraded shape members None none = sym none
+degraded shape members (Some s) is = sym (some_lost shape members s is.within is.lost)

@@ -73,8 +73,8 @@ fetched_one {R} rack old new b result reads gone called unwritten most once = re
     by_given true is =
         let parts = and_parts (is_written (table_of old) b) (not (all_lost (members_of new) (sites_in (table_of old) b))) is in
         let stands : result ≡ Gone → ⊥ = λ lost.
-            let both = and_parts (has_site (sites_in (table_of new) b)) (all_lost (members_of new) (sites_in (table_of new) b)) (gone.0 lost) in
-            absurd (false≢true (sym (ap not (sym (ap (λ (t : Table). all_lost (members_of new) (sites_in t b)) reads.table) ∙ both.1)) ∙ parts.1)) in
+        let both = and_parts (has_site (sites_in (table_of new) b)) (all_lost (members_of new) (sites_in (table_of new) b)) (gone.0 lost) in
+        absurd (false≢true (sym (ap not (sym (ap (λ (t : Table). all_lost (members_of new) (sites_in t b)) reads.table) ∙ both.1)) ∙ parts.1)) in
         let rose = called (got result stands) parts.0 in
         omega arith
 

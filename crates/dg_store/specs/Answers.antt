@@ -90,9 +90,10 @@ pub record HasNextSlot (members : ℕ → MemberState) (s slots : ℕ) : Type 0 
   pub refilled : IsRefilled members s member have
   pub below : have < slots
 
--- no block stands in the next slot of that member
-abbrev pub NextIsFree : Table → (ℕ → MemberState) → ℕ → Type 0
-NextIsFree table members s = (q have : ℕ) → IsRefilled members s q have → IsFree table s have
+-- the same, and no block stands in that slot
+pub record HasFreeSlot (table : Table) (members : ℕ → MemberState) (s slots : ℕ) : Type 0 where
+  pub next : HasNextSlot members s slots
+  pub free : IsFree table s next.have
 
 -- boundary s has a member that is refilled, and it has all slots
 pub record HasAllSlots (members : ℕ → MemberState) (s slots : ℕ) : Type 0 where
@@ -103,7 +104,3 @@ pub record HasAllSlots (members : ℕ → MemberState) (s slots : ℕ) : Type 0 
 pub record ChangesAt (change : MemberState → MemberState) (s : ℕ) (old new : ℕ → MemberState) : Type 0 where
   pub here : (q : ℕ) → q / 2 ≡ s → new q ≡ change (old q)
   pub others : (q : ℕ) → q / 2 ≢ s → new q ≡ old q
-
--- each other member is as it was
-abbrev pub OnlyMemberChanges : ℕ → (ℕ → MemberState) → (ℕ → MemberState) → Type 0
-OnlyMemberChanges p old new = (q : ℕ) → q ≢ p → new q ≡ old q

@@ -1,5 +1,5 @@
 -- What any call leaves of a store. A fact about all calls is one field here.
-use Rattle.std.specs.Prelude.{◌≡◌, ◌↔◌, ◌+◌, ◌≤◌, ℕ, List}
+use Rattle.std.specs.Prelude.{◌≡◌, ◌↔◌, ◌+◌, ◌-◌, ◌^◌, ◌≤◌, ℕ, List, min}
 use Rattle.dg_io.specs.Faults.{OnlyMember}
 use Rattle.dg_io.specs.Told.{OthersSame, StillTold, Told}
 use Rattle.dg_io.specs.declared.outside.Rack.{Ghosts}
@@ -49,6 +49,10 @@ OnlyFaultsOf rack old new q = OnlyMember q (rack.counts (rack_of old)).faults (r
 -- at most so many calls on the rack
 abbrev pub CallsAtMost : {R : Type 0} → Ghosts R → Store R → Store R → ℕ → Type 0
 CallsAtMost rack old new most = (rack.counts (rack_of new)).calls ≤ (rack.counts (rack_of old)).calls + most
+
+-- at least so many, but that a count stands still at its end
+abbrev pub CallsAtLeast : {R : Type 0} → Ghosts R → Store R → Store R → ℕ → Type 0
+CallsAtLeast rack old new least = min ((rack.counts (rack_of old)).calls + least) (2 ^ 64 - 1) ≤ (rack.counts (rack_of new)).calls
 
 -- a call was made
 abbrev pub HasCalled : {R : Type 0} → Ghosts R → Store R → Store R → Type 0

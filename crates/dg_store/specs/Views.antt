@@ -1,5 +1,5 @@
 -- What any number of reads leave of a store.
-use Rattle.std.specs.Prelude.{◌≡◌, ◌≤◌, ◌+◌, ◌*◌, ◌-◌, ◌^◌, ◌&&◌, not, min, ℕ, Bool, List, Option, count_by, length}
+use Rattle.std.specs.Prelude.{◌≡◌, ◌≤◌, ◌*◌, ◌&&◌, not, ℕ, Bool, List, Option, count_by, length}
 use Rattle.std.specs.List.{sum_by}
 use Rattle.dg_io.specs.declared.outside.Rack.{Ghosts}
 use Rattle.dg_model.specs.Members.{MembersFall}
@@ -7,7 +7,7 @@ use Rattle.dg_model.specs.Sites.{all_lost, has_site}
 use Rattle.dg_model.specs.Tables.{Table, sites_in}
 use Rattle.dg_model.specs.declared.members.MemberState.{MemberState}
 use Rattle.dg_store.specs.declared.store.Store.{Store}
-use Rattle.dg_store.specs.Leaves.{CallsAtMost, Keeps, NoFault}
+use Rattle.dg_store.specs.Leaves.{CallsAtLeast, CallsAtMost, Keeps, NoFault}
 use Rattle.dg_store.specs.Stores.{rack_of, table_of, members_of}
 
 -- the sites stay, members only fall, and nothing was written
@@ -30,6 +30,6 @@ pub record Fetches {R : Type 0} (rack : Ghosts R) (old : Store R) (blocks : List
   pub table : table_of new ≡ table_of old
   pub falls : MembersFall (rack.counts (rack_of old)).faults (rack.counts (rack_of new)).faults (members_of old) (members_of new)
   pub later : (q : ℕ) → (rack.counts (rack_of old)).faults q ≤ (rack.counts (rack_of new)).faults q
-  pub rose : min ((rack.counts (rack_of old)).calls + count_by (is_given (table_of old) (members_of new)) blocks) (2 ^ 64 - 1) ≤ (rack.counts (rack_of new)).calls
+  pub rose : CallsAtLeast rack old new (count_by (is_given (table_of old) (members_of new)) blocks)
   pub most : CallsAtMost rack old new (2 * sum_by (λ b. length (sites_in (table_of old) b)) blocks)
   pub few : NoFault rack old new → CallsAtMost rack old new (count_by (is_written (table_of old)) blocks)

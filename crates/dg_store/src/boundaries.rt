@@ -57,9 +57,9 @@ pub fn least_lost_of(row: &Vec<Boundary>, shape: &Shape) -> Option<u8>
     requires count { length row.now.items ≡ shape.now.b }
     ensures { MatchOption result (has_lost shape.now (members_in row.now.items) ≡ false) (IsLeastLost shape.now (members_in row.now.items)) }
 {
-    for boundary in 0..shape.b {
-        if is_lost_at(row, shape, boundary) {
-            return Some(boundary);
+    for number in 0..shape.b {
+        if is_lost_at(row, shape, number) {
+            return Some(number);
         }
     }
     None
@@ -126,7 +126,8 @@ pub fn write_slot<R: Rack>(
     ensures lost { (result ≡ PairWrite.Lost) ↔ (is_lost (members_in row.new.items) site.boundary ≡ true) }
     ensures out { result ≡ PairWrite.Lost → (q : ℕ) → q / 2 ≡ site.boundary → members_in row.new.items q ≡ MemberState.Out }
     ensures put { SlotHolds shape.now.l (members_in row.new.items) (R.bytes rack.new) site.boundary site.slot buf.now }
-    ensures kept { KeepsOtherSlots shape.now.l site.boundary site.slot (members_in row.old.items) (R.bytes rack.old) (members_in row.new.items) (R.bytes rack.new) }
+    ensures kept { KeepsOtherSlots shape.now.l site.boundary site.slot
+        (members_in row.old.items) (R.bytes rack.old) (members_in row.new.items) (R.bytes rack.new) }
     ensures others { (q : ℕ) → q / 2 ≢ site.boundary → members_in row.new.items q ≡ members_in row.old.items q }
     ensures most { (R.counts rack.new).calls ≤ (R.counts rack.old).calls + 2 }
 {

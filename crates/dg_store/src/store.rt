@@ -10,7 +10,7 @@ ghost use Rattle.dg_model.specs.States.{IsLeastLost, has_lost};
 ghost use Rattle.dg_model.specs.Tables.{Table, IsTable, count_on, sites_in, used_in, without_site};
 ghost use Rattle.dg_pair.specs.Boundaries.{IsWell, completed, number_of, members_of as boundary_members, raised, unfilled};
 ghost use Rattle.dg_pair.specs.Calls.{KeepsBeside, copied, replaced};
-ghost use Rattle.dg_store.specs.Answers.{ChangesAt, HasAllSlots, HasNextSlot, IsAllLost, IsBlankStore, IsFull, IsPlaced, IsStored, IsUnchanged, NextIsFree, OnlyMemberChanges, SameWritten, reaped};
+ghost use Rattle.dg_store.specs.Answers.{ChangesAt, HasAllSlots, HasFreeSlot, HasNextSlot, IsAllLost, IsBlankStore, IsFull, IsPlaced, IsStored, IsUnchanged, SameWritten, reaped};
 ghost use Rattle.dg_store.specs.Leaves.{BytesChange, CallsAtMost, FaultRose, HasCalled, HasWritten, Leaves, NoFault, OnlyBytesOf, OnlyFaultsOf, Stays};
 ghost use Rattle.dg_store.specs.Rows.{IsRow, members_in};
 ghost use Rattle.dg_store.specs.Slots.{SitesTell};
@@ -369,7 +369,8 @@ impl<R: Rack> Store<R> {
         ensures lost { (result ≡ CopyAnswer.Lost) ↔ (is_lost (members_of self.new) boundary ≡ true) }
         ensures copied { result ≡ CopyAnswer.Copied → ChangesAt raised boundary (members_of self.old) (members_of self.new) }
         ensures fell { result ≡ CopyAnswer.Fell → ChangesAt unfilled boundary (members_of self.old) (members_of self.new) }
-        ensures fault { result ≡ CopyAnswer.Fell → (q : ℕ) → q / 2 ≡ boundary → is_filling (members_of self.old q) ≡ true → FaultRose R.Rack self.old self.new q }
+        ensures fault { result ≡ CopyAnswer.Fell → (q : ℕ) → q / 2 ≡ boundary → is_filling (members_of self.old q) ≡ true
+            → FaultRose R.Rack self.old self.new q }
         ensures others { (q : ℕ) → q / 2 ≢ boundary → members_of self.new q ≡ members_of self.old q }
         ensures falls { result ≢ CopyAnswer.Copied
             → MembersFall (R.counts (rack_of self.old)).faults (R.counts (rack_of self.new)).faults (members_of self.old) (members_of self.new) }
@@ -385,8 +386,7 @@ impl<R: Rack> Store<R> {
     pub fn pass_slot(&mut self, boundary: u8)
         requires sound { IsSound R.Rack self.old }
         requires boundary { boundary < (shape_of self.old).b }
-        requires next { HasNextSlot (members_of self.old) boundary ((shape_of self.old).k + 1) }
-        requires unused { NextIsFree (table_of self.old) (members_of self.old) boundary }
+        requires next { HasFreeSlot (table_of self.old) (members_of self.old) boundary ((shape_of self.old).k + 1) }
         ensures sound { IsSound R.Rack self.new }
         ensures stays { Stays R.Rack self.old self.new }
         ensures rack { rack_of self.new ≡ rack_of self.old }
@@ -554,7 +554,8 @@ impl<R: Rack> Store<R> {
         ensures full { IfOk result (λ answer. (answer ≡ PlaceAnswer.Full) ↔ ((shape_of self.old).k + 1 ≤ used_in (table_of self.old) boundary)) }
         ensures there { IfOk result (λ answer. answer ≢ PlaceAnswer.Gone) }
         ensures members { (q : ℕ) → q / 2 ≢ boundary → members_of self.new q ≡ members_of self.old q }
-        ensures live { all_lost (members_of self.new) (sites_in (table_of self.old) block) ≡ all_lost (members_of self.old) (sites_in (table_of self.old) block) }
+        ensures live { all_lost (members_of self.new) (sites_in (table_of self.old) block)
+            ≡ all_lost (members_of self.old) (sites_in (table_of self.old) block) }
         ensures lost { IfOk result (λ answer. answer ≢ PlaceAnswer.Full
             → (answer ≡ PlaceAnswer.Lost boundary) ↔ (is_lost (members_of self.new) boundary ≡ true)) }
         ensures other { IfOk result (λ answer. (s : ℕ) → answer ≡ PlaceAnswer.Lost s → s ≡ boundary) }

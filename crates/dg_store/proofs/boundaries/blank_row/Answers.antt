@@ -46,7 +46,7 @@ pub returns-clause-row : goal.returns-clause-row
 returns-clause-row g c =
     let inv = c.loop-number.invariant in
     record {
-      count = ?;
+      count = let end = c.loop-number.auto.number-end in let past = c.loop-number-test.false in omega (arith, inv.count);
       stands = inv.stands;
       long = blank_long c.args.shape.now _ _ _ _ _ inv.begins inv.zeros;
       stand = inv.stand;

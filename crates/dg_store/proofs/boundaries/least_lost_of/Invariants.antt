@@ -3,5 +3,5 @@ use Rattle.dg_model.specs.Members.{is_lost}
 use Rattle.dg_store.specs.Rows.{members_in}
 use Rattle.dg_store.proofs.boundaries.least_lost_of.Given as goal
 
-abbrev pub invariant-loop-boundary : goal.invariant-loop-boundary
-invariant-loop-boundary l = (t : ℕ) → t < l.boundary → is_lost (members_in l.row.items) t ≡ false
+abbrev pub invariant-loop-number : goal.invariant-loop-number
+invariant-loop-number l = (t : ℕ) → t < l.number → is_lost (members_in l.row.items) t ≡ false

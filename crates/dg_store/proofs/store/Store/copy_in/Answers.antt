@@ -9,23 +9,23 @@ use Rattle.dg_store.proofs.store.Store.copy_in.Goals as goal
 
 -- no site was taken
 
-pub returns-in-Full-clause-leaves : goal.returns-in-Full-clause-leaves
-returns-in-Full-clause-leaves g c =
+pub returns-in-Err-Full-clause-leaves : goal.returns-in-Err-Full-clause-leaves
+returns-in-Err-Full-clause-leaves g c =
     let s = c.requires.sound in
-    leaves_of g.R.Rack c.args.self.now _ (ap (λ (t : Table). t.shape) c.in-Full.ensures.refused) c.take_spare.ensures.table s.built.block s.built.given_up
+    leaves_of g.R.Rack c.args.self.now _ (ap (λ (t : Table). t.shape) c.in-Err-Full.ensures.refused) c.take_spare.ensures.table s.built.block s.built.given_up
     (keeps_none g.R.Rack c.args.self.now.map.shape _ _ (row_of g.R.Rack c.args.self.now s))
 
-pub returns-in-Full-clause-same : goal.returns-in-Full-clause-same
-returns-in-Full-clause-same g c other V st = rw c.in-Full.ensures.refused st
+pub returns-in-Err-Full-clause-same : goal.returns-in-Err-Full-clause-same
+returns-in-Err-Full-clause-same g c other V st = rw c.in-Err-Full.ensures.refused st
 
-pub returns-in-NoMemory-clause-leaves : goal.returns-in-NoMemory-clause-leaves
-returns-in-NoMemory-clause-leaves g c =
+pub returns-in-Err-NoMemory-clause-leaves : goal.returns-in-Err-NoMemory-clause-leaves
+returns-in-Err-NoMemory-clause-leaves g c =
     let s = c.requires.sound in
-    leaves_of g.R.Rack c.args.self.now _ (ap (λ (t : Table). t.shape) c.in-NoMemory.ensures.refused) c.take_spare.ensures.table s.built.block s.built.given_up
+    leaves_of g.R.Rack c.args.self.now _ (ap (λ (t : Table). t.shape) c.in-Err-NoMemory.ensures.refused) c.take_spare.ensures.table s.built.block s.built.given_up
     (keeps_none g.R.Rack c.args.self.now.map.shape _ _ (row_of g.R.Rack c.args.self.now s))
 
-pub returns-in-NoMemory-clause-err_same : goal.returns-in-NoMemory-clause-err_same
-returns-in-NoMemory-clause-err_same g c V st = rw c.in-NoMemory.ensures.refused st
+pub returns-in-Err-NoMemory-clause-err_same : goal.returns-in-Err-NoMemory-clause-err_same
+returns-in-Err-NoMemory-clause-err_same g c V st = rw c.in-Err-NoMemory.ensures.refused st
 
 -- the write of the new site
 

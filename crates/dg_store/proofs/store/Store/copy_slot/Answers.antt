@@ -179,8 +179,8 @@ returns-clause-stands g c is told V st_for =
     (λ t slot v. kept_at _ _ _ _ x y within was s.built.stands _ _ c.copy_slot.ensures.leaves.other_bytes t slot v
     (λ here part. elim (cases_eq slot next.have) [
       | inl same ↦ c.copy_slot.ensures.moved is slot v
-        (rw same (part_filling _ _ _ _ x within was s.built.stands next))
-        (λ q good. copy_told c.args.boundary q _ _ _ _ changed (k.copied is) st.own _ told good) part
+          (rw same (part_filling _ _ _ _ x within was s.built.stands next))
+          (λ q good. copy_told c.args.boundary q _ _ _ _ changed (k.copied is) st.own _ told good) part
       | inr apart ↦ c.copy_slot.ensures.kept slot v (λ done. not_next _ _ _ _ x within was s.built.stands next slot apart) part
     ])) st_for
 

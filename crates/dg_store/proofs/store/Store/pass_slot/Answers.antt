@@ -18,7 +18,7 @@ pass_slot-requires-clause-well g c =
 pub pass_slot-requires-clause-next : goal.pass_slot-requires-clause-next
 pass_slot-requires-clause-next g c =
     let within : c.args.boundary < length c.args.self.now.row.items = omega (arith, c.requires.boundary, c.requires.sound.built.count) in
-    part_next _ _ _ _ c.index_mut.result.now within (there _ _ _ within c.index_mut.ensures.value) c.requires.sound.built.stands c.requires.next
+    part_next _ _ _ _ c.index_mut.result.now within (there _ _ _ within c.index_mut.ensures.value) c.requires.sound.built.stands c.requires.next.next
 
 pub returns-clause-sound : goal.returns-clause-sound
 returns-clause-sound g c =
@@ -66,7 +66,7 @@ returns-clause-stands g c V st_for =
     let st = s.built.stands _ _ was in
     let k = rw st.number_is at c.pass_slot.ensures in
     let changed = set_changed row c.args.boundary x y within was in
-    let next = c.requires.next in
-    stands_free _ _ _ _ V c.args.self.now.map c.args.boundary next.have (c.requires.unused next.member next.have next.refilled)
+    let next = c.requires.next.next in
+    stands_free _ _ _ _ V c.args.self.now.map c.args.boundary next.have c.requires.next.free
     (row_kept_others _ _ _ _ x y within was s.built.stands _ _ (λ q off. same_told _) next.have
     (λ slot v apart. c.pass_slot.ensures.kept _ slot v (not_next _ _ _ _ x within was s.built.stands next slot apart))) st_for

@@ -1,7 +1,7 @@
 use Rattle.std.proofs.Common.{refl, ◌∙◌}
 use Rattle.dg_store.specs.ReadLaws.{reads_none}
 use Rattle.dg_store.proofs.Sound.{leaves_of, row_of}
-use Rattle.dg_store.proofs.TableLemmas.{are_slots, no_calls}
+use Rattle.dg_store.proofs.TableLemmas.{are_slots}
 use Rattle.dg_store.proofs.PlaceLemmas.{sites_tell}
 use Rattle.dg_store.proofs.store.Store.read.Goals as goal
 

@@ -159,21 +159,6 @@ returns-clause-members g c =
     let at : p / 2 ≡ c.args.boundary = omega (arith, c.requires.side) in
     replaced_changed c.replace.result c.args.boundary p _ _ _ _ at changed k.members
 
-pub returns-clause-others : goal.returns-clause-others
-returns-clause-others g c =
-    let s = c.requires.sound in
-    let within : c.args.boundary < length c.args.self.now.row.items = omega (arith, c.requires.boundary, s.built.count) in
-    let was = there _ _ _ within c.index_mut.ensures.value in
-    let x = c.index_mut.result.now in
-    let y = c.replace.new.self in
-    let row = c.args.self.now.row.items in
-    let st = s.built.stands _ _ was in
-    let k = rw st.number_is at c.replace.ensures in
-    let changed = set_changed row c.args.boundary x y within was in
-    let p = 2 * c.args.boundary + c.args.side in
-    let at : p / 2 ≡ c.args.boundary = omega (arith, c.requires.side) in
-    λ q other. replaced_changed c.replace.result c.args.boundary p _ _ _ _ at changed k.members q ∙ replaced_other c.replace.result p _ q other
-
 pub returns-clause-stands : goal.returns-clause-stands
 returns-clause-stands g c =
     let s = c.requires.sound in

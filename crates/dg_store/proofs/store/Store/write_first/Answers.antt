@@ -61,9 +61,9 @@ returns-in-Kept-clause-stored g c is =
     record {
       sited = sited_first _ _ c.args.block c.requires.1.1.1.1.1 first.given;
       live = subst (λ (xs : List Site). all_lost (members_in c.write_slot.new.row.items) xs ≡ false) (sym first.last)
-      (one_live _ site (λ lost. let e = c.write_slot.ensures.lost.1 lost in absurd (cc (c.in-Kept.is, e))));
+          (one_live (members_in c.write_slot.new.row.items) site (λ lost. let e = c.write_slot.ensures.lost.1 lost in absurd (cc (c.in-Kept.is, e))));
       sets = λ V st. stands_written _ _ _ _ V c.args.self.now.map new c.args.block c.args.buf.now first.table c.requires.1.1.1.0 (first_fewer _ _ c.args.block site.boundary first.others) (ap has_site first.last)
-      (but_these new.shape.l _ _ _ _ _ site.boundary site.slot there k.kept) held st;
+          (but_these new.shape.l _ _ _ _ _ site.boundary site.slot there k.kept) held st;
       most = omega (arith, c.write_slot.ensures.most, ap (λ (xs : List Site). length xs) first.last);
     }
 
@@ -88,7 +88,7 @@ returns-in-Ok-undone-clause-lost g c is =
       lost = record {
         sited = c.give_first.new.map;
         is = sited_first _ _ c.args.block c.requires.1.1.1.1.1 first.given;
-        lost = ap (all_lost (members_in c.write_slot.new.row.items)) first.last ∙ lost_one _ site lost;
+        lost = ap (all_lost (members_in c.write_slot.new.row.items)) first.last ∙ lost_one (members_in c.write_slot.new.row.items) site lost;
       };
       table = back;
       stands = λ V st. rw back (stands_kept _ _ _ _ V c.args.self.now.map (slot_kept c.args.self.now.map.shape.l _ _ _ _ site.boundary site.slot (k.out c.in-Lost.is) k.kept) st);
@@ -109,5 +109,5 @@ returns-in-Err-clause-err g c =
     record {
       written = thinned.written;
       stands = λ V st. stands_fewer _ _ V c.args.self.now.map _ (thinned_fewer _ _ thinned)
-      (stands_kept _ _ _ _ V c.args.self.now.map (slot_kept c.args.self.now.map.shape.l _ _ _ _ c.in-Ok.site.boundary c.in-Ok.site.slot (k.out c.in-Lost.is) k.kept) st);
+          (stands_kept _ _ _ _ V c.args.self.now.map (slot_kept c.args.self.now.map.shape.l _ _ _ _ c.in-Ok.site.boundary c.in-Ok.site.slot (k.out c.in-Lost.is) k.kept) st);
     }
