@@ -5,6 +5,8 @@ mod boundaries;
 mod lengths;
 mod places;
 #[cfg(test)]
+mod refill_tests;
+#[cfg(test)]
 mod site_tests;
 mod sites;
 mod store;
