@@ -112,3 +112,14 @@ module _ (whole : Table) (are : AreSites whole) where
 -- the list of one block, where it stands in a vector
 pub list_at : (shape : Shape) (lists : List (Vec Site)) (b : ℕ) (list : Vec Site) → b < length lists → list ≡ get_or lists b list → sites_in (table_with shape lists) b ≡ list.items
 list_at shape lists b list lt is = get_or-map (λ (v : Vec Site). v.items) lists b list [] lt ∙ ap (λ (v : Vec Site). v.items) (sym is)
+
+-- a table's lists are such
+pub sites_of_table : (table : Table) → IsTable table → AreSites table
+sites_of_table table ok = record {
+  shape = ok.shape;
+  size = ok.size;
+  boundaries = ok.boundaries;
+  slots = ok.slots;
+  one_block = ok.one_block;
+  one_site = ok.one_site;
+}

@@ -11,4 +11,6 @@ pub record TakesLowest (old : Table) (block boundary : ℕ) (site : Site) (new :
 
 -- where the block had given up this site, the last of its list, the table is the one before that
 abbrev pub Undoes : Table → ℕ → Site → Table → Type 0
-Undoes old block site new = (before : Table) (others : List Site) → IsTable before → sites_in before block ≡ others ++ site ∷ [] → old ≡ without_site before block site.boundary → new ≡ before
+Undoes old block site new =
+    (before : Table) (others : List Site) → IsTable before → sites_in before block ≡ others ++ site ∷ []
+    → old ≡ without_site before block site.boundary → new ≡ before

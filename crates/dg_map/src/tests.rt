@@ -1,9 +1,11 @@
-ghost use Rattle.std.specs.Prelude.{◌≡◌};
-ghost use Rattle.dg_model.specs.Tables.{count_on};
+ghost use Rattle.std.specs.Prelude.{◌≡◌, IfOk};
+ghost use Rattle.dg_map.specs.Restores.{table_with};
+ghost use Rattle.dg_model.specs.Tables.{IsTable, count_on};
 
 use crate::{Map, Shape, Site, TakeFault};
 use Answer::{Barred, Full, Left, NoMemory, Slot};
 use Call::{GiveUp, Retake, Spare, Take};
+use std::alloc::Global;
 use std::process::Abort;
 use std::test::Fail;
 
@@ -189,6 +191,73 @@ fn takes_and_drops(rt: HostRuntime) -> Result<(), Fail> {
         check_row(&rt, &mut map, row);
     }
     check_blocks(&rt, &map);
+    Ok(())
+}
+
+/// The same sites, in a vector.
+fn copied(alloc: Global, sites: &[Site]) -> Result<Vec<Site>, crate::NoMemory>
+    ensures { IfOk result (λ copy. copy.items ≡ sites.now) }
+{
+    let mut copy = Vec::new(alloc);
+    for site in sites {
+        if copy.push(*site).is_err() {
+            return Err(crate::NoMemory);
+        }
+    }
+    Ok(copy)
+}
+
+/// The list of each block.
+fn lists_of(alloc: Global, map: &Map) -> Result<Vec<Vec<Site>>, crate::NoMemory>
+    requires { IsTable map.now }
+    ensures { IfOk result (λ lists. table_with map.now.shape lists.items ≡ map.now) }
+{
+    let mut lists = Vec::new(alloc);
+    for block in 0..map.shape().n {
+        if lists.push(copied(alloc, map.sites(block))?).is_err() {
+            return Err(crate::NoMemory);
+        }
+    }
+    Ok(lists)
+}
+
+/// The map that is made of the lists of another one.
+fn made_again(alloc: Global, map: &Map) -> Result<Map, crate::NoMemory> {
+    let shape = *map.shape();
+    let lists = lists_of(alloc, map)?;
+    Map::restored(alloc, shape, &lists)
+}
+
+#[test]
+fn restores(rt: HostRuntime) -> Result<(), Fail> {
+    let shape = Shape::check(512, 6, 2, 3, 1).ok_or("the shape")?;
+    let Ok(mut map) = Map::new(rt.alloc(), shape) else {
+        return Err("no memory".into());
+    };
+    for row in &ROWS {
+        check_row(&rt, &mut map, row);
+    }
+    let Ok(again) = made_again(rt.alloc(), &map) else {
+        return Err("no memory".into());
+    };
+    assert_eq!(rt; *again.shape(), shape);
+    check_blocks(&rt, &again);
+    for boundary in 0..2 {
+        assert_eq!(rt;
+            counts(&again, boundary),
+            counts(&map, boundary),
+            "{boundary}"
+        );
+    }
+    for block in 0..6 {
+        for at in 0..3 {
+            assert_eq!(rt;
+                place(&again, block, at),
+                place(&map, block, at),
+                "{block} {at}"
+            );
+        }
+    }
     Ok(())
 }
 

@@ -24,10 +24,10 @@ pub fn blank_row<R: Rack>(
     shape: &Shape,
 ) -> Result<Vec<Boundary>, NoMemory>
     requires { IsShape shape.now }
-    ensures row { IfOk result (λ row. IsRow shape.now row.items (R.bytes rack.new)) }
+    ensures row { IfOk result (λ row. IsRow R.Rack shape.now row.items rack.new) }
     ensures begins { IfOk result (λ row. AreBlank shape.now.b (R.counts rack.old).faults (R.counts rack.new).faults (members_in row.items)) }
     ensures zeros { IfOk result (λ row. AreZeroed (member_length 2 shape.now) (members_in row.items) (R.bytes rack.new)) }
-    ensures rack { RackStays R.counts R.bytes R.name rack.old rack.new }
+    ensures rack { RackStays R.Rack rack.old rack.new }
     ensures most { (R.counts rack.new).calls ≤ (R.counts rack.old).calls + 2 * shape.now.b }
 {
     let size = member_length(shape);
@@ -57,9 +57,9 @@ pub fn least_lost_of(row: &Vec<Boundary>, shape: &Shape) -> Option<u8>
     requires count { length row.now.items ≡ shape.now.b }
     ensures { MatchOption result (has_lost shape.now (members_in row.now.items) ≡ false) (IsLeastLost shape.now (members_in row.now.items)) }
 {
-    for boundary in 0..shape.b {
-        if is_lost_at(row, shape, boundary) {
-            return Some(boundary);
+    for number in 0..shape.b {
+        if is_lost_at(row, shape, number) {
+            return Some(number);
         }
     }
     None
@@ -89,11 +89,11 @@ pub fn read_slot<R: Rack>(
     site: Site,
     buf: &mut [u8],
 ) -> PairRead
-    requires row { IsRow shape.now row.old.items (R.bytes rack.old) }
+    requires row { IsRow R.Rack shape.now row.old.items rack.old }
     requires within { site.boundary < length row.old.items }
     requires slot { site.slot < shape.now.k + 1 }
     requires size { length buf.old ≡ shape.now.l }
-    ensures keeps { RowKeeps R.counts R.bytes R.name shape.now row.old.items rack.old row.new.items rack.new }
+    ensures keeps { RowKeeps R.Rack shape.now row.old.items rack.old row.new.items rack.new }
     ensures lost { (result ≡ PairRead.Lost) ↔ (is_lost (members_in row.new.items) site.boundary ≡ true) }
     ensures got { result ≡ PairRead.Got
         → (v : List ℕ) → SlotHolds shape.now.l (members_in row.old.items) (R.bytes rack.old) site.boundary site.slot v
@@ -118,15 +118,16 @@ pub fn write_slot<R: Rack>(
     site: Site,
     buf: &[u8],
 ) -> PairWrite
-    requires row { IsRow shape.now row.old.items (R.bytes rack.old) }
+    requires row { IsRow R.Rack shape.now row.old.items rack.old }
     requires within { site.boundary < length row.old.items }
     requires slot { site.slot < shape.now.k + 1 }
     requires size { length buf.now ≡ shape.now.l }
-    ensures keeps { RowKeeps R.counts R.bytes R.name shape.now row.old.items rack.old row.new.items rack.new }
+    ensures keeps { RowKeeps R.Rack shape.now row.old.items rack.old row.new.items rack.new }
     ensures lost { (result ≡ PairWrite.Lost) ↔ (is_lost (members_in row.new.items) site.boundary ≡ true) }
     ensures out { result ≡ PairWrite.Lost → (q : ℕ) → q / 2 ≡ site.boundary → members_in row.new.items q ≡ MemberState.Out }
     ensures put { SlotHolds shape.now.l (members_in row.new.items) (R.bytes rack.new) site.boundary site.slot buf.now }
-    ensures kept { KeepsOtherSlots shape.now.l site.boundary site.slot (members_in row.old.items) (R.bytes rack.old) (members_in row.new.items) (R.bytes rack.new) }
+    ensures kept { KeepsOtherSlots shape.now.l site.boundary site.slot
+        (members_in row.old.items) (R.bytes rack.old) (members_in row.new.items) (R.bytes rack.new) }
     ensures others { (q : ℕ) → q / 2 ≢ site.boundary → members_in row.new.items q ≡ members_in row.old.items q }
     ensures most { (R.counts rack.new).calls ≤ (R.counts rack.old).calls + 2 }
 {

@@ -32,10 +32,10 @@ pub fn read_sites<R: Rack>(
     sites: &[Site],
     buf: &mut [u8],
 ) -> Fetched
-    requires row { IsRow shape.now row.old.items (R.bytes rack.old) }
+    requires row { IsRow R.Rack shape.now row.old.items rack.old }
     requires within { AreSlots (length row.old.items) (shape.now.k + 1) sites.now }
     requires size { length buf.old ≡ shape.now.l }
-    ensures keeps { RowKeeps R.counts R.bytes R.name shape.now row.old.items rack.old row.new.items rack.new }
+    ensures keeps { RowKeeps R.Rack shape.now row.old.items rack.old row.new.items rack.new }
     ensures gone { (result ≡ Fetched.Gone) ↔ (all_lost (members_in row.new.items) sites.now ≡ true) }
     ensures got { result ≡ Fetched.Got
         → (v : List ℕ) → SitesHold shape.now.l (members_in row.old.items) (R.bytes rack.old) v sites.now
@@ -62,11 +62,11 @@ pub fn read_block<R: Rack>(
     sites: &[Site],
     block: &mut Vec<u8>,
 ) -> Fetched
-    requires row { IsRow shape.now row.old.items (R.bytes rack.old) }
+    requires row { IsRow R.Rack shape.now row.old.items rack.old }
     requires within { AreSlots (length row.old.items) (shape.now.k + 1) sites.now }
     requires size { length block.old.items ≡ shape.now.l }
     ensures size { length block.new.items ≡ shape.now.l }
-    ensures keeps { RowKeeps R.counts R.bytes R.name shape.now row.old.items rack.old row.new.items rack.new }
+    ensures keeps { RowKeeps R.Rack shape.now row.old.items rack.old row.new.items rack.new }
     ensures gone { (result ≡ Fetched.Gone) ↔ (all_lost (members_in row.new.items) sites.now ≡ true) }
     ensures got { result ≡ Fetched.Got
         → (v : List ℕ) → SitesHold shape.now.l (members_in row.old.items) (R.bytes rack.old) v sites.now
@@ -85,10 +85,10 @@ pub fn write_sites<R: Rack>(
     sites: &[Site],
     buf: &[u8],
 )
-    requires row { IsRow shape.now row.old.items (R.bytes rack.old) }
+    requires row { IsRow R.Rack shape.now row.old.items rack.old }
     requires within { AreSlots (length row.old.items) (shape.now.k + 1) sites.now }
     requires size { length buf.now ≡ shape.now.l }
-    ensures keeps { RowKeeps R.counts R.bytes R.name shape.now row.old.items rack.old row.new.items rack.new }
+    ensures keeps { RowKeeps R.Rack shape.now row.old.items rack.old row.new.items rack.new }
     ensures put { SitesHold shape.now.l (members_in row.new.items) (R.bytes rack.new) buf.now sites.now }
     ensures out { LostAreOut (members_in row.new.items) sites.now }
     ensures kept { KeepsSlotsBut shape.now.l sites.now (members_in row.old.items) (R.bytes rack.old) (members_in row.new.items) (R.bytes rack.new) }

@@ -74,8 +74,8 @@ pub fn give_up_all(map: &mut Map, block: u32)
     ensures table { IsTable map.new }
     ensures none { map.new ≡ reaped map.old block }
 {
-    while let Some(site) = last_of(map.sites(block)) {
-        map.drop_site(block, site.boundary);
+    while let Some(last) = last_of(map.sites(block)) {
+        map.drop_site(block, last.boundary);
     }
 }
 

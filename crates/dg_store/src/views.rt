@@ -8,9 +8,9 @@ use crate::Store;
 use dg_io::{Fetched, Rack, View};
 
 impl<R: Rack> View for Store<R> {
-    ghost stands_for = { λ s v. StandsFor R.bytes s v };
+    ghost stands_for = { λ s v. StandsFor R.Rack s v };
 
-    ghost tells = { λ s. TellsAll R.bytes s };
+    ghost tells = { λ s. TellsAll R.Rack s };
 
     ghost is_gone = { λ s b. is_gone (table_of s) (members_of s) b };
 
@@ -18,11 +18,11 @@ impl<R: Rack> View for Store<R> {
 
     ghost size = { λ s. (shape_of s).l };
 
-    ghost is_sound = { λ s. IsSound R.bytes s };
+    ghost is_sound = { λ s. IsSound R.Rack s };
 
-    ghost goes_on = { λ a b. ReadsOn R.counts R.bytes R.name a b };
+    ghost goes_on = { λ a b. ReadsOn R.Rack a b };
 
-    ghost fetched = { λ a blocks b. Fetches R.counts a blocks b };
+    ghost fetched = { λ a blocks b. Fetches R.Rack a blocks b };
 
     fn fetch(&mut self, block: u32, buf: &mut [u8]) -> Fetched {
         self.read(block, buf)
@@ -37,11 +37,11 @@ impl<R: Rack> View for Store<R> {
         (shape.l, shape.n)
     }
 
-    ghost unchanged = { λ s. reads_none R.counts R.bytes R.name s };
+    ghost unchanged = { λ s. reads_none R.Rack s };
 
-    ghost further = { λ a b c first second. reads_both R.counts R.bytes R.name a b c first second };
+    ghost further = { λ a b c first second. reads_both R.Rack a b c first second };
 
-    ghost fetched_none = { λ s. fetches_none R.counts s };
+    ghost fetched_none = { λ s. fetches_none R.Rack s };
 
-    ghost fetched_both = { λ a b c x y first second. fetches_both R.counts a b c x y first second };
+    ghost fetched_both = { λ a b c x y first second. fetches_both R.Rack a b c x y first second };
 }
