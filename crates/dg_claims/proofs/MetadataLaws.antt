@@ -3,7 +3,7 @@ use Rattle.std.proofs.Common.{◌≡◌, ◌∙◌, ℕ, ◌*◌, ◌<◌, ◌�
 use Rattle.std.proofs.lemmas.List.{append-nil}
 use Rattle.std.proofs.lemmas.List.Elements.{All-contains_itself, All-weaker}
 use Rattle.ufs_model.specs.Blocks.{Volume, bind}
-use Rattle.ufs_model.specs.Claims.{IsClaim, by_pointer, by_slot, level_of, slot_fragments_in, targets, targets_in, volume_targets}
+use Rattle.ufs_model.specs.Claims.{IsClaim, by_pointer, by_slot, level_of, slot_fragments_in, source_fragments, source_fragments_in, volume_fragments}
 use Rattle.ufs_model.specs.Inodes.{inode_of}
 use Rattle.ufs_model.specs.Roles.{is_within}
 use Rattle.ufs_model.specs.Superblocks.{geometry_of, superblock_of}
@@ -22,11 +22,11 @@ use Rattle.dg_claims.specs.Tables.{ClaimTable}
 
 -- ---- the superblock's blocks
 
-pub super_needs : (l n : ℕ) (v : Volume) → All (IsMetadata Little l n v) ((geometry_of Little l n v).needs)
+pub super_needs : (l n : ℕ) (v : Volume) → All (IsMetadata l n v) ((geometry_of l n v).needs)
 unfolding geometry_of bind
 super_needs l n v =
-    subst (λ (xs : List ℕ). All (IsMetadata Little l n v) xs) (sym (append-nil ((superblock_of l n v).needs)))
-    (All-weaker (Contains ((superblock_of l n v).needs)) (IsMetadata Little l n v) (λ b has. of_superblock has) ((superblock_of l n v).needs)
+    subst (λ (xs : List ℕ). All (IsMetadata l n v) xs) (sym (append-nil ((superblock_of l n v).needs)))
+    (All-weaker (Contains ((superblock_of l n v).needs)) (IsMetadata l n v) (λ b has. of_superblock has) ((superblock_of l n v).needs)
     (All-contains_itself ((superblock_of l n v).needs)))
 
 -- ---- claims by the geometry
@@ -36,39 +36,39 @@ claim_along t u same (by_slot {fragment = fragment} {inode = inode} {slot = slot
 claim_along t u same (by_pointer {fragment = fragment} {upper = upper} {level = level} {at = at} above is low has) =
     by_pointer (claim_along t u same above) is low (subst (λ xs. Contains xs fragment) (same (Pointer upper level at)) has)
 
-volume_target : (l n : ℕ) (v : Volume) (g : Geometry) → Ok g ≡ (geometry_of Little l n v).value → (source : ClaimSource) → targets Little g v source ≡ volume_targets Little l n v source
-unfolding volume_targets
-volume_target l n v g is source = ap (λ r. targets_in Little v r source) is
+volume_target : (l n : ℕ) (v : Volume) (g : Geometry) → Ok g ≡ (geometry_of l n v).value → (source : ClaimSource) → source_fragments g v source ≡ volume_fragments l n v source
+unfolding volume_fragments
+volume_target l n v g is source = ap (λ r. source_fragments_in Little v r source) is
 
-no_volume_target : (l n : ℕ) (v : Volume) (bad : BadSuper) → Err bad ≡ (geometry_of Little l n v).value → (source : ClaimSource) → volume_targets Little l n v source ≡ []
-unfolding volume_targets
-no_volume_target l n v bad is source = ap (λ r. targets_in Little v r source) (sym is)
+no_volume_target : (l n : ℕ) (v : Volume) (bad : BadSuper) → Err bad ≡ (geometry_of l n v).value → (source : ClaimSource) → volume_fragments l n v source ≡ []
+unfolding volume_fragments
+no_volume_target l n v bad is source = ap (λ r. source_fragments_in Little v r source) (sym is)
 
 no_volume_claim : (t : ClaimSource → List ℕ) → ((source : ClaimSource) → t source ≡ []) → (fragment : ℕ) (source : ClaimSource) → IsClaim t fragment source → ⊥
 no_volume_claim t none fragment source (by_slot {inode = inode} {slot = slot} has) = contains_none fragment (subst (λ xs. Contains xs fragment) (none (Slot inode slot)) has)
 no_volume_claim t none fragment source (by_pointer {upper = upper} {level = level} {at = at} above is low has) = contains_none fragment (subst (λ xs. Contains xs fragment) (none (Pointer upper level at)) has)
 
-pub table_refused : (l n : ℕ) (v : Volume) (table : ClaimTable) (bad : BadSuper) → Err bad ≡ (geometry_of Little l n v).value → table.geometry ≡ None → ((source : ClaimSource) → table.claimed source ≡ [])
-    → IsTableOf Little l n v table
+pub table_refused : (l n : ℕ) (v : Volume) (table : ClaimTable) (bad : BadSuper) → Err bad ≡ (geometry_of l n v).value → table.geometry ≡ None → ((source : ClaimSource) → table.claimed source ≡ [])
+    → IsTableOf l n v table
 table_refused l n v table bad is geometry none = record {
   geometry = geometry ∙ ap accepted is;
   claims = λ fragment source. (
     λ has. absurd (contains_none fragment (subst (λ xs. Contains xs fragment) (none source) has)),
-    λ claim. absurd (no_volume_claim (volume_targets Little l n v) (no_volume_target l n v bad is) fragment source claim),
+    λ claim. absurd (no_volume_claim (volume_fragments l n v) (no_volume_target l n v bad is) fragment source claim),
   );
 }
 
-pub table_accepted : (l n : ℕ) (v : Volume) (table : ClaimTable) (g : Geometry) → Ok g ≡ (geometry_of Little l n v).value → table.geometry ≡ Some g
-    → ((fragment : ℕ) (source : ClaimSource) → Contains (table.claimed source) fragment ↔ IsClaim (targets Little g v) fragment source) → IsTableOf Little l n v table
+pub table_accepted : (l n : ℕ) (v : Volume) (table : ClaimTable) (g : Geometry) → Ok g ≡ (geometry_of l n v).value → table.geometry ≡ Some g
+    → ((fragment : ℕ) (source : ClaimSource) → Contains (table.claimed source) fragment ↔ IsClaim (source_fragments g v) fragment source) → IsTableOf l n v table
 table_accepted l n v table g is geometry claims = record {
   geometry = geometry ∙ ap accepted is;
   claims = λ fragment source. (
-    λ has. claim_along (targets Little g v) (volume_targets Little l n v) (volume_target l n v g is) ((claims fragment source).0 has),
-    λ claim. (claims fragment source).1 (claim_along (volume_targets Little l n v) (targets Little g v) (λ s. sym (volume_target l n v g is s)) claim),
+    λ has. claim_along (source_fragments g v) (volume_fragments l n v) (volume_target l n v g is) ((claims fragment source).0 has),
+    λ claim. (claims fragment source).1 (claim_along (volume_fragments l n v) (source_fragments g v) (λ s. sym (volume_target l n v g is s)) claim),
   );
 }
 
-pub metadata_read : (l n : ℕ) (v : Volume) (g : Geometry) → Ok g ≡ (geometry_of Little l n v).value → (b : ℕ) → IsRead g v b → IsMetadata Little l n v b
+pub metadata_read : (l n : ℕ) (v : Volume) (g : Geometry) → Ok g ≡ (geometry_of l n v).value → (b : ℕ) → IsRead g v b → IsMetadata l n v b
 metadata_read l n v g is b (inl has) = by_geometry g (sym is) (of_inode has.0 (has.1) (has.2))
 metadata_read l n v g is b (inr at) = by_geometry g (sym is) (of_indirect at.0 (at.1) (at.2))
 
@@ -82,25 +82,25 @@ cond_none : {X : Type 0} (b : Bool) (xs : List X) → xs ≡ [] → cond b xs []
 cond_none true xs e = e
 cond_none false xs e = refl
 
-past_target : (g : Geometry) (v : Volume) (inode slot : ℕ) → 15 ≤ slot → targets Little g v (Slot inode slot) ≡ []
-unfolding targets
-past_target g v inode slot le = cond_none (is_within 2 (g.ncg * g.ipg) inode) (slot_fragments_in g slot ((inode_of Little g inode v).value)) (stored_past g slot ((inode_of Little g inode v).value) le)
+past_target : (g : Geometry) (v : Volume) (inode slot : ℕ) → 15 ≤ slot → source_fragments g v (Slot inode slot) ≡ []
+unfolding source_fragments
+past_target g v inode slot le = cond_none (is_within 2 (g.ncg * g.ipg) inode) (slot_fragments_in g slot ((inode_of g inode v).value)) (stored_past g slot ((inode_of g inode v).value) le)
 
-short_slot : (g : Geometry) (v : Volume) (fragment inode slot : ℕ) → Contains (targets Little g v (Slot inode slot)) fragment → slot < 15
+short_slot : (g : Geometry) (v : Volume) (fragment inode slot : ℕ) → Contains (source_fragments g v (Slot inode slot)) fragment → slot < 15
 short_slot g v fragment inode slot has = elim (below_cases slot 15) [
   | inl lt ↦ lt
   | inr le ↦ absurd (contains_none fragment (subst (λ xs. Contains xs fragment) (past_target g v inode slot le) has))
 ]
 
-level_low : (g : Geometry) (v : Volume) {fragment : ℕ} {source : ClaimSource} → IsClaim (targets Little g v) fragment source → level_of source ≤ 3
+level_low : (g : Geometry) (v : Volume) {fragment : ℕ} {source : ClaimSource} → IsClaim (source_fragments g v) fragment source → level_of source ≤ 3
 level_low g v (by_slot {fragment = fragment} {inode = inode} {slot = slot} has) = let lt = short_slot g v fragment inode slot has in omega arith
 level_low g v (by_pointer {upper = upper} {level = level} {at = at} above is low has) = let le = level_low g v above in omega (arith, is, le)
 
-pointer_low : (g : Geometry) (v : Volume) (fragment upper level at : ℕ) → IsClaim (targets Little g v) fragment (Pointer upper level at) → level ≤ 3
+pointer_low : (g : Geometry) (v : Volume) (fragment upper level at : ℕ) → IsClaim (source_fragments g v) fragment (Pointer upper level at) → level ≤ 3
 pointer_low g v fragment upper level at (by_pointer above is low has) = let le = level_low g v above in omega (arith, is, le)
 
-pub right_above_all : (g : Geometry) (v : Volume) (claimed : ClaimSource → List ℕ) → ((inode slot : ℕ) → claimed (Slot inode slot) ≡ targets Little g v (Slot inode slot))
-    → ((fragment level at : ℕ) → claimed (Pointer fragment level at) ≡ []) → IsRightAbove (targets Little g v) claimed 3
+pub right_above_all : (g : Geometry) (v : Volume) (claimed : ClaimSource → List ℕ) → ((inode slot : ℕ) → claimed (Slot inode slot) ≡ source_fragments g v (Slot inode slot))
+    → ((fragment level at : ℕ) → claimed (Pointer fragment level at) ≡ []) → IsRightAbove (source_fragments g v) claimed 3
 right_above_all g v claimed slots none = record {
   slots = λ fragment inode slot. (
     λ has. subst (λ xs. Contains xs fragment) (slots inode slot) has,

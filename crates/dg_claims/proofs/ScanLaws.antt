@@ -5,7 +5,7 @@ use Rattle.std.proofs.lemmas.Bool.Decides.{nat_tests}
 use Rattle.std.proofs.lemmas.List.{take_more}
 use Rattle.std.proofs.lemmas.List.Elements.{Contains-push_cases}
 use Rattle.ufs_model.specs.Blocks.{Volume, bind, block_at}
-use Rattle.ufs_model.specs.Claims.{IsClaim, by_pointer, by_slot, level_of, pointer_fragments, slot_fragments, slot_fragments_in, targets}
+use Rattle.ufs_model.specs.Claims.{IsClaim, by_pointer, by_slot, level_of, pointer_fragments, slot_fragments, slot_fragments_in, source_fragments}
 use Rattle.ufs_model.specs.Inodes.{inode_block, inode_byte, inode_in, inode_of}
 use Rattle.ufs_model.specs.Roles.{is_within}
 use Rattle.ufs_model.specs.declared.claims.ClaimSource.{ClaimSource}
@@ -32,17 +32,17 @@ stored g number slot None within = refl
 stored g number slot (Some inode) within = cond_true (is_within 2 (g.ncg * g.ipg) number) (slot_fragments g inode slot) [] within
 
 target_of : (g : Geometry) (v : Volume) (number slot : ℕ) → is_within 2 (g.ncg * g.ipg) number ≡ true
-    → targets Little g v (Slot number slot) ≡ slot_fragments_in g slot (inode_in Little (take 128 (drop (inode_byte g number) (block_at g.fsize v (inode_block g number)))))
-unfolding targets inode_of bind
+    → source_fragments g v (Slot number slot) ≡ slot_fragments_in g slot (inode_in Little (take 128 (drop (inode_byte g number) (block_at g.fsize v (inode_block g number)))))
+unfolding source_fragments inode_of bind
 target_of g v number slot within = cond_true (is_within 2 (g.ncg * g.ipg) number) _ [] within
 
-no_target : (g : Geometry) (v : Volume) (number slot : ℕ) → is_within 2 (g.ncg * g.ipg) number ≡ false → targets Little g v (Slot number slot) ≡ []
-unfolding targets inode_of bind
+no_target : (g : Geometry) (v : Volume) (number slot : ℕ) → is_within 2 (g.ncg * g.ipg) number ≡ false → source_fragments g v (Slot number slot) ≡ []
+unfolding source_fragments inode_of bind
 no_target g v number slot out = cond_false (is_within 2 (g.ncg * g.ipg) number) _ [] out
 
 pub stored_target : (g : Geometry) (geometry : Option Geometry) (v : Volume) (number slot block byte l : ℕ) (bytes : List ℕ) → geometry ≡ Some g → 2 ≤ number → number < g.ncg * g.ipg
     → block ≡ inode_block g number → byte ≡ inode_byte g number → g.fsize ≡ l → bytes ≡ block_at l v block
-    → stored_fragments geometry number (inode_in Little (take 128 (drop byte bytes))) slot ≡ targets Little g v (Slot number slot)
+    → stored_fragments geometry number (inode_in Little (take 128 (drop byte bytes))) slot ≡ source_fragments g v (Slot number slot)
 stored_target g geometry v number slot block byte l bytes is low high here at size has =
     let within = in_range number (g.ncg * g.ipg) low high in
     let whole : bytes ≡ block_at g.fsize v (inode_block g number) = has ∙ ap (λ b. block_at l v b) here ∙ ap (λ n. block_at n v (inode_block g number)) (sym size) in
@@ -56,10 +56,10 @@ stored_target g geometry v number slot block byte l bytes is low high here at si
 pub has_inode : (g : Geometry) (number block b : ℕ) → number < g.ncg * g.ipg → block ≡ inode_block g number → b ≡ block → HasInode g b
 has_inode g number block b high here is = (number, high, is ∙ here)
 
-pub low_target : (g : Geometry) (v : Volume) (number slot : ℕ) → number < 2 → targets Little g v (Slot number slot) ≡ []
+pub low_target : (g : Geometry) (v : Volume) (number slot : ℕ) → number < 2 → source_fragments g v (Slot number slot) ≡ []
 low_target g v number slot lt = no_target g v number slot (below_range number (g.ncg * g.ipg) lt)
 
-pub past_target : (g : Geometry) (v : Volume) (number slot : ℕ) → g.ncg * g.ipg ≤ number → targets Little g v (Slot number slot) ≡ []
+pub past_target : (g : Geometry) (v : Volume) (number slot : ℕ) → g.ncg * g.ipg ≤ number → source_fragments g v (Slot number slot) ≡ []
 past_target g v number slot le = no_target g v number slot (past_range number (g.ncg * g.ipg) le)
 
 pub slot_apart : (i j : ℕ) (s t : ℕ) → Slot i s ≡ Slot j t → i ≡ j
@@ -71,22 +71,22 @@ pointer_no_slot u l a i s e = cc
 -- the slots of all inodes before this one
 pub slots_more : (g : Geometry) (v : Volume) (old new : ClaimSource → List ℕ) (at count : ℕ) → count ≡ at + 1
     → ((source : ClaimSource) → ((slot : ℕ) → source ≡ Slot at slot → ⊥) → new source ≡ old source)
-    → ((slot : ℕ) → new (Slot at slot) ≡ targets Little g v (Slot at slot))
-    → ((number slot : ℕ) → number < at → old (Slot number slot) ≡ targets Little g v (Slot number slot))
-    → (number slot : ℕ) → number < count → new (Slot number slot) ≡ targets Little g v (Slot number slot)
+    → ((slot : ℕ) → new (Slot at slot) ≡ source_fragments g v (Slot at slot))
+    → ((number slot : ℕ) → number < at → old (Slot number slot) ≡ source_fragments g v (Slot number slot))
+    → (number slot : ℕ) → number < count → new (Slot number slot) ≡ source_fragments g v (Slot number slot)
 slots_more g v old new at count more others here before number slot lt = elim (cases_eq number at) [
-  | inl same ↦ subst (λ n. new (Slot n slot) ≡ targets Little g v (Slot n slot)) (sym same) (here slot)
+  | inl same ↦ subst (λ n. new (Slot n slot) ≡ source_fragments g v (Slot n slot)) (sym same) (here slot)
   | inr apart ↦ others (Slot number slot) (λ s e. apart (slot_apart number at slot s e)) ∙ before number slot (omega (arith, lt, apart, more))
 ]
 
 -- ---- pointers
 
 pub pointer_target : (g : Geometry) (geometry : Option Geometry) (v : Volume) (fragment level at l : ℕ) (bytes : List ℕ) → geometry ≡ Some g → g.fsize ≡ l → bytes ≡ block_at l v fragment
-    → fragment_pointers geometry bytes at ≡ targets Little g v (Pointer fragment level at)
-unfolding fragment_pointers targets
+    → fragment_pointers geometry bytes at ≡ source_fragments g v (Pointer fragment level at)
+unfolding fragment_pointers source_fragments
 pointer_target g geometry v fragment level at l bytes is size has =
     let whole : bytes ≡ block_at g.fsize v fragment = has ∙ ap (λ n. block_at n v fragment) (sym size) in
-    ap (λ o. fragment_pointers o bytes at) is ∙ ap (λ xs. pointer_fragments Little g xs at) whole
+    ap (λ o. fragment_pointers o bytes at) is ∙ ap (λ xs. pointer_fragments g xs at) whole
 
 pub fragment_apart : (f h : ℕ) (k l : ℕ) (a b : ℕ) → Pointer f k a ≡ Pointer h l b → f ≡ h
 fragment_apart f h k l a b e = cc

@@ -111,7 +111,7 @@ no_inode kept number inode sources out slot =
 
 -- ---- pointers
 
-past_pointers : (g : Geometry) (bytes : List ℕ) (at : ℕ) → g.fsize / 4 ≤ at → pointer_fragments Little g bytes at ≡ []
+past_pointers : (g : Geometry) (bytes : List ℕ) (at : ℕ) → g.fsize / 4 ≤ at → pointer_fragments g bytes at ≡ []
 unfolding pointer_fragments
 past_pointers g bytes at le =
     cond_false (nat_lt at (g.fsize / 4)) (fragments_at (address g (pointer_in Little bytes at) g.frag)) [] (nat_lt_false at (g.fsize / 4) le)
@@ -123,7 +123,7 @@ no_pointer_at kept g fragment level at sources is le =
     (λ run h. let source : IsPlace (Some g) (pointer_place fragment level at) = subst (λ o. IsPlace o (pointer_place fragment level at)) is h in omega (arith, source.2, le))
 
 pub all_pointers : (kept : KeptClaims) (g : Geometry) (fragment level : ℕ) (bytes : List ℕ) (new : List (Place × Run)) → HasSources kept → kept.geometry ≡ Some g
-    → SetsFirst kept.runs new (pointer_place fragment level) (pointer_fragments Little g bytes) (g.fsize / 4)
+    → SetsFirst kept.runs new (pointer_place fragment level) (pointer_fragments g bytes) (g.fsize / 4)
     → (at : ℕ) → claimed_by new (Pointer fragment level at) ≡ fragment_pointers kept.geometry bytes at
 unfolding claimed_by fragment_pointers
 all_pointers kept g fragment level bytes new sources is first at =

@@ -2,7 +2,7 @@
 use Rattle.std.specs.Prelude.{◌≡◌, ℕ, List, Bool, true, Option, Some, None, Result, Ok, Err, ◌↔◌}
 use Rattle.std.specs.List.{All, Contains}
 use Rattle.ufs_model.specs.Blocks.{Volume}
-use Rattle.ufs_model.specs.Claims.{IsClaim, volume_targets}
+use Rattle.ufs_model.specs.Claims.{IsClaim, volume_fragments}
 use Rattle.ufs_model.specs.Superblocks.{geometry_of}
 use Rattle.ufs_model.specs.declared.claims.ClaimSource.{ClaimSource}
 use Rattle.ufs_model.specs.declared.geometries.BadSuper.{BadSuper}
@@ -16,9 +16,9 @@ accepted (Ok g) = Some g
 accepted (Err bad) = None
 
 -- The table is that of a volume of n blocks of l bytes.
-pub record IsTableOf (endian : Endian) (l n : ℕ) (v : Volume) (table : ClaimTable) : Type 0 where
-  pub geometry : table.geometry ≡ accepted ((geometry_of endian l n v).value)
-  pub claims : (fragment : ℕ) (source : ClaimSource) → Contains (table.claimed source) fragment ↔ IsClaim (volume_targets endian l n v) fragment source
+pub record IsTableOf (l n : ℕ) (v : Volume) (table : ClaimTable) : Type 0 where
+  pub geometry : table.geometry ≡ accepted ((geometry_of l n v).value)
+  pub claims : (fragment : ℕ) (source : ClaimSource) → Contains (table.claimed source) fragment ↔ IsClaim (volume_fragments l n v) fragment source
 
 -- Just these blocks were fetched, one after another, and all of them are of a kind, on each volume that a view stands for, where
 -- it tells its blocks in the end.

@@ -22,7 +22,7 @@ inode_fragments (Some g) number inode slot = if is_within 2 (g.ncg * g.ipg) numb
 -- what a pointer in the bytes of a fragment claims: nothing without a geometry
 unfoldable pub fragment_pointers : Option Geometry → List ℕ → ℕ → List ℕ
 fragment_pointers None bytes at = []
-fragment_pointers (Some g) bytes at = pointer_fragments Little g bytes at
+fragment_pointers (Some g) bytes at = pointer_fragments g bytes at
 
 -- each of the list stands there once
 abbrev pub IsOnce : {X : Type 0} → List X → Type 0

@@ -1,7 +1,7 @@
 ghost use Rattle.std.specs.Prelude.{◌≡◌, ◌+◌, ◌*◌, ◌-◌, ◌<◌, ◌≤◌, ℕ, List, [], IfOk, IfSome, OnOk, Ok, Some, None, drop, length, take, true, false};
 ghost use Rattle.dg_io.specs.Views.{KeepsView};
 ghost use Rattle.ufs_model.specs.Blocks.{block_at};
-ghost use Rattle.ufs_model.specs.Claims.{targets};
+ghost use Rattle.ufs_model.specs.Claims.{source_fragments};
 ghost use Rattle.ufs_model.specs.Geometries.{IsGeometryOn};
 ghost use Rattle.ufs_model.specs.Inodes.{inode_in};
 ghost use Rattle.ufs_model.specs.declared.claims.ClaimSource.{ClaimSource};
@@ -107,7 +107,7 @@ fn scan_inode<V: View>(
     ensures geometry { (table_of claims.new).geometry ≡ (table_of claims.old).geometry }
     ensures room { IfOk result (λ got. got ≡ true → IfSome held.new (λ b. length levels.new.aside ≡ V.size view.old)) }
     ensures slots { IfOk result (λ got. got ≡ true → V.tells view.new → (v : List (List ℕ)) → V.stands_for view.old v → HoldsIn (V.size view.old) v held.old levels.old.aside
-        → HoldsIn (V.size view.old) v held.new levels.new.aside × ((slot : ℕ) → (table_of claims.new).claimed (ClaimSource.Slot number slot) ≡ targets Little g.now v (ClaimSource.Slot number slot))) }
+        → HoldsIn (V.size view.old) v held.new levels.new.aside × ((slot : ℕ) → (table_of claims.new).claimed (ClaimSource.Slot number slot) ≡ source_fragments g.now v (ClaimSource.Slot number slot))) }
     ensures others { (source : ClaimSource) → ((slot : ℕ) → source ≡ ClaimSource.Slot number slot → ⊥) → (table_of claims.new).claimed source ≡ (table_of claims.old).claimed source }
     ensures lost { IfOk result (λ got. got ≡ false → LosesOne (V.stands_for view.old) (V.tells view.new) (λ v b. HasInode g.now b) (V.is_gone view.new)) }
     ensures fetched { FetchesOnly V.fetched (V.stands_for view.old) (V.tells view.new) (λ v b. HasInode g.now b) view.old view.new }
@@ -136,7 +136,7 @@ pub(crate) fn scan_inodes<V: View>(
     ensures levels { levels.new.fragment ≡ levels.old.fragment }
     ensures geometry { (table_of claims.new).geometry ≡ (table_of claims.old).geometry }
     ensures slots { IfOk result (λ got. got ≡ true → V.tells view.new → (v : List (List ℕ)) → V.stands_for view.old v
-        → (number slot : ℕ) → (table_of claims.new).claimed (ClaimSource.Slot number slot) ≡ targets Little g.now v (ClaimSource.Slot number slot)) }
+        → (number slot : ℕ) → (table_of claims.new).claimed (ClaimSource.Slot number slot) ≡ source_fragments g.now v (ClaimSource.Slot number slot)) }
     ensures pointers { IfOk result (λ got. got ≡ true → (fragment level at : ℕ) → (table_of claims.new).claimed (ClaimSource.Pointer fragment level at) ≡ []) }
     ensures lost { IfOk result (λ got. got ≡ false → LosesOne (V.stands_for view.old) (V.tells view.new) (λ v b. HasInode g.now b) (V.is_gone view.new)) }
     ensures fetched { FetchesOnly V.fetched (V.stands_for view.old) (V.tells view.new) (λ v b. HasInode g.now b) view.old view.new }

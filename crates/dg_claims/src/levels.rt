@@ -1,7 +1,7 @@
 ghost use Rattle.std.specs.Prelude.{◌≡◌, ◌-◌, ◌<◌, ◌≤◌, ℕ, List, [], IfOk, Ok, Some, length, true, false};
 ghost use Rattle.std.specs.List.{Contains};
 ghost use Rattle.dg_io.specs.Views.{KeepsView};
-ghost use Rattle.ufs_model.specs.Claims.{targets};
+ghost use Rattle.ufs_model.specs.Claims.{source_fragments};
 ghost use Rattle.ufs_model.specs.Geometries.{IsGeometryOn};
 ghost use Rattle.ufs_model.specs.declared.claims.ClaimSource.{ClaimSource};
 ghost use Rattle.ufs_model.specs.declared.numbers.Endian.TheVariants.{Little};
@@ -40,7 +40,7 @@ fn scan_fragment<V: View>(
     ensures levels { levels.new.fragment ≡ levels.old.fragment }
     ensures geometry { (table_of claims.new).geometry ≡ (table_of claims.old).geometry }
     ensures pointers { IfOk result (λ got. got ≡ true → V.tells view.new → (v : List (List ℕ)) → V.stands_for view.old v
-        → (at : ℕ) → (table_of claims.new).claimed (ClaimSource.Pointer fragment level at) ≡ targets Little g.now v (ClaimSource.Pointer fragment level at)) }
+        → (at : ℕ) → (table_of claims.new).claimed (ClaimSource.Pointer fragment level at) ≡ source_fragments g.now v (ClaimSource.Pointer fragment level at)) }
     ensures others { (source : ClaimSource) → ((at : ℕ) → source ≡ ClaimSource.Pointer fragment level at → ⊥) → (table_of claims.new).claimed source ≡ (table_of claims.old).claimed source }
     ensures lost { IfOk result (λ got. got ≡ false → LosesOne (V.stands_for view.old) (V.tells view.new) (λ v b. b ≡ fragment) (V.is_gone view.new)) }
     ensures fetched { FetchesOnly V.fetched (V.stands_for view.old) (V.tells view.new) (λ v b. b ≡ fragment) view.old view.new }
@@ -73,7 +73,7 @@ fn scan_fragments<V: View>(
     ensures levels { levels.new.fragment ≡ levels.old.fragment }
     ensures geometry { (table_of claims.new).geometry ≡ (table_of claims.old).geometry }
     ensures pointers { IfOk result (λ got. got ≡ true → V.tells view.new → (v : List (List ℕ)) → V.stands_for view.old v
-        → (fragment at : ℕ) → Contains fragments.now fragment → (table_of claims.new).claimed (ClaimSource.Pointer fragment level at) ≡ targets Little g.now v (ClaimSource.Pointer fragment level at)) }
+        → (fragment at : ℕ) → Contains fragments.now fragment → (table_of claims.new).claimed (ClaimSource.Pointer fragment level at) ≡ source_fragments g.now v (ClaimSource.Pointer fragment level at)) }
     ensures others { (source : ClaimSource) → ((fragment at : ℕ) → Contains fragments.now fragment → source ≡ ClaimSource.Pointer fragment level at → ⊥)
         → (table_of claims.new).claimed source ≡ (table_of claims.old).claimed source }
     ensures lost { IfOk result (λ got. got ≡ false → LosesOne (V.stands_for view.old) (V.tells view.new) (λ v b. Contains fragments.now b) (V.is_gone view.new)) }
@@ -109,11 +109,11 @@ fn scan_level<V: View>(
     ensures geometry { (table_of claims.new).geometry ≡ (table_of claims.old).geometry }
     ensures none { HasNoPointers (table_of claims.new).claimed (level - 1) }
     ensures right { IfOk result (λ got. got ≡ true → V.tells view.new → (v : List (List ℕ)) → V.stands_for view.old v
-        → IsRightAbove (targets Little g.now v) (table_of claims.old).claimed level → IsRightAbove (targets Little g.now v) (table_of claims.new).claimed (level - 1)) }
-    ensures lost { IfOk result (λ got. got ≡ false → LosesOne (λ v. V.stands_for view.old v × IsRightAbove (targets Little g.now v) (table_of claims.old).claimed level) (V.tells view.new)
-        (λ v b. IsIndirect (targets Little g.now v) b) (V.is_gone view.new)) }
-    ensures fetched { FetchesOnly V.fetched (λ v. V.stands_for view.old v × IsRightAbove (targets Little g.now v) (table_of claims.old).claimed level) (V.tells view.new)
-        (λ v b. IsIndirect (targets Little g.now v) b) view.old view.new }
+        → IsRightAbove (source_fragments g.now v) (table_of claims.old).claimed level → IsRightAbove (source_fragments g.now v) (table_of claims.new).claimed (level - 1)) }
+    ensures lost { IfOk result (λ got. got ≡ false → LosesOne (λ v. V.stands_for view.old v × IsRightAbove (source_fragments g.now v) (table_of claims.old).claimed level) (V.tells view.new)
+        (λ v b. IsIndirect (source_fragments g.now v) b) (V.is_gone view.new)) }
+    ensures fetched { FetchesOnly V.fetched (λ v. V.stands_for view.old v × IsRightAbove (source_fragments g.now v) (table_of claims.old).claimed level) (V.tells view.new)
+        (λ v b. IsIndirect (source_fragments g.now v) b) view.old view.new }
 {
     let fragments = claims.fragments_at(alloc, level)?;
     scan_fragments(view, g, levels, claims, &fragments, level)
@@ -138,11 +138,11 @@ pub(crate) fn scan_levels<V: View>(
     ensures geometry { (table_of claims.new).geometry ≡ (table_of claims.old).geometry }
     ensures none { IfOk result (λ got. got ≡ true → HasNoPointers (table_of claims.new).claimed 0) }
     ensures right { IfOk result (λ got. got ≡ true → V.tells view.new → (v : List (List ℕ)) → V.stands_for view.old v
-        → IsRightAbove (targets Little g.now v) (table_of claims.old).claimed 3 → IsRightAbove (targets Little g.now v) (table_of claims.new).claimed 0) }
-    ensures lost { IfOk result (λ got. got ≡ false → LosesOne (λ v. V.stands_for view.old v × IsRightAbove (targets Little g.now v) (table_of claims.old).claimed 3) (V.tells view.new)
-        (λ v b. IsIndirect (targets Little g.now v) b) (V.is_gone view.new)) }
-    ensures fetched { FetchesOnly V.fetched (λ v. V.stands_for view.old v × IsRightAbove (targets Little g.now v) (table_of claims.old).claimed 3) (V.tells view.new)
-        (λ v b. IsIndirect (targets Little g.now v) b) view.old view.new }
+        → IsRightAbove (source_fragments g.now v) (table_of claims.old).claimed 3 → IsRightAbove (source_fragments g.now v) (table_of claims.new).claimed 0) }
+    ensures lost { IfOk result (λ got. got ≡ false → LosesOne (λ v. V.stands_for view.old v × IsRightAbove (source_fragments g.now v) (table_of claims.old).claimed 3) (V.tells view.new)
+        (λ v b. IsIndirect (source_fragments g.now v) b) (V.is_gone view.new)) }
+    ensures fetched { FetchesOnly V.fetched (λ v. V.stands_for view.old v × IsRightAbove (source_fragments g.now v) (table_of claims.old).claimed 3) (V.tells view.new)
+        (λ v b. IsIndirect (source_fragments g.now v) b) view.old view.new }
 {
     for done in 0..HIGHEST {
         if !scan_level(alloc, view, g, levels, claims, HIGHEST - done)? {

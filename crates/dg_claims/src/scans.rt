@@ -1,7 +1,7 @@
 ghost use Rattle.std.specs.Prelude.{◌≡◌, ◌⊎◌, ℕ, List, IfNone, IfOk, IfSome, Some, ◌↔◌};
 ghost use Rattle.std.specs.List.{Contains};
 ghost use Rattle.dg_io.specs.Views.{KeepsView};
-ghost use Rattle.ufs_model.specs.Claims.{IsClaim, targets};
+ghost use Rattle.ufs_model.specs.Claims.{IsClaim, source_fragments};
 ghost use Rattle.ufs_model.specs.Geometries.{IsGeometryOn};
 ghost use Rattle.ufs_model.specs.declared.claims.ClaimSource.{ClaimSource};
 ghost use Rattle.ufs_model.specs.declared.numbers.Endian.TheVariants.{Little};
@@ -32,7 +32,7 @@ fn scan_volume<V: View>(
     ensures levels { levels.new.fragment ≡ levels.old.fragment }
     ensures geometry { IfOk result (λ scanned. IfSome scanned (λ claims. (table_of claims).geometry ≡ Some g.now)) }
     ensures claims { IfOk result (λ scanned. IfSome scanned (λ claims. V.tells view.new → (v : List (List ℕ)) → V.stands_for view.old v
-        → (fragment : ℕ) (source : ClaimSource) → Contains ((table_of claims).claimed source) fragment ↔ IsClaim (targets Little g.now v) fragment source)) }
+        → (fragment : ℕ) (source : ClaimSource) → Contains ((table_of claims).claimed source) fragment ↔ IsClaim (source_fragments g.now v) fragment source)) }
     ensures lost { IfOk result (λ scanned. IfNone scanned (LosesOne (V.stands_for view.old) (V.tells view.new) (λ v b. IsRead g.now v b) (V.is_gone view.new))) }
     ensures fetched { FetchesOnly V.fetched (V.stands_for view.old) (V.tells view.new) (λ v b. IsRead g.now v b) view.old view.new }
 {

@@ -53,7 +53,7 @@ pub fn pointer_run(g: &Geometry, bytes: &[u8], at: u32) -> Option<Run>
     requires geometry { IsGeometry g.now }
     requires bytes { length bytes.now ≡ g.now.fsize }
     requires index { at < g.now.fsize / 4 }
-    ensures value { run_fragments result ≡ pointer_fragments Little g.now bytes.now at }
+    ensures value { run_fragments result ≡ pointer_fragments g.now bytes.now at }
     ensures run { IfSome result (IsRun g.now.size) }
 {
     run_of(g, pointer(bytes, at), g.frag)

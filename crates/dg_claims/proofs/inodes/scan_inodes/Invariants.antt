@@ -1,6 +1,6 @@
 use Rattle.std.proofs.Common.{◌≡◌, ◌<◌, ◌≤◌, ℕ, List, [], IfSome, length}
 use Rattle.dg_io.specs.Views.{KeepsView}
-use Rattle.ufs_model.specs.Claims.{targets}
+use Rattle.ufs_model.specs.Claims.{source_fragments}
 use Rattle.ufs_model.specs.declared.claims.ClaimSource.TheVariants.{Slot, Pointer}
 use Rattle.ufs_model.specs.declared.numbers.Endian.TheVariants.{Little}
 use Rattle.dg_claims.specs.Kept.{claimed_by}
@@ -17,6 +17,6 @@ invariant-loop-number g l = record {
   later : (number slot : ℕ) → l.number ≤ number → claimed_by l.claims.runs (Slot number slot) ≡ [];
   pointers : (fragment level at : ℕ) → claimed_by l.claims.runs (Pointer fragment level at) ≡ [];
   slots : g.V.View.tells l.view → (v : List (List ℕ)) → g.V.View.stands_for l.fn.view v
-      → HoldsIn (g.V.View.size l.fn.view) v l.held l.levels.aside × ((number slot : ℕ) → number < l.number → claimed_by l.claims.runs (Slot number slot) ≡ targets Little l.g v (Slot number slot));
+      → HoldsIn (g.V.View.size l.fn.view) v l.held l.levels.aside × ((number slot : ℕ) → number < l.number → claimed_by l.claims.runs (Slot number slot) ≡ source_fragments Little l.g v (Slot number slot));
   fetched : FetchesOnly g.V.View.fetched (g.V.View.stands_for l.fn.view) (g.V.View.tells l.view) (λ v b. HasInode l.g b) l.fn.view l.view;
 }

@@ -2,7 +2,7 @@ use Rattle.std.proofs.Common.{◌≡◌, ◌∙◌, Contains, get_or, sym, subst
 use Rattle.std.proofs.lemmas.Bool.{cases_eq}
 use Rattle.std.proofs.lemmas.List.Elements.{Contains-get_or}
 use Rattle.dg_io.specs.ViewLaws.{keeps_both}
-use Rattle.ufs_model.specs.Claims.{targets}
+use Rattle.ufs_model.specs.Claims.{source_fragments}
 use Rattle.ufs_model.specs.declared.claims.ClaimSource.TheVariants.{Pointer}
 use Rattle.ufs_model.specs.declared.numbers.Endian.TheVariants.{Little}
 use Rattle.dg_claims.proofs.FetchedLaws.{only_both}
@@ -35,7 +35,7 @@ loop-fragment-preserved g c =
       levels = one.levels ∙ so_far.levels;
       geometry = one.geometry ∙ so_far.geometry;
       pointers = λ is v holds fragment at has. elim (cases_eq fragment (get_or c.args.fragments.now c.loop-fragment.fragment-index 0)) [
-        | inl same ↦ subst (λ f. claimed_by c.scan_fragment.new.claims.runs (Pointer f c.args.level at) ≡ targets Little c.args.g.now v (Pointer f c.args.level at)) (sym same)
+        | inl same ↦ subst (λ f. claimed_by c.scan_fragment.new.claims.runs (Pointer f c.args.level at) ≡ source_fragments Little c.args.g.now v (Pointer f c.args.level at)) (sym same)
             (one.pointers c.if-not-branch.false is v (so_far.keeps.stands v holds) at)
         | inr apart ↦
             one.others (Pointer fragment c.args.level at) (λ a e. apart (fragment_apart fragment (get_or c.args.fragments.now c.loop-fragment.fragment-index 0) c.args.level c.args.level at a e))

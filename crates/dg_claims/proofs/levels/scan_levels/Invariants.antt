@@ -1,6 +1,6 @@
 use Rattle.std.proofs.Common.{◌≡◌, ◌-◌, ℕ, List}
 use Rattle.dg_io.specs.Views.{KeepsView}
-use Rattle.ufs_model.specs.Claims.{targets}
+use Rattle.ufs_model.specs.Claims.{source_fragments}
 use Rattle.ufs_model.specs.declared.numbers.Endian.TheVariants.{Little}
 use Rattle.dg_claims.specs.Kept.{claimed_by}
 use Rattle.dg_claims.specs.Readers.{FetchesOnly}
@@ -14,7 +14,7 @@ invariant-loop-done g l = record {
   geometry : l.claims.geometry ≡ l.fn.claims.geometry;
   none : HasNoPointers (claimed_by l.claims.runs) (3 - l.done);
   right : g.V.View.tells l.view → (v : List (List ℕ)) → g.V.View.stands_for l.fn.view v
-      → IsRightAbove (targets Little l.g v) (claimed_by l.fn.claims.runs) 3 → IsRightAbove (targets Little l.g v) (claimed_by l.claims.runs) (3 - l.done);
-  fetched : FetchesOnly g.V.View.fetched (λ v. g.V.View.stands_for l.fn.view v × IsRightAbove (targets Little l.g v) (claimed_by l.fn.claims.runs) 3) (g.V.View.tells l.view)
-      (λ v b. IsIndirect (targets Little l.g v) b) l.fn.view l.view;
+      → IsRightAbove (source_fragments Little l.g v) (claimed_by l.fn.claims.runs) 3 → IsRightAbove (source_fragments Little l.g v) (claimed_by l.claims.runs) (3 - l.done);
+  fetched : FetchesOnly g.V.View.fetched (λ v. g.V.View.stands_for l.fn.view v × IsRightAbove (source_fragments Little l.g v) (claimed_by l.fn.claims.runs) 3) (g.V.View.tells l.view)
+      (λ v b. IsIndirect (source_fragments Little l.g v) b) l.fn.view l.view;
 }

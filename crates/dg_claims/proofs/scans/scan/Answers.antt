@@ -34,7 +34,7 @@ returns-in-Some-Ok-clause-fetched g c =
     let n = g.V.View.count c.args.view.now in
     only_both g.met.V.View.fetched_both c.scan_volume.ensures.keeps.told
     (λ is v holds. (keeps.stands v holds, metadata_read l n v c.in-Some-Ok.g ((reads.rule (c.scan_volume.ensures.keeps.told is) v holds).answer)))
-    (only_of (IsMetadata Little l n) (λ v holds. super_needs l n v) c.read_geometry.ensures.fetched) c.scan_volume.ensures.fetched
+    (only_of (IsMetadata l n) (λ v holds. super_needs l n v) c.read_geometry.ensures.fetched) c.scan_volume.ensures.fetched
 
 pub returns-in_ok-new-in-Some-Err-clause-claims : goal.returns-in_ok-new-in-Some-Err-clause-claims
 returns-in_ok-new-in-Some-Err-clause-claims g c = λ is v holds.

@@ -1,6 +1,6 @@
 use Rattle.dg_io.specs.ViewLaws.{keeps_both}
 use Rattle.std.proofs.Common.{inl, inr}
-use Rattle.ufs_model.specs.Claims.{targets}
+use Rattle.ufs_model.specs.Claims.{source_fragments}
 use Rattle.ufs_model.specs.declared.numbers.Endian.TheVariants.{Little}
 use Rattle.dg_claims.proofs.FetchedLaws.{loses_along, only_along, only_both}
 use Rattle.dg_claims.proofs.MetadataLaws.{right_above_all}
@@ -73,7 +73,7 @@ returns-clause-claims g c = λ is v holds.
     let first = c.in_ok-scan_inodes.ensures in
     let second = c.in_ok-scan_levels.ensures in
     let told = c.scan_levels.ensures.keeps.told in
-    right_in_the_end (targets Little c.args.g.now v) (claimed_by c.scan_levels.new.claims.runs) (second.none c.if-not-branch-2.false)
+    right_in_the_end (source_fragments Little c.args.g.now v) (claimed_by c.scan_levels.new.claims.runs) (second.none c.if-not-branch-2.false)
     (second.right c.if-not-branch-2.false is v (first.keeps.stands v holds)
     (right_above_all c.args.g.now v (claimed_by c.scan_inodes.new.claims.runs) (first.slots c.if-not-branch.false (told is) v holds) (first.pointers c.if-not-branch.false)))
 
