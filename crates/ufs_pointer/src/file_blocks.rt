@@ -5,7 +5,6 @@ ghost use Rattle.ufs_model.specs.Geometries.{IsGeometry, IsGeometryOn};
 ghost use Rattle.ufs_model.specs.Inodes.{block_count};
 ghost use Rattle.ufs_model.specs.Paths.{block_of, bytes_at, bytes_in_block};
 ghost use Rattle.ufs_model.specs.Readings.{ReadsAs};
-ghost use Rattle.ufs_model.specs.declared.numbers.Endian.TheVariants.{Little};
 ghost use Rattle.ufs_model.specs.declared.pointers.Address.TheVariants.{At};
 ghost use Rattle.ufs_pointer.specs.Fetches.{Fetches};
 ghost use Rattle.ufs_pointer.specs.FileBlocks.{IfData, block_said};
@@ -93,9 +92,9 @@ pub fn read_file_block<V: View>(
     ensures levels { levels.new.fragment ≡ levels.old.fragment }
     ensures covered { IfSome result (λ found. IfData found (bytes_in_block g.now inode.now n ≤ length levels.new.block)) }
     ensures rule { ReadsAs (V.stands_for view.old) (V.is_gone view.old) (V.tells view.new) (V.is_gone view.new)
-        (block_of Little g.now inode.now n) (block_said result levels.new.block) }
+        (block_of g.now inode.now n) (block_said result levels.new.block) }
     ensures fetched { Fetches V.fetched (V.stands_for view.old) (V.tells view.new)
-        (block_of Little g.now inode.now n) (block_said result levels.new.block) view.old view.new }
+        (block_of g.now inode.now n) (block_said result levels.new.block) view.old view.new }
 {
     match file_block(view, g, inode, n, levels) {
         BlockAnswer::Hole => Some(FileBlock::Hole),

@@ -3,7 +3,6 @@ ghost use Rattle.dg_io.specs.Views.{KeepsView};
 ghost use Rattle.ufs_model.specs.Geometries.{IsGeometryOn};
 ghost use Rattle.ufs_model.specs.Pointers.{through};
 ghost use Rattle.ufs_model.specs.Readings.{ReadsAs};
-ghost use Rattle.ufs_model.specs.declared.numbers.Endian.TheVariants.{Little};
 ghost use Rattle.ufs_pointer.specs.Addresses.{IsWhole};
 ghost use Rattle.ufs_pointer.specs.Fetches.{Fetches};
 
@@ -31,9 +30,9 @@ pub fn through<V: View>(
     ensures keeps { KeepsView V.stands_for V.tells V.is_gone V.count V.size V.is_sound V.goes_on view.old view.new }
     ensures whole { IfSome result (IsWhole g.now) }
     ensures rule { ReadsAs (V.stands_for view.old) (V.is_gone view.old) (V.tells view.new) (V.is_gone view.new)
-        (through Little g.now i address) result }
+        (through g.now i address) result }
     ensures fetched { Fetches V.fetched (V.stands_for view.old) (V.tells view.new)
-        (through Little g.now i address) result view.old view.new }
+        (through g.now i address) result view.old view.new }
 {
     match address {
         Address::Hole => Some(Address::Hole),
@@ -42,7 +41,7 @@ pub fn through<V: View>(
             if !read_area(view, a, k, buf) {
                 return None;
             }
-            Some(block_address(g, pointer(buf, i)))
+            Some(block_address(g, pointer(buf, i, g.endian)))
         }
     }
 }

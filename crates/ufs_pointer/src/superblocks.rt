@@ -6,7 +6,6 @@ ghost use Rattle.ufs_model.specs.Blocks.{area_of, area_within};
 ghost use Rattle.ufs_model.specs.Geometries.{IsGeometryOn};
 ghost use Rattle.ufs_model.specs.Readings.{ReadsAs};
 ghost use Rattle.ufs_model.specs.Superblocks.{geometry_of};
-ghost use Rattle.ufs_model.specs.declared.numbers.Endian.TheVariants.{Little};
 ghost use Rattle.ufs_pointer.specs.Fetches.{Fetches};
 
 use crate::levels::Levels;
@@ -75,10 +74,10 @@ pub fn read_geometry<V: View>(
     ensures keeps { KeepsView V.stands_for V.tells V.is_gone V.count V.size V.is_sound V.goes_on view.old view.new }
     ensures fragment { levels.new.fragment ≡ levels.old.fragment }
     ensures rule { ReadsAs (V.stands_for view.old) (V.is_gone view.old) (V.tells view.new) (V.is_gone view.new)
-        (geometry_of Little (V.size view.old) (V.count view.old)) result }
+        (geometry_of (V.size view.old) (V.count view.old)) result }
     ensures geometry { IfSome result (λ found. IfOk found (IsGeometryOn (V.size view.old) (V.count view.old))) }
     ensures fetched { Fetches V.fetched (V.stands_for view.old) (V.tells view.new)
-        (geometry_of Little (V.size view.old) (V.count view.old)) result view.old view.new }
+        (geometry_of (V.size view.old) (V.count view.old)) result view.old view.new }
 {
     let l = levels.fragment_bytes();
     let (_, n) = view.shape();
