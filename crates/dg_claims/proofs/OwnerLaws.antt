@@ -83,7 +83,7 @@ claim_source inside kept fragment place source view is one told =
     let marked = subst (λ ps. Contains ps place) (sym one) ((contains_cons place [] place).1 (inl refl)) in
     subst (λ s. IsSource kept.geometry s) (sym told)
     (subst (λ (k : KeptClaims). IsPlace k.geometry place) view
-    (source_from inside.geometry (size_in inside.geometry) fragment place (run_at inside.runs.map.entries place) (is.runs place) ((is.marked fragment place).0 marked)))
+    (source_from inside.geometry (size_in inside.geometry) fragment place (run_at inside.runs place) (is.runs place) ((is.marked fragment place).0 marked)))
 
 one_only : (places : List Place) (place : Place) → IsOnce places → Contains places place → ((other : Place) → Contains places other → other ≡ place) → length places ≡ 1
 one_only [] place once has only = absurd (contains_none place has)

@@ -1,5 +1,5 @@
 -- Sources as the table keeps them.
-use Rattle.std.specs.Prelude.{ℕ, Bool, ◌==◌}
+use Rattle.std.specs.Prelude.{ℕ}
 use Rattle.std.specs.declared.cmp.Ordering.{Ordering}
 use Rattle.ufs_model.specs.Claims.{level_of}
 use Rattle.ufs_model.specs.declared.claims.ClaimSource.{ClaimSource}
@@ -8,6 +8,13 @@ use Rattle.dg_claims.specs.contracts.places.MarkOrd.TheImpl as order
 use Rattle.dg_claims.specs.declared.places.Mark.{Mark}
 use Rattle.dg_claims.specs.declared.places.Place.{Place}
 use Rattle.dg_claims.specs.declared.places.Place.TheVariants.{Slot as SlotPlace, Pointer as PointerPlace}
+
+-- a slot of an inode, and a pointer of a fragment at a level, as they are kept
+abbrev pub slot_place : ℕ → ℕ → Place
+slot_place inode slot = SlotPlace inode slot
+
+abbrev pub pointer_place : ℕ → ℕ → ℕ → Place
+pointer_place fragment level at = PointerPlace fragment level at
 
 -- a source as it is kept
 abbrev pub place_of : ClaimSource → Place
