@@ -13,7 +13,9 @@ use Rattle.ufs_model.proofs.ReadingLaws.{reads_map, reads_none}
 use Rattle.ufs_model.specs.declared.geometries.BadSuper.{BadSuper}
 use Rattle.ufs_model.specs.declared.geometries.Geometry.{Geometry}
 use Rattle.ufs_pointer.specs.FetchLaws.{fetches_map, fetches_none}
-use Rattle.ufs_pointer.specs.Fetches.{Fetches}
+use Rattle.ufs_pointer.specs.Fetches.{Fetches, FetchesArea, IsNeeded, LosesOne}
+use Rattle.ufs_pointer.specs.KindLaws.{loses_front}
+use Rattle.ufs_pointer.proofs.LossLaws.{within_lost}
 
 -- the bytes that are there, and zeros after them
 pub within : {stands : Volume → Type 0} {tells : Type 0} {before after : ℕ → Bool} (l n a k m : ℕ) (r : Bool) (front rest : List ℕ) → Grows before after
@@ -92,6 +94,15 @@ pub geometry_unfetched : {S : Type 0} {fetched : S → List ℕ → S → Type 0
     → Fetches fetched stands tells (area_within l n a k) None old new → Fetches fetched stands tells (geometry_of l n) None old new
 unfolding geometry_of superblock_of
 geometry_unfetched l n a k e1 e2 fetches = fetches_none _ (rw (e1, e2) at fetches)
+
+-- ---- what is gone
+
+pub geometry_lost : {S : Type 0} {fetched : S → List ℕ → S → Type 0} {stands : Volume → Type 0} {tells : Type 0} {gone : ℕ → Bool} {old new : S} (l n a k : ℕ)
+    → a ≡ 8192 / l → k ≡ div_ceil 1376 l
+    → FetchesArea fetched gone a (min k (n - a)) false old new → LosesOne stands tells n (IsNeeded (geometry_of l n)) gone
+unfolding geometry_of superblock_of
+geometry_lost l n a k e1 e2 area =
+    loses_front (area_within l n (8192 / l) (div_ceil 1376 l)) _ (within_lost l n (8192 / l) (div_ceil 1376 l) (rw (e1, e2) at area))
 
 -- ---- sizes
 

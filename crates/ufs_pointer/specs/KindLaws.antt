@@ -1,12 +1,11 @@
 -- Blocks of a kind that readers in a row fetched, or lost. For the crates that read a volume.
-use Rattle.std.proofs.Common.{◌≡◌, ◌∙◌, ℕ, ◌+◌, ◌-◌, ◌<◌, ◌≤◌, List, [], ◌∷◌, ◌++◌, Bool, true, false, inl, inr, Option, Some, None, IfNone, All, Contains, refl, sym, subst, arith}
-use Rattle.std.specs.Bool.{then_some}
+use Rattle.std.proofs.Common.{◌≡◌, ℕ, zero, suc, ◌+◌, ◌-◌, ◌<◌, ◌≤◌, List, [], ◌∷◌, ◌++◌, Bool, true, false, Option, Some, None, IfNone, All, Contains, refl, sym, subst, arith}
 use Rattle.std.specs.List.{range_with_len}
 use Rattle.std.proofs.lemmas.Bool.{false≢true}
 use Rattle.std.proofs.lemmas.List.Elements.{All-append, All-cons, All-contains_itself, All-nil, All-weaker, Contains-append_left, Contains-append_right}
 use Rattle.ufs_model.specs.Blocks.{Volume, Consulted, Reading, bind}
 use Rattle.ufs_model.specs.Readings.{Grows, ReadsAs}
-use Rattle.ufs_pointer.specs.Fetches.{Fetches, FetchesArea, FetchesOnly, IsConsulted, IsJust, IsNeeded, LosesOne}
+use Rattle.ufs_pointer.specs.Fetches.{Fetches, FetchesArea, FetchesOnly, IsConsulted, IsNeeded, LosesOne}
 
 -- ---- what was fetched
 
@@ -133,9 +132,9 @@ needed_then d f a v b is h =
     Contains-append_right ((d v).needs) ((f ((d v).value) v).needs) b (subst (λ x. Contains ((f x v).needs) b) is h)
 
 -- a block that is consulted for the first is consulted for the whole
-pub loses_front : {A B : Type 0} {stands : Volume → Type 0} {tells : Type 0} {count : ℕ} {gone : ℕ → Bool} {d : Reading A} (f : A → Reading B)
+pub loses_front : {A B : Type 0} {stands : Volume → Type 0} {tells : Type 0} {count : ℕ} {gone : ℕ → Bool} (d : Reading A) (f : A → Reading B)
     → LosesOne stands tells count (IsNeeded d) gone → LosesOne stands tells count (IsNeeded (bind d f)) gone
-loses_front {d = d} f one = record {
+loses_front d f one = record {
   block = one.block;
   within = one.within;
   lost = one.lost;
@@ -154,8 +153,8 @@ loses_then {d = d} f {a = a} same keeps tell read one = record {
 }
 
 -- the same where there is no answer
-pub no_answer_then : {A B : Type 0} {stands still : Volume → Type 0} {tells told : Type 0} {count here : ℕ} {before now gone : ℕ → Bool} {d : Reading A} (f : A → Reading B) {a : A} (r : Option B)
+pub no_answer_then : {A B : Type 0} {stands still : Volume → Type 0} {tells told : Type 0} {count here : ℕ} {before now : ℕ → Bool} {d : Reading A} (f : A → Reading B) {a : A} (gone : ℕ → Bool) (r : Option B)
     → here ≡ count → ((v : Volume) → stands v → still v) → (told → tells) → ReadsAs stands before tells now d (Some a)
     → IfNone r (LosesOne still told here (IsNeeded (f a)) gone) → IfNone r (LosesOne stands told count (IsNeeded (bind d f)) gone)
-no_answer_then f (Some b) same keeps tell read one = tt
-no_answer_then f None same keeps tell read one = loses_then f same keeps tell read one
+no_answer_then f gone (Some b) same keeps tell read one = tt
+no_answer_then f gone None same keeps tell read one = loses_then f same keeps tell read one
