@@ -163,7 +163,7 @@ leveled_one place marks leveled mark has = elim ((contains_cons (mark_of place) 
   | inr h ↦ leveled mark h
 ]
 
-leveled_rest : (mark : Mark) (marks : List Mark) → AreLeveled (mark ∷ marks) → AreLeveled marks
+pub leveled_rest : (mark : Mark) (marks : List Mark) → AreLeveled (mark ∷ marks) → AreLeveled marks
 leveled_rest mark marks leveled other has = leveled other ((contains_cons mark marks other).1 (inr has))
 
 leveled_insert : (place : Place) (marks : List Mark) → AreLeveled marks → AreLeveled (insert_key mark_cmp marks (mark_of place))

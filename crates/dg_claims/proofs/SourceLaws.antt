@@ -1,6 +1,6 @@
 -- What the sources of an inode, and those of a fragment, claim in the end.
-use Rattle.std.proofs.Common.{◌≡◌, ℕ, ◌*◌, ◌/◌, ◌<◌, ◌≤◌, ◌∙◌, ◌&&◌, inl, inr, List, [], Bool, true, false, Option, Some, None, IfSome, nat_lt, refl, sym, ap, subst, arith, div-le_self, ◌^◌}
-use Rattle.std.proofs.lemmas.Bool.{false≢true}
+use Rattle.std.proofs.Common.{◌≡◌, ℕ, ◌+◌, ◌*◌, ◌/◌, ◌<◌, ◌≤◌, ◌∙◌, ◌&&◌, inl, inr, List, [], Bool, true, false, Option, Some, None, IfSome, nat_lt, refl, sym, ap, subst, arith, div-le_self, ◌^◌}
+use Rattle.std.proofs.lemmas.Bool.{cases_eq, false≢true}
 use Rattle.std.proofs.lemmas.Bool.Decides.{nat_tests}
 use Rattle.ufs_model.specs.Claims.{slot_fragments, pointer_fragments, fragments_at}
 use Rattle.ufs_model.specs.Geometries.{IsGeometry}
@@ -43,6 +43,18 @@ pub sets_cut : (old middle new : List (ClaimSource × Run)) (place_at : ℕ → 
     → (place : Place) → ((k : ℕ) → place ≡ place_at k → ⊥) → run_at new place ≡ run_at old place
 sets_cut old middle new place_at fragments n first others place off = others place (off n) ∙ first.others place (λ k lt e. off k e)
 
+-- one more
+pub sets_more : (old middle new : List (ClaimSource × Run)) (place_at : ℕ → Place) (fragments : ℕ → List ℕ) (n count : ℕ) → count ≡ n + 1 → ((i j : ℕ) → place_at i ≡ place_at j → i ≡ j)
+    → SetsFirst old middle place_at fragments n → run_fragments (run_at new (place_at n)) ≡ fragments n → ((place : Place) → (place ≡ place_at n → ⊥) → run_at new place ≡ run_at middle place)
+    → SetsFirst old new place_at fragments count
+sets_more old middle new place_at fragments n count more apart first here others = record {
+  done = λ k lt. elim (cases_eq k n) [
+    | inl same ↦ subst (λ i. run_fragments (run_at new (place_at i)) ≡ fragments i) (sym same) here
+    | inr ne ↦ ap run_fragments (others (place_at k) (λ e. ne (apart k n e))) ∙ first.done k (omega (arith, lt, more, ne))
+  ];
+  others = λ place off. others place (off n (omega (arith, more))) ∙ first.others place (λ k lt. off k (omega (arith, lt, more)));
+}
+
 none_from : {X : Type 0} (P : X → Type 0) (o : Option X) → IfSome o P → ((x : X) → P x → ⊥) → o ≡ None
 none_from P None h nobody = refl
 none_from P (Some x) h nobody = absurd (nobody x h)
@@ -81,7 +93,7 @@ all_slots kept g number inode new sources is within first slot =
     ])
 
 -- what a source claims, by its place
-by_place : (runs : List (ClaimSource × Run)) (source : ClaimSource) → claimed_by runs source ≡ run_fragments (run_at runs (place_of source))
+pub by_place : (runs : List (ClaimSource × Run)) (source : ClaimSource) → claimed_by runs source ≡ run_fragments (run_at runs (place_of source))
 unfolding claimed_by
 by_place runs source = ap (λ s. run_fragments (run_of runs s)) (sym (source_is source))
 
@@ -209,3 +221,7 @@ bare_pointers kept g fragment level new sources is first at = elim (below_cases 
 
 pub kept_run : (runs : List (ClaimSource × Run)) (source : ClaimSource) (place : Place) (run : Option Run) → place ≡ place_of source → run ≡ run_at runs place → run_fragments run ≡ claimed_by runs source
 kept_run runs source place run is e = ap run_fragments (e ∙ ap (run_at runs) is) ∙ sym (by_place runs source)
+
+-- without a geometry
+pub bare_pointer : (kept : KeptClaims) (fragment level : ℕ) → HasSources kept → kept.geometry ≡ None → (at : ℕ) → claimed_by kept.runs (Pointer fragment level at) ≡ []
+bare_pointer kept fragment level sources is at = no_source kept (Pointer fragment level at) sources is

@@ -1,7 +1,5 @@
 pub mod Kept
 pub mod Marks
 pub mod Places
-pub mod Readers
 pub mod Runs
-pub mod Scans
 pub mod Tables

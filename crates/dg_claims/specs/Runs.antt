@@ -23,7 +23,7 @@ is_same_source (Pointer fragment level at) (Slot i s) = false
 is_same_source (Pointer fragment level at) (Pointer f l a) = (fragment == f) && ((level == l) && (at == a))
 
 -- the run of a source, among pairs of a source and its run
-abbrev pub run_of : List (ClaimSource × Run) → ClaimSource → Option Run
+unfoldable pub run_of : List (ClaimSource × Run) → ClaimSource → Option Run
 run_of runs source = lookup (is_same_source source) runs
 
 -- the run at a place

@@ -5,17 +5,13 @@
 #![tactic(auto)]
 
 mod claims;
-mod inodes;
-mod levels;
 mod marks;
 mod owners;
 mod places;
 mod runs;
-mod scans;
 mod spans;
-#[cfg(test)]
-mod tests;
 
 pub use crate::claims::Claims;
-pub use crate::scans::scan;
+pub use crate::runs::Run;
+pub use crate::spans::{pointer_run, slot_run};
 pub use ufs_model::{ClaimSource, Geometry, Inode};

@@ -79,6 +79,20 @@ impl Marks {
         nth_more(&self.more, fragment, i as usize - 1)
     }
 
+    /// The source of a fragment that has one.
+    #[tactic(auto, unfolding(crate::specs::Marks::all_on))]
+    pub fn only(&self, fragment: u32) -> Option<Place>
+        requires { IsMarks self.now }
+        ensures one { IfSome result (λ place. marked_on self.now fragment ≡ place ∷ []) }
+        ensures none { IfNone result (length (marked_on self.now fragment) ≡ 1 → ⊥) }
+    {
+        let first = self.first_at(fragment)?;
+        if count_more(&self.more, fragment) == 0 {
+            return Some(first);
+        }
+        None
+    }
+
     /// Whether the fragment has a source at the level.
     #[tactic(auto, unfolding(crate::specs::Marks::all_on))]
     pub fn has_level(&self, fragment: u32, level: u8) -> bool
