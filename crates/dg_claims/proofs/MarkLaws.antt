@@ -179,11 +179,13 @@ added_first old new fragment place sound lt bare firsts more =
     let was : all_on old fragment ≡ [] = all_of old fragment None bare in
     let made = sets_one old new fragment (Some place) [] lt firsts (ap (λ m. more_on m fragment) more ∙ none) (λ other apart. ap (λ m. more_on m other) more) in
     let one = contains_cons (mark_of place) [] in
-    let now = remarked old new fragment (Some place) [] sound made ((λ other has. absurd (contains_none other has)), tt) (leveled_one place [] (λ mark has. absurd (contains_none mark has))) (omega arith) tt in
-    (now, adds old new fragment place (Some place) [] sound now made (λ mark. (
-      λ has. elim ((one mark).0 has) [ inl e ↦ inr e | inr h ↦ absurd (contains_none mark h) ],
-      λ either. (one mark).1 (elim either [ inl h ↦ absurd (contains_none mark (subst (λ ms. Contains ms mark) was h)) | inr e ↦ inl e ]),
-    )))
+    let now = remarked old new fragment (Some place) [] sound made ((λ other has. absurd (contains_none other has)), tt) (leveled_one place [] (λ mark has. absurd (contains_none mark has))) (omega arith) tt in (
+      now,
+      adds old new fragment place (Some place) [] sound now made (λ mark. (
+        λ has. elim ((one mark).0 has) [ inl e ↦ inr e | inr h ↦ absurd (contains_none mark h) ],
+        λ either. (one mark).1 (elim either [ inl h ↦ absurd (contains_none mark (subst (λ ms. Contains ms mark) was h)) | inr e ↦ inl e ]),
+      )),
+    )
 
 -- what there is where there is a first source
 ordered_there : (marks : Marks) (fragment : ℕ) (one : Place) → IsMarks marks → slice_index_or marks.first.items fragment None ≡ Some one → AreOrdered (mark_of one ∷ more_on marks.more fragment)
@@ -233,10 +235,12 @@ added_two old new fragment low high one place sound is two below less few ordere
     let leveled = leveled_there old fragment one sound is in
     let fewer : length (mark_of one ∷ more) < 2 ^ 32 - 1 = subst (λ (ms : List Mark). length ms < 2 ^ 32 - 1) was few in
     let now = remarked old new fragment (Some low) (insert_key mark_cmp more (mark_of high)) sound made (ordered_behind (mark_of low) (mark_of high) more below less ordered)
-    (leveled_one low (insert_key mark_cmp more (mark_of high)) (leveled_insert high more (leveled_rest (mark_of one) more leveled))) (omega (arith, longer, fewer)) tt in
-    (now, adds old new fragment place (Some low) (insert_key mark_cmp more (mark_of high)) sound now made
-        (subst (λ (ms : List Mark). (mark : Mark) → Contains (mark_of low ∷ insert_key mark_cmp more (mark_of high)) mark ↔ (Contains ms mark ⊎ (mark ≡ mark_of place))) (sym was)
-        (which_two low high one place more two)))
+    (leveled_one low (insert_key mark_cmp more (mark_of high)) (leveled_insert high more (leveled_rest (mark_of one) more leveled))) (omega (arith, longer, fewer)) tt in (
+      now,
+      adds old new fragment place (Some low) (insert_key mark_cmp more (mark_of high)) sound now made
+          (subst (λ (ms : List Mark). (mark : Mark) → Contains (mark_of low ∷ insert_key mark_cmp more (mark_of high)) mark ↔ (Contains ms mark ⊎ (mark ≡ mark_of place))) (sym was)
+          (which_two low high one place more two)),
+    )
 
 same_marks : (old new : Marks) → IsMarks old → new.first ≡ old.first → SameMore old.more new.more → IsMarks new × SameMarks old new
 unfolding all_on
@@ -274,7 +278,7 @@ added_front old new fragment one place sound lt is fresh not_less few firsts set
     let there = ordered_there old fragment one sound is in
     let was = all_of old fragment (Some one) is in
     let apart : mark_of one ≡ mark_of place → ⊥ = λ e. fresh (placed (all_on old fragment) (mark_of place)
-        (subst (λ (ms : List Mark). Contains ms (mark_of place)) (sym was) ((contains_cons (mark_of one) (more_on old.more fragment) (mark_of place)).1 (inl (sym e))))) in
+    (subst (λ (ms : List Mark). Contains ms (mark_of place)) (sym was) ((contains_cons (mark_of one) (more_on old.more fragment) (mark_of place)).1 (inl (sym e))))) in
     let less = other_way (mark_of one) (mark_of place) apart not_less in
     added_two old new fragment place one one place sound is (inr (refl, refl)) (before_all (mark_of place) (mark_of one) (more_on old.more fragment) less there) less few
     (ordered_from more (subst (IsStrictlySortedBy mark_cmp) (set_here old new fragment more sets) sorted))
@@ -331,11 +335,13 @@ dropped_next : (old new : Marks) (fragment : ℕ) (place : Place) (next : Option
 dropped_next old new fragment place None sound is some none made =
     let was = all_of old fragment (Some place) is ∙ ap (λ ms. mark_of place ∷ ms) (none.0) in
     let now = remarked old new fragment None (more_on new.more fragment) sound made tt (λ mark has. absurd (contains_none mark has)) (omega arith) (none.1) in
-    let one = contains_cons (mark_of place) [] in
-    (now, drops old new fragment place None (more_on new.more fragment) sound now made (λ mark. (
-      λ has. absurd (contains_none mark has),
-      λ both. elim ((one mark).0 (subst (λ (ms : List Mark). Contains ms mark) was (both.0))) [ inl e ↦ absurd (both.1 e) | inr h ↦ h ],
-    )))
+    let one = contains_cons (mark_of place) [] in (
+      now,
+      drops old new fragment place None (more_on new.more fragment) sound now made (λ mark. (
+        λ has. absurd (contains_none mark has),
+        λ both. elim ((one mark).0 (subst (λ (ms : List Mark). Contains ms mark) was (both.0))) [ inl e ↦ absurd (both.1 e) | inr h ↦ h ],
+      )),
+    )
 dropped_next old new fragment place (Some next) sound is some none made =
     let rest = more_on new.more fragment in
     let was : all_on old fragment ≡ mark_of place ∷ next ∷ rest = all_of old fragment (Some place) is ∙ ap (λ ms. mark_of place ∷ ms) some in
@@ -345,13 +351,15 @@ dropped_next old new fragment place (Some next) sound is some none made =
     let back = leveled_rest (mark_of place) (next ∷ rest) leveled in
     let itself : next ≡ mark_of next.place = back next ((contains_cons next rest next).1 (inl refl)) in
     let front = contains_cons (mark_of place) (next ∷ rest) in
-    let now = remarked old new fragment (Some next.place) rest sound made (subst (λ m. AreOrdered (m ∷ rest)) itself (ordered.1)) (subst (λ m. AreLeveled (m ∷ rest)) itself back) (omega (arith, few)) tt in
-    (now, drops old new fragment place (Some next.place) rest sound now made (λ mark. (
-      λ has.
-          let there = subst (λ m. Contains (m ∷ rest) mark) (sym itself) has in
-          (subst (λ (ms : List Mark). Contains ms mark) (sym was) ((front mark).1 (inr there)), λ e. apart_from (mark_of place) mark (sym e) (ordered.0 mark there)),
-      λ both. subst (λ m. Contains (m ∷ rest) mark) itself (elim ((front mark).0 (subst (λ (ms : List Mark). Contains ms mark) was (both.0))) [ inl e ↦ absurd (both.1 e) | inr h ↦ h ]),
-    )))
+    let now = remarked old new fragment (Some next.place) rest sound made (subst (λ m. AreOrdered (m ∷ rest)) itself (ordered.1)) (subst (λ m. AreLeveled (m ∷ rest)) itself back) (omega (arith, few)) tt in (
+      now,
+      drops old new fragment place (Some next.place) rest sound now made (λ mark. (
+        λ has.
+            let there = subst (λ m. Contains (m ∷ rest) mark) (sym itself) has in
+            (subst (λ (ms : List Mark). Contains ms mark) (sym was) ((front mark).1 (inr there)), λ e. apart_from (mark_of place) mark (sym e) (ordered.0 mark there)),
+        λ both. subst (λ m. Contains (m ∷ rest) mark) itself (elim ((front mark).0 (subst (λ (ms : List Mark). Contains ms mark) was (both.0))) [ inl e ↦ absurd (both.1 e) | inr h ↦ h ]),
+      )),
+    )
 
 pub dropped_first : (old new : Marks) (fragment : ℕ) (place : Place) (next : Option Mark) → IsMarks old → fragment < length old.first.items → slice_index_or old.first.items fragment None ≡ Some place
     → IfSome next (λ mark. more_on old.more fragment ≡ mark ∷ more_on new.more fragment) → IfNone next ((more_on old.more fragment ≡ []) × (more_on new.more fragment ≡ []))
@@ -366,11 +374,13 @@ dropped_from old new fragment place None sound is apart made =
     let more = more_on old.more fragment in
     let none : more ≡ [] = subst (λ o. IsFilled o more) is (sound.filled fragment) in
     let was = all_of old fragment None is in
-    let now = remarked old new fragment None (remove_key (is_at (mark_cmp (mark_of place))) more) sound made tt (λ mark has. absurd (contains_none mark has)) (omega arith) (ap (remove_key (is_at (mark_cmp (mark_of place)))) none) in
-    (now, drops old new fragment place None (remove_key (is_at (mark_cmp (mark_of place))) more) sound now made (λ mark. (
-      λ has. absurd (contains_none mark has),
-      λ both. subst (λ (ms : List Mark). Contains ms mark) was (both.0),
-    )))
+    let now = remarked old new fragment None (remove_key (is_at (mark_cmp (mark_of place))) more) sound made tt (λ mark has. absurd (contains_none mark has)) (omega arith) (ap (remove_key (is_at (mark_cmp (mark_of place)))) none) in (
+      now,
+      drops old new fragment place None (remove_key (is_at (mark_cmp (mark_of place))) more) sound now made (λ mark. (
+        λ has. absurd (contains_none mark has),
+        λ both. subst (λ (ms : List Mark). Contains ms mark) was (both.0),
+      )),
+    )
 dropped_from old new fragment place (Some one) sound is apart made =
     let more = more_on old.more fragment in
     let left = remove_key (is_at (mark_cmp (mark_of place))) more in
@@ -382,16 +392,18 @@ dropped_from old new fragment place (Some one) sound is apart made =
     let removed = λ (mark : Mark). contains_remove more (mark_of place) mark (there.1) in
     let now = remarked old new fragment (Some one) left sound made
     (λ other has. there.0 other (((removed other).0 has).0), ordered_remove more (mark_of place) (there.1))
-    (leveled_one one left (λ mark has. leveled_rest (mark_of one) more leveled mark (((removed mark).0 has).0))) (omega (arith, few, fewer)) tt in
-    (now, drops old new fragment place (Some one) left sound now made (λ mark.
-        let old_front = contains_cons (mark_of one) more mark in
-        let new_front = contains_cons (mark_of one) left mark in (
-          λ has. elim (new_front.0 has) [
-            | inl e ↦ (subst (λ (ms : List Mark). Contains ms mark) (sym was) (old_front.1 (inl e)), λ same. apart (ap (λ m. Some (place_in m)) (sym e ∙ same)))
-            | inr h ↦ (subst (λ (ms : List Mark). Contains ms mark) (sym was) (old_front.1 (inr (((removed mark).0 h).0))), ((removed mark).0 h).1)
-          ],
-          λ both. new_front.1 (elim (old_front.0 (subst (λ (ms : List Mark). Contains ms mark) was (both.0))) [ inl e ↦ inl e | inr h ↦ inr ((removed mark).1 (h, both.1)) ]),
-        )))
+    (leveled_one one left (λ mark has. leveled_rest (mark_of one) more leveled mark (((removed mark).0 has).0))) (omega (arith, few, fewer)) tt in (
+      now,
+      drops old new fragment place (Some one) left sound now made (λ mark.
+          let old_front = contains_cons (mark_of one) more mark in
+          let new_front = contains_cons (mark_of one) left mark in (
+            λ has. elim (new_front.0 has) [
+              | inl e ↦ (subst (λ (ms : List Mark). Contains ms mark) (sym was) (old_front.1 (inl e)), λ same. apart (ap (λ m. Some (place_in m)) (sym e ∙ same)))
+              | inr h ↦ (subst (λ (ms : List Mark). Contains ms mark) (sym was) (old_front.1 (inr (((removed mark).0 h).0))), ((removed mark).0 h).1)
+            ],
+            λ both. new_front.1 (elim (old_front.0 (subst (λ (ms : List Mark). Contains ms mark) was (both.0))) [ inl e ↦ inl e | inr h ↦ inr ((removed mark).1 (h, both.1)) ]),
+          )),
+    )
 
 pub dropped_more : (old new : Marks) (fragment : ℕ) (place : Place) → IsMarks old → (slice_index_or old.first.items fragment None ≡ Some place → ⊥) → new.first ≡ old.first
     → SetsMore old.more new.more fragment (remove_key (is_at (mark_cmp (mark_of place))) (more_on old.more fragment)) → IsMarks new × DropsMark old new fragment place

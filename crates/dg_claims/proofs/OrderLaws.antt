@@ -128,7 +128,7 @@ contains_remove (y ∷ ys) m x ordered =
     let rest = contains_remove ys m x (ordered.1) in
     let all = contains_cons y ys x in
     elim (is_at (mark_cmp m) y) as (λ b. is_at (mark_cmp m) y ≡ b
-        → Contains (cond b ys (y ∷ remove_key (is_at (mark_cmp m)) ys)) x ↔ (Contains (y ∷ ys) x × (x ≡ m → ⊥))) [
+    → Contains (cond b ys (y ∷ remove_key (is_at (mark_cmp m)) ys)) x ↔ (Contains (y ∷ ys) x × (x ≡ m → ⊥))) [
       | true ↦ λ is. let here : m ≡ y = mark_exact m y (is_equal (mark_cmp m y) is) in (
         λ has. (all.1 (inr has), λ e. not_before_itself y x (sym here ∙ sym e) (ordered.0 x has)),
         λ both. elim (all.0 (both.0)) [ inl e ↦ absurd (both.1 (e ∙ sym here)) | inr h ↦ h ],

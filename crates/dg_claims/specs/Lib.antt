@@ -2,4 +2,5 @@ pub mod Kept
 pub mod Marks
 pub mod Places
 pub mod Runs
+pub mod Scans
 pub mod Tables
