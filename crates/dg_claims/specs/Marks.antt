@@ -87,5 +87,6 @@ pub record DropsMark (old new : Marks) (fragment : ℕ) (place : Place) : Type 0
 -- the source is taken from so many fragments from one on, and all else is the same
 pub record Unmarks (old new : Marks) (place : Place) (first count : ℕ) : Type 0 where
   pub room : length new.first.items ≡ length old.first.items
-  pub here : (fragment : ℕ) → Contains (marked_on new fragment) place ↔ (Contains (marked_on old fragment) place × (first ≤ fragment → first + count ≤ fragment))
+  pub here : (fragment : ℕ)
+      → Contains (marked_on new fragment) place ↔ (Contains (marked_on old fragment) place × (first ≤ fragment → first + count ≤ fragment))
   pub others : (fragment : ℕ) (other : Place) → (other ≡ place → ⊥) → Contains (marked_on new fragment) other ↔ Contains (marked_on old fragment) other

@@ -36,7 +36,8 @@ HasNoPointers claimed most = (fragment level at : ℕ) → level ≤ most → cl
 -- what it does where it is there.
 pub record IsRightAbove (sources claimed : ClaimSource → List ℕ) (most : ℕ) : Type 0 where
   pub slots : (fragment inode slot : ℕ) → Contains (claimed (Slot inode slot)) fragment ↔ Contains (sources (Slot inode slot)) fragment
-  pub pointers : (fragment upper level at : ℕ) → most < level → Contains (claimed (Pointer upper level at)) fragment ↔ IsClaim sources fragment (Pointer upper level at)
+  pub pointers : (fragment upper level at : ℕ) → most < level
+      → Contains (claimed (Pointer upper level at)) fragment ↔ IsClaim sources fragment (Pointer upper level at)
 
 -- the same of a volume that a view stands for
 abbrev pub IsScanned : (Volume → Type 0) → Geometry → (ClaimSource → List ℕ) → ℕ → Volume → Type 0

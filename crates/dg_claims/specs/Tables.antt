@@ -24,6 +24,16 @@ TableClaims table fragment source = Contains (table.claimed source) fragment
 abbrev pub HasClaims : ClaimTable → (ℕ → ClaimSource → Type 0) → Type 0
 HasClaims table claims = (fragment : ℕ) (source : ClaimSource) → TableClaims table fragment source ↔ claims fragment source
 
+-- each source but the slots of an inode claims what it claimed
+abbrev pub KeepsOffInode : ClaimTable → ClaimTable → ℕ → Type 0
+KeepsOffInode old new number =
+    (source : ClaimSource) → ((slot : ℕ) → source ≡ Slot number slot → ⊥) → new.claimed source ≡ old.claimed source
+
+-- each source but the pointers of a fragment at a level claims what it claimed
+abbrev pub KeepsOffPointers : ClaimTable → ClaimTable → ℕ → ℕ → Type 0
+KeepsOffPointers old new fragment level =
+    (source : ClaimSource) → ((at : ℕ) → source ≡ Pointer fragment level at → ⊥) → new.claimed source ≡ old.claimed source
+
 -- the geometry, if the superblock isn't refused
 abbrev pub accepted : Result Geometry BadSuper → Option Geometry
 accepted (Ok g) = Some g

@@ -11,7 +11,7 @@ ghost use Rattle.dg_claims.specs.Kept.{HasSources, IsRun, IsPlace, run_so_far, s
 ghost use Rattle.dg_claims.specs.Marks.{IsMarks, Unmarks};
 ghost use Rattle.dg_claims.specs.Runs.{run_at, run_fragments};
 ghost use Rattle.dg_claims.specs.Places.{place_of};
-ghost use Rattle.dg_claims.specs.Tables.{IsSource, TableClaims, claim_at, fragment_pointers, inode_fragments};
+ghost use Rattle.dg_claims.specs.Tables.{IsSource, KeepsOffInode, KeepsOffPointers, TableClaims, claim_at, fragment_pointers, inode_fragments};
 ghost use Rattle.dg_claims.specs.declared.places.Place.{Place};
 
 use crate::marks::Marks;
@@ -110,8 +110,9 @@ impl Claims {
     #[tactic(auto, using(crate::proofs::SourceLaws::no_inode, crate::proofs::SourceLaws::other_slots, crate::proofs::SourceLaws::all_slots))]
     pub fn of_inode(&mut self, number: u32, inode: &Inode) -> Result<(), NoMemory>
         ensures geometry { (table_of self.new).geometry ≡ (table_of self.old).geometry }
-        ensures slots { OnOk result ((slot : ℕ) → (table_of self.new).claimed (ClaimSource.Slot number slot) ≡ inode_fragments (table_of self.old).geometry number inode.now slot) }
-        ensures others { (source : ClaimSource) → ((slot : ℕ) → source ≡ ClaimSource.Slot number slot → ⊥) → (table_of self.new).claimed source ≡ (table_of self.old).claimed source }
+        ensures slots { OnOk result ((slot : ℕ) → (table_of self.new).claimed (ClaimSource.Slot number slot)
+            ≡ inode_fragments (table_of self.old).geometry number inode.now slot) }
+        ensures others { KeepsOffInode (table_of self.old) (table_of self.new) number }
     {
         let Some(g) = self.geometry_with(number) else {
             return Ok(());
@@ -134,8 +135,9 @@ impl Claims {
         requires high { level ≤ 3 }
         requires bytes { IfSome (table_of self.old).geometry (λ g. length bytes.now ≡ g.fsize) }
         ensures geometry { (table_of self.new).geometry ≡ (table_of self.old).geometry }
-        ensures pointers { OnOk result ((at : ℕ) → (table_of self.new).claimed (ClaimSource.Pointer fragment level at) ≡ fragment_pointers (table_of self.old).geometry bytes.now at) }
-        ensures others { (source : ClaimSource) → ((at : ℕ) → source ≡ ClaimSource.Pointer fragment level at → ⊥) → (table_of self.new).claimed source ≡ (table_of self.old).claimed source }
+        ensures pointers { OnOk result ((at : ℕ) → (table_of self.new).claimed (ClaimSource.Pointer fragment level at)
+            ≡ fragment_pointers (table_of self.old).geometry bytes.now at) }
+        ensures others { KeepsOffPointers (table_of self.old) (table_of self.new) fragment level }
     {
         let Some(g) = self.known() else {
             return Ok(());
@@ -178,7 +180,7 @@ impl Claims {
     pub fn remove_inode(&mut self, number: u32)
         ensures geometry { (table_of self.new).geometry ≡ (table_of self.old).geometry }
         ensures slots { (slot : ℕ) → (table_of self.new).claimed (ClaimSource.Slot number slot) ≡ [] }
-        ensures others { (source : ClaimSource) → ((slot : ℕ) → source ≡ ClaimSource.Slot number slot → ⊥) → (table_of self.new).claimed source ≡ (table_of self.old).claimed source }
+        ensures others { KeepsOffInode (table_of self.old) (table_of self.new) number }
     {
         self.known();
         for slot in 0..SLOTS {
@@ -194,7 +196,7 @@ impl Claims {
     pub fn remove_pointers(&mut self, fragment: u32, level: u8)
         ensures geometry { (table_of self.new).geometry ≡ (table_of self.old).geometry }
         ensures pointers { (at : ℕ) → (table_of self.new).claimed (ClaimSource.Pointer fragment level at) ≡ [] }
-        ensures others { (source : ClaimSource) → ((at : ℕ) → source ≡ ClaimSource.Pointer fragment level at → ⊥) → (table_of self.new).claimed source ≡ (table_of self.old).claimed source }
+        ensures others { KeepsOffPointers (table_of self.old) (table_of self.new) fragment level }
     {
         let Some(g) = self.known() else {
             return;
@@ -255,16 +257,20 @@ impl Claims {
 
     /// What is claimed is inside the volume, and claimed at a level of 0 to 3 by a source of the volume.
     pub fn claims_inside(&self)
-        ensures inside { (fragment : ℕ) (source : ClaimSource) → TableClaims (table_of self.now) fragment source → fragment < size_in (table_of self.now).geometry }
-        ensures levels { (fragment : ℕ) (source : ClaimSource) → TableClaims (table_of self.now) fragment source → level_of source ≤ 3 }
-        ensures sources { (fragment : ℕ) (source : ClaimSource) → TableClaims (table_of self.now) fragment source → IsSource (table_of self.now).geometry source }
+        ensures inside { (fragment : ℕ) (source : ClaimSource) → TableClaims (table_of self.now) fragment source
+            → fragment < size_in (table_of self.now).geometry }
+        ensures levels { (fragment : ℕ) (source : ClaimSource) → TableClaims (table_of self.now) fragment source
+            → level_of source ≤ 3 }
+        ensures sources { (fragment : ℕ) (source : ClaimSource) → TableClaims (table_of self.now) fragment source
+            → IsSource (table_of self.now).geometry source }
     {
         let _geometry = self.geometry;
     }
 
     /// The fragments with a claim at the level, each once, ascending.
     pub(crate) fn fragments_at(&self, alloc: Global, level: u8) -> Result<Vec<u32>, NoMemory>
-        ensures claimed { IfOk result (λ fragments. (fragment : ℕ) → Contains fragments.items fragment ↔ IsClaimedAt (TableClaims (table_of self.now)) level fragment) }
+        ensures claimed { IfOk result (λ fragments. (fragment : ℕ) → Contains fragments.items fragment
+            ↔ IsClaimedAt (TableClaims (table_of self.now)) level fragment) }
         ensures inside { IfOk result (λ fragments. (fragment : ℕ) → Contains fragments.items fragment → fragment < size_in self.now.geometry) }
     {
         let mut fragments = Vec::new(alloc);

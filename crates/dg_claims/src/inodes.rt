@@ -9,6 +9,7 @@ ghost use Rattle.ufs_pointer.specs.Fetches.{IsJust};
 ghost use Rattle.ufs_pointer.specs.ViewWords.{FetchesKind, LosesKind};
 ghost use Rattle.dg_claims.specs.Kept.{table_of};
 ghost use Rattle.dg_claims.specs.Scans.{ClaimsAsOn, HasInode, HoldsIn, stored_fragments};
+ghost use Rattle.dg_claims.specs.Tables.{KeepsOffInode};
 
 use crate::claims::Claims;
 use dg_io::{NoMemory, View};
@@ -25,7 +26,8 @@ pub fn read_fragment<V: View>(view: &mut V, levels: &mut Levels, fragment: u32) 
     ensures keeps { Keeps V.View view.old view.new }
     ensures levels { levels.new.fragment ≡ levels.old.fragment }
     ensures room { length levels.new.aside ≡ V.size view.old }
-    ensures bytes { result ≡ true → V.tells view.new → (v : Volume) → V.stands_for view.old v → levels.new.aside ≡ block_at (V.size view.old) v fragment }
+    ensures bytes { result ≡ true → V.tells view.new → (v : Volume) → V.stands_for view.old v
+        → levels.new.aside ≡ block_at (V.size view.old) v fragment }
     ensures once { V.fetched view.old (fragment ∷ []) view.new }
     ensures gone { result ≡ false → V.is_gone view.new fragment ≡ true }
 {
@@ -70,8 +72,7 @@ fn claim_stored(
     ensures geometry { (table_of claims.new).geometry ≡ (table_of claims.old).geometry }
     ensures slots { OnOk result ((slot : ℕ) → (table_of claims.new).claimed (ClaimSource.Slot number slot)
         ≡ stored_fragments (table_of claims.old).geometry number (inode_in endian (take 128 (drop byte block.now))) slot) }
-    ensures others { (source : ClaimSource) → ((slot : ℕ) → source ≡ ClaimSource.Slot number slot → ⊥)
-        → (table_of claims.new).claimed source ≡ (table_of claims.old).claimed source }
+    ensures others { KeepsOffInode (table_of claims.old) (table_of claims.new) number }
 {
     match inode_at(block, byte, endian) {
         Some(inode) => claims.of_inode(number, &inode),
@@ -104,8 +105,7 @@ fn scan_inode<V: View>(
     ensures slots { IfOk result (λ got. got ≡ true → V.tells view.new → (v : Volume) → V.stands_for view.old v
         → HoldsIn (V.size view.old) v held.old levels.old.aside → HoldsIn (V.size view.old) v held.new levels.new.aside
         × ((slot : ℕ) → ClaimsAsOn g.now v (table_of claims.new).claimed (ClaimSource.Slot number slot))) }
-    ensures others { (source : ClaimSource) → ((slot : ℕ) → source ≡ ClaimSource.Slot number slot → ⊥)
-        → (table_of claims.new).claimed source ≡ (table_of claims.old).claimed source }
+    ensures others { KeepsOffInode (table_of claims.old) (table_of claims.new) number }
     ensures lost { IfOk result (λ got. got ≡ false → LosesKind V.View view.old view.new (HasInode g.now)) }
     ensures fetched { FetchesKind V.View view.old view.new (HasInode g.now) }
 {
@@ -134,7 +134,8 @@ pub(crate) fn scan_inodes<V: View>(
     ensures geometry { (table_of claims.new).geometry ≡ (table_of claims.old).geometry }
     ensures slots { IfOk result (λ got. got ≡ true → V.tells view.new → (v : Volume) → V.stands_for view.old v
         → (number slot : ℕ) → ClaimsAsOn g.now v (table_of claims.new).claimed (ClaimSource.Slot number slot)) }
-    ensures pointers { IfOk result (λ got. got ≡ true → (fragment level at : ℕ) → (table_of claims.new).claimed (ClaimSource.Pointer fragment level at) ≡ []) }
+    ensures pointers { IfOk result (λ got. got ≡ true
+        → (fragment level at : ℕ) → (table_of claims.new).claimed (ClaimSource.Pointer fragment level at) ≡ []) }
     ensures lost { IfOk result (λ got. got ≡ false → LosesKind V.View view.old view.new (HasInode g.now)) }
     ensures fetched { FetchesKind V.View view.old view.new (HasInode g.now) }
 {

@@ -9,6 +9,7 @@ ghost use Rattle.ufs_pointer.specs.Fetches.{IsJust};
 ghost use Rattle.ufs_pointer.specs.ViewWords.{FetchesKind, LosesKind};
 ghost use Rattle.dg_claims.specs.Kept.{table_of};
 ghost use Rattle.dg_claims.specs.Scans.{ClaimsAsOn, FetchesIndirect, HasNoPointers, IsAmong, IsRightAbove, LosesIndirect};
+ghost use Rattle.dg_claims.specs.Tables.{KeepsOffPointers};
 
 use crate::claims::Claims;
 use crate::inodes::read_fragment;
@@ -42,8 +43,7 @@ fn scan_fragment<V: View>(
     ensures geometry { (table_of claims.new).geometry ≡ (table_of claims.old).geometry }
     ensures pointers { IfOk result (λ got. got ≡ true → V.tells view.new → (v : Volume) → V.stands_for view.old v
         → (at : ℕ) → ClaimsAsOn g.now v (table_of claims.new).claimed (ClaimSource.Pointer fragment level at)) }
-    ensures others { (source : ClaimSource) → ((at : ℕ) → source ≡ ClaimSource.Pointer fragment level at → ⊥)
-        → (table_of claims.new).claimed source ≡ (table_of claims.old).claimed source }
+    ensures others { KeepsOffPointers (table_of claims.old) (table_of claims.new) fragment level }
     ensures gone { IfOk result (λ got. got ≡ false → V.is_gone view.new fragment ≡ true) }
     ensures fetched { FetchesKind V.View view.old view.new (IsJust fragment) }
 {
@@ -75,7 +75,8 @@ fn scan_fragments<V: View>(
     ensures levels { levels.new.fragment ≡ levels.old.fragment }
     ensures geometry { (table_of claims.new).geometry ≡ (table_of claims.old).geometry }
     ensures pointers { IfOk result (λ got. got ≡ true → V.tells view.new → (v : Volume) → V.stands_for view.old v
-        → (fragment at : ℕ) → Contains fragments.now fragment → ClaimsAsOn g.now v (table_of claims.new).claimed (ClaimSource.Pointer fragment level at)) }
+        → (fragment at : ℕ) → Contains fragments.now fragment
+        → ClaimsAsOn g.now v (table_of claims.new).claimed (ClaimSource.Pointer fragment level at)) }
     ensures others { (source : ClaimSource) → ((fragment at : ℕ) → Contains fragments.now fragment → source ≡ ClaimSource.Pointer fragment level at → ⊥)
         → (table_of claims.new).claimed source ≡ (table_of claims.old).claimed source }
     ensures lost { IfOk result (λ got. got ≡ false → LosesKind V.View view.old view.new (IsAmong fragments.now)) }

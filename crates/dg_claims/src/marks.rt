@@ -181,7 +181,8 @@ fn put_more(
     fragment: u32,
     mark: Mark,
 ) -> Result<(), NoMemory>
-    ensures put { MatchResult result (λ _. SetsMore more.old more.new fragment (insert_key mark_cmp (more_on more.old fragment) mark)) (λ _. SameMore more.old more.new) }
+    ensures put { MatchResult result (λ _. SetsMore more.old more.new fragment (insert_key mark_cmp (more_on more.old fragment) mark))
+        (λ _. SameMore more.old more.new) }
     ensures ordered { IfOk result (λ _. IsStrictlySortedBy mark_cmp (more_on more.new fragment)) }
 {
     if let Some(marks) = more.get_mut(&fragment) {
