@@ -11,3 +11,4 @@ pub mod RunLaws
 pub mod ScanLaws
 pub mod SourceLaws
 pub mod SpanLaws
+pub mod SharedLaws

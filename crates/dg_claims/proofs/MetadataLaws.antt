@@ -3,7 +3,7 @@ use Rattle.std.proofs.Common.{◌≡◌, ◌∙◌, ℕ, ◌*◌, ◌<◌, ◌�
 use Rattle.std.proofs.lemmas.List.{append-nil}
 use Rattle.std.proofs.lemmas.List.Elements.{All-contains_itself, All-weaker}
 use Rattle.ufs_model.specs.Blocks.{Volume, bind}
-use Rattle.ufs_model.specs.Claims.{IsClaim, by_pointer, by_slot, level_of, slot_fragments_in, source_fragments, source_fragments_in, volume_fragments}
+use Rattle.ufs_model.specs.Claims.{IsClaim, IsClaimedAt, by_pointer, by_slot, level_of, slot_fragments_in, source_fragments, source_fragments_in, volume_fragments}
 use Rattle.ufs_model.specs.Inodes.{inode_of, is_inode_number}
 use Rattle.ufs_model.specs.Superblocks.{geometry_of, superblock_of}
 use Rattle.ufs_model.specs.declared.claims.ClaimSource.{ClaimSource}
@@ -16,7 +16,7 @@ use Rattle.dg_claims.proofs.SourceLaws.{past_slots}
 use Rattle.ufs_pointer.specs.Fetches.{IsNeeded}
 use Rattle.ufs_model.specs.Metadata.{IsMetadata, IsMetadataBy, by_geometry, of_indirect, of_inode, of_superblock}
 use Rattle.dg_claims.specs.Scans.{HasInode, IsIndirect, IsRightAbove}
-use Rattle.dg_claims.specs.Tables.{ClaimTable, HasClaims, IsTableOf, TableClaims, accepted}
+use Rattle.dg_claims.specs.Tables.{ClaimTable, HasClaims, IsLeveled, IsTableOf, TableClaims, accepted}
 
 -- ---- the superblock's blocks
 
@@ -79,6 +79,14 @@ table_claims l n v table g is has =
       λ claim. claim_along (volume_fragments l n v) (source_fragments g v) (λ s. sym (fragments_there l n v g there s)) ((is.claims fragment source).0 claim),
       λ claim. (is.claims fragment source).1 (claim_along (source_fragments g v) (volume_fragments l n v) (fragments_there l n v g there) claim),
     )
+
+upper_claimed : (t : ClaimSource → List ℕ) (fragment upper level at : ℕ) → IsClaim t fragment (Pointer upper level at) → IsClaimedAt (IsClaim t) level upper
+upper_claimed t fragment upper level at (by_pointer {source = source} above is low has) = record { source = source; claim = above; is = is }
+
+pub table_leveled : (l n : ℕ) (v : Volume) (table : ClaimTable) → IsTableOf l n v table → IsLeveled table
+table_leveled l n v table is fragment upper level at claim =
+    let above = upper_claimed (volume_fragments l n v) fragment upper level at ((is.claims fragment (Pointer upper level at)).0 claim) in
+    record { source = above.source; claim = (is.claims upper above.source).1 above.claim; is = above.is }
 
 pub metadata_by : (l n : ℕ) (v : Volume) (g : Geometry) → Ok g ≡ (geometry_of l n v).value → (b : ℕ) → IsMetadataBy g v b → IsMetadata l n v b
 metadata_by l n v g is b by = by_geometry g (sym is) by

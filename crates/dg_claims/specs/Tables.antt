@@ -1,9 +1,10 @@
 -- What a table of claims says. A table's claims are a relation, as a volume's are.
-use Rattle.std.specs.Prelude.{◌≡◌, ◌↔◌, ◌≤◌, ◌<◌, ◌/◌, ℕ, ◌*◌, List, [], Option, Some, None, Result, Ok, Err, if◌then◌else◌, option_map, slice_get}
+use Rattle.std.specs.Prelude.{◌≡◌, ◌↔◌, ◌≤◌, ◌<◌, ◌+◌, ◌/◌, ℕ, ◌*◌, List, [], Option, Some, None, Result, Ok, Err, if◌then◌else◌, option_map, slice_get}
 use Rattle.std.specs.List.{Contains}
 use Rattle.ufs_model.specs.Blocks.{Volume}
-use Rattle.ufs_model.specs.Claims.{AreClaimsOn, VolumeClaims, level_of, pointer_fragments, slot_fragments}
+use Rattle.ufs_model.specs.Claims.{IsClaimedAt, VolumeClaims, level_of, pointer_fragments, slot_fragments}
 use Rattle.ufs_model.specs.Inodes.{is_inode_number}
+use Rattle.ufs_model.specs.Owners.{IsOnlyClaim}
 use Rattle.ufs_model.specs.Superblocks.{geometry_of}
 use Rattle.ufs_model.specs.declared.claims.ClaimSource.{ClaimSource}
 use Rattle.ufs_model.specs.declared.claims.ClaimSource.TheVariants.{Slot, Pointer}
@@ -43,6 +44,14 @@ accepted (Err bad) = None
 pub record IsTableOf (l n : ℕ) (v : Volume) (table : ClaimTable) : Type 0 where
   pub geometry : table.geometry ≡ accepted ((geometry_of l n v).value)
   pub claims : HasClaims table (VolumeClaims l n v)
+
+-- each pointer that claims anything stands in a fragment that is claimed at the pointer's level
+abbrev pub IsLeveled : ClaimTable → Type 0
+IsLeveled table = (fragment upper level at : ℕ) → TableClaims table fragment (Pointer upper level at) → IsClaimedAt (TableClaims table) level upper
+
+-- where the fragment has one claim, at most so many levels are above it
+abbrev pub HasFewAbove : ClaimTable → ℕ → ℕ → Type 0
+HasFewAbove table fragment levels = (source : ClaimSource) → IsOnlyClaim (TableClaims table) fragment source → 3 ≤ level_of source + levels
 
 -- what a slot of an inode claims: nothing without a geometry, and nothing where the inode has a number below 2 or past the last
 unfoldable pub inode_fragments : Option Geometry → ℕ → Inode → ℕ → List ℕ

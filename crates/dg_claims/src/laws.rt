@@ -7,7 +7,7 @@ ghost use Rattle.ufs_model.specs.declared.claims.ClaimSource.{ClaimSource};
 ghost use Rattle.ufs_model.specs.declared.geometries.BadSuper.{BadSuper};
 ghost use Rattle.ufs_model.specs.declared.geometries.Geometry.{Geometry};
 ghost use Rattle.dg_claims.specs.Scans.{stored_fragments};
-ghost use Rattle.dg_claims.specs.Tables.{ClaimTable, HasClaims, IsTableOf, fragment_pointers};
+ghost use Rattle.dg_claims.specs.Tables.{ClaimTable, HasClaims, IsLeveled, IsTableOf, fragment_pointers};
 
 /// What an inode in its block says that its slots claim is what they claim on the volume.
 pub fn slots_of_inodes()
@@ -44,4 +44,5 @@ pub fn tables_of_volumes()
         → HasClaims table (IsClaim (source_fragments g v)) }
     ensures geometry { (l n : ℕ) (v : Volume) (table : ClaimTable) (g : Geometry) → IsTableOf l n v table → table.geometry ≡ Some g
         → (geometry_of l n v).value ≡ Ok g }
+    ensures leveled { (l n : ℕ) (v : Volume) (table : ClaimTable) → IsTableOf l n v table → IsLeveled table }
 {}

@@ -166,7 +166,7 @@ fn three_claims_in_their_order(rt: HostRuntime) -> Result<(), Fail> {
         at: 0,
     };
     let upper = ClaimSource::Slot { inode: 3, slot: 12 };
-    assert_eq!(rt; claims.claims_on(88), 3);
+    assert_eq!(rt; (claims.claims_on(88), claims.shared(88)), (3, Some(3)));
     assert_eq!(rt; claims.claim(88, 0), Some((0, slot)));
     assert_eq!(rt; claims.claim(88, 1), Some((0, pointer)));
     assert_eq!(rt; claims.claim(88, 2), Some((1, upper)));
@@ -212,7 +212,7 @@ fn runs_of_sources(rt: HostRuntime) -> Result<(), Fail> {
     };
     for (source, run) in [
         (
-            ClaimSource::Slot { inode: 7, slot: 0 },
+            ClaimSource::Slot { inode: 7, slot: 1 },
             Some(Run {
                 first: 92,
                 count: 2,
@@ -276,6 +276,10 @@ fn a_shared_indirect_block(rt: HostRuntime) -> Result<(), Fail> {
     let claims = with_slot(rt.alloc(), 6, 0, 84)?;
     assert_eq!(rt; claims.claims_on(88), 1);
     assert_eq!(rt; claims.owner(88), None);
+    assert_eq!(rt; claims.shared(88), Some(2));
+    assert_eq!(rt; claims.shared(84), Some(2));
+    assert_eq!(rt; claims.shared(36), None);
+    assert_eq!(rt; claims.shared(100), None);
     Ok(())
 }
 

@@ -1,5 +1,5 @@
 use Rattle.std.proofs.Common.{sym}
-use Rattle.dg_claims.proofs.MetadataLaws.{table_accepted, table_claims, table_geometry, table_refused}
+use Rattle.dg_claims.proofs.MetadataLaws.{table_accepted, table_claims, table_geometry, table_leveled, table_refused}
 use Rattle.dg_claims.proofs.laws.tables_of_volumes.Goals as goal
 
 pub returns-clause-accepted : goal.returns-clause-accepted
@@ -13,3 +13,6 @@ returns-clause-claims c = table_claims
 
 pub returns-clause-geometry : goal.returns-clause-geometry
 returns-clause-geometry c = table_geometry
+
+pub returns-clause-leveled : goal.returns-clause-leveled
+returns-clause-leveled c = table_leveled

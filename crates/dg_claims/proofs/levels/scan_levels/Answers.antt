@@ -3,7 +3,7 @@ use Rattle.dg_io.specs.ViewLaws.{keeps_both}
 use Rattle.ufs_model.specs.Claims.{source_fragments}
 use Rattle.ufs_pointer.specs.KindLaws.{loses_along, only_both}
 use Rattle.dg_claims.specs.Kept.{claimed_by}
-use Rattle.dg_claims.specs.Scans.{HasNoPointers, IsRightAbove}
+use Rattle.dg_claims.specs.Scans.{HasNoPointers, IsRightAbove, IsScanned}
 use Rattle.dg_claims.proofs.levels.scan_levels.Goals as goal
 
 pub returns-in_err-scan_level-clause-fetched : goal.returns-in_err-scan_level-clause-fetched
@@ -42,5 +42,5 @@ pub returns-then-not-branch-clause-lost : goal.returns-then-not-branch-clause-lo
 returns-then-not-branch-clause-lost g c = λ got.
     let so_far = c.loop-done.invariant in
     let told = c.scan_level.ensures.keeps.told in
-    loses_along so_far.keeps.blocks (λ b h. h) (λ h. h) (λ is v h. ((so_far.keeps.stands v (h.0), so_far.right (told is) v (h.0) (h.1)), λ b at. at))
+    loses_along {still = IsScanned (g.V.View.stands_for c.loop-done.view) c.args.g.now (claimed_by c.loop-done.claims.runs) (3 - c.loop-done.done)} so_far.keeps.blocks (λ b h. h) (λ h. h) (λ is v h. ((so_far.keeps.stands v (h.0), so_far.right (told is) v (h.0) (h.1)), λ b at. at))
     (c.in_ok-scan_level.ensures.lost c.if-not-branch.true)

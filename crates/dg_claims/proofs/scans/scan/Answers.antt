@@ -22,7 +22,7 @@ returns-in-Some-Ok-clause-claims g c =
 pub returns-in-Some-Ok-clause-lost : goal.returns-in-Some-Ok-clause-lost
 returns-in-Some-Ok-clause-lost g c =
     let reads = rw c.in-Some-Ok.field-0-is at c.in-Some-Ok.ensures.rule in
-    let keeps = c.in-Some-Ok.ensures.keeps in
+    let keeps = c.read_geometry.ensures.keeps in
     ok_none c.scan_volume.result _ _
     (loses_along keeps.blocks (λ b h. h) (λ h. h) (λ is v holds. (keeps.stands v holds, metadata_by (g.V.View.size c.args.view.now) (g.V.View.count c.args.view.now) v c.in-Some-Ok.g ((reads.rule (c.scan_volume.ensures.keeps.told is) v holds).answer))))
     c.scan_volume.ensures.lost
