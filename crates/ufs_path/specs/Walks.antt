@@ -3,7 +3,7 @@ use Rattle.std.specs.Prelude.{◌≡◌, ◌≤◌, ◌++◌, ◌⊎◌, ℕ, Bo
 use Rattle.std.specs.List.{list_all}
 use Rattle.std.specs.Option.{is_none, option_map}
 use Rattle.dg_model.specs.Causes.{Rose}
-use Rattle.ufs_model.specs.Blocks.{Reading, known}
+use Rattle.ufs_model.specs.Blocks.{Reading, Volume, known}
 use Rattle.ufs_model.specs.Chunks.{DirEntry, entries_in, fault_in, used_entries}
 use Rattle.ufs_model.specs.Listings.{Listed, listed_entries, listing_of}
 use Rattle.ufs_model.specs.Paths.{chunks_in, chunks_of, entries_before, entries_through, look_from, names_of}
@@ -113,3 +113,7 @@ lines_before g inode count = and_then (entries_before g inode count) (λ entries
 -- the lines of the directory at a path of a volume with this geometry
 unfoldable pub ls_below : List ℕ → Geometry → Reading (Result (List Listed) PathRefusal)
 ls_below path g = and_then (look_from g (names_of path) 2) (λ found. listing_of g found.1)
+
+-- the entries in the first count file blocks of a directory are read of a volume
+abbrev pub ReadsEntries : Geometry → Inode → ℕ → Volume → Type 0
+ReadsEntries g inode count v = (entries : List DirEntry) × (Ok entries ≡ (entries_before g inode count v).value)
