@@ -45,11 +45,11 @@ same_needs {A} one other b same h = subst (λ (c : Consulted A). Contains c.need
 
 pub leads_first : {A B R : Type 0} {stands : Volume → Type 0} {tells : Type 0} {whole : Reading (Result B R)} (d : Reading (Result A R)) (f : A → Reading (Result B R))
     → Leads stands tells whole (and_then d f) → tells → (v : Volume) → stands v → (b : ℕ) → IsNeeded d v b → IsNeeded whole v b
-leads_first d f lead is v holds b h = lead is v holds b (needs_first d f v b h)
+leads_first d f lead is v holds b h = lead.go is v holds b (needs_first d f v b h)
 
 pub leads_on : {A B R : Type 0} {stands still : Volume → Type 0} {tells told : Type 0} {before now : ℕ → Bool} {whole : Reading (Result B R)} (d : Reading (Result A R)) (f : A → Reading (Result B R)) (a : A)
     → ((v : Volume) → stands v → still v) → (told → tells) → Leads stands tells whole (and_then d f) → ReadsAs still before told now d (Some (Ok a)) → Leads stands told whole (f a)
-leads_on d f a keeps tell lead reads = λ is v holds b h. lead (tell is) v holds b (needs_second d f a v b ((reads.rule is v (keeps v holds)).answer) h)
+leads_on d f a keeps tell lead reads = record { go = λ is v holds b h. lead.go (tell is) v holds b (needs_second d f a v b ((reads.rule is v (keeps v holds)).answer) h) }
 
 -- ---- parts end to end
 

@@ -82,5 +82,5 @@ abbrev pub Consults : {S A : Type 0} → Ghosts S → S → S → Reading A → 
 Consults view old new reading lost = ConsultsKind view old new (view.stands_for old) (IsNeeded reading) lost
 
 -- each block that is needed for what is left to read is needed for the whole
-abbrev pub Leads : {A : Type 0} → (Volume → Type 0) → Type 0 → Reading A → Reading A → Type 0
-Leads stands tells whole rest = tells → (v : Volume) → stands v → (b : ℕ) → IsNeeded rest v b → IsNeeded whole v b
+pub record Leads {A : Type 0} (stands : Volume → Type 0) (tells : Type 0) (whole rest : Reading A) : Type 0 where
+  pub go : tells → (v : Volume) → stands v → (b : ℕ) → IsNeeded rest v b → IsNeeded whole v b

@@ -35,7 +35,7 @@ loop-n-init g c =
           (find_from c.args.g.now c.args.inode.now c.args.name.now 0 c.args.count) (find_from c.args.g.now c.args.inode.now c.args.name.now 0 k)) same (begins _ _ _ _);
       consulted = consults_none g.V.View c.args.view.now _ _ (g.met.V.View.fetched_none c.args.view.now) (λ h. h);
       leads = subst (λ k. Leads (g.V.View.stands_for c.args.view.now) (g.V.View.tells c.args.view.now)
-          (find_from c.args.g.now c.args.inode.now c.args.name.now 0 c.args.count) (find_from c.args.g.now c.args.inode.now c.args.name.now 0 k)) same (λ is v holds b h. h);
+          (find_from c.args.g.now c.args.inode.now c.args.name.now 0 c.args.count) (find_from c.args.g.now c.args.inode.now c.args.name.now 0 k)) same (record { go = λ is v holds b h. h });
     }
 
 pub loop-n-preserved : goal.loop-n-preserved

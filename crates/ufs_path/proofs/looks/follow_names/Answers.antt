@@ -53,7 +53,7 @@ loop-rest-init g c = record {
   levels = c.requires.levels;
   rest = begins _ _ _ _;
   consulted = consults_none g.V.View c.args.view.now _ _ (g.met.V.View.fetched_none c.args.view.now) (λ h. h);
-  leads = λ is v holds b h. h;
+  leads = record { go = λ is v holds b h. h };
 }
 
 pub returns-in_err-inode-2-clause-rule : goal.returns-in_err-inode-2-clause-rule
