@@ -8,7 +8,7 @@ use Rattle.ufs_model.specs.declared.reads.PathRefusal.TheVariants.{NotFound}
 use Rattle.ufs_path.proofs.DirectoryLaws.{next_block, no_block}
 use Rattle.ufs_path.specs.Answers.{refusal_of}
 use Rattle.ufs_path.proofs.ConsultLaws.{consults_along, consults_both, consults_none}
-use Rattle.ufs_path.proofs.NeedLaws.{leads_first, leads_on, next_block}
+use Rattle.ufs_path.proofs.NeedLaws.{leads_first, leads_on, next_block as next_leads}
 use Rattle.ufs_path.proofs.directories.find_in_blocks.Goals as goal
 
 pub returns-in-Ok-Some-clause-rule : goal.returns-in-Ok-Some-clause-rule
@@ -46,8 +46,8 @@ loop-n-preserved g c = let so_far = c.loop-n.invariant.keeps in record {
       (next_block c.args.g.now c.args.inode.now c.args.name.now c.loop-n.n c.args.count c.loop-n-test.true c.loop-n.invariant.rest)
       (rw c.in-Ok-None.field-0-is at c.in-Ok-None.ensures.rule));
   consulted = consults_both g.V.View g.met.V.View.fetched_both so_far c.find_in_block.ensures.keeps
-      (λ is v holds. (so_far.stands v holds, leads_first _ _ (next_block c.args.g.now c.args.inode.now c.args.name.now c.loop-n.n c.args.count c.loop-n-test.true c.loop-n.invariant.leads) (c.find_in_block.ensures.keeps.told is) v holds)) (λ h. absurd h) c.loop-n.invariant.consulted c.find_in_block.ensures.consults;
-  leads = rw add-one (leads_on _ _ None so_far.stands c.find_in_block.ensures.keeps.told (next_block c.args.g.now c.args.inode.now c.args.name.now c.loop-n.n c.args.count c.loop-n-test.true c.loop-n.invariant.leads) (rw c.in-Ok-None.field-0-is at c.in-Ok-None.ensures.rule));
+      (λ is v holds. (so_far.stands v holds, leads_first _ _ (next_leads c.args.g.now c.args.inode.now c.args.name.now c.loop-n.n c.args.count c.loop-n-test.true c.loop-n.invariant.leads) (c.find_in_block.ensures.keeps.told is) v holds)) (λ h. absurd h) c.loop-n.invariant.consulted c.find_in_block.ensures.consults;
+  leads = rw add-one (leads_on _ _ None so_far.stands c.find_in_block.ensures.keeps.told (next_leads c.args.g.now c.args.inode.now c.args.name.now c.loop-n.n c.args.count c.loop-n-test.true c.loop-n.invariant.leads) (rw c.in-Ok-None.field-0-is at c.in-Ok-None.ensures.rule));
 }
 
 pub returns-clause-rule : goal.returns-clause-rule
@@ -59,14 +59,14 @@ returns-in-Ok-Some-clause-consults g c =
     let so_far = c.loop-n.invariant.keeps in
     let step = c.find_in_block.ensures.keeps in
     consults_both g.V.View g.met.V.View.fetched_both so_far step
-    (λ is v holds. (so_far.stands v holds, leads_first _ _ (next_block c.args.g.now c.args.inode.now c.args.name.now c.loop-n.n c.args.count c.loop-n-test.true c.loop-n.invariant.leads) (step.told is) v holds)) (λ h. absurd h) c.loop-n.invariant.consulted c.find_in_block.ensures.consults
+    (λ is v holds. (so_far.stands v holds, leads_first _ _ (next_leads c.args.g.now c.args.inode.now c.args.name.now c.loop-n.n c.args.count c.loop-n-test.true c.loop-n.invariant.leads) (step.told is) v holds)) (λ h. absurd h) c.loop-n.invariant.consulted c.find_in_block.ensures.consults
 
 pub returns-in-Err-clause-consults : goal.returns-in-Err-clause-consults
 returns-in-Err-clause-consults g c =
     let so_far = c.loop-n.invariant.keeps in
     let step = c.find_in_block.ensures.keeps in
     consults_both g.V.View g.met.V.View.fetched_both so_far step
-    (λ is v holds. (so_far.stands v holds, leads_first _ _ (next_block c.args.g.now c.args.inode.now c.args.name.now c.loop-n.n c.args.count c.loop-n-test.true c.loop-n.invariant.leads) (step.told is) v holds)) (λ h. h) c.loop-n.invariant.consulted c.in-Err.ensures.consults
+    (λ is v holds. (so_far.stands v holds, leads_first _ _ (next_leads c.args.g.now c.args.inode.now c.args.name.now c.loop-n.n c.args.count c.loop-n-test.true c.loop-n.invariant.leads) (step.told is) v holds)) (λ h. h) c.loop-n.invariant.consulted c.in-Err.ensures.consults
 
 pub returns-clause-consults : goal.returns-clause-consults
 returns-clause-consults g c = consults_along g.V.View (λ is v holds. (holds, λ b h. h)) (λ h. absurd h) c.loop-n.invariant.consulted
