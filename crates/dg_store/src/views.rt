@@ -1,14 +1,14 @@
 // The store as a view of its blocks.
 ghost use Rattle.dg_model.specs.Sites.{is_gone};
 ghost use Rattle.dg_store.specs.Stores.{shape_of, table_of, members_of, IsSound, StandsFor, TellsAll};
-ghost use Rattle.dg_store.specs.Views.{ReadsOn};
-ghost use Rattle.dg_store.specs.ReadLaws.{reads_none, reads_both};
+ghost use Rattle.dg_store.specs.Views.{Fetches, ReadsOn};
+ghost use Rattle.dg_store.specs.ReadLaws.{reads_none, reads_both, fetches_none, fetches_both};
 
 use crate::Store;
 use dg_io::{Fetched, Rack, View};
 
 impl<R: Rack> View for Store<R> {
-    ghost stands_for = { λ s v. StandsFor R.counts R.bytes s v };
+    ghost stands_for = { λ s v. StandsFor R.bytes s v };
 
     ghost tells = { λ s. TellsAll R.bytes s };
 
@@ -22,7 +22,7 @@ impl<R: Rack> View for Store<R> {
 
     ghost goes_on = { λ a b. ReadsOn R.counts R.bytes R.name a b };
 
-    ghost fetched = { λ _ _ _. Unit {0} };
+    ghost fetched = { λ a blocks b. Fetches R.counts a blocks b };
 
     fn fetch(&mut self, block: u32, buf: &mut [u8]) -> Fetched {
         self.read(block, buf)
@@ -41,7 +41,7 @@ impl<R: Rack> View for Store<R> {
 
     ghost further = { λ a b c first second. reads_both R.counts R.bytes R.name a b c first second };
 
-    ghost fetched_none = { λ s. tt };
+    ghost fetched_none = { λ s. fetches_none R.counts s };
 
-    ghost fetched_both = { λ a b c x y first second. tt };
+    ghost fetched_both = { λ a b c x y first second. fetches_both R.counts a b c x y first second };
 }
