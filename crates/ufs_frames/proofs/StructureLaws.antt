@@ -7,7 +7,7 @@ use Rattle.std.proofs.lemmas.List.Elements.{Contains-append_cases}
 use Rattle.ufs_model.specs.Blocks.{Consulted, Reading, Volume, bind, block_at, known}
 use Rattle.ufs_model.specs.Claims.{IsClaim, VolumeClaims, source_fragments, source_fragments_in, volume_fragments}
 use Rattle.ufs_model.specs.Inodes.{block_count, kind_of}
-use Rattle.ufs_model.specs.Malformations.{IsBadBy, IsDirectory, IsMalformed, inode_at}
+use Rattle.ufs_model.specs.Malformations.{IsBadBy, IsDirectory, IsFirstMalformation, IsMalformed, inode_at}
 use Rattle.ufs_model.specs.Metadata.{IsMetadata, IsMetadataBy, IsStructure}
 use Rattle.ufs_model.specs.Metadata.IsMetadata.{by_geometry, of_superblock}
 use Rattle.ufs_model.specs.Metadata.IsMetadataBy.{of_group, of_indirect, of_inode}
@@ -244,6 +244,20 @@ module _ (l n : ℕ) (v w : Volume) (whole : HasWholeIndirects l n v) (agree : A
       let found = ap (λ (c : Consulted (Result Geometry BadSuper)). c.value) (same_geometry l n v w agree_metadata) in
       (λ h. both.0 (subst (λ r. IsBadBy w r kind m) found h), λ h. subst (λ r. IsBadBy w r kind m) (sym found) (both.1 h))
 
+  pub same_first : (kind : BadKind) (m : ℕ) → IsFirstMalformation l n w kind m ↔ IsFirstMalformation l n v kind m
+  same_first kind m = (
+    λ h. record {
+      here = (same_malformations kind m).0 h.here;
+      least = λ k low bad. h.least k low ((same_malformations kind k).1 bad);
+      first = λ other k before bad. h.first other k before ((same_malformations other k).1 bad);
+    },
+    λ h. record {
+      here = (same_malformations kind m).1 h.here;
+      least = λ k low bad. h.least k low ((same_malformations kind k).0 bad);
+      first = λ other k before bad. h.first other k before ((same_malformations other k).0 bad);
+    },
+  )
+
   -- ---- the structure
 
   structure_onto : (b : ℕ) → IsStructure l n v b → IsStructure l n w b
@@ -265,5 +279,6 @@ module _ (l n : ℕ) (v w : Volume) (whole : HasWholeIndirects l n v) (agree : A
   same_structure = record {
     claims = same_metadata l n v w agree_metadata;
     malformations = same_malformations;
+    first = same_first;
     structure = λ b. (structure_back b, structure_onto b);
   }

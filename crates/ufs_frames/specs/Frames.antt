@@ -2,7 +2,7 @@
 use Rattle.std.specs.Prelude.{◌≡◌, ◌↔◌, ◌<◌, ℕ, true, List, Ok, length, Contains}
 use Rattle.ufs_model.specs.Blocks.{Volume, Reading, block_at}
 use Rattle.ufs_model.specs.Claims.{VolumeClaims, level_of}
-use Rattle.ufs_model.specs.Malformations.{IsMalformed}
+use Rattle.ufs_model.specs.Malformations.{IsFirstMalformation, IsMalformed}
 use Rattle.ufs_model.specs.Metadata.{IsMetadata, IsStructure}
 use Rattle.ufs_model.specs.Owners.{BelongsTo, IsSharedOn}
 use Rattle.ufs_model.specs.Listings.{ls_of}
@@ -39,6 +39,7 @@ pub record HaveSameClaims (l n : ℕ) (v w : Volume) : Type 0 where
 pub record HaveSameStructure (l n : ℕ) (v w : Volume) : Type 0 where
   pub claims : HaveSameClaims l n v w
   pub malformations : (kind : BadKind) (number : ℕ) → IsMalformed l n w kind number ↔ IsMalformed l n v kind number
+  pub first : (kind : BadKind) (number : ℕ) → IsFirstMalformation l n w kind number ↔ IsFirstMalformation l n v kind number
   pub structure : (b : ℕ) → IsStructure l n w b ↔ IsStructure l n v b
 
 -- A block of the file system itself, or a claimed one.

@@ -83,7 +83,7 @@ row_first first d e v =
     ∙ then_back d _ _ v (λ x. then_known (a ∷ x) (λ z. and_then e (λ y. known (Ok (z ++ y)))) v)))
     ∙ sym (then_then first (λ a. and_then d (λ others. known (Ok (a ∷ others)))) (λ x. and_then e (λ y. known (Ok (x ++ y)))) v)
 
-listed_append : (g : Geometry) (depth : ℕ) (xs ys : List DirEntry) (v : Volume)
+pub listed_append : (g : Geometry) (depth : ℕ) (xs ys : List DirEntry) (v : Volume)
     → in_a_row (listed_entries g depth xs) (listed_entries g depth ys) v ≡ listed_entries g depth (xs ++ ys) v
 unfolding listed_entries
 listed_append g depth [] ys v =

@@ -145,7 +145,7 @@ unfolding listing_of entries_of
 listing_refused g inode fault e =
     refused_read _ (refusal_of fault) (λ b h. h) (refused_then _ (directory_refusal inode) (refusal_of fault) (refusal_said fault _ e) e)
 
-listing_is : (g : Geometry) (inode : Inode) (count : ℕ) → directory_refusal inode ≡ None → count ≡ block_count g inode → lines_before g inode count ≡ listing_of g inode
+pub listing_is : (g : Geometry) (inode : Inode) (count : ℕ) → directory_refusal inode ≡ None → count ≡ block_count g inode → lines_before g inode count ≡ listing_of g inode
 unfolding listing_of entries_of lines_before
 listing_is g inode count e1 e2 =
     ap (λ k. and_then (entries_before g inode k) (λ entries. listed_entries g 1 entries)) e2

@@ -3,7 +3,7 @@ use Rattle.std.specs.Prelude.{◌≡◌, ◌≤◌, ◌++◌, ◌⊎◌, ℕ, Bo
 use Rattle.std.specs.List.{list_all}
 use Rattle.std.specs.Option.{is_none, option_map}
 use Rattle.dg_model.specs.Causes.{Rose}
-use Rattle.ufs_model.specs.Blocks.{Reading, known}
+use Rattle.ufs_model.specs.Blocks.{Reading, Volume, known}
 use Rattle.ufs_model.specs.Chunks.{DirEntry, entries_in, fault_in, used_entries}
 use Rattle.ufs_model.specs.Listings.{Listed, listed_entries, listing_of}
 use Rattle.ufs_model.specs.Paths.{chunks_in, chunks_of, entries_before, entries_through, look_from, names_of}
@@ -40,14 +40,16 @@ entries_said endian (Err fault) block = option_map Err (refusal_of fault)
 -- ---- entries that are handed on
 
 -- The entries were handed on, in so many lines. `reads` is the reading rule of the lines of entries.
-pub record AreHanded {S : Type 0} (took : S → List Listed → S → Type 0) (old new : S) (entries : List DirEntry) (reads : List DirEntry → Option (Result (List Listed) PathRefusal) → Type 0) (n : ℕ) : Type 0 where
+pub record AreHanded {S : Type 0} (took : S → List Listed → S → Type 0) (old new : S) (entries : List DirEntry)
+    (reads : List DirEntry → Option (Result (List Listed) PathRefusal) → Type 0) (n : ℕ) : Type 0 where
   pub lines : List Listed
   pub count : length lines ≡ n
   pub taken : took old lines new
   pub read : reads entries (Some (Ok lines))
 
 -- a front of the entries was handed on, and then the inode of one wasn't read
-pub record StopsUnread {S : Type 0} (took : S → List Listed → S → Type 0) (old new : S) (entries : List DirEntry) (reads : List DirEntry → Option (Result (List Listed) PathRefusal) → Type 0) (n : ℕ) (fault : LookFault) : Type 0 where
+pub record StopsUnread {S : Type 0} (took : S → List Listed → S → Type 0) (old new : S) (entries : List DirEntry)
+    (reads : List DirEntry → Option (Result (List Listed) PathRefusal) → Type 0) (n : ℕ) (fault : LookFault) : Type 0 where
   pub front : List DirEntry
   pub rest : List DirEntry
   pub whole : entries ≡ front ++ rest
@@ -55,7 +57,8 @@ pub record StopsUnread {S : Type 0} (took : S → List Listed → S → Type 0) 
   pub unread : reads entries (option_map Err (refusal_of fault))
 
 -- the receiver failed at a front of the entries
-pub record StopsFailed {S : Type 0} (took_part : S → List Listed → S → Type 0) (faults : S → ℕ) (old new : S) (entries : List DirEntry) (reads : List DirEntry → Option (Result (List Listed) PathRefusal) → Type 0) : Type 0 where
+pub record StopsFailed {S : Type 0} (took_part : S → List Listed → S → Type 0) (faults : S → ℕ) (old new : S) (entries : List DirEntry)
+    (reads : List DirEntry → Option (Result (List Listed) PathRefusal) → Type 0) : Type 0 where
   pub front : List DirEntry
   pub rest : List DirEntry
   pub whole : entries ≡ front ++ rest
@@ -65,7 +68,8 @@ pub record StopsFailed {S : Type 0} (took_part : S → List Listed → S → Typ
   pub rose : Rose (faults old) (faults new)
 
 -- what was handed on of entries
-abbrev pub IsListed : {S : Type 0} → (S → List Listed → S → Type 0) → (S → List Listed → S → Type 0) → (S → ℕ) → S → S → List DirEntry → (List DirEntry → Option (Result (List Listed) PathRefusal) → Type 0) → Walked → Type 0
+abbrev pub IsListed : {S : Type 0} → (S → List Listed → S → Type 0) → (S → List Listed → S → Type 0) → (S → ℕ) → S → S → List DirEntry
+    → (List DirEntry → Option (Result (List Listed) PathRefusal) → Type 0) → Walked → Type 0
 IsListed took took_part faults old new entries reads (All n) = AreHanded took old new entries reads n
 IsListed took took_part faults old new entries reads (Unread n fault) = StopsUnread took old new entries reads n fault
 IsListed took took_part faults old new entries reads Failed = StopsFailed took_part faults old new entries reads
@@ -100,7 +104,8 @@ IsWalked took took_part faults old new count before reads (Unread n fault) = Thr
 IsWalked took took_part faults old new count before reads Failed = ThroughSome count before (λ entries. StopsFailed took_part faults old new entries reads)
 
 -- all entries were consulted, and then the inodes that they name
-pub record AreConsulted (before : Option (Result (List DirEntry) PathRefusal) → Type 0) (reads : List DirEntry → Option (Result (List Listed) PathRefusal) → Type 0) : Type 0 where
+pub record AreConsulted (before : Option (Result (List DirEntry) PathRefusal) → Type 0)
+    (reads : List DirEntry → Option (Result (List Listed) PathRefusal) → Type 0) : Type 0 where
   pub entries : List DirEntry
   pub lines : List Listed
   pub before_is : before (Some (Ok entries))
@@ -113,3 +118,7 @@ lines_before g inode count = and_then (entries_before g inode count) (λ entries
 -- the lines of the directory at a path of a volume with this geometry
 unfoldable pub ls_below : List ℕ → Geometry → Reading (Result (List Listed) PathRefusal)
 ls_below path g = and_then (look_from g (names_of path) 2) (λ found. listing_of g found.1)
+
+-- the entries in the first count file blocks of a directory are read of a volume
+abbrev pub ReadsEntries : Geometry → Inode → ℕ → Volume → Type 0
+ReadsEntries g inode count v = (entries : List DirEntry) × (Ok entries ≡ (entries_before g inode count v).value)
