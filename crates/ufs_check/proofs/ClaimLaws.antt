@@ -4,18 +4,18 @@ use Rattle.std.specs.Prelude.{Contains, nat_le}
 use Rattle.std.specs.Bool.{Decides}
 use Rattle.std.proofs.lemmas.Bool.Decides.{nat_tests, not_from_Decides}
 use Rattle.ufs_model.specs.Blocks.{Volume, bind}
-use Rattle.ufs_model.specs.Claims.{IsClaim, level_of, targets}
+use Rattle.ufs_model.specs.Claims.{IsClaim, level_of, source_fragments}
 use Rattle.ufs_model.specs.GroupMaps.{by_maps, group_bytes, group_in, is_free, is_marked_free}
 use Rattle.ufs_model.specs.Malformations.{HasTwoClaims, IsFree, IsUpper}
 use Rattle.ufs_model.specs.Metadata.{IsMetadataBy}
 use Rattle.ufs_model.specs.Metadata.IsMetadataBy.{of_indirect}
 use Rattle.ufs_model.specs.declared.claims.ClaimSource.{ClaimSource}
 use Rattle.ufs_model.specs.declared.geometries.Geometry.{Geometry}
-use Rattle.ufs_model.specs.declared.numbers.Endian.TheVariants.{Little}
 use Rattle.dg_claims.specs.Kept.{size_in}
 use Rattle.dg_claims.specs.Tables.{AreClaimants, ClaimTable, IsClaimedAt, IsOnce}
 use Rattle.ufs_check.specs.Fragments.{HasClaims, IsClaimedBy, IsUpperIn}
-use Rattle.ufs_check.specs.Passes.{FetchesOnly, LosesOne}
+use Rattle.ufs_pointer.specs.Fetches.{FetchesOnly, LosesOne}
+use Rattle.ufs_check.proofs.PassLaws.{lost_told, only_told}
 
 -- ---- the level of a claim
 
@@ -40,12 +40,12 @@ upper_last table f one two three levels first no_first second no_second third = 
 -- ---- claims of the volume
 
 pub claim_inside : (g : Geometry) (table : ClaimTable) (v : Volume) (f : ℕ) (source : ClaimSource) → HasClaims g table v → table.geometry ≡ Some g
-    → ((f : ℕ) (source : ClaimSource) → Contains (table.claimed source) f → f < size_in table.geometry) → IsClaim (targets Little g v) f source → f < g.size
+    → ((f : ℕ) (source : ClaimSource) → Contains (table.claimed source) f → f < size_in table.geometry) → IsClaim (source_fragments g v) f source → f < g.size
 claim_inside g table v f source has is inside claim = subst (λ geometry. f < size_in geometry) is (inside f source ((has.claims f source).1 claim))
 
 -- some level above 0
 abbrev pub IsUpperOf : Geometry → Volume → ℕ → Type 0
-IsUpperOf g v f = (level : ℕ) × IsUpper Little g v f level
+IsUpperOf g v f = (level : ℕ) × IsUpper g v f level
 
 pub upper_of : (g : Geometry) (table : ClaimTable) (v : Volume) (f : ℕ) → HasClaims g table v → IsUpperIn table f → IsUpperOf g v f
 upper_of g table v f has upper = (
@@ -58,14 +58,14 @@ upper_of g table v f has upper = (
   },
 )
 
-pub upper_in : (g : Geometry) (table : ClaimTable) (v : Volume) (f level : ℕ) → HasClaims g table v → IsUpper Little g v f level → IsUpperIn table f
+pub upper_in : (g : Geometry) (table : ClaimTable) (v : Volume) (f level : ℕ) → HasClaims g table v → IsUpper g v f level → IsUpperIn table f
 upper_in g table v f level has upper = (
   upper.source,
   (let above = upper.above in let of_level = upper.of_level in omega arith),
   (has.claims f (upper.source)).1 upper.claim,
 )
 
-pub upper_metadata : (g : Geometry) (table : ClaimTable) (v : Volume) (f : ℕ) → IsUpperIn table f → HasClaims g table v → IsMetadataBy Little g v f
+pub upper_metadata : (g : Geometry) (table : ClaimTable) (v : Volume) (f : ℕ) → IsUpperIn table f → HasClaims g table v → IsMetadataBy g v f
 upper_metadata g table v f upper has = of_indirect (upper.0) ((has.claims f (upper.0)).0 (upper.2)) (upper.1)
 
 -- ---- fragments with two claims
@@ -95,7 +95,7 @@ two_at_least : (sources : List ClaimSource) (number : ℕ) → number ≡ length
 two_at_least sources number is test = grind (arith, nat_tests)
 
 pub twice_decides : (g : Geometry) (table : ClaimTable) (v : Volume) (f number : ℕ) → HasClaims g table v → AreClaimants table.claimed f number
-    → Decides (nat_le 2 number) (HasTwoClaims Little g v f)
+    → Decides (nat_le 2 number) (HasTwoClaims g v f)
 twice_decides g table v f number has all = (
   λ test.
       let two = two_of (all.sources) all.once (two_at_least (all.sources) number all.number test) in record {
@@ -113,7 +113,7 @@ twice_decides g table v f number has all = (
 -- ---- claimed fragments that are marked free
 
 pub free_there : (g : Geometry) (v : Volume) (f : ℕ) (bytes : List ℕ) → bytes ≡ (group_bytes g (f / g.fpg) v).value
-    → (is_marked_free Little g f v).value ≡ by_maps (group_in Little g (f / g.fpg) bytes) (λ group. is_free bytes group (f % g.fpg))
+    → (is_marked_free g f v).value ≡ by_maps (group_in g (f / g.fpg) bytes) (λ group. is_free bytes group (f % g.fpg))
 unfolding is_marked_free bind
 free_there g v f bytes is = rw is refl
 
@@ -127,7 +127,7 @@ one_long (a ∷ rest) source h = omega arith
 
 -- a fragment with a claim
 pub free_claimed : (g : Geometry) (table : ClaimTable) (v : Volume) (f number : ℕ) (marked : Bool) → HasClaims g table v → AreClaimants table.claimed f number → 1 ≤ number
-    → (is_marked_free Little g f v).value ≡ marked → Decides marked (IsFree Little g v f)
+    → (is_marked_free g f v).value ≡ marked → Decides marked (IsFree g v f)
 free_claimed g table v f number marked has all some is = (
   λ test.
       let number_is = all.number in
@@ -144,7 +144,7 @@ not_some number none test = grind (arith, nat_tests)
 
 -- a fragment without one
 pub free_unclaimed : (g : Geometry) (table : ClaimTable) (v : Volume) (f number : ℕ) → HasClaims g table v → AreClaimants table.claimed f number → number < 1
-    → Decides (nat_le 1 number) (IsFree Little g v f)
+    → Decides (nat_le 1 number) (IsFree g v f)
 free_unclaimed g table v f number has all none = (
   λ test. absurd (not_some number none test),
   λ free.
@@ -155,24 +155,12 @@ free_unclaimed g table v f number has all none = (
 
 -- ---- what a pass fetches and loses, by the claims of the volume
 
-pub fetches_claimed : {S : Type 0} {fetched : S → List ℕ → S → Type 0} {stands : Volume → Type 0} {tells : Type 0} {old new : S} (g : Geometry) (table : ClaimTable)
-    → FetchesOnly fetched stands tells (λ v block. HasClaims g table v → IsMetadataBy Little g v block) old new
-    → FetchesOnly fetched (IsClaimedBy stands g table) tells (IsMetadataBy Little g) old new
-fetches_claimed g table one = record {
-  blocks = one.blocks;
-  were = one.were;
-  are = λ told v claimed block h. one.are told v (claimed.0) block h (claimed.1);
-}
-
-pub loses_claimed : (g : Geometry) (table : ClaimTable) (v : Volume) (gone : ℕ → Bool) → HasClaims g table v
-    → LosesOne gone (λ block. HasClaims g table v → IsMetadataBy Little g v block) → LosesOne gone (IsMetadataBy Little g v)
-loses_claimed g table v gone has one = record { block = one.block; is = one.is has; lost = one.lost }
-
 -- the same blocks, on fewer volumes
-pub fetches_fewer : {S : Type 0} {fetched : S → List ℕ → S → Type 0} {stands : Volume → Type 0} {tells : Type 0} {may : Volume → ℕ → Type 0} {old new : S} (g : Geometry) (table : ClaimTable)
-    → FetchesOnly fetched stands tells may old new → FetchesOnly fetched (IsClaimedBy stands g table) tells may old new
-fetches_fewer g table one = record {
-  blocks = one.blocks;
-  were = one.were;
-  are = λ told v claimed block h. one.are told v (claimed.0) block h;
-}
+pub fetches_fewer : {S : Type 0} {fetched : S → List ℕ → S → Type 0} {stands : Volume → Type 0} {tells : Type 0} {kind : Volume → ℕ → Type 0} {old new : S} (g : Geometry) (table : ClaimTable)
+    → FetchesOnly fetched stands tells kind old new → FetchesOnly fetched (IsClaimedBy stands g table) tells kind old new
+fetches_fewer {kind = kind} g table one = only_told kind kind (λ is v claimed. (claimed.0, λ block h. h)) one
+
+-- a block that is lost on more volumes, of a view with as many blocks
+pub loses_fewer : {stands still : Volume → Type 0} {tells : Type 0} {count now : ℕ} {gone : ℕ → Bool} {kind : Volume → ℕ → Type 0} (g : Geometry) (table : ClaimTable) → now ≡ count
+    → ((v : Volume) → stands v → still v) → LosesOne still tells now kind gone → LosesOne (IsClaimedBy stands g table) tells count kind gone
+loses_fewer {kind = kind} g table same keeps one = lost_told kind kind same (λ is v claimed. (keeps v (claimed.0), λ block h. h)) one

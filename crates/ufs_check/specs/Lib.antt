@@ -1,5 +1,4 @@
 pub mod Least
-pub mod Passes
 pub mod Groups
 pub mod Inodes
 pub mod Entries

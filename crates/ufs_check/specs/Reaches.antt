@@ -6,12 +6,11 @@ use Rattle.ufs_model.specs.Malformations.{FirstBlock, HasTwoClaims}
 use Rattle.ufs_model.specs.declared.claims.ClaimSource.{ClaimSource}
 use Rattle.ufs_model.specs.declared.claims.ClaimSource.TheVariants.{Pointer}
 use Rattle.ufs_model.specs.declared.geometries.Geometry.{Geometry}
-use Rattle.ufs_model.specs.declared.numbers.Endian.TheVariants.{Little}
 use Rattle.ufs_check.specs.declared.reaches.Reach.{Reach}
 
 -- no fragment of the volume has two claims
 abbrev pub HasNoTwice : Geometry → Volume → Type 0
-HasNoTwice g v = (f : ℕ) → HasTwoClaims Little g v f → ⊥
+HasNoTwice g v = (f : ℕ) → HasTwoClaims g v f → ⊥
 
 -- The one claim of a fragment, so many and one more before this one, is by the source.
 abbrev pub IsBefore : (ClaimSource → List ℕ) → ClaimSource → ℕ → ℕ → Type 0
@@ -24,12 +23,12 @@ pub record IsPlaceIn (claimed : ClaimSource → List ℕ) (source : ClaimSource)
 
 -- the inode and the first file block that are reached through a source, or none
 pub record ReachesAs (g : Geometry) (v : Volume) (source : ClaimSource) (r : Option (ℕ × ℕ)) : Type 0 where
-  pub is : IfSome r (λ first. FirstBlock Little g v source first.0 first.1)
-  pub only : (i n : ℕ) → FirstBlock Little g v source i n → r ≡ Some (i, n)
+  pub is : IfSome r (λ first. FirstBlock g v source first.0 first.1)
+  pub only : (i n : ℕ) → FirstBlock g v source i n → r ≡ Some (i, n)
 
 -- the inode and the file block that are reached through each pointer of a fragment, at which level, or none
 pub record IsReach (g : Geometry) (v : Volume) (f : ℕ) (r : Option Reach) : Type 0 where
-  pub is : IfSome r (λ reach. (at : ℕ) → FirstBlock Little g v (Pointer f reach.level at) reach.inode (reach.first + at * g.nindir ^ (reach.level - 1)))
-  pub only : (level at i n : ℕ) → FirstBlock Little g v (Pointer f level at) i n
+  pub is : IfSome r (λ reach. (at : ℕ) → FirstBlock g v (Pointer f reach.level at) reach.inode (reach.first + at * g.nindir ^ (reach.level - 1)))
+  pub only : (level at i n : ℕ) → FirstBlock g v (Pointer f level at) i n
       → IfSome r (λ reach. (level ≡ reach.level) × (i ≡ reach.inode) × (n ≡ reach.first + at * g.nindir ^ (reach.level - 1)))
-  pub some : (level at i n : ℕ) → FirstBlock Little g v (Pointer f level at) i n → r ≡ None → ⊥
+  pub some : (level at i n : ℕ) → FirstBlock g v (Pointer f level at) i n → r ≡ None → ⊥

@@ -5,10 +5,11 @@ ghost use Rattle.ufs_model.specs.Blocks.{Volume};
 ghost use Rattle.ufs_model.specs.Geometries.{IsGeometryOn};
 ghost use Rattle.ufs_model.specs.Malformations.{IsFirstMalformation, IsSoundVolume};
 ghost use Rattle.ufs_model.specs.Metadata.{IsMetadataBy, IsStructure};
-ghost use Rattle.ufs_model.specs.declared.numbers.Endian.TheVariants.{Little};
+ghost use Rattle.ufs_model.specs.Superblocks.{geometry_of};
 ghost use Rattle.dg_claims.specs.Kept.{table_of};
+ghost use Rattle.dg_claims.specs.Readers.{accepted};
 ghost use Rattle.ufs_check.specs.Fragments.{IsClaimedBy};
-ghost use Rattle.ufs_check.specs.Passes.{FetchesOnly, LosesOne};
+ghost use Rattle.ufs_pointer.specs.Fetches.{FetchesOnly, LosesOne};
 ghost use Rattle.ufs_check.specs.Verdicts.{AreFaults, AreMetadataFaults, IsOnView, IsTabled};
 
 use crate::directories::{check_directories, directories_are_structure};
@@ -21,7 +22,7 @@ use crate::verdicts::{NO_DIRECTORY_FAULTS, Verdict};
 use dg_claims::Claims;
 use dg_io::{NoMemory, View};
 use std::alloc::Global;
-use ufs_model::{BadKind, Geometry};
+use ufs_model::{BadKind, BadSuper, Geometry};
 use ufs_pointer::{Levels, read_geometry};
 
 /// What is wrong by metadata alone, by the claims of the volume. There is no answer where a block of it
@@ -40,9 +41,9 @@ fn check_metadata<V: View>(
     ensures levels { levels.new.fragment ≡ levels.old.fragment }
     ensures found { IfSome result (λ faults. V.tells view.new → (v : Volume) → IsClaimedBy (V.stands_for view.old) g.now (table_of claims.now) v
         → AreMetadataFaults g.now v faults) }
-    ensures gone { IfNone result (V.tells view.new → (v : Volume) → IsClaimedBy (V.stands_for view.old) g.now (table_of claims.now) v
-        → LosesOne (V.is_gone view.new) (IsMetadataBy Little g.now v)) }
-    ensures fetched { FetchesOnly V.fetched (IsClaimedBy (V.stands_for view.old) g.now (table_of claims.now)) (V.tells view.new) (IsMetadataBy Little g.now) view.old view.new }
+    ensures gone { IfNone result (LosesOne (IsClaimedBy (V.stands_for view.old) g.now (table_of claims.now)) (V.tells view.new) (V.count view.old)
+        (IsMetadataBy g.now) (V.is_gone view.new)) }
+    ensures fetched { FetchesOnly V.fetched (IsClaimedBy (V.stands_for view.old) g.now (table_of claims.now)) (V.tells view.new) (IsMetadataBy g.now) view.old view.new }
 {
     let groups = check_groups(view, g, levels)?;
     let inodes = check_inodes(view, g, levels)?;
@@ -72,11 +73,11 @@ fn check_volume<V: View>(
     ensures levels { levels.new.fragment ≡ levels.old.fragment }
     ensures found { IfOk result (λ answer. IfSome answer (λ faults. V.tells view.new → (v : Volume) → IsClaimedBy (V.stands_for view.old) g.now (table_of claims.now) v
         → AreFaults g.now v faults)) }
-    ensures gone { IfOk result (λ answer. IfNone answer (V.tells view.new → (v : Volume)
-        → IsOnView (V.stands_for view.old) (V.size view.old) (V.count view.old) g.now (table_of claims.now) v
-        → LosesOne (V.is_gone view.new) (IsStructure Little (V.size view.old) (V.count view.old) v))) }
+    ensures gone { IfOk result (λ answer. IfNone answer
+        (LosesOne (IsOnView (V.stands_for view.old) (V.size view.old) (V.count view.old) g.now (table_of claims.now)) (V.tells view.new) (V.count view.old)
+        (IsStructure (V.size view.old) (V.count view.old)) (V.is_gone view.new))) }
     ensures fetched { FetchesOnly V.fetched (IsOnView (V.stands_for view.old) (V.size view.old) (V.count view.old) g.now (table_of claims.now)) (V.tells view.new)
-        (IsStructure Little (V.size view.old) (V.count view.old)) view.old view.new }
+        (IsStructure (V.size view.old) (V.count view.old)) view.old view.new }
 {
     directories_are_structure();
     let Some(metadata) = check_metadata(view, g, levels, claims) else {
@@ -109,8 +110,9 @@ fn check_volume<V: View>(
     }))
 }
 
-/// The first malformation of the volume on a view, where the table has the volume's claims. The buffers
-/// are for blocks of the view's size.
+/// The first malformation of the volume on a view, where the table has the volume's claims. A table of
+/// another geometry has them of no volume on the view; then the superblock is told as malformed. The
+/// buffers are for blocks of the view's size.
 pub fn check<V: View>(
     alloc: Global,
     view: &mut V,
@@ -121,13 +123,17 @@ pub fn check<V: View>(
     requires levels { levels.old.fragment ≡ V.size view.old }
     ensures keeps { KeepsView V.stands_for V.tells V.is_gone V.count V.size V.is_sound V.goes_on view.old view.new }
     ensures levels { levels.new.fragment ≡ levels.old.fragment }
-    ensures is_sound { result ≡ Ok Verdict.Sound → V.tells view.new → (v : Volume) → IsTabled (V.stands_for view.old) (V.size view.old) (V.count view.old) (table_of claims.now) v
-        → IsSoundVolume Little (V.size view.old) (V.count view.old) v }
-    ensures malformed { (kind : BadKind) (n : ℕ) → result ≡ Ok (Verdict.Malformed kind n) → V.tells view.new → (v : Volume) → IsTabled (V.stands_for view.old) (V.size view.old) (V.count view.old) (table_of claims.now) v
-        → IsFirstMalformation Little (V.size view.old) (V.count view.old) v kind n }
-    ensures gone { result ≡ Ok Verdict.Gone → V.tells view.new → (v : Volume) → IsTabled (V.stands_for view.old) (V.size view.old) (V.count view.old) (table_of claims.now) v
-        → LosesOne (V.is_gone view.new) (IsStructure Little (V.size view.old) (V.count view.old) v) }
-    ensures fetched { FetchesOnly V.fetched (IsTabled (V.stands_for view.old) (V.size view.old) (V.count view.old) (table_of claims.now)) (V.tells view.new) (IsStructure Little (V.size view.old) (V.count view.old)) view.old view.new }
+    ensures is_sound { result ≡ Ok Verdict.Sound → V.tells view.new → (v : Volume)
+        → IsTabled (V.stands_for view.old) (V.size view.old) (V.count view.old) (table_of claims.now) v → IsSoundVolume (V.size view.old) (V.count view.old) v }
+    ensures tabled { result ≡ Ok Verdict.Sound → V.tells view.new → (v : Volume) → V.stands_for view.old v
+        → (table_of claims.now).geometry ≡ accepted ((geometry_of (V.size view.old) (V.count view.old) v).value) }
+    ensures malformed { (kind : BadKind) (n : ℕ) → result ≡ Ok (Verdict.Malformed kind n) → V.tells view.new → (v : Volume)
+        → IsTabled (V.stands_for view.old) (V.size view.old) (V.count view.old) (table_of claims.now) v → IsFirstMalformation (V.size view.old) (V.count view.old) v kind n }
+    ensures gone { result ≡ Ok Verdict.Gone
+        → LosesOne (IsTabled (V.stands_for view.old) (V.size view.old) (V.count view.old) (table_of claims.now)) (V.tells view.new) (V.count view.old)
+        (IsStructure (V.size view.old) (V.count view.old)) (V.is_gone view.new) }
+    ensures fetched { FetchesOnly V.fetched (IsTabled (V.stands_for view.old) (V.size view.old) (V.count view.old) (table_of claims.now)) (V.tells view.new)
+        (IsStructure (V.size view.old) (V.count view.old)) view.old view.new }
 {
     let g = match read_geometry(view, levels) {
         None => return Ok(Verdict::Gone),
@@ -135,7 +141,7 @@ pub fn check<V: View>(
         Some(Ok(g)) => g,
     };
     if claims.geometry() != Some(g) {
-        return Ok(Verdict::Gone);
+        return Ok(Verdict::Malformed(BadKind::Super(BadSuper::Layout), 0));
     }
     match check_volume(alloc, view, &g, levels, claims)? {
         None => Ok(Verdict::Gone),

@@ -11,18 +11,17 @@ ghost use Rattle.ufs_model.specs.Paths.{block_of, bytes_in_block};
 ghost use Rattle.ufs_model.specs.Superblocks.{geometry_of};
 ghost use Rattle.ufs_model.specs.declared.geometries.Geometry.{Geometry};
 ghost use Rattle.ufs_model.specs.declared.inodes.Kind.TheVariants.{Directory};
-ghost use Rattle.ufs_model.specs.declared.numbers.Endian.TheVariants.{Little};
-ghost use Rattle.ufs_check.specs.Directories.{AreDirectoryFaults, AreDirectoryFaultsBelow, HasFilesizes, IsDirectoryRead, IsFileRead, ScannedWhole, ScansBlock};
+ghost use Rattle.ufs_check.specs.Directories.{AreDirectoryFaults, AreDirectoryFaultsBelow, IsDirectoryRead, IsFileRead, ScannedWhole, ScansBlock};
 ghost use Rattle.ufs_check.specs.Fragments.{HasWholeUppers};
-ghost use Rattle.ufs_check.specs.Passes.{FetchesOnly, LosesOne};
+ghost use Rattle.ufs_pointer.specs.Fetches.{FetchesOnly, LosesOne};
 
 use crate::entries::{EntryFaults, has_refused, read_named, scan_chunks};
-use crate::inodes::{ROOT, TOO_LONG};
+use crate::inodes::TOO_LONG;
 use crate::notes::note;
 use crate::verdicts::{DirectoryFaults, NO_DIRECTORY_FAULTS};
 use dg_io::View;
 use ufs_dir::CHUNK_BYTES;
-use ufs_model::{Geometry, Inode, Kind};
+use ufs_model::{Geometry, Inode, Kind, ROOT_INODE};
 use ufs_pointer::{FileBlock, Levels, block_count, bytes_in_block, read_file_block};
 
 /// What is found in a directory.
@@ -57,10 +56,10 @@ fn scan_data<V: View>(
     ensures levels { levels.new.fragment ≡ levels.old.fragment }
     ensures found { result ≡ true → V.tells view.new → (v : Volume) → V.stands_for view.old v
         → ScansBlock g.now v count (Ok (Some levels.old.block)) scan.old scan.new }
-    ensures gone { result ≡ false → V.tells view.new → (v : Volume) → V.stands_for view.old v → LosesOne (V.is_gone view.new) (IsMetadataBy Little g.now v) }
-    ensures fetched { FetchesOnly V.fetched (V.stands_for view.old) (V.tells view.new) (IsMetadataBy Little g.now) view.old view.new }
+    ensures gone { result ≡ false → LosesOne (V.stands_for view.old) (V.tells view.new) (V.count view.old) (IsMetadataBy g.now) (V.is_gone view.new) }
+    ensures fetched { FetchesOnly V.fetched (V.stands_for view.old) (V.tells view.new) (IsMetadataBy g.now) view.old view.new }
 {
-    if has_refused(levels.block(), count) {
+    if has_refused(levels.block(), count, g.endian) {
         scan.chunk = true;
         scan.read = false;
         return true;
@@ -85,8 +84,8 @@ fn scan_block<V: View>(
     ensures keeps { KeepsView V.stands_for V.tells V.is_gone V.count V.size V.is_sound V.goes_on view.old view.new }
     ensures levels { levels.new.fragment ≡ levels.old.fragment }
     ensures found { result ≡ true → V.tells view.new → (v : Volume) → V.stands_for view.old v
-        → ScansBlock g.now v (bytes_in_block g.now inode.now n / 512) ((block_of Little g.now inode.now n v).value) scan.old scan.new }
-    ensures gone { result ≡ false → V.tells view.new → (v : Volume) → V.stands_for view.old v → LosesOne (V.is_gone view.new) (IsFileRead g.now inode.now v) }
+        → ScansBlock g.now v (bytes_in_block g.now inode.now n / 512) ((block_of g.now inode.now n v).value) scan.old scan.new }
+    ensures gone { result ≡ false → LosesOne (V.stands_for view.old) (V.tells view.new) (V.count view.old) (IsFileRead g.now inode.now) (V.is_gone view.new) }
     ensures fetched { FetchesOnly V.fetched (V.stands_for view.old) (V.tells view.new) (IsFileRead g.now inode.now) view.old view.new }
 {
     match read_file_block(view, g, inode, n, levels) {
@@ -123,7 +122,7 @@ fn scan_directory<V: View>(
     ensures levels { levels.new.fragment ≡ levels.old.fragment }
     ensures found { IfSome result (λ scan. V.tells view.new → (v : Volume) → V.stands_for view.old v
         → ScannedWhole g.now inode.now v scan) }
-    ensures gone { IfNone result (V.tells view.new → (v : Volume) → V.stands_for view.old v → LosesOne (V.is_gone view.new) (IsFileRead g.now inode.now v)) }
+    ensures gone { IfNone result (LosesOne (V.stands_for view.old) (V.tells view.new) (V.count view.old) (IsFileRead g.now inode.now) (V.is_gone view.new)) }
     ensures fetched { FetchesOnly V.fetched (V.stands_for view.old) (V.tells view.new) (IsFileRead g.now inode.now) view.old view.new }
 {
     let mut scan = Scan {
@@ -164,7 +163,7 @@ fn has_entries(inode: &Inode, scan: &Scan) -> bool
 /// lower numbers is noted.
 fn note_directory(i: u32, inode: &Inode, scan: &Scan, faults: &mut DirectoryFaults)
     requires { inode.now.size < 2 ^ 32 }
-    ensures { (g : Geometry) (v : Volume) → inode_at Little g v i ≡ Some inode.now → kind_of inode.now.mode ≡ Directory
+    ensures { (g : Geometry) (v : Volume) → inode_at g v i ≡ Some inode.now → kind_of inode.now.mode ≡ Directory
         → ScannedWhole g inode.now v scan.now → AreDirectoryFaultsBelow g v i faults.old → AreDirectoryFaultsBelow g v (i + 1) faults.new }
 {
     note(&mut faults.hole, i, scan.hole);
@@ -197,9 +196,9 @@ fn scan_inode<V: View>(
     requires levels { levels.old.fragment ≡ V.size view.old }
     ensures keeps { KeepsView V.stands_for V.tells V.is_gone V.count V.size V.is_sound V.goes_on view.old view.new }
     ensures levels { levels.new.fragment ≡ levels.old.fragment }
-    ensures found { result ≡ true → V.tells view.new → (v : Volume) → V.stands_for view.old v → HasFilesizes g.now v
+    ensures found { result ≡ true → V.tells view.new → (v : Volume) → V.stands_for view.old v
         → AreDirectoryFaultsBelow g.now v i faults.old → AreDirectoryFaultsBelow g.now v (i + 1) faults.new }
-    ensures gone { result ≡ false → V.tells view.new → (v : Volume) → V.stands_for view.old v → LosesOne (V.is_gone view.new) (IsDirectoryRead g.now v) }
+    ensures gone { result ≡ false → LosesOne (V.stands_for view.old) (V.tells view.new) (V.count view.old) (IsDirectoryRead g.now) (V.is_gone view.new) }
     ensures fetched { FetchesOnly V.fetched (V.stands_for view.old) (V.tells view.new) (IsDirectoryRead g.now) view.old view.new }
 {
     let Some(named) = read_named(view, g, i, levels) else {
@@ -221,8 +220,8 @@ fn scan_inode<V: View>(
     true
 }
 
-/// What is wrong with the directories, each of which is looked at by itself, on a volume on which no
-/// inode has too many bytes. There is no answer where a block that is read for it is gone.
+/// What is wrong with the directories, each of which is looked at by itself. There is no answer where a
+/// block that is read for it is gone.
 pub fn check_directories<V: View>(
     view: &mut V,
     g: &Geometry,
@@ -233,14 +232,13 @@ pub fn check_directories<V: View>(
     requires levels { levels.old.fragment ≡ V.size view.old }
     ensures keeps { KeepsView V.stands_for V.tells V.is_gone V.count V.size V.is_sound V.goes_on view.old view.new }
     ensures levels { levels.new.fragment ≡ levels.old.fragment }
-    ensures found { IfSome result (λ faults. V.tells view.new → (v : Volume) → V.stands_for view.old v → HasFilesizes g.now v
+    ensures found { IfSome result (λ faults. V.tells view.new → (v : Volume) → V.stands_for view.old v
         → AreDirectoryFaults g.now v faults) }
-    ensures gone { IfNone result (V.tells view.new → (v : Volume) → V.stands_for view.old v
-        → LosesOne (V.is_gone view.new) (IsDirectoryRead g.now v)) }
+    ensures gone { IfNone result (LosesOne (V.stands_for view.old) (V.tells view.new) (V.count view.old) (IsDirectoryRead g.now) (V.is_gone view.new)) }
     ensures fetched { FetchesOnly V.fetched (V.stands_for view.old) (V.tells view.new) (IsDirectoryRead g.now) view.old view.new }
 {
     let mut faults = NO_DIRECTORY_FAULTS;
-    for i in ROOT..g.ncg * g.ipg {
+    for i in ROOT_INODE..g.ncg * g.ipg {
         if !scan_inode(view, g, i, levels, &mut faults) {
             return None;
         }
@@ -251,6 +249,6 @@ pub fn check_directories<V: View>(
 /// What is read to look at the directories of a volume has its structure, where each fragment of an
 /// indirect block has its bytes.
 pub fn directories_are_structure()
-    ensures { (l n : ℕ) (g : Geometry) (v : Volume) (block : ℕ) → (geometry_of Little l n v).value ≡ Ok g → IsGeometry g → HasWholeUppers g v
-        → IsDirectoryRead g v block → IsStructure Little l n v block }
+    ensures { (l n : ℕ) (g : Geometry) (v : Volume) (block : ℕ) → (geometry_of l n v).value ≡ Ok g → IsGeometry g → HasWholeUppers g v
+        → IsDirectoryRead g v block → IsStructure l n v block }
 {}

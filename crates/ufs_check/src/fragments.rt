@@ -6,11 +6,10 @@ ghost use Rattle.ufs_model.specs.Blocks.{Volume, block_at};
 ghost use Rattle.ufs_model.specs.Geometries.{IsGeometry, IsGeometryOn};
 ghost use Rattle.ufs_model.specs.GroupMaps.{by_maps, group_bytes, group_in, is_free};
 ghost use Rattle.ufs_model.specs.Metadata.{IsMetadataBy};
-ghost use Rattle.ufs_model.specs.declared.numbers.Endian.TheVariants.{Little};
 ghost use Rattle.dg_claims.specs.Kept.{table_of};
 ghost use Rattle.ufs_check.specs.Fragments.{AreClaimFaultsBelow, AreFragmentFaults, AreFragmentFaultsBelow, ArePointerFaultsBelow, HasClaims, HasWholeUppers, IsClaimedBy, IsUpperIn};
 ghost use Rattle.ufs_check.specs.Limits.{IsInLimits, IsLimit};
-ghost use Rattle.ufs_check.specs.Passes.{FetchesOnly, LosesOne};
+ghost use Rattle.ufs_pointer.specs.Fetches.{FetchesOnly, LosesOne};
 ghost use Rattle.ufs_check.specs.Reaches.{HasNoTwice};
 
 use crate::inodes::hold_group;
@@ -32,7 +31,7 @@ fn is_marked_free(g: &Geometry, f: u32, bytes: &[u8]) -> bool
     requires geometry { IsGeometry g.now }
     requires inside { f < g.now.size }
     requires bytes { g.now.bsize ≤ length bytes.now }
-    ensures { result ≡ by_maps (group_in Little g.now (f / g.now.fpg) bytes.now) (λ group. is_free bytes.now group (f % g.now.fpg)) }
+    ensures { result ≡ by_maps (group_in g.now (f / g.now.fpg) bytes.now) (λ group. is_free bytes.now group (f % g.now.fpg)) }
 {
     match read_group(bytes, g, group_of(g, f)) {
         Ok(group) => is_free(bytes, &group, f % g.fpg),
@@ -117,9 +116,8 @@ fn check_pointers<V: View>(
         → ArePointerFaultsBelow g.now v f faults.old → ArePointerFaultsBelow g.now v (f + 1) faults.new }
     ensures whole { result ≡ true → V.tells view.new → (v : Volume) → V.stands_for view.old v → IsUpperIn (table_of claims.now) f
         → length (block_at g.now.fsize v f) ≡ g.now.fsize }
-    ensures gone { result ≡ false → V.tells view.new → (v : Volume) → IsClaimedBy (V.stands_for view.old) g.now (table_of claims.now) v
-        → LosesOne (V.is_gone view.new) (IsMetadataBy Little g.now v) }
-    ensures fetched { FetchesOnly V.fetched (IsClaimedBy (V.stands_for view.old) g.now (table_of claims.now)) (V.tells view.new) (IsMetadataBy Little g.now) view.old view.new }
+    ensures gone { result ≡ false → LosesOne (IsClaimedBy (V.stands_for view.old) g.now (table_of claims.now)) (V.tells view.new) (V.count view.old) (IsMetadataBy g.now) (V.is_gone view.new) }
+    ensures fetched { FetchesOnly V.fetched (IsClaimedBy (V.stands_for view.old) g.now (table_of claims.now)) (V.tells view.new) (IsMetadataBy g.now) view.old view.new }
 {
     if !is_upper(claims, f) {
         return true;
@@ -152,9 +150,8 @@ pub fn check_fragments<V: View>(
         → AreFragmentFaults g.now v faults) }
     ensures whole { IfSome result (λ faults. V.tells view.new → (v : Volume) → IsClaimedBy (V.stands_for view.old) g.now (table_of claims.now) v
         → HasWholeUppers g.now v) }
-    ensures gone { IfNone result (V.tells view.new → (v : Volume) → IsClaimedBy (V.stands_for view.old) g.now (table_of claims.now) v
-        → LosesOne (V.is_gone view.new) (IsMetadataBy Little g.now v)) }
-    ensures fetched { FetchesOnly V.fetched (IsClaimedBy (V.stands_for view.old) g.now (table_of claims.now)) (V.tells view.new) (IsMetadataBy Little g.now) view.old view.new }
+    ensures gone { IfNone result (LosesOne (IsClaimedBy (V.stands_for view.old) g.now (table_of claims.now)) (V.tells view.new) (V.count view.old) (IsMetadataBy g.now) (V.is_gone view.new)) }
+    ensures fetched { FetchesOnly V.fetched (IsClaimedBy (V.stands_for view.old) g.now (table_of claims.now)) (V.tells view.new) (IsMetadataBy g.now) view.old view.new }
 {
     claims.claims_inside();
     let mut faults = FragmentFaults {

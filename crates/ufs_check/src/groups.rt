@@ -5,9 +5,8 @@ ghost use Rattle.ufs_model.specs.Blocks.{Volume};
 ghost use Rattle.ufs_model.specs.Geometries.{IsGeometry, IsGeometryOn};
 ghost use Rattle.ufs_model.specs.GroupMaps.{group_bytes};
 ghost use Rattle.ufs_model.specs.Metadata.{IsMetadataBy};
-ghost use Rattle.ufs_model.specs.declared.numbers.Endian.TheVariants.{Little};
 ghost use Rattle.ufs_check.specs.Groups.{AreGroupFaults, AreGroupFaultsBelow};
-ghost use Rattle.ufs_check.specs.Passes.{FetchesOnly, LosesOne};
+ghost use Rattle.ufs_pointer.specs.Fetches.{FetchesOnly, LosesOne};
 
 use crate::notes::note;
 use crate::verdicts::GroupFaults;
@@ -38,9 +37,8 @@ pub fn check_groups<V: View>(view: &mut V, g: &Geometry, levels: &mut Levels) ->
     ensures keeps { KeepsView V.stands_for V.tells V.is_gone V.count V.size V.is_sound V.goes_on view.old view.new }
     ensures levels { levels.new.fragment ≡ levels.old.fragment }
     ensures found { IfSome result (λ faults. V.tells view.new → (v : Volume) → V.stands_for view.old v → AreGroupFaults g.now v faults) }
-    ensures gone { IfNone result (V.tells view.new → (v : Volume) → V.stands_for view.old v
-        → LosesOne (V.is_gone view.new) (IsMetadataBy Little g.now v)) }
-    ensures fetched { FetchesOnly V.fetched (V.stands_for view.old) (V.tells view.new) (IsMetadataBy Little g.now) view.old view.new }
+    ensures gone { IfNone result (LosesOne (V.stands_for view.old) (V.tells view.new) (V.count view.old) (IsMetadataBy g.now) (V.is_gone view.new)) }
+    ensures fetched { FetchesOnly V.fetched (V.stands_for view.old) (V.tells view.new) (IsMetadataBy g.now) view.old view.new }
 {
     let mut faults = GroupFaults {
         magic: None,

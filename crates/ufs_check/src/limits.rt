@@ -6,11 +6,10 @@ ghost use Rattle.ufs_model.specs.Blocks.{Volume};
 ghost use Rattle.ufs_model.specs.Geometries.{IsGeometry, IsGeometryOn};
 ghost use Rattle.ufs_model.specs.Malformations.{inode_at};
 ghost use Rattle.ufs_model.specs.Metadata.{IsMetadataBy};
-ghost use Rattle.ufs_model.specs.declared.numbers.Endian.TheVariants.{Little};
 ghost use Rattle.dg_claims.specs.Kept.{table_of};
 ghost use Rattle.ufs_check.specs.Fragments.{HasClaims};
 ghost use Rattle.ufs_check.specs.Limits.{IsInLimits, IsLimit, IsPastLimit};
-ghost use Rattle.ufs_check.specs.Passes.{FetchesOnly, LosesOne};
+ghost use Rattle.ufs_pointer.specs.Fetches.{FetchesOnly, LosesOne};
 ghost use Rattle.ufs_check.specs.Reaches.{HasNoTwice, IsReach};
 
 use crate::entries::read_named;
@@ -46,7 +45,7 @@ fn limit_of(g: &Geometry, reach: &Reach, inode: Option<Inode>) -> Option<Limit>
     requires geometry { IsGeometry g.now }
     requires level { (1 ≤ reach.now.level) × (reach.now.level ≤ 3) }
     requires most { reach.now.first ≤ 2 ^ 48 }
-    ensures limit { (v : Volume) (f : ℕ) → IsReach g.now v f (Some reach.now) → inode_at Little g.now v reach.now.inode ≡ inode → IsLimit g.now v f result }
+    ensures limit { (v : Volume) (f : ℕ) → IsReach g.now v f (Some reach.now) → inode_at g.now v reach.now.inode ≡ inode → IsLimit g.now v f result }
     ensures fits { IfSome result IsInLimits }
 {
     let inode = inode?;
@@ -76,8 +75,8 @@ pub fn read_limit<V: View>(
     ensures found { IfSome result (λ limit. V.tells view.new → (v : Volume) → V.stands_for view.old v → HasClaims g.now (table_of claims.now) v → HasNoTwice g.now v
         → IsLimit g.now v f limit) }
     ensures fits { IfSome result (λ limit. IfSome limit IsInLimits) }
-    ensures gone { IfNone result (V.tells view.new → (v : Volume) → V.stands_for view.old v → LosesOne (V.is_gone view.new) (IsMetadataBy Little g.now v)) }
-    ensures fetched { FetchesOnly V.fetched (V.stands_for view.old) (V.tells view.new) (IsMetadataBy Little g.now) view.old view.new }
+    ensures gone { IfNone result (LosesOne (V.stands_for view.old) (V.tells view.new) (V.count view.old) (IsMetadataBy g.now) (V.is_gone view.new)) }
+    ensures fetched { FetchesOnly V.fetched (V.stands_for view.old) (V.tells view.new) (IsMetadataBy g.now) view.old view.new }
 {
     let Some(reach) = reach_of(claims, g, f) else {
         return Some(None);

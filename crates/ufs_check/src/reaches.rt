@@ -13,9 +13,6 @@ use crate::slots::first_block;
 use dg_claims::{ClaimSource, Claims};
 use ufs_model::Geometry;
 
-/// The last direct slot of an inode (`NDADDR`).
-const LAST_DIRECT: u8 = 11;
-
 /// Bytes of a pointer (`daddr_t`).
 pub const POINTER_BYTES: u32 = 4;
 
@@ -28,16 +25,6 @@ pub struct Reach {
     pub inode: u32,
     /// The file block that is reached through the fragment's first pointer.
     pub first: u64,
-}
-
-/// The level at which a source claims: 0 for blocks of data.
-fn level_of(source: ClaimSource) -> u8
-    ensures { result ≡ level_of source }
-{
-    match source {
-        ClaimSource::Slot { slot, .. } => slot.saturating_sub(LAST_DIRECT),
-        ClaimSource::Pointer { level, .. } => level.saturating_sub(1),
-    }
 }
 
 /// The one claim of a fragment is by the source.
@@ -119,7 +106,7 @@ fn first_through(claims: &Claims, g: &Geometry, source: ClaimSource) -> Option<(
             at,
         } => {
             let upper = claims.claim(fragment)?;
-            if level_of(upper) != level {
+            if upper.level() != level {
                 return None;
             }
             let place = place_in(claims, upper, fragment, g.frag)?;
@@ -140,7 +127,7 @@ pub fn reach_of(claims: &Claims, g: &Geometry, f: u32) -> Option<Reach>
     ensures most { IfSome result (λ reach. reach.first ≤ 2 ^ 48) }
 {
     let source = claims.claim(f)?;
-    let level = level_of(source);
+    let level = source.level();
     if level == 0 {
         return None;
     }

@@ -1,20 +1,20 @@
 use Rattle.std.proofs.Common.{◌≡◌, ◌∙◌, ◌+◌, ◌-◌, ◌*◌, ◌<◌, ◌≤◌, sym, arith}
 use Rattle.ufs_model.specs.Metadata.{IsMetadataBy}
-use Rattle.ufs_model.specs.declared.numbers.Endian.TheVariants.{Little}
-use Rattle.ufs_check.proofs.InodeLaws.{inode_needed, inode_there, one_block}
-use Rattle.ufs_check.proofs.PassLaws.{only_needs, read_lost, read_value}
+use Rattle.ufs_model.specs.Metadata.IsMetadataBy.{of_inode}
+use Rattle.ufs_check.proofs.InodeLaws.{inode_there, one_block}
+use Rattle.ufs_check.proofs.PassLaws.{one_lost, one_only, read_value}
 use Rattle.ufs_check.proofs.entries.read_named.Goals as goal
 
 pub returns-then-not-read_aside-clause-gone : goal.returns-then-not-read_aside-clause-gone
 returns-then-not-read_aside-clause-gone g c =
     let high : c.args.number < c.args.g.now.ncg * c.args.g.now.ipg = omega arith in
-    read_lost (IsMetadataBy Little c.args.g.now) c.read_aside.result _ (inode_needed c.args.g.now c.args.number (g.V.View.size c.args.view.now) c.place_of-block.result.0 high c.place_of-block.ensures.block)
-    (rw one_block at c.read_aside.ensures.rule) c.if-not-read_aside.true
+    one_lost (IsMetadataBy c.args.g.now) c.place_of-block.result.0 c.read_aside.requires.within (λ told v stands. of_inode c.args.number high c.place_of-block.ensures.block)
+    (c.read_aside.ensures.gone c.if-not-read_aside.true)
 
 pub returns-then-not-read_aside-clause-fetched : goal.returns-then-not-read_aside-clause-fetched
 returns-then-not-read_aside-clause-fetched g c =
     let high : c.args.number < c.args.g.now.ncg * c.args.g.now.ipg = omega arith in
-    only_needs (IsMetadataBy Little c.args.g.now) (inode_needed c.args.g.now c.args.number (g.V.View.size c.args.view.now) c.place_of-block.result.0 high c.place_of-block.ensures.block) (rw one_block at c.read_aside.ensures.fetched)
+    one_only (IsMetadataBy c.args.g.now) c.place_of-block.result.0 (λ told v stands. of_inode c.args.number high c.place_of-block.ensures.block) c.read_aside.ensures.once
 
 pub returns-clause-found : goal.returns-clause-found
 returns-clause-found g c = λ told v stands.
@@ -29,4 +29,4 @@ returns-clause-found g c = λ told v stands.
 pub returns-clause-fetched : goal.returns-clause-fetched
 returns-clause-fetched g c =
     let high : c.args.number < c.args.g.now.ncg * c.args.g.now.ipg = omega arith in
-    only_needs (IsMetadataBy Little c.args.g.now) (inode_needed c.args.g.now c.args.number (g.V.View.size c.args.view.now) c.place_of-block.result.0 high c.place_of-block.ensures.block) (rw one_block at c.read_aside.ensures.fetched)
+    one_only (IsMetadataBy c.args.g.now) c.place_of-block.result.0 (λ told v stands. of_inode c.args.number high c.place_of-block.ensures.block) c.read_aside.ensures.once
