@@ -5,11 +5,8 @@ ghost use Rattle.ufs_model.specs.Roles.{role};
 ghost use Rattle.ufs_model.specs.declared.roles.Role.TheVariants.{System};
 ghost use Rattle.ufs_model.specs.declared.roles.SystemKind.TheVariants.{Inodes};
 
-use ufs_model::{Geometry, own_blocks_of_groups};
+use ufs_model::{Geometry, INODE_BYTES, own_blocks_of_groups};
 use ufs_super::cgstart;
-
-/// Bytes of an inode (`struct dinode`).
-const INODE_BYTES: u32 = 128;
 
 /// The block with an inode, and the inode's first byte there (`ino_to_fsba`, `ino_to_fsbo`).
 #[tactic(auto, unfolding(ufs_model::specs::Inodes::inode_block, ufs_model::specs::Inodes::inode_byte))]

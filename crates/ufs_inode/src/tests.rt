@@ -1,6 +1,6 @@
 use crate::{Inode, Kind, has_pointers, place_of, read_inode, slot_address, span};
 use std::test::Fail;
-use ufs_model::Address;
+use ufs_model::{Address, Endian};
 use ufs_super::read_super;
 
 /// The byte at which each field of a superblock stands, from `sblkno` to `magic`.
@@ -83,19 +83,32 @@ fn file(mode: u16, size: u64) -> Inode {
     }
 }
 
+/// The same numbers with the lowest byte first, and with the highest.
 #[test]
 fn fields_of_an_inode(rt: HostRuntime) {
-    let mut bytes = [0; 128];
-    bytes[8] = 5;
-    bytes[40] = 34;
-    assert_eq!(rt; read_inode(&bytes), None);
-    bytes[0] = 0xa4;
-    bytes[1] = 0x81;
-    bytes[15] = 1;
-    bytes[84] = 127;
-    bytes[88] = 84;
-    bytes[96] = 126;
-    assert_eq!(rt; read_inode(&bytes), Some(file(0o100644, (1 << 56) + 5)));
+    let inode = file(0o100644, (1 << 56) + 5);
+    let mut little = [0; 128];
+    little[8] = 5;
+    little[40] = 34;
+    assert_eq!(rt; read_inode(&little, Endian::Little), None);
+    little[0] = 0xa4;
+    little[1] = 0x81;
+    little[15] = 1;
+    little[84] = 127;
+    little[88] = 84;
+    little[96] = 126;
+    assert_eq!(rt; read_inode(&little, Endian::Little), Some(inode));
+    let mut big = [0; 128];
+    big[15] = 5;
+    big[43] = 34;
+    assert_eq!(rt; read_inode(&big, Endian::Big), None);
+    big[0] = 0x81;
+    big[1] = 0xa4;
+    big[8] = 1;
+    big[87] = 127;
+    big[91] = 84;
+    big[99] = 126;
+    assert_eq!(rt; read_inode(&big, Endian::Big), Some(inode));
 }
 
 /// Each kind, and whether files of 59 and of 60 bytes have pointers.

@@ -29,54 +29,54 @@ if_read P None holds = tt
 -- an address, and then what is read there
 pub block_there : {stands still : Volume → Type 0} {tells told : Type 0} {before now after : ℕ → Bool} (g : Geometry) (inode : Inode) (n : ℕ) (address : Address) (answer : Option (Result (Option (List ℕ)) PathRefusal))
     → Grows before now → ((v : Volume) → stands v → still v) → (told → tells)
-    → ReadsAs stands before tells now (file_block_of Little g inode n) (Some address) → ReadsAs still now told after (bytes_at g address) answer
-    → ReadsAs stands before told after (block_of Little g inode n) answer
+    → ReadsAs stands before tells now (file_block_of g inode n) (Some address) → ReadsAs still now told after (bytes_at g address) answer
+    → ReadsAs stands before told after (block_of g inode n) answer
 unfolding block_of
 block_there g inode n address answer grows keeps tell one two = reads_then (bytes_at g) grows keeps tell one two
 
 pub fetches_there : {S : Type 0} {fetched : S → List ℕ → S → Type 0} {stands still : Volume → Type 0} {tells told : Type 0} {before now : ℕ → Bool} {old middle new : S} (g : Geometry) (inode : Inode) (n : ℕ) (address : Address) (answer : Option (Result (Option (List ℕ)) PathRefusal))
     → ((s t u : S) (x y : List ℕ) → fetched s x t → fetched t y u → fetched s (x ++ y) u) → ((v : Volume) → stands v → still v) → (told → tells)
-    → ReadsAs stands before tells now (file_block_of Little g inode n) (Some address) → Fetches fetched stands tells (file_block_of Little g inode n) (Some address) old middle
-    → Fetches fetched still told (bytes_at g address) answer middle new → Fetches fetched stands told (block_of Little g inode n) answer old new
+    → ReadsAs stands before tells now (file_block_of g inode n) (Some address) → Fetches fetched stands tells (file_block_of g inode n) (Some address) old middle
+    → Fetches fetched still told (bytes_at g address) answer middle new → Fetches fetched stands told (block_of g inode n) answer old new
 unfolding block_of
 fetches_there g inode n address answer both keeps tell read one two = fetches_then (bytes_at g) both keeps tell read one two
 
 -- a hole
 pub block_hole : {stands : Volume → Type 0} {tells : Type 0} {before after : ℕ → Bool} (g : Geometry) (inode : Inode) (n : ℕ)
-    → Grows before after → ReadsAs stands before tells after (file_block_of Little g inode n) (Some Hole)
-    → ReadsAs stands before tells after (block_of Little g inode n) (Some (Ok None))
+    → Grows before after → ReadsAs stands before tells after (file_block_of g inode n) (Some Hole)
+    → ReadsAs stands before tells after (block_of g inode n) (Some (Ok None))
 unfolding bytes_at
 block_hole g inode n grows one = block_there g inode n Hole _ grows (λ v h. h) (λ h. h) one (reads_known (Ok None))
 
 pub fetches_hole : {S : Type 0} {fetched : S → List ℕ → S → Type 0} {stands : Volume → Type 0} {tells : Type 0} {before after : ℕ → Bool} {old new : S} (g : Geometry) (inode : Inode) (n : ℕ)
     → ((s t u : S) (x y : List ℕ) → fetched s x t → fetched t y u → fetched s (x ++ y) u) → fetched new [] new
-    → ReadsAs stands before tells after (file_block_of Little g inode n) (Some Hole) → Fetches fetched stands tells (file_block_of Little g inode n) (Some Hole) old new
-    → Fetches fetched stands tells (block_of Little g inode n) (Some (Ok None)) old new
+    → ReadsAs stands before tells after (file_block_of g inode n) (Some Hole) → Fetches fetched stands tells (file_block_of g inode n) (Some Hole) old new
+    → Fetches fetched stands tells (block_of g inode n) (Some (Ok None)) old new
 unfolding bytes_at
 fetches_hole g inode n both none read one = fetches_there g inode n Hole _ both (λ v h. h) (λ h. h) read one (fetches_known (Ok None) none)
 
 -- a wild pointer
 pub block_wild : {stands : Volume → Type 0} {tells : Type 0} {before after : ℕ → Bool} (g : Geometry) (inode : Inode) (n : ℕ)
-    → Grows before after → ReadsAs stands before tells after (file_block_of Little g inode n) (Some Wild)
-    → ReadsAs stands before tells after (block_of Little g inode n) (Some (Err (Bad BadWild)))
+    → Grows before after → ReadsAs stands before tells after (file_block_of g inode n) (Some Wild)
+    → ReadsAs stands before tells after (block_of g inode n) (Some (Err (Bad BadWild)))
 unfolding bytes_at
 block_wild g inode n grows one = block_there g inode n Wild _ grows (λ v h. h) (λ h. h) one (reads_known (Err (Bad BadWild)))
 
 pub fetches_wild : {S : Type 0} {fetched : S → List ℕ → S → Type 0} {stands : Volume → Type 0} {tells : Type 0} {before after : ℕ → Bool} {old new : S} (g : Geometry) (inode : Inode) (n : ℕ)
     → ((s t u : S) (x y : List ℕ) → fetched s x t → fetched t y u → fetched s (x ++ y) u) → fetched new [] new
-    → ReadsAs stands before tells after (file_block_of Little g inode n) (Some Wild) → Fetches fetched stands tells (file_block_of Little g inode n) (Some Wild) old new
-    → Fetches fetched stands tells (block_of Little g inode n) (Some (Err (Bad BadWild))) old new
+    → ReadsAs stands before tells after (file_block_of g inode n) (Some Wild) → Fetches fetched stands tells (file_block_of g inode n) (Some Wild) old new
+    → Fetches fetched stands tells (block_of g inode n) (Some (Err (Bad BadWild))) old new
 unfolding bytes_at
 fetches_wild g inode n both none read one = fetches_there g inode n Wild _ both (λ v h. h) (λ h. h) read one (fetches_known (Err (Bad BadWild)) none)
 
 -- a block that is gone on the way
 pub block_gone : {stands : Volume → Type 0} {tells : Type 0} {before after : ℕ → Bool} (g : Geometry) (inode : Inode) (n : ℕ)
-    → ReadsAs stands before tells after (file_block_of Little g inode n) None → ReadsAs stands before tells after (block_of Little g inode n) None
+    → ReadsAs stands before tells after (file_block_of g inode n) None → ReadsAs stands before tells after (block_of g inode n) None
 unfolding block_of
 block_gone g inode n one = reads_none (bytes_at g) one
 
 pub fetches_gone : {S : Type 0} {fetched : S → List ℕ → S → Type 0} {stands : Volume → Type 0} {tells : Type 0} {old new : S} (g : Geometry) (inode : Inode) (n : ℕ)
-    → Fetches fetched stands tells (file_block_of Little g inode n) None old new → Fetches fetched stands tells (block_of Little g inode n) None old new
+    → Fetches fetched stands tells (file_block_of g inode n) None old new → Fetches fetched stands tells (block_of g inode n) None old new
 unfolding block_of
 fetches_gone g inode n one = fetches_none (bytes_at g) one
 

@@ -50,14 +50,14 @@ padded k m l front low e =
 -- the geometry by the bytes of the superblock
 pub geometry_read : {stands : Volume → Type 0} {tells : Type 0} {before after : ℕ → Bool} (l n a k : ℕ) (bytes : List ℕ) (answer : Result Geometry BadSuper) → Grows before after
     → a ≡ 8192 / l → k ≡ div_ceil 1376 l → answer ≡ geometry bytes l n
-    → ReadsAs stands before tells after (area_within l n a k) (Some bytes) → ReadsAs stands before tells after (geometry_of Little l n) (Some answer)
+    → ReadsAs stands before tells after (area_within l n a k) (Some bytes) → ReadsAs stands before tells after (geometry_of l n) (Some answer)
 unfolding geometry_of superblock_of
 geometry_read l n a k bytes answer grows e1 e2 e3 reads =
     rw e3 (reads_map (λ b. geometry_in Little b l n) grows (rw (e1, e2) at reads))
 
 pub geometry_unread : {stands : Volume → Type 0} {tells : Type 0} {before after : ℕ → Bool} (l n a k : ℕ)
     → a ≡ 8192 / l → k ≡ div_ceil 1376 l
-    → ReadsAs stands before tells after (area_within l n a k) None → ReadsAs stands before tells after (geometry_of Little l n) None
+    → ReadsAs stands before tells after (area_within l n a k) None → ReadsAs stands before tells after (geometry_of l n) None
 unfolding geometry_of superblock_of
 geometry_unread l n a k e1 e2 reads = reads_none _ (rw (e1, e2) at reads)
 
@@ -83,14 +83,14 @@ within_fetched l n a k m false front rest both none e zeros reads fetches = fetc
 pub geometry_fetched : {S : Type 0} {fetched : S → List ℕ → S → Type 0} {stands : Volume → Type 0} {tells : Type 0} {before after : ℕ → Bool} {old new : S} (l n a k : ℕ) (bytes : List ℕ) (answer : Result Geometry BadSuper)
     → ((s t u : S) (x y : List ℕ) → fetched s x t → fetched t y u → fetched s (x ++ y) u) → fetched new [] new
     → a ≡ 8192 / l → k ≡ div_ceil 1376 l → answer ≡ geometry bytes l n → ReadsAs stands before tells after (area_within l n a k) (Some bytes)
-    → Fetches fetched stands tells (area_within l n a k) (Some bytes) old new → Fetches fetched stands tells (geometry_of Little l n) (Some answer) old new
+    → Fetches fetched stands tells (area_within l n a k) (Some bytes) old new → Fetches fetched stands tells (geometry_of l n) (Some answer) old new
 unfolding geometry_of superblock_of
 geometry_fetched l n a k bytes answer both none e1 e2 e3 reads fetches =
     rw e3 (fetches_map (λ b. geometry_in Little b l n) both none (rw (e1, e2) at reads) (rw (e1, e2) at fetches))
 
 pub geometry_unfetched : {S : Type 0} {fetched : S → List ℕ → S → Type 0} {stands : Volume → Type 0} {tells : Type 0} {old new : S} (l n a k : ℕ)
     → a ≡ 8192 / l → k ≡ div_ceil 1376 l
-    → Fetches fetched stands tells (area_within l n a k) None old new → Fetches fetched stands tells (geometry_of Little l n) None old new
+    → Fetches fetched stands tells (area_within l n a k) None old new → Fetches fetched stands tells (geometry_of l n) None old new
 unfolding geometry_of superblock_of
 geometry_unfetched l n a k e1 e2 fetches = fetches_none _ (rw (e1, e2) at fetches)
 

@@ -93,9 +93,9 @@ pub fn read_file_block<V: View>(
     ensures levels { levels.new.fragment ≡ levels.old.fragment }
     ensures covered { IfSome result (λ found. IfData found (bytes_in_block g.now inode.now n ≤ length levels.new.block)) }
     ensures rule { ReadsAs (V.stands_for view.old) (V.is_gone view.old) (V.tells view.new) (V.is_gone view.new)
-        (block_of Little g.now inode.now n) (block_said result levels.new.block) }
+        (block_of g.now inode.now n) (block_said result levels.new.block) }
     ensures fetched { Fetches V.fetched (V.stands_for view.old) (V.tells view.new)
-        (block_of Little g.now inode.now n) (block_said result levels.new.block) view.old view.new }
+        (block_of g.now inode.now n) (block_said result levels.new.block) view.old view.new }
 {
     match file_block(view, g, inode, n, levels) {
         BlockAnswer::Hole => Some(FileBlock::Hole),

@@ -31,9 +31,9 @@ pub fn through<V: View>(
     ensures keeps { KeepsView V.stands_for V.tells V.is_gone V.count V.size V.is_sound V.goes_on view.old view.new }
     ensures whole { IfSome result (IsWhole g.now) }
     ensures rule { ReadsAs (V.stands_for view.old) (V.is_gone view.old) (V.tells view.new) (V.is_gone view.new)
-        (through Little g.now i address) result }
+        (through g.now i address) result }
     ensures fetched { Fetches V.fetched (V.stands_for view.old) (V.tells view.new)
-        (through Little g.now i address) result view.old view.new }
+        (through g.now i address) result view.old view.new }
 {
     match address {
         Address::Hole => Some(Address::Hole),

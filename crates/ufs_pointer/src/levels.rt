@@ -241,9 +241,9 @@ impl Levels {
         ensures inside { IfSome result (IsInside g.now) }
         ensures span { IfSome result (HasSpan (chain_span g.now inode.now chain)) }
         ensures rule { ReadsAs (V.stands_for view.old) (V.is_gone view.old) (V.tells view.new) (V.is_gone view.new)
-            (chain_address Little g.now inode.now chain) result }
+            (chain_address g.now inode.now chain) result }
         ensures fetched { Fetches V.fetched (V.stands_for view.old) (V.tells view.new)
-            (chain_address Little g.now inode.now chain) result view.old view.new }
+            (chain_address g.now inode.now chain) result view.old view.new }
     {
         let size = block_bytes(g);
         match chain {
@@ -285,9 +285,9 @@ pub fn file_block<V: View>(
     ensures inside { IfSome (address_in result) (IsInside g.now) }
     ensures span { IfSome (address_in result) (HasSpan (block_span g.now inode.now n)) }
     ensures rule { ReadsAs (V.stands_for view.old) (V.is_gone view.old) (V.tells view.new) (V.is_gone view.new)
-        (file_block_of Little g.now inode.now n) (address_in result) }
+        (file_block_of g.now inode.now n) (address_in result) }
     ensures fetched { Fetches V.fetched (V.stands_for view.old) (V.tells view.new)
-        (file_block_of Little g.now inode.now n) (address_in result) view.old view.new }
+        (file_block_of g.now inode.now n) (address_in result) view.old view.new }
 {
     match levels.follow(view, g, inode, locate(g, n)) {
         Some(Address::Hole) => BlockAnswer::Hole,
