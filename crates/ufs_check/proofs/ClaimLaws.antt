@@ -1,18 +1,21 @@
 -- What a table of claims says of the fragments of its volume.
-use Rattle.std.proofs.Common.{◌≡◌, ◌≢◌, ◌∙◌, ℕ, ◌/◌, ◌%◌, ◌<◌, ◌≤◌, List, [], ◌∷◌, Bool, true, false, Some, length, refl, sym, subst, arith}
+use Rattle.std.proofs.Common.{◌≡◌, ◌≢◌, ◌∙◌, ℕ, ◌/◌, ◌%◌, ◌<◌, ◌≤◌, List, [], ◌∷◌, Bool, true, false, Option, None, Some, length, refl, sym, ap, subst, arith}
 use Rattle.std.specs.Prelude.{Contains, nat_le}
+use Rattle.std.specs.List.{AllPairs}
 use Rattle.std.specs.Bool.{Decides}
 use Rattle.std.proofs.lemmas.Bool.Decides.{nat_tests, not_from_Decides}
 use Rattle.ufs_model.specs.Blocks.{Volume, bind}
-use Rattle.ufs_model.specs.Claims.{IsClaim, level_of, source_fragments}
+use Rattle.ufs_model.specs.Claims.{AreClaimsOn, HasClaimCount, IsClaim, IsClaimedAt, is_earlier_claim, level_of, source_fragments}
 use Rattle.ufs_model.specs.GroupMaps.{by_maps, group_bytes, group_in, is_free, is_marked_free}
 use Rattle.ufs_model.specs.Malformations.{HasTwoClaims, IsFree, IsUpper}
 use Rattle.ufs_model.specs.Metadata.{IsMetadataBy}
 use Rattle.ufs_model.specs.Metadata.IsMetadataBy.{of_indirect}
+use Rattle.ufs_model.specs.Owners.{IsOnlyClaim}
 use Rattle.ufs_model.specs.declared.claims.ClaimSource.{ClaimSource}
+use Rattle.ufs_model.specs.declared.claims.ClaimSource.TheVariants.{Slot, Pointer}
 use Rattle.ufs_model.specs.declared.geometries.Geometry.{Geometry}
 use Rattle.dg_claims.specs.Kept.{size_in}
-use Rattle.dg_claims.specs.Tables.{AreClaimants, ClaimTable, IsClaimedAt, IsOnce}
+use Rattle.dg_claims.specs.Tables.{ClaimTable, claims_in}
 use Rattle.ufs_check.specs.Fragments.{HasClaims, IsClaimedBy, IsUpperIn}
 use Rattle.ufs_pointer.specs.Fetches.{FetchesOnly, LosesOne}
 use Rattle.ufs_check.proofs.PassLaws.{lost_told, only_told}
@@ -24,17 +27,17 @@ three_left n above most one two = omega (arith, one, two)
 
 -- levels above 0 are 1, 2 and 3
 pub upper_last : (table : ClaimTable) (f : ℕ) (one two three : Bool) → ((source : ClaimSource) → Contains (table.claimed source) f → level_of source ≤ 3)
-    → Decides one (IsClaimedAt table.claimed 1 f) → one ≡ false → Decides two (IsClaimedAt table.claimed 2 f) → two ≡ false
-    → Decides three (IsClaimedAt table.claimed 3 f) → Decides three (IsUpperIn table f)
+    → Decides one (IsClaimedAt (claims_in table) 1 f) → one ≡ false → Decides two (IsClaimedAt (claims_in table) 2 f) → two ≡ false
+    → Decides three (IsClaimedAt (claims_in table) 3 f) → Decides three (IsUpperIn table f)
 upper_last table f one two three levels first no_first second no_second third = (
-  λ is. let at = third.0 is in let level = at.1 in (at.0, omega arith, at.2),
-  λ upper. third.1 (
-    upper.0,
-    three_left (level_of (upper.0)) (upper.1) (levels (upper.0) (upper.2))
-        (λ is. not_from_Decides one first no_first (upper.0, is, upper.2))
-        (λ is. not_from_Decides two second no_second (upper.0, is, upper.2)),
-    upper.2,
-  ),
+  λ is. let at = third.0 is in let level = at.is in (at.source, omega arith, at.claim),
+  λ upper. third.1 (record {
+    source = upper.0;
+    claim = upper.2;
+    is = three_left (level_of (upper.0)) (upper.1) (levels (upper.0) (upper.2))
+        (λ is. not_from_Decides one first no_first (record { source = upper.0; claim = upper.2; is = is }))
+        (λ is. not_from_Decides two second no_second (record { source = upper.0; claim = upper.2; is = is }));
+  }),
 )
 
 -- ---- claims of the volume
@@ -70,15 +73,20 @@ upper_metadata g table v f upper has = of_indirect (upper.0) ((has.claims f (upp
 
 -- ---- fragments with two claims
 
+-- a claim isn't before itself
+not_before : (source : ClaimSource) → is_earlier_claim source source ≡ true → ⊥
+not_before (Slot inode slot) is = grind (arith, nat_tests)
+not_before (Pointer fragment level at) is = grind (arith, nat_tests)
+
 -- two of the list
 abbrev HasTwo : List ClaimSource → Type 0
 HasTwo sources = (one : ClaimSource) × (other : ClaimSource) × (one ≢ other) × Contains sources one × Contains sources other
 
-two_of : (sources : List ClaimSource) → IsOnce sources → 2 ≤ length sources → HasTwo sources
-two_of [] once long = absurd (omega arith)
-two_of (a ∷ []) once long = absurd (omega arith)
-two_of (a ∷ b ∷ rest) once long =
-    (a, b, (λ same. once.0 (0, omega arith, sym same)), (0, omega arith, refl), (1, omega arith, refl))
+two_of : (sources : List ClaimSource) → AllPairs (λ one other. is_earlier_claim one other ≡ true) sources → 2 ≤ length sources → HasTwo sources
+two_of [] ordered long = absurd (omega arith)
+two_of (a ∷ []) ordered long = absurd (omega arith)
+two_of (a ∷ b ∷ rest) ordered long =
+    (a, b, (λ same. not_before b (subst (λ s. is_earlier_claim s b ≡ true) same (ordered 0 1 a (omega arith) (omega arith)))), (0, omega arith, refl), (1, omega arith, refl))
 
 two_long : (sources : List ClaimSource) (one other : ClaimSource) → Contains sources one → Contains sources other → one ≢ other → 2 ≤ length sources
 two_long [] one other h k differ = let lt = h.1 in absurd (omega arith)
@@ -88,27 +96,67 @@ two_long (a ∷ []) one other h k differ =
     absurd (differ (sym (rw first at h.2) ∙ rw second at k.2))
 two_long (a ∷ b ∷ rest) one other h k differ = omega arith
 
-at_least_two : (sources : List ClaimSource) (number : ℕ) → number ≡ length sources → 2 ≤ length sources → nat_le 2 number ≡ true
+at_least_two : (sources : List ClaimSource) (number : ℕ) → length sources ≡ number → 2 ≤ length sources → nat_le 2 number ≡ true
 at_least_two sources number is long = grind (arith, nat_tests)
 
-two_at_least : (sources : List ClaimSource) (number : ℕ) → number ≡ length sources → nat_le 2 number ≡ true → 2 ≤ length sources
+two_at_least : (sources : List ClaimSource) (number : ℕ) → length sources ≡ number → nat_le 2 number ≡ true → 2 ≤ length sources
 two_at_least sources number is test = grind (arith, nat_tests)
 
-pub twice_decides : (g : Geometry) (table : ClaimTable) (v : Volume) (f number : ℕ) → HasClaims g table v → AreClaimants table.claimed f number
+pub twice_decides : (g : Geometry) (table : ClaimTable) (v : Volume) (f number : ℕ) → HasClaims g table v → HasClaimCount (claims_in table) f number
     → Decides (nat_le 2 number) (HasTwoClaims g v f)
 twice_decides g table v f number has all = (
   λ test.
-      let two = two_of (all.sources) all.once (two_at_least (all.sources) number all.number test) in record {
+      let two = two_of (all.sources) all.are.ordered (two_at_least (all.sources) number all.number test) in record {
         one = two.0;
         other = two.1;
         differ = two.2;
-        first = (has.claims f (two.0)).0 ((all.exactly (two.0)).0 (two.3));
-        second = (has.claims f (two.1)).0 ((all.exactly (two.1)).0 (two.4));
+        first = (has.claims f (two.0)).0 ((all.are.each (two.0)).0 (two.3));
+        second = (has.claims f (two.1)).0 ((all.are.each (two.1)).0 (two.4));
       },
   λ two. at_least_two (all.sources) number all.number
-      (two_long (all.sources) (two.one) (two.other) ((all.exactly (two.one)).1 ((has.claims f (two.one)).1 two.first))
-      ((all.exactly (two.other)).1 ((has.claims f (two.other)).1 two.second)) two.differ),
+      (two_long (all.sources) (two.one) (two.other) ((all.are.each (two.one)).1 ((has.claims f (two.one)).1 two.first))
+      ((all.are.each (two.other)).1 ((has.claims f (two.other)).1 two.second)) two.differ),
 )
+
+-- ---- fragments with one claim
+
+one_by : (claims : ℕ → ClaimSource → Type 0) (f : ℕ) (sources : List ClaimSource) → AreClaimsOn claims f sources → length sources ≡ 1 → (source : ClaimSource) × AreClaimsOn claims f (source ∷ [])
+one_by claims f [] are one = absurd (omega arith)
+one_by claims f (a ∷ []) are one = (a, are)
+one_by claims f (a ∷ b ∷ rest) are one = absurd (omega arith)
+
+pub one_source : (claims : ℕ → ClaimSource → Type 0) (f number : ℕ) → HasClaimCount claims f number → number ≡ 1 → (source : ClaimSource) × AreClaimsOn claims f (source ∷ [])
+one_source claims f number all one = one_by claims f (all.sources) all.are (all.number ∙ one)
+
+pub alone : (claims : ℕ → ClaimSource → Type 0) (f : ℕ) (source : ClaimSource) → AreClaimsOn claims f (source ∷ []) → IsOnlyClaim claims f source
+alone claims f source are = record {
+  claim = (are.each source).0 (0, omega arith, refl);
+  only = λ other claim.
+      let h = (are.each other).1 claim in
+      let first : h.0 ≡ 0 = let lt = h.1 in omega arith in
+      sym (rw first at h.2);
+}
+
+count_by : (claims : ℕ → ClaimSource → Type 0) (f : ℕ) (source : ClaimSource) (sources : List ClaimSource) → AreClaimsOn claims f sources → IsOnlyClaim claims f source → length sources ≡ 1
+count_by claims f source [] are one = let h = (are.each source).1 one.claim in let lt = h.1 in absurd (omega arith)
+count_by claims f source (a ∷ []) are one = refl
+count_by claims f source (a ∷ b ∷ rest) are one =
+    let first : a ≡ source = one.only a ((are.each a).0 (0, omega arith, refl)) in
+    let second : b ≡ source = one.only b ((are.each b).0 (1, omega arith, refl)) in
+    absurd (not_before b (subst (λ s. is_earlier_claim s b ≡ true) (first ∙ sym second) (are.ordered 0 1 a (omega arith) (omega arith))))
+
+pub only_count : (claims : ℕ → ClaimSource → Type 0) (f number : ℕ) (source : ClaimSource) → HasClaimCount claims f number → IsOnlyClaim claims f source → number ≡ 1
+only_count claims f number source all one = sym all.number ∙ count_by claims f source (all.sources) all.are one
+
+abbrev source_in : ClaimSource → Option (ℕ × ClaimSource) → ClaimSource
+source_in other None = other
+source_in other (Some claim) = claim.1
+
+abbrev sourced : ℕ → ClaimSource → Option (ℕ × ClaimSource)
+sourced level source = Some (level, source)
+
+pub same_source : (level other : ℕ) (one two : ClaimSource) → sourced level one ≡ sourced other two → two ≡ one
+same_source level other one two is = sym (ap (source_in one) is)
 
 -- ---- claimed fragments that are marked free
 
@@ -126,14 +174,14 @@ one_long [] source h = let lt = h.1 in absurd (omega arith)
 one_long (a ∷ rest) source h = omega arith
 
 -- a fragment with a claim
-pub free_claimed : (g : Geometry) (table : ClaimTable) (v : Volume) (f number : ℕ) (marked : Bool) → HasClaims g table v → AreClaimants table.claimed f number → 1 ≤ number
+pub free_claimed : (g : Geometry) (table : ClaimTable) (v : Volume) (f number : ℕ) (marked : Bool) → HasClaims g table v → HasClaimCount (claims_in table) f number → 1 ≤ number
     → (is_marked_free g f v).value ≡ marked → Decides marked (IsFree g v f)
 free_claimed g table v f number marked has all some is = (
   λ test.
       let number_is = all.number in
       let one = one_of (all.sources) (omega arith) in record {
         source = one.0;
-        claim = (has.claims f (one.0)).0 ((all.exactly (one.0)).0 (one.1));
+        claim = (has.claims f (one.0)).0 ((all.are.each (one.0)).0 (one.1));
         free = is ∙ test;
       },
   λ free. sym is ∙ free.free,
@@ -143,13 +191,13 @@ not_some : (number : ℕ) → number < 1 → nat_le 1 number ≡ true → ⊥
 not_some number none test = grind (arith, nat_tests)
 
 -- a fragment without one
-pub free_unclaimed : (g : Geometry) (table : ClaimTable) (v : Volume) (f number : ℕ) → HasClaims g table v → AreClaimants table.claimed f number → number < 1
+pub free_unclaimed : (g : Geometry) (table : ClaimTable) (v : Volume) (f number : ℕ) → HasClaims g table v → HasClaimCount (claims_in table) f number → number < 1
     → Decides (nat_le 1 number) (IsFree g v f)
 free_unclaimed g table v f number has all none = (
   λ test. absurd (not_some number none test),
   λ free.
       let number_is = all.number in
-      let long = one_long (all.sources) (free.source) ((all.exactly (free.source)).1 ((has.claims f (free.source)).1 free.claim)) in
+      let long = one_long (all.sources) (free.source) ((all.are.each (free.source)).1 ((has.claims f (free.source)).1 free.claim)) in
       absurd (omega arith),
 )
 

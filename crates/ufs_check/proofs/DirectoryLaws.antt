@@ -118,7 +118,7 @@ chunks_value g inode n v = said_part v (bytes_in_block g inode n / 512) ((block_
 pub before_next : (g : Geometry) (inode : Inode) (n : ℕ) (v : Volume)
     → (entries_before g inode (suc n) v).value ≡ joined ((entries_before g inode n v).value) (entries_said g.endian ((chunks_of g inode n v).value))
 unfolding entries_before and_then bind
-before_next g inode n v = front_part endian v ((entries_before g inode n v).value) (chunks_of g inode n)
+before_next g inode n v = front_part g.endian v ((entries_before g inode n v).value) (chunks_of g inode n)
 
 -- ---- what is found in one more file block
 

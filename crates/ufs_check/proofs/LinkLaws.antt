@@ -208,7 +208,7 @@ links_all g v end table faults dots dir_twice read past dots_is twice_is =
       dots = least_all (IsBad g v Dots) end dots (λ m bad. let high = (dots_within g v m bad).1 in omega arith) dots_is;
       names = least_all (IsBad g v Names) (read.bound) faults.names (λ m bad. let high = (entries_within g v m (bad.first.entries) bad.first.are).1 in omega arith) (read.links.names.names read.named);
       dir_twice = least_all (IsBad g v DirTwice) end dir_twice (λ m bad. let high = (twice_within g v m read.read bad).1 in omega arith) twice_is;
-      root_named = least_all (IsBad g v RootNamed) (read.bound) faults.root_named (λ m bad. let high = (entries_within g v m (bad.2.here.entries) bad.2.here.are).1 in omega arith) (read.links.names.root_named read.named);
+      root_named = least_all (IsBad g v RootNamed) (read.bound) faults.root_named (λ m bad. let high = (entries_within g v m (bad.1.1.here.entries) bad.1.1.here.are).1 in omega arith) (read.links.names.root_named read.named);
     }
 
 -- ---- one more inode
@@ -221,7 +221,7 @@ names_low : (g : Geometry) (v : Volume) → IsLeastBelow (IsBad g v Names) 2 Non
 names_low g v = least_none (IsBad g v Names) 2 (λ m low bad. let high = (entries_within g v m (bad.first.entries) bad.first.are).0 in absurd (omega arith))
 
 root_low : (g : Geometry) (v : Volume) → IsLeastBelow (IsBad g v RootNamed) 2 None
-root_low g v = least_none (IsBad g v RootNamed) 2 (λ m low bad. let high = (entries_within g v m (bad.2.here.entries) bad.2.here.are).0 in absurd (omega arith))
+root_low g v = least_none (IsBad g v RootNamed) 2 (λ m low bad. let high = (entries_within g v m (bad.1.1.here.entries) bad.1.1.here.are).0 in absurd (omega arith))
 
 -- nothing is noted below the root
 pub links_none : (g : Geometry) (v : Volume) (table : LinkTable) → IsEmptyTable table → AreLinksBelow g v 2 table (record { names = None; root_named = None })

@@ -224,8 +224,8 @@ root_named_decides g v i entries named has = (
         (any.0, record { entry = owned_of any.1; here = at; plain = root.0; names = root.1 }),
       ),
   λ bad.
-      let k = bad.1 in
-      let h = bad.2 in
+      let k = bad.1.0 in
+      let h = bad.1.1 in
       let found = owned_from entries k (h.entry) (entry_here g v i k (owned_all entries) (h.entry) has h.here) in
       let root : names_root (owned_of (found.owned)) ≡ true = subst (λ entry. names_root entry ≡ true) (sym found.is) ((root_decides g v (h.entry)).1 (h.plain, h.names)) in
       list_any-from_Any (λ entry. names_root (owned_of entry)) entries
@@ -236,5 +236,5 @@ root_named_decides g v i entries named has = (
 pub names_passed : (g : Geometry) (v : Volume) (i : ℕ) (faults : NameFaults) → ((entries : List DirEntry) → HasEntries g v i entries → ⊥) → AreNameFaultsBelow g v i faults → AreNameFaultsBelow g v (i + 1) faults
 names_passed g v i faults none so_far = record {
   names = λ named. least_passed (IsBad g v Names) i faults.names (λ h. none (h.first.entries) h.first.are) (so_far.names named);
-  root_named = λ named. least_passed (IsBad g v RootNamed) i faults.root_named (λ h. none (h.2.here.entries) h.2.here.are) (so_far.root_named named);
+  root_named = λ named. least_passed (IsBad g v RootNamed) i faults.root_named (λ h. none (h.1.1.here.entries) h.1.1.here.are) (so_far.root_named named);
 }

@@ -13,8 +13,7 @@ use Rattle.ufs_model.specs.Malformations.FirstBlock.{of_pointer, of_slot}
 use Rattle.ufs_model.specs.declared.claims.ClaimSource.{ClaimSource}
 use Rattle.ufs_model.specs.declared.claims.ClaimSource.TheVariants.{Slot, Pointer}
 use Rattle.ufs_model.specs.declared.geometries.Geometry.{Geometry}
-use Rattle.dg_claims.specs.Tables.{IsSource}
-use Rattle.dg_claims.specs.Tables.{ClaimTable}
+use Rattle.dg_claims.specs.Tables.{ClaimTable, IsSource, claims_in}
 use Rattle.ufs_check.proofs.RunLaws.{contains_from, contains_got, from_contains, from_get, get_from, upper_run}
 use Rattle.ufs_check.specs.Fragments.{HasClaims, IsUpperIn}
 use Rattle.ufs_check.specs.Reaches.{HasNoTwice, IsBefore, IsPlaceIn, IsReach, ReachesAs}
@@ -38,7 +37,7 @@ same_or_not (Pointer f level at) (Pointer h other to) = elim (cases_eq f h) [
 ]
 
 pub only_claim : (g : Geometry) (table : ClaimTable) (v : Volume) (f : ℕ) (source : ClaimSource) → HasClaims g table v → HasNoTwice g v
-    → IsClaim (source_fragments g v) f source → IsOnlyClaim table.claimed f source
+    → IsClaim (source_fragments g v) f source → IsOnlyClaim (claims_in table) f source
 only_claim g table v f source has none claim = record {
   claim = (has.claims f source).1 claim;
   only = λ other h. elim (same_or_not other source) [
@@ -78,14 +77,14 @@ pub reach_owner : (g : Geometry) (v : Volume) (source : ClaimSource) (i n f : �
 reach_owner g v source i n f none of_slot has = by_own_slot (only_here g v f source none (by_slot has)) refl
 reach_owner g v source i n f none (of_pointer {f = upper} {level = level} {at = at} {n = m} {source = other} place before here is above) has =
     by_upper (only_here g v f source none (reach_claim g v source i n f (of_pointer place before here is above) has)) refl
-    (reach_owner g v other i m upper none before (contains_got (source_fragments g v other) place upper here))
+    (subst (IsOwner (IsClaim (source_fragments g v)) upper i) is (reach_owner g v other i m upper none before (contains_got (source_fragments g v other) place upper here)))
 
 -- ---- the place of a fragment among those of its source
 
-place_some : (claimed : ClaimSource → List ℕ) (source : ClaimSource) (f a most place : ℕ) → ((x : ℕ) → a ≤ x → x < a + most → IsOnlyClaim claimed x source)
-    → ((x : ℕ) → IsOnlyClaim claimed x source → a ≤ x) → a ≤ f → f < a + most → ((k : ℕ) → k < place → IsBefore claimed source f k) → (IsBefore claimed source f place → ⊥)
+place_some : (claims : ℕ → ClaimSource → Type 0) (source : ClaimSource) (f a most place : ℕ) → ((x : ℕ) → a ≤ x → x < a + most → IsOnlyClaim claims x source)
+    → ((x : ℕ) → IsOnlyClaim claims x source → a ≤ x) → a ≤ f → f < a + most → ((k : ℕ) → k < place → IsBefore claims source f k) → (IsBefore claims source f place → ⊥)
     → f ≡ a + place
-place_some claimed source f a most place within outside low high before stop = elim (cases_order (a + place) f) [
+place_some claims source f a most place within outside low high before stop = elim (cases_order (a + place) f) [
   | inl same ↦ sym same
   | inr other ↦ elim other [
     | inl less ↦ absurd (stop (omega arith, within (f - (place + 1)) (omega arith) (omega arith)))
@@ -97,9 +96,9 @@ place_some claimed source f a most place within outside low high before stop = e
   ]
 ]
 
-place_none : (claimed : ClaimSource → List ℕ) (source : ClaimSource) (f a most : ℕ) → ((x : ℕ) → IsOnlyClaim claimed x source → a ≤ x) → a ≤ f → f < a + most
-    → ((k : ℕ) → k < most → IsBefore claimed source f k) → ⊥
-place_none claimed source f a most outside low high before =
+place_none : (claims : ℕ → ClaimSource → Type 0) (source : ClaimSource) (f a most : ℕ) → ((x : ℕ) → IsOnlyClaim claims x source → a ≤ x) → a ≤ f → f < a + most
+    → ((k : ℕ) → k < most → IsBefore claims source f k) → ⊥
+place_none claims source f a most outside low high before =
     let last = before (most - 1) (omega arith) in
     let inside = last.0 in
     let above : a ≤ f - (most - 1 + 1) = outside (f - (most - 1 + 1)) (last.1) in
@@ -110,26 +109,26 @@ abbrev IsPlaced : Geometry → Volume → ClaimSource → ℕ → Option ℕ →
 IsPlaced g v source f None = ⊥
 IsPlaced g v source f (Some place) = slice_get (source_fragments g v source) place ≡ Some f
 
-place_by : (g : Geometry) (v : Volume) (source : ClaimSource) (f a : ℕ) (claimed : ClaimSource → List ℕ) (r : Option ℕ) → source_fragments g v source ≡ fragments_from a g.frag
-    → ((x : ℕ) → a ≤ x → x < a + g.frag → IsOnlyClaim claimed x source) → ((x : ℕ) → IsOnlyClaim claimed x source → a ≤ x) → a ≤ f → f < a + g.frag
-    → IsPlaceIn claimed source f g.frag r → IsPlaced g v source f r
-place_by g v source f a claimed None run within outside low high place = place_none claimed source f a g.frag outside low high place.none
-place_by g v source f a claimed (Some place) run within outside low high is =
+place_by : (g : Geometry) (v : Volume) (source : ClaimSource) (f a : ℕ) (claims : ℕ → ClaimSource → Type 0) (r : Option ℕ) → source_fragments g v source ≡ fragments_from a g.frag
+    → ((x : ℕ) → a ≤ x → x < a + g.frag → IsOnlyClaim claims x source) → ((x : ℕ) → IsOnlyClaim claims x source → a ≤ x) → a ≤ f → f < a + g.frag
+    → IsPlaceIn claims source f g.frag r → IsPlaced g v source f r
+place_by g v source f a claims None run within outside low high place = place_none claims source f a g.frag outside low high place.none
+place_by g v source f a claims (Some place) run within outside low high is =
     let at = is.is in
-    let here : f ≡ a + place = place_some claimed source f a g.frag place within outside low high (at.1) (at.2) in
+    let here : f ≡ a + place = place_some claims source f a g.frag place within outside low high (at.1) (at.2) in
     rw (run, here) (get_from a g.frag place (at.0))
 
 pub placed : (g : Geometry) (table : ClaimTable) (v : Volume) (source : ClaimSource) (f : ℕ) (r : Option ℕ) → HasClaims g table v → HasNoTwice g v
-    → IsClaim (source_fragments g v) f source → 0 < level_of source → IsPlaceIn table.claimed source f g.frag r → IsPlaced g v source f r
+    → IsClaim (source_fragments g v) f source → 0 < level_of source → IsPlaceIn (claims_in table) source f g.frag r → IsPlaced g v source f r
 placed g table v source f r has none claim above place =
     let run = upper_run g v source f above (claim_contains (source_fragments g v) f source claim) in
     let inside = from_contains (run.0) g.frag f (subst (λ xs. Contains xs f) (run.1) (claim_contains (source_fragments g v) f source claim)) in
     let within = λ (x : ℕ) (low : run.0 ≤ x) (high : x < run.0 + g.frag).
     only_claim g table v x source has none
     (same_claim (source_fragments g v) f x source claim (subst (λ xs. Contains xs x) (sym (run.1)) (contains_from (run.0) g.frag x low high))) in
-    let outside = λ (x : ℕ) (one : IsOnlyClaim table.claimed x source).
+    let outside = λ (x : ℕ) (one : IsOnlyClaim (claims_in table) x source).
     (from_contains (run.0) g.frag x (subst (λ xs. Contains xs x) (run.1) (claim_contains (source_fragments g v) x source ((has.claims x source).0 one.claim)))).0 in
-    place_by g v source f (run.0) table.claimed r (run.1) within outside (inside.0) (inside.1) place
+    place_by g v source f (run.0) (claims_in table) r (run.1) within outside (inside.0) (inside.1) place
 
 -- ---- a pointer, by what is above it
 
@@ -159,7 +158,7 @@ above_of g v f level at i n (of_pointer {n = m} {source = source} place before h
 above_claim : (g : Geometry) (v : Volume) (f level at i n : ℕ) (up : IsAbove g v f level at i n) → IsClaim (source_fragments g v) f (up.source)
 above_claim g v f level at i n up = reach_claim g v (up.source) i (up.m) f up.before (contains_got (source_fragments g v (up.source)) (up.place) f up.here)
 
-above_same : (g : Geometry) (table : ClaimTable) (v : Volume) (f level at i n : ℕ) (source : ClaimSource) → HasClaims g table v → IsOnlyClaim table.claimed f source
+above_same : (g : Geometry) (table : ClaimTable) (v : Volume) (f level at i n : ℕ) (source : ClaimSource) → HasClaims g table v → IsOnlyClaim (claims_in table) f source
     → (up : IsAbove g v f level at i n) → up.source ≡ source
 above_same g table v f level at i n source has one up = one.only (up.source) ((has.claims f (up.source)).1 (above_claim g v f level at i n up))
 
@@ -192,27 +191,27 @@ reaches_none g v source f level at r is empty none =
 
 -- the fragment of the pointer has no claim, or more than one
 pub reaches_no_claim : (g : Geometry) (table : ClaimTable) (v : Volume) (source : ClaimSource) (f level at : ℕ) (r : Option (ℕ × ℕ)) → source ≡ Pointer f level at → r ≡ None
-    → HasClaims g table v → HasNoTwice g v → ((upper : ClaimSource) → IsOnlyClaim table.claimed f upper → ⊥) → ReachesAs g v source r
+    → HasClaims g table v → HasNoTwice g v → ((upper : ClaimSource) → IsOnlyClaim (claims_in table) f upper → ⊥) → ReachesAs g v source r
 reaches_no_claim g table v source f level at r is empty has once none =
     reaches_none g v source f level at r is empty (λ i n up. none (up.source) (only_claim g table v f (up.source) has once (above_claim g v f level at i n up)))
 
 -- its claim is at another level
 pub reaches_other_level : (g : Geometry) (table : ClaimTable) (v : Volume) (source upper : ClaimSource) (f level at : ℕ) (r : Option (ℕ × ℕ)) → source ≡ Pointer f level at → r ≡ None
-    → HasClaims g table v → IsOnlyClaim table.claimed f upper → (level_of upper ≡ level → ⊥) → ReachesAs g v source r
+    → HasClaims g table v → IsOnlyClaim (claims_in table) f upper → (level_of upper ≡ level → ⊥) → ReachesAs g v source r
 reaches_other_level g table v source upper f level at r is empty has one differ =
     reaches_none g v source f level at r is empty
     (λ i n up. differ (ap level_of (sym (above_same g table v f level at i n upper has one up)) ∙ up.of_level))
 
 -- its source claims no such run
 pub reaches_no_place : (g : Geometry) (table : ClaimTable) (v : Volume) (source upper : ClaimSource) (f level at : ℕ) (r : Option (ℕ × ℕ)) → source ≡ Pointer f level at → r ≡ None
-    → HasClaims g table v → HasNoTwice g v → IsOnlyClaim table.claimed f upper → 0 < level_of upper → IsPlaceIn table.claimed upper f g.frag None → ReachesAs g v source r
+    → HasClaims g table v → HasNoTwice g v → IsOnlyClaim (claims_in table) f upper → 0 < level_of upper → IsPlaceIn (claims_in table) upper f g.frag None → ReachesAs g v source r
 reaches_no_place g table v source upper f level at r is empty has once one above place =
     reaches_none g v source f level at r is empty
     (λ i n up. placed g table v upper f None has once ((has.claims f upper).0 one.claim) above place)
 
 -- nothing is reached through its source
 pub reaches_no_upper : (g : Geometry) (table : ClaimTable) (v : Volume) (source upper : ClaimSource) (f level at : ℕ) (r : Option (ℕ × ℕ)) → source ≡ Pointer f level at → r ≡ None
-    → HasClaims g table v → IsOnlyClaim table.claimed f upper → ReachesAs g v upper None → ReachesAs g v source r
+    → HasClaims g table v → IsOnlyClaim (claims_in table) f upper → ReachesAs g v upper None → ReachesAs g v source r
 reaches_no_upper g table v source upper f level at r is empty has one reach =
     reaches_none g v source f level at r is empty (λ i n up.
     let same = above_same g table v f level at i n upper has one up in
@@ -228,7 +227,7 @@ one_place g v source f one other above first second =
     omega arith
 
 pub reaches_through : (g : Geometry) (table : ClaimTable) (v : Volume) (source upper : ClaimSource) (f level at place i n before : ℕ) → source ≡ Pointer f level at
-    → HasClaims g table v → HasNoTwice g v → IsOnlyClaim table.claimed f upper → level_of upper ≡ level → 0 < level → IsPlaceIn table.claimed upper f g.frag (Some place)
+    → HasClaims g table v → HasNoTwice g v → IsOnlyClaim (claims_in table) f upper → level_of upper ≡ level → 0 < level → IsPlaceIn (claims_in table) upper f g.frag (Some place)
     → ReachesAs g v upper (Some (i, n)) → before ≡ (place * (g.fsize / 4) + at) * g.nindir ^ (level - 1) → ReachesAs g v source (Some (i, n + before))
 reaches_through g table v source upper f level at place i n before is has once one of_level above place_is reach value =
     let claim = (has.claims f upper).0 one.claim in
@@ -247,10 +246,10 @@ reaches_through g table v source upper f level at place i n before is has once o
     })
 
 -- the one claim of a fragment is by a source, or by another
-pub claimed_decides : (claimed : ClaimSource → List ℕ) (f : ℕ) (other source : ClaimSource) (b : Bool) → IsOnlyClaim claimed f other → Decides b (other ≡ source)
-    → Decides b (IsOnlyClaim claimed f source)
-claimed_decides claimed f other source b one same =
-    (λ test. subst (λ s. IsOnlyClaim claimed f s) (same.0 test) one, λ two. same.1 (two.only other one.claim))
+pub claimed_decides : (claims : ℕ → ClaimSource → Type 0) (f : ℕ) (other source : ClaimSource) (b : Bool) → IsOnlyClaim claims f other → Decides b (other ≡ source)
+    → Decides b (IsOnlyClaim claims f source)
+claimed_decides claims f other source b one same =
+    (λ test. subst (λ s. IsOnlyClaim claims f s) (same.0 test) one, λ two. same.1 (two.only other one.claim))
 
 -- a fragment through whose pointers blocks are reached is one of an indirect block
 pub reach_upper : (g : Geometry) (table : ClaimTable) (v : Volume) (f level at i n : ℕ) → HasClaims g table v → FirstBlock g v (Pointer f level at) i n → IsUpperIn table f
@@ -278,12 +277,12 @@ reach_none g v f r empty none = rw empty (record {
 })
 
 pub reach_no_claim : (g : Geometry) (table : ClaimTable) (v : Volume) (f : ℕ) (r : Option Reach) → r ≡ None → HasClaims g table v → HasNoTwice g v
-    → ((source : ClaimSource) → IsOnlyClaim table.claimed f source → ⊥) → IsReach g v f r
+    → ((source : ClaimSource) → IsOnlyClaim (claims_in table) f source → ⊥) → IsReach g v f r
 reach_no_claim g table v f r empty has once none =
     reach_none g v f r empty (λ level at i n up. none (up.source) (only_claim g table v f (up.source) has once (above_claim g v f level at i n up)))
 
 pub reach_data : (g : Geometry) (table : ClaimTable) (v : Volume) (f : ℕ) (source : ClaimSource) (r : Option Reach) → r ≡ None → HasClaims g table v
-    → IsOnlyClaim table.claimed f source → level_of source ≡ 0 → IsReach g v f r
+    → IsOnlyClaim (claims_in table) f source → level_of source ≡ 0 → IsReach g v f r
 reach_data g table v f source r empty has one data_level =
     reach_none g v f r empty (λ level at i n up.
     let same = ap level_of (above_same g table v f level at i n source has one up) in
@@ -292,7 +291,7 @@ reach_data g table v f source r empty has one data_level =
     omega arith)
 
 -- the level of what is above a fragment
-above_level : (g : Geometry) (table : ClaimTable) (v : Volume) (f level other at i n : ℕ) (source : ClaimSource) → HasClaims g table v → IsOnlyClaim table.claimed f source → level ≡ level_of source
+above_level : (g : Geometry) (table : ClaimTable) (v : Volume) (f level other at i n : ℕ) (source : ClaimSource) → HasClaims g table v → IsOnlyClaim (claims_in table) f source → level ≡ level_of source
     → IsAbove g v f other at i n → other ≡ level
 above_level g table v f level other at i n source has one is up =
     sym up.of_level ∙ ap level_of (above_same g table v f other at i n source has one up) ∙ sym is
@@ -303,7 +302,7 @@ first_pointer : (g : Geometry) (v : Volume) (f level at i n : ℕ) (up : IsAbove
 first_pointer g v f level at i n up = of_pointer (up.place) up.before up.here up.of_level up.above
 
 pub reach_no_upper : (g : Geometry) (table : ClaimTable) (v : Volume) (f level : ℕ) (source : ClaimSource) (r : Option Reach) → r ≡ None → HasClaims g table v
-    → IsOnlyClaim table.claimed f source → level ≡ level_of source → ReachesAs g v (Pointer f level 0) None → IsReach g v f r
+    → IsOnlyClaim (claims_in table) f source → level ≡ level_of source → ReachesAs g v (Pointer f level 0) None → IsReach g v f r
 reach_no_upper g table v f level source r empty has one is reach =
     reach_none g v f r empty (λ other at i n up0.
     let up : IsAbove g v f level at i n = subst (λ l. IsAbove g v f l at i n) (above_level g table v f level other at i n source has one is up0) up0 in
@@ -316,7 +315,7 @@ step_to m q at w first is =
     let first_is : first ≡ m + q * w = rw zero_more at is in
     omega (arith, add-mul q at w, first_is)
 
-pub reach_some : (g : Geometry) (table : ClaimTable) (v : Volume) (f level i first : ℕ) (source : ClaimSource) → HasClaims g table v → IsOnlyClaim table.claimed f source → level ≡ level_of source
+pub reach_some : (g : Geometry) (table : ClaimTable) (v : Volume) (f level i first : ℕ) (source : ClaimSource) → HasClaims g table v → IsOnlyClaim (claims_in table) f source → level ≡ level_of source
     → ReachesAs g v (Pointer f level 0) (Some (i, first)) → IsReach g v f (Some (record { level = level; inode = i; first = first }))
 reach_some g table v f level i first source has one is reach = record {
   is = λ at.

@@ -12,7 +12,7 @@ use Rattle.ufs_model.specs.Blocks.{Consulted, Volume, area_of, bind, block_at}
 use Rattle.ufs_model.specs.Claims.{IsClaim, fragments_at, fragments_from, level_of, pointer_fragments, slot_fragments, slot_fragments_in, source_fragments}
 use Rattle.ufs_model.specs.Claims.IsClaim.{by_pointer, by_slot}
 use Rattle.ufs_model.specs.Geometries.{IsGeometry, is_block_size, is_fragment_count}
-use Rattle.ufs_model.specs.Inodes.{has_pointers, inode_of, kind_of, slot_of, span}
+use Rattle.ufs_model.specs.Inodes.{has_pointers, inode_of, is_inode_number, kind_of, slot_of, span}
 use Rattle.ufs_model.specs.Malformations.{FirstBlock, IsDirectory, first_block, inode_at}
 use Rattle.ufs_model.specs.Malformations.FirstBlock.{of_pointer, of_slot}
 use Rattle.ufs_model.specs.Metadata.{IsMetadataBy, IsStructure}
@@ -22,7 +22,6 @@ use Rattle.ufs_model.specs.Metadata.IsStructure.{of_directory, of_metadata as of
 use Rattle.ufs_model.specs.Numbers.{number_at}
 use Rattle.ufs_model.specs.Paths.{block_of, bytes_at}
 use Rattle.ufs_model.specs.Pointers.{address, chain_address, file_block_of, indirect_of, is_data_run, locate_of, pointer_in, slot_address, through}
-use Rattle.ufs_model.specs.Roles.{is_within}
 use Rattle.ufs_model.specs.Superblocks.{geometry_of}
 use Rattle.ufs_model.specs.declared.claims.ClaimSource.{ClaimSource}
 use Rattle.ufs_model.specs.declared.claims.ClaimSource.TheVariants.{Pointer, Slot}

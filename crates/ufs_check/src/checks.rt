@@ -1,5 +1,6 @@
 // The first malformation of a volume.
 ghost use Rattle.std.specs.Prelude.{◌≡◌, ℕ, Ok, Some, IfNone, IfOk, IfSome};
+ghost use Rattle.std.specs.Bool.{Decides};
 ghost use Rattle.dg_io.specs.Views.{KeepsView};
 ghost use Rattle.ufs_model.specs.Blocks.{Volume};
 ghost use Rattle.ufs_model.specs.Geometries.{IsGeometryOn};
@@ -24,6 +25,13 @@ use dg_io::{NoMemory, View};
 use std::alloc::Global;
 use ufs_model::{BadKind, BadSuper, Geometry};
 use ufs_pointer::{Levels, read_geometry};
+
+/// A table is of this geometry.
+fn is_of(claims: &Claims, g: &Geometry) -> bool
+    ensures { Decides result ((table_of claims.now).geometry ≡ Some g.now) }
+{
+    claims.geometry() == Some(*g)
+}
 
 /// What is wrong by metadata alone, by the claims of the volume. There is no answer where a block of it
 /// is gone.
@@ -140,7 +148,7 @@ pub fn check<V: View>(
         Some(Err(bad)) => return Ok(Verdict::Malformed(BadKind::Super(bad), 0)),
         Some(Ok(g)) => g,
     };
-    if claims.geometry() != Some(g) {
+    if !is_of(claims, &g) {
         return Ok(Verdict::Malformed(BadKind::Super(BadSuper::Layout), 0));
     }
     match check_volume(alloc, view, &g, levels, claims)? {

@@ -2,10 +2,12 @@
 ghost use Rattle.std.specs.Prelude.{◌≡◌, ◌+◌, ◌-◌, ◌*◌, ◌/◌, ◌^◌, ◌<◌, ◌≤◌, ℕ, Some, IfNone, IfSome};
 ghost use Rattle.std.specs.Bool.{Decides};
 ghost use Rattle.ufs_model.specs.Blocks.{Volume};
-ghost use Rattle.ufs_model.specs.Claims.{IsOnlyClaim, level_of};
+ghost use Rattle.ufs_model.specs.Claims.{level_of};
+ghost use Rattle.ufs_model.specs.Owners.{IsOnlyClaim};
+ghost use Rattle.ufs_model.specs.declared.claims.ClaimSource.{ClaimSource};
 ghost use Rattle.ufs_model.specs.Geometries.{IsGeometry};
 ghost use Rattle.dg_claims.specs.Kept.{table_of};
-ghost use Rattle.dg_claims.specs.Tables.{IsSource};
+ghost use Rattle.dg_claims.specs.Tables.{IsSource, claims_in};
 ghost use Rattle.ufs_check.specs.Fragments.{HasClaims};
 ghost use Rattle.ufs_check.specs.Reaches.{HasNoTwice, IsBefore, IsPlaceIn, IsReach, ReachesAs};
 
@@ -27,11 +29,24 @@ pub struct Reach {
     pub first: u64,
 }
 
+/// The source of a fragment that has one claim.
+fn only_claim(claims: &Claims, f: u32) -> Option<ClaimSource>
+    ensures only { IfSome result (IsOnlyClaim (claims_in (table_of claims.now)) f) }
+    ensures none { IfNone result ((source : ClaimSource) → IsOnlyClaim (claims_in (table_of claims.now)) f source → ⊥) }
+    ensures source { IfSome result (IsSource (table_of claims.now).geometry) }
+{
+    if claims.claims_on(f) != 1 {
+        return None;
+    }
+    let (_, source) = claims.claim(f, 0)?;
+    Some(source)
+}
+
 /// The one claim of a fragment is by the source.
 fn is_claimed_by(claims: &Claims, f: u32, source: ClaimSource) -> bool
-    ensures { Decides result (IsOnlyClaim (table_of claims.now).claimed f source) }
+    ensures { Decides result (IsOnlyClaim (claims_in (table_of claims.now)) f source) }
 {
-    match claims.claim(f) {
+    match only_claim(claims, f) {
         Some(other) => other == source,
         None => false,
     }
@@ -39,7 +54,7 @@ fn is_claimed_by(claims: &Claims, f: u32, source: ClaimSource) -> bool
 
 /// The one claim of a fragment, `k` and one more before fragment `f`, is by the source.
 fn is_before(claims: &Claims, source: ClaimSource, f: u32, k: u32) -> bool
-    ensures { Decides result (IsBefore (table_of claims.now).claimed source f k) }
+    ensures { Decides result (IsBefore (claims_in (table_of claims.now)) source f k) }
 {
     k < f && is_claimed_by(claims, f - k - 1, source)
 }
@@ -47,7 +62,7 @@ fn is_before(claims: &Claims, source: ClaimSource, f: u32, k: u32) -> bool
 /// The place of a fragment among those of its source, which are `most` at most: how many fragments in a
 /// row before it have their one claim by the source.
 fn place_in(claims: &Claims, source: ClaimSource, f: u32, most: u32) -> Option<u32>
-    ensures { IsPlaceIn (table_of claims.now).claimed source f most result }
+    ensures { IsPlaceIn (claims_in (table_of claims.now)) source f most result }
 {
     for place in 0..most {
         if !is_before(claims, source, f, place) {
@@ -105,7 +120,7 @@ fn first_through(claims: &Claims, g: &Geometry, source: ClaimSource) -> Option<(
             level,
             at,
         } => {
-            let upper = claims.claim(fragment)?;
+            let upper = only_claim(claims, fragment)?;
             if upper.level() != level {
                 return None;
             }
@@ -126,7 +141,7 @@ pub fn reach_of(claims: &Claims, g: &Geometry, f: u32) -> Option<Reach>
     ensures inode { IfSome result (λ reach. (2 ≤ reach.inode) × (reach.inode < g.now.ncg * g.now.ipg)) }
     ensures most { IfSome result (λ reach. reach.first ≤ 2 ^ 48) }
 {
-    let source = claims.claim(f)?;
+    let source = only_claim(claims, f)?;
     let level = source.level();
     if level == 0 {
         return None;

@@ -1,4 +1,4 @@
-use Rattle.std.proofs.Common.{◌≡◌, ◌∙◌, refl, sym, ap, subst}
+use Rattle.std.proofs.Common.{◌≡◌, ◌∙◌, Some, true, false, refl, sym, ap, subst}
 use Rattle.dg_io.specs.ViewLaws.{keeps_both}
 use Rattle.dg_claims.specs.Kept.{table_of}
 use Rattle.dg_claims.specs.Readers.{accepted}
@@ -150,10 +150,12 @@ returns-in-Some-clause-tabled g c = λ same told v stands.
     let second = c.check_volume.ensures.keeps in
     let reads = rw c.in-Some-Ok.field-0-is at c.in-Some-Ok.ensures.rule in
     let is = sym ((reads.rule (second.told told) v stands).answer) in
-    sym c.geometry.ensures.value ∙ c.if-geometry.false ∙ ap accepted (sym is)
+    c.is_of.ensures.0 c.if-not-is_of.false ∙ ap accepted (sym is)
 
-pub returns-then-geometry-clause-malformed : goal.returns-then-geometry-clause-malformed
-returns-then-geometry-clause-malformed g c = λ kind m same told v tabled.
+pub returns-then-not-is_of-clause-malformed : goal.returns-then-not-is_of-clause-malformed
+returns-then-not-is_of-clause-malformed g c = λ kind m same told v tabled.
     let reads = rw c.in-Some-Ok.field-0-is at c.in-Some-Ok.ensures.rule in
     let is = sym ((reads.rule told v (tabled.0)).answer) in
-    absurd (c.if-geometry.true (c.geometry.ensures.value ∙ tabled.1.geometry ∙ ap accepted is))
+    let of = tabled.1 in
+    let table : (table_of c.args.claims.now).geometry ≡ Some c.in-Some-Ok.g = of.geometry ∙ ap accepted is in
+    let no : true ≡ false = sym (c.is_of.ensures.1 table) ∙ c.if-not-is_of.true in cc

@@ -8,7 +8,8 @@ use Rattle.ufs_check.proofs.entries.read_named.Goals as goal
 pub returns-then-not-read_aside-clause-gone : goal.returns-then-not-read_aside-clause-gone
 returns-then-not-read_aside-clause-gone g c =
     let high : c.args.number < c.args.g.now.ncg * c.args.g.now.ipg = omega arith in
-    one_lost (IsMetadataBy c.args.g.now) c.place_of-block.result.0 c.read_aside.requires.within (λ told v stands. of_inode c.args.number high c.place_of-block.ensures.block)
+    let inside : c.place_of-block.result.0 < g.V.View.count c.args.view.now = let low = c.place_of-block.ensures.inside in let most = c.requires.geometry.size in omega arith in
+    one_lost (IsMetadataBy c.args.g.now) c.place_of-block.result.0 inside (λ told v stands. of_inode c.args.number high c.place_of-block.ensures.block)
     (c.read_aside.ensures.gone c.if-not-read_aside.true)
 
 pub returns-then-not-read_aside-clause-fetched : goal.returns-then-not-read_aside-clause-fetched

@@ -44,6 +44,6 @@ loop-i-preserved g c =
     }
 
 pub returns-then-not-scan_chunk-clause-gone : goal.returns-then-not-scan_chunk-clause-gone
-returns-then-not-scan_chunk-clause-gone g c =
+returns-then-not-scan_chunk-clause-gone g c = λ missed.
     let so_far = c.loop-i.invariant.keeps in
     lost_later so_far.blocks so_far.stands (c.scan_chunk.ensures.gone c.if-not-scan_chunk.true)

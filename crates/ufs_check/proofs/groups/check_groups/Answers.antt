@@ -1,4 +1,4 @@
-use Rattle.std.proofs.Common.{◌∙◌, sym}
+use Rattle.std.proofs.Common.{◌∙◌, ◌+◌, ◌≤◌, arith, sym}
 use Rattle.dg_io.specs.ViewLaws.{keeps_both}
 use Rattle.ufs_model.specs.Metadata.{IsMetadataBy}
 use Rattle.ufs_check.proofs.GroupLaws.{group_area, group_need}
@@ -8,8 +8,10 @@ use Rattle.ufs_check.proofs.groups.check_groups.Goals as goal
 pub returns-then-not-read_block-clause-gone : goal.returns-then-not-read_block-clause-gone
 returns-then-not-read_block-clause-gone g c =
     let so_far = c.loop-c.invariant.keeps in
+    let inside : c.group_block.result + c.args.g.now.frag ≤ g.V.View.count c.loop-c.view =
+    let low = c.group_block.ensures.inside in let high = c.requires.geometry.size in let same = so_far.blocks in omega arith in
     lost_later so_far.blocks so_far.stands
-    (area_lost (IsMetadataBy c.args.g.now) (g.V.View.size c.loop-c.view) c.group_block.result c.args.g.now.frag c.read_block.result c.read_block.requires.within
+    (area_lost (IsMetadataBy c.args.g.now) (g.V.View.size c.loop-c.view) c.group_block.result c.args.g.now.frag c.read_block.result inside
     (group_need c.args.g.now c.loop-c.c _ _ c.loop-c-test.true (c.requires.geometry.fsize ∙ sym so_far.bytes) c.group_block.ensures.value) c.if-not-read_block.true c.read_block.ensures.area)
 
 pub returns-then-not-read_block-clause-fetched : goal.returns-then-not-read_block-clause-fetched

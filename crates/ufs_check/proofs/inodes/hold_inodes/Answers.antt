@@ -1,3 +1,4 @@
+use Rattle.std.proofs.Common.{◌<◌, arith}
 use Rattle.ufs_model.specs.Metadata.{IsMetadataBy}
 use Rattle.ufs_check.proofs.InodeLaws.{one_block}
 use Rattle.ufs_check.proofs.PassLaws.{one_lost, one_only, read_value}
@@ -9,7 +10,8 @@ returns-clause-holds g c = λ could told v stands before.
 
 pub returns-clause-gone : goal.returns-clause-gone
 returns-clause-gone g c = λ missed.
-    one_lost (IsMetadataBy c.args.g.now) c.args.block c.read_aside.requires.within (λ told v stands. c.requires.metadata v) (c.read_aside.ensures.gone missed)
+    let inside : c.args.block < g.V.View.count c.args.view.now = let low = c.requires.inside in let high = c.requires.geometry.size in omega arith in
+    one_lost (IsMetadataBy c.args.g.now) c.args.block inside (λ told v stands. c.requires.metadata v) (c.read_aside.ensures.gone missed)
 
 pub returns-clause-fetched : goal.returns-clause-fetched
 returns-clause-fetched g c = one_only (IsMetadataBy c.args.g.now) c.args.block (λ told v stands. c.requires.metadata v) c.read_aside.ensures.once
