@@ -7,4 +7,5 @@ pub mod Sinks
 pub mod Sources
 pub mod Told
 pub mod ViewLaws
+pub mod ViewWords
 pub mod Views

@@ -1,8 +1,8 @@
-ghost use Rattle.std.specs.Prelude.{◌≡◌, ◌+◌, ◌≤◌, length};
+ghost use Rattle.std.specs.Prelude.{◌≡◌, ◌+◌, ◌≤◌, drop, length, take};
 ghost use Rattle.ufs_model.specs.Inodes.{has_pointers, inode_in};
 ghost use Rattle.ufs_model.specs.Numbers.{number_at};
 
-use ufs_model::{Endian, Geometry, Inode, Kind, u16_at, u32_at, u64_at};
+use ufs_model::{Endian, Geometry, INODE_BYTES, Inode, Kind, u16_at, u32_at, u64_at};
 
 /// A pointer of 32 bits at a byte of the inode.
 fn pointer_at(bytes: &[u8], at: usize, endian: Endian) -> u32
@@ -43,6 +43,15 @@ pub fn read_inode(bytes: &[u8], endian: Endian) -> Option<Inode>
         pointer_at(bytes, 96, endian),
     ];
     Some(Inode { mode, size, db, ib })
+}
+
+/// The inode that begins at a byte of its block, whose numbers stand in this order of bytes.
+pub fn inode_at(block: &[u8], byte: u32, endian: Endian) -> Option<Inode>
+    requires { byte + 128 ≤ length block.now }
+    ensures { result ≡ inode_in endian (take 128 (drop byte block.now)) }
+{
+    let start = byte as usize;
+    read_inode(&block[start..start + INODE_BYTES as usize], endian)
 }
 
 /// Whether the slots of the inode are pointers: those of a regular file, of a directory, and of a

@@ -1,4 +1,6 @@
-use crate::{Inode, Kind, has_pointers, place_of, read_inode, slot_address, span};
+use crate::{
+    Inode, Kind, has_pointers, inode_at, inodes_near, place_of, read_inode, slot_address, span,
+};
 use std::test::Fail;
 use ufs_model::{Address, Endian};
 use ufs_super::read_super;
@@ -144,6 +146,56 @@ fn places_of_inodes(rt: HostRuntime) -> Result<(), Fail> {
     assert_eq!(rt; place_of(&g, 700), (4215, 512));
     assert_eq!(rt; place_of(&g, 1023), (6303, 896));
     Ok(())
+}
+
+/// The blocks with inodes have eight each, and the inodes of a block are those whose place it is.
+#[test]
+fn inodes_of_blocks(rt: HostRuntime) -> Result<(), Fail> {
+    let g = read_super(&superblock(&SMALL), 1024, 128)?;
+    for (block, wanted) in [
+        (0, (0, 0)),
+        (27, (0, 0)),
+        (28, (0, 8)),
+        (30, (16, 24)),
+        (31, (24, 32)),
+        (32, (0, 0)),
+        (127, (0, 0)),
+        (128, (0, 0)),
+        (0xffff_ffff, (0, 0)),
+    ] {
+        assert_eq!(rt; inodes_near(&g, block), wanted, "block {block}");
+    }
+    let g = read_super(&superblock(&LARGE), 1024, 8192)?;
+    for (block, wanted) in [
+        (31, (0, 0)),
+        (32, (0, 8)),
+        (63, (248, 256)),
+        (64, (0, 0)),
+        (2080, (0, 0)),
+        (2112, (256, 264)),
+        (4215, (696, 704)),
+        (6303, (1016, 1024)),
+        (6304, (0, 0)),
+    ] {
+        assert_eq!(rt; inodes_near(&g, block), wanted, "block {block}");
+    }
+    Ok(())
+}
+
+#[test]
+fn inode_of_a_block(rt: HostRuntime) {
+    let mut block = [0; 512];
+    block[257] = 0x81;
+    block[385] = 0x41;
+    assert_eq!(rt; inode_at(&block, 128, Endian::Little), None);
+    assert_eq!(rt;
+        inode_at(&block, 256, Endian::Little).map(|inode| inode.mode),
+        Some(0x8100)
+    );
+    assert_eq!(rt;
+        inode_at(&block, 384, Endian::Big).map(|inode| inode.mode),
+        Some(0x0041)
+    );
 }
 
 #[test]

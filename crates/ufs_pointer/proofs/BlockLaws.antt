@@ -1,6 +1,6 @@
 -- Reading a file block by its address.
-use Rattle.std.specs.Prelude.{IfSome}
-use Rattle.std.proofs.Common.{ℕ, Bool, List, [], ◌++◌, Some, None, Ok, Err, Result, Option}
+use Rattle.std.specs.Prelude.{IfNone, IfSome}
+use Rattle.std.proofs.Common.{◌≡◌, ℕ, Bool, List, [], ◌++◌, Some, None, Ok, Err, Result, Option}
 use Rattle.ufs_model.specs.Blocks.{Volume, area_of}
 use Rattle.ufs_model.specs.Paths.{block_of, bytes_at}
 use Rattle.ufs_model.specs.Pointers.{file_block_of}
@@ -8,15 +8,15 @@ use Rattle.ufs_model.specs.Readings.{Grows, ReadsAs}
 use Rattle.ufs_model.proofs.ReadingLaws.{reads_known, reads_none, reads_then}
 use Rattle.ufs_model.specs.declared.geometries.Geometry.{Geometry}
 use Rattle.ufs_model.specs.declared.inodes.Inode.{Inode}
-use Rattle.ufs_model.specs.declared.numbers.Endian.TheVariants.{Little}
 use Rattle.ufs_model.specs.declared.pointers.Address.{Address}
 use Rattle.ufs_model.specs.declared.pointers.Address.TheVariants.{Hole, Wild, At}
 use Rattle.ufs_model.specs.declared.reads.BadRead.TheVariants.{Wild as BadWild}
 use Rattle.ufs_model.specs.declared.reads.PathRefusal.{PathRefusal}
 use Rattle.ufs_model.specs.declared.reads.PathRefusal.TheVariants.{Bad}
-use Rattle.ufs_pointer.specs.Fetches.{Fetches}
+use Rattle.ufs_pointer.specs.Fetches.{Fetches, IsNeeded, LosesOne}
 use Rattle.ufs_pointer.specs.FetchLaws.{fetches_known, fetches_map, fetches_none, fetches_then}
 use Rattle.ufs_pointer.specs.FileBlocks.{IfData}
+use Rattle.ufs_pointer.specs.KindLaws.{loses_front, loses_then}
 use Rattle.ufs_pointer.specs.declared.file_blocks.FileBlock.{FileBlock}
 use Rattle.ufs_pointer.specs.declared.file_blocks.FileBlock.TheVariants.{Data, Hole as NoData, Wild as WildData}
 
@@ -79,6 +79,18 @@ pub fetches_gone : {S : Type 0} {fetched : S → List ℕ → S → Type 0} {sta
     → Fetches fetched stands tells (file_block_of g inode n) None old new → Fetches fetched stands tells (block_of g inode n) None old new
 unfolding block_of
 fetches_gone g inode n one = fetches_none (bytes_at g) one
+
+pub lost_gone : {stands : Volume → Type 0} {tells : Type 0} {count : ℕ} {gone : ℕ → Bool} (g : Geometry) (inode : Inode) (n : ℕ)
+    → LosesOne stands tells count (IsNeeded (file_block_of g inode n)) gone → LosesOne stands tells count (IsNeeded (block_of g inode n)) gone
+unfolding block_of
+lost_gone g inode n one = loses_front (file_block_of g inode n) (bytes_at g) one
+
+pub lost_there : {stands still : Volume → Type 0} {tells told : Type 0} {before now : ℕ → Bool} {count here : ℕ} (g : Geometry) (inode : Inode) (n : ℕ) (address : Address) {A : Type 0} (answer : Option A) (gone : ℕ → Bool)
+    → here ≡ count → ((v : Volume) → stands v → still v) → (told → tells) → ReadsAs stands before tells now (file_block_of g inode n) (Some address)
+    → IfNone answer (LosesOne still told here (IsNeeded (bytes_at g address)) gone) → IfNone answer (LosesOne stands told count (IsNeeded (block_of g inode n)) gone)
+unfolding block_of
+lost_there g inode n address None gone same keeps tell read one = loses_then (bytes_at g) same keeps tell read one
+lost_there g inode n address (Some answer) gone same keeps tell read one = tt
 
 -- ---- the bytes at an address
 

@@ -8,6 +8,7 @@ use dg_io::{Loss, MemView};
 use std::alloc::Global;
 use std::test::Fail;
 use ufs_inode::{Inode, read_inode};
+use ufs_model::Endian;
 use ufs_rows::{Which, rows_image};
 use ufs_super::{Geometry, read_super};
 
@@ -387,7 +388,7 @@ fn in_volume_f(alloc: Global, n: u32, loss: Loss) -> Result<BlockAnswer, Fail>
 {
     let image = volume_f(alloc)?;
     let g = read_super(&image[8192..9568], 1024, 128)?;
-    let inode = read_inode(&image[29312..29440]).ok_or("inode")?;
+    let inode = read_inode(&image[29312..29440], g.endian).ok_or("inode")?;
     found(alloc, image, 128, &g, &inode, n, loss)
 }
 
@@ -419,7 +420,7 @@ fn read_of_volume_f(alloc: Global, n: u32, loss: Loss) -> Result<Option<FileBloc
 {
     let image = volume_f(alloc)?;
     let g = read_super(&image[8192..9568], 1024, 128)?;
-    let inode = read_inode(&image[29312..29440]).ok_or("inode")?;
+    let inode = read_inode(&image[29312..29440], g.endian).ok_or("inode")?;
     let mut view = MemView::new(image, 1024, 128, vec![in alloc; loss]?);
     let mut levels = Levels::new(alloc, 1024).ok().ok_or("levels")?;
     Ok(read_file_block(&mut view, &g, &inode, n, &mut levels))
@@ -453,7 +454,13 @@ fn blocks_of_the_volume_f(rt: HostRuntime) -> Result<(), Fail> {
     let mut view = MemView::new(volume_f(alloc)?, 1024, 128, vec![in alloc; NOTHING]?);
     let mut pointers = [0; 4096];
     assert!(rt; read_area(&mut view, 84, 4, &mut pointers));
-    assert_eq!(rt; (pointer(&pointers, 0), pointer(&pointers, 1)), (88, 0));
+    assert_eq!(rt;
+        (
+            pointer(&pointers, 0, Endian::Little),
+            pointer(&pointers, 1, Endian::Little)
+        ),
+        (88, 0)
+    );
     let mut levels = Levels::new(alloc, 1024).ok().ok_or("levels")?;
     assert!(rt; levels.read_block(&mut view, 88, 4));
     let bytes = levels.block();
@@ -477,8 +484,8 @@ fn a_block_of_data(rt: HostRuntime) -> Result<(), Fail> {
     assert!(rt; levels.block().is_empty());
     assert!(rt; levels.read_block(&mut view, 1, 2));
     assert_eq!(rt; levels.block().len(), 2048);
-    assert_eq!(rt; pointer(levels.block(), 0), 7);
-    assert_eq!(rt; pointer(levels.block(), 511), 9);
+    assert_eq!(rt; pointer(levels.block(), 0, Endian::Little), 7);
+    assert_eq!(rt; pointer(levels.block(), 511, Endian::Little), 9);
     assert!(rt; !levels.read_block(&mut view, 0, 1));
     Ok(())
 }
