@@ -7,9 +7,7 @@ use Rattle.ufs_model.specs.Claims.{IsClaim, source_fragments, source_fragments_i
 use Rattle.ufs_model.specs.Claims.IsClaim.{by_pointer, by_slot}
 use Rattle.ufs_model.specs.declared.claims.ClaimSource.{ClaimSource}
 use Rattle.ufs_model.specs.declared.claims.ClaimSource.TheVariants.{Pointer, Slot}
-use Rattle.dg_claims.specs.Readers.{IsTableOf}
-use Rattle.dg_claims.specs.Tables.{ClaimTable}
-use Rattle.ufs_check.specs.Fragments.{HasClaims}
+use Rattle.dg_claims.specs.Tables.{ClaimTable, IsTableOf}
 use Rattle.ufs_model.specs.Malformations.{IsBadBy, IsFirstMalformation, IsMalformed, IsSoundVolume}
 use Rattle.ufs_model.specs.Metadata.{IsMetadataBy, IsStructure}
 use Rattle.ufs_model.specs.Metadata.IsMetadata.{by_geometry, of_superblock}
@@ -19,6 +17,7 @@ use Rattle.ufs_model.specs.declared.geometries.BadSuper.{BadSuper}
 use Rattle.ufs_model.specs.declared.geometries.Geometry.{Geometry}
 use Rattle.ufs_model.specs.declared.malformations.BadKind.{BadKind}
 use Rattle.ufs_model.specs.declared.malformations.BadKind.TheVariants.{Super}
+use Rattle.ufs_check.specs.Fragments.{HasClaimsOf}
 use Rattle.ufs_check.specs.Verdicts.{Judges}
 use Rattle.ufs_check.specs.declared.verdicts.Verdict.TheVariants.{Malformed, Sound}
 
@@ -65,10 +64,8 @@ volume_target : (l n : ℕ) (g : Geometry) (v : Volume) → (geometry_of l n v).
 unfolding volume_fragments
 volume_target l n g v is source = ap (λ r. source_fragments_in v r source) is
 
-pub table_claims : (l n : ℕ) (g : Geometry) (v : Volume) (table : ClaimTable) → (geometry_of l n v).value ≡ Ok g → IsTableOf l n v table → HasClaims g table v
-table_claims l n g v table is has = record {
-  claims = λ f source. (
-    λ listed. claim_along (volume_fragments l n v) (source_fragments g v) (volume_target l n g v is) ((has.claims f source).0 listed),
-    λ claim. (has.claims f source).1 (claim_along (source_fragments g v) (volume_fragments l n v) (λ s. sym (volume_target l n g v is s)) claim),
-  );
-}
+pub table_claims : (l n : ℕ) (g : Geometry) (v : Volume) (table : ClaimTable) → (geometry_of l n v).value ≡ Ok g → IsTableOf l n v table → HasClaimsOf g table v
+table_claims l n g v table is has = λ f source. (
+  λ listed. claim_along (volume_fragments l n v) (source_fragments g v) (volume_target l n g v is) ((has.claims f source).0 listed),
+  λ claim. (has.claims f source).1 (claim_along (source_fragments g v) (volume_fragments l n v) (λ s. sym (volume_target l n g v is s)) claim),
+)

@@ -15,8 +15,8 @@ use Rattle.ufs_model.specs.declared.claims.ClaimSource.{ClaimSource}
 use Rattle.ufs_model.specs.declared.claims.ClaimSource.TheVariants.{Slot, Pointer}
 use Rattle.ufs_model.specs.declared.geometries.Geometry.{Geometry}
 use Rattle.dg_claims.specs.Kept.{size_in}
-use Rattle.dg_claims.specs.Tables.{ClaimTable, claims_in}
-use Rattle.ufs_check.specs.Fragments.{HasClaims, IsClaimedBy, IsUpperIn}
+use Rattle.dg_claims.specs.Tables.{ClaimTable, TableClaims}
+use Rattle.ufs_check.specs.Fragments.{HasClaimsOf, IsClaimedBy, IsUpperIn}
 use Rattle.ufs_pointer.specs.Fetches.{FetchesOnly, LosesOne}
 use Rattle.ufs_check.proofs.PassLaws.{lost_told, only_told}
 
@@ -27,8 +27,8 @@ three_left n above most one two = omega (arith, one, two)
 
 -- levels above 0 are 1, 2 and 3
 pub upper_last : (table : ClaimTable) (f : ℕ) (one two three : Bool) → ((source : ClaimSource) → Contains (table.claimed source) f → level_of source ≤ 3)
-    → Decides one (IsClaimedAt (claims_in table) 1 f) → one ≡ false → Decides two (IsClaimedAt (claims_in table) 2 f) → two ≡ false
-    → Decides three (IsClaimedAt (claims_in table) 3 f) → Decides three (IsUpperIn table f)
+    → Decides one (IsClaimedAt (TableClaims table) 1 f) → one ≡ false → Decides two (IsClaimedAt (TableClaims table) 2 f) → two ≡ false
+    → Decides three (IsClaimedAt (TableClaims table) 3 f) → Decides three (IsUpperIn table f)
 upper_last table f one two three levels first no_first second no_second third = (
   λ is. let at = third.0 is in let level = at.is in (at.source, omega arith, at.claim),
   λ upper. third.1 (record {
@@ -42,34 +42,34 @@ upper_last table f one two three levels first no_first second no_second third = 
 
 -- ---- claims of the volume
 
-pub claim_inside : (g : Geometry) (table : ClaimTable) (v : Volume) (f : ℕ) (source : ClaimSource) → HasClaims g table v → table.geometry ≡ Some g
+pub claim_inside : (g : Geometry) (table : ClaimTable) (v : Volume) (f : ℕ) (source : ClaimSource) → HasClaimsOf g table v → table.geometry ≡ Some g
     → ((f : ℕ) (source : ClaimSource) → Contains (table.claimed source) f → f < size_in table.geometry) → IsClaim (source_fragments g v) f source → f < g.size
-claim_inside g table v f source has is inside claim = subst (λ geometry. f < size_in geometry) is (inside f source ((has.claims f source).1 claim))
+claim_inside g table v f source has is inside claim = subst (λ geometry. f < size_in geometry) is (inside f source ((has f source).1 claim))
 
 -- some level above 0
 abbrev pub IsUpperOf : Geometry → Volume → ℕ → Type 0
 IsUpperOf g v f = (level : ℕ) × IsUpper g v f level
 
-pub upper_of : (g : Geometry) (table : ClaimTable) (v : Volume) (f : ℕ) → HasClaims g table v → IsUpperIn table f → IsUpperOf g v f
+pub upper_of : (g : Geometry) (table : ClaimTable) (v : Volume) (f : ℕ) → HasClaimsOf g table v → IsUpperIn table f → IsUpperOf g v f
 upper_of g table v f has upper = (
   level_of (upper.0),
   record {
     source = upper.0;
-    claim = (has.claims f (upper.0)).0 (upper.2);
+    claim = (has f (upper.0)).0 (upper.2);
     of_level = refl;
     above = upper.1;
   },
 )
 
-pub upper_in : (g : Geometry) (table : ClaimTable) (v : Volume) (f level : ℕ) → HasClaims g table v → IsUpper g v f level → IsUpperIn table f
+pub upper_in : (g : Geometry) (table : ClaimTable) (v : Volume) (f level : ℕ) → HasClaimsOf g table v → IsUpper g v f level → IsUpperIn table f
 upper_in g table v f level has upper = (
   upper.source,
   (let above = upper.above in let of_level = upper.of_level in omega arith),
-  (has.claims f (upper.source)).1 upper.claim,
+  (has f (upper.source)).1 upper.claim,
 )
 
-pub upper_metadata : (g : Geometry) (table : ClaimTable) (v : Volume) (f : ℕ) → IsUpperIn table f → HasClaims g table v → IsMetadataBy g v f
-upper_metadata g table v f upper has = of_indirect (upper.0) ((has.claims f (upper.0)).0 (upper.2)) (upper.1)
+pub upper_metadata : (g : Geometry) (table : ClaimTable) (v : Volume) (f : ℕ) → IsUpperIn table f → HasClaimsOf g table v → IsMetadataBy g v f
+upper_metadata g table v f upper has = of_indirect (upper.0) ((has f (upper.0)).0 (upper.2)) (upper.1)
 
 -- ---- fragments with two claims
 
@@ -102,7 +102,7 @@ at_least_two sources number is long = grind (arith, nat_tests)
 two_at_least : (sources : List ClaimSource) (number : ℕ) → length sources ≡ number → nat_le 2 number ≡ true → 2 ≤ length sources
 two_at_least sources number is test = grind (arith, nat_tests)
 
-pub twice_decides : (g : Geometry) (table : ClaimTable) (v : Volume) (f number : ℕ) → HasClaims g table v → HasClaimCount (claims_in table) f number
+pub twice_decides : (g : Geometry) (table : ClaimTable) (v : Volume) (f number : ℕ) → HasClaimsOf g table v → HasClaimCount (TableClaims table) f number
     → Decides (nat_le 2 number) (HasTwoClaims g v f)
 twice_decides g table v f number has all = (
   λ test.
@@ -110,53 +110,13 @@ twice_decides g table v f number has all = (
         one = two.0;
         other = two.1;
         differ = two.2;
-        first = (has.claims f (two.0)).0 ((all.are.each (two.0)).0 (two.3));
-        second = (has.claims f (two.1)).0 ((all.are.each (two.1)).0 (two.4));
+        first = (has f (two.0)).0 ((all.are.each (two.0)).0 (two.3));
+        second = (has f (two.1)).0 ((all.are.each (two.1)).0 (two.4));
       },
   λ two. at_least_two (all.sources) number all.number
-      (two_long (all.sources) (two.one) (two.other) ((all.are.each (two.one)).1 ((has.claims f (two.one)).1 two.first))
-      ((all.are.each (two.other)).1 ((has.claims f (two.other)).1 two.second)) two.differ),
+      (two_long (all.sources) (two.one) (two.other) ((all.are.each (two.one)).1 ((has f (two.one)).1 two.first))
+      ((all.are.each (two.other)).1 ((has f (two.other)).1 two.second)) two.differ),
 )
-
--- ---- fragments with one claim
-
-one_by : (claims : ℕ → ClaimSource → Type 0) (f : ℕ) (sources : List ClaimSource) → AreClaimsOn claims f sources → length sources ≡ 1 → (source : ClaimSource) × AreClaimsOn claims f (source ∷ [])
-one_by claims f [] are one = absurd (omega arith)
-one_by claims f (a ∷ []) are one = (a, are)
-one_by claims f (a ∷ b ∷ rest) are one = absurd (omega arith)
-
-pub one_source : (claims : ℕ → ClaimSource → Type 0) (f number : ℕ) → HasClaimCount claims f number → number ≡ 1 → (source : ClaimSource) × AreClaimsOn claims f (source ∷ [])
-one_source claims f number all one = one_by claims f (all.sources) all.are (all.number ∙ one)
-
-pub alone : (claims : ℕ → ClaimSource → Type 0) (f : ℕ) (source : ClaimSource) → AreClaimsOn claims f (source ∷ []) → IsOnlyClaim claims f source
-alone claims f source are = record {
-  claim = (are.each source).0 (0, omega arith, refl);
-  only = λ other claim.
-      let h = (are.each other).1 claim in
-      let first : h.0 ≡ 0 = let lt = h.1 in omega arith in
-      sym (rw first at h.2);
-}
-
-count_by : (claims : ℕ → ClaimSource → Type 0) (f : ℕ) (source : ClaimSource) (sources : List ClaimSource) → AreClaimsOn claims f sources → IsOnlyClaim claims f source → length sources ≡ 1
-count_by claims f source [] are one = let h = (are.each source).1 one.claim in let lt = h.1 in absurd (omega arith)
-count_by claims f source (a ∷ []) are one = refl
-count_by claims f source (a ∷ b ∷ rest) are one =
-    let first : a ≡ source = one.only a ((are.each a).0 (0, omega arith, refl)) in
-    let second : b ≡ source = one.only b ((are.each b).0 (1, omega arith, refl)) in
-    absurd (not_before b (subst (λ s. is_earlier_claim s b ≡ true) (first ∙ sym second) (are.ordered 0 1 a (omega arith) (omega arith))))
-
-pub only_count : (claims : ℕ → ClaimSource → Type 0) (f number : ℕ) (source : ClaimSource) → HasClaimCount claims f number → IsOnlyClaim claims f source → number ≡ 1
-only_count claims f number source all one = sym all.number ∙ count_by claims f source (all.sources) all.are one
-
-abbrev source_in : ClaimSource → Option (ℕ × ClaimSource) → ClaimSource
-source_in other None = other
-source_in other (Some claim) = claim.1
-
-abbrev sourced : ℕ → ClaimSource → Option (ℕ × ClaimSource)
-sourced level source = Some (level, source)
-
-pub same_source : (level other : ℕ) (one two : ClaimSource) → sourced level one ≡ sourced other two → two ≡ one
-same_source level other one two is = sym (ap (source_in one) is)
 
 -- ---- claimed fragments that are marked free
 
@@ -174,14 +134,14 @@ one_long [] source h = let lt = h.1 in absurd (omega arith)
 one_long (a ∷ rest) source h = omega arith
 
 -- a fragment with a claim
-pub free_claimed : (g : Geometry) (table : ClaimTable) (v : Volume) (f number : ℕ) (marked : Bool) → HasClaims g table v → HasClaimCount (claims_in table) f number → 1 ≤ number
+pub free_claimed : (g : Geometry) (table : ClaimTable) (v : Volume) (f number : ℕ) (marked : Bool) → HasClaimsOf g table v → HasClaimCount (TableClaims table) f number → 1 ≤ number
     → (is_marked_free g f v).value ≡ marked → Decides marked (IsFree g v f)
 free_claimed g table v f number marked has all some is = (
   λ test.
       let number_is = all.number in
       let one = one_of (all.sources) (omega arith) in record {
         source = one.0;
-        claim = (has.claims f (one.0)).0 ((all.are.each (one.0)).0 (one.1));
+        claim = (has f (one.0)).0 ((all.are.each (one.0)).0 (one.1));
         free = is ∙ test;
       },
   λ free. sym is ∙ free.free,
@@ -191,13 +151,13 @@ not_some : (number : ℕ) → number < 1 → nat_le 1 number ≡ true → ⊥
 not_some number none test = grind (arith, nat_tests)
 
 -- a fragment without one
-pub free_unclaimed : (g : Geometry) (table : ClaimTable) (v : Volume) (f number : ℕ) → HasClaims g table v → HasClaimCount (claims_in table) f number → number < 1
+pub free_unclaimed : (g : Geometry) (table : ClaimTable) (v : Volume) (f number : ℕ) → HasClaimsOf g table v → HasClaimCount (TableClaims table) f number → number < 1
     → Decides (nat_le 1 number) (IsFree g v f)
 free_unclaimed g table v f number has all none = (
   λ test. absurd (not_some number none test),
   λ free.
       let number_is = all.number in
-      let long = one_long (all.sources) (free.source) ((all.are.each (free.source)).1 ((has.claims f (free.source)).1 free.claim)) in
+      let long = one_long (all.sources) (free.source) ((all.are.each (free.source)).1 ((has f (free.source)).1 free.claim)) in
       absurd (omega arith),
 )
 

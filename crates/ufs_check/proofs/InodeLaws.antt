@@ -17,11 +17,11 @@ one_block l a = let e : a + 0 ≡ a = omega arith in rw e refl
 
 -- ---- where an inode stands
 
-pub inode_there : (g : Geometry) (v : Volume) (i start : ℕ) (block bytes : List ℕ) → 2 ≤ i → i < g.ncg * g.ipg → start ≡ inode_byte g i
-    → block ≡ block_at g.fsize v (inode_block g i) → bytes ≡ take 128 (drop start block) → inode_at g v i ≡ inode_in g.endian bytes
+pub inode_there : (g : Geometry) (v : Volume) (i start : ℕ) (block : List ℕ) → 2 ≤ i → i < g.ncg * g.ipg → start ≡ inode_byte g i
+    → block ≡ block_at g.fsize v (inode_block g i) → inode_at g v i ≡ inode_in g.endian (take 128 (drop start block))
 unfolding inode_of bind
-inode_there g v i start block bytes low high at is part =
-    let within : is_inode_number g i ≡ true = grind (arith, nat_tests) in rw (within, part, at, is) refl
+inode_there g v i start block low high at is =
+    let within : is_inode_number g i ≡ true = grind (arith, nat_tests) in rw (within, at, is) refl
 
 pub marked_there : (g : Geometry) (v : Volume) (i : ℕ) (bytes : List ℕ) → bytes ≡ (group_bytes g (i / g.ipg) v).value
     → (is_marked_unused g i v).value ≡ by_maps (group_in g (i / g.ipg) bytes) (λ group. not (is_used bytes group (i % g.ipg)))

@@ -138,9 +138,12 @@ bad_by g v bound i (Some None) test named last h tests = (
 )
 bad_by g v bound i (Some (Some p)) test named last h tests =
     Decides-like (not (test p))
-    (λ no. ((h.entries, h.are), λ dots.
-    no (subst (λ p. IsUp g v i p) (fit_once i (h.entries) ((dots.up).inode) p (dots_fit_them g v i (h.entries) named h.are dots) h.up_is)
-    ((dots.is_up (named i 1 (dots.up) dots.second)).1))))
+    (λ no. (
+      (h.entries, h.are),
+      λ dots.
+          no (subst (λ p. IsUp g v i p) (fit_once i (h.entries) ((dots.up).inode) p (dots_fit_them g v i (h.entries) named h.are dots) h.up_is)
+          ((dots.is_up (named i 1 (dots.up) dots.second)).1)),
+    ))
     (λ bad up. bad.1 (has_dots g v i p (h.entries) h.are h.up_is up))
     (Decides-not (test p) (tests p))
 

@@ -15,7 +15,7 @@ use Rattle.dg_claims.specs.Tables.{ClaimTable}
 use Rattle.ufs_check.proofs.ClaimLaws.{claim_inside, upper_in, upper_of}
 use Rattle.ufs_check.proofs.ReachLaws.{pointer_owner, reach_upper}
 use Rattle.ufs_check.proofs.LeastLaws.{least_all, least_same}
-use Rattle.ufs_check.specs.Fragments.{AreFragmentFaults, AreFragmentFaultsBelow, ArePointerFaultsBelow, HasClaims, HasWholeUppers, IsUpperIn}
+use Rattle.ufs_check.specs.Fragments.{AreFragmentFaults, AreFragmentFaultsBelow, ArePointerFaultsBelow, HasClaimsOf, HasWholeUppers, IsUpperIn}
 use Rattle.ufs_check.specs.Least.{IsLeast, IsLeastBelow}
 use Rattle.ufs_check.specs.Limits.{IsLimit}
 use Rattle.ufs_check.specs.Pointers.{HasMisalignedPointer, HasPastPointer, HasWildPointer}
@@ -23,7 +23,7 @@ use Rattle.ufs_check.specs.Reaches.{HasNoTwice}
 use Rattle.ufs_check.specs.declared.limits.Limit.{Limit}
 use Rattle.ufs_check.specs.declared.verdicts.FragmentFaults.{FragmentFaults}
 
-pub wild_decides : (g : Geometry) (table : ClaimTable) (v : Volume) (f : ℕ) (bytes : List ℕ) (b : Bool) → HasClaims g table v → IsUpperIn table f → bytes ≡ block_at g.fsize v f
+pub wild_decides : (g : Geometry) (table : ClaimTable) (v : Volume) (f : ℕ) (bytes : List ℕ) (b : Bool) → HasClaimsOf g table v → IsUpperIn table f → bytes ≡ block_at g.fsize v f
     → Decides b (HasWildPointer g bytes) → Decides b (HasWildIn g v f)
 wild_decides g table v f bytes b has upper is decides =
     let above = upper_of g table v f has upper in (
@@ -42,7 +42,7 @@ wild_decides g table v f bytes b has upper is decides =
       }),
     )
 
-pub misaligned_decides : (g : Geometry) (table : ClaimTable) (v : Volume) (f : ℕ) (bytes : List ℕ) (b : Bool) → HasClaims g table v → IsUpperIn table f → bytes ≡ block_at g.fsize v f
+pub misaligned_decides : (g : Geometry) (table : ClaimTable) (v : Volume) (f : ℕ) (bytes : List ℕ) (b : Bool) → HasClaimsOf g table v → IsUpperIn table f → bytes ≡ block_at g.fsize v f
     → Decides b (HasMisalignedPointer g bytes) → Decides b (HasMisalignedIn g v f)
 misaligned_decides g table v f bytes b has upper is decides =
     let above = upper_of g table v f has upper in (
@@ -95,7 +95,7 @@ past_decides g v f bytes limit b once is limits decides = (
 )
 
 -- a fragment of data has no pointers
-pub no_pointers : (g : Geometry) (table : ClaimTable) (v : Volume) (f : ℕ) (faults : FragmentFaults) → HasClaims g table v → (IsUpperIn table f → ⊥)
+pub no_pointers : (g : Geometry) (table : ClaimTable) (v : Volume) (f : ℕ) (faults : FragmentFaults) → HasClaimsOf g table v → (IsUpperIn table f → ⊥)
     → ArePointerFaultsBelow g v f faults → ArePointerFaultsBelow g v (f + 1) faults
 no_pointers g table v f faults has lower so_far = record {
   wild_in = least_next f (IsBad g v WildIn) faults.wild_in (λ one. lower (upper_in g table v f (one.level) has one.upper)) so_far.wild_in;
@@ -107,7 +107,7 @@ least_none_at : (holds : ℕ → Type 0) (r : Option ℕ) → r ≡ None → IsL
 least_none_at holds r empty least = subst (IsLeast holds) empty least
 
 -- no fault is past the volume's end
-pub faults_all : (g : Geometry) (table : ClaimTable) (v : Volume) (bound : ℕ) (faults : FragmentFaults) → HasClaims g table v → table.geometry ≡ Some g
+pub faults_all : (g : Geometry) (table : ClaimTable) (v : Volume) (bound : ℕ) (faults : FragmentFaults) → HasClaimsOf g table v → table.geometry ≡ Some g
     → ((f : ℕ) (source : ClaimSource) → Contains (table.claimed source) f → f < size_in table.geometry) → g.size ≤ bound
     → AreFragmentFaultsBelow g v bound faults → AreFragmentFaults g v faults
 faults_all g table v bound faults has is inside end so_far =
@@ -134,9 +134,9 @@ uppers_more g table v f below here m lt upper = elim (cases_order m f) [
   | inr other ↦ elim other [ inl less ↦ below m less upper | inr greater ↦ absurd (omega arith) ]
 ]
 
-pub uppers_all : (g : Geometry) (table : ClaimTable) (v : Volume) (bound : ℕ) → HasClaims g table v → table.geometry ≡ Some g
+pub uppers_all : (g : Geometry) (table : ClaimTable) (v : Volume) (bound : ℕ) → HasClaimsOf g table v → table.geometry ≡ Some g
     → ((f : ℕ) (source : ClaimSource) → Contains (table.claimed source) f → f < size_in table.geometry) → g.size ≤ bound
     → ((m : ℕ) → m < bound → IsUpperIn table m → length (block_at g.fsize v m) ≡ g.fsize) → HasWholeUppers g v
 uppers_all g table v bound has is inside end below = λ f source claim above.
     let lt = claim_inside g table v f source has is inside claim in
-    below f (omega arith) (source, above, (has.claims f source).1 claim)
+    below f (omega arith) (source, above, (has f source).1 claim)

@@ -13,9 +13,9 @@ use Rattle.ufs_model.specs.Malformations.FirstBlock.{of_pointer, of_slot}
 use Rattle.ufs_model.specs.declared.claims.ClaimSource.{ClaimSource}
 use Rattle.ufs_model.specs.declared.claims.ClaimSource.TheVariants.{Slot, Pointer}
 use Rattle.ufs_model.specs.declared.geometries.Geometry.{Geometry}
-use Rattle.dg_claims.specs.Tables.{ClaimTable, IsSource, claims_in}
+use Rattle.dg_claims.specs.Tables.{ClaimTable, IsSource, TableClaims}
 use Rattle.ufs_check.proofs.RunLaws.{contains_from, contains_got, from_contains, from_get, get_from, upper_run}
-use Rattle.ufs_check.specs.Fragments.{HasClaims, IsUpperIn}
+use Rattle.ufs_check.specs.Fragments.{HasClaimsOf, IsUpperIn}
 use Rattle.ufs_check.specs.Reaches.{HasNoTwice, IsBefore, IsPlaceIn, IsReach, ReachesAs}
 use Rattle.ufs_check.specs.declared.reaches.Reach.{Reach}
 
@@ -36,13 +36,13 @@ same_or_not (Pointer f level at) (Pointer h other to) = elim (cases_eq f h) [
   | inr ne ↦ inr (λ e. ne (cc))
 ]
 
-pub only_claim : (g : Geometry) (table : ClaimTable) (v : Volume) (f : ℕ) (source : ClaimSource) → HasClaims g table v → HasNoTwice g v
-    → IsClaim (source_fragments g v) f source → IsOnlyClaim (claims_in table) f source
+pub only_claim : (g : Geometry) (table : ClaimTable) (v : Volume) (f : ℕ) (source : ClaimSource) → HasClaimsOf g table v → HasNoTwice g v
+    → IsClaim (source_fragments g v) f source → IsOnlyClaim (TableClaims table) f source
 only_claim g table v f source has none claim = record {
-  claim = (has.claims f source).1 claim;
+  claim = (has f source).1 claim;
   only = λ other h. elim (same_or_not other source) [
     | inl e ↦ e
-    | inr ne ↦ absurd (none f (record { one = other; other = source; differ = ne; first = (has.claims f other).0 h; second = claim }))
+    | inr ne ↦ absurd (none f (record { one = other; other = source; differ = ne; first = (has f other).0 h; second = claim }))
   ];
 }
 
@@ -118,17 +118,17 @@ place_by g v source f a claims (Some place) run within outside low high is =
     let here : f ≡ a + place = place_some claims source f a g.frag place within outside low high (at.1) (at.2) in
     rw (run, here) (get_from a g.frag place (at.0))
 
-pub placed : (g : Geometry) (table : ClaimTable) (v : Volume) (source : ClaimSource) (f : ℕ) (r : Option ℕ) → HasClaims g table v → HasNoTwice g v
-    → IsClaim (source_fragments g v) f source → 0 < level_of source → IsPlaceIn (claims_in table) source f g.frag r → IsPlaced g v source f r
+pub placed : (g : Geometry) (table : ClaimTable) (v : Volume) (source : ClaimSource) (f : ℕ) (r : Option ℕ) → HasClaimsOf g table v → HasNoTwice g v
+    → IsClaim (source_fragments g v) f source → 0 < level_of source → IsPlaceIn (TableClaims table) source f g.frag r → IsPlaced g v source f r
 placed g table v source f r has none claim above place =
     let run = upper_run g v source f above (claim_contains (source_fragments g v) f source claim) in
     let inside = from_contains (run.0) g.frag f (subst (λ xs. Contains xs f) (run.1) (claim_contains (source_fragments g v) f source claim)) in
     let within = λ (x : ℕ) (low : run.0 ≤ x) (high : x < run.0 + g.frag).
     only_claim g table v x source has none
     (same_claim (source_fragments g v) f x source claim (subst (λ xs. Contains xs x) (sym (run.1)) (contains_from (run.0) g.frag x low high))) in
-    let outside = λ (x : ℕ) (one : IsOnlyClaim (claims_in table) x source).
-    (from_contains (run.0) g.frag x (subst (λ xs. Contains xs x) (run.1) (claim_contains (source_fragments g v) x source ((has.claims x source).0 one.claim)))).0 in
-    place_by g v source f (run.0) (claims_in table) r (run.1) within outside (inside.0) (inside.1) place
+    let outside = λ (x : ℕ) (one : IsOnlyClaim (TableClaims table) x source).
+    (from_contains (run.0) g.frag x (subst (λ xs. Contains xs x) (run.1) (claim_contains (source_fragments g v) x source ((has x source).0 one.claim)))).0 in
+    place_by g v source f (run.0) (TableClaims table) r (run.1) within outside (inside.0) (inside.1) place
 
 -- ---- a pointer, by what is above it
 
@@ -158,9 +158,9 @@ above_of g v f level at i n (of_pointer {n = m} {source = source} place before h
 above_claim : (g : Geometry) (v : Volume) (f level at i n : ℕ) (up : IsAbove g v f level at i n) → IsClaim (source_fragments g v) f (up.source)
 above_claim g v f level at i n up = reach_claim g v (up.source) i (up.m) f up.before (contains_got (source_fragments g v (up.source)) (up.place) f up.here)
 
-above_same : (g : Geometry) (table : ClaimTable) (v : Volume) (f level at i n : ℕ) (source : ClaimSource) → HasClaims g table v → IsOnlyClaim (claims_in table) f source
+above_same : (g : Geometry) (table : ClaimTable) (v : Volume) (f level at i n : ℕ) (source : ClaimSource) → HasClaimsOf g table v → IsOnlyClaim (TableClaims table) f source
     → (up : IsAbove g v f level at i n) → up.source ≡ source
-above_same g table v f level at i n source has one up = one.only (up.source) ((has.claims f (up.source)).1 (above_claim g v f level at i n up))
+above_same g table v f level at i n source has one up = one.only (up.source) ((has f (up.source)).1 (above_claim g v f level at i n up))
 
 -- ---- what is reached through a source
 
@@ -191,27 +191,27 @@ reaches_none g v source f level at r is empty none =
 
 -- the fragment of the pointer has no claim, or more than one
 pub reaches_no_claim : (g : Geometry) (table : ClaimTable) (v : Volume) (source : ClaimSource) (f level at : ℕ) (r : Option (ℕ × ℕ)) → source ≡ Pointer f level at → r ≡ None
-    → HasClaims g table v → HasNoTwice g v → ((upper : ClaimSource) → IsOnlyClaim (claims_in table) f upper → ⊥) → ReachesAs g v source r
+    → HasClaimsOf g table v → HasNoTwice g v → ((upper : ClaimSource) → IsOnlyClaim (TableClaims table) f upper → ⊥) → ReachesAs g v source r
 reaches_no_claim g table v source f level at r is empty has once none =
     reaches_none g v source f level at r is empty (λ i n up. none (up.source) (only_claim g table v f (up.source) has once (above_claim g v f level at i n up)))
 
 -- its claim is at another level
 pub reaches_other_level : (g : Geometry) (table : ClaimTable) (v : Volume) (source upper : ClaimSource) (f level at : ℕ) (r : Option (ℕ × ℕ)) → source ≡ Pointer f level at → r ≡ None
-    → HasClaims g table v → IsOnlyClaim (claims_in table) f upper → (level_of upper ≡ level → ⊥) → ReachesAs g v source r
+    → HasClaimsOf g table v → IsOnlyClaim (TableClaims table) f upper → (level_of upper ≡ level → ⊥) → ReachesAs g v source r
 reaches_other_level g table v source upper f level at r is empty has one differ =
     reaches_none g v source f level at r is empty
     (λ i n up. differ (ap level_of (sym (above_same g table v f level at i n upper has one up)) ∙ up.of_level))
 
 -- its source claims no such run
 pub reaches_no_place : (g : Geometry) (table : ClaimTable) (v : Volume) (source upper : ClaimSource) (f level at : ℕ) (r : Option (ℕ × ℕ)) → source ≡ Pointer f level at → r ≡ None
-    → HasClaims g table v → HasNoTwice g v → IsOnlyClaim (claims_in table) f upper → 0 < level_of upper → IsPlaceIn (claims_in table) upper f g.frag None → ReachesAs g v source r
+    → HasClaimsOf g table v → HasNoTwice g v → IsOnlyClaim (TableClaims table) f upper → 0 < level_of upper → IsPlaceIn (TableClaims table) upper f g.frag None → ReachesAs g v source r
 reaches_no_place g table v source upper f level at r is empty has once one above place =
     reaches_none g v source f level at r is empty
-    (λ i n up. placed g table v upper f None has once ((has.claims f upper).0 one.claim) above place)
+    (λ i n up. placed g table v upper f None has once ((has f upper).0 one.claim) above place)
 
 -- nothing is reached through its source
 pub reaches_no_upper : (g : Geometry) (table : ClaimTable) (v : Volume) (source upper : ClaimSource) (f level at : ℕ) (r : Option (ℕ × ℕ)) → source ≡ Pointer f level at → r ≡ None
-    → HasClaims g table v → IsOnlyClaim (claims_in table) f upper → ReachesAs g v upper None → ReachesAs g v source r
+    → HasClaimsOf g table v → IsOnlyClaim (TableClaims table) f upper → ReachesAs g v upper None → ReachesAs g v source r
 reaches_no_upper g table v source upper f level at r is empty has one reach =
     reaches_none g v source f level at r is empty (λ i n up.
     let same = above_same g table v f level at i n upper has one up in
@@ -227,10 +227,10 @@ one_place g v source f one other above first second =
     omega arith
 
 pub reaches_through : (g : Geometry) (table : ClaimTable) (v : Volume) (source upper : ClaimSource) (f level at place i n before : ℕ) → source ≡ Pointer f level at
-    → HasClaims g table v → HasNoTwice g v → IsOnlyClaim (claims_in table) f upper → level_of upper ≡ level → 0 < level → IsPlaceIn (claims_in table) upper f g.frag (Some place)
+    → HasClaimsOf g table v → HasNoTwice g v → IsOnlyClaim (TableClaims table) f upper → level_of upper ≡ level → 0 < level → IsPlaceIn (TableClaims table) upper f g.frag (Some place)
     → ReachesAs g v upper (Some (i, n)) → before ≡ (place * (g.fsize / 4) + at) * g.nindir ^ (level - 1) → ReachesAs g v source (Some (i, n + before))
 reaches_through g table v source upper f level at place i n before is has once one of_level above place_is reach value =
-    let claim = (has.claims f upper).0 one.claim in
+    let claim = (has f upper).0 one.claim in
     let here : slice_get (source_fragments g v upper) place ≡ Some f = placed g table v upper f (Some place) has once claim (rw of_level above) place_is in
     rw (is, value) (record {
       is = of_pointer place reach.is here of_level above;
@@ -252,12 +252,12 @@ claimed_decides claims f other source b one same =
     (λ test. subst (λ s. IsOnlyClaim claims f s) (same.0 test) one, λ two. same.1 (two.only other one.claim))
 
 -- a fragment through whose pointers blocks are reached is one of an indirect block
-pub reach_upper : (g : Geometry) (table : ClaimTable) (v : Volume) (f level at i n : ℕ) → HasClaims g table v → FirstBlock g v (Pointer f level at) i n → IsUpperIn table f
+pub reach_upper : (g : Geometry) (table : ClaimTable) (v : Volume) (f level at i n : ℕ) → HasClaimsOf g table v → FirstBlock g v (Pointer f level at) i n → IsUpperIn table f
 reach_upper g table v f level at i n has h =
     let up = above_of g v f level at i n h in (
       up.source,
       (let of_level = up.of_level in let above = up.above in omega arith),
-      (has.claims f (up.source)).1 (above_claim g v f level at i n up),
+      (has f (up.source)).1 (above_claim g v f level at i n up),
     )
 
 -- the owner of such a fragment is the inode that is reached
@@ -276,13 +276,13 @@ reach_none g v f r empty none = rw empty (record {
   some = λ level at i n h e. none level at i n (above_of g v f level at i n h);
 })
 
-pub reach_no_claim : (g : Geometry) (table : ClaimTable) (v : Volume) (f : ℕ) (r : Option Reach) → r ≡ None → HasClaims g table v → HasNoTwice g v
-    → ((source : ClaimSource) → IsOnlyClaim (claims_in table) f source → ⊥) → IsReach g v f r
+pub reach_no_claim : (g : Geometry) (table : ClaimTable) (v : Volume) (f : ℕ) (r : Option Reach) → r ≡ None → HasClaimsOf g table v → HasNoTwice g v
+    → ((source : ClaimSource) → IsOnlyClaim (TableClaims table) f source → ⊥) → IsReach g v f r
 reach_no_claim g table v f r empty has once none =
     reach_none g v f r empty (λ level at i n up. none (up.source) (only_claim g table v f (up.source) has once (above_claim g v f level at i n up)))
 
-pub reach_data : (g : Geometry) (table : ClaimTable) (v : Volume) (f : ℕ) (source : ClaimSource) (r : Option Reach) → r ≡ None → HasClaims g table v
-    → IsOnlyClaim (claims_in table) f source → level_of source ≡ 0 → IsReach g v f r
+pub reach_data : (g : Geometry) (table : ClaimTable) (v : Volume) (f : ℕ) (source : ClaimSource) (r : Option Reach) → r ≡ None → HasClaimsOf g table v
+    → IsOnlyClaim (TableClaims table) f source → level_of source ≡ 0 → IsReach g v f r
 reach_data g table v f source r empty has one data_level =
     reach_none g v f r empty (λ level at i n up.
     let same = ap level_of (above_same g table v f level at i n source has one up) in
@@ -291,7 +291,7 @@ reach_data g table v f source r empty has one data_level =
     omega arith)
 
 -- the level of what is above a fragment
-above_level : (g : Geometry) (table : ClaimTable) (v : Volume) (f level other at i n : ℕ) (source : ClaimSource) → HasClaims g table v → IsOnlyClaim (claims_in table) f source → level ≡ level_of source
+above_level : (g : Geometry) (table : ClaimTable) (v : Volume) (f level other at i n : ℕ) (source : ClaimSource) → HasClaimsOf g table v → IsOnlyClaim (TableClaims table) f source → level ≡ level_of source
     → IsAbove g v f other at i n → other ≡ level
 above_level g table v f level other at i n source has one is up =
     sym up.of_level ∙ ap level_of (above_same g table v f other at i n source has one up) ∙ sym is
@@ -301,8 +301,8 @@ first_pointer : (g : Geometry) (v : Volume) (f level at i n : ℕ) (up : IsAbove
     → FirstBlock g v (Pointer f level 0) i (up.m + (up.place * (g.fsize / 4) + 0) * g.nindir ^ (level - 1))
 first_pointer g v f level at i n up = of_pointer (up.place) up.before up.here up.of_level up.above
 
-pub reach_no_upper : (g : Geometry) (table : ClaimTable) (v : Volume) (f level : ℕ) (source : ClaimSource) (r : Option Reach) → r ≡ None → HasClaims g table v
-    → IsOnlyClaim (claims_in table) f source → level ≡ level_of source → ReachesAs g v (Pointer f level 0) None → IsReach g v f r
+pub reach_no_upper : (g : Geometry) (table : ClaimTable) (v : Volume) (f level : ℕ) (source : ClaimSource) (r : Option Reach) → r ≡ None → HasClaimsOf g table v
+    → IsOnlyClaim (TableClaims table) f source → level ≡ level_of source → ReachesAs g v (Pointer f level 0) None → IsReach g v f r
 reach_no_upper g table v f level source r empty has one is reach =
     reach_none g v f r empty (λ other at i n up0.
     let up : IsAbove g v f level at i n = subst (λ l. IsAbove g v f l at i n) (above_level g table v f level other at i n source has one is up0) up0 in
@@ -315,7 +315,7 @@ step_to m q at w first is =
     let first_is : first ≡ m + q * w = rw zero_more at is in
     omega (arith, add-mul q at w, first_is)
 
-pub reach_some : (g : Geometry) (table : ClaimTable) (v : Volume) (f level i first : ℕ) (source : ClaimSource) → HasClaims g table v → IsOnlyClaim (claims_in table) f source → level ≡ level_of source
+pub reach_some : (g : Geometry) (table : ClaimTable) (v : Volume) (f level i first : ℕ) (source : ClaimSource) → HasClaimsOf g table v → IsOnlyClaim (TableClaims table) f source → level ≡ level_of source
     → ReachesAs g v (Pointer f level 0) (Some (i, first)) → IsReach g v f (Some (record { level = level; inode = i; first = first }))
 reach_some g table v f level i first source has one is reach = record {
   is = λ at.

@@ -1,23 +1,23 @@
 -- What is wrong with the fragments of a volume.
-use Rattle.std.specs.Prelude.{◌≡◌, ◌<◌, ◌↔◌, ℕ, None, Contains, length}
+use Rattle.std.specs.Prelude.{◌≡◌, ◌<◌, ℕ, None, Contains, length}
 use Rattle.ufs_model.specs.Blocks.{Volume, block_at}
 use Rattle.ufs_model.specs.Claims.{IsClaim, level_of, source_fragments}
-use Rattle.ufs_model.specs.Malformations.{IsBad}
+use Rattle.ufs_model.specs.Malformations.{Claims, IsBad}
 use Rattle.ufs_model.specs.declared.claims.ClaimSource.{ClaimSource}
 use Rattle.ufs_model.specs.declared.geometries.Geometry.{Geometry}
 use Rattle.ufs_model.specs.declared.malformations.BadKind.TheVariants.{WildIn, AlignIn, Twice, PastIn, Free}
-use Rattle.dg_claims.specs.Tables.{ClaimTable}
+use Rattle.dg_claims.specs.Tables.{ClaimTable, HasClaims}
 use Rattle.ufs_check.specs.Reaches.{HasNoTwice}
 use Rattle.ufs_check.specs.Least.{IsLeast, IsLeastBelow}
 use Rattle.ufs_check.specs.declared.verdicts.FragmentFaults.{FragmentFaults}
 
--- the claims of a table are those of a volume
-pub record HasClaims (g : Geometry) (table : ClaimTable) (v : Volume) : Type 0 where
-  pub claims : (f : ℕ) (source : ClaimSource) → Contains (table.claimed source) f ↔ IsClaim (source_fragments g v) f source
+-- a table has the claims of a volume with this geometry
+abbrev pub HasClaimsOf : Geometry → ClaimTable → Volume → Type 0
+HasClaimsOf g table v = HasClaims table (Claims g v)
 
 -- a volume of a view, of which the claims are those of a table
 abbrev pub IsClaimedBy : (Volume → Type 0) → Geometry → ClaimTable → Volume → Type 0
-IsClaimedBy stands g table v = stands v × HasClaims g table v
+IsClaimedBy stands g table v = stands v × HasClaimsOf g table v
 
 -- each fragment of an indirect block has its bytes
 abbrev pub HasWholeUppers : Geometry → Volume → Type 0

@@ -7,10 +7,9 @@ use Rattle.ufs_model.specs.Superblocks.{geometry_of}
 use Rattle.ufs_model.specs.declared.geometries.Geometry.{Geometry}
 use Rattle.ufs_model.specs.declared.malformations.BadKind.{BadKind}
 use Rattle.ufs_model.specs.declared.malformations.BadKind.TheVariants.{Super, GroupMagic, GroupMap, WrongType, Filesize, Past, Wild, WildIn, Align, AlignIn, Run, Twice, PastIn, Free, Unused, Hole, Chunk, Entry, EntryType, Dots, Names, DirTwice, RootNamed}
-use Rattle.dg_claims.specs.Readers.{IsTableOf}
-use Rattle.dg_claims.specs.Tables.{ClaimTable}
+use Rattle.dg_claims.specs.Tables.{ClaimTable, IsTableOf}
 use Rattle.ufs_check.specs.Directories.{AreDirectoryFaults}
-use Rattle.ufs_check.specs.Fragments.{AreFragmentFaults, HasClaims, HasWholeUppers}
+use Rattle.ufs_check.specs.Fragments.{AreFragmentFaults, HasClaimsOf, HasWholeUppers}
 use Rattle.ufs_check.specs.Groups.{AreGroupFaults}
 use Rattle.ufs_check.specs.Inodes.{AreInodeFaults}
 use Rattle.ufs_check.specs.Links.{AreLinkFaults, HasAllEntries}
@@ -26,7 +25,7 @@ use Rattle.ufs_check.specs.declared.verdicts.Verdict.TheVariants.{Sound, Malform
 
 -- a volume of a view, with n blocks of l bytes, which has this geometry and the claims of a table
 abbrev pub IsOnView : (Volume → Type 0) → ℕ → ℕ → Geometry → ClaimTable → Volume → Type 0
-IsOnView stands l n g table v = stands v × HasClaims g table v × ((geometry_of l n v).value ≡ Ok g)
+IsOnView stands l n g table v = stands v × HasClaimsOf g table v × ((geometry_of l n v).value ≡ Ok g)
 
 -- a volume of a view, with n blocks of l bytes, of which a table has the claims
 abbrev pub IsTabled : (Volume → Type 0) → ℕ → ℕ → ClaimTable → Volume → Type 0

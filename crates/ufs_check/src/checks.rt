@@ -1,14 +1,14 @@
 // The first malformation of a volume.
 ghost use Rattle.std.specs.Prelude.{◌≡◌, ℕ, Ok, Some, IfNone, IfOk, IfSome};
 ghost use Rattle.std.specs.Bool.{Decides};
-ghost use Rattle.dg_io.specs.Views.{KeepsView};
+ghost use Rattle.dg_io.specs.ViewWords.{Keeps};
 ghost use Rattle.ufs_model.specs.Blocks.{Volume};
 ghost use Rattle.ufs_model.specs.Geometries.{IsGeometryOn};
 ghost use Rattle.ufs_model.specs.Malformations.{IsFirstMalformation, IsSoundVolume};
 ghost use Rattle.ufs_model.specs.Metadata.{IsMetadataBy, IsStructure};
 ghost use Rattle.ufs_model.specs.Superblocks.{geometry_of};
 ghost use Rattle.dg_claims.specs.Kept.{table_of};
-ghost use Rattle.dg_claims.specs.Readers.{accepted};
+ghost use Rattle.dg_claims.specs.Tables.{accepted};
 ghost use Rattle.ufs_check.specs.Fragments.{IsClaimedBy};
 ghost use Rattle.ufs_pointer.specs.Fetches.{FetchesOnly, LosesOne};
 ghost use Rattle.ufs_check.specs.Verdicts.{AreFaults, AreMetadataFaults, IsOnView, IsTabled};
@@ -45,7 +45,7 @@ fn check_metadata<V: View>(
     requires geometry { IsGeometryOn (V.size view.old) (V.count view.old) g.now }
     requires levels { levels.old.fragment ≡ V.size view.old }
     requires table { (table_of claims.now).geometry ≡ Some g.now }
-    ensures keeps { KeepsView V.stands_for V.tells V.is_gone V.count V.size V.is_sound V.goes_on view.old view.new }
+    ensures keeps { Keeps V.View view.old view.new }
     ensures levels { levels.new.fragment ≡ levels.old.fragment }
     ensures found { IfSome result (λ faults. V.tells view.new → (v : Volume) → IsClaimedBy (V.stands_for view.old) g.now (table_of claims.now) v
         → AreMetadataFaults g.now v faults) }
@@ -77,7 +77,7 @@ fn check_volume<V: View>(
     requires geometry { IsGeometryOn (V.size view.old) (V.count view.old) g.now }
     requires levels { levels.old.fragment ≡ V.size view.old }
     requires table { (table_of claims.now).geometry ≡ Some g.now }
-    ensures keeps { KeepsView V.stands_for V.tells V.is_gone V.count V.size V.is_sound V.goes_on view.old view.new }
+    ensures keeps { Keeps V.View view.old view.new }
     ensures levels { levels.new.fragment ≡ levels.old.fragment }
     ensures found { IfOk result (λ answer. IfSome answer (λ faults. V.tells view.new → (v : Volume) → IsClaimedBy (V.stands_for view.old) g.now (table_of claims.now) v
         → AreFaults g.now v faults)) }
@@ -129,7 +129,7 @@ pub fn check<V: View>(
 ) -> Result<Verdict, NoMemory>
     requires sound { V.is_sound view.old }
     requires levels { levels.old.fragment ≡ V.size view.old }
-    ensures keeps { KeepsView V.stands_for V.tells V.is_gone V.count V.size V.is_sound V.goes_on view.old view.new }
+    ensures keeps { Keeps V.View view.old view.new }
     ensures levels { levels.new.fragment ≡ levels.old.fragment }
     ensures is_sound { result ≡ Ok Verdict.Sound → V.tells view.new → (v : Volume)
         → IsTabled (V.stands_for view.old) (V.size view.old) (V.count view.old) (table_of claims.now) v → IsSoundVolume (V.size view.old) (V.count view.old) v }

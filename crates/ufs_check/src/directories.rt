@@ -1,7 +1,7 @@
 // The pass over the directories.
 ghost use Rattle.std.specs.Prelude.{◌≡◌, ◌+◌, ◌*◌, ◌/◌, ◌^◌, ◌<◌, ◌≤◌, ◌%◌, ◌==◌, ◌&&◌, ◌||◌, ℕ, List, Some, Ok, not, true, false, IfNone, IfSome, length};
 ghost use Rattle.std.specs.Bool.{Decides};
-ghost use Rattle.dg_io.specs.Views.{KeepsView};
+ghost use Rattle.dg_io.specs.ViewWords.{Keeps};
 ghost use Rattle.ufs_model.specs.Blocks.{Volume};
 ghost use Rattle.ufs_model.specs.Geometries.{IsGeometry, IsGeometryOn};
 ghost use Rattle.ufs_model.specs.Inodes.{block_count, kind_of};
@@ -13,7 +13,7 @@ ghost use Rattle.ufs_model.specs.declared.geometries.Geometry.{Geometry};
 ghost use Rattle.ufs_model.specs.declared.inodes.Kind.TheVariants.{Directory};
 ghost use Rattle.ufs_check.specs.Directories.{AreDirectoryFaults, AreDirectoryFaultsBelow, IsDirectoryRead, IsFileRead, ScannedWhole, ScansBlock};
 ghost use Rattle.ufs_check.specs.Fragments.{HasWholeUppers};
-ghost use Rattle.ufs_pointer.specs.Fetches.{FetchesOnly, LosesOne};
+ghost use Rattle.ufs_pointer.specs.ViewWords.{FetchesKind, LosesKind};
 
 use crate::entries::{EntryFaults, has_refused, read_named, scan_chunks};
 use crate::inodes::TOO_LONG;
@@ -52,12 +52,12 @@ fn scan_data<V: View>(
     requires levels { levels.old.fragment ≡ V.size view.old }
     requires few { count ≤ 128 }
     requires chunks { count * 512 ≤ length levels.old.block }
-    ensures keeps { KeepsView V.stands_for V.tells V.is_gone V.count V.size V.is_sound V.goes_on view.old view.new }
+    ensures keeps { Keeps V.View view.old view.new }
     ensures levels { levels.new.fragment ≡ levels.old.fragment }
     ensures found { result ≡ true → V.tells view.new → (v : Volume) → V.stands_for view.old v
         → ScansBlock g.now v count (Ok (Some levels.old.block)) scan.old scan.new }
-    ensures gone { result ≡ false → LosesOne (V.stands_for view.old) (V.tells view.new) (V.count view.old) (IsMetadataBy g.now) (V.is_gone view.new) }
-    ensures fetched { FetchesOnly V.fetched (V.stands_for view.old) (V.tells view.new) (IsMetadataBy g.now) view.old view.new }
+    ensures gone { result ≡ false → LosesKind V.View view.old view.new (IsMetadataBy g.now) }
+    ensures fetched { FetchesKind V.View view.old view.new (IsMetadataBy g.now) }
 {
     if has_refused(levels.block(), count, g.endian) {
         scan.chunk = true;
@@ -81,12 +81,12 @@ fn scan_block<V: View>(
     requires levels { levels.old.fragment ≡ V.size view.old }
     requires few { n < 2 ^ 30 }
     requires block { n < block_count g.now inode.now }
-    ensures keeps { KeepsView V.stands_for V.tells V.is_gone V.count V.size V.is_sound V.goes_on view.old view.new }
+    ensures keeps { Keeps V.View view.old view.new }
     ensures levels { levels.new.fragment ≡ levels.old.fragment }
     ensures found { result ≡ true → V.tells view.new → (v : Volume) → V.stands_for view.old v
         → ScansBlock g.now v (bytes_in_block g.now inode.now n / 512) ((block_of g.now inode.now n v).value) scan.old scan.new }
-    ensures gone { result ≡ false → LosesOne (V.stands_for view.old) (V.tells view.new) (V.count view.old) (IsFileRead g.now inode.now) (V.is_gone view.new) }
-    ensures fetched { FetchesOnly V.fetched (V.stands_for view.old) (V.tells view.new) (IsFileRead g.now inode.now) view.old view.new }
+    ensures gone { result ≡ false → LosesKind V.View view.old view.new (IsFileRead g.now inode.now) }
+    ensures fetched { FetchesKind V.View view.old view.new (IsFileRead g.now inode.now) }
 {
     match read_file_block(view, g, inode, n, levels) {
         None => false,
@@ -118,12 +118,12 @@ fn scan_directory<V: View>(
     requires geometry { IsGeometryOn (V.size view.old) (V.count view.old) g.now }
     requires levels { levels.old.fragment ≡ V.size view.old }
     requires small { inode.now.size < 2 ^ 32 }
-    ensures keeps { KeepsView V.stands_for V.tells V.is_gone V.count V.size V.is_sound V.goes_on view.old view.new }
+    ensures keeps { Keeps V.View view.old view.new }
     ensures levels { levels.new.fragment ≡ levels.old.fragment }
     ensures found { IfSome result (λ scan. V.tells view.new → (v : Volume) → V.stands_for view.old v
         → ScannedWhole g.now inode.now v scan) }
-    ensures gone { IfNone result (LosesOne (V.stands_for view.old) (V.tells view.new) (V.count view.old) (IsFileRead g.now inode.now) (V.is_gone view.new)) }
-    ensures fetched { FetchesOnly V.fetched (V.stands_for view.old) (V.tells view.new) (IsFileRead g.now inode.now) view.old view.new }
+    ensures gone { IfNone result (LosesKind V.View view.old view.new (IsFileRead g.now inode.now)) }
+    ensures fetched { FetchesKind V.View view.old view.new (IsFileRead g.now inode.now) }
 {
     let mut scan = Scan {
         hole: false,
@@ -194,12 +194,12 @@ fn scan_inode<V: View>(
     requires sound { V.is_sound view.old }
     requires geometry { IsGeometryOn (V.size view.old) (V.count view.old) g.now }
     requires levels { levels.old.fragment ≡ V.size view.old }
-    ensures keeps { KeepsView V.stands_for V.tells V.is_gone V.count V.size V.is_sound V.goes_on view.old view.new }
+    ensures keeps { Keeps V.View view.old view.new }
     ensures levels { levels.new.fragment ≡ levels.old.fragment }
     ensures found { result ≡ true → V.tells view.new → (v : Volume) → V.stands_for view.old v
         → AreDirectoryFaultsBelow g.now v i faults.old → AreDirectoryFaultsBelow g.now v (i + 1) faults.new }
-    ensures gone { result ≡ false → LosesOne (V.stands_for view.old) (V.tells view.new) (V.count view.old) (IsDirectoryRead g.now) (V.is_gone view.new) }
-    ensures fetched { FetchesOnly V.fetched (V.stands_for view.old) (V.tells view.new) (IsDirectoryRead g.now) view.old view.new }
+    ensures gone { result ≡ false → LosesKind V.View view.old view.new (IsDirectoryRead g.now) }
+    ensures fetched { FetchesKind V.View view.old view.new (IsDirectoryRead g.now) }
 {
     let Some(named) = read_named(view, g, i, levels) else {
         return false;
@@ -230,12 +230,12 @@ pub fn check_directories<V: View>(
     requires sound { V.is_sound view.old }
     requires geometry { IsGeometryOn (V.size view.old) (V.count view.old) g.now }
     requires levels { levels.old.fragment ≡ V.size view.old }
-    ensures keeps { KeepsView V.stands_for V.tells V.is_gone V.count V.size V.is_sound V.goes_on view.old view.new }
+    ensures keeps { Keeps V.View view.old view.new }
     ensures levels { levels.new.fragment ≡ levels.old.fragment }
     ensures found { IfSome result (λ faults. V.tells view.new → (v : Volume) → V.stands_for view.old v
         → AreDirectoryFaults g.now v faults) }
-    ensures gone { IfNone result (LosesOne (V.stands_for view.old) (V.tells view.new) (V.count view.old) (IsDirectoryRead g.now) (V.is_gone view.new)) }
-    ensures fetched { FetchesOnly V.fetched (V.stands_for view.old) (V.tells view.new) (IsDirectoryRead g.now) view.old view.new }
+    ensures gone { IfNone result (LosesKind V.View view.old view.new (IsDirectoryRead g.now)) }
+    ensures fetched { FetchesKind V.View view.old view.new (IsDirectoryRead g.now) }
 {
     let mut faults = NO_DIRECTORY_FAULTS;
     for i in ROOT_INODE..g.ncg * g.ipg {

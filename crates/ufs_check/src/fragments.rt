@@ -1,13 +1,13 @@
 // The pass over the fragments.
 ghost use Rattle.std.specs.Prelude.{◌≡◌, ◌+◌, ◌/◌, ◌%◌, ◌<◌, ◌≤◌, ℕ, List, Some, None, true, false, IfNone, IfSome, length};
 ghost use Rattle.std.specs.Bool.{Decides};
-ghost use Rattle.dg_io.specs.Views.{KeepsView};
+ghost use Rattle.dg_io.specs.ViewWords.{Keeps};
 ghost use Rattle.ufs_model.specs.Blocks.{Volume, block_at};
 ghost use Rattle.ufs_model.specs.Geometries.{IsGeometry, IsGeometryOn};
 ghost use Rattle.ufs_model.specs.GroupMaps.{by_maps, group_bytes, group_in, is_free};
 ghost use Rattle.ufs_model.specs.Metadata.{IsMetadataBy};
 ghost use Rattle.dg_claims.specs.Kept.{table_of};
-ghost use Rattle.ufs_check.specs.Fragments.{AreClaimFaultsBelow, AreFragmentFaults, AreFragmentFaultsBelow, ArePointerFaultsBelow, HasClaims, HasWholeUppers, IsClaimedBy, IsUpperIn};
+ghost use Rattle.ufs_check.specs.Fragments.{AreClaimFaultsBelow, AreFragmentFaults, AreFragmentFaultsBelow, ArePointerFaultsBelow, HasClaimsOf, HasWholeUppers, IsClaimedBy, IsUpperIn};
 ghost use Rattle.ufs_check.specs.Limits.{IsInLimits, IsLimit};
 ghost use Rattle.ufs_pointer.specs.Fetches.{FetchesOnly, LosesOne};
 ghost use Rattle.ufs_check.specs.Reaches.{HasNoTwice};
@@ -56,7 +56,7 @@ fn note_claims(g: &Geometry, f: u32, bytes: &[u8], claims: &Claims, faults: &mut
     ensures wild_in { faults.new.wild_in ≡ faults.old.wild_in }
     ensures align_in { faults.new.align_in ≡ faults.old.align_in }
     ensures past_in { faults.new.past_in ≡ faults.old.past_in }
-    ensures claimed { (v : Volume) → HasClaims g.now (table_of claims.now) v → bytes.now ≡ (group_bytes g.now (f / g.now.fpg) v).value
+    ensures claimed { (v : Volume) → HasClaimsOf g.now (table_of claims.now) v → bytes.now ≡ (group_bytes g.now (f / g.now.fpg) v).value
         → AreClaimFaultsBelow g.now v f faults.old → AreClaimFaultsBelow g.now v (f + 1) faults.new }
 {
     let number = claims.claims_on(f);
@@ -84,7 +84,7 @@ fn note_pointers(
     requires upper { IsUpperIn (table_of claims.now) f }
     ensures twice { faults.new.twice ≡ faults.old.twice }
     ensures free { faults.new.free ≡ faults.old.free }
-    ensures pointers { (v : Volume) → HasClaims g.now (table_of claims.now) v → bytes.now ≡ block_at g.now.fsize v f
+    ensures pointers { (v : Volume) → HasClaimsOf g.now (table_of claims.now) v → bytes.now ≡ block_at g.now.fsize v f
         → (HasNoTwice g.now v → IsLimit g.now v f limit) → ArePointerFaultsBelow g.now v f faults.old → ArePointerFaultsBelow g.now v (f + 1) faults.new }
 {
     note(&mut faults.wild_in, f, has_wild_pointer(g, bytes));
@@ -107,7 +107,7 @@ fn check_pointers<V: View>(
     requires levels { levels.old.fragment ≡ V.size view.old }
     requires table { (table_of claims.now).geometry ≡ Some g.now }
     requires inside { f < g.now.size }
-    ensures keeps { KeepsView V.stands_for V.tells V.is_gone V.count V.size V.is_sound V.goes_on view.old view.new }
+    ensures keeps { Keeps V.View view.old view.new }
     ensures levels { levels.new.fragment ≡ levels.old.fragment }
     ensures block { levels.new.block ≡ levels.old.block }
     ensures twice { faults.new.twice ≡ faults.old.twice }
@@ -144,7 +144,7 @@ pub fn check_fragments<V: View>(
     requires geometry { IsGeometryOn (V.size view.old) (V.count view.old) g.now }
     requires levels { levels.old.fragment ≡ V.size view.old }
     requires table { (table_of claims.now).geometry ≡ Some g.now }
-    ensures keeps { KeepsView V.stands_for V.tells V.is_gone V.count V.size V.is_sound V.goes_on view.old view.new }
+    ensures keeps { Keeps V.View view.old view.new }
     ensures levels { levels.new.fragment ≡ levels.old.fragment }
     ensures found { IfSome result (λ faults. V.tells view.new → (v : Volume) → IsClaimedBy (V.stands_for view.old) g.now (table_of claims.now) v
         → AreFragmentFaults g.now v faults) }

@@ -1,22 +1,22 @@
 // The pass over the inodes.
 ghost use Rattle.std.specs.Prelude.{◌≡◌, ◌+◌, ◌*◌, ◌/◌, ◌%◌, ◌<◌, ◌≤◌, ℕ, List, Some, true, false, not, IfNone, IfSome, length};
-ghost use Rattle.dg_io.specs.Views.{KeepsView};
+ghost use Rattle.dg_io.specs.ViewWords.{Keeps};
 ghost use Rattle.ufs_model.specs.Blocks.{Volume, block_at};
 ghost use Rattle.ufs_model.specs.Geometries.{IsGeometry, IsGeometryOn};
 ghost use Rattle.ufs_model.specs.GroupMaps.{by_maps, group_bytes, group_in, is_marked_unused, is_used};
-ghost use Rattle.ufs_model.specs.Inodes.{has_pointers, inode_in};
+ghost use Rattle.ufs_model.specs.Inodes.{has_pointers};
 ghost use Rattle.ufs_model.specs.Malformations.{inode_at};
 ghost use Rattle.ufs_model.specs.Metadata.{IsMetadataBy};
 ghost use Rattle.ufs_check.specs.Inodes.{AreInodeFaults, AreInodeFaultsBelow, ArePointedFaultsBelow};
-ghost use Rattle.ufs_pointer.specs.Fetches.{FetchesOnly, LosesOne};
+ghost use Rattle.ufs_pointer.specs.ViewWords.{FetchesKind, LosesKind};
 
 use crate::notes::note;
 use crate::slots::{has_crossing, has_misaligned, has_past, has_wild};
 use crate::verdicts::InodeFaults;
 use dg_io::View;
 use ufs_group::{group_block, is_used, read_group};
-use ufs_inode::{has_pointers, place_of, read_inode};
-use ufs_model::{Geometry, INODE_BYTES, Inode, Kind, ROOT_INODE};
+use ufs_inode::{has_pointers, inode_at, place_of};
+use ufs_model::{Geometry, Inode, Kind, ROOT_INODE};
 use ufs_pointer::Levels;
 
 /// Files of so many bytes are malformed, and longer ones.
@@ -38,15 +38,14 @@ fn note_pointed(g: &Geometry, i: u32, inode: &Inode, faults: &mut InodeFaults)
     note(&mut faults.run, i, has_crossing(g, inode));
 }
 
-/// Notes what is wrong with inode `i`, which has the bytes, where what is wrong with inodes of lower
-/// numbers is noted.
-fn note_inode(g: &Geometry, i: u32, bytes: &[u8], unused: bool, faults: &mut InodeFaults)
+/// Notes what is wrong with inode `i`, if it is allocated, where what is wrong with inodes of lower numbers
+/// is noted.
+fn note_inode(g: &Geometry, i: u32, inode: Option<Inode>, unused: bool, faults: &mut InodeFaults)
     requires geometry { IsGeometry g.now }
-    requires bytes { 128 ≤ length bytes.now }
-    ensures { (v : Volume) → inode_at g.now v i ≡ inode_in g.now.endian bytes.now → (is_marked_unused g.now i v).value ≡ unused
+    ensures { (v : Volume) → inode_at g.now v i ≡ inode → (is_marked_unused g.now i v).value ≡ unused
         → AreInodeFaultsBelow g.now v i faults.old → AreInodeFaultsBelow g.now v (i + 1) faults.new }
 {
-    let Some(inode) = read_inode(bytes, g.endian) else {
+    let Some(inode) = inode else {
         return;
     };
     note(&mut faults.wrong_type, i, inode.kind() == Kind::Unknown);
@@ -84,15 +83,15 @@ pub fn hold_group<V: View>(
     requires levels { levels.old.fragment ≡ V.size view.old }
     requires group { c < g.now.ncg }
     requires room { IfSome held.old (λ c. g.now.bsize ≤ length levels.old.block) }
-    ensures keeps { KeepsView V.stands_for V.tells V.is_gone V.count V.size V.is_sound V.goes_on view.old view.new }
+    ensures keeps { Keeps V.View view.old view.new }
     ensures levels { levels.new.fragment ≡ levels.old.fragment }
     ensures aside { levels.new.aside ≡ levels.old.aside }
     ensures held { held.new ≡ Some c }
     ensures room { g.now.bsize ≤ length levels.new.block }
     ensures holds { result ≡ true → V.tells view.new → (v : Volume) → V.stands_for view.old v
         → IfSome held.old (λ c. levels.old.block ≡ (group_bytes g.now c v).value) → levels.new.block ≡ (group_bytes g.now c v).value }
-    ensures gone { result ≡ false → LosesOne (V.stands_for view.old) (V.tells view.new) (V.count view.old) (IsMetadataBy g.now) (V.is_gone view.new) }
-    ensures fetched { FetchesOnly V.fetched (V.stands_for view.old) (V.tells view.new) (IsMetadataBy g.now) view.old view.new }
+    ensures gone { result ≡ false → LosesKind V.View view.old view.new (IsMetadataBy g.now) }
+    ensures fetched { FetchesKind V.View view.old view.new (IsMetadataBy g.now) }
 {
     if *held == Some(c) {
         return true;
@@ -115,15 +114,15 @@ fn hold_inodes<V: View>(
     requires inside { block < g.now.size }
     requires metadata { (v : Volume) → IsMetadataBy g.now v block }
     requires room { IfSome held.old (λ b. length levels.old.aside ≡ g.now.fsize) }
-    ensures keeps { KeepsView V.stands_for V.tells V.is_gone V.count V.size V.is_sound V.goes_on view.old view.new }
+    ensures keeps { Keeps V.View view.old view.new }
     ensures levels { levels.new.fragment ≡ levels.old.fragment }
     ensures group { levels.new.block ≡ levels.old.block }
     ensures held { held.new ≡ Some block }
     ensures room { length levels.new.aside ≡ g.now.fsize }
     ensures holds { result ≡ true → V.tells view.new → (v : Volume) → V.stands_for view.old v
         → IfSome held.old (λ b. levels.old.aside ≡ block_at g.now.fsize v b) → levels.new.aside ≡ block_at g.now.fsize v block }
-    ensures gone { result ≡ false → LosesOne (V.stands_for view.old) (V.tells view.new) (V.count view.old) (IsMetadataBy g.now) (V.is_gone view.new) }
-    ensures fetched { FetchesOnly V.fetched (V.stands_for view.old) (V.tells view.new) (IsMetadataBy g.now) view.old view.new }
+    ensures gone { result ≡ false → LosesKind V.View view.old view.new (IsMetadataBy g.now) }
+    ensures fetched { FetchesKind V.View view.old view.new (IsMetadataBy g.now) }
 {
     if *held == Some(block) {
         return true;
@@ -137,11 +136,11 @@ pub fn check_inodes<V: View>(view: &mut V, g: &Geometry, levels: &mut Levels) ->
     requires sound { V.is_sound view.old }
     requires geometry { IsGeometryOn (V.size view.old) (V.count view.old) g.now }
     requires levels { levels.old.fragment ≡ V.size view.old }
-    ensures keeps { KeepsView V.stands_for V.tells V.is_gone V.count V.size V.is_sound V.goes_on view.old view.new }
+    ensures keeps { Keeps V.View view.old view.new }
     ensures levels { levels.new.fragment ≡ levels.old.fragment }
     ensures found { IfSome result (λ faults. V.tells view.new → (v : Volume) → V.stands_for view.old v → AreInodeFaults g.now v faults) }
-    ensures gone { IfNone result (LosesOne (V.stands_for view.old) (V.tells view.new) (V.count view.old) (IsMetadataBy g.now) (V.is_gone view.new)) }
-    ensures fetched { FetchesOnly V.fetched (V.stands_for view.old) (V.tells view.new) (IsMetadataBy g.now) view.old view.new }
+    ensures gone { IfNone result (LosesKind V.View view.old view.new (IsMetadataBy g.now)) }
+    ensures fetched { FetchesKind V.View view.old view.new (IsMetadataBy g.now) }
 {
     let mut faults = InodeFaults {
         wrong_type: None,
@@ -163,9 +162,8 @@ pub fn check_inodes<V: View>(view: &mut V, g: &Geometry, levels: &mut Levels) ->
             return None;
         }
         let unused = is_marked_unused(g, i, levels.block());
-        let start = byte as usize;
-        let bytes = &levels.aside()[start..start + INODE_BYTES as usize];
-        note_inode(g, i, bytes, unused, &mut faults);
+        let inode = inode_at(levels.aside(), byte, g.endian);
+        note_inode(g, i, inode, unused, &mut faults);
     }
     Some(faults)
 }

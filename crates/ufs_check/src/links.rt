@@ -1,6 +1,6 @@
 // The pass over what is wrong between the entries of directories.
 ghost use Rattle.std.specs.Prelude.{◌≡◌, ◌+◌, ◌^◌, ◌<◌, true, false, IfNone, IfOk, IfSome, OnOk};
-ghost use Rattle.dg_io.specs.Views.{KeepsView};
+ghost use Rattle.dg_io.specs.ViewWords.{Keeps};
 ghost use Rattle.ufs_model.specs.Blocks.{Volume};
 ghost use Rattle.ufs_model.specs.Geometries.{IsGeometry, IsGeometryOn};
 ghost use Rattle.ufs_model.specs.Malformations.{HasEntries};
@@ -9,7 +9,7 @@ ghost use Rattle.ufs_check.specs.Directories.{IsDirectoryRead};
 ghost use Rattle.ufs_check.specs.Links.{AreLinkFaults, AreLinksBelow, HasAllEntries, HasRead, bad_dots_in, is_up_in, named_twice_in};
 ghost use Rattle.ufs_check.specs.Names.{HasNamed};
 ghost use Rattle.ufs_check.specs.OwnedEntries.{owned_all};
-ghost use Rattle.ufs_pointer.specs.Fetches.{FetchesOnly, LosesOne};
+ghost use Rattle.ufs_pointer.specs.ViewWords.{FetchesKind, LosesKind};
 
 use crate::names::{NameFaults, note_names};
 use crate::notes::note;
@@ -128,12 +128,12 @@ fn link_inode<V: View>(
     requires sound { V.is_sound view.old }
     requires geometry { IsGeometryOn (V.size view.old) (V.count view.old) g.now }
     requires levels { levels.old.fragment ≡ V.size view.old }
-    ensures keeps { KeepsView V.stands_for V.tells V.is_gone V.count V.size V.is_sound V.goes_on view.old view.new }
+    ensures keeps { Keeps V.View view.old view.new }
     ensures levels { levels.new.fragment ≡ levels.old.fragment }
     ensures found { IfOk result (λ could. could ≡ true → V.tells view.new → (v : Volume) → V.stands_for view.old v
         → AreLinksBelow g.now v i table.old faults.old → AreLinksBelow g.now v (i + 1) table.new faults.new) }
-    ensures gone { IfOk result (λ could. could ≡ false → LosesOne (V.stands_for view.old) (V.tells view.new) (V.count view.old) (IsDirectoryRead g.now) (V.is_gone view.new)) }
-    ensures fetched { FetchesOnly V.fetched (V.stands_for view.old) (V.tells view.new) (IsDirectoryRead g.now) view.old view.new }
+    ensures gone { IfOk result (λ could. could ≡ false → LosesKind V.View view.old view.new (IsDirectoryRead g.now)) }
+    ensures fetched { FetchesKind V.View view.old view.new (IsDirectoryRead g.now) }
 {
     let mut entries = Vec::new(alloc);
     match gather_entries(alloc, view, g, i, levels, &mut entries)? {
@@ -157,12 +157,12 @@ pub fn check_links<V: View>(
     requires sound { V.is_sound view.old }
     requires geometry { IsGeometryOn (V.size view.old) (V.count view.old) g.now }
     requires levels { levels.old.fragment ≡ V.size view.old }
-    ensures keeps { KeepsView V.stands_for V.tells V.is_gone V.count V.size V.is_sound V.goes_on view.old view.new }
+    ensures keeps { Keeps V.View view.old view.new }
     ensures levels { levels.new.fragment ≡ levels.old.fragment }
     ensures found { IfOk result (λ answer. IfSome answer (λ faults. V.tells view.new → (v : Volume) → V.stands_for view.old v
         → HasAllEntries g.now v → HasNamed g.now v → AreLinkFaults g.now v faults)) }
-    ensures gone { IfOk result (λ answer. IfNone answer (LosesOne (V.stands_for view.old) (V.tells view.new) (V.count view.old) (IsDirectoryRead g.now) (V.is_gone view.new))) }
-    ensures fetched { FetchesOnly V.fetched (V.stands_for view.old) (V.tells view.new) (IsDirectoryRead g.now) view.old view.new }
+    ensures gone { IfOk result (λ answer. IfNone answer (LosesKind V.View view.old view.new (IsDirectoryRead g.now))) }
+    ensures fetched { FetchesKind V.View view.old view.new (IsDirectoryRead g.now) }
 {
     let mut table = empty_table(alloc);
     let mut faults = NameFaults {

@@ -1,7 +1,7 @@
 // The entries of a directory, gathered in memory.
 ghost use Rattle.std.specs.Prelude.{◌≡◌, ◌++◌, ◌+◌, ◌*◌, ◌/◌, ◌^◌, ◌<◌, ◌≤◌, ℕ, [], ◌∷◌, None, Ok, Some, false, length, IfOk, OnOk};
 ghost use Rattle.std.specs.List.{list_any};
-ghost use Rattle.dg_io.specs.Views.{KeepsView};
+ghost use Rattle.dg_io.specs.ViewWords.{Keeps};
 ghost use Rattle.ufs_dir.specs.Steps.{entry_of};
 ghost use Rattle.ufs_model.specs.Blocks.{Volume};
 ghost use Rattle.ufs_model.specs.Chunks.{entries_in, fault_in, used_entries};
@@ -11,7 +11,7 @@ ghost use Rattle.ufs_model.specs.Paths.{block_of, bytes_in_block, chunks_in, ent
 ghost use Rattle.ufs_check.specs.Directories.{IsDirectoryRead, IsFileRead, chunks_said, entries_said};
 ghost use Rattle.ufs_check.specs.Entries.{entries_all, is_refused};
 ghost use Rattle.ufs_check.specs.OwnedEntries.{Gathers, GathersAt, IfGone, owned_all};
-ghost use Rattle.ufs_pointer.specs.Fetches.{FetchesOnly, LosesOne};
+ghost use Rattle.ufs_pointer.specs.ViewWords.{FetchesKind, LosesKind};
 
 use crate::directories::is_directory;
 use crate::entries::{has_refused, read_named};
@@ -143,13 +143,13 @@ fn gather_block<V: View>(
     requires levels { levels.old.fragment ≡ V.size view.old }
     requires few { n < 2 ^ 30 }
     requires block { n < block_count g.now inode.now }
-    ensures keeps { KeepsView V.stands_for V.tells V.is_gone V.count V.size V.is_sound V.goes_on view.old view.new }
+    ensures keeps { Keeps V.View view.old view.new }
     ensures levels { levels.new.fragment ≡ levels.old.fragment }
     ensures found { IfOk result (λ gathered. V.tells view.new → (v : Volume) → V.stands_for view.old v
         → Gathers gathered (entries_said g.now.endian (chunks_said (bytes_in_block g.now inode.now n / 512) ((block_of g.now inode.now n v).value)))
         (owned_all entries.old.items) (owned_all entries.new.items)) }
-    ensures gone { IfOk result (λ gathered. IfGone gathered (LosesOne (V.stands_for view.old) (V.tells view.new) (V.count view.old) (IsFileRead g.now inode.now) (V.is_gone view.new))) }
-    ensures fetched { FetchesOnly V.fetched (V.stands_for view.old) (V.tells view.new) (IsFileRead g.now inode.now) view.old view.new }
+    ensures gone { IfOk result (λ gathered. IfGone gathered (LosesKind V.View view.old view.new (IsFileRead g.now inode.now))) }
+    ensures fetched { FetchesKind V.View view.old view.new (IsFileRead g.now inode.now) }
 {
     match read_file_block(view, g, inode, n, levels) {
         None => Ok(Gathered::Gone),
@@ -175,13 +175,13 @@ fn gather_blocks<V: View>(
     requires geometry { IsGeometryOn (V.size view.old) (V.count view.old) g.now }
     requires levels { levels.old.fragment ≡ V.size view.old }
     requires small { inode.now.size < 2 ^ 32 }
-    ensures keeps { KeepsView V.stands_for V.tells V.is_gone V.count V.size V.is_sound V.goes_on view.old view.new }
+    ensures keeps { Keeps V.View view.old view.new }
     ensures levels { levels.new.fragment ≡ levels.old.fragment }
     ensures found { IfOk result (λ gathered. V.tells view.new → (v : Volume) → V.stands_for view.old v
         → Gathers gathered ((entries_before g.now inode.now (block_count g.now inode.now) v).value)
         (owned_all entries.old.items) (owned_all entries.new.items)) }
-    ensures gone { IfOk result (λ gathered. IfGone gathered (LosesOne (V.stands_for view.old) (V.tells view.new) (V.count view.old) (IsFileRead g.now inode.now) (V.is_gone view.new))) }
-    ensures fetched { FetchesOnly V.fetched (V.stands_for view.old) (V.tells view.new) (IsFileRead g.now inode.now) view.old view.new }
+    ensures gone { IfOk result (λ gathered. IfGone gathered (LosesKind V.View view.old view.new (IsFileRead g.now inode.now))) }
+    ensures fetched { FetchesKind V.View view.old view.new (IsFileRead g.now inode.now) }
 {
     for n in 0..block_count(g, inode) {
         match gather_block(alloc, view, g, inode, n, levels, entries)? {
@@ -205,12 +205,12 @@ pub fn gather_entries<V: View>(
     requires sound { V.is_sound view.old }
     requires geometry { IsGeometryOn (V.size view.old) (V.count view.old) g.now }
     requires levels { levels.old.fragment ≡ V.size view.old }
-    ensures keeps { KeepsView V.stands_for V.tells V.is_gone V.count V.size V.is_sound V.goes_on view.old view.new }
+    ensures keeps { Keeps V.View view.old view.new }
     ensures levels { levels.new.fragment ≡ levels.old.fragment }
     ensures found { IfOk result (λ gathered. V.tells view.new → (v : Volume) → V.stands_for view.old v
         → GathersAt g.now v i gathered (owned_all entries.old.items) (owned_all entries.new.items)) }
-    ensures gone { IfOk result (λ gathered. IfGone gathered (LosesOne (V.stands_for view.old) (V.tells view.new) (V.count view.old) (IsDirectoryRead g.now) (V.is_gone view.new))) }
-    ensures fetched { FetchesOnly V.fetched (V.stands_for view.old) (V.tells view.new) (IsDirectoryRead g.now) view.old view.new }
+    ensures gone { IfOk result (λ gathered. IfGone gathered (LosesKind V.View view.old view.new (IsDirectoryRead g.now))) }
+    ensures fetched { FetchesKind V.View view.old view.new (IsDirectoryRead g.now) }
 {
     let Some(named) = read_named(view, g, i, levels) else {
         return Ok(Gathered::Gone);

@@ -7,8 +7,8 @@ ghost use Rattle.ufs_model.specs.Owners.{IsOnlyClaim};
 ghost use Rattle.ufs_model.specs.declared.claims.ClaimSource.{ClaimSource};
 ghost use Rattle.ufs_model.specs.Geometries.{IsGeometry};
 ghost use Rattle.dg_claims.specs.Kept.{table_of};
-ghost use Rattle.dg_claims.specs.Tables.{IsSource, claims_in};
-ghost use Rattle.ufs_check.specs.Fragments.{HasClaims};
+ghost use Rattle.dg_claims.specs.Tables.{IsSource, TableClaims};
+ghost use Rattle.ufs_check.specs.Fragments.{HasClaimsOf};
 ghost use Rattle.ufs_check.specs.Reaches.{HasNoTwice, IsBefore, IsPlaceIn, IsReach, ReachesAs};
 
 use crate::slots::first_block;
@@ -29,24 +29,11 @@ pub struct Reach {
     pub first: u64,
 }
 
-/// The source of a fragment that has one claim.
-fn only_claim(claims: &Claims, f: u32) -> Option<ClaimSource>
-    ensures only { IfSome result (IsOnlyClaim (claims_in (table_of claims.now)) f) }
-    ensures none { IfNone result ((source : ClaimSource) → IsOnlyClaim (claims_in (table_of claims.now)) f source → ⊥) }
-    ensures source { IfSome result (IsSource (table_of claims.now).geometry) }
-{
-    if claims.claims_on(f) != 1 {
-        return None;
-    }
-    let (_, source) = claims.claim(f, 0)?;
-    Some(source)
-}
-
 /// The one claim of a fragment is by the source.
 fn is_claimed_by(claims: &Claims, f: u32, source: ClaimSource) -> bool
-    ensures { Decides result (IsOnlyClaim (claims_in (table_of claims.now)) f source) }
+    ensures { Decides result (IsOnlyClaim (TableClaims (table_of claims.now)) f source) }
 {
-    match only_claim(claims, f) {
+    match claims.only_claim(f) {
         Some(other) => other == source,
         None => false,
     }
@@ -54,7 +41,7 @@ fn is_claimed_by(claims: &Claims, f: u32, source: ClaimSource) -> bool
 
 /// The one claim of a fragment, `k` and one more before fragment `f`, is by the source.
 fn is_before(claims: &Claims, source: ClaimSource, f: u32, k: u32) -> bool
-    ensures { Decides result (IsBefore (claims_in (table_of claims.now)) source f k) }
+    ensures { Decides result (IsBefore (TableClaims (table_of claims.now)) source f k) }
 {
     k < f && is_claimed_by(claims, f - k - 1, source)
 }
@@ -62,7 +49,7 @@ fn is_before(claims: &Claims, source: ClaimSource, f: u32, k: u32) -> bool
 /// The place of a fragment among those of its source, which are `most` at most: how many fragments in a
 /// row before it have their one claim by the source.
 fn place_in(claims: &Claims, source: ClaimSource, f: u32, most: u32) -> Option<u32>
-    ensures { IsPlaceIn (claims_in (table_of claims.now)) source f most result }
+    ensures { IsPlaceIn (TableClaims (table_of claims.now)) source f most result }
 {
     for place in 0..most {
         if !is_before(claims, source, f, place) {
@@ -109,7 +96,7 @@ fn first_through(claims: &Claims, g: &Geometry, source: ClaimSource) -> Option<(
     requires geometry { IsGeometry g.now }
     requires table { (table_of claims.now).geometry ≡ Some g.now }
     requires source { IsSource (Some g.now) source }
-    ensures reaches { (v : Volume) → HasClaims g.now (table_of claims.now) v → HasNoTwice g.now v → ReachesAs g.now v source result }
+    ensures reaches { (v : Volume) → HasClaimsOf g.now (table_of claims.now) v → HasNoTwice g.now v → ReachesAs g.now v source result }
     ensures inode { IfSome result (λ first. (2 ≤ first.0) × (first.0 < g.now.ncg * g.now.ipg)) }
     ensures most { IfSome result (λ first. first.1 + level_of source * 2 ^ 46 ≤ 2 ^ 48) }
 {
@@ -120,7 +107,7 @@ fn first_through(claims: &Claims, g: &Geometry, source: ClaimSource) -> Option<(
             level,
             at,
         } => {
-            let upper = only_claim(claims, fragment)?;
+            let upper = claims.only_claim(fragment)?;
             if upper.level() != level {
                 return None;
             }
@@ -136,12 +123,12 @@ fn first_through(claims: &Claims, g: &Geometry, source: ClaimSource) -> Option<(
 pub fn reach_of(claims: &Claims, g: &Geometry, f: u32) -> Option<Reach>
     requires geometry { IsGeometry g.now }
     requires table { (table_of claims.now).geometry ≡ Some g.now }
-    ensures reaches { (v : Volume) → HasClaims g.now (table_of claims.now) v → HasNoTwice g.now v → IsReach g.now v f result }
+    ensures reaches { (v : Volume) → HasClaimsOf g.now (table_of claims.now) v → HasNoTwice g.now v → IsReach g.now v f result }
     ensures level { IfSome result (λ reach. (1 ≤ reach.level) × (reach.level ≤ 3)) }
     ensures inode { IfSome result (λ reach. (2 ≤ reach.inode) × (reach.inode < g.now.ncg * g.now.ipg)) }
     ensures most { IfSome result (λ reach. reach.first ≤ 2 ^ 48) }
 {
-    let source = only_claim(claims, f)?;
+    let source = claims.only_claim(f)?;
     let level = source.level();
     if level == 0 {
         return None;

@@ -1,7 +1,7 @@
 use Rattle.std.proofs.Common.{◌≡◌, ◌∙◌, Some, true, false, refl, sym, ap, subst}
 use Rattle.dg_io.specs.ViewLaws.{keeps_both}
 use Rattle.dg_claims.specs.Kept.{table_of}
-use Rattle.dg_claims.specs.Readers.{accepted}
+use Rattle.dg_claims.specs.Tables.{accepted}
 use Rattle.ufs_check.specs.Verdicts.{Judges}
 use Rattle.ufs_check.specs.declared.verdicts.Verdict.TheVariants.{Gone, Malformed, Sound}
 use Rattle.ufs_model.specs.Metadata.{IsStructure}
@@ -14,7 +14,7 @@ pub returns-in-None-clause-gone : goal.returns-in-None-clause-gone
 returns-in-None-clause-gone g c =
     let l = g.V.View.size c.args.view.now in
     let n = g.V.View.count c.args.view.now in
-    λ same. lost_told _ (IsStructure l n) refl (λ told v tabled. (tabled.0, λ block needs. super_structure l n v block needs)) c.in-None.ensures.gone
+    λ same. lost_told _ (IsStructure l n) refl (λ told v tabled. (tabled.0, λ block needs. super_structure l n v block needs)) c.in-None.ensures.lost
 
 pub returns-in-None-clause-fetched : goal.returns-in-None-clause-fetched
 returns-in-None-clause-fetched g c =

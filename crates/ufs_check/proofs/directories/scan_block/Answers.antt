@@ -6,7 +6,7 @@ use Rattle.ufs_check.proofs.directories.scan_block.Goals as goal
 
 pub returns-in-None-clause-gone : goal.returns-in-None-clause-gone
 returns-in-None-clause-gone g c = λ none.
-    lost_wider _ (IsFileRead c.args.g.now c.args.inode.now) (λ told v stands block needs. of_file c.args.n c.requires.block needs) c.in-None.ensures.gone
+    lost_wider _ (IsFileRead c.args.g.now c.args.inode.now) (λ told v stands block needs. of_file c.args.n c.requires.block needs) c.in-None.ensures.lost
 
 pub returns-in-None-clause-fetched : goal.returns-in-None-clause-fetched
 returns-in-None-clause-fetched g c = only_needs (IsFileRead c.args.g.now c.args.inode.now) (λ v block needs. of_file c.args.n c.requires.block needs) c.read_file_block.ensures.fetched

@@ -3,7 +3,8 @@ use Rattle.dg_io.specs.ViewLaws.{keeps_both, keeps_same}
 use Rattle.ufs_check.specs.Directories.{IsFileRead}
 use Rattle.ufs_check.proofs.DirectoryLaws.{scanned_next, scanned_none}
 use Rattle.ufs_check.proofs.FaultLaws.{scanned_hole}
-use Rattle.ufs_check.proofs.PassLaws.{lost_later, only_both, only_none}
+use Rattle.ufs_pointer.specs.KindLaws.{only_none}
+use Rattle.ufs_check.proofs.PassLaws.{lost_later, only_both}
 use Rattle.ufs_check.proofs.directories.scan_directory.Goals as goal
 
 pub loop-n-init : goal.loop-n-init

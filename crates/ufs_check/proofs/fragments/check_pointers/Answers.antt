@@ -5,7 +5,8 @@ use Rattle.dg_claims.specs.Kept.{table_of}
 use Rattle.ufs_check.specs.Fragments.{IsClaimedBy}
 use Rattle.ufs_check.proofs.ClaimLaws.{fetches_fewer, loses_fewer, upper_metadata}
 use Rattle.ufs_check.proofs.InodeLaws.{one_block}
-use Rattle.ufs_check.proofs.PassLaws.{lost_later, one_lost, one_only, only_both, read_value}
+use Rattle.ufs_pointer.specs.KindLaws.{loses_once, only_once}
+use Rattle.ufs_check.proofs.PassLaws.{lost_later, only_both, read_value}
 use Rattle.ufs_check.proofs.PointerLaws.{no_pointers}
 use Rattle.ufs_check.proofs.fragments.check_pointers.Goals as goal
 
@@ -22,8 +23,7 @@ returns-then-not-read_aside-clause-gone g c = λ missed.
     let upper = c.is_upper.ensures.0 c.if-not-is_upper.false in
     let inside : c.args.f < g.V.View.count c.read_limit.new.view = let low = c.requires.inside in let high = c.requires.geometry.size in let same = first.blocks in omega arith in
     lost_later {still = IsClaimedBy (g.V.View.stands_for c.read_limit.new.view) c.args.g.now (table_of c.args.claims.now)} first.blocks (λ v claimed. (first.stands v (claimed.0), claimed.1))
-    (one_lost (IsMetadataBy c.args.g.now) c.args.f inside (λ told v claimed. upper_metadata c.args.g.now (table_of c.args.claims.now) v c.args.f upper (claimed.1))
-    (c.read_aside.ensures.gone c.if-not-read_aside.true))
+    (loses_once (IsMetadataBy c.args.g.now) inside (c.read_aside.ensures.gone c.if-not-read_aside.true) (λ v claimed. upper_metadata c.args.g.now (table_of c.args.claims.now) v c.args.f upper (claimed.1)))
 
 pub returns-then-not-read_aside-clause-fetched : goal.returns-then-not-read_aside-clause-fetched
 returns-then-not-read_aside-clause-fetched g c =
@@ -31,7 +31,7 @@ returns-then-not-read_aside-clause-fetched g c =
     let upper = c.is_upper.ensures.0 c.if-not-is_upper.false in
     only_both {still = IsClaimedBy (g.V.View.stands_for c.read_limit.new.view) c.args.g.now table} g.met.V.View.fetched_both (λ v claimed. (c.read_limit.ensures.keeps.stands v (claimed.0), claimed.1)) c.read_aside.ensures.keeps.told
     (fetches_fewer c.args.g.now table c.read_limit.ensures.fetched)
-    (one_only (IsMetadataBy c.args.g.now) c.args.f (λ told v claimed. upper_metadata c.args.g.now table v c.args.f upper (claimed.1)) c.read_aside.ensures.once)
+    (only_once (IsMetadataBy c.args.g.now) (λ v claimed. upper_metadata c.args.g.now table v c.args.f upper (claimed.1)) c.read_aside.ensures.once)
 
 pub returns-clause-found : goal.returns-clause-found
 returns-clause-found g c = λ is told v claimed so_far.
@@ -58,4 +58,4 @@ returns-clause-fetched g c =
     let upper = c.is_upper.ensures.0 c.if-not-is_upper.false in
     only_both {still = IsClaimedBy (g.V.View.stands_for c.read_limit.new.view) c.args.g.now table} g.met.V.View.fetched_both (λ v claimed. (c.read_limit.ensures.keeps.stands v (claimed.0), claimed.1)) c.read_aside.ensures.keeps.told
     (fetches_fewer c.args.g.now table c.read_limit.ensures.fetched)
-    (one_only (IsMetadataBy c.args.g.now) c.args.f (λ told v claimed. upper_metadata c.args.g.now table v c.args.f upper (claimed.1)) c.read_aside.ensures.once)
+    (only_once (IsMetadataBy c.args.g.now) (λ v claimed. upper_metadata c.args.g.now table v c.args.f upper (claimed.1)) c.read_aside.ensures.once)

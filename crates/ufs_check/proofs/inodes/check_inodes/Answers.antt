@@ -45,8 +45,7 @@ loop-i-preserved g c =
       holds_group = λ told v stands. rw c.hold_group.ensures.held (holds_group told v stands);
       holds_inodes = λ told v stands. rw (c.hold_inodes.ensures.held, c.place_of-block.ensures.block) (holds_inodes told v stands);
       found = λ told v stands. c.note_inode.ensures v
-          (inode_there c.args.g.now v c.loop-i.i _ _ _ c.loop-i.auto.i c.loop-i-test.true c.place_of-block.ensures.byte (c.aside.ensures ∙ holds_inodes told v stands)
-          (let e : c.place_of-block.result.1 + 128 - c.place_of-block.result.1 ≡ 128 = omega arith in rw e))
+          (inode_there c.args.g.now v c.loop-i.i _ _ c.loop-i.auto.i c.loop-i-test.true c.place_of-block.ensures.byte (c.aside.ensures ∙ holds_inodes told v stands) ∙ sym c.inode_at-inode.ensures)
           (marked_there c.args.g.now v c.loop-i.i _ (c.block.ensures ∙ holds_group told v stands) ∙ sym c.is_marked_unused-unused.ensures)
           (invariant.found (two.told told) v stands);
       fetched = only_both g.met.V.View.fetched_both so_far.stands (λ told. first.told (second.told told)) invariant.fetched

@@ -1,7 +1,8 @@
 use Rattle.std.proofs.Common.{◌<◌, arith}
 use Rattle.ufs_model.specs.Metadata.{IsMetadataBy}
 use Rattle.ufs_check.proofs.InodeLaws.{one_block}
-use Rattle.ufs_check.proofs.PassLaws.{one_lost, one_only, read_value}
+use Rattle.ufs_pointer.specs.KindLaws.{loses_once, only_once}
+use Rattle.ufs_check.proofs.PassLaws.{read_value}
 use Rattle.ufs_check.proofs.inodes.hold_inodes.Goals as goal
 
 pub returns-clause-holds : goal.returns-clause-holds
@@ -11,7 +12,7 @@ returns-clause-holds g c = λ could told v stands before.
 pub returns-clause-gone : goal.returns-clause-gone
 returns-clause-gone g c = λ missed.
     let inside : c.args.block < g.V.View.count c.args.view.now = let low = c.requires.inside in let high = c.requires.geometry.size in omega arith in
-    one_lost (IsMetadataBy c.args.g.now) c.args.block inside (λ told v stands. c.requires.metadata v) (c.read_aside.ensures.gone missed)
+    loses_once (IsMetadataBy c.args.g.now) inside (c.read_aside.ensures.gone missed) (λ v stands. c.requires.metadata v)
 
 pub returns-clause-fetched : goal.returns-clause-fetched
-returns-clause-fetched g c = one_only (IsMetadataBy c.args.g.now) c.args.block (λ told v stands. c.requires.metadata v) c.read_aside.ensures.once
+returns-clause-fetched g c = only_once (IsMetadataBy c.args.g.now) (λ v stands. c.requires.metadata v) c.read_aside.ensures.once

@@ -13,7 +13,7 @@ returns c = λ v is marked so_far.
     let g = c.args.g.now in
     let i = c.args.i in
     let inode = c.in-Some.inode in
-    let there = is ∙ sym c.in-Some.ensures in
+    let there = is ∙ c.in-Some.is in
     let pointed = so_far.pointed in record {
       wrong_type = rw c.note_pointed.ensures.wrong_type
           (least_noted (IsBad g v WrongType) i _ _ _ c.note.ensures (inode_decides g v i (λ inode. kind_of inode.mode ≡ Unknown) inode _ there (search rules)) so_far.wrong_type);

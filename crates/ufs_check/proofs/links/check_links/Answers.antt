@@ -2,7 +2,8 @@ use Rattle.std.proofs.Common.{◌∙◌}
 use Rattle.dg_io.specs.ViewLaws.{keeps_both, keeps_same}
 use Rattle.ufs_check.specs.Directories.{IsDirectoryRead}
 use Rattle.ufs_check.proofs.LinkLaws.{links_none}
-use Rattle.ufs_check.proofs.PassLaws.{lost_later, only_both, only_none}
+use Rattle.ufs_pointer.specs.KindLaws.{only_none}
+use Rattle.ufs_check.proofs.PassLaws.{lost_later, only_both}
 use Rattle.ufs_check.proofs.links.check_links.Goals as goal
 
 pub loop-i-init : goal.loop-i-init

@@ -4,7 +4,8 @@ use Rattle.ufs_model.specs.Inodes.{block_count}
 use Rattle.ufs_check.specs.Directories.{IsFileRead}
 use Rattle.ufs_check.specs.OwnedEntries.{owned_all}
 use Rattle.ufs_check.proofs.OwnedLaws.{gathers_next, gathers_none, unread_from}
-use Rattle.ufs_check.proofs.PassLaws.{lost_later, only_both, only_none}
+use Rattle.ufs_pointer.specs.KindLaws.{only_none}
+use Rattle.ufs_check.proofs.PassLaws.{lost_later, only_both}
 use Rattle.ufs_check.proofs.owned_entries.gather_blocks.Goals as goal
 
 pub loop-n-init : goal.loop-n-init
