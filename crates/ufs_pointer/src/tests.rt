@@ -7,7 +7,7 @@ use crate::{
 use dg_io::{Loss, MemView};
 use std::alloc::Global;
 use std::test::Fail;
-use ufs_inode::{Inode, read_inode};
+use ufs_inode::{Inode, inode_at, read_inode};
 use ufs_model::Endian;
 use ufs_rows::{Which, rows_image};
 use ufs_super::{Geometry, read_super};
@@ -372,24 +372,50 @@ fn short_blocks_at_the_edges_of_groups(rt: HostRuntime) -> Result<(), Fail> {
     Ok(())
 }
 
-/// The 128 blocks of the volume F.
-fn volume_f(alloc: Global) -> Result<Vec<u8>, Fail>
+/// The 128 blocks of a volume.
+fn volume(alloc: Global, which: Which) -> Result<Vec<u8>, Fail>
     ensures { IfOk result (λ image. length image.items ≡ 131072) }
 {
-    match rows_image(alloc, Which::F) {
+    match rows_image(alloc, which) {
         Ok(image) => Ok(image),
         Err(_) => Err("memory".into()),
     }
 }
 
-/// Where file block `n` of inode 5 of the volume F is found. The inodes begin at block 28.
-fn in_volume_f(alloc: Global, n: u32, loss: Loss) -> Result<BlockAnswer, Fail>
+/// Where file block `n` of inode 5 of the volume with files is found. The inodes begin at block 28.
+fn in_volume(alloc: Global, which: Which, n: u32, loss: Loss) -> Result<BlockAnswer, Fail>
     requires { n < 2 ^ 30 }
 {
-    let image = volume_f(alloc)?;
+    let image = volume(alloc, which)?;
     let g = read_super(&image[8192..9568], 1024, 128)?;
     let inode = read_inode(&image[29312..29440], g.endian).ok_or("inode")?;
     found(alloc, image, 128, &g, &inode, n, loss)
+}
+
+/// The volume with files in both orders of bytes: the geometry but for its order, the inodes, and
+/// the pointer of the indirect block at 84.
+#[test]
+fn both_orders_say_the_same(rt: HostRuntime) -> Result<(), Fail> {
+    let little = volume(rt.alloc(), Which::F)?;
+    let big = volume(rt.alloc(), Which::Fb)?;
+    let g = read_super(&little[8192..9568], 1024, 128)?;
+    let of_big = read_super(&big[8192..9568], 1024, 128)?;
+    assert_eq!(rt; (g.endian, of_big.endian), (Endian::Little, Endian::Big));
+    let turned = Geometry {
+        endian: Endian::Little,
+        ..of_big
+    };
+    assert_eq!(rt; turned, g);
+    for number in 0..32 {
+        assert_eq!(rt;
+            inode_at(&big[28672..32768], 128 * number, Endian::Big),
+            inode_at(&little[28672..32768], 128 * number, Endian::Little),
+            "inode {number}"
+        );
+    }
+    assert_eq!(rt; pointer(&little[86016..87040], 0, Endian::Little), 88);
+    assert_eq!(rt; pointer(&big[86016..87040], 0, Endian::Big), 88);
+    Ok(())
 }
 
 /// The file has the blocks 36 to 83 directly, and 88 to 91 through the indirect block at 84.
@@ -405,20 +431,27 @@ fn a_file_with_an_indirect_block(rt: HostRuntime) -> Result<(), Fail> {
     ] {
         assert!(rt; n < 0x4000_0000);
         let loss = Loss { block, fetch: 0 };
-        assert_eq!(rt;
-            in_volume_f(rt.alloc(), n, loss)?,
-            wanted,
-            "block {n} without {block}"
-        );
+        for which in [Which::F, Which::Fb] {
+            assert_eq!(rt;
+                in_volume(rt.alloc(), which, n, loss)?,
+                wanted,
+                "block {n} without {block}"
+            );
+        }
     }
     Ok(())
 }
 
 /// What is read of file block `n` of that file.
-fn read_of_volume_f(alloc: Global, n: u32, loss: Loss) -> Result<Option<FileBlock>, Fail>
+fn read_of_volume(
+    alloc: Global,
+    which: Which,
+    n: u32,
+    loss: Loss,
+) -> Result<Option<FileBlock>, Fail>
     requires { n < 2 ^ 30 }
 {
-    let image = volume_f(alloc)?;
+    let image = volume(alloc, which)?;
     let g = read_super(&image[8192..9568], 1024, 128)?;
     let inode = read_inode(&image[29312..29440], g.endian).ok_or("inode")?;
     let mut view = MemView::new(image, 1024, 128, vec![in alloc; loss]?);
@@ -438,11 +471,13 @@ fn file_blocks_that_are_read(rt: HostRuntime) -> Result<(), Fail> {
     ] {
         assert!(rt; n < 0x4000_0000);
         let loss = Loss { block, fetch: 0 };
-        assert_eq!(rt;
-            read_of_volume_f(rt.alloc(), n, loss)?,
-            wanted,
-            "block {n} without {block}"
-        );
+        for which in [Which::F, Which::Fb] {
+            assert_eq!(rt;
+                read_of_volume(rt.alloc(), which, n, loss)?,
+                wanted,
+                "block {n} without {block}"
+            );
+        }
     }
     Ok(())
 }
