@@ -484,9 +484,14 @@ fn file_blocks_that_are_read(rt: HostRuntime) -> Result<(), Fail> {
 
 /// The indirect block of that file, and its last block, whose fragments have the bytes 49 to 52.
 #[test]
-fn blocks_of_the_volume_f(rt: HostRuntime) -> Result<(), Fail> {
+fn blocks_of_the_volume_with_files(rt: HostRuntime) -> Result<(), Fail> {
     let alloc = rt.alloc();
-    let mut view = MemView::new(volume_f(alloc)?, 1024, 128, vec![in alloc; NOTHING]?);
+    let mut view = MemView::new(
+        volume(alloc, Which::F)?,
+        1024,
+        128,
+        vec![in alloc; NOTHING]?,
+    );
     let mut pointers = [0; 4096];
     assert!(rt; read_area(&mut view, 84, 4, &mut pointers));
     assert_eq!(rt;
