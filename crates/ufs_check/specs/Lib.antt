@@ -11,3 +11,4 @@ pub mod OwnedEntries
 pub mod Names
 pub mod Links
 pub mod Verdicts
+pub mod ViewWords

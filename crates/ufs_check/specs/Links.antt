@@ -107,7 +107,8 @@ linked (Some parent) i = record { directory = parent.directory; twice = true }
 
 -- an entry of directory i was added, if it is plain
 abbrev pub AddsLink : BTreeMap ℕ Parent → BTreeMap ℕ Parent → ℕ → DirEntry → Type 0
-AddsLink old new i entry = (n : ℕ) → get nat_cmp new n ≡ (if is_plain entry && (entry.inode == n) then Some (linked (get nat_cmp old entry.inode) i) else get nat_cmp old n)
+AddsLink old new i entry = (n : ℕ)
+    → get nat_cmp new n ≡ (if is_plain entry && (entry.inode == n) then Some (linked (get nat_cmp old entry.inode) i) else get nat_cmp old n)
 
 -- ---- all that is kept
 

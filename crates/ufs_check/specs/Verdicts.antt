@@ -63,7 +63,8 @@ no_directory_fault faults = ((is_none faults.hole && is_none faults.chunk) && is
 pub record AreFaults (g : Geometry) (v : Volume) (faults : Faults) : Type 0 where
   pub metadata : AreMetadataFaults g v faults.metadata
   pub directories : no_metadata_fault faults.metadata ≡ true → AreDirectoryFaults g v faults.directories
-  pub links : no_metadata_fault faults.metadata ≡ true → no_directory_fault faults.directories ≡ true → HasAllEntries g v → HasNamed g v → AreLinkFaults g v faults.links
+  pub links : no_metadata_fault faults.metadata ≡ true → no_directory_fault faults.directories ≡ true → HasAllEntries g v → HasNamed g v
+      → AreLinkFaults g v faults.links
 
 -- the least number that is found of a kind
 abbrev pub found_in : Faults → BadKind → Option ℕ

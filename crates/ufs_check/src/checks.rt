@@ -5,13 +5,12 @@ ghost use Rattle.dg_io.specs.ViewWords.{Keeps};
 ghost use Rattle.ufs_model.specs.Blocks.{Volume};
 ghost use Rattle.ufs_model.specs.Geometries.{IsGeometryOn};
 ghost use Rattle.ufs_model.specs.Malformations.{IsFirstMalformation, IsSoundVolume};
-ghost use Rattle.ufs_model.specs.Metadata.{IsMetadataBy, IsStructure};
+ghost use Rattle.ufs_model.specs.Metadata.{IsMetadataBy};
 ghost use Rattle.ufs_model.specs.Superblocks.{geometry_of};
 ghost use Rattle.dg_claims.specs.Kept.{table_of};
 ghost use Rattle.dg_claims.specs.Tables.{accepted};
-ghost use Rattle.ufs_check.specs.Fragments.{IsClaimedBy};
-ghost use Rattle.ufs_pointer.specs.Fetches.{FetchesOnly, LosesOne};
-ghost use Rattle.ufs_check.specs.Verdicts.{AreFaults, AreMetadataFaults, IsOnView, IsTabled};
+ghost use Rattle.ufs_check.specs.Verdicts.{AreFaults, AreMetadataFaults};
+ghost use Rattle.ufs_check.specs.ViewWords.{FetchesOn, IsClaimed, IsOfGeometry, IsOfTable, IsStructureOf, LosesOn};
 
 use crate::directories::{check_directories, directories_are_structure};
 use crate::faults::{Faults, MetadataFaults, verdict_of};
@@ -47,11 +46,10 @@ fn check_metadata<V: View>(
     requires table { (table_of claims.now).geometry ≡ Some g.now }
     ensures keeps { Keeps V.View view.old view.new }
     ensures levels { levels.new.fragment ≡ levels.old.fragment }
-    ensures found { IfSome result (λ faults. V.tells view.new → (v : Volume) → IsClaimedBy (V.stands_for view.old) g.now (table_of claims.now) v
+    ensures found { IfSome result (λ faults. V.tells view.new → (v : Volume) → IsClaimed V.View view.old g.now (table_of claims.now) v
         → AreMetadataFaults g.now v faults) }
-    ensures gone { IfNone result (LosesOne (IsClaimedBy (V.stands_for view.old) g.now (table_of claims.now)) (V.tells view.new) (V.count view.old)
-        (IsMetadataBy g.now) (V.is_gone view.new)) }
-    ensures fetched { FetchesOnly V.fetched (IsClaimedBy (V.stands_for view.old) g.now (table_of claims.now)) (V.tells view.new) (IsMetadataBy g.now) view.old view.new }
+    ensures gone { IfNone result (LosesOn V.View view.old view.new (IsClaimed V.View view.old g.now (table_of claims.now)) (IsMetadataBy g.now)) }
+    ensures fetched { FetchesOn V.View view.old view.new (IsClaimed V.View view.old g.now (table_of claims.now)) (IsMetadataBy g.now) }
 {
     let groups = check_groups(view, g, levels)?;
     let inodes = check_inodes(view, g, levels)?;
@@ -79,13 +77,11 @@ fn check_volume<V: View>(
     requires table { (table_of claims.now).geometry ≡ Some g.now }
     ensures keeps { Keeps V.View view.old view.new }
     ensures levels { levels.new.fragment ≡ levels.old.fragment }
-    ensures found { IfOk result (λ answer. IfSome answer (λ faults. V.tells view.new → (v : Volume) → IsClaimedBy (V.stands_for view.old) g.now (table_of claims.now) v
+    ensures found { IfOk result (λ answer. IfSome answer (λ faults. V.tells view.new → (v : Volume) → IsClaimed V.View view.old g.now (table_of claims.now) v
         → AreFaults g.now v faults)) }
     ensures gone { IfOk result (λ answer. IfNone answer
-        (LosesOne (IsOnView (V.stands_for view.old) (V.size view.old) (V.count view.old) g.now (table_of claims.now)) (V.tells view.new) (V.count view.old)
-        (IsStructure (V.size view.old) (V.count view.old)) (V.is_gone view.new))) }
-    ensures fetched { FetchesOnly V.fetched (IsOnView (V.stands_for view.old) (V.size view.old) (V.count view.old) g.now (table_of claims.now)) (V.tells view.new)
-        (IsStructure (V.size view.old) (V.count view.old)) view.old view.new }
+        (LosesOn V.View view.old view.new (IsOfGeometry V.View view.old g.now (table_of claims.now)) (IsStructureOf V.View view.old))) }
+    ensures fetched { FetchesOn V.View view.old view.new (IsOfGeometry V.View view.old g.now (table_of claims.now)) (IsStructureOf V.View view.old) }
 {
     directories_are_structure();
     let Some(metadata) = check_metadata(view, g, levels, claims) else {
@@ -132,16 +128,14 @@ pub fn check<V: View>(
     ensures keeps { Keeps V.View view.old view.new }
     ensures levels { levels.new.fragment ≡ levels.old.fragment }
     ensures is_sound { result ≡ Ok Verdict.Sound → V.tells view.new → (v : Volume)
-        → IsTabled (V.stands_for view.old) (V.size view.old) (V.count view.old) (table_of claims.now) v → IsSoundVolume (V.size view.old) (V.count view.old) v }
+        → IsOfTable V.View view.old (table_of claims.now) v → IsSoundVolume (V.size view.old) (V.count view.old) v }
     ensures tabled { result ≡ Ok Verdict.Sound → V.tells view.new → (v : Volume) → V.stands_for view.old v
         → (table_of claims.now).geometry ≡ accepted ((geometry_of (V.size view.old) (V.count view.old) v).value) }
     ensures malformed { (kind : BadKind) (n : ℕ) → result ≡ Ok (Verdict.Malformed kind n) → V.tells view.new → (v : Volume)
-        → IsTabled (V.stands_for view.old) (V.size view.old) (V.count view.old) (table_of claims.now) v → IsFirstMalformation (V.size view.old) (V.count view.old) v kind n }
+        → IsOfTable V.View view.old (table_of claims.now) v → IsFirstMalformation (V.size view.old) (V.count view.old) v kind n }
     ensures gone { result ≡ Ok Verdict.Gone
-        → LosesOne (IsTabled (V.stands_for view.old) (V.size view.old) (V.count view.old) (table_of claims.now)) (V.tells view.new) (V.count view.old)
-        (IsStructure (V.size view.old) (V.count view.old)) (V.is_gone view.new) }
-    ensures fetched { FetchesOnly V.fetched (IsTabled (V.stands_for view.old) (V.size view.old) (V.count view.old) (table_of claims.now)) (V.tells view.new)
-        (IsStructure (V.size view.old) (V.count view.old)) view.old view.new }
+        → LosesOn V.View view.old view.new (IsOfTable V.View view.old (table_of claims.now)) (IsStructureOf V.View view.old) }
+    ensures fetched { FetchesOn V.View view.old view.new (IsOfTable V.View view.old (table_of claims.now)) (IsStructureOf V.View view.old) }
 {
     let g = match read_geometry(view, levels) {
         None => return Ok(Verdict::Gone),

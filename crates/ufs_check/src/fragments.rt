@@ -7,9 +7,9 @@ ghost use Rattle.ufs_model.specs.Geometries.{IsGeometry, IsGeometryOn};
 ghost use Rattle.ufs_model.specs.GroupMaps.{by_maps, group_bytes, group_in, is_free};
 ghost use Rattle.ufs_model.specs.Metadata.{IsMetadataBy};
 ghost use Rattle.dg_claims.specs.Kept.{table_of};
-ghost use Rattle.ufs_check.specs.Fragments.{AreClaimFaultsBelow, AreFragmentFaults, AreFragmentFaultsBelow, ArePointerFaultsBelow, HasClaimsOf, HasWholeUppers, IsClaimedBy, IsUpperIn};
+ghost use Rattle.ufs_check.specs.Fragments.{AreClaimFaultsBelow, AreFragmentFaults, AreFragmentFaultsBelow, ArePointerFaultsBelow, HasClaimsOf, HasWholeUppers, IsUpperIn};
+ghost use Rattle.ufs_check.specs.ViewWords.{FetchesOn, IsClaimed, LosesOn};
 ghost use Rattle.ufs_check.specs.Limits.{IsInLimits, IsLimit};
-ghost use Rattle.ufs_pointer.specs.Fetches.{FetchesOnly, LosesOne};
 ghost use Rattle.ufs_check.specs.Reaches.{HasNoTwice};
 
 use crate::inodes::hold_group;
@@ -112,12 +112,12 @@ fn check_pointers<V: View>(
     ensures block { levels.new.block ≡ levels.old.block }
     ensures twice { faults.new.twice ≡ faults.old.twice }
     ensures free { faults.new.free ≡ faults.old.free }
-    ensures found { result ≡ true → V.tells view.new → (v : Volume) → IsClaimedBy (V.stands_for view.old) g.now (table_of claims.now) v
+    ensures found { result ≡ true → V.tells view.new → (v : Volume) → IsClaimed V.View view.old g.now (table_of claims.now) v
         → ArePointerFaultsBelow g.now v f faults.old → ArePointerFaultsBelow g.now v (f + 1) faults.new }
     ensures whole { result ≡ true → V.tells view.new → (v : Volume) → V.stands_for view.old v → IsUpperIn (table_of claims.now) f
         → length (block_at g.now.fsize v f) ≡ g.now.fsize }
-    ensures gone { result ≡ false → LosesOne (IsClaimedBy (V.stands_for view.old) g.now (table_of claims.now)) (V.tells view.new) (V.count view.old) (IsMetadataBy g.now) (V.is_gone view.new) }
-    ensures fetched { FetchesOnly V.fetched (IsClaimedBy (V.stands_for view.old) g.now (table_of claims.now)) (V.tells view.new) (IsMetadataBy g.now) view.old view.new }
+    ensures gone { result ≡ false → LosesOn V.View view.old view.new (IsClaimed V.View view.old g.now (table_of claims.now)) (IsMetadataBy g.now) }
+    ensures fetched { FetchesOn V.View view.old view.new (IsClaimed V.View view.old g.now (table_of claims.now)) (IsMetadataBy g.now) }
 {
     if !is_upper(claims, f) {
         return true;
@@ -146,12 +146,12 @@ pub fn check_fragments<V: View>(
     requires table { (table_of claims.now).geometry ≡ Some g.now }
     ensures keeps { Keeps V.View view.old view.new }
     ensures levels { levels.new.fragment ≡ levels.old.fragment }
-    ensures found { IfSome result (λ faults. V.tells view.new → (v : Volume) → IsClaimedBy (V.stands_for view.old) g.now (table_of claims.now) v
+    ensures found { IfSome result (λ faults. V.tells view.new → (v : Volume) → IsClaimed V.View view.old g.now (table_of claims.now) v
         → AreFragmentFaults g.now v faults) }
-    ensures whole { IfSome result (λ faults. V.tells view.new → (v : Volume) → IsClaimedBy (V.stands_for view.old) g.now (table_of claims.now) v
+    ensures whole { IfSome result (λ faults. V.tells view.new → (v : Volume) → IsClaimed V.View view.old g.now (table_of claims.now) v
         → HasWholeUppers g.now v) }
-    ensures gone { IfNone result (LosesOne (IsClaimedBy (V.stands_for view.old) g.now (table_of claims.now)) (V.tells view.new) (V.count view.old) (IsMetadataBy g.now) (V.is_gone view.new)) }
-    ensures fetched { FetchesOnly V.fetched (IsClaimedBy (V.stands_for view.old) g.now (table_of claims.now)) (V.tells view.new) (IsMetadataBy g.now) view.old view.new }
+    ensures gone { IfNone result (LosesOn V.View view.old view.new (IsClaimed V.View view.old g.now (table_of claims.now)) (IsMetadataBy g.now)) }
+    ensures fetched { FetchesOn V.View view.old view.new (IsClaimed V.View view.old g.now (table_of claims.now)) (IsMetadataBy g.now) }
 {
     claims.claims_inside();
     let mut faults = FragmentFaults {

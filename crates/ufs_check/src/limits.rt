@@ -72,8 +72,8 @@ pub fn read_limit<V: View>(
     ensures keeps { Keeps V.View view.old view.new }
     ensures levels { levels.new.fragment ≡ levels.old.fragment }
     ensures block { levels.new.block ≡ levels.old.block }
-    ensures found { IfSome result (λ limit. V.tells view.new → (v : Volume) → V.stands_for view.old v → HasClaimsOf g.now (table_of claims.now) v → HasNoTwice g.now v
-        → IsLimit g.now v f limit) }
+    ensures found { IfSome result (λ limit. V.tells view.new → (v : Volume) → V.stands_for view.old v → HasClaimsOf g.now (table_of claims.now) v
+        → HasNoTwice g.now v → IsLimit g.now v f limit) }
     ensures fits { IfSome result (λ limit. IfSome limit IsInLimits) }
     ensures gone { IfNone result (LosesKind V.View view.old view.new (IsMetadataBy g.now)) }
     ensures fetched { FetchesKind V.View view.old view.new (IsMetadataBy g.now) }

@@ -118,7 +118,8 @@ fn gather_data(
     entries: &mut Vec<OwnedEntry>,
 ) -> Result<Gathered, NoMemory>
     requires { count * 512 ≤ length bytes.now }
-    ensures found { IfOk result (λ gathered. Gathers gathered (entries_through endian (chunks_in count bytes.now)) (owned_all entries.old.items) (owned_all entries.new.items)) }
+    ensures found { IfOk result (λ gathered. Gathers gathered (entries_through endian (chunks_in count bytes.now))
+        (owned_all entries.old.items) (owned_all entries.new.items)) }
     ensures there { IfOk result (λ gathered. IfGone gathered ⊥) }
 {
     if has_refused(bytes, count, endian) {
