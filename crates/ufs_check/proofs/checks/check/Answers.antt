@@ -48,13 +48,13 @@ returns-in_err-check_volume-clause-fetched g c =
     let first = c.read_geometry.ensures.keeps in
     let second = c.check_volume.ensures.keeps in
     let reads = rw c.in-Some-Ok.field-0-is at c.in-Some-Ok.ensures.rule in
-    let one = rw (first.bytes, first.blocks) at c.check_volume.ensures.fetched in
     only_both g.met.V.View.fetched_both (λ v stands. stands) second.told
     (only_told (IsStructure l n) (IsStructure l n) (λ told v tabled. (tabled.0, λ block h. h))
     (only_needs (IsStructure l n) (λ v block needs. super_structure l n v block needs) c.read_geometry.ensures.fetched))
-    (only_told (IsStructure l n) (IsStructure l n) (λ told v tabled.
+    (only_told (IsStructure (g.V.View.size c.read_geometry.new.view) (g.V.View.count c.read_geometry.new.view)) (IsStructure l n) (λ told v tabled.
     let is = sym ((reads.rule (second.told told) v (tabled.0)).answer) in
-    ((first.stands v (tabled.0), table_claims l n gg v table is (tabled.1), is), λ block h. h)) one)
+    ((first.stands v (tabled.0), table_claims l n gg v table is (tabled.1), rw (first.bytes, first.blocks) is), λ block h. rw (first.bytes, first.blocks) at h))
+    c.check_volume.ensures.fetched)
 
 pub returns-in-None-2-clause-fetched : goal.returns-in-None-2-clause-fetched
 returns-in-None-2-clause-fetched g c =
@@ -65,13 +65,13 @@ returns-in-None-2-clause-fetched g c =
     let first = c.read_geometry.ensures.keeps in
     let second = c.check_volume.ensures.keeps in
     let reads = rw c.in-Some-Ok.field-0-is at c.in-Some-Ok.ensures.rule in
-    let one = rw (first.bytes, first.blocks) at c.check_volume.ensures.fetched in
     only_both g.met.V.View.fetched_both (λ v stands. stands) second.told
     (only_told (IsStructure l n) (IsStructure l n) (λ told v tabled. (tabled.0, λ block h. h))
     (only_needs (IsStructure l n) (λ v block needs. super_structure l n v block needs) c.read_geometry.ensures.fetched))
-    (only_told (IsStructure l n) (IsStructure l n) (λ told v tabled.
+    (only_told (IsStructure (g.V.View.size c.read_geometry.new.view) (g.V.View.count c.read_geometry.new.view)) (IsStructure l n) (λ told v tabled.
     let is = sym ((reads.rule (second.told told) v (tabled.0)).answer) in
-    ((first.stands v (tabled.0), table_claims l n gg v table is (tabled.1), is), λ block h. h)) one)
+    ((first.stands v (tabled.0), table_claims l n gg v table is (tabled.1), rw (first.bytes, first.blocks) is), λ block h. rw (first.bytes, first.blocks) at h))
+    c.check_volume.ensures.fetched)
 
 pub returns-in-Some-clause-fetched : goal.returns-in-Some-clause-fetched
 returns-in-Some-clause-fetched g c =
@@ -82,13 +82,13 @@ returns-in-Some-clause-fetched g c =
     let first = c.read_geometry.ensures.keeps in
     let second = c.check_volume.ensures.keeps in
     let reads = rw c.in-Some-Ok.field-0-is at c.in-Some-Ok.ensures.rule in
-    let one = rw (first.bytes, first.blocks) at c.check_volume.ensures.fetched in
     only_both g.met.V.View.fetched_both (λ v stands. stands) second.told
     (only_told (IsStructure l n) (IsStructure l n) (λ told v tabled. (tabled.0, λ block h. h))
     (only_needs (IsStructure l n) (λ v block needs. super_structure l n v block needs) c.read_geometry.ensures.fetched))
-    (only_told (IsStructure l n) (IsStructure l n) (λ told v tabled.
+    (only_told (IsStructure (g.V.View.size c.read_geometry.new.view) (g.V.View.count c.read_geometry.new.view)) (IsStructure l n) (λ told v tabled.
     let is = sym ((reads.rule (second.told told) v (tabled.0)).answer) in
-    ((first.stands v (tabled.0), table_claims l n gg v table is (tabled.1), is), λ block h. h)) one)
+    ((first.stands v (tabled.0), table_claims l n gg v table is (tabled.1), rw (first.bytes, first.blocks) is), λ block h. rw (first.bytes, first.blocks) at h))
+    c.check_volume.ensures.fetched)
 
 pub returns-in-None-2-clause-gone : goal.returns-in-None-2-clause-gone
 returns-in-None-2-clause-gone g c =
@@ -99,10 +99,10 @@ returns-in-None-2-clause-gone g c =
     let first = c.read_geometry.ensures.keeps in
     let second = c.check_volume.ensures.keeps in
     let reads = rw c.in-Some-Ok.field-0-is at c.in-Some-Ok.ensures.rule in
-    let gone = rw (first.bytes, first.blocks) at (rw c.in-None-2.is at c.in_ok-check_volume.ensures.gone) in
-    λ same. lost_told (IsStructure l n) (IsStructure l n) refl (λ told v tabled.
+    let gone = rw c.in-None-2.is at c.in_ok-check_volume.ensures.gone in
+    λ same. lost_told (IsStructure (g.V.View.size c.read_geometry.new.view) (g.V.View.count c.read_geometry.new.view)) (IsStructure l n) first.blocks (λ told v tabled.
     let is = sym ((reads.rule (second.told told) v (tabled.0)).answer) in
-    ((first.stands v (tabled.0), table_claims l n gg v table is (tabled.1), is), λ block h. h)) gone
+    ((first.stands v (tabled.0), table_claims l n gg v table is (tabled.1), rw (first.bytes, first.blocks) is), λ block h. rw (first.bytes, first.blocks) at h)) gone
 
 pub returns-in-Some-clause-keeps : goal.returns-in-Some-clause-keeps
 returns-in-Some-clause-keeps g c =
