@@ -223,7 +223,11 @@ fn a_table_of_another_volume(rt: HostRuntime) -> Result<(), Fail> {
     let other = Verdict::Malformed(BadKind::Super(BadSuper::Layout), 0);
     let refused: [Edit; 1] = [(8192 + 48, &[0, 0x30])];
     let shorter: [Edit; 1] = [(8192 + 36, &[127])];
-    let tables: [(Which, &[Edit]); 3] = [(Which::F, &refused), (Which::F, &shorter), (Which::Fb, &[])];
+    let tables: [(Which, &[Edit]); 3] = [
+        (Which::F, &refused),
+        (Which::F, &shorter),
+        (Which::Fb, &[]),
+    ];
     for (which, edits) in tables {
         let told = verdict_by(rt.alloc(), which, edits, Which::F, 128, &[], NOTHING)?;
         assert_eq!(rt; told, other, "{which:?} with {edits:?}");
