@@ -1,53 +1,82 @@
--- What passes over a volume fetch and lose, one reader after another.
-use Rattle.std.proofs.Common.{◌≡◌, ℕ, List, [], ◌++◌, inl, inr, Bool, true, false, Option, Some, None, subst, sym, arith}
-use Rattle.std.specs.Prelude.{Contains, IfNone}
+-- What passes over a volume fetch and lose, one reader after another, in the forms in which the passes need the laws of ufs_pointer.
+use Rattle.std.proofs.Common.{◌≡◌, ℕ, zero, suc, ◌+◌, ◌-◌, ◌<◌, ◌≤◌, inl, inr, List, [], ◌∷◌, ◌++◌, Bool, true, false, Option, Some, None, refl, subst, sym, arith}
+use Rattle.std.specs.Prelude.{IfNone}
 use Rattle.std.specs.Bool.{then_some}
-use Rattle.std.specs.List.{list_any}
-use Rattle.std.proofs.lemmas.List.Elements.{Contains-append_cases, Contains-append_left}
-use Rattle.std.proofs.lemmas.List.Folds.{Any-from_list_any}
-use Rattle.ufs_model.specs.Blocks.{Volume, Consulted, Reading}
+use Rattle.std.proofs.lemmas.Bool.{cases_order}
+use Rattle.std.proofs.lemmas.List.Elements.{Contains-append_left, Contains-push}
+use Rattle.ufs_model.specs.Blocks.{Volume, Reading, area_of, bind}
 use Rattle.ufs_model.specs.Readings.{ReadsAs}
-use Rattle.ufs_pointer.specs.Fetches.{Fetches, IsConsulted}
-use Rattle.ufs_check.specs.Passes.{FetchesOnly, LosesOne}
+use Rattle.ufs_pointer.specs.Fetches.{Fetches, FetchesArea, FetchesOnly, IsNeeded, LosesOne}
+use Rattle.ufs_pointer.specs.KindLaws as kinds
 
--- no fetch at all
-pub only_none : {S : Type 0} {fetched : S → List ℕ → S → Type 0} {stands : Volume → Type 0} {tells : Type 0} (may : Volume → ℕ → Type 0) (old : S)
-    → fetched old [] old → FetchesOnly fetched stands tells may old old
-only_none may old none = record { blocks = []; were = none; are = λ is v holds block h. let lt = h.1 in absurd (omega arith) }
+-- ---- what was fetched
+
+-- fetches, and then others that may be for another thing, on the volumes that the view stood for before
+pub only_after : {S : Type 0} {fetched : S → List ℕ → S → Type 0} {stands still : Volume → Type 0} {tells told : Type 0} {kind other : Volume → ℕ → Type 0} {old middle new : S}
+    → ((s t u : S) (x y : List ℕ) → fetched s x t → fetched t y u → fetched s (x ++ y) u) → ((v : Volume) → stands v → still v) → (told → tells)
+    → FetchesOnly fetched stands tells kind old middle → FetchesOnly fetched still told other middle new
+    → (told → (v : Volume) → stands v → (block : ℕ) → other v block → kind v block) → FetchesOnly fetched stands told kind old new
+only_after both keeps tell one two wider = kinds.only_both both tell (λ is v holds. (keeps v holds, wider is v holds)) one two
 
 -- fetches, and then others
-pub only_both : {S : Type 0} {fetched : S → List ℕ → S → Type 0} {stands still : Volume → Type 0} {tells told : Type 0} {may : Volume → ℕ → Type 0} {old middle new : S}
+pub only_both : {S : Type 0} {fetched : S → List ℕ → S → Type 0} {stands still : Volume → Type 0} {tells told : Type 0} {kind : Volume → ℕ → Type 0} {old middle new : S}
     → ((s t u : S) (x y : List ℕ) → fetched s x t → fetched t y u → fetched s (x ++ y) u) → ((v : Volume) → stands v → still v) → (told → tells)
-    → FetchesOnly fetched stands tells may old middle → FetchesOnly fetched still told may middle new → FetchesOnly fetched stands told may old new
-only_both {old = old} {middle = middle} {new = new} both keeps tell one two = record {
-  blocks = one.blocks ++ two.blocks;
-  were = both old middle new (one.blocks) (two.blocks) one.were two.were;
-  are = λ is v holds block h. elim (Contains-append_cases (one.blocks) (two.blocks) block h) [
-    | inl first ↦ one.are (tell is) v holds block first
-    | inr second ↦ two.are is v (keeps v holds) block second
-  ];
-}
+    → FetchesOnly fetched stands tells kind old middle → FetchesOnly fetched still told kind middle new → FetchesOnly fetched stands told kind old new
+only_both both keeps tell one two = only_after both keeps tell one two (λ is v holds block h. h)
 
--- what was consulted for an answer, or for none, are needs
-consulted_need : {A : Type 0} (d : Consulted A) (r : Option A) (blocks : List ℕ) (block : ℕ) → IsConsulted d r blocks → Contains blocks block → Contains (d.needs) block
-consulted_need d None blocks block is h = subst (λ needs. Contains needs block) (sym is.whole) (Contains-append_left blocks (is.rest) block h)
-consulted_need d (Some a) blocks block is h = subst (λ needs. Contains needs block) is h
+-- fetches on fewer volumes, where the blocks are told
+pub only_told : {S : Type 0} {fetched : S → List ℕ → S → Type 0} {stands still : Volume → Type 0} {tells : Type 0} {old new : S} (kind more : Volume → ℕ → Type 0)
+    → (tells → (v : Volume) → stands v → still v × ((block : ℕ) → kind v block → more v block)) → FetchesOnly fetched still tells kind old new → FetchesOnly fetched stands tells more old new
+only_told kind more along one = kinds.only_along {kind = more} {other = kind} along one
 
--- a reading all of whose needs may be fetched
-pub only_needs : {S A : Type 0} {fetched : S → List ℕ → S → Type 0} {stands : Volume → Type 0} {tells : Type 0} {d : Reading A} {r : Option A} {old new : S} (may : Volume → ℕ → Type 0)
-    → ((v : Volume) (block : ℕ) → Contains ((d v).needs) block → may v block) → Fetches fetched stands tells d r old new → FetchesOnly fetched stands tells may old new
-only_needs {d = d} {r = r} may are one = record {
-  blocks = one.blocks;
-  were = one.were;
-  are = λ is v holds block h. are v block (consulted_need (d v) r (one.blocks) block (one.consulted is v holds) h);
-}
+-- what may be read for one thing may be read for another
+pub only_wider : {S : Type 0} {fetched : S → List ℕ → S → Type 0} {stands : Volume → Type 0} {tells : Type 0} {old new : S} (kind more : Volume → ℕ → Type 0)
+    → (tells → (v : Volume) → stands v → (block : ℕ) → kind v block → more v block) → FetchesOnly fetched stands tells kind old new → FetchesOnly fetched stands tells more old new
+only_wider kind more wider one = only_told kind more (λ is v holds. (holds, wider is v holds)) one
 
-any_lost : (gone : ℕ → Bool) (may : ℕ → Type 0) (needs : List ℕ) → ((block : ℕ) → Contains needs block → may block) → list_any gone needs ≡ true → LosesOne gone may
-any_lost gone may needs are h = let any = Any-from_list_any gone needs h in record {
-  block = any.1;
-  is = are any.1 (any.0, any.2, any.3);
-  lost = any.4;
-}
+-- a reading all of whose needs are of the kind
+pub only_needs : {S A : Type 0} {fetched : S → List ℕ → S → Type 0} {stands : Volume → Type 0} {tells : Type 0} {d : Reading A} {r : Option A} {old new : S} (kind : Volume → ℕ → Type 0)
+    → ((v : Volume) (block : ℕ) → IsNeeded d v block → kind v block) → Fetches fetched stands tells d r old new → FetchesOnly fetched stands tells kind old new
+only_needs kind are one = kinds.only_of kind (λ v holds block needs. are v block needs) one
+
+-- ---- what was lost
+
+-- of another kind, on fewer volumes of a view with as many blocks
+pub lost_told : {stands still : Volume → Type 0} {tells : Type 0} {count now : ℕ} {gone : ℕ → Bool} (kind more : Volume → ℕ → Type 0) → now ≡ count
+    → (tells → (v : Volume) → stands v → still v × ((block : ℕ) → kind v block → more v block)) → LosesOne still tells now kind gone → LosesOne stands tells count more gone
+lost_told {tells = tells} kind more same along one = kinds.loses_along {kind = more} {other = kind} same (λ block h. h) (λ is. is) along one
+
+-- of another kind
+pub lost_wider : {stands : Volume → Type 0} {tells : Type 0} {count : ℕ} {gone : ℕ → Bool} (kind more : Volume → ℕ → Type 0)
+    → (tells → (v : Volume) → stands v → (block : ℕ) → kind v block → more v block) → LosesOne stands tells count kind gone → LosesOne stands tells count more gone
+lost_wider kind more wider one = lost_told kind more refl (λ is v holds. (holds, wider is v holds)) one
+
+-- by a later reader
+pub lost_later : {stands still : Volume → Type 0} {tells : Type 0} {count now : ℕ} {gone : ℕ → Bool} {kind : Volume → ℕ → Type 0} → now ≡ count
+    → ((v : Volume) → stands v → still v) → LosesOne still tells now kind gone → LosesOne stands tells count kind gone
+lost_later {kind = kind} same keeps one = lost_told kind kind same (λ is v holds. (keeps v holds, λ block h. h)) one
+
+area_needs : (l a k m : ℕ) (v : Volume) → m < k → IsNeeded (area_of l a k) v (a + m)
+unfolding area_of bind
+area_needs l a zero m v low = absurd (omega arith)
+area_needs l a (suc k) m v low = elim (cases_order m k) [
+  | inl same ↦ rw same (Contains-push ((area_of l a k v).needs) (a + k))
+  | inr other ↦ elim other [
+    | inl less ↦ Contains-append_left ((area_of l a k v).needs) ((a + k) ∷ []) (a + m) (area_needs l a k m v less)
+    | inr greater ↦ absurd (omega arith)
+  ]
+]
+
+need_from : (l a k block : ℕ) (v : Volume) → a ≤ block → block < a + k → IsNeeded (area_of l a k) v block
+need_from l a k block v low high = let back : a + (block - a) ≡ block = omega arith in subst (IsNeeded (area_of l a k) v) back (area_needs l a k (block - a) v (omega arith))
+
+-- one of some blocks end to end
+pub area_lost : {S : Type 0} {fetched : S → List ℕ → S → Type 0} {stands : Volume → Type 0} {tells : Type 0} {count : ℕ} {gone : ℕ → Bool} {old new : S} (kind : Volume → ℕ → Type 0) (l a k : ℕ) (could : Bool)
+    → a + k ≤ count → ((v : Volume) (block : ℕ) → IsNeeded (area_of l a k) v block → kind v block) → could ≡ false
+    → FetchesArea fetched gone a k could old new → LosesOne stands tells count kind gone
+area_lost kind l a k could inside are missed one = kinds.loses_area kind could inside (λ v holds block low high. are v block (need_from l a k block v low high)) one missed
+
+-- ---- what was read
 
 -- what a reading that could be done gives
 pub read_value : {A : Type 0} {stands : Volume → Type 0} {before after : ℕ → Bool} {tells : Type 0} {d : Reading A} (could : Bool) (answer : A)
@@ -55,49 +84,6 @@ pub read_value : {A : Type 0} {stands : Volume → Type 0} {before after : ℕ �
 read_value true answer read could is v holds = (read.rule is v holds).answer
 read_value false answer read could is v holds = let no : false ≡ true = could in cc
 
--- where it couldn't, one of its needs is gone
-pub read_lost : {A : Type 0} {stands : Volume → Type 0} {before after : ℕ → Bool} {tells : Type 0} {d : Reading A} (may : Volume → ℕ → Type 0) (could : Bool) (answer : A)
-    → ((v : Volume) (block : ℕ) → Contains ((d v).needs) block → may v block) → ReadsAs stands before tells after d (then_some could answer) → could ≡ false
-    → tells → (v : Volume) → stands v → LosesOne after (may v)
-read_lost may true answer are read could is v holds = let no : true ≡ false = could in cc
-read_lost {after = after} {d = d} may false answer are read could is v holds = any_lost after (may v) ((d v).needs) (are v) ((read.rule is v holds).only)
-
--- what may be read for one thing may be read for another
-pub only_wider : {S : Type 0} {fetched : S → List ℕ → S → Type 0} {stands : Volume → Type 0} {tells : Type 0} {old new : S} (may more : Volume → ℕ → Type 0)
-    → (tells → (v : Volume) → stands v → (block : ℕ) → may v block → more v block) → FetchesOnly fetched stands tells may old new → FetchesOnly fetched stands tells more old new
-only_wider may more wider one = record { blocks = one.blocks; were = one.were; are = λ is v holds block h. wider is v holds block (one.are is v holds block h) }
-
-pub lost_wider : (gone : ℕ → Bool) (may more : ℕ → Type 0) → ((block : ℕ) → may block → more block) → LosesOne gone may → LosesOne gone more
-lost_wider gone may more wider one = record { block = one.block; is = wider (one.block) one.is; lost = one.lost }
-
--- where a reading has no answer, one of its needs is gone
-pub lost_need : {A : Type 0} {stands : Volume → Type 0} {before after : ℕ → Bool} {tells : Type 0} {d : Reading A} (may : Volume → ℕ → Type 0)
-    → ((v : Volume) (block : ℕ) → Contains ((d v).needs) block → may v block) → ReadsAs stands before tells after d None → tells → (v : Volume) → stands v → LosesOne after (may v)
-lost_need {after = after} {d = d} may are read is v holds = any_lost after (may v) ((d v).needs) (are v) ((read.rule is v holds).only)
-
--- fetches, and then others that may be for another thing, on the volumes that the view stood for before
-pub only_after : {S : Type 0} {fetched : S → List ℕ → S → Type 0} {stands still : Volume → Type 0} {tells told : Type 0} {may other : Volume → ℕ → Type 0} {old middle new : S}
-    → ((s t u : S) (x y : List ℕ) → fetched s x t → fetched t y u → fetched s (x ++ y) u) → ((v : Volume) → stands v → still v) → (told → tells)
-    → FetchesOnly fetched stands tells may old middle → FetchesOnly fetched still told other middle new
-    → (told → (v : Volume) → stands v → (block : ℕ) → other v block → may v block) → FetchesOnly fetched stands told may old new
-only_after {old = old} {middle = middle} {new = new} both keeps tell one two wider = record {
-  blocks = one.blocks ++ two.blocks;
-  were = both old middle new (one.blocks) (two.blocks) one.were two.were;
-  are = λ is v holds block h. elim (Contains-append_cases (one.blocks) (two.blocks) block h) [
-    | inl first ↦ one.are (tell is) v holds block first
-    | inr second ↦ wider is v holds block (two.are is v (keeps v holds) block second)
-  ];
-}
-
 pub if_none : {A : Type 0} (r : Option A) (P : Type 0) → P → IfNone r P
 if_none None P h = h
 if_none (Some a) P h = tt
-
--- fetches on fewer volumes, where the blocks are told
-pub only_told : {S : Type 0} {fetched : S → List ℕ → S → Type 0} {stands still : Volume → Type 0} {tells : Type 0} {old new : S} (may more : Volume → ℕ → Type 0)
-    → (tells → (v : Volume) → stands v → still v × ((block : ℕ) → may v block → more v block)) → FetchesOnly fetched still tells may old new → FetchesOnly fetched stands tells more old new
-only_told may more along one = record {
-  blocks = one.blocks;
-  were = one.were;
-  are = λ is v holds block h. let both = along is v holds in both.1 block (one.are is v (both.0) block h);
-}

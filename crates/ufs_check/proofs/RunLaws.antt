@@ -6,15 +6,13 @@ use Rattle.std.proofs.lemmas.Bool.Decides.{nat_tests}
 use Rattle.std.proofs.lemmas.List.FromFn.{get_or-range_with_len, length-range_with_len}
 use Rattle.std.proofs.lemmas.Option.{get_or_from_slice_get, slice_get-get_or, slice_get_within}
 use Rattle.ufs_model.specs.Blocks.{Volume, block_at}
-use Rattle.ufs_model.specs.Claims.{fragments_at, fragments_from, level_of, pointer_fragments, slot_fragments, slot_fragments_in, targets}
-use Rattle.ufs_model.specs.Inodes.{has_pointers, inode_of, slot_of, span}
+use Rattle.ufs_model.specs.Claims.{fragments_at, fragments_from, level_of, pointer_fragments, slot_fragments, slot_fragments_in, source_fragments}
+use Rattle.ufs_model.specs.Inodes.{has_pointers, inode_of, is_inode_number, slot_of, span}
 use Rattle.ufs_model.specs.Pointers.{address, is_data_run, pointer_in}
-use Rattle.ufs_model.specs.Roles.{is_within}
 use Rattle.ufs_model.specs.declared.claims.ClaimSource.{ClaimSource}
 use Rattle.ufs_model.specs.declared.claims.ClaimSource.TheVariants.{Slot, Pointer}
 use Rattle.ufs_model.specs.declared.geometries.Geometry.{Geometry}
 use Rattle.ufs_model.specs.declared.inodes.Inode.{Inode}
-use Rattle.ufs_model.specs.declared.numbers.Endian.TheVariants.{Little}
 use Rattle.ufs_model.specs.declared.pointers.Address.TheVariants.{Hole, Wild, At}
 
 -- ---- fragments in a row
@@ -80,15 +78,15 @@ slot_run g slot (Some inode) low =
     if_run (has_pointers g inode && nat_lt slot 15) g.frag (fragments_at (address g (slot_of inode slot) (span g inode slot)))
     (subst (λ k. RunOrNone g.frag (fragments_at (address g (slot_of inode slot) k))) (sym (whole_span g inode slot low)) (pointer_run g (slot_of inode slot) g.frag))
 
-targets_run : (g : Geometry) (v : Volume) (source : ClaimSource) → 0 < level_of source → RunOrNone g.frag (targets Little g v source)
-unfolding targets pointer_fragments
+targets_run : (g : Geometry) (v : Volume) (source : ClaimSource) → 0 < level_of source → RunOrNone g.frag (source_fragments g v source)
+unfolding source_fragments pointer_fragments
 targets_run g v (Slot i slot) above =
-    if_run (is_within 2 (g.ncg * g.ipg) i) g.frag (slot_fragments_in g slot ((inode_of Little g i v).value)) (slot_run g slot ((inode_of Little g i v).value) (omega arith))
+    if_run (is_inode_number g i) g.frag (slot_fragments_in g slot ((inode_of g i v).value)) (slot_run g slot ((inode_of g i v).value) (omega arith))
 targets_run g v (Pointer f level at) above =
-    if_run (nat_lt at (g.fsize / 4)) g.frag (fragments_at (address g (pointer_in Little (block_at g.fsize v f) at) g.frag)) (pointer_run g (pointer_in Little (block_at g.fsize v f) at) g.frag)
+    if_run (nat_lt at (g.fsize / 4)) g.frag (fragments_at (address g (pointer_in g.endian (block_at g.fsize v f) at) g.frag)) (pointer_run g (pointer_in g.endian (block_at g.fsize v f) at) g.frag)
 
-pub upper_run : (g : Geometry) (v : Volume) (source : ClaimSource) (f : ℕ) → 0 < level_of source → Contains (targets Little g v source) f
-    → (a : ℕ) × (targets Little g v source ≡ fragments_from a g.frag)
+pub upper_run : (g : Geometry) (v : Volume) (source : ClaimSource) (f : ℕ) → 0 < level_of source → Contains (source_fragments g v source) f
+    → (a : ℕ) × (source_fragments g v source ≡ fragments_from a g.frag)
 upper_run g v source f above has = elim (targets_run g v source above) [
   | inl none ↦ let h : Contains [] f = subst (λ xs. Contains xs f) none has in let lt = h.1 in absurd (omega arith)
   | inr run ↦ run

@@ -1,19 +1,13 @@
 //! Faults of the volume F, each of which is told where its bytes are put in. A name says the kind and
 //! the number.
-use crate::BadKind;
-use crate::fragment_tests::{FRAGMENT_MAP, INDIRECT};
-use crate::link_tests::{D, ROOT};
-use crate::tests::{
-    ENTRY_B, ENTRY_H, Edit, GROUP, INODE_3, INODE_4, INODE_5, INODE_6, INODE_7, INODE_MAP,
+use crate::volumes::{
+    D, ENTRY_B, ENTRY_H, ENTRY_Z, Edit, FRAGMENT_MAP, GROUP, INDIRECT, INODE_2, INODE_3, INODE_4,
+    INODE_5, INODE_6, INODE_7, INODE_MAP, ROOT,
 };
+use ufs_check::BadKind;
 
 /// Bytes that make a fault where they are put in, and what is told of it: its kind and its number.
 pub type Fault<'a> = (&'a [Edit<'a>], BadKind, u32);
-
-/// The first byte of the root's inode, and of the root's entry `z` for inode 6.
-pub const INODE_2: usize = 28 * 1024 + 2 * 128;
-
-pub const ENTRY_Z: usize = ROOT + 48;
 
 pub const GROUP_MAGIC_0: Fault = (&[(GROUP + 4, &[0])], BadKind::GroupMagic, 0);
 

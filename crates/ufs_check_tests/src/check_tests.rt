@@ -1,45 +1,17 @@
-ghost use Rattle.std.specs.Prelude.{◌≡◌, ◌≤◌};
-
 use crate::fault_rows::*;
-use crate::fragment_tests::{FRAGMENT_MAP, INDIRECT, claims_of};
-use crate::link_tests::D;
-use crate::tests::{
-    ENTRY_B, Edit, GROUP, INODE_3, INODE_4, INODE_5, INODE_6, INODE_MAP, NOTHING, edited,
+use crate::volumes::{
+    D, ENTRY_B, Edit, FRAGMENT_MAP, GROUP, INDIRECT, INODE_3, INODE_4, INODE_5, INODE_6, INODE_MAP,
+    NOTHING, verdict, verdict_by, verdict_without,
 };
-use crate::{BadKind, BadSuper, Levels, Verdict, check};
-use dg_io::{Loss, MemView};
+use dg_io::Loss;
 use std::alloc::Global;
 use std::test::Fail;
-use ufs_rows::Which;
-
-/// What is told of a volume of so many blocks with bytes put in, where a block becomes gone after its
-/// claims were scanned.
-fn verdict_without(
-    alloc: Global,
-    which: Which,
-    count: u32,
-    edits: &[Edit],
-    loss: Loss,
-) -> Result<Verdict, Fail>
-    requires { count ≤ 256 }
-{
-    let mut levels = Levels::new(alloc, 1024)?;
-    let claims = claims_of(alloc, which, count, edits, &mut levels)?;
-    let image = edited(alloc, which, count, edits)?;
-    let mut view = MemView::new(image, 1024, count, vec![in alloc; loss]?);
-    Ok(check(alloc, &mut view, &mut levels, &claims)?)
-}
-
-/// What is told of a volume of so many blocks with bytes put in.
-pub fn verdict(alloc: Global, which: Which, count: u32, edits: &[Edit]) -> Result<Verdict, Fail>
-    requires { count ≤ 256 }
-{
-    verdict_without(alloc, which, count, edits, NOTHING)
-}
+use ufs_check::{BadKind, BadSuper, Verdict};
+use ufs_rows::{Which, rows_image};
 
 #[test]
 fn the_rows_are_sound(rt: HostRuntime) -> Result<(), Fail> {
-    for which in [Which::E, Which::F, Which::X] {
+    for which in [Which::E, Which::F, Which::X, Which::Fb] {
         let told = verdict(rt.alloc(), which, 128, &[])?;
         assert_eq!(rt; told, Verdict::Sound, "{which:?}");
     }
@@ -224,5 +196,43 @@ fn faults_with_a_block_gone(rt: HostRuntime) -> Result<(), Fail> {
         let told = verdict_without(rt.alloc(), Which::F, 128, edits, loss)?;
         assert_eq!(rt; told, wanted, "{edits:?} without {block}");
     }
+    Ok(())
+}
+
+/// The superblock's second block, which has the magic number, in the other order of bytes: by that order
+/// the block size in the first one is another number. So it is the other way round.
+#[test]
+fn a_superblock_in_both_orders(rt: HostRuntime) -> Result<(), Fail> {
+    let bad = Verdict::Malformed(BadKind::Super(BadSuper::Bsize), 0);
+    for (which, other) in [(Which::F, Which::Fb), (Which::Fb, Which::F)] {
+        let rows = rows_image(rt.alloc(), other)?;
+        if rows.len() < 10 * 1024 {
+            return Err("image".into());
+        }
+        let edits: [Edit; 1] = [(9 * 1024, &rows[9 * 1024..10 * 1024])];
+        let told = verdict(rt.alloc(), which, 128, &edits)?;
+        assert_eq!(rt; told, bad, "{which:?}");
+    }
+    Ok(())
+}
+
+/// By a table of another geometry no volume is sound: of one of fewer fragments, of none, and of the other
+/// order of bytes.
+#[test]
+fn a_table_of_another_volume(rt: HostRuntime) -> Result<(), Fail> {
+    let other = Verdict::Malformed(BadKind::Super(BadSuper::Layout), 0);
+    let refused: [Edit; 1] = [(8192 + 48, &[0, 0x30])];
+    let shorter: [Edit; 1] = [(8192 + 36, &[127])];
+    let tables: [(Which, &[Edit]); 3] = [
+        (Which::F, &refused),
+        (Which::F, &shorter),
+        (Which::Fb, &[]),
+    ];
+    for (which, edits) in tables {
+        let told = verdict_by(rt.alloc(), which, edits, Which::F, 128, &[], NOTHING)?;
+        assert_eq!(rt; told, other, "{which:?} with {edits:?}");
+    }
+    let same = verdict_by(rt.alloc(), Which::F, &[], Which::F, 128, &[], NOTHING)?;
+    assert_eq!(rt; same, Verdict::Sound);
     Ok(())
 }

@@ -1,12 +1,8 @@
-use crate::check_tests::verdict;
-use crate::fault_rows::ENTRY_Z;
-use crate::fragment_tests::INDIRECT;
-use crate::link_tests::D;
 use crate::pair_tests::NO_ROOT;
-use crate::tests::{ENTRY_B, Edit, INODE_4, INODE_5, INODE_6};
-use crate::{BadKind, Verdict};
+use crate::volumes::{D, ENTRY_B, ENTRY_Z, Edit, INDIRECT, INODE_4, INODE_5, INODE_6, verdict};
 use std::alloc::Global;
 use std::test::Fail;
+use ufs_check::{BadKind, Verdict};
 use ufs_rows::Which;
 
 /// The chunk of inode 3, where that is a directory.

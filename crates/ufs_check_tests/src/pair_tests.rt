@@ -1,13 +1,10 @@
 ghost use Rattle.std.specs.Prelude.{◌≤◌};
 
-use crate::check_tests::verdict;
 use crate::fault_rows::*;
-use crate::fragment_tests::FRAGMENT_MAP;
-use crate::link_tests::D;
-use crate::tests::{ENTRY_B, Edit, GROUP, INODE_3, INODE_MAP};
-use crate::{BadKind, Verdict};
+use crate::volumes::{D, ENTRY_B, Edit, FRAGMENT_MAP, GROUP, INODE_2, INODE_3, INODE_MAP, verdict};
 use std::alloc::Global;
 use std::test::Fail;
+use ufs_check::{BadKind, Verdict};
 use ufs_rows::Which;
 
 /// The volume E with four groups of 64 fragments, whose group blocks are at 24, 88, 152 and 216.
