@@ -16,6 +16,7 @@ use Rattle.dg_map.specs.declared.maps.Map.TheInside.{Inside}
 use Rattle.dg_map.specs.declared.site_lists.SiteLists.{SiteLists}
 use Rattle.dg_map.specs.Maps.{Agrees, IsMap, table_of}
 use Rattle.dg_map.specs.Slots.{GivesUp, IsUnused, Keeps, Puts, block_in}
+use Rattle.dg_map.specs.Takes.{TakesLowest}
 use Rattle.dg_model.specs.Tables.{IsFree, IsLowestFree, IsTable, StandsIn, Table, count_on, empty_table, put_site, sites_in, without_site, sites_off}
 use Rattle.dg_map.proofs.AgreeLemmas.{agrees_empty, agrees_kept, agrees_put, agrees_put_apart, agrees_without, agrees_without_apart, free_slot}
 use Rattle.dg_map.proofs.SlotLemmas.{count_below}
@@ -147,14 +148,14 @@ module _ (old : Inside) (ok : IsMap old) where
       }
 
   -- what `take_lowest` leaves, of the table that the map stood for
-  pub taken_lowest : {E : Type 0} (table : Table) → table_of old ≡ table → (lists : SiteLists) (at slots : Slots) (b s : ℕ) (r : Result Site E) → b < table.shape.n → s < table.shape.b → count_on s (sites_in table b) ≡ 0 → at ≡ get_or old.boundaries.items s at → MatchResult r (λ site. Puts at slots site.slot b) (λ _. Keeps at slots) → MatchResult r (λ site. Appends old.lists.rows lists.rows b site) (λ _. SameRows old.lists.rows lists.rows) → IfOk r (λ site. (site.boundary ≡ s) × ((k : ℕ) → k < site.slot → IsSome (block_in at k))) → IsMap (with_slots old lists s slots) × IfOk r (λ site. (site.boundary ≡ s) × IsLowestFree table s site.slot × (table_of (with_slots old lists s slots) ≡ put_site table b site)) × OnErr r (table_of (with_slots old lists s slots) ≡ table)
+  pub taken_lowest : {E : Type 0} (table : Table) → table_of old ≡ table → (lists : SiteLists) (at slots : Slots) (b s : ℕ) (r : Result Site E) → b < table.shape.n → s < table.shape.b → count_on s (sites_in table b) ≡ 0 → at ≡ get_or old.boundaries.items s at → MatchResult r (λ site. Puts at slots site.slot b) (λ _. Keeps at slots) → MatchResult r (λ site. Appends old.lists.rows lists.rows b site) (λ _. SameRows old.lists.rows lists.rows) → IfOk r (λ site. (site.boundary ≡ s) × ((k : ℕ) → k < site.slot → IsSome (block_in at k))) → IsMap (with_slots old lists s slots) × IfOk r (λ site. TakesLowest table b s site (table_of (with_slots old lists s slots))) × OnErr r (table_of (with_slots old lists s slots) ≡ table)
   taken_lowest {E} table e lists at slots b s r =
       subst
-      (λ t. b < t.shape.n → s < t.shape.b → count_on s (sites_in t b) ≡ 0 → at ≡ get_or old.boundaries.items s at → MatchResult r (λ site. Puts at slots site.slot b) (λ _. Keeps at slots) → MatchResult r (λ site. Appends old.lists.rows lists.rows b site) (λ _. SameRows old.lists.rows lists.rows) → IfOk r (λ site. (site.boundary ≡ s) × ((k : ℕ) → k < site.slot → IsSome (block_in at k))) → IsMap (with_slots old lists s slots) × IfOk r (λ site. (site.boundary ≡ s) × IsLowestFree t s site.slot × (table_of (with_slots old lists s slots) ≡ put_site t b site)) × OnErr r (table_of (with_slots old lists s slots) ≡ t))
+      (λ t. b < t.shape.n → s < t.shape.b → count_on s (sites_in t b) ≡ 0 → at ≡ get_or old.boundaries.items s at → MatchResult r (λ site. Puts at slots site.slot b) (λ _. Keeps at slots) → MatchResult r (λ site. Appends old.lists.rows lists.rows b site) (λ _. SameRows old.lists.rows lists.rows) → IfOk r (λ site. (site.boundary ≡ s) × ((k : ℕ) → k < site.slot → IsSome (block_in at k))) → IsMap (with_slots old lists s slots) × IfOk r (λ site. TakesLowest t b s site (table_of (with_slots old lists s slots))) × OnErr r (table_of (with_slots old lists s slots) ≡ t))
       e
       (cases r)
     where
-      cases : (r : Result Site E) → b < old.shape.n → s < old.shape.b → count_on s (sites_in (table_of old) b) ≡ 0 → at ≡ get_or old.boundaries.items s at → MatchResult r (λ site. Puts at slots site.slot b) (λ _. Keeps at slots) → MatchResult r (λ site. Appends old.lists.rows lists.rows b site) (λ _. SameRows old.lists.rows lists.rows) → IfOk r (λ site. (site.boundary ≡ s) × ((k : ℕ) → k < site.slot → IsSome (block_in at k))) → IsMap (with_slots old lists s slots) × IfOk r (λ site. (site.boundary ≡ s) × IsLowestFree (table_of old) s site.slot × (table_of (with_slots old lists s slots) ≡ put_site (table_of old) b site)) × OnErr r (table_of (with_slots old lists s slots) ≡ table_of old)
+      cases : (r : Result Site E) → b < old.shape.n → s < old.shape.b → count_on s (sites_in (table_of old) b) ≡ 0 → at ≡ get_or old.boundaries.items s at → MatchResult r (λ site. Puts at slots site.slot b) (λ _. Keeps at slots) → MatchResult r (λ site. Appends old.lists.rows lists.rows b site) (λ _. SameRows old.lists.rows lists.rows) → IfOk r (λ site. (site.boundary ≡ s) × ((k : ℕ) → k < site.slot → IsSome (block_in at k))) → IsMap (with_slots old lists s slots) × IfOk r (λ site. TakesLowest (table_of old) b s site (table_of (with_slots old lists s slots))) × OnErr r (table_of (with_slots old lists s slots) ≡ table_of old)
       cases (Ok site) within lt none is puts appends lowest =
           let done : IsMap (with_slots old lists s slots) × (table_of (with_slots old lists s slots) ≡ put_site (table_of old) b site) =
           subst
@@ -162,7 +163,7 @@ module _ (old : Inside) (ok : IsMap old) where
           lowest.0
           (λ inside off here. map_put lists at slots b site within inside off here puts appends)
           lt none is in
-          (done.0, (lowest.0, lowest_free s site.slot at lt is puts.free lowest.1, done.1), tt)
+          (done.0, record { on = lowest.0; lowest = lowest_free s site.slot at lt is puts.free lowest.1; taken = done.1 }, tt)
       cases (Err x) within lt none is keeps same lowest =
           let done : IsMap (with_slots old lists s slots) × (table_of (with_slots old lists s slots) ≡ table_of old) = map_kept lists s at slots lt is keeps same in
           (done.0, tt, done.1)

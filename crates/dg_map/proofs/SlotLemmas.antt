@@ -1,5 +1,5 @@
 -- What the tables of a boundary's slots say together.
-use Rattle.std.proofs.Common.{◌≡◌, ◌⊎◌, ◌<◌, ◌≤◌, ℕ, true, eqb, length, IsSome, Option, Some, None, vec_len, refl, subst, inl, inr, ⊎_elim, arith}
+use Rattle.std.proofs.Common.{◌≡◌, ◌⊎◌, ◌<◌, ◌≤◌, ℕ, true, length, IsSome, Option, Some, None, vec_len, refl, subst, inl, inr, ⊎_elim, arith}
 use Rattle.std.specs.Ordering.{nat_cmp, eq_by_cmp}
 use Rattle.std.specs.Cmp.{nat_cmp_total, nat_eq_equiv, eq_by_cmp_equiv}
 use Rattle.std.specs.BTreeMap as tree
@@ -15,10 +15,6 @@ use Rattle.std.proofs.lemmas.Map.Steps.{le-length_from_below}
 use Rattle.std.proofs.lemmas.Map.Views.{All-keys_from_lookup, Contains-keys_from_lookup, length-le_from_below, list_any-from_Contains}
 use Rattle.dg_map.specs.Slots.{IsFreed, IsSlots, block_in, used_count}
 use Rattle.dg_map.specs.declared.boundary_slots.Slots.{Slots}
-
--- what a tree's order tests at numbers
-pub is_at_number : (k q : ℕ) → is_at (nat_cmp k) q ≡ eqb k q
-is_at_number k q = grind (arith, nat_tests)
 
 -- keys below n are at most n
 pub count_below : (m : BTreeMap ℕ ℕ) (n : ℕ) → tree.IsOrdered nat_cmp m → ((k : ℕ) → IsSome (tree.get nat_cmp m k) → k < n) → tree.btree_map_len m ≤ n

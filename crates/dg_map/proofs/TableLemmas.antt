@@ -161,7 +161,7 @@ pub undone_at : {A E : Type 0} (r : Result A E) (table new : Table) (b : ℕ) (s
 undone_at (Ok x) table new b site within is = undone table new b site within is
 undone_at (Err x) table new b site within is = tt
 
-empty_row : (n b : ℕ) → get_or {A = List Site} (replicate n []) b [] ≡ []
+pub empty_row : (n b : ℕ) → get_or {A = List Site} (replicate n []) b [] ≡ []
 empty_row n b =
     ⊎_elim
     (λ lt. get_or-replicate n b [] [] lt)

@@ -8,6 +8,7 @@
 mod boundary_slots;
 mod faults;
 mod maps;
+mod restores;
 mod site_lists;
 #[cfg(test)]
 mod tests;

@@ -1,13 +1,16 @@
 ghost use Rattle.std.specs.Prelude.{◌≡◌, ◌+◌, ◌-◌, ◌^◌, ◌++◌, ◌<◌, ◌≤◌, ℕ, List, [], ◌∷◌, length, IsSome, IfOk, IfSome, OnErr, OnOk, MatchOption, MatchResult};
 ghost use Rattle.std.specs.List.{All};
 ghost use Rattle.dg_model.specs.Shapes.{IsShape};
+ghost use Rattle.dg_map.specs.Restores.{AreSites, table_with};
 ghost use Rattle.dg_map.specs.Rows.{Appends, SameRows};
+ghost use Rattle.dg_map.specs.Takes.{TakesLowest, Undoes};
 ghost use Rattle.dg_map.specs.Slots.{IsSlots, IsUnused, Keeps, Puts, block_in, used_count};
 ghost use Rattle.dg_map.specs.Refusals.{IsFullAt};
 ghost use Rattle.dg_model.specs.Tables.{IsFree, IsLowestFree, IsTable, StandsIn, Table, count_on, empty_table, put_site, sites_in, used_in, without_site};
 
 use crate::boundary_slots::Slots;
 use crate::faults::TakeFault;
+use crate::restores::take_all;
 use crate::site_lists::SiteLists;
 use dg_model::{NoMemory, Shape, Site};
 use std::alloc::Global;
@@ -46,6 +49,19 @@ impl Map {
             lists: SiteLists::new(alloc),
             boundaries: free_boundaries(alloc, shape.b, shape.k + 1)?,
         })
+    }
+
+    /// The map in which each block has the sites of its list, in that order.
+    pub fn restored(alloc: Global, shape: Shape, sites: &Vec<Vec<Site>>) -> Result<Map, NoMemory>
+        requires { AreSites (table_with shape sites.now.items) }
+        ensures sites { IfOk result (λ map. map ≡ table_with shape sites.now.items) }
+        ensures table { IfOk result IsTable }
+    {
+        let mut map = Map::new(alloc, shape)?;
+        for block in 0..shape.n {
+            take_all(&mut map, block, &sites[block as usize])?;
+        }
+        Ok(map)
     }
 
     /// The shape that the map was made with.
@@ -102,7 +118,7 @@ impl Map {
         requires boundary { boundary < self.old.shape.b }
         requires none { count_on boundary (sites_in self.old block) ≡ 0 }
         ensures full { IsFullAt self.old.shape.k (used_in self.old boundary) result }
-        ensures taken { IfOk result (λ site. (site.boundary ≡ boundary) × IsLowestFree self.old boundary site.slot × (self.new ≡ put_site self.old block site)) }
+        ensures taken { IfOk result (λ site. TakesLowest self.old block boundary site self.new) }
         ensures refused { OnErr result (self.new ≡ self.old) }
         ensures table { IsTable self.new }
     {
@@ -121,7 +137,7 @@ impl Map {
         requires boundary { boundary < self.old.shape.b }
         requires none { count_on boundary (sites_in self.old block) ≡ 0 }
         ensures full { IsFullAt (self.old.shape.k + 1) (used_in self.old boundary) result }
-        ensures taken { IfOk result (λ site. (site.boundary ≡ boundary) × IsLowestFree self.old boundary site.slot × (self.new ≡ put_site self.old block site)) }
+        ensures taken { IfOk result (λ site. TakesLowest self.old block boundary site self.new) }
         ensures refused { OnErr result (self.new ≡ self.old) }
         ensures table { IsTable self.new }
     {
@@ -142,7 +158,7 @@ impl Map {
         requires free { IsFree self.old site.boundary site.slot }
         requires none { count_on site.boundary (sites_in self.old block) ≡ 0 }
         ensures taken { OnOk result (self.new ≡ put_site self.old block site) }
-        ensures undone { OnOk result ((before : Table) (others : List Site) → IsTable before → sites_in before block ≡ others ++ site ∷ [] → self.old ≡ without_site before block site.boundary → self.new ≡ before) }
+        ensures undone { OnOk result (Undoes self.old block site self.new) }
         ensures refused { OnErr result (self.new ≡ self.old) }
         ensures table { IsTable self.new }
     {
@@ -168,7 +184,7 @@ impl Map {
         requires boundary { boundary < self.old.shape.b }
         requires none { count_on boundary (sites_in self.old block) ≡ 0 }
         requires left { used_in self.old boundary ≤ self.old.shape.k }
-        ensures taken { IfOk result (λ site. (site.boundary ≡ boundary) × IsLowestFree self.old boundary site.slot × (self.new ≡ put_site self.old block site)) }
+        ensures taken { IfOk result (λ site. TakesLowest self.old block boundary site self.new) }
         ensures refused { OnErr result (self.new ≡ self.old) }
         ensures table { IsTable self.new }
     {

@@ -7,13 +7,14 @@ use Rattle.std.proofs.lemmas.List.{get_or-set_same, get_or-set_other, length-set
 use Rattle.std.proofs.lemmas.List.Elements.{All-contains, All-push, Contains-append_left, Contains-get_or}
 use Rattle.dg_model.specs.Members.{SlotHolds}
 use Rattle.dg_model.specs.Sites.{has_site}
-use Rattle.dg_model.specs.States.{StandsFor, block_in, zeros}
+use Rattle.dg_model.specs.Blocks.{block_in, zeros}
+use Rattle.dg_model.specs.States.{StandsFor}
 use Rattle.dg_model.specs.Tables.{Table, IsFree, IsTable, put_site, sites_in, without_site}
 use Rattle.dg_model.specs.declared.shapes.Shape.{Shape}
 use Rattle.dg_model.specs.declared.sites.Site.{Site}
 use Rattle.dg_model.specs.declared.members.MemberState.{MemberState}
 use Rattle.dg_store.specs.Evictions.{IsThinned}
-use Rattle.dg_store.specs.Rows.{KeepsSlots, KeepsOtherSlots, KeepsSlotsBut, SitesHold}
+use Rattle.dg_store.specs.Slots.{KeepsSlots, KeepsOtherSlots, KeepsSlotsBut, SitesHold}
 use Rattle.dg_store.proofs.PlaceLemmas.{IsHeld, site_is}
 use Rattle.dg_store.proofs.TableLemmas.{put_here, put_other, has_put, without_here, without_other, has_off, has_some, off_within}
 

@@ -5,6 +5,7 @@ mod Changed
 mod EvictionCounts
 mod EvictionSteps
 mod PlaceLemmas
+mod Quiet
 mod Rows
 mod SitesGivenUp
 mod SitesLists

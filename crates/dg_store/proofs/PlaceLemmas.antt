@@ -11,7 +11,7 @@ use Rattle.dg_model.specs.States.{Counts, CountsRise}
 use Rattle.dg_model.specs.declared.sites.Site.{Site}
 use Rattle.dg_model.specs.declared.members.MemberState.{MemberState}
 use Rattle.dg_model.specs.declared.members.MemberState.TheVariants.{Out}
-use Rattle.dg_store.specs.Rows.{KeepsSlots, KeepsOtherSlots, KeepsSlotsBut, SitesHold, LostAreOut}
+use Rattle.dg_store.specs.Slots.{KeepsSlots, KeepsOtherSlots, KeepsSlotsBut, SitesHold, LostAreOut}
 
 -- ---- sites on lost boundaries
 
@@ -117,13 +117,6 @@ module _ (l : ℕ) (old new : ℕ → MemberState) (before now : ℕ → Option 
 -- further calls
 pub kept_both : (l : ℕ) (a b c : ℕ → MemberState) (x y z : ℕ → Option (List ℕ)) → KeepsSlots l a x b y → KeepsSlots l b y c z → KeepsSlots l a x c z
 kept_both l a b c x y z first second t slot v had = second t slot v (first t slot v had)
-
-pub rises_both : (a b c : Counts) → CountsRise a b → CountsRise b c → CountsRise a c
-rises_both a b c first second = record {
-  faults = λ q. let e = first.faults q in let f = second.faults q in omega arith;
-  calls = omega (arith, first.calls, second.calls);
-  writes = omega (arith, first.writes, second.writes);
-}
 
 pub found_false : (x : Bool) → (x ≡ true → ⊥) → x ≡ false
 found_false x never = elim x as (λ (y : Bool). (y ≡ true → ⊥) → y ≡ false) [ true ↦ λ contra. absurd (contra refl) | false ↦ λ contra. refl ] never

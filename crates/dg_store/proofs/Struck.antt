@@ -6,7 +6,7 @@ use Rattle.dg_model.specs.Members.{is_filling, partner_of, serves, IsStruck}
 use Rattle.dg_model.specs.declared.members.MemberState.{MemberState}
 use Rattle.dg_model.specs.declared.members.MemberState.TheVariants.{Good, Filling, Out}
 use Rattle.dg_pair.specs.Boundaries.{MembersFit, unfilled}
-use Rattle.dg_store.specs.Rows.{KeepsSlots}
+use Rattle.dg_store.specs.Slots.{KeepsSlots}
 use Rattle.dg_store.proofs.Changed.{IsChanged}
 
 unfilled_is : (old new : MemberState) → new ≡ unfilled old → (new ≡ old) ⊎ ((is_filling old ≡ true) × (new ≡ Out))

@@ -11,7 +11,7 @@ use Rattle.std.proofs.lemmas.List.Elements.{All-head, All-tail, All-nil, All-con
 use Rattle.dg_model.specs.Sites.{has_site}
 use Rattle.dg_model.specs.Tables.{Table, IsTable, count_on, put_site, sites_in, sites_off, without_site}
 use Rattle.dg_model.specs.declared.sites.Site.{Site}
-use Rattle.dg_store.specs.Rows.{AreSlots}
+use Rattle.dg_store.specs.Slots.{AreSlots}
 
 -- ---- lists of sites
 

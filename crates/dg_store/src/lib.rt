@@ -15,6 +15,6 @@ mod views;
 pub use dg_io::Fetched;
 pub use dg_map::Map;
 pub use dg_model::{Shape, Site};
-pub use dg_pair::{Boundary, FailAnswer};
+pub use dg_pair::{Boundary, CopyAnswer, ExtendAnswer, FailAnswer, NoteAnswer, ReplaceAnswer};
 pub use lengths::member_length;
 pub use store::{PlaceAnswer, Store, StoreWrite};

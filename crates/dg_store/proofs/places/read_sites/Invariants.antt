@@ -4,7 +4,8 @@ use Rattle.dg_model.specs.Members.{MembersFall}
 use Rattle.dg_model.specs.States.{CountsRise}
 use Rattle.dg_io.specs.Told.{StillTold}
 use Rattle.dg_pair.specs.Boundaries.{MembersFit}
-use Rattle.dg_store.specs.Rows.{members_in, RowStands, KeepsSlots}
+use Rattle.dg_store.specs.Rows.{members_in, RowStands}
+use Rattle.dg_store.specs.Slots.{KeepsSlots}
 use Rattle.dg_store.proofs.PlaceLemmas.{IsLostSite}
 use Rattle.dg_store.proofs.places.read_sites.Given as goal
 

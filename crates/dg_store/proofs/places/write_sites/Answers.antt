@@ -2,7 +2,8 @@ use Rattle.std.proofs.Common.{◌∙◌, List, subst, arith}
 use Rattle.std.proofs.lemmas.List.{take_all}
 use Rattle.std.proofs.lemmas.List.Elements.{Contains-get_or}
 use Rattle.dg_model.specs.declared.sites.Site.{Site}
-use Rattle.dg_store.specs.Rows.{members_in, SitesHold, LostAreOut}
+use Rattle.dg_store.specs.Rows.{members_in}
+use Rattle.dg_store.specs.Slots.{SitesHold, LostAreOut}
 use Rattle.dg_store.specs.ReadLaws.{falls_both}
 use Rattle.dg_store.proofs.PlaceLemmas.{no_site, but_these, but_both, out_more, put_more, rises_both}
 use Rattle.dg_store.proofs.places.write_sites.Goals as goal

@@ -3,7 +3,8 @@ use Rattle.dg_model.specs.Members.{MembersFall}
 use Rattle.dg_model.specs.States.{CountsRise}
 use Rattle.dg_io.specs.Told.{StillTold}
 use Rattle.dg_pair.specs.Boundaries.{MembersFit}
-use Rattle.dg_store.specs.Rows.{members_in, RowStands, KeepsSlotsBut, SitesHold, LostAreOut}
+use Rattle.dg_store.specs.Rows.{members_in, RowStands}
+use Rattle.dg_store.specs.Slots.{KeepsSlotsBut, SitesHold, LostAreOut}
 use Rattle.dg_store.proofs.places.write_sites.Given as goal
 
 abbrev pub invariant-loop-site : goal.invariant-loop-site

@@ -4,7 +4,8 @@ use Rattle.std.specs.List.{Contains}
 use Rattle.dg_model.specs.Sites.{has_site}
 use Rattle.dg_model.specs.Tables.{Table}
 use Rattle.dg_model.specs.declared.sites.Site.{Site}
-use Rattle.dg_store.specs.Rows.{SitesHold, members_in}
+use Rattle.dg_store.specs.Rows.{members_in}
+use Rattle.dg_store.specs.Slots.{SitesHold}
 use Rattle.dg_store.proofs.Blocks.{first_fewer, stands_fewer, stands_kept, stands_written, thinned_fewer}
 use Rattle.dg_store.proofs.PlaceLemmas.{IsHeld, but_these, slot_kept}
 use Rattle.dg_store.proofs.Sound.{sound_of}
