@@ -1,4 +1,6 @@
 pub mod AgreeLemmas
+pub mod BitLemmas
+pub mod CountLemmas
 pub mod MapLemmas
 pub mod RestoreLemmas
 pub mod RowLemmas

@@ -77,10 +77,14 @@ impl Bits {
         requires { IsBits self.now }
         ensures { MatchOption result ((k : ℕ) → has self.now k ≡ false) (IsLeast self.now) }
     {
-        let top = first_word(&self.tops)?;
-        let group = first_bit(&self.tops, top);
-        let word = first_bit(&self.groups, group);
-        Some(first_bit(&self.words, word) as u32)
+        match first_word(&self.tops) {
+            Some(top) => {
+                let group = first_bit(&self.tops, top);
+                let word = first_bit(&self.groups, group);
+                Some(first_bit(&self.words, word) as u32)
+            }
+            None => None,
+        }
     }
 }
 
@@ -93,6 +97,14 @@ fn zeros(alloc: Global, count: usize) -> Result<Vec<u64>, NoMemory>
         Ok(words) => Ok(words),
         Err(_) => Err(NoMemory),
     }
+}
+
+/// The word at this place.
+fn word_of(words: &[u64], place: usize) -> u64
+    requires { place < length words.now }
+    ensures { result ≡ word_at words.now place }
+{
+    words[place]
 }
 
 /// The word with this bit set.
@@ -118,8 +130,7 @@ fn has_bit(words: &[u64], number: usize) -> bool
     requires { number / 64 < length words.now }
     ensures { result ≡ (bit_in words.now number == 1) }
 {
-    let word = words[number / 64];
-    word & (1 << (number % 64)) != 0
+    words[number / 64] >> (number % 64) & 1 == 1
 }
 
 /// Sets the number's bit.
@@ -127,7 +138,7 @@ fn set_bit(words: &mut Vec<u64>, number: usize)
     requires { number / 64 < length words.old.items }
     ensures { SetsBit words.old.items words.new.items number 1 }
 {
-    let word = with_bit(words[number / 64], (number % 64) as u32);
+    let word = with_bit(word_of(words, number / 64), (number % 64) as u32);
     words[number / 64] = word;
 }
 
@@ -137,7 +148,7 @@ fn clear_bit(words: &mut Vec<u64>, number: usize) -> bool
     ensures cleared { SetsBit words.old.items words.new.items number 0 }
     ensures none { result ≡ (word_at words.new.items (number / 64) == 0) }
 {
-    let word = without_bit(words[number / 64], (number % 64) as u32);
+    let word = without_bit(word_of(words, number / 64), (number % 64) as u32);
     words[number / 64] = word;
     word == 0
 }
