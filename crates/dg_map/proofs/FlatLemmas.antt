@@ -24,9 +24,12 @@ run_same xs ys s c lt long same =
 pub run_push : (xs : List Site) (s c n : ℕ) (x : Site) → s + c < length xs → n ≡ c + 1 → take n (drop s (set xs (s + c) x)) ≡ take c (drop s xs) ++ x ∷ []
 run_push xs s c n x lt e =
     ap (λ ys. take n ys) (drop-set-add s xs c x)
-    ∙ ap (λ i. take i (set (drop s xs) c x)) (omega (arith, e))
+    ∙ ap (λ i. take i (set (drop s xs) c x)) next
     ∙ take-suc (set (drop s xs) c x) c no_site (omega (arith, length-set (drop s xs) c x, length-drop s xs))
     ∙ ends (take c (set (drop s xs) c x)) (take c (drop s xs)) (get_or (set (drop s xs) c x) c no_site) (take-set-le c (drop s xs) c x (omega arith)) (get_or-set_same (drop s xs) c x no_site (omega (arith, length-drop s xs)))
   where
-    ends : (as bs : List Site) (y : Site) → as ≡ bs → y ≡ x → as ++ y ∷ [] ≡ bs ++ x ∷ []
-    ends as bs y e f = ap (λ zs. zs ++ y ∷ []) e ∙ ap (λ z. bs ++ z ∷ []) f
+    next : n ≡ suc c
+    next = omega (arith, e)
+
+    ends : (us vs : List Site) (y : Site) → us ≡ vs → y ≡ x → us ++ y ∷ [] ≡ vs ++ x ∷ []
+    ends us vs y e f = ap (λ zs. zs ++ y ∷ []) e ∙ ap (λ z. vs ++ z ∷ []) f

@@ -1,10 +1,11 @@
 -- The rows of a flat table of sites, once one of them has changed.
-use Rattle.std.proofs.Common.{◌≡◌, ◌≢◌, ◌⊎◌, ◌<◌, ◌≤◌, ◌+◌, ◌*◌, ◌==◌, ◌^◌, ℕ, suc, Bool, true, false, cond, not, List, [], ◌∷◌, ◌++◌, length, get_or, set, take, drop, replicate, nat_lt, refl, sym, ◌∙◌, ap, subst, inl, inr, ⊎_elim, arith}
+use Rattle.std.proofs.Common.{◌≡◌, ◌≢◌, ◌⊎◌, ◌<◌, ◌≤◌, ◌+◌, ◌*◌, ◌==◌, ◌^◌, ℕ, suc, Bool, true, false, cond, not, List, [], ◌∷◌, ◌++◌, length, get_or, set, take, drop, replicate, nat_lt, MatchOption, Option, Some, None, refl, sym, ◌∙◌, ap, subst, inl, inr, ⊎_elim, arith}
 use Rattle.std.proofs.Math.Nat.{mul-le-mul_right, suc-mul}
 use Rattle.std.proofs.Math.Seq.{take-suc}
 use Rattle.std.proofs.lemmas.Bool.{cases_eq, cases_lt}
 use Rattle.std.proofs.lemmas.Bool.Decides.{nat_tests}
 use Rattle.std.proofs.lemmas.List.{get_or-drop, get_or-set_other, get_or-set_same, append-nil, get_or_past, length-drop, length-set}
+use Rattle.std.proofs.lemmas.Option.{slice_get-get_or}
 use Rattle.std.proofs.lemmas.List.Elements.{filter-append}
 use Rattle.dg_model.specs.declared.sites.Site.{Site}
 use Rattle.dg_model.specs.Tables.{sites_off}
@@ -13,6 +14,7 @@ use Rattle.dg_map.specs.Bits.{IsBits, IsLeast, Sets, has}
 use Rattle.dg_map.specs.Rows.{Appends, IsBare, IsFirstSpread, IsLists, IsUnspread, KeepsOff, SetsCount, SetsRow, count_of, row_of}
 use Rattle.dg_map.specs.declared.bits.Bits.{Bits}
 use Rattle.dg_map.specs.declared.site_lists.SiteLists.{SiteLists}
+use Rattle.dg_map.proofs.AgreeLemmas.{same_some}
 use Rattle.dg_map.proofs.FlatLemmas.{length_run, run_push, run_same}
 use Rattle.dg_map.proofs.RestoreLemmas.{no_site}
 
@@ -157,6 +159,24 @@ row_kept old mid new b kept s sound within width counts keeps sets =
     keeps.others (c * old.width + i) no_site
     (⊎_elim (λ before. inl before) (λ behind. inr (omega (arith, behind, sound.counts b))) (outside old.width b c i ne lt)))
 
+-- an item of a list, whatever stands for one past its end
+pub at_default : (xs : List ℕ) (i x : ℕ) → i < length xs → x ≡ get_or xs i x → x ≡ get_or xs i 0
+at_default xs i x lt is = is ∙ same_some (get_or xs i x) (get_or xs i 0) (sym (slice_get-get_or xs i x lt) ∙ slice_get-get_or xs i 0 lt)
+
+module _ (old mid new : SiteLists) (b start count : ℕ) (sound : IsLists old) (within : b < length old.counts.items) (starts : start ≡ b * old.width) (counted : count ≡ count_of old b) (width : mid.width ≡ old.width) (counts : mid.counts ≡ old.counts) where
+  pub row_pushed_at : (site : Site) → length (row_of old b) < old.width → mid.sites.items ≡ set old.sites.items (start + count) site → SetsCount mid new b (count + 1) → Appends old new b site
+  row_pushed_at site room sites sets =
+      row_pushed old mid new b site sound within (omega (arith, room, length_row old b sound)) width counts
+      (sites ∙ ap (λ n. set old.sites.items n site) (omega (arith, starts, counted)))
+      (subst (λ n. SetsCount mid new b (n + 1)) counted sets)
+
+  pub row_kept_at : (kept s : ℕ) → KeepsOff old.sites.items mid.sites.items start count kept s → SetsCount mid new b kept → SetsRow old new b (sites_off s (row_of old b))
+  row_kept_at kept s keeps sets =
+      row_kept old mid new b kept s sound within width counts
+      (subst (λ n. KeepsOff old.sites.items mid.sites.items (b * old.width) n kept s) counted
+      (subst (λ n. KeepsOff old.sites.items mid.sites.items n count kept s) starts keeps))
+      sets
+
 -- ---- one site after another is kept or not
 
 module _ (old now : List Site) (start place kept s : ℕ) (site : Site) (lt : start + place < length old) (long : length now ≡ length old) (few : kept ≤ place) (is : site ≡ get_or old (start + place) site) (row : take kept (drop start now) ≡ sites_off s (take place (drop start old))) where
@@ -167,7 +187,8 @@ module _ (old now : List Site) (start place kept s : ℕ) (site : Site) (lt : st
 
   off_next : (n : ℕ) → n ≡ place + 1 → sites_off s (take n (drop start old)) ≡ sites_off s (take place (drop start old)) ++ sites_off s (site ∷ [])
   off_next n e =
-      ap (λ i. sites_off s (take i (drop start old))) (omega (arith, e))
+      let step : n ≡ suc place = omega (arith, e) in
+      ap (λ i. sites_off s (take i (drop start old))) step
       ∙ ap (sites_off s) next
       ∙ filter-append (λ (x : Site). not (x.boundary == s)) (take place (drop start old)) (site ∷ [])
 
@@ -176,6 +197,14 @@ module _ (old now : List Site) (start place kept s : ℕ) (site : Site) (lt : st
       run_push now start kept m site (omega (arith, long, lt, few)) f
       ∙ ap (λ xs. xs ++ site ∷ []) row
       ∙ sym (off_next n e ∙ ap (λ b. sites_off s (take place (drop start old)) ++ cond (not b) (site ∷ []) []) apart)
+
+  pub keep_others : (n : ℕ) → n ≡ place + 1 → ((j : ℕ) (d : Site) → (j < start) ⊎ (start + place ≤ j) → get_or now j d ≡ get_or old j d) → (j : ℕ) (d : Site) → (j < start) ⊎ (start + n ≤ j) → get_or (set now (start + kept) site) j d ≡ get_or old j d
+  keep_others n e same j d (inl before) = get_or-set_other now (start + kept) j site d (λ f. absurd (omega (arith, f, before))) ∙ same j d (inl before)
+  keep_others n e same j d (inr behind) = get_or-set_other now (start + kept) j site d (λ f. absurd (omega (arith, f, behind, e, few))) ∙ same j d (inr (omega (arith, behind, e)))
+
+  pub leave_others : (n : ℕ) → n ≡ place + 1 → ((j : ℕ) (d : Site) → (j < start) ⊎ (start + place ≤ j) → get_or now j d ≡ get_or old j d) → (j : ℕ) (d : Site) → (j < start) ⊎ (start + n ≤ j) → get_or now j d ≡ get_or old j d
+  leave_others n e same j d (inl before) = same j d (inl before)
+  leave_others n e same j d (inr behind) = same j d (inr (omega (arith, behind, e)))
 
   pub leave_step : (n : ℕ) → (site.boundary == s) ≡ true → n ≡ place + 1 → take kept (drop start now) ≡ sites_off s (take n (drop start old))
   leave_step n on e =
@@ -201,6 +230,10 @@ first_spread_of lists b sound least = record {
 
     test : (n : ℕ) → 1 < n → nat_lt 1 n ≡ true
     test n lt = grind (arith, nat_tests)
+
+pub spread_by : (lists : SiteLists) (r : Option ℕ) → IsLists lists → MatchOption r ((b : ℕ) → has lists.spread b ≡ false) (IsLeast lists.spread) → MatchOption r (IsUnspread lists) (IsFirstSpread lists)
+spread_by lists None sound none = unspread_of lists sound none
+spread_by lists (Some b) sound least = first_spread_of lists b sound least
 
 -- ---- the first lists
 
