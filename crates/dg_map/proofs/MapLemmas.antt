@@ -189,9 +189,6 @@ module _ (old : Inside) (ok : IsMap old) where
       let fewer = fits_more table.shape.b (sites_in table b) s (λ x there. sound.boundaries b x.boundary x.slot there) (sound.one_site b) lt none in
       omega (arith, fewer, ap length row, ok.width, ap (λ (t : Table). t.shape.b) e)
 
-  pub block_in_lists : (table : Table) → table_of old ≡ table → (b : ℕ) → b < table.shape.n → b < length old.lists.counts.items
-  block_in_lists table e b within = omega (arith, ok.blocks, ap (λ (t : Table). t.shape.n) e)
-
   -- what `drop_site` leaves
   pub dropped_at : (table : Table) → table_of old ≡ table → (lists : SiteLists) (at slots : Slots) (b s slot : ℕ) → b < table.shape.n → s < table.shape.b → 0 < count_on s (sites_in table b) → at ≡ get_or old.boundaries.items s at → Contains (row_of old.lists b) (site_at s slot) → GivesUp at slots slot → SetsRow old.lists lists b (sites_off s (row_of old.lists b)) → IsMap (with_slots old lists s slots) × (table_of (with_slots old lists s slots) ≡ without_site table b s)
   dropped_at table e lists at slots b s slot =
@@ -241,11 +238,15 @@ module _ (old : Inside) (ok : IsMap old) where
       ap length (row_past old.lists b (omega (arith, ok.blocks, ap (λ (t : Table). t.shape.n) e, past)) ∙ sym none))
       (cases_lt b table.shape.n)
 
-  pub no_spread : (table : Table) → table_of old ≡ table → IsUnspread old.lists → HasNoSpread table
+  no_spread : (table : Table) → table_of old ≡ table → IsUnspread old.lists → HasNoSpread table
   no_spread table e none b = omega (arith, row_everywhere table e b, none b)
 
-  pub least_spread_of : (table : Table) → table_of old ≡ table → (b : ℕ) → IsFirstSpread old.lists b → IsLeastSpread table b
+  least_spread_of : (table : Table) → table_of old ≡ table → (b : ℕ) → IsFirstSpread old.lists b → IsLeastSpread table b
   least_spread_of table e b first = record {
     spread = omega (arith, row_everywhere table e b, first.spread);
     least = λ c some. first.least c (omega (arith, row_everywhere table e c, some));
   }
+
+  pub spread_of : (table : Table) → table_of old ≡ table → (r : Option ℕ) → MatchOption r (IsUnspread old.lists) (IsFirstSpread old.lists) → MatchOption r (HasNoSpread table) (IsLeastSpread table)
+  spread_of table e None none = no_spread table e none
+  spread_of table e (Some b) first = least_spread_of table e b first
