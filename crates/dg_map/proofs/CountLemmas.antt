@@ -45,9 +45,14 @@ count_more zero m old new lt off on others = absurd (omega (arith, lt))
 count_more (suc n) m old new lt off on others =
     ⊎_elim
     (λ e.
-    omega
-    (arith, count_suc n old, count_suc n new, count_same n old new (λ k below. others k (λ f. absurd (omega arith))),
-    cond_no (old n) (subst (λ q. old q ≡ false) (sym e) off), cond_yes (new n) (subst (λ q. new q ≡ true) (sym e) on)))
+    omega (
+      arith,
+      count_suc n old,
+      count_suc n new,
+      count_same n old new (λ k below. others k (λ f. absurd (omega arith))),
+      cond_no (old n) (subst (λ q. old q ≡ false) (sym e) off),
+      cond_yes (new n) (subst (λ q. new q ≡ true) (sym e) on),
+    ))
     (λ ne. omega (arith, count_suc n old, count_suc n new, count_more n m old new (less ne) off on others, cond_like (old n) (new n) (others n ne)))
     (cases_eq n m)
   where

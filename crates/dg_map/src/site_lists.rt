@@ -20,6 +20,8 @@ pub struct SiteLists {
     spread: Bits,
 }
 
+const _: () = prove!(size_of::<Site>() == 8);
+
 impl SiteLists {
     /// So many blocks without sites, for so many boundaries.
     pub fn new(alloc: Global, blocks: u32, boundaries: u8) -> Result<SiteLists, NoMemory>

@@ -1,5 +1,4 @@
 use Rattle.std.proofs.Common.{slice_index_or, w64, arith}
-
 use Rattle.std.proofs.lemmas.Nat.Bits.{bit_at-trailing_zeros}
 use Rattle.dg_map.proofs.BitLemmas.{first_of_word, word_within}
 use Rattle.dg_map.proofs.bits.first_bit.Goals as goal

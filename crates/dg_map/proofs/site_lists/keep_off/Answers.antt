@@ -16,20 +16,21 @@ loop-place-preserved c =
     let before = c.loop-place.invariant in
     let lt : start + place < length old = omega (arith, c.requires, c.loop-place-test.true) in
     let is : site ≡ get_or old (start + place) site = c.index-site.ensures ∙ before.others (start + place) site (inr (omega arith)) in
-    elim c.if-site-boundary.branch
-    [ then-site-boundary w ↦ rw w.kept-is
-        (rw w.sites-is
-        (record {
-          few = omega (arith, before.few);
-          long = length-set now (start + kept) site ∙ before.long;
-          row = keep_step old now start place kept c.args.boundary site lt before.long before.few is before.row (place + 1) (kept + 1) (apart_test site.boundary c.args.boundary w.if-site-boundary.true) refl refl;
-          others = keep_others old now start place kept c.args.boundary site lt before.long before.few is before.row (place + 1) refl before.others;
-        }))
-    | else-site-boundary w ↦ rw w.kept-is
-        (rw w.sites-is
-        (record {
-          few = omega (arith, before.few);
-          long = before.long;
-          row = leave_step old now start place kept c.args.boundary site lt before.long before.few is before.row (place + 1) (same_test site.boundary c.args.boundary w.if-site-boundary.false) refl;
-          others = leave_others old now start place kept c.args.boundary site lt before.long before.few is before.row (place + 1) refl before.others;
-        })) ]
+    elim c.if-site-boundary.branch [
+      | then-site-boundary w ↦ rw w.kept-is
+          (rw w.sites-is
+          (record {
+            few = omega (arith, before.few);
+            long = length-set now (start + kept) site ∙ before.long;
+            row = keep_step old now start place kept c.args.boundary site lt before.long before.few is before.row (place + 1) (kept + 1) (apart_test site.boundary c.args.boundary w.if-site-boundary.true) refl refl;
+            others = keep_others old now start place kept c.args.boundary site lt before.long before.few is before.row (place + 1) refl before.others;
+          }))
+      | else-site-boundary w ↦ rw w.kept-is
+          (rw w.sites-is
+          (record {
+            few = omega (arith, before.few);
+            long = before.long;
+            row = leave_step old now start place kept c.args.boundary site lt before.long before.few is before.row (place + 1) (same_test site.boundary c.args.boundary w.if-site-boundary.false) refl;
+            others = leave_others old now start place kept c.args.boundary site lt before.long before.few is before.row (place + 1) refl before.others;
+          }))
+    ]
