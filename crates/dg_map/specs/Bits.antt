@@ -1,5 +1,5 @@
 -- A set of numbers as bits of words, with two levels of summary words. The rules are this project's own.
-use Rattle.std.specs.Prelude.{◌≡◌, ◌≢◌, ◌+◌, ◌*◌, ◌/◌, ◌%◌, ◌^◌, ◌<◌, ◌≤◌, ◌==◌, ℕ, zero, suc, Bool, true, false, cond, List, length, slice_index_or}
+use Rattle.std.specs.Prelude.{◌≡◌, ◌≢◌, ◌+◌, ◌*◌, ◌/◌, ◌%◌, ◌^◌, ◌<◌, ◌≤◌, ◌==◌, ℕ, zero, suc, Bool, true, cond, List, length, slice_index_or}
 use Rattle.std.specs.Int.{bit_at}
 use Rattle.dg_map.specs.declared.bits.Bits.{Bits}
 

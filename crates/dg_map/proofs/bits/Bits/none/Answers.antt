@@ -1,4 +1,4 @@
-use Rattle.std.proofs.Common.{◌==◌, ap, arith}
+use Rattle.std.proofs.Common.{◌==◌, ap}
 use Rattle.dg_map.proofs.BitLemmas.{bits_none, none_in}
 use Rattle.dg_map.proofs.bits.Bits.none.Goals as goal
 
