@@ -1,0 +1,4 @@
+pub mod Cores
+pub mod StepViews
+pub mod OneView
+pub mod Chains
