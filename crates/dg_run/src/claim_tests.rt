@@ -14,7 +14,7 @@ use ufs_path::Levels;
 use ufs_rows::{Which, rows_image};
 
 // Bytes of a member: a label, 65 slots, and room for a saved state.
-const LENGTH: u64 = 69_284;
+const LENGTH: u64 = 69_993;
 
 // The second direct slot of inode 3, the first one of inode 6, the double indirect slot of inode 5, and the first pointer of
 // its indirect block.

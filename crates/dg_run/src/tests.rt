@@ -4,7 +4,7 @@ use std::alloc::Global;
 use std::test::Fail;
 
 // Bytes of a member of the array 1024 128 4 64 2, which is the largest one here, and of all replies.
-const LENGTH: u64 = 69284;
+const LENGTH: u64 = 69993;
 
 const OUTPUT: usize = 4096;
 

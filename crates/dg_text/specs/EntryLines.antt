@@ -5,6 +5,14 @@ use Rattle.dg_text.specs.Replies.{entries_text}
 use Rattle.dg_text.specs.declared.entry_lines.EntryLines.{EntryLines}
 use Rattle.ufs_model.specs.Listings.{Listed}
 
+-- the sink that it was lent, as it is now
+abbrev pub sink_of : {K : Type 0} → EntryLines K → K
+sink_of receiver = receiver.sink.now
+
+-- which sink that is
+abbrev pub loan_of : {K : Type 0} → EntryLines K → ℕ
+loan_of receiver = receiver.sink.ghost_name
+
 -- it was handed entries, and wrote their lines
 pub record TookEntries {K : Type 0} (taken : K → Option (List ℕ)) (old : EntryLines K) (entries : List Listed) (new : EntryLines K) : Type 0 where
   pub same : new.sink.ghost_name ≡ old.sink.ghost_name

@@ -11,6 +11,18 @@ use Rattle.dg_text.specs.declared.hex_lines.HexLines.{HexLines}
 abbrev pub waiting : {K : Type 0} → HexLines K → List ℕ
 waiting receiver = take receiver.used receiver.line
 
+-- the bytes of a line
+abbrev pub length_of : {K : Type 0} → HexLines K → ℕ
+length_of receiver = receiver.l
+
+-- the sink that it was lent, as it is now
+abbrev pub sink_of : {K : Type 0} → HexLines K → K
+sink_of receiver = receiver.sink.now
+
+-- which sink that is
+abbrev pub loan_of : {K : Type 0} → HexLines K → ℕ
+loan_of receiver = receiver.sink.ghost_name
+
 -- bytes in lines of this length, and a tail
 pub record InLines (l : ℕ) (bytes tail : List ℕ) (lines : List (List ℕ)) : Type 0 where
   pub full : All (λ line. length line ≡ l) lines

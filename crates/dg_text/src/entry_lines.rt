@@ -17,32 +17,33 @@ impl<'a, K: Sink> EntryLines<'a, K> {
     ghost use Rattle.std.specs.Prelude.{◌≡◌, codes, OnOk, OnErr};
     ghost use Rattle.dg_io.specs.Told.{Told, Took, TookPart};
     ghost use Rattle.dg_io.specs.Faults.{HasCause};
+    ghost use Rattle.dg_text.specs.EntryLines.{loan_of, sink_of};
     ghost use Rattle.dg_text.specs.HexLines.{last_line};
 
     /// A receiver that writes to this sink.
     pub fn new(sink: &'a mut K) -> EntryLines<'a, K>
-        ensures same { result.sink.ghost_name ≡ sink.entry.ghost_name }
-        ensures sink { result.sink.now ≡ sink.old }
+        ensures same { loan_of result ≡ sink.entry.ghost_name }
+        ensures sink { sink_of result ≡ sink.old }
     {
         EntryLines { sink }
     }
 
     /// Writes the line that ends a listing of `n` entries.
     pub fn end(&mut self, n: u32) -> Result<(), Failed>
-        ensures ok { OnOk result (Told (Took (last_line (codes "end ") n)) (K.taken self.old.sink.now) (K.taken self.new.sink.now)) }
-        ensures err { OnErr result (Told (TookPart (last_line (codes "end ") n)) (K.taken self.old.sink.now) (K.taken self.new.sink.now)) }
-        ensures sink { self.new.sink.ghost_name ≡ self.old.sink.ghost_name }
-        ensures cause { HasCause (K.faults self.old.sink.now) (K.faults self.new.sink.now) result }
+        ensures ok { OnOk result (Told (Took (last_line (codes "end ") n)) (K.taken (sink_of self.old)) (K.taken (sink_of self.new))) }
+        ensures err { OnErr result (Told (TookPart (last_line (codes "end ") n)) (K.taken (sink_of self.old)) (K.taken (sink_of self.new))) }
+        ensures sink { loan_of self.new ≡ loan_of self.old }
+        ensures cause { HasCause (K.faults (sink_of self.old)) (K.faults (sink_of self.new)) result }
     {
         write_number(&mut *self.sink, b"end ", n as u128)
     }
 
     /// Writes the line that ends a listing of which only the first `n` entries could be read.
     pub fn cut(&mut self, n: u32) -> Result<(), Failed>
-        ensures ok { OnOk result (Told (Took (last_line (codes "cut ") n)) (K.taken self.old.sink.now) (K.taken self.new.sink.now)) }
-        ensures err { OnErr result (Told (TookPart (last_line (codes "cut ") n)) (K.taken self.old.sink.now) (K.taken self.new.sink.now)) }
-        ensures sink { self.new.sink.ghost_name ≡ self.old.sink.ghost_name }
-        ensures cause { HasCause (K.faults self.old.sink.now) (K.faults self.new.sink.now) result }
+        ensures ok { OnOk result (Told (Took (last_line (codes "cut ") n)) (K.taken (sink_of self.old)) (K.taken (sink_of self.new))) }
+        ensures err { OnErr result (Told (TookPart (last_line (codes "cut ") n)) (K.taken (sink_of self.old)) (K.taken (sink_of self.new))) }
+        ensures sink { loan_of self.new ≡ loan_of self.old }
+        ensures cause { HasCause (K.faults (sink_of self.old)) (K.faults (sink_of self.new)) result }
     {
         write_number(&mut *self.sink, b"cut ", n as u128)
     }

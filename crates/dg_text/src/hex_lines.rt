@@ -25,17 +25,17 @@ impl<'a, K: Sink> HexLines<'a, K> {
     ghost use Rattle.std.specs.Prelude.{◌≡◌, ◌≤◌, ◌<◌, ◌++◌, [], length, take, codes, IfOk, OnOk, OnErr};
     ghost use Rattle.dg_io.specs.Told.{Told, Took, TookPart};
     ghost use Rattle.dg_io.specs.Faults.{HasCause};
-    ghost use Rattle.dg_text.specs.HexLines.{waiting, rest_lines, TookBytes, TookBytesPart, Ends, EndsPart, last_line};
+    ghost use Rattle.dg_text.specs.HexLines.{waiting, rest_lines, TookBytes, TookBytesPart, Ends, EndsPart, last_line, length_of, loan_of, sink_of};
     ghost use Rattle.dg_text.specs.Replies.{file_text};
 
     /// A receiver that writes to this sink, in lines of `l` bytes.
     pub fn new(sink: &'a mut K, l: u32) -> HexLines<'a, K>
         requires some { 1 ≤ l }
         requires most { l ≤ 4096 }
-        ensures l { result.l ≡ l }
+        ensures l { length_of result ≡ l }
         ensures nothing { waiting result ≡ [] }
-        ensures same { result.sink.ghost_name ≡ sink.entry.ghost_name }
-        ensures sink { result.sink.now ≡ sink.old }
+        ensures same { loan_of result ≡ sink.entry.ghost_name }
+        ensures sink { sink_of result ≡ sink.old }
     {
         HexLines {
             sink,
@@ -52,7 +52,7 @@ impl<'a, K: Sink> HexLines<'a, K> {
         ensures within { IfOk result (λ n. n ≤ length bytes.now) }
         ensures ok { IfOk result (λ n. TookBytes K.taken self.old (take n bytes.now) self.new) }
         ensures err { OnErr result (TookBytesPart K.taken self.old bytes.now self.new) }
-        ensures cause { HasCause (K.faults self.old.sink.now) (K.faults self.new.sink.now) result }
+        ensures cause { HasCause (K.faults (sink_of self.old)) (K.faults (sink_of self.new)) result }
     {
         let room = self.l as usize - self.used;
         let count = room.min(bytes.len());
@@ -70,10 +70,10 @@ impl<'a, K: Sink> HexLines<'a, K> {
 
     // Writes the line of the bytes that wait, if there are any.
     fn flush(&mut self) -> Result<(), Failed>
-        ensures ok { OnOk result (Told (Took (file_text (rest_lines (waiting self.old)))) (K.taken self.old.sink.now) (K.taken self.new.sink.now)) }
-        ensures err { OnErr result (Told (TookPart (file_text (rest_lines (waiting self.old)))) (K.taken self.old.sink.now) (K.taken self.new.sink.now)) }
-        ensures sink { self.new.sink.ghost_name ≡ self.old.sink.ghost_name }
-        ensures cause { HasCause (K.faults self.old.sink.now) (K.faults self.new.sink.now) result }
+        ensures ok { OnOk result (Told (Took (file_text (rest_lines (waiting self.old)))) (K.taken (sink_of self.old)) (K.taken (sink_of self.new))) }
+        ensures err { OnErr result (Told (TookPart (file_text (rest_lines (waiting self.old)))) (K.taken (sink_of self.old)) (K.taken (sink_of self.new))) }
+        ensures sink { loan_of self.new ≡ loan_of self.old }
+        ensures cause { HasCause (K.faults (sink_of self.old)) (K.faults (sink_of self.new)) result }
     {
         let end = self.used;
         if end == 0 {
@@ -87,10 +87,10 @@ impl<'a, K: Sink> HexLines<'a, K> {
     // Writes the line of the bytes that wait, and the one that ends the file.
     fn finish(&mut self, word: &[u8], n: u32) -> Result<(), Failed>
         requires { length word.now ≤ 4 }
-        ensures ok { OnOk result (Told (Took (file_text (rest_lines (waiting self.old)) ++ last_line word.now n)) (K.taken self.old.sink.now) (K.taken self.new.sink.now)) }
-        ensures err { OnErr result (Told (TookPart (file_text (rest_lines (waiting self.old)) ++ last_line word.now n)) (K.taken self.old.sink.now) (K.taken self.new.sink.now)) }
-        ensures sink { self.new.sink.ghost_name ≡ self.old.sink.ghost_name }
-        ensures cause { HasCause (K.faults self.old.sink.now) (K.faults self.new.sink.now) result }
+        ensures ok { OnOk result (Told (Took (file_text (rest_lines (waiting self.old)) ++ last_line word.now n)) (K.taken (sink_of self.old)) (K.taken (sink_of self.new))) }
+        ensures err { OnErr result (Told (TookPart (file_text (rest_lines (waiting self.old)) ++ last_line word.now n)) (K.taken (sink_of self.old)) (K.taken (sink_of self.new))) }
+        ensures sink { loan_of self.new ≡ loan_of self.old }
+        ensures cause { HasCause (K.faults (sink_of self.old)) (K.faults (sink_of self.new)) result }
     {
         self.flush()?;
         write_number(&mut *self.sink, word, n as u128)
@@ -100,8 +100,8 @@ impl<'a, K: Sink> HexLines<'a, K> {
     pub fn end(&mut self, n: u32) -> Result<(), Failed>
         ensures ok { OnOk result (Ends K.taken (last_line (codes "end ") n) self.old self.new) }
         ensures err { OnErr result (EndsPart K.taken (last_line (codes "end ") n) self.old self.new) }
-        ensures sink { self.new.sink.ghost_name ≡ self.old.sink.ghost_name }
-        ensures cause { HasCause (K.faults self.old.sink.now) (K.faults self.new.sink.now) result }
+        ensures sink { loan_of self.new ≡ loan_of self.old }
+        ensures cause { HasCause (K.faults (sink_of self.old)) (K.faults (sink_of self.new)) result }
     {
         self.finish(b"end ", n)
     }
@@ -111,8 +111,8 @@ impl<'a, K: Sink> HexLines<'a, K> {
     pub fn cut(&mut self, n: u32) -> Result<(), Failed>
         ensures ok { OnOk result (Ends K.taken (last_line (codes "cut ") n) self.old self.new) }
         ensures err { OnErr result (EndsPart K.taken (last_line (codes "cut ") n) self.old self.new) }
-        ensures sink { self.new.sink.ghost_name ≡ self.old.sink.ghost_name }
-        ensures cause { HasCause (K.faults self.old.sink.now) (K.faults self.new.sink.now) result }
+        ensures sink { loan_of self.new ≡ loan_of self.old }
+        ensures cause { HasCause (K.faults (sink_of self.old)) (K.faults (sink_of self.new)) result }
     {
         self.finish(b"cut ", n)
     }
