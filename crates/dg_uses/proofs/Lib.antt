@@ -1,4 +1,8 @@
-pub mod Cores
-pub mod StepViews
-pub mod OneView
+mod Flat
+mod Lines
+mod Results
+mod Rows
 pub mod Chains
+pub mod Cores
+pub mod OneView
+pub mod StepViews
