@@ -1,6 +1,8 @@
+pub mod Calls
 pub mod Faults
 pub mod Fetches
 pub mod MemViews
+pub mod RackWords
 pub mod Racks
 pub mod SinkPieces
 pub mod Sinks

@@ -1,5 +1,6 @@
 -- What the sinks in memory hold.
-use Rattle.std.specs.Prelude.{ℕ, List, Option, Some, None, if◌then◌else◌}
+use Rattle.std.specs.Prelude.{◌+◌, ◌<◌, ℕ, List, length, Option, Some, None, if◌then◌else◌}
+use Rattle.std.specs.List.{Contains}
 use Rattle.dg_io.specs.declared.sinks.MemSink.{MemSink}
 use Rattle.dg_io.specs.declared.sinks.SureSink.{SureSink}
 
@@ -10,12 +11,24 @@ taken_in sink = sink.bytes.items
 abbrev pub sink_faults : MemSink → ℕ
 sink_faults sink = sink.faults
 
--- how many bytes it has room for, and the numbers of the calls that fail
+-- how many calls were made
+abbrev pub sink_calls : MemSink → ℕ
+sink_calls sink = sink.calls
+
+-- how many bytes it has room for, and the numbers of the calls that fail, from 0
 abbrev pub room_in : MemSink → ℕ
 room_in sink = sink.room
 
 abbrev pub sink_fails : MemSink → List ℕ
 sink_fails sink = sink.fails.items
+
+-- the next call is one of those that fail
+abbrev pub IsListed : MemSink → Type 0
+IsListed sink = Contains (sink_fails sink) (sink_calls sink)
+
+-- so many bytes more are past its room
+abbrev pub IsPast : MemSink → ℕ → Type 0
+IsPast sink n = room_in sink < length (taken_in sink) + n
 
 -- the bytes taken, until there was no room
 abbrev pub sure_taken : SureSink → Option (List ℕ)

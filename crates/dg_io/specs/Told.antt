@@ -1,5 +1,5 @@
 -- Bytes that may be told or not, and what a call does to them.
-use Rattle.std.specs.Prelude.{◌≡◌, ◌≢◌, ◌+◌, ℕ, List, ◌++◌, length, take, drop, slice_range, replicate, Option, Some, None, IsSome}
+use Rattle.std.specs.Prelude.{◌≡◌, ◌≢◌, ◌⊎◌, ◌+◌, ◌-◌, ◌≤◌, ℕ, List, [], ◌++◌, length, take, drop, slice_range, replicate, Option, Some, None, IsSome}
 
 -- what is told after a call was told before it, and was changed by this step
 abbrev pub Told : (List ℕ → List ℕ → Type 0) → Option (List ℕ) → Option (List ℕ) → Type 0
@@ -34,6 +34,37 @@ IsZeros n before after = after ≡ replicate n 0
 -- any bytes, and any number of them
 abbrev pub AreAny : List ℕ → List ℕ → Type 0
 AreAny before after = Unit {0}
+
+-- the bytes are no more than so many
+abbrev pub FitsIn : ℕ → List ℕ → Type 0
+FitsIn n all = length all ≤ n
+
+-- there are so many bytes, and nothing has changed
+pub record Measures (n : ℕ) (before after : List ℕ) : Type 0 where
+  pub same : after ≡ before
+  pub size : length before ≡ n
+
+-- there is no byte, and nothing has changed
+pub record IsEmpty (before after : List ℕ) : Type 0 where
+  pub same : after ≡ before
+  pub none : before ≡ []
+
+-- zeros were put at the end, up to so many bytes
+abbrev pub Extended : ℕ → List ℕ → List ℕ → Type 0
+Extended n before after = after ≡ before ++ replicate (n - length before) 0
+
+-- the bytes begin with those that stood there
+abbrev pub KeepsFront : List ℕ → List ℕ → Type 0
+KeepsFront before after = take (length before) after ≡ before
+
+-- the piece is one of the first two pages of 512 bytes, whole
+pub record IsHeader (place : ℕ) (piece : List ℕ) : Type 0 where
+  pub size : length piece ≡ 512
+  pub where_is : (place ≡ 0) ⊎ (place ≡ 512)
+
+-- the piece stands there whole, or nothing has changed
+abbrev pub OldOrNew : ℕ → List ℕ → List ℕ → List ℕ → Type 0
+OldOrNew place piece before after = (after ≡ before) ⊎ Patched place piece before after
 
 -- a source gave these bytes from its front
 abbrev pub Gave : List ℕ → List ℕ → List ℕ → Type 0

@@ -31,8 +31,16 @@ impl<R: Rack> Rack for &mut R {
 
     ghost counts = { λ r. R.counts r.now };
 
+    ghost stands = { λ r. R.stands r.now };
+
+    ghost steady = { λ r. R.steady r.now };
+
     fn blank(&mut self, member: u8, length: u64) -> Result<(), Failed> {
         (**self).blank(member, length)
+    }
+
+    fn attach(&mut self, member: u8) -> Result<Option<u64>, Failed> {
+        (**self).attach(member)
     }
 
     fn read(&mut self, member: u8, place: u64, buf: &mut [u8]) -> Result<(), Failed> {
@@ -41,6 +49,10 @@ impl<R: Rack> Rack for &mut R {
 
     fn write(&mut self, member: u8, place: u64, buf: &[u8]) -> Result<(), Failed> {
         (**self).write(member, place, buf)
+    }
+
+    fn extend(&mut self, member: u8, length: u64) -> Result<(), Failed> {
+        (**self).extend(member, length)
     }
 }
 

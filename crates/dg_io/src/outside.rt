@@ -1,8 +1,9 @@
 // The traits of the outside.
-ghost use Rattle.std.specs.Prelude.{◌≡◌, ◌≢◌, ◌+◌, ◌≤◌, ◌<◌, ◌++◌, [], List, ℕ, Option, length, take, IfOk, OnOk, IfSome, OnErr};
+ghost use Rattle.std.specs.Prelude.{◌≡◌, ◌≢◌, ◌+◌, ◌≤◌, ◌<◌, ◌++◌, [], List, ℕ, Option, None, IsSome, length, take, IfOk, OnOk, IfSome, OnErr};
 ghost use Rattle.dg_model.specs.Causes.{RoseByOne};
-ghost use Rattle.dg_io.specs.Told.{Told, Patched, Torn, IsSame, Took, TookPart, Gave, Reads, IsZeros, AreAny, StillTold, OthersSame};
-ghost use Rattle.dg_io.specs.Faults.{HasCause, OnlyMember};
+ghost use Rattle.dg_io.specs.Told.{Told, Patched, Torn, IsSame, Took, TookPart, Gave, Reads, IsZeros, FitsIn, Measures, IsEmpty, Extended, KeepsFront, IsHeader, OldOrNew};
+ghost use Rattle.dg_io.specs.Calls.{LeavesRack};
+ghost use Rattle.dg_io.specs.Faults.{HasCause};
 
 use dg_model::Failed;
 
@@ -55,43 +56,57 @@ pub trait Rack {
     /// How often each member has failed, and how many calls were made, and how many that write.
     ghost counts: { Self → Counts };
 
+    /// That a member stands: it was made or found, and no call on it has failed since.
+    ghost stands: { Self → ℕ → Type 0 };
+
+    /// That it is steady: a write of one of a member's first two pages of 512 bytes is done whole or not at all.
+    ghost steady: { Self → Type 0 };
+
     /// Makes the member anew, of so many zero bytes. A failed one leaves any bytes, and any length.
     fn blank(&mut self, member: u8, length: u64) -> Result<(), Failed>
         ensures ok { OnOk result (Told (IsZeros length) (bytes self.old member) (bytes self.new member)) }
-        ensures err { OnErr result (Told AreAny (bytes self.old member) (bytes self.new member)) }
-        ensures others { OthersSame member (bytes self.old) (bytes self.new) }
-        ensures cause { HasCause ((counts self.old).faults member) ((counts self.new).faults member) result }
-        ensures other_faults { OnlyMember member (counts self.old).faults (counts self.new).faults }
-        ensures tells { StillTold (bytes self.old) (bytes self.new) }
-        ensures name { name self.new ≡ name self.old }
-        ensures calls { RoseByOne (counts self.old).calls (counts self.new).calls }
+        ensures leaves { LeavesRack name bytes counts stands steady member result self.old self.new }
+        ensures stands { OnOk result (stands self.new member) }
         ensures writes { RoseByOne (counts self.old).writes (counts self.new).writes };
+
+    /// Finds the member, and answers its length, or `None` for no such member.
+    fn attach(&mut self, member: u8) -> Result<Option<u64>, Failed>
+        ensures found { IfOk result (λ found. IfSome found (λ n. Told (Measures n) (bytes self.old member) (bytes self.new member))) }
+        ensures absent { IfOk result (λ found. found ≡ None → Told IsEmpty (bytes self.old member) (bytes self.new member)) }
+        ensures same { Told IsSame (bytes self.old member) (bytes self.new member) }
+        ensures leaves { LeavesRack name bytes counts stands steady member result self.old self.new }
+        ensures stands { IfOk result (λ found. IsSome found → stands self.new member) }
+        ensures writes { (counts self.new).writes ≡ (counts self.old).writes };
 
     /// Reads the bytes of a member at a place, counted from 0. The range is inside its length.
     fn read(&mut self, member: u8, place: u64, buf: &mut [u8]) -> Result<(), Failed>
-        requires { IfSome (bytes self.old member) (λ all. place + length buf.old ≤ length all) }
+        requires stands { stands self.old member }
+        requires range { IfSome (bytes self.old member) (λ all. place + length buf.old ≤ length all) }
         ensures ok { OnOk result (Told (Reads place buf.new) (bytes self.old member) (bytes self.new member)) }
         ensures same { Told IsSame (bytes self.old member) (bytes self.new member) }
-        ensures others { OthersSame member (bytes self.old) (bytes self.new) }
-        ensures cause { HasCause ((counts self.old).faults member) ((counts self.new).faults member) result }
-        ensures other_faults { OnlyMember member (counts self.old).faults (counts self.new).faults }
-        ensures tells { StillTold (bytes self.old) (bytes self.new) }
-        ensures name { name self.new ≡ name self.old }
-        ensures calls { RoseByOne (counts self.old).calls (counts self.new).calls }
+        ensures leaves { LeavesRack name bytes counts stands steady member result self.old self.new }
         ensures writes { (counts self.new).writes ≡ (counts self.old).writes };
 
     /// Writes the bytes of a member at a place. The range is inside its length. A failed write leaves any bytes in the
-    /// range, and the rest as it was.
+    /// range, and the rest as it was; on a steady rack a page at the front is written whole or not at all.
     fn write(&mut self, member: u8, place: u64, buf: &[u8]) -> Result<(), Failed>
-        requires { IfSome (bytes self.old member) (λ all. place + length buf.now ≤ length all) }
+        requires stands { stands self.old member }
+        requires range { IfSome (bytes self.old member) (λ all. place + length buf.now ≤ length all) }
         ensures ok { OnOk result (Told (Patched place buf.now) (bytes self.old member) (bytes self.new member)) }
         ensures err { OnErr result (Told (Torn place (length buf.now)) (bytes self.old member) (bytes self.new member)) }
-        ensures others { OthersSame member (bytes self.old) (bytes self.new) }
-        ensures cause { HasCause ((counts self.old).faults member) ((counts self.new).faults member) result }
-        ensures other_faults { OnlyMember member (counts self.old).faults (counts self.new).faults }
-        ensures tells { StillTold (bytes self.old) (bytes self.new) }
-        ensures name { name self.new ≡ name self.old }
-        ensures calls { RoseByOne (counts self.old).calls (counts self.new).calls }
+        ensures whole { OnErr result (steady self.old → IsHeader place buf.now
+            → Told (OldOrNew place buf.now) (bytes self.old member) (bytes self.new member)) }
+        ensures leaves { LeavesRack name bytes counts stands steady member result self.old self.new }
+        ensures writes { RoseByOne (counts self.old).writes (counts self.new).writes };
+
+    /// Makes the member so many bytes long, with zeros at its end. It isn't longer before. A failed one leaves the bytes
+    /// as they were, with any end behind them.
+    fn extend(&mut self, member: u8, length: u64) -> Result<(), Failed>
+        requires stands { stands self.old member }
+        requires longer { IfSome (bytes self.old member) (FitsIn length) }
+        ensures ok { OnOk result (Told (Extended length) (bytes self.old member) (bytes self.new member)) }
+        ensures err { OnErr result (Told KeepsFront (bytes self.old member) (bytes self.new member)) }
+        ensures leaves { LeavesRack name bytes counts stands steady member result self.old self.new }
         ensures writes { RoseByOne (counts self.old).writes (counts self.new).writes };
 }
 

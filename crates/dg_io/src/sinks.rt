@@ -1,11 +1,21 @@
 // Sinks in memory. Their calls are counted from 0.
-ghost use Rattle.std.specs.Prelude.{◌≡◌, [], Some, None, IfOk, MatchOption};
-ghost use Rattle.dg_io.specs.Sinks.{sink_fails, room_in, taken_in, sink_faults, sure_room, sure_taken};
-ghost use Rattle.dg_io.specs.SinkPieces.{Taken, TakenPart, taken_none, taken_both, taken_part_after, taken_part_of_more};
+ghost use Rattle.std.specs.Prelude.{◌≡◌, ◌≤◌, ◌<◌, ◌+◌, ◌↔◌, ◌⊎◌, [], List, ℕ, length, take, Some, None, IfOk, OnErr, OnOk, IsErr, IsSome, IsTrue, MatchOption};
+ghost use Rattle.std.specs.Vec.{vec_capacity};
+ghost use Rattle.dg_model.specs.Causes.{RoseByOne};
+ghost use Rattle.dg_io.specs.Faults.{HasCause};
+ghost use Rattle.dg_io.specs.Told.{Told, Took, IsSame};
 
 use crate::calls::is_listed;
 use crate::{Failed, NoMemory, Pieces, Sink, write_all};
 use std::alloc::Global;
+
+/// Whether so many bytes more fit where some are taken.
+fn has_room(room: usize, taken: usize, more: usize) -> bool
+    requires { taken ≤ room }
+    ensures { IsTrue result ↔ (taken + more ≤ room) }
+{
+    more <= room - taken
+}
 
 /// A sink in memory, with room for so many bytes.
 #[derive(Drop)]
@@ -15,13 +25,18 @@ pub struct MemSink {
     fails: Vec<u64>,
     calls: u64,
     faults: u64,
+    ghost within: { length bytes.items ≤ room },
+    ghost fits: { room ≤ vec_capacity bytes },
 }
 
 impl MemSink {
+    ghost use Rattle.dg_io.specs.Sinks.{sink_calls, sink_fails, room_in, taken_in, sink_faults};
+
     /// An empty sink, whose listed calls fail. It takes its memory here.
     pub fn new(alloc: Global, room: usize, fails: Vec<u64>) -> Result<MemSink, NoMemory>
         ensures taken { IfOk result (λ sink. taken_in sink ≡ []) }
         ensures faults { IfOk result (λ sink. sink_faults sink ≡ 0) }
+        ensures calls { IfOk result (λ sink. sink_calls sink ≡ 0) }
         ensures room { IfOk result (λ sink. room_in sink ≡ room) }
         ensures fails { IfOk result (λ sink. sink_fails sink ≡ fails.items) }
     {
@@ -46,14 +61,28 @@ impl MemSink {
 }
 
 impl Sink for MemSink {
+    ghost use Rattle.dg_io.specs.Sinks.{sink_calls, sink_fails, room_in, taken_in, sink_faults, IsListed, IsPast};
+
     ghost taken = { λ s. Some (taken_in s) };
 
     ghost faults = { sink_faults };
 
-    fn write(&mut self, piece: &[u8]) -> Result<usize, Failed> {
+    /// It fails exactly where the call is listed, or the piece is past the room, and takes the whole piece otherwise.
+    fn write(&mut self, piece: &[u8]) -> Result<usize, Failed>
+        ensures within { IfOk result (λ n. n ≤ length piece.now) }
+        ensures some { IfOk result (λ n. 0 < length piece.now → 0 < n) }
+        ensures bytes { IfOk result (λ n. Told (Took (take n piece.now)) (Some (taken_in self.old)) (Some (taken_in self.new))) }
+        ensures err { OnErr result (Told IsSame (Some (taken_in self.old)) (Some (taken_in self.new))) }
+        ensures cause { HasCause (sink_faults self.old) (sink_faults self.new) result }
+        ensures fails { IsErr result ↔ (IsListed self.old ⊎ IsPast self.old (length piece.now)) }
+        ensures whole { IfOk result (λ n. n ≡ length piece.now) }
+        ensures counted { RoseByOne (sink_calls self.old) (sink_calls self.new) }
+        ensures lists { sink_fails self.new ≡ sink_fails self.old }
+        ensures room { room_in self.new ≡ room_in self.old }
+    {
         let call = self.calls;
         self.calls = call.saturating_add(1);
-        let fits = piece.len() <= self.room.saturating_sub(self.bytes.len());
+        let fits = has_room(self.room, self.bytes.len(), piece.len());
         if is_listed(&self.fails, call) || !fits || self.bytes.extend_from_slice(piece).is_err() {
             self.faults = self.faults.saturating_add(1);
             return Err(Failed);
@@ -63,6 +92,9 @@ impl Sink for MemSink {
 }
 
 impl Pieces for MemSink {
+    ghost use Rattle.dg_io.specs.Sinks.{sink_faults};
+    ghost use Rattle.dg_io.specs.SinkPieces.{Taken, TakenPart, taken_none, taken_both, taken_part_after, taken_part_of_more};
+
     ghost took = { Taken };
 
     ghost took_part = { TakenPart };
@@ -89,9 +121,13 @@ pub struct SureSink {
     bytes: Vec<u8>,
     room: usize,
     told: bool,
+    ghost within: { length bytes.items ≤ room },
+    ghost fits: { room ≤ vec_capacity bytes },
 }
 
 impl SureSink {
+    ghost use Rattle.dg_io.specs.Sinks.{sure_room, sure_taken};
+
     /// An empty sink with room for so many bytes. It takes its memory here.
     pub fn new(alloc: Global, room: usize) -> Result<SureSink, NoMemory>
         ensures taken { IfOk result (λ sink. sure_taken sink ≡ Some []) }
@@ -119,12 +155,25 @@ impl SureSink {
 }
 
 impl Sink for SureSink {
+    ghost use Rattle.dg_io.specs.Sinks.{sure_room, sure_taken};
+
     ghost taken = { sure_taken };
 
     ghost faults = { λ _. 0 };
 
-    fn write(&mut self, piece: &[u8]) -> Result<usize, Failed> {
-        let fits = piece.len() <= self.room.saturating_sub(self.bytes.len());
+    /// It takes the whole piece, and tells on exactly where the piece isn't past the room.
+    fn write(&mut self, piece: &[u8]) -> Result<usize, Failed>
+        ensures within { IfOk result (λ n. n ≤ length piece.now) }
+        ensures some { IfOk result (λ n. 0 < length piece.now → 0 < n) }
+        ensures bytes { IfOk result (λ n. Told (Took (take n piece.now)) (sure_taken self.old) (sure_taken self.new)) }
+        ensures err { OnErr result (Told IsSame (sure_taken self.old) (sure_taken self.new)) }
+        ensures cause { HasCause 0 0 result }
+        ensures whole { IfOk result (λ n. n ≡ length piece.now) }
+        ensures tells { (all : List ℕ) → sure_taken self.old ≡ Some all
+            → IsSome (sure_taken self.new) ↔ (length all + length piece.now ≤ sure_room self.old) }
+        ensures room { sure_room self.new ≡ sure_room self.old }
+    {
+        let fits = has_room(self.room, self.bytes.len(), piece.len());
         if !fits || self.bytes.extend_from_slice(piece).is_err() {
             self.told = false;
         }

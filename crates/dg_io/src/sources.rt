@@ -1,6 +1,8 @@
 // Sources in memory. Their calls are counted from 0.
-ghost use Rattle.std.specs.Prelude.{◌≡◌, ◌≤◌, ◌<◌, ◌+◌, [], length, take, drop, Some};
-ghost use Rattle.dg_io.specs.Told.{Gave};
+ghost use Rattle.std.specs.Prelude.{◌≡◌, ◌≤◌, ◌<◌, ◌+◌, ◌↔◌, [], length, take, drop, Some, IfOk, OnErr, IsErr};
+ghost use Rattle.dg_model.specs.Causes.{RoseByOne};
+ghost use Rattle.dg_io.specs.Faults.{HasCause};
+ghost use Rattle.dg_io.specs.Told.{Told, Gave, IsSame};
 
 use crate::calls::is_listed;
 use crate::{Failed, Source};
@@ -30,12 +32,13 @@ pub struct MemSource {
 }
 
 impl MemSource {
-    ghost use Rattle.dg_io.specs.Sources.{left_in, source_fails, source_faults};
+    ghost use Rattle.dg_io.specs.Sources.{left_in, source_calls, source_fails, source_faults};
 
     /// A source of these bytes, whose listed calls fail.
     pub fn new(bytes: Vec<u8>, fails: Vec<u64>) -> Self
         ensures left { left_in result ≡ bytes.items }
         ensures faults { source_faults result ≡ 0 }
+        ensures calls { source_calls result ≡ 0 }
         ensures fails { source_fails result ≡ fails.items }
     {
         MemSource {
@@ -49,13 +52,24 @@ impl MemSource {
 }
 
 impl Source for MemSource {
-    ghost use Rattle.dg_io.specs.Sources.{left_in, source_faults};
+    ghost use Rattle.dg_io.specs.Sources.{left_in, source_calls, source_fails, source_faults, IsListed};
 
     ghost left = { λ s. Some (left_in s) };
 
     ghost faults = { source_faults };
 
-    fn read(&mut self, buf: &mut [u8]) -> Result<usize, Failed> {
+    /// It fails exactly where the call is listed.
+    fn read(&mut self, buf: &mut [u8]) -> Result<usize, Failed>
+        ensures within { IfOk result (λ n. n ≤ length buf.new) }
+        ensures bytes { IfOk result (λ n. Told (Gave (take n buf.new)) (Some (left_in self.old)) (Some (left_in self.new))) }
+        ensures end { IfOk result (λ n. n ≡ 0 → 0 < length buf.new
+            → Told (λ before after. before ≡ []) (Some (left_in self.old)) (Some (left_in self.new))) }
+        ensures err { OnErr result (Told IsSame (Some (left_in self.old)) (Some (left_in self.new))) }
+        ensures cause { HasCause (source_faults self.old) (source_faults self.new) result }
+        ensures fails { IsErr result ↔ IsListed self.old }
+        ensures counted { RoseByOne (source_calls self.old) (source_calls self.new) }
+        ensures lists { source_fails self.new ≡ source_fails self.old }
+    {
         let call = self.calls;
         self.calls = call.saturating_add(1);
         if is_listed(&self.fails, call) {

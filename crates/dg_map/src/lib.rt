@@ -5,9 +5,11 @@
 //! shape and each block's list of sites.
 #![tactic(auto)]
 
+mod bits;
 mod boundary_slots;
 mod faults;
 mod maps;
+mod restores;
 mod site_lists;
 #[cfg(test)]
 mod tests;

@@ -1,9 +1,11 @@
-ghost use Rattle.std.specs.Prelude.{◌≡◌};
-ghost use Rattle.dg_model.specs.Tables.{count_on};
+ghost use Rattle.std.specs.Prelude.{◌≡◌, IfOk};
+ghost use Rattle.dg_map.specs.Restores.{table_with};
+ghost use Rattle.dg_model.specs.Tables.{IsTable, count_on};
 
 use crate::{Map, Shape, Site, TakeFault};
 use Answer::{Barred, Full, Left, NoMemory, Slot};
 use Call::{GiveUp, Retake, Spare, Take};
+use std::alloc::Global;
 use std::process::Abort;
 use std::test::Fail;
 
@@ -144,6 +146,33 @@ static ROWS: [Row; 20] = [
     (Spare, 5, 0, Slot(3), (4, 0), Some((1, 3)), Some((0, 3))),
 ];
 
+/// One block gives up its only site, and then the last of two, and takes it again.
+static AGAIN: [Row; 9] = [
+    (Take, 2, 0, Slot(0), (1, 2), Some((0, 0)), None),
+    (Take, 3, 0, Slot(1), (2, 1), Some((0, 1)), None),
+    (GiveUp, 2, 0, Left(None), (1, 2), None, None),
+    (Retake(0), 2, 0, Slot(0), (2, 1), Some((0, 0)), None),
+    (GiveUp, 2, 0, Left(None), (1, 2), None, None),
+    (Take, 2, 0, Slot(0), (2, 1), Some((0, 0)), None),
+    (Take, 2, 1, Slot(0), (1, 2), Some((0, 0)), Some((1, 0))),
+    (GiveUp, 2, 1, Left(None), (0, 3), Some((0, 0)), None),
+    (Retake(0), 2, 1, Slot(0), (1, 2), Some((0, 0)), Some((1, 0))),
+];
+
+/// A call, its block and boundary, its answer, and the least block with more than one site then.
+static SPREADS: [(Call, u32, u8, Answer, Option<u32>); 10] = [
+    (Take, 4999, 0, Slot(0), None),
+    (Take, 4999, 1, Slot(0), Some(4999)),
+    (Take, 4100, 1, Slot(1), Some(4999)),
+    (Take, 4100, 0, Slot(1), Some(4100)),
+    (Take, 70, 0, Slot(2), Some(4100)),
+    (Take, 70, 1, Slot(2), Some(70)),
+    (GiveUp, 4100, 0, Left(None), Some(70)),
+    (GiveUp, 70, 1, Left(None), Some(4999)),
+    (GiveUp, 4999, 0, Left(None), None),
+    (Take, 0, 0, Slot(0), None),
+];
+
 fn check_row(rt: &impl Abort, map: &mut Map, row: &Row) {
     let &(call, block, boundary, want, counted, first, second) = row;
     assert_eq!(rt;
@@ -189,6 +218,103 @@ fn takes_and_drops(rt: HostRuntime) -> Result<(), Fail> {
         check_row(&rt, &mut map, row);
     }
     check_blocks(&rt, &map);
+    Ok(())
+}
+
+/// The same sites, in a vector.
+fn copied(alloc: Global, sites: &[Site]) -> Result<Vec<Site>, crate::NoMemory>
+    ensures { IfOk result (λ copy. copy.items ≡ sites.now) }
+{
+    let mut copy = Vec::new(alloc);
+    for site in sites {
+        if copy.push(*site).is_err() {
+            return Err(crate::NoMemory);
+        }
+    }
+    Ok(copy)
+}
+
+/// The list of each block.
+fn lists_of(alloc: Global, map: &Map) -> Result<Vec<Vec<Site>>, crate::NoMemory>
+    requires { IsTable map.now }
+    ensures { IfOk result (λ lists. table_with map.now.shape lists.items ≡ map.now) }
+{
+    let mut lists = Vec::new(alloc);
+    for block in 0..map.shape().n {
+        if lists.push(copied(alloc, map.sites(block))?).is_err() {
+            return Err(crate::NoMemory);
+        }
+    }
+    Ok(lists)
+}
+
+/// The map that is made of the lists of another one.
+fn made_again(alloc: Global, map: &Map) -> Result<Map, crate::NoMemory> {
+    let shape = *map.shape();
+    let lists = lists_of(alloc, map)?;
+    Map::restored(alloc, shape, &lists)
+}
+
+#[test]
+fn restores(rt: HostRuntime) -> Result<(), Fail> {
+    let shape = Shape::check(512, 6, 2, 3, 1).ok_or("the shape")?;
+    let Ok(mut map) = Map::new(rt.alloc(), shape) else {
+        return Err("no memory".into());
+    };
+    for row in &ROWS {
+        check_row(&rt, &mut map, row);
+    }
+    let Ok(again) = made_again(rt.alloc(), &map) else {
+        return Err("no memory".into());
+    };
+    assert_eq!(rt; *again.shape(), shape);
+    check_blocks(&rt, &again);
+    for boundary in 0..2 {
+        assert_eq!(rt;
+            counts(&again, boundary),
+            counts(&map, boundary),
+            "{boundary}"
+        );
+    }
+    for block in 0..6 {
+        for at in 0..3 {
+            assert_eq!(rt;
+                place(&again, block, at),
+                place(&map, block, at),
+                "{block} {at}"
+            );
+        }
+    }
+    Ok(())
+}
+
+#[test]
+fn takes_a_last_site_again(rt: HostRuntime) -> Result<(), Fail> {
+    let shape = Shape::check(512, 6, 2, 3, 1).ok_or("the shape")?;
+    let Ok(mut map) = Map::new(rt.alloc(), shape) else {
+        return Err("no memory".into());
+    };
+    for row in &AGAIN {
+        check_row(&rt, &mut map, row);
+    }
+    Ok(())
+}
+
+// Blocks in three words of bits, two of them in one group.
+#[test]
+fn finds_spread_blocks(rt: HostRuntime) -> Result<(), Fail> {
+    let shape = Shape::check(512, 5000, 2, 5000, 1).ok_or("the shape")?;
+    let Ok(mut map) = Map::new(rt.alloc(), shape) else {
+        return Err("no memory".into());
+    };
+    for &(call, block, boundary, want, least) in &SPREADS {
+        assert_eq!(rt;
+            called(&mut map, call, block, boundary),
+            want,
+            "{call:?} {block} {boundary}"
+        );
+        assert_eq!(rt; map.least_spread(), least, "{call:?} {block} {boundary}");
+    }
     Ok(())
 }
 

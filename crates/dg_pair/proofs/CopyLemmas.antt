@@ -10,6 +10,7 @@ use Rattle.dg_pair.specs.declared.boundaries.CopyAnswer.{CopyAnswer}
 use Rattle.dg_pair.specs.declared.boundaries.CopyAnswer.TheVariants.{Copied, Lost as CopyLost, Fell}
 use Rattle.dg_pair.specs.declared.boundaries.Boundary.{Boundary}
 use Rattle.dg_pair.specs.declared.boundaries.Boundary.TheVariants.{Both, Half, Fill, Lost}
+use Rattle.dg_pair.specs.Calls.{copied}
 use Rattle.dg_pair.specs.Members.{KeepsSlots}
 use Rattle.dg_pair.specs.Boundaries.{members_of, number_of, IsWell, raised, IsFilling}
 use Rattle.dg_pair.proofs.SlotLemmas.{told_same}
@@ -45,6 +46,12 @@ copy_keeps answer l s x v old new f g before now copied falls same kept other ha
     moves Copied e = inl (copied e q, λ is. other e (record { member = q; fills = is }))
     moves CopyLost e = fallen (λ is. cc)
     moves Fell e = fallen (λ is. cc)
+
+-- each member does what is expected of a copy, or has fallen
+pub copy_falls : (answer : CopyAnswer) (old new : ℕ → MemberState) (f g : ℕ → ℕ) → (answer ≡ Copied → (q : ℕ) → new q ≡ raised (old q)) → (answer ≢ Copied → MembersFall f g old new) → MembersFall f g (copied answer old) new
+copy_falls Copied old new f g up falls = λ q. inl (up refl q)
+copy_falls CopyLost old new f g up falls = falls (λ e. cc)
+copy_falls Fell old new f g up falls = falls (λ e. cc)
 
 -- beside a member that is being refilled stands a good one
 good_beside : (x : Boundary) (have : ℕ) → IsWell x → IsFilling (members_of x) have → (g : ℕ) × (members_of x g ≡ Good) × (g / 2 ≡ number_of x)

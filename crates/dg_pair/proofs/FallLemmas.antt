@@ -1,5 +1,5 @@
 -- The second call, after the first of two members that serve has fallen.
-use Rattle.std.proofs.Common.{◌≡◌, ◌≢◌, inl, inr, ℕ, ◌≤◌, List, false, sym, ◌∙◌, subst, arith}
+use Rattle.std.proofs.Common.{◌≡◌, ◌≢◌, inl, inr, ℕ, ◌+◌, ◌*◌, ◌/◌, ◌≤◌, List, false, sym, ◌∙◌, subst, arith}
 use Rattle.std.specs.Prelude.{Option, Some, None}
 use Rattle.std.proofs.lemmas.Bool.{cases_eq}
 use Rattle.std.proofs.lemmas.Bool.Decides.{nat_tests}
@@ -13,13 +13,20 @@ use Rattle.dg_pair.specs.declared.members.Member.{Member}
 use Rattle.dg_pair.specs.declared.boundaries.Boundary.{Boundary}
 use Rattle.dg_pair.specs.declared.boundaries.Boundary.TheVariants.{Both, Half}
 use Rattle.dg_pair.specs.Boundaries.{members_of}
-use Rattle.dg_pair.specs.Cases.{SlotIs, KeepsAll}
+use Rattle.dg_pair.specs.Cases.{SlotIs, KeepsAll, KeepsOthers}
 use Rattle.dg_pair.proofs.SlotLemmas.{told_same, torn_then}
 
 -- the slots are kept by both calls
 pub keeps_after : (a b : Member GoodType) (out : Member OutType) (new : Boundary) (first mid last : ℕ → Option (List ℕ)) → b.l ≡ a.l → ((q : ℕ) → Told IsSame (first q) (mid q)) → KeepsAll b.l (Half b out) mid new last → KeepsAll a.l (Both a b) first new last
 keeps_after a b out new first mid last l same kept x v had =
     subst (λ (n : ℕ). SlotIs new n x v last) l (kept x v (told_same (λ all. slot_of b.l x all ≡ v) _ _ (same b.number) (subst (λ (n : ℕ). SlotOf n x v (first b.number)) (sym l) had.1)))
+
+-- and each other slot by two writes
+pub kept_after : (a b : Member GoodType) (out : Member OutType) (new : Boundary) (slot : ℕ) (first mid last : ℕ → Option (List ℕ)) → b.l ≡ a.l → a.number + b.number ≡ 4 * (a.number / 2) + 1
+    → ((q : ℕ) → q ≢ a.number → Told IsSame (first q) (mid q)) → KeepsOthers b.l slot (Half b out) mid new last → KeepsOthers a.l slot (Both a b) first new last
+kept_after a b out new slot first mid last l numbers same kept x v other had =
+    subst (λ (n : ℕ). SlotIs new n x v last) l
+    (kept x v other (told_same (λ all. slot_of b.l x all ≡ v) _ _ (same b.number (λ e. omega (arith, numbers, e))) (subst (λ (n : ℕ). SlotOf n x v (first b.number)) (sym l) had.1)))
 
 -- members have only fallen in both calls
 pub falls_after : (a b : Member GoodType) (out : Member OutType) (new : Boundary) (first mid last : ℕ → ℕ) → Rose (first a.number) (mid a.number) → ((q : ℕ) → first q ≤ mid q) → ((q : ℕ) → mid q ≤ last q) → MembersFall mid last (members_of (Half b out)) (members_of new) → MembersFall first last (members_of (Both a b)) (members_of new)

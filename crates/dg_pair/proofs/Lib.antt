@@ -1,6 +1,9 @@
+mod BesideLemmas
 mod BoundaryLemmas
+mod CaseLemmas
 mod CopyLemmas
 mod FallLemmas
 mod NoteLemmas
 mod RangeLemmas
+mod ReplaceLemmas
 mod SlotLemmas

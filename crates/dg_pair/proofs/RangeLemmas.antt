@@ -56,3 +56,21 @@ torn_behind place n before after torn i j h =
     let e : (place + n) + (i - (place + n)) ≡ i = omega arith in
     let from : (xs : List ℕ) → drop i xs ≡ drop (i - (place + n)) (drop (place + n) xs) = λ (xs : List ℕ). ap (λ (k : ℕ). drop k xs) (sym e) ∙ sym (drop-drop (i - (place + n)) (place + n) xs) in
     ap (λ (l : List ℕ). take (j - i) l) (from after ∙ ap (λ (l : List ℕ). drop (i - (place + n)) l) torn.back ∙ sym (from before))
+
+-- what changed a range alone changed no more than a wider one
+pub torn_wider : (place n wide m : ℕ) (before after : List ℕ) → wide ≤ place → place + n ≤ wide + m → Torn place n before after → Torn wide m before after
+torn_wider place n wide m before after front back torn =
+    let e : (place + n) + (wide + m - (place + n)) ≡ wide + m = omega arith in
+    let from : (xs : List ℕ) → drop (wide + m) xs ≡ drop (wide + m - (place + n)) (drop (place + n) xs) = λ (xs : List ℕ). ap (λ (k : ℕ). drop k xs) (sym e) ∙ sym (drop-drop (wide + m - (place + n)) (place + n) xs) in
+    record {
+      size = torn.size;
+      front = sym (take_take wide place after front) ∙ ap (λ (l : List ℕ). take wide l) torn.front ∙ take_take wide place before front;
+      back = from after ∙ ap (λ (l : List ℕ). drop (wide + m - (place + n)) l) torn.back ∙ sym (from before);
+    }
+
+-- a range of the bytes that stood there before more were put behind them
+pub front_range : (before after : List ℕ) (i j : ℕ) → take (length before) after ≡ before → i ≤ j → j ≤ length before → slice_range after i j ≡ slice_range before i j
+front_range before after i j front ij within =
+    range_by_take after i j ij
+    ∙ ap (λ (l : List ℕ). drop i l) (sym (take_take j (length before) after within) ∙ ap (λ (l : List ℕ). take j l) front)
+    ∙ sym (range_by_take before i j ij)

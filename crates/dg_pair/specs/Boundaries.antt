@@ -52,6 +52,10 @@ IsWell (Lost a b) = ArePartners a b
 abbrev pub MembersFit : ℕ → ℕ → (ℕ → MemberState) → (ℕ → Option (List ℕ)) → Type 0
 MembersFit l slots members bytes = (q : ℕ) → members q ≢ Out → HasRoom l slots (bytes q)
 
+-- each member that isn't out stands
+abbrev pub MembersStand : (ℕ → MemberState) → (ℕ → Type 0) → Type 0
+MembersStand members stands = (q : ℕ) → members q ≢ Out → stands q
+
 -- how many of boundary s's members are good
 abbrev pub goods_in : (ℕ → MemberState) → ℕ → ℕ
 goods_in members s = (if is_good (members (2 * s)) then 1 else 0) + (if is_good (members (2 * s + 1)) then 1 else 0)

@@ -1,6 +1,10 @@
 -- The same words by cases on the boundary, for the functions that work on one case.
-use Rattle.std.specs.Prelude.{◌≢◌, ◌⊎◌, ◌<◌, if◌then◌else◌, nat_lt, ℕ, List, Option}
+use Rattle.std.specs.Prelude.{◌≡◌, ◌≢◌, ◌⊎◌, ◌↔◌, ◌<◌, if◌then◌else◌, nat_lt, ℕ, List, Option}
 use Rattle.dg_model.specs.Members.{HasRoom, SlotOf}
+use Rattle.dg_model.specs.States.{CountsRise}
+use Rattle.dg_io.specs.Told.{Told, IsSame, StillTold}
+use Rattle.dg_io.specs.declared.outside.Rack.{Ghosts}
+use Rattle.dg_pair.specs.Boundaries.{number_of, size_of, slots_of, IsWell}
 use Rattle.dg_pair.specs.declared.boundaries.Boundary.{Boundary}
 use Rattle.dg_pair.specs.declared.boundaries.Boundary.TheVariants.{Both, Half, Fill, Lost}
 
@@ -16,6 +20,35 @@ Fits (Both a b) bytes = HasRoom a.l a.slots (bytes a.number) × HasRoom a.l a.sl
 Fits (Half a b) bytes = HasRoom a.l a.slots (bytes a.number)
 Fits (Fill a b) bytes = HasRoom a.l a.slots (bytes a.number) × HasRoom a.l a.slots (bytes b.number)
 Fits (Lost a b) bytes = Unit {0}
+
+-- each member that isn't out stands
+abbrev pub Stand : Boundary → (ℕ → Type 0) → Type 0
+Stand (Both a b) stands = stands a.number × stands b.number
+Stand (Half a b) stands = stands a.number
+Stand (Fill a b) stands = stands a.number × stands b.number
+Stand (Lost a b) stands = Unit {0}
+
+-- it is none of its two members
+abbrev pub IsOther : Boundary → ℕ → Type 0
+IsOther (Both a b) q = (q ≢ a.number) × (q ≢ b.number)
+IsOther (Half a b) q = (q ≢ a.number) × (q ≢ b.number)
+IsOther (Fill a b) q = (q ≢ a.number) × (q ≢ b.number)
+IsOther (Lost a b) q = (q ≢ a.number) × (q ≢ b.number)
+
+-- what a call over a rack leaves, by cases
+pub record LeavesCase {S : Type 0} (rack : Ghosts S) (old new : Boundary) (before now : S) : Type 0 where
+  pub well : IsWell new
+  pub number : number_of new ≡ number_of old
+  pub size : size_of new ≡ size_of old
+  pub slots : slots_of new ≡ slots_of old
+  pub stand : Stand new (rack.stands now)
+  pub other_bytes : (q : ℕ) → IsOther old q → Told IsSame (rack.bytes before q) (rack.bytes now q)
+  pub other_faults : (q : ℕ) → IsOther old q → (rack.counts now).faults q ≡ (rack.counts before).faults q
+  pub others_stand : (q : ℕ) → IsOther old q → rack.stands before q → rack.stands now q
+  pub rise : CountsRise (rack.counts before) (rack.counts now)
+  pub tells : StillTold (rack.bytes before) (rack.bytes now)
+  pub same_rack : rack.name now ≡ rack.name before
+  pub steady_on : rack.steady before ↔ rack.steady now
 
 -- these are the bytes of the slot on a good member, where it tells them
 abbrev pub ReadsGood : Boundary → ℕ → ℕ → List ℕ → (ℕ → Option (List ℕ)) → Type 0

@@ -1,3 +1,4 @@
 pub mod Boundaries
+pub mod Calls
 pub mod Cases
 pub mod Members

@@ -1,13 +1,13 @@
 // A boundary, and the calls on it.
 ghost use Rattle.std.specs.Prelude.{◌≡◌, ◌≢◌, ◌⊎◌, ◌↔◌, ◌+◌, ◌*◌, ◌/◌, ◌≤◌, ◌<◌, ℕ, List, length, true, false, IsSome, IfSome, Option, if◌then◌else◌};
 ghost use Rattle.dg_model.specs.Causes.{Rose};
-ghost use Rattle.dg_model.specs.Members.{is_filling, is_lost, serves, place_of, SlotHolds, MembersFall};
-ghost use Rattle.dg_model.specs.States.{CountsRise};
-ghost use Rattle.dg_io.specs.Told.{Told, IsSame, IsZeros, Patched, Torn, StillTold, OthersSame};
+ghost use Rattle.dg_model.specs.Members.{is_filling, is_lost, serves, place_of, SlotHolds, IsStruck};
+ghost use Rattle.dg_io.specs.Told.{Told, IsSame, IsZeros, Patched, Torn, FitsIn, Extended, KeepsFront, OthersSame};
 ghost use Rattle.dg_io.specs.Faults.{OnlyMember};
-ghost use Rattle.dg_pair.specs.Boundaries.{members_of, number_of, size_of, slots_of, IsWell, MembersFit, goods_in, servers_in, unfilled, raised, completed, IsFilling, HasNext};
+ghost use Rattle.dg_pair.specs.Boundaries.{members_of, number_of, size_of, slots_of, IsWell, MembersFit, MembersStand, goods_in, servers_in, unfilled, raised, completed, IsFilling, HasNext};
+ghost use Rattle.dg_pair.specs.Calls.{IsPair, KeepsPair, LeavesBoundary, LeavesPair, KeepsBeside, begun, replaced, copied};
 
-use crate::changes::{fail_any, note_any};
+use crate::changes::{extend_any, fail_any, note_any};
 use crate::reads::read_any;
 use crate::refills::{complete_any, copy_any, pass_any, replace_any};
 use crate::writes::write_any;
@@ -91,6 +91,17 @@ pub enum NoteAnswer {
     Fell,
 }
 
+/// The answer to an extension of a member.
+#[derive(Clone, Copy, Debug, PartialEq, Eq)]
+pub enum ExtendAnswer {
+    /// The member is so long.
+    Extended,
+    /// The member isn't good, and wasn't called.
+    NotGood,
+    /// The member fell.
+    Fell,
+}
+
 // What stands in the place of a boundary while it is worked on.
 fn hollow() -> Boundary {
     Boundary::Lost(Member::hollow(), Member::hollow())
@@ -124,23 +135,10 @@ impl Boundary {
     pub fn new<R: Rack>(rack: &mut R, number: u8, l: u32, slots: u32, size: u64) -> Boundary
         requires number { number < 128 }
         requires size { 512 + slots * l ≤ size }
-        ensures well { IsWell result }
-        ensures number { number_of result ≡ number }
-        ensures size { size_of result ≡ l }
-        ensures slots { slots_of result ≡ slots }
-        ensures own { (q : ℕ) → q / 2 ≢ number → members_of result q ≡ MemberState.Out }
-        ensures members { (q : ℕ) → q / 2 ≡ number
-            → (members_of result q ≡ MemberState.Good)
-            ⊎ ((members_of result q ≡ MemberState.Out) × Rose ((R.counts rack.old).faults q) ((R.counts rack.new).faults q)) }
-        ensures room { MembersFit l slots (members_of result) (R.bytes rack.new) }
+        ensures leaves { LeavesBoundary R.Rack number l slots (begun number) result rack.old rack.new }
         ensures blank { (q : ℕ) → members_of result q ≡ MemberState.Good → Told (IsZeros size) (R.bytes rack.old q) (R.bytes rack.new q) }
-        ensures other_bytes { (q : ℕ) → q / 2 ≢ number → Told IsSame (R.bytes rack.old q) (R.bytes rack.new q) }
-        ensures other_faults { (q : ℕ) → q / 2 ≢ number → (R.counts rack.new).faults q ≡ (R.counts rack.old).faults q }
-        ensures counts { CountsRise (R.counts rack.old) (R.counts rack.new) }
         ensures most { (R.counts rack.new).calls ≤ (R.counts rack.old).calls + 2 }
         ensures most_writes { (R.counts rack.new).writes ≤ (R.counts rack.old).writes + 2 }
-        ensures tells { StillTold (R.bytes rack.old) (R.bytes rack.new) }
-        ensures name { R.name rack.new ≡ R.name rack.old }
     {
         let first = Member::blank(rack, 2 * number, l, slots, size);
         let second = Member::blank(rack, 2 * number + 1, l, slots, size);
@@ -158,11 +156,8 @@ impl Boundary {
         requires size { length buf.old ≡ size_of self.old }
         requires slot { slot < slots_of self.old }
         requires room { MembersFit (size_of self.old) (slots_of self.old) (members_of self.old) (R.bytes rack.old) }
-        ensures well { IsWell self.new }
-        ensures number { number_of self.new ≡ number_of self.old }
-        ensures size { size_of self.new ≡ size_of self.old }
-        ensures slots { slots_of self.new ≡ slots_of self.old }
-        ensures own { (q : ℕ) → q / 2 ≢ number_of self.old → members_of self.new q ≡ MemberState.Out }
+        requires stand { MembersStand (members_of self.old) (R.stands rack.old) }
+        ensures leaves { LeavesPair R.Rack (members_of self.old) self.old self.new rack.old rack.new }
         ensures lost { (result ≡ PairRead.Lost) ↔ (is_lost (members_of self.new) (number_of self.old) ≡ true) }
         ensures out { result ≡ PairRead.Lost → (q : ℕ) → members_of self.new q ≡ MemberState.Out }
         ensures got { result ≡ PairRead.Got
@@ -171,19 +166,14 @@ impl Boundary {
         ensures kept { (x : ℕ) (v : List ℕ)
             → SlotHolds (size_of self.old) (members_of self.old) (R.bytes rack.old) (number_of self.old) x v
             → SlotHolds (size_of self.old) (members_of self.new) (R.bytes rack.new) (number_of self.old) x v }
-        ensures room { MembersFit (size_of self.old) (slots_of self.old) (members_of self.new) (R.bytes rack.new) }
         ensures same { (q : ℕ) → Told IsSame (R.bytes rack.old q) (R.bytes rack.new q) }
-        ensures falls { MembersFall (R.counts rack.old).faults (R.counts rack.new).faults (members_of self.old) (members_of self.new) }
-        ensures other_faults { (q : ℕ) → q / 2 ≢ number_of self.old → (R.counts rack.new).faults q ≡ (R.counts rack.old).faults q }
+        ensures beside { KeepsBeside (size_of self.old) (slots_of self.old) (R.bytes rack.old) (R.bytes rack.new) }
         ensures uncalled { (q : ℕ) → members_of self.old q ≢ MemberState.Good → (R.counts rack.new).faults q ≡ (R.counts rack.old).faults q }
-        ensures counts { CountsRise (R.counts rack.old) (R.counts rack.new) }
         ensures called { result ≡ PairRead.Got → Rose (R.counts rack.old).calls (R.counts rack.new).calls }
         ensures most { (R.counts rack.new).calls ≤ (R.counts rack.old).calls + goods_in (members_of self.old) (number_of self.old) }
         ensures once { goods_in (members_of self.new) (number_of self.old) ≡ goods_in (members_of self.old) (number_of self.old)
             → (R.counts rack.new).calls ≤ (R.counts rack.old).calls + 1 }
         ensures writes { (R.counts rack.new).writes ≡ (R.counts rack.old).writes }
-        ensures tells { StillTold (R.bytes rack.old) (R.bytes rack.new) }
-        ensures name { R.name rack.new ≡ R.name rack.old }
     {
         let (next, answer) = read_any(mem::replace(self, hollow()), rack, slot, buf);
         *self = next;
@@ -197,30 +187,21 @@ impl Boundary {
         requires size { length buf.now ≡ size_of self.old }
         requires slot { slot < slots_of self.old }
         requires room { MembersFit (size_of self.old) (slots_of self.old) (members_of self.old) (R.bytes rack.old) }
-        ensures well { IsWell self.new }
-        ensures number { number_of self.new ≡ number_of self.old }
-        ensures size { size_of self.new ≡ size_of self.old }
-        ensures slots { slots_of self.new ≡ slots_of self.old }
-        ensures own { (q : ℕ) → q / 2 ≢ number_of self.old → members_of self.new q ≡ MemberState.Out }
+        requires stand { MembersStand (members_of self.old) (R.stands rack.old) }
+        ensures leaves { LeavesPair R.Rack (members_of self.old) self.old self.new rack.old rack.new }
         ensures lost { (result ≡ PairWrite.Lost) ↔ (is_lost (members_of self.new) (number_of self.old) ≡ true) }
         ensures out { result ≡ PairWrite.Lost → (q : ℕ) → members_of self.new q ≡ MemberState.Out }
         ensures put { SlotHolds (size_of self.old) (members_of self.new) (R.bytes rack.new) (number_of self.old) slot buf.now }
         ensures kept_others { (x : ℕ) (v : List ℕ) → x ≢ slot
             → SlotHolds (size_of self.old) (members_of self.old) (R.bytes rack.old) (number_of self.old) x v
             → SlotHolds (size_of self.old) (members_of self.new) (R.bytes rack.new) (number_of self.old) x v }
-        ensures room { MembersFit (size_of self.old) (slots_of self.old) (members_of self.new) (R.bytes rack.new) }
-        ensures other_bytes { (q : ℕ) → q / 2 ≢ number_of self.old → Told IsSame (R.bytes rack.old q) (R.bytes rack.new q) }
         ensures torn { (q : ℕ) → Told (Torn (place_of (size_of self.old) slot) (size_of self.old)) (R.bytes rack.old q) (R.bytes rack.new q) }
+        ensures beside { KeepsBeside (size_of self.old) (slots_of self.old) (R.bytes rack.old) (R.bytes rack.new) }
         ensures untaken { (q : ℕ) → serves (members_of self.old q) slot ≡ false → Told IsSame (R.bytes rack.old q) (R.bytes rack.new q) }
-        ensures falls { MembersFall (R.counts rack.old).faults (R.counts rack.new).faults (members_of self.old) (members_of self.new) }
-        ensures other_faults { (q : ℕ) → q / 2 ≢ number_of self.old → (R.counts rack.new).faults q ≡ (R.counts rack.old).faults q }
         ensures uncalled { (q : ℕ) → serves (members_of self.old q) slot ≡ false → (R.counts rack.new).faults q ≡ (R.counts rack.old).faults q }
-        ensures counts { CountsRise (R.counts rack.old) (R.counts rack.new) }
         ensures called { result ≡ PairWrite.Kept → Rose (R.counts rack.old).writes (R.counts rack.new).writes }
         ensures most { (R.counts rack.new).calls ≤ (R.counts rack.old).calls + servers_in (members_of self.old) (number_of self.old) slot }
         ensures most_writes { (R.counts rack.new).writes ≤ (R.counts rack.old).writes + servers_in (members_of self.old) (number_of self.old) slot }
-        ensures tells { StillTold (R.bytes rack.old) (R.bytes rack.new) }
-        ensures name { R.name rack.new ≡ R.name rack.old }
     {
         let (next, answer) = write_any(mem::replace(self, hollow()), rack, slot, buf);
         *self = next;
@@ -230,11 +211,7 @@ impl Boundary {
     /// The boundary of members that were made before: each is good where its mark is true, else out.
     pub fn opened(number: u8, l: u32, slots: u32, good: (bool, bool)) -> Boundary
         requires { number < 128 }
-        ensures well { IsWell result }
-        ensures number { number_of result ≡ number }
-        ensures size { size_of result ≡ l }
-        ensures slots { slots_of result ≡ slots }
-        ensures own { (q : ℕ) → q / 2 ≢ number → members_of result q ≡ MemberState.Out }
+        ensures pair { IsPair number l slots result }
         ensures first { members_of result (2 * number) ≡ (if good.0 then MemberState.Good else MemberState.Out) }
         ensures second { members_of result (2 * number + 1) ≡ (if good.1 then MemberState.Good else MemberState.Out) }
     {
@@ -252,14 +229,12 @@ impl Boundary {
     pub fn fail(&mut self, side: u8) -> FailAnswer
         requires well { IsWell self.old }
         requires side { side < 2 }
-        ensures well { IsWell self.new }
-        ensures number { number_of self.new ≡ number_of self.old }
-        ensures size { size_of self.new ≡ size_of self.old }
-        ensures slots { slots_of self.new ≡ slots_of self.old }
-        ensures own { (q : ℕ) → q / 2 ≢ number_of self.old → members_of self.new q ≡ MemberState.Out }
+        ensures keeps { KeepsPair self.old self.new }
         ensures already { (result ≡ FailAnswer.Already) ↔ (members_of self.old (2 * number_of self.old + side) ≡ MemberState.Out) }
         ensures out { members_of self.new (2 * number_of self.old + side) ≡ MemberState.Out }
         ensures others { (q : ℕ) → q ≢ (2 * number_of self.old + side) → members_of self.new q ≡ unfilled (members_of self.old q) }
+        ensures struck { IsStruck (2 * number_of self.old + side) (members_of self.old) (members_of self.new) }
+        ensures out_stays { (q : ℕ) → members_of self.old q ≡ MemberState.Out → members_of self.new q ≡ MemberState.Out }
         ensures kept { (bytes : ℕ → Option (List ℕ)) (x : ℕ) (v : List ℕ)
             → SlotHolds (size_of self.old) (members_of self.old) bytes (number_of self.old) x v
             → SlotHolds (size_of self.old) (members_of self.new) bytes (number_of self.old) x v }
@@ -279,31 +254,24 @@ impl Boundary {
         requires side { side < 2 }
         requires size { 512 + slots_of self.old * size_of self.old ≤ size }
         requires room { MembersFit (size_of self.old) (slots_of self.old) (members_of self.old) (R.bytes rack.old) }
-        ensures well { IsWell self.new }
-        ensures number { number_of self.new ≡ number_of self.old }
-        ensures size { size_of self.new ≡ size_of self.old }
-        ensures slots { slots_of self.new ≡ slots_of self.old }
-        ensures own { (q : ℕ) → q / 2 ≢ number_of self.old → members_of self.new q ≡ MemberState.Out }
+        requires stand { MembersStand (members_of self.old) (R.stands rack.old) }
+        ensures leaves { LeavesPair R.Rack (replaced result (2 * number_of self.old + side) (members_of self.old)) self.old self.new rack.old rack.new }
         ensures lost { (result ≡ ReplaceAnswer.Lost) ↔ (is_lost (members_of self.old) (number_of self.old) ≡ true) }
         ensures not_out { (result ≡ ReplaceAnswer.NotOut) ↔ (members_of self.old (2 * number_of self.old + side) ≢ MemberState.Out) }
-        ensures failed { result ≡ ReplaceAnswer.Failed → Rose ((R.counts rack.old).faults (2 * number_of self.old + side)) ((R.counts rack.new).faults (2 * number_of self.old + side)) }
-        ensures replaced { result ≡ ReplaceAnswer.Replaced → members_of self.new (2 * number_of self.old + side) ≡ MemberState.Filling 0 }
-        ensures stays { result ≢ ReplaceAnswer.Replaced → (q : ℕ) → members_of self.new q ≡ members_of self.old q }
-        ensures others { (q : ℕ) → q ≢ (2 * number_of self.old + side) → members_of self.new q ≡ members_of self.old q }
+        ensures failed { result ≡ ReplaceAnswer.Failed
+            → Rose ((R.counts rack.old).faults (2 * number_of self.old + side)) ((R.counts rack.new).faults (2 * number_of self.old + side)) }
+        ensures members { (q : ℕ) → members_of self.new q ≡ replaced result (2 * number_of self.old + side) (members_of self.old) q }
         ensures kept { (x : ℕ) (v : List ℕ)
             → SlotHolds (size_of self.old) (members_of self.old) (R.bytes rack.old) (number_of self.old) x v
             → SlotHolds (size_of self.old) (members_of self.new) (R.bytes rack.new) (number_of self.old) x v }
-        ensures room { MembersFit (size_of self.old) (slots_of self.old) (members_of self.new) (R.bytes rack.new) }
-        ensures blank { result ≡ ReplaceAnswer.Replaced → Told (IsZeros size) (R.bytes rack.old (2 * number_of self.old + side)) (R.bytes rack.new (2 * number_of self.old + side)) }
-        ensures other_bytes { OthersSame (2 * number_of self.old + side) (R.bytes rack.old) (R.bytes rack.new) }
-        ensures other_faults { OnlyMember (2 * number_of self.old + side) (R.counts rack.old).faults (R.counts rack.new).faults }
+        ensures blank { result ≡ ReplaceAnswer.Replaced
+            → Told (IsZeros size) (R.bytes rack.old (2 * number_of self.old + side)) (R.bytes rack.new (2 * number_of self.old + side)) }
+        ensures other_members { OthersSame (2 * number_of self.old + side) (R.bytes rack.old) (R.bytes rack.new) }
+        ensures only_faults { OnlyMember (2 * number_of self.old + side) (R.counts rack.old).faults (R.counts rack.new).faults }
         ensures called { result ≡ ReplaceAnswer.Replaced → Rose (R.counts rack.old).writes (R.counts rack.new).writes }
         ensures most { (R.counts rack.new).calls ≤ (R.counts rack.old).calls + 1 }
         ensures most_writes { (R.counts rack.new).writes ≤ (R.counts rack.old).writes + 1 }
         ensures quiet { (result ≡ ReplaceAnswer.Lost) ⊎ (result ≡ ReplaceAnswer.NotOut) → rack.new ≡ rack.old }
-        ensures counts { CountsRise (R.counts rack.old) (R.counts rack.new) }
-        ensures tells { StillTold (R.bytes rack.old) (R.bytes rack.new) }
-        ensures name { R.name rack.new ≡ R.name rack.old }
     {
         let (next, answer) = replace_any(mem::replace(self, hollow()), rack, side, size);
         *self = next;
@@ -316,11 +284,8 @@ impl Boundary {
         requires next { HasNext (members_of self.old) (slots_of self.old) }
         requires size { length buf.old ≡ size_of self.old }
         requires room { MembersFit (size_of self.old) (slots_of self.old) (members_of self.old) (R.bytes rack.old) }
-        ensures well { IsWell self.new }
-        ensures number { number_of self.new ≡ number_of self.old }
-        ensures size { size_of self.new ≡ size_of self.old }
-        ensures slots { slots_of self.new ≡ slots_of self.old }
-        ensures own { (q : ℕ) → q / 2 ≢ number_of self.old → members_of self.new q ≡ MemberState.Out }
+        requires stand { MembersStand (members_of self.old) (R.stands rack.old) }
+        ensures leaves { LeavesPair R.Rack (copied result (members_of self.old)) self.old self.new rack.old rack.new }
         ensures lost { (result ≡ CopyAnswer.Lost) ↔ (is_lost (members_of self.new) (number_of self.old) ≡ true) }
         ensures copied { result ≡ CopyAnswer.Copied → (q : ℕ) → members_of self.new q ≡ raised (members_of self.old q) }
         ensures fell { result ≡ CopyAnswer.Fell → (q : ℕ) → members_of self.new q ≡ unfilled (members_of self.old q) }
@@ -329,8 +294,6 @@ impl Boundary {
             → Rose ((R.counts rack.old).faults q) ((R.counts rack.new).faults q) }
         ensures filling_fell { result ≡ CopyAnswer.Fell → (q : ℕ) → is_filling (members_of self.old q) ≡ true
             → Rose ((R.counts rack.old).faults q) ((R.counts rack.new).faults q) }
-        ensures falls { result ≢ CopyAnswer.Copied
-            → MembersFall (R.counts rack.old).faults (R.counts rack.new).faults (members_of self.old) (members_of self.new) }
         ensures moved { result ≡ CopyAnswer.Copied → (x : ℕ) (v : List ℕ) → IsFilling (members_of self.old) x
             → ((q : ℕ) → members_of self.old q ≡ MemberState.Good → IsSome (R.bytes rack.new q))
             → SlotHolds (size_of self.old) (members_of self.old) (R.bytes rack.old) (number_of self.old) x v
@@ -338,17 +301,14 @@ impl Boundary {
         ensures kept { (x : ℕ) (v : List ℕ) → (result ≡ CopyAnswer.Copied → ¬ IsFilling (members_of self.old) x)
             → SlotHolds (size_of self.old) (members_of self.old) (R.bytes rack.old) (number_of self.old) x v
             → SlotHolds (size_of self.old) (members_of self.new) (R.bytes rack.new) (number_of self.old) x v }
-        ensures room { MembersFit (size_of self.old) (slots_of self.old) (members_of self.new) (R.bytes rack.new) }
         ensures torn { (q x : ℕ) → IsFilling (members_of self.old) x
             → Told (Torn (place_of (size_of self.old) x) (size_of self.old)) (R.bytes rack.old q) (R.bytes rack.new q) }
-        ensures other_bytes { (q : ℕ) → is_filling (members_of self.old q) ≡ false → Told IsSame (R.bytes rack.old q) (R.bytes rack.new q) }
+        ensures beside { KeepsBeside (size_of self.old) (slots_of self.old) (R.bytes rack.old) (R.bytes rack.new) }
+        ensures only_filling { (q : ℕ) → is_filling (members_of self.old q) ≡ false → Told IsSame (R.bytes rack.old q) (R.bytes rack.new q) }
         ensures uncalled { (q : ℕ) → members_of self.old q ≡ MemberState.Out → (R.counts rack.new).faults q ≡ (R.counts rack.old).faults q }
         ensures called { result ≡ CopyAnswer.Copied → Rose (R.counts rack.old).writes (R.counts rack.new).writes }
         ensures most { (R.counts rack.new).calls ≤ (R.counts rack.old).calls + 2 }
         ensures most_writes { (R.counts rack.new).writes ≤ (R.counts rack.old).writes + 1 }
-        ensures counts { CountsRise (R.counts rack.old) (R.counts rack.new) }
-        ensures tells { StillTold (R.bytes rack.old) (R.bytes rack.new) }
-        ensures name { R.name rack.new ≡ R.name rack.old }
     {
         let (next, answer) = copy_any(mem::replace(self, hollow()), rack, buf);
         *self = next;
@@ -359,15 +319,12 @@ impl Boundary {
     pub fn pass_slot(&mut self)
         requires well { IsWell self.old }
         requires next { HasNext (members_of self.old) (slots_of self.old) }
-        ensures well { IsWell self.new }
-        ensures number { number_of self.new ≡ number_of self.old }
-        ensures size { size_of self.new ≡ size_of self.old }
-        ensures slots { slots_of self.new ≡ slots_of self.old }
-        ensures own { (q : ℕ) → q / 2 ≢ number_of self.old → members_of self.new q ≡ MemberState.Out }
+        ensures keeps { KeepsPair self.old self.new }
         ensures raised { (q : ℕ) → members_of self.new q ≡ raised (members_of self.old q) }
         ensures kept { (bytes : ℕ → Option (List ℕ)) (x : ℕ) (v : List ℕ) → ¬ IsFilling (members_of self.old) x
             → SlotHolds (size_of self.old) (members_of self.old) bytes (number_of self.old) x v
             → SlotHolds (size_of self.old) (members_of self.new) bytes (number_of self.old) x v }
+        ensures out_stays { (q : ℕ) → members_of self.old q ≡ MemberState.Out → members_of self.new q ≡ MemberState.Out }
         ensures room { (bytes : ℕ → Option (List ℕ))
             → MembersFit (size_of self.old) (slots_of self.old) (members_of self.old) bytes
             → MembersFit (size_of self.old) (slots_of self.old) (members_of self.new) bytes }
@@ -379,15 +336,12 @@ impl Boundary {
     pub fn complete(&mut self)
         requires well { IsWell self.old }
         requires full { IsFilling (members_of self.old) (slots_of self.old) }
-        ensures well { IsWell self.new }
-        ensures number { number_of self.new ≡ number_of self.old }
-        ensures size { size_of self.new ≡ size_of self.old }
-        ensures slots { slots_of self.new ≡ slots_of self.old }
-        ensures own { (q : ℕ) → q / 2 ≢ number_of self.old → members_of self.new q ≡ MemberState.Out }
+        ensures keeps { KeepsPair self.old self.new }
         ensures completed { (q : ℕ) → members_of self.new q ≡ completed (members_of self.old q) }
         ensures kept { (bytes : ℕ → Option (List ℕ)) (x : ℕ) (v : List ℕ) → x < slots_of self.old
             → SlotHolds (size_of self.old) (members_of self.old) bytes (number_of self.old) x v
             → SlotHolds (size_of self.old) (members_of self.new) bytes (number_of self.old) x v }
+        ensures out_stays { (q : ℕ) → members_of self.old q ≡ MemberState.Out → members_of self.new q ≡ MemberState.Out }
         ensures room { (bytes : ℕ → Option (List ℕ))
             → MembersFit (size_of self.old) (slots_of self.old) (members_of self.old) bytes
             → MembersFit (size_of self.old) (slots_of self.old) (members_of self.new) bytes }
@@ -403,34 +357,65 @@ impl Boundary {
         requires fits { members_of self.old (2 * number_of self.old + side) ≡ MemberState.Good
             → IfSome (R.bytes rack.old (2 * number_of self.old + side)) (λ all. place + length buf.now ≤ length all) }
         requires room { MembersFit (size_of self.old) (slots_of self.old) (members_of self.old) (R.bytes rack.old) }
-        ensures well { IsWell self.new }
-        ensures number { number_of self.new ≡ number_of self.old }
-        ensures size { size_of self.new ≡ size_of self.old }
-        ensures slots { slots_of self.new ≡ slots_of self.old }
-        ensures own { (q : ℕ) → q / 2 ≢ number_of self.old → members_of self.new q ≡ MemberState.Out }
+        requires stand { MembersStand (members_of self.old) (R.stands rack.old) }
+        ensures leaves { LeavesPair R.Rack (members_of self.old) self.old self.new rack.old rack.new }
         ensures not_good { (result ≡ NoteAnswer.NotGood) ↔ (members_of self.old (2 * number_of self.old + side) ≢ MemberState.Good) }
         ensures stays { result ≢ NoteAnswer.Fell → (q : ℕ) → members_of self.new q ≡ members_of self.old q }
         ensures out { result ≡ NoteAnswer.Fell → members_of self.new (2 * number_of self.old + side) ≡ MemberState.Out }
-        ensures others { result ≡ NoteAnswer.Fell → (q : ℕ) → q ≢ (2 * number_of self.old + side) → members_of self.new q ≡ unfilled (members_of self.old q) }
-        ensures fell { result ≡ NoteAnswer.Fell → Rose ((R.counts rack.old).faults (2 * number_of self.old + side)) ((R.counts rack.new).faults (2 * number_of self.old + side)) }
-        ensures falls { MembersFall (R.counts rack.old).faults (R.counts rack.new).faults (members_of self.old) (members_of self.new) }
-        ensures noted { result ≡ NoteAnswer.Noted → Told (Patched place buf.now) (R.bytes rack.old (2 * number_of self.old + side)) (R.bytes rack.new (2 * number_of self.old + side)) }
-        ensures torn { result ≡ NoteAnswer.Fell → Told (Torn place (length buf.now)) (R.bytes rack.old (2 * number_of self.old + side)) (R.bytes rack.new (2 * number_of self.old + side)) }
+        ensures others { result ≡ NoteAnswer.Fell → (q : ℕ) → q ≢ (2 * number_of self.old + side)
+            → members_of self.new q ≡ unfilled (members_of self.old q) }
+        ensures fell { result ≡ NoteAnswer.Fell
+            → Rose ((R.counts rack.old).faults (2 * number_of self.old + side)) ((R.counts rack.new).faults (2 * number_of self.old + side)) }
+        ensures noted { result ≡ NoteAnswer.Noted
+            → Told (Patched place buf.now) (R.bytes rack.old (2 * number_of self.old + side)) (R.bytes rack.new (2 * number_of self.old + side)) }
+        ensures torn { result ≡ NoteAnswer.Fell
+            → Told (Torn place (length buf.now)) (R.bytes rack.old (2 * number_of self.old + side)) (R.bytes rack.new (2 * number_of self.old + side)) }
         ensures kept { (x : ℕ) (v : List ℕ) → x < slots_of self.old
             → SlotHolds (size_of self.old) (members_of self.old) (R.bytes rack.old) (number_of self.old) x v
             → SlotHolds (size_of self.old) (members_of self.new) (R.bytes rack.new) (number_of self.old) x v }
-        ensures room { MembersFit (size_of self.old) (slots_of self.old) (members_of self.new) (R.bytes rack.new) }
-        ensures other_bytes { OthersSame (2 * number_of self.old + side) (R.bytes rack.old) (R.bytes rack.new) }
-        ensures other_faults { OnlyMember (2 * number_of self.old + side) (R.counts rack.old).faults (R.counts rack.new).faults }
+        ensures other_members { OthersSame (2 * number_of self.old + side) (R.bytes rack.old) (R.bytes rack.new) }
+        ensures only_faults { OnlyMember (2 * number_of self.old + side) (R.counts rack.old).faults (R.counts rack.new).faults }
         ensures called { result ≡ NoteAnswer.Noted → Rose (R.counts rack.old).writes (R.counts rack.new).writes }
         ensures most { (R.counts rack.new).calls ≤ (R.counts rack.old).calls + 1 }
         ensures most_writes { (R.counts rack.new).writes ≤ (R.counts rack.old).writes + 1 }
         ensures quiet { result ≡ NoteAnswer.NotGood → rack.new ≡ rack.old }
-        ensures counts { CountsRise (R.counts rack.old) (R.counts rack.new) }
-        ensures tells { StillTold (R.bytes rack.old) (R.bytes rack.new) }
-        ensures name { R.name rack.new ≡ R.name rack.old }
     {
         let (next, answer) = note_any(mem::replace(self, hollow()), rack, side, place, buf);
+        *self = next;
+        answer
+    }
+
+    /// Makes the member of a side so many bytes long, where it is good, with zeros at its end. It isn't longer before.
+    pub fn extend<R: Rack>(&mut self, rack: &mut R, side: u8, length: u64) -> ExtendAnswer
+        requires well { IsWell self.old }
+        requires side { side < 2 }
+        requires longer { members_of self.old (2 * number_of self.old + side) ≡ MemberState.Good
+            → IfSome (R.bytes rack.old (2 * number_of self.old + side)) (FitsIn length) }
+        requires room { MembersFit (size_of self.old) (slots_of self.old) (members_of self.old) (R.bytes rack.old) }
+        requires stand { MembersStand (members_of self.old) (R.stands rack.old) }
+        ensures leaves { LeavesPair R.Rack (members_of self.old) self.old self.new rack.old rack.new }
+        ensures not_good { (result ≡ ExtendAnswer.NotGood) ↔ (members_of self.old (2 * number_of self.old + side) ≢ MemberState.Good) }
+        ensures stays { result ≢ ExtendAnswer.Fell → (q : ℕ) → members_of self.new q ≡ members_of self.old q }
+        ensures out { result ≡ ExtendAnswer.Fell → members_of self.new (2 * number_of self.old + side) ≡ MemberState.Out }
+        ensures others { result ≡ ExtendAnswer.Fell → (q : ℕ) → q ≢ (2 * number_of self.old + side)
+            → members_of self.new q ≡ unfilled (members_of self.old q) }
+        ensures fell { result ≡ ExtendAnswer.Fell
+            → Rose ((R.counts rack.old).faults (2 * number_of self.old + side)) ((R.counts rack.new).faults (2 * number_of self.old + side)) }
+        ensures extended { result ≡ ExtendAnswer.Extended
+            → Told (Extended length) (R.bytes rack.old (2 * number_of self.old + side)) (R.bytes rack.new (2 * number_of self.old + side)) }
+        ensures torn { result ≡ ExtendAnswer.Fell
+            → Told KeepsFront (R.bytes rack.old (2 * number_of self.old + side)) (R.bytes rack.new (2 * number_of self.old + side)) }
+        ensures kept { (x : ℕ) (v : List ℕ) → x < slots_of self.old
+            → SlotHolds (size_of self.old) (members_of self.old) (R.bytes rack.old) (number_of self.old) x v
+            → SlotHolds (size_of self.old) (members_of self.new) (R.bytes rack.new) (number_of self.old) x v }
+        ensures other_members { OthersSame (2 * number_of self.old + side) (R.bytes rack.old) (R.bytes rack.new) }
+        ensures only_faults { OnlyMember (2 * number_of self.old + side) (R.counts rack.old).faults (R.counts rack.new).faults }
+        ensures called { result ≡ ExtendAnswer.Extended → Rose (R.counts rack.old).writes (R.counts rack.new).writes }
+        ensures most { (R.counts rack.new).calls ≤ (R.counts rack.old).calls + 1 }
+        ensures most_writes { (R.counts rack.new).writes ≤ (R.counts rack.old).writes + 1 }
+        ensures quiet { result ≡ ExtendAnswer.NotGood → rack.new ≡ rack.old }
+    {
+        let (next, answer) = extend_any(mem::replace(self, hollow()), rack, side, length);
         *self = next;
         answer
     }

@@ -12,6 +12,6 @@ mod tests;
 mod writes;
 
 pub use boundaries::{
-    Boundary, CopyAnswer, FailAnswer, NoteAnswer, PairRead, PairWrite, ReplaceAnswer,
+    Boundary, CopyAnswer, ExtendAnswer, FailAnswer, NoteAnswer, PairRead, PairWrite, ReplaceAnswer,
 };
 pub use members::{FillCall, Filling, Good, GoodCall, Member, Out};

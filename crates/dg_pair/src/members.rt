@@ -2,10 +2,9 @@
 ghost use Rattle.std.specs.Prelude.{◌≡◌, ◌+◌, ◌*◌, ◌%◌, ◌≤◌, ◌<◌, ℕ, length, IfOk, IfErr, IfSome, OnOk};
 ghost use Rattle.dg_model.specs.Members.{HasRoom, SlotOf, place_of};
 ghost use Rattle.dg_model.specs.Causes.{RoseByOne};
-ghost use Rattle.dg_model.specs.States.{CountsRise};
-ghost use Rattle.dg_io.specs.Told.{Told, IsSame, IsZeros, Torn, StillTold, OthersSame};
-ghost use Rattle.dg_io.specs.Faults.{HasCause, OnlyMember};
-ghost use Rattle.dg_pair.specs.Members.{IsMember, GoodIs, FillIs, GotSlot, TookSlot, HasFailed, FillFailed, KeepsSlots, BlankIs, NotedIs};
+ghost use Rattle.dg_io.specs.RackWords.{Leaves};
+ghost use Rattle.dg_io.specs.Told.{Told, IsSame, IsZeros, Torn, FitsIn};
+ghost use Rattle.dg_pair.specs.Members.{IsMember, GoodIs, FillIs, GotSlot, TookSlot, KeepsSlots, BlankIs, NotedIs, ExtendedIs, answer_of, fill_answer_of};
 
 use dg_io::{Failed, Rack};
 
@@ -99,18 +98,13 @@ impl<S: Drop> Member<S> {
         requires size { length buf.now ≡ self.now.l }
         requires slot { slot < self.now.slots }
         requires room { HasRoom self.now.l self.now.slots (R.bytes rack.old self.now.number) }
+        requires stand { R.stands rack.old self.now.number }
         ensures put { OnOk result (SlotOf self.now.l slot buf.now (R.bytes rack.new self.now.number)) }
         ensures torn { (q : ℕ) → Told (Torn (place_of self.now.l slot) (length buf.now)) (R.bytes rack.old q) (R.bytes rack.new q) }
         ensures kept { KeepsSlots self.now.l slot (R.bytes rack.old self.now.number) (R.bytes rack.new self.now.number) }
         ensures room { HasRoom self.now.l self.now.slots (R.bytes rack.new self.now.number) }
-        ensures other_bytes { OthersSame self.now.number (R.bytes rack.old) (R.bytes rack.new) }
-        ensures cause { HasCause ((R.counts rack.old).faults self.now.number) ((R.counts rack.new).faults self.now.number) result }
-        ensures other_faults { OnlyMember self.now.number (R.counts rack.old).faults (R.counts rack.new).faults }
-        ensures counts { CountsRise (R.counts rack.old) (R.counts rack.new) }
-        ensures calls { RoseByOne (R.counts rack.old).calls (R.counts rack.new).calls }
+        ensures leaves { Leaves R.Rack self.now.number result rack.old rack.new }
         ensures writes { RoseByOne (R.counts rack.old).writes (R.counts rack.new).writes }
-        ensures tells { StillTold (R.bytes rack.old) (R.bytes rack.new) }
-        ensures name { R.name rack.new ≡ R.name rack.old }
     {
         rack.write(self.number, 512 + slot as u64 * self.l as u64, buf)
     }
@@ -127,15 +121,10 @@ impl Member<Out> {
         requires { 512 + self.slots * self.l ≤ size }
         ensures ok { IfOk result (λ m. IsMember self.number self.l self.slots m × (m.state.have ≡ 0)) }
         ensures err { IfErr result (λ m. IsMember self.number self.l self.slots m) }
+        ensures stands { OnOk result (R.stands rack.new self.number) }
         ensures blank { OnOk result (Told (IsZeros size) (R.bytes rack.old self.number) (R.bytes rack.new self.number)) }
-        ensures other_bytes { OthersSame self.number (R.bytes rack.old) (R.bytes rack.new) }
-        ensures cause { HasCause ((R.counts rack.old).faults self.number) ((R.counts rack.new).faults self.number) result }
-        ensures other_faults { OnlyMember self.number (R.counts rack.old).faults (R.counts rack.new).faults }
-        ensures counts { CountsRise (R.counts rack.old) (R.counts rack.new) }
-        ensures calls { RoseByOne (R.counts rack.old).calls (R.counts rack.new).calls }
+        ensures leaves { Leaves R.Rack self.number result rack.old rack.new }
         ensures writes { RoseByOne (R.counts rack.old).writes (R.counts rack.new).writes }
-        ensures tells { StillTold (R.bytes rack.old) (R.bytes rack.new) }
-        ensures name { R.name rack.new ≡ R.name rack.old }
     {
         match rack.blank(self.number, size) {
             Ok(()) => Ok(self.turned(Filling { have: 0 })),
@@ -157,16 +146,12 @@ impl Member<Good> {
         requires size { length buf.old ≡ self.l }
         requires slot { slot < self.slots }
         requires room { HasRoom self.l self.slots (R.bytes rack.old self.number) }
+        requires stand { R.stands rack.old self.number }
         ensures is { GoodIs self.number self.l self.slots result }
         ensures got { GotSlot self.l slot buf.new (R.bytes rack.new self.number) result }
         ensures same { (q : ℕ) → Told IsSame (R.bytes rack.old q) (R.bytes rack.new q) }
-        ensures cause { HasFailed ((R.counts rack.old).faults self.number) ((R.counts rack.new).faults self.number) result }
-        ensures other_faults { OnlyMember self.number (R.counts rack.old).faults (R.counts rack.new).faults }
-        ensures counts { CountsRise (R.counts rack.old) (R.counts rack.new) }
-        ensures calls { RoseByOne (R.counts rack.old).calls (R.counts rack.new).calls }
+        ensures leaves { Leaves R.Rack self.number (answer_of result) rack.old rack.new }
         ensures writes { (R.counts rack.new).writes ≡ (R.counts rack.old).writes }
-        ensures tells { StillTold (R.bytes rack.old) (R.bytes rack.new) }
-        ensures name { R.name rack.new ≡ R.name rack.old }
     {
         match rack.read(self.number, 512 + slot as u64 * self.l as u64, buf) {
             Ok(()) => GoodCall::Done(self),
@@ -179,19 +164,14 @@ impl Member<Good> {
         requires size { length buf.now ≡ self.l }
         requires slot { slot < self.slots }
         requires room { HasRoom self.l self.slots (R.bytes rack.old self.number) }
+        requires stand { R.stands rack.old self.number }
         ensures is { GoodIs self.number self.l self.slots result }
         ensures put { GotSlot self.l slot buf.now (R.bytes rack.new self.number) result }
         ensures torn { (q : ℕ) → Told (Torn (place_of self.l slot) (length buf.now)) (R.bytes rack.old q) (R.bytes rack.new q) }
         ensures kept { KeepsSlots self.l slot (R.bytes rack.old self.number) (R.bytes rack.new self.number) }
         ensures room { HasRoom self.l self.slots (R.bytes rack.new self.number) }
-        ensures other_bytes { OthersSame self.number (R.bytes rack.old) (R.bytes rack.new) }
-        ensures cause { HasFailed ((R.counts rack.old).faults self.number) ((R.counts rack.new).faults self.number) result }
-        ensures other_faults { OnlyMember self.number (R.counts rack.old).faults (R.counts rack.new).faults }
-        ensures counts { CountsRise (R.counts rack.old) (R.counts rack.new) }
-        ensures calls { RoseByOne (R.counts rack.old).calls (R.counts rack.new).calls }
+        ensures leaves { Leaves R.Rack self.number (answer_of result) rack.old rack.new }
         ensures writes { RoseByOne (R.counts rack.old).writes (R.counts rack.new).writes }
-        ensures tells { StillTold (R.bytes rack.old) (R.bytes rack.new) }
-        ensures name { R.name rack.new ≡ R.name rack.old }
     {
         match self.put(rack, slot, buf) {
             Ok(()) => GoodCall::Done(self),
@@ -201,19 +181,29 @@ impl Member<Good> {
 
     // Writes at any place.
     pub(crate) fn note<R: Rack>(self, rack: &mut R, place: u64, buf: &[u8]) -> GoodCall
-        requires { IfSome (R.bytes rack.old self.number) (λ all. place + length buf.now ≤ length all) }
+        requires fits { IfSome (R.bytes rack.old self.number) (λ all. place + length buf.now ≤ length all) }
+        requires stand { R.stands rack.old self.number }
         ensures is { GoodIs self.number self.l self.slots result }
         ensures bytes { NotedIs place buf.now (R.bytes rack.old self.number) (R.bytes rack.new self.number) result }
-        ensures other_bytes { OthersSame self.number (R.bytes rack.old) (R.bytes rack.new) }
-        ensures cause { HasFailed ((R.counts rack.old).faults self.number) ((R.counts rack.new).faults self.number) result }
-        ensures other_faults { OnlyMember self.number (R.counts rack.old).faults (R.counts rack.new).faults }
-        ensures counts { CountsRise (R.counts rack.old) (R.counts rack.new) }
-        ensures calls { RoseByOne (R.counts rack.old).calls (R.counts rack.new).calls }
+        ensures leaves { Leaves R.Rack self.number (answer_of result) rack.old rack.new }
         ensures writes { RoseByOne (R.counts rack.old).writes (R.counts rack.new).writes }
-        ensures tells { StillTold (R.bytes rack.old) (R.bytes rack.new) }
-        ensures name { R.name rack.new ≡ R.name rack.old }
     {
         match rack.write(self.number, place, buf) {
+            Ok(()) => GoodCall::Done(self),
+            Err(_) => GoodCall::Fell(self.fail()),
+        }
+    }
+
+    // Makes it so many bytes long.
+    pub(crate) fn extend<R: Rack>(self, rack: &mut R, size: u64) -> GoodCall
+        requires longer { IfSome (R.bytes rack.old self.number) (FitsIn size) }
+        requires stand { R.stands rack.old self.number }
+        ensures is { GoodIs self.number self.l self.slots result }
+        ensures bytes { ExtendedIs size (R.bytes rack.old self.number) (R.bytes rack.new self.number) result }
+        ensures leaves { Leaves R.Rack self.number (answer_of result) rack.old rack.new }
+        ensures writes { RoseByOne (R.counts rack.old).writes (R.counts rack.new).writes }
+    {
+        match rack.extend(self.number, size) {
             Ok(()) => GoodCall::Done(self),
             Err(_) => GoodCall::Fell(self.fail()),
         }
@@ -229,15 +219,10 @@ impl Member<Good> {
     ) -> GoodCall
         requires { 512 + slots * l ≤ size }
         ensures is { GoodIs number l slots result }
+        ensures stands { OnOk (answer_of result) (R.stands rack.new number) }
         ensures blank { BlankIs size (R.bytes rack.old number) (R.bytes rack.new number) result }
-        ensures other_bytes { OthersSame number (R.bytes rack.old) (R.bytes rack.new) }
-        ensures cause { HasFailed ((R.counts rack.old).faults number) ((R.counts rack.new).faults number) result }
-        ensures other_faults { OnlyMember number (R.counts rack.old).faults (R.counts rack.new).faults }
-        ensures counts { CountsRise (R.counts rack.old) (R.counts rack.new) }
-        ensures calls { RoseByOne (R.counts rack.old).calls (R.counts rack.new).calls }
+        ensures leaves { Leaves R.Rack number (answer_of result) rack.old rack.new }
         ensures writes { RoseByOne (R.counts rack.old).writes (R.counts rack.new).writes }
-        ensures tells { StillTold (R.bytes rack.old) (R.bytes rack.new) }
-        ensures name { R.name rack.new ≡ R.name rack.old }
     {
         let member = Member::new(number, l, slots, Good);
         match rack.blank(number, size) {
@@ -277,19 +262,14 @@ impl Member<Filling> {
         requires size { length buf.now ≡ self.l }
         requires slot { slot < self.slots }
         requires room { HasRoom self.l self.slots (R.bytes rack.old self.number) }
+        requires stand { R.stands rack.old self.number }
         ensures is { FillIs self.number self.l self.slots self.state.have result }
         ensures put { TookSlot self.l slot buf.now (R.bytes rack.new self.number) result }
         ensures torn { (q : ℕ) → Told (Torn (place_of self.l slot) (length buf.now)) (R.bytes rack.old q) (R.bytes rack.new q) }
         ensures kept { KeepsSlots self.l slot (R.bytes rack.old self.number) (R.bytes rack.new self.number) }
         ensures room { HasRoom self.l self.slots (R.bytes rack.new self.number) }
-        ensures other_bytes { OthersSame self.number (R.bytes rack.old) (R.bytes rack.new) }
-        ensures cause { FillFailed ((R.counts rack.old).faults self.number) ((R.counts rack.new).faults self.number) result }
-        ensures other_faults { OnlyMember self.number (R.counts rack.old).faults (R.counts rack.new).faults }
-        ensures counts { CountsRise (R.counts rack.old) (R.counts rack.new) }
-        ensures calls { RoseByOne (R.counts rack.old).calls (R.counts rack.new).calls }
+        ensures leaves { Leaves R.Rack self.number (fill_answer_of result) rack.old rack.new }
         ensures writes { RoseByOne (R.counts rack.old).writes (R.counts rack.new).writes }
-        ensures tells { StillTold (R.bytes rack.old) (R.bytes rack.new) }
-        ensures name { R.name rack.new ≡ R.name rack.old }
     {
         match self.put(rack, slot, buf) {
             Ok(()) => FillCall::Done(self),

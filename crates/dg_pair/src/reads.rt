@@ -1,11 +1,10 @@
 // The read of a slot, by the case that a boundary is in.
-ghost use Rattle.std.specs.Prelude.{◌≡◌, ◌≢◌, ◌↔◌, ◌+◌, ◌/◌, ◌≤◌, ◌<◌, ℕ, length, true, false};
+ghost use Rattle.std.specs.Prelude.{◌≡◌, ◌≢◌, ◌↔◌, ◌+◌, ◌≤◌, ◌<◌, ℕ, length};
 ghost use Rattle.dg_model.specs.Causes.{Rose};
-ghost use Rattle.dg_model.specs.Members.{HasRoom, serves, MembersFall};
-ghost use Rattle.dg_model.specs.States.{CountsRise};
-ghost use Rattle.dg_io.specs.Told.{Told, IsSame, StillTold};
-ghost use Rattle.dg_pair.specs.Boundaries.{members_of, number_of, size_of, slots_of, IsWell, ArePartners};
-ghost use Rattle.dg_pair.specs.Cases.{HasNone, Fits, ReadsGood, SlotIs, KeepsAll, KeepsOthers, goods_of, servers_of};
+ghost use Rattle.dg_model.specs.Members.{MembersFall};
+ghost use Rattle.dg_io.specs.Told.{Told, IsSame};
+ghost use Rattle.dg_pair.specs.Boundaries.{members_of, size_of, slots_of, IsWell};
+ghost use Rattle.dg_pair.specs.Cases.{HasNone, Fits, Stand, LeavesCase, ReadsGood, KeepsAll, goods_of};
 
 use crate::boundaries::{Boundary, PairRead};
 use crate::{Filling, Good, GoodCall, Member, Out};
@@ -24,10 +23,8 @@ fn read_half<R: Rack>(
     requires size { length buf.old ≡ size_of (Boundary.Half a b) }
     requires slot { slot < slots_of (Boundary.Half a b) }
     requires room { Fits (Boundary.Half a b) (R.bytes rack.old) }
-    ensures well { IsWell result.0 }
-    ensures number { number_of result.0 ≡ number_of (Boundary.Half a b) }
-    ensures size { size_of result.0 ≡ size_of (Boundary.Half a b) }
-    ensures slots { slots_of result.0 ≡ slots_of (Boundary.Half a b) }
+    requires stand { Stand (Boundary.Half a b) (R.stands rack.old) }
+    ensures leaves { LeavesCase R.Rack (Boundary.Half a b) result.0 rack.old rack.new }
     ensures lost { (result.1 ≡ PairRead.Lost) ↔ HasNone result.0 }
     ensures got { result.1 ≡ PairRead.Got → ReadsGood result.0 (size_of (Boundary.Half a b)) slot buf.new (R.bytes rack.new) }
     ensures kept { KeepsAll (size_of (Boundary.Half a b)) (Boundary.Half a b) (R.bytes rack.old) result.0 (R.bytes rack.new) }
@@ -35,14 +32,11 @@ fn read_half<R: Rack>(
     ensures same { (q : ℕ) → Told IsSame (R.bytes rack.old q) (R.bytes rack.new q) }
     ensures falls { MembersFall (R.counts rack.old).faults (R.counts rack.new).faults (members_of (Boundary.Half a b)) (members_of result.0) }
     ensures uncalled { (q : ℕ) → members_of (Boundary.Half a b) q ≢ MemberState.Good → (R.counts rack.new).faults q ≡ (R.counts rack.old).faults q }
-    ensures counts { CountsRise (R.counts rack.old) (R.counts rack.new) }
     ensures called { result.1 ≡ PairRead.Got → Rose (R.counts rack.old).calls (R.counts rack.new).calls }
     ensures most { (R.counts rack.new).calls ≤ (R.counts rack.old).calls + goods_of (Boundary.Half a b) }
     ensures fewer { goods_of result.0 ≤ goods_of (Boundary.Half a b) }
     ensures once { goods_of result.0 ≡ goods_of (Boundary.Half a b) → (R.counts rack.new).calls ≤ (R.counts rack.old).calls + 1 }
     ensures writes { (R.counts rack.new).writes ≡ (R.counts rack.old).writes }
-    ensures tells { StillTold (R.bytes rack.old) (R.bytes rack.new) }
-    ensures name { R.name rack.new ≡ R.name rack.old }
 {
     match a.read(rack, slot, buf) {
         GoodCall::Done(a) => (Boundary::Half(a, b), PairRead::Got),
@@ -62,10 +56,8 @@ fn read_both<R: Rack>(
     requires size { length buf.old ≡ size_of (Boundary.Both a b) }
     requires slot { slot < slots_of (Boundary.Both a b) }
     requires room { Fits (Boundary.Both a b) (R.bytes rack.old) }
-    ensures well { IsWell result.0 }
-    ensures number { number_of result.0 ≡ number_of (Boundary.Both a b) }
-    ensures size { size_of result.0 ≡ size_of (Boundary.Both a b) }
-    ensures slots { slots_of result.0 ≡ slots_of (Boundary.Both a b) }
+    requires stand { Stand (Boundary.Both a b) (R.stands rack.old) }
+    ensures leaves { LeavesCase R.Rack (Boundary.Both a b) result.0 rack.old rack.new }
     ensures lost { (result.1 ≡ PairRead.Lost) ↔ HasNone result.0 }
     ensures got { result.1 ≡ PairRead.Got → ReadsGood result.0 (size_of (Boundary.Both a b)) slot buf.new (R.bytes rack.new) }
     ensures kept { KeepsAll (size_of (Boundary.Both a b)) (Boundary.Both a b) (R.bytes rack.old) result.0 (R.bytes rack.new) }
@@ -73,14 +65,11 @@ fn read_both<R: Rack>(
     ensures same { (q : ℕ) → Told IsSame (R.bytes rack.old q) (R.bytes rack.new q) }
     ensures falls { MembersFall (R.counts rack.old).faults (R.counts rack.new).faults (members_of (Boundary.Both a b)) (members_of result.0) }
     ensures uncalled { (q : ℕ) → members_of (Boundary.Both a b) q ≢ MemberState.Good → (R.counts rack.new).faults q ≡ (R.counts rack.old).faults q }
-    ensures counts { CountsRise (R.counts rack.old) (R.counts rack.new) }
     ensures called { result.1 ≡ PairRead.Got → Rose (R.counts rack.old).calls (R.counts rack.new).calls }
     ensures most { (R.counts rack.new).calls ≤ (R.counts rack.old).calls + goods_of (Boundary.Both a b) }
     ensures fewer { goods_of result.0 ≤ goods_of (Boundary.Both a b) }
     ensures once { goods_of result.0 ≡ goods_of (Boundary.Both a b) → (R.counts rack.new).calls ≤ (R.counts rack.old).calls + 1 }
     ensures writes { (R.counts rack.new).writes ≡ (R.counts rack.old).writes }
-    ensures tells { StillTold (R.bytes rack.old) (R.bytes rack.new) }
-    ensures name { R.name rack.new ≡ R.name rack.old }
 {
     match a.read(rack, slot, buf) {
         GoodCall::Done(a) => (Boundary::Both(a, b), PairRead::Got),
@@ -100,10 +89,8 @@ fn read_fill<R: Rack>(
     requires size { length buf.old ≡ size_of (Boundary.Fill a b) }
     requires slot { slot < slots_of (Boundary.Fill a b) }
     requires room { Fits (Boundary.Fill a b) (R.bytes rack.old) }
-    ensures well { IsWell result.0 }
-    ensures number { number_of result.0 ≡ number_of (Boundary.Fill a b) }
-    ensures size { size_of result.0 ≡ size_of (Boundary.Fill a b) }
-    ensures slots { slots_of result.0 ≡ slots_of (Boundary.Fill a b) }
+    requires stand { Stand (Boundary.Fill a b) (R.stands rack.old) }
+    ensures leaves { LeavesCase R.Rack (Boundary.Fill a b) result.0 rack.old rack.new }
     ensures lost { (result.1 ≡ PairRead.Lost) ↔ HasNone result.0 }
     ensures got { result.1 ≡ PairRead.Got → ReadsGood result.0 (size_of (Boundary.Fill a b)) slot buf.new (R.bytes rack.new) }
     ensures kept { KeepsAll (size_of (Boundary.Fill a b)) (Boundary.Fill a b) (R.bytes rack.old) result.0 (R.bytes rack.new) }
@@ -111,14 +98,11 @@ fn read_fill<R: Rack>(
     ensures same { (q : ℕ) → Told IsSame (R.bytes rack.old q) (R.bytes rack.new q) }
     ensures falls { MembersFall (R.counts rack.old).faults (R.counts rack.new).faults (members_of (Boundary.Fill a b)) (members_of result.0) }
     ensures uncalled { (q : ℕ) → members_of (Boundary.Fill a b) q ≢ MemberState.Good → (R.counts rack.new).faults q ≡ (R.counts rack.old).faults q }
-    ensures counts { CountsRise (R.counts rack.old) (R.counts rack.new) }
     ensures called { result.1 ≡ PairRead.Got → Rose (R.counts rack.old).calls (R.counts rack.new).calls }
     ensures most { (R.counts rack.new).calls ≤ (R.counts rack.old).calls + goods_of (Boundary.Fill a b) }
     ensures fewer { goods_of result.0 ≤ goods_of (Boundary.Fill a b) }
     ensures once { goods_of result.0 ≡ goods_of (Boundary.Fill a b) → (R.counts rack.new).calls ≤ (R.counts rack.old).calls + 1 }
     ensures writes { (R.counts rack.new).writes ≡ (R.counts rack.old).writes }
-    ensures tells { StillTold (R.bytes rack.old) (R.bytes rack.new) }
-    ensures name { R.name rack.new ≡ R.name rack.old }
 {
     match a.read(rack, slot, buf) {
         GoodCall::Done(a) => (Boundary::Fill(a, b), PairRead::Got),
@@ -137,10 +121,8 @@ pub fn read_any<R: Rack>(
     requires size { length buf.old ≡ size_of boundary }
     requires slot { slot < slots_of boundary }
     requires room { Fits boundary (R.bytes rack.old) }
-    ensures well { IsWell result.0 }
-    ensures number { number_of result.0 ≡ number_of boundary }
-    ensures size { size_of result.0 ≡ size_of boundary }
-    ensures slots { slots_of result.0 ≡ slots_of boundary }
+    requires stand { Stand boundary (R.stands rack.old) }
+    ensures leaves { LeavesCase R.Rack boundary result.0 rack.old rack.new }
     ensures lost { (result.1 ≡ PairRead.Lost) ↔ HasNone result.0 }
     ensures got { result.1 ≡ PairRead.Got → ReadsGood result.0 (size_of boundary) slot buf.new (R.bytes rack.new) }
     ensures kept { KeepsAll (size_of boundary) boundary (R.bytes rack.old) result.0 (R.bytes rack.new) }
@@ -148,14 +130,11 @@ pub fn read_any<R: Rack>(
     ensures same { (q : ℕ) → Told IsSame (R.bytes rack.old q) (R.bytes rack.new q) }
     ensures falls { MembersFall (R.counts rack.old).faults (R.counts rack.new).faults (members_of boundary) (members_of result.0) }
     ensures uncalled { (q : ℕ) → members_of boundary q ≢ MemberState.Good → (R.counts rack.new).faults q ≡ (R.counts rack.old).faults q }
-    ensures counts { CountsRise (R.counts rack.old) (R.counts rack.new) }
     ensures called { result.1 ≡ PairRead.Got → Rose (R.counts rack.old).calls (R.counts rack.new).calls }
     ensures most { (R.counts rack.new).calls ≤ (R.counts rack.old).calls + goods_of boundary }
     ensures fewer { goods_of result.0 ≤ goods_of boundary }
     ensures once { goods_of result.0 ≡ goods_of boundary → (R.counts rack.new).calls ≤ (R.counts rack.old).calls + 1 }
     ensures writes { (R.counts rack.new).writes ≡ (R.counts rack.old).writes }
-    ensures tells { StillTold (R.bytes rack.old) (R.bytes rack.new) }
-    ensures name { R.name rack.new ≡ R.name rack.old }
 {
     match boundary {
         Boundary::Both(a, b) => read_both(a, b, rack, slot, buf),

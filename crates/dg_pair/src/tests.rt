@@ -1,5 +1,7 @@
-use crate::{Boundary, CopyAnswer, FailAnswer, NoteAnswer, PairRead, PairWrite, ReplaceAnswer};
-use dg_io::MemRack;
+use crate::{
+    Boundary, CopyAnswer, ExtendAnswer, FailAnswer, NoteAnswer, PairRead, PairWrite, ReplaceAnswer,
+};
+use dg_io::{MemRack, Rack};
 use dg_model::MemberState;
 use std::test::Fail;
 
@@ -53,6 +55,47 @@ fn a_refilled_member_serves(rt: HostRuntime) -> Result<(), Fail> {
     assert_eq!(rt; pair.fail(1), FailAnswer::Taken);
     assert_eq!(rt; pair.read(&mut rack, 0, &mut buf), PairRead::Got);
     assert_eq!(rt; buf, [9; L]);
+    Ok(())
+}
+
+// Call 0, the first blank, fails: member 0 is the one that is blanked first.
+#[test]
+fn the_even_member_is_blanked_first(rt: HostRuntime) -> Result<(), Fail> {
+    let alloc = rt.alloc();
+    let fails = [0].to_vec(alloc)?;
+    let mut rack = MemRack::new(alloc, 2, SIZE, fails).expect(&rt, "memory");
+    let mut pair = Boundary::new(&mut rack, 0, 512, 2, SIZE);
+    let mut buf = [0; L];
+    assert_eq!(rt; pair.fail(0), FailAnswer::Already);
+    assert_eq!(rt; pair.write(&mut rack, 0, &[0xaa; L]), PairWrite::Kept);
+    assert_eq!(rt; pair.read(&mut rack, 0, &mut buf), PairRead::Got);
+    assert_eq!(rt; buf, [0xaa; L]);
+    Ok(())
+}
+
+#[test]
+fn a_member_is_made_longer(rt: HostRuntime) -> Result<(), Fail> {
+    let alloc = rt.alloc();
+    let fails = Vec::new(alloc);
+    let mut rack = MemRack::new(alloc, 2, SIZE + 8, fails).expect(&rt, "memory");
+    let mut pair = Boundary::new(&mut rack, 0, 512, 2, SIZE);
+    assert_eq!(rt; pair.extend(&mut rack, 0, SIZE + 8), ExtendAnswer::Extended);
+    assert_eq!(rt; pair.member(0), MemberState::Good);
+    assert_eq!(rt; rack.attach(0), Ok(Some(SIZE + 8)));
+    assert_eq!(rt; rack.attach(1), Ok(Some(SIZE)));
+    Ok(())
+}
+
+// Member 1 has no room for more.
+#[test]
+fn a_member_without_room_falls(rt: HostRuntime) -> Result<(), Fail> {
+    let alloc = rt.alloc();
+    let fails = Vec::new(alloc);
+    let mut rack = MemRack::new(alloc, 2, SIZE, fails).expect(&rt, "memory");
+    let mut pair = Boundary::new(&mut rack, 0, 512, 2, SIZE);
+    assert_eq!(rt; pair.extend(&mut rack, 1, SIZE + 8), ExtendAnswer::Fell);
+    assert_eq!(rt; pair.member(1), MemberState::Out);
+    assert_eq!(rt; pair.extend(&mut rack, 1, SIZE + 8), ExtendAnswer::NotGood);
     Ok(())
 }
 

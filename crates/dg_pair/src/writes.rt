@@ -1,11 +1,10 @@
 // The write of a slot, by the case that a boundary is in.
-ghost use Rattle.std.specs.Prelude.{◌≡◌, ◌≢◌, ◌↔◌, ◌+◌, ◌/◌, ◌≤◌, ◌<◌, ℕ, length, true, false};
+ghost use Rattle.std.specs.Prelude.{◌≡◌, ◌↔◌, ◌+◌, ◌≤◌, ◌<◌, ℕ, length, false};
 ghost use Rattle.dg_model.specs.Causes.{Rose};
-ghost use Rattle.dg_model.specs.Members.{HasRoom, serves, place_of, MembersFall};
-ghost use Rattle.dg_model.specs.States.{CountsRise};
-ghost use Rattle.dg_io.specs.Told.{Told, IsSame, Torn, StillTold};
-ghost use Rattle.dg_pair.specs.Boundaries.{members_of, number_of, size_of, slots_of, IsWell, ArePartners};
-ghost use Rattle.dg_pair.specs.Cases.{HasNone, Fits, ReadsGood, SlotIs, KeepsAll, KeepsOthers, goods_of, servers_of};
+ghost use Rattle.dg_model.specs.Members.{serves, place_of, MembersFall};
+ghost use Rattle.dg_io.specs.Told.{Told, IsSame, Torn};
+ghost use Rattle.dg_pair.specs.Boundaries.{members_of, size_of, slots_of, IsWell};
+ghost use Rattle.dg_pair.specs.Cases.{HasNone, Fits, Stand, LeavesCase, SlotIs, KeepsOthers, servers_of};
 
 use crate::boundaries::{Boundary, PairWrite};
 use crate::{FillCall, Filling, Good, GoodCall, Member, Out};
@@ -24,10 +23,8 @@ fn write_half<R: Rack>(
     requires size { length buf.now ≡ size_of (Boundary.Half a b) }
     requires slot { slot < slots_of (Boundary.Half a b) }
     requires room { Fits (Boundary.Half a b) (R.bytes rack.old) }
-    ensures well { IsWell result.0 }
-    ensures number { number_of result.0 ≡ number_of (Boundary.Half a b) }
-    ensures size { size_of result.0 ≡ size_of (Boundary.Half a b) }
-    ensures slots { slots_of result.0 ≡ slots_of (Boundary.Half a b) }
+    requires stand { Stand (Boundary.Half a b) (R.stands rack.old) }
+    ensures leaves { LeavesCase R.Rack (Boundary.Half a b) result.0 rack.old rack.new }
     ensures lost { (result.1 ≡ PairWrite.Lost) ↔ HasNone result.0 }
     ensures put { SlotIs result.0 (size_of (Boundary.Half a b)) slot buf.now (R.bytes rack.new) }
     ensures kept { KeepsOthers (size_of (Boundary.Half a b)) slot (Boundary.Half a b) (R.bytes rack.old) result.0 (R.bytes rack.new) }
@@ -36,12 +33,9 @@ fn write_half<R: Rack>(
     ensures untaken { (q : ℕ) → serves (members_of (Boundary.Half a b) q) slot ≡ false → Told IsSame (R.bytes rack.old q) (R.bytes rack.new q) }
     ensures falls { MembersFall (R.counts rack.old).faults (R.counts rack.new).faults (members_of (Boundary.Half a b)) (members_of result.0) }
     ensures uncalled { (q : ℕ) → serves (members_of (Boundary.Half a b) q) slot ≡ false → (R.counts rack.new).faults q ≡ (R.counts rack.old).faults q }
-    ensures counts { CountsRise (R.counts rack.old) (R.counts rack.new) }
     ensures called { result.1 ≡ PairWrite.Kept → Rose (R.counts rack.old).writes (R.counts rack.new).writes }
     ensures most { (R.counts rack.new).calls ≤ (R.counts rack.old).calls + servers_of (Boundary.Half a b) slot }
     ensures most_writes { (R.counts rack.new).writes ≤ (R.counts rack.old).writes + servers_of (Boundary.Half a b) slot }
-    ensures tells { StillTold (R.bytes rack.old) (R.bytes rack.new) }
-    ensures name { R.name rack.new ≡ R.name rack.old }
 {
     match a.write(rack, slot, buf) {
         GoodCall::Done(a) => (Boundary::Half(a, b), PairWrite::Kept),
@@ -61,10 +55,8 @@ fn write_both<R: Rack>(
     requires size { length buf.now ≡ size_of (Boundary.Both a b) }
     requires slot { slot < slots_of (Boundary.Both a b) }
     requires room { Fits (Boundary.Both a b) (R.bytes rack.old) }
-    ensures well { IsWell result.0 }
-    ensures number { number_of result.0 ≡ number_of (Boundary.Both a b) }
-    ensures size { size_of result.0 ≡ size_of (Boundary.Both a b) }
-    ensures slots { slots_of result.0 ≡ slots_of (Boundary.Both a b) }
+    requires stand { Stand (Boundary.Both a b) (R.stands rack.old) }
+    ensures leaves { LeavesCase R.Rack (Boundary.Both a b) result.0 rack.old rack.new }
     ensures lost { (result.1 ≡ PairWrite.Lost) ↔ HasNone result.0 }
     ensures put { SlotIs result.0 (size_of (Boundary.Both a b)) slot buf.now (R.bytes rack.new) }
     ensures kept { KeepsOthers (size_of (Boundary.Both a b)) slot (Boundary.Both a b) (R.bytes rack.old) result.0 (R.bytes rack.new) }
@@ -73,12 +65,9 @@ fn write_both<R: Rack>(
     ensures untaken { (q : ℕ) → serves (members_of (Boundary.Both a b) q) slot ≡ false → Told IsSame (R.bytes rack.old q) (R.bytes rack.new q) }
     ensures falls { MembersFall (R.counts rack.old).faults (R.counts rack.new).faults (members_of (Boundary.Both a b)) (members_of result.0) }
     ensures uncalled { (q : ℕ) → serves (members_of (Boundary.Both a b) q) slot ≡ false → (R.counts rack.new).faults q ≡ (R.counts rack.old).faults q }
-    ensures counts { CountsRise (R.counts rack.old) (R.counts rack.new) }
     ensures called { result.1 ≡ PairWrite.Kept → Rose (R.counts rack.old).writes (R.counts rack.new).writes }
     ensures most { (R.counts rack.new).calls ≤ (R.counts rack.old).calls + servers_of (Boundary.Both a b) slot }
     ensures most_writes { (R.counts rack.new).writes ≤ (R.counts rack.old).writes + servers_of (Boundary.Both a b) slot }
-    ensures tells { StillTold (R.bytes rack.old) (R.bytes rack.new) }
-    ensures name { R.name rack.new ≡ R.name rack.old }
 {
     match a.write(rack, slot, buf) {
         GoodCall::Done(a) => match b.write(rack, slot, buf) {
@@ -101,10 +90,8 @@ fn write_fill<R: Rack>(
     requires size { length buf.now ≡ size_of (Boundary.Fill a b) }
     requires slot { slot < slots_of (Boundary.Fill a b) }
     requires room { Fits (Boundary.Fill a b) (R.bytes rack.old) }
-    ensures well { IsWell result.0 }
-    ensures number { number_of result.0 ≡ number_of (Boundary.Fill a b) }
-    ensures size { size_of result.0 ≡ size_of (Boundary.Fill a b) }
-    ensures slots { slots_of result.0 ≡ slots_of (Boundary.Fill a b) }
+    requires stand { Stand (Boundary.Fill a b) (R.stands rack.old) }
+    ensures leaves { LeavesCase R.Rack (Boundary.Fill a b) result.0 rack.old rack.new }
     ensures lost { (result.1 ≡ PairWrite.Lost) ↔ HasNone result.0 }
     ensures put { SlotIs result.0 (size_of (Boundary.Fill a b)) slot buf.now (R.bytes rack.new) }
     ensures kept { KeepsOthers (size_of (Boundary.Fill a b)) slot (Boundary.Fill a b) (R.bytes rack.old) result.0 (R.bytes rack.new) }
@@ -113,12 +100,9 @@ fn write_fill<R: Rack>(
     ensures untaken { (q : ℕ) → serves (members_of (Boundary.Fill a b) q) slot ≡ false → Told IsSame (R.bytes rack.old q) (R.bytes rack.new q) }
     ensures falls { MembersFall (R.counts rack.old).faults (R.counts rack.new).faults (members_of (Boundary.Fill a b)) (members_of result.0) }
     ensures uncalled { (q : ℕ) → serves (members_of (Boundary.Fill a b) q) slot ≡ false → (R.counts rack.new).faults q ≡ (R.counts rack.old).faults q }
-    ensures counts { CountsRise (R.counts rack.old) (R.counts rack.new) }
     ensures called { result.1 ≡ PairWrite.Kept → Rose (R.counts rack.old).writes (R.counts rack.new).writes }
     ensures most { (R.counts rack.new).calls ≤ (R.counts rack.old).calls + servers_of (Boundary.Fill a b) slot }
     ensures most_writes { (R.counts rack.new).writes ≤ (R.counts rack.old).writes + servers_of (Boundary.Fill a b) slot }
-    ensures tells { StillTold (R.bytes rack.old) (R.bytes rack.new) }
-    ensures name { R.name rack.new ≡ R.name rack.old }
 {
     match a.write(rack, slot, buf) {
         GoodCall::Done(a) if slot < b.state.have => match b.write(rack, slot, buf) {
@@ -141,10 +125,8 @@ pub fn write_any<R: Rack>(
     requires size { length buf.now ≡ size_of boundary }
     requires slot { slot < slots_of boundary }
     requires room { Fits boundary (R.bytes rack.old) }
-    ensures well { IsWell result.0 }
-    ensures number { number_of result.0 ≡ number_of boundary }
-    ensures size { size_of result.0 ≡ size_of boundary }
-    ensures slots { slots_of result.0 ≡ slots_of boundary }
+    requires stand { Stand boundary (R.stands rack.old) }
+    ensures leaves { LeavesCase R.Rack boundary result.0 rack.old rack.new }
     ensures lost { (result.1 ≡ PairWrite.Lost) ↔ HasNone result.0 }
     ensures put { SlotIs result.0 (size_of boundary) slot buf.now (R.bytes rack.new) }
     ensures kept { KeepsOthers (size_of boundary) slot boundary (R.bytes rack.old) result.0 (R.bytes rack.new) }
@@ -153,12 +135,9 @@ pub fn write_any<R: Rack>(
     ensures untaken { (q : ℕ) → serves (members_of boundary q) slot ≡ false → Told IsSame (R.bytes rack.old q) (R.bytes rack.new q) }
     ensures falls { MembersFall (R.counts rack.old).faults (R.counts rack.new).faults (members_of boundary) (members_of result.0) }
     ensures uncalled { (q : ℕ) → serves (members_of boundary q) slot ≡ false → (R.counts rack.new).faults q ≡ (R.counts rack.old).faults q }
-    ensures counts { CountsRise (R.counts rack.old) (R.counts rack.new) }
     ensures called { result.1 ≡ PairWrite.Kept → Rose (R.counts rack.old).writes (R.counts rack.new).writes }
     ensures most { (R.counts rack.new).calls ≤ (R.counts rack.old).calls + servers_of boundary slot }
     ensures most_writes { (R.counts rack.new).writes ≤ (R.counts rack.old).writes + servers_of boundary slot }
-    ensures tells { StillTold (R.bytes rack.old) (R.bytes rack.new) }
-    ensures name { R.name rack.new ≡ R.name rack.old }
 {
     match boundary {
         Boundary::Both(a, b) => write_both(a, b, rack, slot, buf),

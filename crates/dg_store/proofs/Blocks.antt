@@ -1,19 +1,21 @@
 -- The blocks that a store stands for, as its slots and its table change.
-use Rattle.std.proofs.Common.{◌≡◌, ◌≢◌, inl, inr, ℕ, ◌<◌, true, List, [], length, refl, sym, ◌∙◌, ap, subst, arith, get_or}
-use Rattle.std.specs.Prelude.{Option, slice_set}
+use Rattle.std.proofs.Common.{◌≡◌, ◌≢◌, inl, inr, ℕ, ◌+◌, ◌<◌, true, List, [], length, refl, sym, ◌∙◌, ap, subst, arith, get_or}
+use Rattle.std.specs.Prelude.{Option, replicate, slice_set}
 use Rattle.std.specs.List.{Contains}
-use Rattle.std.proofs.lemmas.Bool.{cases_eq}
-use Rattle.std.proofs.lemmas.List.{get_or-set_same, get_or-set_other, length-set}
-use Rattle.std.proofs.lemmas.List.Elements.{All-contains, All-push, Contains-append_left, Contains-get_or}
+use Rattle.std.proofs.lemmas.Bool.{cases_eq, cases_lt}
+use Rattle.std.proofs.lemmas.List.{get_or-replicate, get_or-set_same, get_or-set_other, get_or_past, length-replicate, length-set}
+use Rattle.std.proofs.lemmas.List.Elements.{All-contains, All-nil, All-push, Contains-append_left, Contains-get_or}
 use Rattle.dg_model.specs.Members.{SlotHolds}
 use Rattle.dg_model.specs.Sites.{has_site}
-use Rattle.dg_model.specs.States.{StandsFor, block_in, zeros}
-use Rattle.dg_model.specs.Tables.{Table, IsFree, IsTable, put_site, sites_in, without_site}
+use Rattle.dg_model.specs.Blocks.{block_in, zeros}
+use Rattle.dg_model.specs.States.{StandsFor}
+use Rattle.dg_model.specs.Tables.{Table, IsFree, IsTable, empty_table, put_site, sites_in, without_site}
 use Rattle.dg_model.specs.declared.shapes.Shape.{Shape}
 use Rattle.dg_model.specs.declared.sites.Site.{Site}
 use Rattle.dg_model.specs.declared.members.MemberState.{MemberState}
+use Rattle.dg_store.specs.Answers.{reaped}
 use Rattle.dg_store.specs.Evictions.{IsThinned}
-use Rattle.dg_store.specs.Rows.{KeepsSlots, KeepsOtherSlots, KeepsSlotsBut, SitesHold}
+use Rattle.dg_store.specs.Slots.{KeepsSlots, KeepsOtherSlots, KeepsSlotsBut, SitesHold}
 use Rattle.dg_store.proofs.PlaceLemmas.{IsHeld, site_is}
 use Rattle.dg_store.proofs.TableLemmas.{put_here, put_other, has_put, without_here, without_other, has_off, has_some, off_within}
 
@@ -162,3 +164,56 @@ module _ (old new : ℕ → MemberState) (before now : ℕ → Option (List ℕ)
               (subst (λ (l : ℕ). SlotHolds l old before site.boundary site.slot (block_in V e)) (sym bytes_is) had))
         ];
       }
+
+-- ---- a store that begins, and blocks that are reaped
+
+no_rows : (shape : Shape) (b : ℕ) → sites_in (empty_table shape) b ≡ []
+no_rows shape b = elim (cases_lt b shape.n) [
+  | inl below ↦ get_or-replicate shape.n b [] [] below
+  | inr past ↦ get_or_past (replicate shape.n []) b [] (omega (arith, length-replicate {A = List Site} shape.n []))
+]
+
+pub stands_blank : (members : ℕ → MemberState) (bytes : ℕ → Option (List ℕ)) (shape : Shape) → StandsFor (empty_table shape) members bytes (replicate shape.n (zeros shape.l))
+stands_blank members bytes shape = record {
+  size = length-replicate shape.n (zeros shape.l);
+  blank = λ b below none. get_or-replicate shape.n b (zeros shape.l) [] below;
+  held = λ b below. subst (λ (xs : List Site). SitesHold shape.l members bytes (block_in (replicate shape.n (zeros shape.l)) b) xs) (sym (no_rows shape b)) (All-nil _);
+}
+
+-- block b has no site any more
+pub stands_reaped : (members : ℕ → MemberState) (bytes : ℕ → Option (List ℕ)) (V : List (List ℕ)) (table : Table) (b : ℕ) → IsTable table → b < table.shape.n
+    → StandsFor table members bytes V → StandsFor (reaped table b) members bytes (slice_set V b (zeros table.shape.l))
+stands_reaped members bytes V table b is range st =
+    let within : b < length V = omega (arith, st.size, range) in
+    let long : b < length table.rows = omega (arith, is.size, range) in
+    let value = slice_set V b (zeros table.shape.l) in
+    let here : sites_in (reaped table b) b ≡ [] = get_or-set_same table.rows b [] [] long in
+    record {
+      size = length-set V b (zeros table.shape.l) ∙ st.size;
+      blank = λ e below none. elim (cases_eq e b) [
+        | inl same ↦ ap (λ (x : ℕ). block_in value x) same ∙ get_or-set_same V b (zeros table.shape.l) [] within
+        | inr other ↦
+            get_or-set_other V b e (zeros table.shape.l) [] other
+            ∙ st.blank e below (sym (ap has_site (get_or-set_other table.rows b e [] [] other)) ∙ none)
+      ];
+      held = λ e below. elim (cases_eq e b) [
+        | inl same ↦ subst (λ (xs : List Site). SitesHold table.shape.l members bytes (block_in value e) xs) (sym (ap (sites_in (reaped table b)) same ∙ here)) (All-nil _)
+        | inr other ↦
+            subst (λ (u : List ℕ). SitesHold table.shape.l members bytes u (sites_in (reaped table b) e)) (sym (get_or-set_other V b e (zeros table.shape.l) [] other))
+            (subst (λ (xs : List Site). SitesHold table.shape.l members bytes (block_in V e) xs) (sym (get_or-set_other table.rows b e [] [] other)) (st.held e below))
+      ];
+    }
+
+-- each slot of the array has what it had
+pub stands_below : (old new : ℕ → MemberState) (before now : ℕ → Option (List ℕ)) (V : List (List ℕ)) (table : Table) → IsTable table
+    → ((t slot : ℕ) (v : List ℕ) → slot < table.shape.k + 1 → SlotHolds table.shape.l old before t slot v → SlotHolds table.shape.l new now t slot v)
+    → StandsFor table old before V → StandsFor table new now V
+stands_below old new before now V table is kept st = record {
+  size = st.size;
+  blank = st.blank;
+  held = λ b below k d within.
+      let site = get_or (sites_in table b) k d in
+      kept site.boundary site.slot (block_in V b)
+      (let low = is.slots b site.boundary site.slot (Contains-get_or (sites_in table b) k d within) in omega (arith, low))
+      (st.held b below k d within);
+}

@@ -1,38 +1,78 @@
 -- Boundary s of a row was called, and x became y: what its clauses say of the row.
-use Rattle.std.proofs.Common.{◌≡◌, ◌≢◌, inl, inr, ℕ, ◌/◌, ◌<◌, List, length, sym, ◌∙◌, ap, subst}
-use Rattle.std.specs.Prelude.{Option, Some, slice_get, slice_set}
+use Rattle.std.proofs.Common.{◌≡◌, ◌≢◌, inl, inr, ℕ, ◌+◌, ◌*◌, ◌/◌, ◌≤◌, ◌<◌, List, length, sym, ◌∙◌, ap, subst, arith}
+use Rattle.std.specs.Prelude.{Option, Some, None, IfSome, slice_get, slice_set}
 use Rattle.std.proofs.lemmas.Bool.{cases_eq}
-use Rattle.dg_model.specs.Members.{is_lost, SlotHolds, MembersFall}
+use Rattle.std.proofs.lemmas.List.{length-set}
+use Rattle.dg_model.specs.Members.{is_lost, place_of, HasRoom, SlotHolds, MembersFall}
+use Rattle.dg_model.specs.Saves.{body_place, member_length}
+use Rattle.dg_model.specs.declared.members.MemberState.{MemberState}
 use Rattle.dg_model.specs.declared.members.MemberState.TheVariants.{Good, Out}
-use Rattle.dg_io.specs.Told.{Told, IsSame}
+use Rattle.dg_model.specs.declared.shapes.Shape.{Shape}
+use Rattle.dg_io.specs.Told.{Told, IsSame, Torn}
+use Rattle.dg_io.specs.declared.outside.Rack.{Ghosts}
 use Rattle.dg_pair.specs.declared.boundaries.Boundary.{Boundary}
-use Rattle.dg_pair.specs.Boundaries.{IsWell, MembersFit, members_of, number_of, size_of, slots_of}
-use Rattle.dg_store.specs.Rows.{members_in, RowStands, KeepsSlots, KeepsOtherSlots}
-use Rattle.dg_store.proofs.Changed.{OtherPairsSame, part_fits, fits_changed, falls_changed, lost_is, holds_part, holds_whole, kept_changed}
+use Rattle.dg_pair.specs.Boundaries.{MembersFit, MembersStand, members_of, number_of, size_of, slots_of}
+use Rattle.dg_pair.specs.Calls.{IsPair, KeepsBeside, KeepsPair, LeavesPair}
+use Rattle.dg_store.specs.Rows.{AreLong, IsRow, RowStands, members_in}
+use Rattle.dg_store.specs.Slots.{KeepsOtherSlots, KeepsSlots, RowKeeps}
+use Rattle.dg_store.proofs.Changed.{OtherPairsSame, falls_changed, lost_is, holds_part, holds_whole, kept_changed}
 use Rattle.dg_store.proofs.Rows.{set_changed, set_stands}
 
-module _ (l slots s : ℕ) (row : List Boundary) (x y : Boundary) (within : s < length row) (was : slice_get row s ≡ Some x) (stands : RowStands l slots row) where
-  pub part_room : (bytes : ℕ → Option (List ℕ)) → MembersFit l slots (members_in row) bytes → MembersFit (size_of x) (slots_of x) (members_of x) bytes
-  part_room bytes room =
-      let st = stands s x was in
-      let fits = part_fits l slots s (members_of x) (members_in row) bytes (set_changed row s x x within was).was st.own room in
-      subst (λ (n : ℕ). MembersFit (size_of x) n (members_of x) bytes) (sym st.slots_is) (subst (λ (k : ℕ). MembersFit k slots (members_of x) bytes) (sym st.size) fits)
+-- ---- how long members are
 
-  pub row_stands : IsWell y → number_of y ≡ number_of x → size_of y ≡ size_of x → slots_of y ≡ slots_of x → ((q : ℕ) → q / 2 ≢ number_of x → members_of y q ≡ Out) → RowStands l slots (slice_set row s y)
-  row_stands well number size count own =
+-- a member that is long has room for its slots
+long_room : (shape : Shape) (told : Option (List ℕ)) → IfSome told (λ all. member_length 1 shape ≤ length all) → HasRoom shape.l (shape.k + 1) told
+long_room shape None long = tt
+long_room shape (Some all) long = omega arith
+
+pub still_long : (shape : Shape) (place n : ℕ) (before now : Option (List ℕ)) → Told (Torn place n) before now
+    → IfSome before (λ all. member_length 1 shape ≤ length all) → IfSome now (λ all. member_length 1 shape ≤ length all)
+still_long shape place n before None same long = tt
+still_long shape place n None (Some b) same long = absurd same
+still_long shape place n (Some a) (Some b) same long = omega (arith, same.size)
+
+pub same_long : (shape : Shape) (before now : Option (List ℕ)) → Told IsSame before now
+    → IfSome before (λ all. member_length 1 shape ≤ length all) → IfSome now (λ all. member_length 1 shape ≤ length all)
+same_long shape before None same long = tt
+same_long shape None (Some b) same long = absurd same
+same_long shape (Some a) (Some b) same long = subst (λ (all : List ℕ). member_length 1 shape ≤ length all) (sym same) long
+
+-- a member that isn't out wasn't
+pub was_in : (f g : ℕ → ℕ) (old new : ℕ → MemberState) → MembersFall f g old new → (q : ℕ) → new q ≢ Out → old q ≢ Out
+was_in f g old new falls q stands out = elim (falls q) [ inl same ↦ stands (same ∙ out) | inr fell ↦ stands fell.out ]
+
+module _ (l slots s : ℕ) (row : List Boundary) (x y : Boundary) (within : s < length row) (was : slice_get row s ≡ Some x) (stands : RowStands l slots row) where
+  pub part_room : (shape : Shape) (bytes : ℕ → Option (List ℕ)) → shape.l ≡ l → shape.k + 1 ≡ slots → AreLong shape (members_in row) bytes → MembersFit (size_of x) (slots_of x) (members_of x) bytes
+  part_room shape bytes size count long q serving =
+      let st = stands s x was in
+      let wide : HasRoom shape.l (shape.k + 1) (bytes q) = elim (cases_eq (q / 2) s) [
+        | inl at ↦ long_room shape (bytes q) (long q (λ out. serving (sym ((set_changed row s x x within was).was q at) ∙ out)))
+        | inr off ↦ absurd (serving (st.own q off))
+      ] in
+      subst (λ (n : ℕ). HasRoom (size_of x) n (bytes q)) (count ∙ sym st.slots_is) (subst (λ (k : ℕ). HasRoom k (shape.k + 1) (bytes q)) (size ∙ sym st.size_is) wide)
+
+  pub part_stand : (here : ℕ → Type 0) → MembersStand (members_in row) here → MembersStand (members_of x) here
+  part_stand here stand q serving = elim (cases_eq (q / 2) s) [
+    | inl at ↦ stand q (λ out. serving (sym ((set_changed row s x x within was).was q at) ∙ out))
+    | inr off ↦ absurd (serving ((stands s x was).own q off))
+  ]
+
+  pub row_stands : KeepsPair x y → RowStands l slots (slice_set row s y)
+  row_stands pair =
       let st = stands s x was in
       set_stands l slots s row y within stands (record {
-        well = well;
-        number = number ∙ st.number;
-        size = size ∙ st.size;
-        slots_is = count ∙ st.slots_is;
-        own = λ q off. own q (λ at. off (at ∙ st.number));
+        well = pair.well;
+        number_is = pair.number_is ∙ st.number_is;
+        size_is = pair.size_is ∙ st.size_is;
+        slots_is = pair.slots_is ∙ st.slots_is;
+        own = λ q off. pair.own q (λ at. off (at ∙ st.number_is));
+        paired = pair.paired;
       })
 
   pub row_lost : is_lost (members_in (slice_set row s y)) s ≡ is_lost (members_of y) (number_of x)
   row_lost =
       lost_is s (members_of x) (members_of y) (members_in row) (members_in (slice_set row s y)) (set_changed row s x y within was)
-      ∙ ap (λ (t : ℕ). is_lost (members_of y) t) (sym (stands s x was).number)
+      ∙ ap (λ (t : ℕ). is_lost (members_of y) t) (sym (stands s x was).number_is)
 
   pub row_falls : (f g : ℕ → ℕ) → MembersFall f g (members_of x) (members_of y) → MembersFall f g (members_in row) (members_in (slice_set row s y))
   row_falls f g falls = falls_changed s (members_of x) (members_of y) (members_in row) (members_in (slice_set row s y)) (set_changed row s x y within was) f g falls
@@ -40,10 +80,10 @@ module _ (l slots s : ℕ) (row : List Boundary) (x y : Boundary) (within : s < 
   pub row_out : ((q : ℕ) → members_of y q ≡ Out) → (q : ℕ) → q / 2 ≡ s → members_in (slice_set row s y) q ≡ Out
   row_out out q at = (set_changed row s x y within was).here q at ∙ out q
 
-  pub row_good : ((q : ℕ) → q / 2 ≢ number_of x → members_of y q ≡ Out) → (q : ℕ) → members_of y q ≡ Good → members_in (slice_set row s y) q ≡ Good
+  pub row_good : ((q : ℕ) → q / 2 ≢ number_of x → members_of y q ≡ Out) → (q : ℕ) → members_of y q ≡ Good → (q / 2 ≡ s) × (members_in (slice_set row s y) q ≡ Good)
   row_good own q good = elim (cases_eq (q / 2) s) [
-    | inl at ↦ (set_changed row s x y within was).here q at ∙ good
-    | inr off ↦ absurd (let out = own q (λ e. off (e ∙ (stands s x was).number)) in cc)
+    | inl at ↦ (at, (set_changed row s x y within was).here q at ∙ good)
+    | inr off ↦ absurd (let out = own q (λ e. off (e ∙ (stands s x was).number_is)) in cc)
   ]
 
   -- the members of the other boundaries
@@ -55,35 +95,29 @@ module _ (l slots s : ℕ) (row : List Boundary) (x y : Boundary) (within : s < 
   part_holds slot v bytes had =
       let st = stands s x was in
       let part = holds_part s (members_of x) (members_of y) (members_in row) (members_in (slice_set row s y)) (set_changed row s x y within was) l slot v bytes had in
-      subst (λ (t : ℕ). SlotHolds (size_of x) (members_of x) bytes t slot v) (sym st.number) (subst (λ (k : ℕ). SlotHolds k (members_of x) bytes s slot v) (sym st.size) part)
+      subst (λ (t : ℕ). SlotHolds (size_of x) (members_of x) bytes t slot v) (sym st.number_is) (subst (λ (k : ℕ). SlotHolds k (members_of x) bytes s slot v) (sym st.size_is) part)
 
   new_part : (slot : ℕ) (v : List ℕ) (bytes : ℕ → Option (List ℕ)) → SlotHolds (size_of x) (members_of y) bytes (number_of x) slot v → SlotHolds l (members_of y) bytes s slot v
   new_part slot v bytes had =
       let st = stands s x was in
-      subst (λ (t : ℕ). SlotHolds l (members_of y) bytes t slot v) st.number (subst (λ (k : ℕ). SlotHolds k (members_of y) bytes (number_of x) slot v) st.size had)
+      subst (λ (t : ℕ). SlotHolds l (members_of y) bytes t slot v) st.number_is (subst (λ (k : ℕ). SlotHolds k (members_of y) bytes (number_of x) slot v) st.size_is had)
 
   pub row_holds : (slot : ℕ) (v : List ℕ) (bytes : ℕ → Option (List ℕ)) → SlotHolds (size_of x) (members_of y) bytes (number_of x) slot v → SlotHolds l (members_in (slice_set row s y)) bytes s slot v
   row_holds slot v bytes had = holds_whole s (members_of x) (members_of y) (members_in row) (members_in (slice_set row s y)) (set_changed row s x y within was) l slot v bytes (new_part slot v bytes had)
 
   module _ (before now : ℕ → Option (List ℕ)) (same : (q : ℕ) → q / 2 ≢ number_of x → Told IsSame (before q) (now q)) where
     others : OtherPairsSame s before now
-    others q off = same q (λ at. off (at ∙ (stands s x was).number))
-
-    pub row_room : MembersFit l slots (members_in row) before → MembersFit (size_of x) (slots_of x) (members_of y) now → MembersFit l slots (members_in (slice_set row s y)) now
-    row_room room done =
-        let st = stands s x was in
-        let fits = subst (λ (n : ℕ). MembersFit l n (members_of y) now) st.slots_is (subst (λ (k : ℕ). MembersFit k (slots_of x) (members_of y) now) st.size done) in
-        fits_changed s (members_of x) (members_of y) (members_in row) (members_in (slice_set row s y)) (set_changed row s x y within was) l slots before now others room fits
+    others q off = same q (λ at. off (at ∙ (stands s x was).number_is))
 
     -- where the boundary keeps a slot, the row keeps it
-    kept_at : (t slot : ℕ) (v : List ℕ)
+    pub kept_at : (t slot : ℕ) (v : List ℕ)
         → (t ≡ s → SlotHolds (size_of x) (members_of x) before (number_of x) slot v → SlotHolds (size_of x) (members_of y) now (number_of x) slot v)
         → SlotHolds l (members_in row) before t slot v → SlotHolds l (members_in (slice_set row s y)) now t slot v
     kept_at t slot v step had =
         let st = stands s x was in
         kept_changed s (members_of x) (members_of y) (members_in row) (members_in (slice_set row s y)) (set_changed row s x y within was) l before now others t slot v
         (λ here part. new_part slot v now (step here
-        (subst (λ (u : ℕ). SlotHolds (size_of x) (members_of x) before u slot v) (sym st.number) (subst (λ (k : ℕ). SlotHolds k (members_of x) before s slot v) (sym st.size) part))))
+        (subst (λ (u : ℕ). SlotHolds (size_of x) (members_of x) before u slot v) (sym st.number_is) (subst (λ (k : ℕ). SlotHolds k (members_of x) before s slot v) (sym st.size_is) part))))
         had
 
     pub row_kept : ((slot : ℕ) (v : List ℕ) → SlotHolds (size_of x) (members_of x) before (number_of x) slot v → SlotHolds (size_of x) (members_of y) now (number_of x) slot v)
@@ -93,3 +127,43 @@ module _ (l slots s : ℕ) (row : List Boundary) (x y : Boundary) (within : s < 
     pub row_kept_others : (at : ℕ) → ((slot : ℕ) (v : List ℕ) → slot ≢ at → SlotHolds (size_of x) (members_of x) before (number_of x) slot v → SlotHolds (size_of x) (members_of y) now (number_of x) slot v)
         → KeepsOtherSlots l s at (members_in row) before (members_in (slice_set row s y)) now
     row_kept_others at kept t slot v other had = kept_at t slot v (λ here part. kept slot v (other here) part) had
+
+-- ---- the whole row
+
+module _ {R : Type 0} (rack : Ghosts R) (shape : Shape) (s : ℕ) (row : List Boundary) (x y : Boundary) (old new : R) (within : s < length row) (was : slice_get row s ≡ Some x) (is : IsRow rack shape row old) where
+  -- the row after a call that made the members of boundary s what they are
+  pub row_is : KeepsPair x y → MembersStand (members_of y) (rack.stands new)
+      → ((q : ℕ) → q / 2 ≢ number_of x → rack.stands old q → rack.stands new q)
+      → ((q : ℕ) → q / 2 ≢ number_of x → Told IsSame (rack.bytes old q) (rack.bytes new q))
+      → ((q : ℕ) → q / 2 ≡ s → members_of y q ≢ Out → IfSome (rack.bytes new q) (λ all. member_length 1 shape ≤ length all))
+      → IsRow rack shape (slice_set row s y) new
+  row_is pair stand others_stand others long =
+      let changed = set_changed row s x y within was in
+      let number = (is.stands s x was).number_is in
+      record {
+        count = length-set row s y ∙ is.count;
+        stands = row_stands shape.l (shape.k + 1) s row x y within was is.stands pair;
+        long = λ q serving. elim (cases_eq (q / 2) s) [
+          | inl at ↦ long q at (λ out. serving (changed.here q at ∙ out))
+          | inr off ↦ same_long shape (rack.bytes old q) (rack.bytes new q) (others q (λ at. off (at ∙ number))) (is.long q (λ out. serving (changed.other q off ∙ out)))
+        ];
+        stand = λ q serving. elim (cases_eq (q / 2) s) [
+          | inl at ↦ stand q (λ out. serving (changed.here q at ∙ out))
+          | inr off ↦ others_stand q (λ at. off (at ∙ number)) (is.stand q (λ out. serving (changed.other q off ∙ out)))
+        ];
+      }
+
+  -- after a call on slots
+  pub row_keeps : LeavesPair rack (members_of x) x y old new → KeepsBeside (size_of x) (slots_of x) (rack.bytes old) (rack.bytes new)
+      → RowKeeps rack shape row old (slice_set row s y) new
+  row_keeps leaves beside =
+      let st = is.stands s x was in
+      let changed = set_changed row s x y within was in
+      record {
+        row = row_is leaves.pair leaves.stand leaves.others_stand leaves.other_bytes
+            (λ q at serving. still_long shape 512 (slots_of x * size_of x) (rack.bytes old q) (rack.bytes new q) (beside q)
+            (is.long q (λ out. was_in _ _ _ _ leaves.falls q serving (sym (changed.was q at) ∙ out))));
+        stays = record { rise = leaves.rise; tells = leaves.tells; same_rack = leaves.same_rack; steady_on = leaves.steady_on };
+        falls = row_falls shape.l (shape.k + 1) s row x y within was is.stands _ _ leaves.falls;
+        beside = subst (λ (n : ℕ). KeepsBeside shape.l n (rack.bytes old) (rack.bytes new)) st.slots_is (subst (λ (l : ℕ). KeepsBeside l (slots_of x) (rack.bytes old) (rack.bytes new)) st.size_is beside);
+      }

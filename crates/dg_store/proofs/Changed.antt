@@ -1,14 +1,18 @@
 -- One boundary of a row was called: what holds of its members holds of the row's.
 use Rattle.std.proofs.Common.{◌≡◌, ◌≢◌, inl, inr, ℕ, ◌+◌, ◌*◌, ◌/◌, ◌≤◌, List, length, sym, ◌∙◌, ap, subst, arith}
-use Rattle.std.specs.Prelude.{Option, Some, None, ◌&&◌, not}
-use Rattle.std.proofs.lemmas.Bool.{cases_eq}
-use Rattle.dg_model.specs.Members.{is_good, is_filling, serves, is_lost, partner_of, SlotOf, HasRoom, SlotHolds, MembersFall, slot_of, place_of}
+use Rattle.std.specs.Prelude.{IfSome, Option, Some, None, ◌&&◌, not}
+use Rattle.std.proofs.lemmas.Bool.{cases_eq, cases_lt}
+use Rattle.dg_model.specs.Members.{is_good, is_filling, serves, is_lost, partner_of, SlotOf, SlotHolds, MembersFall, slot_of}
 use Rattle.dg_model.specs.declared.members.MemberState.{MemberState}
 use Rattle.dg_model.specs.declared.members.MemberState.TheVariants.{Good, Out}
 use Rattle.dg_io.specs.Told.{Told, IsSame, IsZeros}
-use Rattle.dg_pair.specs.Boundaries.{MembersFit}
-use Rattle.dg_store.specs.Lengths.{IsZeroed}
-use Rattle.dg_store.specs.Rows.{AreZeroed}
+use Rattle.dg_pair.specs.Boundaries.{MembersStand}
+use Rattle.dg_model.specs.Saves.{member_length}
+use Rattle.dg_model.specs.declared.shapes.Shape.{Shape}
+use Rattle.dg_store.specs.Rows.{AreLong}
+use Rattle.std.proofs.lemmas.List.{length-replicate}
+use Rattle.dg_store.specs.Answers.{IsZeroed}
+use Rattle.dg_store.specs.Answers.{AreBlank, AreZeroed}
 
 -- the members of boundary s were x's and are y's, and each other is as it was
 pub record IsChanged (s : ℕ) (x y old new : ℕ → MemberState) : Type 0 where
@@ -19,11 +23,6 @@ pub record IsChanged (s : ℕ) (x y old new : ℕ → MemberState) : Type 0 wher
 -- the bytes of each other boundary are as they were
 abbrev pub OtherPairsSame : ℕ → (ℕ → Option (List ℕ)) → (ℕ → Option (List ℕ)) → Type 0
 OtherPairsSame s before now = (q : ℕ) → q / 2 ≢ s → Told IsSame (before q) (now q)
-
-pub room_same : (l slots : ℕ) (before now : Option (List ℕ)) → Told IsSame before now → HasRoom l slots before → HasRoom l slots now
-room_same l slots before None same room = tt
-room_same l slots None (Some b) same room = absurd same
-room_same l slots (Some a) (Some b) same room = subst (λ (all : List ℕ). place_of l slots ≤ length all) (sym same) room
 
 pub slot_same : (l slot : ℕ) (v : List ℕ) (before now : Option (List ℕ)) → Told IsSame before now → SlotOf l slot v before → SlotOf l slot v now
 slot_same l slot v before None same had = tt
@@ -40,11 +39,18 @@ zeroed_now size before None made = tt
 zeroed_now size None (Some b) made = absurd made
 zeroed_now size (Some a) (Some b) made = made
 
--- what a boundary of a row has room for
-pub part_fits : (l slots s : ℕ) (x old : ℕ → MemberState) (bytes : ℕ → Option (List ℕ)) → ((q : ℕ) → q / 2 ≡ s → old q ≡ x q) → ((q : ℕ) → q / 2 ≢ s → x q ≡ Out) → MembersFit l slots old bytes → MembersFit l slots x bytes
-part_fits l slots s x old bytes was own fits q serving = elim (cases_eq (q / 2) s) [
-  | inl at ↦ fits q (λ out. serving (sym (was q at) ∙ out))
-  | inr off ↦ absurd (serving (own q off))
+long_zeroed : (shape : Shape) (told : Option (List ℕ)) → IsZeroed (member_length 2 shape) told → IfSome told (λ all. member_length 1 shape ≤ length all)
+long_zeroed shape None zeros = tt
+long_zeroed shape (Some all) zeros = omega (arith, ap length zeros, length-replicate {A = ℕ} (member_length 2 shape) 0)
+
+-- members that were blanked are long enough
+pub blank_long : (shape : Shape) (n : ℕ) (f g : ℕ → ℕ) (members : ℕ → MemberState) (bytes : ℕ → Option (List ℕ)) → AreBlank n f g members → AreZeroed (member_length 2 shape) members bytes → AreLong shape members bytes
+blank_long shape n f g members bytes blank zeros q serving = elim (cases_lt (q / 2) n) [
+  | inl below ↦ elim (blank.begins q below) [
+    | inl good ↦ long_zeroed shape (bytes q) (zeros q good)
+    | inr failed ↦ absurd (serving failed.0)
+  ]
+  | inr past ↦ absurd (serving (blank.others q past))
 ]
 
 module _ (s : ℕ) (x y old new : ℕ → MemberState) (changed : IsChanged s x y old new) where
@@ -56,10 +62,10 @@ module _ (s : ℕ) (x y old new : ℕ → MemberState) (changed : IsChanged s x 
       let b = changed.here (2 * s + 1) high in
       ap (λ (m : MemberState). not (is_good m) && not (is_good (new (2 * s + 1)))) a ∙ ap (λ (m : MemberState). not (is_good (y (2 * s))) && not (is_good m)) b
 
-  pub fits_changed : (l slots : ℕ) (before now : ℕ → Option (List ℕ)) → OtherPairsSame s before now → MembersFit l slots old before → MembersFit l slots y now → MembersFit l slots new now
-  fits_changed l slots before now same fits done q serving = elim (cases_eq (q / 2) s) [
+  pub stand_changed : (before now : ℕ → Type 0) → ((q : ℕ) → q / 2 ≢ s → before q → now q) → MembersStand old before → MembersStand y now → MembersStand new now
+  stand_changed before now others stand done q serving = elim (cases_eq (q / 2) s) [
     | inl at ↦ done q (λ out. serving (changed.here q at ∙ out))
-    | inr off ↦ room_same l slots (before q) (now q) (same q off) (fits q (λ out. serving (changed.other q off ∙ out)))
+    | inr off ↦ others q off (stand q (λ out. serving (changed.other q off ∙ out)))
   ]
 
   pub falls_changed : (before now : ℕ → ℕ) → MembersFall before now x y → MembersFall before now old new

@@ -5,6 +5,9 @@ mod Changed
 mod EvictionCounts
 mod EvictionSteps
 mod PlaceLemmas
+mod Quiet
+mod Refills
+mod RowLaws
 mod Rows
 mod SitesGivenUp
 mod SitesLists

@@ -1,17 +1,17 @@
 -- Lists of sites, and what reads and writes of them leave.
 use Rattle.std.proofs.Common.{◌≡◌, ◌≢◌, ◌⊎◌, inl, inr, ℕ, zero, suc, ◌+◌, ◌*◌, ◌/◌, ◌≤◌, ◌<◌, true, false, Bool, List, [], ◌∷◌, length, take, refl, sym, ◌∙◌, ap, subst, arith, get_or}
-use Rattle.std.specs.Prelude.{Option, ◌&&◌, not}
+use Rattle.std.specs.Prelude.{IsSome, Option, ◌&&◌, not}
 use Rattle.std.specs.List.{All, Contains}
 use Rattle.std.proofs.lemmas.Bool.{and_parts, and_from, cases_eq}
 use Rattle.std.proofs.lemmas.List.{take_all}
 use Rattle.std.proofs.lemmas.List.Elements.{All-head, All-tail, All-more, All-weaker, All-contains, Contains-append_cases, Contains-append_right}
 use Rattle.dg_model.specs.Members.{serves, is_good, is_lost, SlotHolds}
 use Rattle.dg_model.specs.Sites.{all_lost}
-use Rattle.dg_model.specs.States.{Counts, CountsRise}
+use Rattle.dg_io.specs.Told.{StillTold}
 use Rattle.dg_model.specs.declared.sites.Site.{Site}
 use Rattle.dg_model.specs.declared.members.MemberState.{MemberState}
-use Rattle.dg_model.specs.declared.members.MemberState.TheVariants.{Out}
-use Rattle.dg_store.specs.Rows.{KeepsSlots, KeepsOtherSlots, KeepsSlotsBut, SitesHold, LostAreOut}
+use Rattle.dg_model.specs.declared.members.MemberState.TheVariants.{Good, Out}
+use Rattle.dg_store.specs.Slots.{KeepsSlots, KeepsOtherSlots, KeepsSlotsBut, LostAreOut, SitesHold, SitesTell}
 
 -- ---- sites on lost boundaries
 
@@ -118,13 +118,6 @@ module _ (l : ℕ) (old new : ℕ → MemberState) (before now : ℕ → Option 
 pub kept_both : (l : ℕ) (a b c : ℕ → MemberState) (x y z : ℕ → Option (List ℕ)) → KeepsSlots l a x b y → KeepsSlots l b y c z → KeepsSlots l a x c z
 kept_both l a b c x y z first second t slot v had = second t slot v (first t slot v had)
 
-pub rises_both : (a b c : Counts) → CountsRise a b → CountsRise b c → CountsRise a c
-rises_both a b c first second = record {
-  faults = λ q. let e = first.faults q in let f = second.faults q in omega arith;
-  calls = omega (arith, first.calls, second.calls);
-  writes = omega (arith, first.writes, second.writes);
-}
-
 pub found_false : (x : Bool) → (x ≡ true → ⊥) → x ≡ false
 found_false x never = elim x as (λ (y : Bool). (y ≡ true → ⊥) → y ≡ false) [ true ↦ λ contra. absurd (contra refl) | false ↦ λ contra. refl ] never
 
@@ -175,3 +168,21 @@ lost_alike old new s (site ∷ sites) same off =
     let here = lost_same old new site.boundary (λ q at. same q (λ is. first (sym at ∙ is))) in
     ap (λ (b : Bool). b && all_lost new sites) here
     ∙ ap (λ (b : Bool). is_lost old site.boundary && b) (lost_alike old new s sites same (All-tail (λ (x : Site). x.boundary ≢ s) site sites off))
+
+-- where each good member tells its bytes, those of any sites do
+pub sites_tell : (members : ℕ → MemberState) (bytes : ℕ → Option (List ℕ)) (sites : List Site) → ((q : ℕ) → members q ≡ Good → IsSome (bytes q)) → SitesTell members bytes sites
+sites_tell members bytes sites told k d within q at good = told q good
+
+-- before a call on a boundary on which none of the sites is
+pub tell_before : (old new : ℕ → MemberState) (before now : ℕ → Option (List ℕ)) (s : ℕ) (sites : List Site) → ((q : ℕ) → q / 2 ≢ s → new q ≡ old q) → StillTold before now
+    → All (λ (site : Site). site.boundary ≢ s) sites → ((q : ℕ) → new q ≡ Good → IsSome (now q)) → SitesTell old before sites
+tell_before old new before now s sites same still off told k d within q at good =
+    still q (told q (same q (λ here. off k d within (sym at ∙ here)) ∙ good))
+
+-- one site alone
+
+pub lost_one : (members : ℕ → MemberState) (site : Site) → is_lost members site.boundary ≡ true → all_lost members (site ∷ []) ≡ true
+lost_one members site lost = and_from (is_lost members site.boundary) true lost refl
+
+pub one_live : (members : ℕ → MemberState) (site : Site) → (is_lost members site.boundary ≡ true → ⊥) → all_lost members (site ∷ []) ≡ false
+one_live members site live = found_false (all_lost members (site ∷ [])) (λ lost. live (and_parts (is_lost members site.boundary) true lost).0)

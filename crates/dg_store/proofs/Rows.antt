@@ -1,15 +1,17 @@
 -- Rows of boundaries: one is replaced, or one is added.
-use Rattle.std.proofs.Common.{◌≡◌, ◌≢◌, ◌⊎◌, inl, inr, ℕ, zero, suc, ◌+◌, ◌*◌, ◌/◌, ◌≤◌, ◌<◌, true, List, [], ◌∷◌, ◌++◌, length, refl, sym, ◌∙◌, ap, subst, arith, get_or}
+use Rattle.std.proofs.Common.{◌≡◌, ◌≢◌, ◌⊎◌, inl, inr, ℕ, zero, suc, ◌+◌, ◌*◌, ◌/◌, ◌≤◌, ◌<◌, true, List, [], ◌∷◌, ◌++◌, length, refl, sym, ◌∙◌, ap, subst, arith, eq-eqb, get_or}
 use Rattle.std.specs.Prelude.{Option, Some, None, Any, slice_get, slice_set}
-use Rattle.std.proofs.lemmas.Bool.{cases_eq}
+use Rattle.std.proofs.lemmas.Bool.{cases_eq, false≢true}
 use Rattle.std.proofs.lemmas.Option.{slice_get-get_or, get_or_from_slice_get}
 use Rattle.dg_model.specs.Causes.{Rose}
-use Rattle.dg_model.specs.Members.{is_lost}
+use Rattle.dg_model.specs.Members.{MembersFall, is_filling, is_lost}
 use Rattle.dg_model.specs.declared.members.MemberState.{MemberState}
 use Rattle.dg_model.specs.declared.members.MemberState.TheVariants.{Good, Out}
 use Rattle.dg_pair.specs.declared.boundaries.Boundary.{Boundary}
 use Rattle.dg_pair.specs.Boundaries.{members_of}
-use Rattle.dg_store.specs.Rows.{member_at, members_in, StandsAt, RowStands, RowBegins, HasNoGood}
+use Rattle.dg_pair.specs.Calls.{IsPair, begun}
+use Rattle.dg_store.specs.Answers.{AreBlank}
+use Rattle.dg_store.specs.Rows.{member_at, members_in, RowStands}
 use Rattle.dg_store.proofs.Changed.{IsChanged}
 
 get_set_same : {X : Type 0} (xs : List X) (i : ℕ) (y : X) → i < length xs → slice_get (slice_set xs i y) i ≡ Some y
@@ -49,11 +51,11 @@ set_changed row s x y within was = record {
   other = λ q off. ap (λ (o : Option Boundary). member_at o q) (get_set_other row s (q / 2) y off);
 }
 
-pub set_stands : (l slots s : ℕ) (row : List Boundary) (y : Boundary) → s < length row → RowStands l slots row → StandsAt l slots s y → RowStands l slots (slice_set row s y)
+pub set_stands : (l slots s : ℕ) (row : List Boundary) (y : Boundary) → s < length row → RowStands l slots row → IsPair s l slots y → RowStands l slots (slice_set row s y)
 set_stands l slots s row y within stands done t z is = elim (cases_eq t s) [
   | inl here ↦
       let same : y ≡ z = some_same y z (sym (ap (λ (j : ℕ). slice_get (slice_set row s y) j) here ∙ get_set_same row s y within) ∙ is) in
-      subst (λ (w : Boundary). StandsAt l slots t w) same (subst (λ (j : ℕ). StandsAt l slots j y) (sym here) done)
+      subst (λ (w : Boundary). IsPair t l slots w) same (subst (λ (j : ℕ). IsPair j l slots y) (sym here) done)
   | inr other ↦ stands t z (sym (get_set_other row s t y other) ∙ is)
 ]
 
@@ -70,18 +72,34 @@ push_changed row s y count = record {
   other = λ q off. ap (λ (o : Option Boundary). member_at o q) (get_push_other row (q / 2) y (λ e. off (e ∙ count)));
 }
 
-pub push_stands : (l slots s : ℕ) (row : List Boundary) (y : Boundary) → length row ≡ s → RowStands l slots row → StandsAt l slots s y → RowStands l slots (row ++ y ∷ [])
+pub push_stands : (l slots s : ℕ) (row : List Boundary) (y : Boundary) → length row ≡ s → RowStands l slots row → IsPair s l slots y → RowStands l slots (row ++ y ∷ [])
 push_stands l slots s row y count stands done t z is = elim (cases_eq t s) [
   | inl here ↦
       let same : y ≡ z = some_same y z (sym (ap (λ (j : ℕ). slice_get (row ++ y ∷ []) j) (here ∙ sym count) ∙ get_push_new row y) ∙ is) in
-      subst (λ (w : Boundary). StandsAt l slots t w) same (subst (λ (j : ℕ). StandsAt l slots j y) (sym here) done)
+      subst (λ (w : Boundary). IsPair t l slots w) same (subst (λ (j : ℕ). IsPair j l slots y) (sym here) done)
   | inr other ↦ stands t z (sym (get_push_other row t y (λ e. other (e ∙ count))) ∙ is)
 ]
 
+begun_at : (number q : ℕ) → q / 2 ≡ number → begun number q ≡ Good
+begun_at number q at = rw (eq-eqb (q / 2) number at) refl
+
+-- a member that was blanked is good, or its count of faults rose
+pub begun_is : (number : ℕ) (f g : ℕ → ℕ) (members : ℕ → MemberState) → MembersFall f g (begun number) members
+    → (q : ℕ) → q / 2 ≡ number → (members q ≡ Good) ⊎ ((members q ≡ Out) × Rose (f q) (g q))
+begun_is number f g members falls q at =
+    let good = begun_at number q at in
+    elim (falls q) [
+      | inl same ↦ inl (same ∙ good)
+      | inr fell ↦ elim fell.caused [
+        | inl rose ↦ inr (fell.out, rose)
+        | inr partner ↦ absurd (false≢true (sym (ap is_filling good) ∙ partner.0))
+      ]
+    ]
+
 -- each boundary up to number s has begun
-pub push_begins : (s : ℕ) (x y old new : ℕ → MemberState) (f g h : ℕ → ℕ) → IsChanged s x y old new → RowBegins s f g old
+pub push_begins : (s : ℕ) (x y old new : ℕ → MemberState) (f g h : ℕ → ℕ) → IsChanged s x y old new → AreBlank s f g old
     → ((q : ℕ) → q / 2 ≡ s → (y q ≡ Good) ⊎ ((y q ≡ Out) × Rose (g q) (h q)))
-    → ((q : ℕ) → f q ≤ g q) → ((q : ℕ) → g q ≤ h q) → RowBegins (s + 1) f h new
+    → ((q : ℕ) → f q ≤ g q) → ((q : ℕ) → g q ≤ h q) → AreBlank (s + 1) f h new
 push_begins s x y old new f g h changed began begins before after = record {
   others = λ q past. changed.other q (omega arith) ∙ began.others q (omega arith);
   begins = λ q below. elim (cases_eq (q / 2) s) [
@@ -96,11 +114,6 @@ push_begins s x y old new f g h changed began begins before after = record {
   ];
 }
 
-some_at : {X : Type 0} (xs : List X) (i : ℕ) → i < length xs → (x : X) × (slice_get xs i ≡ Some x)
-some_at [] i h = absurd (omega arith)
-some_at (y ∷ ys) zero h = (y, refl)
-some_at (y ∷ ys) (suc i) h = some_at ys i (omega arith)
-
 -- boundary s of a row is lost by its own members
 pub lost_at : (row : List Boundary) (s : ℕ) (x : Boundary) → slice_get row s ≡ Some x → is_lost (members_in row) s ≡ is_lost (members_of x) s
 lost_at row s x is =
@@ -109,17 +122,6 @@ lost_at row s x is =
     let a : members_in row (2 * s) ≡ members_of x (2 * s) = ap (λ (o : Option Boundary). member_at o (2 * s)) (ap (λ (t : ℕ). slice_get row t) low ∙ is) in
     let b : members_in row (2 * s + 1) ≡ members_of x (2 * s + 1) = ap (λ (o : Option Boundary). member_at o (2 * s + 1)) (ap (λ (t : ℕ). slice_get row t) high ∙ is) in
     cc
-
-pub any_lost : (l slots : ℕ) (row : List Boundary) (s : ℕ) → RowStands l slots row → s < length row → is_lost (members_in row) s ≡ true → Any HasNoGood row
-any_lost l slots row s stands within lost =
-    let x = some_at row s within in
-    let no_good : HasNoGood x.0 = ap (λ (t : ℕ). is_lost (members_of x.0) t) (stands s x.0 x.1).number ∙ sym (lost_at row s x.0 x.1) ∙ lost in
-    (s, x.0, within, get_or_from_slice_get row s x.0 x.0 x.1, no_good)
-
-pub lost_any : (l slots : ℕ) (row : List Boundary) → RowStands l slots row → Any HasNoGood row → (s : ℕ) × (s < length row) × (is_lost (members_in row) s ≡ true)
-lost_any l slots row stands (s, x, within, value, no_good) =
-    let is : slice_get row s ≡ Some x = slice_get-get_or row s x within ∙ ap Some value in
-    (s, within, lost_at row s x is ∙ ap (λ (t : ℕ). is_lost (members_of x) t) (sym (stands s x is).number) ∙ no_good)
 
 -- there is no member past the row
 pub beyond : (row : List Boundary) (q : ℕ) → length row ≤ q / 2 → members_in row q ≡ Out

@@ -1,12 +1,16 @@
 -- A member is made to fail.
-use Rattle.std.proofs.Common.{◌≡◌, ◌≢◌, ◌⊎◌, inl, inr, ℕ, ◌+◌, ◌*◌, ◌/◌, ◌<◌, true, false, List, refl, sym, ◌∙◌, ap, arith}
+use Rattle.std.proofs.Common.{◌≡◌, ◌≢◌, ◌⊎◌, inl, inr, ℕ, ◌+◌, ◌*◌, ◌/◌, ◌<◌, true, false, List, length, refl, sym, ◌∙◌, ap, arith}
 use Rattle.std.specs.Prelude.{Option}
 use Rattle.std.proofs.lemmas.Bool.{cases_eq}
 use Rattle.dg_model.specs.Members.{is_filling, partner_of, serves, IsStruck}
 use Rattle.dg_model.specs.declared.members.MemberState.{MemberState}
 use Rattle.dg_model.specs.declared.members.MemberState.TheVariants.{Good, Filling, Out}
-use Rattle.dg_pair.specs.Boundaries.{MembersFit, unfilled}
-use Rattle.dg_store.specs.Rows.{KeepsSlots}
+use Rattle.dg_io.specs.declared.outside.Rack.{Ghosts}
+use Rattle.dg_model.specs.declared.shapes.Shape.{Shape}
+use Rattle.dg_pair.specs.declared.boundaries.Boundary.{Boundary}
+use Rattle.dg_pair.specs.Boundaries.{unfilled}
+use Rattle.dg_store.specs.Rows.{IsRow, RowStands, members_in}
+use Rattle.dg_store.specs.Slots.{KeepsSlots}
 use Rattle.dg_store.proofs.Changed.{IsChanged}
 
 unfilled_is : (old new : MemberState) → new ≡ unfilled old → (new ≡ old) ⊎ ((is_filling old ≡ true) × (new ≡ Out))
@@ -39,8 +43,18 @@ struck_keeps l q old new bytes is s slot v had p at served = elim (stays_or_out 
   | inr out ↦ let no : serves (new p) slot ≡ false = ap (λ (m : MemberState). serves m slot) out in absurd (cc (no, served))
 ]
 
-pub struck_fits : (l slots q : ℕ) (old new : ℕ → MemberState) (bytes : ℕ → Option (List ℕ)) → IsStruck q old new → MembersFit l slots old bytes → MembersFit l slots new bytes
-struck_fits l slots q old new bytes is fits p called = elim (stays_or_out q p old new is) [
-  | inl same ↦ fits p (λ e. called (same ∙ e))
-  | inr out ↦ absurd (called out)
-]
+-- the row is that of the array still
+pub struck_row : {R : Type 0} (rack : Ghosts R) (shape : Shape) (row now : List Boundary) (r : R) (q : ℕ) → IsRow rack shape row r → length now ≡ length row → RowStands shape.l (shape.k + 1) now
+    → IsStruck q (members_in row) (members_in now) → IsRow rack shape now r
+struck_row rack shape row now r q is count stands struck_is = record {
+  count = count ∙ is.count;
+  stands = stands;
+  long = λ p called. elim (stays_or_out q p (members_in row) (members_in now) struck_is) [
+    | inl same ↦ is.long p (λ e. called (same ∙ e))
+    | inr out ↦ absurd (called out)
+  ];
+  stand = λ p called. elim (stays_or_out q p (members_in row) (members_in now) struck_is) [
+    | inl same ↦ is.stand p (λ e. called (same ∙ e))
+    | inr out ↦ absurd (called out)
+  ];
+}

@@ -1,6 +1,8 @@
+pub mod Answers
 pub mod Evictions
-pub mod Lengths
+pub mod Leaves
 pub mod ReadLaws
 pub mod Rows
+pub mod Slots
 pub mod Stores
 pub mod Views

@@ -1,18 +1,33 @@
--- Laws of what reads leave: none, and one after another. They stand here since the view's members cite them.
-use Rattle.std.proofs.Common.{◌≡◌, inl, inr, ℕ, ◌≤◌, List, refl, sym, ◌∙◌, ap, arith}
-use Rattle.std.specs.Prelude.{Option}
-use Rattle.dg_model.specs.Members.{is_filling, partner_of, MembersFall}
-use Rattle.dg_model.specs.States.{Counts}
+-- Laws of what calls leave: none, and one after another. They stand here since the view's members cite them.
+use Rattle.std.proofs.Common.{◌≡◌, inl, inr, ℕ, ◌≤◌, ◌+◌, ◌*◌, ◌/◌, ◌-◌, ◌^◌, ◌++◌, Bool, true, false, cond, List, [], ◌∷◌, length, refl, sym, ◌∙◌, ap, subst, arith}
+use Rattle.std.specs.Prelude.{Option, Some, None, ◌&&◌, not, min, count_by}
+use Rattle.std.specs.List.{sum_by}
+use Rattle.std.proofs.lemmas.Bool.{and_parts, and_from, false≢true}
+use Rattle.std.proofs.lemmas.List.Sums.{sum_by-append, sum_by-cons}
+use Rattle.dg_io.specs.Told.{StillTold, Told, Torn}
+use Rattle.dg_io.specs.declared.outside.Rack.{Ghosts}
+use Rattle.dg_model.specs.Causes.{NoneRose, Rose}
+use Rattle.dg_model.specs.Members.{is_filling, is_good, is_lost, partner_of, MembersFall}
+use Rattle.dg_model.specs.Sites.{all_lost, has_site}
+use Rattle.dg_model.specs.States.{Counts, CountsRise}
+use Rattle.dg_model.specs.Tables.{Table, sites_in}
 use Rattle.dg_model.specs.declared.members.MemberState.{MemberState}
 use Rattle.dg_model.specs.declared.members.MemberState.TheVariants.{Out}
+use Rattle.dg_model.specs.declared.sites.Site.{Site}
+use Rattle.dg_pair.specs.Calls.{KeepsBeside}
 use Rattle.dg_store.specs.declared.store.Store.{Store}
-use Rattle.dg_store.specs.Views.{ReadsOn}
+use Rattle.dg_store.specs.Leaves.{Keeps, RackStays}
+use Rattle.dg_store.specs.Stores.{members_of, rack_of, shape_of, table_of}
+use Rattle.dg_store.specs.Views.{Fetches, ReadsOn, is_given, is_written}
+
+-- ---- members
 
 stays_out : (f g : ℕ → ℕ) (old new : ℕ → MemberState) (q : ℕ) → MembersFall f g old new → old q ≡ Out → new q ≡ Out
 stays_out f g old new q falls out = elim (falls q) [ inl same ↦ same ∙ out | inr fell ↦ fell.out ]
 
 -- members that fell, and fell further
-pub falls_both : (f g h : ℕ → ℕ) (a b c : ℕ → MemberState) → ((q : ℕ) → f q ≤ g q) → ((q : ℕ) → g q ≤ h q) → MembersFall f g a b → MembersFall g h b c → MembersFall f h a c
+pub falls_both : (f g h : ℕ → ℕ) (a b c : ℕ → MemberState) → ((q : ℕ) → f q ≤ g q) → ((q : ℕ) → g q ≤ h q)
+    → MembersFall f g a b → MembersFall g h b c → MembersFall f h a c
 falls_both f g h a b c early late first second q = elim (first q) [
   | inl same ↦ elim (second q) [
     | inl again ↦ inl (again ∙ same)
@@ -33,27 +48,164 @@ falls_both f g h a b c early late first second q = elim (first q) [
   })
 ]
 
-module _ {R : Type 0} (counts : R → Counts) (bytes : R → ℕ → Option (List ℕ)) (named : R → ℕ) where
-  pub reads_none : (s : Store R) → ReadsOn counts bytes named s s
-  reads_none s = record {
-    table = refl;
-    falls = λ q. inl refl;
-    counted = record { faults = λ q. omega arith; calls = omega arith; writes = omega arith };
-    writes = refl;
+not_good : (f g : ℕ → ℕ) (old new : ℕ → MemberState) (q : ℕ) → MembersFall f g old new → not (is_good (old q)) ≡ true → not (is_good (new q)) ≡ true
+not_good f g old new q falls bad = elim (falls q) [
+  | inl same ↦ ap (λ (m : MemberState). not (is_good m)) same ∙ bad
+  | inr fell ↦ ap (λ (m : MemberState). not (is_good m)) fell.out
+]
+
+-- a lost boundary stays lost
+pub lost_stays : (f g : ℕ → ℕ) (old new : ℕ → MemberState) (s : ℕ) → MembersFall f g old new → is_lost old s ≡ true → is_lost new s ≡ true
+lost_stays f g old new s falls lost =
+    let sides = and_parts (not (is_good (old (2 * s)))) (not (is_good (old (2 * s + 1)))) lost in
+    and_from (not (is_good (new (2 * s)))) (not (is_good (new (2 * s + 1)))) (not_good f g old new (2 * s) falls sides.0) (not_good f g old new (2 * s + 1) falls sides.1)
+
+pub all_stay : (f g : ℕ → ℕ) (old new : ℕ → MemberState) (sites : List Site) → MembersFall f g old new → all_lost old sites ≡ true → all_lost new sites ≡ true
+all_stay f g old new [] falls lost = refl
+all_stay f g old new (site ∷ sites) falls lost =
+    let parts = and_parts (is_lost old site.boundary) (all_lost old sites) lost in
+    and_from (is_lost new site.boundary) (all_lost new sites) (lost_stays f g old new site.boundary falls parts.0) (all_stay f g old new sites falls parts.1)
+
+-- ---- racks
+
+torn_none : (place n : ℕ) (told : Option (List ℕ)) → Told (Torn place n) told told
+torn_none place n None = tt
+torn_none place n (Some all) = record { size = refl; front = refl; back = refl }
+
+torn_both : (place n : ℕ) (a b c : Option (List ℕ)) → Told (Torn place n) a b → Told (Torn place n) b c → Told (Torn place n) a c
+torn_both place n a b None first second = tt
+torn_both place n a None (Some z) first second = absurd second
+torn_both place n None (Some y) (Some z) first second = absurd first
+torn_both place n (Some x) (Some y) (Some z) first second = record {
+  size = second.size ∙ first.size;
+  front = second.front ∙ first.front;
+  back = second.back ∙ first.back;
+}
+
+pub beside_none : (l slots : ℕ) (told : ℕ → Option (List ℕ)) → KeepsBeside l slots told told
+beside_none l slots told q = torn_none 512 (slots * l) (told q)
+
+pub beside_both : (l slots : ℕ) (a b c : ℕ → Option (List ℕ)) → KeepsBeside l slots a b → KeepsBeside l slots b c → KeepsBeside l slots a c
+beside_both l slots a b c first second q = torn_both 512 (slots * l) (a q) (b q) (c q) (first q) (second q)
+
+pub rises_both : (a b c : Counts) → CountsRise a b → CountsRise b c → CountsRise a c
+rises_both a b c first second = record {
+  faults = λ q. let e = first.faults q in let f = second.faults q in omega arith;
+  calls = omega (arith, first.calls, second.calls);
+  writes = omega (arith, first.writes, second.writes);
+}
+
+module _ {R : Type 0} (rack : Ghosts R) where
+  pub rack_none : (r : R) → RackStays rack r r
+  rack_none r = record {
+    rise = record { faults = λ q. omega arith; calls = omega arith; writes = omega arith };
     tells = λ q told. told;
-    name = refl;
+    same_rack = refl;
+    steady_on = (λ h. h, λ h. h);
   }
 
-  pub reads_both : (a b c : Store R) → ReadsOn counts bytes named a b → ReadsOn counts bytes named b c → ReadsOn counts bytes named a c
-  reads_both a b c first second = record {
-    table = second.table ∙ first.table;
-    falls = falls_both _ _ _ _ _ _ first.counted.faults second.counted.faults first.falls second.falls;
-    counted = record {
-      faults = λ q. let e = first.counted.faults q in let l = second.counted.faults q in omega arith;
-      calls = let e = first.counted.calls in let l = second.counted.calls in omega arith;
-      writes = let e = first.counted.writes in let l = second.counted.writes in omega arith;
-    };
-    writes = second.writes ∙ first.writes;
+  pub rack_both : (a b c : R) → RackStays rack a b → RackStays rack b c → RackStays rack a c
+  rack_both a b c first second = record {
+    rise = rises_both (rack.counts a) (rack.counts b) (rack.counts c) first.rise second.rise;
     tells = λ q told. first.tells q (second.tells q told);
-    name = second.name ∙ first.name;
+    same_rack = second.same_rack ∙ first.same_rack;
+    steady_on = (λ h. second.steady_on.0 (first.steady_on.0 h), λ h. first.steady_on.1 (second.steady_on.1 h));
   }
+
+  -- ---- stores
+
+  pub keeps_none : (s : Store R) → Keeps rack s s
+  keeps_none s = record {
+    shape = refl;
+    stays = rack_none (rack_of s);
+    falls = λ q. inl refl;
+    beside = beside_none (shape_of s).l ((shape_of s).k + 1) (rack.bytes (rack_of s));
+  }
+
+  pub keeps_both : (a b c : Store R) → Keeps rack a b → Keeps rack b c → Keeps rack a c
+  keeps_both a b c first second = record {
+    shape = second.shape ∙ first.shape;
+    stays = rack_both (rack_of a) (rack_of b) (rack_of c) first.stays second.stays;
+    falls = falls_both _ _ _ _ _ _ first.stays.rise.faults second.stays.rise.faults first.falls second.falls;
+    beside = beside_both _ _ _ _ _ first.beside (rw (← first.shape) second.beside);
+  }
+
+  pub reads_none : (s : Store R) → ReadsOn rack s s
+  reads_none s = record { keeps = keeps_none s; table = refl; writes = refl }
+
+  pub reads_both : (a b c : Store R) → ReadsOn rack a b → ReadsOn rack b c → ReadsOn rack a c
+  reads_both a b c first second = record {
+    keeps = keeps_both a b c first.keeps second.keeps;
+    table = second.table ∙ first.table;
+    writes = second.writes ∙ first.writes;
+  }
+
+-- ---- fetches
+
+count_less : (p q : ℕ → Bool) (xs : List ℕ) → ((x : ℕ) → p x ≡ true → q x ≡ true) → count_by p xs ≤ count_by q xs
+count_less p q [] implies = omega arith
+count_less p q (x ∷ xs) implies =
+    omega (arith, sum_by-cons (λ (y : ℕ). cond (p y) 1 0) x xs, sum_by-cons (λ (y : ℕ). cond (q y) 1 0) x xs, count_less p q xs implies, one_less (p x) (q x) (implies x))
+  where
+    one_less : (a b : Bool) → (a ≡ true → b ≡ true) → cond {A = ℕ} a 1 0 ≤ cond {A = ℕ} b 1 0
+    one_less false b h = omega arith
+    one_less true b h = subst (λ (c : Bool). 1 ≤ cond {A = ℕ} c 1 0) (sym (h refl)) (omega arith)
+
+count_both : (p : ℕ → Bool) (xs ys : List ℕ) → count_by p (xs ++ ys) ≡ count_by p xs + count_by p ys
+count_both p xs ys = sum_by-append (λ (x : ℕ). cond (p x) 1 0) xs ys
+
+-- a block that is given in the end was given before
+given_before : (f g : ℕ → ℕ) (table : Table) (old new : ℕ → MemberState) → MembersFall f g old new → (b : ℕ) → is_given table new b ≡ true → is_given table old b ≡ true
+given_before f g table old new falls b given =
+    let parts = and_parts (is_written table b) (not (all_lost new (sites_in table b))) given in
+    and_from (is_written table b) (not (all_lost old (sites_in table b))) parts.0
+    (still (all_lost old (sites_in table b)) (all_lost new (sites_in table b)) (all_stay f g old new (sites_in table b) falls) parts.1)
+  where
+    still : (was now : Bool) → (was ≡ true → now ≡ true) → not now ≡ true → not was ≡ true
+    still false now stays h = refl
+    still true now stays h = absurd (false≢true (sym (ap not (stays refl)) ∙ h))
+
+pub none_first : (a b c : ℕ → ℕ) → ((q : ℕ) → b q ≤ c q) → NoneRose a c → NoneRose a b
+none_first a b c late none q rose = none q (let l = late q in omega arith)
+
+pub none_second : (a b c : ℕ → ℕ) → ((q : ℕ) → a q ≤ b q) → NoneRose a c → NoneRose b c
+none_second a b c early none q rose = none q (let e = early q in omega arith)
+
+module _ {R : Type 0} (rack : Ghosts R) where
+  pub fetches_none : (s : Store R) → Fetches rack s [] s
+  fetches_none s = record {
+    table = refl;
+    falls = λ q. inl refl;
+    later = λ q. omega arith;
+    rose = omega arith;
+    most = omega arith;
+    few = λ none. omega arith;
+  }
+
+  pub fetches_both : (a b c : Store R) (x y : List ℕ) → Fetches rack a x b → Fetches rack b y c → Fetches rack a (x ++ y) c
+  fetches_both a b c x y first second =
+      let table = table_of a in
+      let same : table_of b ≡ table = first.table in
+      let rose = rw same at second.rose in
+      let most = rw same at second.most in
+      let few = rw same at second.few in
+      let sites : ℕ → ℕ = λ e. length (sites_in table e) in
+      record {
+        table = second.table ∙ first.table;
+        falls = falls_both _ _ _ _ _ _ first.later second.later first.falls second.falls;
+        later = λ q. let e = first.later q in let l = second.later q in omega arith;
+        rose = omega (
+          arith,
+          first.rose,
+          rose,
+          count_both (is_given table (members_of c)) x y,
+          count_less (is_given table (members_of c)) (is_given table (members_of b)) x (given_before _ _ table (members_of b) (members_of c) second.falls),
+        );
+        most = omega (arith, first.most, most, sum_by-append sites x y);
+        few = λ none. omega (
+          arith,
+          first.few (none_first _ _ _ second.later none),
+          few (none_second _ _ _ first.later none),
+          count_both (is_written table) x y,
+        );
+      }

@@ -1,14 +1,17 @@
 -- What a store means. The words below are all that the crates above cite; they say nothing of how a store keeps it.
-use Rattle.std.specs.Prelude.{◌/◌, ◌<◌, ◌≡◌, ◌+◌, ◌^◌, ℕ, zero, suc, List, [], length, Option, IsSome, if◌then◌else◌}
-use Rattle.dg_model.specs.Members.{is_lost}
-use Rattle.dg_model.specs.States.{Counts, State, Holds}
+use Rattle.std.specs.Prelude.{◌/◌, ◌≤◌, ◌<◌, ◌≡◌, ◌+◌, ◌^◌, ℕ, zero, suc, List, [], length, Option, IsSome, if◌then◌else◌, slice_set}
+use Rattle.dg_io.specs.declared.outside.Rack.{Ghosts}
+use Rattle.dg_model.specs.Blocks.{block_in}
+use Rattle.dg_model.specs.Members.{ArePaired, is_lost}
+use Rattle.dg_model.specs.States.{State}
+use Rattle.dg_model.specs.States as states
 use Rattle.dg_model.specs.Tables.{Table, IsTable}
 use Rattle.dg_model.specs.declared.shapes.Shape.{Shape}
 use Rattle.dg_model.specs.declared.members.MemberState.{MemberState}
-use Rattle.dg_model.specs.declared.members.MemberState.TheVariants.{Good}
-use Rattle.dg_pair.specs.Boundaries.{MembersFit}
+use Rattle.dg_model.specs.declared.members.MemberState.TheVariants.{Good, Out}
+use Rattle.dg_pair.specs.Boundaries.{MembersStand}
 use Rattle.dg_store.specs.declared.store.Store.{Store}
-use Rattle.dg_store.specs.Rows.{members_in, RowStands}
+use Rattle.dg_store.specs.Rows.{AreLong, members_in, RowStands}
 
 -- the rack that it holds
 abbrev pub rack_of : {R : Type 0} → Store R → R
@@ -25,30 +28,55 @@ shape_of store = store.map.shape
 abbrev pub members_of : {R : Type 0} → Store R → ℕ → MemberState
 members_of store = members_in store.row.items
 
--- its parts fit one another, and each member that is called is long enough where it tells its bytes
-pub record IsSound {R : Type 0} (bytes : R → ℕ → Option (List ℕ)) (store : Store R) : Type 0 where
-  pub table : IsTable store.map
-  pub boundaries : length store.row.items ≡ store.map.shape.b
+-- its parts fit one another
+pub record IsBuilt {R : Type 0} (store : Store R) : Type 0 where
+  pub count : length store.row.items ≡ store.map.shape.b
   pub stands : RowStands store.map.shape.l (store.map.shape.k + 1) store.row.items
   pub block : length store.block.items ≡ store.map.shape.l
   pub given_up : store.given_up.items ≡ []
-  pub room : MembersFit store.map.shape.l (store.map.shape.k + 1) (members_in store.row.items) (bytes store.rack)
 
--- the state that it is in, where these are its blocks
-abbrev pub state_of : {R : Type 0} → (R → Counts) → Store R → List (List ℕ) → State
-state_of counts store blocks = record { table = table_of store; blocks = blocks; members = members_of store; counts = counts (rack_of store) }
+-- What holds of it between calls: its sites are a table; a member that is refilled has a good partner; there is no member past the
+-- last boundary; and each member that isn't out stands, and is long enough where it tells its bytes.
+pub record IsSound {R : Type 0} (rack : Ghosts R) (store : Store R) : Type 0 where
+  pub table : IsTable (table_of store)
+  pub paired : ArePaired (members_of store)
+  pub others : (q : ℕ) → (shape_of store).b ≤ q / 2 → members_of store q ≡ Out
+  pub long : AreLong (shape_of store) (members_of store) (rack.bytes (rack_of store))
+  pub stand : MembersStand (members_of store) (rack.stands (rack_of store))
+  pub built : IsBuilt store
+
+-- the state that it is in, where these are its blocks, and the rest is as in another state
+abbrev pub state_of : {R : Type 0} → Ghosts R → Store R → State → List (List ℕ) → State
+state_of rack store rest blocks =
+    record rest { table = table_of store; blocks = blocks; members = members_of store; counts = rack.counts (rack_of store) }
 
 -- it stands for these blocks
-abbrev pub StandsFor : {R : Type 0} → (R → Counts) → (R → ℕ → Option (List ℕ)) → Store R → List (List ℕ) → Type 0
-StandsFor counts bytes store blocks = Holds (bytes (rack_of store)) (state_of counts store blocks)
+abbrev pub StandsFor : {R : Type 0} → Ghosts R → Store R → List (List ℕ) → Type 0
+StandsFor rack store blocks = states.StandsFor (table_of store) (members_of store) (rack.bytes (rack_of store)) blocks
+
+-- it stands for what it stood for
+abbrev pub KeepsBlocks : {R : Type 0} → Ghosts R → Store R → Store R → Type 0
+KeepsBlocks rack old new = (V : List (List ℕ)) → StandsFor rack old V → StandsFor rack new V
+
+-- it stands for what it stood for, but that block b has this value
+abbrev pub SetsBlock : {R : Type 0} → Ghosts R → Store R → ℕ → List ℕ → Store R → Type 0
+SetsBlock rack old b value new = (V : List (List ℕ)) → StandsFor rack old V → StandsFor rack new (slice_set V b value)
+
+-- it stands for what it stood for where its copy of block b was right
+abbrev pub PutsBlock : {R : Type 0} → Ghosts R → Store R → ℕ → Store R → Type 0
+PutsBlock rack old b new = (V : List (List ℕ)) → StandsFor rack old V → old.block.items ≡ block_in V b → StandsFor rack new V
+
+-- in all that it stands for, block b has this value
+abbrev pub HasBlock : {R : Type 0} → Ghosts R → Store R → ℕ → List ℕ → Type 0
+HasBlock rack store b value = (V : List (List ℕ)) → StandsFor rack store V → value ≡ block_in V b
 
 -- each good member tells its bytes
-abbrev pub Tells : {R : Type 0} → (R → ℕ → Option (List ℕ)) → Store R → Type 0
-Tells bytes store = (q : ℕ) → members_of store q ≡ Good → IsSome (bytes (rack_of store) q)
+abbrev pub Tells : {R : Type 0} → Ghosts R → Store R → Type 0
+Tells rack store = (q : ℕ) → members_of store q ≡ Good → IsSome (rack.bytes (rack_of store) q)
 
 -- each member of the array tells its bytes
-abbrev pub TellsAll : {R : Type 0} → (R → ℕ → Option (List ℕ)) → Store R → Type 0
-TellsAll bytes store = (q : ℕ) → q / 2 < (shape_of store).b → IsSome (bytes (rack_of store) q)
+abbrev pub TellsAll : {R : Type 0} → Ghosts R → Store R → Type 0
+TellsAll rack store = (q : ℕ) → q / 2 < (shape_of store).b → IsSome (rack.bytes (rack_of store) q)
 
 -- bit s for each lost boundary s below a number
 abbrev pub lost_bits : (ℕ → MemberState) → ℕ → ℕ

@@ -1,14 +1,15 @@
 // A row of boundaries, and one slot of it. These functions work on the parts of a store.
-ghost use Rattle.std.specs.Prelude.{◌≡◌, ◌≢◌, ◌↔◌, ◌+◌, ◌*◌, ◌/◌, ◌≤◌, ◌<◌, ℕ, List, length, IsTrue, true, IsSome, IfOk, All, Any};
-ghost use Rattle.dg_model.specs.Causes.{Rose};
-ghost use Rattle.dg_model.specs.Members.{is_lost, SlotHolds, MembersFall, IsStruck};
+ghost use Rattle.std.specs.Prelude.{◌≡◌, ◌≢◌, ◌↔◌, ◌+◌, ◌*◌, ◌/◌, ◌≤◌, ◌<◌, ℕ, List, length, true, false, IfOk, MatchOption};
+ghost use Rattle.dg_model.specs.Causes.{NoneRose, Rose};
+ghost use Rattle.dg_model.specs.Members.{is_lost, SlotHolds, IsStruck};
+ghost use Rattle.dg_model.specs.Saves.{member_length};
 ghost use Rattle.dg_model.specs.Shapes.{IsShape};
-ghost use Rattle.dg_model.specs.States.{CountsRise};
-ghost use Rattle.dg_io.specs.Told.{StillTold};
-ghost use Rattle.dg_pair.specs.Boundaries.{IsWell, MembersFit};
-ghost use Rattle.dg_store.specs.Lengths.{length_of};
+ghost use Rattle.dg_model.specs.States.{IsLeastLost, has_lost};
+ghost use Rattle.dg_store.specs.Answers.{AreBlank, AreZeroed};
+ghost use Rattle.dg_store.specs.Leaves.{RackStays};
 ghost use Rattle.dg_store.specs.Stores.{lost_bits};
-ghost use Rattle.dg_store.specs.Rows.{members_in, RowStands, RowBegins, AreZeroed, HasNoGood, KeepsSlots, KeepsOtherSlots};
+ghost use Rattle.dg_store.specs.Rows.{IsRow, RowStands, members_in};
+ghost use Rattle.dg_store.specs.Slots.{KeepsOtherSlots, KeepsSlots, RowKeeps, TellsAt};
 
 use crate::{Shape, Site, member_length};
 use dg_io::{NoMemory, Rack};
@@ -23,15 +24,11 @@ pub fn blank_row<R: Rack>(
     shape: &Shape,
 ) -> Result<Vec<Boundary>, NoMemory>
     requires { IsShape shape.now }
-    ensures count { IfOk result (λ row. length row.items ≡ shape.now.b) }
-    ensures stands { IfOk result (λ row. RowStands shape.now.l (shape.now.k + 1) row.items) }
-    ensures begins { IfOk result (λ row. RowBegins shape.now.b (R.counts rack.old).faults (R.counts rack.new).faults (members_in row.items)) }
-    ensures room { IfOk result (λ row. MembersFit shape.now.l (shape.now.k + 1) (members_in row.items) (R.bytes rack.new)) }
-    ensures zeros { IfOk result (λ row. AreZeroed (length_of shape.now) (members_in row.items) (R.bytes rack.new)) }
-    ensures counts { CountsRise (R.counts rack.old) (R.counts rack.new) }
+    ensures row { IfOk result (λ row. IsRow R.Rack shape.now row.items rack.new) }
+    ensures begins { IfOk result (λ row. AreBlank shape.now.b (R.counts rack.old).faults (R.counts rack.new).faults (members_in row.items)) }
+    ensures zeros { IfOk result (λ row. AreZeroed (member_length 2 shape.now) (members_in row.items) (R.bytes rack.new)) }
+    ensures rack { RackStays R.Rack rack.old rack.new }
     ensures most { (R.counts rack.new).calls ≤ (R.counts rack.old).calls + 2 * shape.now.b }
-    ensures tells { StillTold (R.bytes rack.old) (R.bytes rack.new) }
-    ensures name { R.name rack.new ≡ R.name rack.old }
 {
     let size = member_length(shape);
     let slots = shape.k + 1;
@@ -45,14 +42,6 @@ pub fn blank_row<R: Rack>(
     Ok(row)
 }
 
-/// Whether a boundary has no good member.
-pub fn has_lost(row: &[Boundary]) -> bool
-    requires { All IsWell row.now }
-    ensures { IsTrue result ↔ Any HasNoGood row.now }
-{
-    row.iter().any(|boundary| boundary.is_lost())
-}
-
 /// Whether a boundary is lost, by its number.
 pub fn is_lost_at(row: &Vec<Boundary>, shape: &Shape, boundary: u8) -> bool
     requires stands { RowStands shape.now.l (shape.now.k + 1) row.now.items }
@@ -60,6 +49,20 @@ pub fn is_lost_at(row: &Vec<Boundary>, shape: &Shape, boundary: u8) -> bool
     ensures { result ≡ is_lost (members_in row.now.items) boundary }
 {
     row[boundary as usize].is_lost()
+}
+
+/// The least lost boundary, if one is lost.
+pub fn least_lost_of(row: &Vec<Boundary>, shape: &Shape) -> Option<u8>
+    requires stands { RowStands shape.now.l (shape.now.k + 1) row.now.items }
+    requires count { length row.now.items ≡ shape.now.b }
+    ensures { MatchOption result (has_lost shape.now (members_in row.now.items) ≡ false) (IsLeastLost shape.now (members_in row.now.items)) }
+{
+    for number in 0..shape.b {
+        if is_lost_at(row, shape, number) {
+            return Some(number);
+        }
+    }
+    None
 }
 
 /// The lost boundaries: bit s for boundary s.
@@ -86,27 +89,23 @@ pub fn read_slot<R: Rack>(
     site: Site,
     buf: &mut [u8],
 ) -> PairRead
-    requires stands { RowStands shape.now.l (shape.now.k + 1) row.old.items }
-    requires room { MembersFit shape.now.l (shape.now.k + 1) (members_in row.old.items) (R.bytes rack.old) }
+    requires row { IsRow R.Rack shape.now row.old.items rack.old }
     requires within { site.boundary < length row.old.items }
     requires slot { site.slot < shape.now.k + 1 }
     requires size { length buf.old ≡ shape.now.l }
-    ensures count { length row.new.items ≡ length row.old.items }
-    ensures stands { RowStands shape.now.l (shape.now.k + 1) row.new.items }
-    ensures room { MembersFit shape.now.l (shape.now.k + 1) (members_in row.new.items) (R.bytes rack.new) }
+    ensures keeps { RowKeeps R.Rack shape.now row.old.items rack.old row.new.items rack.new }
     ensures lost { (result ≡ PairRead.Lost) ↔ (is_lost (members_in row.new.items) site.boundary ≡ true) }
     ensures got { result ≡ PairRead.Got
         → (v : List ℕ) → SlotHolds shape.now.l (members_in row.old.items) (R.bytes rack.old) site.boundary site.slot v
-        → ((q : ℕ) → members_in row.new.items q ≡ MemberState.Good → IsSome (R.bytes rack.new q)) → buf.new ≡ v }
+        → TellsAt (members_in row.new.items) (R.bytes rack.new) site.boundary → buf.new ≡ v }
     ensures kept { KeepsSlots shape.now.l (members_in row.old.items) (R.bytes rack.old) (members_in row.new.items) (R.bytes rack.new) }
     ensures others { (q : ℕ) → q / 2 ≢ site.boundary → members_in row.new.items q ≡ members_in row.old.items q }
-    ensures falls { MembersFall (R.counts rack.old).faults (R.counts rack.new).faults (members_in row.old.items) (members_in row.new.items) }
-    ensures counts { CountsRise (R.counts rack.old) (R.counts rack.new) }
     ensures called { result ≡ PairRead.Got → Rose (R.counts rack.old).calls (R.counts rack.new).calls }
     ensures most { (R.counts rack.new).calls ≤ (R.counts rack.old).calls + 2 }
+    ensures once { NoneRose (R.counts rack.old).faults (R.counts rack.new).faults → (R.counts rack.new).calls ≤ (R.counts rack.old).calls + 1 }
+    ensures quiet { NoneRose (R.counts rack.old).faults (R.counts rack.new).faults → result ≡ PairRead.Lost
+        → (R.counts rack.new).calls ≤ (R.counts rack.old).calls }
     ensures writes { (R.counts rack.new).writes ≡ (R.counts rack.old).writes }
-    ensures tells { StillTold (R.bytes rack.old) (R.bytes rack.new) }
-    ensures name { R.name rack.new ≡ R.name rack.old }
 {
     row[site.boundary as usize].read(rack, site.slot, buf)
 }
@@ -119,24 +118,18 @@ pub fn write_slot<R: Rack>(
     site: Site,
     buf: &[u8],
 ) -> PairWrite
-    requires stands { RowStands shape.now.l (shape.now.k + 1) row.old.items }
-    requires room { MembersFit shape.now.l (shape.now.k + 1) (members_in row.old.items) (R.bytes rack.old) }
+    requires row { IsRow R.Rack shape.now row.old.items rack.old }
     requires within { site.boundary < length row.old.items }
     requires slot { site.slot < shape.now.k + 1 }
     requires size { length buf.now ≡ shape.now.l }
-    ensures count { length row.new.items ≡ length row.old.items }
-    ensures stands { RowStands shape.now.l (shape.now.k + 1) row.new.items }
-    ensures room { MembersFit shape.now.l (shape.now.k + 1) (members_in row.new.items) (R.bytes rack.new) }
+    ensures keeps { RowKeeps R.Rack shape.now row.old.items rack.old row.new.items rack.new }
     ensures lost { (result ≡ PairWrite.Lost) ↔ (is_lost (members_in row.new.items) site.boundary ≡ true) }
     ensures out { result ≡ PairWrite.Lost → (q : ℕ) → q / 2 ≡ site.boundary → members_in row.new.items q ≡ MemberState.Out }
     ensures put { SlotHolds shape.now.l (members_in row.new.items) (R.bytes rack.new) site.boundary site.slot buf.now }
-    ensures kept { KeepsOtherSlots shape.now.l site.boundary site.slot (members_in row.old.items) (R.bytes rack.old) (members_in row.new.items) (R.bytes rack.new) }
+    ensures kept { KeepsOtherSlots shape.now.l site.boundary site.slot
+        (members_in row.old.items) (R.bytes rack.old) (members_in row.new.items) (R.bytes rack.new) }
     ensures others { (q : ℕ) → q / 2 ≢ site.boundary → members_in row.new.items q ≡ members_in row.old.items q }
-    ensures falls { MembersFall (R.counts rack.old).faults (R.counts rack.new).faults (members_in row.old.items) (members_in row.new.items) }
-    ensures counts { CountsRise (R.counts rack.old) (R.counts rack.new) }
     ensures most { (R.counts rack.new).calls ≤ (R.counts rack.old).calls + 2 }
-    ensures tells { StillTold (R.bytes rack.old) (R.bytes rack.new) }
-    ensures name { R.name rack.new ≡ R.name rack.old }
 {
     row[site.boundary as usize].write(rack, site.slot, buf)
 }

@@ -5,6 +5,8 @@ mod boundaries;
 mod lengths;
 mod places;
 #[cfg(test)]
+mod refill_tests;
+#[cfg(test)]
 mod site_tests;
 mod sites;
 mod store;
@@ -15,6 +17,6 @@ mod views;
 pub use dg_io::Fetched;
 pub use dg_map::Map;
 pub use dg_model::{Shape, Site};
-pub use dg_pair::{Boundary, FailAnswer};
+pub use dg_pair::{Boundary, CopyAnswer, ExtendAnswer, FailAnswer, NoteAnswer, ReplaceAnswer};
 pub use lengths::member_length;
 pub use store::{PlaceAnswer, Store, StoreWrite};

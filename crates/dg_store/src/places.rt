@@ -1,17 +1,13 @@
 // A list of sites on a row of boundaries. These functions work on the parts of a store.
-ghost use Rattle.std.specs.Prelude.{◌≡◌, ◌↔◌, ◌+◌, ◌*◌, ◌≤◌, ◌<◌, ℕ, List, length, true, IsSome};
-ghost use Rattle.dg_model.specs.Causes.{Rose};
-ghost use Rattle.dg_model.specs.Members.{MembersFall};
+ghost use Rattle.std.specs.Prelude.{◌≡◌, ◌↔◌, ◌+◌, ◌*◌, ◌≤◌, ◌<◌, ℕ, List, length, true};
+ghost use Rattle.dg_model.specs.Causes.{NoneRose, Rose};
 ghost use Rattle.dg_model.specs.Sites.{all_lost};
-ghost use Rattle.dg_model.specs.States.{CountsRise};
-ghost use Rattle.dg_io.specs.Told.{StillTold};
-ghost use Rattle.dg_pair.specs.Boundaries.{MembersFit};
-ghost use Rattle.dg_store.specs.Rows.{members_in, RowStands, AreSlots, KeepsSlots, KeepsSlotsBut, SitesHold, LostAreOut};
+ghost use Rattle.dg_store.specs.Rows.{IsRow, RowStands, members_in};
+ghost use Rattle.dg_store.specs.Slots.{AreSlots, KeepsSlots, KeepsSlotsBut, LostAreOut, RowKeeps, SitesHold, SitesTell};
 
 use crate::boundaries::{is_lost_at, read_slot, write_slot};
 use crate::{Shape, Site};
 use dg_io::{Fetched, Rack};
-use dg_model::MemberState;
 use dg_pair::{Boundary, PairRead};
 
 /// Whether each of the sites is on a lost boundary.
@@ -36,25 +32,19 @@ pub fn read_sites<R: Rack>(
     sites: &[Site],
     buf: &mut [u8],
 ) -> Fetched
-    requires stands { RowStands shape.now.l (shape.now.k + 1) row.old.items }
-    requires room { MembersFit shape.now.l (shape.now.k + 1) (members_in row.old.items) (R.bytes rack.old) }
+    requires row { IsRow R.Rack shape.now row.old.items rack.old }
     requires within { AreSlots (length row.old.items) (shape.now.k + 1) sites.now }
     requires size { length buf.old ≡ shape.now.l }
-    ensures count { length row.new.items ≡ length row.old.items }
-    ensures stands { RowStands shape.now.l (shape.now.k + 1) row.new.items }
-    ensures room { MembersFit shape.now.l (shape.now.k + 1) (members_in row.new.items) (R.bytes rack.new) }
+    ensures keeps { RowKeeps R.Rack shape.now row.old.items rack.old row.new.items rack.new }
     ensures gone { (result ≡ Fetched.Gone) ↔ (all_lost (members_in row.new.items) sites.now ≡ true) }
     ensures got { result ≡ Fetched.Got
         → (v : List ℕ) → SitesHold shape.now.l (members_in row.old.items) (R.bytes rack.old) v sites.now
-        → ((q : ℕ) → members_in row.new.items q ≡ MemberState.Good → IsSome (R.bytes rack.new q)) → buf.new ≡ v }
+        → SitesTell (members_in row.new.items) (R.bytes rack.new) sites.now → buf.new ≡ v }
     ensures kept { KeepsSlots shape.now.l (members_in row.old.items) (R.bytes rack.old) (members_in row.new.items) (R.bytes rack.new) }
-    ensures falls { MembersFall (R.counts rack.old).faults (R.counts rack.new).faults (members_in row.old.items) (members_in row.new.items) }
-    ensures counts { CountsRise (R.counts rack.old) (R.counts rack.new) }
     ensures called { result ≡ Fetched.Got → Rose (R.counts rack.old).calls (R.counts rack.new).calls }
     ensures most { (R.counts rack.new).calls ≤ (R.counts rack.old).calls + 2 * length sites.now }
+    ensures once { NoneRose (R.counts rack.old).faults (R.counts rack.new).faults → (R.counts rack.new).calls ≤ (R.counts rack.old).calls + 1 }
     ensures writes { (R.counts rack.new).writes ≡ (R.counts rack.old).writes }
-    ensures tells { StillTold (R.bytes rack.old) (R.bytes rack.new) }
-    ensures name { R.name rack.new ≡ R.name rack.old }
 {
     for site in sites {
         if let PairRead::Got = read_slot(row, rack, shape, *site, buf) {
@@ -72,24 +62,17 @@ pub fn read_block<R: Rack>(
     sites: &[Site],
     block: &mut Vec<u8>,
 ) -> Fetched
-    requires stands { RowStands shape.now.l (shape.now.k + 1) row.old.items }
-    requires room { MembersFit shape.now.l (shape.now.k + 1) (members_in row.old.items) (R.bytes rack.old) }
+    requires row { IsRow R.Rack shape.now row.old.items rack.old }
     requires within { AreSlots (length row.old.items) (shape.now.k + 1) sites.now }
     requires size { length block.old.items ≡ shape.now.l }
     ensures size { length block.new.items ≡ shape.now.l }
-    ensures count { length row.new.items ≡ length row.old.items }
-    ensures stands { RowStands shape.now.l (shape.now.k + 1) row.new.items }
-    ensures room { MembersFit shape.now.l (shape.now.k + 1) (members_in row.new.items) (R.bytes rack.new) }
+    ensures keeps { RowKeeps R.Rack shape.now row.old.items rack.old row.new.items rack.new }
     ensures gone { (result ≡ Fetched.Gone) ↔ (all_lost (members_in row.new.items) sites.now ≡ true) }
     ensures got { result ≡ Fetched.Got
         → (v : List ℕ) → SitesHold shape.now.l (members_in row.old.items) (R.bytes rack.old) v sites.now
-        → ((q : ℕ) → members_in row.new.items q ≡ MemberState.Good → IsSome (R.bytes rack.new q)) → block.new.items ≡ v }
+        → SitesTell (members_in row.new.items) (R.bytes rack.new) sites.now → block.new.items ≡ v }
     ensures kept { KeepsSlots shape.now.l (members_in row.old.items) (R.bytes rack.old) (members_in row.new.items) (R.bytes rack.new) }
-    ensures falls { MembersFall (R.counts rack.old).faults (R.counts rack.new).faults (members_in row.old.items) (members_in row.new.items) }
-    ensures counts { CountsRise (R.counts rack.old) (R.counts rack.new) }
     ensures most { (R.counts rack.new).calls ≤ (R.counts rack.old).calls + 2 * length sites.now }
-    ensures tells { StillTold (R.bytes rack.old) (R.bytes rack.new) }
-    ensures name { R.name rack.new ≡ R.name rack.old }
 {
     read_sites(row, rack, shape, sites, block)
 }
@@ -102,21 +85,14 @@ pub fn write_sites<R: Rack>(
     sites: &[Site],
     buf: &[u8],
 )
-    requires stands { RowStands shape.now.l (shape.now.k + 1) row.old.items }
-    requires room { MembersFit shape.now.l (shape.now.k + 1) (members_in row.old.items) (R.bytes rack.old) }
+    requires row { IsRow R.Rack shape.now row.old.items rack.old }
     requires within { AreSlots (length row.old.items) (shape.now.k + 1) sites.now }
     requires size { length buf.now ≡ shape.now.l }
-    ensures count { length row.new.items ≡ length row.old.items }
-    ensures stands { RowStands shape.now.l (shape.now.k + 1) row.new.items }
-    ensures room { MembersFit shape.now.l (shape.now.k + 1) (members_in row.new.items) (R.bytes rack.new) }
+    ensures keeps { RowKeeps R.Rack shape.now row.old.items rack.old row.new.items rack.new }
     ensures put { SitesHold shape.now.l (members_in row.new.items) (R.bytes rack.new) buf.now sites.now }
     ensures out { LostAreOut (members_in row.new.items) sites.now }
     ensures kept { KeepsSlotsBut shape.now.l sites.now (members_in row.old.items) (R.bytes rack.old) (members_in row.new.items) (R.bytes rack.new) }
-    ensures falls { MembersFall (R.counts rack.old).faults (R.counts rack.new).faults (members_in row.old.items) (members_in row.new.items) }
-    ensures counts { CountsRise (R.counts rack.old) (R.counts rack.new) }
     ensures most { (R.counts rack.new).calls ≤ (R.counts rack.old).calls + 2 * length sites.now }
-    ensures tells { StillTold (R.bytes rack.old) (R.bytes rack.new) }
-    ensures name { R.name rack.new ≡ R.name rack.old }
 {
     for site in sites {
         write_slot(row, rack, shape, *site, buf);

@@ -1,7 +1,9 @@
 // A block's first site, and the evictions before it. These functions work on the map alone.
-ghost use Rattle.std.specs.Prelude.{◌≡◌, ◌<◌, ◌-◌, ℕ, [], ◌∷◌, length, IfOk, IfSome, MatchOption, OnOk, OnErr, slice_get, Some};
+ghost use Rattle.std.specs.Prelude.{◌≡◌, ◌<◌, ◌-◌, ℕ, [], ◌∷◌, length, IfNone, IfOk, IfSome, MatchOption, OnOk, OnErr, slice_get, Some};
+ghost use Rattle.std.specs.List.{Contains};
 ghost use Rattle.dg_model.specs.Sites.{Evicts, IsFewest, IsGivenFirst, IsFirstBoundary, IsPacked, IsLeastSpread};
 ghost use Rattle.dg_model.specs.Tables.{Table, IsTable, sites_in, put_site, without_site};
+ghost use Rattle.dg_store.specs.Answers.{reaped};
 ghost use Rattle.dg_store.specs.Evictions.{GaveUp, IsEvicted, IsThinned, NoneSpreadBelow, table_before};
 
 use dg_io::NoMemory;
@@ -63,6 +65,18 @@ pub fn take_back(
         map.retake(given.block, given.site)?;
     }
     Ok(())
+}
+
+/// Takes all sites of a block from it.
+pub fn give_up_all(map: &mut Map, block: u32)
+    requires table { IsTable map.old }
+    requires within { block < map.old.shape.n }
+    ensures table { IsTable map.new }
+    ensures none { map.new ≡ reaped map.old block }
+{
+    while let Some(last) = last_of(map.sites(block)) {
+        map.drop_site(block, last.boundary);
+    }
 }
 
 /// Evicts until a boundary has room for the block's first site, and gives that boundary.
@@ -164,6 +178,14 @@ fn least_spread(map: &Map, block: u32, from: u32) -> u32
         }
     }
     unreachable!()
+}
+
+/// The last one of the sites, if there is one.
+fn last_of(sites: &[Site]) -> Option<Site>
+    ensures none { IfNone result (length sites.now ≡ 0) }
+    ensures last { IfSome result (λ site. Contains sites.now site) }
+{
+    sites.last().copied()
 }
 
 /// The last one of the sites.

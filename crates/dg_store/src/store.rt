@@ -1,26 +1,32 @@
 // The flat array: each block stands at the sites that the map has for it, on both members of each.
-ghost use Rattle.std.specs.Prelude.{◌≡◌, ◌≢◌, ◌↔◌, ◌+◌, ◌*◌, ◌/◌, ◌≤◌, ◌<◌, ◌-◌, ℕ, List, length, IsTrue, true, false, [], IfOk, OnErr, replicate, slice_set, if◌then◌else◌};
-ghost use Rattle.dg_model.specs.Causes.{Rose};
-ghost use Rattle.dg_model.specs.Members.{is_lost, MembersFall, IsStruck};
+ghost use Rattle.std.specs.Prelude.{◌≡◌, ◌≢◌, ◌↔◌, ◌⊎◌, ◌+◌, ◌*◌, ◌/◌, ◌≤◌, ◌<◌, ◌-◌, ℕ, List, length, true, false, [], IfOk, IfSome, OnErr, MatchOption};
+ghost use Rattle.dg_io.specs.Told.{Extended, FitsIn, IsZeros, KeepsFront, Patched, Torn};
+ghost use Rattle.dg_model.specs.Blocks.{zeros};
+ghost use Rattle.dg_model.specs.Members.{is_filling, is_lost, IsStruck, MembersFall};
+ghost use Rattle.dg_model.specs.Saves.{body_place, member_length as length_of};
 ghost use Rattle.dg_model.specs.Shapes.{IsShape};
-ghost use Rattle.dg_model.specs.Sites.{has_site, all_lost, is_gone, IsSited};
-ghost use Rattle.dg_model.specs.States.{CountsRise, IsBlank, HasLost, zeros, block_in};
-ghost use Rattle.dg_model.specs.Steps.{LosesSites};
-ghost use Rattle.dg_model.specs.Tables.{Table, IsLowestFree, count_on, put_site, sites_in, used_in, without_site};
-ghost use Rattle.dg_model.specs.declared.sites.Site.{Site};
-ghost use Rattle.dg_io.specs.Told.{StillTold};
-ghost use Rattle.dg_pair.specs.Boundaries.{IsWell, number_of, members_of as boundary_members};
-ghost use Rattle.dg_store.specs.Lengths.{length_of, IsZeroed};
-ghost use Rattle.dg_store.specs.Stores.{rack_of, table_of, shape_of, members_of, state_of, IsSound, StandsFor, Tells, TellsAll, lost_bits};
+ghost use Rattle.dg_model.specs.Sites.{has_site, all_lost, is_gone};
+ghost use Rattle.dg_model.specs.States.{IsLeastLost, has_lost};
+ghost use Rattle.dg_model.specs.Tables.{Table, IsTable, count_on, sites_in, used_in, without_site};
+ghost use Rattle.dg_pair.specs.Boundaries.{IsWell, completed, number_of, members_of as boundary_members, raised, unfilled};
+ghost use Rattle.dg_pair.specs.Calls.{KeepsBeside, copied, replaced};
+ghost use Rattle.dg_store.specs.Answers.{ChangesAt, HasAllSlots, HasFreeSlot, HasNextSlot, IsAllLost, IsBlankStore, IsFull, IsPlaced, IsStored, IsUnchanged, SameWritten, reaped};
+ghost use Rattle.dg_store.specs.Leaves.{BytesChange, CallsAtMost, FaultRose, HasCalled, HasWritten, Leaves, NoFault, OnlyBytesOf, OnlyFaultsOf, Stays};
+ghost use Rattle.dg_store.specs.Rows.{IsRow, members_in};
+ghost use Rattle.dg_store.specs.Slots.{SitesTell};
+ghost use Rattle.dg_store.specs.Stores.{rack_of, table_of, shape_of, members_of, HasBlock, IsSound, KeepsBlocks, PutsBlock, SetsBlock, Tells, lost_bits};
+ghost use Rattle.dg_store.specs.Views.{ReadsOn};
 
 use crate::Shape;
-use crate::boundaries::{blank_row, fail_side, has_lost, lost_bits_of, write_slot};
+use crate::boundaries::{blank_row, fail_side, least_lost_of, lost_bits_of, write_slot};
 use crate::places::{all_lost_at, read_block, read_sites, write_sites};
-use crate::sites::{GivenUp, give_first, take_back};
+use crate::sites::{GivenUp, give_first, give_up_all, take_back};
 use dg_io::{Fetched, NoMemory, Rack};
 use dg_map::{Map, TakeFault};
 use dg_model::MemberState;
-use dg_pair::{Boundary, FailAnswer, PairWrite};
+use dg_pair::{
+    Boundary, CopyAnswer, ExtendAnswer, FailAnswer, NoteAnswer, PairWrite, ReplaceAnswer,
+};
 use std::alloc::Global;
 
 /// A flat array over the members of a rack.
@@ -63,13 +69,7 @@ impl<R: Rack> Store<R> {
     where
         R: Drop,
         requires { IsShape shape }
-        ensures sound { IfOk result (λ store. IsSound R.bytes store) }
-        ensures blank { IfOk result (λ store. IsBlank shape (R.counts rack) (state_of R.counts store (replicate shape.n (zeros shape.l)))) }
-        ensures stands { IfOk result (λ store. StandsFor R.counts R.bytes store (replicate shape.n (zeros shape.l))) }
-        ensures blanked { IfOk result (λ store. (q : ℕ) → members_of store q ≡ MemberState.Good → IsZeroed (length_of shape) (R.bytes (rack_of store) q)) }
-        ensures most { IfOk result (λ store. (R.counts (rack_of store)).calls ≤ (R.counts rack).calls + 2 * shape.b) }
-        ensures tells { IfOk result (λ store. StillTold (R.bytes rack) (R.bytes (rack_of store))) }
-        ensures name { IfOk result (λ store. R.name (rack_of store) ≡ R.name rack) }
+        ensures { IfOk result (λ store. IsBlankStore R.Rack shape rack store) }
     {
         let mut rack = rack;
         let map = Map::new(alloc, shape)?;
@@ -86,12 +86,54 @@ impl<R: Rack> Store<R> {
         })
     }
 
+    /// The array with these sites over these boundaries of the rack. It makes no call on the rack.
+    pub fn opened(
+        alloc: Global,
+        rack: R,
+        shape: Shape,
+        map: Map,
+        boundaries: Vec<Boundary>,
+    ) -> Result<Store<R>, NoMemory>
+    where
+        R: Drop,
+        requires shape { map.shape ≡ shape }
+        requires table { IsTable map }
+        requires row { IsRow R.Rack shape boundaries.items rack }
+        ensures sound { IfOk result (λ store. IsSound R.Rack store) }
+        ensures rack { IfOk result (λ store. rack_of store ≡ rack) }
+        ensures table { IfOk result (λ store. table_of store ≡ map) }
+        ensures members { IfOk result (λ store. (q : ℕ) → members_of store q ≡ members_in boundaries.items q) }
+    {
+        let Ok(block) = vec![in alloc; 0; shape.l as usize] else {
+            return Err(NoMemory);
+        };
+        Ok(Store {
+            rack,
+            map,
+            row: boundaries,
+            block,
+            given_up: Vec::new(alloc),
+        })
+    }
+
     /// Gives the rack back.
     pub fn into_rack(self) -> R
         ensures { result ≡ rack_of self }
     {
         let Store { rack, .. } = self;
         rack
+    }
+
+    /// Gives its rack, its map and its boundaries back. It makes no call on the rack.
+    pub fn into_parts(self) -> (R, Map, Vec<Boundary>)
+        requires { IsSound R.Rack self }
+        ensures rack { result.0 ≡ rack_of self }
+        ensures map { result.1 ≡ table_of self }
+        ensures members { (q : ℕ) → members_in result.2.items q ≡ members_of self q }
+        ensures row { IsRow R.Rack (shape_of self) result.2.items result.0 }
+    {
+        let Store { rack, map, row, .. } = self;
+        (rack, map, row)
     }
 
     /// The numbers of the array.
@@ -110,7 +152,7 @@ impl<R: Rack> Store<R> {
 
     /// A boundary, by its number.
     pub fn boundary(&self, boundary: u8) -> &Boundary
-        requires sound { IsSound R.bytes self.now }
+        requires sound { IsSound R.Rack self.now }
         requires boundary { boundary < (shape_of self.now).b }
         ensures well { IsWell result.now }
         ensures number { number_of result.now ≡ boundary }
@@ -121,23 +163,31 @@ impl<R: Rack> Store<R> {
 
     /// The lost boundaries: bit s for boundary s.
     pub fn lost(&self) -> u16
-        requires { IsSound R.bytes self.now }
+        requires { IsSound R.Rack self.now }
         ensures { result ≡ lost_bits (members_of self.now) (shape_of self.now).b }
     {
         lost_bits_of(&self.row, self.map.shape())
     }
 
+    /// The least lost boundary, where one is lost.
+    pub fn least_lost(&self) -> Option<u8>
+        requires { IsSound R.Rack self.now }
+        ensures { MatchOption result (has_lost (shape_of self.now) (members_of self.now) ≡ false) (IsLeastLost (shape_of self.now) (members_of self.now)) }
+    {
+        least_lost_of(&self.row, self.map.shape())
+    }
+
     /// Whether a boundary is lost.
     pub fn is_degraded(&self) -> bool
-        requires { IsSound R.bytes self.now }
-        ensures { IsTrue result ↔ HasLost (shape_of self.now) (members_of self.now) }
+        requires { IsSound R.Rack self.now }
+        ensures { result ≡ has_lost (shape_of self.now) (members_of self.now) }
     {
-        has_lost(&self.row)
+        self.least_lost().is_some()
     }
 
     /// Whether a block is written: it was, since the array was made.
     pub fn written(&self, block: u32) -> bool
-        requires sound { IsSound R.bytes self.now }
+        requires sound { IsSound R.Rack self.now }
         requires range { block < (shape_of self.now).n }
         ensures { result ≡ has_site (sites_in (table_of self.now) block) }
     {
@@ -146,7 +196,7 @@ impl<R: Rack> Store<R> {
 
     /// Whether a block is gone: it is written, and all its sites are on lost boundaries. It makes no call on the rack.
     pub fn is_gone(&self, block: u32) -> bool
-        requires sound { IsSound R.bytes self.now }
+        requires sound { IsSound R.Rack self.now }
         requires range { block < (shape_of self.now).n }
         ensures { result ≡ is_gone (table_of self.now) (members_of self.now) block }
     {
@@ -157,15 +207,16 @@ impl<R: Rack> Store<R> {
     /// Makes a member fail, given by its boundary and its side, 0 or 1. It is out then, and so is one that was refilled
     /// from it. It makes no call on the rack.
     pub fn fail(&mut self, boundary: u8, side: u8) -> FailAnswer
-        requires sound { IsSound R.bytes self.old }
+        requires sound { IsSound R.Rack self.old }
         requires boundary { boundary < (shape_of self.old).b }
         requires side { side < 2 }
-        ensures sound { IsSound R.bytes self.new }
+        ensures sound { IsSound R.Rack self.new }
+        ensures stays { Stays R.Rack self.old self.new }
         ensures rack { rack_of self.new ≡ rack_of self.old }
         ensures table { table_of self.new ≡ table_of self.old }
         ensures already { (result ≡ FailAnswer.Already) ↔ (members_of self.old (2 * boundary + side) ≡ MemberState.Out) }
         ensures struck { IsStruck (2 * boundary + side) (members_of self.old) (members_of self.new) }
-        ensures stands { (V : List (List ℕ)) → StandsFor R.counts R.bytes self.old V → StandsFor R.counts R.bytes self.new V }
+        ensures stands { KeepsBlocks R.Rack self.old self.new }
     {
         fail_side(&mut self.row, self.map.shape(), boundary, side)
     }
@@ -173,21 +224,19 @@ impl<R: Rack> Store<R> {
     /// Reads a block. One that isn't written reads as zeros. It is gone where it is written and all its sites are on lost
     /// boundaries.
     pub fn read(&mut self, block: u32, buf: &mut [u8]) -> Fetched
-        requires sound { IsSound R.bytes self.old }
+        requires sound { IsSound R.Rack self.old }
         requires range { block < (shape_of self.old).n }
         requires size { length buf.old ≡ (shape_of self.old).l }
-        ensures sound { IsSound R.bytes self.new }
-        ensures table { table_of self.new ≡ table_of self.old }
-        ensures stands { (V : List (List ℕ)) → StandsFor R.counts R.bytes self.old V → StandsFor R.counts R.bytes self.new V }
+        ensures sound { IsSound R.Rack self.new }
+        ensures reads { ReadsOn R.Rack self.old self.new }
+        ensures stands { KeepsBlocks R.Rack self.old self.new }
         ensures gone { (result ≡ Fetched.Gone) ↔ (is_gone (table_of self.new) (members_of self.new) block ≡ true) }
-        ensures got { (V : List (List ℕ)) → StandsFor R.counts R.bytes self.old V → result ≡ Fetched.Got → Tells R.bytes self.new → buf.new ≡ block_in V block }
-        ensures falls { MembersFall (R.counts (rack_of self.old)).faults (R.counts (rack_of self.new)).faults (members_of self.old) (members_of self.new) }
-        ensures counts { CountsRise (R.counts (rack_of self.old)) (R.counts (rack_of self.new)) }
-        ensures called { result ≡ Fetched.Got → has_site (sites_in (table_of self.old) block) ≡ true → Rose (R.counts (rack_of self.old)).calls (R.counts (rack_of self.new)).calls }
-        ensures most { (R.counts (rack_of self.new)).calls ≤ (R.counts (rack_of self.old)).calls + 2 * length (sites_in (table_of self.old) block) }
-        ensures writes { (R.counts (rack_of self.new)).writes ≡ (R.counts (rack_of self.old)).writes }
-        ensures tells { StillTold (R.bytes (rack_of self.old)) (R.bytes (rack_of self.new)) }
-        ensures name { R.name (rack_of self.new) ≡ R.name (rack_of self.old) }
+        ensures got { result ≡ Fetched.Got → Tells R.Rack self.new → HasBlock R.Rack self.old block buf.new }
+        ensures unwritten { has_site (sites_in (table_of self.old) block) ≡ false → rack_of self.new ≡ rack_of self.old }
+        ensures called { result ≡ Fetched.Got → has_site (sites_in (table_of self.old) block) ≡ true
+            → HasCalled R.Rack self.old self.new }
+        ensures most { CallsAtMost R.Rack self.old self.new (2 * length (sites_in (table_of self.old) block)) }
+        ensures once { NoFault R.Rack self.old self.new → CallsAtMost R.Rack self.old self.new 1 }
     {
         let sites = self.map.sites(block);
         if sites.is_empty() {
@@ -199,25 +248,14 @@ impl<R: Rack> Store<R> {
 
     /// Writes a block of L bytes to each member of its sites that serves. A block without sites gets its first one.
     pub fn write(&mut self, block: u32, buf: &[u8]) -> Result<StoreWrite, NoMemory>
-        requires sound { IsSound R.bytes self.old }
+        requires sound { IsSound R.Rack self.old }
         requires range { block < (shape_of self.old).n }
         requires size { length buf.now ≡ (shape_of self.old).l }
-        ensures sound { IsSound R.bytes self.new }
-        ensures shape { shape_of self.new ≡ shape_of self.old }
-        ensures sited { IfOk result (λ answer. answer ≡ StoreWrite.Stored → IsSited (table_of self.old) block (table_of self.new)) }
-        ensures kept { IfOk result (λ answer. answer ≡ StoreWrite.Stored → all_lost (members_of self.new) (sites_in (table_of self.new) block) ≡ false) }
-        ensures value { IfOk result (λ answer. answer ≡ StoreWrite.Stored → (V : List (List ℕ)) → StandsFor R.counts R.bytes self.old V → StandsFor R.counts R.bytes self.new (slice_set V block buf.now)) }
-        ensures most { IfOk result (λ answer. answer ≡ StoreWrite.Stored → (R.counts (rack_of self.new)).calls ≤ (R.counts (rack_of self.old)).calls + 2 * length (sites_in (table_of self.new) block)) }
-        ensures at_most { (R.counts (rack_of self.new)).calls ≤ (R.counts (rack_of self.old)).calls + 2 * length (sites_in (table_of self.old) block) + 2 }
-        ensures lost { IfOk result (λ answer. answer ≡ StoreWrite.AllLost → LosesSites (table_of self.old) block (members_of self.new)) }
-        ensures refused { IfOk result (λ answer. answer ≡ StoreWrite.AllLost → table_of self.new ≡ table_of self.old) }
-        ensures same { IfOk result (λ answer. answer ≡ StoreWrite.AllLost → (V : List (List ℕ)) → StandsFor R.counts R.bytes self.old V → StandsFor R.counts R.bytes self.new V) }
-        ensures err_written { OnErr result ((c : ℕ) → has_site (sites_in (table_of self.new) c) ≡ has_site (sites_in (table_of self.old) c)) }
-        ensures err_same { OnErr result ((V : List (List ℕ)) → StandsFor R.counts R.bytes self.old V → StandsFor R.counts R.bytes self.new V) }
-        ensures falls { MembersFall (R.counts (rack_of self.old)).faults (R.counts (rack_of self.new)).faults (members_of self.old) (members_of self.new) }
-        ensures counts { CountsRise (R.counts (rack_of self.old)) (R.counts (rack_of self.new)) }
-        ensures tells { StillTold (R.bytes (rack_of self.old)) (R.bytes (rack_of self.new)) }
-        ensures name { R.name (rack_of self.new) ≡ R.name (rack_of self.old) }
+        ensures leaves { Leaves R.Rack self.old self.new }
+        ensures stored { IfOk result (λ answer. answer ≡ StoreWrite.Stored → IsStored R.Rack block buf.now self.old self.new) }
+        ensures lost { IfOk result (λ answer. answer ≡ StoreWrite.AllLost → IsAllLost R.Rack block self.old self.new) }
+        ensures err { OnErr result (IsUnchanged R.Rack self.old self.new) }
+        ensures most { CallsAtMost R.Rack self.old self.new (2 * length (sites_in (table_of self.old) block) + 2) }
     {
         if self.map.sites(block).is_empty() {
             self.write_first(block, buf)
@@ -229,26 +267,27 @@ impl<R: Rack> Store<R> {
     /// Copies a written block to the lowest free slot of a boundary on which it has no site. The spare slot is used only
     /// where that is asked for. The site is the last of the block's list then.
     pub fn place(&mut self, block: u32, boundary: u8, spare: bool) -> Result<PlaceAnswer, NoMemory>
-        requires sound { IsSound R.bytes self.old }
+        requires sound { IsSound R.Rack self.old }
         requires range { block < (shape_of self.old).n }
         requires boundary { boundary < (shape_of self.old).b }
         requires written { has_site (sites_in (table_of self.old) block) ≡ true }
         requires none { count_on boundary (sites_in (table_of self.old) block) ≡ 0 }
-        ensures sound { IsSound R.bytes self.new }
-        ensures full { IfOk result (λ answer. (answer ≡ PlaceAnswer.Full) ↔ ((if spare then (shape_of self.old).k + 1 else (shape_of self.old).k) ≤ used_in (table_of self.old) boundary)) }
+        ensures leaves { Leaves R.Rack self.old self.new }
+        ensures written { SameWritten (table_of self.old) (table_of self.new) }
+        ensures full { IfOk result (λ answer. (answer ≡ PlaceAnswer.Full) ↔ IsFull (table_of self.old) boundary spare) }
         ensures quiet { IfOk result (λ answer. answer ≡ PlaceAnswer.Full → self.new ≡ self.old) }
-        ensures gone { IfOk result (λ answer. answer ≢ PlaceAnswer.Full → (answer ≡ PlaceAnswer.Gone) ↔ (is_gone (table_of self.old) (members_of self.new) block ≡ true)) }
-        ensures lost { IfOk result (λ answer. answer ≢ PlaceAnswer.Full → answer ≢ PlaceAnswer.Gone → (answer ≡ PlaceAnswer.Lost boundary) ↔ (is_lost (members_of self.new) boundary ≡ true)) }
+        ensures gone { IfOk result (λ answer. answer ≢ PlaceAnswer.Full
+            → (answer ≡ PlaceAnswer.Gone) ↔ (is_gone (table_of self.old) (members_of self.new) block ≡ true)) }
+        ensures lost { IfOk result (λ answer. answer ≢ PlaceAnswer.Full → answer ≢ PlaceAnswer.Gone
+            → (answer ≡ PlaceAnswer.Lost boundary) ↔ (is_lost (members_of self.new) boundary ≡ true)) }
         ensures other { IfOk result (λ answer. (s : ℕ) → answer ≡ PlaceAnswer.Lost s → s ≡ boundary) }
-        ensures placed { IfOk result (λ answer. answer ≡ PlaceAnswer.Placed → (site : Site) × (site.boundary ≡ boundary) × IsLowestFree (table_of self.old) boundary site.slot × (table_of self.new ≡ put_site (table_of self.old) block site)) }
+        ensures placed { IfOk result (λ answer. answer ≡ PlaceAnswer.Placed → IsPlaced (table_of self.old) block boundary (table_of self.new)) }
         ensures refused { IfOk result (λ answer. answer ≢ PlaceAnswer.Placed → table_of self.new ≡ table_of self.old) }
         ensures err { OnErr result (table_of self.new ≡ table_of self.old) }
-        ensures stands { TellsAll R.bytes self.new → (V : List (List ℕ)) → StandsFor R.counts R.bytes self.old V → StandsFor R.counts R.bytes self.new V }
-        ensures falls { MembersFall (R.counts (rack_of self.old)).faults (R.counts (rack_of self.new)).faults (members_of self.old) (members_of self.new) }
-        ensures counts { CountsRise (R.counts (rack_of self.old)) (R.counts (rack_of self.new)) }
-        ensures most { (R.counts (rack_of self.new)).calls ≤ (R.counts (rack_of self.old)).calls + 2 * length (sites_in (table_of self.old) block) + 2 }
-        ensures tells { StillTold (R.bytes (rack_of self.old)) (R.bytes (rack_of self.new)) }
-        ensures name { R.name (rack_of self.new) ≡ R.name (rack_of self.old) }
+        ensures stands { IfOk result (λ answer. answer ≡ PlaceAnswer.Placed → Tells R.Rack self.new → KeepsBlocks R.Rack self.old self.new) }
+        ensures same { IfOk result (λ answer. answer ≢ PlaceAnswer.Placed → KeepsBlocks R.Rack self.old self.new) }
+        ensures err_same { OnErr result (KeepsBlocks R.Rack self.old self.new) }
+        ensures most { CallsAtMost R.Rack self.old self.new (2 * length (sites_in (table_of self.old) block) + 2) }
     {
         let most = if spare {
             self.map.shape().k + 1
@@ -266,43 +305,183 @@ impl<R: Rack> Store<R> {
 
     /// Gives up a block's site on a boundary. It has another one. It makes no call on the rack.
     pub fn unplace(&mut self, block: u32, boundary: u8)
-        requires sound { IsSound R.bytes self.old }
+        requires sound { IsSound R.Rack self.old }
         requires range { block < (shape_of self.old).n }
         requires one { 0 < count_on boundary (sites_in (table_of self.old) block) }
         requires other { 1 < length (sites_in (table_of self.old) block) }
-        ensures sound { IsSound R.bytes self.new }
+        ensures leaves { Leaves R.Rack self.old self.new }
+        ensures written { SameWritten (table_of self.old) (table_of self.new) }
         ensures rack { rack_of self.new ≡ rack_of self.old }
         ensures members { (q : ℕ) → members_of self.new q ≡ members_of self.old q }
         ensures table { table_of self.new ≡ without_site (table_of self.old) block boundary }
-        ensures stands { (V : List (List ℕ)) → StandsFor R.counts R.bytes self.old V → StandsFor R.counts R.bytes self.new V }
+        ensures stands { KeepsBlocks R.Rack self.old self.new }
     {
         self.map.drop_site(block, boundary);
+    }
+
+    /// Gives up all sites of a block, which isn't written then. It makes no call on the rack.
+    pub fn reap(&mut self, block: u32)
+        requires sound { IsSound R.Rack self.old }
+        requires range { block < (shape_of self.old).n }
+        ensures leaves { Leaves R.Rack self.old self.new }
+        ensures rack { rack_of self.new ≡ rack_of self.old }
+        ensures members { (q : ℕ) → members_of self.new q ≡ members_of self.old q }
+        ensures table { table_of self.new ≡ reaped (table_of self.old) block }
+        ensures zeros { SetsBlock R.Rack self.old block (zeros (shape_of self.old).l) self.new }
+    {
+        give_up_all(&mut self.map, block);
+    }
+
+    /// Makes a member anew, of `size` zero bytes, where it is out and its partner serves. It is refilled from slot 0 on then.
+    pub fn replace(&mut self, boundary: u8, side: u8, size: u64) -> ReplaceAnswer
+        requires sound { IsSound R.Rack self.old }
+        requires boundary { boundary < (shape_of self.old).b }
+        requires side { side < 2 }
+        requires size { length_of 1 (shape_of self.old) ≤ size }
+        ensures sound { IsSound R.Rack self.new }
+        ensures stays { Stays R.Rack self.old self.new }
+        ensures table { table_of self.new ≡ table_of self.old }
+        ensures lost { (result ≡ ReplaceAnswer.Lost) ↔ (is_lost (members_of self.old) boundary ≡ true) }
+        ensures not_out { (result ≡ ReplaceAnswer.NotOut) ↔ (members_of self.old (2 * boundary + side) ≢ MemberState.Out) }
+        ensures failed { result ≡ ReplaceAnswer.Failed → FaultRose R.Rack self.old self.new (2 * boundary + side) }
+        ensures members { (q : ℕ) → members_of self.new q ≡ replaced result (2 * boundary + side) (members_of self.old) q }
+        ensures blank { result ≡ ReplaceAnswer.Replaced → BytesChange R.Rack self.old self.new (2 * boundary + side) (IsZeros size) }
+        ensures other_bytes { OnlyBytesOf R.Rack self.old self.new (2 * boundary + side) }
+        ensures other_faults { OnlyFaultsOf R.Rack self.old self.new (2 * boundary + side) }
+        ensures written { result ≡ ReplaceAnswer.Replaced → HasWritten R.Rack self.old self.new }
+        ensures quiet { (result ≡ ReplaceAnswer.Lost) ⊎ (result ≡ ReplaceAnswer.NotOut) → rack_of self.new ≡ rack_of self.old }
+        ensures most { CallsAtMost R.Rack self.old self.new 1 }
+        ensures stands { KeepsBlocks R.Rack self.old self.new }
+    {
+        self.row[boundary as usize].replace(&mut self.rack, side, size)
+    }
+
+    /// Copies the next slot of a boundary from its good member to the one that is refilled, through the buffer.
+    pub fn copy_slot(&mut self, boundary: u8, buf: &mut [u8]) -> CopyAnswer
+        requires sound { IsSound R.Rack self.old }
+        requires boundary { boundary < (shape_of self.old).b }
+        requires next { HasNextSlot (members_of self.old) boundary ((shape_of self.old).k + 1) }
+        requires size { length buf.old ≡ (shape_of self.old).l }
+        ensures sound { IsSound R.Rack self.new }
+        ensures stays { Stays R.Rack self.old self.new }
+        ensures beside { KeepsBeside (shape_of self.old).l ((shape_of self.old).k + 1) (R.bytes (rack_of self.old)) (R.bytes (rack_of self.new)) }
+        ensures table { table_of self.new ≡ table_of self.old }
+        ensures lost { (result ≡ CopyAnswer.Lost) ↔ (is_lost (members_of self.new) boundary ≡ true) }
+        ensures copied { result ≡ CopyAnswer.Copied → ChangesAt raised boundary (members_of self.old) (members_of self.new) }
+        ensures fell { result ≡ CopyAnswer.Fell → ChangesAt unfilled boundary (members_of self.old) (members_of self.new) }
+        ensures fault { result ≡ CopyAnswer.Fell → (q : ℕ) → q / 2 ≡ boundary → is_filling (members_of self.old q) ≡ true
+            → FaultRose R.Rack self.old self.new q }
+        ensures others { (q : ℕ) → q / 2 ≢ boundary → members_of self.new q ≡ members_of self.old q }
+        ensures falls { result ≢ CopyAnswer.Copied
+            → MembersFall (R.counts (rack_of self.old)).faults (R.counts (rack_of self.new)).faults (members_of self.old) (members_of self.new) }
+        ensures written { result ≡ CopyAnswer.Copied → HasWritten R.Rack self.old self.new }
+        ensures most { CallsAtMost R.Rack self.old self.new 2 }
+        ensures stands { result ≡ CopyAnswer.Copied → Tells R.Rack self.new → KeepsBlocks R.Rack self.old self.new }
+        ensures same { result ≢ CopyAnswer.Copied → KeepsBlocks R.Rack self.old self.new }
+    {
+        self.row[boundary as usize].copy_slot(&mut self.rack, buf)
+    }
+
+    /// Passes the next slot of a boundary, in which no block stands, without a copy. It makes no call on the rack.
+    pub fn pass_slot(&mut self, boundary: u8)
+        requires sound { IsSound R.Rack self.old }
+        requires boundary { boundary < (shape_of self.old).b }
+        requires next { HasFreeSlot (table_of self.old) (members_of self.old) boundary ((shape_of self.old).k + 1) }
+        ensures sound { IsSound R.Rack self.new }
+        ensures stays { Stays R.Rack self.old self.new }
+        ensures rack { rack_of self.new ≡ rack_of self.old }
+        ensures table { table_of self.new ≡ table_of self.old }
+        ensures raised { ChangesAt raised boundary (members_of self.old) (members_of self.new) }
+        ensures stands { KeepsBlocks R.Rack self.old self.new }
+    {
+        self.row[boundary as usize].pass_slot();
+    }
+
+    /// The member of a boundary that was refilled serves, once each slot was copied or passed. It makes no call on the rack.
+    pub fn complete(&mut self, boundary: u8)
+        requires sound { IsSound R.Rack self.old }
+        requires boundary { boundary < (shape_of self.old).b }
+        requires all { HasAllSlots (members_of self.old) boundary ((shape_of self.old).k + 1) }
+        ensures sound { IsSound R.Rack self.new }
+        ensures stays { Stays R.Rack self.old self.new }
+        ensures rack { rack_of self.new ≡ rack_of self.old }
+        ensures table { table_of self.new ≡ table_of self.old }
+        ensures completed { ChangesAt completed boundary (members_of self.old) (members_of self.new) }
+        ensures stands { KeepsBlocks R.Rack self.old self.new }
+    {
+        self.row[boundary as usize].complete();
+    }
+
+    /// Writes beside the slots of a member, given by its boundary and its side, where it is good: in the 512 bytes before
+    /// the slots, or behind them.
+    pub fn note(&mut self, boundary: u8, side: u8, place: u64, buf: &[u8]) -> NoteAnswer
+        requires sound { IsSound R.Rack self.old }
+        requires boundary { boundary < (shape_of self.old).b }
+        requires side { side < 2 }
+        requires beside { (place + length buf.now ≤ 512) ⊎ (body_place (shape_of self.old) ≤ place) }
+        requires fits { members_of self.old (2 * boundary + side) ≡ MemberState.Good
+            → IfSome (R.bytes (rack_of self.old) (2 * boundary + side)) (λ all. place + length buf.now ≤ length all) }
+        ensures sound { IsSound R.Rack self.new }
+        ensures stays { Stays R.Rack self.old self.new }
+        ensures table { table_of self.new ≡ table_of self.old }
+        ensures not_good { (result ≡ NoteAnswer.NotGood) ↔ (members_of self.old (2 * boundary + side) ≢ MemberState.Good) }
+        ensures kept { result ≢ NoteAnswer.Fell → (q : ℕ) → members_of self.new q ≡ members_of self.old q }
+        ensures fell { result ≡ NoteAnswer.Fell → IsStruck (2 * boundary + side) (members_of self.old) (members_of self.new) }
+        ensures fault { result ≡ NoteAnswer.Fell → FaultRose R.Rack self.old self.new (2 * boundary + side) }
+        ensures falls { MembersFall (R.counts (rack_of self.old)).faults (R.counts (rack_of self.new)).faults (members_of self.old) (members_of self.new) }
+        ensures patched { result ≡ NoteAnswer.Noted → BytesChange R.Rack self.old self.new (2 * boundary + side) (Patched place buf.now) }
+        ensures torn { result ≡ NoteAnswer.Fell → BytesChange R.Rack self.old self.new (2 * boundary + side) (Torn place (length buf.now)) }
+        ensures other_bytes { OnlyBytesOf R.Rack self.old self.new (2 * boundary + side) }
+        ensures other_faults { OnlyFaultsOf R.Rack self.old self.new (2 * boundary + side) }
+        ensures written { result ≡ NoteAnswer.Noted → HasWritten R.Rack self.old self.new }
+        ensures quiet { result ≡ NoteAnswer.NotGood → rack_of self.new ≡ rack_of self.old }
+        ensures most { CallsAtMost R.Rack self.old self.new 1 }
+        ensures stands { KeepsBlocks R.Rack self.old self.new }
+    {
+        self.row[boundary as usize].note(&mut self.rack, side, place, buf)
+    }
+
+    /// Makes a member so many bytes long, given by its boundary and its side, where it is good, with zeros at its end. It
+    /// isn't longer before.
+    pub fn extend(&mut self, boundary: u8, side: u8, size: u64) -> ExtendAnswer
+        requires sound { IsSound R.Rack self.old }
+        requires boundary { boundary < (shape_of self.old).b }
+        requires side { side < 2 }
+        requires longer { members_of self.old (2 * boundary + side) ≡ MemberState.Good
+            → IfSome (R.bytes (rack_of self.old) (2 * boundary + side)) (FitsIn size) }
+        ensures sound { IsSound R.Rack self.new }
+        ensures stays { Stays R.Rack self.old self.new }
+        ensures table { table_of self.new ≡ table_of self.old }
+        ensures not_good { (result ≡ ExtendAnswer.NotGood) ↔ (members_of self.old (2 * boundary + side) ≢ MemberState.Good) }
+        ensures kept { result ≢ ExtendAnswer.Fell → (q : ℕ) → members_of self.new q ≡ members_of self.old q }
+        ensures fell { result ≡ ExtendAnswer.Fell → IsStruck (2 * boundary + side) (members_of self.old) (members_of self.new) }
+        ensures fault { result ≡ ExtendAnswer.Fell → FaultRose R.Rack self.old self.new (2 * boundary + side) }
+        ensures falls { MembersFall (R.counts (rack_of self.old)).faults (R.counts (rack_of self.new)).faults (members_of self.old) (members_of self.new) }
+        ensures extended { result ≡ ExtendAnswer.Extended → BytesChange R.Rack self.old self.new (2 * boundary + side) (Extended size) }
+        ensures front { result ≡ ExtendAnswer.Fell → BytesChange R.Rack self.old self.new (2 * boundary + side) KeepsFront }
+        ensures other_bytes { OnlyBytesOf R.Rack self.old self.new (2 * boundary + side) }
+        ensures other_faults { OnlyFaultsOf R.Rack self.old self.new (2 * boundary + side) }
+        ensures written { result ≡ ExtendAnswer.Extended → HasWritten R.Rack self.old self.new }
+        ensures quiet { result ≡ ExtendAnswer.NotGood → rack_of self.new ≡ rack_of self.old }
+        ensures most { CallsAtMost R.Rack self.old self.new 1 }
+        ensures stands { KeepsBlocks R.Rack self.old self.new }
+    {
+        self.row[boundary as usize].extend(&mut self.rack, side, size)
     }
 
     /// Writes a block that has no site to its first one.
     fn write_first(&mut self, block: u32, buf: &[u8]) -> Result<StoreWrite, NoMemory>
         ghost before: { Table }
         requires before { before ≡ table_of self.old }
-        requires sound { IsSound R.bytes self.old }
+        requires sound { IsSound R.Rack self.old }
         requires range { block < (shape_of self.old).n }
         requires size { length buf.now ≡ (shape_of self.old).l }
         requires blank { has_site (sites_in (table_of self.old) block) ≡ false }
-        ensures sound { IsSound R.bytes self.new }
-        ensures shape { shape_of self.new ≡ shape_of self.old }
-        ensures sited { IfOk result (λ answer. answer ≡ StoreWrite.Stored → IsSited (table_of self.old) block (table_of self.new)) }
-        ensures kept { IfOk result (λ answer. answer ≡ StoreWrite.Stored → all_lost (members_of self.new) (sites_in (table_of self.new) block) ≡ false) }
-        ensures value { IfOk result (λ answer. answer ≡ StoreWrite.Stored → (V : List (List ℕ)) → StandsFor R.counts R.bytes self.old V → StandsFor R.counts R.bytes self.new (slice_set V block buf.now)) }
-        ensures most { IfOk result (λ answer. answer ≡ StoreWrite.Stored → (R.counts (rack_of self.new)).calls ≤ (R.counts (rack_of self.old)).calls + 2 * length (sites_in (table_of self.new) block)) }
-        ensures at_most { (R.counts (rack_of self.new)).calls ≤ (R.counts (rack_of self.old)).calls + 2 * length (sites_in (table_of self.old) block) + 2 }
-        ensures lost { IfOk result (λ answer. answer ≡ StoreWrite.AllLost → LosesSites (table_of self.old) block (members_of self.new)) }
-        ensures refused { IfOk result (λ answer. answer ≡ StoreWrite.AllLost → table_of self.new ≡ table_of self.old) }
-        ensures same { IfOk result (λ answer. answer ≡ StoreWrite.AllLost → (V : List (List ℕ)) → StandsFor R.counts R.bytes self.old V → StandsFor R.counts R.bytes self.new V) }
-        ensures err_written { OnErr result ((c : ℕ) → has_site (sites_in (table_of self.new) c) ≡ has_site (sites_in (table_of self.old) c)) }
-        ensures err_same { OnErr result ((V : List (List ℕ)) → StandsFor R.counts R.bytes self.old V → StandsFor R.counts R.bytes self.new V) }
-        ensures falls { MembersFall (R.counts (rack_of self.old)).faults (R.counts (rack_of self.new)).faults (members_of self.old) (members_of self.new) }
-        ensures counts { CountsRise (R.counts (rack_of self.old)) (R.counts (rack_of self.new)) }
-        ensures tells { StillTold (R.bytes (rack_of self.old)) (R.bytes (rack_of self.new)) }
-        ensures name { R.name (rack_of self.new) ≡ R.name (rack_of self.old) }
+        ensures leaves { Leaves R.Rack self.old self.new }
+        ensures stored { IfOk result (λ answer. answer ≡ StoreWrite.Stored → IsStored R.Rack block buf.now self.old self.new) }
+        ensures lost { IfOk result (λ answer. answer ≡ StoreWrite.AllLost → IsAllLost R.Rack block self.old self.new) }
+        ensures err { OnErr result (IsUnchanged R.Rack self.old self.new) }
+        ensures most { CallsAtMost R.Rack self.old self.new 2 }
     {
         let Ok(site) = give_first(&mut self.map, block, &mut self.given_up) else {
             self.given_up.clear();
@@ -325,22 +504,18 @@ impl<R: Rack> Store<R> {
         }
     }
 
-    /// Writes a block to the sites that it has.
+    /// Writes a block at its sites.
     fn write_again(&mut self, block: u32, buf: &[u8]) -> StoreWrite
-        requires sound { IsSound R.bytes self.old }
+        requires sound { IsSound R.Rack self.old }
         requires range { block < (shape_of self.old).n }
         requires size { length buf.now ≡ (shape_of self.old).l }
         requires written { has_site (sites_in (table_of self.old) block) ≡ true }
-        ensures sound { IsSound R.bytes self.new }
+        ensures leaves { Leaves R.Rack self.old self.new }
         ensures table { table_of self.new ≡ table_of self.old }
         ensures lost { (result ≡ StoreWrite.AllLost) ↔ (all_lost (members_of self.new) (sites_in (table_of self.old) block) ≡ true) }
-        ensures value { result ≡ StoreWrite.Stored → (V : List (List ℕ)) → StandsFor R.counts R.bytes self.old V → StandsFor R.counts R.bytes self.new (slice_set V block buf.now) }
-        ensures same { result ≡ StoreWrite.AllLost → (V : List (List ℕ)) → StandsFor R.counts R.bytes self.old V → StandsFor R.counts R.bytes self.new V }
-        ensures falls { MembersFall (R.counts (rack_of self.old)).faults (R.counts (rack_of self.new)).faults (members_of self.old) (members_of self.new) }
-        ensures counts { CountsRise (R.counts (rack_of self.old)) (R.counts (rack_of self.new)) }
-        ensures most { (R.counts (rack_of self.new)).calls ≤ (R.counts (rack_of self.old)).calls + 2 * length (sites_in (table_of self.old) block) }
-        ensures tells { StillTold (R.bytes (rack_of self.old)) (R.bytes (rack_of self.new)) }
-        ensures name { R.name (rack_of self.new) ≡ R.name (rack_of self.old) }
+        ensures value { result ≡ StoreWrite.Stored → SetsBlock R.Rack self.old block buf.now self.new }
+        ensures same { result ≡ StoreWrite.AllLost → KeepsBlocks R.Rack self.old self.new }
+        ensures most { CallsAtMost R.Rack self.old self.new (2 * length (sites_in (table_of self.old) block)) }
     {
         let shape = self.map.shape();
         let sites = self.map.sites(block);
@@ -354,18 +529,15 @@ impl<R: Rack> Store<R> {
 
     /// Reads a block that is copied.
     fn copy_out(&mut self, block: u32) -> Fetched
-        requires sound { IsSound R.bytes self.old }
+        requires sound { IsSound R.Rack self.old }
         requires range { block < (shape_of self.old).n }
-        ensures sound { IsSound R.bytes self.new }
+        ensures leaves { Leaves R.Rack self.old self.new }
         ensures table { table_of self.new ≡ table_of self.old }
         ensures gone { (result ≡ Fetched.Gone) ↔ (all_lost (members_of self.new) (sites_in (table_of self.old) block) ≡ true) }
-        ensures got { (V : List (List ℕ)) → StandsFor R.counts R.bytes self.old V → result ≡ Fetched.Got → Tells R.bytes self.new → self.new.block.items ≡ block_in V block }
-        ensures stands { (V : List (List ℕ)) → StandsFor R.counts R.bytes self.old V → StandsFor R.counts R.bytes self.new V }
-        ensures falls { MembersFall (R.counts (rack_of self.old)).faults (R.counts (rack_of self.new)).faults (members_of self.old) (members_of self.new) }
-        ensures counts { CountsRise (R.counts (rack_of self.old)) (R.counts (rack_of self.new)) }
-        ensures most { (R.counts (rack_of self.new)).calls ≤ (R.counts (rack_of self.old)).calls + 2 * length (sites_in (table_of self.old) block) }
-        ensures tells { StillTold (R.bytes (rack_of self.old)) (R.bytes (rack_of self.new)) }
-        ensures name { R.name (rack_of self.new) ≡ R.name (rack_of self.old) }
+        ensures got { result ≡ Fetched.Got → SitesTell (members_of self.new) (R.bytes (rack_of self.new)) (sites_in (table_of self.old) block)
+            → HasBlock R.Rack self.old block self.new.block.items }
+        ensures stands { KeepsBlocks R.Rack self.old self.new }
+        ensures most { CallsAtMost R.Rack self.old self.new (2 * length (sites_in (table_of self.old) block)) }
     {
         let shape = self.map.shape();
         let sites = self.map.sites(block);
@@ -374,26 +546,26 @@ impl<R: Rack> Store<R> {
 
     /// Gives a block one more site, and writes the bytes that were read there.
     fn copy_in(&mut self, block: u32, boundary: u8) -> Result<PlaceAnswer, NoMemory>
-        requires sound { IsSound R.bytes self.old }
+        requires sound { IsSound R.Rack self.old }
         requires range { block < (shape_of self.old).n }
         requires boundary { boundary < (shape_of self.old).b }
         requires none { count_on boundary (sites_in (table_of self.old) block) ≡ 0 }
-        ensures sound { IsSound R.bytes self.new }
-        ensures shape { shape_of self.new ≡ shape_of self.old }
+        ensures leaves { Leaves R.Rack self.old self.new }
         ensures full { IfOk result (λ answer. (answer ≡ PlaceAnswer.Full) ↔ ((shape_of self.old).k + 1 ≤ used_in (table_of self.old) boundary)) }
         ensures there { IfOk result (λ answer. answer ≢ PlaceAnswer.Gone) }
-        ensures live { all_lost (members_of self.new) (sites_in (table_of self.old) block) ≡ all_lost (members_of self.old) (sites_in (table_of self.old) block) }
-        ensures lost { IfOk result (λ answer. answer ≢ PlaceAnswer.Full → (answer ≡ PlaceAnswer.Lost boundary) ↔ (is_lost (members_of self.new) boundary ≡ true)) }
+        ensures members { (q : ℕ) → q / 2 ≢ boundary → members_of self.new q ≡ members_of self.old q }
+        ensures live { all_lost (members_of self.new) (sites_in (table_of self.old) block)
+            ≡ all_lost (members_of self.old) (sites_in (table_of self.old) block) }
+        ensures lost { IfOk result (λ answer. answer ≢ PlaceAnswer.Full
+            → (answer ≡ PlaceAnswer.Lost boundary) ↔ (is_lost (members_of self.new) boundary ≡ true)) }
         ensures other { IfOk result (λ answer. (s : ℕ) → answer ≡ PlaceAnswer.Lost s → s ≡ boundary) }
-        ensures placed { IfOk result (λ answer. answer ≡ PlaceAnswer.Placed → (site : Site) × (site.boundary ≡ boundary) × IsLowestFree (table_of self.old) boundary site.slot × (table_of self.new ≡ put_site (table_of self.old) block site)) }
+        ensures placed { IfOk result (λ answer. answer ≡ PlaceAnswer.Placed → IsPlaced (table_of self.old) block boundary (table_of self.new)) }
         ensures refused { IfOk result (λ answer. answer ≢ PlaceAnswer.Placed → table_of self.new ≡ table_of self.old) }
         ensures err { OnErr result (table_of self.new ≡ table_of self.old) }
-        ensures stands { (V : List (List ℕ)) → StandsFor R.counts R.bytes self.old V → self.old.block.items ≡ block_in V block → StandsFor R.counts R.bytes self.new V }
-        ensures falls { MembersFall (R.counts (rack_of self.old)).faults (R.counts (rack_of self.new)).faults (members_of self.old) (members_of self.new) }
-        ensures counts { CountsRise (R.counts (rack_of self.old)) (R.counts (rack_of self.new)) }
-        ensures most { (R.counts (rack_of self.new)).calls ≤ (R.counts (rack_of self.old)).calls + 2 }
-        ensures tells { StillTold (R.bytes (rack_of self.old)) (R.bytes (rack_of self.new)) }
-        ensures name { R.name (rack_of self.new) ≡ R.name (rack_of self.old) }
+        ensures stands { IfOk result (λ answer. answer ≡ PlaceAnswer.Placed → PutsBlock R.Rack self.old block self.new) }
+        ensures same { IfOk result (λ answer. answer ≢ PlaceAnswer.Placed → KeepsBlocks R.Rack self.old self.new) }
+        ensures err_same { OnErr result (KeepsBlocks R.Rack self.old self.new) }
+        ensures most { CallsAtMost R.Rack self.old self.new 2 }
     {
         let site = match self.map.take_spare(block, boundary) {
             Ok(site) => site,

@@ -31,10 +31,10 @@ enum Step {
 
 // The byte that the block is filled with, where it isn't gone.
 fn filler<R: Rack>(store: &mut Store<R>, block: u32) -> Option<u8>
-    requires sound { IsSound R.bytes store.old }
+    requires sound { IsSound R.Rack store.old }
     requires range { block < (shape_of store.old).n }
     requires size { (shape_of store.old).l ≡ 512 }
-    ensures sound { IsSound R.bytes store.new }
+    ensures sound { IsSound R.Rack store.new }
     ensures shape { shape_of store.new ≡ shape_of store.old }
 {
     let mut buf = [0xee; 512];
@@ -59,11 +59,11 @@ fn sites_on(map: &Map, block: u32, boundary: u8) -> usize
 
 // A write or a read, on an array of this shape.
 fn act<R: Rack>(rt: &impl Abort, store: &mut Store<R>, step: Step)
-    requires sound { IsSound R.bytes store.old }
+    requires sound { IsSound R.Rack store.old }
     requires blocks { (shape_of store.old).n ≡ 4 }
     requires boundaries { (shape_of store.old).b ≡ 2 }
     requires size { (shape_of store.old).l ≡ 512 }
-    ensures sound { IsSound R.bytes store.new }
+    ensures sound { IsSound R.Rack store.new }
     ensures shape { shape_of store.new ≡ shape_of store.old }
 {
     match step {
@@ -107,10 +107,10 @@ fn place<R: Rack>(
     spare: bool,
     want: PlaceAnswer,
 )
-    requires sound { IsSound R.bytes store.old }
+    requires sound { IsSound R.Rack store.old }
     requires blocks { (shape_of store.old).n ≡ 4 }
     requires boundaries { (shape_of store.old).b ≡ 2 }
-    ensures sound { IsSound R.bytes store.new }
+    ensures sound { IsSound R.Rack store.new }
     ensures shape { shape_of store.new ≡ shape_of store.old }
 {
     let (block, boundary) = to;
@@ -123,15 +123,29 @@ fn place<R: Rack>(
 
 // A site of a block that has another one.
 fn unplace<R: Rack>(rt: &impl Abort, store: &mut Store<R>, block: u32, boundary: u8)
-    requires sound { IsSound R.bytes store.old }
+    requires sound { IsSound R.Rack store.old }
     requires blocks { (shape_of store.old).n ≡ 4 }
-    ensures sound { IsSound R.bytes store.new }
+    ensures sound { IsSound R.Rack store.new }
     ensures shape { shape_of store.new ≡ shape_of store.old }
 {
     assert!(rt; block < 4);
     assert!(rt; sites_on(store.map(), block, boundary) > 0);
     assert!(rt; store.map().sites(block).len() > 1);
     store.unplace(block, boundary);
+}
+
+// All the steps.
+fn act_all<R: Rack>(rt: &impl Abort, store: &mut Store<R>, steps: &[Step])
+    requires sound { IsSound R.Rack store.old }
+    requires blocks { (shape_of store.old).n ≡ 4 }
+    requires boundaries { (shape_of store.old).b ≡ 2 }
+    requires size { (shape_of store.old).l ≡ 512 }
+    ensures sound { IsSound R.Rack store.new }
+    ensures shape { shape_of store.new ≡ shape_of store.old }
+{
+    for step in steps {
+        act(rt, store, *step);
+    }
 }
 
 // Plays the steps, and answers whether a boundary is lost at the end.
@@ -141,9 +155,7 @@ fn play(rt: &impl Abort, alloc: Global, fails: &[u64], steps: &[Step]) -> Result
         .ok()
         .ok_or("rack")?;
     let mut store = Store::new(alloc, rack, shape).ok().ok_or("store")?;
-    for step in steps {
-        act(rt, &mut store, *step);
-    }
+    act_all(rt, &mut store, steps);
     let degraded = store.is_degraded();
     assert_eq!(rt; *store.shape(), shape);
     assert_eq!(rt; store.boundary(1).is_lost(), store.lost() >= 2);
@@ -348,7 +360,7 @@ fn a_member_has_room_for_its_slots_and_the_saved_state(rt: HostRuntime) -> Resul
     let shape = Shape::check(1024, 64, 4, 32, 2).ok_or("shape")?;
     assert_eq!(rt;
         member_length(&shape),
-        512 + 33 * 1024 + 8 + 2 * 4 + 7 * 64 + 5 * 4 * 33
+        512 + 33 * 1024 + 77 + 2 * 4 + 12 * 64 + 5 * 4 * 33
     );
     Ok(())
 }

@@ -1,18 +1,21 @@
 use Rattle.std.proofs.Common.{◌≡◌, ◌+◌, ◌++◌, [], ◌∷◌, List, ℕ, length, sym, ◌∙◌, ap, subst, arith, length-append}
 use Rattle.std.proofs.lemmas.Grind.{common_steps}
 use Rattle.dg_io.specs.Told.{Told, IsZeros}
+use Rattle.dg_model.specs.Saves.{member_length}
 use Rattle.dg_model.specs.declared.members.MemberState.TheVariants.{Good}
 use Rattle.dg_pair.specs.declared.boundaries.Boundary.{Boundary}
-use Rattle.dg_pair.specs.Boundaries.{MembersFit, members_of}
-use Rattle.dg_store.specs.Lengths.{length_of}
-use Rattle.dg_store.specs.Rows.{members_in, RowStands, RowBegins, AreZeroed}
-use Rattle.dg_store.proofs.Changed.{fits_changed, zeroed_changed}
-use Rattle.dg_store.proofs.Rows.{push_changed, push_stands, push_begins}
+use Rattle.dg_pair.specs.Boundaries.{MembersStand, members_of}
+use Rattle.dg_store.specs.Answers.{AreBlank, AreZeroed}
+use Rattle.dg_store.specs.ReadLaws.{rack_both}
+use Rattle.dg_store.specs.Rows.{RowStands, members_in}
+use Rattle.dg_store.proofs.Changed.{blank_long, stand_changed, zeroed_changed}
+use Rattle.dg_store.proofs.Rows.{begun_is, push_changed, push_stands, push_begins}
 use Rattle.dg_store.proofs.boundaries.blank_row.Goals as goal
 
 pub loop-number-preserved : goal.loop-number-preserved
 loop-number-preserved g c =
     let made = c.new-boundary.ensures in
+    let leaves = made.leaves in
     let inv = c.loop-number.invariant in
     let shape = c.args.shape.now in
     let slots = shape.k + 1 in
@@ -23,25 +26,28 @@ loop-number-preserved g c =
     let now = g.R.Rack.bytes c.new-boundary.new.rack in
     let pushed : c.push.new.self.items ≡ longer = grind (arith, common_steps) in
     let changed = push_changed c.loop-number.row.items c.loop-number.number y inv.count in
-    let stands = push_stands shape.l slots c.loop-number.number c.loop-number.row.items y inv.count inv.stands
-    (record { well = made.well; number = made.number; size = made.size; slots_is = made.slots; own = made.own }) in
-    let begins = push_begins c.loop-number.number _ _ _ _ f _ h changed inv.begins made.members inv.rise.faults made.counts.faults in
-    let room = fits_changed c.loop-number.number _ _ _ _ changed shape.l slots _ now made.other_bytes inv.room made.room in
-    let size = length_of shape in
+    let stands = push_stands shape.l slots c.loop-number.number c.loop-number.row.items y inv.count inv.stands leaves.pair in
+    let begins = push_begins c.loop-number.number _ _ _ _ f _ h changed inv.begins (begun_is c.loop-number.number _ _ (members_of y) leaves.falls) inv.stays.rise.faults leaves.rise.faults in
+    let stand = stand_changed c.loop-number.number _ _ _ _ changed _ _ leaves.others_stand inv.stand leaves.stand in
+    let size = member_length 2 shape in
     let blank = subst (λ (n : ℕ). (q : ℕ) → members_of y q ≡ Good → Told (IsZeros n) (g.R.Rack.bytes c.loop-number.rack q) (now q)) c.member_length-size.ensures made.blank in
-    let zeros = zeroed_changed c.loop-number.number _ _ _ _ changed size _ now made.other_bytes inv.zeros blank in
+    let zeros = zeroed_changed c.loop-number.number _ _ _ _ changed size _ now leaves.other_bytes inv.zeros blank in
     record {
       count = omega (arith, ap length pushed, length-append c.loop-number.row.items (y ∷ []), inv.count);
       stands = subst (λ (row : List Boundary). RowStands shape.l slots row) (sym pushed) stands;
-      begins = subst (λ (row : List Boundary). RowBegins (c.loop-number.number + 1) f h (members_in row)) (sym pushed) begins;
-      room = subst (λ (row : List Boundary). MembersFit shape.l slots (members_in row) now) (sym pushed) room;
+      begins = subst (λ (row : List Boundary). AreBlank (c.loop-number.number + 1) f h (members_in row)) (sym pushed) begins;
+      stand = subst (λ (row : List Boundary). MembersStand (members_in row) (g.R.Rack.stands c.new-boundary.new.rack)) (sym pushed) stand;
       zeros = subst (λ (row : List Boundary). AreZeroed size (members_in row) now) (sym pushed) zeros;
-      rise = record {
-        faults = λ q. let early = inv.rise.faults q in let late = made.counts.faults q in omega arith;
-        calls = omega (arith, inv.rise.calls, made.counts.calls);
-        writes = omega (arith, inv.rise.writes, made.counts.writes);
-      };
+      stays = rack_both g.R.Rack _ _ _ inv.stays (record { rise = leaves.rise; tells = leaves.tells; same_rack = leaves.same_rack; steady_on = leaves.steady_on });
       most = omega (arith, inv.most, made.most);
-      tells = λ q told. inv.tells q (made.tells q told);
-      name = made.name ∙ inv.name;
+    }
+
+pub returns-clause-row : goal.returns-clause-row
+returns-clause-row g c =
+    let inv = c.loop-number.invariant in
+    record {
+      count = let end = c.loop-number.auto.number-end in let past = c.loop-number-test.false in omega (arith, inv.count);
+      stands = inv.stands;
+      long = blank_long c.args.shape.now _ _ _ _ _ inv.begins inv.zeros;
+      stand = inv.stand;
     }

@@ -8,4 +8,4 @@ pub returns : goal.returns
 returns c =
     let x = c.index.result.now in
     let was = there _ _ x c.requires.within c.index.ensures in
-    c.is_lost.ensures ∙ ap (λ (n : ℕ). is_lost (members_of x) n) (c.requires.stands _ _ was).number ∙ sym (lost_at c.args.row.now.items c.args.boundary x was)
+    c.is_lost.ensures ∙ ap (λ (n : ℕ). is_lost (members_of x) n) (c.requires.stands _ _ was).number_is ∙ sym (lost_at c.args.row.now.items c.args.boundary x was)

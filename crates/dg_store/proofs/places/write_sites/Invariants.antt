@@ -1,22 +1,13 @@
-use Rattle.std.proofs.Common.{◌≡◌, ◌+◌, ◌*◌, ◌≤◌, length, take}
-use Rattle.dg_model.specs.Members.{MembersFall}
-use Rattle.dg_model.specs.States.{CountsRise}
-use Rattle.dg_io.specs.Told.{StillTold}
-use Rattle.dg_pair.specs.Boundaries.{MembersFit}
-use Rattle.dg_store.specs.Rows.{members_in, RowStands, KeepsSlotsBut, SitesHold, LostAreOut}
+use Rattle.std.proofs.Common.{◌+◌, ◌*◌, ◌≤◌, take}
+use Rattle.dg_store.specs.Rows.{members_in}
+use Rattle.dg_store.specs.Slots.{KeepsSlotsBut, LostAreOut, RowKeeps, SitesHold}
 use Rattle.dg_store.proofs.places.write_sites.Given as goal
 
 abbrev pub invariant-loop-site : goal.invariant-loop-site
 invariant-loop-site g l = record {
-  count : length l.row.items ≡ length l.fn.row.items;
-  stands : RowStands l.shape.l (l.shape.k + 1) l.row.items;
-  room : MembersFit l.shape.l (l.shape.k + 1) (members_in l.row.items) (g.R.Rack.bytes l.rack);
+  keeps : RowKeeps g.R.Rack l.shape l.fn.row.items l.fn.rack l.row.items l.rack;
   put : SitesHold l.shape.l (members_in l.row.items) (g.R.Rack.bytes l.rack) l.buf (take l.site-index l.sites);
   out : LostAreOut (members_in l.row.items) (take l.site-index l.sites);
   kept : KeepsSlotsBut l.shape.l l.sites (members_in l.fn.row.items) (g.R.Rack.bytes l.fn.rack) (members_in l.row.items) (g.R.Rack.bytes l.rack);
-  falls : MembersFall (g.R.Rack.counts l.fn.rack).faults (g.R.Rack.counts l.rack).faults (members_in l.fn.row.items) (members_in l.row.items);
-  counts : CountsRise (g.R.Rack.counts l.fn.rack) (g.R.Rack.counts l.rack);
   most : (g.R.Rack.counts l.rack).calls ≤ (g.R.Rack.counts l.fn.rack).calls + 2 * l.site-index;
-  tells : StillTold (g.R.Rack.bytes l.fn.rack) (g.R.Rack.bytes l.rack);
-  name : g.R.Rack.name l.rack ≡ g.R.Rack.name l.fn.rack;
 }

@@ -1,10 +1,19 @@
 use Rattle.std.proofs.Common.{arith}
-use Rattle.dg_pair.specs.Boundaries.{size_of}
-use Rattle.dg_pair.proofs.BoundaryLemmas.{lost_is, off_good, holds_moves, read_moves, goods_are, same_goods}
+use Rattle.dg_pair.specs.Boundaries.{members_of, size_of, slots_of}
+use Rattle.dg_pair.proofs.BesideLemmas.{beside_same}
+use Rattle.dg_pair.proofs.BoundaryLemmas.{lost_is, holds_moves, read_moves, goods_are, same_goods}
+use Rattle.dg_pair.proofs.CaseLemmas.{leaves_from}
 use Rattle.dg_pair.proofs.boundaries.Boundary.read.Goals as goal
 
+pub returns-clause-leaves : goal.returns-clause-leaves
+returns-clause-leaves g c = rw (← c.replace.ensures.value) (
+    leaves_from g.R.Rack (members_of c.replace.result) c.replace.result c.read_any-next.result.0 _ _ (rw c.replace.ensures.value c.requires.well) c.read_any-next.ensures.leaves c.read_any-next.ensures.falls c.read_any-next.ensures.room)
+
+pub returns-clause-beside : goal.returns-clause-beside
+returns-clause-beside g c = rw (← c.replace.ensures.value) (λ q. beside_same (size_of c.replace.result) (slots_of c.replace.result) _ _ (c.read_any-next.ensures.same q))
+
 pub returns-clause-lost : goal.returns-clause-lost
-returns-clause-lost g c = rw (← c.replace.ensures.value) (lost_is _ c.read_any-next.result.0 c.replace.result c.read_any-next.ensures.well c.read_any-next.ensures.number c.read_any-next.ensures.lost)
+returns-clause-lost g c = rw (← c.replace.ensures.value) (lost_is _ c.read_any-next.result.0 c.replace.result c.read_any-next.ensures.leaves.well c.read_any-next.ensures.leaves.number c.read_any-next.ensures.lost)
 
 pub returns-clause-got : goal.returns-clause-got
 returns-clause-got g c = rw (← c.replace.ensures.value) (λ got v holds told.
@@ -14,10 +23,6 @@ pub returns-clause-kept : goal.returns-clause-kept
 returns-clause-kept g c = rw (← c.replace.ensures.value) (λ x v.
     holds_moves c.replace.result c.read_any-next.result.0 (size_of c.replace.result) x v _ _ (rw c.replace.ensures.value c.requires.well) (c.read_any-next.ensures.kept x v))
 
-pub returns-clause-other_faults : goal.returns-clause-other_faults
-returns-clause-other_faults g c = rw (← c.replace.ensures.value) (λ q other.
-    c.read_any-next.ensures.uncalled q (off_good c.replace.result (rw c.replace.ensures.value c.requires.well) q other))
-
 pub returns-clause-most : goal.returns-clause-most
 returns-clause-most g c = rw (← c.replace.ensures.value) (
     let goods = goods_are c.replace.result (rw c.replace.ensures.value c.requires.well) in
@@ -25,4 +30,4 @@ returns-clause-most g c = rw (← c.replace.ensures.value) (
 
 pub returns-clause-once : goal.returns-clause-once
 returns-clause-once g c = rw (← c.replace.ensures.value) (λ same.
-    c.read_any-next.ensures.once (same_goods c.read_any-next.result.0 c.replace.result c.read_any-next.ensures.well (rw c.replace.ensures.value c.requires.well) c.read_any-next.ensures.number same))
+    c.read_any-next.ensures.once (same_goods c.read_any-next.result.0 c.replace.result c.read_any-next.ensures.leaves.well (rw c.replace.ensures.value c.requires.well) c.read_any-next.ensures.leaves.number same))

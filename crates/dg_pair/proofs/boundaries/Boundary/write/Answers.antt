@@ -1,22 +1,24 @@
-use Rattle.std.proofs.Common.{arith}
-use Rattle.dg_pair.specs.Boundaries.{size_of}
-use Rattle.dg_pair.proofs.BoundaryLemmas.{lost_is, off_slot, holds_moves, servers_are}
+use Rattle.std.proofs.Common.{arith, length}
+use Rattle.dg_pair.specs.Boundaries.{members_of, size_of, slots_of}
+use Rattle.dg_pair.proofs.BesideLemmas.{beside_slot}
+use Rattle.dg_pair.proofs.BoundaryLemmas.{lost_is, holds_moves, servers_are}
+use Rattle.dg_pair.proofs.CaseLemmas.{leaves_from}
 use Rattle.dg_pair.proofs.boundaries.Boundary.write.Goals as goal
 
+pub returns-clause-leaves : goal.returns-clause-leaves
+returns-clause-leaves g c = rw (← c.replace.ensures.value) (
+    leaves_from g.R.Rack (members_of c.replace.result) c.replace.result c.write_any-next.result.0 _ _ (rw c.replace.ensures.value c.requires.well) c.write_any-next.ensures.leaves c.write_any-next.ensures.falls c.write_any-next.ensures.room)
+
+pub returns-clause-beside : goal.returns-clause-beside
+returns-clause-beside g c = rw (← c.replace.ensures.value) (λ q.
+    beside_slot (size_of c.replace.result) (slots_of c.replace.result) c.args.slot (length c.args.buf.now) _ _ (rw c.replace.ensures.value c.requires.slot) (rw c.replace.ensures.value c.requires.size) (c.write_any-next.ensures.torn q))
+
 pub returns-clause-lost : goal.returns-clause-lost
-returns-clause-lost g c = rw (← c.replace.ensures.value) (lost_is _ c.write_any-next.result.0 c.replace.result c.write_any-next.ensures.well c.write_any-next.ensures.number c.write_any-next.ensures.lost)
+returns-clause-lost g c = rw (← c.replace.ensures.value) (lost_is _ c.write_any-next.result.0 c.replace.result c.write_any-next.ensures.leaves.well c.write_any-next.ensures.leaves.number c.write_any-next.ensures.lost)
 
 pub returns-clause-kept_others : goal.returns-clause-kept_others
 returns-clause-kept_others g c = rw (← c.replace.ensures.value) (λ x v other.
     holds_moves c.replace.result c.write_any-next.result.0 (size_of c.replace.result) x v _ _ (rw c.replace.ensures.value c.requires.well) (c.write_any-next.ensures.kept x v other))
-
-pub returns-clause-other_bytes : goal.returns-clause-other_bytes
-returns-clause-other_bytes g c = rw (← c.replace.ensures.value) (λ q other.
-    c.write_any-next.ensures.untaken q (off_slot c.replace.result (rw c.replace.ensures.value c.requires.well) q c.args.slot other))
-
-pub returns-clause-other_faults : goal.returns-clause-other_faults
-returns-clause-other_faults g c = rw (← c.replace.ensures.value) (λ q other.
-    c.write_any-next.ensures.uncalled q (off_slot c.replace.result (rw c.replace.ensures.value c.requires.well) q c.args.slot other))
 
 pub returns-clause-most : goal.returns-clause-most
 returns-clause-most g c = rw (← c.replace.ensures.value) (

@@ -4,16 +4,16 @@ use Rattle.dg_store.proofs.store.Store.boundary.Goals as goal
 
 pub returns-clause-well : goal.returns-clause-well
 returns-clause-well g c =
-    let within : c.args.boundary < length c.args.self.now.row.items = omega (arith, c.requires.boundary, c.requires.sound.boundaries) in
-    (c.requires.sound.stands _ _ (there _ _ _ within c.index.ensures)).well
+    let within : c.args.boundary < length c.args.self.now.row.items = omega (arith, c.requires.boundary, c.requires.sound.built.count) in
+    (c.requires.sound.built.stands _ _ (there _ _ _ within c.index.ensures)).well
 
 pub returns-clause-number : goal.returns-clause-number
 returns-clause-number g c =
-    let within : c.args.boundary < length c.args.self.now.row.items = omega (arith, c.requires.boundary, c.requires.sound.boundaries) in
-    (c.requires.sound.stands _ _ (there _ _ _ within c.index.ensures)).number
+    let within : c.args.boundary < length c.args.self.now.row.items = omega (arith, c.requires.boundary, c.requires.sound.built.count) in
+    (c.requires.sound.built.stands _ _ (there _ _ _ within c.index.ensures)).number_is
 
 pub returns-clause-members : goal.returns-clause-members
 returns-clause-members g c q at =
-    let within : c.args.boundary < length c.args.self.now.row.items = omega (arith, c.requires.boundary, c.requires.sound.boundaries) in
+    let within : c.args.boundary < length c.args.self.now.row.items = omega (arith, c.requires.boundary, c.requires.sound.built.count) in
     let x = c.index.result.now in
     sym ((set_changed c.args.self.now.row.items c.args.boundary x x within (there _ _ x within c.index.ensures)).was q at)

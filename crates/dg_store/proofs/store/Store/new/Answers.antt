@@ -1,11 +1,20 @@
 use Rattle.std.proofs.Common.{◌≡◌, ap, length, rules}
 use Rattle.dg_model.specs.Tables.{Table}
-use Rattle.dg_store.proofs.Sound.{sound_of}
+use Rattle.dg_store.proofs.Blocks.{stands_blank}
+use Rattle.dg_store.proofs.Sound.{sound_by}
 use Rattle.dg_store.proofs.store.Store.new.Goals as goal
 
-pub returns-clause-sound : goal.returns-clause-sound
-returns-clause-sound g c =
+pub returns : goal.returns
+returns g c =
     let row = c.in_ok-row.ensures in
+    let empty = c.in_ok-map.ensures.empty in
     let size : length c.in-Ok.block.items ≡ c.args.shape.l = search rules in
-    sound_of _ _ c.args.shape (ap (λ (t : Table). t.shape) c.in_ok-map.ensures.empty) c.in_ok-map.ensures.table row.count row.stands
-    size c.new-2.ensures.items row.room
+    record {
+      sound = sound_by g.R.Rack _ c.args.shape (ap (λ (t : Table). t.shape) empty) c.in_ok-map.ensures.table row.row size c.new-2.ensures.items;
+      table = empty;
+      members = row.begins;
+      stays = row.rack;
+      blanked = row.zeros;
+      stands = rw empty (stands_blank _ _ c.args.shape);
+      most = row.most;
+    }

@@ -1,0 +1,23 @@
+use Rattle.std.proofs.Common.{ap, inl, inr, ◌+◌, ◌*◌}
+use Rattle.dg_pair.specs.Boundaries.{members_of, number_of, size_of, slots_of}
+use Rattle.dg_pair.specs.Calls.{replaced}
+use Rattle.dg_pair.proofs.CaseLemmas.{leaves_fit}
+use Rattle.dg_pair.proofs.NoteLemmas.{same_as}
+use Rattle.dg_pair.proofs.ReplaceLemmas.{replace_holds, replace_fits}
+use Rattle.dg_pair.proofs.boundaries.Boundary.replace.Goals as goal
+
+pub returns-clause-leaves : goal.returns-clause-leaves
+returns-clause-leaves g c = rw (← c.replace.ensures.value) (
+    let p = 2 * number_of c.replace.result + c.args.side in
+    leaves_fit g.R.Rack (replaced c.replace_any-next.result.1 p (members_of c.replace.result)) c.replace.result c.replace_any-next.result.0 _ _ (rw c.replace.ensures.value c.requires.well) c.replace_any-next.ensures.leaves
+    (λ q. inl (c.replace_any-next.ensures.members q))
+    (replace_fits c.replace_any-next.result.1 p (size_of c.replace.result) (slots_of c.replace.result) c.args.size (members_of c.replace.result) (members_of c.replace_any-next.result.0) _ _
+    c.replace_any-next.ensures.not_out c.replace_any-next.ensures.members (λ e. same_as _ _ (ap (λ r. g.R.Rack.bytes r p) (c.replace_any-next.ensures.quiet (inr e)))) c.replace_any-next.ensures.other_bytes
+    (rw c.replace.ensures.value c.requires.size) c.replace_any-next.ensures.blank (rw c.replace.ensures.value c.requires.room)))
+
+pub returns-clause-kept : goal.returns-clause-kept
+returns-clause-kept g c = rw (← c.replace.ensures.value) (
+    let p = 2 * number_of c.replace.result + c.args.side in
+    replace_holds c.replace_any-next.result.1 p (size_of c.replace.result) (slots_of c.replace.result) c.args.size (members_of c.replace.result) (members_of c.replace_any-next.result.0) _ _
+    c.replace_any-next.ensures.not_out c.replace_any-next.ensures.members (λ e. same_as _ _ (ap (λ r. g.R.Rack.bytes r p) (c.replace_any-next.ensures.quiet (inr e)))) c.replace_any-next.ensures.other_bytes
+    (number_of c.replace.result))

@@ -1,0 +1,77 @@
+-- What any call leaves of a boundary and of the rack that its members stand in. The rules are this project's own.
+use Rattle.std.specs.Prelude.{◌≡◌, ◌≢◌, ◌↔◌, ◌+◌, ◌*◌, ◌/◌, ◌≤◌, ◌==◌, if◌then◌else◌, ℕ, List, Option}
+use Rattle.dg_model.specs.Members.{ArePaired, MembersFall}
+use Rattle.dg_model.specs.States.{Counts, CountsRise}
+use Rattle.dg_model.specs.declared.members.MemberState.{MemberState}
+use Rattle.dg_model.specs.declared.members.MemberState.TheVariants.{Good, Filling, Out}
+use Rattle.dg_io.specs.Told.{Told, IsSame, Torn, StillTold}
+use Rattle.dg_io.specs.declared.outside.Rack.{Ghosts}
+use Rattle.dg_pair.specs.Boundaries.{members_of, number_of, size_of, slots_of, IsWell, MembersFit, MembersStand, raised}
+use Rattle.dg_pair.specs.declared.boundaries.Boundary.{Boundary}
+use Rattle.dg_pair.specs.declared.boundaries.CopyAnswer.{CopyAnswer}
+use Rattle.dg_pair.specs.declared.boundaries.CopyAnswer.TheVariants.{Copied, Lost as CopyLost, Fell}
+use Rattle.dg_pair.specs.declared.boundaries.ReplaceAnswer.{ReplaceAnswer}
+use Rattle.dg_pair.specs.declared.boundaries.ReplaceAnswer.TheVariants.{Replaced, Lost, NotOut, Failed}
+
+-- boundary number `number`, with so many slots of l bytes
+pub record IsPair (number l slots : ℕ) (boundary : Boundary) : Type 0 where
+  pub well : IsWell boundary
+  pub number_is : number_of boundary ≡ number
+  pub size_is : size_of boundary ≡ l
+  pub slots_is : slots_of boundary ≡ slots
+  -- it has no other members than its two
+  pub own : (q : ℕ) → q / 2 ≢ number → members_of boundary q ≡ Out
+  -- a member that is refilled has a good partner
+  pub paired : ArePaired (members_of boundary)
+
+-- the boundary has the number, the bytes of a slot and the slots that it had
+abbrev pub KeepsPair : Boundary → Boundary → Type 0
+KeepsPair old new = IsPair (number_of old) (size_of old) (slots_of old) new
+
+-- What a call over a rack leaves. `expected` is what the members do where no call on one of them fails.
+pub record LeavesBoundary {S : Type 0} (rack : Ghosts S) (number l slots : ℕ) (expected : ℕ → MemberState) (new : Boundary) (before now : S) : Type 0 where
+  pub pair : IsPair number l slots new
+  -- each member does what is expected, or has fallen
+  pub falls : MembersFall (rack.counts before).faults (rack.counts now).faults expected (members_of new)
+  -- each member that isn't out is long enough, where it tells its bytes, and stands
+  pub room : MembersFit l slots (members_of new) (rack.bytes now)
+  pub stand : MembersStand (members_of new) (rack.stands now)
+  -- the members of other boundaries are as they were
+  pub other_bytes : (q : ℕ) → q / 2 ≢ number → Told IsSame (rack.bytes before q) (rack.bytes now q)
+  pub other_faults : (q : ℕ) → q / 2 ≢ number → (rack.counts now).faults q ≡ (rack.counts before).faults q
+  pub others_stand : (q : ℕ) → q / 2 ≢ number → rack.stands before q → rack.stands now q
+  -- no count fell, what is told now was told before, and it is the same rack
+  pub rise : CountsRise (rack.counts before) (rack.counts now)
+  pub tells : StillTold (rack.bytes before) (rack.bytes now)
+  pub same_rack : rack.name now ≡ rack.name before
+  pub steady_on : rack.steady before ↔ rack.steady now
+
+-- the same of a boundary that was there
+abbrev pub LeavesPair : {S : Type 0} → Ghosts S → (ℕ → MemberState) → Boundary → Boundary → S → S → Type 0
+LeavesPair rack expected old new before now = LeavesBoundary rack (number_of old) (size_of old) (slots_of old) expected new before now
+
+-- each member is as long as it was, and its bytes before its slots and behind them are as they were
+abbrev pub KeepsBeside : ℕ → ℕ → (ℕ → Option (List ℕ)) → (ℕ → Option (List ℕ)) → Type 0
+KeepsBeside l slots before now = (q : ℕ) → Told (Torn 512 (slots * l)) (before q) (now q)
+
+-- so many calls were made at most, and so many that write
+pub record MostCalls (before now : Counts) (calls writes : ℕ) : Type 0 where
+  pub all : now.calls ≤ before.calls + calls
+  pub writing : now.writes ≤ before.writes + writes
+
+-- the two members of a new boundary, where no blank fails
+abbrev pub begun : ℕ → ℕ → MemberState
+begun number q = if q / 2 == number then Good else Out
+
+-- the members after a replacement of member p
+abbrev pub replaced : ReplaceAnswer → ℕ → (ℕ → MemberState) → ℕ → MemberState
+replaced Replaced p members q = if q == p then Filling 0 else members q
+replaced Lost p members q = members q
+replaced NotOut p members q = members q
+replaced Failed p members q = members q
+
+-- the members after a copy, where none falls
+abbrev pub copied : CopyAnswer → (ℕ → MemberState) → ℕ → MemberState
+copied Copied members q = raised (members q)
+copied CopyLost members q = members q
+copied Fell members q = members q
