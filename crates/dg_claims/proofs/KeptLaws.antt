@@ -3,42 +3,47 @@ use Rattle.std.proofs.Common.{◌≡◌, ℕ, suc, ◌+◌, ◌^◌, ◌<◌, �
 use Rattle.std.proofs.lemmas.Bool.{cases_eq, false≢true}
 use Rattle.ufs_model.specs.Claims.{fragments_from}
 use Rattle.ufs_model.specs.Geometries.{IsGeometry}
+use Rattle.ufs_model.specs.declared.claims.ClaimSource.{ClaimSource}
 use Rattle.ufs_model.specs.declared.geometries.Geometry.{Geometry}
 use Rattle.dg_claims.proofs.ListLaws.{contains_none}
-use Rattle.dg_claims.proofs.MarkLaws.{same_place_decides}
 use Rattle.dg_claims.proofs.RunLaws.{contains_from, contains_run, fragments_so_far}
 use Rattle.dg_claims.specs.Kept.{IsKept, IsRun, IsPlace, KeptClaims, kept_of, run_so_far, size_in}
-use Rattle.dg_claims.specs.Marks.{AddsMark, DropsMark, IsMarks, SameMarks, Unmarks, marked_on, same_place}
-use Rattle.dg_claims.specs.Runs.{run_at, run_fragments}
-use Rattle.dg_claims.specs.Tables.{IsOnce}
+use Rattle.dg_claims.specs.Marks.{AddsMark, DropsMark, IsMarks, SameMarks, Unmarks, marked_on}
+use Rattle.dg_claims.specs.Runs.{run_at, run_fragments, run_of}
+use Rattle.dg_claims.specs.Places.{source_of}
 use Rattle.dg_claims.specs.declared.claims.Claims.TheInside.{Inside}
 use Rattle.dg_claims.specs.declared.marks.Marks.{Marks}
 use Rattle.dg_claims.specs.declared.places.Place.{Place}
+use Rattle.dg_claims.specs.declared.places.Place.TheVariants.{Slot, Pointer}
 use Rattle.dg_claims.specs.declared.runs.Run.{Run}
-use Rattle.dg_claims.specs.declared.runs.Runs.{Runs}
-
-decided : {P : Type 0} (b : Bool) → Decides b P → P ⊎ (P → ⊥)
-decided true d = inl (d.0 refl)
-decided false d = inr (λ p. false≢true (d.1 p))
 
 pub place_cases : (one other : Place) → (one ≡ other) ⊎ (one ≡ other → ⊥)
-place_cases one other = decided (same_place one other) (same_place_decides one other)
+place_cases (Slot i s) (Slot j t) = elim (cases_eq i j) [
+  | inl e ↦ elim (cases_eq s t) [ inl f ↦ inl cc | inr g ↦ inr (λ e. g cc) ]
+  | inr g ↦ inr (λ e. g cc)
+]
+place_cases (Slot i s) (Pointer f l a) = inr (λ e. cc)
+place_cases (Pointer f l a) (Slot i s) = inr (λ e. cc)
+place_cases (Pointer f l a) (Pointer g m b) = elim (cases_eq f g) [
+  | inl e ↦ elim (cases_eq l m) [
+    | inl h ↦ elim (cases_eq a b) [ inl k ↦ inl cc | inr n ↦ inr (λ e. n cc) ]
+    | inr n ↦ inr (λ e. n cc)
+  ]
+  | inr n ↦ inr (λ e. n cc)
+]
 
 -- nothing is claimed
-pub empty_kept : (g : Option Geometry) (runs : Runs) (marks : Marks) → IfSome g IsGeometry → size_in g < 2 ^ 32 → length marks.first.items ≡ size_in g
-    → ((place : Place) → run_at runs.map.entries place ≡ None) → ((fragment : ℕ) → marked_on marks fragment ≡ []) → IsKept (record { geometry = g; runs = runs; marks = marks })
-empty_kept g runs marks is fits room none bare = record {
+pub empty_kept : (g : Option Geometry) (runs : List (ClaimSource × Run)) (marks : Marks) → IfSome g IsGeometry → size_in g < 2 ^ 32 → length marks.first.items ≡ size_in g
+    → ((source : ClaimSource) → run_of runs source ≡ None) → IsMarks marks → ((fragment : ℕ) → marked_on marks fragment ≡ []) → IsKept (record { geometry = g; runs = runs; marks = marks })
+empty_kept g runs marks is fits room bare_runs sound bare = record {
   geometry = is;
   fits = fits;
   room = room;
-  marks = record {
-    once = λ fragment. subst (λ (xs : List Place). IsOnce xs) (sym (bare fragment)) tt;
-    few = λ fragment. subst (λ xs. length xs < 2 ^ 32) (sym (bare fragment)) (omega arith);
-  };
-  runs = λ place. subst (λ run. IfSome run (λ r. IsPlace g place × IsRun (size_in g) r)) (sym (none place)) tt;
+  marks = sound;
+  runs = λ place. subst (λ run. IfSome run (λ r. IsPlace g place × IsRun (size_in g) r)) (sym (bare_runs (source_of place))) tt;
   marked = λ fragment place. (
     λ has. absurd (contains_none place (subst (λ xs. Contains xs place) (bare fragment) has)),
-    λ has. absurd (contains_none fragment (subst (λ run. Contains (run_fragments run) fragment) (none place) has)),
+    λ has. absurd (contains_none fragment (subst (λ run. Contains (run_fragments run) fragment) (bare_runs (source_of place)) has)),
   );
 }
 
@@ -47,10 +52,10 @@ pub record Remakes (old new : Inside) (place : Place) : Type 0 where
   pub geometry : new.geometry ≡ old.geometry
   pub marks : IsMarks new.marks
   pub room : length new.marks.first.items ≡ length old.marks.first.items
-  pub others : (other : Place) → (other ≡ place → ⊥) → run_at new.runs.map.entries other ≡ run_at old.runs.map.entries other
-  pub run : IfSome (run_at new.runs.map.entries place) (λ run. IsPlace old.geometry place × IsRun (size_in old.geometry) run)
+  pub others : (other : Place) → (other ≡ place → ⊥) → run_at new.runs other ≡ run_at old.runs other
+  pub run : IfSome (run_at new.runs place) (λ run. IsPlace old.geometry place × IsRun (size_in old.geometry) run)
   pub marked : (fragment : ℕ) (other : Place) → (other ≡ place → ⊥) → Contains (marked_on new.marks fragment) other ↔ Contains (marked_on old.marks fragment) other
-  pub here : (fragment : ℕ) → Contains (marked_on new.marks fragment) place ↔ Contains (run_fragments (run_at new.runs.map.entries place)) fragment
+  pub here : (fragment : ℕ) → Contains (marked_on new.marks fragment) place ↔ Contains (run_fragments (run_at new.runs place)) fragment
 
 pub remade : (old new : Inside) (place : Place) → IsKept old → Remakes old new place → IsKept new
 remade old new place is made = record {
@@ -58,12 +63,12 @@ remade old new place is made = record {
   fits = subst (λ g. size_in g < 2 ^ 32) (sym made.geometry) is.fits;
   room = made.room ∙ is.room ∙ ap size_in (sym made.geometry);
   marks = made.marks;
-  runs = λ other. subst (λ g. IfSome (run_at new.runs.map.entries other) (λ run. IsPlace g other × IsRun (size_in g) run)) (sym made.geometry) (elim (place_cases other place) [
-    | inl same ↦ subst (λ p. IfSome (run_at new.runs.map.entries p) (λ run. IsPlace old.geometry p × IsRun (size_in old.geometry) run)) (sym same) made.run
+  runs = λ other. subst (λ g. IfSome (run_at new.runs other) (λ run. IsPlace g other × IsRun (size_in g) run)) (sym made.geometry) (elim (place_cases other place) [
+    | inl same ↦ subst (λ p. IfSome (run_at new.runs p) (λ run. IsPlace old.geometry p × IsRun (size_in old.geometry) run)) (sym same) made.run
     | inr apart ↦ subst (λ r. IfSome r (λ run. IsPlace old.geometry other × IsRun (size_in old.geometry) run)) (sym (made.others other apart)) (is.runs other)
   ]);
   marked = λ fragment other. elim (place_cases other place) [
-    | inl same ↦ subst (λ p. Contains (marked_on new.marks fragment) p ↔ Contains (run_fragments (run_at new.runs.map.entries p)) fragment) (sym same) (made.here fragment)
+    | inl same ↦ subst (λ p. Contains (marked_on new.marks fragment) p ↔ Contains (run_fragments (run_at new.runs p)) fragment) (sym same) (made.here fragment)
     | inr apart ↦
         let marks = made.marked fragment other apart in
         let was = is.marked fragment other in
@@ -77,12 +82,12 @@ remade old new place is made = record {
 -- ---- a run that grows
 
 -- what a source has claimed so far
-here_so_far : (old : Inside) (place : Place) (first done : ℕ) → IsKept old → run_at old.runs.map.entries place ≡ run_so_far first done
+here_so_far : (old : Inside) (place : Place) (first done : ℕ) → IsKept old → run_at old.runs place ≡ run_so_far first done
     → (fragment : ℕ) → Contains (marked_on old.marks fragment) place ↔ ((first ≤ fragment) × (fragment < first + done))
 here_so_far old place first done is so_far fragment =
     let marks = is.marked fragment place in
     let from = contains_from done first fragment in
-    let same : run_fragments (run_at old.runs.map.entries place) ≡ fragments_from first done = ap run_fragments so_far ∙ fragments_so_far first done in (
+    let same : run_fragments (run_at old.runs place) ≡ fragments_from first done = ap run_fragments so_far ∙ fragments_so_far first done in (
       λ has. from.0 (subst (λ xs. Contains xs fragment) same (marks.0 has)),
       λ both. marks.1 (subst (λ xs. Contains xs fragment) (sym same) (from.1 both)),
     )
@@ -124,11 +129,11 @@ added_others old new place other at adds ne fragment = elim (cases_eq fragment a
       )
 ]
 
-pub extended : (old : Inside) (kept : KeptClaims) (runs : Runs) (marks : Marks) (place : Place) (first done at count : ℕ) → kept_of old ≡ kept → IsKept old
+pub extended : (old : Inside) (kept : KeptClaims) (runs : List (ClaimSource × Run)) (marks : Marks) (place : Place) (first done at count : ℕ) → kept_of old ≡ kept → IsKept old
     → IsPlace kept.geometry place → run_at kept.runs place ≡ run_so_far first done → (run : Run) → IsRun (size_in kept.geometry) run → run.first ≡ first → done < run.count → at ≡ first + done → count ≡ done + 1
     → IsMarks marks → AddsMark old.marks marks at place
-    → run_at runs.map.entries place ≡ Some (record { first = first; count = count })
-    → ((other : Place) → (other ≡ place → ⊥) → run_at runs.map.entries other ≡ run_at old.runs.map.entries other)
+    → run_at runs place ≡ Some (record { first = first; count = count })
+    → ((other : Place) → (other ≡ place → ⊥) → run_at runs other ≡ run_at old.runs other)
     → IsKept (record { geometry = old.geometry; runs = runs; marks = marks })
 extended old kept runs marks place first done at count view is source so_far whole whole_run begins few next more sound adds here others =
     let was = here_so_far old place first done is (ap (λ (k : KeptClaims). run_at k.runs place) view ∙ so_far) in
@@ -162,7 +167,7 @@ pub record SameMarked (old new : Marks) : Type 0 where
   pub room : length new.first.items ≡ length old.first.items
   pub marked : (fragment : ℕ) (place : Place) → Contains (marked_on new fragment) place ↔ Contains (marked_on old fragment) place
 
-pub same_kept : (old : Inside) (runs : Runs) (marks : Marks) → IsKept old → runs.map.entries ≡ old.runs.map.entries → IsMarks marks → SameMarked old.marks marks
+pub same_kept : (old : Inside) (runs : List (ClaimSource × Run)) (marks : Marks) → IsKept old → runs ≡ old.runs → IsMarks marks → SameMarked old.marks marks
     → IsKept (record { geometry = old.geometry; runs = runs; marks = marks })
 same_kept old runs marks is same sound stays = record {
   geometry = is.geometry;
@@ -232,9 +237,9 @@ unmarks_more old middle new place first done count at part drops next more = rec
   ];
 }
 
-pub cleared : (old : Inside) (runs : Runs) (marks : Marks) (place : Place) (run : Run) → IsKept old → run_at old.runs.map.entries place ≡ Some run
-    → IsMarks marks → Unmarks old.marks marks place run.first run.count → run_at runs.map.entries place ≡ None
-    → ((other : Place) → (other ≡ place → ⊥) → run_at runs.map.entries other ≡ run_at old.runs.map.entries other)
+pub cleared : (old : Inside) (runs : List (ClaimSource × Run)) (marks : Marks) (place : Place) (run : Run) → IsKept old → run_at old.runs place ≡ Some run
+    → IsMarks marks → Unmarks old.marks marks place run.first run.count → run_at runs place ≡ None
+    → ((other : Place) → (other ≡ place → ⊥) → run_at runs other ≡ run_at old.runs other)
     → IsKept (record { geometry = old.geometry; runs = runs; marks = marks })
 cleared old runs marks place run is was sound drops none others =
     remade old (record { geometry = old.geometry; runs = runs; marks = marks }) place is (record {
@@ -256,7 +261,7 @@ cleared old runs marks place run is was sound drops none others =
     })
 
 -- the run of a source is inside the volume
-pub run_inside : (old : Inside) (place : Place) (run : Run) → IsKept old → run_at old.runs.map.entries place ≡ Some run → IsRun (length old.marks.first.items) run
+pub run_inside : (old : Inside) (place : Place) (run : Run) → IsKept old → run_at old.runs place ≡ Some run → IsRun (length old.marks.first.items) run
 run_inside old place run is was =
     let both : IsPlace old.geometry place × IsRun (size_in old.geometry) run = subst (λ r. IfSome r (λ run. IsPlace old.geometry place × IsRun (size_in old.geometry) run)) was (is.runs place) in
     subst (λ n. IsRun n run) (sym is.room) (both.1)

@@ -1,11 +1,14 @@
+pub mod AnswerLaws
 pub mod FetchedLaws
 pub mod KeptLaws
 pub mod LevelLaws
 pub mod ListLaws
 pub mod MarkLaws
 pub mod MetadataLaws
+pub mod OrderLaws
 pub mod OwnerLaws
 pub mod RunLaws
 pub mod ScanLaws
 pub mod SourceLaws
 pub mod SpanLaws
+pub mod SharedLaws

@@ -1,10 +1,9 @@
--- What lists contain, element after element, lists in which each stands once, and what tests of numbers say.
-use Rattle.std.proofs.Common.{◌≡◌, ℕ, zero, suc, ◌<◌, ◌≤◌, ◌⊎◌, ◌↔◌, ◌∙◌, inl, inr, List, [], ◌∷◌, ◌++◌, Bool, true, false, cond, Contains, length, filter, refl, sym, ap, subst, arith, ◌==◌, nat_lt}
-use Rattle.std.proofs.lemmas.Bool.{false≢true}
+-- What lists contain, element after element, and what tests of numbers say.
+use Rattle.std.proofs.Common.{◌≡◌, ℕ, zero, suc, ◌<◌, ◌≤◌, ◌⊎◌, ◌↔◌, ◌∙◌, inl, inr, List, [], ◌∷◌, ◌++◌, Bool, true, false, cond, Contains, length, refl, sym, ap, subst, arith, ◌==◌, nat_lt}
 use Rattle.std.proofs.lemmas.Bool.Decides.{nat_tests}
 use Rattle.std.proofs.lemmas.List.Elements.{Contains-append_left, Contains-push, Contains-push_cases}
+use Rattle.std.specs.List.{AllByRecursion}
 use Rattle.std.specs.Prelude.{slice_index_or}
-use Rattle.dg_claims.specs.Tables.{IsOnce}
 
 pub contains_none : {X : Type 0} (x : X) → Contains [] x → ⊥
 contains_none x h = let l = h.1 in omega arith
@@ -29,53 +28,12 @@ contains_last xs x y = (
   ],
 )
 
--- one more
-pub once_last : {X : Type 0} (xs : List X) (x : X) → IsOnce xs → (Contains xs x → ⊥) → IsOnce (xs ++ x ∷ [])
-once_last [] x once fresh = (contains_none x, tt)
-once_last (y ∷ ys) x once fresh = (
-  λ has. elim ((contains_last ys x y).0 has) [
-    | inl h ↦ once.0 h
-    | inr e ↦ fresh ((contains_cons y ys x).1 (inl (sym e)))
-  ],
-  once_last ys x (once.1) (λ h. fresh ((contains_cons y ys x).1 (inr h))),
-)
-
--- what a filter keeps
-pub contains_filter : {X : Type 0} (p : X → Bool) (xs : List X) (x : X) → Contains (filter p xs) x ↔ (Contains xs x × (p x ≡ true))
-contains_filter p [] x = (λ has. absurd (contains_none x has), λ both. both.0)
-contains_filter p (y ∷ ys) x =
-    let rest = contains_filter p ys x in
-    let all = contains_cons y ys x in
-    elim (p y) as (λ b. p y ≡ b → Contains (cond b (y ∷ filter p ys) (filter p ys)) x ↔ (Contains (y ∷ ys) x × (p x ≡ true))) [
-      | true ↦ λ e. (
-        λ has. elim ((contains_cons y (filter p ys) x).0 has) [
-          | inl same ↦ (all.1 (inl same), ap p same ∙ e)
-          | inr in_rest ↦ (all.1 (inr ((rest.0 in_rest).0)), (rest.0 in_rest).1)
-        ],
-        λ both. (contains_cons y (filter p ys) x).1 (elim (all.0 (both.0)) [ inl same ↦ inl same | inr h ↦ inr (rest.1 (h, both.1)) ]),
-      )
-      | false ↦ λ e. (
-        λ has. (all.1 (inr ((rest.0 has).0)), (rest.0 has).1),
-        λ both. elim (all.0 (both.0)) [ inl same ↦ absurd (false≢true (sym e ∙ sym (ap p same) ∙ both.1)) | inr h ↦ rest.1 (h, both.1) ],
-      )
-    ] refl
-
-pub once_filter : {X : Type 0} (p : X → Bool) (xs : List X) → IsOnce xs → IsOnce (filter p xs)
-once_filter p [] once = tt
-once_filter p (y ∷ ys) once =
-    elim (p y) as (λ b. IsOnce (cond b (y ∷ filter p ys) (filter p ys))) [
-      | true ↦ (λ has. once.0 (((contains_filter p ys y).0 has).0), once_filter p ys (once.1))
-      | false ↦ once_filter p ys (once.1)
-    ]
-
-pub length_filter : {X : Type 0} (p : X → Bool) (xs : List X) → length (filter p xs) ≤ length xs
-length_filter p [] = omega arith
-length_filter p (y ∷ ys) =
-    let rest = length_filter p ys in
-    elim (p y) as (λ b. length (cond b (y ∷ filter p ys) (filter p ys)) ≤ suc (length ys)) [
-      | true ↦ omega arith
-      | false ↦ omega arith
-    ]
+pub holds_of : {X : Type 0} (P : X → Type 0) (xs : List X) → AllByRecursion P xs → (x : X) → Contains xs x → P x
+holds_of P [] all x has = absurd (contains_none x has)
+holds_of P (y ∷ ys) all x has = elim ((contains_cons y ys x).0 has) [
+  | inl e ↦ subst P (sym e) (all.0)
+  | inr h ↦ holds_of P ys (all.1) x h
+]
 
 -- ---- tests
 

@@ -5,8 +5,8 @@ use Rattle.ufs_model.specs.Geometries.{IsGeometry}
 use Rattle.ufs_model.specs.declared.claims.ClaimSource.{ClaimSource}
 use Rattle.ufs_model.specs.declared.geometries.Geometry.{Geometry}
 use Rattle.dg_claims.specs.Marks.{IsMarks, marked_on}
-use Rattle.dg_claims.specs.Places.{place_of, source_of}
-use Rattle.dg_claims.specs.Runs.{run_at, run_fragments}
+use Rattle.dg_claims.specs.Places.{source_of}
+use Rattle.dg_claims.specs.Runs.{run_at, run_fragments, run_of}
 use Rattle.dg_claims.specs.Tables.{ClaimTable, IsSource}
 use Rattle.dg_claims.specs.declared.claims.Claims.TheInside.{Inside}
 use Rattle.dg_claims.specs.declared.places.Place.{Place}
@@ -15,14 +15,14 @@ use Rattle.dg_claims.specs.declared.runs.Run.{Run}
 -- a table as it is kept: the geometry, and the run of each source that claims anything
 pub record KeptClaims : Type 0 where
   pub geometry : Option Geometry
-  pub runs : List (Place × Run)
+  pub runs : List (ClaimSource × Run)
 
 abbrev pub kept_of : Inside → KeptClaims
-kept_of inside = record { geometry = inside.geometry; runs = inside.runs.map.entries }
+kept_of inside = record { geometry = inside.geometry; runs = inside.runs }
 
 -- the fragments that a source claims, by the runs that are kept
-unfoldable pub claimed_by : List (Place × Run) → ClaimSource → List ℕ
-claimed_by runs source = run_fragments (run_at runs (place_of source))
+unfoldable pub claimed_by : List (ClaimSource × Run) → ClaimSource → List ℕ
+claimed_by runs source = run_fragments (run_of runs source)
 
 -- the table that is kept so
 abbrev pub table_of : KeptClaims → ClaimTable
@@ -50,8 +50,8 @@ pub record IsKept (inside : Inside) : Type 0 where
   pub fits : size_in inside.geometry < 2 ^ 32
   pub room : length inside.marks.first.items ≡ size_in inside.geometry
   pub marks : IsMarks inside.marks
-  pub runs : (place : Place) → IfSome (run_at inside.runs.map.entries place) (λ run. IsPlace inside.geometry place × IsRun (size_in inside.geometry) run)
-  pub marked : (fragment : ℕ) (place : Place) → Contains (marked_on inside.marks fragment) place ↔ Contains (run_fragments (run_at inside.runs.map.entries place)) fragment
+  pub runs : (place : Place) → IfSome (run_at inside.runs place) (λ run. IsPlace inside.geometry place × IsRun (size_in inside.geometry) run)
+  pub marked : (fragment : ℕ) (place : Place) → Contains (marked_on inside.marks fragment) place ↔ Contains (run_fragments (run_at inside.runs place)) fragment
 
 -- the first so many fragments of a run, if they are any
 abbrev pub run_so_far : ℕ → ℕ → Option Run
@@ -59,7 +59,7 @@ run_so_far first zero = None
 run_so_far first (suc done) = Some (record { first = first; count = suc done })
 
 -- The first n of some places claim these fragments now, and each other place claims what it claimed.
-pub record SetsFirst (old new : List (Place × Run)) (place_at : ℕ → Place) (fragments : ℕ → List ℕ) (n : ℕ) : Type 0 where
+pub record SetsFirst (old new : List (ClaimSource × Run)) (place_at : ℕ → Place) (fragments : ℕ → List ℕ) (n : ℕ) : Type 0 where
   pub done : (k : ℕ) → k < n → run_fragments (run_at new (place_at k)) ≡ fragments k
   pub others : (place : Place) → ((k : ℕ) → k < n → place ≡ place_at k → ⊥) → run_at new place ≡ run_at old place
 

@@ -1,6 +1,5 @@
 pub mod Kept
 pub mod Marks
-pub mod Readers
 pub mod Places
 pub mod Runs
 pub mod Scans

@@ -1,16 +1,17 @@
-ghost use Rattle.std.specs.Prelude.{◌≡◌, ◌+◌, ◌*◌, ◌<◌, ◌≤◌, ◌↔◌, ℕ, Some, None, [], ◌∷◌, ◌++◌, if◌then◌else◌, IfNone, IfOk, IfSome, OnOk, length, true, false};
+ghost use Rattle.std.specs.Prelude.{◌≡◌, ◌+◌, ◌*◌, ◌<◌, ◌≤◌, ◌↔◌, ℕ, Some, None, [], ◌∷◌, ◌++◌, if◌then◌else◌, IfNone, IfOk, IfSome, List, OnOk, length, true, false};
 ghost use Rattle.std.specs.Bool.{Decides};
 ghost use Rattle.std.specs.List.{Contains};
-ghost use Rattle.ufs_model.specs.Claims.{IsOnlyClaim, level_of};
+ghost use Rattle.ufs_model.specs.Claims.{AreClaimsOn, HasClaimCount, IsClaimedAt, level_of};
 ghost use Rattle.ufs_model.specs.Geometries.{IsGeometry};
-ghost use Rattle.ufs_model.specs.Roles.{is_within};
+ghost use Rattle.ufs_model.specs.Inodes.{is_inode_number};
+ghost use Rattle.ufs_model.specs.Owners.{IsOnlyClaim};
 ghost use Rattle.ufs_model.specs.declared.claims.ClaimSource.{ClaimSource};
 ghost use Rattle.ufs_model.specs.declared.geometries.Geometry.{Geometry};
 ghost use Rattle.dg_claims.specs.Kept.{HasSources, IsRun, IsPlace, run_so_far, size_in, table_of};
 ghost use Rattle.dg_claims.specs.Marks.{IsMarks, Unmarks};
-ghost use Rattle.dg_claims.specs.Runs.{run_at};
+ghost use Rattle.dg_claims.specs.Runs.{run_at, run_fragments};
 ghost use Rattle.dg_claims.specs.Places.{place_of};
-ghost use Rattle.dg_claims.specs.Tables.{AreClaimants, IsClaimedAt, IsSource, fragment_pointers, inode_fragments};
+ghost use Rattle.dg_claims.specs.Tables.{IsSource, KeepsOffInode, KeepsOffPointers, TableClaims, claim_at, fragment_pointers, inode_fragments};
 ghost use Rattle.dg_claims.specs.declared.places.Place.{Place};
 
 use crate::marks::Marks;
@@ -20,10 +21,7 @@ use crate::spans::{pointer_run, slot_run};
 use dg_io::NoMemory;
 use std::alloc::Global;
 use std::marker::Model;
-use ufs_model::{ClaimSource, Geometry, Inode};
-
-/// The first inode that may claim anything (`ROOTINO`).
-pub(crate) const FIRST_INODE: u32 = 2;
+use ufs_model::{ClaimSource, Geometry, Inode, ROOT_INODE};
 
 /// Slots of an inode (`NDADDR`, `NIADDR`).
 const SLOTS: u8 = 15;
@@ -79,6 +77,14 @@ impl Claims {
     pub fn geometry(&self) -> Option<Geometry>
         ensures value { result ≡ (table_of self.now).geometry }
         ensures geometry { IfSome result IsGeometry }
+    {
+        self.geometry
+    }
+
+    /// The geometry. Each source that claims anything is one of the volume.
+    fn known(&self) -> Option<Geometry>
+        ensures value { result ≡ self.now.geometry }
+        ensures geometry { IfSome result IsGeometry }
         ensures sources { HasSources self.now }
     {
         self.geometry
@@ -88,12 +94,12 @@ impl Claims {
     fn geometry_with(&self, number: u32) -> Option<Geometry>
         ensures value { IfSome result (λ g. self.now.geometry ≡ Some g) }
         ensures geometry { IfSome result IsGeometry }
-        ensures number { IfSome result (λ g. is_within 2 (g.ncg * g.ipg) number ≡ true) }
-        ensures none { IfNone result ((g : Geometry) → self.now.geometry ≡ Some g → is_within 2 (g.ncg * g.ipg) number ≡ false) }
+        ensures number { IfSome result (λ g. is_inode_number g number ≡ true) }
+        ensures none { IfNone result ((g : Geometry) → self.now.geometry ≡ Some g → is_inode_number g number ≡ false) }
         ensures sources { HasSources self.now }
     {
-        let g = self.geometry()?;
-        if number < FIRST_INODE || g.ncg * g.ipg <= number {
+        let g = self.known()?;
+        if number < ROOT_INODE || g.ncg * g.ipg <= number {
             return None;
         }
         Some(g)
@@ -104,8 +110,9 @@ impl Claims {
     #[tactic(auto, using(crate::proofs::SourceLaws::no_inode, crate::proofs::SourceLaws::other_slots, crate::proofs::SourceLaws::all_slots))]
     pub fn of_inode(&mut self, number: u32, inode: &Inode) -> Result<(), NoMemory>
         ensures geometry { (table_of self.new).geometry ≡ (table_of self.old).geometry }
-        ensures slots { OnOk result ((slot : ℕ) → (table_of self.new).claimed (ClaimSource.Slot number slot) ≡ inode_fragments (table_of self.old).geometry number inode.now slot) }
-        ensures others { (source : ClaimSource) → ((slot : ℕ) → source ≡ ClaimSource.Slot number slot → ⊥) → (table_of self.new).claimed source ≡ (table_of self.old).claimed source }
+        ensures slots { OnOk result ((slot : ℕ) → (table_of self.new).claimed (ClaimSource.Slot number slot)
+            ≡ inode_fragments (table_of self.old).geometry number inode.now slot) }
+        ensures others { KeepsOffInode (table_of self.old) (table_of self.new) number }
     {
         let Some(g) = self.geometry_with(number) else {
             return Ok(());
@@ -128,10 +135,11 @@ impl Claims {
         requires high { level ≤ 3 }
         requires bytes { IfSome (table_of self.old).geometry (λ g. length bytes.now ≡ g.fsize) }
         ensures geometry { (table_of self.new).geometry ≡ (table_of self.old).geometry }
-        ensures pointers { OnOk result ((at : ℕ) → (table_of self.new).claimed (ClaimSource.Pointer fragment level at) ≡ fragment_pointers (table_of self.old).geometry bytes.now at) }
-        ensures others { (source : ClaimSource) → ((at : ℕ) → source ≡ ClaimSource.Pointer fragment level at → ⊥) → (table_of self.new).claimed source ≡ (table_of self.old).claimed source }
+        ensures pointers { OnOk result ((at : ℕ) → (table_of self.new).claimed (ClaimSource.Pointer fragment level at)
+            ≡ fragment_pointers (table_of self.old).geometry bytes.now at) }
+        ensures others { KeepsOffPointers (table_of self.old) (table_of self.new) fragment level }
     {
-        let Some(g) = self.geometry() else {
+        let Some(g) = self.known() else {
             return Ok(());
         };
         for at in 0..g.fsize / POINTER_BYTES {
@@ -152,7 +160,7 @@ impl Claims {
         ensures place { IfSome result (λ place. place ≡ place_of source) }
         ensures none { IfNone result ((table_of self.now).claimed source ≡ []) }
     {
-        self.geometry()?;
+        self.known()?;
         place_of(source)
     }
 
@@ -167,17 +175,71 @@ impl Claims {
         }
     }
 
+    /// The slots of an inode claim nothing from now on.
+    #[tactic(auto, using(crate::proofs::SourceLaws::other_slots, crate::proofs::SourceLaws::bare_slots))]
+    pub fn remove_inode(&mut self, number: u32)
+        ensures geometry { (table_of self.new).geometry ≡ (table_of self.old).geometry }
+        ensures slots { (slot : ℕ) → (table_of self.new).claimed (ClaimSource.Slot number slot) ≡ [] }
+        ensures others { KeepsOffInode (table_of self.old) (table_of self.new) number }
+    {
+        self.known();
+        for slot in 0..SLOTS {
+            self.clear(Place::Slot {
+                inode: number,
+                slot,
+            });
+        }
+    }
+
+    /// The pointers of a fragment at a level claim nothing from now on.
+    #[tactic(auto, using(crate::proofs::SourceLaws::bare_pointer, crate::proofs::SourceLaws::other_pointers, crate::proofs::SourceLaws::bare_pointers))]
+    pub fn remove_pointers(&mut self, fragment: u32, level: u8)
+        ensures geometry { (table_of self.new).geometry ≡ (table_of self.old).geometry }
+        ensures pointers { (at : ℕ) → (table_of self.new).claimed (ClaimSource.Pointer fragment level at) ≡ [] }
+        ensures others { KeepsOffPointers (table_of self.old) (table_of self.new) fragment level }
+    {
+        let Some(g) = self.known() else {
+            return;
+        };
+        for at in 0..g.fsize / POINTER_BYTES {
+            self.clear(Place::Pointer {
+                fragment,
+                level,
+                at: at as u16,
+            });
+        }
+    }
+
+    /// The fragments that a source claims, if it claims some.
+    pub fn run(&self, source: &ClaimSource) -> Option<Run>
+        ensures value { run_fragments result ≡ (table_of self.now).claimed source.now }
+        ensures run { IfSome result (IsRun (size_in (table_of self.now).geometry)) }
+    {
+        let place = self.place_in(*source)?;
+        self.runs.get(place)
+    }
+
     /// How many sources claim the fragment.
     pub fn claims_on(&self, fragment: u32) -> u32
-        ensures { AreClaimants (table_of self.now).claimed fragment result }
+        ensures { HasClaimCount (TableClaims (table_of self.now)) fragment result }
     {
         self.marks.count(fragment)
     }
 
+    /// One of the claims on the fragment in their order, by its number from 0 on: its level, and the source. The cost grows with
+    /// the number.
+    pub fn claim(&self, fragment: u32, i: u32) -> Option<(u8, ClaimSource)>
+        ensures listed { (count : ℕ) × HasClaimCount (TableClaims (table_of self.now)) fragment count }
+        ensures claim { (sources : List ClaimSource) → AreClaimsOn (TableClaims (table_of self.now)) fragment sources → result ≡ claim_at sources i }
+    {
+        let source = source_of(self.marks.nth(fragment, i)?);
+        Some((source.level(), source))
+    }
+
     /// The source of a fragment that has one claim.
-    pub fn claim(&self, fragment: u32) -> Option<ClaimSource>
-        ensures only { IfSome result (IsOnlyClaim (table_of self.now).claimed fragment) }
-        ensures none { IfNone result ((source : ClaimSource) → IsOnlyClaim (table_of self.now).claimed fragment source → ⊥) }
+    pub fn only_claim(&self, fragment: u32) -> Option<ClaimSource>
+        ensures only { IfSome result (IsOnlyClaim (TableClaims (table_of self.now)) fragment) }
+        ensures none { IfNone result ((source : ClaimSource) → IsOnlyClaim (TableClaims (table_of self.now)) fragment source → ⊥) }
         ensures source { IfSome result (IsSource (table_of self.now).geometry) }
     {
         match self.marks.only(fragment) {
@@ -188,22 +250,27 @@ impl Claims {
 
     /// Whether a source claims the fragment at the level.
     pub fn has_level(&self, fragment: u32, level: u8) -> bool
-        ensures { Decides result (IsClaimedAt (table_of self.now).claimed level fragment) }
+        ensures { Decides result (IsClaimedAt (TableClaims (table_of self.now)) level fragment) }
     {
         self.marks.has_level(fragment, level)
     }
 
-    /// What is claimed is inside the volume, and claimed at a level of 0 to 3.
+    /// What is claimed is inside the volume, and claimed at a level of 0 to 3 by a source of the volume.
     pub fn claims_inside(&self)
-        ensures inside { (fragment : ℕ) (source : ClaimSource) → Contains ((table_of self.now).claimed source) fragment → fragment < size_in (table_of self.now).geometry }
-        ensures levels { (fragment : ℕ) (source : ClaimSource) → Contains ((table_of self.now).claimed source) fragment → level_of source ≤ 3 }
+        ensures inside { (fragment : ℕ) (source : ClaimSource) → TableClaims (table_of self.now) fragment source
+            → fragment < size_in (table_of self.now).geometry }
+        ensures levels { (fragment : ℕ) (source : ClaimSource) → TableClaims (table_of self.now) fragment source
+            → level_of source ≤ 3 }
+        ensures sources { (fragment : ℕ) (source : ClaimSource) → TableClaims (table_of self.now) fragment source
+            → IsSource (table_of self.now).geometry source }
     {
         let _geometry = self.geometry;
     }
 
     /// The fragments with a claim at the level, each once, ascending.
     pub(crate) fn fragments_at(&self, alloc: Global, level: u8) -> Result<Vec<u32>, NoMemory>
-        ensures claimed { IfOk result (λ fragments. (fragment : ℕ) → Contains fragments.items fragment ↔ IsClaimedAt (table_of self.now).claimed level fragment) }
+        ensures claimed { IfOk result (λ fragments. (fragment : ℕ) → Contains fragments.items fragment
+            ↔ IsClaimedAt (TableClaims (table_of self.now)) level fragment) }
         ensures inside { IfOk result (λ fragments. (fragment : ℕ) → Contains fragments.items fragment → fragment < size_in self.now.geometry) }
     {
         let mut fragments = Vec::new(alloc);

@@ -1,36 +1,35 @@
-ghost use Rattle.std.specs.Prelude.{◌≡◌, ◌+◌, ◌*◌, ◌-◌, ◌<◌, ◌≤◌, ℕ, List, [], IfOk, IfSome, OnOk, Ok, Some, None, drop, length, take, true, false};
-ghost use Rattle.dg_io.specs.Views.{KeepsView};
-ghost use Rattle.ufs_model.specs.Blocks.{block_at};
-ghost use Rattle.ufs_model.specs.Claims.{targets};
+ghost use Rattle.std.specs.Prelude.{◌≡◌, ◌+◌, ◌*◌, ◌-◌, ◌<◌, ◌≤◌, ◌∷◌, ℕ, [], IfOk, IfSome, OnOk, Some, None, drop, length, take, true, false};
+ghost use Rattle.dg_io.specs.ViewWords.{Keeps};
+ghost use Rattle.ufs_model.specs.Blocks.{Volume, block_at};
 ghost use Rattle.ufs_model.specs.Geometries.{IsGeometryOn};
 ghost use Rattle.ufs_model.specs.Inodes.{inode_in};
 ghost use Rattle.ufs_model.specs.declared.claims.ClaimSource.{ClaimSource};
-ghost use Rattle.ufs_model.specs.declared.numbers.Endian.TheVariants.{Little};
+ghost use Rattle.ufs_model.specs.declared.numbers.Endian.{Endian};
+ghost use Rattle.ufs_pointer.specs.Fetches.{IsJust};
+ghost use Rattle.ufs_pointer.specs.ViewWords.{FetchesKind, LosesKind};
 ghost use Rattle.dg_claims.specs.Kept.{table_of};
-ghost use Rattle.dg_claims.specs.Readers.{FetchesOnly, LosesOne};
-ghost use Rattle.dg_claims.specs.Scans.{HasInode, HasNoPointers, HoldsIn, IsIndirect, IsRightAbove, stored_fragments};
+ghost use Rattle.dg_claims.specs.Scans.{ClaimsAsOn, HasInode, HoldsIn, stored_fragments};
+ghost use Rattle.dg_claims.specs.Tables.{KeepsOffInode};
 
-use crate::claims::{Claims, FIRST_INODE};
+use crate::claims::Claims;
 use dg_io::{NoMemory, View};
-use std::alloc::Global;
-use ufs_inode::{place_of, read_inode};
-use ufs_model::{ClaimSource, Geometry, Inode};
+use ufs_inode::{inode_at, place_of};
+use ufs_model::{ClaimSource, Endian, Geometry, ROOT_INODE};
 use ufs_pointer::Levels;
 
-/// Bytes of an inode (`struct dinode`).
-const INODE_BYTES: usize = 128;
-
-/// Reads a fragment beside the block of data, and answers whether it could.
-pub(crate) fn read_fragment<V: View>(view: &mut V, levels: &mut Levels, fragment: u32) -> bool
+/// Reads a fragment beside the block of data, once, and answers whether it could. Where it is gone, the fragment beside the
+/// block has any bytes.
+pub fn read_fragment<V: View>(view: &mut V, levels: &mut Levels, fragment: u32) -> bool
     requires sound { V.is_sound view.old }
     requires within { fragment < V.count view.old }
     requires levels { levels.old.fragment ≡ V.size view.old }
-    ensures keeps { KeepsView V.stands_for V.tells V.is_gone V.count V.size V.is_sound V.goes_on view.old view.new }
+    ensures keeps { Keeps V.View view.old view.new }
     ensures levels { levels.new.fragment ≡ levels.old.fragment }
     ensures room { length levels.new.aside ≡ V.size view.old }
-    ensures bytes { result ≡ true → V.tells view.new → (v : List (List ℕ)) → V.stands_for view.old v → levels.new.aside ≡ block_at (V.size view.old) v fragment }
-    ensures lost { result ≡ false → LosesOne (V.stands_for view.old) (V.tells view.new) (λ v b. b ≡ fragment) (V.is_gone view.new) }
-    ensures fetched { FetchesOnly V.fetched (V.stands_for view.old) (V.tells view.new) (λ v b. b ≡ fragment) view.old view.new }
+    ensures bytes { result ≡ true → V.tells view.new → (v : Volume) → V.stands_for view.old v
+        → levels.new.aside ≡ block_at (V.size view.old) v fragment }
+    ensures once { V.fetched view.old (fragment ∷ []) view.new }
+    ensures gone { result ≡ false → V.is_gone view.new fragment ≡ true }
 {
     levels.read_aside(view, fragment)
 }
@@ -41,13 +40,13 @@ fn hold<V: View>(view: &mut V, levels: &mut Levels, held: &mut Option<u32>, bloc
     requires within { block < V.count view.old }
     requires levels { levels.old.fragment ≡ V.size view.old }
     requires room { IfSome held.old (λ b. length levels.old.aside ≡ V.size view.old) }
-    ensures keeps { KeepsView V.stands_for V.tells V.is_gone V.count V.size V.is_sound V.goes_on view.old view.new }
+    ensures keeps { Keeps V.View view.old view.new }
     ensures levels { levels.new.fragment ≡ levels.old.fragment }
     ensures held { result ≡ true → (held.new ≡ Some block) × (length levels.new.aside ≡ V.size view.old) }
-    ensures bytes { result ≡ true → V.tells view.new → (v : List (List ℕ)) → V.stands_for view.old v → HoldsIn (V.size view.old) v held.old levels.old.aside
+    ensures bytes { result ≡ true → V.tells view.new → (v : Volume) → V.stands_for view.old v → HoldsIn (V.size view.old) v held.old levels.old.aside
         → levels.new.aside ≡ block_at (V.size view.old) v block }
-    ensures lost { result ≡ false → LosesOne (V.stands_for view.old) (V.tells view.new) (λ v b. b ≡ block) (V.is_gone view.new) }
-    ensures fetched { FetchesOnly V.fetched (V.stands_for view.old) (V.tells view.new) (λ v b. b ≡ block) view.old view.new }
+    ensures gone { result ≡ false → V.is_gone view.new block ≡ true }
+    ensures fetched { FetchesKind V.View view.old view.new (IsJust block) }
 {
     if *held == Some(block) {
         return true;
@@ -60,25 +59,22 @@ fn hold<V: View>(view: &mut V, levels: &mut Levels, held: &mut Option<u32>, bloc
     true
 }
 
-/// The inode at a byte of its block. There is none where it is unallocated.
-fn inode_at(block: &[u8], byte: u32) -> Option<Inode>
-    requires { byte + 128 ≤ length block.now }
-    ensures { result ≡ inode_in Little (take 128 (drop byte block.now)) }
-{
-    let start = byte as usize;
-    read_inode(&block[start..start + INODE_BYTES])
-}
-
 /// The slots of the inode at a byte of its block claim what it says. They claimed nothing.
-fn claim_stored(claims: &mut Claims, number: u32, block: &[u8], byte: u32) -> Result<(), NoMemory>
+fn claim_stored(
+    claims: &mut Claims,
+    number: u32,
+    block: &[u8],
+    byte: u32,
+    endian: Endian,
+) -> Result<(), NoMemory>
     requires inside { byte + 128 ≤ length block.now }
     requires bare { (slot : ℕ) → (table_of claims.old).claimed (ClaimSource.Slot number slot) ≡ [] }
     ensures geometry { (table_of claims.new).geometry ≡ (table_of claims.old).geometry }
     ensures slots { OnOk result ((slot : ℕ) → (table_of claims.new).claimed (ClaimSource.Slot number slot)
-        ≡ stored_fragments (table_of claims.old).geometry number (inode_in Little (take 128 (drop byte block.now))) slot) }
-    ensures others { (source : ClaimSource) → ((slot : ℕ) → source ≡ ClaimSource.Slot number slot → ⊥) → (table_of claims.new).claimed source ≡ (table_of claims.old).claimed source }
+        ≡ stored_fragments (table_of claims.old).geometry number (inode_in endian (take 128 (drop byte block.now))) slot) }
+    ensures others { KeepsOffInode (table_of claims.old) (table_of claims.new) number }
 {
-    match inode_at(block, byte) {
+    match inode_at(block, byte, endian) {
         Some(inode) => claims.of_inode(number, &inode),
         None => Ok(()),
     }
@@ -102,21 +98,22 @@ fn scan_inode<V: View>(
     requires high { number < g.now.ncg * g.now.ipg }
     requires room { IfSome held.old (λ b. length levels.old.aside ≡ V.size view.old) }
     requires bare { (slot : ℕ) → (table_of claims.old).claimed (ClaimSource.Slot number slot) ≡ [] }
-    ensures keeps { KeepsView V.stands_for V.tells V.is_gone V.count V.size V.is_sound V.goes_on view.old view.new }
+    ensures keeps { Keeps V.View view.old view.new }
     ensures levels { levels.new.fragment ≡ levels.old.fragment }
     ensures geometry { (table_of claims.new).geometry ≡ (table_of claims.old).geometry }
     ensures room { IfOk result (λ got. got ≡ true → IfSome held.new (λ b. length levels.new.aside ≡ V.size view.old)) }
-    ensures slots { IfOk result (λ got. got ≡ true → V.tells view.new → (v : List (List ℕ)) → V.stands_for view.old v → HoldsIn (V.size view.old) v held.old levels.old.aside
-        → HoldsIn (V.size view.old) v held.new levels.new.aside × ((slot : ℕ) → (table_of claims.new).claimed (ClaimSource.Slot number slot) ≡ targets Little g.now v (ClaimSource.Slot number slot))) }
-    ensures others { (source : ClaimSource) → ((slot : ℕ) → source ≡ ClaimSource.Slot number slot → ⊥) → (table_of claims.new).claimed source ≡ (table_of claims.old).claimed source }
-    ensures lost { IfOk result (λ got. got ≡ false → LosesOne (V.stands_for view.old) (V.tells view.new) (λ v b. HasInode g.now b) (V.is_gone view.new)) }
-    ensures fetched { FetchesOnly V.fetched (V.stands_for view.old) (V.tells view.new) (λ v b. HasInode g.now b) view.old view.new }
+    ensures slots { IfOk result (λ got. got ≡ true → V.tells view.new → (v : Volume) → V.stands_for view.old v
+        → HoldsIn (V.size view.old) v held.old levels.old.aside → HoldsIn (V.size view.old) v held.new levels.new.aside
+        × ((slot : ℕ) → ClaimsAsOn g.now v (table_of claims.new).claimed (ClaimSource.Slot number slot))) }
+    ensures others { KeepsOffInode (table_of claims.old) (table_of claims.new) number }
+    ensures lost { IfOk result (λ got. got ≡ false → LosesKind V.View view.old view.new (HasInode g.now)) }
+    ensures fetched { FetchesKind V.View view.old view.new (HasInode g.now) }
 {
     let (block, byte) = place_of(g, number);
     if !hold(view, levels, held, block) {
         return Ok(false);
     }
-    claim_stored(claims, number, levels.aside(), byte)?;
+    claim_stored(claims, number, levels.aside(), byte, g.endian)?;
     Ok(true)
 }
 
@@ -132,17 +129,18 @@ pub(crate) fn scan_inodes<V: View>(
     requires levels { levels.old.fragment ≡ V.size view.old }
     requires table { (table_of claims.old).geometry ≡ Some g.now }
     requires bare { (source : ClaimSource) → (table_of claims.old).claimed source ≡ [] }
-    ensures keeps { KeepsView V.stands_for V.tells V.is_gone V.count V.size V.is_sound V.goes_on view.old view.new }
+    ensures keeps { Keeps V.View view.old view.new }
     ensures levels { levels.new.fragment ≡ levels.old.fragment }
     ensures geometry { (table_of claims.new).geometry ≡ (table_of claims.old).geometry }
-    ensures slots { IfOk result (λ got. got ≡ true → V.tells view.new → (v : List (List ℕ)) → V.stands_for view.old v
-        → (number slot : ℕ) → (table_of claims.new).claimed (ClaimSource.Slot number slot) ≡ targets Little g.now v (ClaimSource.Slot number slot)) }
-    ensures pointers { IfOk result (λ got. got ≡ true → (fragment level at : ℕ) → (table_of claims.new).claimed (ClaimSource.Pointer fragment level at) ≡ []) }
-    ensures lost { IfOk result (λ got. got ≡ false → LosesOne (V.stands_for view.old) (V.tells view.new) (λ v b. HasInode g.now b) (V.is_gone view.new)) }
-    ensures fetched { FetchesOnly V.fetched (V.stands_for view.old) (V.tells view.new) (λ v b. HasInode g.now b) view.old view.new }
+    ensures slots { IfOk result (λ got. got ≡ true → V.tells view.new → (v : Volume) → V.stands_for view.old v
+        → (number slot : ℕ) → ClaimsAsOn g.now v (table_of claims.new).claimed (ClaimSource.Slot number slot)) }
+    ensures pointers { IfOk result (λ got. got ≡ true
+        → (fragment level at : ℕ) → (table_of claims.new).claimed (ClaimSource.Pointer fragment level at) ≡ []) }
+    ensures lost { IfOk result (λ got. got ≡ false → LosesKind V.View view.old view.new (HasInode g.now)) }
+    ensures fetched { FetchesKind V.View view.old view.new (HasInode g.now) }
 {
     let mut held = None;
-    for number in FIRST_INODE..g.ncg * g.ipg {
+    for number in ROOT_INODE..g.ncg * g.ipg {
         if !scan_inode(view, g, levels, claims, &mut held, number)? {
             return Ok(false);
         }

@@ -1,13 +1,15 @@
-ghost use Rattle.std.specs.Prelude.{◌≡◌, ◌-◌, ◌<◌, ◌≤◌, ℕ, List, [], IfOk, Ok, Some, length, true, false};
+ghost use Rattle.std.specs.Prelude.{◌≡◌, ◌-◌, ◌<◌, ◌≤◌, ℕ, [], IfOk, Ok, Some, length, true, false};
 ghost use Rattle.std.specs.List.{Contains};
-ghost use Rattle.dg_io.specs.Views.{KeepsView};
-ghost use Rattle.ufs_model.specs.Claims.{targets};
+ghost use Rattle.dg_io.specs.ViewWords.{Keeps};
+ghost use Rattle.ufs_model.specs.Blocks.{Volume};
+ghost use Rattle.ufs_model.specs.Claims.{source_fragments};
 ghost use Rattle.ufs_model.specs.Geometries.{IsGeometryOn};
 ghost use Rattle.ufs_model.specs.declared.claims.ClaimSource.{ClaimSource};
-ghost use Rattle.ufs_model.specs.declared.numbers.Endian.TheVariants.{Little};
+ghost use Rattle.ufs_pointer.specs.Fetches.{IsJust};
+ghost use Rattle.ufs_pointer.specs.ViewWords.{FetchesKind, LosesKind};
 ghost use Rattle.dg_claims.specs.Kept.{table_of};
-ghost use Rattle.dg_claims.specs.Readers.{FetchesOnly, LosesOne};
-ghost use Rattle.dg_claims.specs.Scans.{HasNoPointers, IsIndirect, IsRightAbove};
+ghost use Rattle.dg_claims.specs.Scans.{ClaimsAsOn, FetchesIndirect, HasNoPointers, IsAmong, IsRightAbove, LosesIndirect};
+ghost use Rattle.dg_claims.specs.Tables.{KeepsOffPointers};
 
 use crate::claims::Claims;
 use crate::inodes::read_fragment;
@@ -36,14 +38,14 @@ fn scan_fragment<V: View>(
     requires inside { fragment < g.now.size }
     requires low { 1 ≤ level }
     requires high { level ≤ 3 }
-    ensures keeps { KeepsView V.stands_for V.tells V.is_gone V.count V.size V.is_sound V.goes_on view.old view.new }
+    ensures keeps { Keeps V.View view.old view.new }
     ensures levels { levels.new.fragment ≡ levels.old.fragment }
     ensures geometry { (table_of claims.new).geometry ≡ (table_of claims.old).geometry }
-    ensures pointers { IfOk result (λ got. got ≡ true → V.tells view.new → (v : List (List ℕ)) → V.stands_for view.old v
-        → (at : ℕ) → (table_of claims.new).claimed (ClaimSource.Pointer fragment level at) ≡ targets Little g.now v (ClaimSource.Pointer fragment level at)) }
-    ensures others { (source : ClaimSource) → ((at : ℕ) → source ≡ ClaimSource.Pointer fragment level at → ⊥) → (table_of claims.new).claimed source ≡ (table_of claims.old).claimed source }
-    ensures lost { IfOk result (λ got. got ≡ false → LosesOne (V.stands_for view.old) (V.tells view.new) (λ v b. b ≡ fragment) (V.is_gone view.new)) }
-    ensures fetched { FetchesOnly V.fetched (V.stands_for view.old) (V.tells view.new) (λ v b. b ≡ fragment) view.old view.new }
+    ensures pointers { IfOk result (λ got. got ≡ true → V.tells view.new → (v : Volume) → V.stands_for view.old v
+        → (at : ℕ) → ClaimsAsOn g.now v (table_of claims.new).claimed (ClaimSource.Pointer fragment level at)) }
+    ensures others { KeepsOffPointers (table_of claims.old) (table_of claims.new) fragment level }
+    ensures gone { IfOk result (λ got. got ≡ false → V.is_gone view.new fragment ≡ true) }
+    ensures fetched { FetchesKind V.View view.old view.new (IsJust fragment) }
 {
     if !read_fragment(view, levels, fragment) {
         return Ok(false);
@@ -69,15 +71,16 @@ fn scan_fragments<V: View>(
     requires inside { (fragment : ℕ) → Contains fragments.now fragment → fragment < g.now.size }
     requires low { 1 ≤ level }
     requires high { level ≤ 3 }
-    ensures keeps { KeepsView V.stands_for V.tells V.is_gone V.count V.size V.is_sound V.goes_on view.old view.new }
+    ensures keeps { Keeps V.View view.old view.new }
     ensures levels { levels.new.fragment ≡ levels.old.fragment }
     ensures geometry { (table_of claims.new).geometry ≡ (table_of claims.old).geometry }
-    ensures pointers { IfOk result (λ got. got ≡ true → V.tells view.new → (v : List (List ℕ)) → V.stands_for view.old v
-        → (fragment at : ℕ) → Contains fragments.now fragment → (table_of claims.new).claimed (ClaimSource.Pointer fragment level at) ≡ targets Little g.now v (ClaimSource.Pointer fragment level at)) }
+    ensures pointers { IfOk result (λ got. got ≡ true → V.tells view.new → (v : Volume) → V.stands_for view.old v
+        → (fragment at : ℕ) → Contains fragments.now fragment
+        → ClaimsAsOn g.now v (table_of claims.new).claimed (ClaimSource.Pointer fragment level at)) }
     ensures others { (source : ClaimSource) → ((fragment at : ℕ) → Contains fragments.now fragment → source ≡ ClaimSource.Pointer fragment level at → ⊥)
         → (table_of claims.new).claimed source ≡ (table_of claims.old).claimed source }
-    ensures lost { IfOk result (λ got. got ≡ false → LosesOne (V.stands_for view.old) (V.tells view.new) (λ v b. Contains fragments.now b) (V.is_gone view.new)) }
-    ensures fetched { FetchesOnly V.fetched (V.stands_for view.old) (V.tells view.new) (λ v b. Contains fragments.now b) view.old view.new }
+    ensures lost { IfOk result (λ got. got ≡ false → LosesKind V.View view.old view.new (IsAmong fragments.now)) }
+    ensures fetched { FetchesKind V.View view.old view.new (IsAmong fragments.now) }
 {
     for fragment in fragments {
         if !scan_fragment(view, g, levels, claims, *fragment, level)? {
@@ -104,16 +107,15 @@ fn scan_level<V: View>(
     requires low { 1 ≤ level }
     requires high { level ≤ 3 }
     requires none { HasNoPointers (table_of claims.old).claimed level }
-    ensures keeps { KeepsView V.stands_for V.tells V.is_gone V.count V.size V.is_sound V.goes_on view.old view.new }
+    ensures keeps { Keeps V.View view.old view.new }
     ensures levels { levels.new.fragment ≡ levels.old.fragment }
     ensures geometry { (table_of claims.new).geometry ≡ (table_of claims.old).geometry }
     ensures none { HasNoPointers (table_of claims.new).claimed (level - 1) }
-    ensures right { IfOk result (λ got. got ≡ true → V.tells view.new → (v : List (List ℕ)) → V.stands_for view.old v
-        → IsRightAbove (targets Little g.now v) (table_of claims.old).claimed level → IsRightAbove (targets Little g.now v) (table_of claims.new).claimed (level - 1)) }
-    ensures lost { IfOk result (λ got. got ≡ false → LosesOne (λ v. V.stands_for view.old v × IsRightAbove (targets Little g.now v) (table_of claims.old).claimed level) (V.tells view.new)
-        (λ v b. IsIndirect (targets Little g.now v) b) (V.is_gone view.new)) }
-    ensures fetched { FetchesOnly V.fetched (λ v. V.stands_for view.old v × IsRightAbove (targets Little g.now v) (table_of claims.old).claimed level) (V.tells view.new)
-        (λ v b. IsIndirect (targets Little g.now v) b) view.old view.new }
+    ensures right { IfOk result (λ got. got ≡ true → V.tells view.new → (v : Volume) → V.stands_for view.old v
+        → IsRightAbove (source_fragments g.now v) (table_of claims.old).claimed level
+        → IsRightAbove (source_fragments g.now v) (table_of claims.new).claimed (level - 1)) }
+    ensures lost { IfOk result (λ got. got ≡ false → LosesIndirect V.View view.old view.new g.now (table_of claims.old).claimed level) }
+    ensures fetched { FetchesIndirect V.View view.old view.new g.now (table_of claims.old).claimed level }
 {
     let fragments = claims.fragments_at(alloc, level)?;
     scan_fragments(view, g, levels, claims, &fragments, level)
@@ -133,16 +135,14 @@ pub(crate) fn scan_levels<V: View>(
     requires levels { levels.old.fragment ≡ V.size view.old }
     requires table { (table_of claims.old).geometry ≡ Some g.now }
     requires none { HasNoPointers (table_of claims.old).claimed 3 }
-    ensures keeps { KeepsView V.stands_for V.tells V.is_gone V.count V.size V.is_sound V.goes_on view.old view.new }
+    ensures keeps { Keeps V.View view.old view.new }
     ensures levels { levels.new.fragment ≡ levels.old.fragment }
     ensures geometry { (table_of claims.new).geometry ≡ (table_of claims.old).geometry }
     ensures none { IfOk result (λ got. got ≡ true → HasNoPointers (table_of claims.new).claimed 0) }
-    ensures right { IfOk result (λ got. got ≡ true → V.tells view.new → (v : List (List ℕ)) → V.stands_for view.old v
-        → IsRightAbove (targets Little g.now v) (table_of claims.old).claimed 3 → IsRightAbove (targets Little g.now v) (table_of claims.new).claimed 0) }
-    ensures lost { IfOk result (λ got. got ≡ false → LosesOne (λ v. V.stands_for view.old v × IsRightAbove (targets Little g.now v) (table_of claims.old).claimed 3) (V.tells view.new)
-        (λ v b. IsIndirect (targets Little g.now v) b) (V.is_gone view.new)) }
-    ensures fetched { FetchesOnly V.fetched (λ v. V.stands_for view.old v × IsRightAbove (targets Little g.now v) (table_of claims.old).claimed 3) (V.tells view.new)
-        (λ v b. IsIndirect (targets Little g.now v) b) view.old view.new }
+    ensures right { IfOk result (λ got. got ≡ true → V.tells view.new → (v : Volume) → V.stands_for view.old v
+        → IsRightAbove (source_fragments g.now v) (table_of claims.old).claimed 3 → IsRightAbove (source_fragments g.now v) (table_of claims.new).claimed 0) }
+    ensures lost { IfOk result (λ got. got ≡ false → LosesIndirect V.View view.old view.new g.now (table_of claims.old).claimed 3) }
+    ensures fetched { FetchesIndirect V.View view.old view.new g.now (table_of claims.old).claimed 3 }
 {
     for done in 0..HIGHEST {
         if !scan_level(alloc, view, g, levels, claims, HIGHEST - done)? {

@@ -6,6 +6,7 @@
 
 mod claims;
 mod inodes;
+mod laws;
 mod levels;
 mod marks;
 mod owners;
@@ -17,5 +18,11 @@ mod spans;
 mod tests;
 
 pub use crate::claims::Claims;
+pub use crate::inodes::read_fragment;
+pub use crate::laws::{
+    claims_of_sources, levels_of_claims, pointers_of_fragments, slots_of_inodes, tables_of_volumes,
+};
+pub use crate::runs::Run;
 pub use crate::scans::scan;
+pub use crate::spans::{pointer_run, slot_run};
 pub use ufs_model::{ClaimSource, Geometry, Inode};

@@ -1,32 +1,39 @@
-ghost use Rattle.std.specs.Prelude.{◌≡◌, ◌<◌, ◌^◌, ℕ, Some, None, [], ◌∷◌, ◌++◌, IfOk, IfSome, IfNone, MatchResult, length, not, slice_index_or};
+ghost use Rattle.std.specs.Prelude.{◌≡◌, ◌<◌, ◌^◌, ◌==◌, ℕ, Some, None, [], ◌∷◌, IfNone, IfOk, IfSome, List, MatchResult, length, map, slice_get, slice_index_or};
 ghost use Rattle.std.specs.Bool.{Decides};
+ghost use Rattle.std.specs.BTreeMap.{is_at};
+ghost use Rattle.std.specs.BTreeSet.{insert_key};
 ghost use Rattle.std.specs.List.{Contains, list_any};
-ghost use Rattle.dg_claims.specs.Places.{is_at_level};
-ghost use Rattle.dg_claims.specs.Marks.{AddsMark, DropsMark, IsMarks, SameMarks, SameMore, SetsMore, marked_on, more_on, same_place, without};
+ghost use Rattle.std.specs.List.Sorted.{IsStrictlySortedBy};
+ghost use Rattle.std.specs.Option.{option_map};
+ghost use Rattle.std.specs.Set.{remove_key};
+ghost use Rattle.dg_claims.specs.Places.{mark_cmp};
+ghost use Rattle.dg_claims.specs.Marks.{AddsMark, DropsMark, IsMarks, SameMarks, SameMore, SetsMore, is_of_level, marked_on, more_on, place_in};
+ghost use Rattle.dg_claims.specs.declared.places.Mark.{Mark};
 
-use crate::places::{Place, is_at_level, is_same};
+use crate::places::{Mark, Place, is_before, is_same, mark_of};
 use dg_io::NoMemory;
 use std::alloc::Global;
-use std::collections::BTreeMap;
+use std::collections::{BTreeMap, BTreeSet};
 
-/// Which sources claim each fragment. Most fragments have one at most, in 12 bytes.
+/// Which sources claim each fragment, in the order of the claims on it. Most fragments have one at most, in 16 bytes.
 #[derive(Drop)]
 pub struct Marks {
     alloc: Global,
-    /// A source of each fragment, if it has one.
+    /// The first source of each fragment, if it has one.
     first: Vec<Option<Place>>,
     /// The further sources of the fragments that have more.
-    more: BTreeMap<u32, Vec<Place>>,
+    more: BTreeMap<u32, BTreeSet<Mark>>,
 }
 
-const _: () = prove!(size_of::<Option<Place>>() == 12);
+const _: () = prove!(size_of::<Option<Place>>() == 16);
 
 impl Marks {
     /// So many fragments, of which none is claimed. It takes the memory for one source of each.
-    #[tactic(auto, unfolding(crate::specs::Marks::marked_on))]
+    #[tactic(auto, unfolding(crate::specs::Marks::all_on))]
     pub fn new(alloc: Global, size: u32) -> Result<Marks, NoMemory>
         ensures room { IfOk result (λ marks. length marks.first.items ≡ size) }
         ensures none { IfOk result (λ marks. (fragment : ℕ) → marked_on marks fragment ≡ []) }
+        ensures sound { IfOk result IsMarks }
     {
         match vec![in alloc; None; size as usize] {
             Ok(first) => Ok(Marks {
@@ -38,7 +45,7 @@ impl Marks {
         }
     }
 
-    /// The source that the fragment has first, if it has one there.
+    /// The first source of the fragment, if it has one.
     fn first_at(&self, fragment: u32) -> Option<Place>
         ensures { result ≡ slice_index_or self.now.first.items fragment None }
     {
@@ -46,7 +53,7 @@ impl Marks {
     }
 
     /// How many sources claim the fragment.
-    #[tactic(auto, unfolding(crate::specs::Marks::marked_on))]
+    #[tactic(auto, unfolding(crate::specs::Marks::all_on))]
     pub fn count(&self, fragment: u32) -> u32
         requires { IsMarks self.now }
         ensures { result ≡ length (marked_on self.now fragment) }
@@ -54,42 +61,53 @@ impl Marks {
         let further = count_more(&self.more, fragment);
         let number = match self.first_at(fragment) {
             Some(_) => 1 + further,
-            None => further,
+            None => 0,
         };
         number as u32
     }
 
+    /// A source of the fragment, by its number among them.
+    #[tactic(auto, unfolding(crate::specs::Marks::all_on))]
+    pub fn nth(&self, fragment: u32, i: u32) -> Option<Place>
+        requires { IsMarks self.now }
+        ensures { result ≡ slice_get (marked_on self.now fragment) i }
+    {
+        let first = self.first_at(fragment)?;
+        if i == 0 {
+            return Some(first);
+        }
+        nth_more(&self.more, fragment, i as usize - 1)
+    }
+
     /// The source of a fragment that has one.
-    #[tactic(auto, unfolding(crate::specs::Marks::marked_on))]
+    #[tactic(auto, unfolding(crate::specs::Marks::all_on))]
     pub fn only(&self, fragment: u32) -> Option<Place>
+        requires { IsMarks self.now }
         ensures one { IfSome result (λ place. marked_on self.now fragment ≡ place ∷ []) }
         ensures none { IfNone result (length (marked_on self.now fragment) ≡ 1 → ⊥) }
     {
-        match self.first_at(fragment) {
-            Some(place) => {
-                if count_more(&self.more, fragment) == 0 {
-                    Some(place)
-                } else {
-                    None
-                }
-            }
-            None => only_more(&self.more, fragment),
+        let first = self.first_at(fragment)?;
+        if count_more(&self.more, fragment) == 0 {
+            return Some(first);
         }
+        None
     }
 
     /// Whether the fragment has a source at the level.
-    #[tactic(auto, unfolding(crate::specs::Marks::marked_on))]
+    #[tactic(auto, unfolding(crate::specs::Marks::all_on))]
     pub fn has_level(&self, fragment: u32, level: u8) -> bool
-        ensures { result ≡ list_any (is_at_level level) (marked_on self.now fragment) }
+        requires { IsMarks self.now }
+        ensures { result ≡ list_any (is_of_level level) (marked_on self.now fragment) }
     {
         match self.first_at(fragment) {
-            Some(place) => is_at_level(place, level) || more_has_level(&self.more, fragment, level),
-            None => more_has_level(&self.more, fragment, level),
+            Some(place) => {
+                mark_of(place).level == level || more_has_level(&self.more, fragment, level)
+            }
+            None => false,
         }
     }
 
     /// The fragment has this source too from now on.
-    #[tactic(auto, unfolding(crate::specs::Marks::marked_on))]
     pub fn add(&mut self, fragment: u32, place: Place) -> Result<(), NoMemory>
         requires sound { IsMarks self.old }
         requires within { fragment < length self.old.first.items }
@@ -100,31 +118,35 @@ impl Marks {
         if self.count(fragment) == u32::MAX {
             return Err(NoMemory);
         }
-        if self.first[fragment as usize].is_none() {
+        let Some(first) = self.first_at(fragment) else {
             self.first[fragment as usize] = Some(place);
             return Ok(());
+        };
+        if is_before(mark_of(first), mark_of(place)) {
+            return put_more(&mut self.more, self.alloc, fragment, mark_of(place));
         }
-        push_more(&mut self.more, self.alloc, fragment, place)
+        put_more(&mut self.more, self.alloc, fragment, mark_of(first))?;
+        self.first[fragment as usize] = Some(place);
+        Ok(())
     }
 
     /// The fragment doesn't have this source any more.
-    #[tactic(auto, unfolding(crate::specs::Marks::marked_on))]
     pub fn remove(&mut self, fragment: u32, place: Place)
         requires sound { IsMarks self.old }
         requires within { fragment < length self.old.first.items }
         ensures sound { IsMarks self.new }
         ensures dropped { DropsMark self.old self.new fragment place }
     {
-        if has(self.first[fragment as usize], place) {
-            self.first[fragment as usize] = None;
+        if is_first(self.first_at(fragment), place) {
+            self.first[fragment as usize] = unmarked(take_more(&mut self.more, fragment));
         } else {
-            drop_more(&mut self.more, fragment, place);
+            drop_more(&mut self.more, fragment, mark_of(place));
         }
     }
 }
 
 /// Whether this is the source.
-fn has(one: Option<Place>, place: Place) -> bool
+fn is_first(one: Option<Place>, place: Place) -> bool
     ensures { Decides result (one ≡ Some place) }
 {
     match one {
@@ -134,87 +156,88 @@ fn has(one: Option<Place>, place: Place) -> bool
 }
 
 /// How many further sources the fragment has.
-fn count_more(more: &BTreeMap<u32, Vec<Place>>, fragment: u32) -> usize
+fn count_more(more: &BTreeMap<u32, BTreeSet<Mark>>, fragment: u32) -> usize
     ensures number { result ≡ length (more_on more.now fragment) }
     ensures fits { result < 2 ^ 63 }
 {
     match more.get(&fragment) {
-        Some(places) => places.len(),
+        Some(marks) => marks.len(),
         None => 0,
     }
 }
 
-/// The one further source of the fragment, where it has just one.
-fn only_more(more: &BTreeMap<u32, Vec<Place>>, fragment: u32) -> Option<Place>
-    ensures one { IfSome result (λ place. more_on more.now fragment ≡ place ∷ []) }
-    ensures none { IfNone result (length (more_on more.now fragment) ≡ 1 → ⊥) }
+/// A further source of the fragment, by its number among them.
+fn nth_more(more: &BTreeMap<u32, BTreeSet<Mark>>, fragment: u32, i: usize) -> Option<Place>
+    ensures { result ≡ option_map place_in (slice_get (more_on more.now fragment) i) }
 {
-    match more.get(&fragment) {
-        Some(places) => only_of(places),
-        None => None,
-    }
+    let mark = more.get(&fragment)?.iter().nth(i)?;
+    Some(mark.place)
 }
 
-/// The element of a list of one.
-fn only_of(places: &[Place]) -> Option<Place>
-    ensures one { IfSome result (λ place. places.now ≡ place ∷ []) }
-    ensures none { IfNone result (length places.now ≡ 1 → ⊥) }
-{
-    match places {
-        [place] => Some(*place),
-        _ => None,
-    }
-}
-
-/// Puts a further source last in the list of the fragment.
-fn push_more(
-    more: &mut BTreeMap<u32, Vec<Place>>,
+/// Puts a further source into the set of the fragment.
+fn put_more(
+    more: &mut BTreeMap<u32, BTreeSet<Mark>>,
     alloc: Global,
     fragment: u32,
-    place: Place,
+    mark: Mark,
 ) -> Result<(), NoMemory>
-    ensures { MatchResult result (λ _. SetsMore more.old more.new fragment (more_on more.old fragment ++ place ∷ [])) (λ _. SameMore more.old more.new) }
+    ensures put { MatchResult result (λ _. SetsMore more.old more.new fragment (insert_key mark_cmp (more_on more.old fragment) mark))
+        (λ _. SameMore more.old more.new) }
+    ensures ordered { IfOk result (λ _. IsStrictlySortedBy mark_cmp (more_on more.new fragment)) }
 {
-    if let Some(places) = more.get_mut(&fragment) {
-        return places.push(place).map_err(|_| NoMemory);
+    if let Some(marks) = more.get_mut(&fragment) {
+        return match marks.insert(mark) {
+            Ok(_) => Ok(()),
+            Err(_) => Err(NoMemory),
+        };
     }
-    let mut places = Vec::new(alloc);
-    if places.push(place).is_err() || more.insert(fragment, places).is_err() {
+    let mut marks = BTreeSet::new(alloc);
+    if marks.insert(mark).is_err() || more.insert(fragment, marks).is_err() {
         return Err(NoMemory);
     }
     Ok(())
 }
 
-/// Takes a further source out of the list of the fragment.
-fn drop_more(more: &mut BTreeMap<u32, Vec<Place>>, fragment: u32, place: Place)
-    ensures { SetsMore more.old more.new fragment (without place (more_on more.old fragment)) }
+/// Takes the first of the further sources of the fragment, if it has any.
+fn take_more(more: &mut BTreeMap<u32, BTreeSet<Mark>>, fragment: u32) -> Option<Mark>
+    ensures some { IfSome result (λ mark. more_on more.old fragment ≡ mark ∷ more_on more.new fragment) }
+    ensures none { IfNone result ((more_on more.old fragment ≡ []) × (more_on more.new fragment ≡ [])) }
+    ensures elsewhere { (other : ℕ) → (other ≡ fragment → ⊥) → more_on more.new other ≡ more_on more.old other }
 {
-    let Some(places) = more.get_mut(&fragment) else {
+    let marks = more.get_mut(&fragment)?;
+    let mark = marks.pop_first()?;
+    if marks.is_empty() {
+        more.remove(&fragment);
+    }
+    Some(mark)
+}
+
+/// The source without its level.
+fn unmarked(mark: Option<Mark>) -> Option<Place>
+    ensures { result ≡ option_map place_in mark }
+{
+    Some(mark?.place)
+}
+
+/// Takes a further source out of the set of the fragment.
+fn drop_more(more: &mut BTreeMap<u32, BTreeSet<Mark>>, fragment: u32, mark: Mark)
+    ensures { SetsMore more.old more.new fragment (remove_key (is_at (mark_cmp mark)) (more_on more.old fragment)) }
+{
+    let Some(marks) = more.get_mut(&fragment) else {
         return;
     };
-    take_from(places, place);
-    if count_more(more, fragment) == 0 {
+    marks.remove(&mark);
+    if marks.is_empty() {
         more.remove(&fragment);
     }
 }
 
-/// Takes a source out of the list.
-fn take_from(places: &mut Vec<Place>, place: Place)
-    ensures { places.new.items ≡ without place places.old.items }
-{
-    places.retain(
-        |other| -> bool
-            ensures { result ≡ not (same_place other.now place) }
-        { !is_same(*other, place) },
-    );
-}
-
 /// Whether one of the further sources of the fragment is at the level.
-fn more_has_level(more: &BTreeMap<u32, Vec<Place>>, fragment: u32, level: u8) -> bool
-    ensures { result ≡ list_any (is_at_level level) (more_on more.now fragment) }
+fn more_has_level(more: &BTreeMap<u32, BTreeSet<Mark>>, fragment: u32, level: u8) -> bool
+    ensures { result ≡ list_any (λ mark. mark.level == level) (more_on more.now fragment) }
 {
     match more.get(&fragment) {
-        Some(places) => places.iter().any(|place| is_at_level(*place, level)),
+        Some(marks) => marks.iter().any(|mark| mark.level == level),
         None => false,
     }
 }

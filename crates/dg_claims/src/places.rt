@@ -1,28 +1,31 @@
 ghost use Rattle.std.specs.Prelude.{◌≡◌, ◌^◌, ◌≤◌, ◌<◌, IfSome, IfNone};
 ghost use Rattle.std.specs.Bool.{Decides};
-ghost use Rattle.dg_claims.specs.Marks.{same_place};
-ghost use Rattle.dg_claims.specs.Places.{index_of, is_at_level, place_of, source_of};
+ghost use Rattle.std.specs.declared.cmp.Ordering.TheVariants.{Less};
+ghost use Rattle.dg_claims.specs.Places.{index_of, mark_cmp, mark_of, place_of, source_of};
 
 use ufs_model::ClaimSource;
 
-/// The last direct slot of an inode (`NDADDR`).
-const LAST_DIRECT: u8 = 11;
-
-/// A source, in 8 bytes: a pointer's number in its fragment is below 2^16.
+/// A source, in 12 bytes: a pointer's number in its fragment is below 2^16. The order is that of sources.
 #[derive(Clone, Copy, Debug, PartialEq, Eq, PartialOrd, Ord)]
 pub enum Place {
     /// A slot of an inode.
-    Slot { slot: u8, inode: u32 },
+    Slot { inode: u32, slot: u8 },
     /// A pointer in a fragment of an indirect block, with the level of the fragment's claim.
-    Pointer { level: u8, at: u16, fragment: u32 },
+    Pointer { fragment: u32, level: u8, at: u16 },
 }
 
-const _: () = prove!(size_of::<Place>() == 8);
+const _: () = prove!(size_of::<Place>() == 12);
+
+/// A source with the level at which it claims. The order is that of the claims on a fragment.
+#[derive(Clone, Copy, Debug, PartialEq, Eq, PartialOrd, Ord)]
+pub struct Mark {
+    pub level: u8,
+    pub place: Place,
+}
 
 /// Whether two sources are one.
 pub fn is_same(one: Place, other: Place) -> bool
-    ensures same { Decides result (one ≡ other) }
-    ensures test { result ≡ same_place one other }
+    ensures { Decides result (one ≡ other) }
 {
     one == other
 }
@@ -67,12 +70,19 @@ pub fn source_of(place: Place) -> ClaimSource
     }
 }
 
-/// Whether the source claims at this level: 0 for blocks of data.
-pub fn is_at_level(place: Place, level: u8) -> bool
-    ensures { result ≡ is_at_level level place }
+/// The source with its level.
+pub fn mark_of(place: Place) -> Mark
+    ensures { result ≡ mark_of place }
 {
-    match place {
-        Place::Slot { slot, .. } => slot.saturating_sub(LAST_DIRECT) == level,
-        Place::Pointer { level: above, .. } => above.saturating_sub(1) == level,
+    Mark {
+        level: source_of(place).level(),
+        place,
     }
+}
+
+/// Whether one source is before the other among the claims on a fragment.
+pub fn is_before(one: Mark, other: Mark) -> bool
+    ensures { Decides result (mark_cmp one other ≡ Less) }
+{
+    one < other
 }

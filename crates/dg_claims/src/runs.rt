@@ -1,11 +1,13 @@
 ghost use Rattle.std.specs.Prelude.{◌≡◌, Some, None, OnOk, OnErr};
-ghost use Rattle.dg_claims.specs.Runs.{run_at};
+ghost use Rattle.ufs_model.specs.declared.claims.ClaimSource.{ClaimSource};
+ghost use Rattle.dg_claims.specs.Runs.{entry_at, run_at, run_of};
 ghost use Rattle.dg_claims.specs.declared.places.Place.{Place};
 
 use crate::places::Place;
 use dg_io::NoMemory;
 use std::alloc::Global;
 use std::collections::BTreeMap;
+use std::marker::Model;
 
 /// Fragments in a row.
 #[derive(Clone, Copy, Debug, PartialEq, Eq)]
@@ -22,10 +24,21 @@ pub struct Runs {
     map: BTreeMap<Place, Run>,
 }
 
+impl Model for Runs {
+    ghost use Rattle.std.specs.Prelude.{List};
+    ghost use Rattle.ufs_model.specs.declared.claims.ClaimSource.{ClaimSource};
+    ghost use Rattle.dg_claims.specs.Runs.{by_source};
+    ghost use Rattle.dg_claims.specs.declared.runs.Run.{Run};
+
+    ghost Value = { List (ClaimSource × Run) };
+
+    ghost view = { λ runs. by_source runs.map.entries };
+}
+
 impl Runs {
     /// No source claims anything.
     pub fn new(alloc: Global) -> Runs
-        ensures { (place : Place) → run_at result.map.entries place ≡ None }
+        ensures { (source : ClaimSource) → run_of result source ≡ None }
     {
         Runs {
             map: BTreeMap::new(alloc),
@@ -34,28 +47,52 @@ impl Runs {
 
     /// What the source claims.
     pub fn get(&self, place: Place) -> Option<Run>
-        ensures { result ≡ run_at self.now.map.entries place }
+        ensures { result ≡ run_at self.now place }
     {
-        self.map.get(&place).copied()
+        get_in(&self.map, place)
     }
 
     /// Makes this run what the source claims.
     pub fn put(&mut self, place: Place, run: Run) -> Result<(), NoMemory>
-        ensures place { OnOk result (run_at self.new.map.entries place ≡ Some run) }
-        ensures others { OnOk result ((other : Place) → (other ≡ place → ⊥) → run_at self.new.map.entries other ≡ run_at self.old.map.entries other) }
-        ensures refused { OnErr result (self.new.map.entries ≡ self.old.map.entries) }
+        ensures place { OnOk result (run_at self.new place ≡ Some run) }
+        ensures others { OnOk result ((other : Place) → (other ≡ place → ⊥) → run_at self.new other ≡ run_at self.old other) }
+        ensures refused { OnErr result (self.new ≡ self.old) }
     {
-        match self.map.insert(place, run) {
-            Ok(_) => Ok(()),
-            Err(_) => Err(NoMemory),
-        }
+        put_in(&mut self.map, place, run)
     }
 
     /// The source claims nothing from now on.
     pub fn remove(&mut self, place: Place)
-        ensures place { run_at self.new.map.entries place ≡ None }
-        ensures others { (other : Place) → (other ≡ place → ⊥) → run_at self.new.map.entries other ≡ run_at self.old.map.entries other }
+        ensures place { run_at self.new place ≡ None }
+        ensures others { (other : Place) → (other ≡ place → ⊥) → run_at self.new other ≡ run_at self.old other }
     {
-        self.map.remove(&place);
+        remove_in(&mut self.map, place);
     }
+}
+
+/// The run of a source in a map.
+fn get_in(map: &BTreeMap<Place, Run>, place: Place) -> Option<Run>
+    ensures { result ≡ entry_at map.now.entries place }
+{
+    map.get(&place).copied()
+}
+
+/// Makes this the run of a source in a map.
+fn put_in(map: &mut BTreeMap<Place, Run>, place: Place, run: Run) -> Result<(), NoMemory>
+    ensures place { OnOk result (entry_at map.new.entries place ≡ Some run) }
+    ensures others { OnOk result ((other : Place) → (other ≡ place → ⊥) → entry_at map.new.entries other ≡ entry_at map.old.entries other) }
+    ensures refused { OnErr result (map.new.entries ≡ map.old.entries) }
+{
+    match map.insert(place, run) {
+        Ok(_) => Ok(()),
+        Err(_) => Err(NoMemory),
+    }
+}
+
+/// Takes a source out of a map.
+fn remove_in(map: &mut BTreeMap<Place, Run>, place: Place)
+    ensures place { entry_at map.new.entries place ≡ None }
+    ensures others { (other : Place) → (other ≡ place → ⊥) → entry_at map.new.entries other ≡ entry_at map.old.entries other }
+{
+    map.remove(&place);
 }

@@ -1,14 +1,12 @@
-ghost use Rattle.std.specs.Prelude.{◌≡◌, ◌⊎◌, ℕ, List, IfNone, IfOk, IfSome, Some, ◌↔◌};
-ghost use Rattle.std.specs.List.{Contains};
-ghost use Rattle.dg_io.specs.Views.{KeepsView};
-ghost use Rattle.ufs_model.specs.Claims.{IsClaim, targets};
+ghost use Rattle.std.specs.Prelude.{◌≡◌, ℕ, IfNone, IfOk, IfSome, Some};
+ghost use Rattle.dg_io.specs.ViewWords.{Keeps};
+ghost use Rattle.ufs_model.specs.Blocks.{Volume};
+ghost use Rattle.ufs_model.specs.Claims.{IsClaim, source_fragments};
 ghost use Rattle.ufs_model.specs.Geometries.{IsGeometryOn};
-ghost use Rattle.ufs_model.specs.declared.claims.ClaimSource.{ClaimSource};
-ghost use Rattle.ufs_model.specs.declared.numbers.Endian.TheVariants.{Little};
+ghost use Rattle.ufs_model.specs.Metadata.{IsMetadata, IsMetadataBy};
+ghost use Rattle.ufs_pointer.specs.ViewWords.{FetchesKind, LosesKind};
 ghost use Rattle.dg_claims.specs.Kept.{table_of};
-ghost use Rattle.dg_claims.specs.Readers.{FetchesOnly, IsTableOf, LosesOne};
-ghost use Rattle.ufs_model.specs.Metadata.{IsMetadata};
-ghost use Rattle.dg_claims.specs.Scans.{IsRead};
+ghost use Rattle.dg_claims.specs.Tables.{HasClaims, IsTableOf};
 
 use crate::claims::Claims;
 use crate::inodes::scan_inodes;
@@ -28,13 +26,13 @@ fn scan_volume<V: View>(
     requires sound { V.is_sound view.old }
     requires geometry { IsGeometryOn (V.size view.old) (V.count view.old) g.now }
     requires levels { levels.old.fragment ≡ V.size view.old }
-    ensures keeps { KeepsView V.stands_for V.tells V.is_gone V.count V.size V.is_sound V.goes_on view.old view.new }
+    ensures keeps { Keeps V.View view.old view.new }
     ensures levels { levels.new.fragment ≡ levels.old.fragment }
     ensures geometry { IfOk result (λ scanned. IfSome scanned (λ claims. (table_of claims).geometry ≡ Some g.now)) }
-    ensures claims { IfOk result (λ scanned. IfSome scanned (λ claims. V.tells view.new → (v : List (List ℕ)) → V.stands_for view.old v
-        → (fragment : ℕ) (source : ClaimSource) → Contains ((table_of claims).claimed source) fragment ↔ IsClaim (targets Little g.now v) fragment source)) }
-    ensures lost { IfOk result (λ scanned. IfNone scanned (LosesOne (V.stands_for view.old) (V.tells view.new) (λ v b. IsRead g.now v b) (V.is_gone view.new))) }
-    ensures fetched { FetchesOnly V.fetched (V.stands_for view.old) (V.tells view.new) (λ v b. IsRead g.now v b) view.old view.new }
+    ensures claims { IfOk result (λ scanned. IfSome scanned (λ claims. V.tells view.new → (v : Volume) → V.stands_for view.old v
+        → HasClaims (table_of claims) (IsClaim (source_fragments g.now v)))) }
+    ensures lost { IfOk result (λ scanned. IfNone scanned (LosesKind V.View view.old view.new (IsMetadataBy g.now))) }
+    ensures fetched { FetchesKind V.View view.old view.new (IsMetadataBy g.now) }
 {
     let mut claims = Claims::new(alloc, Some(*g))?;
     if !scan_inodes(view, g, levels, &mut claims)? {
@@ -55,14 +53,14 @@ pub fn scan<V: View>(
 ) -> Result<Option<Claims>, NoMemory>
     requires sound { V.is_sound view.old }
     requires levels { levels.old.fragment ≡ V.size view.old }
-    ensures keeps { KeepsView V.stands_for V.tells V.is_gone V.count V.size V.is_sound V.goes_on view.old view.new }
+    ensures keeps { Keeps V.View view.old view.new }
     ensures levels { levels.new.fragment ≡ levels.old.fragment }
-    ensures claims { IfOk result (λ scanned. IfSome scanned (λ claims. V.tells view.new → (v : List (List ℕ)) → V.stands_for view.old v
-        → IsTableOf Little (V.size view.old) (V.count view.old) v (table_of claims))) }
-    ensures lost { IfOk result (λ scanned. IfNone scanned (LosesOne (V.stands_for view.old) (V.tells view.new)
-        (IsMetadata Little (V.size view.old) (V.count view.old)) (V.is_gone view.new))) }
-    ensures fetched { FetchesOnly V.fetched (V.stands_for view.old) (V.tells view.new)
-        (IsMetadata Little (V.size view.old) (V.count view.old)) view.old view.new }
+    ensures geometry { IfOk result (λ scanned. IfSome scanned (λ claims.
+        IfSome (table_of claims).geometry (IsGeometryOn (V.size view.old) (V.count view.old)))) }
+    ensures claims { IfOk result (λ scanned. IfSome scanned (λ claims. V.tells view.new → (v : Volume) → V.stands_for view.old v
+        → IsTableOf (V.size view.old) (V.count view.old) v (table_of claims))) }
+    ensures lost { IfOk result (λ scanned. IfNone scanned (LosesKind V.View view.old view.new (IsMetadata (V.size view.old) (V.count view.old)))) }
+    ensures fetched { FetchesKind V.View view.old view.new (IsMetadata (V.size view.old) (V.count view.old)) }
 {
     match read_geometry(view, levels) {
         Some(Ok(g)) => scan_volume(alloc, view, &g, levels),

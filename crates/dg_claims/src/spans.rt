@@ -2,7 +2,6 @@ ghost use Rattle.std.specs.Prelude.{◌≡◌, ◌+◌, ◌*◌, ◌≤◌, ◌/
 ghost use Rattle.ufs_model.specs.Claims.{fragments_at, pointer_fragments, slot_fragments};
 ghost use Rattle.ufs_model.specs.Geometries.{IsGeometry};
 ghost use Rattle.ufs_model.specs.Pointers.{address};
-ghost use Rattle.ufs_model.specs.declared.numbers.Endian.TheVariants.{Little};
 ghost use Rattle.dg_claims.specs.Kept.{IsRun};
 ghost use Rattle.dg_claims.specs.Runs.{run_fragments};
 
@@ -53,8 +52,8 @@ pub fn pointer_run(g: &Geometry, bytes: &[u8], at: u32) -> Option<Run>
     requires geometry { IsGeometry g.now }
     requires bytes { length bytes.now ≡ g.now.fsize }
     requires index { at < g.now.fsize / 4 }
-    ensures value { run_fragments result ≡ pointer_fragments Little g.now bytes.now at }
+    ensures value { run_fragments result ≡ pointer_fragments g.now bytes.now at }
     ensures run { IfSome result (IsRun g.now.size) }
 {
-    run_of(g, pointer(bytes, at), g.frag)
+    run_of(g, pointer(bytes, at, g.endian), g.frag)
 }

@@ -1,7 +1,7 @@
 ghost use Rattle.std.specs.Prelude.{◌≡◌, ◌+◌, ◌<◌, ◌≤◌, IfOk, length};
 ghost use Rattle.ufs_model.specs.Geometries.{IsGeometry};
 
-use crate::{ClaimSource, Claims, scan};
+use crate::{ClaimSource, Claims, Run, scan};
 use dg_io::{Loss, MemView};
 use std::alloc::Global;
 use std::test::Fail;
@@ -17,6 +17,17 @@ fn volume_f(alloc: Global) -> Result<Vec<u8>, Fail>
     match rows_image(alloc, Which::F) {
         Ok(image) => Ok(image),
         Err(_) => Err("memory".into()),
+    }
+}
+
+/// The claims of the volume F in the other order of bytes.
+fn of_volume_fb(alloc: Global) -> Result<Claims, Fail> {
+    let Ok(image) = rows_image(alloc, Which::Fb) else {
+        return Err("memory".into());
+    };
+    match scanned(alloc, image, Vec::new(alloc))? {
+        Some(claims) => Ok(claims),
+        None => Err("gone".into()),
     }
 }
 
@@ -89,7 +100,7 @@ fn owners_in_the_volume_f(rt: HostRuntime) -> Result<(), Fail> {
         assert_eq!(rt; claims.claims_on(fragment), number, "fragment {fragment}");
     }
     assert_eq!(rt;
-        claims.claim(88),
+        claims.only_claim(88),
         Some(ClaimSource::Pointer {
             fragment: 84,
             level: 1,
@@ -97,10 +108,10 @@ fn owners_in_the_volume_f(rt: HostRuntime) -> Result<(), Fail> {
         })
     );
     assert_eq!(rt;
-        claims.claim(84),
+        claims.only_claim(84),
         Some(ClaimSource::Slot { inode: 5, slot: 12 })
     );
-    assert_eq!(rt; claims.claim(u32::MAX), None);
+    assert_eq!(rt; claims.only_claim(u32::MAX), None);
     Ok(())
 }
 
@@ -120,8 +131,131 @@ fn a_slot_past_the_end(rt: HostRuntime) -> Result<(), Fail> {
 fn a_shared_block(rt: HostRuntime) -> Result<(), Fail> {
     let claims = with_slot(rt.alloc(), 6, 0, 34)?;
     assert_eq!(rt; claims.claims_on(34), 2);
-    assert_eq!(rt; claims.claim(34), None);
+    assert_eq!(rt; claims.only_claim(34), None);
     assert_eq!(rt; claims.owner(34), None);
+    let (one, other) = (
+        ClaimSource::Slot { inode: 3, slot: 0 },
+        ClaimSource::Slot { inode: 6, slot: 0 },
+    );
+    assert_eq!(rt; claims.claim(34, 0), Some((0, one)));
+    assert_eq!(rt; claims.claim(34, 1), Some((0, other)));
+    assert_eq!(rt; claims.claim(34, 2), None);
+    Ok(())
+}
+
+/// The claims of the volume F where the single indirect slot of inode 3 leads to the first fragment that is found through the
+/// indirect block of inode 5, and the first slot of inode 6 does so too.
+fn with_three_claims(alloc: Global) -> Result<Claims, Fail> {
+    let mut image = volume_f(alloc)?;
+    set_slot(&mut image, 3, 12, 88);
+    set_slot(&mut image, 6, 0, 88);
+    match scanned(alloc, image, Vec::new(alloc))? {
+        Some(claims) => Ok(claims),
+        None => Err("gone".into()),
+    }
+}
+
+/// The claims at the lower level come first, and a slot comes before a pointer. The claim of inode 3 is found first.
+#[test]
+fn three_claims_in_their_order(rt: HostRuntime) -> Result<(), Fail> {
+    let claims = with_three_claims(rt.alloc())?;
+    let slot = ClaimSource::Slot { inode: 6, slot: 0 };
+    let pointer = ClaimSource::Pointer {
+        fragment: 84,
+        level: 1,
+        at: 0,
+    };
+    let upper = ClaimSource::Slot { inode: 3, slot: 12 };
+    assert_eq!(rt; (claims.claims_on(88), claims.shared(88)), (3, Some(3)));
+    assert_eq!(rt; claims.claim(88, 0), Some((0, slot)));
+    assert_eq!(rt; claims.claim(88, 1), Some((0, pointer)));
+    assert_eq!(rt; claims.claim(88, 2), Some((1, upper)));
+    assert_eq!(rt; claims.claim(88, 3), None);
+    assert_eq!(rt; claims.claim(88, u32::MAX), None);
+    assert!(rt; claims.has_level(88, 1));
+    assert!(rt; !claims.has_level(88, 2));
+    Ok(())
+}
+
+/// A claim that is removed in front of others, between them, and behind them.
+#[test]
+fn claims_that_are_removed(rt: HostRuntime) -> Result<(), Fail> {
+    let mut claims = with_three_claims(rt.alloc())?;
+    let slot = ClaimSource::Slot { inode: 6, slot: 0 };
+    let upper = ClaimSource::Slot { inode: 3, slot: 12 };
+    claims.remove_source(&slot);
+    assert_eq!(rt; claims.claims_on(88), 2);
+    assert_eq!(rt; claims.claim(88, 1), Some((1, upper)));
+    claims.remove_pointers(84, 1);
+    assert_eq!(rt; claims.claim(88, 0), Some((1, upper)));
+    assert_eq!(rt; claims.claim(88, 1), None);
+    claims.remove_inode(3);
+    assert_eq!(rt; claims.claims_on(88), 0);
+    assert_eq!(rt; claims.claim(88, 0), None);
+    assert_eq!(rt; claims.owner(34), None);
+    Ok(())
+}
+
+/// The runs of sources of the volume F.
+#[test]
+fn runs_of_sources(rt: HostRuntime) -> Result<(), Fail> {
+    let claims = of_volume_f(rt.alloc())?;
+    let pointer = ClaimSource::Pointer {
+        fragment: 84,
+        level: 1,
+        at: 0,
+    };
+    let nowhere = ClaimSource::Pointer {
+        fragment: 84,
+        level: 1,
+        at: 1 << 16,
+    };
+    for (source, run) in [
+        (
+            ClaimSource::Slot { inode: 7, slot: 1 },
+            Some(Run {
+                first: 92,
+                count: 2,
+            }),
+        ),
+        (
+            pointer,
+            Some(Run {
+                first: 88,
+                count: 4,
+            }),
+        ),
+        (ClaimSource::Slot { inode: 6, slot: 0 }, None),
+        (nowhere, None),
+    ] {
+        assert_eq!(rt; claims.run(&source), run, "source {source:?}");
+    }
+    Ok(())
+}
+
+/// In the other order of bytes the volume F has the same claims.
+#[test]
+fn the_claims_in_the_other_order_of_bytes(rt: HostRuntime) -> Result<(), Fail> {
+    let alloc = rt.alloc();
+    let claims = of_volume_f(alloc)?;
+    let other = of_volume_fb(alloc)?;
+    for fragment in 0..128u32 {
+        assert_eq!(rt;
+            other.claims_on(fragment),
+            claims.claims_on(fragment),
+            "fragment {fragment}"
+        );
+        assert_eq!(rt;
+            other.claim(fragment, 0),
+            claims.claim(fragment, 0),
+            "fragment {fragment}"
+        );
+        assert_eq!(rt;
+            other.owner(fragment),
+            claims.owner(fragment),
+            "fragment {fragment}"
+        );
+    }
     Ok(())
 }
 
@@ -142,6 +276,10 @@ fn a_shared_indirect_block(rt: HostRuntime) -> Result<(), Fail> {
     let claims = with_slot(rt.alloc(), 6, 0, 84)?;
     assert_eq!(rt; claims.claims_on(88), 1);
     assert_eq!(rt; claims.owner(88), None);
+    assert_eq!(rt; claims.shared(88), Some(2));
+    assert_eq!(rt; claims.shared(84), Some(2));
+    assert_eq!(rt; claims.shared(36), None);
+    assert_eq!(rt; claims.shared(100), None);
     Ok(())
 }
 
@@ -186,7 +324,7 @@ fn parts_of_f(image: &[u8]) -> Result<(Geometry, Inode), Fail>
     ensures { IfOk result (λ parts. IsGeometry parts.0) }
 {
     let g = read_super(&image[8192..9568], 1024, 128)?;
-    let inode = read_inode(&image[29312..29440]).ok_or("inode")?;
+    let inode = read_inode(&image[29312..29440], g.endian).ok_or("inode")?;
     Ok((g, inode))
 }
 

@@ -80,3 +80,31 @@ sure_counts rack = record { faults = λ q. 0; calls = rack.calls; writes = rack.
 -- how many bytes a member has room for
 abbrev pub sure_room_in : SureRack → ℕ → ℕ
 sure_room_in rack q = room_of (slice_get rack.members.items q)
+
+-- whether it still tells its bytes
+abbrev pub tells_in : SureRack → Bool
+tells_in rack = rack.told
+
+-- how many members it was made with
+abbrev pub sure_members_in : SureRack → ℕ
+sure_members_in rack = length rack.members.items
+
+-- whether there is such a member
+abbrev pub sure_there_in : SureRack → ℕ → Bool
+sure_there_in rack q = is_there (slice_get rack.members.items q)
+
+-- each of its members stands, it is steady, and it isn't lent
+abbrev pub sure_stands : SureRack → ℕ → Type 0
+sure_stands rack q = Unit {0}
+
+abbrev pub sure_steady : SureRack → Type 0
+sure_steady rack = Unit {0}
+
+abbrev pub sure_name : SureRack → ℕ
+sure_name rack = 0
+
+-- what it was made with stays: how many members, and their room; and a member that is there is there
+pub record SureStays (old new : SureRack) : Type 0 where
+  pub members : sure_members_in new ≡ sure_members_in old
+  pub room : (q : ℕ) → sure_room_in new q ≡ sure_room_in old q
+  pub there : (q : ℕ) → sure_there_in old q ≡ true → sure_there_in new q ≡ true

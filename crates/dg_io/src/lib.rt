@@ -1,5 +1,7 @@
-//! The outside: a source of bytes, a sink of bytes and a rack of members. Each counts its faults, and tells its bytes
-//! or not. Beside the traits stand objects in memory, which fail at listed calls, and objects that never fail.
+//! The outside: a source of bytes, a sink of bytes, a receiver of pieces and a rack of members. Each counts its faults, and
+//! a call that is done raises no count. They tell their bytes or not. A view of blocks has no count: it tells which of its
+//! blocks are gone. Beside the traits stand objects in memory, which fail exactly at listed calls, where there is no room
+//! and where the member isn't there, and objects that never fail.
 #![tactic(auto)]
 
 mod calls;

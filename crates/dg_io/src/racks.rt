@@ -4,7 +4,7 @@ ghost use Rattle.dg_model.specs.Causes.{Rose, RoseByOne};
 ghost use Rattle.dg_io.specs.Calls.{LeavesRack};
 ghost use Rattle.dg_io.specs.Faults.{HasCause};
 ghost use Rattle.dg_io.specs.Told.{Told, IsSame, IsZeros, Measures, IsEmpty, Reads, Patched, Torn, FitsIn, Extended, KeepsFront, IsHeader, OldOrNew};
-ghost use Rattle.dg_io.specs.Racks.{name_in, counts_in, member_in, stands_in, steady_in, there_in, members_in, room_in, rack_fails, IsListed, IsAbsent, IsPast, StaysMade, sure_counts, sure_room_in, sure_member};
+ghost use Rattle.dg_io.specs.Racks.{name_in, counts_in, member_in, stands_in, steady_in, there_in, members_in, room_in, rack_fails, IsListed, IsAbsent, IsPast, StaysMade, sure_name, sure_counts, sure_room_in, sure_member, sure_members_in, sure_there_in, sure_stands, sure_steady, tells_in, SureStays};
 
 use crate::calls::is_listed;
 use crate::members::MemMember;
@@ -237,7 +237,10 @@ impl SureRack {
     /// A rack of so many members, all of them empty, each with room for so many bytes. It takes its memory here.
     pub fn new(alloc: Global, members: u8, length: u64) -> Result<SureRack, NoMemory>
         ensures empty { IfOk result (λ rack. (q : ℕ) → sure_member rack q ≡ Some []) }
+        ensures members { IfOk result (λ rack. sure_members_in rack ≡ members) }
+        ensures there { IfOk result (λ rack. (q : ℕ) → q < members → sure_there_in rack q ≡ true) }
         ensures room { IfOk result (λ rack. (q : ℕ) → q < members → sure_room_in rack q ≡ length) }
+        ensures tells { IfOk result (λ rack. tells_in rack ≡ true) }
         ensures calls { IfOk result (λ rack. (sure_counts rack).calls ≡ 0) }
         ensures writes { IfOk result (λ rack. (sure_counts rack).writes ≡ 0) }
     {
@@ -251,17 +254,25 @@ impl SureRack {
 }
 
 impl Rack for SureRack {
-    ghost name = { λ _. 0 };
+    ghost name = { sure_name };
 
     ghost bytes = { sure_member };
 
     ghost counts = { sure_counts };
 
-    ghost stands = { λ _ _. Unit {0} };
+    ghost stands = { sure_stands };
 
-    ghost steady = { λ _. Unit {0} };
+    ghost steady = { sure_steady };
 
-    fn blank(&mut self, member: u8, length: u64) -> Result<(), Failed> {
+    /// It tells on exactly where there is room for so many bytes.
+    fn blank(&mut self, member: u8, length: u64) -> Result<(), Failed>
+        ensures ok { OnOk result (Told (IsZeros length) (sure_member self.old member) (sure_member self.new member)) }
+        ensures leaves { LeavesRack sure_name sure_member sure_counts sure_stands sure_steady member result self.old self.new }
+        ensures writes { RoseByOne (sure_counts self.old).writes (sure_counts self.new).writes }
+        ensures tells { (tells_in self.new ≡ true)
+            ↔ ((tells_in self.old ≡ true) × (member < sure_members_in self.old) × (length ≤ sure_room_in self.old member)) }
+        ensures stays { SureStays self.old self.new }
+    {
         self.calls = self.calls.saturating_add(1);
         self.writes = self.writes.saturating_add(1);
         if blank_at(&mut self.members, member, length).is_err() {
@@ -270,7 +281,15 @@ impl Rack for SureRack {
         Ok(())
     }
 
-    fn attach(&mut self, member: u8) -> Result<Option<u64>, Failed> {
+    fn attach(&mut self, member: u8) -> Result<Option<u64>, Failed>
+        ensures found { IfOk result (λ found. IfSome found (λ n. Told (Measures n) (sure_member self.old member) (sure_member self.new member))) }
+        ensures absent { IfOk result (λ found. found ≡ None → Told IsEmpty (sure_member self.old member) (sure_member self.new member)) }
+        ensures same { Told IsSame (sure_member self.old member) (sure_member self.new member) }
+        ensures leaves { LeavesRack sure_name sure_member sure_counts sure_stands sure_steady member result self.old self.new }
+        ensures writes { (sure_counts self.new).writes ≡ (sure_counts self.old).writes }
+        ensures tells { tells_in self.new ≡ tells_in self.old }
+        ensures stays { SureStays self.old self.new }
+    {
         self.calls = self.calls.saturating_add(1);
         match self.members.get(member as usize) {
             Some(found) => Ok(Some(found.bytes.len() as u64)),
@@ -278,7 +297,15 @@ impl Rack for SureRack {
         }
     }
 
-    fn read(&mut self, member: u8, place: u64, buf: &mut [u8]) -> Result<(), Failed> {
+    fn read(&mut self, member: u8, place: u64, buf: &mut [u8]) -> Result<(), Failed>
+        requires range { IfSome (sure_member self.old member) (λ all. place + length buf.old ≤ length all) }
+        ensures ok { OnOk result (Told (Reads place buf.new) (sure_member self.old member) (sure_member self.new member)) }
+        ensures same { Told IsSame (sure_member self.old member) (sure_member self.new member) }
+        ensures leaves { LeavesRack sure_name sure_member sure_counts sure_stands sure_steady member result self.old self.new }
+        ensures writes { (sure_counts self.new).writes ≡ (sure_counts self.old).writes }
+        ensures tells { sure_there_in self.old member ≡ true → tells_in self.new ≡ tells_in self.old }
+        ensures stays { SureStays self.old self.new }
+    {
         self.calls = self.calls.saturating_add(1);
         if self.told && read_at(&self.members, member, place, buf).is_err() {
             self.told = false;
@@ -286,7 +313,17 @@ impl Rack for SureRack {
         Ok(())
     }
 
-    fn write(&mut self, member: u8, place: u64, buf: &[u8]) -> Result<(), Failed> {
+    fn write(&mut self, member: u8, place: u64, buf: &[u8]) -> Result<(), Failed>
+        requires range { IfSome (sure_member self.old member) (λ all. place + length buf.now ≤ length all) }
+        ensures ok { OnOk result (Told (Patched place buf.now) (sure_member self.old member) (sure_member self.new member)) }
+        ensures err { OnErr result (Told (Torn place (length buf.now)) (sure_member self.old member) (sure_member self.new member)) }
+        ensures whole { OnErr result (sure_steady self.old → IsHeader place buf.now
+            → Told (OldOrNew place buf.now) (sure_member self.old member) (sure_member self.new member)) }
+        ensures leaves { LeavesRack sure_name sure_member sure_counts sure_stands sure_steady member result self.old self.new }
+        ensures writes { RoseByOne (sure_counts self.old).writes (sure_counts self.new).writes }
+        ensures tells { sure_there_in self.old member ≡ true → tells_in self.new ≡ tells_in self.old }
+        ensures stays { SureStays self.old self.new }
+    {
         self.calls = self.calls.saturating_add(1);
         self.writes = self.writes.saturating_add(1);
         if self.told && write_at(&mut self.members, member, place, buf).is_err() {
@@ -295,7 +332,16 @@ impl Rack for SureRack {
         Ok(())
     }
 
-    fn extend(&mut self, member: u8, length: u64) -> Result<(), Failed> {
+    fn extend(&mut self, member: u8, length: u64) -> Result<(), Failed>
+        requires longer { IfSome (sure_member self.old member) (FitsIn length) }
+        ensures ok { OnOk result (Told (Extended length) (sure_member self.old member) (sure_member self.new member)) }
+        ensures err { OnErr result (Told KeepsFront (sure_member self.old member) (sure_member self.new member)) }
+        ensures leaves { LeavesRack sure_name sure_member sure_counts sure_stands sure_steady member result self.old self.new }
+        ensures writes { RoseByOne (sure_counts self.old).writes (sure_counts self.new).writes }
+        ensures tells { (tells_in self.new ≡ true)
+            ↔ ((tells_in self.old ≡ true) × (sure_there_in self.old member ≡ true) × (length ≤ sure_room_in self.old member)) }
+        ensures stays { SureStays self.old self.new }
+    {
         self.calls = self.calls.saturating_add(1);
         self.writes = self.writes.saturating_add(1);
         if self.told && extend_at(&mut self.members, member, length).is_err() {

@@ -1,5 +1,5 @@
 // Sinks in memory. Their calls are counted from 0.
-ghost use Rattle.std.specs.Prelude.{◌≡◌, ◌≤◌, ◌<◌, ◌+◌, ◌↔◌, ◌⊎◌, [], List, ℕ, length, take, Some, None, IfOk, OnErr, OnOk, IsErr, IsSome, MatchOption};
+ghost use Rattle.std.specs.Prelude.{◌≡◌, ◌≤◌, ◌<◌, ◌+◌, ◌↔◌, ◌⊎◌, [], List, ℕ, length, take, Some, None, IfOk, OnErr, OnOk, IsErr, IsSome, IsTrue, MatchOption};
 ghost use Rattle.std.specs.Vec.{vec_capacity};
 ghost use Rattle.dg_model.specs.Causes.{RoseByOne};
 ghost use Rattle.dg_io.specs.Faults.{HasCause};
@@ -8,6 +8,14 @@ ghost use Rattle.dg_io.specs.Told.{Told, Took, IsSame};
 use crate::calls::is_listed;
 use crate::{Failed, NoMemory, Pieces, Sink, write_all};
 use std::alloc::Global;
+
+/// Whether so many bytes more fit where some are taken.
+fn has_room(room: usize, taken: usize, more: usize) -> bool
+    requires { taken ≤ room }
+    ensures { IsTrue result ↔ (taken + more ≤ room) }
+{
+    more <= room - taken
+}
 
 /// A sink in memory, with room for so many bytes.
 #[derive(Drop)]
@@ -74,7 +82,7 @@ impl Sink for MemSink {
     {
         let call = self.calls;
         self.calls = call.saturating_add(1);
-        let fits = piece.len() <= self.room.saturating_sub(self.bytes.len());
+        let fits = has_room(self.room, self.bytes.len(), piece.len());
         if is_listed(&self.fails, call) || !fits || self.bytes.extend_from_slice(piece).is_err() {
             self.faults = self.faults.saturating_add(1);
             return Err(Failed);
@@ -165,7 +173,7 @@ impl Sink for SureSink {
             → IsSome (sure_taken self.new) ↔ (length all + length piece.now ≤ sure_room self.old) }
         ensures room { sure_room self.new ≡ sure_room self.old }
     {
-        let fits = piece.len() <= self.room.saturating_sub(self.bytes.len());
+        let fits = has_room(self.room, self.bytes.len(), piece.len());
         if !fits || self.bytes.extend_from_slice(piece).is_err() {
             self.told = false;
         }

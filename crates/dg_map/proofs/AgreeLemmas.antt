@@ -5,7 +5,7 @@ use Rattle.dg_model.specs.declared.sites.Site.{Site}
 use Rattle.dg_model.specs.declared.shapes.Shape.{Shape}
 use Rattle.dg_map.specs.declared.boundary_slots.Slots.{Slots}
 use Rattle.dg_map.specs.Maps.{Agrees}
-use Rattle.dg_map.specs.Slots.{GivesUp, IsUnused, Keeps, Puts, block_in}
+use Rattle.dg_map.specs.Slots.{GivesUp, IsUnused, Puts, block_in}
 use Rattle.dg_model.specs.Tables.{IsFree, IsTable, StandsIn, Table, count_on, empty_table, put_site, sites_in, without_site}
 use Rattle.dg_model.proofs.SiteLists.{apart_test, one_if, same_test, zero_if}
 use Rattle.dg_map.proofs.RowLemmas.{one_on}
@@ -23,15 +23,6 @@ cond_same k q x y e = ap (λ v. cond v x y) (same_test k q e)
 
 pub cond_apart : (k q : ℕ) (x y : Option ℕ) → k ≢ q → cond (k == q) x y ≡ y
 cond_apart k q x y ne = ap (λ v. cond v x y) (apart_test k q ne)
-
-pub agrees_kept : (table : Table) (s : ℕ) (old new : Slots) → Agrees table s old → Keeps old new → Agrees table s new
-agrees_kept table s old new agrees kept = record {
-  sound = kept.sound;
-  most = kept.most ∙ agrees.most;
-  used = kept.count ∙ agrees.used;
-  held = λ k b e. agrees.held k b (sym (kept.blocks k) ∙ e);
-  found = λ k b h. kept.blocks k ∙ agrees.found k b h;
-}
 
 -- no slot is used, and no block has a site
 pub agrees_empty : (shape : Shape) (s : ℕ) (slots : Slots) → IsUnused (shape.k + 1) slots → Agrees (empty_table shape) s slots

@@ -1,4 +1,9 @@
 pub mod AgreeLemmas
+pub mod BitLemmas
+pub mod CountLemmas
+pub mod FitLemmas
+pub mod FlatLemmas
+pub mod ListLemmas
 pub mod MapLemmas
 pub mod RestoreLemmas
 pub mod RowLemmas

@@ -1,5 +1,5 @@
 -- What a table says once a site joins a block's list, or once a block leaves a boundary.
-use Rattle.std.proofs.Common.{◌≡◌, ◌⊎◌, ◌<◌, ◌≤◌, ◌+◌, ◌==◌, ◌≢◌, ℕ, cond, List, [], ◌∷◌, ◌++◌, length, get_or, set, replicate, Result, Ok, Err, OnOk, refl, sym, ◌∙◌, ap, subst, inl, inr, ⊎_elim, arith}
+use Rattle.std.proofs.Common.{◌≡◌, ◌⊎◌, ◌<◌, ◌≤◌, ◌+◌, ◌==◌, ◌≢◌, ℕ, cond, List, [], ◌∷◌, ◌++◌, length, get_or, set, replicate, refl, sym, ◌∙◌, ap, subst, inl, inr, ⊎_elim, arith}
 use Rattle.std.specs.List.{Contains}
 use Rattle.std.proofs.lemmas.Bool.{cases_eq, cases_lt}
 use Rattle.std.proofs.lemmas.List.{get_or-set_same, get_or-replicate, get_or-set_other, get_or_past, length-replicate, length-set, set-get_or, set-set}
@@ -156,10 +156,6 @@ pub undone : (table new : Table) (b : ℕ) (site : Site) → b < table.shape.n �
 undone table new b site within is before others ok last was =
     let size : table.shape.n ≡ before.shape.n = ap (λ (t : Table). t.shape.n) was in
     is ∙ ap (λ t. put_site t b site) was ∙ put-without before b others site ok (omega (arith, ok.size)) last
-
-pub undone_at : {A E : Type 0} (r : Result A E) (table new : Table) (b : ℕ) (site : Site) → b < table.shape.n → OnOk r (new ≡ put_site table b site) → OnOk r ((before : Table) (others : List Site) → IsTable before → sites_in before b ≡ others ++ site ∷ [] → table ≡ without_site before b site.boundary → new ≡ before)
-undone_at (Ok x) table new b site within is = undone table new b site within is
-undone_at (Err x) table new b site within is = tt
 
 pub empty_row : (n b : ℕ) → get_or {A = List Site} (replicate n []) b [] ≡ []
 empty_row n b =

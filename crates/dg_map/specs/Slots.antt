@@ -1,46 +1,23 @@
--- The slots of one boundary, as ordered tables hold them.
-use Rattle.std.specs.Prelude.{◌≡◌, ◌⊎◌, ◌<◌, ◌≤◌, ◌+◌, ◌^◌, ◌==◌, ℕ, true, cond, IsSome, Option, Some, None, vec_len}
-use Rattle.std.specs.Ordering.{nat_cmp}
-use Rattle.std.specs.BTreeMap as tree
-use Rattle.std.specs.BTreeSet as sorted
-use Rattle.std.specs.List.{All, Contains}
-use Rattle.std.specs.Vec.{vec_capacity}
+-- The slots of one boundary, as flat tables hold them.
+use Rattle.std.specs.Prelude.{◌≡◌, ◌≤◌, ◌<◌, ◌+◌, ◌^◌, ◌==◌, ℕ, cond, Option, Some, None, length, slice_get}
+use Rattle.dg_map.specs.Bits.{IsBits, count_upto, has}
 use Rattle.dg_map.specs.declared.boundary_slots.Slots.{Slots}
 
 -- the block in the slot, if one stands there
 abbrev pub block_in : Slots → ℕ → Option ℕ
-block_in slots slot = tree.get nat_cmp slots.blocks slot
+block_in slots slot = cond (has slots.free slot) None (slice_get slots.blocks.items slot)
 
 -- how many slots are used
 abbrev pub used_count : Slots → ℕ
-used_count slots = tree.btree_map_len slots.blocks
+used_count slots = slots.used
 
--- the slot is in `freed`
-abbrev pub IsFreed : Slots → ℕ → Type 0
-IsFreed slots slot = sorted.contains nat_cmp slots.freed slot ≡ true
-
--- the slot is below the mark, and no block stands in it
-abbrev pub IsIdle : Slots → ℕ → Type 0
-IsIdle slots slot = (slot < slots.next) × (block_in slots slot ≡ None)
-
--- what the tables of a boundary keep: used slots are below the mark; `freed` and `dropped` have just the free slots
--- below it; and each used slot can be given up without memory
+-- what the tables of a boundary keep: a number and a bit for each slot, and each slot is either used or free
 pub record IsSlots (slots : Slots) : Type 0 where
-  pub ordered : tree.IsOrdered nat_cmp slots.blocks
   pub small : slots.most ≤ 2 ^ 20 + 1
-  pub mark : slots.next ≤ slots.most
-  pub used : (slot : ℕ) → IsSome (block_in slots slot) → slot < slots.next
-  pub freed : (slot : ℕ) → IsFreed slots slot → IsIdle slots slot
-  pub dropped : All (IsIdle slots) slots.dropped.items
-  pub listed : (slot : ℕ) → IsIdle slots slot → IsFreed slots slot ⊎ Contains slots.dropped.items slot
-  pub room : vec_len slots.dropped + used_count slots ≤ vec_capacity slots.dropped
-
--- the same blocks stand in the same slots
-pub record Keeps (old new : Slots) : Type 0 where
-  pub sound : IsSlots new
-  pub most : new.most ≡ old.most
-  pub blocks : (k : ℕ) → block_in new k ≡ block_in old k
-  pub count : used_count new ≡ used_count old
+  pub free : IsBits slots.free
+  pub bound : slots.free.bound ≡ slots.most
+  pub blocks : length slots.blocks.items ≡ slots.most
+  pub count : slots.used + count_upto slots.most (has slots.free) ≡ slots.most
 
 -- the block stands in one more slot, and all else is as before
 pub record Puts (old new : Slots) (slot block : ℕ) : Type 0 where

@@ -3,6 +3,6 @@
 pub enum TakeFault {
     /// No slot of the boundary is left.
     Full,
-    /// The allocator refused to grow a table.
+    /// A table couldn't grow. The map takes all its memory when it is made, and so never answers this.
     NoMemory,
 }

@@ -5,6 +5,7 @@
 //! shape and each block's list of sites.
 #![tactic(auto)]
 
+mod bits;
 mod boundary_slots;
 mod faults;
 mod maps;

@@ -1,10 +1,12 @@
-ghost use Rattle.std.specs.Prelude.{◌≡◌, ◌+◌, ◌-◌, ◌^◌, ◌++◌, ◌<◌, ◌≤◌, ℕ, List, [], ◌∷◌, length, IsSome, IfOk, IfSome, OnErr, OnOk, MatchOption, MatchResult};
+ghost use Rattle.std.specs.Prelude.{◌≡◌, ◌+◌, ◌-◌, ◌^◌, ◌++◌, ◌<◌, ◌≤◌, ℕ, List, [], ◌∷◌, length, IsOk, IsSome, IfErr, IfOk, IfSome, OnErr, OnOk, MatchOption};
 ghost use Rattle.std.specs.List.{All};
 ghost use Rattle.dg_model.specs.Shapes.{IsShape};
 ghost use Rattle.dg_map.specs.Restores.{AreSites, table_with};
-ghost use Rattle.dg_map.specs.Rows.{Appends, SameRows};
+ghost use Rattle.dg_map.specs.Rows.{Appends, IsLists, row_of};
+ghost use Rattle.dg_map.specs.Spreads.{HasNoSpread, IsLeastSpread};
+ghost use Rattle.dg_map.specs.declared.faults.TakeFault.TheVariants.{Full};
 ghost use Rattle.dg_map.specs.Takes.{TakesLowest, Undoes};
-ghost use Rattle.dg_map.specs.Slots.{IsSlots, IsUnused, Keeps, Puts, block_in, used_count};
+ghost use Rattle.dg_map.specs.Slots.{IsSlots, IsUnused, Puts, block_in, used_count};
 ghost use Rattle.dg_map.specs.Refusals.{IsFullAt};
 ghost use Rattle.dg_model.specs.Tables.{IsFree, IsLowestFree, IsTable, StandsIn, Table, count_on, empty_table, put_site, sites_in, used_in, without_site};
 
@@ -17,6 +19,9 @@ use std::alloc::Global;
 use std::marker::Model;
 
 /// The sites of every block. A contract sees the shape and each block's list of sites, in the order of taking.
+///
+/// Making one takes all its memory, at most `8 * b + 16` bytes a block and 5 bytes a slot. After that no call takes memory
+/// or searches: each costs at most so many steps as there are boundaries.
 #[derive(Drop)]
 pub struct Map {
     shape: Shape,
@@ -46,7 +51,7 @@ impl Map {
     {
         Ok(Map {
             shape,
-            lists: SiteLists::new(alloc),
+            lists: SiteLists::new(alloc, shape.n, shape.b)?,
             boundaries: free_boundaries(alloc, shape.b, shape.k + 1)?,
         })
     }
@@ -79,6 +84,14 @@ impl Map {
         ensures table { IsTable self.now }
     {
         self.lists.of(block)
+    }
+
+    /// The least block that has more than one site, if there is one. It is found without a search.
+    pub fn least_spread(&self) -> Option<u32>
+        ensures spread { MatchOption result (HasNoSpread self.now) (IsLeastSpread self.now) }
+        ensures table { IsTable self.now }
+    {
+        self.lists.first_spread()
     }
 
     /// The block that stands in the site. No block stands in a site that isn't one of the array.
@@ -120,15 +133,13 @@ impl Map {
         ensures full { IsFullAt self.old.shape.k (used_in self.old boundary) result }
         ensures taken { IfOk result (λ site. TakesLowest self.old block boundary site self.new) }
         ensures refused { OnErr result (self.new ≡ self.old) }
+        ensures memory { IfErr result (λ fault. fault ≡ Full) }
         ensures table { IsTable self.new }
     {
         if self.used(boundary) >= self.shape.k {
             return Err(TakeFault::Full);
         }
-        match self.take_lowest(block, boundary) {
-            Ok(site) => Ok(site),
-            Err(NoMemory) => Err(TakeFault::NoMemory),
-        }
+        Ok(self.take_lowest(block, boundary))
     }
 
     /// Gives the block the lowest free slot of the boundary, the spare one among them. `Full` where all K+1 are used.
@@ -139,15 +150,13 @@ impl Map {
         ensures full { IsFullAt (self.old.shape.k + 1) (used_in self.old boundary) result }
         ensures taken { IfOk result (λ site. TakesLowest self.old block boundary site self.new) }
         ensures refused { OnErr result (self.new ≡ self.old) }
+        ensures memory { IfErr result (λ fault. fault ≡ Full) }
         ensures table { IsTable self.new }
     {
         if self.used(boundary) > self.shape.k {
             return Err(TakeFault::Full);
         }
-        match self.take_lowest(block, boundary) {
-            Ok(site) => Ok(site),
-            Err(NoMemory) => Err(TakeFault::NoMemory),
-        }
+        Ok(self.take_lowest(block, boundary))
     }
 
     /// Gives the block this very slot, which is free, as the last site of its list.
@@ -160,10 +169,13 @@ impl Map {
         ensures taken { OnOk result (self.new ≡ put_site self.old block site) }
         ensures undone { OnOk result (Undoes self.old block site self.new) }
         ensures refused { OnErr result (self.new ≡ self.old) }
+        ensures memory { IsOk result }
         ensures table { IsTable self.new }
     {
         let slots = &mut self.boundaries[site.boundary as usize];
-        place_at(slots, &mut self.lists, block, site)
+        slots.take_at(site.slot, block);
+        self.lists.push(block, site);
+        Ok(())
     }
 
     /// Takes the block's site on the boundary from it, and makes the slot free. Its other sites keep their order.
@@ -179,13 +191,12 @@ impl Map {
     }
 
     /// Gives the block the lowest free slot of a boundary that has one.
-    fn take_lowest(&mut self, block: u32, boundary: u8) -> Result<Site, NoMemory>
+    fn take_lowest(&mut self, block: u32, boundary: u8) -> Site
         requires block { block < self.old.shape.n }
         requires boundary { boundary < self.old.shape.b }
         requires none { count_on boundary (sites_in self.old block) ≡ 0 }
         requires left { used_in self.old boundary ≤ self.old.shape.k }
-        ensures taken { IfOk result (λ site. TakesLowest self.old block boundary site self.new) }
-        ensures refused { OnErr result (self.new ≡ self.old) }
+        ensures taken { TakesLowest self.old block boundary result self.new }
         ensures table { IsTable self.new }
     {
         let slots = &mut self.boundaries[boundary as usize];
@@ -201,7 +212,8 @@ fn free_boundaries(alloc: Global, count: u8, most: u32) -> Result<Vec<Slots>, No
 {
     let mut boundaries = Vec::new(alloc);
     for _ in 0..count {
-        let Ok(()) = boundaries.push(Slots::new(alloc, most)) else {
+        let slots = Slots::new(alloc, most)?;
+        let Ok(()) = boundaries.push(slots) else {
             return Err(NoMemory);
         };
     }
@@ -209,44 +221,19 @@ fn free_boundaries(alloc: Global, count: u8, most: u32) -> Result<Vec<Slots>, No
 }
 
 /// Puts the block in the lowest free slot, and the site last in its list.
-fn place_lowest(
-    slots: &mut Slots,
-    lists: &mut SiteLists,
-    block: u32,
-    boundary: u8,
-) -> Result<Site, NoMemory>
+fn place_lowest(slots: &mut Slots, lists: &mut SiteLists, block: u32, boundary: u8) -> Site
     requires sound { IsSlots slots.old }
     requires left { used_count slots.old < slots.old.most }
-    ensures slots { MatchResult result (λ site. Puts slots.old slots.new site.slot block) (λ _. Keeps slots.old slots.new) }
-    ensures lists { MatchResult result (λ site. Appends lists.old.rows lists.new.rows block site) (λ _. SameRows lists.old.rows lists.new.rows) }
-    ensures lowest { IfOk result (λ site. (site.boundary ≡ boundary) × ((k : ℕ) → k < site.slot → IsSome (block_in slots.old k))) }
+    requires lists { IsLists lists.old }
+    requires within { block < length lists.old.counts.items }
+    requires room { length (row_of lists.old block) < lists.old.width }
+    ensures slots { Puts slots.old slots.new result.slot block }
+    ensures lists { Appends lists.old lists.new block result }
+    ensures boundary { result.boundary ≡ boundary }
+    ensures lowest { (k : ℕ) → k < result.slot → IsSome (block_in slots.old k) }
 {
-    let slot = slots.take(block)?;
+    let slot = slots.take(block);
     let site = Site { boundary, slot };
-    if lists.push(block, site).is_err() {
-        slots.give_up(slot);
-        return Err(NoMemory);
-    }
-    Ok(site)
-}
-
-/// Puts the block in this slot, and the site last in its list.
-fn place_at(
-    slots: &mut Slots,
-    lists: &mut SiteLists,
-    block: u32,
-    site: Site,
-) -> Result<(), NoMemory>
-    requires sound { IsSlots slots.old }
-    requires within { site.slot < slots.old.most }
-    requires free { block_in slots.old site.slot ≡ None }
-    ensures slots { MatchResult result (λ _. Puts slots.old slots.new site.slot block) (λ _. Keeps slots.old slots.new) }
-    ensures lists { MatchResult result (λ _. Appends lists.old.rows lists.new.rows block site) (λ _. SameRows lists.old.rows lists.new.rows) }
-{
-    slots.take_at(site.slot, block)?;
-    if lists.push(block, site).is_err() {
-        slots.give_up(site.slot);
-        return Err(NoMemory);
-    }
-    Ok(())
+    lists.push(block, site);
+    site
 }

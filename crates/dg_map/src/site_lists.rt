@@ -1,80 +1,140 @@
-ghost use Rattle.std.specs.Prelude.{◌≡◌, ◌<◌, [], ℕ, MatchResult};
+ghost use Rattle.std.specs.Prelude.{◌≡◌, ◌+◌, ◌*◌, ◌<◌, ◌≤◌, ◌^◌, ℕ, IfOk, MatchOption, length};
 ghost use Rattle.std.specs.List.{Contains};
-ghost use Rattle.dg_map.specs.Rows.{Appends, SameRows, SetsRow, row_of};
+ghost use Rattle.dg_map.specs.Rows.{Appends, IsBare, IsFirstSpread, IsLists, IsUnspread, KeepsOff, SetsCount, SetsRow, count_of, row_of};
 ghost use Rattle.dg_model.specs.Tables.{count_on, sites_off};
 
+use crate::bits::Bits;
 use dg_model::{NoMemory, Site};
 use std::alloc::Global;
-use std::collections::BTreeMap;
 
-/// The sites of each block, in the order of taking.
+/// The sites of each block, in the order of taking. All their memory is taken at first.
 #[derive(Drop)]
 pub struct SiteLists {
-    alloc: Global,
-    rows: BTreeMap<u32, Vec<Site>>,
+    /// The places of a row: one for each boundary.
+    width: u8,
+    /// A row for each block, one after another.
+    sites: Vec<Site>,
+    /// How many places of its row each block uses, from the front.
+    counts: Vec<u8>,
+    /// The blocks that have more than one site.
+    spread: Bits,
 }
 
+const _: () = prove!(size_of::<Site>() == 8);
+
 impl SiteLists {
-    /// No block has a site.
-    pub fn new(alloc: Global) -> SiteLists
-        ensures { (b : ℕ) → row_of result.rows b ≡ [] }
+    /// So many blocks without sites, for so many boundaries.
+    pub fn new(alloc: Global, blocks: u32, boundaries: u8) -> Result<SiteLists, NoMemory>
+        requires blocks { blocks ≤ 2 ^ 20 }
+        requires boundaries { boundaries ≤ 16 }
+        ensures { IfOk result (IsBare blocks boundaries) }
     {
-        SiteLists {
-            alloc,
-            rows: BTreeMap::new(alloc),
-        }
+        let nowhere = Site {
+            boundary: 0,
+            slot: 0,
+        };
+        let Ok(sites) = vec![in alloc; nowhere; blocks as usize * boundaries as usize] else {
+            return Err(NoMemory);
+        };
+        let Ok(counts) = vec![in alloc; 0; blocks as usize] else {
+            return Err(NoMemory);
+        };
+        Ok(SiteLists {
+            width: boundaries,
+            sites,
+            counts,
+            spread: Bits::none(alloc, blocks)?,
+        })
     }
 
     /// The sites of the block.
     pub fn of(&self, block: u32) -> &[Site]
-        ensures { result.now ≡ row_of self.now.rows block }
+        requires sound { IsLists self.now }
+        requires within { block < length self.now.counts.items }
+        ensures { result.now ≡ row_of self.now block }
     {
-        match self.rows.get(&block) {
-            Some(sites) => sites.as_slice(),
-            None => &[],
-        }
+        let start = self.start(block);
+        let count = self.counts[block as usize];
+        &self.sites[start..start + count as usize]
+    }
+
+    /// The least block that has more than one site.
+    pub fn first_spread(&self) -> Option<u32>
+        requires { IsLists self.now }
+        ensures { MatchOption result (IsUnspread self.now) (IsFirstSpread self.now) }
+    {
+        self.spread.least()
     }
 
     /// Puts the site last in the list of the block.
-    pub fn push(&mut self, block: u32, site: Site) -> Result<(), NoMemory>
-        ensures { MatchResult result (λ _. Appends self.old.rows self.new.rows block site) (λ _. SameRows self.old.rows self.new.rows) }
+    pub fn push(&mut self, block: u32, site: Site)
+        requires sound { IsLists self.old }
+        requires within { block < length self.old.counts.items }
+        requires room { length (row_of self.old block) < self.old.width }
+        ensures { Appends self.old self.new block site }
     {
-        if let Some(sites) = self.rows.get_mut(&block) {
-            return sites.push(site).map_err(|_| NoMemory);
-        }
-        let mut sites = Vec::new(self.alloc);
-        if sites.push(site).is_err() || self.rows.insert(block, sites).is_err() {
-            return Err(NoMemory);
-        }
-        Ok(())
+        let start = self.start(block);
+        let count = self.counts[block as usize];
+        self.sites[start + count as usize] = site;
+        self.set_count(block, count + 1);
     }
 
     /// Takes the block's site on the boundary out of its list, and gives its slot.
     pub fn take_out(&mut self, block: u32, boundary: u8) -> u32
-        requires { 0 < count_on boundary (row_of self.old.rows block) }
-        ensures slot { Contains (row_of self.old.rows block) (record { boundary = boundary; slot = result }) }
-        ensures rows { SetsRow self.old.rows self.new.rows block (sites_off boundary (row_of self.old.rows block)) }
+        requires sound { IsLists self.old }
+        requires within { block < length self.old.counts.items }
+        requires some { 0 < count_on boundary (row_of self.old block) }
+        ensures slot { Contains (row_of self.old block) (record { boundary = boundary; slot = result }) }
+        ensures rows { SetsRow self.old self.new block (sites_off boundary (row_of self.old block)) }
     {
-        let Some(sites) = self.rows.get_mut(&block) else {
-            unreachable!();
-        };
-        let slot = take_from(sites, boundary);
-        if self.of(block).is_empty() {
-            self.rows.remove(&block);
-        }
+        let slot = slot_on(self.of(block), boundary);
+        let start = self.start(block);
+        let count = self.counts[block as usize];
+        let kept = keep_off(&mut self.sites, start, count, boundary);
+        self.set_count(block, kept);
         slot
+    }
+
+    /// Where the block's row begins.
+    fn start(&self, block: u32) -> usize
+        requires sound { IsLists self.now }
+        requires within { block < length self.now.counts.items }
+        ensures start { result ≡ block * self.now.width }
+        ensures end { result + self.now.width ≤ length self.now.sites.items }
+    {
+        block as usize * self.width as usize
+    }
+
+    /// Sets how many sites of its row the block has.
+    fn set_count(&mut self, block: u32, count: u8)
+        requires sound { IsLists self.old }
+        requires within { block < length self.old.counts.items }
+        requires few { count ≤ self.old.width }
+        ensures { SetsCount self.old self.new block count }
+    {
+        self.counts[block as usize] = count;
+        if count > 1 {
+            self.spread.insert(block);
+        } else if self.spread.has(block) {
+            self.spread.remove(block);
+        }
     }
 }
 
-/// Takes the site on the boundary out of the list, and gives its slot.
-fn take_from(sites: &mut Vec<Site>, boundary: u8) -> u32
-    requires { 0 < count_on boundary sites.old.items }
-    ensures slot { Contains sites.old.items (record { boundary = boundary; slot = result }) }
-    ensures items { sites.new.items ≡ sites_off boundary sites.old.items }
+/// Of so many sites from a place on, keeps those off the boundary, and says how many.
+fn keep_off(sites: &mut Vec<Site>, start: usize, count: u8, boundary: u8) -> u8
+    requires { start + count ≤ length sites.old.items }
+    ensures { KeepsOff sites.old.items sites.new.items start count result boundary }
 {
-    let slot = slot_on(sites, boundary);
-    sites.retain(|site| site.boundary != boundary);
-    slot
+    let mut kept = 0;
+    for place in 0..count {
+        let site = sites[start + place as usize];
+        if site.boundary != boundary {
+            sites[start + kept as usize] = site;
+            kept += 1;
+        }
+    }
+    kept
 }
 
 /// The slot of the site on the boundary.

@@ -146,6 +146,33 @@ static ROWS: [Row; 20] = [
     (Spare, 5, 0, Slot(3), (4, 0), Some((1, 3)), Some((0, 3))),
 ];
 
+/// One block gives up its only site, and then the last of two, and takes it again.
+static AGAIN: [Row; 9] = [
+    (Take, 2, 0, Slot(0), (1, 2), Some((0, 0)), None),
+    (Take, 3, 0, Slot(1), (2, 1), Some((0, 1)), None),
+    (GiveUp, 2, 0, Left(None), (1, 2), None, None),
+    (Retake(0), 2, 0, Slot(0), (2, 1), Some((0, 0)), None),
+    (GiveUp, 2, 0, Left(None), (1, 2), None, None),
+    (Take, 2, 0, Slot(0), (2, 1), Some((0, 0)), None),
+    (Take, 2, 1, Slot(0), (1, 2), Some((0, 0)), Some((1, 0))),
+    (GiveUp, 2, 1, Left(None), (0, 3), Some((0, 0)), None),
+    (Retake(0), 2, 1, Slot(0), (1, 2), Some((0, 0)), Some((1, 0))),
+];
+
+/// A call, its block and boundary, its answer, and the least block with more than one site then.
+static SPREADS: [(Call, u32, u8, Answer, Option<u32>); 10] = [
+    (Take, 4999, 0, Slot(0), None),
+    (Take, 4999, 1, Slot(0), Some(4999)),
+    (Take, 4100, 1, Slot(1), Some(4999)),
+    (Take, 4100, 0, Slot(1), Some(4100)),
+    (Take, 70, 0, Slot(2), Some(4100)),
+    (Take, 70, 1, Slot(2), Some(70)),
+    (GiveUp, 4100, 0, Left(None), Some(70)),
+    (GiveUp, 70, 1, Left(None), Some(4999)),
+    (GiveUp, 4999, 0, Left(None), None),
+    (Take, 0, 0, Slot(0), None),
+];
+
 fn check_row(rt: &impl Abort, map: &mut Map, row: &Row) {
     let &(call, block, boundary, want, counted, first, second) = row;
     assert_eq!(rt;
@@ -257,6 +284,36 @@ fn restores(rt: HostRuntime) -> Result<(), Fail> {
                 "{block} {at}"
             );
         }
+    }
+    Ok(())
+}
+
+#[test]
+fn takes_a_last_site_again(rt: HostRuntime) -> Result<(), Fail> {
+    let shape = Shape::check(512, 6, 2, 3, 1).ok_or("the shape")?;
+    let Ok(mut map) = Map::new(rt.alloc(), shape) else {
+        return Err("no memory".into());
+    };
+    for row in &AGAIN {
+        check_row(&rt, &mut map, row);
+    }
+    Ok(())
+}
+
+// Blocks in three words of bits, two of them in one group.
+#[test]
+fn finds_spread_blocks(rt: HostRuntime) -> Result<(), Fail> {
+    let shape = Shape::check(512, 5000, 2, 5000, 1).ok_or("the shape")?;
+    let Ok(mut map) = Map::new(rt.alloc(), shape) else {
+        return Err("no memory".into());
+    };
+    for &(call, block, boundary, want, least) in &SPREADS {
+        assert_eq!(rt;
+            called(&mut map, call, block, boundary),
+            want,
+            "{call:?} {block} {boundary}"
+        );
+        assert_eq!(rt; map.least_spread(), least, "{call:?} {block} {boundary}");
     }
     Ok(())
 }

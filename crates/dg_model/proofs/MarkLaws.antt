@@ -1,6 +1,6 @@
 -- Marks of pending blocks: whether a block is known can be told, so some marks are always the next ones. A library for the crates above.
-use Rattle.std.proofs.Common.{◌≡◌, ◌<◌, ◌≤◌, ◌+◌, ◌*◌, ◌/◌, ◌⊎◌, inl, inr, ℕ, zero, suc, Bool, true, false, cond, not, ◌&&◌, ◌||◌, Ok, Err, List, [], ◌∷◌, length, map, get_or, refl, sym, subst, ◌∙◌, ap, arith}
-use Rattle.std.specs.Prelude.{Option, Some, None, Result, nat_lt, slice_index_or}
+use Rattle.std.proofs.Common.{◌≡◌, ◌<◌, ◌≤◌, ◌*◌, ◌/◌, inl, inr, ℕ, Bool, true, false, cond, not, ◌&&◌, ◌||◌, Ok, Err, List, [], length, map, refl, sym, ◌∙◌, ap, arith}
+use Rattle.std.specs.Prelude.{Option, Some, None, Result}
 use Rattle.std.specs.List.{Contains, range_with_len}
 use Rattle.std.proofs.lemmas.Bool.{and_from, and_parts, both_ways, cases_Bool, cases_lt, false≢true, ltb-true, not-true, or_cases}
 use Rattle.std.proofs.lemmas.List.{get_or_past}
@@ -62,6 +62,20 @@ volume_bounded l n v = record {
   slot = slot_below v (geometry_on l n v);
   at = pointer_below v (geometry_on l n v);
 }
+
+-- without a geometry no block is claimed
+pub unclaimed_without : (l n : ℕ) (v : Volume) (bad : BadSuper) (b : ℕ) → geometry_on l n v ≡ Err bad → IsClaimed l n v b → ⊥
+unclaimed_without l n v bad b none (source, claim) = by_source source claim
+  where
+    no_inode : (i slot : ℕ) → Contains (volume_fragments l n v (Slot i slot)) b → ⊥
+    no_inode i slot h = let low = (volume_bounded l n v).inode i slot b h in let zero' = ap inodes_by none in omega (arith, low, zero')
+
+    no_pointer : (u level at : ℕ) → Contains (volume_fragments l n v (Pointer u level at)) b → ⊥
+    no_pointer u level at h = let low = (volume_bounded l n v).at u level at b h in let zero' = ap pointers_by none in omega (arith, low, zero')
+
+    by_source : (source : ClaimSource) → IsClaim (volume_fragments l n v) b source → ⊥
+    by_source (Slot i slot) (IsClaim.by_slot h) = no_inode i slot h
+    by_source (Pointer u level at) (IsClaim.by_pointer upper is above h) = no_pointer u level at h
 
 -- ---- whether a block is known
 

@@ -1,13 +1,13 @@
 -- What each step keeps, whatever its event. A library for the crates above.
-use Rattle.std.proofs.Common.{◌≡◌, ◌≤◌, ◌⊎◌, inl, inr, ◌∙◌, ap, refl, sym, subst, arith, ℕ, zero, suc, Bool, true, false, List, [], ◌∷◌, length}
-use Rattle.std.specs.Prelude.{Option, Some, None, take, slice_set}
+use Rattle.std.proofs.Common.{◌≡◌, inl, inr, ◌∙◌, ap, sym, subst, arith, ℕ, Bool, true, false, List, [], ◌∷◌, length}
+use Rattle.std.specs.Prelude.{Option, Some, None, take}
 use Rattle.std.proofs.lemmas.List.{length-set}
 use Rattle.dg_model.specs.Blocks.{padded}
-use Rattle.dg_model.specs.Copies.{Spread, spread_over}
-use Rattle.dg_model.specs.Changes.{BreaksOff, Goes, IsCut, PassesSlots, Settles, Spreads, Stays, Strikes, Tends, Writes, spread_in}
+use Rattle.dg_model.specs.Copies.{Spread}
+use Rattle.dg_model.specs.Changes.{IsCut, PassesSlots, Settles, Spreads, Stays, Strikes, Tends, Writes, spread_in}
 use Rattle.dg_model.specs.Marks.{AreNext, with_mark}
 use Rattle.dg_model.specs.Members.{ArePaired}
-use Rattle.dg_model.specs.Moves.{all_done, moves, moved}
+use Rattle.dg_model.specs.Moves.{moves, moved}
 use Rattle.dg_model.specs.Plans.{targets_of}
 use Rattle.dg_model.specs.Runs.{Run}
 use Rattle.dg_model.specs.States.{Counts, CountsRise, State, is_broken}
@@ -16,7 +16,7 @@ use Rattle.dg_model.specs.Tables.{Table}
 use Rattle.dg_model.specs.declared.events.Event.{Event}
 use Rattle.dg_model.specs.declared.events.Event.TheVariants.{Write, Read, Fail, Replace, Rebuild, Settle, Tend, Diffuse, Who, Pending, Cat, Ls, Tree, Home, Save}
 use Rattle.dg_model.specs.declared.replies.Reply.{Reply}
-use Rattle.dg_model.specs.declared.replies.Reply.TheVariants.{Done, Range, Degraded, Unavailable, Already, Lost, NotOut, Failed, NotFilling, Copied, Settled, Malformed, NoSpace, Tended, Diffused, NotSettled, Verdict, Blocks, Data, Given, Cut, Listed, ListedCut, Refused, HomeAt, NoHome, Saved}
+use Rattle.dg_model.specs.declared.replies.Reply.TheVariants.{Done, Range, Degraded, Unavailable, Already, Lost, NotOut, Failed, NotFilling, Copied, Settled, Malformed, NoSpace, Tended, Diffused, NotSettled, Verdict, Blocks, Data, Given, Cut, Listed, ListedCut, Nodes, NodesCut, Refused, HomeAt, NoHome, Saved}
 use Rattle.dg_model.proofs.TableLaws.{IsSized, all_done_sized, sited_sized, sized_same, spread_over_sized}
 
 -- The array's numbers stay, each block has a row, a value and a mark if it had them, no count falls, and a member that is refilled keeps
@@ -124,8 +124,8 @@ keeps_settles Known old new h = record {
 keeps_spreads : (Known : Type 0) (old : State) (count gained : ℕ) (new : State) → Spreads Known old count gained new → Keeps old new
 keeps_spreads Known old count gained new h = record {
   table =
-    subst (λ (t : Table). IsSized old.table t) (sym (ap (λ (s : Spread). s.table) h.spread))
-    (spread_over_sized h.wants old.homes (take count old.recent) (spread_in old));
+      subst (λ (t : Table). IsSized old.table t) (sym (ap (λ (s : Spread). s.table) h.spread))
+      (spread_over_sized h.wants old.homes (take count old.recent) (spread_in old));
   blocks = ap (λ s. length s.blocks) h.rest;
   marks = ap (λ s. length s.pending) h.rest;
   counts = h.goes.passes.counts;
@@ -152,7 +152,7 @@ keeps_touches Known old path new h = record {
 
 pub step_keeps : (Known : Type 0) (old : State) (event : Event) (reply : Reply) (new : State) → Step Known old event reply new → Keeps old new
 step_keeps Known old (Write b bytes) Range new h = keeps_same old new h.1
-step_keeps Known old (Write b bytes) Degraded new h = elim h.1 [ inl was ↦ keeps_same old new was.1 | inr now ↦ keeps_stays old new now.2 ]
+step_keeps Known old (Write b bytes) Degraded new h = elim h.1 [ inl was ↦ keeps_same old new was.1 | inr now ↦ keeps_stays old new now.3 ]
 step_keeps Known old (Write b bytes) Done new h = keeps_writes Known old b bytes new h.2
 step_keeps Known old (Read b) Range new h = keeps_same old new h.1
 step_keeps Known old (Read b) Unavailable new h = keeps_stays old new h.3
@@ -207,10 +207,10 @@ step_keeps Known old (Ls path) (Refused refusal) new h = keeps_stays old new h.1
 step_keeps Known old (Ls path) Unavailable new h = keeps_stays old new h.1
 step_keeps Known old (Ls path) (ListedCut entries) new h = keeps_stays old new h.2
 step_keeps Known old Tree NotSettled new h = keeps_same old new h.1
-step_keeps Known old Tree (Listed entries) new h = keeps_stays old new h.2
+step_keeps Known old Tree (Nodes entries) new h = keeps_stays old new h.2
 step_keeps Known old Tree (Refused refusal) new h = keeps_stays old new h.2
 step_keeps Known old Tree Unavailable new h = keeps_stays old new h.2
-step_keeps Known old Tree (ListedCut entries) new h = keeps_stays old new h.3
+step_keeps Known old Tree (NodesCut entries) new h = keeps_stays old new h.3
 step_keeps Known old (Home path) NotSettled new h = keeps_same old new h.1
 step_keeps Known old (Home path) (HomeAt s copy) new h = keeps_stays old new h.2
 step_keeps Known old (Home path) NoHome new h = keeps_stays old new h.2

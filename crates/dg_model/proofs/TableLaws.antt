@@ -1,5 +1,5 @@
 -- What moves, first sites and copies keep of a table: the array's numbers, and that each block has a row. A library for the crates above.
-use Rattle.std.proofs.Common.{◌≡◌, ◌<◌, ◌+◌, ◌-◌, ◌++◌, ◌∙◌, ap, refl, sym, ℕ, zero, suc, Bool, true, false, List, [], ◌∷◌, length, set}
+use Rattle.std.proofs.Common.{◌≡◌, ◌+◌, ◌-◌, ◌++◌, ◌∙◌, ap, refl, ℕ, zero, suc, Bool, true, false, List, [], ◌∷◌, length, set}
 use Rattle.std.specs.Prelude.{Option, Some, None, cond, map, nat_le, take}
 use Rattle.std.proofs.lemmas.List.{length-set}
 use Rattle.dg_model.specs.Copies.{Spread, copied_to, emptiest, fitted, spread_by, spread_over}
@@ -7,9 +7,8 @@ use Rattle.dg_model.specs.Homes.{home_of}
 use Rattle.dg_model.specs.Moves.{Action, all_done, copy_to, done, give_up}
 use Rattle.dg_model.specs.Plans.{blocks_of}
 use Rattle.dg_model.specs.Sites.{Evicts, IsGivenFirst, IsSited, has_site, without_last}
-use Rattle.dg_model.specs.Tables.{Table, lowest_free, put_site, sites_in, sites_off, used_in, without_site}
+use Rattle.dg_model.specs.Tables.{Table, lowest_free, put_site, sites_in, sites_off, used_in}
 use Rattle.dg_model.specs.declared.homes.Home.{Home}
-use Rattle.dg_model.specs.declared.shapes.Shape.{Shape}
 use Rattle.dg_model.specs.declared.sites.Site.{Site}
 use Rattle.dg_model.specs.declared.wants.Want.{Want}
 

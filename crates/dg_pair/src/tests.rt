@@ -1,7 +1,7 @@
 use crate::{
     Boundary, CopyAnswer, ExtendAnswer, FailAnswer, NoteAnswer, PairRead, PairWrite, ReplaceAnswer,
 };
-use dg_io::MemRack;
+use dg_io::{MemRack, Rack};
 use dg_model::MemberState;
 use std::test::Fail;
 
@@ -73,18 +73,29 @@ fn the_even_member_is_blanked_first(rt: HostRuntime) -> Result<(), Fail> {
     Ok(())
 }
 
-// Call 2 makes member 0 longer, and call 3, the same for member 1, fails.
 #[test]
 fn a_member_is_made_longer(rt: HostRuntime) -> Result<(), Fail> {
     let alloc = rt.alloc();
-    let fails = [3].to_vec(alloc)?;
+    let fails = Vec::new(alloc);
     let mut rack = MemRack::new(alloc, 2, SIZE + 8, fails).expect(&rt, "memory");
     let mut pair = Boundary::new(&mut rack, 0, 512, 2, SIZE);
     assert_eq!(rt; pair.extend(&mut rack, 0, SIZE + 8), ExtendAnswer::Extended);
-    assert_eq!(rt; pair.extend(&mut rack, 1, SIZE + 8), ExtendAnswer::Fell);
-    assert_eq!(rt; pair.extend(&mut rack, 1, SIZE + 8), ExtendAnswer::NotGood);
-    assert_eq!(rt; pair.note(&mut rack, 0, SIZE, b"body"), NoteAnswer::Noted);
     assert_eq!(rt; pair.member(0), MemberState::Good);
+    assert_eq!(rt; rack.attach(0), Ok(Some(SIZE + 8)));
+    assert_eq!(rt; rack.attach(1), Ok(Some(SIZE)));
+    Ok(())
+}
+
+// Member 1 has no room for more.
+#[test]
+fn a_member_without_room_falls(rt: HostRuntime) -> Result<(), Fail> {
+    let alloc = rt.alloc();
+    let fails = Vec::new(alloc);
+    let mut rack = MemRack::new(alloc, 2, SIZE, fails).expect(&rt, "memory");
+    let mut pair = Boundary::new(&mut rack, 0, 512, 2, SIZE);
+    assert_eq!(rt; pair.extend(&mut rack, 1, SIZE + 8), ExtendAnswer::Fell);
+    assert_eq!(rt; pair.member(1), MemberState::Out);
+    assert_eq!(rt; pair.extend(&mut rack, 1, SIZE + 8), ExtendAnswer::NotGood);
     Ok(())
 }
 

@@ -1,12 +1,14 @@
 -- Lines, one after the other: those of a file, or of a directory.
-use Rattle.std.proofs.Common.{◌≡◌, ◌<◌, ◌≤◌, ◌+◌, ℕ, List, [], ◌∷◌, ◌++◌, length, take, drop, get_or, sym, ◌∙◌, ap, subst, append_assoc, length-append, arith, take-append-drop}
+use Rattle.std.proofs.Common.{◌≡◌, ◌<◌, ◌≤◌, ◌+◌, ℕ, zero, suc, List, [], ◌∷◌, ◌++◌, length, take, drop, get_or, sym, ◌∙◌, ap, subst, append_assoc, length-append, arith, refl, take-append-drop}
 use Rattle.std.specs.List.{concat, flat_map}
 use Rattle.std.proofs.lemmas.List.{take_more, append-nil}
 use Rattle.std.proofs.lemmas.List.Folds.{concat-append}
 use Rattle.std.proofs.lemmas.Grind.{flat_map-append}
 use Rattle.std.specs.Prelude.{Option, codes}
 use Rattle.std.specs.Fmt.{decimal}
+use Rattle.hex.specs.Hex.{encode_lower, encode_with}
 use Rattle.dg_io.specs.Told.{Told, Took, TookPart}
+use Rattle.dg_text.specs.Lines.{path_word, spelled_byte}
 use Rattle.dg_text.specs.ToldSteps.{took_both, took_part_of_more, took_part_after}
 
 -- one line more
@@ -36,6 +38,25 @@ concat_within lines n =
     let sizes = length-append (concat (take n lines)) (concat (drop n lines)) in
     omega arith
 
+-- an item, whatever is taken past the end
+pub item_is : {A : Type 0} (xs : List A) (i : ℕ) (past : A) → i < length xs → get_or xs i past ≡ get_or xs i (get_or xs i past)
+item_is [] i past lt = absurd (omega (arith, lt))
+item_is (x ∷ xs) zero past lt = refl
+item_is (x ∷ xs) (suc i) past lt = item_is xs i past (omega (arith, lt))
+
+-- the digits of one byte
+abbrev pub digits_of : ℕ → List ℕ
+digits_of byte = encode_lower (byte ∷ [])
+
+pub all_digits : (bytes : List ℕ) → flat_map digits_of bytes ≡ encode_lower bytes
+unfolding encode_with
+all_digits [] = refl
+all_digits (b ∷ bytes) = ap (λ (l : List ℕ). digits_of b ++ l) (all_digits bytes)
+
+pub all_bytes : (path : List ℕ) → flat_map spelled_byte path ≡ path_word path
+unfolding path_word
+all_bytes path = refl
+
 -- ---- what a sink took of the lines
 
 -- the lines before this one, and it
@@ -56,6 +77,16 @@ took_part_of_lines line_of xs i x line lt is same a b c before part =
     ap (λ (l : List ℕ). l ++ flat_map line_of (drop (i + 1) xs)) (sym (text_more line_of xs i x lt is)) ∙ sym (text_cut line_of xs (i + 1)) in
     let Q : List ℕ → Type 0 = λ l. Told (TookPart l) a c in
     subst Q whole (took_part_of_more (flat_map line_of (take i xs) ++ line_of x) (flat_map line_of (drop (i + 1) xs)) a c so_far)
+
+-- a text in three parts
+pub took_three : (s t u : List ℕ) (a b c d : Option (List ℕ)) → Told (Took s) a b → Told (Took t) b c → Told (Took u) c d → Told (Took (s ++ (t ++ u))) a d
+took_three s t u a b c d first second third = took_both s (t ++ u) a b d first (took_both t u b c d second third)
+
+pub took_second : (s t u : List ℕ) (a b c : Option (List ℕ)) → Told (Took s) a b → Told (TookPart t) b c → Told (TookPart (s ++ (t ++ u))) a c
+took_second s t u a b c first second = took_part_after s (t ++ u) a b c first (took_part_of_more t u b c second)
+
+pub took_third : (s t u : List ℕ) (a b c d : Option (List ℕ)) → Told (Took s) a b → Told (Took t) b c → Told (TookPart u) c d → Told (TookPart (s ++ (t ++ u))) a d
+took_third s t u a b c d first second third = took_part_after s (t ++ u) a b d first (took_part_after t u b c d second third)
 
 -- the text of lines and the line that ends them
 ended : (text word number : List ℕ) → text ++ (word ++ (number ++ codes "\n")) ≡ (text ++ (word ++ number)) ++ codes "\n"

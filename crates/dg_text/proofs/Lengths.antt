@@ -45,12 +45,6 @@ line_fits None (Array s) h =
     let k = short s.k (omega arith) in
     let m = short s.m (omega arith) in
     simp length-append (omega arith)
-line_fits None (Write b bytes) h = absurd h
-line_fits None (Read b) h = absurd h
-line_fits None (Fail s j) h = absurd h
-line_fits None (Cat path) h = absurd h
-line_fits None (Ls path) h = absurd h
-line_fits (Some shape) (Array s) h = absurd h
 line_fits (Some shape) (Write b bytes) h =
     let number = short b h.0 in
     let word = length_hex_word bytes in
@@ -70,3 +64,4 @@ line_fits (Some shape) (Ls path) h =
     let bytes = path_short path h.0 in
     let word = length-path_word path in
     simp length-append (omega arith)
+line_fits shape event h = absurd h

@@ -6,3 +6,5 @@ mod Lengths
 mod WholeLines
 mod FileLines
 mod HexLineSteps
+mod Spellings
+mod ReplyLines

@@ -123,7 +123,7 @@ length-path_word (x ∷ path) =
     rw (path_word_first x path) (omega arith)
 
 -- a word that is empty spells no byte
-path_none : (path : List ℕ) → [] ≡ path_word path → path ≡ []
+pub path_none : (path : List ℕ) → [] ≡ path_word path → path ≡ []
 path_none [] is = refl
 path_none (x ∷ path) is =
     let first = spelled_length x (is_plain x) refl in

@@ -53,12 +53,6 @@ spelling_lacks None (Array s) h =
     joined (codes "array ") (shape_words s) (plain (codes "array ") refl)
     (joined (decimal s.l) _ l (joined (codes " ") _ space (joined (decimal s.n) _ n (joined (codes " ") _ space
     (joined (decimal s.b) _ b (joined (codes " ") _ space (joined (decimal s.k) _ k (joined (codes " ") (decimal s.m) space m))))))))
-spelling_lacks None (Write b bytes) h = absurd h
-spelling_lacks None (Read b) h = absurd h
-spelling_lacks None (Fail s j) h = absurd h
-spelling_lacks None (Cat path) h = absurd h
-spelling_lacks None (Ls path) h = absurd h
-spelling_lacks (Some shape) (Array s) h = absurd h
 spelling_lacks (Some shape) (Write b bytes) h =
     joined (codes "write ") _ (plain (codes "write ") refl)
     (joined (decimal b) _ (number b h.0) (joined (codes " ") (hex_word bytes) space (hex_lacks bytes h.2)))
@@ -68,6 +62,7 @@ spelling_lacks (Some shape) (Fail s j) h =
     (joined (decimal s) _ (number s h.0) (joined (codes " ") (decimal j) space (number j h.1)))
 spelling_lacks (Some shape) (Cat path) h = joined (codes "cat ") (path_word path) (plain (codes "cat ") refl) (path_lacks path h.1)
 spelling_lacks (Some shape) (Ls path) h = joined (codes "ls ") (path_word path) (plain (codes "ls ") refl) (path_lacks path h.1)
+spelling_lacks shape event h = absurd h
 
 -- where a line and its LF begin a text that begins with an event's line, the line spells the event
 pub whole_line : (shape : Option Shape) (event : Event) (line more tail : List ℕ) → IsInPlace shape event → (Contains line 10 → ⊥)

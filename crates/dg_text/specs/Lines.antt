@@ -8,7 +8,7 @@ use Rattle.hex.specs.Hex.{encode_lower}
 use Rattle.dg_model.specs.Shapes.{IsShape}
 use Rattle.dg_model.specs.declared.shapes.Shape.{Shape}
 use Rattle.dg_model.specs.declared.events.Event.{Event}
-use Rattle.dg_model.specs.declared.events.Event.TheVariants.{Array, Write, Read, Fail, Cat, Ls}
+use Rattle.dg_model.specs.declared.events.Event.TheVariants.{Array, Write, Read, Fail, Replace, Rebuild, Settle, Tend, Diffuse, Who, Pending, Cat, Ls, Tree, Home, Save}
 use Rattle.ufs_model.specs.Paths.{is_path}
 
 -- bytes as a word
@@ -38,8 +38,18 @@ spelling (Array s) = codes "array " ++ shape_words s
 spelling (Write b bytes) = codes "write " ++ (decimal b ++ (codes " " ++ hex_word bytes))
 spelling (Read b) = codes "read " ++ decimal b
 spelling (Fail s j) = codes "fail " ++ (decimal s ++ (codes " " ++ decimal j))
+spelling (Replace s j) = codes "replace " ++ (decimal s ++ (codes " " ++ decimal j))
+spelling (Rebuild s n) = codes "rebuild " ++ (decimal s ++ (codes " " ++ decimal n))
+spelling Settle = codes "settle"
+spelling (Tend n) = codes "tend " ++ decimal n
+spelling Diffuse = codes "diffuse"
+spelling (Who b) = codes "who " ++ decimal b
+spelling Pending = codes "pending"
 spelling (Cat path) = codes "cat " ++ path_word path
 spelling (Ls path) = codes "ls " ++ path_word path
+spelling Tree = codes "tree"
+spelling (Home path) = codes "home " ++ path_word path
+spelling Save = codes "save"
 
 -- its line
 abbrev pub line_of : Event → List ℕ
@@ -53,30 +63,21 @@ input_of events = flat_map line_of events
 abbrev pub AreBytes : List ℕ → Type 0
 AreBytes bytes = All (λ x. x < 256) bytes
 
--- the events that may stand first, or after an array of this shape
+-- the events that are served, and may stand first, or after an array of this shape
 abbrev pub IsInPlace : Option Shape → Event → Type 0
 IsInPlace None (Array s) = IsShape s
-IsInPlace None (Write b bytes) = ⊥
-IsInPlace None (Read b) = ⊥
-IsInPlace None (Fail s j) = ⊥
-IsInPlace None (Cat path) = ⊥
-IsInPlace None (Ls path) = ⊥
-IsInPlace (Some shape) (Array s) = ⊥
 IsInPlace (Some shape) (Write b bytes) = (b < 2 ^ 32) × (length bytes ≤ shape.l) × AreBytes bytes
 IsInPlace (Some shape) (Read b) = b < 2 ^ 32
 IsInPlace (Some shape) (Fail s j) = (s < 2 ^ 32) × (j < 2 ^ 32)
 IsInPlace (Some shape) (Cat path) = (is_path path ≡ true) × AreBytes path
 IsInPlace (Some shape) (Ls path) = (is_path path ≡ true) × AreBytes path
+IsInPlace shape event = ⊥
 
 -- the events of an input are in their places: the first makes an array, and the others follow it
 abbrev pub AreInPlace : List Event → Type 0
 AreInPlace [] = Unit {0}
 AreInPlace (Array s ∷ events) = IsShape s × All (IsInPlace (Some s)) events
-AreInPlace (Write b bytes ∷ events) = ⊥
-AreInPlace (Read b ∷ events) = ⊥
-AreInPlace (Fail s j ∷ events) = ⊥
-AreInPlace (Cat path ∷ events) = ⊥
-AreInPlace (Ls path ∷ events) = ⊥
+AreInPlace (event ∷ events) = ⊥
 
 -- a bound on the bytes of a line, with its LF: a block as hex and 4201 more. Before the array a block counts as 512 bytes
 abbrev pub longest : Option Shape → ℕ

@@ -1,13 +1,21 @@
 -- The text of the replies. The words are this project's own.
-use Rattle.std.specs.Prelude.{◌≤◌, ◌<◌, ◌^◌, ℕ, List, ◌++◌, length, codes, All}
+use Rattle.std.specs.Prelude.{ℕ, List, [], ◌++◌, length, codes, Option, Some, None}
 use Rattle.std.specs.Fmt.{decimal}
 use Rattle.std.specs.List.{flat_map, concat}
 use Rattle.hex.specs.Hex.{encode_lower}
 use Rattle.dg_model.specs.declared.replies.Reply.{Reply}
-use Rattle.dg_model.specs.declared.replies.Reply.TheVariants.{Done, Range, Degraded, Unavailable, Already, Data, Given, Cut, Listed as ListedReply, ListedCut, Refused}
+use Rattle.dg_model.specs.declared.replies.Reply.TheVariants.{Done, Range, Degraded, Unavailable, Already, Lost, NotOut, Failed, NotFilling, Copied, Settled, Malformed, NoSpace, Tended, Diffused, NotSettled, Verdict, Blocks, Data, Given, Cut, Listed as ListedReply, ListedCut, Nodes, NodesCut, Refused, HomeAt, NoHome, Saved}
+use Rattle.dg_model.specs.declared.verdicts.Who.{Who}
+use Rattle.dg_model.specs.declared.verdicts.Who.TheVariants.{System, Outside, Inode as OfInode, Shared, Pending, Dead, Idle}
+use Rattle.dg_model.specs.declared.wants.NoRoom.{NoRoom}
+use Rattle.dg_model.specs.declared.wants.NoRoom.TheVariants.{System as NoSystem, Inode as NoInode, Strays}
 use Rattle.ufs_model.specs.Listings.{Listed}
 use Rattle.ufs_model.specs.declared.geometries.BadSuper.{BadSuper}
-use Rattle.ufs_model.specs.declared.geometries.BadSuper.TheVariants.{Magic, Format, Bsize, Fsize, Frag, Nindir, Inopb, Size, Groups, Inodes, Layout, Summary}
+use Rattle.ufs_model.specs.declared.geometries.BadSuper.TheVariants.{Magic, Format, Bsize, Fsize, Frag, Nindir, Inopb, Size, Groups, Inodes as BadInodes, Layout, Summary as BadSummary}
+use Rattle.ufs_model.specs.declared.malformations.BadKind.{BadKind}
+use Rattle.ufs_model.specs.declared.malformations.BadKind.TheVariants.{Super as BadSuperblock, GroupMagic, GroupMap, WrongType, Filesize as BadFilesize, Past, Wild as BadWild, WildIn, Align, AlignIn, Run, Twice, PastIn, Free, Unused, Hole as BadHole, Chunk as BadChunk, Entry as BadEntry, EntryType, Dots, Names, DirTwice, RootNamed}
+use Rattle.ufs_model.specs.declared.roles.SystemKind.{SystemKind}
+use Rattle.ufs_model.specs.declared.roles.SystemKind.TheVariants.{Super as SuperBlock, Boot, Copy, Group, Inodes, Summary}
 use Rattle.ufs_model.specs.declared.inodes.Kind.{Kind}
 use Rattle.ufs_model.specs.declared.inodes.Kind.TheVariants.{Regular, Directory, Link, Pipe, Character, Block, Socket, Unknown}
 use Rattle.ufs_model.specs.declared.reads.BadRead.{BadRead}
@@ -37,15 +45,34 @@ kind_letter Block = codes "b"
 kind_letter Socket = codes "s"
 kind_letter Unknown = codes "u"
 
--- the line of an entry of a directory: its inode, with its kind and its size in bytes, and its name
-abbrev pub entry_line : Listed → List ℕ
-entry_line entry =
-    codes "entry " ++ (decimal entry.inode ++ (codes " " ++ (kind_letter entry.kind
-    ++ (codes " " ++ (decimal entry.size ++ (codes " " ++ (path_word entry.name ++ codes "\n")))))))
+-- what a line says of an entry: its inode, with its kind and its size in bytes, and its name
+abbrev pub entry_words : Listed → List ℕ
+entry_words entry =
+    decimal entry.inode ++ (codes " " ++ (kind_letter entry.kind ++ (codes " " ++ (decimal entry.size ++ (codes " " ++ path_word entry.name)))))
 
--- the lines of some entries
+-- the line of an entry of a directory
+abbrev pub entry_line : Listed → List ℕ
+entry_line entry = codes "entry " ++ (entry_words entry ++ codes "\n")
+
+-- the line of an entry of the whole volume, with its depth below the root
+abbrev pub node_line : Listed → List ℕ
+node_line entry = codes "node " ++ (decimal entry.depth ++ (codes " " ++ (entry_words entry ++ codes "\n")))
+
+-- the lines of some entries of a directory
 abbrev pub entries_text : List Listed → List ℕ
 entries_text entries = flat_map entry_line entries
+
+-- the lines of some entries of the whole volume
+abbrev pub nodes_text : List Listed → List ℕ
+nodes_text entries = flat_map node_line entries
+
+-- the line of a block
+abbrev pub block_line : ℕ → List ℕ
+block_line b = codes "block " ++ (decimal b ++ codes "\n")
+
+-- the lines of some blocks
+abbrev pub blocks_text : List ℕ → List ℕ
+blocks_text blocks = flat_map block_line blocks
 
 -- the first test of a superblock that fails
 abbrev pub super_word : BadSuper → List ℕ
@@ -58,9 +85,9 @@ super_word Nindir = codes "nindir"
 super_word Inopb = codes "inopb"
 super_word Size = codes "size"
 super_word Groups = codes "groups"
-super_word Inodes = codes "inodes"
+super_word BadInodes = codes "inodes"
 super_word Layout = codes "layout"
-super_word Summary = codes "summary"
+super_word BadSummary = codes "summary"
 
 -- what is wrong with a volume
 abbrev pub bad_word : BadRead → List ℕ
@@ -78,19 +105,93 @@ refusal_words NotDirectory = codes "notdir"
 refusal_words NotRegular = codes "notregular"
 refusal_words (Bad bad) = codes "bad " ++ bad_word bad
 
--- the words of a reply; the lines of a file or a directory stand in front of the last of them
+-- a malformation of a volume
+abbrev pub malformation_word : BadKind → List ℕ
+malformation_word (BadSuperblock kind) = super_word kind
+malformation_word GroupMagic = codes "groupmagic"
+malformation_word GroupMap = codes "groupmap"
+malformation_word WrongType = codes "type"
+malformation_word BadFilesize = codes "filesize"
+malformation_word Past = codes "past"
+malformation_word BadWild = codes "wild"
+malformation_word WildIn = codes "wildin"
+malformation_word Align = codes "align"
+malformation_word AlignIn = codes "alignin"
+malformation_word Run = codes "run"
+malformation_word Twice = codes "twice"
+malformation_word PastIn = codes "pastin"
+malformation_word Free = codes "free"
+malformation_word Unused = codes "unused"
+malformation_word BadHole = codes "hole"
+malformation_word BadChunk = codes "chunk"
+malformation_word BadEntry = codes "entry"
+malformation_word EntryType = codes "entrytype"
+malformation_word Dots = codes "dots"
+malformation_word Names = codes "names"
+malformation_word DirTwice = codes "dirtwice"
+malformation_word RootNamed = codes "rootnamed"
+
+-- what found no room
+abbrev pub room_words : NoRoom → List ℕ
+room_words NoSystem = codes "system"
+room_words (NoInode i) = codes "inode " ++ decimal i
+room_words Strays = codes "strays"
+
+-- a kind of block of the file system itself
+abbrev pub system_word : SystemKind → List ℕ
+system_word SuperBlock = codes "super"
+system_word Boot = codes "boot"
+system_word Copy = codes "copy"
+system_word Group = codes "group"
+system_word Inodes = codes "inodes"
+system_word Summary = codes "summary"
+
+-- what a block belongs to
+abbrev pub who_words : Who → List ℕ
+who_words (System kind) = codes "system " ++ system_word kind
+who_words Outside = codes "outside"
+who_words (OfInode i level) = codes "inode " ++ (decimal i ++ (codes " level " ++ decimal level))
+who_words (Shared count) = codes "shared " ++ decimal count
+who_words Pending = codes "pending"
+who_words Dead = codes "dead"
+who_words Idle = codes "idle"
+
+-- the boundary with a copy, if there is one
+abbrev pub copy_words : Option ℕ → List ℕ
+copy_words None = []
+copy_words (Some s) = codes " copy " ++ decimal s
+
+-- the words of a reply; the lines of a file, a listing or some blocks stand in front of the last of them
 abbrev pub words_of : Reply → List ℕ
 words_of Done = codes "ok"
 words_of Range = codes "range"
 words_of Degraded = codes "degraded"
 words_of Unavailable = codes "unavailable"
 words_of Already = codes "already"
+words_of (Lost s) = codes "lost " ++ decimal s
+words_of NotOut = codes "not out"
+words_of Failed = codes "failed"
+words_of NotFilling = codes "not filling"
+words_of (Copied done left) = codes "copied " ++ (decimal done ++ (codes " " ++ decimal left))
+words_of Settled = codes "settled"
+words_of (Malformed kind n) = codes "malformed " ++ (malformation_word kind ++ (codes " " ++ decimal n))
+words_of (NoSpace room) = codes "nospace " ++ room_words room
+words_of (Tended met left) = codes "tended " ++ (decimal met ++ (codes " " ++ decimal left))
+words_of (Diffused gained) = codes "diffused " ++ decimal gained
+words_of NotSettled = codes "not settled"
+words_of (Verdict who) = who_words who
+words_of (Blocks blocks) = blocks_text blocks ++ (codes "end " ++ decimal (length blocks))
 words_of (Data bytes) = codes "data " ++ hex_word bytes
 words_of (Given lines) = file_text lines ++ (codes "end " ++ decimal (length (concat lines)))
 words_of (Cut lines) = file_text lines ++ (codes "cut " ++ decimal (length (concat lines)))
 words_of (ListedReply entries) = entries_text entries ++ (codes "end " ++ decimal (length entries))
 words_of (ListedCut entries) = entries_text entries ++ (codes "cut " ++ decimal (length entries))
+words_of (Nodes entries) = nodes_text entries ++ (codes "end " ++ decimal (length entries))
+words_of (NodesCut entries) = nodes_text entries ++ (codes "cut " ++ decimal (length entries))
 words_of (Refused refusal) = refusal_words refusal
+words_of (HomeAt s copy) = codes "home " ++ (decimal s ++ copy_words copy)
+words_of NoHome = codes "home none"
+words_of (Saved sequence) = codes "saved " ++ decimal sequence
 
 -- the line of a reply
 abbrev pub reply_line : Reply → List ℕ
@@ -99,28 +200,6 @@ reply_line reply = words_of reply ++ codes "\n"
 -- the lines of some replies
 abbrev pub output_of : List Reply → List ℕ
 output_of replies = flat_map reply_line replies
-
--- each line has bytes, no more than the largest block, and all lines together have fewer than 2^32
-abbrev pub AreShort : List (List ℕ) → Type 0
-AreShort lines = All (λ line. (0 < length line) × (length line ≤ 4096)) lines × (length (concat lines) < 2 ^ 32)
-
--- each name has no more bytes than the longest (`MAXNAMLEN` of `dir.h`), and there are fewer than 2^32 entries
-abbrev pub AreFew : List Listed → Type 0
-AreFew entries = All (λ entry. length entry.name ≤ 255) entries × (length entries < 2 ^ 32)
-
--- the bytes of the reply, if it has any, are no more than the largest block, or no more than that in each of its lines
-abbrev pub IsShort : Reply → Type 0
-IsShort Done = Unit {0}
-IsShort Range = Unit {0}
-IsShort Degraded = Unit {0}
-IsShort Unavailable = Unit {0}
-IsShort Already = Unit {0}
-IsShort (Data bytes) = length bytes ≤ 4096
-IsShort (Given lines) = AreShort lines
-IsShort (Cut lines) = AreShort lines
-IsShort (ListedReply entries) = AreFew entries
-IsShort (ListedCut entries) = AreFew entries
-IsShort (Refused refusal) = Unit {0}
 
 -- why a line is refused
 abbrev pub kind_of : BadLine → List ℕ

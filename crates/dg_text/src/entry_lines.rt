@@ -1,6 +1,6 @@
 // The entries of a directory as lines.
-use crate::listings::write_entry_line;
-use crate::replies::write_count;
+use crate::counts::write_number;
+use crate::listings::{Form, write_entry_line};
 use dg_io::Sink;
 use dg_model::Failed;
 use ufs_model::Kind;
@@ -34,7 +34,7 @@ impl<'a, K: Sink> EntryLines<'a, K> {
         ensures sink { self.new.sink.ghost_name ≡ self.old.sink.ghost_name }
         ensures cause { HasCause (K.faults self.old.sink.now) (K.faults self.new.sink.now) result }
     {
-        write_count(&mut *self.sink, b"end ", n)
+        write_number(&mut *self.sink, b"end ", n as u128)
     }
 
     /// Writes the line that ends a listing of which only the first `n` entries could be read.
@@ -44,7 +44,7 @@ impl<'a, K: Sink> EntryLines<'a, K> {
         ensures sink { self.new.sink.ghost_name ≡ self.old.sink.ghost_name }
         ensures cause { HasCause (K.faults self.old.sink.now) (K.faults self.new.sink.now) result }
     {
-        write_count(&mut *self.sink, b"cut ", n)
+        write_number(&mut *self.sink, b"cut ", n as u128)
     }
 }
 
@@ -60,13 +60,21 @@ impl<K: Sink> Listing for EntryLines<'_, K> {
 
     fn line(
         &mut self,
-        _depth: u32,
+        depth: u32,
         inode: u32,
         kind: Kind,
         size: u64,
         name: &[u8],
     ) -> Result<(), Failed> {
-        write_entry_line(&mut *self.sink, inode, kind, size, name)
+        write_entry_line(
+            &mut *self.sink,
+            Form::Directory,
+            depth,
+            inode,
+            kind,
+            size,
+            name,
+        )
     }
 
     ghost nothing = { λ s. took_no_entry K.taken s };

@@ -1,7 +1,8 @@
 // The bytes of a file as lines of one length.
 ghost use Rattle.std.specs.Prelude.{◌<◌, ◌≤◌};
 
-use crate::replies::{put, write_bytes_line, write_count};
+use crate::counts::write_number;
+use crate::replies::{put, write_bytes_line};
 use dg_io::{Pieces, Sink};
 use dg_model::Failed;
 
@@ -92,7 +93,7 @@ impl<'a, K: Sink> HexLines<'a, K> {
         ensures cause { HasCause (K.faults self.old.sink.now) (K.faults self.new.sink.now) result }
     {
         self.flush()?;
-        write_count(&mut *self.sink, word, n)
+        write_number(&mut *self.sink, word, n as u128)
     }
 
     /// Writes the bytes that wait as the last line, and the line that ends a file of `n` bytes.

@@ -1,52 +1,66 @@
-// The lines of a directory's entries. Each line is written by one call, without memory.
+// The lines of a listing. Each line of a name that a directory can have is written by one call, without memory.
 ghost use Rattle.std.specs.Prelude.{◌≡◌, ◌≤◌, ◌+◌, ◌*◌, ◌++◌, ℕ, All, length, take, codes, OnOk, OnErr};
 ghost use Rattle.std.specs.Fmt.{decimal};
 ghost use Rattle.dg_io.specs.Told.{Told, Took, TookPart};
 ghost use Rattle.dg_io.specs.Faults.{HasCause};
 ghost use Rattle.dg_text.specs.Lines.{path_word, spelled_byte};
-ghost use Rattle.dg_text.specs.Replies.{kind_letter, entry_line, entries_text, AreFew};
+ghost use Rattle.dg_text.specs.Listings.{front_in, line_in, listing_text};
+ghost use Rattle.dg_text.specs.Replies.{kind_letter};
 
+use crate::counts::write_number;
 use crate::path_words::is_plain;
-use crate::replies::{put, put_hex, write_count};
+use crate::replies::{put, put_hex};
 use dg_io::{Sink, write_all};
 use dg_model::{Failed, ListedEntry};
 use itoa::Buffer;
 use ufs_model::Kind;
 
-// Bytes of an entry's line before its name: the word, an inode's number of at most 10 digits, a letter and a size of at most
-// 20 digits, each with the space behind it.
-const HEAD_ROOM: usize = 6 + 11 + 2 + 21;
+// Bytes of an entry's line before its name: the word with a depth of at most 10 digits, an inode's number of at most 10
+// digits, a letter and a size of at most 20 digits, each with the space behind it.
+const HEAD_ROOM: usize = 5 + 11 + 11 + 2 + 21;
 
-// Bytes of the longest line of an entry: those before its name, four for each of 255 bytes of the name (`MAXNAMLEN` of
-// `dir.h`), and the LF.
-const ENTRY_ROOM: usize = HEAD_ROOM + 4 * 255 + 1;
+// The longest name (`MAXNAMLEN` of `dir.h`).
+const LONGEST_NAME: usize = 255;
 
-/// Writes the lines of a directory, and the one that ends it.
+// Bytes of the longest line of an entry: those before its name, four for each byte of the name, and the LF.
+const ENTRY_ROOM: usize = HEAD_ROOM + 4 * LONGEST_NAME + 1;
+
+/// What is listed.
+#[derive(Clone, Copy, Debug, PartialEq, Eq)]
+pub enum Form {
+    /// A directory.
+    Directory,
+    /// The whole volume: each line tells its entry's depth.
+    Volume,
+}
+
+/// Writes the lines of a listing, and the one that ends it.
 pub fn write_listing<K: Sink>(
     sink: &mut K,
+    form: Form,
     entries: &[ListedEntry],
     word: &[u8],
 ) -> Result<(), Failed>
-    requires entries { AreFew entries.now }
-    requires word { length word.now ≤ 4 }
-    ensures ok { OnOk result (Told (Took ((entries_text entries.now ++ (word.now ++ decimal (length entries.now))) ++ codes "\n")) (K.taken sink.old) (K.taken sink.new)) }
-    ensures err { OnErr result (Told (TookPart ((entries_text entries.now ++ (word.now ++ decimal (length entries.now))) ++ codes "\n")) (K.taken sink.old) (K.taken sink.new)) }
+    requires word { length word.now ≤ 32 }
+    ensures ok { OnOk result (Told (Took ((listing_text form entries.now ++ (word.now ++ decimal (length entries.now))) ++ codes "\n")) (K.taken sink.old) (K.taken sink.new)) }
+    ensures err { OnErr result (Told (TookPart ((listing_text form entries.now ++ (word.now ++ decimal (length entries.now))) ++ codes "\n")) (K.taken sink.old) (K.taken sink.new)) }
     ensures cause { HasCause (K.faults sink.old) (K.faults sink.new) result }
 {
-    write_entries(sink, entries)?;
-    write_count(sink, word, entries.len() as u32)
+    write_entries(sink, form, entries)?;
+    write_number(sink, word, entries.len() as u128)
 }
 
-// Writes the lines of the entries of a directory.
-fn write_entries<K: Sink>(sink: &mut K, entries: &[ListedEntry]) -> Result<(), Failed>
-    requires { All (λ entry. length entry.name ≤ 255) entries.now }
-    ensures ok { OnOk result (Told (Took (entries_text entries.now)) (K.taken sink.old) (K.taken sink.new)) }
-    ensures err { OnErr result (Told (TookPart (entries_text entries.now)) (K.taken sink.old) (K.taken sink.new)) }
+// Writes the lines of the entries of a listing.
+fn write_entries<K: Sink>(sink: &mut K, form: Form, entries: &[ListedEntry]) -> Result<(), Failed>
+    ensures ok { OnOk result (Told (Took (listing_text form entries.now)) (K.taken sink.old) (K.taken sink.new)) }
+    ensures err { OnErr result (Told (TookPart (listing_text form entries.now)) (K.taken sink.old) (K.taken sink.new)) }
     ensures cause { HasCause (K.faults sink.old) (K.faults sink.new) result }
 {
     for entry in entries {
         write_entry_line(
             sink,
+            form,
+            entry.depth(),
             entry.inode(),
             entry.kind(),
             entry.size(),
@@ -56,50 +70,102 @@ fn write_entries<K: Sink>(sink: &mut K, entries: &[ListedEntry]) -> Result<(), F
     Ok(())
 }
 
-/// Writes the line of an entry of a directory.
+/// Writes the line of an entry of a listing.
 pub fn write_entry_line<K: Sink>(
     sink: &mut K,
+    form: Form,
+    depth: u32,
     inode: u32,
     kind: Kind,
     size: u64,
     name: &[u8],
 ) -> Result<(), Failed>
-    requires { length name.now ≤ 255 }
-    ensures ok { (depth : ℕ) → OnOk result (Told (Took (entry_line (record { depth = depth; inode = inode; kind = kind; size = size; name = name.now }))) (K.taken sink.old) (K.taken sink.new)) }
-    ensures err { (depth : ℕ) → OnErr result (Told (TookPart (entry_line (record { depth = depth; inode = inode; kind = kind; size = size; name = name.now }))) (K.taken sink.old) (K.taken sink.new)) }
+    ensures ok { OnOk result (Told (Took (line_in form (record { depth = depth; inode = inode; kind = kind; size = size; name = name.now }))) (K.taken sink.old) (K.taken sink.new)) }
+    ensures err { OnErr result (Told (TookPart (line_in form (record { depth = depth; inode = inode; kind = kind; size = size; name = name.now }))) (K.taken sink.old) (K.taken sink.new)) }
     ensures cause { HasCause (K.faults sink.old) (K.faults sink.new) result }
 {
     let mut line = [0u8; ENTRY_ROOM];
-    let end = spell_entry(&mut line, inode, kind, size, name);
+    let head = spell_head(&mut line, form, depth, inode, kind, size);
+    if name.len() > LONGEST_NAME {
+        return write_long_entry(sink, &line[..head], name);
+    }
+    let end = put_name(&mut line, head, name);
+    let end = put(&mut line, end, b"\n");
     write_all(sink, &line[..end])
 }
 
-// Spells the line of an entry, and answers where it ends.
-fn spell_entry(line: &mut [u8], inode: u32, kind: Kind, size: u64, name: &[u8]) -> usize
-    requires name { length name.now ≤ 255 }
-    requires room { 1061 ≤ length line.old }
-    ensures end { result ≤ length line.new }
-    ensures text { (depth : ℕ) → take result line.new ≡ entry_line (record { depth = depth; inode = inode; kind = kind; size = size; name = name.now }) }
+// Writes the line of an entry with a longer name than a directory can have, byte by byte.
+fn write_long_entry<K: Sink>(sink: &mut K, head: &[u8], name: &[u8]) -> Result<(), Failed>
+    ensures ok { OnOk result (Told (Took (head.now ++ (path_word name.now ++ codes "\n"))) (K.taken sink.old) (K.taken sink.new)) }
+    ensures err { OnErr result (Told (TookPart (head.now ++ (path_word name.now ++ codes "\n"))) (K.taken sink.old) (K.taken sink.new)) }
+    ensures cause { HasCause (K.faults sink.old) (K.faults sink.new) result }
 {
-    let start = spell_head(line, inode, kind, size);
-    let end = put_name(line, start, name);
-    put(line, end, b"\n")
+    write_all(sink, head)?;
+    write_name(sink, name)?;
+    write_all(sink, b"\n")
+}
+
+// Writes the spelling of a name, byte by byte.
+fn write_name<K: Sink>(sink: &mut K, name: &[u8]) -> Result<(), Failed>
+    ensures ok { OnOk result (Told (Took (path_word name.now)) (K.taken sink.old) (K.taken sink.new)) }
+    ensures err { OnErr result (Told (TookPart (path_word name.now)) (K.taken sink.old) (K.taken sink.new)) }
+    ensures cause { HasCause (K.faults sink.old) (K.faults sink.new) result }
+{
+    for byte in name {
+        write_byte(sink, *byte)?;
+    }
+    Ok(())
+}
+
+// Writes the spelling of a byte of a name.
+fn write_byte<K: Sink>(sink: &mut K, byte: u8) -> Result<(), Failed>
+    ensures ok { OnOk result (Told (Took (spelled_byte byte)) (K.taken sink.old) (K.taken sink.new)) }
+    ensures err { OnErr result (Told (TookPart (spelled_byte byte)) (K.taken sink.old) (K.taken sink.new)) }
+    ensures cause { HasCause (K.faults sink.old) (K.faults sink.new) result }
+{
+    let mut spelled = [0u8; 4];
+    let end = put_byte(&mut spelled, 0, byte);
+    write_all(sink, &spelled[..end])
 }
 
 // Spells what an entry's line says before the name, and answers where it ends.
-fn spell_head(line: &mut [u8], inode: u32, kind: Kind, size: u64) -> usize
-    requires { 40 ≤ length line.old }
-    ensures end { result ≤ 40 }
-    ensures text { take result line.new ≡ codes "entry " ++ (decimal inode ++ (codes " " ++ (kind_letter kind ++ (codes " " ++ (decimal size ++ codes " "))))) }
+fn spell_head(line: &mut [u8], form: Form, depth: u32, inode: u32, kind: Kind, size: u64) -> usize
+    requires { 50 ≤ length line.old }
+    ensures end { result ≤ 50 }
+    ensures text { take result line.new ≡ front_in form depth ++ (decimal inode ++ (codes " " ++ (kind_letter kind ++ (codes " " ++ (decimal size ++ codes " "))))) }
 {
+    let word = spell_front(line, form, depth);
     let mut digits = Buffer::new();
-    let word = put(line, 0, b"entry ");
     let number = put(line, word, digits.format(inode).as_bytes());
     let space = put(line, number, b" ");
     let letter = put(line, space, letter_of(kind));
     let space = put(line, letter, b" ");
     let bytes = put(line, space, digits.format(size).as_bytes());
     put(line, bytes, b" ")
+}
+
+// Spells the word of an entry's line, with the depth where it's told, and answers where it ends.
+fn spell_front(line: &mut [u8], form: Form, depth: u32) -> usize
+    requires { 16 ≤ length line.old }
+    ensures end { result ≤ 16 }
+    ensures text { take result line.new ≡ front_in form depth }
+{
+    match form {
+        Form::Directory => put(line, 0, b"entry "),
+        Form::Volume => spell_depth(line, depth),
+    }
+}
+
+// Spells the word of a line that tells its entry's depth, and answers where it ends.
+fn spell_depth(line: &mut [u8], depth: u32) -> usize
+    requires { 16 ≤ length line.old }
+    ensures end { result ≤ 16 }
+    ensures text { take result line.new ≡ codes "node " ++ (decimal depth ++ codes " ") }
+{
+    let mut digits = Buffer::new();
+    let word = put(line, 0, b"node ");
+    let number = put(line, word, digits.format(depth).as_bytes());
+    put(line, number, b" ")
 }
 
 // Puts the spelling of a name at a place of a line, and answers where it ends.

@@ -1,35 +1,33 @@
-// Replies. Each line is written by one call, without memory.
-ghost use Rattle.std.specs.Prelude.{◌≡◌, ◌≤◌, ◌<◌, ◌+◌, ◌*◌, ◌^◌, ◌++◌, All, length, take, codes, OnOk, OnErr};
+// Replies. Each line that an array can answer is written by one call, without memory.
+ghost use Rattle.std.specs.Prelude.{◌≡◌, ◌≤◌, ◌+◌, ◌*◌, ◌++◌, ◌∷◌, [], length, take, codes, OnOk, OnErr};
 ghost use Rattle.std.specs.Fmt.{decimal};
 ghost use Rattle.std.specs.List.{concat};
 ghost use Rattle.dg_io.specs.Told.{Told, Took, TookPart};
 ghost use Rattle.dg_io.specs.Faults.{HasCause};
 ghost use Rattle.hex.specs.Hex.{encode_lower};
-ghost use Rattle.dg_text.specs.Replies.{reply_line, refusal, kind_of, usage, bytes_line, file_text, super_word, bad_word, refusal_words, AreShort, IsShort};
+ghost use Rattle.dg_text.specs.Replies.{reply_line, refusal, kind_of, usage, bytes_line, file_text, blocks_text, super_word, bad_word, refusal_words};
 
 use crate::BadLine;
-use crate::listings::write_listing;
+use crate::counts::{write_number, write_numbers};
+use crate::listings::{Form, write_listing};
+use crate::verdicts::{write_home, write_malformation, write_no_room, write_verdict};
 use dg_io::{Sink, write_all};
 use dg_model::{Bytes, Failed, Reply};
 use itoa::Buffer;
 use ufs_model::{BadRead, BadSuper, PathRefusal};
 
-// Bytes of the longest line of data: the word and its space, two digits for each of 4096 bytes, and the LF.
-const DATA_ROOM: usize = 5 + 2 * 4096 + 1;
+// Bytes of a block of the largest kind.
+const LARGEST: usize = 4096;
 
-// Bytes of the longest line of a file: the word and its space, two digits for each of 4096 bytes, and the LF.
-const BYTES_ROOM: usize = 6 + 2 * 4096 + 1;
-
-// Room for the line that ends a file, whose number has at most 10 digits.
-const COUNT_ROOM: usize = 16;
+// Bytes of the longest line of such a block: a word of at most 6 bytes, its space among them, two digits for each byte, and
+// the LF.
+const HEX_ROOM: usize = 6 + 2 * LARGEST + 1;
 
 // Room for the answer to a refused line, whose number has at most 20 digits.
 const REFUSAL_ROOM: usize = 64;
 
-/// Writes the line of a reply, or the lines of a file or a directory and the one that ends them. A line has at most 4096
-/// bytes of a block or a file.
+/// Writes the line of a reply; of a file, a listing or blocks their lines, and the one that ends them.
 pub fn write_reply<K: Sink>(sink: &mut K, reply: &Reply) -> Result<(), Failed>
-    requires { IsShort reply.now }
     ensures ok { OnOk result (Told (Took (reply_line reply.now)) (K.taken sink.old) (K.taken sink.new)) }
     ensures err { OnErr result (Told (TookPart (reply_line reply.now)) (K.taken sink.old) (K.taken sink.new)) }
     ensures cause { HasCause (K.faults sink.old) (K.faults sink.new) result }
@@ -40,18 +38,39 @@ pub fn write_reply<K: Sink>(sink: &mut K, reply: &Reply) -> Result<(), Failed>
         Reply::Degraded => write_all(sink, b"degraded\n"),
         Reply::Unavailable => write_all(sink, b"unavailable\n"),
         Reply::Already => write_all(sink, b"already\n"),
+        Reply::Lost(s) => write_number(sink, b"lost ", *s as u128),
+        Reply::NotOut => write_all(sink, b"not out\n"),
+        Reply::Failed => write_all(sink, b"failed\n"),
+        Reply::NotFilling => write_all(sink, b"not filling\n"),
+        Reply::Copied(done, left) => write_numbers(sink, b"copied ", *done, b" ", *left),
+        Reply::Settled => write_all(sink, b"settled\n"),
+        Reply::Malformed(kind, n) => write_malformation(sink, *kind, *n),
+        Reply::NoSpace(room) => write_no_room(sink, *room),
+        Reply::Tended(met, left) => write_numbers(sink, b"tended ", *met, b" ", *left),
+        Reply::Diffused(gained) => write_number(sink, b"diffused ", *gained as u128),
+        Reply::NotSettled => write_all(sink, b"not settled\n"),
+        Reply::Verdict(who) => write_verdict(sink, *who),
+        Reply::Blocks(blocks) => write_blocks(sink, blocks.as_slice()),
         Reply::Data(bytes) => write_data(sink, bytes.as_slice()),
         Reply::Given(lines) => write_file(sink, lines.as_slice(), b"end "),
         Reply::Cut(lines) => write_file(sink, lines.as_slice(), b"cut "),
-        Reply::Listed(entries) => write_listing(sink, entries.as_slice(), b"end "),
-        Reply::ListedCut(entries) => write_listing(sink, entries.as_slice(), b"cut "),
+        Reply::Listed(entries) => {
+            write_listing(sink, Form::Directory, entries.as_slice(), b"end ")
+        }
+        Reply::ListedCut(entries) => {
+            write_listing(sink, Form::Directory, entries.as_slice(), b"cut ")
+        }
+        Reply::Nodes(entries) => write_listing(sink, Form::Volume, entries.as_slice(), b"end "),
+        Reply::NodesCut(entries) => write_listing(sink, Form::Volume, entries.as_slice(), b"cut "),
         Reply::Refused(refusal) => write_all(sink, refusal_line(*refusal)),
+        Reply::HomeAt(s, copy) => write_home(sink, *s, *copy),
+        Reply::NoHome => write_all(sink, b"home none\n"),
+        Reply::Saved(sequence) => write_number(sink, b"saved ", *sequence as u128),
     }
 }
 
-/// Writes the line of the reply that gives these bytes, at most 4096.
+/// Writes the line of the reply that gives these bytes.
 pub fn write_data<K: Sink>(sink: &mut K, bytes: &[u8]) -> Result<(), Failed>
-    requires { length bytes.now ≤ 4096 }
     ensures ok { OnOk result (Told (Took (reply_line (Reply.Data bytes.now))) (K.taken sink.old) (K.taken sink.new)) }
     ensures err { OnErr result (Told (TookPart (reply_line (Reply.Data bytes.now))) (K.taken sink.old) (K.taken sink.new)) }
     ensures cause { HasCause (K.faults sink.old) (K.faults sink.new) result }
@@ -59,38 +78,69 @@ pub fn write_data<K: Sink>(sink: &mut K, bytes: &[u8]) -> Result<(), Failed>
     if bytes.is_empty() {
         return write_all(sink, b"data -\n");
     }
-    let mut line = [0u8; DATA_ROOM];
-    let end = spell_data(&mut line, bytes);
-    write_all(sink, &line[..end])
+    write_hex_line(sink, b"data ", bytes)
 }
 
-/// Writes the line of some bytes of a file, at most 4096.
+/// Writes the line of some bytes of a file.
 pub fn write_bytes_line<K: Sink>(sink: &mut K, bytes: &[u8]) -> Result<(), Failed>
-    requires { length bytes.now ≤ 4096 }
     ensures ok { OnOk result (Told (Took (bytes_line bytes.now)) (K.taken sink.old) (K.taken sink.new)) }
     ensures err { OnErr result (Told (TookPart (bytes_line bytes.now)) (K.taken sink.old) (K.taken sink.new)) }
     ensures cause { HasCause (K.faults sink.old) (K.faults sink.new) result }
 {
-    let mut line = [0u8; BYTES_ROOM];
-    let end = spell_bytes(&mut line, bytes);
+    write_hex_line(sink, b"bytes ", bytes)
+}
+
+// Writes a line of a word of at most 6 bytes and the hex digits of bytes: by one call, where a block can have so many.
+fn write_hex_line<K: Sink>(sink: &mut K, word: &[u8], bytes: &[u8]) -> Result<(), Failed>
+    requires { length word.now ≤ 6 }
+    ensures ok { OnOk result (Told (Took (word.now ++ (encode_lower bytes.now ++ codes "\n"))) (K.taken sink.old) (K.taken sink.new)) }
+    ensures err { OnErr result (Told (TookPart (word.now ++ (encode_lower bytes.now ++ codes "\n"))) (K.taken sink.old) (K.taken sink.new)) }
+    ensures cause { HasCause (K.faults sink.old) (K.faults sink.new) result }
+{
+    if bytes.len() > LARGEST {
+        return write_long_line(sink, word, bytes);
+    }
+    let mut line = [0u8; HEX_ROOM];
+    let end = spell_hex(&mut line, word, bytes);
     write_all(sink, &line[..end])
 }
 
-/// Writes the line that ends a file: a word of at most 4 bytes, its space among them, and how many bytes were written.
-pub fn write_count<K: Sink>(sink: &mut K, word: &[u8], n: u32) -> Result<(), Failed>
-    requires { length word.now ≤ 4 }
-    ensures ok { OnOk result (Told (Took (word.now ++ (decimal n ++ codes "\n"))) (K.taken sink.old) (K.taken sink.new)) }
-    ensures err { OnErr result (Told (TookPart (word.now ++ (decimal n ++ codes "\n"))) (K.taken sink.old) (K.taken sink.new)) }
+// Writes such a line of more bytes than a block can have, byte by byte.
+fn write_long_line<K: Sink>(sink: &mut K, word: &[u8], bytes: &[u8]) -> Result<(), Failed>
+    ensures ok { OnOk result (Told (Took (word.now ++ (encode_lower bytes.now ++ codes "\n"))) (K.taken sink.old) (K.taken sink.new)) }
+    ensures err { OnErr result (Told (TookPart (word.now ++ (encode_lower bytes.now ++ codes "\n"))) (K.taken sink.old) (K.taken sink.new)) }
     ensures cause { HasCause (K.faults sink.old) (K.faults sink.new) result }
 {
-    let mut line = [0u8; COUNT_ROOM];
-    let end = spell_count(&mut line, word, n);
-    write_all(sink, &line[..end])
+    write_all(sink, word)?;
+    write_digits(sink, bytes)?;
+    write_all(sink, b"\n")
+}
+
+// Writes the hex digits of bytes, byte by byte.
+fn write_digits<K: Sink>(sink: &mut K, bytes: &[u8]) -> Result<(), Failed>
+    ensures ok { OnOk result (Told (Took (encode_lower bytes.now)) (K.taken sink.old) (K.taken sink.new)) }
+    ensures err { OnErr result (Told (TookPart (encode_lower bytes.now)) (K.taken sink.old) (K.taken sink.new)) }
+    ensures cause { HasCause (K.faults sink.old) (K.faults sink.new) result }
+{
+    for byte in bytes {
+        write_pair(sink, *byte)?;
+    }
+    Ok(())
+}
+
+// Writes the two hex digits of a byte.
+fn write_pair<K: Sink>(sink: &mut K, byte: u8) -> Result<(), Failed>
+    ensures ok { OnOk result (Told (Took (encode_lower (byte ∷ []))) (K.taken sink.old) (K.taken sink.new)) }
+    ensures err { OnErr result (Told (TookPart (encode_lower (byte ∷ []))) (K.taken sink.old) (K.taken sink.new)) }
+    ensures cause { HasCause (K.faults sink.old) (K.faults sink.new) result }
+{
+    let mut pair = [0u8; 2];
+    let end = put_hex(&mut pair, 0, &[byte]);
+    write_all(sink, &pair[..end])
 }
 
 // Writes the lines of a file.
 fn write_lines<K: Sink>(sink: &mut K, lines: &[Bytes]) -> Result<(), Failed>
-    requires { All (λ line. (0 < length line) × (length line ≤ 4096)) lines.now }
     ensures ok { OnOk result (Told (Took (file_text lines.now)) (K.taken sink.old) (K.taken sink.new)) }
     ensures err { OnErr result (Told (TookPart (file_text lines.now)) (K.taken sink.old) (K.taken sink.new)) }
     ensures cause { HasCause (K.faults sink.old) (K.faults sink.new) result }
@@ -102,27 +152,47 @@ fn write_lines<K: Sink>(sink: &mut K, lines: &[Bytes]) -> Result<(), Failed>
 }
 
 // The bytes of all lines together.
-fn bytes_in(lines: &[Bytes]) -> u32
-    requires { length (concat lines.now) < 2 ^ 32 }
+fn bytes_in(lines: &[Bytes]) -> u128
     ensures { result ≡ length (concat lines.now) }
 {
     let mut count = 0;
     for line in lines {
-        count += line.as_slice().len() as u32;
+        count += line.as_slice().len() as u128;
     }
     count
 }
 
 // Writes the lines of a file, and the one that ends it.
 fn write_file<K: Sink>(sink: &mut K, lines: &[Bytes], word: &[u8]) -> Result<(), Failed>
-    requires lines { AreShort lines.now }
-    requires word { length word.now ≤ 4 }
+    requires word { length word.now ≤ 32 }
     ensures ok { OnOk result (Told (Took ((file_text lines.now ++ (word.now ++ decimal (length (concat lines.now)))) ++ codes "\n")) (K.taken sink.old) (K.taken sink.new)) }
     ensures err { OnErr result (Told (TookPart ((file_text lines.now ++ (word.now ++ decimal (length (concat lines.now)))) ++ codes "\n")) (K.taken sink.old) (K.taken sink.new)) }
     ensures cause { HasCause (K.faults sink.old) (K.faults sink.new) result }
 {
     write_lines(sink, lines)?;
-    write_count(sink, word, bytes_in(lines))
+    write_number(sink, word, bytes_in(lines))
+}
+
+// Writes the lines of blocks, and the one that ends them.
+fn write_blocks<K: Sink>(sink: &mut K, blocks: &[u32]) -> Result<(), Failed>
+    ensures ok { OnOk result (Told (Took (reply_line (Reply.Blocks blocks.now))) (K.taken sink.old) (K.taken sink.new)) }
+    ensures err { OnErr result (Told (TookPart (reply_line (Reply.Blocks blocks.now))) (K.taken sink.old) (K.taken sink.new)) }
+    ensures cause { HasCause (K.faults sink.old) (K.faults sink.new) result }
+{
+    write_block_lines(sink, blocks)?;
+    write_number(sink, b"end ", blocks.len() as u128)
+}
+
+// Writes the lines of blocks.
+fn write_block_lines<K: Sink>(sink: &mut K, blocks: &[u32]) -> Result<(), Failed>
+    ensures ok { OnOk result (Told (Took (blocks_text blocks.now)) (K.taken sink.old) (K.taken sink.new)) }
+    ensures err { OnErr result (Told (TookPart (blocks_text blocks.now)) (K.taken sink.old) (K.taken sink.new)) }
+    ensures cause { HasCause (K.faults sink.old) (K.faults sink.new) result }
+{
+    for block in blocks {
+        write_number(sink, b"block ", *block as u128)?;
+    }
+    Ok(())
 }
 
 /// Writes the answer to a refused line. The first line of an input has the number 1.
@@ -159,40 +229,15 @@ pub fn put(line: &mut [u8], at: usize, piece: &[u8]) -> usize
     end
 }
 
-// Spells the line of bytes, and answers where it ends.
-fn spell_data(line: &mut [u8], bytes: &[u8]) -> usize
-    requires some { 0 < length bytes.now }
-    requires room { 2 * length bytes.now + 6 ≤ length line.old }
+// Spells a line of a word and the hex digits of bytes, and answers where it ends.
+fn spell_hex(line: &mut [u8], word: &[u8], bytes: &[u8]) -> usize
+    requires room { length word.now + 2 * length bytes.now + 1 ≤ length line.old }
     ensures end { result ≤ length line.new }
-    ensures text { take result line.new ≡ reply_line (Reply.Data bytes.now) }
+    ensures text { take result line.new ≡ word.now ++ (encode_lower bytes.now ++ codes "\n") }
 {
-    let start = put(line, 0, b"data ");
+    let start = put(line, 0, word);
     let end = put_hex(line, start, bytes);
     put(line, end, b"\n")
-}
-
-// Spells the line of bytes of a file, and answers where it ends.
-fn spell_bytes(line: &mut [u8], bytes: &[u8]) -> usize
-    requires room { 2 * length bytes.now + 7 ≤ length line.old }
-    ensures end { result ≤ length line.new }
-    ensures text { take result line.new ≡ bytes_line bytes.now }
-{
-    let start = put(line, 0, b"bytes ");
-    let after = put_hex(line, start, bytes);
-    put(line, after, b"\n")
-}
-
-// Spells the line that ends a file, and answers where it ends.
-fn spell_count(line: &mut [u8], word: &[u8], n: u32) -> usize
-    requires word { length word.now ≤ 4 }
-    requires room { 16 ≤ length line.old }
-    ensures end { result ≤ length line.new }
-    ensures text { take result line.new ≡ word.now ++ (decimal n ++ codes "\n") }
-{
-    let mut digits = Buffer::new();
-    let start = put(line, 0, word);
-    let after = put(line, start, digits.format(n).as_bytes());
-    put(line, after, b"\n")
 }
 
 /// Puts the hex digits of bytes at a place of a line, and answers where they end.

@@ -2,7 +2,7 @@ ghost use Rattle.std.specs.Prelude.{◌≡◌, ◌≤◌, ◌++◌, ℕ, List, l
 ghost use Rattle.std.specs.List.{concat};
 ghost use Rattle.dg_io.specs.Told.{Told, Took};
 ghost use Rattle.dg_model.specs.Lists.{AreLines};
-ghost use Rattle.dg_text.specs.Replies.{file_text, AreFew, AreShort};
+ghost use Rattle.dg_text.specs.Replies.{file_text};
 ghost use Rattle.dg_text.specs.HexLines.{last_line};
 
 use crate::{
@@ -10,10 +10,12 @@ use crate::{
     write_usage,
 };
 use dg_io::{MemSink, Pieces, Sink};
-use dg_model::{Bytes, Event, Failed, Lines, ListedEntries, ListedEntry, Reply, Shape};
+use dg_model::{
+    Bytes, Event, Failed, Lines, ListedEntries, ListedEntry, NoRoom, Numbers, Reply, Shape, Who,
+};
 use std::alloc::{AllocError, Global};
 use std::test::Fail;
-use ufs_model::{BadRead, BadSuper, Kind, PathRefusal};
+use ufs_model::{BadKind, BadRead, BadSuper, Kind, PathRefusal, SystemKind};
 use ufs_path::Listing;
 
 const SHAPE: Shape = Shape {
@@ -205,18 +207,14 @@ fn replies_are_written_as_lines(rt: HostRuntime) -> Result<(), Fail> {
 }
 
 // The line of one byte.
-fn line_of(alloc: Global, byte: u8) -> Result<Bytes, AllocError>
-    ensures { IfOk result (λ line. length line ≡ 1) }
-{
+fn line_of(alloc: Global, byte: u8) -> Result<Bytes, AllocError> {
     let mut line = Vec::new(alloc);
     line.push(byte)?;
     Ok(Bytes::new(line))
 }
 
 // A file of two lines.
-fn two_lines(alloc: Global, first: u8, second: u8) -> Result<Lines, AllocError>
-    ensures { IfOk result AreShort }
-{
+fn two_lines(alloc: Global, first: u8, second: u8) -> Result<Lines, AllocError> {
     let mut lines = Vec::new(alloc);
     lines.push(line_of(alloc, first)?)?;
     lines.push(line_of(alloc, second)?)?;
@@ -253,18 +251,13 @@ fn entry_of(
     kind: Kind,
     size: u64,
     name: &[u8],
-) -> Result<ListedEntry, AllocError>
-    requires { length name.now ≤ 255 }
-    ensures { IfOk result (λ entry. length entry.name ≤ 255) }
-{
+) -> Result<ListedEntry, AllocError> {
     let bytes = Bytes::new(Vec::from_slice(alloc, name)?);
     Ok(ListedEntry::new(1, inode, kind, size, bytes))
 }
 
 // A directory `/d` with a file b, listed.
-fn three_entries(alloc: Global) -> Result<ListedEntries, AllocError>
-    ensures { IfOk result AreFew }
-{
+fn three_entries(alloc: Global) -> Result<ListedEntries, AllocError> {
     let mut entries = Vec::new(alloc);
     entries.push(entry_of(alloc, 4, Kind::Directory, 512, b".")?)?;
     entries.push(entry_of(alloc, 2, Kind::Directory, 512, b"..")?)?;
@@ -273,9 +266,7 @@ fn three_entries(alloc: Global) -> Result<ListedEntries, AllocError>
 }
 
 // One entry, whose name has bytes that don't stand for themselves.
-fn one_entry(alloc: Global) -> Result<ListedEntries, AllocError>
-    ensures { IfOk result AreFew }
-{
+fn one_entry(alloc: Global) -> Result<ListedEntries, AllocError> {
     let mut entries = Vec::new(alloc);
     entries.push(entry_of(alloc, 6, Kind::Link, 3, b"x y\x80\\")?)?;
     Ok(ListedEntries::new(entries))
@@ -292,6 +283,98 @@ fn what_ls_answers_is_written(rt: HostRuntime) -> Result<(), Fail> {
     let text =
         b"entry 4 d 512 .\nentry 2 d 512 ..\nentry 5 r 53248 b\nend 3\nentry 6 l 3 x\\x20y\\x80\\x5c\ncut 1\ncut 0\n";
     assert!(rt; sink.taken() == text.as_slice());
+    Ok(())
+}
+
+#[test]
+fn what_members_and_moves_answer_is_written(rt: HostRuntime) -> Result<(), Fail> {
+    let alloc = rt.alloc();
+    let mut sink = MemSink::new(alloc, 512, Vec::new(alloc))?;
+    let rows = [
+        Reply::Already,
+        Reply::Lost(3),
+        Reply::NotOut,
+        Reply::Failed,
+        Reply::NotFilling,
+        Reply::Copied(2, 5),
+        Reply::Settled,
+        Reply::Tended(0, 7),
+        Reply::Diffused(4),
+        Reply::NotSettled,
+    ];
+    for reply in &rows {
+        write_reply(&mut sink, reply)?;
+    }
+    let homes = [
+        Reply::HomeAt(1, None),
+        Reply::HomeAt(1, Some(0)),
+        Reply::NoHome,
+        Reply::Saved(18446744073709551615),
+    ];
+    for reply in &homes {
+        write_reply(&mut sink, reply)?;
+    }
+    let text =
+        b"already\nlost 3\nnot out\nfailed\nnot filling\ncopied 2 5\nsettled\ntended 0 7\ndiffused 4\nnot settled\nhome 1\nhome 1 copy 0\nhome none\nsaved 18446744073709551615\n";
+    assert!(rt; sink.taken() == text.as_slice());
+    Ok(())
+}
+
+#[test]
+fn what_the_volume_answers_is_written(rt: HostRuntime) -> Result<(), Fail> {
+    let alloc = rt.alloc();
+    let mut sink = MemSink::new(alloc, 512, Vec::new(alloc))?;
+    let rows = [
+        Reply::Malformed(BadKind::Super(BadSuper::Magic), 0),
+        Reply::Malformed(BadKind::WrongType, 7),
+        Reply::NoSpace(NoRoom::System),
+        Reply::NoSpace(NoRoom::Inode(5)),
+        Reply::NoSpace(NoRoom::Strays),
+        Reply::Verdict(Who::System(SystemKind::Inodes)),
+        Reply::Verdict(Who::Outside),
+        Reply::Verdict(Who::Inode(5, 1)),
+        Reply::Verdict(Who::Shared(2)),
+        Reply::Verdict(Who::Pending),
+        Reply::Verdict(Who::Dead),
+        Reply::Verdict(Who::Idle),
+    ];
+    for reply in &rows {
+        write_reply(&mut sink, reply)?;
+    }
+    let mut blocks = Vec::new(alloc);
+    blocks.push(3)?;
+    blocks.push(10)?;
+    write_reply(&mut sink, &Reply::Blocks(Numbers::new(blocks)))?;
+    write_reply(&mut sink, &Reply::Nodes(one_entry(alloc)?))?;
+    write_reply(&mut sink, &Reply::NodesCut(one_entry(alloc)?))?;
+    let text =
+        b"malformed magic 0\nmalformed type 7\nnospace system\nnospace inode 5\nnospace strays\nsystem inodes\noutside\ninode 5 level 1\nshared 2\npending\ndead\nidle\nblock 3\nblock 10\nend 2\nnode 1 6 l 3 x\\x20y\\x80\\x5c\nend 1\nnode 1 6 l 3 x\\x20y\\x80\\x5c\ncut 1\n";
+    assert!(rt; sink.taken() == text.as_slice());
+    Ok(())
+}
+
+// Bytes that are all alike.
+fn alike(alloc: Global, n: usize) -> Result<Bytes, AllocError> {
+    let mut bytes = Vec::new(alloc);
+    for _ in 0..n {
+        bytes.push(b'a')?;
+    }
+    Ok(Bytes::new(bytes))
+}
+
+// No block has so many bytes, and no directory such a name.
+#[test]
+fn long_lines_are_written_whole(rt: HostRuntime) -> Result<(), Fail> {
+    let alloc = rt.alloc();
+    let mut sink = MemSink::new(alloc, 16384, Vec::new(alloc))?;
+    write_reply(&mut sink, &Reply::Data(alike(alloc, 4097)?))?;
+    let mut entries = Vec::new(alloc);
+    entries.push(ListedEntry::new(1, 6, Kind::Link, 3, alike(alloc, 256)?))?;
+    write_reply(&mut sink, &Reply::Listed(ListedEntries::new(entries)))?;
+    let text = sink.taken();
+    assert!(rt; text.len() == 5 + 2 * 4097 + 1 + 12 + 256 + 1 + 6);
+    assert!(rt; text.starts_with(b"data 6161"));
+    assert!(rt; text.ends_with(b"aaa\nend 1\n"));
     Ok(())
 }
 

@@ -14,7 +14,7 @@ const MEMBERS: usize = 32;
 const NUMBERS: usize = 256;
 
 /// The members as image files in the current folder, and how often calls on each have failed. A file stays open from
-/// the blank that makes it.
+/// the blank that makes it, or the attach that finds it.
 #[derive(Drop)]
 pub struct ImageRack {
     rt: HostRuntime,
@@ -48,6 +48,22 @@ fn create(rt: HostRuntime, member: u8, length: u64) -> io::Result<File> {
         .open(&rt, path)?;
     file.set_len(length)?;
     Ok(file)
+}
+
+/// A member's file, where there is one, and its length.
+fn find(rt: HostRuntime, member: u8) -> io::Result<Option<(File, u64)>> {
+    let name = name_of(member);
+    let Ok(path) = str::from_utf8(&name) else {
+        return Err(io::Error::from(io::ErrorKind::InvalidInput));
+    };
+    match OpenOptions::new().read(true).write(true).open(&rt, path) {
+        Ok(file) => {
+            let length = file.metadata()?.len();
+            Ok(Some((file, length)))
+        }
+        Err(error) if error.kind() == io::ErrorKind::NotFound => Ok(None),
+        Err(error) => Err(error),
+    }
 }
 
 impl ImageRack {
@@ -98,6 +114,10 @@ impl Rack for ImageRack {
 
     ghost counts = { λ r. record { faults = λ q. slice_index r.faults q; calls = r.calls; writes = r.writes } };
 
+    ghost stands = { λ _ _. Unit {0} };
+
+    ghost steady = { λ _. ⊥ };
+
     fn blank(&mut self, member: u8, length: u64) -> Result<(), Failed> {
         self.calls = self.calls.saturating_add(1);
         self.writes = self.writes.saturating_add(1);
@@ -110,6 +130,27 @@ impl Rack for ImageRack {
                 Ok(())
             }
             Err(_) => self.fault(member),
+        }
+    }
+
+    fn attach(&mut self, member: u8) -> Result<Option<u64>, Failed> {
+        self.calls = self.calls.saturating_add(1);
+        let Some(place) = self.images.get_mut(member as usize) else {
+            return Ok(None);
+        };
+        match find(self.rt, member) {
+            Ok(Some((file, length))) => {
+                *place = Some(file);
+                Ok(Some(length))
+            }
+            Ok(None) => {
+                *place = None;
+                Ok(None)
+            }
+            Err(_) => {
+                self.fault(member)?;
+                Ok(None)
+            }
         }
     }
 
@@ -126,6 +167,15 @@ impl Rack for ImageRack {
         self.writes = self.writes.saturating_add(1);
         match self.image(member) {
             Some(file) if file.write_all_at(buf, place).is_ok() => Ok(()),
+            _ => self.fault(member),
+        }
+    }
+
+    fn extend(&mut self, member: u8, length: u64) -> Result<(), Failed> {
+        self.calls = self.calls.saturating_add(1);
+        self.writes = self.writes.saturating_add(1);
+        match self.image(member) {
+            Some(file) if file.set_len(length).is_ok() => Ok(()),
             _ => self.fault(member),
         }
     }

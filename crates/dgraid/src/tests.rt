@@ -16,9 +16,16 @@ fn image_files_keep_bytes(rt: HostRuntime) -> Result<(), Fail> {
     assert_eq!(rt; bytes, *b"\0hi\0");
     assert_eq!(rt; rack.read(31, 5, &mut bytes), Err(Failed), "past the end");
     assert_eq!(rt; rack.blank(32, 8), Err(Failed), "no such member");
+    rack.extend(31, 9)?;
     let all = fs::read(&rt, "member-15-1.img")?;
+    let mut other = ImageRack::new(rt)?;
+    assert_eq!(rt; other.attach(31), Ok(Some(9)));
+    other.read(31, 2, &mut bytes)?;
+    assert_eq!(rt; bytes, *b"\0hi\0");
     fs::remove_file(&rt, "member-15-1.img")?;
-    assert_eq!(rt; all.as_slice(), b"\0\0\0hi\0\0\0".as_slice());
+    assert_eq!(rt; all.as_slice(), b"\0\0\0hi\0\0\0\0".as_slice());
+    assert_eq!(rt; other.attach(31), Ok(None));
+    assert_eq!(rt; other.attach(32), Ok(None));
     Ok(())
 }
 

@@ -1,21 +1,24 @@
 -- What a table of claims says of the fragments of its volume.
-use Rattle.std.proofs.Common.{◌≡◌, ◌≢◌, ◌∙◌, ℕ, ◌/◌, ◌%◌, ◌<◌, ◌≤◌, List, [], ◌∷◌, Bool, true, false, Some, length, refl, sym, subst, arith}
+use Rattle.std.proofs.Common.{◌≡◌, ◌≢◌, ◌∙◌, ℕ, ◌/◌, ◌%◌, ◌<◌, ◌≤◌, List, [], ◌∷◌, Bool, true, false, Option, None, Some, length, refl, sym, ap, subst, arith}
 use Rattle.std.specs.Prelude.{Contains, nat_le}
+use Rattle.std.specs.List.{AllPairs}
 use Rattle.std.specs.Bool.{Decides}
 use Rattle.std.proofs.lemmas.Bool.Decides.{nat_tests, not_from_Decides}
 use Rattle.ufs_model.specs.Blocks.{Volume, bind}
-use Rattle.ufs_model.specs.Claims.{IsClaim, level_of, targets}
+use Rattle.ufs_model.specs.Claims.{AreClaimsOn, HasClaimCount, IsClaim, IsClaimedAt, is_earlier_claim, level_of, source_fragments}
 use Rattle.ufs_model.specs.GroupMaps.{by_maps, group_bytes, group_in, is_free, is_marked_free}
 use Rattle.ufs_model.specs.Malformations.{HasTwoClaims, IsFree, IsUpper}
 use Rattle.ufs_model.specs.Metadata.{IsMetadataBy}
 use Rattle.ufs_model.specs.Metadata.IsMetadataBy.{of_indirect}
+use Rattle.ufs_model.specs.Owners.{IsOnlyClaim}
 use Rattle.ufs_model.specs.declared.claims.ClaimSource.{ClaimSource}
+use Rattle.ufs_model.specs.declared.claims.ClaimSource.TheVariants.{Slot, Pointer}
 use Rattle.ufs_model.specs.declared.geometries.Geometry.{Geometry}
-use Rattle.ufs_model.specs.declared.numbers.Endian.TheVariants.{Little}
 use Rattle.dg_claims.specs.Kept.{size_in}
-use Rattle.dg_claims.specs.Tables.{AreClaimants, ClaimTable, IsClaimedAt, IsOnce}
-use Rattle.ufs_check.specs.Fragments.{HasClaims, IsClaimedBy, IsUpperIn}
-use Rattle.ufs_check.specs.Passes.{FetchesOnly, LosesOne}
+use Rattle.dg_claims.specs.Tables.{ClaimTable, TableClaims}
+use Rattle.ufs_check.specs.Fragments.{HasClaimsOf, IsClaimedBy, IsUpperIn}
+use Rattle.ufs_pointer.specs.Fetches.{FetchesOnly, LosesOne}
+use Rattle.ufs_check.proofs.PassLaws.{lost_told, only_told}
 
 -- ---- the level of a claim
 
@@ -24,61 +27,66 @@ three_left n above most one two = omega (arith, one, two)
 
 -- levels above 0 are 1, 2 and 3
 pub upper_last : (table : ClaimTable) (f : ℕ) (one two three : Bool) → ((source : ClaimSource) → Contains (table.claimed source) f → level_of source ≤ 3)
-    → Decides one (IsClaimedAt table.claimed 1 f) → one ≡ false → Decides two (IsClaimedAt table.claimed 2 f) → two ≡ false
-    → Decides three (IsClaimedAt table.claimed 3 f) → Decides three (IsUpperIn table f)
+    → Decides one (IsClaimedAt (TableClaims table) 1 f) → one ≡ false → Decides two (IsClaimedAt (TableClaims table) 2 f) → two ≡ false
+    → Decides three (IsClaimedAt (TableClaims table) 3 f) → Decides three (IsUpperIn table f)
 upper_last table f one two three levels first no_first second no_second third = (
-  λ is. let at = third.0 is in let level = at.1 in (at.0, omega arith, at.2),
-  λ upper. third.1 (
-    upper.0,
-    three_left (level_of (upper.0)) (upper.1) (levels (upper.0) (upper.2))
-        (λ is. not_from_Decides one first no_first (upper.0, is, upper.2))
-        (λ is. not_from_Decides two second no_second (upper.0, is, upper.2)),
-    upper.2,
-  ),
+  λ is. let at = third.0 is in let level = at.is in (at.source, omega arith, at.claim),
+  λ upper. third.1 (record {
+    source = upper.0;
+    claim = upper.2;
+    is = three_left (level_of (upper.0)) (upper.1) (levels (upper.0) (upper.2))
+        (λ is. not_from_Decides one first no_first (record { source = upper.0; claim = upper.2; is = is }))
+        (λ is. not_from_Decides two second no_second (record { source = upper.0; claim = upper.2; is = is }));
+  }),
 )
 
 -- ---- claims of the volume
 
-pub claim_inside : (g : Geometry) (table : ClaimTable) (v : Volume) (f : ℕ) (source : ClaimSource) → HasClaims g table v → table.geometry ≡ Some g
-    → ((f : ℕ) (source : ClaimSource) → Contains (table.claimed source) f → f < size_in table.geometry) → IsClaim (targets Little g v) f source → f < g.size
-claim_inside g table v f source has is inside claim = subst (λ geometry. f < size_in geometry) is (inside f source ((has.claims f source).1 claim))
+pub claim_inside : (g : Geometry) (table : ClaimTable) (v : Volume) (f : ℕ) (source : ClaimSource) → HasClaimsOf g table v → table.geometry ≡ Some g
+    → ((f : ℕ) (source : ClaimSource) → Contains (table.claimed source) f → f < size_in table.geometry) → IsClaim (source_fragments g v) f source → f < g.size
+claim_inside g table v f source has is inside claim = subst (λ geometry. f < size_in geometry) is (inside f source ((has f source).1 claim))
 
 -- some level above 0
 abbrev pub IsUpperOf : Geometry → Volume → ℕ → Type 0
-IsUpperOf g v f = (level : ℕ) × IsUpper Little g v f level
+IsUpperOf g v f = (level : ℕ) × IsUpper g v f level
 
-pub upper_of : (g : Geometry) (table : ClaimTable) (v : Volume) (f : ℕ) → HasClaims g table v → IsUpperIn table f → IsUpperOf g v f
+pub upper_of : (g : Geometry) (table : ClaimTable) (v : Volume) (f : ℕ) → HasClaimsOf g table v → IsUpperIn table f → IsUpperOf g v f
 upper_of g table v f has upper = (
   level_of (upper.0),
   record {
     source = upper.0;
-    claim = (has.claims f (upper.0)).0 (upper.2);
+    claim = (has f (upper.0)).0 (upper.2);
     of_level = refl;
     above = upper.1;
   },
 )
 
-pub upper_in : (g : Geometry) (table : ClaimTable) (v : Volume) (f level : ℕ) → HasClaims g table v → IsUpper Little g v f level → IsUpperIn table f
+pub upper_in : (g : Geometry) (table : ClaimTable) (v : Volume) (f level : ℕ) → HasClaimsOf g table v → IsUpper g v f level → IsUpperIn table f
 upper_in g table v f level has upper = (
   upper.source,
   (let above = upper.above in let of_level = upper.of_level in omega arith),
-  (has.claims f (upper.source)).1 upper.claim,
+  (has f (upper.source)).1 upper.claim,
 )
 
-pub upper_metadata : (g : Geometry) (table : ClaimTable) (v : Volume) (f : ℕ) → IsUpperIn table f → HasClaims g table v → IsMetadataBy Little g v f
-upper_metadata g table v f upper has = of_indirect (upper.0) ((has.claims f (upper.0)).0 (upper.2)) (upper.1)
+pub upper_metadata : (g : Geometry) (table : ClaimTable) (v : Volume) (f : ℕ) → IsUpperIn table f → HasClaimsOf g table v → IsMetadataBy g v f
+upper_metadata g table v f upper has = of_indirect (upper.0) ((has f (upper.0)).0 (upper.2)) (upper.1)
 
 -- ---- fragments with two claims
+
+-- a claim isn't before itself
+not_before : (source : ClaimSource) → is_earlier_claim source source ≡ true → ⊥
+not_before (Slot inode slot) is = grind (arith, nat_tests)
+not_before (Pointer fragment level at) is = grind (arith, nat_tests)
 
 -- two of the list
 abbrev HasTwo : List ClaimSource → Type 0
 HasTwo sources = (one : ClaimSource) × (other : ClaimSource) × (one ≢ other) × Contains sources one × Contains sources other
 
-two_of : (sources : List ClaimSource) → IsOnce sources → 2 ≤ length sources → HasTwo sources
-two_of [] once long = absurd (omega arith)
-two_of (a ∷ []) once long = absurd (omega arith)
-two_of (a ∷ b ∷ rest) once long =
-    (a, b, (λ same. once.0 (0, omega arith, sym same)), (0, omega arith, refl), (1, omega arith, refl))
+two_of : (sources : List ClaimSource) → AllPairs (λ one other. is_earlier_claim one other ≡ true) sources → 2 ≤ length sources → HasTwo sources
+two_of [] ordered long = absurd (omega arith)
+two_of (a ∷ []) ordered long = absurd (omega arith)
+two_of (a ∷ b ∷ rest) ordered long =
+    (a, b, (λ same. not_before b (subst (λ s. is_earlier_claim s b ≡ true) same (ordered 0 1 a (omega arith) (omega arith)))), (0, omega arith, refl), (1, omega arith, refl))
 
 two_long : (sources : List ClaimSource) (one other : ClaimSource) → Contains sources one → Contains sources other → one ≢ other → 2 ≤ length sources
 two_long [] one other h k differ = let lt = h.1 in absurd (omega arith)
@@ -88,32 +96,32 @@ two_long (a ∷ []) one other h k differ =
     absurd (differ (sym (rw first at h.2) ∙ rw second at k.2))
 two_long (a ∷ b ∷ rest) one other h k differ = omega arith
 
-at_least_two : (sources : List ClaimSource) (number : ℕ) → number ≡ length sources → 2 ≤ length sources → nat_le 2 number ≡ true
+at_least_two : (sources : List ClaimSource) (number : ℕ) → length sources ≡ number → 2 ≤ length sources → nat_le 2 number ≡ true
 at_least_two sources number is long = grind (arith, nat_tests)
 
-two_at_least : (sources : List ClaimSource) (number : ℕ) → number ≡ length sources → nat_le 2 number ≡ true → 2 ≤ length sources
+two_at_least : (sources : List ClaimSource) (number : ℕ) → length sources ≡ number → nat_le 2 number ≡ true → 2 ≤ length sources
 two_at_least sources number is test = grind (arith, nat_tests)
 
-pub twice_decides : (g : Geometry) (table : ClaimTable) (v : Volume) (f number : ℕ) → HasClaims g table v → AreClaimants table.claimed f number
-    → Decides (nat_le 2 number) (HasTwoClaims Little g v f)
+pub twice_decides : (g : Geometry) (table : ClaimTable) (v : Volume) (f number : ℕ) → HasClaimsOf g table v → HasClaimCount (TableClaims table) f number
+    → Decides (nat_le 2 number) (HasTwoClaims g v f)
 twice_decides g table v f number has all = (
   λ test.
-      let two = two_of (all.sources) all.once (two_at_least (all.sources) number all.number test) in record {
+      let two = two_of (all.sources) all.are.ordered (two_at_least (all.sources) number all.number test) in record {
         one = two.0;
         other = two.1;
         differ = two.2;
-        first = (has.claims f (two.0)).0 ((all.exactly (two.0)).0 (two.3));
-        second = (has.claims f (two.1)).0 ((all.exactly (two.1)).0 (two.4));
+        first = (has f (two.0)).0 ((all.are.each (two.0)).0 (two.3));
+        second = (has f (two.1)).0 ((all.are.each (two.1)).0 (two.4));
       },
   λ two. at_least_two (all.sources) number all.number
-      (two_long (all.sources) (two.one) (two.other) ((all.exactly (two.one)).1 ((has.claims f (two.one)).1 two.first))
-      ((all.exactly (two.other)).1 ((has.claims f (two.other)).1 two.second)) two.differ),
+      (two_long (all.sources) (two.one) (two.other) ((all.are.each (two.one)).1 ((has f (two.one)).1 two.first))
+      ((all.are.each (two.other)).1 ((has f (two.other)).1 two.second)) two.differ),
 )
 
 -- ---- claimed fragments that are marked free
 
 pub free_there : (g : Geometry) (v : Volume) (f : ℕ) (bytes : List ℕ) → bytes ≡ (group_bytes g (f / g.fpg) v).value
-    → (is_marked_free Little g f v).value ≡ by_maps (group_in Little g (f / g.fpg) bytes) (λ group. is_free bytes group (f % g.fpg))
+    → (is_marked_free g f v).value ≡ by_maps (group_in g (f / g.fpg) bytes) (λ group. is_free bytes group (f % g.fpg))
 unfolding is_marked_free bind
 free_there g v f bytes is = rw is refl
 
@@ -126,14 +134,14 @@ one_long [] source h = let lt = h.1 in absurd (omega arith)
 one_long (a ∷ rest) source h = omega arith
 
 -- a fragment with a claim
-pub free_claimed : (g : Geometry) (table : ClaimTable) (v : Volume) (f number : ℕ) (marked : Bool) → HasClaims g table v → AreClaimants table.claimed f number → 1 ≤ number
-    → (is_marked_free Little g f v).value ≡ marked → Decides marked (IsFree Little g v f)
+pub free_claimed : (g : Geometry) (table : ClaimTable) (v : Volume) (f number : ℕ) (marked : Bool) → HasClaimsOf g table v → HasClaimCount (TableClaims table) f number → 1 ≤ number
+    → (is_marked_free g f v).value ≡ marked → Decides marked (IsFree g v f)
 free_claimed g table v f number marked has all some is = (
   λ test.
       let number_is = all.number in
       let one = one_of (all.sources) (omega arith) in record {
         source = one.0;
-        claim = (has.claims f (one.0)).0 ((all.exactly (one.0)).0 (one.1));
+        claim = (has f (one.0)).0 ((all.are.each (one.0)).0 (one.1));
         free = is ∙ test;
       },
   λ free. sym is ∙ free.free,
@@ -143,36 +151,24 @@ not_some : (number : ℕ) → number < 1 → nat_le 1 number ≡ true → ⊥
 not_some number none test = grind (arith, nat_tests)
 
 -- a fragment without one
-pub free_unclaimed : (g : Geometry) (table : ClaimTable) (v : Volume) (f number : ℕ) → HasClaims g table v → AreClaimants table.claimed f number → number < 1
-    → Decides (nat_le 1 number) (IsFree Little g v f)
+pub free_unclaimed : (g : Geometry) (table : ClaimTable) (v : Volume) (f number : ℕ) → HasClaimsOf g table v → HasClaimCount (TableClaims table) f number → number < 1
+    → Decides (nat_le 1 number) (IsFree g v f)
 free_unclaimed g table v f number has all none = (
   λ test. absurd (not_some number none test),
   λ free.
       let number_is = all.number in
-      let long = one_long (all.sources) (free.source) ((all.exactly (free.source)).1 ((has.claims f (free.source)).1 free.claim)) in
+      let long = one_long (all.sources) (free.source) ((all.are.each (free.source)).1 ((has f (free.source)).1 free.claim)) in
       absurd (omega arith),
 )
 
 -- ---- what a pass fetches and loses, by the claims of the volume
 
-pub fetches_claimed : {S : Type 0} {fetched : S → List ℕ → S → Type 0} {stands : Volume → Type 0} {tells : Type 0} {old new : S} (g : Geometry) (table : ClaimTable)
-    → FetchesOnly fetched stands tells (λ v block. HasClaims g table v → IsMetadataBy Little g v block) old new
-    → FetchesOnly fetched (IsClaimedBy stands g table) tells (IsMetadataBy Little g) old new
-fetches_claimed g table one = record {
-  blocks = one.blocks;
-  were = one.were;
-  are = λ told v claimed block h. one.are told v (claimed.0) block h (claimed.1);
-}
-
-pub loses_claimed : (g : Geometry) (table : ClaimTable) (v : Volume) (gone : ℕ → Bool) → HasClaims g table v
-    → LosesOne gone (λ block. HasClaims g table v → IsMetadataBy Little g v block) → LosesOne gone (IsMetadataBy Little g v)
-loses_claimed g table v gone has one = record { block = one.block; is = one.is has; lost = one.lost }
-
 -- the same blocks, on fewer volumes
-pub fetches_fewer : {S : Type 0} {fetched : S → List ℕ → S → Type 0} {stands : Volume → Type 0} {tells : Type 0} {may : Volume → ℕ → Type 0} {old new : S} (g : Geometry) (table : ClaimTable)
-    → FetchesOnly fetched stands tells may old new → FetchesOnly fetched (IsClaimedBy stands g table) tells may old new
-fetches_fewer g table one = record {
-  blocks = one.blocks;
-  were = one.were;
-  are = λ told v claimed block h. one.are told v (claimed.0) block h;
-}
+pub fetches_fewer : {S : Type 0} {fetched : S → List ℕ → S → Type 0} {stands : Volume → Type 0} {tells : Type 0} {kind : Volume → ℕ → Type 0} {old new : S} (g : Geometry) (table : ClaimTable)
+    → FetchesOnly fetched stands tells kind old new → FetchesOnly fetched (IsClaimedBy stands g table) tells kind old new
+fetches_fewer {kind = kind} g table one = only_told kind kind (λ is v claimed. (claimed.0, λ block h. h)) one
+
+-- a block that is lost on more volumes, of a view with as many blocks
+pub loses_fewer : {stands still : Volume → Type 0} {tells : Type 0} {count now : ℕ} {gone : ℕ → Bool} {kind : Volume → ℕ → Type 0} (g : Geometry) (table : ClaimTable) → now ≡ count
+    → ((v : Volume) → stands v → still v) → LosesOne still tells now kind gone → LosesOne (IsClaimedBy stands g table) tells count kind gone
+loses_fewer {kind = kind} g table same keeps one = lost_told kind kind same (λ is v claimed. (keeps v (claimed.0), λ block h. h)) one

@@ -13,7 +13,7 @@ use Rattle.ufs_model.specs.Superblocks.{unless_bad}
 use Rattle.ufs_model.specs.declared.chunks.BadEntry.{BadEntry}
 use Rattle.ufs_model.specs.declared.geometries.Geometry.{Geometry}
 use Rattle.ufs_model.specs.declared.inodes.Inode.{Inode}
-use Rattle.ufs_model.specs.declared.numbers.Endian.TheVariants.{Little}
+use Rattle.ufs_model.specs.declared.numbers.Endian.{Endian}
 use Rattle.ufs_model.specs.declared.reads.BadRead.TheVariants.{Hole as BadHole, Chunk as BadChunk}
 use Rattle.ufs_model.specs.declared.reads.PathRefusal.{PathRefusal}
 use Rattle.ufs_model.specs.declared.reads.PathRefusal.TheVariants.{Bad}
@@ -26,24 +26,24 @@ use Rattle.ufs_check.proofs.EntryLaws.{or_end}
 
 -- ---- the entries of chunks
 
-chunk_case : (chunk : List ℕ) (fault : Option BadEntry) → fault_in Little 0 chunk ≡ fault → chunk_in Little chunk ≡ unless_bad fault (entries_in Little 0 chunk)
+chunk_case : (endian : Endian) (chunk : List ℕ) (fault : Option BadEntry) → fault_in endian 0 chunk ≡ fault → chunk_in endian chunk ≡ unless_bad fault (entries_in endian 0 chunk)
 unfolding chunk_in
-chunk_case chunk fault is = rw is refl
+chunk_case endian chunk fault is = rw is refl
 
-pub through_whole : (chunks : List (List ℕ)) → list_any is_refused chunks ≡ false → entries_through Little chunks ≡ Ok (entries_all chunks)
-through_whole [] none = refl
-through_whole (chunk ∷ chunks) none =
-    let parts = or_first (is_refused chunk) (list_any is_refused chunks) none in
-    rw (chunk_case chunk None (not_some (fault_in Little 0 chunk) parts.0), through_whole chunks parts.1) refl
+pub through_whole : (endian : Endian) (chunks : List (List ℕ)) → list_any (is_refused endian) chunks ≡ false → entries_through endian chunks ≡ Ok (entries_all endian chunks)
+through_whole endian [] none = refl
+through_whole endian (chunk ∷ chunks) none =
+    let parts = or_first (is_refused endian chunk) (list_any (is_refused endian) chunks) none in
+    rw (chunk_case endian chunk None (not_some (fault_in endian 0 chunk) parts.0), through_whole endian chunks parts.1) refl
 
-refused_then : (fault : Option BadEntry) (chunk : List ℕ) (chunks : List (List ℕ)) → fault_in Little 0 chunk ≡ fault → (is_some fault || list_any is_refused chunks) ≡ true
-    → (list_any is_refused chunks ≡ true → entries_through Little chunks ≡ Err (Bad BadChunk)) → entries_then (chunk_in Little chunk) (entries_through Little chunks) ≡ Err (Bad BadChunk)
-refused_then (Some bad) chunk chunks is some rest = rw (chunk_case chunk (Some bad) is) refl
-refused_then None chunk chunks is some rest = rw (chunk_case chunk None is, rest some) refl
+refused_then : (endian : Endian) (fault : Option BadEntry) (chunk : List ℕ) (chunks : List (List ℕ)) → fault_in endian 0 chunk ≡ fault → (is_some fault || list_any (is_refused endian) chunks) ≡ true
+    → (list_any (is_refused endian) chunks ≡ true → entries_through endian chunks ≡ Err (Bad BadChunk)) → entries_then (chunk_in endian chunk) (entries_through endian chunks) ≡ Err (Bad BadChunk)
+refused_then endian (Some bad) chunk chunks is some rest = rw (chunk_case endian chunk (Some bad) is) refl
+refused_then endian None chunk chunks is some rest = rw (chunk_case endian chunk None is, rest some) refl
 
-pub through_refused : (chunks : List (List ℕ)) → list_any is_refused chunks ≡ true → entries_through Little chunks ≡ Err (Bad BadChunk)
-through_refused [] some = let no : false ≡ true = some in cc
-through_refused (chunk ∷ chunks) some = refused_then (fault_in Little 0 chunk) chunk chunks refl some (through_refused chunks)
+pub through_refused : (endian : Endian) (chunks : List (List ℕ)) → list_any (is_refused endian) chunks ≡ true → entries_through endian chunks ≡ Err (Bad BadChunk)
+through_refused endian [] some = let no : false ≡ true = some in cc
+through_refused endian (chunk ∷ chunks) some = refused_then endian (fault_in endian 0 chunk) chunk chunks refl some (through_refused endian chunks)
 
 -- ---- the chunks of a file block
 
@@ -59,25 +59,25 @@ or_all : (a : Bool) → (a || true) ≡ true
 or_all true = refl
 or_all false = refl
 
-pub data_refused : (g : Geometry) (v : Volume) (k : ℕ) (bytes : List ℕ) (scan : Scan) → list_any is_refused (chunks_in k bytes) ≡ true
+pub data_refused : (g : Geometry) (v : Volume) (k : ℕ) (bytes : List ℕ) (scan : Scan) → list_any (is_refused g.endian) (chunks_in k bytes) ≡ true
     → ScansBlock g v k (Ok (Some bytes)) scan (record { hole = scan.hole; chunk = true; read = false; entries = scan.entries })
 data_refused g v k bytes scan some = record {
   hole = sym (or_end scan.hole);
   chunk = rw some (sym (or_all scan.chunk));
-  read = rw (through_refused (chunks_in k bytes) some) (sym (and_none scan.read));
-  entries = λ entries is. let no : Err (Bad BadChunk) ≡ Ok entries = sym (through_refused (chunks_in k bytes) some) ∙ is in cc;
+  read = rw (through_refused g.endian (chunks_in k bytes) some) (sym (and_none scan.read));
+  entries = λ entries is. let no : Err (Bad BadChunk) ≡ Ok entries = sym (through_refused g.endian (chunks_in k bytes) some) ∙ is in cc;
 }
 
-pub data_whole : (g : Geometry) (v : Volume) (k : ℕ) (bytes : List ℕ) (scan : Scan) (faults : EntryFaults) → list_any is_refused (chunks_in k bytes) ≡ false
-    → AddsEntries g v (entries_all (chunks_in k bytes)) scan.entries faults
+pub data_whole : (g : Geometry) (v : Volume) (k : ℕ) (bytes : List ℕ) (scan : Scan) (faults : EntryFaults) → list_any (is_refused g.endian) (chunks_in k bytes) ≡ false
+    → AddsEntries g v (entries_all g.endian (chunks_in k bytes)) scan.entries faults
     → ScansBlock g v k (Ok (Some bytes)) scan (record { hole = scan.hole; chunk = scan.chunk; read = scan.read; entries = faults })
 data_whole g v k bytes scan faults none adds = record {
   hole = sym (or_end scan.hole);
   chunk = rw none (sym (or_end scan.chunk));
-  read = rw (through_whole (chunks_in k bytes) none) (sym (and_all scan.read));
+  read = rw (through_whole g.endian (chunks_in k bytes) none) (sym (and_all scan.read));
   entries = λ entries is.
-      let both : Ok (entries_all (chunks_in k bytes)) ≡ Ok entries = sym (through_whole (chunks_in k bytes) none) ∙ is in
-      let same : entries_all (chunks_in k bytes) ≡ entries = cc in
+      let both : Ok (entries_all g.endian (chunks_in k bytes)) ≡ Ok entries = sym (through_whole g.endian (chunks_in k bytes) none) ∙ is in
+      let same : entries_all g.endian (chunks_in k bytes) ≡ entries = cc in
       subst (λ es. AddsEntries g v es scan.entries faults) same adds;
 }
 
@@ -92,17 +92,17 @@ last_part : (v : Volume) (front : List DirEntry) (entries : Result (List DirEntr
 last_part v front (Ok entries) = refl
 last_part v front (Err refusal) = refl
 
-chunk_part : (v : Volume) (front : List DirEntry) (chunks : Result (List (List ℕ)) PathRefusal)
-    → (on_ok chunks (λ chunks. and_then (known (entries_through Little chunks)) (λ entries. known (Ok (front ++ entries)))) v).value ≡ joined (Ok front) (entries_said chunks)
+chunk_part : (endian : Endian) (v : Volume) (front : List DirEntry) (chunks : Result (List (List ℕ)) PathRefusal)
+    → (on_ok chunks (λ chunks. and_then (known (entries_through endian chunks)) (λ entries. known (Ok (front ++ entries)))) v).value ≡ joined (Ok front) (entries_said endian chunks)
 unfolding and_then bind
-chunk_part v front (Ok chunks) = last_part v front (entries_through Little chunks)
-chunk_part v front (Err refusal) = refl
+chunk_part endian v front (Ok chunks) = last_part v front (entries_through endian chunks)
+chunk_part endian v front (Err refusal) = refl
 
-front_part : (v : Volume) (front : Result (List DirEntry) PathRefusal) (chunks : Reading (Result (List (List ℕ)) PathRefusal))
-    → (on_ok front (λ front. and_then chunks (λ chunks. and_then (known (entries_through Little chunks)) (λ entries. known (Ok (front ++ entries))))) v).value ≡ joined front (entries_said ((chunks v).value))
+front_part : (endian : Endian) (v : Volume) (front : Result (List DirEntry) PathRefusal) (chunks : Reading (Result (List (List ℕ)) PathRefusal))
+    → (on_ok front (λ front. and_then chunks (λ chunks. and_then (known (entries_through endian chunks)) (λ entries. known (Ok (front ++ entries))))) v).value ≡ joined front (entries_said endian ((chunks v).value))
 unfolding and_then bind
-front_part v (Ok front) chunks = chunk_part v front ((chunks v).value)
-front_part v (Err refusal) chunks = refl
+front_part endian v (Ok front) chunks = chunk_part endian v front ((chunks v).value)
+front_part endian v (Err refusal) chunks = refl
 
 said_part : (v : Volume) (k : ℕ) (block : Result (Option (List ℕ)) PathRefusal)
     → (on_ok block (λ block. and_then (known (ok_or block (Bad BadHole))) (λ bytes. known (Ok (chunks_in k bytes)))) v).value ≡ chunks_said k block
@@ -111,14 +111,14 @@ said_part v k (Ok None) = refl
 said_part v k (Ok (Some bytes)) = refl
 said_part v k (Err refusal) = refl
 
-pub chunks_value : (g : Geometry) (inode : Inode) (n : ℕ) (v : Volume) → (chunks_of Little g inode n v).value ≡ chunks_said (bytes_in_block g inode n / 512) ((block_of Little g inode n v).value)
+pub chunks_value : (g : Geometry) (inode : Inode) (n : ℕ) (v : Volume) → (chunks_of g inode n v).value ≡ chunks_said (bytes_in_block g inode n / 512) ((block_of g inode n v).value)
 unfolding chunks_of and_then bind
-chunks_value g inode n v = said_part v (bytes_in_block g inode n / 512) ((block_of Little g inode n v).value)
+chunks_value g inode n v = said_part v (bytes_in_block g inode n / 512) ((block_of g inode n v).value)
 
 pub before_next : (g : Geometry) (inode : Inode) (n : ℕ) (v : Volume)
-    → (entries_before Little g inode (suc n) v).value ≡ joined ((entries_before Little g inode n v).value) (entries_said ((chunks_of Little g inode n v).value))
+    → (entries_before g inode (suc n) v).value ≡ joined ((entries_before g inode n v).value) (entries_said g.endian ((chunks_of g inode n v).value))
 unfolding entries_before and_then bind
-before_next g inode n v = front_part v ((entries_before Little g inode n v).value) (chunks_of Little g inode n)
+before_next g inode n v = front_part g.endian v ((entries_before g inode n v).value) (chunks_of g inode n)
 
 -- ---- what is found in one more file block
 
@@ -134,14 +134,14 @@ says_joined g v (Ok front) (Ok es) old_read new_read old new says read adds =
     )
 
 pub scanned_next : (g : Geometry) (inode : Inode) (v : Volume) (n : ℕ) (old new : Scan) → ScannedBelow g inode v n old
-    → ScansBlock g v (bytes_in_block g inode n / 512) ((block_of Little g inode n v).value) old new → ScannedBelow g inode v (n + 1) new
+    → ScansBlock g v (bytes_in_block g inode n / 512) ((block_of g inode n v).value) old new → ScannedBelow g inode v (n + 1) new
 unfolding hole_at refused_at
 scanned_next g inode v n old new so_far one = rw add-one (record {
-  hole = one.hole ∙ ap (λ b. b || hole_said ((block_of Little g inode n v).value)) so_far.hole;
-  chunk = one.chunk ∙ ap (λ b. b || refused_said (chunks_said (bytes_in_block g inode n / 512) ((block_of Little g inode n v).value))) so_far.chunk;
+  hole = one.hole ∙ ap (λ b. b || hole_said ((block_of g inode n v).value)) so_far.hole;
+  chunk = one.chunk ∙ ap (λ b. b || refused_said g.endian (chunks_said (bytes_in_block g inode n / 512) ((block_of g inode n v).value))) so_far.chunk;
   entries = subst (λ entries. SaysEntries g v new.read new.entries entries)
-      (sym (before_next g inode n v ∙ ap (λ chunks. joined ((entries_before Little g inode n v).value) (entries_said chunks)) (chunks_value g inode n v)))
-      (says_joined g v ((entries_before Little g inode n v).value) (entries_said (chunks_said (bytes_in_block g inode n / 512) ((block_of Little g inode n v).value)))
+      (sym (before_next g inode n v ∙ ap (λ chunks. joined ((entries_before g inode n v).value) (entries_said g.endian chunks)) (chunks_value g inode n v)))
+      (says_joined g v ((entries_before g inode n v).value) (entries_said g.endian (chunks_said (bytes_in_block g inode n / 512) ((block_of g inode n v).value)))
       old.read new.read old.entries new.entries so_far.entries one.read one.entries);
 })
 

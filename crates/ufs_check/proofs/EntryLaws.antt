@@ -9,7 +9,6 @@ use Rattle.ufs_model.specs.Chunks.{DirEntry, is_used_entry, used_entries}
 use Rattle.ufs_model.specs.Malformations.{inode_at}
 use Rattle.ufs_model.specs.declared.geometries.Geometry.{Geometry}
 use Rattle.ufs_model.specs.declared.inodes.Inode.{Inode}
-use Rattle.ufs_model.specs.declared.numbers.Endian.TheVariants.{Little}
 use Rattle.ufs_check.specs.Entries.{AddsEntries, Completes, is_mistyped, mistyped_in, names_none}
 use Rattle.ufs_check.specs.declared.entries.EntryFaults.{EntryFaults}
 
@@ -27,7 +26,7 @@ adds_used : (test : DirEntry → Bool) (entry : DirEntry) (used : Bool) (old new
 adds_used test entry true old new used is = is ∙ ap (λ b. old || b) (sym (or_end (test entry)))
 adds_used test entry false old new used is = let no : false ≡ true = used in cc
 
-pub adds_one : (g : Geometry) (v : Volume) (entry : DirEntry) (named : Option Inode) (old new : EntryFaults) → is_used_entry entry ≡ true → named ≡ inode_at Little g v entry.inode
+pub adds_one : (g : Geometry) (v : Volume) (entry : DirEntry) (named : Option Inode) (old new : EntryFaults) → is_used_entry entry ≡ true → named ≡ inode_at g v entry.inode
     → new.entry ≡ (old.entry || is_none named) → new.entry_type ≡ (old.entry_type || mistyped_in entry.kind named) → AddsEntries g v (used_entries (entry ∷ [])) old new
 unfolding names_none is_mistyped
 adds_one g v entry named old new used is one two = record {

@@ -19,10 +19,10 @@ use Rattle.ufs_model.specs.declared.geometries.Geometry.{Geometry}
 use Rattle.ufs_model.specs.declared.inodes.Inode.{Inode}
 use Rattle.ufs_model.specs.declared.inodes.Kind.TheVariants.{Directory}
 use Rattle.ufs_model.specs.declared.malformations.BadKind.TheVariants.{Hole as HoleIn, Chunk, Entry, EntryType, Filesize}
-use Rattle.ufs_model.specs.declared.numbers.Endian.TheVariants.{Little}
+use Rattle.ufs_model.specs.declared.numbers.Endian.{Endian}
 use Rattle.ufs_model.specs.declared.pointers.Address.{Address}
 use Rattle.ufs_model.specs.declared.pointers.Address.TheVariants.{Hole, Wild, At}
-use Rattle.ufs_model.specs.declared.reads.BadRead.TheVariants.{Chunk as BadChunk}
+use Rattle.ufs_model.specs.declared.reads.BadRead.TheVariants.{Chunk as BadChunk, Filesize as BadFilesize}
 use Rattle.ufs_model.specs.declared.reads.PathRefusal.{PathRefusal}
 use Rattle.ufs_model.specs.declared.reads.PathRefusal.TheVariants.{Bad}
 use Rattle.ufs_check.specs.Directories.{AreDirectoryFaults, AreDirectoryFaultsBelow, HasNoHole, SaysEntries, ScannedBelow, ScannedWhole, any_below, hole_at, hole_said, refused_at, refused_said}
@@ -59,7 +59,7 @@ scanned_hole g inode v n scan lt has so_far = record {
   below = λ none. let no : true ≡ false = sym has ∙ none in cc;
 }
 
-pub block_value : (g : Geometry) (inode : Inode) (n : ℕ) (v : Volume) → (block_of Little g inode n v).value ≡ (bytes_at g ((file_block_of Little g inode n v).value) v).value
+pub block_value : (g : Geometry) (inode : Inode) (n : ℕ) (v : Volume) → (block_of g inode n v).value ≡ (bytes_at g ((file_block_of g inode n v).value) v).value
 unfolding block_of bind
 block_value g inode n v = refl
 
@@ -69,11 +69,11 @@ hole_is g v Hole = (λ h. refl, λ h. refl)
 hole_is g v Wild = (λ h. let no : false ≡ true = h in cc, λ h. let no : Wild ≡ Hole = h in cc)
 hole_is g v (At a k) = (λ h. let no : false ≡ true = h in cc, λ h. let no : At a k ≡ Hole = h in cc)
 
-hole_decides : (g : Geometry) (inode : Inode) (v : Volume) (n : ℕ) → Decides (hole_at g inode v n) ((file_block_of Little g inode n v).value ≡ Hole)
+hole_decides : (g : Geometry) (inode : Inode) (v : Volume) (n : ℕ) → Decides (hole_at g inode v n) ((file_block_of g inode n v).value ≡ Hole)
 unfolding hole_at
-hole_decides g inode v n = subst (λ block. Decides (hole_said block) ((file_block_of Little g inode n v).value ≡ Hole)) (sym (block_value g inode n v)) (hole_is g v ((file_block_of Little g inode n v).value))
+hole_decides g inode v n = subst (λ block. Decides (hole_said block) ((file_block_of g inode n v).value ≡ Hole)) (sym (block_value g inode n v)) (hole_is g v ((file_block_of g inode n v).value))
 
-pub has_hole_decides : (g : Geometry) (inode : Inode) (v : Volume) (b : Bool) → b ≡ any_below (hole_at g inode v) (block_count g inode) → Decides b (HasHole Little g v inode)
+pub has_hole_decides : (g : Geometry) (inode : Inode) (v : Volume) (b : Bool) → b ≡ any_below (hole_at g inode v) (block_count g inode) → Decides b (HasHole g v inode)
 has_hole_decides g inode v b is = (
   λ h. let found = below_found (hole_at g inode v) (block_count g inode) (sym is ∙ h) in record { n = found.0; is = found.1; hole = (hole_decides g inode v found.0).0 found.2 },
   λ h. is ∙ below_here (hole_at g inode v) (block_count g inode) h.n h.is ((hole_decides g inode v h.n).1 h.hole),
@@ -81,32 +81,32 @@ has_hole_decides g inode v b is = (
 
 -- ---- chunks
 
-pub record HasRefused (chunks : Result (List (List ℕ)) PathRefusal) : Type 0 where
+pub record HasRefused (endian : Endian) (chunks : Result (List (List ℕ)) PathRefusal) : Type 0 where
   pub all : List (List ℕ)
   pub chunk : List ℕ
   pub bad : BadEntry
   pub are : chunks ≡ Ok all
   pub contains : Contains all chunk
-  pub refused : fault_in Little 0 chunk ≡ Some bad
+  pub refused : fault_in endian 0 chunk ≡ Some bad
 
 some_fault : (fault : Option BadEntry) → is_some fault ≡ true → (bad : BadEntry) × (fault ≡ Some bad)
 some_fault None is = let no : false ≡ true = is in cc
 some_fault (Some bad) is = (bad, refl)
 
-pub refused_is : (chunks : Result (List (List ℕ)) PathRefusal) → Decides (refused_said chunks) (HasRefused chunks)
-refused_is (Err refusal) = (λ h. let no : false ≡ true = h in cc, λ h. let no : Err refusal ≡ Ok h.all = h.are in cc)
-refused_is (Ok chunks) = (
-  λ h. let any = Any-from_list_any is_refused chunks h in let fault = some_fault (fault_in Little 0 any.1) any.4 in
+pub refused_is : (endian : Endian) (chunks : Result (List (List ℕ)) PathRefusal) → Decides (refused_said endian chunks) (HasRefused endian chunks)
+refused_is endian (Err refusal) = (λ h. let no : false ≡ true = h in cc, λ h. let no : Err refusal ≡ Ok h.all = h.are in cc)
+refused_is endian (Ok chunks) = (
+  λ h. let any = Any-from_list_any (is_refused endian) chunks h in let fault = some_fault (fault_in endian 0 any.1) any.4 in
       record { all = chunks; chunk = any.1; bad = fault.0; are = refl; contains = (any.0, any.2, any.3); refused = fault.1 },
   λ h. let both : Ok chunks ≡ Ok h.all = h.are in let same : h.all ≡ chunks = cc in let here = subst (λ all. Contains all h.chunk) same h.contains in
-      list_any-from_Any is_refused chunks (here.0, h.chunk, here.1, here.2, ap is_some h.refused),
+      list_any-from_Any (is_refused endian) chunks (here.0, h.chunk, here.1, here.2, ap is_some h.refused),
 )
 
-refused_decides : (g : Geometry) (inode : Inode) (v : Volume) (n : ℕ) → Decides (refused_at g inode v n) (HasRefused ((chunks_of Little g inode n v).value))
+refused_decides : (g : Geometry) (inode : Inode) (v : Volume) (n : ℕ) → Decides (refused_at g inode v n) (HasRefused g.endian ((chunks_of g inode n v).value))
 unfolding refused_at
-refused_decides g inode v n = subst (λ chunks. Decides (refused_said chunks) (HasRefused ((chunks_of Little g inode n v).value))) (chunks_value g inode n v) (refused_is ((chunks_of Little g inode n v).value))
+refused_decides g inode v n = subst (λ chunks. Decides (refused_said g.endian chunks) (HasRefused g.endian ((chunks_of g inode n v).value))) (chunks_value g inode n v) (refused_is g.endian ((chunks_of g inode n v).value))
 
-refused_chunk_decides : (g : Geometry) (inode : Inode) (v : Volume) (b : Bool) → b ≡ any_below (refused_at g inode v) (block_count g inode) → Decides b (HasBadChunk Little g v inode)
+refused_chunk_decides : (g : Geometry) (inode : Inode) (v : Volume) (b : Bool) → b ≡ any_below (refused_at g inode v) (block_count g inode) → Decides b (HasBadChunk g v inode)
 refused_chunk_decides g inode v b is = (
   λ h. let found = below_found (refused_at g inode v) (block_count g inode) (sym is ∙ h) in
       let one = (refused_decides g inode v found.0).0 found.2 in
@@ -116,51 +116,71 @@ refused_chunk_decides g inode v b is = (
 )
 
 pub bad_chunk_decides : (g : Geometry) (inode : Inode) (v : Volume) (b chunk : Bool) → b ≡ (not (inode.size % 512 == 0) || chunk) → chunk ≡ any_below (refused_at g inode v) (block_count g inode)
-    → Decides b ((inode.size % 512 ≢ 0) ⊎ HasBadChunk Little g v inode)
+    → Decides b ((inode.size % 512 ≢ 0) ⊎ HasBadChunk g v inode)
 bad_chunk_decides g inode v b chunk is found =
-    subst (λ b. Decides b ((inode.size % 512 ≢ 0) ⊎ HasBadChunk Little g v inode)) (sym is)
+    subst (λ b. Decides b ((inode.size % 512 ≢ 0) ⊎ HasBadChunk g v inode)) (sym is)
     (Decides-or (not (inode.size % 512 == 0)) chunk (Decides-not (inode.size % 512 == 0) (Decides-eqb (inode.size % 512) 0)) (refused_chunk_decides g inode v chunk found))
 
 -- ---- a directory
 
-pub directory_decides : (g : Geometry) (v : Volume) (i : ℕ) (holds : Inode → Type 0) (inode : Inode) (b : Bool) → inode_at Little g v i ≡ Some inode
-    → kind_of inode.mode ≡ Directory → Decides b (holds inode) → Decides b (IsDirectory Little g v i holds)
+pub directory_decides : (g : Geometry) (v : Volume) (i : ℕ) (holds : Inode → Type 0) (inode : Inode) (b : Bool) → inode_at g v i ≡ Some inode
+    → kind_of inode.mode ≡ Directory → Decides b (holds inode) → Decides b (IsDirectory g v i holds)
 directory_decides g v i holds inode b is kind decides =
     subst (λ o. Decides b (MatchOption o ⊥ (λ inode. (kind_of inode.mode ≡ Directory) × holds inode))) (sym is) (λ h. (kind, decides.0 h), λ h. decides.1 (h.1))
 
 -- what is known of a directory is known of its inode
-pub directory_is : (g : Geometry) (v : Volume) (i : ℕ) (holds : Inode → Type 0) (inode : Inode) → inode_at Little g v i ≡ Some inode
-    → IsDirectory Little g v i holds → (kind_of inode.mode ≡ Directory) × holds inode
+pub directory_is : (g : Geometry) (v : Volume) (i : ℕ) (holds : Inode → Type 0) (inode : Inode) → inode_at g v i ≡ Some inode
+    → IsDirectory g v i holds → (kind_of inode.mode ≡ Directory) × holds inode
 directory_is g v i holds inode is h = subst (λ o. MatchOption o ⊥ (λ inode. (kind_of inode.mode ≡ Directory) × holds inode)) is h
 
-pub directory_there : (g : Geometry) (v : Volume) (i : ℕ) (holds : Inode → Type 0) (inode : Inode) → inode_at Little g v i ≡ Some inode
-    → kind_of inode.mode ≡ Directory → holds inode → IsDirectory Little g v i holds
+pub directory_there : (g : Geometry) (v : Volume) (i : ℕ) (holds : Inode → Type 0) (inode : Inode) → inode_at g v i ≡ Some inode
+    → kind_of inode.mode ≡ Directory → holds inode → IsDirectory g v i holds
 directory_there g v i holds inode is kind h = subst (λ o. MatchOption o ⊥ (λ inode. (kind_of inode.mode ≡ Directory) × holds inode)) (sym is) (kind, h)
 
-pub directory_none : (g : Geometry) (v : Volume) (i : ℕ) (holds : Inode → Type 0) → inode_at Little g v i ≡ None → IsDirectory Little g v i holds → ⊥
+pub directory_none : (g : Geometry) (v : Volume) (i : ℕ) (holds : Inode → Type 0) → inode_at g v i ≡ None → IsDirectory g v i holds → ⊥
 directory_none g v i holds is h = subst (λ o. MatchOption o ⊥ (λ inode. (kind_of inode.mode ≡ Directory) × holds inode)) is h
+
+-- a hole, or a chunk that is refused, in a directory that isn't too large
+abbrev pub HasSmallHole : Geometry → Volume → Inode → Type 0
+HasSmallHole g v inode = (inode.size < 2 ^ 32) × HasHole g v inode
+
+abbrev pub HasSmallChunk : Geometry → Volume → Inode → Type 0
+HasSmallChunk g v inode = (inode.size < 2 ^ 32) × ((inode.size % 512 ≢ 0) ⊎ HasBadChunk g v inode)
+
+pub small_decides : (size : ℕ) (b : Bool) (holds : Type 0) → size < 2 ^ 32 → Decides b holds → Decides b ((size < 2 ^ 32) × holds)
+small_decides size b holds small decides = (λ h. (small, decides.0 h), λ h. decides.1 (h.1))
 
 -- ---- whether its entries are read
 
+long_entries : (g : Geometry) (inode : Inode) (v : Volume) → kind_of inode.mode ≡ Directory → 2 ^ 32 ≤ inode.size → (entries_of g inode v).value ≡ Err (Bad BadFilesize)
+unfolding entries_of directory_refusal
+long_entries g inode v kind long = let past : nat_le (2 ^ 32) inode.size ≡ true = grind (arith, nat_tests) in rw (kind, past) refl
+
+pub long_unread : (g : Geometry) (v : Volume) (i : ℕ) (inode : Inode) → inode_at g v i ≡ Some inode → kind_of inode.mode ≡ Directory → 2 ^ 32 ≤ inode.size
+    → (entries : List DirEntry) → HasEntries g v i entries → ⊥
+long_unread g v i inode is kind long entries has =
+    let value = (directory_is g v i (λ inode. (entries_of g inode v).value ≡ Ok entries) inode is has).1 in
+    let no : Err (Bad BadFilesize) ≡ Ok entries = sym (long_entries g inode v kind long) ∙ value in cc
+
 pub whole_entries : (g : Geometry) (inode : Inode) (v : Volume) → kind_of inode.mode ≡ Directory → inode.size < 2 ^ 32 → (inode.size % 512 == 0) ≡ true
-    → (entries_of Little g inode v).value ≡ (entries_before Little g inode (block_count g inode) v).value
+    → (entries_of g inode v).value ≡ (entries_before g inode (block_count g inode) v).value
 unfolding entries_of directory_refusal
 whole_entries g inode v kind small whole = let fits : nat_le (2 ^ 32) inode.size ≡ false = grind (arith, nat_tests) in rw (kind, fits, whole) refl
 
 pub torn_entries : (g : Geometry) (inode : Inode) (v : Volume) → kind_of inode.mode ≡ Directory → inode.size < 2 ^ 32 → (inode.size % 512 == 0) ≡ false
-    → (entries_of Little g inode v).value ≡ Err (Bad BadChunk)
+    → (entries_of g inode v).value ≡ Err (Bad BadChunk)
 unfolding entries_of directory_refusal
 torn_entries g inode v kind small torn = let fits : nat_le (2 ^ 32) inode.size ≡ false = grind (arith, nat_tests) in rw (kind, fits, torn) refl
 
 -- the entries that are read, with their faults
 pub record AreRead (g : Geometry) (v : Volume) (inode : Inode) (faults : EntryFaults) : Type 0 where
   pub entries : List DirEntry
-  pub are : (entries_of Little g inode v).value ≡ Ok entries
+  pub are : (entries_of g inode v).value ≡ Ok entries
   pub entry : faults.entry ≡ list_any (names_none g v) entries
   pub entry_type : faults.entry_type ≡ list_any (is_mistyped g v) entries
 
 said_read : (g : Geometry) (v : Volume) (inode : Inode) (entries : Result (List DirEntry) PathRefusal) (read : Bool) (faults : EntryFaults) → SaysEntries g v read faults entries → read ≡ true
-    → (entries_of Little g inode v).value ≡ entries → AreRead g v inode faults
+    → (entries_of g inode v).value ≡ entries → AreRead g v inode faults
 said_read g v inode (Err refusal) read faults says is value = let no : false ≡ true = sym says ∙ is in cc
 said_read g v inode (Ok entries) read faults says is value = record { entries = entries; are = value; entry = says.1; entry_type = says.2 }
 
@@ -170,19 +190,19 @@ said_unread g v (Err refusal) read faults es says is value = let no : Err refusa
 said_unread g v (Ok entries) read faults es says is value = let no : true ≡ false = sym says.0 ∙ is in cc
 
 pub entries_read : (g : Geometry) (inode : Inode) (v : Volume) (read : Bool) (faults : EntryFaults) → kind_of inode.mode ≡ Directory → inode.size < 2 ^ 32 → ((inode.size % 512 == 0) && read) ≡ true
-    → SaysEntries g v read faults ((entries_before Little g inode (block_count g inode) v).value) → AreRead g v inode faults
+    → SaysEntries g v read faults ((entries_before g inode (block_count g inode) v).value) → AreRead g v inode faults
 entries_read g inode v read faults kind small is says =
     let parts = and_parts (inode.size % 512 == 0) read is in
-    said_read g v inode ((entries_before Little g inode (block_count g inode) v).value) read faults says parts.1 (whole_entries g inode v kind small parts.0)
+    said_read g v inode ((entries_before g inode (block_count g inode) v).value) read faults says parts.1 (whole_entries g inode v kind small parts.0)
 
 unread_by : (g : Geometry) (inode : Inode) (v : Volume) (whole read : Bool) (faults : EntryFaults) (es : List DirEntry) → kind_of inode.mode ≡ Directory → inode.size < 2 ^ 32 → (inode.size % 512 == 0) ≡ whole
-    → (whole && read) ≡ false → SaysEntries g v read faults ((entries_before Little g inode (block_count g inode) v).value) → (entries_of Little g inode v).value ≡ Ok es → ⊥
+    → (whole && read) ≡ false → SaysEntries g v read faults ((entries_before g inode (block_count g inode) v).value) → (entries_of g inode v).value ≡ Ok es → ⊥
 unread_by g inode v true read faults es kind small whole is says value =
-    said_unread g v ((entries_before Little g inode (block_count g inode) v).value) read faults es says is (sym (whole_entries g inode v kind small whole) ∙ value)
+    said_unread g v ((entries_before g inode (block_count g inode) v).value) read faults es says is (sym (whole_entries g inode v kind small whole) ∙ value)
 unread_by g inode v false read faults es kind small whole is says value = let no : Err (Bad BadChunk) ≡ Ok es = sym (torn_entries g inode v kind small whole) ∙ value in cc
 
 pub entries_unread : (g : Geometry) (inode : Inode) (v : Volume) (read : Bool) (faults : EntryFaults) (es : List DirEntry) → kind_of inode.mode ≡ Directory → inode.size < 2 ^ 32 → ((inode.size % 512 == 0) && read) ≡ false
-    → SaysEntries g v read faults ((entries_before Little g inode (block_count g inode) v).value) → (entries_of Little g inode v).value ≡ Ok es → ⊥
+    → SaysEntries g v read faults ((entries_before g inode (block_count g inode) v).value) → (entries_of g inode v).value ≡ Ok es → ⊥
 entries_unread g inode v read faults es kind small is says value = unread_by g inode v (inode.size % 512 == 0) read faults es kind small refl is says value
 
 -- ---- entries
@@ -204,9 +224,9 @@ none_is : (named : Option Inode) → Decides (is_none named) (named ≡ None)
 none_is None = (λ h. refl, λ h. refl)
 none_is (Some inode) = (λ h. let no : false ≡ true = h in cc, λ h. let no : Some inode ≡ None = h in cc)
 
-none_decides : (g : Geometry) (v : Volume) (entry : DirEntry) → Decides (names_none g v entry) (inode_at Little g v entry.inode ≡ None)
+none_decides : (g : Geometry) (v : Volume) (entry : DirEntry) → Decides (names_none g v entry) (inode_at g v entry.inode ≡ None)
 unfolding names_none
-none_decides g v entry = none_is (inode_at Little g v entry.inode)
+none_decides g v entry = none_is (inode_at g v entry.inode)
 
 type_decides : (kind : ℕ) (type : Option ℕ) → Decides (type_differs kind type) (type ≢ Some kind)
 type_decides kind None = (λ h e. let no : None ≡ Some kind = e in cc, λ h. refl)
@@ -217,42 +237,42 @@ mistyped_is kind None = (λ h. let no : false ≡ true = h in cc, λ h. absurd h
 mistyped_is kind (Some inode) = Decides-and (not (kind == 0)) (type_differs kind (entry_type_of (kind_of inode.mode))) (Decides-not (kind == 0) (Decides-eqb kind 0)) (type_decides kind (entry_type_of (kind_of inode.mode)))
 
 mistyped_decides : (g : Geometry) (v : Volume) (entry : DirEntry)
-    → Decides (is_mistyped g v entry) ((entry.kind ≢ 0) × IsInode Little g v entry.inode (λ inode. entry_type_of (kind_of inode.mode) ≢ Some entry.kind))
+    → Decides (is_mistyped g v entry) ((entry.kind ≢ 0) × IsInode g v entry.inode (λ inode. entry_type_of (kind_of inode.mode) ≢ Some entry.kind))
 unfolding is_mistyped
-mistyped_decides g v entry = mistyped_is entry.kind (inode_at Little g v entry.inode)
+mistyped_decides g v entry = mistyped_is entry.kind (inode_at g v entry.inode)
 
 -- the entries of a directory are these
-pub entries_are : (g : Geometry) (v : Volume) (i : ℕ) (inode : Inode) (entries : List DirEntry) → inode_at Little g v i ≡ Some inode → kind_of inode.mode ≡ Directory
-    → (entries_of Little g inode v).value ≡ Ok entries → HasEntries Little g v i entries
-entries_are g v i inode entries is kind value = subst (λ o. MatchOption o ⊥ (λ inode. (kind_of inode.mode ≡ Directory) × ((entries_of Little g inode v).value ≡ Ok entries))) (sym is) (kind, value)
+pub entries_are : (g : Geometry) (v : Volume) (i : ℕ) (inode : Inode) (entries : List DirEntry) → inode_at g v i ≡ Some inode → kind_of inode.mode ≡ Directory
+    → (entries_of g inode v).value ≡ Ok entries → HasEntries g v i entries
+entries_are g v i inode entries is kind value = subst (λ o. MatchOption o ⊥ (λ inode. (kind_of inode.mode ≡ Directory) × ((entries_of g inode v).value ≡ Ok entries))) (sym is) (kind, value)
 
-pub entries_same : (g : Geometry) (v : Volume) (i : ℕ) (inode : Inode) (entries others : List DirEntry) → inode_at Little g v i ≡ Some inode
-    → (entries_of Little g inode v).value ≡ Ok entries → HasEntries Little g v i others → others ≡ entries
+pub entries_same : (g : Geometry) (v : Volume) (i : ℕ) (inode : Inode) (entries others : List DirEntry) → inode_at g v i ≡ Some inode
+    → (entries_of g inode v).value ≡ Ok entries → HasEntries g v i others → others ≡ entries
 entries_same g v i inode entries others is value has =
-    let other = directory_is g v i (λ inode. (entries_of Little g inode v).value ≡ Ok others) inode is has in
+    let other = directory_is g v i (λ inode. (entries_of g inode v).value ≡ Ok others) inode is has in
     let both : Ok others ≡ Ok entries = sym other.1 ∙ value in cc
 
-pub bad_entry_decides : (g : Geometry) (v : Volume) (i : ℕ) (inode : Inode) (faults : EntryFaults) → inode_at Little g v i ≡ Some inode → kind_of inode.mode ≡ Directory
-    → AreRead g v inode faults → Decides faults.entry (HasBadEntry Little g v i)
+pub bad_entry_decides : (g : Geometry) (v : Volume) (i : ℕ) (inode : Inode) (faults : EntryFaults) → inode_at g v i ≡ Some inode → kind_of inode.mode ≡ Directory
+    → AreRead g v inode faults → Decides faults.entry (HasBadEntry g v i)
 bad_entry_decides g v i inode faults is kind read =
-    let decides = entry_decides (names_none g v) (λ entry. inode_at Little g v entry.inode ≡ None) (none_decides g v) (read.entries) in (
+    let decides = entry_decides (names_none g v) (λ entry. inode_at g v entry.inode ≡ None) (none_decides g v) (read.entries) in (
       λ h. let found = decides.0 (sym read.entry ∙ h) in
           record { k = found.k; entry = found.entry; here = record { entries = read.entries; are = entries_are g v i inode (read.entries) is kind read.are; here = found.here }; none = found.is },
       λ h. read.entry ∙ decides.1 (record { k = h.k; entry = h.entry; here = subst (λ es. slice_get es h.k ≡ Some h.entry) (entries_same g v i inode (read.entries) (h.here.entries) is read.are h.here.are) h.here.here; is = h.none }),
     )
 
-pub bad_type_decides : (g : Geometry) (v : Volume) (i : ℕ) (inode : Inode) (faults : EntryFaults) → inode_at Little g v i ≡ Some inode → kind_of inode.mode ≡ Directory
-    → AreRead g v inode faults → Decides faults.entry_type (HasBadType Little g v i)
+pub bad_type_decides : (g : Geometry) (v : Volume) (i : ℕ) (inode : Inode) (faults : EntryFaults) → inode_at g v i ≡ Some inode → kind_of inode.mode ≡ Directory
+    → AreRead g v inode faults → Decides faults.entry_type (HasBadType g v i)
 bad_type_decides g v i inode faults is kind read =
-    let decides = entry_decides (is_mistyped g v) (λ entry. (entry.kind ≢ 0) × IsInode Little g v entry.inode (λ inode. entry_type_of (kind_of inode.mode) ≢ Some entry.kind)) (mistyped_decides g v) (read.entries) in (
+    let decides = entry_decides (is_mistyped g v) (λ entry. (entry.kind ≢ 0) × IsInode g v entry.inode (λ inode. entry_type_of (kind_of inode.mode) ≢ Some entry.kind)) (mistyped_decides g v) (read.entries) in (
       λ h. let found = decides.0 (sym read.entry_type ∙ h) in
           record { k = found.k; entry = found.entry; here = record { entries = read.entries; are = entries_are g v i inode (read.entries) is kind read.are; here = found.here }; typed = found.is.0; other = found.is.1 },
       λ h. read.entry_type ∙ decides.1 (record { k = h.k; entry = h.entry; here = subst (λ es. slice_get es h.k ≡ Some h.entry) (entries_same g v i inode (read.entries) (h.here.entries) is read.are h.here.are) h.here.here; is = (h.typed, h.other) }),
     )
 
 -- a directory has no more bytes than it may
-pub not_too_long : (g : Geometry) (v : Volume) (i : ℕ) (inode : Inode) → inode_at Little g v i ≡ Some inode → kind_of inode.mode ≡ Directory → 2 ^ 32 ≤ inode.size
-    → (IsBad Little g v Filesize i → ⊥) → ⊥
+pub not_too_long : (g : Geometry) (v : Volume) (i : ℕ) (inode : Inode) → inode_at g v i ≡ Some inode → kind_of inode.mode ≡ Directory → 2 ^ 32 ≤ inode.size
+    → (IsBad g v Filesize i → ⊥) → ⊥
 not_too_long g v i inode is kind long none =
     none (subst (λ o. MatchOption o ⊥ (λ inode. (has_pointers g inode ≡ true) × (2 ^ 32 ≤ inode.size))) (sym is) (rw kind refl, long))
 
@@ -261,53 +281,63 @@ not_true true none = absurd (none refl)
 not_true false none = refl
 
 -- no hole is found where there is none
-pub scanned_clear : (g : Geometry) (v : Volume) (i : ℕ) (inode : Inode) (scan : Scan) → inode_at Little g v i ≡ Some inode → kind_of inode.mode ≡ Directory → HasNoHole g v
+pub scanned_clear : (g : Geometry) (v : Volume) (i : ℕ) (inode : Inode) (scan : Scan) → inode_at g v i ≡ Some inode → kind_of inode.mode ≡ Directory → inode.size < 2 ^ 32 → HasNoHole g v
     → ScannedWhole g inode v scan → ScannedBelow g inode v (block_count g inode) scan
-scanned_clear g v i inode scan is kind none whole =
-    whole.below (not_true scan.hole (λ has. none i (directory_there g v i (HasHole Little g v) inode is kind ((has_hole_decides g inode v scan.hole whole.hole).0 has))))
+scanned_clear g v i inode scan is kind small none whole =
+    whole.below (not_true scan.hole (λ has. none i (directory_there g v i (HasSmallHole g v) inode is kind (small, (has_hole_decides g inode v scan.hole whole.hole).0 has))))
 
 -- an inode that is no directory is passed
-pub directory_passed : (g : Geometry) (v : Volume) (i : ℕ) (faults : DirectoryFaults) → ((holds : Inode → Type 0) → IsDirectory Little g v i holds → ⊥)
+pub directory_passed : (g : Geometry) (v : Volume) (i : ℕ) (faults : DirectoryFaults) → ((holds : Inode → Type 0) → IsDirectory g v i holds → ⊥)
     → AreDirectoryFaultsBelow g v i faults → AreDirectoryFaultsBelow g v (i + 1) faults
 directory_passed g v i faults none so_far = record {
-  hole = least_passed (IsBad Little g v HoleIn) i faults.hole (none (HasHole Little g v)) so_far.hole;
-  chunk = λ holes. least_passed (IsBad Little g v Chunk) i faults.chunk (none (λ inode. (inode.size % 512 ≢ 0) ⊎ HasBadChunk Little g v inode)) (so_far.chunk holes);
-  entry = λ holes. least_passed (IsBad Little g v Entry) i faults.entry (λ h. none (λ inode. (entries_of Little g inode v).value ≡ Ok (h.here.entries)) h.here.are) (so_far.entry holes);
-  entry_type = λ holes. least_passed (IsBad Little g v EntryType) i faults.entry_type (λ h. none (λ inode. (entries_of Little g inode v).value ≡ Ok (h.here.entries)) h.here.are) (so_far.entry_type holes);
+  hole = least_passed (IsBad g v HoleIn) i faults.hole (none (HasSmallHole g v)) so_far.hole;
+  chunk = λ holes. least_passed (IsBad g v Chunk) i faults.chunk (none (HasSmallChunk g v)) (so_far.chunk holes);
+  entry = λ holes. least_passed (IsBad g v Entry) i faults.entry (λ h. none (λ inode. (entries_of g inode v).value ≡ Ok (h.here.entries)) h.here.are) (so_far.entry holes);
+  entry_type = λ holes. least_passed (IsBad g v EntryType) i faults.entry_type (λ h. none (λ inode. (entries_of g inode v).value ≡ Ok (h.here.entries)) h.here.are) (so_far.entry_type holes);
+}
+
+-- of a directory that is too large neither holes nor chunks are judged, and its entries aren't read
+pub long_passed : (g : Geometry) (v : Volume) (i : ℕ) (inode : Inode) (faults : DirectoryFaults) → inode_at g v i ≡ Some inode → kind_of inode.mode ≡ Directory → 2 ^ 32 ≤ inode.size
+    → AreDirectoryFaultsBelow g v i faults → AreDirectoryFaultsBelow g v (i + 1) faults
+long_passed g v i inode faults is kind long so_far = record {
+  hole = least_passed (IsBad g v HoleIn) i faults.hole (λ h. let small = (directory_is g v i (HasSmallHole g v) inode is h).1.0 in absurd (omega arith)) so_far.hole;
+  chunk = λ holes. least_passed (IsBad g v Chunk) i faults.chunk (λ h. let small = (directory_is g v i (HasSmallChunk g v) inode is h).1.0 in absurd (omega arith)) (so_far.chunk holes);
+  entry = λ holes. least_passed (IsBad g v Entry) i faults.entry (λ h. long_unread g v i inode is kind long (h.here.entries) h.here.are) (so_far.entry holes);
+  entry_type = λ holes. least_passed (IsBad g v EntryType) i faults.entry_type (λ h. long_unread g v i inode is kind long (h.here.entries) h.here.are) (so_far.entry_type holes);
 }
 
 -- ---- all inodes
 
 within : (g : Geometry) (v : Volume) (i : ℕ) (low high : Bool) (holds : Inode → Type 0) → nat_le 2 i ≡ low → nat_lt i (g.ncg * g.ipg) ≡ high
-    → MatchOption (if low && high then (inode_of Little g i v).value else None) ⊥ holds → (2 ≤ i) × (i < g.ncg * g.ipg)
+    → MatchOption (if low && high then (inode_of g i v).value else None) ⊥ holds → (2 ≤ i) × (i < g.ncg * g.ipg)
 within g v i true true holds low high h = (grind (arith, nat_tests), grind (arith, nat_tests))
 within g v i true false holds low high h = absurd h
 within g v i false true holds low high h = absurd h
 within g v i false false holds low high h = absurd h
 
 -- an inode that is there is one from 2 to the last
-pub inode_within : (g : Geometry) (v : Volume) (i : ℕ) (holds : Inode → Type 0) → IsInode Little g v i holds → (2 ≤ i) × (i < g.ncg * g.ipg)
+pub inode_within : (g : Geometry) (v : Volume) (i : ℕ) (holds : Inode → Type 0) → IsInode g v i holds → (2 ≤ i) × (i < g.ncg * g.ipg)
 inode_within g v i holds h = within g v i (nat_le 2 i) (nat_lt i (g.ncg * g.ipg)) holds refl refl h
 
-directory_within : (g : Geometry) (v : Volume) (i : ℕ) (holds : Inode → Type 0) → IsDirectory Little g v i holds → (2 ≤ i) × (i < g.ncg * g.ipg)
+directory_within : (g : Geometry) (v : Volume) (i : ℕ) (holds : Inode → Type 0) → IsDirectory g v i holds → (2 ≤ i) × (i < g.ncg * g.ipg)
 directory_within g v i holds h = inode_within g v i (λ inode. (kind_of inode.mode ≡ Directory) × holds inode) h
 
-hole_all : (g : Geometry) (v : Volume) (bound : ℕ) (faults : DirectoryFaults) → g.ncg * g.ipg ≤ bound → IsLeastBelow (IsBad Little g v HoleIn) bound faults.hole → IsLeast (IsBad Little g v HoleIn) faults.hole
-hole_all g v bound faults last so_far = least_all (IsBad Little g v HoleIn) bound faults.hole (λ m h. let low = (directory_within g v m (HasHole Little g v) h).1 in omega arith) so_far
+hole_all : (g : Geometry) (v : Volume) (bound : ℕ) (faults : DirectoryFaults) → g.ncg * g.ipg ≤ bound → IsLeastBelow (IsBad g v HoleIn) bound faults.hole → IsLeast (IsBad g v HoleIn) faults.hole
+hole_all g v bound faults last so_far = least_all (IsBad g v HoleIn) bound faults.hole (λ m h. let low = (directory_within g v m (HasSmallHole g v) h).1 in omega arith) so_far
 
 -- no hole was found
-no_hole : (g : Geometry) (v : Volume) (r : Option ℕ) → IsLeast (IsBad Little g v HoleIn) r → r ≡ None → HasNoHole g v
-no_hole g v r least none = subst (IsLeast (IsBad Little g v HoleIn)) none least
+no_hole : (g : Geometry) (v : Volume) (r : Option ℕ) → IsLeast (IsBad g v HoleIn) r → r ≡ None → HasNoHole g v
+no_hole g v r least none = subst (IsLeast (IsBad g v HoleIn)) none least
 
 -- the least of all are those below the last
 pub directories_all : (g : Geometry) (v : Volume) (bound : ℕ) (faults : DirectoryFaults) → g.ncg * g.ipg ≤ bound → AreDirectoryFaultsBelow g v bound faults → AreDirectoryFaults g v faults
 directories_all g v bound faults last so_far =
     let hole = hole_all g v bound faults last so_far.hole in record {
       hole = hole;
-      chunk = λ none. least_all (IsBad Little g v Chunk) bound faults.chunk
-          (λ m h. let low = (directory_within g v m (λ inode. (inode.size % 512 ≢ 0) ⊎ HasBadChunk Little g v inode) h).1 in omega arith) (so_far.chunk (no_hole g v faults.hole hole none));
-      entry = λ none. least_all (IsBad Little g v Entry) bound faults.entry
-          (λ m h. let low = (directory_within g v m (λ inode. (entries_of Little g inode v).value ≡ Ok (h.here.entries)) h.here.are).1 in omega arith) (so_far.entry (no_hole g v faults.hole hole none));
-      entry_type = λ none. least_all (IsBad Little g v EntryType) bound faults.entry_type
-          (λ m h. let low = (directory_within g v m (λ inode. (entries_of Little g inode v).value ≡ Ok (h.here.entries)) h.here.are).1 in omega arith) (so_far.entry_type (no_hole g v faults.hole hole none));
+      chunk = λ none. least_all (IsBad g v Chunk) bound faults.chunk
+          (λ m h. let low = (directory_within g v m (HasSmallChunk g v) h).1 in omega arith) (so_far.chunk (no_hole g v faults.hole hole none));
+      entry = λ none. least_all (IsBad g v Entry) bound faults.entry
+          (λ m h. let low = (directory_within g v m (λ inode. (entries_of g inode v).value ≡ Ok (h.here.entries)) h.here.are).1 in omega arith) (so_far.entry (no_hole g v faults.hole hole none));
+      entry_type = λ none. least_all (IsBad g v EntryType) bound faults.entry_type
+          (λ m h. let low = (directory_within g v m (λ inode. (entries_of g inode v).value ≡ Ok (h.here.entries)) h.here.are).1 in omega arith) (so_far.entry_type (no_hole g v faults.hole hole none));
     }

@@ -1,17 +1,18 @@
 -- The first of all kinds that are found.
 use Rattle.std.proofs.Common.{◌≡◌, ◌∙◌, ℕ, suc, ◌-◌, ◌<◌, ◌≤◌, inl, inr, lit<, List, [], ◌∷◌, Option, Some, None, refl, sym, ap, true, subst, arith}
-use Rattle.std.specs.Prelude.{slice_get}
+use Rattle.std.specs.Prelude.{MatchOption, slice_get}
 use Rattle.std.proofs.lemmas.Bool.{cases_order}
 use Rattle.ufs_model.specs.Blocks.{Volume}
 use Rattle.ufs_model.specs.Geometries.{IsGeometry}
-use Rattle.ufs_model.specs.Malformations.{IsBad, order_of}
+use Rattle.ufs_model.specs.Malformations.{IsBad, inode_at, order_of}
 use Rattle.ufs_model.specs.declared.geometries.Geometry.{Geometry}
+use Rattle.ufs_model.specs.declared.inodes.Inode.{Inode}
 use Rattle.ufs_model.specs.declared.malformations.BadKind.{BadKind}
 use Rattle.ufs_model.specs.declared.malformations.BadKind.TheVariants.{Super, GroupMagic, GroupMap, WrongType, Filesize, Past, Wild, WildIn, Align, AlignIn, Run, Twice, PastIn, Free, Unused, Hole, Chunk, Entry, EntryType, Dots, Names, DirTwice, RootNamed}
-use Rattle.ufs_model.specs.declared.numbers.Endian.TheVariants.{Little}
 use Rattle.ufs_check.specs.Least.{IsLeast}
 use Rattle.ufs_check.specs.Directories.{AreDirectoryFaults}
 use Rattle.ufs_check.specs.Links.{AreLinkFaults, HasAllEntries}
+use Rattle.ufs_check.specs.Names.{HasNamed}
 use Rattle.ufs_check.specs.Verdicts.{AreFaults, Judges, all_kinds, first_by, found_in, later, no_directory_fault, no_metadata_fault}
 use Rattle.ufs_check.specs.declared.faults.Faults.{Faults}
 use Rattle.ufs_check.specs.declared.verdicts.Verdict.TheVariants.{Sound, Malformed}
@@ -188,7 +189,6 @@ no_directory faults order high none =
 directories_told : (g : Geometry) (v : Volume) (faults : Faults) (order : ℕ) → 15 ≤ order → AreFaults g v faults → NoneBelow (found_in faults) order → AreDirectoryFaults g v faults.directories
 directories_told g v faults order high are none =
     are.directories (no_metadata faults order high none)
-    (not_there (IsBad Little g v Filesize) faults.metadata.inodes.filesize (none Filesize (omega arith)) are.metadata.inodes.filesize)
 
 -- the entries of all directories are read
 entries_all : (g : Geometry) (v : Volume) (faults : Faults) (order : ℕ) → 19 ≤ order → IsGeometry g → AreFaults g v faults → NoneBelow (found_in faults) order → HasAllEntries g v
@@ -196,20 +196,31 @@ entries_all g v faults order high is are none =
     let told = directories_told g v faults order (omega arith) are none in
     let hole : faults.directories.hole ≡ None = none Hole (omega arith) in
     all_entries g v is are.metadata.whole
-    (not_there (IsBad Little g v Filesize) faults.metadata.inodes.filesize (none Filesize (omega arith)) are.metadata.inodes.filesize)
-    (not_there (IsBad Little g v Wild) faults.metadata.inodes.wild (none Wild (omega arith)) are.metadata.inodes.wild)
-    (not_there (IsBad Little g v WildIn) faults.metadata.fragments.wild_in (none WildIn (omega arith)) are.metadata.fragments.wild_in)
-    (not_there (IsBad Little g v Hole) faults.directories.hole hole told.hole)
-    (not_there (IsBad Little g v Chunk) faults.directories.chunk (none Chunk (omega arith)) (told.chunk hole))
+    (not_there (IsBad g v Filesize) faults.metadata.inodes.filesize (none Filesize (omega arith)) are.metadata.inodes.filesize)
+    (not_there (IsBad g v Wild) faults.metadata.inodes.wild (none Wild (omega arith)) are.metadata.inodes.wild)
+    (not_there (IsBad g v WildIn) faults.metadata.fragments.wild_in (none WildIn (omega arith)) are.metadata.fragments.wild_in)
+    (not_there (IsBad g v Hole) faults.directories.hole hole told.hole)
+    (not_there (IsBad g v Chunk) faults.directories.chunk (none Chunk (omega arith)) (told.chunk hole))
+
+named_by : (o : Option Inode) → (o ≡ None → ⊥) → MatchOption o ⊥ (λ _. Unit {0})
+named_by None none = none refl
+named_by (Some inode) none = tt
+
+-- and each of them names an inode
+entries_named : (g : Geometry) (v : Volume) (faults : Faults) (order : ℕ) → 19 ≤ order → AreFaults g v faults → NoneBelow (found_in faults) order → HasNamed g v
+entries_named g v faults order high are none = λ i k entry at.
+    let told = directories_told g v faults order (omega arith) are none in
+    named_by (inode_at g v entry.inode)
+    (λ absent. not_there (IsBad g v Entry) faults.directories.entry (none Entry (omega arith)) (told.entry (none Hole (omega arith))) i (record { k = k; entry = entry; here = at; none = absent }))
 
 -- so links are told
 links_told : (g : Geometry) (v : Volume) (faults : Faults) (order : ℕ) → 19 ≤ order → IsGeometry g → AreFaults g v faults → NoneBelow (found_in faults) order → AreLinkFaults g v faults.links
 links_told g v faults order high is are none =
-    are.links (no_metadata faults order (omega arith) none) (no_directory faults order high none) (entries_all g v faults order high is are none)
+    are.links (no_metadata faults order (omega arith) none) (no_directory faults order high none) (entries_all g v faults order high is are none) (entries_named g v faults order high are none)
 
 -- of each kind, where none of a lower order is found
 least_found : (g : Geometry) (v : Volume) (faults : Faults) (kind : BadKind) → IsGeometry g → AreFaults g v faults → NoneBelow (found_in faults) (order_of kind)
-    → IsLeast (IsBad Little g v kind) (found_in faults kind)
+    → IsLeast (IsBad g v kind) (found_in faults kind)
 least_found g v faults (Super bad) is are none = λ m h. absurd h
 least_found g v faults GroupMagic is are none = are.metadata.groups.magic
 least_found g v faults GroupMap is are none = are.metadata.groups.map
@@ -238,16 +249,16 @@ least_found g v faults RootNamed is are none = (links_told g v faults 22 (lit< t
 
 pub sound_judges : (g : Geometry) (v : Volume) (faults : Faults) → IsGeometry g → AreFaults g v faults → IsFirstBelow (found_in faults) 23 None → Judges g v Sound
 sound_judges g v faults is are none = λ kind n h.
-    not_there (IsBad Little g v kind) (found_in faults kind) (none kind (order_most kind))
+    not_there (IsBad g v kind) (found_in faults kind) (none kind (order_most kind))
     (least_found g v faults kind is are (λ other lt. none other (order_most other))) n h
 
 pub malformed_judges : (g : Geometry) (v : Volume) (faults : Faults) (kind : BadKind) (n : ℕ) → IsGeometry g → AreFaults g v faults → IsFirstBelow (found_in faults) 23 (Some (kind, n))
     → Judges g v (Malformed kind n)
 malformed_judges g v faults kind n is are one =
-    let least = subst (IsLeast (IsBad Little g v kind)) one.found (least_found g v faults kind is are one.none) in record {
+    let least = subst (IsLeast (IsBad g v kind)) one.found (least_found g v faults kind is are one.none) in record {
       here = least.0;
       least = least.1;
       first = λ other m lt h.
-          not_there (IsBad Little g v other) (found_in faults other) (one.none other lt)
+          not_there (IsBad g v other) (found_in faults other) (one.none other lt)
           (least_found g v faults other is are (λ lower below. one.none lower (omega arith))) m h;
     }

@@ -15,14 +15,13 @@ use Rattle.std.proofs.lemmas.Slice.Eq.{bytes_eq-Decides}
 use Rattle.ufs_model.specs.Blocks.{Volume}
 use Rattle.ufs_model.specs.Chunks.{DirEntry}
 use Rattle.ufs_model.specs.Inodes.{kind_of}
-use Rattle.ufs_model.specs.Malformations.{EntryAt, HasEntries, HasSameNames, IsBad, IsPlain, PlainAt, dot, dot_dot, inode_at}
+use Rattle.ufs_model.specs.Malformations.{EntryAt, HasEntries, HasSameNames, IsBad, IsInode, IsPlain, dot, dot_dot, inode_at}
 use Rattle.ufs_model.specs.Paths.{entries_of}
 use Rattle.ufs_model.specs.declared.geometries.Geometry.{Geometry}
 use Rattle.ufs_model.specs.declared.inodes.Inode.{Inode}
 use Rattle.ufs_model.specs.declared.inodes.Kind.TheVariants.{Directory}
 use Rattle.ufs_model.specs.declared.malformations.BadKind.TheVariants.{Names, RootNamed}
-use Rattle.ufs_model.specs.declared.numbers.Endian.TheVariants.{Little}
-use Rattle.ufs_check.specs.Names.{AreNameFaultsBelow, HasSameIn, is_plain, names_root}
+use Rattle.ufs_check.specs.Names.{AreNameFaultsBelow, HasNamed, HasSameIn, is_plain, names_root}
 use Rattle.ufs_check.specs.OwnedEntries.{owned_all, owned_of}
 use Rattle.ufs_check.specs.declared.names.NameFaults.{NameFaults}
 use Rattle.ufs_check.specs.declared.owned_entries.OwnedEntry.{OwnedEntry}
@@ -52,19 +51,19 @@ owned_within entries k entry is = let found = owned_from entries k entry is in s
 -- ---- the entries of a directory
 
 same_read : (g : Geometry) (v : Volume) (o : Option Inode) (entries others : List DirEntry)
-    → MatchOption o ⊥ (λ inode. (kind_of inode.mode ≡ Directory) × ((entries_of Little g inode v).value ≡ Ok entries))
-    → MatchOption o ⊥ (λ inode. (kind_of inode.mode ≡ Directory) × ((entries_of Little g inode v).value ≡ Ok others)) → others ≡ entries
+    → MatchOption o ⊥ (λ inode. (kind_of inode.mode ≡ Directory) × ((entries_of g inode v).value ≡ Ok entries))
+    → MatchOption o ⊥ (λ inode. (kind_of inode.mode ≡ Directory) × ((entries_of g inode v).value ≡ Ok others)) → others ≡ entries
 same_read g v (Some inode) entries others one other = let both : Ok others ≡ Ok entries = sym other.1 ∙ one.1 in cc
 same_read g v None entries others one other = absurd one
 
 -- a directory has one list of entries
-pub same_entries : (g : Geometry) (v : Volume) (i : ℕ) (entries others : List DirEntry) → HasEntries Little g v i entries → HasEntries Little g v i others → others ≡ entries
-same_entries g v i entries others one other = same_read g v (inode_at Little g v i) entries others one other
+pub same_entries : (g : Geometry) (v : Volume) (i : ℕ) (entries others : List DirEntry) → HasEntries g v i entries → HasEntries g v i others → others ≡ entries
+same_entries g v i entries others one other = same_read g v (inode_at g v i) entries others one other
 
-pub entry_at : (g : Geometry) (v : Volume) (i k : ℕ) (entries : List DirEntry) (entry : DirEntry) → HasEntries Little g v i entries → slice_get entries k ≡ Some entry → EntryAt Little g v i k entry
+pub entry_at : (g : Geometry) (v : Volume) (i k : ℕ) (entries : List DirEntry) (entry : DirEntry) → HasEntries g v i entries → slice_get entries k ≡ Some entry → EntryAt g v i k entry
 entry_at g v i k entries entry has here = record { entries = entries; are = has; here = here }
 
-pub entry_here : (g : Geometry) (v : Volume) (i k : ℕ) (entries : List DirEntry) (entry : DirEntry) → HasEntries Little g v i entries → EntryAt Little g v i k entry → slice_get entries k ≡ Some entry
+pub entry_here : (g : Geometry) (v : Volume) (i k : ℕ) (entries : List DirEntry) (entry : DirEntry) → HasEntries g v i entries → EntryAt g v i k entry → slice_get entries k ≡ Some entry
 entry_here g v i k entries entry has at = subst (λ es. slice_get es k ≡ Some entry) (same_entries g v i entries (at.entries) has at.are) at.here
 
 -- ---- the names that were met
@@ -175,18 +174,18 @@ distinct_all entries i end distinct h =
 
 -- ---- plain entries
 
-plain_parts : (g : Geometry) (v : Volume) (entry : DirEntry) → (entry.name ≢ dot) × (entry.name ≢ dot_dot) → IsPlain Little g v entry
+plain_parts : (g : Geometry) (v : Volume) (entry : DirEntry) → (entry.name ≢ dot) × (entry.name ≢ dot_dot) → IsPlain g v entry
 plain_parts g v entry h = record { dot = h.0; dot_dot = h.1 }
 
-pub plain_decides : (g : Geometry) (v : Volume) (entry : DirEntry) → Decides (is_plain entry) (IsPlain Little g v entry)
+pub plain_decides : (g : Geometry) (v : Volume) (entry : DirEntry) → Decides (is_plain entry) (IsPlain g v entry)
 plain_decides g v entry = Decides-like (is_plain entry) (plain_parts g v entry) (λ h. (h.dot, h.dot_dot))
     (Decides-and (not (pointwise ◌==◌ entry.name dot)) (not (pointwise ◌==◌ entry.name dot_dot))
     (Decides-not (pointwise ◌==◌ entry.name dot) (bytes_eq-Decides entry.name dot)) (Decides-not (pointwise ◌==◌ entry.name dot_dot) (bytes_eq-Decides entry.name dot_dot)))
 
 -- ---- what is wrong with the names of one directory
 
-pub names_decides : (g : Geometry) (v : Volume) (i : ℕ) (entries : List DirEntry) (b : Bool) → HasEntries Little g v i entries → Decides b (HasSameIn entries) → Decides b (HasSameNames Little g v i)
-names_decides g v i entries b has decides = Decides-like b
+pub names_decides : (g : Geometry) (v : Volume) (i : ℕ) (entries : List DirEntry) (b : Bool) → HasNamed g v → HasEntries g v i entries → Decides b (HasSameIn entries) → Decides b (HasSameNames g v i)
+names_decides g v i entries b named has decides = Decides-like b
     (λ h. record {
       j = h.j;
       k = h.k;
@@ -195,6 +194,8 @@ names_decides g v i entries b has decides = Decides-like b
       differ = h.differ;
       first = entry_at g v i (h.j) entries (h.one) has h.first;
       second = entry_at g v i (h.k) entries (h.other) has h.second;
+      one_named = named i (h.j) (h.one) (entry_at g v i (h.j) entries (h.one) has h.first);
+      other_named = named i (h.k) (h.other) (entry_at g v i (h.k) entries (h.other) has h.second);
       same = h.same;
     })
     (λ h. record {
@@ -209,32 +210,31 @@ names_decides g v i entries b has decides = Decides-like b
     })
     decides
 
-root_decides : (g : Geometry) (v : Volume) (entry : DirEntry) → Decides (names_root entry) (IsPlain Little g v entry × (entry.inode ≡ 2))
+root_decides : (g : Geometry) (v : Volume) (entry : DirEntry) → Decides (names_root entry) (IsPlain g v entry × (entry.inode ≡ 2))
 root_decides g v entry = Decides-and (is_plain entry) (entry.inode == 2) (plain_decides g v entry) (Decides-eqb entry.inode 2)
 
-pub root_named_decides : (g : Geometry) (v : Volume) (i : ℕ) (entries : List OwnedEntry) → HasEntries Little g v i (owned_all entries)
-    → Decides (list_any (λ entry. names_root (owned_of entry)) entries) ((k : ℕ) × PlainAt Little g v i k 2)
-root_named_decides g v i entries has = (
+pub root_named_decides : (g : Geometry) (v : Volume) (i : ℕ) (entries : List OwnedEntry) → HasNamed g v → HasEntries g v i (owned_all entries)
+    → Decides (list_any (λ entry. names_root (owned_of entry)) entries) (IsBad g v RootNamed i)
+root_named_decides g v i entries named has = (
   λ h. let any = Any-from_list_any (λ entry. names_root (owned_of entry)) entries h in
       let here = slice_get_read entries (length entries) any.0 any.1 refl any.2 (sym any.3) in
-      let root = (root_decides g v (owned_of any.1)).0 any.4 in (
-        any.0,
-        record {
-          entry = owned_of any.1;
-          here = entry_at g v i any.0 (owned_all entries) (owned_of any.1) has (slice_get-map owned_of entries any.0 ∙ ap (option_map owned_of) here);
-          plain = root.0;
-          names = root.1;
-        },
+      let root = (root_decides g v (owned_of any.1)).0 any.4 in
+      let at = entry_at g v i any.0 (owned_all entries) (owned_of any.1) has (slice_get-map owned_of entries any.0 ∙ ap (option_map owned_of) here) in (
+        subst (λ n. IsInode g v n (λ _. Unit {0})) root.1 (named i any.0 (owned_of any.1) at),
+        (any.0, record { entry = owned_of any.1; here = at; plain = root.0; names = root.1 }),
       ),
-  λ h. let found = owned_from entries h.0 (h.1.entry) (entry_here g v i h.0 (owned_all entries) (h.1.entry) has h.1.here) in
-      let root : names_root (owned_of (found.owned)) ≡ true = subst (λ entry. names_root entry ≡ true) (sym found.is) ((root_decides g v (h.1.entry)).1 (h.1.plain, h.1.names)) in
+  λ bad.
+      let k = bad.1.0 in
+      let h = bad.1.1 in
+      let found = owned_from entries k (h.entry) (entry_here g v i k (owned_all entries) (h.entry) has h.here) in
+      let root : names_root (owned_of (found.owned)) ≡ true = subst (λ entry. names_root entry ≡ true) (sym found.is) ((root_decides g v (h.entry)).1 (h.plain, h.names)) in
       list_any-from_Any (λ entry. names_root (owned_of entry)) entries
-      (h.0, found.owned, slice_get_within entries h.0 (found.owned) found.here, get_or_from_slice_get entries h.0 (found.owned) (found.owned) found.here, root),
+      (k, found.owned, slice_get_within entries k (found.owned) found.here, get_or_from_slice_get entries k (found.owned) (found.owned) found.here, root),
 )
 
 -- a directory whose entries aren't read is passed
-pub names_passed : (g : Geometry) (v : Volume) (i : ℕ) (faults : NameFaults) → ((entries : List DirEntry) → HasEntries Little g v i entries → ⊥) → AreNameFaultsBelow g v i faults → AreNameFaultsBelow g v (i + 1) faults
+pub names_passed : (g : Geometry) (v : Volume) (i : ℕ) (faults : NameFaults) → ((entries : List DirEntry) → HasEntries g v i entries → ⊥) → AreNameFaultsBelow g v i faults → AreNameFaultsBelow g v (i + 1) faults
 names_passed g v i faults none so_far = record {
-  names = least_passed (IsBad Little g v Names) i faults.names (λ h. none (h.first.entries) h.first.are) so_far.names;
-  root_named = least_passed (IsBad Little g v RootNamed) i faults.root_named (λ h. none (h.1.here.entries) h.1.here.are) so_far.root_named;
+  names = λ named. least_passed (IsBad g v Names) i faults.names (λ h. none (h.first.entries) h.first.are) (so_far.names named);
+  root_named = λ named. least_passed (IsBad g v RootNamed) i faults.root_named (λ h. none (h.1.1.here.entries) h.1.1.here.are) (so_far.root_named named);
 }

@@ -12,8 +12,8 @@ use Rattle.ufs_model.specs.Paths.{block_of, bytes_in_block, chunks_in, directory
 use Rattle.ufs_model.specs.declared.geometries.Geometry.{Geometry}
 use Rattle.ufs_model.specs.declared.inodes.Inode.{Inode}
 use Rattle.ufs_model.specs.declared.inodes.Kind.TheVariants.{Directory}
-use Rattle.ufs_model.specs.declared.numbers.Endian.TheVariants.{Little}
-use Rattle.ufs_model.specs.declared.reads.BadRead.TheVariants.{Chunk as BadChunk, Filesize as BadFilesize}
+use Rattle.ufs_model.specs.declared.numbers.Endian.{Endian}
+use Rattle.ufs_model.specs.declared.reads.BadRead.TheVariants.{Chunk as BadChunk}
 use Rattle.ufs_model.specs.declared.reads.PathRefusal.{PathRefusal}
 use Rattle.ufs_model.specs.declared.reads.PathRefusal.TheVariants.{Bad}
 use Rattle.ufs_check.specs.Directories.{chunks_said, entries_said}
@@ -45,23 +45,23 @@ if_gone Gone P Q more h = more h
 
 -- ---- one file block
 
-pub refused_unread : (chunks : List (List ℕ)) → list_any is_refused chunks ≡ true → (entries : List DirEntry) → entries_through Little chunks ≡ Ok entries → ⊥
-refused_unread chunks some entries is = let no : Err (Bad BadChunk) ≡ Ok entries = sym (through_refused chunks some) ∙ is in cc
+pub refused_unread : (endian : Endian) (chunks : List (List ℕ)) → list_any (is_refused endian) chunks ≡ true → (entries : List DirEntry) → entries_through endian chunks ≡ Ok entries → ⊥
+refused_unread endian chunks some entries is = let no : Err (Bad BadChunk) ≡ Ok entries = sym (through_refused endian chunks some) ∙ is in cc
 
-pub block_gathers : (k : ℕ) (bytes : List ℕ) (value : Result (Option (List ℕ)) PathRefusal) (gathered : Gathered) (old new : List DirEntry) → Ok (Some bytes) ≡ value
-    → Gathers gathered (entries_through Little (chunks_in k bytes)) old new → Gathers gathered (entries_said (chunks_said k value)) old new
-block_gathers k bytes value gathered old new is h = subst (λ value. Gathers gathered (entries_said (chunks_said k value)) old new) is h
+pub block_gathers : (endian : Endian) (k : ℕ) (bytes : List ℕ) (value : Result (Option (List ℕ)) PathRefusal) (gathered : Gathered) (old new : List DirEntry) → Ok (Some bytes) ≡ value
+    → Gathers gathered (entries_through endian (chunks_in k bytes)) old new → Gathers gathered (entries_said endian (chunks_said k value)) old new
+block_gathers endian k bytes value gathered old new is h = subst (λ value. Gathers gathered (entries_said endian (chunks_said k value)) old new) is h
 
 -- ---- one file block after the other
 
-pub gathers_none : (g : Geometry) (inode : Inode) (v : Volume) (old : List DirEntry) → GathersAll ((entries_before Little g inode 0 v).value) old old
+pub gathers_none : (g : Geometry) (inode : Inode) (v : Volume) (old : List DirEntry) → GathersAll ((entries_before g inode 0 v).value) old old
 unfolding entries_before
 gathers_none g inode v old = record { added = []; said_is = refl; new_is = sym (append-nil old) }
 
 said_next : (g : Geometry) (inode : Inode) (n : ℕ) (v : Volume)
-    → (entries_before Little g inode (suc n) v).value
-    ≡ joined ((entries_before Little g inode n v).value) (entries_said (chunks_said (bytes_in_block g inode n / 512) ((block_of Little g inode n v).value)))
-said_next g inode n v = before_next g inode n v ∙ ap (λ chunks. joined ((entries_before Little g inode n v).value) (entries_said chunks)) (chunks_value g inode n v)
+    → (entries_before g inode (suc n) v).value
+    ≡ joined ((entries_before g inode n v).value) (entries_said g.endian (chunks_said (bytes_in_block g inode n / 512) ((block_of g inode n v).value)))
+said_next g inode n v = before_next g inode n v ∙ ap (λ chunks. joined ((entries_before g inode n v).value) (entries_said g.endian chunks)) (chunks_value g inode n v)
 
 joined_ok : (front said : Result (List DirEntry) PathRefusal) (some more : List DirEntry) → front ≡ Ok some → said ≡ Ok more → joined front said ≡ Ok (some ++ more)
 joined_ok front said some more one two = rw (one, two) refl
@@ -75,9 +75,9 @@ joined_said (Ok some) (Ok more) entries is none = none more refl
 joined_said (Ok some) (Err refusal) entries is none = let no : Err refusal ≡ Ok entries = is in cc
 joined_said (Err refusal) said entries is none = let no : Err refusal ≡ Ok entries = is in cc
 
-pub gathers_next : (g : Geometry) (inode : Inode) (n : ℕ) (v : Volume) (old now new : List DirEntry) → GathersAll ((entries_before Little g inode n v).value) old now
-    → GathersAll (entries_said (chunks_said (bytes_in_block g inode n / 512) ((block_of Little g inode n v).value))) now new
-    → GathersAll ((entries_before Little g inode (n + 1) v).value) old new
+pub gathers_next : (g : Geometry) (inode : Inode) (n : ℕ) (v : Volume) (old now new : List DirEntry) → GathersAll ((entries_before g inode n v).value) old now
+    → GathersAll (entries_said g.endian (chunks_said (bytes_in_block g inode n / 512) ((block_of g inode n v).value))) now new
+    → GathersAll ((entries_before g inode (n + 1) v).value) old new
 gathers_next g inode n v old now new so_far one = rw add-one (record {
   added = so_far.added ++ one.added;
   said_is = said_next g inode n v ∙ joined_ok _ _ (so_far.added) (one.added) so_far.said_is one.said_is;
@@ -86,7 +86,7 @@ gathers_next g inode n v old now new so_far one = rw add-one (record {
 
 -- the entries of a front aren't read
 abbrev Unreadable : Geometry → Inode → Volume → ℕ → Type 0
-Unreadable g inode v n = (entries : List DirEntry) → (entries_before Little g inode n v).value ≡ Ok entries → ⊥
+Unreadable g inode v n = (entries : List DirEntry) → (entries_before g inode n v).value ≡ Ok entries → ⊥
 
 unread_more : (g : Geometry) (inode : Inode) (v : Volume) (n m : ℕ) → n ≤ m → Unreadable g inode v n → Unreadable g inode v m
 unread_more g inode v n zero le none = let same : n ≡ zero = omega arith in subst (Unreadable g inode v) same none
@@ -99,36 +99,26 @@ unread_more g inode v n (suc m) le none = elim (cases_order n (suc m)) [
 ]
 
 pub unread_from : (g : Geometry) (inode : Inode) (v : Volume) (n m : ℕ) → n < m
-    → ((entries : List DirEntry) → entries_said (chunks_said (bytes_in_block g inode n / 512) ((block_of Little g inode n v).value)) ≡ Ok entries → ⊥)
-    → (entries : List DirEntry) → (entries_before Little g inode m v).value ≡ Ok entries → ⊥
+    → ((entries : List DirEntry) → entries_said g.endian (chunks_said (bytes_in_block g inode n / 512) ((block_of g inode n v).value)) ≡ Ok entries → ⊥)
+    → (entries : List DirEntry) → (entries_before g inode m v).value ≡ Ok entries → ⊥
 unread_from g inode v n m lt none =
     unread_more g inode v (suc n) m (omega arith) (λ entries is. joined_said _ _ entries (sym (said_next g inode n v) ∙ is) none)
 
 -- ---- a directory
 
-long_entries : (g : Geometry) (inode : Inode) (v : Volume) → kind_of inode.mode ≡ Directory → 2 ^ 32 ≤ inode.size → (entries_of Little g inode v).value ≡ Err (Bad BadFilesize)
-unfolding entries_of directory_refusal
-long_entries g inode v kind long = let past : nat_le (2 ^ 32) inode.size ≡ true = grind (arith, nat_tests) in rw (kind, past) refl
-
-pub long_unread : (g : Geometry) (v : Volume) (i : ℕ) (inode : Inode) → inode_at Little g v i ≡ Some inode → kind_of inode.mode ≡ Directory → 2 ^ 32 ≤ inode.size
-    → (entries : List DirEntry) → HasEntries Little g v i entries → ⊥
-long_unread g v i inode is kind long entries has =
-    let value = (directory_is g v i (λ inode. (entries_of Little g inode v).value ≡ Ok entries) inode is has).1 in
-    let no : Err (Bad BadFilesize) ≡ Ok entries = sym (long_entries g inode v kind long) ∙ value in cc
-
-pub torn_unread : (g : Geometry) (v : Volume) (i : ℕ) (inode : Inode) → inode_at Little g v i ≡ Some inode → kind_of inode.mode ≡ Directory → inode.size < 2 ^ 32
-    → (inode.size % 512 == 0) ≡ false → (entries : List DirEntry) → HasEntries Little g v i entries → ⊥
+pub torn_unread : (g : Geometry) (v : Volume) (i : ℕ) (inode : Inode) → inode_at g v i ≡ Some inode → kind_of inode.mode ≡ Directory → inode.size < 2 ^ 32
+    → (inode.size % 512 == 0) ≡ false → (entries : List DirEntry) → HasEntries g v i entries → ⊥
 torn_unread g v i inode is kind small torn entries has =
-    let value = (directory_is g v i (λ inode. (entries_of Little g inode v).value ≡ Ok entries) inode is has).1 in
+    let value = (directory_is g v i (λ inode. (entries_of g inode v).value ≡ Ok entries) inode is has).1 in
     let no : Err (Bad BadChunk) ≡ Ok entries = sym (torn_entries g inode v kind small torn) ∙ value in cc
 
-pub gathers_at : (g : Geometry) (v : Volume) (i : ℕ) (inode : Inode) (gathered : Gathered) (old new : List DirEntry) → inode_at Little g v i ≡ Some inode → kind_of inode.mode ≡ Directory
-    → inode.size < 2 ^ 32 → (inode.size % 512 == 0) ≡ true → Gathers gathered ((entries_before Little g inode (block_count g inode) v).value) old new → GathersAt g v i gathered old new
+pub gathers_at : (g : Geometry) (v : Volume) (i : ℕ) (inode : Inode) (gathered : Gathered) (old new : List DirEntry) → inode_at g v i ≡ Some inode → kind_of inode.mode ≡ Directory
+    → inode.size < 2 ^ 32 → (inode.size % 512 == 0) ≡ true → Gathers gathered ((entries_before g inode (block_count g inode) v).value) old new → GathersAt g v i gathered old new
 gathers_at g v i inode All old new is kind small whole h = record {
   entries = h.added;
   are = entries_are g v i inode (h.added) is kind (whole_entries g inode v kind small whole ∙ h.said_is);
   new_is = h.new_is;
 }
 gathers_at g v i inode Unread old new is kind small whole h = λ entries has.
-    h entries (sym (whole_entries g inode v kind small whole) ∙ (directory_is g v i (λ inode. (entries_of Little g inode v).value ≡ Ok entries) inode is has).1)
+    h entries (sym (whole_entries g inode v kind small whole) ∙ (directory_is g v i (λ inode. (entries_of g inode v).value ≡ Ok entries) inode is has).1)
 gathers_at g v i inode Gone old new is kind small whole h = tt

@@ -15,7 +15,6 @@ use Rattle.ufs_model.specs.Malformations.{EntryAt, HasEntries, IsPlain, PlainAt,
 use Rattle.ufs_model.specs.Paths.{entries_of}
 use Rattle.ufs_model.specs.declared.geometries.Geometry.{Geometry}
 use Rattle.ufs_model.specs.declared.inodes.Kind.TheVariants.{Directory}
-use Rattle.ufs_model.specs.declared.numbers.Endian.TheVariants.{Little}
 use Rattle.ufs_check.specs.Links.{AddsLink, FitsDots, IsEmptyTable, IsUpOf, ParentAt, ParentKept, ParentsBefore, PlainBefore, SetsUp, TableBelow, TwoBefore, UpAt, UpKept, UpsBelow, are_dots, linked}
 use Rattle.ufs_check.specs.Names.{is_plain}
 use Rattle.ufs_check.specs.OwnedEntries.{owned_all}
@@ -58,18 +57,18 @@ before_differ i k d j (inr at) = inr (λ same. let lt = at.1 in absurd (omega ar
 
 -- ---- a plain entry
 
-link_decides : (g : Geometry) (v : Volume) (entry : DirEntry) (n : ℕ) → Decides (is_plain entry && (entry.inode == n)) (IsPlain Little g v entry × (entry.inode ≡ n))
+link_decides : (g : Geometry) (v : Volume) (entry : DirEntry) (n : ℕ) → Decides (is_plain entry && (entry.inode == n)) (IsPlain g v entry × (entry.inode ≡ n))
 link_decides g v entry n = Decides-and (is_plain entry) (entry.inode == n) (plain_decides g v entry) (Decides-eqb entry.inode n)
 
-plain_is : (g : Geometry) (v : Volume) (i k n : ℕ) (entries : List DirEntry) (entry : DirEntry) → HasEntries Little g v i entries → slice_get entries k ≡ Some entry → PlainAt Little g v i k n
-    → IsPlain Little g v entry × (entry.inode ≡ n)
+plain_is : (g : Geometry) (v : Volume) (i k n : ℕ) (entries : List DirEntry) (entry : DirEntry) → HasEntries g v i entries → slice_get entries k ≡ Some entry → PlainAt g v i k n
+    → IsPlain g v entry × (entry.inode ≡ n)
 plain_is g v i k n entries entry has here at =
     let both : Some (at.entry) ≡ Some entry = sym (entry_here g v i k entries (at.entry) has at.here) ∙ here in
     let same : at.entry ≡ entry = cc in
-    (subst (λ e. IsPlain Little g v e) same at.plain, subst (λ (e : DirEntry). e.inode ≡ n) same at.names)
+    (subst (λ e. IsPlain g v e) same at.plain, subst (λ (e : DirEntry). e.inode ≡ n) same at.names)
 
-plain_to : (g : Geometry) (v : Volume) (i k d j n : ℕ) → (d ≡ i) × (j ≡ k) → PlainAt Little g v d j n → PlainAt Little g v i k n
-plain_to g v i k d j n at plain = subst (λ k. PlainAt Little g v i k n) at.1 (subst (λ d. PlainAt Little g v d j n) at.0 plain)
+plain_to : (g : Geometry) (v : Volume) (i k d j n : ℕ) → (d ≡ i) × (j ≡ k) → PlainAt g v d j n → PlainAt g v i k n
+plain_to g v i k d j n at plain = subst (λ k. PlainAt g v i k n) at.1 (subst (λ d. PlainAt g v d j n) at.0 plain)
 
 -- ---- the same entries, before another place
 
@@ -99,7 +98,7 @@ kept_move g v i k m l n (Some parent) to back h = record {
 grown : (g : Geometry) (v : Volume) (i k n d j : ℕ) → PlainBefore g v i k n d j → PlainBefore g v i (k + 1) n d j
 grown g v i k n d j h = record { plain = h.plain; before = before_more i k d j h.before }
 
-shrunk : (g : Geometry) (v : Volume) (i k n : ℕ) → (PlainAt Little g v i k n → ⊥) → (d j : ℕ) → PlainBefore g v i (k + 1) n d j → PlainBefore g v i k n d j
+shrunk : (g : Geometry) (v : Volume) (i k n : ℕ) → (PlainAt g v i k n → ⊥) → (d j : ℕ) → PlainBefore g v i (k + 1) n d j → PlainBefore g v i k n d j
 shrunk g v i k n none d j h = elim (before_or i k d j h.before) [
   | inl before ↦ record { plain = h.plain; before = before }
   | inr at ↦ absurd (none (plain_to g v i k d j n at h.plain))
@@ -120,7 +119,7 @@ alone g v i k n none two =
       | inr apart ↦ apart (first.1 ∙ sym second.1)
     ]
 
-linked_kept : (g : Geometry) (v : Volume) (i k n : ℕ) (kept : Option Parent) → PlainAt Little g v i k n → ParentAt g v i k n kept → ParentKept g v i (k + 1) n (linked kept i)
+linked_kept : (g : Geometry) (v : Volume) (i k n : ℕ) (kept : Option Parent) → PlainAt g v i k n → ParentAt g v i k n kept → ParentKept g v i (k + 1) n (linked kept i)
 linked_kept g v i k n None plain h = record {
   j = k;
   entry = record { plain = plain; before = inr (refl, omega arith) };
@@ -148,18 +147,18 @@ linked_kept g v i k n (Some parent) plain h = record {
   );
 }
 
-next_by : (g : Geometry) (v : Volume) (i k n : ℕ) (entries : List DirEntry) (entry : DirEntry) (old : BTreeMap ℕ Parent) (b : Bool) → HasEntries Little g v i entries → slice_get entries k ≡ Some entry
+next_by : (g : Geometry) (v : Volume) (i k n : ℕ) (entries : List DirEntry) (entry : DirEntry) (old : BTreeMap ℕ Parent) (b : Bool) → HasEntries g v i entries → slice_get entries k ≡ Some entry
     → (is_plain entry && (entry.inode == n)) ≡ b → ParentAt g v i k n (get nat_cmp old n)
     → ParentAt g v i (k + 1) n (if b then Some (linked (get nat_cmp old entry.inode) i) else get nat_cmp old n)
 next_by g v i k n entries entry old true has here is h =
     let parts = (link_decides g v entry n).0 is in
-    let plain : PlainAt Little g v i k n = record { entry = entry; here = entry_at g v i k entries entry has here; plain = parts.0; names = parts.1 } in
+    let plain : PlainAt g v i k n = record { entry = entry; here = entry_at g v i k entries entry has here; plain = parts.0; names = parts.1 } in
     subst (λ m. ParentKept g v i (k + 1) n (linked (get nat_cmp old m) i)) (sym parts.1) (linked_kept g v i k n (get nat_cmp old n) plain h)
 next_by g v i k n entries entry old false has here is h =
     kept_move g v i k i (k + 1) n (get nat_cmp old n) (grown g v i k n)
     (shrunk g v i k n (λ at. let no : true ≡ false = sym ((link_decides g v entry n).1 (plain_is g v i k n entries entry has here at)) ∙ is in cc)) h
 
-pub parents_next : (g : Geometry) (v : Volume) (i k : ℕ) (entries : List DirEntry) (entry : DirEntry) (old new : BTreeMap ℕ Parent) → HasEntries Little g v i entries
+pub parents_next : (g : Geometry) (v : Volume) (i k : ℕ) (entries : List DirEntry) (entry : DirEntry) (old new : BTreeMap ℕ Parent) → HasEntries g v i entries
     → slice_get entries k ≡ Some entry → AddsLink old new i entry → ParentsBefore g v i k old → ParentsBefore g v i (k + 1) new
 parents_next g v i k entries entry old new has here adds so_far = record {
   each = λ n. subst (ParentAt g v i (k + 1) n) (sym (adds n)) (next_by g v i k n entries entry old (is_plain entry && (entry.inode == n)) has here refl (so_far.each n));
@@ -181,26 +180,26 @@ before_last i k d j last (inl less) = elim (cases_order d i) [
 ]
 before_last i k d j last (inr at) = let lt = at.1 in absurd (omega arith)
 
-pub parents_end : (g : Geometry) (v : Volume) (i k : ℕ) (entries : List OwnedEntry) (parents : BTreeMap ℕ Parent) → HasEntries Little g v i (owned_all entries) → length entries ≤ k
+pub parents_end : (g : Geometry) (v : Volume) (i k : ℕ) (entries : List OwnedEntry) (parents : BTreeMap ℕ Parent) → HasEntries g v i (owned_all entries) → length entries ≤ k
     → ParentsBefore g v i k parents → ParentsBefore g v (i + 1) 0 parents
 parents_end g v i k entries parents has end so_far = record {
   each = λ n. kept_move g v i k (i + 1) 0 n (get nat_cmp parents n) (whole g v i k n)
       (λ d j h. record {
         plain = h.plain;
         before = before_last i k d j (λ same.
-            let here = entry_here g v i j (owned_all entries) (h.plain.entry) has (subst (λ d. EntryAt Little g v d j (h.plain.entry)) same h.plain.here) in
+            let here = entry_here g v i j (owned_all entries) (h.plain.entry) has (subst (λ d. EntryAt g v d j (h.plain.entry)) same h.plain.here) in
             let lt = owned_within entries j (h.plain.entry) here in omega arith) h.before;
       })
       (so_far.each n);
 }
 
-pub parents_passed : (g : Geometry) (v : Volume) (i : ℕ) (parents : BTreeMap ℕ Parent) → ((entries : List DirEntry) → HasEntries Little g v i entries → ⊥)
+pub parents_passed : (g : Geometry) (v : Volume) (i : ℕ) (parents : BTreeMap ℕ Parent) → ((entries : List DirEntry) → HasEntries g v i entries → ⊥)
     → ParentsBefore g v i 0 parents → ParentsBefore g v (i + 1) 0 parents
 parents_passed g v i parents none so_far = record {
   each = λ n. kept_move g v i 0 (i + 1) 0 n (get nat_cmp parents n) (whole g v i 0 n)
       (λ d j h. record {
         plain = h.plain;
-        before = before_last i 0 d j (λ same. absurd (none (h.plain.here.entries) (subst (λ d. HasEntries Little g v d (h.plain.here.entries)) same h.plain.here.are))) h.before;
+        before = before_last i 0 d j (λ same. absurd (none (h.plain.here.entries) (subst (λ d. HasEntries g v d (h.plain.here.entries)) same h.plain.here.are))) h.before;
       })
       (so_far.each n);
 }
@@ -218,7 +217,7 @@ dots_fit i entries own up first second is =
 
 -- ---- one more directory
 
-up_more : (g : Geometry) (v : Volume) (i d : ℕ) (kept : Option (Option ℕ)) → ((entries : List DirEntry) → d ≡ i → HasEntries Little g v d entries → ⊥) → UpAt g v i d kept → UpAt g v (i + 1) d kept
+up_more : (g : Geometry) (v : Volume) (i d : ℕ) (kept : Option (Option ℕ)) → ((entries : List DirEntry) → d ≡ i → HasEntries g v d entries → ⊥) → UpAt g v i d kept → UpAt g v (i + 1) d kept
 up_more g v i d None none h = λ entries lt has. elim (cases_order d i) [
   | inl same ↦ none entries same has
   | inr order ↦ elim order [
@@ -228,7 +227,7 @@ up_more g v i d None none h = λ entries lt has. elim (cases_order d i) [
 ]
 up_more g v i d (Some up) none h = record { within = let lt = h.within in omega arith; entries = h.entries; are = h.are; up_is = h.up_is }
 
-up_by : (g : Geometry) (v : Volume) (i d : ℕ) (entries : List DirEntry) (up : Option ℕ) (kept : Option (Option ℕ)) (b : Bool) → HasEntries Little g v i entries → IsUpOf i entries up → (i == d) ≡ b
+up_by : (g : Geometry) (v : Volume) (i d : ℕ) (entries : List DirEntry) (up : Option ℕ) (kept : Option (Option ℕ)) (b : Bool) → HasEntries g v i entries → IsUpOf i entries up → (i == d) ≡ b
     → UpAt g v i d kept → UpAt g v (i + 1) d (if b then Some up else kept)
 up_by g v i d entries up kept true has up_is is h =
     let same = (Decides-eqb i d).0 is in
@@ -236,27 +235,27 @@ up_by g v i d entries up kept true has up_is is h =
 up_by g v i d entries up kept false has up_is is h =
     up_more g v i d kept (λ entries same has. let no : true ≡ false = sym ((Decides-eqb i d).1 (sym same)) ∙ is in cc) h
 
-pub ups_next : (g : Geometry) (v : Volume) (i : ℕ) (entries : List DirEntry) (up : Option ℕ) (old new : BTreeMap ℕ (Option ℕ)) → HasEntries Little g v i entries → IsUpOf i entries up → SetsUp old new i up
+pub ups_next : (g : Geometry) (v : Volume) (i : ℕ) (entries : List DirEntry) (up : Option ℕ) (old new : BTreeMap ℕ (Option ℕ)) → HasEntries g v i entries → IsUpOf i entries up → SetsUp old new i up
     → UpsBelow g v i old → UpsBelow g v (i + 1) new
 ups_next g v i entries up old new has up_is sets so_far = record {
   each = λ d. subst (UpAt g v (i + 1) d) (sym (sets d)) (up_by g v i d entries up (get nat_cmp old d) (i == d) has up_is refl (so_far.each d));
 }
 
-ups_passed : (g : Geometry) (v : Volume) (i : ℕ) (ups : BTreeMap ℕ (Option ℕ)) → ((entries : List DirEntry) → HasEntries Little g v i entries → ⊥) → UpsBelow g v i ups → UpsBelow g v (i + 1) ups
+ups_passed : (g : Geometry) (v : Volume) (i : ℕ) (ups : BTreeMap ℕ (Option ℕ)) → ((entries : List DirEntry) → HasEntries g v i entries → ⊥) → UpsBelow g v i ups → UpsBelow g v (i + 1) ups
 ups_passed g v i ups none so_far = record {
-  each = λ d. up_more g v i d (get nat_cmp ups d) (λ entries same has. none entries (subst (λ d. HasEntries Little g v d entries) same has)) (so_far.each d);
+  each = λ d. up_more g v i d (get nat_cmp ups d) (λ entries same has. none entries (subst (λ d. HasEntries g v d entries) same has)) (so_far.each d);
 }
 
 -- ---- the whole table
 
-pub table_passed : (g : Geometry) (v : Volume) (i : ℕ) (table : LinkTable) → ((entries : List DirEntry) → HasEntries Little g v i entries → ⊥) → TableBelow g v i table → TableBelow g v (i + 1) table
+pub table_passed : (g : Geometry) (v : Volume) (i : ℕ) (table : LinkTable) → ((entries : List DirEntry) → HasEntries g v i entries → ⊥) → TableBelow g v i table → TableBelow g v (i + 1) table
 table_passed g v i table none so_far = record {
   ups = ups_passed g v i table.ups none so_far.ups;
   parents = parents_passed g v i table.parents none so_far.parents;
 }
 
-pub entries_within : (g : Geometry) (v : Volume) (d : ℕ) (entries : List DirEntry) → HasEntries Little g v d entries → (2 ≤ d) × (d < g.ncg * g.ipg)
-entries_within g v d entries has = inode_within g v d (λ inode. (kind_of inode.mode ≡ Directory) × ((entries_of Little g inode v).value ≡ Ok entries)) has
+pub entries_within : (g : Geometry) (v : Volume) (d : ℕ) (entries : List DirEntry) → HasEntries g v d entries → (2 ≤ d) × (d < g.ncg * g.ipg)
+entries_within g v d entries has = inode_within g v d (λ inode. (kind_of inode.mode ≡ Directory) × ((entries_of g inode v).value ≡ Ok entries)) has
 
 none_low : (g : Geometry) (v : Volume) (n d j : ℕ) → PlainBefore g v 2 0 n d j → ⊥
 none_low g v n d j h =

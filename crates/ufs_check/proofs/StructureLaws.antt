@@ -9,10 +9,10 @@ use Rattle.std.proofs.lemmas.Option.{get_or_from_slice_get, slice_get_within}
 use native.Mathlib.Numerals.{unary_clauses}
 use Rattle.std.proofs.Math.Nat.{div-lt_iff_lt-mul, mul-le-mul, mul-le-mul_right, one-mul, pow-suc}
 use Rattle.ufs_model.specs.Blocks.{Consulted, Volume, area_of, bind, block_at}
-use Rattle.ufs_model.specs.Claims.{IsClaim, fragments_at, fragments_from, level_of, pointer_fragments, slot_fragments, slot_fragments_in, targets}
+use Rattle.ufs_model.specs.Claims.{IsClaim, fragments_at, fragments_from, level_of, pointer_fragments, slot_fragments, slot_fragments_in, source_fragments}
 use Rattle.ufs_model.specs.Claims.IsClaim.{by_pointer, by_slot}
 use Rattle.ufs_model.specs.Geometries.{IsGeometry, is_block_size, is_fragment_count}
-use Rattle.ufs_model.specs.Inodes.{has_pointers, inode_of, kind_of, slot_of, span}
+use Rattle.ufs_model.specs.Inodes.{has_pointers, inode_of, is_inode_number, kind_of, slot_of, span}
 use Rattle.ufs_model.specs.Malformations.{FirstBlock, IsDirectory, first_block, inode_at}
 use Rattle.ufs_model.specs.Malformations.FirstBlock.{of_pointer, of_slot}
 use Rattle.ufs_model.specs.Metadata.{IsMetadataBy, IsStructure}
@@ -22,14 +22,14 @@ use Rattle.ufs_model.specs.Metadata.IsStructure.{of_directory, of_metadata as of
 use Rattle.ufs_model.specs.Numbers.{number_at}
 use Rattle.ufs_model.specs.Paths.{block_of, bytes_at}
 use Rattle.ufs_model.specs.Pointers.{address, chain_address, file_block_of, indirect_of, is_data_run, locate_of, pointer_in, slot_address, through}
-use Rattle.ufs_model.specs.Roles.{is_within}
 use Rattle.ufs_model.specs.Superblocks.{geometry_of}
 use Rattle.ufs_model.specs.declared.claims.ClaimSource.{ClaimSource}
 use Rattle.ufs_model.specs.declared.claims.ClaimSource.TheVariants.{Pointer, Slot}
 use Rattle.ufs_model.specs.declared.geometries.Geometry.{Geometry}
 use Rattle.ufs_model.specs.declared.inodes.Inode.{Inode}
 use Rattle.ufs_model.specs.declared.inodes.Kind.TheVariants.{Directory}
-use Rattle.ufs_model.specs.declared.numbers.Endian.TheVariants.{Little}
+use Rattle.ufs_model.specs.declared.numbers.Endian.{Endian}
+use Rattle.ufs_model.specs.declared.numbers.Endian.TheVariants.{Big, Little}
 use Rattle.ufs_model.specs.declared.pointers.Address.{Address}
 use Rattle.ufs_model.specs.declared.pointers.Address.TheVariants.{At, Hole, Wild}
 use Rattle.ufs_model.specs.declared.pointers.Chain.{Chain}
@@ -72,9 +72,24 @@ area_at l a (suc k) q r v whole low inside = elim (cases_order q k) [
 ]
 
 -- four bytes that are the same in two lists
-same_number : (xs ys : List ℕ) (i j : ℕ) → ((m : ℕ) → m < 4 → get_or xs (i + m) 0 ≡ get_or ys (j + m) 0) → number_at Little 4 xs i ≡ number_at Little 4 ys j
+same_number : (endian : Endian) (xs ys : List ℕ) (i j : ℕ) → ((m : ℕ) → m < 4 → get_or xs (i + m) 0 ≡ get_or ys (j + m) 0) → number_at endian 4 xs i ≡ number_at endian 4 ys j
 unfolding number_at
-same_number xs ys i j same =
+same_number Little xs ys i j same =
+    rw (
+      get_or-drop i xs 0 0,
+      get_or-drop i xs 1 0,
+      get_or-drop i xs 2 0,
+      get_or-drop i xs 3 0,
+      same 0 (omega arith),
+      same 1 (omega arith),
+      same 2 (omega arith),
+      same 3 (omega arith),
+      get_or-drop j ys 0 0,
+      get_or-drop j ys 1 0,
+      get_or-drop j ys 2 0,
+      get_or-drop j ys 3 0,
+    ) refl
+same_number Big xs ys i j same =
     rw (
       get_or-drop i xs 0 0,
       get_or-drop i xs 1 0,
@@ -94,13 +109,13 @@ scaled : (l f q : ℕ) → l ≡ 4 * f → q * l ≡ 4 * (f * q)
 scaled l f q is = rw is (omega arith)
 
 -- a pointer of an indirect block stands in one of its fragments
-pub pointer_at_fragment : (l a k p : ℕ) (v : Volume) → ((j : ℕ) → j < k → length (block_at l v (a + j)) ≡ l) → l ≡ 4 * (l / 4) → 0 < l / 4 → p / (l / 4) < k
-    → pointer_in Little ((area_of l a k v).value) p ≡ pointer_in Little (block_at l v (a + p / (l / 4))) (p % (l / 4))
-pointer_at_fragment l a k p v whole fours some low =
+pub pointer_at_fragment : (endian : Endian) (l a k p : ℕ) (v : Volume) → ((j : ℕ) → j < k → length (block_at l v (a + j)) ≡ l) → l ≡ 4 * (l / 4) → 0 < l / 4 → p / (l / 4) < k
+    → pointer_in endian ((area_of l a k v).value) p ≡ pointer_in endian (block_at l v (a + p / (l / 4))) (p % (l / 4))
+pointer_at_fragment endian l a k p v whole fours some low =
     let split : l / 4 * (p / (l / 4)) + p % (l / 4) ≡ p = omega arith in
     let small : p % (l / 4) < l / 4 = omega arith in
     let product : p / (l / 4) * l ≡ 4 * (l / 4 * (p / (l / 4))) = scaled l (l / 4) (p / (l / 4)) fours in
-    same_number ((area_of l a k v).value) (block_at l v (a + p / (l / 4))) (4 * p) (4 * (p % (l / 4))) (λ m lt.
+    same_number endian ((area_of l a k v).value) (block_at l v (a + p / (l / 4))) (4 * p) (4 * (p % (l / 4))) (λ m lt.
     let place : 4 * p + m ≡ p / (l / 4) * l + (4 * (p % (l / 4)) + m) = omega arith in
     rw place (area_at l a k (p / (l / 4)) (4 * (p % (l / 4)) + m) v whole low (omega arith)))
 
@@ -135,10 +150,10 @@ area_have l a k b v h = let range = area_range l a k b v h in fragments_have a k
 
 pub record IsReached (g : Geometry) (v : Volume) (i level : ℕ) (source : ClaimSource) (address : Address) : Type 0 where
   pub first : ℕ
-  pub owner : FirstBlock Little g v source i first
+  pub owner : FirstBlock g v source i first
   pub of_level : level_of source ≡ level
-  pub are : targets Little g v source ≡ fragments_at address
-  pub claims : (f : ℕ) → Contains (fragments_at address) f → IsClaim (targets Little g v) f source
+  pub are : source_fragments g v source ≡ fragments_at address
+  pub claims : (f : ℕ) → Contains (fragments_at address) f → IsClaim (source_fragments g v) f source
 
 -- where an address leads to fragments, they are claimed at a level; above 0 they are a whole file block
 pub record IsClaimed (g : Geometry) (v : Volume) (i level : ℕ) (address : Address) : Type 0 where
@@ -159,18 +174,18 @@ slot_by : (g : Geometry) (slot : ℕ) (inode : Inode) (within : Bool) (found : O
 slot_by g slot inode true found is = rw is refl
 slot_by g slot inode false found is = let no : None ≡ Some inode = is in cc
 
-slot_targets : (g : Geometry) (v : Volume) (i slot : ℕ) (inode : Inode) → inode_at Little g v i ≡ Some inode → has_pointers g inode ≡ true → slot < 15
-    → targets Little g v (Slot i slot) ≡ fragments_at (slot_address g inode slot)
-unfolding targets slot_fragments
+slot_targets : (g : Geometry) (v : Volume) (i slot : ℕ) (inode : Inode) → inode_at g v i ≡ Some inode → has_pointers g inode ≡ true → slot < 15
+    → source_fragments g v (Slot i slot) ≡ fragments_at (slot_address g inode slot)
+unfolding source_fragments slot_fragments
 slot_targets g v i slot inode is pointers low =
     let within : nat_lt slot 15 ≡ true = grind (arith, nat_tests) in
-    slot_by g slot inode (is_within 2 (g.ncg * g.ipg) i) ((inode_of Little g i v).value) is ∙ rw (pointers, within) refl
+    slot_by g slot inode (is_inode_number g i) ((inode_of g i v).value) is ∙ rw (pointers, within) refl
 
 slot_whole : (g : Geometry) (inode : Inode) (slot : ℕ) → 12 ≤ slot → span g inode slot ≡ g.frag
 unfolding span
 slot_whole g inode slot high = let past : nat_le 12 slot ≡ true = grind (arith, nat_tests) in rw past refl
 
-pub slot_claimed : (g : Geometry) (v : Volume) (i slot : ℕ) (inode : Inode) → inode_at Little g v i ≡ Some inode → has_pointers g inode ≡ true → slot < 15
+pub slot_claimed : (g : Geometry) (v : Volume) (i slot : ℕ) (inode : Inode) → inode_at g v i ≡ Some inode → has_pointers g inode ≡ true → slot < 15
     → IsClaimed g v i (slot - 11) (slot_address g inode slot)
 slot_claimed g v i slot inode is pointers low = record {
   reached = λ a k at.
@@ -182,8 +197,8 @@ slot_claimed g v i slot inode is pointers low = record {
 -- ---- through an indirect block
 
 pointer_targets : (g : Geometry) (v : Volume) (f level at : ℕ) → at < g.fsize / 4
-    → targets Little g v (Pointer f level at) ≡ fragments_at (address g (pointer_in Little (block_at g.fsize v f) at) g.frag)
-unfolding targets pointer_fragments
+    → source_fragments g v (Pointer f level at) ≡ fragments_at (address g (pointer_in g.endian (block_at g.fsize v f) at) g.frag)
+unfolding source_fragments pointer_fragments
 pointer_targets g v f level at low = let within : nat_lt at (g.fsize / 4) ≡ true = grind (arith, nat_tests) in rw within refl
 
 -- the fragments of an indirect block have their bytes
@@ -194,16 +209,16 @@ upper_blocks g v i level a source whole one j low =
     whole (a + j) source (one.claims (a + j) (fragments_have a g.frag (a + j) (omega arith) (omega arith))) (omega arith)
 
 through_reached : (g : Geometry) (v : Volume) (i level p a b j : ℕ) (source : ClaimSource) → HasWholeUppers g v → g.fsize ≡ 4 * (g.fsize / 4) → 0 < g.fsize / 4 → p / (g.fsize / 4) < g.frag
-    → IsReached g v i (suc level) source (At a g.frag) → address g (pointer_in Little ((area_of g.fsize a g.frag v).value) p) g.frag ≡ At b j
+    → IsReached g v i (suc level) source (At a g.frag) → address g (pointer_in g.endian ((area_of g.fsize a g.frag v).value) p) g.frag ≡ At b j
     → IsReached g v i level (Pointer (a + p / (g.fsize / 4)) (suc level) (p % (g.fsize / 4))) (At b j)
 through_reached g v i level p a b j source whole fours some low one is =
     let f = a + p / (g.fsize / 4) in
     let at = p % (g.fsize / 4) in
     let inside : p % (g.fsize / 4) < g.fsize / 4 = omega arith in
-    let same = pointer_at_fragment g.fsize a g.frag p v (upper_blocks g v i level a source whole one) fours some low in
-    let are : targets Little g v (Pointer (a + p / (g.fsize / 4)) (suc level) (p % (g.fsize / 4))) ≡ fragments_at (At b j) =
+    let same = pointer_at_fragment g.endian g.fsize a g.frag p v (upper_blocks g v i level a source whole one) fours some low in
+    let are : source_fragments g v (Pointer (a + p / (g.fsize / 4)) (suc level) (p % (g.fsize / 4))) ≡ fragments_at (At b j) =
     pointer_targets g v f (suc level) at inside ∙ ap (λ pointer. fragments_at (address g pointer g.frag)) (sym same) ∙ ap fragments_at is in
-    let upper : slice_get (targets Little g v source) (p / (g.fsize / 4)) ≡ Some (a + p / (g.fsize / 4)) = rw one.are (fragments_get a g.frag (p / (g.fsize / 4)) low) in
+    let upper : slice_get (source_fragments g v source) (p / (g.fsize / 4)) ≡ Some (a + p / (g.fsize / 4)) = rw one.are (fragments_get a g.frag (p / (g.fsize / 4)) low) in
     record {
       first = one.first + (p / (g.fsize / 4) * (g.fsize / 4) + p % (g.fsize / 4)) * g.nindir ^ (suc level - 1);
       owner = of_pointer (p / (g.fsize / 4)) one.owner upper one.of_level (omega arith);
@@ -213,7 +228,7 @@ through_reached g v i level p a b j source whole fours some low one is =
     }
 
 pub through_claimed : (g : Geometry) (v : Volume) (i level p : ℕ) (at : Address) → HasWholeUppers g v → g.fsize ≡ 4 * (g.fsize / 4) → 0 < g.fsize / 4 → p / (g.fsize / 4) < g.frag
-    → IsClaimed g v i (suc level) at → IsClaimed g v i level ((through Little g p at v).value)
+    → IsClaimed g v i (suc level) at → IsClaimed g v i level ((through g p at v).value)
 unfolding through bind
 through_claimed g v i level p Hole whole fours some low one =
     record { reached = λ a k is. let no : Hole ≡ At a k = is in cc; whole = λ above a k is. let no : Hole ≡ At a k = is in cc }
@@ -226,12 +241,12 @@ through_claimed g v i level p (At a k) whole fours some low one =
     record {
       reached = λ b j is. (
         Pointer (a + p / (g.fsize / 4)) (suc level) (p % (g.fsize / 4)),
-        through_reached g v i level p a b j reached.0 whole fours some low upper (subst (λ k. address g (pointer_in Little ((area_of g.fsize a k v).value) p) g.frag ≡ At b j) same is),
+        through_reached g v i level p a b j reached.0 whole fours some low upper (subst (λ k. address g (pointer_in g.endian ((area_of g.fsize a k v).value) p) g.frag ≡ At b j) same is),
       );
-      whole = λ above b j is. address_span g (pointer_in Little ((area_of g.fsize a k v).value) p) g.frag b j is;
+      whole = λ above b j is. address_span g (pointer_in g.endian ((area_of g.fsize a k v).value) p) g.frag b j is;
     }
 
-through_needs : (g : Geometry) (v : Volume) (i level p b : ℕ) (at : Address) → IsClaimed g v i (suc level) at → Contains ((through Little g p at v).needs) b → IsMetadataBy Little g v b
+through_needs : (g : Geometry) (v : Volume) (i level p b : ℕ) (at : Address) → IsClaimed g v i (suc level) at → Contains ((through g p at v).needs) b → IsMetadataBy g v b
 unfolding through bind
 through_needs g v i level p b Hole one h = let lt = h.1 in absurd (omega arith)
 through_needs g v i level p b Wild one h = let lt = h.1 in absurd (omega arith)
@@ -312,16 +327,16 @@ chain_bounds g n is small =
 -- what a chain leads to is claimed as data, and it goes through indirect blocks alone
 record IsChained (g : Geometry) (v : Volume) (i : ℕ) (reading : Consulted Address) : Type 0 where
   claimed : IsClaimed g v i 0 reading.value
-  needs : (b : ℕ) → Contains reading.needs b → IsMetadataBy Little g v b
+  needs : (b : ℕ) → Contains reading.needs b → IsMetadataBy g v b
 
 -- the facts of an inode with pointers
 pub record IsOwner (g : Geometry) (v : Volume) (i : ℕ) (inode : Inode) : Type 0 where
   pub geometry : IsGeometry g
   pub whole : HasWholeUppers g v
-  pub there : inode_at Little g v i ≡ Some inode
+  pub there : inode_at g v i ≡ Some inode
   pub pointers : has_pointers g inode ≡ true
 
-chain_by : (g : Geometry) (v : Volume) (i : ℕ) (inode : Inode) (chain : Chain) → IsOwner g v i inode → IsChain g.nindir chain → IsChained g v i (chain_address Little g inode chain v)
+chain_by : (g : Geometry) (v : Volume) (i : ℕ) (inode : Inode) (chain : Chain) → IsOwner g v i inode → IsChain g.nindir chain → IsChained g v i (chain_address g inode chain v)
 unfolding bind
 chain_by g v i inode (Direct slot) owner low = record {
   claimed = let none : slot - 11 ≡ 0 = omega arith in subst (λ level. IsClaimed g v i level (slot_address g inode slot)) none (slot_claimed g v i slot inode owner.there owner.pointers (omega arith));
@@ -339,31 +354,31 @@ chain_by g v i inode (Two p q) owner low =
     let top = slot_claimed g v i 13 inode owner.there owner.pointers (lit< tt) in
     let one = through_claimed g v i 1 p (slot_address g inode 13) owner.whole quarter.0 quarter.1 (place_below g p owner.geometry low.0) top in
     record {
-      claimed = through_claimed g v i 0 q ((through Little g p (slot_address g inode 13) v).value) owner.whole quarter.0 quarter.1 (place_below g q owner.geometry low.1) one;
-      needs = λ b h. elim (Contains-append_cases ((through Little g p (slot_address g inode 13) v).needs) ((through Little g q ((through Little g p (slot_address g inode 13) v).value) v).needs) b h) [
+      claimed = through_claimed g v i 0 q ((through g p (slot_address g inode 13) v).value) owner.whole quarter.0 quarter.1 (place_below g q owner.geometry low.1) one;
+      needs = λ b h. elim (Contains-append_cases ((through g p (slot_address g inode 13) v).needs) ((through g q ((through g p (slot_address g inode 13) v).value) v).needs) b h) [
         | inl first ↦ through_needs g v i 1 p b (slot_address g inode 13) top first
-        | inr second ↦ through_needs g v i 0 q b ((through Little g p (slot_address g inode 13) v).value) one second
+        | inr second ↦ through_needs g v i 0 q b ((through g p (slot_address g inode 13) v).value) one second
       ];
     }
 chain_by g v i inode (Three p q r) owner low =
     let quarter = quarters g owner.geometry in
     let top = slot_claimed g v i 14 inode owner.there owner.pointers (lit< tt) in
     let two = through_claimed g v i 2 p (slot_address g inode 14) owner.whole quarter.0 quarter.1 (place_below g p owner.geometry low.0) top in
-    let one = through_claimed g v i 1 q ((through Little g p (slot_address g inode 14) v).value) owner.whole quarter.0 quarter.1 (place_below g q owner.geometry low.1) two in
+    let one = through_claimed g v i 1 q ((through g p (slot_address g inode 14) v).value) owner.whole quarter.0 quarter.1 (place_below g q owner.geometry low.1) two in
     record {
-      claimed = through_claimed g v i 0 r ((through Little g q ((through Little g p (slot_address g inode 14) v).value) v).value) owner.whole quarter.0 quarter.1 (place_below g r owner.geometry low.2) one;
-      needs = λ b h. elim (Contains-append_cases ((through Little g p (slot_address g inode 14) v).needs)
-          ((through Little g q ((through Little g p (slot_address g inode 14) v).value) v).needs ++ (through Little g r ((through Little g q ((through Little g p (slot_address g inode 14) v).value) v).value) v).needs) b h) [
+      claimed = through_claimed g v i 0 r ((through g q ((through g p (slot_address g inode 14) v).value) v).value) owner.whole quarter.0 quarter.1 (place_below g r owner.geometry low.2) one;
+      needs = λ b h. elim (Contains-append_cases ((through g p (slot_address g inode 14) v).needs)
+          ((through g q ((through g p (slot_address g inode 14) v).value) v).needs ++ (through g r ((through g q ((through g p (slot_address g inode 14) v).value) v).value) v).needs) b h) [
             | inl first ↦ through_needs g v i 2 p b (slot_address g inode 14) top first
-            | inr others ↦ elim (Contains-append_cases ((through Little g q ((through Little g p (slot_address g inode 14) v).value) v).needs)
-                ((through Little g r ((through Little g q ((through Little g p (slot_address g inode 14) v).value) v).value) v).needs) b others) [
-                  | inl second ↦ through_needs g v i 1 q b ((through Little g p (slot_address g inode 14) v).value) two second
-                  | inr third ↦ through_needs g v i 0 r b ((through Little g q ((through Little g p (slot_address g inode 14) v).value) v).value) one third
+            | inr others ↦ elim (Contains-append_cases ((through g q ((through g p (slot_address g inode 14) v).value) v).needs)
+                ((through g r ((through g q ((through g p (slot_address g inode 14) v).value) v).value) v).needs) b others) [
+                  | inl second ↦ through_needs g v i 1 q b ((through g p (slot_address g inode 14) v).value) two second
+                  | inr third ↦ through_needs g v i 0 r b ((through g q ((through g p (slot_address g inode 14) v).value) v).value) one third
                 ]
           ];
     }
 
-file_block_chained : (g : Geometry) (v : Volume) (i n : ℕ) (inode : Inode) → IsOwner g v i inode → n < 2 ^ 30 → IsChained g v i (file_block_of Little g inode n v)
+file_block_chained : (g : Geometry) (v : Volume) (i n : ℕ) (inode : Inode) → IsOwner g v i inode → n < 2 ^ 30 → IsChained g v i (file_block_of g inode n v)
 unfolding file_block_of
 file_block_chained g v i n inode owner small = chain_by g v i inode (locate_of g n) owner (chain_bounds g n owner.geometry small)
 
@@ -384,15 +399,15 @@ bytes_need g v b (At a k) h = elim (Contains-append_cases ((area_of g.fsize a k 
   | inr none ↦ let lt = none.1 in absurd (omega arith)
 ]
 
-block_needs : (g : Geometry) (inode : Inode) (n b : ℕ) (v : Volume) → Contains ((block_of Little g inode n v).needs) b
-    → Contains ((file_block_of Little g inode n v).needs) b ⊎ Contains ((bytes_at g ((file_block_of Little g inode n v).value) v).needs) b
+block_needs : (g : Geometry) (inode : Inode) (n b : ℕ) (v : Volume) → Contains ((block_of g inode n v).needs) b
+    → Contains ((file_block_of g inode n v).needs) b ⊎ Contains ((bytes_at g ((file_block_of g inode n v).value) v).needs) b
 unfolding block_of bind
-block_needs g inode n b v h = Contains-append_cases ((file_block_of Little g inode n v).needs) ((bytes_at g ((file_block_of Little g inode n v).value) v).needs) b h
+block_needs g inode n b v h = Contains-append_cases ((file_block_of g inode n v).needs) ((bytes_at g ((file_block_of g inode n v).value) v).needs) b h
 
 -- ---- the blocks that are read
 
-file_structure : (l m : ℕ) (g : Geometry) (v : Volume) (i b : ℕ) (inode : Inode) → (geometry_of Little l m v).value ≡ Ok g → IsOwner g v i inode → IsDirectory Little g v i (λ inode. Unit {0}) → inode.size < 2 ^ 32
-    → IsFileRead g inode v b → IsStructure Little l m v b
+file_structure : (l m : ℕ) (g : Geometry) (v : Volume) (i b : ℕ) (inode : Inode) → (geometry_of l m v).value ≡ Ok g → IsOwner g v i inode → IsDirectory g v i (λ inode. Unit {0}) → inode.size < 2 ^ 32
+    → IsFileRead g inode v b → IsStructure l m v b
 file_structure l m g v i b inode has owner directory small (of_metadata is) = of_structure_metadata (by_geometry g has is)
 file_structure l m g v i b inode has owner directory small (of_file n low needs) =
     let few = count_few inode.size g.bsize (let size = owner.geometry.bsize in size.1) small in
@@ -400,20 +415,20 @@ file_structure l m g v i b inode has owner directory small (of_file n low needs)
     elim (block_needs g inode n b v needs) [
       | inl upper ↦ of_structure_metadata (by_geometry g has (chained.needs b upper))
       | inr bytes ↦
-          let here = bytes_need g v b ((file_block_of Little g inode n v).value) bytes in
+          let here = bytes_need g v b ((file_block_of g inode n v).value) bytes in
           let reached = chained.claimed.reached here.start here.count here.are in
           let claim = reached.1.claims b here.here in
           of_directory g i (reached.1.first) reached.0 has directory claim reached.1.owner
     ]
 
-directory_structure : (l m : ℕ) (g : Geometry) (v : Volume) (i b : ℕ) (found : Option Inode) → (geometry_of Little l m v).value ≡ Ok g → IsGeometry g → HasWholeUppers g v → inode_at Little g v i ≡ found
-    → MatchOption found ⊥ (λ inode. (kind_of inode.mode ≡ Directory) × IsSmallRead g v b inode) → IsStructure Little l m v b
+directory_structure : (l m : ℕ) (g : Geometry) (v : Volume) (i b : ℕ) (found : Option Inode) → (geometry_of l m v).value ≡ Ok g → IsGeometry g → HasWholeUppers g v → inode_at g v i ≡ found
+    → MatchOption found ⊥ (λ inode. (kind_of inode.mode ≡ Directory) × IsSmallRead g v b inode) → IsStructure l m v b
 directory_structure l m g v i b None has geometry whole is h = absurd h
 directory_structure l m g v i b (Some inode) has geometry whole is h =
     file_structure l m g v i b inode has (record { geometry = geometry; whole = whole; there = is; pointers = rw h.0 refl })
     (directory_there g v i (λ inode. Unit {0}) inode is h.0 tt) h.1.small h.1.read
 
 -- what is read to look at directories has the structure of the volume, where each block has its bytes
-pub read_is_structure : (l m : ℕ) (g : Geometry) (v : Volume) (b : ℕ) → (geometry_of Little l m v).value ≡ Ok g → IsGeometry g → HasWholeUppers g v → IsDirectoryRead g v b → IsStructure Little l m v b
+pub read_is_structure : (l m : ℕ) (g : Geometry) (v : Volume) (b : ℕ) → (geometry_of l m v).value ≡ Ok g → IsGeometry g → HasWholeUppers g v → IsDirectoryRead g v b → IsStructure l m v b
 read_is_structure l m g v b has geometry whole (by_metadata is) = of_structure_metadata (by_geometry g has is)
-read_is_structure l m g v b has geometry whole (by_directory i h) = directory_structure l m g v i b (inode_at Little g v i) has geometry whole refl h
+read_is_structure l m g v b has geometry whole (by_directory i h) = directory_structure l m g v i b (inode_at g v i) has geometry whole refl h

@@ -8,7 +8,7 @@ use Rattle.ufs_model.specs.Inodes.{entry_type_of, kind_of}
 use Rattle.ufs_model.specs.Malformations.{inode_at}
 use Rattle.ufs_model.specs.declared.geometries.Geometry.{Geometry}
 use Rattle.ufs_model.specs.declared.inodes.Inode.{Inode}
-use Rattle.ufs_model.specs.declared.numbers.Endian.TheVariants.{Little}
+use Rattle.ufs_model.specs.declared.numbers.Endian.{Endian}
 use Rattle.ufs_check.specs.declared.entries.EntryFaults.{EntryFaults}
 
 -- an entry's type isn't that of its inode
@@ -23,11 +23,11 @@ mistyped_in kind (Some inode) = not (kind == 0) && type_differs kind (entry_type
 
 -- an entry names no allocated inode from 2 to the last
 unfoldable pub names_none : Geometry → Volume → DirEntry → Bool
-names_none g v entry = is_none (inode_at Little g v entry.inode)
+names_none g v entry = is_none (inode_at g v entry.inode)
 
 -- an entry has a type that isn't that of its inode
 unfoldable pub is_mistyped : Geometry → Volume → DirEntry → Bool
-is_mistyped g v entry = mistyped_in entry.kind (inode_at Little g v entry.inode)
+is_mistyped g v entry = mistyped_in entry.kind (inode_at g v entry.inode)
 
 -- these entries were looked at
 pub record AddsEntries (g : Geometry) (v : Volume) (entries : List DirEntry) (old new : EntryFaults) : Type 0 where
@@ -40,10 +40,10 @@ pub record Completes (g : Geometry) (v : Volume) (all rest : List DirEntry) (old
   pub entry_type : (now.entry_type || list_any (is_mistyped g v) rest) ≡ (old.entry_type || list_any (is_mistyped g v) all)
 
 -- a chunk is refused
-abbrev pub is_refused : List ℕ → Bool
-is_refused chunk = is_some (fault_in Little 0 chunk)
+abbrev pub is_refused : Endian → List ℕ → Bool
+is_refused endian chunk = is_some (fault_in endian 0 chunk)
 
 -- the used entries of chunks, none of which is refused
-abbrev pub entries_all : List (List ℕ) → List DirEntry
-entries_all [] = []
-entries_all (chunk ∷ chunks) = used_entries (entries_in Little 0 chunk) ++ entries_all chunks
+abbrev pub entries_all : Endian → List (List ℕ) → List DirEntry
+entries_all endian [] = []
+entries_all endian (chunk ∷ chunks) = used_entries (entries_in endian 0 chunk) ++ entries_all endian chunks

@@ -1,28 +1,27 @@
 -- What is wrong with the fragments of a volume.
-use Rattle.std.specs.Prelude.{◌≡◌, ◌<◌, ◌↔◌, ℕ, None, Contains, length}
+use Rattle.std.specs.Prelude.{◌≡◌, ◌<◌, ℕ, None, Contains, length}
 use Rattle.ufs_model.specs.Blocks.{Volume, block_at}
-use Rattle.ufs_model.specs.Claims.{IsClaim, level_of, targets}
-use Rattle.ufs_model.specs.Malformations.{IsBad}
+use Rattle.ufs_model.specs.Claims.{IsClaim, level_of, source_fragments}
+use Rattle.ufs_model.specs.Malformations.{Claims, IsBad}
 use Rattle.ufs_model.specs.declared.claims.ClaimSource.{ClaimSource}
 use Rattle.ufs_model.specs.declared.geometries.Geometry.{Geometry}
 use Rattle.ufs_model.specs.declared.malformations.BadKind.TheVariants.{WildIn, AlignIn, Twice, PastIn, Free}
-use Rattle.ufs_model.specs.declared.numbers.Endian.TheVariants.{Little}
-use Rattle.dg_claims.specs.Tables.{ClaimTable}
+use Rattle.dg_claims.specs.Tables.{ClaimTable, HasClaims}
 use Rattle.ufs_check.specs.Reaches.{HasNoTwice}
 use Rattle.ufs_check.specs.Least.{IsLeast, IsLeastBelow}
 use Rattle.ufs_check.specs.declared.verdicts.FragmentFaults.{FragmentFaults}
 
--- the claims of a table are those of a volume
-pub record HasClaims (g : Geometry) (table : ClaimTable) (v : Volume) : Type 0 where
-  pub claims : (f : ℕ) (source : ClaimSource) → Contains (table.claimed source) f ↔ IsClaim (targets Little g v) f source
+-- a table has the claims of a volume with this geometry
+abbrev pub HasClaimsOf : Geometry → ClaimTable → Volume → Type 0
+HasClaimsOf g table v = HasClaims table (Claims g v)
 
 -- a volume of a view, of which the claims are those of a table
 abbrev pub IsClaimedBy : (Volume → Type 0) → Geometry → ClaimTable → Volume → Type 0
-IsClaimedBy stands g table v = stands v × HasClaims g table v
+IsClaimedBy stands g table v = stands v × HasClaimsOf g table v
 
 -- each fragment of an indirect block has its bytes
 abbrev pub HasWholeUppers : Geometry → Volume → Type 0
-HasWholeUppers g v = (f : ℕ) (source : ClaimSource) → IsClaim (targets Little g v) f source → 0 < level_of source → length (block_at g.fsize v f) ≡ g.fsize
+HasWholeUppers g v = (f : ℕ) (source : ClaimSource) → IsClaim (source_fragments g v) f source → 0 < level_of source → length (block_at g.fsize v f) ≡ g.fsize
 
 -- by a table a fragment has a claim at a level above 0
 abbrev pub IsUpperIn : ClaimTable → ℕ → Type 0
@@ -30,22 +29,22 @@ IsUpperIn table f = (source : ClaimSource) × (0 < level_of source) × Contains 
 
 -- Each kind has its least fragment. What is reached through a pointer is told where no fragment has two claims.
 pub record AreFragmentFaults (g : Geometry) (v : Volume) (faults : FragmentFaults) : Type 0 where
-  pub wild_in : IsLeast (IsBad Little g v WildIn) faults.wild_in
-  pub align_in : IsLeast (IsBad Little g v AlignIn) faults.align_in
-  pub twice : IsLeast (IsBad Little g v Twice) faults.twice
-  pub past_in : faults.twice ≡ None → IsLeast (IsBad Little g v PastIn) faults.past_in
-  pub free : IsLeast (IsBad Little g v Free) faults.free
+  pub wild_in : IsLeast (IsBad g v WildIn) faults.wild_in
+  pub align_in : IsLeast (IsBad g v AlignIn) faults.align_in
+  pub twice : IsLeast (IsBad g v Twice) faults.twice
+  pub past_in : faults.twice ≡ None → IsLeast (IsBad g v PastIn) faults.past_in
+  pub free : IsLeast (IsBad g v Free) faults.free
 
 -- its least below a bound, of the kinds that speak of pointers
 pub record ArePointerFaultsBelow (g : Geometry) (v : Volume) (bound : ℕ) (faults : FragmentFaults) : Type 0 where
-  pub wild_in : IsLeastBelow (IsBad Little g v WildIn) bound faults.wild_in
-  pub align_in : IsLeastBelow (IsBad Little g v AlignIn) bound faults.align_in
-  pub past_in : HasNoTwice g v → IsLeastBelow (IsBad Little g v PastIn) bound faults.past_in
+  pub wild_in : IsLeastBelow (IsBad g v WildIn) bound faults.wild_in
+  pub align_in : IsLeastBelow (IsBad g v AlignIn) bound faults.align_in
+  pub past_in : HasNoTwice g v → IsLeastBelow (IsBad g v PastIn) bound faults.past_in
 
 -- its least below a bound, of the kinds that speak of all claims
 pub record AreClaimFaultsBelow (g : Geometry) (v : Volume) (bound : ℕ) (faults : FragmentFaults) : Type 0 where
-  pub twice : IsLeastBelow (IsBad Little g v Twice) bound faults.twice
-  pub free : IsLeastBelow (IsBad Little g v Free) bound faults.free
+  pub twice : IsLeastBelow (IsBad g v Twice) bound faults.twice
+  pub free : IsLeastBelow (IsBad g v Free) bound faults.free
 
 -- the same of all kinds
 pub record AreFragmentFaultsBelow (g : Geometry) (v : Volume) (bound : ℕ) (faults : FragmentFaults) : Type 0 where

@@ -1,5 +1,4 @@
 pub mod Least
-pub mod Passes
 pub mod Groups
 pub mod Inodes
 pub mod Entries
@@ -12,3 +11,4 @@ pub mod OwnedEntries
 pub mod Names
 pub mod Links
 pub mod Verdicts
+pub mod ViewWords

@@ -6,7 +6,6 @@ use Rattle.ufs_model.specs.Malformations.{FirstBlock, inode_at}
 use Rattle.ufs_model.specs.declared.claims.ClaimSource.TheVariants.{Pointer}
 use Rattle.ufs_model.specs.declared.geometries.Geometry.{Geometry}
 use Rattle.ufs_model.specs.declared.inodes.Inode.{Inode}
-use Rattle.ufs_model.specs.declared.numbers.Endian.TheVariants.{Little}
 use Rattle.ufs_check.specs.declared.limits.Limit.{Limit}
 
 -- a pointer of a fragment reaches a block past the end of its file
@@ -15,8 +14,8 @@ pub record IsPastAt (g : Geometry) (v : Volume) (f at : ℕ) : Type 0 where
   pub i : ℕ
   pub inode : Inode
   pub block : ℕ
-  pub reaches : FirstBlock Little g v (Pointer f level at) i block
-  pub owner : inode_at Little g v i ≡ Some inode
+  pub reaches : FirstBlock g v (Pointer f level at) i block
+  pub owner : inode_at g v i ≡ Some inode
   pub past : block_count g inode ≤ block
 
 -- the same by a limit

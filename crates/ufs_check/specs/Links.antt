@@ -10,9 +10,8 @@ use Rattle.ufs_model.specs.Chunks.{DirEntry}
 use Rattle.ufs_model.specs.Malformations.{HasEntries, IsBad, IsDirectory, PlainAt, dot, dot_dot}
 use Rattle.ufs_model.specs.declared.geometries.Geometry.{Geometry}
 use Rattle.ufs_model.specs.declared.malformations.BadKind.TheVariants.{Dots, Names, DirTwice, RootNamed}
-use Rattle.ufs_model.specs.declared.numbers.Endian.TheVariants.{Little}
 use Rattle.ufs_check.specs.Least.{IsLeast}
-use Rattle.ufs_check.specs.Names.{AreNameFaultsBelow, is_plain}
+use Rattle.ufs_check.specs.Names.{AreNameFaultsBelow, HasNamed, is_plain}
 use Rattle.ufs_check.specs.declared.links.LinkFaults.{LinkFaults}
 use Rattle.ufs_check.specs.declared.names.NameFaults.{NameFaults}
 use Rattle.ufs_check.specs.declared.parents.LinkTable.{LinkTable}
@@ -22,14 +21,14 @@ use Rattle.ufs_check.specs.declared.parents.Parent.{Parent}
 
 -- the entries of every directory are read
 abbrev pub HasAllEntries : Geometry → Volume → Type 0
-HasAllEntries g v = (i : ℕ) → IsDirectory Little g v i (λ _. Unit {0}) → (entries : List DirEntry) × HasEntries Little g v i entries
+HasAllEntries g v = (i : ℕ) → IsDirectory g v i (λ _. Unit {0}) → (entries : List DirEntry) × HasEntries g v i entries
 
--- each kind has its least directory
+-- Each kind has its least directory.
 pub record AreLinkFaults (g : Geometry) (v : Volume) (faults : LinkFaults) : Type 0 where
-  pub dots : IsLeast (IsBad Little g v Dots) faults.dots
-  pub names : IsLeast (IsBad Little g v Names) faults.names
-  pub dir_twice : IsLeast (IsBad Little g v DirTwice) faults.dir_twice
-  pub root_named : IsLeast (IsBad Little g v RootNamed) faults.root_named
+  pub dots : IsLeast (IsBad g v Dots) faults.dots
+  pub names : IsLeast (IsBad g v Names) faults.names
+  pub dir_twice : IsLeast (IsBad g v DirTwice) faults.dir_twice
+  pub root_named : IsLeast (IsBad g v RootNamed) faults.root_named
 
 -- ---- the first two entries of a directory
 
@@ -55,12 +54,12 @@ IsUpOf i entries up = MatchOption up ((p : ℕ) → FitsDots i entries p → ⊥
 pub record UpKept (g : Geometry) (v : Volume) (bound d : ℕ) (up : Option ℕ) : Type 0 where
   pub within : d < bound
   pub entries : List DirEntry
-  pub are : HasEntries Little g v d entries
+  pub are : HasEntries g v d entries
   pub up_is : IsUpOf d entries up
 
 -- what is kept of an inode, of which none is a directory below the bound
 abbrev pub UpAt : Geometry → Volume → ℕ → ℕ → Option (Option ℕ) → Type 0
-UpAt g v bound d kept = MatchOption kept ((entries : List DirEntry) → d < bound → HasEntries Little g v d entries → ⊥) (UpKept g v bound d)
+UpAt g v bound d kept = MatchOption kept ((entries : List DirEntry) → d < bound → HasEntries g v d entries → ⊥) (UpKept g v bound d)
 
 -- the directories below a bound are kept
 pub record UpsBelow (g : Geometry) (v : Volume) (bound : ℕ) (ups : BTreeMap ℕ (Option ℕ)) : Type 0 where
@@ -74,7 +73,7 @@ SetsUp old new i up = (d : ℕ) → get nat_cmp new d ≡ (if i == d then Some u
 
 -- plain entry number j of directory d is for inode n, and comes before entry number k of directory i
 pub record PlainBefore (g : Geometry) (v : Volume) (i k n d j : ℕ) : Type 0 where
-  pub plain : PlainAt Little g v d j n
+  pub plain : PlainAt g v d j n
   pub before : (d < i) ⊎ ((d ≡ i) × (j < k))
 
 -- two such entries
@@ -108,7 +107,8 @@ linked (Some parent) i = record { directory = parent.directory; twice = true }
 
 -- an entry of directory i was added, if it is plain
 abbrev pub AddsLink : BTreeMap ℕ Parent → BTreeMap ℕ Parent → ℕ → DirEntry → Type 0
-AddsLink old new i entry = (n : ℕ) → get nat_cmp new n ≡ (if is_plain entry && (entry.inode == n) then Some (linked (get nat_cmp old entry.inode) i) else get nat_cmp old n)
+AddsLink old new i entry = (n : ℕ)
+    → get nat_cmp new n ≡ (if is_plain entry && (entry.inode == n) then Some (linked (get nat_cmp old entry.inode) i) else get nat_cmp old n)
 
 -- ---- all that is kept
 
@@ -126,9 +126,10 @@ pub record AreLinksBelow (g : Geometry) (v : Volume) (bound : ℕ) (table : Link
   pub kept : TableBelow g v bound table
   pub names : AreNameFaultsBelow g v bound faults
 
--- the entries of all directories were read, and are kept
+-- the entries of all directories were read, each names an inode, and they are kept
 pub record HasRead (g : Geometry) (v : Volume) (table : LinkTable) (faults : NameFaults) : Type 0 where
   pub read : HasAllEntries g v
+  pub named : HasNamed g v
   pub bound : ℕ
   pub last : g.ncg * g.ipg ≤ bound
   pub links : AreLinksBelow g v bound table faults

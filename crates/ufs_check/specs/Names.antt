@@ -3,10 +3,9 @@ use Rattle.std.specs.Prelude.{◌≡◌, ◌≢◌, ℕ, ◌==◌, ◌&&◌, not
 use Rattle.std.specs.Cmp.Lexicographic.{pointwise}
 use Rattle.ufs_model.specs.Blocks.{Volume}
 use Rattle.ufs_model.specs.Chunks.{DirEntry}
-use Rattle.ufs_model.specs.Malformations.{IsBad, dot, dot_dot}
+use Rattle.ufs_model.specs.Malformations.{EntryAt, IsBad, IsNamed, dot, dot_dot}
 use Rattle.ufs_model.specs.declared.geometries.Geometry.{Geometry}
 use Rattle.ufs_model.specs.declared.malformations.BadKind.TheVariants.{Names, RootNamed}
-use Rattle.ufs_model.specs.declared.numbers.Endian.TheVariants.{Little}
 use Rattle.ufs_check.specs.Least.{IsLeastBelow}
 use Rattle.ufs_check.specs.declared.names.NameFaults.{NameFaults}
 
@@ -29,7 +28,11 @@ pub record HasSameIn (entries : List DirEntry) : Type 0 where
   pub second : slice_get entries k ≡ Some other
   pub same : one.name ≡ other.name
 
--- both kinds have their least directory below a bound
+-- every entry that is read names an allocated inode from 2 to the last
+abbrev pub HasNamed : Geometry → Volume → Type 0
+HasNamed g v = (i k : ℕ) (entry : DirEntry) → EntryAt g v i k entry → IsNamed g v entry
+
+-- Both kinds have their least directory below a bound. Entries are judged where all are named.
 pub record AreNameFaultsBelow (g : Geometry) (v : Volume) (bound : ℕ) (faults : NameFaults) : Type 0 where
-  pub names : IsLeastBelow (IsBad Little g v Names) bound faults.names
-  pub root_named : IsLeastBelow (IsBad Little g v RootNamed) bound faults.root_named
+  pub names : HasNamed g v → IsLeastBelow (IsBad g v Names) bound faults.names
+  pub root_named : HasNamed g v → IsLeastBelow (IsBad g v RootNamed) bound faults.root_named

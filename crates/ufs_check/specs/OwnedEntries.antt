@@ -4,7 +4,6 @@ use Rattle.ufs_model.specs.Blocks.{Volume}
 use Rattle.ufs_model.specs.Chunks.{DirEntry}
 use Rattle.ufs_model.specs.Malformations.{HasEntries}
 use Rattle.ufs_model.specs.declared.geometries.Geometry.{Geometry}
-use Rattle.ufs_model.specs.declared.numbers.Endian.TheVariants.{Little}
 use Rattle.ufs_model.specs.declared.reads.PathRefusal.{PathRefusal}
 use Rattle.ufs_check.specs.declared.owned_entries.Gathered.{Gathered}
 use Rattle.ufs_check.specs.declared.owned_entries.Gathered.TheVariants.{All, Unread, Gone}
@@ -32,13 +31,13 @@ Gathers Gone said old new = Unit {0}
 -- the entries of inode i were gathered behind the others
 pub record GathersEntries (g : Geometry) (v : Volume) (i : ℕ) (old new : List DirEntry) : Type 0 where
   pub entries : List DirEntry
-  pub are : HasEntries Little g v i entries
+  pub are : HasEntries g v i entries
   pub new_is : new ≡ old ++ entries
 
 -- what an answer tells of the entries of inode i
 abbrev pub GathersAt : Geometry → Volume → ℕ → Gathered → List DirEntry → List DirEntry → Type 0
 GathersAt g v i All old new = GathersEntries g v i old new
-GathersAt g v i Unread old new = (entries : List DirEntry) → HasEntries Little g v i entries → ⊥
+GathersAt g v i Unread old new = (entries : List DirEntry) → HasEntries g v i entries → ⊥
 GathersAt g v i Gone old new = Unit {0}
 
 -- what is lost where a block is gone

@@ -7,14 +7,13 @@ use Rattle.ufs_model.specs.Superblocks.{geometry_of}
 use Rattle.ufs_model.specs.declared.geometries.Geometry.{Geometry}
 use Rattle.ufs_model.specs.declared.malformations.BadKind.{BadKind}
 use Rattle.ufs_model.specs.declared.malformations.BadKind.TheVariants.{Super, GroupMagic, GroupMap, WrongType, Filesize, Past, Wild, WildIn, Align, AlignIn, Run, Twice, PastIn, Free, Unused, Hole, Chunk, Entry, EntryType, Dots, Names, DirTwice, RootNamed}
-use Rattle.ufs_model.specs.declared.numbers.Endian.TheVariants.{Little}
-use Rattle.dg_claims.specs.Readers.{IsTableOf}
-use Rattle.dg_claims.specs.Tables.{ClaimTable}
-use Rattle.ufs_check.specs.Directories.{AreDirectoryFaults, HasFilesizes}
-use Rattle.ufs_check.specs.Fragments.{AreFragmentFaults, HasClaims, HasWholeUppers}
+use Rattle.dg_claims.specs.Tables.{ClaimTable, IsTableOf}
+use Rattle.ufs_check.specs.Directories.{AreDirectoryFaults}
+use Rattle.ufs_check.specs.Fragments.{AreFragmentFaults, HasClaimsOf, HasWholeUppers}
 use Rattle.ufs_check.specs.Groups.{AreGroupFaults}
 use Rattle.ufs_check.specs.Inodes.{AreInodeFaults}
 use Rattle.ufs_check.specs.Links.{AreLinkFaults, HasAllEntries}
+use Rattle.ufs_check.specs.Names.{HasNamed}
 use Rattle.ufs_check.specs.declared.faults.Faults.{Faults}
 use Rattle.ufs_check.specs.declared.faults.MetadataFaults.{MetadataFaults}
 use Rattle.ufs_check.specs.declared.verdicts.DirectoryFaults.{DirectoryFaults}
@@ -26,11 +25,11 @@ use Rattle.ufs_check.specs.declared.verdicts.Verdict.TheVariants.{Sound, Malform
 
 -- a volume of a view, with n blocks of l bytes, which has this geometry and the claims of a table
 abbrev pub IsOnView : (Volume → Type 0) → ℕ → ℕ → Geometry → ClaimTable → Volume → Type 0
-IsOnView stands l n g table v = stands v × HasClaims g table v × ((geometry_of Little l n v).value ≡ Ok g)
+IsOnView stands l n g table v = stands v × HasClaimsOf g table v × ((geometry_of l n v).value ≡ Ok g)
 
 -- a volume of a view, with n blocks of l bytes, of which a table has the claims
 abbrev pub IsTabled : (Volume → Type 0) → ℕ → ℕ → ClaimTable → Volume → Type 0
-IsTabled stands l n table v = stands v × IsTableOf Little l n v table
+IsTabled stands l n table v = stands v × IsTableOf l n v table
 
 -- ---- what the passes find
 
@@ -63,8 +62,9 @@ no_directory_fault faults = ((is_none faults.hole && is_none faults.chunk) && is
 -- what is found in all; of directories where nothing else is found before, and it can be told
 pub record AreFaults (g : Geometry) (v : Volume) (faults : Faults) : Type 0 where
   pub metadata : AreMetadataFaults g v faults.metadata
-  pub directories : no_metadata_fault faults.metadata ≡ true → HasFilesizes g v → AreDirectoryFaults g v faults.directories
-  pub links : no_metadata_fault faults.metadata ≡ true → no_directory_fault faults.directories ≡ true → HasAllEntries g v → AreLinkFaults g v faults.links
+  pub directories : no_metadata_fault faults.metadata ≡ true → AreDirectoryFaults g v faults.directories
+  pub links : no_metadata_fault faults.metadata ≡ true → no_directory_fault faults.directories ≡ true → HasAllEntries g v → HasNamed g v
+      → AreLinkFaults g v faults.links
 
 -- the least number that is found of a kind
 abbrev pub found_in : Faults → BadKind → Option ℕ
@@ -136,12 +136,12 @@ first_by number first (kind ∷ kinds) = first_by number (later first kind (numb
 
 -- the first kind that is there, with the least number of which it is, where the superblock gives a geometry
 pub record IsFirstBad (g : Geometry) (v : Volume) (kind : BadKind) (n : ℕ) : Type 0 where
-  pub here : IsBad Little g v kind n
-  pub least : (m : ℕ) → m < n → IsBad Little g v kind m → ⊥
-  pub first : (other : BadKind) (m : ℕ) → order_of other < order_of kind → IsBad Little g v other m → ⊥
+  pub here : IsBad g v kind n
+  pub least : (m : ℕ) → m < n → IsBad g v kind m → ⊥
+  pub first : (other : BadKind) (m : ℕ) → order_of other < order_of kind → IsBad g v other m → ⊥
 
 -- what a verdict tells of a volume with this geometry, of which no block was missed
 abbrev pub Judges : Geometry → Volume → Verdict → Type 0
-Judges g v Sound = (kind : BadKind) (n : ℕ) → IsBad Little g v kind n → ⊥
+Judges g v Sound = (kind : BadKind) (n : ℕ) → IsBad g v kind n → ⊥
 Judges g v (Malformed kind n) = IsFirstBad g v kind n
 Judges g v Gone = ⊥

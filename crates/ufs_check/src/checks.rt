@@ -1,15 +1,16 @@
 // The first malformation of a volume.
 ghost use Rattle.std.specs.Prelude.{◌≡◌, ℕ, Ok, Some, IfNone, IfOk, IfSome};
-ghost use Rattle.dg_io.specs.Views.{KeepsView};
+ghost use Rattle.std.specs.Bool.{Decides};
+ghost use Rattle.dg_io.specs.ViewWords.{Keeps};
 ghost use Rattle.ufs_model.specs.Blocks.{Volume};
 ghost use Rattle.ufs_model.specs.Geometries.{IsGeometryOn};
 ghost use Rattle.ufs_model.specs.Malformations.{IsFirstMalformation, IsSoundVolume};
-ghost use Rattle.ufs_model.specs.Metadata.{IsMetadataBy, IsStructure};
-ghost use Rattle.ufs_model.specs.declared.numbers.Endian.TheVariants.{Little};
+ghost use Rattle.ufs_model.specs.Metadata.{IsMetadataBy};
+ghost use Rattle.ufs_model.specs.Superblocks.{geometry_of};
 ghost use Rattle.dg_claims.specs.Kept.{table_of};
-ghost use Rattle.ufs_check.specs.Fragments.{IsClaimedBy};
-ghost use Rattle.ufs_check.specs.Passes.{FetchesOnly, LosesOne};
-ghost use Rattle.ufs_check.specs.Verdicts.{AreFaults, AreMetadataFaults, IsOnView, IsTabled};
+ghost use Rattle.dg_claims.specs.Tables.{accepted};
+ghost use Rattle.ufs_check.specs.Verdicts.{AreFaults, AreMetadataFaults};
+ghost use Rattle.ufs_check.specs.ViewWords.{FetchesOn, IsClaimed, IsOfGeometry, IsOfTable, IsStructureOf, LosesOn};
 
 use crate::directories::{check_directories, directories_are_structure};
 use crate::faults::{Faults, MetadataFaults, verdict_of};
@@ -21,8 +22,15 @@ use crate::verdicts::{NO_DIRECTORY_FAULTS, Verdict};
 use dg_claims::Claims;
 use dg_io::{NoMemory, View};
 use std::alloc::Global;
-use ufs_model::{BadKind, Geometry};
+use ufs_model::{BadKind, BadSuper, Geometry};
 use ufs_pointer::{Levels, read_geometry};
+
+/// A table is of this geometry.
+fn is_of(claims: &Claims, g: &Geometry) -> bool
+    ensures { Decides result ((table_of claims.now).geometry ≡ Some g.now) }
+{
+    claims.geometry() == Some(*g)
+}
 
 /// What is wrong by metadata alone, by the claims of the volume. There is no answer where a block of it
 /// is gone.
@@ -36,13 +44,12 @@ fn check_metadata<V: View>(
     requires geometry { IsGeometryOn (V.size view.old) (V.count view.old) g.now }
     requires levels { levels.old.fragment ≡ V.size view.old }
     requires table { (table_of claims.now).geometry ≡ Some g.now }
-    ensures keeps { KeepsView V.stands_for V.tells V.is_gone V.count V.size V.is_sound V.goes_on view.old view.new }
+    ensures keeps { Keeps V.View view.old view.new }
     ensures levels { levels.new.fragment ≡ levels.old.fragment }
-    ensures found { IfSome result (λ faults. V.tells view.new → (v : Volume) → IsClaimedBy (V.stands_for view.old) g.now (table_of claims.now) v
+    ensures found { IfSome result (λ faults. V.tells view.new → (v : Volume) → IsClaimed V.View view.old g.now (table_of claims.now) v
         → AreMetadataFaults g.now v faults) }
-    ensures gone { IfNone result (V.tells view.new → (v : Volume) → IsClaimedBy (V.stands_for view.old) g.now (table_of claims.now) v
-        → LosesOne (V.is_gone view.new) (IsMetadataBy Little g.now v)) }
-    ensures fetched { FetchesOnly V.fetched (IsClaimedBy (V.stands_for view.old) g.now (table_of claims.now)) (V.tells view.new) (IsMetadataBy Little g.now) view.old view.new }
+    ensures gone { IfNone result (LosesOn V.View view.old view.new (IsClaimed V.View view.old g.now (table_of claims.now)) (IsMetadataBy g.now)) }
+    ensures fetched { FetchesOn V.View view.old view.new (IsClaimed V.View view.old g.now (table_of claims.now)) (IsMetadataBy g.now) }
 {
     let groups = check_groups(view, g, levels)?;
     let inodes = check_inodes(view, g, levels)?;
@@ -68,15 +75,13 @@ fn check_volume<V: View>(
     requires geometry { IsGeometryOn (V.size view.old) (V.count view.old) g.now }
     requires levels { levels.old.fragment ≡ V.size view.old }
     requires table { (table_of claims.now).geometry ≡ Some g.now }
-    ensures keeps { KeepsView V.stands_for V.tells V.is_gone V.count V.size V.is_sound V.goes_on view.old view.new }
+    ensures keeps { Keeps V.View view.old view.new }
     ensures levels { levels.new.fragment ≡ levels.old.fragment }
-    ensures found { IfOk result (λ answer. IfSome answer (λ faults. V.tells view.new → (v : Volume) → IsClaimedBy (V.stands_for view.old) g.now (table_of claims.now) v
+    ensures found { IfOk result (λ answer. IfSome answer (λ faults. V.tells view.new → (v : Volume) → IsClaimed V.View view.old g.now (table_of claims.now) v
         → AreFaults g.now v faults)) }
-    ensures gone { IfOk result (λ answer. IfNone answer (V.tells view.new → (v : Volume)
-        → IsOnView (V.stands_for view.old) (V.size view.old) (V.count view.old) g.now (table_of claims.now) v
-        → LosesOne (V.is_gone view.new) (IsStructure Little (V.size view.old) (V.count view.old) v))) }
-    ensures fetched { FetchesOnly V.fetched (IsOnView (V.stands_for view.old) (V.size view.old) (V.count view.old) g.now (table_of claims.now)) (V.tells view.new)
-        (IsStructure Little (V.size view.old) (V.count view.old)) view.old view.new }
+    ensures gone { IfOk result (λ answer. IfNone answer
+        (LosesOn V.View view.old view.new (IsOfGeometry V.View view.old g.now (table_of claims.now)) (IsStructureOf V.View view.old))) }
+    ensures fetched { FetchesOn V.View view.old view.new (IsOfGeometry V.View view.old g.now (table_of claims.now)) (IsStructureOf V.View view.old) }
 {
     directories_are_structure();
     let Some(metadata) = check_metadata(view, g, levels, claims) else {
@@ -109,8 +114,9 @@ fn check_volume<V: View>(
     }))
 }
 
-/// The first malformation of the volume on a view, where the table has the volume's claims. The buffers
-/// are for blocks of the view's size.
+/// The first malformation of the volume on a view, where the table has the volume's claims. A table of
+/// another geometry has them of no volume on the view; then the superblock is told as malformed. The
+/// buffers are for blocks of the view's size.
 pub fn check<V: View>(
     alloc: Global,
     view: &mut V,
@@ -119,23 +125,25 @@ pub fn check<V: View>(
 ) -> Result<Verdict, NoMemory>
     requires sound { V.is_sound view.old }
     requires levels { levels.old.fragment ≡ V.size view.old }
-    ensures keeps { KeepsView V.stands_for V.tells V.is_gone V.count V.size V.is_sound V.goes_on view.old view.new }
+    ensures keeps { Keeps V.View view.old view.new }
     ensures levels { levels.new.fragment ≡ levels.old.fragment }
-    ensures is_sound { result ≡ Ok Verdict.Sound → V.tells view.new → (v : Volume) → IsTabled (V.stands_for view.old) (V.size view.old) (V.count view.old) (table_of claims.now) v
-        → IsSoundVolume Little (V.size view.old) (V.count view.old) v }
-    ensures malformed { (kind : BadKind) (n : ℕ) → result ≡ Ok (Verdict.Malformed kind n) → V.tells view.new → (v : Volume) → IsTabled (V.stands_for view.old) (V.size view.old) (V.count view.old) (table_of claims.now) v
-        → IsFirstMalformation Little (V.size view.old) (V.count view.old) v kind n }
-    ensures gone { result ≡ Ok Verdict.Gone → V.tells view.new → (v : Volume) → IsTabled (V.stands_for view.old) (V.size view.old) (V.count view.old) (table_of claims.now) v
-        → LosesOne (V.is_gone view.new) (IsStructure Little (V.size view.old) (V.count view.old) v) }
-    ensures fetched { FetchesOnly V.fetched (IsTabled (V.stands_for view.old) (V.size view.old) (V.count view.old) (table_of claims.now)) (V.tells view.new) (IsStructure Little (V.size view.old) (V.count view.old)) view.old view.new }
+    ensures is_sound { result ≡ Ok Verdict.Sound → V.tells view.new → (v : Volume)
+        → IsOfTable V.View view.old (table_of claims.now) v → IsSoundVolume (V.size view.old) (V.count view.old) v }
+    ensures tabled { result ≡ Ok Verdict.Sound → V.tells view.new → (v : Volume) → V.stands_for view.old v
+        → (table_of claims.now).geometry ≡ accepted ((geometry_of (V.size view.old) (V.count view.old) v).value) }
+    ensures malformed { (kind : BadKind) (n : ℕ) → result ≡ Ok (Verdict.Malformed kind n) → V.tells view.new → (v : Volume)
+        → IsOfTable V.View view.old (table_of claims.now) v → IsFirstMalformation (V.size view.old) (V.count view.old) v kind n }
+    ensures gone { result ≡ Ok Verdict.Gone
+        → LosesOn V.View view.old view.new (IsOfTable V.View view.old (table_of claims.now)) (IsStructureOf V.View view.old) }
+    ensures fetched { FetchesOn V.View view.old view.new (IsOfTable V.View view.old (table_of claims.now)) (IsStructureOf V.View view.old) }
 {
     let g = match read_geometry(view, levels) {
         None => return Ok(Verdict::Gone),
         Some(Err(bad)) => return Ok(Verdict::Malformed(BadKind::Super(bad), 0)),
         Some(Ok(g)) => g,
     };
-    if claims.geometry() != Some(g) {
-        return Ok(Verdict::Gone);
+    if !is_of(claims, &g) {
+        return Ok(Verdict::Malformed(BadKind::Super(BadSuper::Layout), 0));
     }
     match check_volume(alloc, view, &g, levels, claims)? {
         None => Ok(Verdict::Gone),

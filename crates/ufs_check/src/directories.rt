@@ -1,7 +1,7 @@
 // The pass over the directories.
 ghost use Rattle.std.specs.Prelude.{◌≡◌, ◌+◌, ◌*◌, ◌/◌, ◌^◌, ◌<◌, ◌≤◌, ◌%◌, ◌==◌, ◌&&◌, ◌||◌, ℕ, List, Some, Ok, not, true, false, IfNone, IfSome, length};
 ghost use Rattle.std.specs.Bool.{Decides};
-ghost use Rattle.dg_io.specs.Views.{KeepsView};
+ghost use Rattle.dg_io.specs.ViewWords.{Keeps};
 ghost use Rattle.ufs_model.specs.Blocks.{Volume};
 ghost use Rattle.ufs_model.specs.Geometries.{IsGeometry, IsGeometryOn};
 ghost use Rattle.ufs_model.specs.Inodes.{block_count, kind_of};
@@ -11,18 +11,17 @@ ghost use Rattle.ufs_model.specs.Paths.{block_of, bytes_in_block};
 ghost use Rattle.ufs_model.specs.Superblocks.{geometry_of};
 ghost use Rattle.ufs_model.specs.declared.geometries.Geometry.{Geometry};
 ghost use Rattle.ufs_model.specs.declared.inodes.Kind.TheVariants.{Directory};
-ghost use Rattle.ufs_model.specs.declared.numbers.Endian.TheVariants.{Little};
-ghost use Rattle.ufs_check.specs.Directories.{AreDirectoryFaults, AreDirectoryFaultsBelow, HasFilesizes, IsDirectoryRead, IsFileRead, ScannedWhole, ScansBlock};
+ghost use Rattle.ufs_check.specs.Directories.{AreDirectoryFaults, AreDirectoryFaultsBelow, IsDirectoryRead, IsFileRead, ScannedWhole, ScansBlock};
 ghost use Rattle.ufs_check.specs.Fragments.{HasWholeUppers};
-ghost use Rattle.ufs_check.specs.Passes.{FetchesOnly, LosesOne};
+ghost use Rattle.ufs_pointer.specs.ViewWords.{FetchesKind, LosesKind};
 
 use crate::entries::{EntryFaults, has_refused, read_named, scan_chunks};
-use crate::inodes::{ROOT, TOO_LONG};
+use crate::inodes::TOO_LONG;
 use crate::notes::note;
 use crate::verdicts::{DirectoryFaults, NO_DIRECTORY_FAULTS};
 use dg_io::View;
 use ufs_dir::CHUNK_BYTES;
-use ufs_model::{Geometry, Inode, Kind};
+use ufs_model::{Geometry, Inode, Kind, ROOT_INODE};
 use ufs_pointer::{FileBlock, Levels, block_count, bytes_in_block, read_file_block};
 
 /// What is found in a directory.
@@ -53,14 +52,14 @@ fn scan_data<V: View>(
     requires levels { levels.old.fragment ≡ V.size view.old }
     requires few { count ≤ 128 }
     requires chunks { count * 512 ≤ length levels.old.block }
-    ensures keeps { KeepsView V.stands_for V.tells V.is_gone V.count V.size V.is_sound V.goes_on view.old view.new }
+    ensures keeps { Keeps V.View view.old view.new }
     ensures levels { levels.new.fragment ≡ levels.old.fragment }
     ensures found { result ≡ true → V.tells view.new → (v : Volume) → V.stands_for view.old v
         → ScansBlock g.now v count (Ok (Some levels.old.block)) scan.old scan.new }
-    ensures gone { result ≡ false → V.tells view.new → (v : Volume) → V.stands_for view.old v → LosesOne (V.is_gone view.new) (IsMetadataBy Little g.now v) }
-    ensures fetched { FetchesOnly V.fetched (V.stands_for view.old) (V.tells view.new) (IsMetadataBy Little g.now) view.old view.new }
+    ensures gone { result ≡ false → LosesKind V.View view.old view.new (IsMetadataBy g.now) }
+    ensures fetched { FetchesKind V.View view.old view.new (IsMetadataBy g.now) }
 {
-    if has_refused(levels.block(), count) {
+    if has_refused(levels.block(), count, g.endian) {
         scan.chunk = true;
         scan.read = false;
         return true;
@@ -82,12 +81,12 @@ fn scan_block<V: View>(
     requires levels { levels.old.fragment ≡ V.size view.old }
     requires few { n < 2 ^ 30 }
     requires block { n < block_count g.now inode.now }
-    ensures keeps { KeepsView V.stands_for V.tells V.is_gone V.count V.size V.is_sound V.goes_on view.old view.new }
+    ensures keeps { Keeps V.View view.old view.new }
     ensures levels { levels.new.fragment ≡ levels.old.fragment }
     ensures found { result ≡ true → V.tells view.new → (v : Volume) → V.stands_for view.old v
-        → ScansBlock g.now v (bytes_in_block g.now inode.now n / 512) ((block_of Little g.now inode.now n v).value) scan.old scan.new }
-    ensures gone { result ≡ false → V.tells view.new → (v : Volume) → V.stands_for view.old v → LosesOne (V.is_gone view.new) (IsFileRead g.now inode.now v) }
-    ensures fetched { FetchesOnly V.fetched (V.stands_for view.old) (V.tells view.new) (IsFileRead g.now inode.now) view.old view.new }
+        → ScansBlock g.now v (bytes_in_block g.now inode.now n / 512) ((block_of g.now inode.now n v).value) scan.old scan.new }
+    ensures gone { result ≡ false → LosesKind V.View view.old view.new (IsFileRead g.now inode.now) }
+    ensures fetched { FetchesKind V.View view.old view.new (IsFileRead g.now inode.now) }
 {
     match read_file_block(view, g, inode, n, levels) {
         None => false,
@@ -119,12 +118,12 @@ fn scan_directory<V: View>(
     requires geometry { IsGeometryOn (V.size view.old) (V.count view.old) g.now }
     requires levels { levels.old.fragment ≡ V.size view.old }
     requires small { inode.now.size < 2 ^ 32 }
-    ensures keeps { KeepsView V.stands_for V.tells V.is_gone V.count V.size V.is_sound V.goes_on view.old view.new }
+    ensures keeps { Keeps V.View view.old view.new }
     ensures levels { levels.new.fragment ≡ levels.old.fragment }
     ensures found { IfSome result (λ scan. V.tells view.new → (v : Volume) → V.stands_for view.old v
         → ScannedWhole g.now inode.now v scan) }
-    ensures gone { IfNone result (V.tells view.new → (v : Volume) → V.stands_for view.old v → LosesOne (V.is_gone view.new) (IsFileRead g.now inode.now v)) }
-    ensures fetched { FetchesOnly V.fetched (V.stands_for view.old) (V.tells view.new) (IsFileRead g.now inode.now) view.old view.new }
+    ensures gone { IfNone result (LosesKind V.View view.old view.new (IsFileRead g.now inode.now)) }
+    ensures fetched { FetchesKind V.View view.old view.new (IsFileRead g.now inode.now) }
 {
     let mut scan = Scan {
         hole: false,
@@ -164,7 +163,7 @@ fn has_entries(inode: &Inode, scan: &Scan) -> bool
 /// lower numbers is noted.
 fn note_directory(i: u32, inode: &Inode, scan: &Scan, faults: &mut DirectoryFaults)
     requires { inode.now.size < 2 ^ 32 }
-    ensures { (g : Geometry) (v : Volume) → inode_at Little g v i ≡ Some inode.now → kind_of inode.now.mode ≡ Directory
+    ensures { (g : Geometry) (v : Volume) → inode_at g v i ≡ Some inode.now → kind_of inode.now.mode ≡ Directory
         → ScannedWhole g inode.now v scan.now → AreDirectoryFaultsBelow g v i faults.old → AreDirectoryFaultsBelow g v (i + 1) faults.new }
 {
     note(&mut faults.hole, i, scan.hole);
@@ -195,12 +194,12 @@ fn scan_inode<V: View>(
     requires sound { V.is_sound view.old }
     requires geometry { IsGeometryOn (V.size view.old) (V.count view.old) g.now }
     requires levels { levels.old.fragment ≡ V.size view.old }
-    ensures keeps { KeepsView V.stands_for V.tells V.is_gone V.count V.size V.is_sound V.goes_on view.old view.new }
+    ensures keeps { Keeps V.View view.old view.new }
     ensures levels { levels.new.fragment ≡ levels.old.fragment }
-    ensures found { result ≡ true → V.tells view.new → (v : Volume) → V.stands_for view.old v → HasFilesizes g.now v
+    ensures found { result ≡ true → V.tells view.new → (v : Volume) → V.stands_for view.old v
         → AreDirectoryFaultsBelow g.now v i faults.old → AreDirectoryFaultsBelow g.now v (i + 1) faults.new }
-    ensures gone { result ≡ false → V.tells view.new → (v : Volume) → V.stands_for view.old v → LosesOne (V.is_gone view.new) (IsDirectoryRead g.now v) }
-    ensures fetched { FetchesOnly V.fetched (V.stands_for view.old) (V.tells view.new) (IsDirectoryRead g.now) view.old view.new }
+    ensures gone { result ≡ false → LosesKind V.View view.old view.new (IsDirectoryRead g.now) }
+    ensures fetched { FetchesKind V.View view.old view.new (IsDirectoryRead g.now) }
 {
     let Some(named) = read_named(view, g, i, levels) else {
         return false;
@@ -221,8 +220,8 @@ fn scan_inode<V: View>(
     true
 }
 
-/// What is wrong with the directories, each of which is looked at by itself, on a volume on which no
-/// inode has too many bytes. There is no answer where a block that is read for it is gone.
+/// What is wrong with the directories, each of which is looked at by itself. There is no answer where a
+/// block that is read for it is gone.
 pub fn check_directories<V: View>(
     view: &mut V,
     g: &Geometry,
@@ -231,16 +230,15 @@ pub fn check_directories<V: View>(
     requires sound { V.is_sound view.old }
     requires geometry { IsGeometryOn (V.size view.old) (V.count view.old) g.now }
     requires levels { levels.old.fragment ≡ V.size view.old }
-    ensures keeps { KeepsView V.stands_for V.tells V.is_gone V.count V.size V.is_sound V.goes_on view.old view.new }
+    ensures keeps { Keeps V.View view.old view.new }
     ensures levels { levels.new.fragment ≡ levels.old.fragment }
-    ensures found { IfSome result (λ faults. V.tells view.new → (v : Volume) → V.stands_for view.old v → HasFilesizes g.now v
+    ensures found { IfSome result (λ faults. V.tells view.new → (v : Volume) → V.stands_for view.old v
         → AreDirectoryFaults g.now v faults) }
-    ensures gone { IfNone result (V.tells view.new → (v : Volume) → V.stands_for view.old v
-        → LosesOne (V.is_gone view.new) (IsDirectoryRead g.now v)) }
-    ensures fetched { FetchesOnly V.fetched (V.stands_for view.old) (V.tells view.new) (IsDirectoryRead g.now) view.old view.new }
+    ensures gone { IfNone result (LosesKind V.View view.old view.new (IsDirectoryRead g.now)) }
+    ensures fetched { FetchesKind V.View view.old view.new (IsDirectoryRead g.now) }
 {
     let mut faults = NO_DIRECTORY_FAULTS;
-    for i in ROOT..g.ncg * g.ipg {
+    for i in ROOT_INODE..g.ncg * g.ipg {
         if !scan_inode(view, g, i, levels, &mut faults) {
             return None;
         }
@@ -251,6 +249,6 @@ pub fn check_directories<V: View>(
 /// What is read to look at the directories of a volume has its structure, where each fragment of an
 /// indirect block has its bytes.
 pub fn directories_are_structure()
-    ensures { (l n : ℕ) (g : Geometry) (v : Volume) (block : ℕ) → (geometry_of Little l n v).value ≡ Ok g → IsGeometry g → HasWholeUppers g v
-        → IsDirectoryRead g v block → IsStructure Little l n v block }
+    ensures { (l n : ℕ) (g : Geometry) (v : Volume) (block : ℕ) → (geometry_of l n v).value ≡ Ok g → IsGeometry g → HasWholeUppers g v
+        → IsDirectoryRead g v block → IsStructure l n v block }
 {}

@@ -2,7 +2,7 @@
 ghost use Rattle.std.specs.Prelude.{◌≡◌, ◌+◌, ◌*◌, ◌&&◌, ◌||◌, ◌==◌, ◌<◌, ◌≤◌, ℕ, List, [], ◌∷◌, None, true, false, not, IfNone, IfSome, length};
 ghost use Rattle.std.specs.List.{list_any};
 ghost use Rattle.std.specs.Option.{is_none};
-ghost use Rattle.dg_io.specs.Views.{KeepsView};
+ghost use Rattle.dg_io.specs.ViewWords.{Keeps};
 ghost use Rattle.ufs_dir.specs.Steps.{entry_of};
 ghost use Rattle.ufs_model.specs.Blocks.{Volume};
 ghost use Rattle.ufs_model.specs.Chunks.{entries_in, fault_in, used_entries};
@@ -11,15 +11,13 @@ ghost use Rattle.ufs_model.specs.Inodes.{entry_type_of};
 ghost use Rattle.ufs_model.specs.Malformations.{inode_at};
 ghost use Rattle.ufs_model.specs.Metadata.{IsMetadataBy};
 ghost use Rattle.ufs_model.specs.Paths.{chunks_in};
-ghost use Rattle.ufs_model.specs.declared.numbers.Endian.TheVariants.{Little};
 ghost use Rattle.ufs_check.specs.Entries.{AddsEntries, entries_all, is_refused, mistyped_in};
-ghost use Rattle.ufs_check.specs.Passes.{FetchesOnly, LosesOne};
+ghost use Rattle.ufs_pointer.specs.ViewWords.{FetchesKind, LosesKind};
 
-use crate::inodes::{INODE_BYTES, ROOT};
 use dg_io::View;
 use ufs_dir::{CHUNK_BYTES, Entries, Entry, EntryStep, check};
-use ufs_inode::{place_of, read_inode};
-use ufs_model::{Geometry, Inode, Kind};
+use ufs_inode::{inode_at, place_of};
+use ufs_model::{Endian, Geometry, Inode, Kind, ROOT_INODE};
 use ufs_pointer::Levels;
 
 /// What is wrong with some entries of a directory.
@@ -57,22 +55,21 @@ pub fn read_named<V: View>(
     requires sound { V.is_sound view.old }
     requires geometry { IsGeometryOn (V.size view.old) (V.count view.old) g.now }
     requires levels { levels.old.fragment ≡ V.size view.old }
-    ensures keeps { KeepsView V.stands_for V.tells V.is_gone V.count V.size V.is_sound V.goes_on view.old view.new }
+    ensures keeps { Keeps V.View view.old view.new }
     ensures levels { levels.new.fragment ≡ levels.old.fragment }
     ensures block { levels.new.block ≡ levels.old.block }
-    ensures found { IfSome result (λ named. V.tells view.new → (v : Volume) → V.stands_for view.old v → named ≡ inode_at Little g.now v number) }
-    ensures gone { IfNone result (V.tells view.new → (v : Volume) → V.stands_for view.old v → LosesOne (V.is_gone view.new) (IsMetadataBy Little g.now v)) }
-    ensures fetched { FetchesOnly V.fetched (V.stands_for view.old) (V.tells view.new) (IsMetadataBy Little g.now) view.old view.new }
+    ensures found { IfSome result (λ named. V.tells view.new → (v : Volume) → V.stands_for view.old v → named ≡ inode_at g.now v number) }
+    ensures gone { IfNone result (LosesKind V.View view.old view.new (IsMetadataBy g.now)) }
+    ensures fetched { FetchesKind V.View view.old view.new (IsMetadataBy g.now) }
 {
-    if number < ROOT || g.ncg * g.ipg <= number {
+    if number < ROOT_INODE || g.ncg * g.ipg <= number {
         return Some(None);
     }
     let (block, byte) = place_of(g, number);
     if !levels.read_aside(view, block) {
         return None;
     }
-    let start = byte as usize;
-    Some(read_inode(&levels.aside()[start..start + INODE_BYTES]))
+    Some(inode_at(levels.aside(), byte, g.endian))
 }
 
 /// Notes what is wrong with an entry of a type, which names an inode, if there is one.
@@ -100,13 +97,13 @@ fn scan_entry<V: View>(
     requires sound { V.is_sound view.old }
     requires geometry { IsGeometryOn (V.size view.old) (V.count view.old) g.now }
     requires levels { levels.old.fragment ≡ V.size view.old }
-    ensures keeps { KeepsView V.stands_for V.tells V.is_gone V.count V.size V.is_sound V.goes_on view.old view.new }
+    ensures keeps { Keeps V.View view.old view.new }
     ensures levels { levels.new.fragment ≡ levels.old.fragment }
     ensures block { levels.new.block ≡ levels.old.block }
     ensures found { result ≡ true → V.tells view.new → (v : Volume) → V.stands_for view.old v
         → AddsEntries g.now v (used_entries (entry_of entry.now ∷ [])) faults.old faults.new }
-    ensures gone { result ≡ false → V.tells view.new → (v : Volume) → V.stands_for view.old v → LosesOne (V.is_gone view.new) (IsMetadataBy Little g.now v) }
-    ensures fetched { FetchesOnly V.fetched (V.stands_for view.old) (V.tells view.new) (IsMetadataBy Little g.now) view.old view.new }
+    ensures gone { result ≡ false → LosesKind V.View view.old view.new (IsMetadataBy g.now) }
+    ensures fetched { FetchesKind V.View view.old view.new (IsMetadataBy g.now) }
 {
     if !entry.is_used() {
         return true;
@@ -130,16 +127,16 @@ fn scan_chunk<V: View>(
     requires geometry { IsGeometryOn (V.size view.old) (V.count view.old) g.now }
     requires levels { levels.old.fragment ≡ V.size view.old }
     requires chunk { length chunk.now ≡ CHUNK_BYTES }
-    requires whole { fault_in Little 0 chunk.now ≡ None }
-    ensures keeps { KeepsView V.stands_for V.tells V.is_gone V.count V.size V.is_sound V.goes_on view.old view.new }
+    requires whole { fault_in g.now.endian 0 chunk.now ≡ None }
+    ensures keeps { Keeps V.View view.old view.new }
     ensures levels { levels.new.fragment ≡ levels.old.fragment }
     ensures block { levels.new.block ≡ levels.old.block }
     ensures found { result ≡ true → V.tells view.new → (v : Volume) → V.stands_for view.old v
-        → AddsEntries g.now v (used_entries (entries_in Little 0 chunk.now)) faults.old faults.new }
-    ensures gone { result ≡ false → V.tells view.new → (v : Volume) → V.stands_for view.old v → LosesOne (V.is_gone view.new) (IsMetadataBy Little g.now v) }
-    ensures fetched { FetchesOnly V.fetched (V.stands_for view.old) (V.tells view.new) (IsMetadataBy Little g.now) view.old view.new }
+        → AddsEntries g.now v (used_entries (entries_in g.now.endian 0 chunk.now)) faults.old faults.new }
+    ensures gone { result ≡ false → LosesKind V.View view.old view.new (IsMetadataBy g.now) }
+    ensures fetched { FetchesKind V.View view.old view.new (IsMetadataBy g.now) }
 {
-    let mut entries = Entries::new(chunk);
+    let mut entries = Entries::new(chunk, g.endian);
     loop {
         match entries.next() {
             EntryStep::Entry(entry) => {
@@ -154,21 +151,21 @@ fn scan_chunk<V: View>(
 }
 
 /// A chunk is refused.
-fn is_refused(chunk: &[u8]) -> bool
+fn is_refused(chunk: &[u8], endian: Endian) -> bool
     requires { length chunk.now ≡ CHUNK_BYTES }
-    ensures { result ≡ is_refused chunk.now }
+    ensures { result ≡ is_refused endian chunk.now }
 {
-    check(chunk).is_some()
+    check(chunk, endian).is_some()
 }
 
 /// One of the first `count` chunks of a block is refused.
-pub fn has_refused(bytes: &[u8], count: usize) -> bool
+pub fn has_refused(bytes: &[u8], count: usize, endian: Endian) -> bool
     requires { count * 512 ≤ length bytes.now }
-    ensures { result ≡ list_any is_refused (chunks_in count bytes.now) }
+    ensures { result ≡ list_any (is_refused endian) (chunks_in count bytes.now) }
 {
     for i in 0..count {
         let start = i * CHUNK_BYTES;
-        if is_refused(&bytes[start..start + CHUNK_BYTES]) {
+        if is_refused(&bytes[start..start + CHUNK_BYTES], endian) {
             return true;
         }
     }
@@ -189,14 +186,14 @@ pub fn scan_chunks<V: View>(
     requires levels { levels.old.fragment ≡ V.size view.old }
     requires few { count ≤ 128 }
     requires chunks { count * 512 ≤ length levels.old.block }
-    requires whole { list_any is_refused (chunks_in count levels.old.block) ≡ false }
-    ensures keeps { KeepsView V.stands_for V.tells V.is_gone V.count V.size V.is_sound V.goes_on view.old view.new }
+    requires whole { list_any (is_refused g.now.endian) (chunks_in count levels.old.block) ≡ false }
+    ensures keeps { Keeps V.View view.old view.new }
     ensures levels { levels.new.fragment ≡ levels.old.fragment }
     ensures block { levels.new.block ≡ levels.old.block }
     ensures found { result ≡ true → V.tells view.new → (v : Volume) → V.stands_for view.old v
-        → AddsEntries g.now v (entries_all (chunks_in count levels.old.block)) faults.old faults.new }
-    ensures gone { result ≡ false → V.tells view.new → (v : Volume) → V.stands_for view.old v → LosesOne (V.is_gone view.new) (IsMetadataBy Little g.now v) }
-    ensures fetched { FetchesOnly V.fetched (V.stands_for view.old) (V.tells view.new) (IsMetadataBy Little g.now) view.old view.new }
+        → AddsEntries g.now v (entries_all g.now.endian (chunks_in count levels.old.block)) faults.old faults.new }
+    ensures gone { result ≡ false → LosesKind V.View view.old view.new (IsMetadataBy g.now) }
+    ensures fetched { FetchesKind V.View view.old view.new (IsMetadataBy g.now) }
 {
     let mut chunk = [0; CHUNK_BYTES];
     for i in 0..count {

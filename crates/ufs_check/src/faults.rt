@@ -101,7 +101,8 @@ fn keep_links(faults: &Faults, first: &mut Option<(BadKind, u32)>)
 
 /// The first malformation, by what all passes find.
 pub fn verdict_of(faults: &Faults) -> Verdict
-    ensures { (g : Geometry) (v : Volume) → IsGeometry g → AreFaults g v faults.now → Judges g v result }
+    ensures judges { (g : Geometry) (v : Volume) → IsGeometry g → AreFaults g v faults.now → Judges g v result }
+    ensures there { result ≡ Verdict.Gone → ⊥ }
 {
     let mut first = None;
     keep_slots(faults, &mut first);

@@ -1,16 +1,15 @@
 // The pass over the fragments.
 ghost use Rattle.std.specs.Prelude.{◌≡◌, ◌+◌, ◌/◌, ◌%◌, ◌<◌, ◌≤◌, ℕ, List, Some, None, true, false, IfNone, IfSome, length};
 ghost use Rattle.std.specs.Bool.{Decides};
-ghost use Rattle.dg_io.specs.Views.{KeepsView};
+ghost use Rattle.dg_io.specs.ViewWords.{Keeps};
 ghost use Rattle.ufs_model.specs.Blocks.{Volume, block_at};
 ghost use Rattle.ufs_model.specs.Geometries.{IsGeometry, IsGeometryOn};
 ghost use Rattle.ufs_model.specs.GroupMaps.{by_maps, group_bytes, group_in, is_free};
 ghost use Rattle.ufs_model.specs.Metadata.{IsMetadataBy};
-ghost use Rattle.ufs_model.specs.declared.numbers.Endian.TheVariants.{Little};
 ghost use Rattle.dg_claims.specs.Kept.{table_of};
-ghost use Rattle.ufs_check.specs.Fragments.{AreClaimFaultsBelow, AreFragmentFaults, AreFragmentFaultsBelow, ArePointerFaultsBelow, HasClaims, HasWholeUppers, IsClaimedBy, IsUpperIn};
+ghost use Rattle.ufs_check.specs.Fragments.{AreClaimFaultsBelow, AreFragmentFaults, AreFragmentFaultsBelow, ArePointerFaultsBelow, HasClaimsOf, HasWholeUppers, IsUpperIn};
+ghost use Rattle.ufs_check.specs.ViewWords.{FetchesOn, IsClaimed, LosesOn};
 ghost use Rattle.ufs_check.specs.Limits.{IsInLimits, IsLimit};
-ghost use Rattle.ufs_check.specs.Passes.{FetchesOnly, LosesOne};
 ghost use Rattle.ufs_check.specs.Reaches.{HasNoTwice};
 
 use crate::inodes::hold_group;
@@ -32,7 +31,7 @@ fn is_marked_free(g: &Geometry, f: u32, bytes: &[u8]) -> bool
     requires geometry { IsGeometry g.now }
     requires inside { f < g.now.size }
     requires bytes { g.now.bsize ≤ length bytes.now }
-    ensures { result ≡ by_maps (group_in Little g.now (f / g.now.fpg) bytes.now) (λ group. is_free bytes.now group (f % g.now.fpg)) }
+    ensures { result ≡ by_maps (group_in g.now (f / g.now.fpg) bytes.now) (λ group. is_free bytes.now group (f % g.now.fpg)) }
 {
     match read_group(bytes, g, group_of(g, f)) {
         Ok(group) => is_free(bytes, &group, f % g.fpg),
@@ -57,7 +56,7 @@ fn note_claims(g: &Geometry, f: u32, bytes: &[u8], claims: &Claims, faults: &mut
     ensures wild_in { faults.new.wild_in ≡ faults.old.wild_in }
     ensures align_in { faults.new.align_in ≡ faults.old.align_in }
     ensures past_in { faults.new.past_in ≡ faults.old.past_in }
-    ensures claimed { (v : Volume) → HasClaims g.now (table_of claims.now) v → bytes.now ≡ (group_bytes g.now (f / g.now.fpg) v).value
+    ensures claimed { (v : Volume) → HasClaimsOf g.now (table_of claims.now) v → bytes.now ≡ (group_bytes g.now (f / g.now.fpg) v).value
         → AreClaimFaultsBelow g.now v f faults.old → AreClaimFaultsBelow g.now v (f + 1) faults.new }
 {
     let number = claims.claims_on(f);
@@ -85,7 +84,7 @@ fn note_pointers(
     requires upper { IsUpperIn (table_of claims.now) f }
     ensures twice { faults.new.twice ≡ faults.old.twice }
     ensures free { faults.new.free ≡ faults.old.free }
-    ensures pointers { (v : Volume) → HasClaims g.now (table_of claims.now) v → bytes.now ≡ block_at g.now.fsize v f
+    ensures pointers { (v : Volume) → HasClaimsOf g.now (table_of claims.now) v → bytes.now ≡ block_at g.now.fsize v f
         → (HasNoTwice g.now v → IsLimit g.now v f limit) → ArePointerFaultsBelow g.now v f faults.old → ArePointerFaultsBelow g.now v (f + 1) faults.new }
 {
     note(&mut faults.wild_in, f, has_wild_pointer(g, bytes));
@@ -108,18 +107,17 @@ fn check_pointers<V: View>(
     requires levels { levels.old.fragment ≡ V.size view.old }
     requires table { (table_of claims.now).geometry ≡ Some g.now }
     requires inside { f < g.now.size }
-    ensures keeps { KeepsView V.stands_for V.tells V.is_gone V.count V.size V.is_sound V.goes_on view.old view.new }
+    ensures keeps { Keeps V.View view.old view.new }
     ensures levels { levels.new.fragment ≡ levels.old.fragment }
     ensures block { levels.new.block ≡ levels.old.block }
     ensures twice { faults.new.twice ≡ faults.old.twice }
     ensures free { faults.new.free ≡ faults.old.free }
-    ensures found { result ≡ true → V.tells view.new → (v : Volume) → IsClaimedBy (V.stands_for view.old) g.now (table_of claims.now) v
+    ensures found { result ≡ true → V.tells view.new → (v : Volume) → IsClaimed V.View view.old g.now (table_of claims.now) v
         → ArePointerFaultsBelow g.now v f faults.old → ArePointerFaultsBelow g.now v (f + 1) faults.new }
     ensures whole { result ≡ true → V.tells view.new → (v : Volume) → V.stands_for view.old v → IsUpperIn (table_of claims.now) f
         → length (block_at g.now.fsize v f) ≡ g.now.fsize }
-    ensures gone { result ≡ false → V.tells view.new → (v : Volume) → IsClaimedBy (V.stands_for view.old) g.now (table_of claims.now) v
-        → LosesOne (V.is_gone view.new) (IsMetadataBy Little g.now v) }
-    ensures fetched { FetchesOnly V.fetched (IsClaimedBy (V.stands_for view.old) g.now (table_of claims.now)) (V.tells view.new) (IsMetadataBy Little g.now) view.old view.new }
+    ensures gone { result ≡ false → LosesOn V.View view.old view.new (IsClaimed V.View view.old g.now (table_of claims.now)) (IsMetadataBy g.now) }
+    ensures fetched { FetchesOn V.View view.old view.new (IsClaimed V.View view.old g.now (table_of claims.now)) (IsMetadataBy g.now) }
 {
     if !is_upper(claims, f) {
         return true;
@@ -146,15 +144,14 @@ pub fn check_fragments<V: View>(
     requires geometry { IsGeometryOn (V.size view.old) (V.count view.old) g.now }
     requires levels { levels.old.fragment ≡ V.size view.old }
     requires table { (table_of claims.now).geometry ≡ Some g.now }
-    ensures keeps { KeepsView V.stands_for V.tells V.is_gone V.count V.size V.is_sound V.goes_on view.old view.new }
+    ensures keeps { Keeps V.View view.old view.new }
     ensures levels { levels.new.fragment ≡ levels.old.fragment }
-    ensures found { IfSome result (λ faults. V.tells view.new → (v : Volume) → IsClaimedBy (V.stands_for view.old) g.now (table_of claims.now) v
+    ensures found { IfSome result (λ faults. V.tells view.new → (v : Volume) → IsClaimed V.View view.old g.now (table_of claims.now) v
         → AreFragmentFaults g.now v faults) }
-    ensures whole { IfSome result (λ faults. V.tells view.new → (v : Volume) → IsClaimedBy (V.stands_for view.old) g.now (table_of claims.now) v
+    ensures whole { IfSome result (λ faults. V.tells view.new → (v : Volume) → IsClaimed V.View view.old g.now (table_of claims.now) v
         → HasWholeUppers g.now v) }
-    ensures gone { IfNone result (V.tells view.new → (v : Volume) → IsClaimedBy (V.stands_for view.old) g.now (table_of claims.now) v
-        → LosesOne (V.is_gone view.new) (IsMetadataBy Little g.now v)) }
-    ensures fetched { FetchesOnly V.fetched (IsClaimedBy (V.stands_for view.old) g.now (table_of claims.now)) (V.tells view.new) (IsMetadataBy Little g.now) view.old view.new }
+    ensures gone { IfNone result (LosesOn V.View view.old view.new (IsClaimed V.View view.old g.now (table_of claims.now)) (IsMetadataBy g.now)) }
+    ensures fetched { FetchesOn V.View view.old view.new (IsClaimed V.View view.old g.now (table_of claims.now)) (IsMetadataBy g.now) }
 {
     claims.claims_inside();
     let mut faults = FragmentFaults {

@@ -1,13 +1,12 @@
 // The pass over the group blocks.
 ghost use Rattle.std.specs.Prelude.{◌≡◌, ◌+◌, ◌<◌, ◌≤◌, ℕ, List, IfNone, IfSome, length};
-ghost use Rattle.dg_io.specs.Views.{KeepsView};
+ghost use Rattle.dg_io.specs.ViewWords.{Keeps};
 ghost use Rattle.ufs_model.specs.Blocks.{Volume};
 ghost use Rattle.ufs_model.specs.Geometries.{IsGeometry, IsGeometryOn};
 ghost use Rattle.ufs_model.specs.GroupMaps.{group_bytes};
 ghost use Rattle.ufs_model.specs.Metadata.{IsMetadataBy};
-ghost use Rattle.ufs_model.specs.declared.numbers.Endian.TheVariants.{Little};
 ghost use Rattle.ufs_check.specs.Groups.{AreGroupFaults, AreGroupFaultsBelow};
-ghost use Rattle.ufs_check.specs.Passes.{FetchesOnly, LosesOne};
+ghost use Rattle.ufs_pointer.specs.ViewWords.{FetchesKind, LosesKind};
 
 use crate::notes::note;
 use crate::verdicts::GroupFaults;
@@ -35,12 +34,11 @@ pub fn check_groups<V: View>(view: &mut V, g: &Geometry, levels: &mut Levels) ->
     requires sound { V.is_sound view.old }
     requires geometry { IsGeometryOn (V.size view.old) (V.count view.old) g.now }
     requires levels { levels.old.fragment ≡ V.size view.old }
-    ensures keeps { KeepsView V.stands_for V.tells V.is_gone V.count V.size V.is_sound V.goes_on view.old view.new }
+    ensures keeps { Keeps V.View view.old view.new }
     ensures levels { levels.new.fragment ≡ levels.old.fragment }
     ensures found { IfSome result (λ faults. V.tells view.new → (v : Volume) → V.stands_for view.old v → AreGroupFaults g.now v faults) }
-    ensures gone { IfNone result (V.tells view.new → (v : Volume) → V.stands_for view.old v
-        → LosesOne (V.is_gone view.new) (IsMetadataBy Little g.now v)) }
-    ensures fetched { FetchesOnly V.fetched (V.stands_for view.old) (V.tells view.new) (IsMetadataBy Little g.now) view.old view.new }
+    ensures gone { IfNone result (LosesKind V.View view.old view.new (IsMetadataBy g.now)) }
+    ensures fetched { FetchesKind V.View view.old view.new (IsMetadataBy g.now) }
 {
     let mut faults = GroupFaults {
         magic: None,

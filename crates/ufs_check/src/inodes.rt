@@ -1,30 +1,23 @@
 // The pass over the inodes.
-ghost use Rattle.std.specs.Prelude.{◌≡◌, ◌+◌, ◌*◌, ◌/◌, ◌%◌, ◌<◌, ◌≤◌, ℕ, List, Some, true, false, IfNone, IfSome, length};
-ghost use Rattle.dg_io.specs.Views.{KeepsView};
+ghost use Rattle.std.specs.Prelude.{◌≡◌, ◌+◌, ◌*◌, ◌/◌, ◌%◌, ◌<◌, ◌≤◌, ℕ, List, Some, true, false, not, IfNone, IfSome, length};
+ghost use Rattle.dg_io.specs.ViewWords.{Keeps};
 ghost use Rattle.ufs_model.specs.Blocks.{Volume, block_at};
 ghost use Rattle.ufs_model.specs.Geometries.{IsGeometry, IsGeometryOn};
-ghost use Rattle.ufs_model.specs.GroupMaps.{by_maps, group_bytes, group_in, is_marked_used, is_used};
-ghost use Rattle.ufs_model.specs.Inodes.{has_pointers, inode_in};
+ghost use Rattle.ufs_model.specs.GroupMaps.{by_maps, group_bytes, group_in, is_marked_unused, is_used};
+ghost use Rattle.ufs_model.specs.Inodes.{has_pointers};
 ghost use Rattle.ufs_model.specs.Malformations.{inode_at};
 ghost use Rattle.ufs_model.specs.Metadata.{IsMetadataBy};
-ghost use Rattle.ufs_model.specs.declared.numbers.Endian.TheVariants.{Little};
 ghost use Rattle.ufs_check.specs.Inodes.{AreInodeFaults, AreInodeFaultsBelow, ArePointedFaultsBelow};
-ghost use Rattle.ufs_check.specs.Passes.{FetchesOnly, LosesOne};
+ghost use Rattle.ufs_pointer.specs.ViewWords.{FetchesKind, LosesKind};
 
 use crate::notes::note;
 use crate::slots::{has_crossing, has_misaligned, has_past, has_wild};
 use crate::verdicts::InodeFaults;
 use dg_io::View;
 use ufs_group::{group_block, is_used, read_group};
-use ufs_inode::{has_pointers, place_of, read_inode};
-use ufs_model::{Geometry, Inode, Kind};
+use ufs_inode::{has_pointers, inode_at, place_of};
+use ufs_model::{Geometry, Inode, Kind, ROOT_INODE};
 use ufs_pointer::Levels;
-
-/// The inode of the root (`ROOTINO`), below which none is used.
-pub const ROOT: u32 = 2;
-
-/// Bytes of an inode (`struct dinode`).
-pub const INODE_BYTES: usize = 128;
 
 /// Files of so many bytes are malformed, and longer ones.
 pub const TOO_LONG: u64 = 1 << 32;
@@ -35,7 +28,7 @@ fn note_pointed(g: &Geometry, i: u32, inode: &Inode, faults: &mut InodeFaults)
     requires pointers { has_pointers g.now inode.now ≡ true }
     ensures wrong_type { faults.new.wrong_type ≡ faults.old.wrong_type }
     ensures unused { faults.new.unused ≡ faults.old.unused }
-    ensures pointed { (v : Volume) → inode_at Little g.now v i ≡ Some inode.now → ArePointedFaultsBelow g.now v i faults.old
+    ensures pointed { (v : Volume) → inode_at g.now v i ≡ Some inode.now → ArePointedFaultsBelow g.now v i faults.old
         → ArePointedFaultsBelow g.now v (i + 1) faults.new }
 {
     note(&mut faults.filesize, i, TOO_LONG <= inode.size);
@@ -45,35 +38,34 @@ fn note_pointed(g: &Geometry, i: u32, inode: &Inode, faults: &mut InodeFaults)
     note(&mut faults.run, i, has_crossing(g, inode));
 }
 
-/// Notes what is wrong with inode `i`, which has the bytes, where what is wrong with inodes of lower
-/// numbers is noted.
-fn note_inode(g: &Geometry, i: u32, bytes: &[u8], used: bool, faults: &mut InodeFaults)
+/// Notes what is wrong with inode `i`, if it is allocated, where what is wrong with inodes of lower numbers
+/// is noted.
+fn note_inode(g: &Geometry, i: u32, inode: Option<Inode>, unused: bool, faults: &mut InodeFaults)
     requires geometry { IsGeometry g.now }
-    requires bytes { 128 ≤ length bytes.now }
-    ensures { (v : Volume) → inode_at Little g.now v i ≡ inode_in Little bytes.now → (is_marked_used Little g.now i v).value ≡ used
+    ensures { (v : Volume) → inode_at g.now v i ≡ inode → (is_marked_unused g.now i v).value ≡ unused
         → AreInodeFaultsBelow g.now v i faults.old → AreInodeFaultsBelow g.now v (i + 1) faults.new }
 {
-    let Some(inode) = read_inode(bytes) else {
+    let Some(inode) = inode else {
         return;
     };
     note(&mut faults.wrong_type, i, inode.kind() == Kind::Unknown);
-    note(&mut faults.unused, i, !used);
+    note(&mut faults.unused, i, unused);
     if !has_pointers(g, &inode) {
         return;
     }
     note_pointed(g, i, &inode, faults);
 }
 
-/// Inode `i` is marked used by the map of its group, whose block has the bytes. Where that is refused,
+/// Inode `i` is marked unused by the map of its group, whose block has the bytes. Where that is refused,
 /// it isn't.
-fn is_marked_used(g: &Geometry, i: u32, bytes: &[u8]) -> bool
+fn is_marked_unused(g: &Geometry, i: u32, bytes: &[u8]) -> bool
     requires geometry { IsGeometry g.now }
     requires number { i < g.now.ncg * g.now.ipg }
     requires bytes { g.now.bsize ≤ length bytes.now }
-    ensures { result ≡ by_maps (group_in Little g.now (i / g.now.ipg) bytes.now) (λ group. is_used bytes.now group (i % g.now.ipg)) }
+    ensures { result ≡ by_maps (group_in g.now (i / g.now.ipg) bytes.now) (λ group. not (is_used bytes.now group (i % g.now.ipg))) }
 {
     match read_group(bytes, g, i / g.ipg) {
-        Ok(group) => is_used(bytes, &group, i % g.ipg),
+        Ok(group) => !is_used(bytes, &group, i % g.ipg),
         Err(_) => false,
     }
 }
@@ -91,15 +83,15 @@ pub fn hold_group<V: View>(
     requires levels { levels.old.fragment ≡ V.size view.old }
     requires group { c < g.now.ncg }
     requires room { IfSome held.old (λ c. g.now.bsize ≤ length levels.old.block) }
-    ensures keeps { KeepsView V.stands_for V.tells V.is_gone V.count V.size V.is_sound V.goes_on view.old view.new }
+    ensures keeps { Keeps V.View view.old view.new }
     ensures levels { levels.new.fragment ≡ levels.old.fragment }
     ensures aside { levels.new.aside ≡ levels.old.aside }
     ensures held { held.new ≡ Some c }
     ensures room { g.now.bsize ≤ length levels.new.block }
     ensures holds { result ≡ true → V.tells view.new → (v : Volume) → V.stands_for view.old v
         → IfSome held.old (λ c. levels.old.block ≡ (group_bytes g.now c v).value) → levels.new.block ≡ (group_bytes g.now c v).value }
-    ensures gone { result ≡ false → V.tells view.new → (v : Volume) → V.stands_for view.old v → LosesOne (V.is_gone view.new) (IsMetadataBy Little g.now v) }
-    ensures fetched { FetchesOnly V.fetched (V.stands_for view.old) (V.tells view.new) (IsMetadataBy Little g.now) view.old view.new }
+    ensures gone { result ≡ false → LosesKind V.View view.old view.new (IsMetadataBy g.now) }
+    ensures fetched { FetchesKind V.View view.old view.new (IsMetadataBy g.now) }
 {
     if *held == Some(c) {
         return true;
@@ -120,17 +112,17 @@ fn hold_inodes<V: View>(
     requires geometry { IsGeometryOn (V.size view.old) (V.count view.old) g.now }
     requires levels { levels.old.fragment ≡ V.size view.old }
     requires inside { block < g.now.size }
-    requires metadata { (v : Volume) → IsMetadataBy Little g.now v block }
+    requires metadata { (v : Volume) → IsMetadataBy g.now v block }
     requires room { IfSome held.old (λ b. length levels.old.aside ≡ g.now.fsize) }
-    ensures keeps { KeepsView V.stands_for V.tells V.is_gone V.count V.size V.is_sound V.goes_on view.old view.new }
+    ensures keeps { Keeps V.View view.old view.new }
     ensures levels { levels.new.fragment ≡ levels.old.fragment }
     ensures group { levels.new.block ≡ levels.old.block }
     ensures held { held.new ≡ Some block }
     ensures room { length levels.new.aside ≡ g.now.fsize }
     ensures holds { result ≡ true → V.tells view.new → (v : Volume) → V.stands_for view.old v
         → IfSome held.old (λ b. levels.old.aside ≡ block_at g.now.fsize v b) → levels.new.aside ≡ block_at g.now.fsize v block }
-    ensures gone { result ≡ false → V.tells view.new → (v : Volume) → V.stands_for view.old v → LosesOne (V.is_gone view.new) (IsMetadataBy Little g.now v) }
-    ensures fetched { FetchesOnly V.fetched (V.stands_for view.old) (V.tells view.new) (IsMetadataBy Little g.now) view.old view.new }
+    ensures gone { result ≡ false → LosesKind V.View view.old view.new (IsMetadataBy g.now) }
+    ensures fetched { FetchesKind V.View view.old view.new (IsMetadataBy g.now) }
 {
     if *held == Some(block) {
         return true;
@@ -144,12 +136,11 @@ pub fn check_inodes<V: View>(view: &mut V, g: &Geometry, levels: &mut Levels) ->
     requires sound { V.is_sound view.old }
     requires geometry { IsGeometryOn (V.size view.old) (V.count view.old) g.now }
     requires levels { levels.old.fragment ≡ V.size view.old }
-    ensures keeps { KeepsView V.stands_for V.tells V.is_gone V.count V.size V.is_sound V.goes_on view.old view.new }
+    ensures keeps { Keeps V.View view.old view.new }
     ensures levels { levels.new.fragment ≡ levels.old.fragment }
     ensures found { IfSome result (λ faults. V.tells view.new → (v : Volume) → V.stands_for view.old v → AreInodeFaults g.now v faults) }
-    ensures gone { IfNone result (V.tells view.new → (v : Volume) → V.stands_for view.old v
-        → LosesOne (V.is_gone view.new) (IsMetadataBy Little g.now v)) }
-    ensures fetched { FetchesOnly V.fetched (V.stands_for view.old) (V.tells view.new) (IsMetadataBy Little g.now) view.old view.new }
+    ensures gone { IfNone result (LosesKind V.View view.old view.new (IsMetadataBy g.now)) }
+    ensures fetched { FetchesKind V.View view.old view.new (IsMetadataBy g.now) }
 {
     let mut faults = InodeFaults {
         wrong_type: None,
@@ -162,7 +153,7 @@ pub fn check_inodes<V: View>(view: &mut V, g: &Geometry, levels: &mut Levels) ->
     };
     let mut group = None;
     let mut inodes = None;
-    for i in ROOT..g.ncg * g.ipg {
+    for i in ROOT_INODE..g.ncg * g.ipg {
         let (block, byte) = place_of(g, i);
         if !hold_group(view, g, i / g.ipg, levels, &mut group) {
             return None;
@@ -170,10 +161,9 @@ pub fn check_inodes<V: View>(view: &mut V, g: &Geometry, levels: &mut Levels) ->
         if !hold_inodes(view, g, block, levels, &mut inodes) {
             return None;
         }
-        let used = is_marked_used(g, i, levels.block());
-        let start = byte as usize;
-        let bytes = &levels.aside()[start..start + INODE_BYTES];
-        note_inode(g, i, bytes, used, &mut faults);
+        let unused = is_marked_unused(g, i, levels.block());
+        let inode = inode_at(levels.aside(), byte, g.endian);
+        note_inode(g, i, inode, unused, &mut faults);
     }
     Some(faults)
 }

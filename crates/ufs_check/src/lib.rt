@@ -4,15 +4,9 @@
 //! it looks for. The passes over directories are made only where those before find nothing.
 #![tactic(auto)]
 
-#[cfg(test)]
-mod check_tests;
 mod checks;
-#[cfg(test)]
-mod corner_tests;
 mod directories;
 mod entries;
-#[cfg(test)]
-mod fault_rows;
 mod faults;
 #[cfg(test)]
 mod fragment_tests;
@@ -26,8 +20,6 @@ mod links;
 mod names;
 mod notes;
 mod owned_entries;
-#[cfg(test)]
-mod pair_tests;
 mod parents;
 mod pointers;
 mod reaches;

@@ -1,16 +1,15 @@
 // Which pointers of a fragment of an indirect block reach no block of their file.
 ghost use Rattle.std.specs.Prelude.{◌≡◌, ◌+◌, ◌*◌, ◌/◌, ◌^◌, ◌<◌, ◌≤◌, ℕ, Some, IfNone, IfSome};
 ghost use Rattle.std.specs.Bool.{Decides};
-ghost use Rattle.dg_io.specs.Views.{KeepsView};
+ghost use Rattle.dg_io.specs.ViewWords.{Keeps};
 ghost use Rattle.ufs_model.specs.Blocks.{Volume};
 ghost use Rattle.ufs_model.specs.Geometries.{IsGeometry, IsGeometryOn};
 ghost use Rattle.ufs_model.specs.Malformations.{inode_at};
 ghost use Rattle.ufs_model.specs.Metadata.{IsMetadataBy};
-ghost use Rattle.ufs_model.specs.declared.numbers.Endian.TheVariants.{Little};
 ghost use Rattle.dg_claims.specs.Kept.{table_of};
-ghost use Rattle.ufs_check.specs.Fragments.{HasClaims};
+ghost use Rattle.ufs_check.specs.Fragments.{HasClaimsOf};
 ghost use Rattle.ufs_check.specs.Limits.{IsInLimits, IsLimit, IsPastLimit};
-ghost use Rattle.ufs_check.specs.Passes.{FetchesOnly, LosesOne};
+ghost use Rattle.ufs_pointer.specs.ViewWords.{FetchesKind, LosesKind};
 ghost use Rattle.ufs_check.specs.Reaches.{HasNoTwice, IsReach};
 
 use crate::entries::read_named;
@@ -46,7 +45,7 @@ fn limit_of(g: &Geometry, reach: &Reach, inode: Option<Inode>) -> Option<Limit>
     requires geometry { IsGeometry g.now }
     requires level { (1 ≤ reach.now.level) × (reach.now.level ≤ 3) }
     requires most { reach.now.first ≤ 2 ^ 48 }
-    ensures limit { (v : Volume) (f : ℕ) → IsReach g.now v f (Some reach.now) → inode_at Little g.now v reach.now.inode ≡ inode → IsLimit g.now v f result }
+    ensures limit { (v : Volume) (f : ℕ) → IsReach g.now v f (Some reach.now) → inode_at g.now v reach.now.inode ≡ inode → IsLimit g.now v f result }
     ensures fits { IfSome result IsInLimits }
 {
     let inode = inode?;
@@ -70,14 +69,14 @@ pub fn read_limit<V: View>(
     requires geometry { IsGeometryOn (V.size view.old) (V.count view.old) g.now }
     requires levels { levels.old.fragment ≡ V.size view.old }
     requires table { (table_of claims.now).geometry ≡ Some g.now }
-    ensures keeps { KeepsView V.stands_for V.tells V.is_gone V.count V.size V.is_sound V.goes_on view.old view.new }
+    ensures keeps { Keeps V.View view.old view.new }
     ensures levels { levels.new.fragment ≡ levels.old.fragment }
     ensures block { levels.new.block ≡ levels.old.block }
-    ensures found { IfSome result (λ limit. V.tells view.new → (v : Volume) → V.stands_for view.old v → HasClaims g.now (table_of claims.now) v → HasNoTwice g.now v
-        → IsLimit g.now v f limit) }
+    ensures found { IfSome result (λ limit. V.tells view.new → (v : Volume) → V.stands_for view.old v → HasClaimsOf g.now (table_of claims.now) v
+        → HasNoTwice g.now v → IsLimit g.now v f limit) }
     ensures fits { IfSome result (λ limit. IfSome limit IsInLimits) }
-    ensures gone { IfNone result (V.tells view.new → (v : Volume) → V.stands_for view.old v → LosesOne (V.is_gone view.new) (IsMetadataBy Little g.now v)) }
-    ensures fetched { FetchesOnly V.fetched (V.stands_for view.old) (V.tells view.new) (IsMetadataBy Little g.now) view.old view.new }
+    ensures gone { IfNone result (LosesKind V.View view.old view.new (IsMetadataBy g.now)) }
+    ensures fetched { FetchesKind V.View view.old view.new (IsMetadataBy g.now) }
 {
     let Some(reach) = reach_of(claims, g, f) else {
         return Some(None);

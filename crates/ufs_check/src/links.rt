@@ -1,24 +1,23 @@
 // The pass over what is wrong between the entries of directories.
 ghost use Rattle.std.specs.Prelude.{◌≡◌, ◌+◌, ◌^◌, ◌<◌, true, false, IfNone, IfOk, IfSome, OnOk};
-ghost use Rattle.dg_io.specs.Views.{KeepsView};
+ghost use Rattle.dg_io.specs.ViewWords.{Keeps};
 ghost use Rattle.ufs_model.specs.Blocks.{Volume};
 ghost use Rattle.ufs_model.specs.Geometries.{IsGeometry, IsGeometryOn};
 ghost use Rattle.ufs_model.specs.Malformations.{HasEntries};
 ghost use Rattle.ufs_model.specs.declared.geometries.Geometry.{Geometry};
-ghost use Rattle.ufs_model.specs.declared.numbers.Endian.TheVariants.{Little};
 ghost use Rattle.ufs_check.specs.Directories.{IsDirectoryRead};
 ghost use Rattle.ufs_check.specs.Links.{AreLinkFaults, AreLinksBelow, HasAllEntries, HasRead, bad_dots_in, is_up_in, named_twice_in};
+ghost use Rattle.ufs_check.specs.Names.{HasNamed};
 ghost use Rattle.ufs_check.specs.OwnedEntries.{owned_all};
-ghost use Rattle.ufs_check.specs.Passes.{FetchesOnly, LosesOne};
+ghost use Rattle.ufs_pointer.specs.ViewWords.{FetchesKind, LosesKind};
 
-use crate::inodes::ROOT;
 use crate::names::{NameFaults, note_names};
 use crate::notes::note;
 use crate::owned_entries::{Gathered, OwnedEntry, gather_entries};
 use crate::parents::{LinkTable, add_directory, empty_table};
 use dg_io::{NoMemory, View};
 use std::alloc::Global;
-use ufs_model::Geometry;
+use ufs_model::{Geometry, ROOT_INODE};
 use ufs_pointer::Levels;
 
 /// What is wrong between the entries of directories: of each kind the least directory.
@@ -49,8 +48,8 @@ fn is_up(i: u32, p: u32, table: &LinkTable) -> bool
     if !table.ups.contains_key(&p) {
         return false;
     }
-    if i == ROOT {
-        return p == ROOT;
+    if i == ROOT_INODE {
+        return p == ROOT_INODE;
     }
     match table.parents.get(&i) {
         None => true,
@@ -89,7 +88,7 @@ fn judge_links(g: &Geometry, table: &LinkTable, names: &NameFaults) -> LinkFault
 {
     let mut dots = None;
     let mut dir_twice = None;
-    for i in ROOT..g.ncg * g.ipg {
+    for i in ROOT_INODE..g.ncg * g.ipg {
         note(&mut dots, i, has_bad_dots(i, table));
         note(&mut dir_twice, i, is_named_twice(i, table));
     }
@@ -109,7 +108,7 @@ fn note_links(
     table: &mut LinkTable,
     faults: &mut NameFaults,
 ) -> Result<(), NoMemory>
-    ensures { OnOk result ((g : Geometry) (v : Volume) → HasEntries Little g v i (owned_all entries.now)
+    ensures { OnOk result ((g : Geometry) (v : Volume) → HasEntries g v i (owned_all entries.now)
         → AreLinksBelow g v i table.old faults.old → AreLinksBelow g v (i + 1) table.new faults.new) }
 {
     note_names(alloc, i, entries, faults)?;
@@ -129,13 +128,12 @@ fn link_inode<V: View>(
     requires sound { V.is_sound view.old }
     requires geometry { IsGeometryOn (V.size view.old) (V.count view.old) g.now }
     requires levels { levels.old.fragment ≡ V.size view.old }
-    ensures keeps { KeepsView V.stands_for V.tells V.is_gone V.count V.size V.is_sound V.goes_on view.old view.new }
+    ensures keeps { Keeps V.View view.old view.new }
     ensures levels { levels.new.fragment ≡ levels.old.fragment }
     ensures found { IfOk result (λ could. could ≡ true → V.tells view.new → (v : Volume) → V.stands_for view.old v
         → AreLinksBelow g.now v i table.old faults.old → AreLinksBelow g.now v (i + 1) table.new faults.new) }
-    ensures gone { IfOk result (λ could. could ≡ false → V.tells view.new → (v : Volume) → V.stands_for view.old v
-        → LosesOne (V.is_gone view.new) (IsDirectoryRead g.now v)) }
-    ensures fetched { FetchesOnly V.fetched (V.stands_for view.old) (V.tells view.new) (IsDirectoryRead g.now) view.old view.new }
+    ensures gone { IfOk result (λ could. could ≡ false → LosesKind V.View view.old view.new (IsDirectoryRead g.now)) }
+    ensures fetched { FetchesKind V.View view.old view.new (IsDirectoryRead g.now) }
 {
     let mut entries = Vec::new(alloc);
     match gather_entries(alloc, view, g, i, levels, &mut entries)? {
@@ -149,7 +147,7 @@ fn link_inode<V: View>(
 }
 
 /// What is wrong between the entries of directories, on a volume on which those of every directory are
-/// read. There is no answer where a block that is read for it is gone.
+/// read, and each names an allocated inode. There is no answer where a block that is read for it is gone.
 pub fn check_links<V: View>(
     alloc: Global,
     view: &mut V,
@@ -159,20 +157,19 @@ pub fn check_links<V: View>(
     requires sound { V.is_sound view.old }
     requires geometry { IsGeometryOn (V.size view.old) (V.count view.old) g.now }
     requires levels { levels.old.fragment ≡ V.size view.old }
-    ensures keeps { KeepsView V.stands_for V.tells V.is_gone V.count V.size V.is_sound V.goes_on view.old view.new }
+    ensures keeps { Keeps V.View view.old view.new }
     ensures levels { levels.new.fragment ≡ levels.old.fragment }
     ensures found { IfOk result (λ answer. IfSome answer (λ faults. V.tells view.new → (v : Volume) → V.stands_for view.old v
-        → HasAllEntries g.now v → AreLinkFaults g.now v faults)) }
-    ensures gone { IfOk result (λ answer. IfNone answer (V.tells view.new → (v : Volume) → V.stands_for view.old v
-        → LosesOne (V.is_gone view.new) (IsDirectoryRead g.now v))) }
-    ensures fetched { FetchesOnly V.fetched (V.stands_for view.old) (V.tells view.new) (IsDirectoryRead g.now) view.old view.new }
+        → HasAllEntries g.now v → HasNamed g.now v → AreLinkFaults g.now v faults)) }
+    ensures gone { IfOk result (λ answer. IfNone answer (LosesKind V.View view.old view.new (IsDirectoryRead g.now))) }
+    ensures fetched { FetchesKind V.View view.old view.new (IsDirectoryRead g.now) }
 {
     let mut table = empty_table(alloc);
     let mut faults = NameFaults {
         names: None,
         root_named: None,
     };
-    for i in ROOT..g.ncg * g.ipg {
+    for i in ROOT_INODE..g.ncg * g.ipg {
         if !link_inode(alloc, view, g, i, levels, &mut table, &mut faults)? {
             return Ok(None);
         }

@@ -6,16 +6,15 @@ ghost use Rattle.std.specs.List.{list_any};
 ghost use Rattle.ufs_model.specs.Blocks.{Volume};
 ghost use Rattle.ufs_model.specs.Malformations.{HasEntries};
 ghost use Rattle.ufs_model.specs.declared.geometries.Geometry.{Geometry};
-ghost use Rattle.ufs_model.specs.declared.numbers.Endian.TheVariants.{Little};
 ghost use Rattle.ufs_check.specs.Names.{AreNameFaultsBelow, HasSameIn, is_plain, names_root};
 ghost use Rattle.ufs_check.specs.OwnedEntries.{owned_all, owned_of};
 
-use crate::inodes::ROOT;
 use crate::notes::note;
 use crate::owned_entries::OwnedEntry;
 use dg_io::NoMemory;
 use std::alloc::Global;
 use std::collections::BTreeSet;
+use ufs_model::ROOT_INODE;
 
 /// What is wrong with the names of entries: of each kind the least directory.
 #[derive(Clone, Copy)]
@@ -62,7 +61,7 @@ fn names_root(entries: &[OwnedEntry]) -> bool
 {
     entries
         .iter()
-        .any(|entry| is_plain(entry) && entry.inode == ROOT)
+        .any(|entry| is_plain(entry) && entry.inode == ROOT_INODE)
 }
 
 /// Notes what is wrong with the names of the entries of directory `i`, where what is wrong with those of
@@ -73,7 +72,7 @@ pub fn note_names(
     entries: &[OwnedEntry],
     faults: &mut NameFaults,
 ) -> Result<(), NoMemory>
-    ensures { OnOk result ((g : Geometry) (v : Volume) → HasEntries Little g v i (owned_all entries.now)
+    ensures { OnOk result ((g : Geometry) (v : Volume) → HasEntries g v i (owned_all entries.now)
         → AreNameFaultsBelow g v i faults.old → AreNameFaultsBelow g v (i + 1) faults.new) }
 {
     let same = has_same_names(alloc, entries)?;

@@ -3,7 +3,6 @@ ghost use Rattle.std.specs.Prelude.{◌≡◌, ◌+◌, OnOk};
 ghost use Rattle.ufs_model.specs.Blocks.{Volume};
 ghost use Rattle.ufs_model.specs.Malformations.{HasEntries};
 ghost use Rattle.ufs_model.specs.declared.geometries.Geometry.{Geometry};
-ghost use Rattle.ufs_model.specs.declared.numbers.Endian.TheVariants.{Little};
 ghost use Rattle.ufs_check.specs.Links.{AddsLink, IsEmptyTable, IsUpOf, ParentsBefore, SetsUp, TableBelow, are_dots, linked};
 ghost use Rattle.ufs_check.specs.OwnedEntries.{owned_all, owned_of};
 
@@ -77,7 +76,7 @@ fn add_links(
     i: u32,
     entries: &[OwnedEntry],
 ) -> Result<(), NoMemory>
-    ensures { OnOk result ((g : Geometry) (v : Volume) → HasEntries Little g v i (owned_all entries.now)
+    ensures { OnOk result ((g : Geometry) (v : Volume) → HasEntries g v i (owned_all entries.now)
         → ParentsBefore g v i 0 parents.old → ParentsBefore g v (i + 1) 0 parents.new) }
 {
     for entry in entries {
@@ -120,7 +119,7 @@ fn add_up(ups: &mut BTreeMap<u32, Option<u32>>, i: u32, up: Option<u32>) -> Resu
 
 /// Keeps what the entries of directory `i` say, where those of lower directories are kept.
 pub fn add_directory(table: &mut LinkTable, i: u32, entries: &[OwnedEntry]) -> Result<(), NoMemory>
-    ensures { OnOk result ((g : Geometry) (v : Volume) → HasEntries Little g v i (owned_all entries.now)
+    ensures { OnOk result ((g : Geometry) (v : Volume) → HasEntries g v i (owned_all entries.now)
         → TableBelow g v i table.old → TableBelow g v (i + 1) table.new) }
 {
     add_up(&mut table.ups, i, up_of(i, entries))?;

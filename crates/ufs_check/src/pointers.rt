@@ -18,7 +18,7 @@ pub fn has_wild_pointer(g: &Geometry, bytes: &[u8]) -> bool
     ensures { Decides result (HasWildPointer g.now bytes.now) }
 {
     for at in 0..g.fsize / POINTER_BYTES {
-        if address(g, pointer(bytes, at), g.frag) == Address::Wild {
+        if address(g, pointer(bytes, at, g.endian), g.frag) == Address::Wild {
             return true;
         }
     }
@@ -32,7 +32,7 @@ pub fn has_misaligned_pointer(g: &Geometry, bytes: &[u8]) -> bool
     ensures { Decides result (HasMisalignedPointer g.now bytes.now) }
 {
     for at in 0..g.fsize / POINTER_BYTES {
-        if let Address::At(start, count) = address(g, pointer(bytes, at), g.frag) {
+        if let Address::At(start, count) = address(g, pointer(bytes, at, g.endian), g.frag) {
             if count == g.frag && start % g.frag != 0 {
                 return true;
             }
@@ -52,7 +52,7 @@ pub fn has_past_pointer(g: &Geometry, bytes: &[u8], limit: Option<Limit>) -> boo
         return false;
     };
     for at in 0..g.fsize / POINTER_BYTES {
-        if pointer(bytes, at) != 0 && is_past(&limit, at) {
+        if pointer(bytes, at, g.endian) != 0 && is_past(&limit, at) {
             return true;
         }
     }

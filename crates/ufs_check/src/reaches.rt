@@ -2,19 +2,18 @@
 ghost use Rattle.std.specs.Prelude.{◌≡◌, ◌+◌, ◌-◌, ◌*◌, ◌/◌, ◌^◌, ◌<◌, ◌≤◌, ℕ, Some, IfNone, IfSome};
 ghost use Rattle.std.specs.Bool.{Decides};
 ghost use Rattle.ufs_model.specs.Blocks.{Volume};
-ghost use Rattle.ufs_model.specs.Claims.{IsOnlyClaim, level_of};
+ghost use Rattle.ufs_model.specs.Claims.{level_of};
+ghost use Rattle.ufs_model.specs.Owners.{IsOnlyClaim};
+ghost use Rattle.ufs_model.specs.declared.claims.ClaimSource.{ClaimSource};
 ghost use Rattle.ufs_model.specs.Geometries.{IsGeometry};
 ghost use Rattle.dg_claims.specs.Kept.{table_of};
-ghost use Rattle.dg_claims.specs.Tables.{IsSource};
-ghost use Rattle.ufs_check.specs.Fragments.{HasClaims};
+ghost use Rattle.dg_claims.specs.Tables.{IsSource, TableClaims};
+ghost use Rattle.ufs_check.specs.Fragments.{HasClaimsOf};
 ghost use Rattle.ufs_check.specs.Reaches.{HasNoTwice, IsBefore, IsPlaceIn, IsReach, ReachesAs};
 
 use crate::slots::first_block;
 use dg_claims::{ClaimSource, Claims};
 use ufs_model::Geometry;
-
-/// The last direct slot of an inode (`NDADDR`).
-const LAST_DIRECT: u8 = 11;
 
 /// Bytes of a pointer (`daddr_t`).
 pub const POINTER_BYTES: u32 = 4;
@@ -30,21 +29,11 @@ pub struct Reach {
     pub first: u64,
 }
 
-/// The level at which a source claims: 0 for blocks of data.
-fn level_of(source: ClaimSource) -> u8
-    ensures { result ≡ level_of source }
-{
-    match source {
-        ClaimSource::Slot { slot, .. } => slot.saturating_sub(LAST_DIRECT),
-        ClaimSource::Pointer { level, .. } => level.saturating_sub(1),
-    }
-}
-
 /// The one claim of a fragment is by the source.
 fn is_claimed_by(claims: &Claims, f: u32, source: ClaimSource) -> bool
-    ensures { Decides result (IsOnlyClaim (table_of claims.now).claimed f source) }
+    ensures { Decides result (IsOnlyClaim (TableClaims (table_of claims.now)) f source) }
 {
-    match claims.claim(f) {
+    match claims.only_claim(f) {
         Some(other) => other == source,
         None => false,
     }
@@ -52,7 +41,7 @@ fn is_claimed_by(claims: &Claims, f: u32, source: ClaimSource) -> bool
 
 /// The one claim of a fragment, `k` and one more before fragment `f`, is by the source.
 fn is_before(claims: &Claims, source: ClaimSource, f: u32, k: u32) -> bool
-    ensures { Decides result (IsBefore (table_of claims.now).claimed source f k) }
+    ensures { Decides result (IsBefore (TableClaims (table_of claims.now)) source f k) }
 {
     k < f && is_claimed_by(claims, f - k - 1, source)
 }
@@ -60,7 +49,7 @@ fn is_before(claims: &Claims, source: ClaimSource, f: u32, k: u32) -> bool
 /// The place of a fragment among those of its source, which are `most` at most: how many fragments in a
 /// row before it have their one claim by the source.
 fn place_in(claims: &Claims, source: ClaimSource, f: u32, most: u32) -> Option<u32>
-    ensures { IsPlaceIn (table_of claims.now).claimed source f most result }
+    ensures { IsPlaceIn (TableClaims (table_of claims.now)) source f most result }
 {
     for place in 0..most {
         if !is_before(claims, source, f, place) {
@@ -107,7 +96,7 @@ fn first_through(claims: &Claims, g: &Geometry, source: ClaimSource) -> Option<(
     requires geometry { IsGeometry g.now }
     requires table { (table_of claims.now).geometry ≡ Some g.now }
     requires source { IsSource (Some g.now) source }
-    ensures reaches { (v : Volume) → HasClaims g.now (table_of claims.now) v → HasNoTwice g.now v → ReachesAs g.now v source result }
+    ensures reaches { (v : Volume) → HasClaimsOf g.now (table_of claims.now) v → HasNoTwice g.now v → ReachesAs g.now v source result }
     ensures inode { IfSome result (λ first. (2 ≤ first.0) × (first.0 < g.now.ncg * g.now.ipg)) }
     ensures most { IfSome result (λ first. first.1 + level_of source * 2 ^ 46 ≤ 2 ^ 48) }
 {
@@ -118,8 +107,8 @@ fn first_through(claims: &Claims, g: &Geometry, source: ClaimSource) -> Option<(
             level,
             at,
         } => {
-            let upper = claims.claim(fragment)?;
-            if level_of(upper) != level {
+            let upper = claims.only_claim(fragment)?;
+            if upper.level() != level {
                 return None;
             }
             let place = place_in(claims, upper, fragment, g.frag)?;
@@ -134,13 +123,13 @@ fn first_through(claims: &Claims, g: &Geometry, source: ClaimSource) -> Option<(
 pub fn reach_of(claims: &Claims, g: &Geometry, f: u32) -> Option<Reach>
     requires geometry { IsGeometry g.now }
     requires table { (table_of claims.now).geometry ≡ Some g.now }
-    ensures reaches { (v : Volume) → HasClaims g.now (table_of claims.now) v → HasNoTwice g.now v → IsReach g.now v f result }
+    ensures reaches { (v : Volume) → HasClaimsOf g.now (table_of claims.now) v → HasNoTwice g.now v → IsReach g.now v f result }
     ensures level { IfSome result (λ reach. (1 ≤ reach.level) × (reach.level ≤ 3)) }
     ensures inode { IfSome result (λ reach. (2 ≤ reach.inode) × (reach.inode < g.now.ncg * g.now.ipg)) }
     ensures most { IfSome result (λ reach. reach.first ≤ 2 ^ 48) }
 {
-    let source = claims.claim(f)?;
-    let level = level_of(source);
+    let source = claims.only_claim(f)?;
+    let level = source.level();
     if level == 0 {
         return None;
     }

@@ -112,7 +112,7 @@ fn found(
 
 #[test]
 fn the_rows_have_no_fault(rt: HostRuntime) -> Result<(), Fail> {
-    for which in [Which::E, Which::F, Which::X] {
+    for which in [Which::E, Which::F, Which::X, Which::Fb] {
         let (groups, inodes) = found(rt.alloc(), which, 128, &[], NOTHING)?;
         assert_eq!(rt; groups, Some(SOUND_GROUPS), "groups of {which:?}");
         assert_eq!(rt; inodes, Some(SOUND_INODES), "inodes of {which:?}");
@@ -127,7 +127,7 @@ fn changed(alloc: Global, at: usize, bytes: &[u8]) -> Result<(GroupFaults, Inode
     Ok((groups.ok_or("groups")?, inodes.ok_or("inodes")?))
 }
 
-/// Where a group block is refused, each allocated inode counts as unused.
+/// Where a group block is refused, no inode of the group is judged as unused.
 #[test]
 fn faults_of_group_blocks(rt: HostRuntime) -> Result<(), Fail> {
     let magic = GroupFaults {
@@ -145,13 +145,7 @@ fn faults_of_group_blocks(rt: HostRuntime) -> Result<(), Fail> {
     ] {
         let (groups, inodes) = changed(rt.alloc(), at, &bytes)?;
         assert_eq!(rt; groups, wanted, "{bytes:?} at {at}");
-        assert_eq!(rt;
-            inodes,
-            InodeFaults {
-                unused: Some(2),
-                ..SOUND_INODES
-            }
-        );
+        assert_eq!(rt; inodes, SOUND_INODES, "{bytes:?} at {at}");
     }
     Ok(())
 }
@@ -288,7 +282,6 @@ fn a_second_group(rt: HostRuntime) -> Result<(), Fail> {
     );
     let wrong = InodeFaults {
         wrong_type: Some(41),
-        unused: Some(41),
         ..SOUND_INODES
     };
     assert_eq!(rt; inodes, Some(wrong));
@@ -353,7 +346,7 @@ fn directories(
 
 #[test]
 fn the_rows_have_sound_directories(rt: HostRuntime) -> Result<(), Fail> {
-    for which in [Which::E, Which::F, Which::X] {
+    for which in [Which::E, Which::F, Which::X, Which::Fb] {
         let faults = directories(rt.alloc(), which, &[], NOTHING)?;
         assert_eq!(rt; faults, Some(SOUND_DIRECTORIES), "{which:?}");
     }

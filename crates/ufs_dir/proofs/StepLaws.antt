@@ -1,11 +1,10 @@
 -- The entries and the fault of the bytes from an entry on, by the entry at the front.
-use Rattle.std.proofs.Common.{◌≡◌, ◌∙◌, ℕ, zero, suc, ◌-◌, ◌<◌, List, [], ◌∷◌, length, drop, Some, refl, ap, arith, length-drop}
+use Rattle.std.proofs.Common.{◌≡◌, ◌∙◌, ℕ, zero, suc, ◌-◌, ◌<◌, List, [], ◌∷◌, length, drop, Some, refl, ap, arith}
 use Rattle.ufs_model.specs.Chunks.{DirEntry, entries_in, entry_before, entry_in, fault_at, fault_in, fault_or, reclen_field}
 use Rattle.ufs_model.specs.declared.numbers.Endian.{Endian}
-use Rattle.ufs_model.specs.declared.numbers.Endian.TheVariants.{Little}
 use Rattle.ufs_model.specs.declared.chunks.BadEntry.{BadEntry}
 use Rattle.ufs_dir.specs.Parts.{IsSplit}
-use Rattle.ufs_dir.specs.Steps.{GivesBad, GivesEnd, GivesEntry}
+use Rattle.ufs_dir.specs.Steps.{GivesBad, GivesEnd, GivesEntry, left_in}
 
 -- bytes that belong to the entry before are passed over
 entries_in-skip : (endian : Endian) (skip : ℕ) (bytes : List ℕ) → entries_in endian skip bytes ≡ entries_in endian 0 (drop skip bytes)
@@ -55,24 +54,25 @@ fault_in-bad endian (b ∷ bytes) bad some is =
     ap (λ o. fault_or o (fault_in endian (reclen_field endian (b ∷ bytes) - 1) bytes)) is
 
 -- the three steps
-pub gives_entry : (bytes : List ℕ) (entry : DirEntry) (after : List ℕ) → 0 < length bytes → IsSplit bytes entry after → GivesEntry bytes entry after
-gives_entry bytes entry after some split = record {
-  entries = rw (entries_in-front Little bytes some split.moves, split.fault, split.entry_is, split.after_is) refl;
-  fault = rw (fault_in-front Little bytes some split.moves, split.fault, split.after_is) refl;
-  shorter = let s : length after ≡ length (drop (reclen_field Little bytes) bytes) = ap length split.after_is in let m = split.moves in let i = split.inside in omega (arith, length-drop {A = ℕ});
+pub gives_entry : (endian : Endian) (bytes : List ℕ) (entry : DirEntry) (after : List ℕ) → 0 < length bytes → IsSplit endian bytes entry after
+    → GivesEntry (left_in endian bytes) entry (left_in endian after)
+gives_entry endian bytes entry after some split = record {
+  entries = rw (entries_in-front endian bytes some split.moves, split.fault, split.entry_is, split.after_is) refl;
+  fault = rw (fault_in-front endian bytes some split.moves, split.fault, split.after_is) refl;
   unused = split.unused;
   used = split.used;
   short = split.short;
 }
 
-pub gives_bad : (bytes : List ℕ) (bad : BadEntry) → 0 < length bytes → fault_at Little bytes ≡ Some bad → GivesBad bytes bad bytes
-gives_bad bytes bad some is = record {
-  entries = entries_in-bad Little bytes bad is;
-  fault = fault_in-bad Little bytes bad some is;
+pub gives_bad : (endian : Endian) (bytes : List ℕ) (bad : BadEntry) → 0 < length bytes → fault_at endian bytes ≡ Some bad
+    → GivesBad (left_in endian bytes) bad (left_in endian bytes)
+gives_bad endian bytes bad some is = record {
+  entries = entries_in-bad endian bytes bad is;
+  fault = fault_in-bad endian bytes bad some is;
   stays = refl;
 }
 
-pub gives_end : (bytes : List ℕ) → length bytes ≡ 0 → GivesEnd bytes bytes
+pub gives_end : (endian : Endian) (bytes : List ℕ) → length bytes ≡ 0 → GivesEnd (left_in endian bytes) (left_in endian bytes)
 unfolding entries_in fault_in
-gives_end [] none = record { entries = refl; fault = refl; stays = refl }
-gives_end (b ∷ bytes) none = absurd (omega arith)
+gives_end endian [] none = record { entries = refl; fault = refl; stays = refl }
+gives_end endian (b ∷ bytes) none = absurd (omega arith)

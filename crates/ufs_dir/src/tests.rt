@@ -1,5 +1,6 @@
 use crate::{BadEntry, CHUNK_BYTES, Entries, Entry, EntryStep, Found, check, find};
 use ufs_model::BadEntry::{Cut, Name, Reclen};
+use ufs_model::Endian;
 
 /// A chunk of zeros but for some bytes in two places.
 fn chunk_of(parts: &[(usize, &[u8]); 2]) -> [u8; CHUNK_BYTES] {
@@ -12,40 +13,51 @@ fn chunk_of(parts: &[(usize, &[u8]); 2]) -> [u8; CHUNK_BYTES] {
     chunk
 }
 
-/// A directory that was just made, with one unused entry between its two.
+/// A directory that was just made, with one unused entry between its two, in both orders of bytes.
 #[test]
 fn walk_of_a_chunk(rt: HostRuntime) {
-    let chunk = chunk_of(&[
+    let little = chunk_of(&[
         (
             0,
             b"\x03\0\0\0\x0c\0\x04\x01.\0\0\0\0\0\0\0\x0c\0\x08\x03old\0",
         ),
         (24, b"\x02\0\0\0\xe8\x01\x04\x02..\0\0"),
     ]);
-    let want = [
-        EntryStep::Entry(Entry {
-            inode: 3,
-            kind: 4,
-            name: b".",
-        }),
-        EntryStep::Entry(Entry {
-            inode: 0,
-            kind: 8,
-            name: b"",
-        }),
-        EntryStep::Entry(Entry {
-            inode: 2,
-            kind: 4,
-            name: b"..",
-        }),
-        EntryStep::End,
-        EntryStep::End,
-    ];
-    let mut entries = Entries::new(&chunk);
-    for step in want {
-        assert!(rt; entries.next() == step);
+    let big = chunk_of(&[
+        (
+            0,
+            b"\0\0\0\x03\0\x0c\x04\x01.\0\0\0\0\0\0\0\0\x0c\x08\x03old\0",
+        ),
+        (24, b"\0\0\0\x02\x01\xe8\x04\x02..\0\0"),
+    ]);
+    for (chunk, endian) in [(little, Endian::Little), (big, Endian::Big)] {
+        let want = [
+            EntryStep::Entry(Entry {
+                inode: 3,
+                kind: 4,
+                name: b".",
+            }),
+            EntryStep::Entry(Entry {
+                inode: 0,
+                kind: 8,
+                name: b"",
+            }),
+            EntryStep::Entry(Entry {
+                inode: 2,
+                kind: 4,
+                name: b"..",
+            }),
+            EntryStep::End,
+            EntryStep::End,
+        ];
+        let mut entries = Entries::new(&chunk, endian);
+        for step in want {
+            assert!(rt; entries.next() == step);
+        }
+        assert!(rt; find(&chunk, b"..", endian) == Found::At(2));
     }
-    assert!(rt; find(&chunk, b"..") == Found::At(2));
+    assert!(rt; check(&little, Endian::Big) == Some(Reclen));
+    assert!(rt; find(&big, b".", Endian::Little) == Found::Bad(Reclen));
 }
 
 /// Chunks that are searched for the name `a`.
@@ -183,7 +195,7 @@ fn chunks_and_a_name(rt: HostRuntime) {
             Found::Bad(bad) => Some(bad),
             _ => None,
         };
-        assert!(rt; find(&chunk, b"a") == want, "{label}");
-        assert!(rt; check(&chunk) == fault, "{label}");
+        assert!(rt; find(&chunk, b"a", Endian::Little) == want, "{label}");
+        assert!(rt; check(&chunk, Endian::Little) == fault, "{label}");
     }
 }

@@ -1,8 +1,6 @@
-ghost use Rattle.std.specs.Prelude.{◌≡◌, length};
-
 use crate::heads::split_entry;
 use std::marker::Model;
-use ufs_model::BadEntry;
+use ufs_model::{BadEntry, Endian};
 
 /// The bytes of a chunk (`DIRBLKSIZ`).
 pub const CHUNK_BYTES: usize = 512;
@@ -44,30 +42,34 @@ pub enum EntryStep<'a> {
     Bad(BadEntry),
 }
 
-/// What is left of a chunk. Contracts see the bytes that are left.
+/// What is left of a chunk. Contracts see the entries that are left, and the fault after them.
 #[derive(Debug, Drop)]
 pub struct Entries<'a> {
     rest: &'a [u8],
+    endian: Endian,
 }
 
 impl<'a> Model for Entries<'a> {
-    ghost use Rattle.std.specs.Prelude.{ℕ, List};
+    ghost use Rattle.ufs_dir.specs.Steps.{Left, left_in};
 
-    ghost Value = { List ℕ };
+    ghost Value = { Left };
 
-    ghost view = { λ entries. entries.rest.now };
+    ghost view = { λ entries. left_in entries.endian entries.rest.now };
 }
 
 impl<'a> Entries<'a> {
     ghost use Rattle.std.specs.Prelude.{◌≡◌, length};
-    ghost use Rattle.ufs_dir.specs.Steps.{IsStep};
+    ghost use Rattle.ufs_dir.specs.Steps.{IsStep, left_in};
 
-    /// The entries of a chunk, from its first on.
-    pub fn new(chunk: &'a [u8]) -> Entries<'a>
+    /// The entries of a chunk, from its first on, whose numbers stand in this order of bytes.
+    pub fn new(chunk: &'a [u8], endian: Endian) -> Entries<'a>
         requires { length chunk.now ≡ CHUNK_BYTES }
-        ensures { result ≡ chunk.now }
+        ensures { result ≡ left_in endian chunk.now }
     {
-        Entries { rest: chunk }
+        Entries {
+            rest: chunk,
+            endian,
+        }
     }
 
     /// The next entry, used or unused, or the end of the chunk, or why the chunk is refused. After
@@ -79,7 +81,7 @@ impl<'a> Entries<'a> {
         if rest.is_empty() {
             return EntryStep::End;
         }
-        match split_entry(rest) {
+        match split_entry(rest, self.endian) {
             Ok((entry, after)) => {
                 self.rest = after;
                 EntryStep::Entry(entry)

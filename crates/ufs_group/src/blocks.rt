@@ -4,7 +4,6 @@ ghost use Rattle.std.specs.Int.{div_ceil};
 ghost use Rattle.ufs_group.specs.Maps.{IsGroupOf};
 ghost use Rattle.ufs_model.specs.Geometries.{IsGeometry, cgbase, cgstart, end_of};
 ghost use Rattle.ufs_model.specs.GroupMaps.{group_fields, group_in, group_magic_holds, maps_hold};
-ghost use Rattle.ufs_model.specs.declared.numbers.Endian.TheVariants.{Little};
 
 use ufs_model::{BadGroup, Endian, Geometry, Group, u32_at};
 use ufs_super::{cgbase, cgstart, end_of};
@@ -24,26 +23,26 @@ pub fn group_block(g: &Geometry, c: u32) -> u32
 
 /// The fields that are read of group `c`'s block, as they stand.
 #[tactic(auto, unfolding(ufs_model::specs::GroupMaps::group_fields))]
-fn group_fields(bytes: &[u8], c: u32) -> Group
+fn group_fields(bytes: &[u8], c: u32, endian: Endian) -> Group
     requires { 100 ≤ length bytes.now }
-    ensures value { result ≡ group_fields Little c bytes.now }
+    ensures value { result ≡ group_fields endian c bytes.now }
     ensures number { result.c ≡ c }
 {
     Group {
         c,
-        iusedoff: u32_at(bytes, 92, Endian::Little),
-        freeoff: u32_at(bytes, 96, Endian::Little),
-        count: u32_at(bytes, 20, Endian::Little),
+        iusedoff: u32_at(bytes, 92, endian),
+        freeoff: u32_at(bytes, 96, endian),
+        count: u32_at(bytes, 20, endian),
     }
 }
 
 /// The bytes are a group block, and that of group `c`.
 #[tactic(auto, unfolding(ufs_model::specs::GroupMaps::group_magic_holds))]
-fn group_magic_holds(bytes: &[u8], c: u32) -> bool
+fn group_magic_holds(bytes: &[u8], c: u32, endian: Endian) -> bool
     requires { 100 ≤ length bytes.now }
-    ensures { result ≡ group_magic_holds Little c bytes.now }
+    ensures { result ≡ group_magic_holds endian c bytes.now }
 {
-    u32_at(bytes, 4, Endian::Little) == MAGIC && u32_at(bytes, 12, Endian::Little) == c
+    u32_at(bytes, 4, endian) == MAGIC && u32_at(bytes, 12, endian) == c
 }
 
 /// The group's fragments are counted right, and both maps end inside the bytes in use.
@@ -70,11 +69,11 @@ pub fn read_group(bytes: &[u8], g: &Geometry, c: u32) -> Result<Group, BadGroup>
     requires bytes { g.now.bsize ≤ length bytes.now }
     requires geometry { IsGeometry g.now }
     requires group { c < g.now.ncg }
-    ensures value { result ≡ group_in Little g.now c bytes.now }
+    ensures value { result ≡ group_in g.now c bytes.now }
     ensures ok { IfOk result (λ group. IsGroupOf g.now c bytes.now group) }
 {
-    let group = group_fields(bytes, c);
-    if !group_magic_holds(bytes, c) {
+    let group = group_fields(bytes, c, g.endian);
+    if !group_magic_holds(bytes, c, g.endian) {
         return Err(BadGroup::Magic);
     }
     if !maps_hold(g, &group) {

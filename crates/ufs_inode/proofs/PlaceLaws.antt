@@ -15,7 +15,7 @@ share : (frag fsize k : ℕ) → is_fragment_count frag ≡ true → 1024 * k �
 unfolding is_fragment_count
 share frag fsize k h e = grind (arith, nat_tests)
 
-whole_inodes : (g : Geometry) → IsGeometry g → g.fsize ≡ 128 * (g.fsize / 128)
+pub whole_inodes : (g : Geometry) → IsGeometry g → g.fsize ≡ 128 * (g.fsize / 128)
 whole_inodes g is =
     let k = kibibytes g.bsize (is.bsize.0) in
     let e : 1024 * (g.bsize / 1024) ≡ g.frag * g.fsize = let product = is.frag.3 in omega arith in

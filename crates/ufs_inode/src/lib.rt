@@ -11,7 +11,7 @@ mod slots;
 #[cfg(test)]
 mod tests;
 
-pub use crate::inodes::{has_pointers, read_inode};
-pub use crate::places::place_of;
+pub use crate::inodes::{has_pointers, inode_at, read_inode};
+pub use crate::places::{inodes_inside, inodes_near, place_of};
 pub use crate::slots::{slot_address, slot_of, span};
 pub use ufs_model::{Inode, Kind};

@@ -1,6 +1,8 @@
-use crate::{Inode, Kind, has_pointers, place_of, read_inode, slot_address, span};
+use crate::{
+    Inode, Kind, has_pointers, inode_at, inodes_near, place_of, read_inode, slot_address, span,
+};
 use std::test::Fail;
-use ufs_model::Address;
+use ufs_model::{Address, Endian};
 use ufs_super::read_super;
 
 /// The byte at which each field of a superblock stands, from `sblkno` to `magic`.
@@ -83,19 +85,32 @@ fn file(mode: u16, size: u64) -> Inode {
     }
 }
 
+/// The same numbers with the lowest byte first, and with the highest.
 #[test]
 fn fields_of_an_inode(rt: HostRuntime) {
-    let mut bytes = [0; 128];
-    bytes[8] = 5;
-    bytes[40] = 34;
-    assert_eq!(rt; read_inode(&bytes), None);
-    bytes[0] = 0xa4;
-    bytes[1] = 0x81;
-    bytes[15] = 1;
-    bytes[84] = 127;
-    bytes[88] = 84;
-    bytes[96] = 126;
-    assert_eq!(rt; read_inode(&bytes), Some(file(0o100644, (1 << 56) + 5)));
+    let inode = file(0o100644, (1 << 56) + 5);
+    let mut little = [0; 128];
+    little[8] = 5;
+    little[40] = 34;
+    assert_eq!(rt; read_inode(&little, Endian::Little), None);
+    little[0] = 0xa4;
+    little[1] = 0x81;
+    little[15] = 1;
+    little[84] = 127;
+    little[88] = 84;
+    little[96] = 126;
+    assert_eq!(rt; read_inode(&little, Endian::Little), Some(inode));
+    let mut big = [0; 128];
+    big[15] = 5;
+    big[43] = 34;
+    assert_eq!(rt; read_inode(&big, Endian::Big), None);
+    big[0] = 0x81;
+    big[1] = 0xa4;
+    big[8] = 1;
+    big[87] = 127;
+    big[91] = 84;
+    big[99] = 126;
+    assert_eq!(rt; read_inode(&big, Endian::Big), Some(inode));
 }
 
 /// Each kind, and whether files of 59 and of 60 bytes have pointers.
@@ -131,6 +146,56 @@ fn places_of_inodes(rt: HostRuntime) -> Result<(), Fail> {
     assert_eq!(rt; place_of(&g, 700), (4215, 512));
     assert_eq!(rt; place_of(&g, 1023), (6303, 896));
     Ok(())
+}
+
+/// The blocks with inodes have eight each, and the inodes of a block are those whose place it is.
+#[test]
+fn inodes_of_blocks(rt: HostRuntime) -> Result<(), Fail> {
+    let g = read_super(&superblock(&SMALL), 1024, 128)?;
+    for (block, wanted) in [
+        (0, (0, 0)),
+        (27, (0, 0)),
+        (28, (0, 8)),
+        (30, (16, 24)),
+        (31, (24, 32)),
+        (32, (0, 0)),
+        (127, (0, 0)),
+        (128, (0, 0)),
+        (0xffff_ffff, (0, 0)),
+    ] {
+        assert_eq!(rt; inodes_near(&g, block), wanted, "block {block}");
+    }
+    let g = read_super(&superblock(&LARGE), 1024, 8192)?;
+    for (block, wanted) in [
+        (31, (0, 0)),
+        (32, (0, 8)),
+        (63, (248, 256)),
+        (64, (0, 0)),
+        (2080, (0, 0)),
+        (2112, (256, 264)),
+        (4215, (696, 704)),
+        (6303, (1016, 1024)),
+        (6304, (0, 0)),
+    ] {
+        assert_eq!(rt; inodes_near(&g, block), wanted, "block {block}");
+    }
+    Ok(())
+}
+
+#[test]
+fn inode_of_a_block(rt: HostRuntime) {
+    let mut block = [0; 512];
+    block[257] = 0x81;
+    block[385] = 0x41;
+    assert_eq!(rt; inode_at(&block, 128, Endian::Little), None);
+    assert_eq!(rt;
+        inode_at(&block, 256, Endian::Little).map(|inode| inode.mode),
+        Some(0x8100)
+    );
+    assert_eq!(rt;
+        inode_at(&block, 384, Endian::Big).map(|inode| inode.mode),
+        Some(0x0041)
+    );
 }
 
 #[test]

@@ -7,3 +7,18 @@ pub enum ClaimSource {
     /// counted from 0 in the fragment.
     Pointer { fragment: u32, level: u8, at: u32 },
 }
+
+impl ClaimSource {
+    ghost use Rattle.std.specs.Prelude.{◌≡◌};
+    ghost use Rattle.ufs_model.specs.Claims.{level_of};
+
+    /// The level at which the source claims: 0 for blocks of data, and 1 to 3 for indirect blocks.
+    pub fn level(self) -> u8
+        ensures { result ≡ level_of self }
+    {
+        match self {
+            ClaimSource::Slot { slot, .. } => slot.saturating_sub(11),
+            ClaimSource::Pointer { level, .. } => level.saturating_sub(1),
+        }
+    }
+}

@@ -1,3 +1,9 @@
+/// The bytes of an inode on a volume (`struct dinode`).
+pub const INODE_BYTES: u32 = 128;
+
+/// The first inode that is read, which is the root's (`ROOTINO`).
+pub const ROOT_INODE: u32 = 2;
+
 /// The fields of an allocated inode that are read. They have the names of `struct dinode` in
 /// `dinode.h`, without the prefix `di_`.
 #[derive(Clone, Copy, Debug, PartialEq, Eq)]

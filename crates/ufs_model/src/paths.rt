@@ -17,9 +17,9 @@ fn has_end(name: &[u8]) -> bool
     name.iter().any(|byte| *byte == 0 || *byte == b'/')
 }
 
-/// Whether bytes are a name of some length.
+/// Whether bytes are a name: some, none of them 0 or a slash.
 #[tactic(auto, unfolding(crate::specs::Chunks::is_name))]
-fn is_name(name: &[u8]) -> bool
+pub fn is_name(name: &[u8]) -> bool
     ensures { result ≡ is_name name.now }
 {
     !name.is_empty() && !has_end(name)

@@ -1,9 +1,10 @@
 -- Answers of `cat` and `ls`.
-use Rattle.std.proofs.Common.{◌≡◌, ℕ, List, Some, Err, Result, Option}
+use Rattle.std.proofs.Common.{◌≡◌, ℕ, List, Some, Err, Result, Option, refl}
 use Rattle.std.specs.Option.{option_map}
 use Rattle.ufs_model.specs.declared.reads.PathRefusal.{PathRefusal}
 use Rattle.ufs_model.specs.declared.reads.PathRefusal.TheVariants.{NotFound as RefusedNotFound, NotDirectory as RefusedNotDirectory, NotRegular as RefusedNotRegular, Bad as RefusedBad}
 use Rattle.ufs_path.specs.Answers.{IsAnswer, answer_at, refusal_of, refused_answer}
+use Rattle.ufs_path.specs.Consults.{IsUnanswered, IsUnavailable, StaysUnlessFailed}
 use Rattle.ufs_path.specs.declared.faults.LookFault.{LookFault}
 use Rattle.ufs_path.specs.declared.faults.LookFault.TheVariants.{NotFound as FaultNotFound, NotDirectory as FaultNotDirectory, Bad as FaultBad, Unavailable as FaultUnavailable}
 use Rattle.ufs_path.specs.declared.faults.CatAnswer.{CatAnswer}
@@ -36,3 +37,29 @@ at_refusal took took_part faults old new reads RefusedNotFound same is = (same, 
 at_refusal took took_part faults old new reads RefusedNotDirectory same is = (same, is)
 at_refusal took took_part faults old new reads RefusedNotRegular same is = (same, is)
 at_refusal took took_part faults old new reads (RefusedBad bad) same is = (same, is)
+
+-- ---- want of a block, and faults of the receiver
+
+pub refused_unanswered : (fault : LookFault) → IsUnanswered (refused_answer fault) → IsUnavailable fault
+refused_unanswered FaultNotFound h = h
+refused_unanswered FaultNotDirectory h = h
+refused_unanswered (FaultBad bad) h = h
+refused_unanswered FaultUnavailable h = h
+
+pub refused_stays : (fault : LookFault) (n : ℕ) → StaysUnlessFailed (refused_answer fault) n n
+refused_stays FaultNotFound n = refl
+refused_stays FaultNotDirectory n = refl
+refused_stays (FaultBad bad) n = refl
+refused_stays FaultUnavailable n = refl
+
+pub at_unanswered : (refusal : PathRefusal) → IsUnanswered (answer_at refusal) → ⊥
+at_unanswered RefusedNotFound h = h
+at_unanswered RefusedNotDirectory h = h
+at_unanswered RefusedNotRegular h = h
+at_unanswered (RefusedBad bad) h = h
+
+pub at_stays : (refusal : PathRefusal) (n : ℕ) → StaysUnlessFailed (answer_at refusal) n n
+at_stays RefusedNotFound n = refl
+at_stays RefusedNotDirectory n = refl
+at_stays RefusedNotRegular n = refl
+at_stays (RefusedBad bad) n = refl

@@ -11,3 +11,5 @@ pub mod AnswerLaws
 pub mod CatLaws
 pub mod SuperLaws
 pub mod ListLaws
+pub mod ConsultLaws
+pub mod NeedLaws

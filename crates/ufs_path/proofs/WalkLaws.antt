@@ -10,7 +10,7 @@ use Rattle.ufs_model.specs.Paths.{chunks_in, entries_before}
 use Rattle.ufs_model.specs.Readings.{Grows, ReadsAs}
 use Rattle.ufs_model.specs.declared.geometries.Geometry.{Geometry}
 use Rattle.ufs_model.specs.declared.inodes.Inode.{Inode}
-use Rattle.ufs_model.specs.declared.numbers.Endian.TheVariants.{Little}
+use Rattle.ufs_model.specs.declared.numbers.Endian.{Endian}
 use Rattle.ufs_path.proofs.ChunkLaws.{chunks_end, chunks_next}
 use Rattle.ufs_path.proofs.EntryLaws.{entry_fronts, lines_both, lines_fail, lines_fail_whole, lines_none}
 use Rattle.ufs_path.proofs.PartLaws.{front_more}
@@ -24,24 +24,24 @@ pub used_front : (entry : DirEntry) (entries further : List DirEntry) → entrie
 used_front entry entries further e = ap used_entries e ∙ filter-append is_used_entry (entry ∷ []) further
 
 -- the used entries of a chunk, and of those after it
-pub among_next : (count i : ℕ) (block chunk : List ℕ) (whole done : List DirEntry) → i < count → chunk ≡ take 512 (drop (i * 512) block) → whole ≡ done ++ entries_among (chunks_in (count - i) (drop (i * 512) block))
-    → whole ≡ done ++ (used_entries (entries_in Little 0 chunk) ++ entries_among (chunks_in (count - (i + 1)) (drop ((i + 1) * 512) block)))
-among_next count i block chunk whole done low is e =
-    e ∙ ap (λ xs. done ++ xs) (ap entries_among (chunks_next count i block low)
-    ∙ ap (λ c. used_entries (entries_in Little 0 c) ++ entries_among (chunks_in (count - (i + 1)) (drop ((i + 1) * 512) block))) (sym is))
+pub among_next : (endian : Endian) (count i : ℕ) (block chunk : List ℕ) (whole done : List DirEntry) → i < count → chunk ≡ take 512 (drop (i * 512) block) → whole ≡ done ++ entries_among endian (chunks_in (count - i) (drop (i * 512) block))
+    → whole ≡ done ++ (used_entries (entries_in endian 0 chunk) ++ entries_among endian (chunks_in (count - (i + 1)) (drop ((i + 1) * 512) block)))
+among_next endian count i block chunk whole done low is e =
+    e ∙ ap (λ xs. done ++ xs) (ap (entries_among endian) (chunks_next count i block low)
+    ∙ ap (λ c. used_entries (entries_in endian 0 c) ++ entries_among endian (chunks_in (count - (i + 1)) (drop ((i + 1) * 512) block))) (sym is))
 
-pub among_end : (count i : ℕ) (bytes : List ℕ) (whole done : List DirEntry) → count ≤ i → whole ≡ done ++ entries_among (chunks_in (count - i) bytes) → done ≡ whole
-among_end count i bytes whole done past e = sym (e ∙ ap (λ chunks. done ++ entries_among chunks) (chunks_end count i bytes past) ∙ append-nil done)
+pub among_end : (endian : Endian) (count i : ℕ) (bytes : List ℕ) (whole done : List DirEntry) → count ≤ i → whole ≡ done ++ entries_among endian (chunks_in (count - i) bytes) → done ≡ whole
+among_end endian count i bytes whole done past e = sym (e ∙ ap (λ chunks. done ++ entries_among endian chunks) (chunks_end count i bytes past) ∙ append-nil done)
 
 -- nothing was handed on yet
 pub handed_none : {S : Type 0} {took : S → List Listed → S → Type 0} {stands : Volume → Type 0} {tells : Type 0} {before after : ℕ → Bool} (g : Geometry) (s : S) → ((s : S) → took s [] s)
-    → AreHanded took s s [] (λ entries. ReadsAs stands before tells after (listed_entries Little g 1 entries)) 0
+    → AreHanded took s s [] (λ entries. ReadsAs stands before tells after (listed_entries g 1 entries)) 0
 handed_none g s nothing = record { lines = []; count = refl; taken = nothing s; read = lines_none g 1 }
 
 -- other calls come after
 pub handed_later : {S : Type 0} {took : S → List Listed → S → Type 0} {stands : Volume → Type 0} {tells told : Type 0} {before now after : ℕ → Bool} {entries : List DirEntry} {n : ℕ} {old new : S} (g : Geometry) → Grows now after → (told → tells)
-    → AreHanded took old new entries (λ entries. ReadsAs stands before tells now (listed_entries Little g 1 entries)) n
-    → AreHanded took old new entries (λ entries. ReadsAs stands before told after (listed_entries Little g 1 entries)) n
+    → AreHanded took old new entries (λ entries. ReadsAs stands before tells now (listed_entries g 1 entries)) n
+    → AreHanded took old new entries (λ entries. ReadsAs stands before told after (listed_entries g 1 entries)) n
 handed_later g further tell are = record {
   lines = are.lines;
   count = are.count;
@@ -53,9 +53,9 @@ handed_later g further tell are = record {
 pub handed_then : {S : Type 0} {took : S → List Listed → S → Type 0} {stands still : Volume → Type 0} {tells told : Type 0} {before now after : ℕ → Bool} (g : Geometry) (xs ys : List DirEntry) (m n : ℕ) (old middle new : S)
     → ((a b c : S) (x y : List Listed) → took a x b → took b y c → took a (x ++ y) c)
     → Grows before now → Grows now after → ((v : Volume) → stands v → still v) → (told → tells)
-    → AreHanded took old middle xs (λ entries. ReadsAs stands before tells now (listed_entries Little g 1 entries)) m
-    → AreHanded took middle new ys (λ entries. ReadsAs still now told after (listed_entries Little g 1 entries)) n
-    → AreHanded took old new (xs ++ ys) (λ entries. ReadsAs stands before told after (listed_entries Little g 1 entries)) (m + n)
+    → AreHanded took old middle xs (λ entries. ReadsAs stands before tells now (listed_entries g 1 entries)) m
+    → AreHanded took middle new ys (λ entries. ReadsAs still now told after (listed_entries g 1 entries)) n
+    → AreHanded took old new (xs ++ ys) (λ entries. ReadsAs stands before told after (listed_entries g 1 entries)) (m + n)
 handed_then g xs ys m n old middle new both grows further keeps tell one two = record {
   lines = one.lines ++ two.lines;
   count = let a = one.count in let b = two.count in let e = length-append one.lines two.lines in omega arith;
@@ -73,15 +73,15 @@ rows xs ys front rest zs e =
 pub unread_then : {S : Type 0} {took : S → List Listed → S → Type 0} {stands still : Volume → Type 0} {tells told : Type 0} {before now after : ℕ → Bool} (g : Geometry) (xs ys zs whole : List DirEntry) (m n : ℕ) (fault : LookFault) (old middle new : S)
     → ((a b c : S) (x y : List Listed) → took a x b → took b y c → took a (x ++ y) c)
     → Grows before now → Grows now after → ((v : Volume) → stands v → still v) → (told → tells) → whole ≡ xs ++ (ys ++ zs)
-    → AreHanded took old middle xs (λ entries. ReadsAs stands before tells now (listed_entries Little g 1 entries)) m
-    → StopsUnread took middle new ys (λ entries. ReadsAs still now told after (listed_entries Little g 1 entries)) n fault
-    → StopsUnread took old new whole (λ entries. ReadsAs stands before told after (listed_entries Little g 1 entries)) (m + n) fault
+    → AreHanded took old middle xs (λ entries. ReadsAs stands before tells now (listed_entries g 1 entries)) m
+    → StopsUnread took middle new ys (λ entries. ReadsAs still now told after (listed_entries g 1 entries)) n fault
+    → StopsUnread took old new whole (λ entries. ReadsAs stands before told after (listed_entries g 1 entries)) (m + n) fault
 unread_then {stands = stands} {told = told} {before = before} {after = after} g xs ys zs whole m n fault old middle new both grows further keeps tell e one two = record {
   front = xs ++ two.front;
   rest = two.rest ++ zs;
   whole = e ∙ rows xs ys two.front two.rest zs two.whole;
   handed = handed_then g xs two.front m n old middle new both grows further keeps tell one two.handed;
-  unread = subst (λ entries. ReadsAs stands before told after (listed_entries Little g 1 entries) (option_map Err (refusal_of fault))) (append_assoc xs ys zs ∙ sym e)
+  unread = subst (λ entries. ReadsAs stands before told after (listed_entries g 1 entries) (option_map Err (refusal_of fault))) (append_assoc xs ys zs ∙ sym e)
       (lines_fail_whole g 1 (xs ++ ys) zs (refusal_of fault) (λ b h. further b (grows b h))
       (lines_fail g 1 xs ys one.lines (refusal_of fault) (λ b h. further b (grows b h))
       (wider (Some (Ok one.lines)) (λ b h. h) further (λ v h. h) tell one.read)
@@ -92,9 +92,9 @@ unread_then {stands = stands} {told = told} {before = before} {after = after} g 
 pub failed_then : {S : Type 0} {took took_part : S → List Listed → S → Type 0} {faults : S → ℕ} {stands still : Volume → Type 0} {tells told : Type 0} {before now after : ℕ → Bool} (g : Geometry) (xs ys zs whole : List DirEntry) (m : ℕ) (old middle new : S)
     → ((a b c : S) (x y : List Listed) → took a x b → took_part b y c → took_part a (x ++ y) c) → faults old ≤ faults middle
     → Grows before now → Grows now after → ((v : Volume) → stands v → still v) → (told → tells) → whole ≡ xs ++ (ys ++ zs)
-    → AreHanded took old middle xs (λ entries. ReadsAs stands before tells now (listed_entries Little g 1 entries)) m
-    → StopsFailed took_part faults middle new ys (λ entries. ReadsAs still now told after (listed_entries Little g 1 entries))
-    → StopsFailed took_part faults old new whole (λ entries. ReadsAs stands before told after (listed_entries Little g 1 entries))
+    → AreHanded took old middle xs (λ entries. ReadsAs stands before tells now (listed_entries g 1 entries)) m
+    → StopsFailed took_part faults middle new ys (λ entries. ReadsAs still now told after (listed_entries g 1 entries))
+    → StopsFailed took_part faults old new whole (λ entries. ReadsAs stands before told after (listed_entries g 1 entries))
 failed_then g xs ys zs whole m old middle new both later grows further keeps tell e one two = record {
   front = xs ++ two.front;
   rest = two.rest ++ zs;
@@ -111,8 +111,8 @@ failed_then g xs ys zs whole m old middle new both later grows further keeps tel
 
 pub more_read : {stands still : Volume → Type 0} {tells told last : Type 0} {before now later after : ℕ → Bool} (g : Geometry) (inode : Inode) (k : ℕ) (xs ys : List DirEntry)
     → Grows before now → Grows now later → Grows later after → ((v : Volume) → stands v → still v) → (told → tells) → (last → told)
-    → ReadsAs stands before tells now (entries_before Little g inode k) (Some (Ok xs)) → ReadsAs still now told later (block_entries Little g inode k) (Some (Ok ys))
-    → ReadsAs stands before last after (entries_before Little g inode (suc k)) (Some (Ok (xs ++ ys)))
+    → ReadsAs stands before tells now (entries_before g inode k) (Some (Ok xs)) → ReadsAs still now told later (block_entries g inode k) (Some (Ok ys))
+    → ReadsAs stands before last after (entries_before g inode (suc k)) (Some (Ok (xs ++ ys)))
 more_read g inode k xs ys grows further on keeps tell tell_last one two =
     front_more (entry_fronts g inode) k xs ys
     (wider (Some (Ok xs)) (λ b h. h) (λ b h. on b (further b h)) (λ v h. h) (λ h. tell (tell_last h)) one)

@@ -33,7 +33,8 @@ refused_answer FaultUnavailable = Unavailable
 -- says that r is the definition's answer and that no block that it needs was gone before, `reads
 -- None` that such a block is gone after. A refusal hands nothing on; what is cut, or fails, handed
 -- on a front of the items.
-abbrev pub IsAnswer : {S A : Type 0} → (S → List A → S → Type 0) → (S → List A → S → Type 0) → (S → ℕ) → S → S → (Option (Result (List A) PathRefusal) → Type 0) → CatAnswer → Type 0
+abbrev pub IsAnswer : {S A : Type 0} → (S → List A → S → Type 0) → (S → List A → S → Type 0) → (S → ℕ) → S → S → (Option (Result (List A) PathRefusal) → Type 0)
+    → CatAnswer → Type 0
 IsAnswer {S} {A} took took_part faults old new reads (Given n) = (items : List A) × (length items ≡ n) × took old items new × reads (Some (Ok items))
 IsAnswer {S} {A} took took_part faults old new reads NotFound = (new ≡ old) × reads (Some (Err RefusedNotFound))
 IsAnswer {S} {A} took took_part faults old new reads NotDirectory = (new ≡ old) × reads (Some (Err RefusedNotDirectory))

@@ -6,7 +6,6 @@ use Rattle.ufs_model.specs.Blocks.{Reading}
 use Rattle.ufs_model.specs.Paths.{contents_of, look_from, names_of}
 use Rattle.ufs_model.specs.Readings.{and_then}
 use Rattle.ufs_model.specs.declared.geometries.Geometry.{Geometry}
-use Rattle.ufs_model.specs.declared.numbers.Endian.{Endian}
 use Rattle.ufs_model.specs.declared.reads.PathRefusal.{PathRefusal}
 use Rattle.ufs_path.specs.Answers.{refusal_of}
 use Rattle.ufs_path.specs.declared.faults.LookFault.{LookFault}
@@ -34,7 +33,8 @@ part_said (Ok count) buf = Some (Ok (take count buf))
 part_said (Err fault) buf = option_map Err (refusal_of fault)
 
 -- what was handed on of a part of a file
-abbrev pub IsHandedPart : {S : Type 0} → (S → List ℕ → S → Type 0) → (S → List ℕ → S → Type 0) → (S → ℕ) → S → S → (Option (Result (List ℕ) PathRefusal) → Type 0) → Handed → Type 0
+abbrev pub IsHandedPart : {S : Type 0} → (S → List ℕ → S → Type 0) → (S → List ℕ → S → Type 0) → (S → ℕ) → S → S
+    → (Option (Result (List ℕ) PathRefusal) → Type 0) → Handed → Type 0
 IsHandedPart took took_part faults old new reads (All n) = (bytes : List ℕ) × (length bytes ≡ n) × took old bytes new × reads (Some (Ok bytes))
 IsHandedPart took took_part faults old new reads (Unread fault) = (new ≡ old) × reads (option_map Err (refusal_of fault))
 IsHandedPart took took_part faults old new reads Failed = (bytes : List ℕ) × took_part old bytes new × reads (Some (Ok bytes)) × Rose (faults old) (faults new)
@@ -47,7 +47,8 @@ HasCount count Failed = Unit {0}
 
 -- What was handed on of the first count file blocks of a file. `reads k` is the reading rule of the bytes in the first k of
 -- them.
-abbrev pub IsHanded : {S : Type 0} → (S → List ℕ → S → Type 0) → (S → List ℕ → S → Type 0) → (S → ℕ) → S → S → ℕ → (ℕ → Option (Result (List ℕ) PathRefusal) → Type 0) → CatAnswer → Type 0
+abbrev pub IsHanded : {S : Type 0} → (S → List ℕ → S → Type 0) → (S → List ℕ → S → Type 0) → (S → ℕ) → S → S → ℕ → (ℕ → Option (Result (List ℕ) PathRefusal) → Type 0)
+    → CatAnswer → Type 0
 IsHanded took took_part faults old new count reads (Given n) = (bytes : List ℕ) × (length bytes ≡ n) × took old bytes new × reads count (Some (Ok bytes))
 IsHanded took took_part faults old new count reads (Cut n) =
     (front : List ℕ) × (k : ℕ) × (fault : LookFault) × (k ≤ count) × (length front ≡ n) × took old front new × reads k (Some (Ok front))
@@ -61,5 +62,5 @@ IsHanded took took_part faults old new count reads Unavailable = ⊥
 IsHanded took took_part faults old new count reads NotRegular = ⊥
 
 -- the bytes of the file at a path of a volume with this geometry
-unfoldable pub cat_below : Endian → List ℕ → Geometry → Reading (Result (List ℕ) PathRefusal)
-cat_below endian path g = and_then (look_from endian g (names_of path) 2) (λ found. contents_of endian g found.1)
+unfoldable pub cat_below : List ℕ → Geometry → Reading (Result (List ℕ) PathRefusal)
+cat_below path g = and_then (look_from g (names_of path) 2) (λ found. contents_of g found.1)

@@ -3,7 +3,7 @@ use Rattle.std.specs.Prelude.{◌≡◌, ◌≤◌, ◌++◌, ◌⊎◌, ℕ, Bo
 use Rattle.std.specs.List.{list_all}
 use Rattle.std.specs.Option.{is_none, option_map}
 use Rattle.dg_model.specs.Causes.{Rose}
-use Rattle.ufs_model.specs.Blocks.{Reading, known}
+use Rattle.ufs_model.specs.Blocks.{Reading, Volume, known}
 use Rattle.ufs_model.specs.Chunks.{DirEntry, entries_in, fault_in, used_entries}
 use Rattle.ufs_model.specs.Listings.{Listed, listed_entries, listing_of}
 use Rattle.ufs_model.specs.Paths.{chunks_in, chunks_of, entries_before, entries_through, look_from, names_of}
@@ -11,7 +11,6 @@ use Rattle.ufs_model.specs.Readings.{and_then}
 use Rattle.ufs_model.specs.declared.geometries.Geometry.{Geometry}
 use Rattle.ufs_model.specs.declared.inodes.Inode.{Inode}
 use Rattle.ufs_model.specs.declared.numbers.Endian.{Endian}
-use Rattle.ufs_model.specs.declared.numbers.Endian.TheVariants.{Little}
 use Rattle.ufs_model.specs.declared.reads.PathRefusal.{PathRefusal}
 use Rattle.ufs_path.specs.Answers.{refusal_of}
 use Rattle.ufs_path.specs.declared.faults.LookFault.{LookFault}
@@ -21,34 +20,36 @@ use Rattle.ufs_path.specs.declared.walks.Walked.TheVariants.{All, Unread, Failed
 -- ---- chunks
 
 -- no chunk is refused
-abbrev pub are_sound : List (List ℕ) → Bool
-are_sound chunks = list_all (λ chunk. is_none (fault_in Little 0 chunk)) chunks
+abbrev pub are_sound : Endian → List (List ℕ) → Bool
+are_sound endian chunks = list_all (λ chunk. is_none (fault_in endian 0 chunk)) chunks
 
 -- the used entries of chunks
-abbrev pub entries_among : List (List ℕ) → List DirEntry
-entries_among [] = []
-entries_among (chunk ∷ chunks) = used_entries (entries_in Little 0 chunk) ++ entries_among chunks
+abbrev pub entries_among : Endian → List (List ℕ) → List DirEntry
+entries_among endian [] = []
+entries_among endian (chunk ∷ chunks) = used_entries (entries_in endian 0 chunk) ++ entries_among endian chunks
 
 -- the used entries in file block n of a directory
-unfoldable pub block_entries : Endian → Geometry → Inode → ℕ → Reading (Result (List DirEntry) PathRefusal)
-block_entries endian g inode n = and_then (chunks_of endian g inode n) (λ chunks. known (entries_through endian chunks))
+unfoldable pub block_entries : Geometry → Inode → ℕ → Reading (Result (List DirEntry) PathRefusal)
+block_entries g inode n = and_then (chunks_of g inode n) (λ chunks. known (entries_through g.endian chunks))
 
 -- what a read of them says, which leaves so many chunks at the front of the buffer
-abbrev pub entries_said : Result ℕ LookFault → List ℕ → Option (Result (List DirEntry) PathRefusal)
-entries_said (Ok count) block = Some (Ok (entries_among (chunks_in count block)))
-entries_said (Err fault) block = option_map Err (refusal_of fault)
+abbrev pub entries_said : Endian → Result ℕ LookFault → List ℕ → Option (Result (List DirEntry) PathRefusal)
+entries_said endian (Ok count) block = Some (Ok (entries_among endian (chunks_in count block)))
+entries_said endian (Err fault) block = option_map Err (refusal_of fault)
 
 -- ---- entries that are handed on
 
 -- The entries were handed on, in so many lines. `reads` is the reading rule of the lines of entries.
-pub record AreHanded {S : Type 0} (took : S → List Listed → S → Type 0) (old new : S) (entries : List DirEntry) (reads : List DirEntry → Option (Result (List Listed) PathRefusal) → Type 0) (n : ℕ) : Type 0 where
+pub record AreHanded {S : Type 0} (took : S → List Listed → S → Type 0) (old new : S) (entries : List DirEntry)
+    (reads : List DirEntry → Option (Result (List Listed) PathRefusal) → Type 0) (n : ℕ) : Type 0 where
   pub lines : List Listed
   pub count : length lines ≡ n
   pub taken : took old lines new
   pub read : reads entries (Some (Ok lines))
 
 -- a front of the entries was handed on, and then the inode of one wasn't read
-pub record StopsUnread {S : Type 0} (took : S → List Listed → S → Type 0) (old new : S) (entries : List DirEntry) (reads : List DirEntry → Option (Result (List Listed) PathRefusal) → Type 0) (n : ℕ) (fault : LookFault) : Type 0 where
+pub record StopsUnread {S : Type 0} (took : S → List Listed → S → Type 0) (old new : S) (entries : List DirEntry)
+    (reads : List DirEntry → Option (Result (List Listed) PathRefusal) → Type 0) (n : ℕ) (fault : LookFault) : Type 0 where
   pub front : List DirEntry
   pub rest : List DirEntry
   pub whole : entries ≡ front ++ rest
@@ -56,7 +57,8 @@ pub record StopsUnread {S : Type 0} (took : S → List Listed → S → Type 0) 
   pub unread : reads entries (option_map Err (refusal_of fault))
 
 -- the receiver failed at a front of the entries
-pub record StopsFailed {S : Type 0} (took_part : S → List Listed → S → Type 0) (faults : S → ℕ) (old new : S) (entries : List DirEntry) (reads : List DirEntry → Option (Result (List Listed) PathRefusal) → Type 0) : Type 0 where
+pub record StopsFailed {S : Type 0} (took_part : S → List Listed → S → Type 0) (faults : S → ℕ) (old new : S) (entries : List DirEntry)
+    (reads : List DirEntry → Option (Result (List Listed) PathRefusal) → Type 0) : Type 0 where
   pub front : List DirEntry
   pub rest : List DirEntry
   pub whole : entries ≡ front ++ rest
@@ -66,7 +68,8 @@ pub record StopsFailed {S : Type 0} (took_part : S → List Listed → S → Typ
   pub rose : Rose (faults old) (faults new)
 
 -- what was handed on of entries
-abbrev pub IsListed : {S : Type 0} → (S → List Listed → S → Type 0) → (S → List Listed → S → Type 0) → (S → ℕ) → S → S → List DirEntry → (List DirEntry → Option (Result (List Listed) PathRefusal) → Type 0) → Walked → Type 0
+abbrev pub IsListed : {S : Type 0} → (S → List Listed → S → Type 0) → (S → List Listed → S → Type 0) → (S → ℕ) → S → S → List DirEntry
+    → (List DirEntry → Option (Result (List Listed) PathRefusal) → Type 0) → Walked → Type 0
 IsListed took took_part faults old new entries reads (All n) = AreHanded took old new entries reads n
 IsListed took took_part faults old new entries reads (Unread n fault) = StopsUnread took old new entries reads n fault
 IsListed took took_part faults old new entries reads Failed = StopsFailed took_part faults old new entries reads
@@ -101,16 +104,21 @@ IsWalked took took_part faults old new count before reads (Unread n fault) = Thr
 IsWalked took took_part faults old new count before reads Failed = ThroughSome count before (λ entries. StopsFailed took_part faults old new entries reads)
 
 -- all entries were consulted, and then the inodes that they name
-pub record AreConsulted (before : Option (Result (List DirEntry) PathRefusal) → Type 0) (reads : List DirEntry → Option (Result (List Listed) PathRefusal) → Type 0) : Type 0 where
+pub record AreConsulted (before : Option (Result (List DirEntry) PathRefusal) → Type 0)
+    (reads : List DirEntry → Option (Result (List Listed) PathRefusal) → Type 0) : Type 0 where
   pub entries : List DirEntry
   pub lines : List Listed
   pub before_is : before (Some (Ok entries))
   pub lines_are : reads entries (Some (Ok lines))
 
 -- the lines of the entries in the first count file blocks of a directory
-unfoldable pub lines_before : Endian → Geometry → Inode → ℕ → Reading (Result (List Listed) PathRefusal)
-lines_before endian g inode count = and_then (entries_before endian g inode count) (λ entries. listed_entries endian g 1 entries)
+unfoldable pub lines_before : Geometry → Inode → ℕ → Reading (Result (List Listed) PathRefusal)
+lines_before g inode count = and_then (entries_before g inode count) (λ entries. listed_entries g 1 entries)
 
 -- the lines of the directory at a path of a volume with this geometry
-unfoldable pub ls_below : Endian → List ℕ → Geometry → Reading (Result (List Listed) PathRefusal)
-ls_below endian path g = and_then (look_from endian g (names_of path) 2) (λ found. listing_of endian g found.1)
+unfoldable pub ls_below : List ℕ → Geometry → Reading (Result (List Listed) PathRefusal)
+ls_below path g = and_then (look_from g (names_of path) 2) (λ found. listing_of g found.1)
+
+-- the entries in the first count file blocks of a directory are read of a volume
+abbrev pub ReadsEntries : Geometry → Inode → ℕ → Volume → Type 0
+ReadsEntries g inode count v = (entries : List DirEntry) × (Ok entries ≡ (entries_before g inode count v).value)

@@ -1,14 +1,12 @@
 // File blocks, and why the contents of an inode aren't read.
-ghost use Rattle.std.specs.Prelude.{◌≡◌, ◌^◌, ◌<◌, ◌≤◌, length, IfOk, IfNone, Some};
+ghost use Rattle.std.specs.Prelude.{◌≡◌, ◌^◌, ◌<◌, ◌≤◌, length, IfOk, IfNone, IfSome, Some};
 ghost use Rattle.std.specs.Option.{option_map};
-ghost use Rattle.dg_io.specs.Views.{KeepsView};
+ghost use Rattle.dg_io.specs.ViewWords.{Keeps, Reads};
 ghost use Rattle.ufs_model.specs.Geometries.{IsGeometryOn};
 ghost use Rattle.ufs_model.specs.Paths.{block_of, bytes_in_block, directory_refusal, file_refusal};
-ghost use Rattle.ufs_model.specs.Readings.{ReadsAs};
-ghost use Rattle.ufs_model.specs.declared.geometries.Geometry.{Geometry};
-ghost use Rattle.ufs_model.specs.declared.numbers.Endian.TheVariants.{Little};
 ghost use Rattle.ufs_path.specs.Answers.{refusal_of};
 ghost use Rattle.ufs_path.specs.Parts.{IfData, block_said};
+ghost use Rattle.ufs_path.specs.Consults.{Consults, IsUnavailable, IsUnread};
 
 use crate::faults::LookFault;
 use dg_io::View;
@@ -31,7 +29,7 @@ pub enum BlockContents {
 /// Why the contents of an inode aren't read, if they aren't.
 #[tactic(auto, unfolding(ufs_model::specs::Paths::file_refusal))]
 pub fn file_refusal(inode: &Inode) -> Option<PathRefusal>
-    ensures value { (g : Geometry) → result ≡ file_refusal g inode.now }
+    ensures value { result ≡ file_refusal inode.now }
     ensures small { IfNone result (inode.now.size < 2 ^ 32) }
 {
     match inode.kind() {
@@ -54,8 +52,9 @@ pub fn file_refusal(inode: &Inode) -> Option<PathRefusal>
 /// Why no entries are read of an inode, if none are.
 #[tactic(auto, unfolding(ufs_model::specs::Paths::directory_refusal))]
 pub fn directory_fault(inode: &Inode) -> Option<LookFault>
-    ensures value { (g : Geometry) → option_map refusal_of result ≡ option_map Some (directory_refusal g inode.now) }
+    ensures value { option_map refusal_of result ≡ option_map Some (directory_refusal inode.now) }
     ensures small { IfNone result (inode.now.size < 2 ^ 32) }
+    ensures read { IfSome result (λ fault. IsUnavailable fault → ⊥) }
 {
     match inode.kind() {
         Kind::Directory => {
@@ -90,10 +89,10 @@ pub fn read_block<V: View>(
     requires geometry { IsGeometryOn (V.size view.old) (V.count view.old) g.now }
     requires levels { levels.old.fragment ≡ V.size view.old }
     requires block { n < 2 ^ 30 }
-    ensures keeps { KeepsView V.stands_for V.tells V.is_gone V.count V.size V.is_sound V.goes_on view.old view.new }
+    ensures keeps { Keeps V.View view.old view.new }
     ensures levels { levels.new.fragment ≡ levels.old.fragment }
-    ensures rule { ReadsAs (V.stands_for view.old) (V.is_gone view.old) (V.tells view.new) (V.is_gone view.new)
-        (block_of Little g.now inode.now n) (block_said result levels.new.block) }
+    ensures rule { Reads V.View view.old view.new (block_of g.now inode.now n) (block_said result levels.new.block) }
+    ensures consults { Consults V.View view.old view.new (block_of g.now inode.now n) (IsUnread result) }
     ensures covered { IfOk result (λ found. IfData found (bytes_in_block g.now inode.now n ≤ length levels.new.block)) }
 {
     match read_file_block(view, g, inode, n, levels) {

@@ -1,12 +1,11 @@
 // The contents of a file by its path.
 ghost use Rattle.std.specs.Prelude.{◌≡◌, ◌≤◌, true};
-ghost use Rattle.dg_io.specs.Views.{KeepsView};
+ghost use Rattle.dg_io.specs.ViewWords.{Keeps, Reads};
 ghost use Rattle.ufs_model.specs.Geometries.{IsGeometryOn};
 ghost use Rattle.ufs_model.specs.Paths.{cat_of, is_path};
-ghost use Rattle.ufs_model.specs.Readings.{ReadsAs};
-ghost use Rattle.ufs_model.specs.declared.numbers.Endian.TheVariants.{Little};
 ghost use Rattle.ufs_path.specs.Answers.{IsAnswer};
 ghost use Rattle.ufs_path.specs.Parts.{cat_below};
+ghost use Rattle.ufs_path.specs.Consults.{Consults, IsUnanswered, StaysUnlessFailed};
 
 use crate::faults::CatAnswer;
 use crate::files::{hand_file, refused_answer};
@@ -28,11 +27,13 @@ fn cat_below<V: View, O: Pieces>(
     requires geometry { IsGeometryOn (V.size view.old) (V.count view.old) g.now }
     requires levels { levels.old.fragment ≡ V.size view.old }
     requires path { is_path path.now ≡ true }
-    ensures keeps { KeepsView V.stands_for V.tells V.is_gone V.count V.size V.is_sound V.goes_on view.old view.new }
+    ensures keeps { Keeps V.View view.old view.new }
     ensures levels { levels.new.fragment ≡ levels.old.fragment }
     ensures later { O.faults out.old ≤ O.faults out.new }
     ensures rule { IsAnswer O.took O.took_part O.faults out.old out.new
-        (ReadsAs (V.stands_for view.old) (V.is_gone view.old) (V.tells view.new) (V.is_gone view.new) (cat_below Little path.now g.now)) result }
+        (Reads V.View view.old view.new (cat_below path.now g.now)) result }
+    ensures consults { Consults V.View view.old view.new (cat_below path.now g.now) (IsUnanswered result) }
+    ensures stays { StaysUnlessFailed result (O.faults out.old) (O.faults out.new) }
 {
     match look_below(view, g, path, levels) {
         Ok((_, inode)) => hand_file(view, g, &inode, out, levels),
@@ -51,11 +52,13 @@ pub fn cat<V: View, O: Pieces>(
     requires sound { V.is_sound view.old }
     requires levels { levels.old.fragment ≡ V.size view.old }
     requires path { is_path path.now ≡ true }
-    ensures keeps { KeepsView V.stands_for V.tells V.is_gone V.count V.size V.is_sound V.goes_on view.old view.new }
+    ensures keeps { Keeps V.View view.old view.new }
     ensures levels { levels.new.fragment ≡ levels.old.fragment }
     ensures later { O.faults out.old ≤ O.faults out.new }
     ensures rule { IsAnswer O.took O.took_part O.faults out.old out.new
-        (ReadsAs (V.stands_for view.old) (V.is_gone view.old) (V.tells view.new) (V.is_gone view.new) (cat_of Little (V.size view.old) (V.count view.old) path.now)) result }
+        (Reads V.View view.old view.new (cat_of (V.size view.old) (V.count view.old) path.now)) result }
+    ensures consults { Consults V.View view.old view.new (cat_of (V.size view.old) (V.count view.old) path.now) (IsUnanswered result) }
+    ensures stays { StaysUnlessFailed result (O.faults out.old) (O.faults out.new) }
 {
     match geometry(view, levels) {
         Ok(g) => cat_below(view, &g, path, out, levels),

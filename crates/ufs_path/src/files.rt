@@ -1,13 +1,12 @@
 // The contents of files.
 ghost use Rattle.std.specs.Prelude.{◌≡◌, ◌*◌, ◌^◌, ◌<◌, ◌≤◌, List, ℕ, Some, Ok, length, IfOk, OnOk, IfErr};
 ghost use Rattle.std.specs.Option.{option_map};
-ghost use Rattle.dg_io.specs.Views.{KeepsView};
+ghost use Rattle.dg_io.specs.ViewWords.{Keeps, Reads};
 ghost use Rattle.ufs_model.specs.Geometries.{IsGeometryOn};
 ghost use Rattle.ufs_model.specs.Paths.{bytes_in_block, contents_of, front_of, part_of};
-ghost use Rattle.ufs_model.specs.Readings.{ReadsAs};
-ghost use Rattle.ufs_model.specs.declared.numbers.Endian.TheVariants.{Little};
 ghost use Rattle.ufs_path.specs.Answers.{IsAnswer, answer_at, refusal_of, refused_answer};
 ghost use Rattle.ufs_path.specs.Parts.{HasCount, IsHanded, IsHandedPart, part_said};
+ghost use Rattle.ufs_path.specs.Consults.{Consults, IsUnanswered, IsUnread, IsUnreadPart, StaysAtPart, StaysUnlessFailed};
 
 use crate::blocks::{BlockContents, file_refusal, read_block};
 use crate::faults::{CatAnswer, LookFault};
@@ -63,10 +62,10 @@ fn read_part<V: View>(
     requires geometry { IsGeometryOn (V.size view.old) (V.count view.old) g.now }
     requires levels { levels.old.fragment ≡ V.size view.old }
     requires block { n < 2 ^ 30 }
-    ensures keeps { KeepsView V.stands_for V.tells V.is_gone V.count V.size V.is_sound V.goes_on view.old view.new }
+    ensures keeps { Keeps V.View view.old view.new }
     ensures levels { levels.new.fragment ≡ levels.old.fragment }
-    ensures rule { ReadsAs (V.stands_for view.old) (V.is_gone view.old) (V.tells view.new) (V.is_gone view.new)
-        (part_of Little g.now inode.now n) (part_said result levels.new.block) }
+    ensures rule { Reads V.View view.old view.new (part_of g.now inode.now n) (part_said result levels.new.block) }
+    ensures consults { Consults V.View view.old view.new (part_of g.now inode.now n) (IsUnread result) }
     ensures inside { IfOk result (λ count. count ≤ length levels.new.block) }
     ensures count { IfOk result (λ count. count ≡ bytes_in_block g.now inode.now n) }
     ensures small { IfOk result (λ count. count ≤ 65536) }
@@ -94,12 +93,11 @@ fn consult<V: View>(
     requires geometry { IsGeometryOn (V.size view.old) (V.count view.old) g.now }
     requires levels { levels.old.fragment ≡ V.size view.old }
     requires few { count ≤ 2 ^ 20 }
-    ensures keeps { KeepsView V.stands_for V.tells V.is_gone V.count V.size V.is_sound V.goes_on view.old view.new }
+    ensures keeps { Keeps V.View view.old view.new }
     ensures levels { levels.new.fragment ≡ levels.old.fragment }
-    ensures ok { OnOk result ((bytes : List ℕ) × ReadsAs (V.stands_for view.old) (V.is_gone view.old) (V.tells view.new) (V.is_gone view.new)
-        (front_of Little g.now inode.now count) (Some (Ok bytes))) }
-    ensures err { IfErr result (λ fault. ReadsAs (V.stands_for view.old) (V.is_gone view.old) (V.tells view.new) (V.is_gone view.new)
-        (front_of Little g.now inode.now count) (option_map Err (refusal_of fault))) }
+    ensures ok { OnOk result ((bytes : List ℕ) × Reads V.View view.old view.new (front_of g.now inode.now count) (Some (Ok bytes))) }
+    ensures err { IfErr result (λ fault. Reads V.View view.old view.new (front_of g.now inode.now count) (option_map Err (refusal_of fault))) }
+    ensures consults { Consults V.View view.old view.new (front_of g.now inode.now count) (IsUnread result) }
 {
     for n in 0..count {
         match read_part(view, g, inode, n, levels) {
@@ -123,11 +121,13 @@ fn hand_part<V: View, O: Pieces>(
     requires geometry { IsGeometryOn (V.size view.old) (V.count view.old) g.now }
     requires levels { levels.old.fragment ≡ V.size view.old }
     requires block { n < 2 ^ 30 }
-    ensures keeps { KeepsView V.stands_for V.tells V.is_gone V.count V.size V.is_sound V.goes_on view.old view.new }
+    ensures keeps { Keeps V.View view.old view.new }
     ensures levels { levels.new.fragment ≡ levels.old.fragment }
     ensures later { O.faults out.old ≤ O.faults out.new }
     ensures rule { IsHandedPart O.took O.took_part O.faults out.old out.new
-        (ReadsAs (V.stands_for view.old) (V.is_gone view.old) (V.tells view.new) (V.is_gone view.new) (part_of Little g.now inode.now n)) result }
+        (Reads V.View view.old view.new (part_of g.now inode.now n)) result }
+    ensures consults { Consults V.View view.old view.new (part_of g.now inode.now n) (IsUnreadPart result) }
+    ensures stays { StaysAtPart result (O.faults out.old) (O.faults out.new) }
     ensures count { HasCount (bytes_in_block g.now inode.now n) result }
 {
     match read_part(view, g, inode, n, levels) {
@@ -153,11 +153,13 @@ fn hand_on<V: View, O: Pieces>(
     requires levels { levels.old.fragment ≡ V.size view.old }
     requires small { inode.now.size < 2 ^ 32 }
     requires few { count ≤ 2 ^ 20 }
-    ensures keeps { KeepsView V.stands_for V.tells V.is_gone V.count V.size V.is_sound V.goes_on view.old view.new }
+    ensures keeps { Keeps V.View view.old view.new }
     ensures levels { levels.new.fragment ≡ levels.old.fragment }
     ensures later { O.faults out.old ≤ O.faults out.new }
     ensures rule { IsHanded O.took O.took_part O.faults out.old out.new count
-        (λ k. ReadsAs (V.stands_for view.old) (V.is_gone view.old) (V.tells view.new) (V.is_gone view.new) (front_of Little g.now inode.now k)) result }
+        (λ k. Reads V.View view.old view.new (front_of g.now inode.now k)) result }
+    ensures consults { Consults V.View view.old view.new (front_of g.now inode.now count) (IsUnanswered result) }
+    ensures stays { StaysUnlessFailed result (O.faults out.old) (O.faults out.new) }
 {
     let mut given = 0;
     for n in 0..count {
@@ -184,11 +186,13 @@ fn hand_twice<V: View, O: Pieces>(
     requires levels { levels.old.fragment ≡ V.size view.old }
     requires small { inode.now.size < 2 ^ 32 }
     requires few { count ≤ 2 ^ 20 }
-    ensures keeps { KeepsView V.stands_for V.tells V.is_gone V.count V.size V.is_sound V.goes_on view.old view.new }
+    ensures keeps { Keeps V.View view.old view.new }
     ensures levels { levels.new.fragment ≡ levels.old.fragment }
     ensures later { O.faults out.old ≤ O.faults out.new }
     ensures rule { IsAnswer O.took O.took_part O.faults out.old out.new
-        (ReadsAs (V.stands_for view.old) (V.is_gone view.old) (V.tells view.new) (V.is_gone view.new) (front_of Little g.now inode.now count)) result }
+        (Reads V.View view.old view.new (front_of g.now inode.now count)) result }
+    ensures consults { Consults V.View view.old view.new (front_of g.now inode.now count) (IsUnanswered result) }
+    ensures stays { StaysUnlessFailed result (O.faults out.old) (O.faults out.new) }
 {
     match consult(view, g, inode, count, levels) {
         Ok(()) => hand_on(view, g, inode, count, out, levels),
@@ -207,11 +211,13 @@ pub fn hand_file<V: View, O: Pieces>(
     requires sound { V.is_sound view.old }
     requires geometry { IsGeometryOn (V.size view.old) (V.count view.old) g.now }
     requires levels { levels.old.fragment ≡ V.size view.old }
-    ensures keeps { KeepsView V.stands_for V.tells V.is_gone V.count V.size V.is_sound V.goes_on view.old view.new }
+    ensures keeps { Keeps V.View view.old view.new }
     ensures levels { levels.new.fragment ≡ levels.old.fragment }
     ensures later { O.faults out.old ≤ O.faults out.new }
     ensures rule { IsAnswer O.took O.took_part O.faults out.old out.new
-        (ReadsAs (V.stands_for view.old) (V.is_gone view.old) (V.tells view.new) (V.is_gone view.new) (contents_of Little g.now inode.now)) result }
+        (Reads V.View view.old view.new (contents_of g.now inode.now)) result }
+    ensures consults { Consults V.View view.old view.new (contents_of g.now inode.now) (IsUnanswered result) }
+    ensures stays { StaysUnlessFailed result (O.faults out.old) (O.faults out.new) }
 {
     match file_refusal(inode) {
         Some(refusal) => answer_at(refusal),

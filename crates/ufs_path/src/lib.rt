@@ -18,6 +18,8 @@ mod list_tests;
 mod listings;
 mod lists;
 mod looks;
+#[cfg(test)]
+mod order_tests;
 mod superblocks;
 #[cfg(test)]
 mod tests;

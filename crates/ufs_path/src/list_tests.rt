@@ -64,7 +64,7 @@ impl Listing for MemListing {
 }
 
 /// What `ls` answers on a volume that loses a block, and what a listing with so much room takes.
-fn list(
+pub fn list(
     alloc: Global,
     image: Vec<u8>,
     path: &[u8],

@@ -1,14 +1,13 @@
 // The entries of a directory by its path.
 ghost use Rattle.std.specs.Prelude.{◌≡◌, ◌^◌, ◌<◌, ◌≤◌, IfErr, OnOk, true};
 ghost use Rattle.std.specs.Option.{option_map};
-ghost use Rattle.dg_io.specs.Views.{KeepsView};
+ghost use Rattle.dg_io.specs.ViewWords.{Keeps, Reads};
 ghost use Rattle.ufs_model.specs.Geometries.{IsGeometryOn};
 ghost use Rattle.ufs_model.specs.Listings.{listed_entries, listing_of, ls_of};
 ghost use Rattle.ufs_model.specs.Paths.{entries_before, is_path};
-ghost use Rattle.ufs_model.specs.Readings.{ReadsAs};
-ghost use Rattle.ufs_model.specs.declared.numbers.Endian.TheVariants.{Little};
 ghost use Rattle.ufs_path.specs.Answers.{IsAnswer, refusal_of};
 ghost use Rattle.ufs_path.specs.Walks.{AreConsulted, lines_before, ls_below};
+ghost use Rattle.ufs_path.specs.Consults.{Consults, IsUnanswered, IsUnread, StaysUnlessFailed};
 
 use crate::blocks::directory_fault;
 use crate::entries::consult_entries;
@@ -36,13 +35,13 @@ fn consult_lines<V: View>(
     requires levels { levels.old.fragment ≡ V.size view.old }
     requires small { inode.now.size < 2 ^ 32 }
     requires few { count ≤ 2 ^ 20 }
-    ensures keeps { KeepsView V.stands_for V.tells V.is_gone V.count V.size V.is_sound V.goes_on view.old view.new }
+    ensures keeps { Keeps V.View view.old view.new }
     ensures levels { levels.new.fragment ≡ levels.old.fragment }
     ensures ok { OnOk result (AreConsulted
-        (ReadsAs (V.stands_for view.old) (V.is_gone view.old) (V.tells view.new) (V.is_gone view.new) (entries_before Little g.now inode.now count))
-        (λ entries. ReadsAs (V.stands_for view.old) (V.is_gone view.old) (V.tells view.new) (V.is_gone view.new) (listed_entries Little g.now 1 entries))) }
-    ensures err { IfErr result (λ fault. ReadsAs (V.stands_for view.old) (V.is_gone view.old) (V.tells view.new) (V.is_gone view.new)
-        (lines_before Little g.now inode.now count) (option_map Err (refusal_of fault))) }
+        (Reads V.View view.old view.new (entries_before g.now inode.now count))
+        (λ entries. Reads V.View view.old view.new (listed_entries g.now 1 entries))) }
+    ensures err { IfErr result (λ fault. Reads V.View view.old view.new (lines_before g.now inode.now count) (option_map Err (refusal_of fault))) }
+    ensures consults { Consults V.View view.old view.new (lines_before g.now inode.now count) (IsUnread result) }
 {
     match consult_entries(view, g, inode, count, levels) {
         Ok(()) => {
@@ -72,11 +71,13 @@ fn list_consulted<V: View, O: Listing>(
     requires levels { levels.old.fragment ≡ V.size view.old }
     requires small { inode.now.size < 2 ^ 32 }
     requires few { count ≤ 2 ^ 20 }
-    ensures keeps { KeepsView V.stands_for V.tells V.is_gone V.count V.size V.is_sound V.goes_on view.old view.new }
+    ensures keeps { Keeps V.View view.old view.new }
     ensures levels { levels.new.fragment ≡ levels.old.fragment }
     ensures later { O.faults out.old ≤ O.faults out.new }
     ensures rule { IsAnswer O.took O.took_part O.faults out.old out.new
-        (ReadsAs (V.stands_for view.old) (V.is_gone view.old) (V.tells view.new) (V.is_gone view.new) (lines_before Little g.now inode.now count)) result }
+        (Reads V.View view.old view.new (lines_before g.now inode.now count)) result }
+    ensures consults { Consults V.View view.old view.new (lines_before g.now inode.now count) (IsUnanswered result) }
+    ensures stays { StaysUnlessFailed result (O.faults out.old) (O.faults out.new) }
 {
     match consult_lines(view, g, inode, count, levels) {
         Ok(()) => match list_blocks(view, g, inode, count, out, levels) {
@@ -99,11 +100,13 @@ fn list_directory<V: View, O: Listing>(
     requires sound { V.is_sound view.old }
     requires geometry { IsGeometryOn (V.size view.old) (V.count view.old) g.now }
     requires levels { levels.old.fragment ≡ V.size view.old }
-    ensures keeps { KeepsView V.stands_for V.tells V.is_gone V.count V.size V.is_sound V.goes_on view.old view.new }
+    ensures keeps { Keeps V.View view.old view.new }
     ensures levels { levels.new.fragment ≡ levels.old.fragment }
     ensures later { O.faults out.old ≤ O.faults out.new }
     ensures rule { IsAnswer O.took O.took_part O.faults out.old out.new
-        (ReadsAs (V.stands_for view.old) (V.is_gone view.old) (V.tells view.new) (V.is_gone view.new) (listing_of Little g.now inode.now)) result }
+        (Reads V.View view.old view.new (listing_of g.now inode.now)) result }
+    ensures consults { Consults V.View view.old view.new (listing_of g.now inode.now) (IsUnanswered result) }
+    ensures stays { StaysUnlessFailed result (O.faults out.old) (O.faults out.new) }
 {
     match directory_fault(inode) {
         Some(fault) => refused_answer(fault),
@@ -123,11 +126,13 @@ fn ls_below<V: View, O: Listing>(
     requires geometry { IsGeometryOn (V.size view.old) (V.count view.old) g.now }
     requires levels { levels.old.fragment ≡ V.size view.old }
     requires path { is_path path.now ≡ true }
-    ensures keeps { KeepsView V.stands_for V.tells V.is_gone V.count V.size V.is_sound V.goes_on view.old view.new }
+    ensures keeps { Keeps V.View view.old view.new }
     ensures levels { levels.new.fragment ≡ levels.old.fragment }
     ensures later { O.faults out.old ≤ O.faults out.new }
     ensures rule { IsAnswer O.took O.took_part O.faults out.old out.new
-        (ReadsAs (V.stands_for view.old) (V.is_gone view.old) (V.tells view.new) (V.is_gone view.new) (ls_below Little path.now g.now)) result }
+        (Reads V.View view.old view.new (ls_below path.now g.now)) result }
+    ensures consults { Consults V.View view.old view.new (ls_below path.now g.now) (IsUnanswered result) }
+    ensures stays { StaysUnlessFailed result (O.faults out.old) (O.faults out.new) }
 {
     match look_below(view, g, path, levels) {
         Ok((_, inode)) => list_directory(view, g, &inode, out, levels),
@@ -146,12 +151,13 @@ pub fn ls<V: View, O: Listing>(
     requires sound { V.is_sound view.old }
     requires levels { levels.old.fragment ≡ V.size view.old }
     requires path { is_path path.now ≡ true }
-    ensures keeps { KeepsView V.stands_for V.tells V.is_gone V.count V.size V.is_sound V.goes_on view.old view.new }
+    ensures keeps { Keeps V.View view.old view.new }
     ensures levels { levels.new.fragment ≡ levels.old.fragment }
     ensures later { O.faults out.old ≤ O.faults out.new }
     ensures rule { IsAnswer O.took O.took_part O.faults out.old out.new
-        (ReadsAs (V.stands_for view.old) (V.is_gone view.old) (V.tells view.new) (V.is_gone view.new)
-        (ls_of Little (V.size view.old) (V.count view.old) path.now)) result }
+        (Reads V.View view.old view.new (ls_of (V.size view.old) (V.count view.old) path.now)) result }
+    ensures consults { Consults V.View view.old view.new (ls_of (V.size view.old) (V.count view.old) path.now) (IsUnanswered result) }
+    ensures stays { StaysUnlessFailed result (O.faults out.old) (O.faults out.new) }
 {
     match geometry(view, levels) {
         Ok(g) => ls_below(view, &g, path, out, levels),

@@ -1,37 +1,32 @@
 // Paths.
 ghost use Rattle.std.specs.Prelude.{◌≡◌, ◌+◌, ◌*◌, ◌<◌, ◌≤◌, Some, drop, length, take, true};
 ghost use Rattle.std.specs.Option.{ok_or};
-ghost use Rattle.dg_io.specs.Views.{KeepsView};
+ghost use Rattle.dg_io.specs.ViewWords.{Keeps, Reads};
 ghost use Rattle.ufs_model.specs.Geometries.{IsGeometryOn};
 ghost use Rattle.ufs_model.specs.Inodes.{inode_in};
 ghost use Rattle.ufs_model.specs.Paths.{allocated, is_path, look_from, look_of, named_inode, names_after, names_of};
-ghost use Rattle.ufs_model.specs.Readings.{ReadsAs, answered};
+ghost use Rattle.ufs_model.specs.Readings.{answered};
 ghost use Rattle.ufs_model.specs.declared.numbers.Endian.TheVariants.{Little};
 ghost use Rattle.ufs_model.specs.declared.reads.BadRead.TheVariants.{Entry};
 ghost use Rattle.ufs_model.specs.declared.reads.PathRefusal.TheVariants.{Bad};
 ghost use Rattle.ufs_path.specs.Answers.{refusal_of};
+ghost use Rattle.ufs_path.specs.Consults.{Consults, IsUnread};
 
 use crate::directories::find_name;
 use crate::faults::LookFault;
 use crate::superblocks::geometry;
 use dg_io::View;
-use ufs_inode::{place_of, read_inode};
-use ufs_model::{BadRead, Geometry, Inode, next_name, path_names};
+use ufs_inode::{inode_at, place_of};
+use ufs_model::{BadRead, Endian, Geometry, Inode, ROOT_INODE, next_name, path_names};
 use ufs_pointer::Levels;
 
-/// The inode of the root (`ROOTINO`).
-const ROOT: u32 = 2;
-
-/// Bytes of an inode (`struct dinode`).
-const INODE_BYTES: usize = 128;
-
 /// The inode at a byte of its block. It has to be allocated.
-fn inode_at(block: &[u8], byte: u32) -> Result<Inode, LookFault>
+fn allocated_at(block: &[u8], byte: u32, endian: Endian) -> Result<Inode, LookFault>
     requires { byte + 128 ≤ length block.now }
-    ensures { answered refusal_of result ≡ Some (ok_or (inode_in Little (take 128 (drop byte block.now))) (Bad Entry)) }
+    ensures value { answered refusal_of result ≡ Some (ok_or (inode_in endian (take 128 (drop byte block.now))) (Bad Entry)) }
+    ensures read { IsUnread result → ⊥ }
 {
-    let start = byte as usize;
-    match read_inode(&block[start..start + INODE_BYTES]) {
+    match inode_at(block, byte, endian) {
         Some(inode) => Ok(inode),
         None => Err(LookFault::Bad(BadRead::Entry)),
     }
@@ -49,17 +44,17 @@ fn read_allocated<V: View>(
     requires geometry { IsGeometryOn (V.size view.old) (V.count view.old) g.now }
     requires number { number < g.now.ncg * g.now.ipg }
     requires levels { levels.old.fragment ≡ V.size view.old }
-    ensures keeps { KeepsView V.stands_for V.tells V.is_gone V.count V.size V.is_sound V.goes_on view.old view.new }
+    ensures keeps { Keeps V.View view.old view.new }
     ensures levels { levels.new.fragment ≡ levels.old.fragment }
     ensures block { levels.new.block ≡ levels.old.block }
-    ensures rule { ReadsAs (V.stands_for view.old) (V.is_gone view.old) (V.tells view.new) (V.is_gone view.new)
-        (allocated Little g.now number) (answered refusal_of result) }
+    ensures rule { Reads V.View view.old view.new (allocated g.now number) (answered refusal_of result) }
+    ensures consults { Consults V.View view.old view.new (allocated g.now number) (IsUnread result) }
 {
     let (block, byte) = place_of(g, number);
     if !levels.read_aside(view, block) {
         return Err(LookFault::Unavailable);
     }
-    inode_at(levels.aside(), byte)
+    allocated_at(levels.aside(), byte, g.endian)
 }
 
 /// An inode that a path leads to. The block of data stays.
@@ -73,13 +68,13 @@ pub fn read_named<V: View>(
     requires sound { V.is_sound view.old }
     requires geometry { IsGeometryOn (V.size view.old) (V.count view.old) g.now }
     requires levels { levels.old.fragment ≡ V.size view.old }
-    ensures keeps { KeepsView V.stands_for V.tells V.is_gone V.count V.size V.is_sound V.goes_on view.old view.new }
+    ensures keeps { Keeps V.View view.old view.new }
     ensures levels { levels.new.fragment ≡ levels.old.fragment }
     ensures block { levels.new.block ≡ levels.old.block }
-    ensures rule { ReadsAs (V.stands_for view.old) (V.is_gone view.old) (V.tells view.new) (V.is_gone view.new)
-        (named_inode Little g.now number) (answered refusal_of result) }
+    ensures rule { Reads V.View view.old view.new (named_inode g.now number) (answered refusal_of result) }
+    ensures consults { Consults V.View view.old view.new (named_inode g.now number) (IsUnread result) }
 {
-    if number < ROOT || g.ncg * g.ipg <= number {
+    if number < ROOT_INODE || g.ncg * g.ipg <= number {
         return Err(LookFault::Bad(BadRead::Entry));
     }
     read_allocated(view, g, number, levels)
@@ -95,12 +90,12 @@ fn follow_names<V: View>(
     requires sound { V.is_sound view.old }
     requires geometry { IsGeometryOn (V.size view.old) (V.count view.old) g.now }
     requires levels { levels.old.fragment ≡ V.size view.old }
-    ensures keeps { KeepsView V.stands_for V.tells V.is_gone V.count V.size V.is_sound V.goes_on view.old view.new }
+    ensures keeps { Keeps V.View view.old view.new }
     ensures levels { levels.new.fragment ≡ levels.old.fragment }
-    ensures rule { ReadsAs (V.stands_for view.old) (V.is_gone view.old) (V.tells view.new) (V.is_gone view.new)
-        (look_from Little g.now (names_after path.now) 2) (answered refusal_of result) }
+    ensures rule { Reads V.View view.old view.new (look_from g.now (names_after path.now) 2) (answered refusal_of result) }
+    ensures consults { Consults V.View view.old view.new (look_from g.now (names_after path.now) 2) (IsUnread result) }
 {
-    let mut number = ROOT;
+    let mut number = ROOT_INODE;
     let mut rest = path;
     while !rest.is_empty() {
         let (name, after) = next_name(rest);
@@ -123,10 +118,10 @@ pub fn look_below<V: View>(
     requires geometry { IsGeometryOn (V.size view.old) (V.count view.old) g.now }
     requires levels { levels.old.fragment ≡ V.size view.old }
     requires path { is_path path.now ≡ true }
-    ensures keeps { KeepsView V.stands_for V.tells V.is_gone V.count V.size V.is_sound V.goes_on view.old view.new }
+    ensures keeps { Keeps V.View view.old view.new }
     ensures levels { levels.new.fragment ≡ levels.old.fragment }
-    ensures rule { ReadsAs (V.stands_for view.old) (V.is_gone view.old) (V.tells view.new) (V.is_gone view.new)
-        (look_from Little g.now (names_of path.now) 2) (answered refusal_of result) }
+    ensures rule { Reads V.View view.old view.new (look_from g.now (names_of path.now) 2) (answered refusal_of result) }
+    ensures consults { Consults V.View view.old view.new (look_from g.now (names_of path.now) 2) (IsUnread result) }
 {
     follow_names(view, g, path_names(path), levels)
 }
@@ -141,10 +136,10 @@ pub fn look<V: View>(
     requires sound { V.is_sound view.old }
     requires levels { levels.old.fragment ≡ V.size view.old }
     requires path { is_path path.now ≡ true }
-    ensures keeps { KeepsView V.stands_for V.tells V.is_gone V.count V.size V.is_sound V.goes_on view.old view.new }
+    ensures keeps { Keeps V.View view.old view.new }
     ensures levels { levels.new.fragment ≡ levels.old.fragment }
-    ensures rule { ReadsAs (V.stands_for view.old) (V.is_gone view.old) (V.tells view.new) (V.is_gone view.new)
-        (look_of Little (V.size view.old) (V.count view.old) path.now) (answered refusal_of result) }
+    ensures rule { Reads V.View view.old view.new (look_of (V.size view.old) (V.count view.old) path.now) (answered refusal_of result) }
+    ensures consults { Consults V.View view.old view.new (look_of (V.size view.old) (V.count view.old) path.now) (IsUnread result) }
 {
     let g = geometry(view, levels)?;
     look_below(view, &g, path, levels)

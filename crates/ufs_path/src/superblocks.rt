@@ -1,11 +1,11 @@
 // The superblock.
 ghost use Rattle.std.specs.Prelude.{◌≡◌, IfOk};
-ghost use Rattle.dg_io.specs.Views.{KeepsView};
+ghost use Rattle.dg_io.specs.ViewWords.{Keeps, Reads};
 ghost use Rattle.ufs_model.specs.Geometries.{IsGeometryOn};
 ghost use Rattle.ufs_model.specs.Paths.{volume_geometry};
-ghost use Rattle.ufs_model.specs.Readings.{ReadsAs, answered};
-ghost use Rattle.ufs_model.specs.declared.numbers.Endian.TheVariants.{Little};
+ghost use Rattle.ufs_model.specs.Readings.{answered};
 ghost use Rattle.ufs_path.specs.Answers.{refusal_of};
+ghost use Rattle.ufs_path.specs.Consults.{Consults, IsUnread};
 
 use crate::faults::LookFault;
 use dg_io::View;
@@ -16,10 +16,10 @@ use ufs_pointer::{Levels, read_geometry};
 pub fn geometry<V: View>(view: &mut V, levels: &mut Levels) -> Result<Geometry, LookFault>
     requires sound { V.is_sound view.old }
     requires levels { levels.old.fragment ≡ V.size view.old }
-    ensures keeps { KeepsView V.stands_for V.tells V.is_gone V.count V.size V.is_sound V.goes_on view.old view.new }
+    ensures keeps { Keeps V.View view.old view.new }
     ensures levels { levels.new.fragment ≡ levels.old.fragment }
-    ensures rule { ReadsAs (V.stands_for view.old) (V.is_gone view.old) (V.tells view.new) (V.is_gone view.new)
-        (volume_geometry Little (V.size view.old) (V.count view.old)) (answered refusal_of result) }
+    ensures rule { Reads V.View view.old view.new (volume_geometry (V.size view.old) (V.count view.old)) (answered refusal_of result) }
+    ensures consults { Consults V.View view.old view.new (volume_geometry (V.size view.old) (V.count view.old)) (IsUnread result) }
     ensures ok { IfOk result (λ g. IsGeometryOn (V.size view.old) (V.count view.old) g) }
 {
     match read_geometry(view, levels) {

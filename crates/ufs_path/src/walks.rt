@@ -1,14 +1,15 @@
 // Handing on the entries of directories, with the inodes that they name.
 ghost use Rattle.std.specs.Prelude.{◌≡◌, ◌+◌, ◌*◌, ◌^◌, ◌<◌, ◌≤◌, ◌∷◌, [], List, ℕ, length};
-ghost use Rattle.dg_io.specs.Views.{KeepsView};
+ghost use Rattle.dg_io.specs.ViewWords.{Keeps, Reads};
 ghost use Rattle.ufs_dir.specs.Steps.{entry_of};
 ghost use Rattle.ufs_model.specs.Chunks.{entries_in, used_entries};
 ghost use Rattle.ufs_model.specs.Geometries.{IsGeometryOn};
 ghost use Rattle.ufs_model.specs.Listings.{listed_entries};
 ghost use Rattle.ufs_model.specs.Paths.{chunks_in, entries_before};
-ghost use Rattle.ufs_model.specs.Readings.{ReadsAs};
 ghost use Rattle.ufs_model.specs.declared.numbers.Endian.TheVariants.{Little};
-ghost use Rattle.ufs_path.specs.Walks.{IsFew, IsListed, IsWalked, entries_among};
+ghost use Rattle.ufs_pointer.specs.Fetches.{IsNeeded};
+ghost use Rattle.ufs_path.specs.Walks.{IsFew, IsListed, IsWalked, ReadsEntries, entries_among, lines_before};
+ghost use Rattle.ufs_path.specs.Consults.{Consults, ConsultsKind, IsUnreadWalk, StaysAtWalk};
 
 use crate::entries::{chunk_at, read_entries};
 use crate::faults::LookFault;
@@ -42,13 +43,15 @@ fn hand_entry<V: View, O: Listing>(
     requires geometry { IsGeometryOn (V.size view.old) (V.count view.old) g.now }
     requires levels { levels.old.fragment ≡ V.size view.old }
     requires short { length entry.now.name.now ≤ 255 }
-    ensures keeps { KeepsView V.stands_for V.tells V.is_gone V.count V.size V.is_sound V.goes_on view.old view.new }
+    ensures keeps { Keeps V.View view.old view.new }
     ensures levels { levels.new.fragment ≡ levels.old.fragment }
     ensures block { levels.new.block ≡ levels.old.block }
     ensures later { O.faults out.old ≤ O.faults out.new }
     ensures few { IsFew 1 result }
     ensures rule { IsListed O.took O.took_part O.faults out.old out.new (entry_of entry.now ∷ [])
-        (λ entries. ReadsAs (V.stands_for view.old) (V.is_gone view.old) (V.tells view.new) (V.is_gone view.new) (listed_entries Little g.now 1 entries)) result }
+        (λ entries. Reads V.View view.old view.new (listed_entries g.now 1 entries)) result }
+    ensures consults { Consults V.View view.old view.new (listed_entries g.now 1 (entry_of entry.now ∷ [])) (IsUnreadWalk result) }
+    ensures stays { StaysAtWalk result (O.faults out.old) (O.faults out.new) }
 {
     match read_named(view, g, entry.inode, levels) {
         Ok(inode) => match out.line(1, entry.inode, inode.kind(), inode.size, entry.name) {
@@ -71,13 +74,15 @@ fn list_entry<V: View, O: Listing>(
     requires geometry { IsGeometryOn (V.size view.old) (V.count view.old) g.now }
     requires levels { levels.old.fragment ≡ V.size view.old }
     requires short { length entry.now.name.now ≤ 255 }
-    ensures keeps { KeepsView V.stands_for V.tells V.is_gone V.count V.size V.is_sound V.goes_on view.old view.new }
+    ensures keeps { Keeps V.View view.old view.new }
     ensures levels { levels.new.fragment ≡ levels.old.fragment }
     ensures block { levels.new.block ≡ levels.old.block }
     ensures later { O.faults out.old ≤ O.faults out.new }
     ensures few { IsFew 1 result }
     ensures rule { IsListed O.took O.took_part O.faults out.old out.new (used_entries (entry_of entry.now ∷ []))
-        (λ entries. ReadsAs (V.stands_for view.old) (V.is_gone view.old) (V.tells view.new) (V.is_gone view.new) (listed_entries Little g.now 1 entries)) result }
+        (λ entries. Reads V.View view.old view.new (listed_entries g.now 1 entries)) result }
+    ensures consults { Consults V.View view.old view.new (listed_entries g.now 1 (used_entries (entry_of entry.now ∷ []))) (IsUnreadWalk result) }
+    ensures stays { StaysAtWalk result (O.faults out.old) (O.faults out.new) }
 {
     if entry.is_used() {
         hand_entry(view, g, entry, out, levels)
@@ -98,15 +103,17 @@ fn list_chunk<V: View, O: Listing>(
     requires geometry { IsGeometryOn (V.size view.old) (V.count view.old) g.now }
     requires levels { levels.old.fragment ≡ V.size view.old }
     requires chunk { length chunk.now ≡ CHUNK_BYTES }
-    ensures keeps { KeepsView V.stands_for V.tells V.is_gone V.count V.size V.is_sound V.goes_on view.old view.new }
+    ensures keeps { Keeps V.View view.old view.new }
     ensures levels { levels.new.fragment ≡ levels.old.fragment }
     ensures block { levels.new.block ≡ levels.old.block }
     ensures later { O.faults out.old ≤ O.faults out.new }
     ensures few { IsFew 512 result }
-    ensures rule { IsListed O.took O.took_part O.faults out.old out.new (used_entries (entries_in Little 0 chunk.now))
-        (λ entries. ReadsAs (V.stands_for view.old) (V.is_gone view.old) (V.tells view.new) (V.is_gone view.new) (listed_entries Little g.now 1 entries)) result }
+    ensures rule { IsListed O.took O.took_part O.faults out.old out.new (used_entries (entries_in g.now.endian 0 chunk.now))
+        (λ entries. Reads V.View view.old view.new (listed_entries g.now 1 entries)) result }
+    ensures consults { Consults V.View view.old view.new (listed_entries g.now 1 (used_entries (entries_in g.now.endian 0 chunk.now))) (IsUnreadWalk result) }
+    ensures stays { StaysAtWalk result (O.faults out.old) (O.faults out.new) }
 {
-    let mut entries = Entries::new(chunk);
+    let mut entries = Entries::new(chunk, g.endian);
     let mut given = 0;
     while let EntryStep::Entry(entry) = entries.next() {
         match list_entry(view, g, &entry, out, levels) {
@@ -131,12 +138,14 @@ fn list_chunks<V: View, O: Listing>(
     requires levels { levels.old.fragment ≡ V.size view.old }
     requires inside { count * 512 ≤ length levels.old.block }
     requires small { count ≤ 128 }
-    ensures keeps { KeepsView V.stands_for V.tells V.is_gone V.count V.size V.is_sound V.goes_on view.old view.new }
+    ensures keeps { Keeps V.View view.old view.new }
     ensures levels { levels.new.fragment ≡ levels.old.fragment }
     ensures later { O.faults out.old ≤ O.faults out.new }
     ensures few { IsFew (count * 512) result }
-    ensures rule { IsListed O.took O.took_part O.faults out.old out.new (entries_among (chunks_in count levels.old.block))
-        (λ entries. ReadsAs (V.stands_for view.old) (V.is_gone view.old) (V.tells view.new) (V.is_gone view.new) (listed_entries Little g.now 1 entries)) result }
+    ensures rule { IsListed O.took O.took_part O.faults out.old out.new (entries_among g.now.endian (chunks_in count levels.old.block))
+        (λ entries. Reads V.View view.old view.new (listed_entries g.now 1 entries)) result }
+    ensures consults { Consults V.View view.old view.new (listed_entries g.now 1 (entries_among g.now.endian (chunks_in count levels.old.block))) (IsUnreadWalk result) }
+    ensures stays { StaysAtWalk result (O.faults out.old) (O.faults out.new) }
 {
     let mut given = 0;
     for i in 0..count {
@@ -164,12 +173,15 @@ pub fn list_blocks<V: View, O: Listing>(
     requires levels { levels.old.fragment ≡ V.size view.old }
     requires small { inode.now.size < 2 ^ 32 }
     requires few { count ≤ 2 ^ 20 }
-    ensures keeps { KeepsView V.stands_for V.tells V.is_gone V.count V.size V.is_sound V.goes_on view.old view.new }
+    ensures keeps { Keeps V.View view.old view.new }
     ensures levels { levels.new.fragment ≡ levels.old.fragment }
     ensures later { O.faults out.old ≤ O.faults out.new }
     ensures rule { IsWalked O.took O.took_part O.faults out.old out.new count
-        (λ k. ReadsAs (V.stands_for view.old) (V.is_gone view.old) (V.tells view.new) (V.is_gone view.new) (entries_before Little g.now inode.now k))
-        (λ entries. ReadsAs (V.stands_for view.old) (V.is_gone view.old) (V.tells view.new) (V.is_gone view.new) (listed_entries Little g.now 1 entries)) result }
+        (λ k. Reads V.View view.old view.new (entries_before g.now inode.now k))
+        (λ entries. Reads V.View view.old view.new (listed_entries g.now 1 entries)) result }
+    ensures consults { ConsultsKind V.View view.old view.new (λ v. V.stands_for view.old v × ReadsEntries g.now inode.now count v)
+        (IsNeeded (lines_before g.now inode.now count)) (IsUnreadWalk result) }
+    ensures stays { StaysAtWalk result (O.faults out.old) (O.faults out.new) }
 {
     let mut given = 0;
     for n in 0..count {

@@ -1,9 +1,10 @@
 -- The blocks that are consulted for blocks end to end.
 use Rattle.std.proofs.Common.{◌≡◌, ◌∙◌, ℕ, zero, suc, ◌+◌, ◌-◌, ◌<◌, ◌≤◌, List, [], ◌∷◌, ◌++◌, Bool, true, false, refl, sym, ap, subst, arith}
 use Rattle.std.specs.Bool.{then_some}
-use Rattle.std.specs.List.{range_with_len}
+use Rattle.std.specs.List.{Contains, range_with_len}
+use Rattle.std.proofs.lemmas.List.FromFn.{get_or-range_with_len, length-range_with_len}
 use Rattle.ufs_model.specs.Blocks.{Volume, area_of, bind}
-use Rattle.ufs_pointer.specs.Fetches.{Fetches, FetchesArea}
+use Rattle.ufs_pointer.specs.Fetches.{Fetches, FetchesArea, IsNeeded}
 
 -- one more block
 range_more : (a n b : ℕ) → a + n ≡ b → range_with_len a (suc n) ≡ range_with_len a n ++ b ∷ []
@@ -62,3 +63,28 @@ area_fetches l a k false bytes h = record {
     whole = area_needs l a k v ∙ range_both a h.number (k - h.number) k (let most = h.most in omega arith);
   };
 }
+
+-- ---- what is gone
+
+range_contains : (a k b : ℕ) → a ≤ b → b < a + k → Contains (range_with_len a k) b
+range_contains a k b low high =
+    let on : a + (b - a) ≡ b = omega arith in
+    (b - a, (let many = length-range_with_len a k in omega arith), get_or-range_with_len a k (b - a) b (omega arith) ∙ on)
+
+-- each of the blocks is consulted
+pub needed_in : (l a k : ℕ) (v : Volume) (b : ℕ) → a ≤ b → b < a + k → IsNeeded (area_of l a k) v b
+needed_in l a k v b low high = subst (λ xs. Contains xs b) (sym (area_needs l a k v)) (range_contains a k b low high)
+
+-- ---- one block
+
+area_one : {S : Type 0} {fetched : S → List ℕ → S → Type 0} {gone : ℕ → Bool} {old new : S} (a : ℕ) (could : Bool) (h : FetchesArea fetched gone a 1 could old new) → h.number ≡ 1
+area_one a true h = h.all refl
+area_one a false h = let least = (h.cut refl).0 in let most = h.most in omega arith
+
+pub area_once : {S : Type 0} {fetched : S → List ℕ → S → Type 0} {gone : ℕ → Bool} {old new : S} (a : ℕ) (could : Bool) → FetchesArea fetched gone a 1 could old new → fetched old (a ∷ []) new
+area_once {fetched = fetched} {old = old} {new = new} a could h = subst (λ (n : ℕ). fetched old (range_with_len a n) new) (area_one a could h) h.were
+
+pub area_gone : {S : Type 0} {fetched : S → List ℕ → S → Type 0} {gone : ℕ → Bool} {old new : S} (a : ℕ) (could : Bool) → FetchesArea fetched gone a 1 could old new → could ≡ false → gone a ≡ true
+area_gone {gone = gone} a could h missed =
+    let one : a + (h.number - 1) ≡ a = omega (arith, area_one a could h) in
+    subst (λ (b : ℕ). gone b ≡ true) one ((h.cut missed).1)

@@ -4,3 +4,4 @@ pub mod AreaFetches
 pub mod SuperLaws
 pub mod Sizes
 pub mod BlockLaws
+pub mod LossLaws

@@ -8,13 +8,14 @@ use Rattle.std.proofs.Math.Nat.{lt_of_mul-lt-mul_right, mul-le-mul_right, mul-su
 use Rattle.ufs_model.proofs.AreaLaws.{area_none}
 use Rattle.ufs_model.specs.Blocks.{Volume, area_of, area_within}
 use Rattle.ufs_model.specs.Readings.{Grows, ReadsAs}
-use Rattle.ufs_model.specs.Superblocks.{geometry, geometry_in, geometry_of, superblock_of}
+use Rattle.ufs_model.specs.Superblocks.{geometry_in, geometry_of, superblock_of}
 use Rattle.ufs_model.proofs.ReadingLaws.{reads_map, reads_none}
 use Rattle.ufs_model.specs.declared.geometries.BadSuper.{BadSuper}
 use Rattle.ufs_model.specs.declared.geometries.Geometry.{Geometry}
-use Rattle.ufs_model.specs.declared.numbers.Endian.TheVariants.{Little}
 use Rattle.ufs_pointer.specs.FetchLaws.{fetches_map, fetches_none}
-use Rattle.ufs_pointer.specs.Fetches.{Fetches}
+use Rattle.ufs_pointer.specs.Fetches.{Fetches, FetchesArea, IsNeeded, LosesOne}
+use Rattle.ufs_pointer.specs.KindLaws.{loses_front}
+use Rattle.ufs_pointer.proofs.LossLaws.{within_lost}
 
 -- the bytes that are there, and zeros after them
 pub within : {stands : Volume → Type 0} {tells : Type 0} {before after : ℕ → Bool} (l n a k m : ℕ) (r : Bool) (front rest : List ℕ) → Grows before after
@@ -49,15 +50,15 @@ padded k m l front low e =
 
 -- the geometry by the bytes of the superblock
 pub geometry_read : {stands : Volume → Type 0} {tells : Type 0} {before after : ℕ → Bool} (l n a k : ℕ) (bytes : List ℕ) (answer : Result Geometry BadSuper) → Grows before after
-    → a ≡ 8192 / l → k ≡ div_ceil 1376 l → answer ≡ geometry bytes l n
-    → ReadsAs stands before tells after (area_within l n a k) (Some bytes) → ReadsAs stands before tells after (geometry_of Little l n) (Some answer)
+    → a ≡ 8192 / l → k ≡ div_ceil 1376 l → answer ≡ geometry_in bytes l n
+    → ReadsAs stands before tells after (area_within l n a k) (Some bytes) → ReadsAs stands before tells after (geometry_of l n) (Some answer)
 unfolding geometry_of superblock_of
 geometry_read l n a k bytes answer grows e1 e2 e3 reads =
-    rw e3 (reads_map (λ b. geometry_in Little b l n) grows (rw (e1, e2) at reads))
+    rw e3 (reads_map (λ b. geometry_in b l n) grows (rw (e1, e2) at reads))
 
 pub geometry_unread : {stands : Volume → Type 0} {tells : Type 0} {before after : ℕ → Bool} (l n a k : ℕ)
     → a ≡ 8192 / l → k ≡ div_ceil 1376 l
-    → ReadsAs stands before tells after (area_within l n a k) None → ReadsAs stands before tells after (geometry_of Little l n) None
+    → ReadsAs stands before tells after (area_within l n a k) None → ReadsAs stands before tells after (geometry_of l n) None
 unfolding geometry_of superblock_of
 geometry_unread l n a k e1 e2 reads = reads_none _ (rw (e1, e2) at reads)
 
@@ -82,17 +83,26 @@ within_fetched l n a k m false front rest both none e zeros reads fetches = fetc
 -- those with the superblock
 pub geometry_fetched : {S : Type 0} {fetched : S → List ℕ → S → Type 0} {stands : Volume → Type 0} {tells : Type 0} {before after : ℕ → Bool} {old new : S} (l n a k : ℕ) (bytes : List ℕ) (answer : Result Geometry BadSuper)
     → ((s t u : S) (x y : List ℕ) → fetched s x t → fetched t y u → fetched s (x ++ y) u) → fetched new [] new
-    → a ≡ 8192 / l → k ≡ div_ceil 1376 l → answer ≡ geometry bytes l n → ReadsAs stands before tells after (area_within l n a k) (Some bytes)
-    → Fetches fetched stands tells (area_within l n a k) (Some bytes) old new → Fetches fetched stands tells (geometry_of Little l n) (Some answer) old new
+    → a ≡ 8192 / l → k ≡ div_ceil 1376 l → answer ≡ geometry_in bytes l n → ReadsAs stands before tells after (area_within l n a k) (Some bytes)
+    → Fetches fetched stands tells (area_within l n a k) (Some bytes) old new → Fetches fetched stands tells (geometry_of l n) (Some answer) old new
 unfolding geometry_of superblock_of
 geometry_fetched l n a k bytes answer both none e1 e2 e3 reads fetches =
-    rw e3 (fetches_map (λ b. geometry_in Little b l n) both none (rw (e1, e2) at reads) (rw (e1, e2) at fetches))
+    rw e3 (fetches_map (λ b. geometry_in b l n) both none (rw (e1, e2) at reads) (rw (e1, e2) at fetches))
 
 pub geometry_unfetched : {S : Type 0} {fetched : S → List ℕ → S → Type 0} {stands : Volume → Type 0} {tells : Type 0} {old new : S} (l n a k : ℕ)
     → a ≡ 8192 / l → k ≡ div_ceil 1376 l
-    → Fetches fetched stands tells (area_within l n a k) None old new → Fetches fetched stands tells (geometry_of Little l n) None old new
+    → Fetches fetched stands tells (area_within l n a k) None old new → Fetches fetched stands tells (geometry_of l n) None old new
 unfolding geometry_of superblock_of
 geometry_unfetched l n a k e1 e2 fetches = fetches_none _ (rw (e1, e2) at fetches)
+
+-- ---- what is gone
+
+pub geometry_lost : {S : Type 0} {fetched : S → List ℕ → S → Type 0} {stands : Volume → Type 0} {tells : Type 0} {gone : ℕ → Bool} {old new : S} (l n a k : ℕ)
+    → a ≡ 8192 / l → k ≡ div_ceil 1376 l
+    → FetchesArea fetched gone a (min k (n - a)) false old new → LosesOne stands tells n (IsNeeded (geometry_of l n)) gone
+unfolding geometry_of superblock_of
+geometry_lost l n a k e1 e2 area =
+    loses_front (area_within l n (8192 / l) (div_ceil 1376 l)) _ (within_lost l n (8192 / l) (div_ceil 1376 l) (rw (e1, e2) at area))
 
 -- ---- sizes
 

@@ -1,6 +1,6 @@
--- Which blocks of a view a reader fetched.
-use Rattle.std.specs.Prelude.{◌≡◌, ◌+◌, ◌-◌, ◌≤◌, ◌++◌, ℕ, List, Bool, true, false, Option, Some, None}
-use Rattle.std.specs.List.{range_with_len}
+-- Which blocks of a view a reader fetched, and which it lost.
+use Rattle.std.specs.Prelude.{◌≡◌, ◌+◌, ◌-◌, ◌<◌, ◌≤◌, ◌++◌, ℕ, List, Bool, true, false, Option, Some, None}
+use Rattle.std.specs.List.{All, Contains, range_with_len}
 use Rattle.ufs_model.specs.Blocks.{Volume, Consulted, Reading}
 
 -- the list begins with these blocks
@@ -28,3 +28,26 @@ pub record FetchesArea {S : Type 0} (fetched : S → List ℕ → S → Type 0) 
   pub all : could ≡ true → number ≡ k
   pub cut : could ≡ false → (1 ≤ number) × (gone (a + (number - 1)) ≡ true)
   pub were : fetched old (range_with_len a number) new
+
+-- ---- blocks of a kind
+
+-- a block is consulted for a reading
+abbrev pub IsNeeded : {A : Type 0} → Reading A → Volume → ℕ → Type 0
+IsNeeded d v b = Contains ((d v).needs) b
+
+-- the one block
+abbrev pub IsJust : ℕ → Volume → ℕ → Type 0
+IsJust block v b = b ≡ block
+
+-- Just these blocks were fetched, one after another, and all of them are of a kind, on each volume that a view stands for, where it tells its blocks in the end.
+pub record FetchesOnly {S : Type 0} (fetched : S → List ℕ → S → Type 0) (stands : Volume → Type 0) (tells : Type 0) (kind : Volume → ℕ → Type 0) (old new : S) : Type 0 where
+  pub blocks : List ℕ
+  pub were : fetched old blocks new
+  pub only : tells → (v : Volume) → stands v → All (kind v) blocks
+
+-- Some block below the count is gone; it is of a kind on each volume that a view stands for, where it tells its blocks in the end.
+pub record LosesOne (stands : Volume → Type 0) (tells : Type 0) (count : ℕ) (kind : Volume → ℕ → Type 0) (gone : ℕ → Bool) : Type 0 where
+  pub block : ℕ
+  pub within : block < count
+  pub lost : gone block ≡ true
+  pub of_kind : tells → (v : Volume) → stands v → kind v block

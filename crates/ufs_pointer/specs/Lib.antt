@@ -3,4 +3,7 @@ pub mod Addresses
 pub mod Buffers
 pub mod Fetches
 pub mod FetchLaws
+pub mod KindLaws
 pub mod FileBlocks
+pub mod Superblocks
+pub mod ViewWords

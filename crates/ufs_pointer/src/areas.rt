@@ -1,9 +1,8 @@
 ghost use Rattle.std.specs.Prelude.{◌≡◌, ◌+◌, ◌*◌, ◌<◌, ◌≤◌, ◌∷◌, [], false, true, drop, length, take};
 ghost use Rattle.std.specs.Bool.{then_some};
-ghost use Rattle.dg_io.specs.Views.{KeepsView};
+ghost use Rattle.dg_io.specs.ViewWords.{Keeps, Reads};
 ghost use Rattle.ufs_model.specs.Blocks.{area_of, consult};
-ghost use Rattle.ufs_model.specs.Readings.{ReadsAs};
-ghost use Rattle.ufs_pointer.specs.Fetches.{Fetches, FetchesArea};
+ghost use Rattle.ufs_pointer.specs.ViewWords.{FetchesFor, FetchesFrom};
 
 use dg_io::{Fetched, View};
 
@@ -13,11 +12,10 @@ fn fetch_at<V: View>(view: &mut V, block: u32, start: usize, size: usize, buf: &
     requires within { block < V.count view.old }
     requires size { size ≡ V.size view.old }
     requires room { start + size ≤ length buf.old }
-    ensures keeps { KeepsView V.stands_for V.tells V.is_gone V.count V.size V.is_sound V.goes_on view.old view.new }
+    ensures keeps { Keeps V.View view.old view.new }
     ensures room { length buf.new ≡ length buf.old }
     ensures front { take start buf.new ≡ take start buf.old }
-    ensures rule { ReadsAs (V.stands_for view.old) (V.is_gone view.old) (V.tells view.new) (V.is_gone view.new)
-        (consult (V.size view.old) block) (then_some result (take size (drop start buf.new))) }
+    ensures rule { Reads V.View view.old view.new (consult (V.size view.old) block) (then_some result (take size (drop start buf.new))) }
     ensures gone { result ≡ false → V.is_gone view.new block ≡ true }
     ensures fetched { V.fetched view.old (block ∷ []) view.new }
 {
@@ -33,13 +31,11 @@ pub fn read_area<V: View>(view: &mut V, a: u32, k: u32, buf: &mut [u8]) -> bool
     requires sound { V.is_sound view.old }
     requires within { a + k ≤ V.count view.old }
     requires room { length buf.old ≡ k * V.size view.old }
-    ensures keeps { KeepsView V.stands_for V.tells V.is_gone V.count V.size V.is_sound V.goes_on view.old view.new }
+    ensures keeps { Keeps V.View view.old view.new }
     ensures room { length buf.new ≡ length buf.old }
-    ensures rule { ReadsAs (V.stands_for view.old) (V.is_gone view.old) (V.tells view.new) (V.is_gone view.new)
-        (area_of (V.size view.old) a k) (then_some result buf.new) }
-    ensures area { FetchesArea V.fetched (V.is_gone view.new) a k result view.old view.new }
-    ensures fetched { Fetches V.fetched (V.stands_for view.old) (V.tells view.new)
-        (area_of (V.size view.old) a k) (then_some result buf.new) view.old view.new }
+    ensures rule { Reads V.View view.old view.new (area_of (V.size view.old) a k) (then_some result buf.new) }
+    ensures area { FetchesFrom V.View view.old view.new a k result }
+    ensures fetched { FetchesFor V.View view.old view.new (area_of (V.size view.old) a k) (then_some result buf.new) }
 {
     let (size, _) = V::shape(view);
     let bytes = size as usize;

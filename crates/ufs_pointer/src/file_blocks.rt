@@ -1,14 +1,12 @@
 // File blocks, read by their addresses.
-ghost use Rattle.std.specs.Prelude.{◌≡◌, ◌+◌, ◌*◌, ◌^◌, ◌<◌, ◌≤◌, IfSome, length};
-ghost use Rattle.dg_io.specs.Views.{KeepsView};
+ghost use Rattle.std.specs.Prelude.{◌≡◌, ◌+◌, ◌*◌, ◌^◌, ◌<◌, ◌≤◌, IfNone, IfSome, length};
+ghost use Rattle.dg_io.specs.ViewWords.{Keeps, Reads};
 ghost use Rattle.ufs_model.specs.Geometries.{IsGeometry, IsGeometryOn};
 ghost use Rattle.ufs_model.specs.Inodes.{block_count};
 ghost use Rattle.ufs_model.specs.Paths.{block_of, bytes_at, bytes_in_block};
-ghost use Rattle.ufs_model.specs.Readings.{ReadsAs};
-ghost use Rattle.ufs_model.specs.declared.numbers.Endian.TheVariants.{Little};
 ghost use Rattle.ufs_model.specs.declared.pointers.Address.TheVariants.{At};
-ghost use Rattle.ufs_pointer.specs.Fetches.{Fetches};
 ghost use Rattle.ufs_pointer.specs.FileBlocks.{IfData, block_said};
+ghost use Rattle.ufs_pointer.specs.ViewWords.{FetchesFor, LosesNeeded};
 
 use crate::answers::BlockAnswer;
 use crate::levels::{Levels, file_block};
@@ -62,13 +60,12 @@ fn read_run<V: View>(
     requires levels { levels.old.fragment ≡ V.size view.old }
     requires inside { a + k ≤ g.now.size }
     requires few { k ≤ 8 }
-    ensures keeps { KeepsView V.stands_for V.tells V.is_gone V.count V.size V.is_sound V.goes_on view.old view.new }
+    ensures keeps { Keeps V.View view.old view.new }
     ensures levels { levels.new.fragment ≡ levels.old.fragment }
     ensures room { length levels.new.block ≡ k * g.now.fsize }
-    ensures rule { ReadsAs (V.stands_for view.old) (V.is_gone view.old) (V.tells view.new) (V.is_gone view.new)
-        (bytes_at g.now (At a k)) (block_said result levels.new.block) }
-    ensures fetched { Fetches V.fetched (V.stands_for view.old) (V.tells view.new)
-        (bytes_at g.now (At a k)) (block_said result levels.new.block) view.old view.new }
+    ensures rule { Reads V.View view.old view.new (bytes_at g.now (At a k)) (block_said result levels.new.block) }
+    ensures fetched { FetchesFor V.View view.old view.new (bytes_at g.now (At a k)) (block_said result levels.new.block) }
+    ensures lost { IfNone result (LosesNeeded V.View view.old view.new (bytes_at g.now (At a k))) }
 {
     if !levels.read_block(view, a, k) {
         return None;
@@ -89,13 +86,12 @@ pub fn read_file_block<V: View>(
     requires geometry { IsGeometryOn (V.size view.old) (V.count view.old) g.now }
     requires levels { levels.old.fragment ≡ V.size view.old }
     requires block { n < 2 ^ 30 }
-    ensures keeps { KeepsView V.stands_for V.tells V.is_gone V.count V.size V.is_sound V.goes_on view.old view.new }
+    ensures keeps { Keeps V.View view.old view.new }
     ensures levels { levels.new.fragment ≡ levels.old.fragment }
     ensures covered { IfSome result (λ found. IfData found (bytes_in_block g.now inode.now n ≤ length levels.new.block)) }
-    ensures rule { ReadsAs (V.stands_for view.old) (V.is_gone view.old) (V.tells view.new) (V.is_gone view.new)
-        (block_of Little g.now inode.now n) (block_said result levels.new.block) }
-    ensures fetched { Fetches V.fetched (V.stands_for view.old) (V.tells view.new)
-        (block_of Little g.now inode.now n) (block_said result levels.new.block) view.old view.new }
+    ensures rule { Reads V.View view.old view.new (block_of g.now inode.now n) (block_said result levels.new.block) }
+    ensures fetched { FetchesFor V.View view.old view.new (block_of g.now inode.now n) (block_said result levels.new.block) }
+    ensures lost { IfNone result (LosesNeeded V.View view.old view.new (block_of g.now inode.now n)) }
 {
     match file_block(view, g, inode, n, levels) {
         BlockAnswer::Hole => Some(FileBlock::Hole),

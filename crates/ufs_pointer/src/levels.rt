@@ -1,16 +1,14 @@
-ghost use Rattle.std.specs.Prelude.{◌≡◌, ◌+◌, ◌-◌, ◌*◌, ◌^◌, ◌<◌, ◌≤◌, ◌++◌, IfOk, IfSome, [], length, replicate, take};
+ghost use Rattle.std.specs.Prelude.{◌≡◌, ◌+◌, ◌-◌, ◌*◌, ◌^◌, ◌<◌, ◌≤◌, ◌++◌, ◌∷◌, IfNone, IfOk, IfSome, [], false, length, replicate, take, true};
 ghost use Rattle.std.specs.Bool.{then_some};
-ghost use Rattle.dg_io.specs.Views.{KeepsView};
+ghost use Rattle.dg_io.specs.ViewWords.{Keeps, Reads};
 ghost use Rattle.ufs_model.specs.Blocks.{area_of};
 ghost use Rattle.ufs_model.specs.Geometries.{IsGeometry, IsGeometryOn};
 ghost use Rattle.ufs_model.specs.Inodes.{block_span};
 ghost use Rattle.ufs_model.specs.Pointers.{chain_address, file_block_of};
-ghost use Rattle.ufs_model.specs.Readings.{ReadsAs};
-ghost use Rattle.ufs_model.specs.declared.numbers.Endian.TheVariants.{Little};
 ghost use Rattle.ufs_pointer.specs.Addresses.{HasSpan, IsInside, address_in};
 ghost use Rattle.ufs_pointer.specs.Buffers.{Buffers};
 ghost use Rattle.ufs_pointer.specs.Chains.{IsChain, chain_span};
-ghost use Rattle.ufs_pointer.specs.Fetches.{Fetches};
+ghost use Rattle.ufs_pointer.specs.ViewWords.{FetchesFor, FetchesFrom, LosesNeeded};
 
 use crate::addresses::{direct_address, indirect_address};
 use crate::answers::BlockAnswer;
@@ -149,12 +147,11 @@ fn read_front<V: View>(view: &mut V, a: u32, k: u32, bytes: usize, buf: &mut [u8
     requires within { a + k ≤ V.count view.old }
     requires bytes { bytes ≡ k * V.size view.old }
     requires room { bytes ≤ length buf.old }
-    ensures keeps { KeepsView V.stands_for V.tells V.is_gone V.count V.size V.is_sound V.goes_on view.old view.new }
+    ensures keeps { Keeps V.View view.old view.new }
     ensures room { length buf.new ≡ length buf.old }
-    ensures rule { ReadsAs (V.stands_for view.old) (V.is_gone view.old) (V.tells view.new) (V.is_gone view.new)
-        (area_of (V.size view.old) a k) (then_some result (take bytes buf.new)) }
-    ensures fetched { Fetches V.fetched (V.stands_for view.old) (V.tells view.new)
-        (area_of (V.size view.old) a k) (then_some result (take bytes buf.new)) view.old view.new }
+    ensures rule { Reads V.View view.old view.new (area_of (V.size view.old) a k) (then_some result (take bytes buf.new)) }
+    ensures fetched { FetchesFor V.View view.old view.new (area_of (V.size view.old) a k) (then_some result (take bytes buf.new)) }
+    ensures area { FetchesFrom V.View view.old view.new a k result }
 {
     read_area(view, a, k, &mut buf[..bytes])
 }
@@ -167,14 +164,13 @@ impl Levels {
         requires within { a + k ≤ V.count view.old }
         requires most { k ≤ 8 }
         requires fragment { self.old.fragment ≡ V.size view.old }
-        ensures keeps { KeepsView V.stands_for V.tells V.is_gone V.count V.size V.is_sound V.goes_on view.old view.new }
+        ensures keeps { Keeps V.View view.old view.new }
         ensures fragment { self.new.fragment ≡ self.old.fragment }
         ensures aside { self.new.aside ≡ self.old.aside }
         ensures room { length self.new.block ≡ k * V.size view.old }
-        ensures rule { ReadsAs (V.stands_for view.old) (V.is_gone view.old) (V.tells view.new) (V.is_gone view.new)
-            (area_of (V.size view.old) a k) (then_some result self.new.block) }
-        ensures fetched { Fetches V.fetched (V.stands_for view.old) (V.tells view.new)
-            (area_of (V.size view.old) a k) (then_some result self.new.block) view.old view.new }
+        ensures rule { Reads V.View view.old view.new (area_of (V.size view.old) a k) (then_some result self.new.block) }
+        ensures area { FetchesFrom V.View view.old view.new a k result }
+        ensures fetched { FetchesFor V.View view.old view.new (area_of (V.size view.old) a k) (then_some result self.new.block) }
     {
         self.filled = area_bytes(k, self.fragment);
         read_front(view, a, k, self.filled, &mut self.bytes)
@@ -186,14 +182,14 @@ impl Levels {
         requires sound { V.is_sound view.old }
         requires within { a < V.count view.old }
         requires fragment { self.old.fragment ≡ V.size view.old }
-        ensures keeps { KeepsView V.stands_for V.tells V.is_gone V.count V.size V.is_sound V.goes_on view.old view.new }
+        ensures keeps { Keeps V.View view.old view.new }
         ensures fragment { self.new.fragment ≡ self.old.fragment }
         ensures block { self.new.block ≡ self.old.block }
         ensures room { length self.new.aside ≡ V.size view.old }
-        ensures rule { ReadsAs (V.stands_for view.old) (V.is_gone view.old) (V.tells view.new) (V.is_gone view.new)
-            (area_of (V.size view.old) a 1) (then_some result self.new.aside) }
-        ensures fetched { Fetches V.fetched (V.stands_for view.old) (V.tells view.new)
-            (area_of (V.size view.old) a 1) (then_some result self.new.aside) view.old view.new }
+        ensures rule { Reads V.View view.old view.new (area_of (V.size view.old) a 1) (then_some result self.new.aside) }
+        ensures fetched { FetchesFor V.View view.old view.new (area_of (V.size view.old) a 1) (then_some result self.new.aside) }
+        ensures once { V.fetched view.old (a ∷ []) view.new }
+        ensures gone { result ≡ false → V.is_gone view.new a ≡ true }
     {
         read_area(view, a, 1, &mut self.aside)
     }
@@ -236,14 +232,13 @@ impl Levels {
         requires geometry { IsGeometryOn (V.size view.old) (V.count view.old) g.now }
         requires chain { IsChain g.now.nindir chain }
         requires fragment { self.old.fragment ≡ V.size view.old }
-        ensures keeps { KeepsView V.stands_for V.tells V.is_gone V.count V.size V.is_sound V.goes_on view.old view.new }
+        ensures keeps { Keeps V.View view.old view.new }
         ensures buffers { self.new ≡ self.old }
         ensures inside { IfSome result (IsInside g.now) }
         ensures span { IfSome result (HasSpan (chain_span g.now inode.now chain)) }
-        ensures rule { ReadsAs (V.stands_for view.old) (V.is_gone view.old) (V.tells view.new) (V.is_gone view.new)
-            (chain_address Little g.now inode.now chain) result }
-        ensures fetched { Fetches V.fetched (V.stands_for view.old) (V.tells view.new)
-            (chain_address Little g.now inode.now chain) result view.old view.new }
+        ensures rule { Reads V.View view.old view.new (chain_address g.now inode.now chain) result }
+        ensures fetched { FetchesFor V.View view.old view.new (chain_address g.now inode.now chain) result }
+        ensures lost { IfNone result (LosesNeeded V.View view.old view.new (chain_address g.now inode.now chain)) }
     {
         let size = block_bytes(g);
         match chain {
@@ -280,14 +275,13 @@ pub fn file_block<V: View>(
     requires geometry { IsGeometryOn (V.size view.old) (V.count view.old) g.now }
     requires block { n < 2 ^ 30 }
     requires fragment { levels.old.fragment ≡ V.size view.old }
-    ensures keeps { KeepsView V.stands_for V.tells V.is_gone V.count V.size V.is_sound V.goes_on view.old view.new }
+    ensures keeps { Keeps V.View view.old view.new }
     ensures buffers { levels.new ≡ levels.old }
     ensures inside { IfSome (address_in result) (IsInside g.now) }
     ensures span { IfSome (address_in result) (HasSpan (block_span g.now inode.now n)) }
-    ensures rule { ReadsAs (V.stands_for view.old) (V.is_gone view.old) (V.tells view.new) (V.is_gone view.new)
-        (file_block_of Little g.now inode.now n) (address_in result) }
-    ensures fetched { Fetches V.fetched (V.stands_for view.old) (V.tells view.new)
-        (file_block_of Little g.now inode.now n) (address_in result) view.old view.new }
+    ensures rule { Reads V.View view.old view.new (file_block_of g.now inode.now n) (address_in result) }
+    ensures fetched { FetchesFor V.View view.old view.new (file_block_of g.now inode.now n) (address_in result) }
+    ensures lost { IfNone (address_in result) (LosesNeeded V.View view.old view.new (file_block_of g.now inode.now n)) }
 {
     match levels.follow(view, g, inode, locate(g, n)) {
         Some(Address::Hole) => BlockAnswer::Hole,

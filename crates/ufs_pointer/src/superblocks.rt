@@ -1,13 +1,12 @@
 // The superblock.
-ghost use Rattle.std.specs.Prelude.{◌≡◌, ◌+◌, ◌*◌, ◌<◌, ◌≤◌, length, IfOk, IfSome};
+ghost use Rattle.std.specs.Prelude.{◌≡◌, ◌+◌, ◌-◌, ◌*◌, ◌/◌, ◌<◌, ◌≤◌, length, IfNone, IfOk, IfSome, is_some, min};
 ghost use Rattle.std.specs.Bool.{then_some};
-ghost use Rattle.dg_io.specs.Views.{KeepsView};
+ghost use Rattle.dg_io.specs.ViewWords.{Keeps, Reads};
 ghost use Rattle.ufs_model.specs.Blocks.{area_of, area_within};
 ghost use Rattle.ufs_model.specs.Geometries.{IsGeometryOn};
-ghost use Rattle.ufs_model.specs.Readings.{ReadsAs};
 ghost use Rattle.ufs_model.specs.Superblocks.{geometry_of};
-ghost use Rattle.ufs_model.specs.declared.numbers.Endian.TheVariants.{Little};
-ghost use Rattle.ufs_pointer.specs.Fetches.{Fetches};
+ghost use Rattle.ufs_pointer.specs.Superblocks.{superblock_blocks};
+ghost use Rattle.ufs_pointer.specs.ViewWords.{FetchesFor, FetchesFrom, LosesNeeded};
 
 use crate::levels::Levels;
 use dg_io::View;
@@ -26,13 +25,12 @@ fn read_any<V: View>(view: &mut V, a: u32, k: u32, levels: &mut Levels) -> bool
     requires within { 0 < k → a + k ≤ V.count view.old }
     requires levels { levels.old.fragment ≡ V.size view.old }
     requires few { k ≤ 8 }
-    ensures keeps { KeepsView V.stands_for V.tells V.is_gone V.count V.size V.is_sound V.goes_on view.old view.new }
+    ensures keeps { Keeps V.View view.old view.new }
     ensures levels { levels.new.fragment ≡ levels.old.fragment }
-    ensures rule { ReadsAs (V.stands_for view.old) (V.is_gone view.old) (V.tells view.new) (V.is_gone view.new)
-        (area_of (V.size view.old) a k) (then_some result levels.new.block) }
+    ensures rule { Reads V.View view.old view.new (area_of (V.size view.old) a k) (then_some result levels.new.block) }
     ensures room { length levels.new.block ≡ k * V.size view.old }
-    ensures fetched { Fetches V.fetched (V.stands_for view.old) (V.tells view.new)
-        (area_of (V.size view.old) a k) (then_some result levels.new.block) view.old view.new }
+    ensures area { FetchesFrom V.View view.old view.new a k result }
+    ensures fetched { FetchesFor V.View view.old view.new (area_of (V.size view.old) a k) (then_some result levels.new.block) }
 {
     if k == 0 {
         levels.clear(0);
@@ -47,13 +45,12 @@ fn read_within<V: View>(view: &mut V, a: u32, k: u32, levels: &mut Levels) -> bo
     requires sound { V.is_sound view.old }
     requires levels { levels.old.fragment ≡ V.size view.old }
     requires few { k ≤ 8 }
-    ensures keeps { KeepsView V.stands_for V.tells V.is_gone V.count V.size V.is_sound V.goes_on view.old view.new }
+    ensures keeps { Keeps V.View view.old view.new }
     ensures levels { levels.new.fragment ≡ levels.old.fragment }
-    ensures rule { ReadsAs (V.stands_for view.old) (V.is_gone view.old) (V.tells view.new) (V.is_gone view.new)
-        (area_within (V.size view.old) (V.count view.old) a k) (then_some result levels.new.block) }
+    ensures rule { Reads V.View view.old view.new (area_within (V.size view.old) (V.count view.old) a k) (then_some result levels.new.block) }
     ensures room { length levels.new.block ≡ k * V.size view.old }
-    ensures fetched { Fetches V.fetched (V.stands_for view.old) (V.tells view.new)
-        (area_within (V.size view.old) (V.count view.old) a k) (then_some result levels.new.block) view.old view.new }
+    ensures area { FetchesFrom V.View view.old view.new a (min k (V.count view.old - a)) result }
+    ensures fetched { FetchesFor V.View view.old view.new (area_within (V.size view.old) (V.count view.old) a k) (then_some result levels.new.block) }
 {
     let (_, n) = view.shape();
     let inside = k.min(n.saturating_sub(a));
@@ -72,13 +69,14 @@ pub fn read_geometry<V: View>(
 ) -> Option<Result<Geometry, BadSuper>>
     requires sound { V.is_sound view.old }
     requires fragment { levels.old.fragment ≡ V.size view.old }
-    ensures keeps { KeepsView V.stands_for V.tells V.is_gone V.count V.size V.is_sound V.goes_on view.old view.new }
+    ensures keeps { Keeps V.View view.old view.new }
     ensures fragment { levels.new.fragment ≡ levels.old.fragment }
-    ensures rule { ReadsAs (V.stands_for view.old) (V.is_gone view.old) (V.tells view.new) (V.is_gone view.new)
-        (geometry_of Little (V.size view.old) (V.count view.old)) result }
+    ensures rule { Reads V.View view.old view.new (geometry_of (V.size view.old) (V.count view.old)) result }
     ensures geometry { IfSome result (λ found. IfOk found (IsGeometryOn (V.size view.old) (V.count view.old))) }
-    ensures fetched { Fetches V.fetched (V.stands_for view.old) (V.tells view.new)
-        (geometry_of Little (V.size view.old) (V.count view.old)) result view.old view.new }
+    ensures area { FetchesFrom V.View view.old view.new (8192 / V.size view.old)
+        (superblock_blocks (V.size view.old) (V.count view.old)) (is_some result) }
+    ensures fetched { FetchesFor V.View view.old view.new (geometry_of (V.size view.old) (V.count view.old)) result }
+    ensures lost { IfNone result (LosesNeeded V.View view.old view.new (geometry_of (V.size view.old) (V.count view.old))) }
 {
     let l = levels.fragment_bytes();
     let (_, n) = view.shape();

@@ -7,7 +7,8 @@ use crate::{
 use dg_io::{Loss, MemView};
 use std::alloc::Global;
 use std::test::Fail;
-use ufs_inode::{Inode, read_inode};
+use ufs_inode::{Inode, inode_at, read_inode};
+use ufs_model::Endian;
 use ufs_rows::{Which, rows_image};
 use ufs_super::{Geometry, read_super};
 
@@ -371,24 +372,50 @@ fn short_blocks_at_the_edges_of_groups(rt: HostRuntime) -> Result<(), Fail> {
     Ok(())
 }
 
-/// The 128 blocks of the volume F.
-fn volume_f(alloc: Global) -> Result<Vec<u8>, Fail>
+/// The 128 blocks of a volume.
+fn volume(alloc: Global, which: Which) -> Result<Vec<u8>, Fail>
     ensures { IfOk result (λ image. length image.items ≡ 131072) }
 {
-    match rows_image(alloc, Which::F) {
+    match rows_image(alloc, which) {
         Ok(image) => Ok(image),
         Err(_) => Err("memory".into()),
     }
 }
 
-/// Where file block `n` of inode 5 of the volume F is found. The inodes begin at block 28.
-fn in_volume_f(alloc: Global, n: u32, loss: Loss) -> Result<BlockAnswer, Fail>
+/// Where file block `n` of inode 5 of the volume with files is found. The inodes begin at block 28.
+fn in_volume(alloc: Global, which: Which, n: u32, loss: Loss) -> Result<BlockAnswer, Fail>
     requires { n < 2 ^ 30 }
 {
-    let image = volume_f(alloc)?;
+    let image = volume(alloc, which)?;
     let g = read_super(&image[8192..9568], 1024, 128)?;
-    let inode = read_inode(&image[29312..29440]).ok_or("inode")?;
+    let inode = read_inode(&image[29312..29440], g.endian).ok_or("inode")?;
     found(alloc, image, 128, &g, &inode, n, loss)
+}
+
+/// The volume with files in both orders of bytes: the geometry but for its order, the inodes, and
+/// the pointer of the indirect block at 84.
+#[test]
+fn both_orders_say_the_same(rt: HostRuntime) -> Result<(), Fail> {
+    let little = volume(rt.alloc(), Which::F)?;
+    let big = volume(rt.alloc(), Which::Fb)?;
+    let g = read_super(&little[8192..9568], 1024, 128)?;
+    let of_big = read_super(&big[8192..9568], 1024, 128)?;
+    assert_eq!(rt; (g.endian, of_big.endian), (Endian::Little, Endian::Big));
+    let turned = Geometry {
+        endian: Endian::Little,
+        ..of_big
+    };
+    assert_eq!(rt; turned, g);
+    for number in 0..32 {
+        assert_eq!(rt;
+            inode_at(&big[28672..32768], 128 * number, Endian::Big),
+            inode_at(&little[28672..32768], 128 * number, Endian::Little),
+            "inode {number}"
+        );
+    }
+    assert_eq!(rt; pointer(&little[86016..87040], 0, Endian::Little), 88);
+    assert_eq!(rt; pointer(&big[86016..87040], 0, Endian::Big), 88);
+    Ok(())
 }
 
 /// The file has the blocks 36 to 83 directly, and 88 to 91 through the indirect block at 84.
@@ -404,22 +431,29 @@ fn a_file_with_an_indirect_block(rt: HostRuntime) -> Result<(), Fail> {
     ] {
         assert!(rt; n < 0x4000_0000);
         let loss = Loss { block, fetch: 0 };
-        assert_eq!(rt;
-            in_volume_f(rt.alloc(), n, loss)?,
-            wanted,
-            "block {n} without {block}"
-        );
+        for which in [Which::F, Which::Fb] {
+            assert_eq!(rt;
+                in_volume(rt.alloc(), which, n, loss)?,
+                wanted,
+                "block {n} without {block}"
+            );
+        }
     }
     Ok(())
 }
 
 /// What is read of file block `n` of that file.
-fn read_of_volume_f(alloc: Global, n: u32, loss: Loss) -> Result<Option<FileBlock>, Fail>
+fn read_of_volume(
+    alloc: Global,
+    which: Which,
+    n: u32,
+    loss: Loss,
+) -> Result<Option<FileBlock>, Fail>
     requires { n < 2 ^ 30 }
 {
-    let image = volume_f(alloc)?;
+    let image = volume(alloc, which)?;
     let g = read_super(&image[8192..9568], 1024, 128)?;
-    let inode = read_inode(&image[29312..29440]).ok_or("inode")?;
+    let inode = read_inode(&image[29312..29440], g.endian).ok_or("inode")?;
     let mut view = MemView::new(image, 1024, 128, vec![in alloc; loss]?);
     let mut levels = Levels::new(alloc, 1024).ok().ok_or("levels")?;
     Ok(read_file_block(&mut view, &g, &inode, n, &mut levels))
@@ -437,23 +471,36 @@ fn file_blocks_that_are_read(rt: HostRuntime) -> Result<(), Fail> {
     ] {
         assert!(rt; n < 0x4000_0000);
         let loss = Loss { block, fetch: 0 };
-        assert_eq!(rt;
-            read_of_volume_f(rt.alloc(), n, loss)?,
-            wanted,
-            "block {n} without {block}"
-        );
+        for which in [Which::F, Which::Fb] {
+            assert_eq!(rt;
+                read_of_volume(rt.alloc(), which, n, loss)?,
+                wanted,
+                "block {n} without {block}"
+            );
+        }
     }
     Ok(())
 }
 
 /// The indirect block of that file, and its last block, whose fragments have the bytes 49 to 52.
 #[test]
-fn blocks_of_the_volume_f(rt: HostRuntime) -> Result<(), Fail> {
+fn blocks_of_the_volume_with_files(rt: HostRuntime) -> Result<(), Fail> {
     let alloc = rt.alloc();
-    let mut view = MemView::new(volume_f(alloc)?, 1024, 128, vec![in alloc; NOTHING]?);
+    let mut view = MemView::new(
+        volume(alloc, Which::F)?,
+        1024,
+        128,
+        vec![in alloc; NOTHING]?,
+    );
     let mut pointers = [0; 4096];
     assert!(rt; read_area(&mut view, 84, 4, &mut pointers));
-    assert_eq!(rt; (pointer(&pointers, 0), pointer(&pointers, 1)), (88, 0));
+    assert_eq!(rt;
+        (
+            pointer(&pointers, 0, Endian::Little),
+            pointer(&pointers, 1, Endian::Little)
+        ),
+        (88, 0)
+    );
     let mut levels = Levels::new(alloc, 1024).ok().ok_or("levels")?;
     assert!(rt; levels.read_block(&mut view, 88, 4));
     let bytes = levels.block();
@@ -477,8 +524,8 @@ fn a_block_of_data(rt: HostRuntime) -> Result<(), Fail> {
     assert!(rt; levels.block().is_empty());
     assert!(rt; levels.read_block(&mut view, 1, 2));
     assert_eq!(rt; levels.block().len(), 2048);
-    assert_eq!(rt; pointer(levels.block(), 0), 7);
-    assert_eq!(rt; pointer(levels.block(), 511), 9);
+    assert_eq!(rt; pointer(levels.block(), 0, Endian::Little), 7);
+    assert_eq!(rt; pointer(levels.block(), 511, Endian::Little), 9);
     assert!(rt; !levels.read_block(&mut view, 0, 1));
     Ok(())
 }

@@ -25,6 +25,15 @@ pub enum Which {
     /// `/p` is inode 3, 16,384 bytes `p` at fragments 36 to 51. `/q` is inode 4, 16,384 bytes `q` at
     /// 52 to 67.
     X,
+    /// The files of F, with the highest byte of each number first. All else are bytes, as in F.
+    Fb,
+}
+
+impl Which {
+    /// Whether the highest byte of a number stands first.
+    fn is_big(self) -> bool {
+        matches!(self, Which::Fb)
+    }
 }
 
 /// Writes bytes at a place.
@@ -34,11 +43,37 @@ pub fn put(image: &mut [u8], at: usize, piece: &[u8])
     image[at..at + piece.len()].copy_from_slice(piece);
 }
 
-/// Writes a number of 32 bits at a place, its lowest byte first.
-pub fn put_u32(image: &mut [u8], at: usize, value: u32)
+/// Writes a number of 16 bits at a place, in the volume's order of bytes.
+pub fn put_u16(image: &mut [u8], at: usize, value: u16, which: Which)
+    requires { at + 2 ≤ length image.old }
+{
+    if which.is_big() {
+        put(image, at, &value.to_be_bytes());
+    } else {
+        put(image, at, &value.to_le_bytes());
+    }
+}
+
+/// Writes a number of 32 bits at a place, in the volume's order of bytes.
+pub fn put_u32(image: &mut [u8], at: usize, value: u32, which: Which)
     requires { at + 4 ≤ length image.old }
 {
-    put(image, at, &value.to_le_bytes());
+    if which.is_big() {
+        put(image, at, &value.to_be_bytes());
+    } else {
+        put(image, at, &value.to_le_bytes());
+    }
+}
+
+/// Writes a number of 64 bits at a place, in the volume's order of bytes.
+pub fn put_u64(image: &mut [u8], at: usize, value: u64, which: Which)
+    requires { at + 8 ≤ length image.old }
+{
+    if which.is_big() {
+        put(image, at, &value.to_be_bytes());
+    } else {
+        put(image, at, &value.to_le_bytes());
+    }
 }
 
 /// The image of a volume, fragment after fragment.
@@ -48,7 +83,7 @@ pub fn rows_image(alloc: Global, which: Which) -> Result<Vec<u8>, NoMemory>
     let Ok(mut image) = vec![in alloc; 0u8; IMAGE_BYTES] else {
         return Err(NoMemory);
     };
-    write_superblock(&mut image);
+    write_superblock(&mut image, which);
     write_group(&mut image, which);
     write_inodes(&mut image, which);
     write_directories(&mut image, which);

@@ -1,4 +1,4 @@
-//! The three small volumes that tests of other crates read: their images, byte for byte. This crate
+//! The four small volumes that tests of other crates read: their images, byte for byte. This crate
 //! is for tests alone.
 //!
 //! A volume has one group of 128 fragments of 1024 bytes, four fragments a file block, and 32

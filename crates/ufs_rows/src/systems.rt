@@ -38,12 +38,12 @@ const INODE_MAP: usize = GROUP + 256;
 const FRAGMENT_MAP: usize = GROUP + 260;
 
 /// Writes the superblock.
-pub fn write_superblock(image: &mut [u8])
+pub fn write_superblock(image: &mut [u8], which: Which)
     requires { length image.old ≡ IMAGE_BYTES }
 {
     for (at, value) in FIELDS {
         if at <= 1372 {
-            put_u32(image, SUPERBLOCK + at, value);
+            put_u32(image, SUPERBLOCK + at, value, which);
         }
     }
 }
@@ -52,7 +52,7 @@ pub fn write_superblock(image: &mut [u8])
 fn used_inodes(which: Which) -> u8 {
     match which {
         Which::E => 0b0000_0111,
-        Which::F => 0b1111_1111,
+        Which::F | Which::Fb => 0b1111_1111,
         Which::X => 0b0001_1111,
     }
 }
@@ -61,7 +61,7 @@ fn used_inodes(which: Which) -> u8 {
 fn is_free(which: Which, fragment: usize) -> bool {
     match which {
         Which::E => fragment >= 34,
-        Which::F => fragment >= 94,
+        Which::F | Which::Fb => fragment >= 94,
         Which::X => fragment == 34 || fragment == 35 || fragment >= 68,
     }
 }
@@ -70,10 +70,10 @@ fn is_free(which: Which, fragment: usize) -> bool {
 pub fn write_group(image: &mut [u8], which: Which)
     requires { length image.old ≡ IMAGE_BYTES }
 {
-    put_u32(image, GROUP + 4, 0x0009_0255);
-    put_u32(image, GROUP + 20, 128);
-    put_u32(image, GROUP + 92, 256);
-    put_u32(image, GROUP + 96, 260);
+    put_u32(image, GROUP + 4, 0x0009_0255, which);
+    put_u32(image, GROUP + 20, 128, which);
+    put_u32(image, GROUP + 92, 256, which);
+    put_u32(image, GROUP + 96, 260, which);
     image[INODE_MAP] = used_inodes(which);
     for fragment in 0..128 {
         if is_free(which, fragment) {

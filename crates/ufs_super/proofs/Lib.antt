@@ -1,2 +1,3 @@
 pub mod BelowLaws
 pub mod PlaceLaws
+pub mod SuperLaws

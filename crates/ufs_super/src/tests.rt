@@ -1,10 +1,11 @@
 ghost use Rattle.std.specs.Prelude.{◌+◌, ◌≤◌};
 
 use crate::{
-    Address, BadSuper, Role, SystemKind, address, cgbase, cgstart, end_of, group_of, is_data_run,
-    read_super, role,
+    Address, BadSuper, Geometry, Role, SystemKind, address, cgbase, cgstart, end_of, group_of,
+    is_data_run, read_super, role,
 };
 use std::test::Fail;
+use ufs_model::Endian;
 
 /// The byte at which each field of a superblock stands, from `sblkno` to `magic`.
 const FIELDS: [usize; 21] = [
@@ -62,18 +63,32 @@ const LARGE: [u32; 21] = [
     0x0001_1954,
 ];
 
-fn put(bytes: &mut [u8; 1376], at: usize, value: u32) {
+/// A number in the order of bytes.
+fn put_in(bytes: &mut [u8; 1376], at: usize, value: u32, endian: Endian) {
     if at <= 1372 {
-        bytes[at..at + 4].copy_from_slice(&value.to_le_bytes());
+        let digits = match endian {
+            Endian::Little => value.to_le_bytes(),
+            Endian::Big => value.to_be_bytes(),
+        };
+        bytes[at..at + 4].copy_from_slice(&digits);
     }
 }
 
-fn superblock(values: &[u32; 21]) -> [u8; 1376] {
+fn put(bytes: &mut [u8; 1376], at: usize, value: u32) {
+    put_in(bytes, at, value, Endian::Little);
+}
+
+/// A superblock with these fields in the order of bytes.
+fn superblock_in(values: &[u32; 21], endian: Endian) -> [u8; 1376] {
     let mut bytes = [0; 1376];
     for (at, value) in FIELDS.iter().zip(values) {
-        put(&mut bytes, *at, *value);
+        put_in(&mut bytes, *at, *value, endian);
     }
     bytes
+}
+
+fn superblock(values: &[u32; 21]) -> [u8; 1376] {
+    superblock_in(values, Endian::Little)
 }
 
 /// One field of the small volume's superblock is changed each time.
@@ -115,6 +130,46 @@ fn each_test_refuses(rt: HostRuntime) {
         (156, 98305, Some(BadSuper::Summary)),
     ] {
         let mut bytes = superblock(&SMALL);
+        put(&mut bytes, at, value);
+        assert_eq!(rt;
+            read_super(&bytes, 1024, 128).err(),
+            refused,
+            "{value} at {at}"
+        );
+    }
+}
+
+/// The magic number tells the order of bytes, and in both orders the fields are the same.
+#[test]
+fn superblocks_in_both_orders(rt: HostRuntime) -> Result<(), Fail> {
+    for (values, n) in [(&SMALL, 128), (&LARGE, 8192)] {
+        let little = read_super(&superblock_in(values, Endian::Little), 1024, n)?;
+        let big = read_super(&superblock_in(values, Endian::Big), 1024, n)?;
+        assert_eq!(rt; (little.endian, big.endian), (Endian::Little, Endian::Big));
+        let turned = Geometry {
+            endian: Endian::Little,
+            ..big
+        };
+        assert_eq!(rt; turned, little);
+    }
+    Ok(())
+}
+
+/// One field of the small volume's superblock, whose numbers have the highest byte first, has the
+/// lowest byte first.
+#[test]
+fn one_number_in_the_other_order_refuses(rt: HostRuntime) {
+    for (at, value, refused) in [
+        (1372, 0x0001_1955, Some(BadSuper::Magic)),
+        (1372, 0x0001_1954, Some(BadSuper::Format)),
+        (1324, 2, Some(BadSuper::Format)),
+        (48, 4096, Some(BadSuper::Bsize)),
+        (52, 1024, Some(BadSuper::Fsize)),
+        (120, 32, Some(BadSuper::Inopb)),
+        (44, 1, Some(BadSuper::Groups)),
+        (24, 0, None),
+    ] {
+        let mut bytes = superblock_in(&SMALL, Endian::Big);
         put(&mut bytes, at, value);
         assert_eq!(rt;
             read_super(&bytes, 1024, 128).err(),

@@ -1,11 +1,5 @@
-use Rattle.dg_claims.proofs.FetchedLaws.{one_lost, one_only, one_read}
+use Rattle.dg_claims.proofs.FetchedLaws.{one_read}
 use Rattle.dg_claims.proofs.inodes.read_fragment.Goals as goal
 
 pub returns-clause-bytes : goal.returns-clause-bytes
 returns-clause-bytes g c = one_read (g.V.View.size c.args.view.now) c.args.fragment c.read_aside.result c.read_aside.new.self.aside c.read_aside.ensures.rule
-
-pub returns-clause-lost : goal.returns-clause-lost
-returns-clause-lost g c = one_lost (g.V.View.size c.args.view.now) c.args.fragment c.read_aside.result c.read_aside.new.self.aside c.read_aside.ensures.rule
-
-pub returns-clause-fetched : goal.returns-clause-fetched
-returns-clause-fetched g c = one_only (g.V.View.size c.args.view.now) c.args.fragment c.read_aside.result c.read_aside.new.self.aside c.read_aside.ensures.fetched

@@ -1,8 +1,8 @@
 use Rattle.std.proofs.Common.{◌∙◌, ℕ, refl, sym, subst, inl, inr, arith}
 use Rattle.dg_io.specs.ViewLaws.{keeps_both, keeps_same}
 use Rattle.ufs_model.specs.declared.claims.ClaimSource.TheVariants.{Slot, Pointer}
-use Rattle.dg_claims.proofs.FetchedLaws.{only_both, only_none}
-use Rattle.dg_claims.proofs.ScanLaws.{low_target, past_target, pointer_no_slot, slot_apart, slots_more}
+use Rattle.dg_claims.proofs.ScanLaws.{low_source, past_source, pointer_no_slot, slot_apart, slots_more}
+use Rattle.ufs_pointer.specs.KindLaws.{loses_along, only_both, only_none}
 use Rattle.dg_claims.proofs.ListLaws.{below_cases}
 use Rattle.dg_claims.specs.Kept.{claimed_by}
 use Rattle.dg_claims.specs.Scans.{HasInode, HoldsIn}
@@ -16,8 +16,8 @@ loop-number-init g c = record {
   room = tt;
   later = λ number slot le. c.requires.bare (Slot number slot);
   pointers = λ fragment level at. c.requires.bare (Pointer fragment level at);
-  slots = λ is v holds. (tt, λ number slot lt. c.requires.bare (Slot number slot) ∙ sym (low_target c.args.g.now v number slot lt));
-  fetched = only_none (λ v b. HasInode c.args.g.now b) c.args.view.now (g.met.V.View.fetched_none c.args.view.now);
+  slots = λ is v holds. (tt, λ number slot lt. c.requires.bare (Slot number slot) ∙ sym (low_source c.args.g.now v number slot lt));
+  fetched = only_none (HasInode c.args.g.now) c.args.view.now (g.met.V.View.fetched_none c.args.view.now);
 }
 
 pub returns-in_err-scan_inode-clause-fetched : goal.returns-in_err-scan_inode-clause-fetched
@@ -52,5 +52,10 @@ loop-number-preserved g c =
 pub returns-clause-slots : goal.returns-clause-slots
 returns-clause-slots g c = λ got is v holds number slot. elim (below_cases number c.loop-number.number) [
   | inl lt ↦ (c.loop-number.invariant.slots is v holds).1 number slot lt
-  | inr le ↦ c.loop-number.invariant.later number slot le ∙ sym (past_target c.args.g.now v number slot (omega (arith, le, c.loop-number-test.false)))
+  | inr le ↦ c.loop-number.invariant.later number slot le ∙ sym (past_source c.args.g.now v number slot (omega (arith, le, c.loop-number-test.false)))
 ]
+
+pub returns-then-not-branch-clause-lost : goal.returns-then-not-branch-clause-lost
+returns-then-not-branch-clause-lost g c = λ got.
+    let so_far = c.loop-number.invariant.keeps in
+    loses_along so_far.blocks (λ b h. h) (λ h. h) (λ is v holds. (so_far.stands v holds, λ b h. h)) (c.in_ok-scan_inode.ensures.lost c.if-not-branch.true)

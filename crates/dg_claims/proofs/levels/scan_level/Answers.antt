@@ -1,8 +1,8 @@
-use Rattle.std.proofs.Common.{◌<◌, subst, Option}
-use Rattle.ufs_model.specs.Claims.{targets}
+use Rattle.std.proofs.Common.{◌<◌, refl, subst, Option}
+use Rattle.ufs_model.specs.Claims.{source_fragments}
 use Rattle.ufs_model.specs.declared.geometries.Geometry.{Geometry}
-use Rattle.ufs_model.specs.declared.numbers.Endian.TheVariants.{Little}
-use Rattle.dg_claims.proofs.FetchedLaws.{ok_map, loses_along, only_along}
+use Rattle.ufs_pointer.specs.KindLaws.{loses_along, only_along}
+use Rattle.dg_claims.proofs.AnswerLaws.{ok_map}
 use Rattle.dg_claims.proofs.ScanLaws.{is_indirect, decided, right_below}
 use Rattle.dg_claims.specs.Kept.{claimed_by, size_in}
 use Rattle.dg_claims.proofs.levels.scan_level.Goals as goal
@@ -14,16 +14,16 @@ scan_fragments-requires-clause-inside g c = λ fragment has.
 pub returns-clause-right : goal.returns-clause-right
 returns-clause-right g c =
     ok_map c.scan_fragments.result _ _ (λ got pointers is_got is v holds right.
-    right_below (targets Little c.args.g.now v) (claimed_by c.args.claims.now.runs) (claimed_by c.scan_fragments.new.claims.runs) c.args.level c.in_ok-fragments.fragments.items c.requires.low c.requires.none
+    right_below (source_fragments c.args.g.now v) (claimed_by c.args.claims.now.runs) (claimed_by c.scan_fragments.new.claims.runs) c.args.level c.in_ok-fragments.fragments.items c.requires.low c.requires.none
     c.in_ok-fragments.ensures.claimed (rw c.deref.ensures.value at (pointers is_got is v holds)) (rw c.deref.ensures.value at c.scan_fragments.ensures.others)
     (decided c.in_ok-fragments.fragments.items) right) c.scan_fragments.ensures.pointers
 
 pub returns-clause-lost : goal.returns-clause-lost
 returns-clause-lost g c =
     ok_map c.scan_fragments.result _ _ (λ got lost missed.
-    loses_along (λ is v both. (
+    loses_along refl (λ b h. h) (λ h. h) (λ is v both. (
       both.0,
-      λ b has. is_indirect (targets Little c.args.g.now v) (claimed_by c.args.claims.now.runs) c.args.level b c.requires.low c.requires.none (both.1)
+      λ b has. is_indirect c.args.g.now v (claimed_by c.args.claims.now.runs) c.args.level b c.requires.low (both.1)
           ((c.in_ok-fragments.ensures.claimed b).0 (rw c.deref.ensures.value at has)),
     )) (lost missed)) c.scan_fragments.ensures.lost
 
@@ -31,6 +31,6 @@ pub returns-clause-fetched : goal.returns-clause-fetched
 returns-clause-fetched g c =
     only_along (λ is v both. (
       both.0,
-      λ b has. is_indirect (targets Little c.args.g.now v) (claimed_by c.args.claims.now.runs) c.args.level b c.requires.low c.requires.none (both.1)
+      λ b has. is_indirect c.args.g.now v (claimed_by c.args.claims.now.runs) c.args.level b c.requires.low (both.1)
           ((c.in_ok-fragments.ensures.claimed b).0 (rw c.deref.ensures.value at has)),
     )) c.scan_fragments.ensures.fetched

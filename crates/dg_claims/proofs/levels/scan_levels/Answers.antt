@@ -1,10 +1,9 @@
 use Rattle.std.proofs.Common.{◌≡◌, ◌∙◌, ◌+◌, ◌-◌, ℕ, arith, subst}
 use Rattle.dg_io.specs.ViewLaws.{keeps_both}
-use Rattle.ufs_model.specs.Claims.{targets}
-use Rattle.ufs_model.specs.declared.numbers.Endian.TheVariants.{Little}
-use Rattle.dg_claims.proofs.FetchedLaws.{only_both}
+use Rattle.ufs_model.specs.Claims.{source_fragments}
+use Rattle.ufs_pointer.specs.KindLaws.{loses_along, only_both}
 use Rattle.dg_claims.specs.Kept.{claimed_by}
-use Rattle.dg_claims.specs.Scans.{HasNoPointers, IsRightAbove}
+use Rattle.dg_claims.specs.Scans.{HasNoPointers, IsRightAbove, IsScanned}
 use Rattle.dg_claims.proofs.levels.scan_levels.Goals as goal
 
 pub returns-in_err-scan_level-clause-fetched : goal.returns-in_err-scan_level-clause-fetched
@@ -29,12 +28,19 @@ loop-done-preserved g c =
       geometry = one.geometry ∙ so_far.geometry;
       none = subst (λ (k : ℕ). HasNoPointers (claimed_by c.scan_level.new.claims.runs) k) less one.none;
       right = λ is v holds right.
-          subst (λ (k : ℕ). IsRightAbove (targets Little c.args.g.now v) (claimed_by c.scan_level.new.claims.runs) k) less
+          subst (λ (k : ℕ). IsRightAbove (source_fragments c.args.g.now v) (claimed_by c.scan_level.new.claims.runs) k) less
           (one.right c.if-not-branch.false is v (so_far.keeps.stands v holds) (so_far.right (one.keeps.told is) v holds right));
       fetched = only_both g.met.V.View.fetched_both one.keeps.told (λ is v h. ((so_far.keeps.stands v (h.0), so_far.right (one.keeps.told is) v (h.0) (h.1)), λ b at. at)) so_far.fetched one.fetched;
     }
 
 pub returns-clause-right : goal.returns-clause-right
 returns-clause-right g c = λ got is v holds right.
-    subst (λ (k : ℕ). IsRightAbove (targets Little c.args.g.now v) (claimed_by c.loop-done.claims.runs) k) (let none : 3 - c.loop-done.done ≡ 0 = omega (arith, c.loop-done-test.false) in none)
+    subst (λ (k : ℕ). IsRightAbove (source_fragments c.args.g.now v) (claimed_by c.loop-done.claims.runs) k) (let none : 3 - c.loop-done.done ≡ 0 = omega (arith, c.loop-done-test.false) in none)
     (c.loop-done.invariant.right is v holds right)
+
+pub returns-then-not-branch-clause-lost : goal.returns-then-not-branch-clause-lost
+returns-then-not-branch-clause-lost g c = λ got.
+    let so_far = c.loop-done.invariant in
+    let told = c.scan_level.ensures.keeps.told in
+    loses_along {still = IsScanned (g.V.View.stands_for c.loop-done.view) c.args.g.now (claimed_by c.loop-done.claims.runs) (3 - c.loop-done.done)} so_far.keeps.blocks (λ b h. h) (λ h. h) (λ is v h. ((so_far.keeps.stands v (h.0), so_far.right (told is) v (h.0) (h.1)), λ b at. at))
+    (c.in_ok-scan_level.ensures.lost c.if-not-branch.true)

@@ -1,6 +1,7 @@
-use Rattle.ufs_model.specs.declared.numbers.Endian.TheVariants.{Little}
-use Rattle.dg_claims.proofs.FetchedLaws.{loses_along, loses_of, ok_none, ok_some, only_both, only_of}
-use Rattle.dg_claims.proofs.MetadataLaws.{metadata_read, super_needs, table_accepted, table_refused}
+use Rattle.std.proofs.Common.{refl}
+use Rattle.ufs_pointer.specs.KindLaws.{loses_along, only_both, only_of}
+use Rattle.dg_claims.proofs.AnswerLaws.{ok_none, ok_some}
+use Rattle.dg_claims.proofs.MetadataLaws.{metadata_by, super_needed, table_accepted, table_refused}
 use Rattle.dg_claims.specs.Kept.{table_of}
 use Rattle.ufs_model.specs.Metadata.{IsMetadata}
 use Rattle.dg_claims.proofs.scans.scan.Goals as goal
@@ -8,7 +9,7 @@ use Rattle.dg_claims.proofs.scans.scan.Goals as goal
 pub returns-in_err-new-in-Some-Err-clause-fetched : goal.returns-in_err-new-in-Some-Err-clause-fetched
 returns-in_err-new-in-Some-Err-clause-fetched g c =
     let l = g.V.View.size c.args.view.now in
-    only_of (IsMetadata Little l (g.V.View.count c.args.view.now)) (λ v holds. super_needs l (g.V.View.count c.args.view.now) v) c.read_geometry.ensures.fetched
+    only_of (IsMetadata l (g.V.View.count c.args.view.now)) (λ v holds. super_needed l (g.V.View.count c.args.view.now) v) c.read_geometry.ensures.fetched
 
 pub returns-in-Some-Ok-clause-claims : goal.returns-in-Some-Ok-clause-claims
 returns-in-Some-Ok-clause-claims g c =
@@ -21,9 +22,9 @@ returns-in-Some-Ok-clause-claims g c =
 pub returns-in-Some-Ok-clause-lost : goal.returns-in-Some-Ok-clause-lost
 returns-in-Some-Ok-clause-lost g c =
     let reads = rw c.in-Some-Ok.field-0-is at c.in-Some-Ok.ensures.rule in
-    let keeps = c.in-Some-Ok.ensures.keeps in
+    let keeps = c.read_geometry.ensures.keeps in
     ok_none c.scan_volume.result _ _
-    (loses_along (λ is v holds. (keeps.stands v holds, metadata_read (g.V.View.size c.args.view.now) (g.V.View.count c.args.view.now) v c.in-Some-Ok.g ((reads.rule (c.scan_volume.ensures.keeps.told is) v holds).answer))))
+    (loses_along keeps.blocks (λ b h. h) (λ h. h) (λ is v holds. (keeps.stands v holds, metadata_by (g.V.View.size c.args.view.now) (g.V.View.count c.args.view.now) v c.in-Some-Ok.g ((reads.rule (c.scan_volume.ensures.keeps.told is) v holds).answer))))
     c.scan_volume.ensures.lost
 
 pub returns-in-Some-Ok-clause-fetched : goal.returns-in-Some-Ok-clause-fetched
@@ -33,8 +34,8 @@ returns-in-Some-Ok-clause-fetched g c =
     let l = g.V.View.size c.args.view.now in
     let n = g.V.View.count c.args.view.now in
     only_both g.met.V.View.fetched_both c.scan_volume.ensures.keeps.told
-    (λ is v holds. (keeps.stands v holds, metadata_read l n v c.in-Some-Ok.g ((reads.rule (c.scan_volume.ensures.keeps.told is) v holds).answer)))
-    (only_of (IsMetadata Little l n) (λ v holds. super_needs l n v) c.read_geometry.ensures.fetched) c.scan_volume.ensures.fetched
+    (λ is v holds. (keeps.stands v holds, metadata_by l n v c.in-Some-Ok.g ((reads.rule (c.scan_volume.ensures.keeps.told is) v holds).answer)))
+    (only_of (IsMetadata l n) (λ v holds. super_needed l n v) c.read_geometry.ensures.fetched) c.scan_volume.ensures.fetched
 
 pub returns-in_ok-new-in-Some-Err-clause-claims : goal.returns-in_ok-new-in-Some-Err-clause-claims
 returns-in_ok-new-in-Some-Err-clause-claims g c = λ is v holds.
@@ -45,14 +46,14 @@ returns-in_ok-new-in-Some-Err-clause-claims g c = λ is v holds.
 pub returns-in_ok-new-in-Some-Err-clause-fetched : goal.returns-in_ok-new-in-Some-Err-clause-fetched
 returns-in_ok-new-in-Some-Err-clause-fetched g c =
     let l = g.V.View.size c.args.view.now in
-    only_of (IsMetadata Little l (g.V.View.count c.args.view.now)) (λ v holds. super_needs l (g.V.View.count c.args.view.now) v) c.read_geometry.ensures.fetched
+    only_of (IsMetadata l (g.V.View.count c.args.view.now)) (λ v holds. super_needed l (g.V.View.count c.args.view.now) v) c.read_geometry.ensures.fetched
 
 pub returns-in-None-clause-lost : goal.returns-in-None-clause-lost
 returns-in-None-clause-lost g c =
     let l = g.V.View.size c.args.view.now in
-    loses_of (IsMetadata Little l (g.V.View.count c.args.view.now)) (λ v holds. super_needs l (g.V.View.count c.args.view.now) v) c.in-None.ensures.rule
+    loses_along refl (λ b h. h) (λ h. h) (λ is v holds. (holds, super_needed l (g.V.View.count c.args.view.now) v)) c.in-None.ensures.lost
 
 pub returns-in-None-clause-fetched : goal.returns-in-None-clause-fetched
 returns-in-None-clause-fetched g c =
     let l = g.V.View.size c.args.view.now in
-    only_of (IsMetadata Little l (g.V.View.count c.args.view.now)) (λ v holds. super_needs l (g.V.View.count c.args.view.now) v) c.read_geometry.ensures.fetched
+    only_of (IsMetadata l (g.V.View.count c.args.view.now)) (λ v holds. super_needed l (g.V.View.count c.args.view.now) v) c.read_geometry.ensures.fetched

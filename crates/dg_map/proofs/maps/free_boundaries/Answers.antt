@@ -7,4 +7,4 @@ use Rattle.dg_map.proofs.maps.free_boundaries.Goals as goal
 pub loop-preserved : goal.loop-preserved
 loop-preserved c =
     rw c.in-Ok.ensures.items
-    (omega (arith, length_push c.loop.boundaries.items c.new.result), All-push (IsUnused c.args.most) c.loop.boundaries.items c.new.result c.loop.invariant.1 c.new.ensures)
+    (omega (arith, length_push c.loop.boundaries.items c.in_ok-slots.slots), All-push (IsUnused c.args.most) c.loop.boundaries.items c.in_ok-slots.slots c.loop.invariant.1 c.in_ok-slots.ensures)

@@ -1,10 +1,10 @@
 use Rattle.std.proofs.Common.{◌≤◌, take}
 use Rattle.dg_io.specs.Told.{Told, Took}
-use Rattle.dg_text.specs.Replies.{entries_text}
+use Rattle.dg_text.specs.Listings.{listing_text}
 use Rattle.dg_text.proofs.listings.write_entries.Given as goal
 
 abbrev pub invariant-loop-entry : goal.invariant-loop-entry
 invariant-loop-entry g l = record {
-  told : Told (Took (entries_text (take l.entry-index l.entries))) (g.K.Sink.taken l.fn.sink) (g.K.Sink.taken l.sink);
+  told : Told (Took (listing_text l.form (take l.entry-index l.entries))) (g.K.Sink.taken l.fn.sink) (g.K.Sink.taken l.sink);
   later : g.K.Sink.faults l.fn.sink ≤ g.K.Sink.faults l.sink;
 }

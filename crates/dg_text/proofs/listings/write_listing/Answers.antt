@@ -1,7 +1,7 @@
 use Rattle.std.proofs.Common.{refl, length}
 use Rattle.std.specs.Fmt.{decimal}
 use Rattle.std.proofs.lemmas.Result.{on_ok_weaker, on_err_weaker}
-use Rattle.dg_text.specs.Replies.{entries_text}
+use Rattle.dg_text.specs.Listings.{listing_text}
 use Rattle.dg_text.specs.ToldSteps.{on_err}
 use Rattle.dg_text.proofs.FileLines.{took_ended, took_part_ended, took_part_unended}
 use Rattle.dg_text.proofs.listings.write_listing.Goals as goal
@@ -9,16 +9,16 @@ use Rattle.dg_text.proofs.listings.write_listing.Goals as goal
 pub returns-in_err-write_entries-clause-err : goal.returns-in_err-write_entries-clause-err
 returns-in_err-write_entries-clause-err g c =
     on_err c.from_residual.result
-    (took_part_unended (entries_text c.args.entries.now) c.args.word.now (decimal (length c.args.entries.now)) _ _ c.in_err-write_entries.ensures.err)
+    (took_part_unended (listing_text c.args.form c.args.entries.now) c.args.word.now (decimal (length c.args.entries.now)) _ _ c.in_err-write_entries.ensures.err)
 
 pub returns-clause-ok : goal.returns-clause-ok
 returns-clause-ok g c =
-    on_ok_weaker c.write_count.result
-    (λ last. took_ended (entries_text c.args.entries.now) c.args.word.now (length c.args.entries.now) (length c.args.entries.now) refl _ _ _ c.in_ok-write_entries.ensures.ok last)
-    c.write_count.ensures.ok
+    on_ok_weaker c.write_number.result
+    (λ last. took_ended (listing_text c.args.form c.args.entries.now) c.args.word.now (length c.args.entries.now) (length c.args.entries.now) refl _ _ _ c.in_ok-write_entries.ensures.ok last)
+    c.write_number.ensures.ok
 
 pub returns-clause-err : goal.returns-clause-err
 returns-clause-err g c =
-    on_err_weaker c.write_count.result
-    (λ last. took_part_ended (entries_text c.args.entries.now) c.args.word.now (length c.args.entries.now) (length c.args.entries.now) refl _ _ _ c.in_ok-write_entries.ensures.ok last)
-    c.write_count.ensures.err
+    on_err_weaker c.write_number.result
+    (λ last. took_part_ended (listing_text c.args.form c.args.entries.now) c.args.word.now (length c.args.entries.now) (length c.args.entries.now) refl _ _ _ c.in_ok-write_entries.ensures.ok last)
+    c.write_number.ensures.err

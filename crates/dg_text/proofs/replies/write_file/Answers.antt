@@ -14,12 +14,12 @@ returns-in_err-write_lines-clause-err g c =
 
 pub returns-clause-ok : goal.returns-clause-ok
 returns-clause-ok g c =
-    on_ok_weaker c.write_count.result
+    on_ok_weaker c.write_number.result
     (λ last. took_ended (file_text c.args.lines.now) c.args.word.now (length (concat c.args.lines.now)) c.bytes_in.result c.bytes_in.ensures _ _ _ c.in_ok-write_lines.ensures.ok last)
-    c.write_count.ensures.ok
+    c.write_number.ensures.ok
 
 pub returns-clause-err : goal.returns-clause-err
 returns-clause-err g c =
-    on_err_weaker c.write_count.result
+    on_err_weaker c.write_number.result
     (λ last. took_part_ended (file_text c.args.lines.now) c.args.word.now (length (concat c.args.lines.now)) c.bytes_in.result c.bytes_in.ensures _ _ _ c.in_ok-write_lines.ensures.ok last)
-    c.write_count.ensures.err
+    c.write_number.ensures.err

@@ -1,34 +1,34 @@
-use Rattle.std.proofs.Common.{◌≡◌, sym, subst}
+use Rattle.std.proofs.Common.{◌≡◌, ◌∙◌, Some, true, false, refl, sym, ap, subst}
 use Rattle.dg_io.specs.ViewLaws.{keeps_both}
 use Rattle.dg_claims.specs.Kept.{table_of}
+use Rattle.dg_claims.specs.Tables.{accepted}
 use Rattle.ufs_check.specs.Verdicts.{Judges}
 use Rattle.ufs_check.specs.declared.verdicts.Verdict.TheVariants.{Gone, Malformed, Sound}
 use Rattle.ufs_model.specs.Metadata.{IsStructure}
 use Rattle.ufs_model.specs.declared.malformations.BadKind.TheVariants.{Super}
-use Rattle.ufs_model.specs.declared.numbers.Endian.TheVariants.{Little}
 use Rattle.ufs_check.proofs.CheckLaws.{first_volume, refused_first, sound_volume, super_structure, table_claims}
-use Rattle.ufs_check.proofs.PassLaws.{lost_need, only_both, only_needs, only_told}
+use Rattle.ufs_check.proofs.PassLaws.{lost_told, only_both, only_needs, only_told}
 use Rattle.ufs_check.proofs.checks.check.Goals as goal
 
 pub returns-in-None-clause-gone : goal.returns-in-None-clause-gone
 returns-in-None-clause-gone g c =
     let l = g.V.View.size c.args.view.now in
     let n = g.V.View.count c.args.view.now in
-    λ is told v tabled. lost_need (IsStructure Little l n) (λ v block needs. super_structure l n v block needs) c.in-None.ensures.rule told v (tabled.0)
+    λ same. lost_told _ (IsStructure l n) refl (λ told v tabled. (tabled.0, λ block needs. super_structure l n v block needs)) c.in-None.ensures.lost
 
 pub returns-in-None-clause-fetched : goal.returns-in-None-clause-fetched
 returns-in-None-clause-fetched g c =
     let l = g.V.View.size c.args.view.now in
     let n = g.V.View.count c.args.view.now in
-    only_told (IsStructure Little l n) (IsStructure Little l n) (λ told v tabled. (tabled.0, λ block h. h))
-    (only_needs (IsStructure Little l n) (λ v block needs. super_structure l n v block needs) c.read_geometry.ensures.fetched)
+    only_told (IsStructure l n) (IsStructure l n) (λ told v tabled. (tabled.0, λ block h. h))
+    (only_needs (IsStructure l n) (λ v block needs. super_structure l n v block needs) c.read_geometry.ensures.fetched)
 
 pub returns-in-Some-Err-clause-fetched : goal.returns-in-Some-Err-clause-fetched
 returns-in-Some-Err-clause-fetched g c =
     let l = g.V.View.size c.args.view.now in
     let n = g.V.View.count c.args.view.now in
-    only_told (IsStructure Little l n) (IsStructure Little l n) (λ told v tabled. (tabled.0, λ block h. h))
-    (only_needs (IsStructure Little l n) (λ v block needs. super_structure l n v block needs) c.read_geometry.ensures.fetched)
+    only_told (IsStructure l n) (IsStructure l n) (λ told v tabled. (tabled.0, λ block h. h))
+    (only_needs (IsStructure l n) (λ v block needs. super_structure l n v block needs) c.read_geometry.ensures.fetched)
 
 pub returns-in-Some-Err-clause-malformed : goal.returns-in-Some-Err-clause-malformed
 returns-in-Some-Err-clause-malformed g c = λ kind m same told v tabled.
@@ -48,13 +48,13 @@ returns-in_err-check_volume-clause-fetched g c =
     let first = c.read_geometry.ensures.keeps in
     let second = c.check_volume.ensures.keeps in
     let reads = rw c.in-Some-Ok.field-0-is at c.in-Some-Ok.ensures.rule in
-    let one = rw (first.bytes, first.blocks) at c.check_volume.ensures.fetched in
     only_both g.met.V.View.fetched_both (λ v stands. stands) second.told
-    (only_told (IsStructure Little l n) (IsStructure Little l n) (λ told v tabled. (tabled.0, λ block h. h))
-    (only_needs (IsStructure Little l n) (λ v block needs. super_structure l n v block needs) c.read_geometry.ensures.fetched))
-    (only_told (IsStructure Little l n) (IsStructure Little l n) (λ told v tabled.
+    (only_told (IsStructure l n) (IsStructure l n) (λ told v tabled. (tabled.0, λ block h. h))
+    (only_needs (IsStructure l n) (λ v block needs. super_structure l n v block needs) c.read_geometry.ensures.fetched))
+    (only_told (IsStructure (g.V.View.size c.read_geometry.new.view) (g.V.View.count c.read_geometry.new.view)) (IsStructure l n) (λ told v tabled.
     let is = sym ((reads.rule (second.told told) v (tabled.0)).answer) in
-    ((first.stands v (tabled.0), table_claims l n gg v table is (tabled.1), is), λ block h. h)) one)
+    ((first.stands v (tabled.0), table_claims l n gg v table is (tabled.1), rw (first.bytes, first.blocks) is), λ block h. rw (first.bytes, first.blocks) at h))
+    c.check_volume.ensures.fetched)
 
 pub returns-in-None-2-clause-fetched : goal.returns-in-None-2-clause-fetched
 returns-in-None-2-clause-fetched g c =
@@ -65,13 +65,13 @@ returns-in-None-2-clause-fetched g c =
     let first = c.read_geometry.ensures.keeps in
     let second = c.check_volume.ensures.keeps in
     let reads = rw c.in-Some-Ok.field-0-is at c.in-Some-Ok.ensures.rule in
-    let one = rw (first.bytes, first.blocks) at c.check_volume.ensures.fetched in
     only_both g.met.V.View.fetched_both (λ v stands. stands) second.told
-    (only_told (IsStructure Little l n) (IsStructure Little l n) (λ told v tabled. (tabled.0, λ block h. h))
-    (only_needs (IsStructure Little l n) (λ v block needs. super_structure l n v block needs) c.read_geometry.ensures.fetched))
-    (only_told (IsStructure Little l n) (IsStructure Little l n) (λ told v tabled.
+    (only_told (IsStructure l n) (IsStructure l n) (λ told v tabled. (tabled.0, λ block h. h))
+    (only_needs (IsStructure l n) (λ v block needs. super_structure l n v block needs) c.read_geometry.ensures.fetched))
+    (only_told (IsStructure (g.V.View.size c.read_geometry.new.view) (g.V.View.count c.read_geometry.new.view)) (IsStructure l n) (λ told v tabled.
     let is = sym ((reads.rule (second.told told) v (tabled.0)).answer) in
-    ((first.stands v (tabled.0), table_claims l n gg v table is (tabled.1), is), λ block h. h)) one)
+    ((first.stands v (tabled.0), table_claims l n gg v table is (tabled.1), rw (first.bytes, first.blocks) is), λ block h. rw (first.bytes, first.blocks) at h))
+    c.check_volume.ensures.fetched)
 
 pub returns-in-Some-clause-fetched : goal.returns-in-Some-clause-fetched
 returns-in-Some-clause-fetched g c =
@@ -82,13 +82,13 @@ returns-in-Some-clause-fetched g c =
     let first = c.read_geometry.ensures.keeps in
     let second = c.check_volume.ensures.keeps in
     let reads = rw c.in-Some-Ok.field-0-is at c.in-Some-Ok.ensures.rule in
-    let one = rw (first.bytes, first.blocks) at c.check_volume.ensures.fetched in
     only_both g.met.V.View.fetched_both (λ v stands. stands) second.told
-    (only_told (IsStructure Little l n) (IsStructure Little l n) (λ told v tabled. (tabled.0, λ block h. h))
-    (only_needs (IsStructure Little l n) (λ v block needs. super_structure l n v block needs) c.read_geometry.ensures.fetched))
-    (only_told (IsStructure Little l n) (IsStructure Little l n) (λ told v tabled.
+    (only_told (IsStructure l n) (IsStructure l n) (λ told v tabled. (tabled.0, λ block h. h))
+    (only_needs (IsStructure l n) (λ v block needs. super_structure l n v block needs) c.read_geometry.ensures.fetched))
+    (only_told (IsStructure (g.V.View.size c.read_geometry.new.view) (g.V.View.count c.read_geometry.new.view)) (IsStructure l n) (λ told v tabled.
     let is = sym ((reads.rule (second.told told) v (tabled.0)).answer) in
-    ((first.stands v (tabled.0), table_claims l n gg v table is (tabled.1), is), λ block h. h)) one)
+    ((first.stands v (tabled.0), table_claims l n gg v table is (tabled.1), rw (first.bytes, first.blocks) is), λ block h. rw (first.bytes, first.blocks) at h))
+    c.check_volume.ensures.fetched)
 
 pub returns-in-None-2-clause-gone : goal.returns-in-None-2-clause-gone
 returns-in-None-2-clause-gone g c =
@@ -99,10 +99,10 @@ returns-in-None-2-clause-gone g c =
     let first = c.read_geometry.ensures.keeps in
     let second = c.check_volume.ensures.keeps in
     let reads = rw c.in-Some-Ok.field-0-is at c.in-Some-Ok.ensures.rule in
-    let gone = rw (first.bytes, first.blocks) at (rw c.in-None-2.is at c.in_ok-check_volume.ensures.gone) in
-    λ same told v tabled.
+    let gone = rw c.in-None-2.is at c.in_ok-check_volume.ensures.gone in
+    λ same. lost_told (IsStructure (g.V.View.size c.read_geometry.new.view) (g.V.View.count c.read_geometry.new.view)) (IsStructure l n) first.blocks (λ told v tabled.
     let is = sym ((reads.rule (second.told told) v (tabled.0)).answer) in
-    gone told v (first.stands v (tabled.0), table_claims l n gg v table is (tabled.1), is)
+    ((first.stands v (tabled.0), table_claims l n gg v table is (tabled.1), rw (first.bytes, first.blocks) is), λ block h. rw (first.bytes, first.blocks) at h)) gone
 
 pub returns-in-Some-clause-keeps : goal.returns-in-Some-clause-keeps
 returns-in-Some-clause-keeps g c =
@@ -121,7 +121,7 @@ returns-in-Some-clause-is_sound g c =
     let found = rw c.in-Some.is at c.in_ok-check_volume.ensures.found in
     λ same told v tabled.
     let is = sym ((reads.rule (second.told told) v (tabled.0)).answer) in
-    let judged = c.verdict_of.ensures gg v geometry.tests (found told v (first.stands v (tabled.0), table_claims l n gg v table is (tabled.1))) in
+    let judged = c.verdict_of.ensures.judges gg v geometry.tests (found told v (first.stands v (tabled.0), table_claims l n gg v table is (tabled.1))) in
     let verdict : c.verdict_of.result ≡ Sound = cc in
     sound_volume l n gg v is (subst (Judges gg v) verdict judged)
 
@@ -138,23 +138,24 @@ returns-in-Some-clause-malformed g c =
     let found = rw c.in-Some.is at c.in_ok-check_volume.ensures.found in
     λ kind m same told v tabled.
     let is = sym ((reads.rule (second.told told) v (tabled.0)).answer) in
-    let judged = c.verdict_of.ensures gg v geometry.tests (found told v (first.stands v (tabled.0), table_claims l n gg v table is (tabled.1))) in
+    let judged = c.verdict_of.ensures.judges gg v geometry.tests (found told v (first.stands v (tabled.0), table_claims l n gg v table is (tabled.1))) in
     let verdict : c.verdict_of.result ≡ Malformed kind m = cc in
     first_volume l n gg v kind m is (subst (Judges gg v) verdict judged)
 
 pub returns-in-Some-clause-gone : goal.returns-in-Some-clause-gone
-returns-in-Some-clause-gone g c =
-    let l = g.V.View.size c.args.view.now in
-    let n = g.V.View.count c.args.view.now in
-    let gg = c.in-Some-Ok.g in
-    let table = table_of c.args.claims.now in
-    let first = c.read_geometry.ensures.keeps in
+returns-in-Some-clause-gone g c = λ same. absurd (c.verdict_of.ensures.there (let verdict : c.verdict_of.result ≡ Gone = cc in verdict))
+
+pub returns-in-Some-clause-tabled : goal.returns-in-Some-clause-tabled
+returns-in-Some-clause-tabled g c = λ same told v stands.
     let second = c.check_volume.ensures.keeps in
     let reads = rw c.in-Some-Ok.field-0-is at c.in-Some-Ok.ensures.rule in
-    let geometry = rw c.in-Some-Ok.field-0-is at c.in-Some-Ok.ensures.geometry in
-    let found = rw c.in-Some.is at c.in_ok-check_volume.ensures.found in
-    λ same told v tabled.
-    let is = sym ((reads.rule (second.told told) v (tabled.0)).answer) in
-    let judged = c.verdict_of.ensures gg v geometry.tests (found told v (first.stands v (tabled.0), table_claims l n gg v table is (tabled.1))) in
-    let verdict : c.verdict_of.result ≡ Gone = cc in
-    absurd (subst (Judges gg v) verdict judged)
+    let is = sym ((reads.rule (second.told told) v stands).answer) in
+    c.is_of.ensures.0 c.if-not-is_of.false ∙ ap accepted (sym is)
+
+pub returns-then-not-is_of-clause-malformed : goal.returns-then-not-is_of-clause-malformed
+returns-then-not-is_of-clause-malformed g c = λ kind m same told v tabled.
+    let reads = rw c.in-Some-Ok.field-0-is at c.in-Some-Ok.ensures.rule in
+    let is = sym ((reads.rule told v (tabled.0)).answer) in
+    let of = tabled.1 in
+    let table : (table_of c.args.claims.now).geometry ≡ Some c.in-Some-Ok.g = of.geometry ∙ ap accepted is in
+    let no : true ≡ false = sym (c.is_of.ensures.1 table) ∙ c.if-not-is_of.true in cc

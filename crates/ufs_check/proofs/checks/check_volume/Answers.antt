@@ -1,8 +1,8 @@
+use Rattle.std.proofs.Common.{◌∙◌, refl}
 use Rattle.ufs_model.specs.Metadata.{IsMetadataBy, IsStructure}
-use Rattle.ufs_model.specs.declared.numbers.Endian.TheVariants.{Little}
 use Rattle.ufs_check.specs.Directories.{IsDirectoryRead}
 use Rattle.ufs_check.proofs.CheckLaws.{metadata_structure}
-use Rattle.ufs_check.proofs.PassLaws.{lost_wider, only_both, only_told}
+use Rattle.ufs_check.proofs.PassLaws.{lost_told, only_both, only_told}
 use Rattle.ufs_check.proofs.checks.check_volume.Goals as goal
 
 pub returns-in_default-clause-gone : goal.returns-in_default-clause-gone
@@ -10,8 +10,19 @@ returns-in_default-clause-gone g c =
     let gg = c.args.g.now in
     let l = g.V.View.size c.args.view.now in
     let n = g.V.View.count c.args.view.now in
+    lost_told (IsMetadataBy gg) (IsStructure l n) refl (λ told v on. ((on.0, on.1), λ block is. metadata_structure l n gg v block (on.2) is)) c.in_default.ensures.gone
+
+pub returns-in_default-check_directories-clause-gone : goal.returns-in_default-check_directories-clause-gone
+returns-in_default-check_directories-clause-gone g c =
+    let gg = c.args.g.now in
+    let l = g.V.View.size c.args.view.now in
+    let n = g.V.View.count c.args.view.now in
     let first = c.check_metadata.ensures.keeps in
-    λ told v on. lost_wider _ (IsMetadataBy Little gg v) (IsStructure Little l n v) (λ block is. metadata_structure l n gg v block (on.2) is) (c.in_default.ensures.gone told v (on.0, on.1))
+    let second = c.check_directories.ensures.keeps in
+    lost_told (IsDirectoryRead gg) (IsStructure l n) first.blocks (λ told v on. (
+      first.stands v (on.0),
+      λ block read. c.directories_are_structure.ensures l n gg v block (on.2) c.requires.geometry.tests ((c.in-Some.ensures.found (second.told told) v (on.0, on.1)).whole) read,
+    )) c.in_default-check_directories.ensures.gone
 
 pub returns-in_default-clause-fetched : goal.returns-in_default-clause-fetched
 returns-in_default-clause-fetched g c =
@@ -19,14 +30,14 @@ returns-in_default-clause-fetched g c =
     let l = g.V.View.size c.args.view.now in
     let n = g.V.View.count c.args.view.now in
     let first = c.check_metadata.ensures.keeps in
-    only_told (IsMetadataBy Little gg) (IsStructure Little l n) (λ told v on. ((on.0, on.1), λ block is. metadata_structure l n gg v block (on.2) is)) c.check_metadata.ensures.fetched
+    only_told (IsMetadataBy gg) (IsStructure l n) (λ told v on. ((on.0, on.1), λ block is. metadata_structure l n gg v block (on.2) is)) c.check_metadata.ensures.fetched
 
 pub returns-then-not-is_none-clause-fetched : goal.returns-then-not-is_none-clause-fetched
 returns-then-not-is_none-clause-fetched g c =
     let gg = c.args.g.now in
     let l = g.V.View.size c.args.view.now in
     let n = g.V.View.count c.args.view.now in
-    only_told (IsMetadataBy Little gg) (IsStructure Little l n) (λ told v on. ((on.0, on.1), λ block is. metadata_structure l n gg v block (on.2) is)) c.check_metadata.ensures.fetched
+    only_told (IsMetadataBy gg) (IsStructure l n) (λ told v on. ((on.0, on.1), λ block is. metadata_structure l n gg v block (on.2) is)) c.check_metadata.ensures.fetched
 
 pub returns-then-not-is_none-2-clause-fetched : goal.returns-then-not-is_none-2-clause-fetched
 returns-then-not-is_none-2-clause-fetched g c =
@@ -36,8 +47,8 @@ returns-then-not-is_none-2-clause-fetched g c =
     let first = c.check_metadata.ensures.keeps in
     let second = c.check_directories.ensures.keeps in
     only_both g.met.V.View.fetched_both (λ v on. on) second.told
-    (only_told (IsMetadataBy Little gg) (IsStructure Little l n) (λ told v on. ((on.0, on.1), λ block is. metadata_structure l n gg v block (on.2) is)) c.check_metadata.ensures.fetched)
-    (only_told (IsDirectoryRead gg) (IsStructure Little l n) (λ told v on. (
+    (only_told (IsMetadataBy gg) (IsStructure l n) (λ told v on. ((on.0, on.1), λ block is. metadata_structure l n gg v block (on.2) is)) c.check_metadata.ensures.fetched)
+    (only_told (IsDirectoryRead gg) (IsStructure l n) (λ told v on. (
       first.stands v (on.0),
       λ block read. c.directories_are_structure.ensures l n gg v block (on.2) c.requires.geometry.tests ((c.in-Some.ensures.found (second.told told) v (on.0, on.1)).whole) read,
     )) c.check_directories.ensures.fetched)
@@ -50,8 +61,8 @@ returns-in_default-check_directories-clause-fetched g c =
     let first = c.check_metadata.ensures.keeps in
     let second = c.check_directories.ensures.keeps in
     only_both g.met.V.View.fetched_both (λ v on. on) second.told
-    (only_told (IsMetadataBy Little gg) (IsStructure Little l n) (λ told v on. ((on.0, on.1), λ block is. metadata_structure l n gg v block (on.2) is)) c.check_metadata.ensures.fetched)
-    (only_told (IsDirectoryRead gg) (IsStructure Little l n) (λ told v on. (
+    (only_told (IsMetadataBy gg) (IsStructure l n) (λ told v on. ((on.0, on.1), λ block is. metadata_structure l n gg v block (on.2) is)) c.check_metadata.ensures.fetched)
+    (only_told (IsDirectoryRead gg) (IsStructure l n) (λ told v on. (
       first.stands v (on.0),
       λ block read. c.directories_are_structure.ensures l n gg v block (on.2) c.requires.geometry.tests ((c.in-Some.ensures.found (second.told told) v (on.0, on.1)).whole) read,
     )) c.check_directories.ensures.fetched)
@@ -66,12 +77,12 @@ returns-in_err-links-clause-fetched g c =
     let third = c.check_links.ensures.keeps in
     only_both g.met.V.View.fetched_both (λ v on. on) third.told
     (only_both g.met.V.View.fetched_both (λ v on. on) second.told
-    (only_told (IsMetadataBy Little gg) (IsStructure Little l n) (λ told v on. ((on.0, on.1), λ block is. metadata_structure l n gg v block (on.2) is)) c.check_metadata.ensures.fetched)
-    (only_told (IsDirectoryRead gg) (IsStructure Little l n) (λ told v on. (
+    (only_told (IsMetadataBy gg) (IsStructure l n) (λ told v on. ((on.0, on.1), λ block is. metadata_structure l n gg v block (on.2) is)) c.check_metadata.ensures.fetched)
+    (only_told (IsDirectoryRead gg) (IsStructure l n) (λ told v on. (
       first.stands v (on.0),
       λ block read. c.directories_are_structure.ensures l n gg v block (on.2) c.requires.geometry.tests ((c.in-Some.ensures.found (second.told told) v (on.0, on.1)).whole) read,
     )) c.check_directories.ensures.fetched))
-    (only_told (IsDirectoryRead gg) (IsStructure Little l n) (λ told v on. (
+    (only_told (IsDirectoryRead gg) (IsStructure l n) (λ told v on. (
       second.stands v (first.stands v (on.0)),
       λ block read. c.directories_are_structure.ensures l n gg v block (on.2) c.requires.geometry.tests ((c.in-Some.ensures.found (second.told (third.told told)) v (on.0, on.1)).whole) read,
     )) c.check_links.ensures.fetched)
@@ -86,12 +97,12 @@ returns-in_default-2-clause-fetched g c =
     let third = c.check_links.ensures.keeps in
     only_both g.met.V.View.fetched_both (λ v on. on) third.told
     (only_both g.met.V.View.fetched_both (λ v on. on) second.told
-    (only_told (IsMetadataBy Little gg) (IsStructure Little l n) (λ told v on. ((on.0, on.1), λ block is. metadata_structure l n gg v block (on.2) is)) c.check_metadata.ensures.fetched)
-    (only_told (IsDirectoryRead gg) (IsStructure Little l n) (λ told v on. (
+    (only_told (IsMetadataBy gg) (IsStructure l n) (λ told v on. ((on.0, on.1), λ block is. metadata_structure l n gg v block (on.2) is)) c.check_metadata.ensures.fetched)
+    (only_told (IsDirectoryRead gg) (IsStructure l n) (λ told v on. (
       first.stands v (on.0),
       λ block read. c.directories_are_structure.ensures l n gg v block (on.2) c.requires.geometry.tests ((c.in-Some.ensures.found (second.told told) v (on.0, on.1)).whole) read,
     )) c.check_directories.ensures.fetched))
-    (only_told (IsDirectoryRead gg) (IsStructure Little l n) (λ told v on. (
+    (only_told (IsDirectoryRead gg) (IsStructure l n) (λ told v on. (
       second.stands v (first.stands v (on.0)),
       λ block read. c.directories_are_structure.ensures l n gg v block (on.2) c.requires.geometry.tests ((c.in-Some.ensures.found (second.told (third.told told)) v (on.0, on.1)).whole) read,
     )) c.check_links.ensures.fetched)
@@ -106,12 +117,12 @@ returns-clause-fetched g c =
     let third = c.check_links.ensures.keeps in
     only_both g.met.V.View.fetched_both (λ v on. on) third.told
     (only_both g.met.V.View.fetched_both (λ v on. on) second.told
-    (only_told (IsMetadataBy Little gg) (IsStructure Little l n) (λ told v on. ((on.0, on.1), λ block is. metadata_structure l n gg v block (on.2) is)) c.check_metadata.ensures.fetched)
-    (only_told (IsDirectoryRead gg) (IsStructure Little l n) (λ told v on. (
+    (only_told (IsMetadataBy gg) (IsStructure l n) (λ told v on. ((on.0, on.1), λ block is. metadata_structure l n gg v block (on.2) is)) c.check_metadata.ensures.fetched)
+    (only_told (IsDirectoryRead gg) (IsStructure l n) (λ told v on. (
       first.stands v (on.0),
       λ block read. c.directories_are_structure.ensures l n gg v block (on.2) c.requires.geometry.tests ((c.in-Some.ensures.found (second.told told) v (on.0, on.1)).whole) read,
     )) c.check_directories.ensures.fetched))
-    (only_told (IsDirectoryRead gg) (IsStructure Little l n) (λ told v on. (
+    (only_told (IsDirectoryRead gg) (IsStructure l n) (λ told v on. (
       second.stands v (first.stands v (on.0)),
       λ block read. c.directories_are_structure.ensures l n gg v block (on.2) c.requires.geometry.tests ((c.in-Some.ensures.found (second.told (third.told told)) v (on.0, on.1)).whole) read,
     )) c.check_links.ensures.fetched)
@@ -125,9 +136,10 @@ returns-in_default-2-clause-gone g c =
     let second = c.check_directories.ensures.keeps in
     let third = c.check_links.ensures.keeps in
     let gone = rw c.in_default-2.is at c.in_ok-links.ensures.gone in
-    λ told v on. lost_wider _ (IsDirectoryRead gg v) (IsStructure Little l n v)
-    (λ block read. c.directories_are_structure.ensures l n gg v block (on.2) c.requires.geometry.tests ((c.in-Some.ensures.found (second.told (third.told told)) v (on.0, on.1)).whole) read)
-    (gone told v (second.stands v (first.stands v (on.0))))
+    lost_told (IsDirectoryRead gg) (IsStructure l n) (second.blocks ∙ first.blocks) (λ told v on. (
+      second.stands v (first.stands v (on.0)),
+      λ block read. c.directories_are_structure.ensures l n gg v block (on.2) c.requires.geometry.tests ((c.in-Some.ensures.found (second.told (third.told told)) v (on.0, on.1)).whole) read,
+    )) gone
 
 pub returns-clause-found : goal.returns-clause-found
 returns-clause-found g c =
@@ -140,6 +152,6 @@ returns-clause-found g c =
     let links = rw c.in-Some-2.is at c.in_ok-links.ensures.found in
     λ told v claimed. record {
       metadata = c.in-Some.ensures.found (second.told (third.told told)) v claimed;
-      directories = λ nothing sizes. c.in-Some-check_directories.ensures.found (third.told told) v (first.stands v (claimed.0)) sizes;
-      links = λ nothing no_more all. links told v (second.stands v (first.stands v (claimed.0))) all;
+      directories = λ nothing. c.in-Some-check_directories.ensures.found (third.told told) v (first.stands v (claimed.0));
+      links = λ nothing no_more all named. links told v (second.stands v (first.stands v (claimed.0))) all named;
     }

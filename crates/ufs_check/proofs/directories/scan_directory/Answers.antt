@@ -3,7 +3,8 @@ use Rattle.dg_io.specs.ViewLaws.{keeps_both, keeps_same}
 use Rattle.ufs_check.specs.Directories.{IsFileRead}
 use Rattle.ufs_check.proofs.DirectoryLaws.{scanned_next, scanned_none}
 use Rattle.ufs_check.proofs.FaultLaws.{scanned_hole}
-use Rattle.ufs_check.proofs.PassLaws.{only_both, only_none}
+use Rattle.ufs_pointer.specs.KindLaws.{only_none}
+use Rattle.ufs_check.proofs.PassLaws.{lost_later, only_both}
 use Rattle.ufs_check.proofs.directories.scan_directory.Goals as goal
 
 pub loop-n-init : goal.loop-n-init
@@ -35,3 +36,8 @@ loop-n-preserved g c =
           (c.scan_block.ensures.found c.if-not-scan_block.false told v (so_far.stands v stands));
       fetched = only_both g.met.V.View.fetched_both so_far.stands c.scan_block.ensures.keeps.told invariant.fetched c.scan_block.ensures.fetched;
     }
+
+pub returns-then-not-scan_block-clause-gone : goal.returns-then-not-scan_block-clause-gone
+returns-then-not-scan_block-clause-gone g c =
+    let so_far = c.loop-n.invariant.keeps in
+    lost_later so_far.blocks so_far.stands (c.scan_block.ensures.gone c.if-not-scan_block.true)

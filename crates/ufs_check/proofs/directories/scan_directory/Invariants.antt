@@ -2,7 +2,7 @@ use Rattle.std.proofs.Common.{◌≡◌}
 use Rattle.dg_io.specs.Views.{KeepsView}
 use Rattle.ufs_model.specs.Blocks.{Volume}
 use Rattle.ufs_check.specs.Directories.{IsFileRead, ScannedBelow}
-use Rattle.ufs_check.specs.Passes.{FetchesOnly}
+use Rattle.ufs_pointer.specs.Fetches.{FetchesOnly}
 use Rattle.ufs_check.proofs.directories.scan_directory.Given as goal
 
 abbrev pub invariant-loop-n : goal.invariant-loop-n

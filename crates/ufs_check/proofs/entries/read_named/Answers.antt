@@ -1,32 +1,31 @@
 use Rattle.std.proofs.Common.{◌≡◌, ◌∙◌, ◌+◌, ◌-◌, ◌*◌, ◌<◌, ◌≤◌, sym, arith}
 use Rattle.ufs_model.specs.Metadata.{IsMetadataBy}
-use Rattle.ufs_model.specs.declared.numbers.Endian.TheVariants.{Little}
-use Rattle.ufs_check.proofs.InodeLaws.{inode_needed, inode_there, one_block}
-use Rattle.ufs_check.proofs.PassLaws.{only_needs, read_lost, read_value}
+use Rattle.ufs_model.specs.Metadata.IsMetadataBy.{of_inode}
+use Rattle.ufs_check.proofs.InodeLaws.{inode_there, one_block}
+use Rattle.ufs_pointer.specs.KindLaws.{loses_once, only_once}
+use Rattle.ufs_check.proofs.PassLaws.{read_value}
 use Rattle.ufs_check.proofs.entries.read_named.Goals as goal
 
 pub returns-then-not-read_aside-clause-gone : goal.returns-then-not-read_aside-clause-gone
 returns-then-not-read_aside-clause-gone g c =
     let high : c.args.number < c.args.g.now.ncg * c.args.g.now.ipg = omega arith in
-    read_lost (IsMetadataBy Little c.args.g.now) c.read_aside.result _ (inode_needed c.args.g.now c.args.number (g.V.View.size c.args.view.now) c.place_of-block.result.0 high c.place_of-block.ensures.block)
-    (rw one_block at c.read_aside.ensures.rule) c.if-not-read_aside.true
+    let inside : c.place_of-block.result.0 < g.V.View.count c.args.view.now = let low = c.place_of-block.ensures.inside in let most = c.requires.geometry.size in omega arith in
+    loses_once (IsMetadataBy c.args.g.now) inside (c.read_aside.ensures.gone c.if-not-read_aside.true) (λ v stands. of_inode c.args.number high c.place_of-block.ensures.block)
 
 pub returns-then-not-read_aside-clause-fetched : goal.returns-then-not-read_aside-clause-fetched
 returns-then-not-read_aside-clause-fetched g c =
     let high : c.args.number < c.args.g.now.ncg * c.args.g.now.ipg = omega arith in
-    only_needs (IsMetadataBy Little c.args.g.now) (inode_needed c.args.g.now c.args.number (g.V.View.size c.args.view.now) c.place_of-block.result.0 high c.place_of-block.ensures.block) (rw one_block at c.read_aside.ensures.fetched)
+    only_once (IsMetadataBy c.args.g.now) (λ v stands. of_inode c.args.number high c.place_of-block.ensures.block) c.read_aside.ensures.once
 
 pub returns-clause-found : goal.returns-clause-found
 returns-clause-found g c = λ told v stands.
     let low : 2 ≤ c.args.number = omega arith in
     let high : c.args.number < c.args.g.now.ncg * c.args.g.now.ipg = omega arith in
-    let part : c.place_of-block.result.1 + 128 - c.place_of-block.result.1 ≡ 128 = omega arith in
-    c.read_inode.ensures ∙ sym (inode_there c.args.g.now v c.args.number _ _ _ low high c.place_of-block.ensures.byte
+    c.inode_at.ensures ∙ sym (inode_there c.args.g.now v c.args.number _ _ low high c.place_of-block.ensures.byte
     (c.aside.ensures ∙ rw (← c.place_of-block.ensures.block, c.requires.geometry.fsize)
-    (read_value c.read_aside.result _ (rw one_block at c.read_aside.ensures.rule) c.if-not-read_aside.false told v stands))
-    (rw part))
+    (read_value c.read_aside.result _ (rw one_block at c.read_aside.ensures.rule) c.if-not-read_aside.false told v stands)))
 
 pub returns-clause-fetched : goal.returns-clause-fetched
 returns-clause-fetched g c =
     let high : c.args.number < c.args.g.now.ncg * c.args.g.now.ipg = omega arith in
-    only_needs (IsMetadataBy Little c.args.g.now) (inode_needed c.args.g.now c.args.number (g.V.View.size c.args.view.now) c.place_of-block.result.0 high c.place_of-block.ensures.block) (rw one_block at c.read_aside.ensures.fetched)
+    only_once (IsMetadataBy c.args.g.now) (λ v stands. of_inode c.args.number high c.place_of-block.ensures.block) c.read_aside.ensures.once

@@ -3,9 +3,8 @@ use Rattle.dg_io.specs.Views.{KeepsView}
 use Rattle.ufs_model.specs.Blocks.{Volume}
 use Rattle.ufs_model.specs.Chunks.{entries_in, fault_in, used_entries}
 use Rattle.ufs_model.specs.Metadata.{IsMetadataBy}
-use Rattle.ufs_model.specs.declared.numbers.Endian.TheVariants.{Little}
 use Rattle.ufs_check.specs.Entries.{Completes}
-use Rattle.ufs_check.specs.Passes.{FetchesOnly}
+use Rattle.ufs_pointer.specs.Fetches.{FetchesOnly}
 use Rattle.ufs_check.proofs.entries.scan_chunk.Given as goal
 
 abbrev pub invariant-loop-entry : goal.invariant-loop-entry
@@ -13,11 +12,11 @@ invariant-loop-entry g l = record {
   keeps : KeepsView g.V.View.stands_for g.V.View.tells g.V.View.is_gone g.V.View.count g.V.View.size g.V.View.is_sound g.V.View.goes_on l.fn.view l.view;
   levels : l.levels.fragment ≡ l.fn.levels.fragment;
   block : l.levels.block ≡ l.fn.levels.block;
-  whole : fault_in Little 0 l.entries ≡ fault_in Little 0 l.chunk;
+  whole : l.entries.fault ≡ fault_in l.g.endian 0 l.chunk;
   found : g.V.View.tells l.view → (v : Volume) → g.V.View.stands_for l.fn.view v
-      → Completes l.g v (used_entries (entries_in Little 0 l.chunk)) (used_entries (entries_in Little 0 l.entries)) l.fn.faults l.faults;
-  fetched : FetchesOnly g.V.View.fetched (g.V.View.stands_for l.fn.view) (g.V.View.tells l.view) (IsMetadataBy Little l.g) l.fn.view l.view;
+      → Completes l.g v (used_entries (entries_in l.g.endian 0 l.chunk)) (used_entries l.entries.entries) l.fn.faults l.faults;
+  fetched : FetchesOnly g.V.View.fetched (g.V.View.stands_for l.fn.view) (g.V.View.tells l.view) (IsMetadataBy l.g) l.fn.view l.view;
 }
 
 abbrev pub decreases-loop-entry : goal.decreases-loop-entry
-decreases-loop-entry g l = length l.entries
+decreases-loop-entry g l = length l.entries.entries

@@ -3,7 +3,8 @@ use Rattle.dg_io.specs.ViewLaws.{keeps_both}
 use Rattle.ufs_model.specs.Blocks.{Volume}
 use Rattle.ufs_model.specs.GroupMaps.{group_bytes}
 use Rattle.dg_claims.specs.Kept.{table_of}
-use Rattle.ufs_check.proofs.PassLaws.{only_both}
+use Rattle.ufs_check.proofs.ClaimLaws.{loses_fewer}
+use Rattle.ufs_check.proofs.PassLaws.{lost_later, only_both}
 use Rattle.ufs_check.proofs.PointerLaws.{faults_all, uppers_all, uppers_more}
 use Rattle.ufs_check.proofs.fragments.check_fragments.Goals as goal
 
@@ -64,3 +65,14 @@ pub returns-clause-whole : goal.returns-clause-whole
 returns-clause-whole g c = λ told v claimed.
     uppers_all c.args.g.now (table_of c.args.claims.now) v c.loop-f.f (claimed.1) c.requires.table c.claims_inside.ensures.inside c.loop-f-test.false
     (c.loop-f.invariant.whole told v (claimed.0))
+
+pub returns-then-not-hold_group-clause-gone : goal.returns-then-not-hold_group-clause-gone
+returns-then-not-hold_group-clause-gone g c =
+    let so_far = c.loop-f.invariant.keeps in
+    loses_fewer c.args.g.now (table_of c.args.claims.now) so_far.blocks so_far.stands (c.hold_group.ensures.gone c.if-not-hold_group.true)
+
+pub returns-then-not-check_pointers-clause-gone : goal.returns-then-not-check_pointers-clause-gone
+returns-then-not-check_pointers-clause-gone g c =
+    let so_far = c.loop-f.invariant.keeps in
+    let first = c.hold_group.ensures.keeps in
+    lost_later (first.blocks ∙ so_far.blocks) (λ v claimed. (first.stands v (so_far.stands v (claimed.0)), claimed.1)) (c.check_pointers.ensures.gone c.if-not-check_pointers.true)

@@ -4,10 +4,9 @@ use Rattle.dg_io.specs.Views.{KeepsView}
 use Rattle.ufs_model.specs.Blocks.{Volume, block_at}
 use Rattle.ufs_model.specs.GroupMaps.{group_bytes}
 use Rattle.ufs_model.specs.Metadata.{IsMetadataBy}
-use Rattle.ufs_model.specs.declared.numbers.Endian.TheVariants.{Little}
 use Rattle.dg_claims.specs.Kept.{table_of}
 use Rattle.ufs_check.specs.Fragments.{AreFragmentFaultsBelow, IsClaimedBy, IsUpperIn}
-use Rattle.ufs_check.specs.Passes.{FetchesOnly}
+use Rattle.ufs_pointer.specs.Fetches.{FetchesOnly}
 use Rattle.ufs_check.proofs.fragments.check_fragments.Given as goal
 
 abbrev pub invariant-loop-f : goal.invariant-loop-f
@@ -18,5 +17,5 @@ invariant-loop-f g l = record {
   holds_group : g.V.View.tells l.view → (v : Volume) → g.V.View.stands_for l.fn.view v → IfSome l.group (λ c. l.levels.block ≡ (group_bytes l.g c v).value);
   found : g.V.View.tells l.view → (v : Volume) → IsClaimedBy (g.V.View.stands_for l.fn.view) l.g (table_of l.claims) v → AreFragmentFaultsBelow l.g v l.f l.faults;
   whole : g.V.View.tells l.view → (v : Volume) → g.V.View.stands_for l.fn.view v → (m : ℕ) → m < l.f → IsUpperIn (table_of l.claims) m → length (block_at l.g.fsize v m) ≡ l.g.fsize;
-  fetched : FetchesOnly g.V.View.fetched (IsClaimedBy (g.V.View.stands_for l.fn.view) l.g (table_of l.claims)) (g.V.View.tells l.view) (IsMetadataBy Little l.g) l.fn.view l.view;
+  fetched : FetchesOnly g.V.View.fetched (IsClaimedBy (g.V.View.stands_for l.fn.view) l.g (table_of l.claims)) (g.V.View.tells l.view) (IsMetadataBy l.g) l.fn.view l.view;
 }

@@ -1,12 +1,12 @@
-use Rattle.std.proofs.Common.{◌∙◌, sym, subst}
+use Rattle.std.proofs.Common.{◌∙◌, ◌<◌, arith, refl}
 use Rattle.std.proofs.lemmas.Bool.Decides.{not_from_Decides}
 use Rattle.ufs_model.specs.Metadata.{IsMetadataBy}
-use Rattle.ufs_model.specs.declared.numbers.Endian.TheVariants.{Little}
 use Rattle.dg_claims.specs.Kept.{table_of}
-use Rattle.ufs_check.specs.Fragments.{HasClaims}
-use Rattle.ufs_check.proofs.ClaimLaws.{fetches_claimed, fetches_fewer, loses_claimed, upper_metadata}
-use Rattle.ufs_check.proofs.InodeLaws.{one_block, one_need}
-use Rattle.ufs_check.proofs.PassLaws.{only_both, only_needs, read_lost, read_value}
+use Rattle.ufs_check.specs.Fragments.{IsClaimedBy}
+use Rattle.ufs_check.proofs.ClaimLaws.{fetches_fewer, loses_fewer, upper_metadata}
+use Rattle.ufs_check.proofs.InodeLaws.{one_block}
+use Rattle.ufs_pointer.specs.KindLaws.{loses_once, only_once}
+use Rattle.ufs_check.proofs.PassLaws.{lost_later, only_both, read_value}
 use Rattle.ufs_check.proofs.PointerLaws.{no_pointers}
 use Rattle.ufs_check.proofs.fragments.check_pointers.Goals as goal
 
@@ -14,25 +14,24 @@ pub returns-then-not-is_upper-clause-found : goal.returns-then-not-is_upper-clau
 returns-then-not-is_upper-clause-found g c = λ is told v claimed so_far.
     no_pointers c.args.g.now (table_of c.args.claims.now) v c.args.f c.args.faults.now (claimed.1) (not_from_Decides c.is_upper.result c.is_upper.ensures c.if-not-is_upper.true) so_far
 
+pub returns-in_default-clause-gone : goal.returns-in_default-clause-gone
+returns-in_default-clause-gone g c = λ missed. loses_fewer c.args.g.now (table_of c.args.claims.now) refl (λ v stands. stands) c.in_default.ensures.gone
+
 pub returns-then-not-read_aside-clause-gone : goal.returns-then-not-read_aside-clause-gone
-returns-then-not-read_aside-clause-gone g c = λ is told v claimed.
-    let table = table_of c.args.claims.now in
+returns-then-not-read_aside-clause-gone g c = λ missed.
+    let first = c.read_limit.ensures.keeps in
     let upper = c.is_upper.ensures.0 c.if-not-is_upper.false in
-    loses_claimed c.args.g.now table v _ (claimed.1)
-    (read_lost (λ w block. HasClaims c.args.g.now table w → IsMetadataBy Little c.args.g.now w block) c.read_aside.result _
-    (λ w block needs has. subst (IsMetadataBy Little c.args.g.now w) (sym (one_need (g.V.View.size c.read_limit.new.view) c.args.f w block needs)) (upper_metadata c.args.g.now table w c.args.f upper has))
-    (rw one_block at c.read_aside.ensures.rule) c.if-not-read_aside.true told v (c.read_limit.ensures.keeps.stands v (claimed.0)))
+    let inside : c.args.f < g.V.View.count c.read_limit.new.view = let low = c.requires.inside in let high = c.requires.geometry.size in let same = first.blocks in omega arith in
+    lost_later {still = IsClaimedBy (g.V.View.stands_for c.read_limit.new.view) c.args.g.now (table_of c.args.claims.now)} first.blocks (λ v claimed. (first.stands v (claimed.0), claimed.1))
+    (loses_once (IsMetadataBy c.args.g.now) inside (c.read_aside.ensures.gone c.if-not-read_aside.true) (λ v claimed. upper_metadata c.args.g.now (table_of c.args.claims.now) v c.args.f upper (claimed.1)))
 
 pub returns-then-not-read_aside-clause-fetched : goal.returns-then-not-read_aside-clause-fetched
 returns-then-not-read_aside-clause-fetched g c =
     let table = table_of c.args.claims.now in
     let upper = c.is_upper.ensures.0 c.if-not-is_upper.false in
-    only_both g.met.V.View.fetched_both (λ v claimed. (c.read_limit.ensures.keeps.stands v (claimed.0), claimed.1)) c.read_aside.ensures.keeps.told
+    only_both {still = IsClaimedBy (g.V.View.stands_for c.read_limit.new.view) c.args.g.now table} g.met.V.View.fetched_both (λ v claimed. (c.read_limit.ensures.keeps.stands v (claimed.0), claimed.1)) c.read_aside.ensures.keeps.told
     (fetches_fewer c.args.g.now table c.read_limit.ensures.fetched)
-    (fetches_claimed c.args.g.now table
-    (only_needs (λ w block. HasClaims c.args.g.now table w → IsMetadataBy Little c.args.g.now w block)
-    (λ w block needs has. subst (IsMetadataBy Little c.args.g.now w) (sym (one_need (g.V.View.size c.read_limit.new.view) c.args.f w block needs)) (upper_metadata c.args.g.now table w c.args.f upper has))
-    (rw one_block at c.read_aside.ensures.fetched)))
+    (only_once (IsMetadataBy c.args.g.now) (λ v claimed. upper_metadata c.args.g.now table v c.args.f upper (claimed.1)) c.read_aside.ensures.once)
 
 pub returns-clause-found : goal.returns-clause-found
 returns-clause-found g c = λ is told v claimed so_far.
@@ -57,9 +56,6 @@ pub returns-clause-fetched : goal.returns-clause-fetched
 returns-clause-fetched g c =
     let table = table_of c.args.claims.now in
     let upper = c.is_upper.ensures.0 c.if-not-is_upper.false in
-    only_both g.met.V.View.fetched_both (λ v claimed. (c.read_limit.ensures.keeps.stands v (claimed.0), claimed.1)) c.read_aside.ensures.keeps.told
+    only_both {still = IsClaimedBy (g.V.View.stands_for c.read_limit.new.view) c.args.g.now table} g.met.V.View.fetched_both (λ v claimed. (c.read_limit.ensures.keeps.stands v (claimed.0), claimed.1)) c.read_aside.ensures.keeps.told
     (fetches_fewer c.args.g.now table c.read_limit.ensures.fetched)
-    (fetches_claimed c.args.g.now table
-    (only_needs (λ w block. HasClaims c.args.g.now table w → IsMetadataBy Little c.args.g.now w block)
-    (λ w block needs has. subst (IsMetadataBy Little c.args.g.now w) (sym (one_need (g.V.View.size c.read_limit.new.view) c.args.f w block needs)) (upper_metadata c.args.g.now table w c.args.f upper has))
-    (rw one_block at c.read_aside.ensures.fetched)))
+    (only_once (IsMetadataBy c.args.g.now) (λ v claimed. upper_metadata c.args.g.now table v c.args.f upper (claimed.1)) c.read_aside.ensures.once)

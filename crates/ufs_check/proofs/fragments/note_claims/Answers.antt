@@ -2,7 +2,6 @@ use Rattle.std.proofs.Common.{◌∙◌, sym}
 use Rattle.std.specs.Bool.{Decides}
 use Rattle.ufs_model.specs.Malformations.{IsBad, IsFree}
 use Rattle.ufs_model.specs.declared.malformations.BadKind.TheVariants.{Twice, Free}
-use Rattle.ufs_model.specs.declared.numbers.Endian.TheVariants.{Little}
 use Rattle.dg_claims.specs.Kept.{table_of}
 use Rattle.ufs_check.proofs.ClaimLaws.{free_claimed, free_there, free_unclaimed, twice_decides}
 use Rattle.ufs_check.proofs.LeastLaws.{least_noted}
@@ -15,10 +14,10 @@ returns-clause-claimed c = λ v has is so_far.
     let f = c.args.f in
     let table = table_of c.args.claims.now in
     let number = c.claims_on-number.result in
-    let free : Decides c.if-number-ge1.note (IsFree Little g v f) = elim c.if-number-ge1.branch [
+    let free : Decides c.if-number-ge1.note (IsFree g v f) = elim c.if-number-ge1.branch [
       | then-number-ge1 w ↦ rw w.note-is (free_claimed g table v f number _ has c.claims_on-number.ensures w.if-number-ge1.true (free_there g v f _ is ∙ sym w.is_marked_free.ensures))
       | else-number-ge1 w ↦ rw w.note-is (free_unclaimed g table v f number has c.claims_on-number.ensures w.if-number-ge1.false)
     ] in record {
-      twice = least_noted (IsBad Little g v Twice) f _ _ _ c.note.ensures (twice_decides g table v f number has c.claims_on-number.ensures) so_far.twice;
-      free = least_noted (IsBad Little g v Free) f _ _ _ c.note-2.ensures free so_far.free;
+      twice = least_noted (IsBad g v Twice) f _ _ _ c.note.ensures (twice_decides g table v f number has c.claims_on-number.ensures) so_far.twice;
+      free = least_noted (IsBad g v Free) f _ _ _ c.note-2.ensures free so_far.free;
     }

@@ -1,26 +1,25 @@
-use Rattle.std.proofs.Common.{◌∙◌, sym}
+use Rattle.std.proofs.Common.{◌∙◌, ◌+◌, ◌≤◌, arith, sym}
 use Rattle.dg_io.specs.ViewLaws.{keeps_both}
 use Rattle.ufs_model.specs.Metadata.{IsMetadataBy}
-use Rattle.ufs_model.specs.Metadata.IsMetadataBy.{of_group}
-use Rattle.ufs_model.specs.declared.numbers.Endian.TheVariants.{Little}
-use Rattle.ufs_check.proofs.GroupLaws.{group_area}
-use Rattle.ufs_check.proofs.PassLaws.{only_both, only_needs, read_lost}
+use Rattle.ufs_check.proofs.GroupLaws.{group_area, group_need}
+use Rattle.ufs_check.proofs.PassLaws.{area_lost, lost_later, only_both, only_needs}
 use Rattle.ufs_check.proofs.groups.check_groups.Goals as goal
 
 pub returns-then-not-read_block-clause-gone : goal.returns-then-not-read_block-clause-gone
-returns-then-not-read_block-clause-gone g c = λ told v stands.
+returns-then-not-read_block-clause-gone g c =
     let so_far = c.loop-c.invariant.keeps in
-    let area = group_area c.args.g.now c.loop-c.c _ _ (c.requires.geometry.fsize ∙ sym so_far.bytes) c.group_block.ensures.value in
-    read_lost (IsMetadataBy Little c.args.g.now) _ _ (λ v block needs. of_group c.loop-c.c c.loop-c-test.true needs)
-    (rw area at c.read_block.ensures.rule) c.if-not-read_block.true told v (so_far.stands v stands)
+    let inside : c.group_block.result + c.args.g.now.frag ≤ g.V.View.count c.loop-c.view =
+    let low = c.group_block.ensures.inside in let high = c.requires.geometry.size in let same = so_far.blocks in omega arith in
+    lost_later so_far.blocks so_far.stands
+    (area_lost (IsMetadataBy c.args.g.now) (g.V.View.size c.loop-c.view) c.group_block.result c.args.g.now.frag c.read_block.result inside
+    (group_need c.args.g.now c.loop-c.c _ _ c.loop-c-test.true (c.requires.geometry.fsize ∙ sym so_far.bytes) c.group_block.ensures.value) c.if-not-read_block.true c.read_block.ensures.area)
 
 pub returns-then-not-read_block-clause-fetched : goal.returns-then-not-read_block-clause-fetched
 returns-then-not-read_block-clause-fetched g c =
     let so_far = c.loop-c.invariant.keeps in
-    let area = group_area c.args.g.now c.loop-c.c _ _ (c.requires.geometry.fsize ∙ sym so_far.bytes) c.group_block.ensures.value in
     only_both g.met.V.View.fetched_both so_far.stands c.read_block.ensures.keeps.told c.loop-c.invariant.fetched
-    (only_needs (IsMetadataBy Little c.args.g.now) (λ v block needs. of_group c.loop-c.c c.loop-c-test.true needs)
-    (rw area at c.if-not-read_block.ensures.fetched))
+    (only_needs (IsMetadataBy c.args.g.now) (group_need c.args.g.now c.loop-c.c _ _ c.loop-c-test.true (c.requires.geometry.fsize ∙ sym so_far.bytes) c.group_block.ensures.value)
+    c.if-not-read_block.ensures.fetched)
 
 pub loop-c-preserved : goal.loop-c-preserved
 loop-c-preserved g c =
@@ -32,6 +31,6 @@ loop-c-preserved g c =
       found = λ told v stands. c.note_group.ensures v (c.block.ensures ∙ (read.rule told v (so_far.stands v stands)).answer)
           (c.loop-c.invariant.found (c.read_block.ensures.keeps.told told) v stands);
       fetched = only_both g.met.V.View.fetched_both so_far.stands c.read_block.ensures.keeps.told c.loop-c.invariant.fetched
-          (only_needs (IsMetadataBy Little c.args.g.now) (λ v block needs. of_group c.loop-c.c c.loop-c-test.true needs)
-          (rw area at c.if-not-read_block.ensures.fetched));
+          (only_needs (IsMetadataBy c.args.g.now) (group_need c.args.g.now c.loop-c.c _ _ c.loop-c-test.true (c.requires.geometry.fsize ∙ sym so_far.bytes) c.group_block.ensures.value)
+          c.if-not-read_block.ensures.fetched);
     }

@@ -2,9 +2,8 @@ use Rattle.std.proofs.Common.{◌≡◌}
 use Rattle.dg_io.specs.Views.{KeepsView}
 use Rattle.ufs_model.specs.Blocks.{Volume}
 use Rattle.ufs_model.specs.Metadata.{IsMetadataBy}
-use Rattle.ufs_model.specs.declared.numbers.Endian.TheVariants.{Little}
 use Rattle.ufs_check.specs.Groups.{AreGroupFaultsBelow}
-use Rattle.ufs_check.specs.Passes.{FetchesOnly}
+use Rattle.ufs_pointer.specs.Fetches.{FetchesOnly}
 use Rattle.ufs_check.proofs.groups.check_groups.Given as goal
 
 abbrev pub invariant-loop-c : goal.invariant-loop-c
@@ -12,5 +11,5 @@ invariant-loop-c g l = record {
   keeps : KeepsView g.V.View.stands_for g.V.View.tells g.V.View.is_gone g.V.View.count g.V.View.size g.V.View.is_sound g.V.View.goes_on l.fn.view l.view;
   levels : l.levels.fragment ≡ g.V.View.size l.fn.view;
   found : g.V.View.tells l.view → (v : Volume) → g.V.View.stands_for l.fn.view v → AreGroupFaultsBelow l.g v l.c l.faults;
-  fetched : FetchesOnly g.V.View.fetched (g.V.View.stands_for l.fn.view) (g.V.View.tells l.view) (IsMetadataBy Little l.g) l.fn.view l.view;
+  fetched : FetchesOnly g.V.View.fetched (g.V.View.stands_for l.fn.view) (g.V.View.tells l.view) (IsMetadataBy l.g) l.fn.view l.view;
 }

@@ -5,7 +5,7 @@ use Rattle.ufs_model.specs.GroupMaps.{group_bytes}
 use Rattle.ufs_model.specs.Inodes.{inode_block}
 use Rattle.ufs_model.specs.Metadata.IsMetadataBy.{of_inode}
 use Rattle.ufs_check.proofs.InodeLaws.{inode_there, marked_there}
-use Rattle.ufs_check.proofs.PassLaws.{only_both}
+use Rattle.ufs_check.proofs.PassLaws.{lost_later, only_both}
 use Rattle.ufs_check.proofs.inodes.check_inodes.Goals as goal
 
 pub returns-then-not-hold_group-clause-fetched : goal.returns-then-not-hold_group-clause-fetched
@@ -45,10 +45,20 @@ loop-i-preserved g c =
       holds_group = λ told v stands. rw c.hold_group.ensures.held (holds_group told v stands);
       holds_inodes = λ told v stands. rw (c.hold_inodes.ensures.held, c.place_of-block.ensures.block) (holds_inodes told v stands);
       found = λ told v stands. c.note_inode.ensures v
-          (inode_there c.args.g.now v c.loop-i.i _ _ _ c.loop-i.auto.i c.loop-i-test.true c.place_of-block.ensures.byte (c.aside.ensures ∙ holds_inodes told v stands)
-          (let e : c.place_of-block.result.1 + 128 - c.place_of-block.result.1 ≡ 128 = omega arith in rw e))
-          (marked_there c.args.g.now v c.loop-i.i _ (c.block.ensures ∙ holds_group told v stands) ∙ sym c.is_marked_used-used.ensures)
+          (inode_there c.args.g.now v c.loop-i.i _ _ c.loop-i.auto.i c.loop-i-test.true c.place_of-block.ensures.byte (c.aside.ensures ∙ holds_inodes told v stands) ∙ sym c.inode_at-inode.ensures)
+          (marked_there c.args.g.now v c.loop-i.i _ (c.block.ensures ∙ holds_group told v stands) ∙ sym c.is_marked_unused-unused.ensures)
           (invariant.found (two.told told) v stands);
       fetched = only_both g.met.V.View.fetched_both so_far.stands (λ told. first.told (second.told told)) invariant.fetched
           (only_both g.met.V.View.fetched_both first.stands second.told c.hold_group.ensures.fetched c.hold_inodes.ensures.fetched);
     }
+
+pub returns-then-not-hold_group-clause-gone : goal.returns-then-not-hold_group-clause-gone
+returns-then-not-hold_group-clause-gone g c =
+    let so_far = c.loop-i.invariant.keeps in
+    lost_later so_far.blocks so_far.stands (c.hold_group.ensures.gone c.if-not-hold_group.true)
+
+pub returns-then-not-hold_inodes-clause-gone : goal.returns-then-not-hold_inodes-clause-gone
+returns-then-not-hold_inodes-clause-gone g c =
+    let so_far = c.loop-i.invariant.keeps in
+    let first = c.hold_group.ensures.keeps in
+    lost_later (first.blocks ∙ so_far.blocks) (λ v stands. first.stands v (so_far.stands v stands)) (c.hold_inodes.ensures.gone c.if-not-hold_inodes.true)

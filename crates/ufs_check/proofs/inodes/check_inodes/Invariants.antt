@@ -4,9 +4,8 @@ use Rattle.dg_io.specs.Views.{KeepsView}
 use Rattle.ufs_model.specs.Blocks.{Volume, block_at}
 use Rattle.ufs_model.specs.GroupMaps.{group_bytes}
 use Rattle.ufs_model.specs.Metadata.{IsMetadataBy}
-use Rattle.ufs_model.specs.declared.numbers.Endian.TheVariants.{Little}
 use Rattle.ufs_check.specs.Inodes.{AreInodeFaultsBelow}
-use Rattle.ufs_check.specs.Passes.{FetchesOnly}
+use Rattle.ufs_pointer.specs.Fetches.{FetchesOnly}
 use Rattle.ufs_check.proofs.inodes.check_inodes.Given as goal
 
 abbrev pub invariant-loop-i : goal.invariant-loop-i
@@ -18,5 +17,5 @@ invariant-loop-i g l = record {
   holds_group : g.V.View.tells l.view → (v : Volume) → g.V.View.stands_for l.fn.view v → IfSome l.group (λ c. l.levels.block ≡ (group_bytes l.g c v).value);
   holds_inodes : g.V.View.tells l.view → (v : Volume) → g.V.View.stands_for l.fn.view v → IfSome l.inodes (λ b. l.levels.aside ≡ block_at l.g.fsize v b);
   found : g.V.View.tells l.view → (v : Volume) → g.V.View.stands_for l.fn.view v → AreInodeFaultsBelow l.g v l.i l.faults;
-  fetched : FetchesOnly g.V.View.fetched (g.V.View.stands_for l.fn.view) (g.V.View.tells l.view) (IsMetadataBy Little l.g) l.fn.view l.view;
+  fetched : FetchesOnly g.V.View.fetched (g.V.View.stands_for l.fn.view) (g.V.View.tells l.view) (IsMetadataBy l.g) l.fn.view l.view;
 }

@@ -2,7 +2,8 @@ use Rattle.std.proofs.Common.{◌∙◌}
 use Rattle.dg_io.specs.ViewLaws.{keeps_both, keeps_same}
 use Rattle.ufs_check.specs.Directories.{IsDirectoryRead}
 use Rattle.ufs_check.proofs.LinkLaws.{links_none}
-use Rattle.ufs_check.proofs.PassLaws.{only_both, only_none}
+use Rattle.ufs_pointer.specs.KindLaws.{only_none}
+use Rattle.ufs_check.proofs.PassLaws.{lost_later, only_both}
 use Rattle.ufs_check.proofs.links.check_links.Goals as goal
 
 pub loop-i-init : goal.loop-i-init
@@ -26,8 +27,8 @@ loop-i-preserved g c =
     }
 
 pub returns-clause-found : goal.returns-clause-found
-returns-clause-found g c = λ told v stands read.
-    c.judge_links.ensures v (record { read = read; bound = c.loop-i.i; last = c.loop-i-test.false; links = c.loop-i.invariant.found told v stands })
+returns-clause-found g c = λ told v stands read named.
+    c.judge_links.ensures v (record { read = read; named = named; bound = c.loop-i.i; last = c.loop-i-test.false; links = c.loop-i.invariant.found told v stands })
 
 pub returns-in_err-link_inode-clause-fetched : goal.returns-in_err-link_inode-clause-fetched
 returns-in_err-link_inode-clause-fetched g c =
@@ -38,3 +39,8 @@ pub returns-then-not-branch-clause-fetched : goal.returns-then-not-branch-clause
 returns-then-not-branch-clause-fetched g c =
     let so_far = c.loop-i.invariant.keeps in
     only_both g.met.V.View.fetched_both so_far.stands c.link_inode.ensures.keeps.told c.loop-i.invariant.fetched c.link_inode.ensures.fetched
+
+pub returns-then-not-branch-clause-gone : goal.returns-then-not-branch-clause-gone
+returns-then-not-branch-clause-gone g c =
+    let so_far = c.loop-i.invariant.keeps in
+    lost_later so_far.blocks so_far.stands (c.in_ok-link_inode.ensures.gone c.if-not-branch.true)

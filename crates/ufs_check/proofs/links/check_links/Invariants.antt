@@ -3,7 +3,7 @@ use Rattle.dg_io.specs.Views.{KeepsView}
 use Rattle.ufs_model.specs.Blocks.{Volume}
 use Rattle.ufs_check.specs.Directories.{IsDirectoryRead}
 use Rattle.ufs_check.specs.Links.{AreLinksBelow}
-use Rattle.ufs_check.specs.Passes.{FetchesOnly}
+use Rattle.ufs_pointer.specs.Fetches.{FetchesOnly}
 use Rattle.ufs_check.proofs.links.check_links.Given as goal
 
 abbrev pub invariant-loop-i : goal.invariant-loop-i

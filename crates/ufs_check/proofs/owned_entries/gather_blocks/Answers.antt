@@ -4,7 +4,8 @@ use Rattle.ufs_model.specs.Inodes.{block_count}
 use Rattle.ufs_check.specs.Directories.{IsFileRead}
 use Rattle.ufs_check.specs.OwnedEntries.{owned_all}
 use Rattle.ufs_check.proofs.OwnedLaws.{gathers_next, gathers_none, unread_from}
-use Rattle.ufs_check.proofs.PassLaws.{only_both, only_none}
+use Rattle.ufs_pointer.specs.KindLaws.{only_none}
+use Rattle.ufs_check.proofs.PassLaws.{lost_later, only_both}
 use Rattle.ufs_check.proofs.owned_entries.gather_blocks.Goals as goal
 
 pub loop-n-init : goal.loop-n-init
@@ -49,3 +50,9 @@ loop-n-preserved g c =
           (invariant.found (c.gather_block.ensures.keeps.told told) v stands) (found told v (so_far.stands v stands));
       fetched = only_both g.met.V.View.fetched_both so_far.stands c.gather_block.ensures.keeps.told invariant.fetched c.gather_block.ensures.fetched;
     }
+
+pub returns-in-Gone-clause-gone : goal.returns-in-Gone-clause-gone
+returns-in-Gone-clause-gone g c =
+    let so_far = c.loop-n.invariant.keeps in
+    let gone = rw c.in-Gone.is at c.in_ok-gather_block.ensures.gone in
+    lost_later so_far.blocks so_far.stands gone

@@ -2,10 +2,9 @@ use Rattle.std.proofs.Common.{◌≡◌}
 use Rattle.dg_io.specs.Views.{KeepsView}
 use Rattle.ufs_model.specs.Blocks.{Volume}
 use Rattle.ufs_model.specs.Paths.{entries_before}
-use Rattle.ufs_model.specs.declared.numbers.Endian.TheVariants.{Little}
 use Rattle.ufs_check.specs.Directories.{IsFileRead}
 use Rattle.ufs_check.specs.OwnedEntries.{GathersAll, owned_all}
-use Rattle.ufs_check.specs.Passes.{FetchesOnly}
+use Rattle.ufs_pointer.specs.Fetches.{FetchesOnly}
 use Rattle.ufs_check.proofs.owned_entries.gather_blocks.Given as goal
 
 abbrev pub invariant-loop-n : goal.invariant-loop-n
@@ -13,6 +12,6 @@ invariant-loop-n g l = record {
   keeps : KeepsView g.V.View.stands_for g.V.View.tells g.V.View.is_gone g.V.View.count g.V.View.size g.V.View.is_sound g.V.View.goes_on l.fn.view l.view;
   levels : l.levels.fragment ≡ g.V.View.size l.fn.view;
   found : g.V.View.tells l.view → (v : Volume) → g.V.View.stands_for l.fn.view v
-      → GathersAll ((entries_before Little l.g l.inode l.n v).value) (owned_all l.fn.entries.items) (owned_all l.entries.items);
+      → GathersAll ((entries_before l.g l.inode l.n v).value) (owned_all l.fn.entries.items) (owned_all l.entries.items);
   fetched : FetchesOnly g.V.View.fetched (g.V.View.stands_for l.fn.view) (g.V.View.tells l.view) (IsFileRead l.g l.inode) l.fn.view l.view;
 }

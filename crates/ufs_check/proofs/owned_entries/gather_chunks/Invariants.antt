@@ -7,6 +7,6 @@ use Rattle.ufs_check.proofs.owned_entries.gather_chunks.Given as goal
 
 abbrev pub invariant-loop-i : goal.invariant-loop-i
 invariant-loop-i l = record {
-  whole : list_any is_refused (chunks_in (l.count - l.i) (drop (l.i * 512) l.bytes)) ≡ false;
-  gathered : owned_all l.entries.items ++ entries_all (chunks_in (l.count - l.i) (drop (l.i * 512) l.bytes)) ≡ owned_all l.fn.entries.items ++ entries_all (chunks_in l.count l.bytes);
+  whole : list_any (is_refused l.endian) (chunks_in (l.count - l.i) (drop (l.i * 512) l.bytes)) ≡ false;
+  gathered : owned_all l.entries.items ++ entries_all l.endian (chunks_in (l.count - l.i) (drop (l.i * 512) l.bytes)) ≡ owned_all l.fn.entries.items ++ entries_all l.endian (chunks_in l.count l.bytes);
 }

@@ -1,8 +1,7 @@
 use Rattle.std.proofs.Common.{◌≡◌, ℕ, ◌<◌}
 use Rattle.ufs_model.specs.Pointers.{address, pointer_in}
-use Rattle.ufs_model.specs.declared.numbers.Endian.TheVariants.{Little}
 use Rattle.ufs_model.specs.declared.pointers.Address.TheVariants.{Wild}
 use Rattle.ufs_check.proofs.pointers.has_wild_pointer.Given as goal
 
 abbrev pub invariant-loop-at : goal.invariant-loop-at
-invariant-loop-at l = (at : ℕ) → at < l.at → address l.g (pointer_in Little l.bytes at) l.g.frag ≡ Wild → ⊥
+invariant-loop-at l = (at : ℕ) → at < l.at → address l.g (pointer_in l.g.endian l.bytes at) l.g.frag ≡ Wild → ⊥

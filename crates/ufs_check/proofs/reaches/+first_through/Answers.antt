@@ -8,16 +8,16 @@ returns-in_err-upper-in-Pointer-clause-reaches t c = λ v has once.
     reaches_no_claim c.args.g.now (table_of c.args.claims.now) v c.args.source c.in-Pointer.fragment c.in-Pointer.level c.in-Pointer.at _ c.in-Pointer.is c.from_residual.ensures has once
     c.in_err-upper-in-Pointer.ensures.none
 
-pub returns-then-level_of-level-clause-reaches : goal.returns-then-level_of-level-clause-reaches
-returns-then-level_of-level-clause-reaches t c = λ v has once.
+pub returns-then-level-clause-reaches : goal.returns-then-level-clause-reaches
+returns-then-level-clause-reaches t c = λ v has once.
     reaches_other_level c.args.g.now (table_of c.args.claims.now) v c.args.source c.in_ok-upper-in-Pointer.upper c.in-Pointer.fragment c.in-Pointer.level c.in-Pointer.at _ c.in-Pointer.is refl has
-    c.in_ok-upper-in-Pointer.ensures.only (λ same. c.if-level_of-level.true (c.level_of.ensures ∙ same))
+    c.in_ok-upper-in-Pointer.ensures.only (λ same. c.if-level.true (c.level.ensures ∙ same))
 
 pub returns-in_err-place-in-Pointer-clause-reaches : goal.returns-in_err-place-in-Pointer-clause-reaches
 returns-in_err-place-in-Pointer-clause-reaches t c = λ v has once.
     reaches_no_place c.args.g.now (table_of c.args.claims.now) v c.args.source c.in_ok-upper-in-Pointer.upper c.in-Pointer.fragment c.in-Pointer.level c.in-Pointer.at _ c.in-Pointer.is
     c.from_residual-in_err-place-in-Pointer.ensures has once c.in_ok-upper-in-Pointer.ensures.only
-    (let at = sym c.level_of.ensures ∙ c.if-level_of-level.false in let above = pointer_level c.args.g.now c.args.source _ _ _ c.in-Pointer.is c.requires.source in omega (arith, at, above))
+    (let at = sym c.level.ensures ∙ c.if-level.false in let above = pointer_level c.args.g.now c.args.source _ _ _ c.in-Pointer.is c.requires.source in omega (arith, at, above))
     c.in_err-place-in-Pointer.ensures
 
 pub returns-in_err-inode-in-Pointer-clause-reaches : goal.returns-in_err-inode-in-Pointer-clause-reaches
@@ -31,6 +31,6 @@ returns-in-Slot-clause-reaches t c = λ v has once. reaches_slot c.args.g.now v 
 pub returns-in_ok-inode-in-Pointer-clause-reaches : goal.returns-in_ok-inode-in-Pointer-clause-reaches
 returns-in_ok-inode-in-Pointer-clause-reaches t c = λ v has once.
     reaches_through c.args.g.now (table_of c.args.claims.now) v c.args.source c.in_ok-upper-in-Pointer.upper c.in-Pointer.fragment c.in-Pointer.level c.in-Pointer.at c.in_ok-place-in-Pointer.place
-    c.in_ok-inode-in-Pointer.inode c.in_ok-inode-in-Pointer.first c.blocks_before.result c.in-Pointer.is has once c.in_ok-upper-in-Pointer.ensures.only (sym c.level_of.ensures ∙ c.if-level_of-level.false)
+    c.in_ok-inode-in-Pointer.inode c.in_ok-inode-in-Pointer.first c.blocks_before.result c.in-Pointer.is has once c.in_ok-upper-in-Pointer.ensures.only (sym c.level.ensures ∙ c.if-level.false)
     (pointer_level c.args.g.now c.args.source _ _ _ c.in-Pointer.is c.requires.source)
     c.in_ok-place-in-Pointer.ensures (c.in_ok-inode-in-Pointer.ensures.reaches v has once) c.blocks_before.ensures.value

@@ -9,14 +9,14 @@ returns-in_err-source-clause-reaches c = λ v has once.
 
 pub returns-then-level-eq0-clause-reaches : goal.returns-then-level-eq0-clause-reaches
 returns-then-level-eq0-clause-reaches c = λ v has once.
-    reach_data c.args.g.now (table_of c.args.claims.now) v c.args.f c.in_ok-source.source _ refl has c.in_ok-source.ensures.only (sym c.level_of-level.ensures ∙ c.if-level-eq0.true)
+    reach_data c.args.g.now (table_of c.args.claims.now) v c.args.f c.in_ok-source.source _ refl has c.in_ok-source.ensures.only (sym c.level-level.ensures ∙ c.if-level-eq0.true)
 
 pub returns-in_err-inode-clause-reaches : goal.returns-in_err-inode-clause-reaches
 returns-in_err-inode-clause-reaches c = λ v has once.
-    reach_no_upper c.args.g.now (table_of c.args.claims.now) v c.args.f c.level_of-level.result c.in_ok-source.source _ c.from_residual-in_err-inode.ensures has c.in_ok-source.ensures.only
-    c.level_of-level.ensures (c.in_err-inode.ensures.reaches v has once)
+    reach_no_upper c.args.g.now (table_of c.args.claims.now) v c.args.f c.level-level.result c.in_ok-source.source _ c.from_residual-in_err-inode.ensures has c.in_ok-source.ensures.only
+    c.level-level.ensures (c.in_err-inode.ensures.reaches v has once)
 
 pub returns-clause-reaches : goal.returns-clause-reaches
 returns-clause-reaches c = λ v has once.
-    reach_some c.args.g.now (table_of c.args.claims.now) v c.args.f c.level_of-level.result c.in_ok-inode.inode c.in_ok-inode.first c.in_ok-source.source has c.in_ok-source.ensures.only
-    c.level_of-level.ensures (c.in_ok-inode.ensures.reaches v has once)
+    reach_some c.args.g.now (table_of c.args.claims.now) v c.args.f c.level-level.result c.in_ok-inode.inode c.in_ok-inode.first c.in_ok-source.source has c.in_ok-source.ensures.only
+    c.level-level.ensures (c.in_ok-inode.ensures.reaches v has once)

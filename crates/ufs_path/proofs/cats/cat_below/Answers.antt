@@ -1,18 +1,19 @@
 use Rattle.std.proofs.Common.{refl}
 use Rattle.ufs_model.specs.Paths.{contents_of}
 use Rattle.ufs_model.specs.Readings.{ReadsAs}
-use Rattle.ufs_model.specs.declared.numbers.Endian.TheVariants.{Little}
 use Rattle.ufs_path.specs.Parts.{cat_below}
-use Rattle.ufs_path.proofs.AnswerLaws.{at_fault, map_answer}
+use Rattle.ufs_path.proofs.AnswerLaws.{at_fault, map_answer, refused_unanswered, refused_stays}
 use Rattle.ufs_path.proofs.CatLaws.{below_read, below_unread}
+use Rattle.ufs_path.proofs.ConsultLaws.{consults_along, consults_both}
+use Rattle.ufs_path.proofs.NeedLaws.{below_first, below_second}
 use Rattle.ufs_path.proofs.cats.cat_below.Goals as goal
 
 pub returns-in-Ok-clause-rule : goal.returns-in-Ok-clause-rule
 returns-in-Ok-clause-rule g c =
     let looked = c.look_below.ensures.keeps in
     map_answer g.O.Pieces.took g.O.Pieces.took_part g.O.Pieces.faults c.args.out.now c.hand_file.new.out
-    {one = (ReadsAs (g.V.View.stands_for c.look_below.new.view) (g.V.View.is_gone c.look_below.new.view) (g.V.View.tells c.hand_file.new.view) (g.V.View.is_gone c.hand_file.new.view) (contents_of Little c.args.g.now c.in-Ok.inode))}
-    {two = (ReadsAs (g.V.View.stands_for c.args.view.now) (g.V.View.is_gone c.args.view.now) (g.V.View.tells c.hand_file.new.view) (g.V.View.is_gone c.hand_file.new.view) (cat_below Little c.args.path.now c.args.g.now))}
+    {one = (ReadsAs (g.V.View.stands_for c.look_below.new.view) (g.V.View.is_gone c.look_below.new.view) (g.V.View.tells c.hand_file.new.view) (g.V.View.is_gone c.hand_file.new.view) (contents_of c.args.g.now c.in-Ok.inode))}
+    {two = (ReadsAs (g.V.View.stands_for c.args.view.now) (g.V.View.is_gone c.args.view.now) (g.V.View.tells c.hand_file.new.view) (g.V.View.is_gone c.hand_file.new.view) (cat_below c.args.path.now c.args.g.now))}
     c.hand_file.result
     (λ r reads. below_read c.args.g.now c.args.path.now _ c.in-Ok.inode r looked.stays looked.stands c.hand_file.ensures.keeps.told c.in-Ok.ensures.rule reads)
     c.hand_file.ensures.rule
@@ -21,5 +22,19 @@ pub returns-in-Err-clause-rule : goal.returns-in-Err-clause-rule
 returns-in-Err-clause-rule g c =
     rw c.refused_answer.ensures
     (at_fault g.O.Pieces.took g.O.Pieces.took_part g.O.Pieces.faults c.args.out.now c.args.out.now
-    (ReadsAs (g.V.View.stands_for c.args.view.now) (g.V.View.is_gone c.args.view.now) (g.V.View.tells c.look_below.new.view) (g.V.View.is_gone c.look_below.new.view) (cat_below Little c.args.path.now c.args.g.now))
+    (ReadsAs (g.V.View.stands_for c.args.view.now) (g.V.View.is_gone c.args.view.now) (g.V.View.tells c.look_below.new.view) (g.V.View.is_gone c.look_below.new.view) (cat_below c.args.path.now c.args.g.now))
     c.in-Err.fault refl (below_unread c.args.g.now c.args.path.now c.in-Err.fault c.look_below.ensures.keeps.stays c.in-Err.ensures.rule))
+
+pub returns-in-Ok-clause-consults : goal.returns-in-Ok-clause-consults
+returns-in-Ok-clause-consults g c =
+    let first = c.look_below.ensures.keeps in
+    let second = c.hand_file.ensures.keeps in
+    consults_both g.V.View g.met.V.View.fetched_both first second
+    (λ is v holds. (first.stands v holds, λ b h. below_second c.args.g.now c.args.path.now _ c.in-Ok.inode v b ((c.in-Ok.ensures.rule.rule (second.told is) v holds).answer) h)) (λ h. h)
+    (consults_along g.V.View (λ is v holds. (holds, below_first c.args.g.now c.args.path.now v)) (λ h. h) c.in-Ok.ensures.consults) c.hand_file.ensures.consults
+
+pub returns-in-Err-clause-consults : goal.returns-in-Err-clause-consults
+returns-in-Err-clause-consults g c = rw c.refused_answer.ensures (consults_along g.V.View (λ is v holds. (holds, below_first c.args.g.now c.args.path.now v)) (refused_unanswered c.in-Err.fault) c.in-Err.ensures.consults)
+
+pub returns-in-Err-clause-stays : goal.returns-in-Err-clause-stays
+returns-in-Err-clause-stays g c = rw c.refused_answer.ensures (refused_stays c.in-Err.fault _)

@@ -6,6 +6,8 @@ use Rattle.ufs_path.proofs.PartLaws.{front_fails, front_fails_whole, front_more,
 use Rattle.ufs_path.proofs.ReadsLaws.{wider}
 use Rattle.ufs_path.specs.Answers.{refusal_of}
 use Rattle.ufs_path.specs.Walks.{entries_among}
+use Rattle.ufs_path.proofs.ConsultLaws.{consults_along, consults_both, consults_none}
+use Rattle.ufs_path.proofs.NeedLaws.{part_needed}
 use Rattle.ufs_path.proofs.entries.consult_entries.Goals as goal
 
 pub loop-n-init : goal.loop-n-init
@@ -13,6 +15,7 @@ loop-n-init g c = record {
   keeps = keeps_same c.args.view.now c.requires.sound (g.met.V.View.unchanged c.args.view.now);
   levels = c.requires.levels;
   reads = ([], front_none (entry_fronts c.args.g.now c.args.inode.now));
+  consulted = consults_none g.V.View c.args.view.now _ _ (g.met.V.View.fetched_none c.args.view.now) (λ h. h);
 }
 
 pub returns-in-Err-clause-err : goal.returns-in-Err-clause-err
@@ -32,9 +35,19 @@ loop-n-preserved g c =
       keeps = keeps_both g.met.V.View.further c.args.view.now c.loop-n.view c.read_entries.new.view so_far block;
       levels = c.read_entries.ensures.levels ∙ c.loop-n.invariant.levels;
       reads = (
-        c.loop-n.invariant.reads.0 ++ entries_among (chunks_in c.in-Ok.field-0 c.read_entries.new.levels.block),
+        c.loop-n.invariant.reads.0 ++ entries_among c.args.g.now.endian (chunks_in c.in-Ok.field-0 c.read_entries.new.levels.block),
         rw add-one (front_more (entry_fronts c.args.g.now c.args.inode.now) c.loop-n.n _ _
             (wider _ (λ b h. h) block.stays (λ v h. h) block.told (c.loop-n.invariant.reads.1))
             (wider _ so_far.stays (λ b h. h) so_far.stands (λ h. h) c.in-Ok.ensures.rule)),
       );
+      consulted = consults_both g.V.View g.met.V.View.fetched_both so_far block (λ is v holds. (so_far.stands v holds, λ b h. part_needed (entry_fronts c.args.g.now c.args.inode.now) c.loop-n.n c.args.count (c.loop-n.invariant.reads.0) v b c.loop-n-test.true ((c.loop-n.invariant.reads.1.rule (block.told is) v holds).answer) h)) (λ h. absurd h) c.loop-n.invariant.consulted c.read_entries.ensures.consults;
     }
+
+pub returns-in-Err-clause-consults : goal.returns-in-Err-clause-consults
+returns-in-Err-clause-consults g c =
+    let so_far = c.loop-n.invariant.keeps in
+    let block = c.read_entries.ensures.keeps in
+    consults_both g.V.View g.met.V.View.fetched_both so_far block (λ is v holds. (so_far.stands v holds, λ b h. part_needed (entry_fronts c.args.g.now c.args.inode.now) c.loop-n.n c.args.count (c.loop-n.invariant.reads.0) v b c.loop-n-test.true ((c.loop-n.invariant.reads.1.rule (block.told is) v holds).answer) h)) (λ h. h) c.loop-n.invariant.consulted c.in-Err.ensures.consults
+
+pub returns-clause-consults : goal.returns-clause-consults
+returns-clause-consults g c = consults_along g.V.View (λ is v holds. (holds, λ b h. h)) (λ h. absurd h) c.loop-n.invariant.consulted

@@ -6,10 +6,10 @@ use Rattle.ufs_path.proofs.entries.judged.Goals as goal
 
 pub returns-then-not-are_sound-clause-rule : goal.returns-then-not-are_sound-clause-rule
 returns-then-not-are_sound-clause-rule c =
-    let refused : are_sound (chunks_in c.args.count c.args.block.now) ≡ false = search rules in
-    ap Some (sym (unsound_entries _ refused))
+    let refused : are_sound c.args.endian (chunks_in c.args.count c.args.block.now) ≡ false = search rules in
+    ap Some (sym (unsound_entries c.args.endian _ refused))
 
 pub returns-clause-rule : goal.returns-clause-rule
 returns-clause-rule c =
-    let sound : are_sound (chunks_in c.args.count c.args.block.now) ≡ true = search rules in
-    ap Some (sym (sound_entries _ sound))
+    let sound : are_sound c.args.endian (chunks_in c.args.count c.args.block.now) ≡ true = search rules in
+    ap Some (sym (sound_entries c.args.endian _ sound))

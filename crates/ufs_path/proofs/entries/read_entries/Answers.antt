@@ -1,4 +1,6 @@
 use Rattle.ufs_path.proofs.EntryLaws.{block_hole, block_read, block_unread}
+use Rattle.ufs_path.proofs.ConsultLaws.{consults_along}
+use Rattle.ufs_path.proofs.NeedLaws.{block_listed}
 use Rattle.ufs_path.proofs.entries.read_entries.Goals as goal
 
 pub returns-in-Ok-Data-clause-rule : goal.returns-in-Ok-Data-clause-rule
@@ -12,3 +14,12 @@ returns-in-Ok-Hole-clause-rule g c =
 
 pub returns-in-Err-clause-rule : goal.returns-in-Err-clause-rule
 returns-in-Err-clause-rule g c = block_unread c.args.g.now c.args.inode.now c.args.n c.in-Err.fault c.read_block.ensures.keeps.stays c.in-Err.ensures.rule
+
+pub returns-in-Ok-Data-clause-consults : goal.returns-in-Ok-Data-clause-consults
+returns-in-Ok-Data-clause-consults g c = consults_along g.V.View (λ is v holds. (holds, block_listed c.args.g.now c.args.inode.now c.args.n v)) (λ h. absurd (c.judged.ensures.read h)) c.read_block.ensures.consults
+
+pub returns-in-Ok-Hole-clause-consults : goal.returns-in-Ok-Hole-clause-consults
+returns-in-Ok-Hole-clause-consults g c = consults_along g.V.View (λ is v holds. (holds, block_listed c.args.g.now c.args.inode.now c.args.n v)) (λ h. absurd h) c.read_block.ensures.consults
+
+pub returns-in-Err-clause-consults : goal.returns-in-Err-clause-consults
+returns-in-Err-clause-consults g c = consults_along g.V.View (λ is v holds. (holds, block_listed c.args.g.now c.args.inode.now c.args.n v)) (λ h. h) c.in-Err.ensures.consults

@@ -2,7 +2,7 @@ use Rattle.std.proofs.Common.{◌≡◌, ℕ, List, Some, Ok}
 use Rattle.dg_io.specs.Views.{KeepsView}
 use Rattle.ufs_model.specs.Paths.{front_of}
 use Rattle.ufs_model.specs.Readings.{ReadsAs}
-use Rattle.ufs_model.specs.declared.numbers.Endian.TheVariants.{Little}
+use Rattle.ufs_path.specs.Consults.{Consults}
 use Rattle.ufs_path.proofs.files.consult.Given as goal
 
 abbrev pub invariant-loop-n : goal.invariant-loop-n
@@ -10,5 +10,6 @@ invariant-loop-n g l = record {
   keeps : KeepsView g.V.View.stands_for g.V.View.tells g.V.View.is_gone g.V.View.count g.V.View.size g.V.View.is_sound g.V.View.goes_on l.fn.view l.view;
   levels : l.levels.fragment ≡ g.V.View.size l.fn.view;
   reads : (bytes : List ℕ) × ReadsAs (g.V.View.stands_for l.fn.view) (g.V.View.is_gone l.fn.view) (g.V.View.tells l.view) (g.V.View.is_gone l.view)
-      (front_of Little l.g l.inode l.n) (Some (Ok bytes));
+      (front_of l.g l.inode l.n) (Some (Ok bytes));
+  consulted : Consults g.V.View l.fn.view l.view (front_of l.g l.inode l.count) ⊥;
 }

@@ -6,6 +6,8 @@ use Rattle.ufs_path.proofs.PartLaws.{front_fails, front_fails_whole, front_more,
 use Rattle.ufs_path.proofs.ReadsLaws.{wider}
 use Rattle.ufs_path.proofs.Sizes.{bytes_through}
 use Rattle.ufs_path.specs.Answers.{refusal_of}
+use Rattle.ufs_path.proofs.ConsultLaws.{consults_along, consults_both, consults_none}
+use Rattle.ufs_path.proofs.NeedLaws.{part_needed}
 use Rattle.ufs_path.proofs.files.hand_on.Goals as goal
 
 pub loop-n-init : goal.loop-n-init
@@ -15,6 +17,8 @@ loop-n-init g c = record {
   later = omega arith;
   given = omega arith;
   handed = ([], refl, g.met.O.Pieces.nothing c.args.out.now, front_none (file_fronts c.args.g.now c.args.inode.now));
+  consulted = consults_none g.V.View c.args.view.now _ _ (g.met.V.View.fetched_none c.args.view.now) (λ h. h);
+  stays = refl;
 }
 
 pub returns-in-Unread-clause-rule : goal.returns-in-Unread-clause-rule
@@ -71,4 +75,24 @@ loop-n-preserved g c =
         rw add-one (front_more (file_fronts c.args.g.now c.args.inode.now) c.loop-n.n (handed.0) (all.0)
             (wider _ (λ b h. h) part.stays (λ v h. h) part.told (handed.3)) (wider _ so_far.stays (λ b h. h) so_far.stands (λ h. h) (all.3))),
       );
+      consulted = consults_both g.V.View g.met.V.View.fetched_both so_far part (λ is v holds. (so_far.stands v holds, λ b h. part_needed (file_fronts c.args.g.now c.args.inode.now) c.loop-n.n c.args.count (c.loop-n.invariant.handed.0) v b c.loop-n-test.true ((c.loop-n.invariant.handed.3.rule (part.told is) v holds).answer) h)) (λ h. absurd h) c.loop-n.invariant.consulted c.hand_part.ensures.consults;
+      stays = c.in-All.ensures.stays ∙ c.loop-n.invariant.stays;
     }
+
+pub returns-in-Unread-clause-consults : goal.returns-in-Unread-clause-consults
+returns-in-Unread-clause-consults g c =
+    let so_far = c.loop-n.invariant.keeps in
+    let part = c.hand_part.ensures.keeps in
+    consults_both g.V.View g.met.V.View.fetched_both so_far part (λ is v holds. (so_far.stands v holds, λ b h. part_needed (file_fronts c.args.g.now c.args.inode.now) c.loop-n.n c.args.count (c.loop-n.invariant.handed.0) v b c.loop-n-test.true ((c.loop-n.invariant.handed.3.rule (part.told is) v holds).answer) h)) (λ h. absurd h) c.loop-n.invariant.consulted c.hand_part.ensures.consults
+
+pub returns-in-Failed-clause-consults : goal.returns-in-Failed-clause-consults
+returns-in-Failed-clause-consults g c =
+    let so_far = c.loop-n.invariant.keeps in
+    let part = c.hand_part.ensures.keeps in
+    consults_both g.V.View g.met.V.View.fetched_both so_far part (λ is v holds. (so_far.stands v holds, λ b h. part_needed (file_fronts c.args.g.now c.args.inode.now) c.loop-n.n c.args.count (c.loop-n.invariant.handed.0) v b c.loop-n-test.true ((c.loop-n.invariant.handed.3.rule (part.told is) v holds).answer) h)) (λ h. absurd h) c.loop-n.invariant.consulted c.hand_part.ensures.consults
+
+pub returns-clause-consults : goal.returns-clause-consults
+returns-clause-consults g c = consults_along g.V.View (λ is v holds. (holds, λ b h. h)) (λ h. absurd h) c.loop-n.invariant.consulted
+
+pub returns-in-Unread-clause-stays : goal.returns-in-Unread-clause-stays
+returns-in-Unread-clause-stays g c = c.in-Unread.ensures.stays ∙ c.loop-n.invariant.stays

@@ -1,6 +1,8 @@
 use Rattle.std.proofs.Common.{◌∙◌, ap, take}
 use Rattle.ufs_path.proofs.FileLaws.{part_hole, part_read, part_unread}
 use Rattle.std.proofs.lemmas.List.{take-replicate}
+use Rattle.ufs_path.proofs.ConsultLaws.{consults_along}
+use Rattle.ufs_path.proofs.NeedLaws.{block_read}
 use Rattle.ufs_path.proofs.files.read_part.Goals as goal
 
 pub returns-in-Ok-Data-clause-rule : goal.returns-in-Ok-Data-clause-rule
@@ -17,3 +19,12 @@ returns-in-Ok-Hole-clause-rule g c =
 
 pub returns-in-Err-clause-rule : goal.returns-in-Err-clause-rule
 returns-in-Err-clause-rule g c = part_unread _ _ _ c.in-Err.fault c.read_block.ensures.keeps.stays c.in-Err.ensures.rule
+
+pub returns-in-Ok-Data-clause-consults : goal.returns-in-Ok-Data-clause-consults
+returns-in-Ok-Data-clause-consults g c = consults_along g.V.View (λ is v holds. (holds, block_read c.args.g.now c.args.inode.now c.args.n v)) (λ h. absurd h) c.read_block.ensures.consults
+
+pub returns-in-Ok-Hole-clause-consults : goal.returns-in-Ok-Hole-clause-consults
+returns-in-Ok-Hole-clause-consults g c = consults_along g.V.View (λ is v holds. (holds, block_read c.args.g.now c.args.inode.now c.args.n v)) (λ h. absurd h) c.read_block.ensures.consults
+
+pub returns-in-Err-clause-consults : goal.returns-in-Err-clause-consults
+returns-in-Err-clause-consults g c = consults_along g.V.View (λ is v holds. (holds, block_read c.args.g.now c.args.inode.now c.args.n v)) (λ h. h) c.in-Err.ensures.consults

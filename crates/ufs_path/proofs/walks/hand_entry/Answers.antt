@@ -2,6 +2,8 @@ use Rattle.std.proofs.Common.{◌∷◌, [], refl}
 use Rattle.ufs_dir.specs.Steps.{entry_of}
 use Rattle.ufs_model.specs.Listings.{listed_as}
 use Rattle.ufs_path.proofs.EntryLaws.{lines_none, one_line, one_unread}
+use Rattle.ufs_path.proofs.ConsultLaws.{consults_along}
+use Rattle.ufs_path.proofs.NeedLaws.{entry_needed}
 use Rattle.ufs_path.proofs.walks.hand_entry.Goals as goal
 
 pub returns-in-Ok-line-clause-rule : goal.returns-in-Ok-line-clause-rule
@@ -36,3 +38,12 @@ returns-in-Err-clause-rule g c = record {
   };
   unread = one_unread c.args.g.now 1 (entry_of c.args.entry.now) c.in-Err.fault c.read_named.ensures.keeps.stays c.in-Err.ensures.rule;
 }
+
+pub returns-in-Ok-line-clause-consults : goal.returns-in-Ok-line-clause-consults
+returns-in-Ok-line-clause-consults g c = consults_along g.V.View (λ is v holds. (holds, entry_needed c.args.g.now 1 (entry_of c.args.entry.now) v)) (λ h. absurd h) c.read_named.ensures.consults
+
+pub returns-in-Err-line-clause-consults : goal.returns-in-Err-line-clause-consults
+returns-in-Err-line-clause-consults g c = consults_along g.V.View (λ is v holds. (holds, entry_needed c.args.g.now 1 (entry_of c.args.entry.now) v)) (λ h. absurd h) c.read_named.ensures.consults
+
+pub returns-in-Err-clause-consults : goal.returns-in-Err-clause-consults
+returns-in-Err-clause-consults g c = consults_along g.V.View (λ is v holds. (holds, entry_needed c.args.g.now 1 (entry_of c.args.entry.now) v)) (λ h. h) c.in-Err.ensures.consults

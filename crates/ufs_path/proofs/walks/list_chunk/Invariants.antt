@@ -3,7 +3,7 @@ use Rattle.dg_io.specs.Views.{KeepsView}
 use Rattle.ufs_model.specs.Chunks.{DirEntry, entries_in, used_entries}
 use Rattle.ufs_model.specs.Listings.{listed_entries}
 use Rattle.ufs_model.specs.Readings.{ReadsAs}
-use Rattle.ufs_model.specs.declared.numbers.Endian.TheVariants.{Little}
+use Rattle.ufs_path.specs.Consults.{Consults}
 use Rattle.ufs_path.specs.Walks.{AreHanded}
 use Rattle.ufs_path.proofs.walks.list_chunk.Given as goal
 
@@ -13,11 +13,13 @@ invariant-loop-entry g l = record {
   levels : l.levels.fragment ≡ g.V.View.size l.fn.view;
   block : l.levels.block ≡ l.fn.levels.block;
   later : g.O.Listing.faults l.fn.out ≤ g.O.Listing.faults l.out;
-  few : l.given + length l.entries ≤ 512;
-  handed : (done : List DirEntry) × (used_entries (entries_in Little 0 l.chunk) ≡ done ++ used_entries (entries_in Little 0 l.entries))
+  few : l.given + length l.entries.entries ≤ 512;
+  handed : (done : List DirEntry) × (used_entries (entries_in l.g.endian 0 l.chunk) ≡ done ++ used_entries l.entries.entries)
       × AreHanded g.O.Listing.took l.fn.out l.out done
-      (λ entries. ReadsAs (g.V.View.stands_for l.fn.view) (g.V.View.is_gone l.fn.view) (g.V.View.tells l.view) (g.V.View.is_gone l.view) (listed_entries Little l.g 1 entries)) l.given;
+      (λ entries. ReadsAs (g.V.View.stands_for l.fn.view) (g.V.View.is_gone l.fn.view) (g.V.View.tells l.view) (g.V.View.is_gone l.view) (listed_entries l.g 1 entries)) l.given;
+  consulted : Consults g.V.View l.fn.view l.view (listed_entries l.g 1 (used_entries (entries_in l.g.endian 0 l.chunk))) ⊥;
+  stays : g.O.Listing.faults l.out ≡ g.O.Listing.faults l.fn.out;
 }
 
 abbrev pub decreases-loop-entry : goal.decreases-loop-entry
-decreases-loop-entry g l = length l.entries
+decreases-loop-entry g l = length l.entries.entries

@@ -4,7 +4,7 @@ use Rattle.ufs_model.specs.Chunks.{DirEntry}
 use Rattle.ufs_model.specs.Listings.{listed_entries}
 use Rattle.ufs_model.specs.Paths.{chunks_in}
 use Rattle.ufs_model.specs.Readings.{ReadsAs}
-use Rattle.ufs_model.specs.declared.numbers.Endian.TheVariants.{Little}
+use Rattle.ufs_path.specs.Consults.{Consults}
 use Rattle.ufs_path.specs.Walks.{AreHanded, entries_among}
 use Rattle.ufs_path.proofs.walks.list_chunks.Given as goal
 
@@ -15,7 +15,9 @@ invariant-loop-i g l = record {
   block : l.levels.block ≡ l.fn.levels.block;
   later : g.O.Listing.faults l.fn.out ≤ g.O.Listing.faults l.out;
   few : l.given ≤ l.i * 512;
-  handed : (done : List DirEntry) × (entries_among (chunks_in l.count l.fn.levels.block) ≡ done ++ entries_among (chunks_in (l.count - l.i) (drop (l.i * 512) l.fn.levels.block)))
+  handed : (done : List DirEntry) × (entries_among l.g.endian (chunks_in l.count l.fn.levels.block) ≡ done ++ entries_among l.g.endian (chunks_in (l.count - l.i) (drop (l.i * 512) l.fn.levels.block)))
       × AreHanded g.O.Listing.took l.fn.out l.out done
-      (λ entries. ReadsAs (g.V.View.stands_for l.fn.view) (g.V.View.is_gone l.fn.view) (g.V.View.tells l.view) (g.V.View.is_gone l.view) (listed_entries Little l.g 1 entries)) l.given;
+      (λ entries. ReadsAs (g.V.View.stands_for l.fn.view) (g.V.View.is_gone l.fn.view) (g.V.View.tells l.view) (g.V.View.is_gone l.view) (listed_entries l.g 1 entries)) l.given;
+  consulted : Consults g.V.View l.fn.view l.view (listed_entries l.g 1 (entries_among l.g.endian (chunks_in l.count l.fn.levels.block))) ⊥;
+  stays : g.O.Listing.faults l.out ≡ g.O.Listing.faults l.fn.out;
 }

@@ -1,6 +1,6 @@
 use Rattle.std.proofs.Common.{◌≤◌, length}
 use Rattle.ufs_model.specs.Paths.{bytes_in_block}
-use Rattle.ufs_pointer.proofs.BlockLaws.{block_gone, block_hole, block_there, block_wild, fetches_gone, fetches_hole, fetches_there, fetches_wild, if_read}
+use Rattle.ufs_pointer.proofs.BlockLaws.{block_gone, block_hole, block_there, block_wild, fetches_gone, fetches_hole, fetches_there, fetches_wild, if_read, lost_gone, lost_there}
 use Rattle.ufs_pointer.proofs.Sizes.{covers}
 use Rattle.ufs_pointer.proofs.file_blocks.read_file_block.Goals as goal
 
@@ -39,3 +39,11 @@ returns-in-At-clause-covered g c =
     let room : bytes_in_block c.args.g.now c.args.inode.now c.args.n ≤ length c.read_run.new.levels.block =
     rw (c.read_run.ensures.room, c.in-At.ensures.span) (covers c.args.g.now c.args.inode.now c.args.n c.requires.geometry.tests) in
     if_read _ c.read_run.result room
+
+pub returns-in-Gone-clause-lost : goal.returns-in-Gone-clause-lost
+returns-in-Gone-clause-lost g c = lost_gone _ _ _ c.in-Gone.ensures.lost
+
+pub returns-in-At-clause-lost : goal.returns-in-At-clause-lost
+returns-in-At-clause-lost g c =
+    let first = c.file_block.ensures.keeps in
+    lost_there c.args.g.now c.args.inode.now c.args.n _ c.read_run.result _ first.blocks first.stands c.read_run.ensures.keeps.told c.in-At.ensures.rule c.read_run.ensures.lost

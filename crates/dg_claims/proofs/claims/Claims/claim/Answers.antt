@@ -1,13 +1,19 @@
-use Rattle.dg_claims.proofs.OwnerLaws.{claim_source, no_claim, one_claim}
+use Rattle.std.proofs.Common.{◌∙◌, None, Some, refl, sym}
+use Rattle.dg_claims.proofs.OwnerLaws.{claim_is, counted, told_claim}
 use Rattle.dg_claims.proofs.claims.Claims.claim.Goals as goal
 
-pub returns-in-Some-clause-only : goal.returns-in-Some-clause-only
-returns-in-Some-clause-only c =
-    one_claim c.self.inside c.args.self.now c.args.fragment c.in-Some.place c.source_of.result c.self.view_is c.self.invariant c.in-Some.ensures.one c.source_of.ensures
+pub returns-in_err-nth-clause-listed : goal.returns-in_err-nth-clause-listed
+returns-in_err-nth-clause-listed c = (_, counted c.self.inside c.args.self.now c.args.fragment _ c.self.view_is c.self.invariant refl)
 
-pub returns-in-Some-clause-source : goal.returns-in-Some-clause-source
-returns-in-Some-clause-source c =
-    claim_source c.self.inside c.args.self.now c.args.fragment c.in-Some.place c.source_of.result c.self.view_is c.self.invariant c.in-Some.ensures.one c.source_of.ensures
+pub returns-in_err-nth-clause-claim : goal.returns-in_err-nth-clause-claim
+returns-in_err-nth-clause-claim c = λ sources are.
+    c.from_residual.ensures
+    ∙ claim_is c.self.inside c.args.self.now c.args.fragment c.args.i None c.self.view_is c.self.invariant (sym c.in_err-nth.was ∙ c.nth.ensures) sources are
 
-pub returns-in-None-clause-none : goal.returns-in-None-clause-none
-returns-in-None-clause-none c = no_claim c.self.inside c.args.self.now c.args.fragment c.self.view_is c.self.invariant c.in-None.ensures.none
+pub returns-clause-listed : goal.returns-clause-listed
+returns-clause-listed c = (_, counted c.self.inside c.args.self.now c.args.fragment _ c.self.view_is c.self.invariant refl)
+
+pub returns-clause-claim : goal.returns-clause-claim
+returns-clause-claim c = λ sources are.
+    told_claim c.in_ok-nth.field-0 c.source_of-source.result c.level.result c.source_of-source.ensures c.level.ensures
+    ∙ claim_is c.self.inside c.args.self.now c.args.fragment c.args.i (Some c.in_ok-nth.field-0) c.self.view_is c.self.invariant (sym c.in_ok-nth.was ∙ c.nth.ensures) sources are

@@ -1,13 +1,14 @@
 use Rattle.std.proofs.Common.{ℕ, ◌+◌, ◌<◌, ◌↔◌, ◌∙◌, arith, refl, sym, ap, subst, List, Contains}
 use Rattle.dg_claims.proofs.LevelLaws.{claimed_inside, fragments_more, wanted_at}
-use Rattle.dg_claims.specs.Kept.{KeptClaims, claimed_by, size_in}
-use Rattle.dg_claims.specs.Tables.{IsClaimedAt}
+use Rattle.dg_claims.specs.Kept.{KeptClaims, size_in, table_of}
+use Rattle.ufs_model.specs.Claims.{IsClaimedAt}
+use Rattle.dg_claims.specs.Tables.{TableClaims}
 use Rattle.dg_claims.proofs.claims.Claims.fragments_at.Goals as goal
 
 pub loop-fragment-preserved : goal.loop-fragment-preserved
 loop-fragment-preserved c = λ fragment.
-    subst (λ (xs : List ℕ). Contains xs fragment ↔ ((fragment < c.loop-fragment.fragment + 1) × IsClaimedAt (claimed_by c.args.self.now.runs) c.args.level fragment)) (sym c.in_ok-push_if.ensures)
-    (fragments_more (λ f. IsClaimedAt (claimed_by c.args.self.now.runs) c.args.level f) c.loop-fragment.fragments.items c.loop-fragment.fragment (c.loop-fragment.fragment + 1) c.has_level.result
+    subst (λ (xs : List ℕ). Contains xs fragment ↔ ((fragment < c.loop-fragment.fragment + 1) × IsClaimedAt (TableClaims (table_of c.args.self.now)) c.args.level fragment)) (sym c.in_ok-push_if.ensures)
+    (fragments_more (λ f. IsClaimedAt (TableClaims (table_of c.args.self.now)) c.args.level f) c.loop-fragment.fragments.items c.loop-fragment.fragment (c.loop-fragment.fragment + 1) c.has_level.result
     (wanted_at c.self.inside c.args.self.now c.loop-fragment.fragment c.args.level c.has_level.result c.self.view_is c.self.invariant c.has_level.ensures) refl c.loop-fragment.invariant fragment)
 
 pub returns-clause-claimed : goal.returns-clause-claimed

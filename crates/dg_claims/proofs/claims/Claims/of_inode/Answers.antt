@@ -1,8 +1,9 @@
-use Rattle.std.proofs.Common.{◌≡◌, arith, subst}
+use Rattle.std.proofs.Common.{◌≡◌, ◌∙◌, ◌+◌, ap, arith, refl, subst}
 use Rattle.ufs_model.specs.Claims.{slot_fragments}
-use Rattle.dg_claims.proofs.SourceLaws.{all_slots, other_slots, sets_cut}
+use Rattle.dg_claims.proofs.SourceLaws.{all_slots, other_slots, sets_cut, sets_more, slot_apart}
 use Rattle.dg_claims.specs.Kept.{SetsFirst}
 use Rattle.dg_claims.specs.Places.{slot_place}
+use Rattle.dg_claims.specs.Runs.{run_fragments}
 use Rattle.dg_claims.proofs.claims.Claims.of_inode.Goals as goal
 
 pub returns-in_err-set-clause-others : goal.returns-in_err-set-clause-others
@@ -19,3 +20,10 @@ returns-clause-slots c =
 pub returns-clause-others : goal.returns-clause-others
 returns-clause-others c =
     other_slots c.args.number c.args.self.now.runs c.loop-slot.self.runs (λ place off. c.loop-slot.invariant.slots.others place (λ k lt e. off k e))
+
+pub loop-slot-preserved : goal.loop-slot-preserved
+loop-slot-preserved c = record {
+  geometry = c.in_ok-set.ensures.geometry ∙ c.loop-slot.invariant.geometry;
+  slots = sets_more c.args.self.now.runs c.loop-slot.self.runs c.set.new.self.runs (slot_place c.args.number) (slot_fragments c.in-Some.g c.args.inode.now) c.loop-slot.slot (c.loop-slot.slot + 1) refl
+      (slot_apart c.args.number) c.loop-slot.invariant.slots (ap run_fragments c.in_ok-set.ensures.set ∙ c.slot_run.ensures.value) c.in_ok-set.ensures.others;
+}

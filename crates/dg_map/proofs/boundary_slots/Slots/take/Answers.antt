@@ -1,8 +1,9 @@
-use Rattle.std.proofs.Common.{arith, refl}
-use Rattle.dg_map.proofs.SlotLemmas.{mark_le}
+use Rattle.std.proofs.Common.{}
+use Rattle.dg_map.proofs.SlotLemmas.{lower_some, some_free}
 use Rattle.dg_map.proofs.boundary_slots.Slots.take.Goals as goal
 
-pub raise-requires-clause-left : goal.raise-requires-clause-left
-raise-requires-clause-left c =
-    let kept = c.in_ok-sort.ensures.kept in
-    omega (arith, mark_le c.sort.new.self kept.sound c.in_ok-sort.ensures.sorted_in (c.if-is_empty.ensures.0 refl), kept.most, kept.count)
+pub unreachable-requires : goal.unreachable-requires
+unreachable-requires c = some_free c.args.self.now c.requires.sound c.requires.left c.in_default.ensures
+
+pub returns-clause-lowest : goal.returns-clause-lowest
+returns-clause-lowest c k below = lower_some c.args.self.now c.in-Some.slot k c.requires.sound c.in-Some.ensures below

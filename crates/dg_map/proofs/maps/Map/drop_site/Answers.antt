@@ -1,8 +1,8 @@
 use Rattle.dg_map.proofs.MapLemmas.{count_in, dropped_at, slot_used}
 use Rattle.dg_map.proofs.maps.Map.drop_site.Goals as goal
 
-pub take_out-slot-requires : goal.take_out-slot-requires
-take_out-slot-requires c = count_in c.self.inside c.self.invariant c.args.self.now c.self.view_is c.args.block c.args.boundary c.requires.block c.requires.one
+pub take_out-slot-requires-clause-some : goal.take_out-slot-requires-clause-some
+take_out-slot-requires-clause-some c = count_in c.self.inside c.self.invariant c.args.self.now c.self.view_is c.args.block c.args.boundary c.requires.block c.requires.one
 
 pub give_up-requires-clause-used : goal.give_up-requires-clause-used
 give_up-requires-clause-used c = slot_used c.self.inside c.self.invariant c.args.self.now c.self.view_is c.args.boundary c.take_out-slot.result c.args.block c.index_mut.result.now c.requires.block c.requires.boundary c.index_mut.ensures.value c.take_out-slot.ensures.slot

@@ -26,8 +26,8 @@ took_part_of_one taken old new entry same told =
 
 pub returns-clause-ok : goal.returns-clause-ok
 returns-clause-ok g c =
-    on_ok_weaker c.write_entry_line.result (λ told. took_one g.K.Sink.taken c.args.self.now _ _ refl told) (c.write_entry_line.ensures.ok c.args._depth)
+    on_ok_weaker c.write_entry_line.result (λ told. took_one g.K.Sink.taken c.args.self.now _ _ refl told) c.write_entry_line.ensures.ok
 
 pub returns-clause-err : goal.returns-clause-err
 returns-clause-err g c =
-    on_err_weaker c.write_entry_line.result (λ told. took_part_of_one g.K.Sink.taken c.args.self.now _ _ refl told) (c.write_entry_line.ensures.err c.args._depth)
+    on_err_weaker c.write_entry_line.result (λ told. took_part_of_one g.K.Sink.taken c.args.self.now _ _ refl told) c.write_entry_line.ensures.err

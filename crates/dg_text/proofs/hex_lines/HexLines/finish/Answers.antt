@@ -11,12 +11,12 @@ returns-in_err-flush-clause-err g c =
 
 pub returns-clause-ok : goal.returns-clause-ok
 returns-clause-ok g c =
-    on_ok_weaker c.write_count.result
+    on_ok_weaker c.write_number.result
     (λ last. took_both (file_text (rest_lines (waiting c.args.self.now))) (last_line c.args.word.now c.args.n) _ _ _ c.in_ok-flush.ensures.ok last)
-    c.write_count.ensures.ok
+    c.write_number.ensures.ok
 
 pub returns-clause-err : goal.returns-clause-err
 returns-clause-err g c =
-    on_err_weaker c.write_count.result
+    on_err_weaker c.write_number.result
     (λ last. took_part_after (file_text (rest_lines (waiting c.args.self.now))) (last_line c.args.word.now c.args.n) _ _ _ c.in_ok-flush.ensures.ok last)
-    c.write_count.ensures.err
+    c.write_number.ensures.err

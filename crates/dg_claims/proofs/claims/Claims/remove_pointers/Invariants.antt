@@ -1,0 +1,10 @@
+use Rattle.std.proofs.Common.{◌≡◌, ℕ, List, []}
+use Rattle.dg_claims.specs.Kept.{SetsFirst}
+use Rattle.dg_claims.specs.Places.{pointer_place}
+use Rattle.dg_claims.proofs.claims.Claims.remove_pointers.Given as goal
+
+abbrev pub invariant-loop-at : goal.invariant-loop-at
+invariant-loop-at l = record {
+  geometry : l.self.geometry ≡ l.fn.self.geometry;
+  pointers : SetsFirst l.fn.self.runs l.self.runs (pointer_place l.fragment l.level) (λ k. []) l.at;
+}

@@ -1,0 +1,10 @@
+use Rattle.ufs_pointer.specs.Fetches.{IsJust}
+use Rattle.ufs_pointer.specs.KindLaws.{only_none, only_once}
+use Rattle.std.proofs.Common.{refl}
+use Rattle.dg_claims.proofs.inodes.hold.Goals as goal
+
+pub returns-then-not-read_fragment-clause-fetched : goal.returns-then-not-read_fragment-clause-fetched
+returns-then-not-read_fragment-clause-fetched g c = only_once (IsJust c.args.block) (λ v holds. refl) c.read_fragment.ensures.once
+
+pub returns-clause-fetched : goal.returns-clause-fetched
+returns-clause-fetched g c = only_once (IsJust c.args.block) (λ v holds. refl) c.read_fragment.ensures.once

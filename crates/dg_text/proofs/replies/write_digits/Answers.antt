@@ -1,0 +1,23 @@
+use Rattle.std.proofs.Common.{List, ℕ, get_or, refl, subst, ◌≡◌, ◌∙◌, ap, sym, take, length, arith}
+use Rattle.std.specs.List.{flat_map}
+use Rattle.std.proofs.lemmas.List.{take_all}
+use Rattle.dg_io.specs.Told.{Told, Took, TookPart}
+use Rattle.dg_text.specs.ToldSteps.{on_err}
+use Rattle.dg_text.proofs.FileLines.{all_digits, digits_of, item_is, took_part_of_lines}
+use Rattle.dg_text.proofs.replies.write_digits.Goals as goal
+
+pub returns-in_err-write_pair-clause-err : goal.returns-in_err-write_pair-clause-err
+returns-in_err-write_pair-clause-err g c =
+    let i = c.loop-byte.byte-index in
+    let byte = get_or c.args.bytes.now i 0 in
+    let P : List ℕ → Type 0 = λ l. Told (TookPart l) (g.K.Sink.taken c.args.sink.now) (g.K.Sink.taken c.write_pair.new.sink) in
+    on_err c.from_residual.result
+    (subst P (all_digits c.args.bytes.now)
+    (took_part_of_lines digits_of c.args.bytes.now i byte (digits_of byte) c.loop-byte-test.true (item_is c.args.bytes.now i 0 c.loop-byte-test.true) refl
+    _ _ _ c.loop-byte.invariant.told c.in_err-write_pair.ensures.err))
+
+pub returns-clause-ok : goal.returns-clause-ok
+returns-clause-ok g c =
+    let P : List ℕ → Type 0 = λ l. Told (Took l) (g.K.Sink.taken c.args.sink.now) (g.K.Sink.taken c.loop-byte.sink) in
+    let whole : flat_map digits_of (take c.loop-byte.byte-index c.args.bytes.now) ≡ flat_map digits_of c.args.bytes.now = ap (λ (l : List ℕ). flat_map digits_of l) (take_all c.loop-byte.byte-index c.args.bytes.now (omega (arith, c.loop-byte-test.false))) in
+    subst P (whole ∙ all_digits c.args.bytes.now) c.loop-byte.invariant.told

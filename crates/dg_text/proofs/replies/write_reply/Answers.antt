@@ -1,0 +1,60 @@
+use Rattle.std.proofs.Common.{ap, refl, sym, ◌∙◌, ◌≡◌, ℕ, List}
+use Rattle.dg_model.specs.declared.replies.Reply.TheVariants.{Cut, Given, Listed as ListedReply, ListedCut, Nodes, NodesCut}
+use Rattle.dg_text.specs.Replies.{reply_line}
+use Rattle.dg_text.proofs.ReplyLines.{copied_line, took_as, took_part_as, tended_line}
+use Rattle.dg_text.proofs.replies.write_reply.Goals as goal
+use Rattle.ufs_model.specs.Listings.{Listed}
+
+pub returns-in-Copied-clause-ok : goal.returns-in-Copied-clause-ok
+returns-in-Copied-clause-ok g c = took_as c.write_numbers.result _ (reply_line c.args.reply.now) _ _ (copied_line c.args.reply.now c.in-Copied.done c.in-Copied.left c.in-Copied.is) c.write_numbers.ensures.ok
+
+pub returns-in-Copied-clause-err : goal.returns-in-Copied-clause-err
+returns-in-Copied-clause-err g c = took_part_as c.write_numbers.result _ (reply_line c.args.reply.now) _ _ (copied_line c.args.reply.now c.in-Copied.done c.in-Copied.left c.in-Copied.is) c.write_numbers.ensures.err
+
+pub returns-in-Tended-clause-ok : goal.returns-in-Tended-clause-ok
+returns-in-Tended-clause-ok g c = took_as c.write_numbers-in-Tended.result _ (reply_line c.args.reply.now) _ _ (tended_line c.args.reply.now c.in-Tended.met c.in-Tended.left c.in-Tended.is) c.write_numbers-in-Tended.ensures.ok
+
+pub returns-in-Tended-clause-err : goal.returns-in-Tended-clause-err
+returns-in-Tended-clause-err g c = took_part_as c.write_numbers-in-Tended.result _ (reply_line c.args.reply.now) _ _ (tended_line c.args.reply.now c.in-Tended.met c.in-Tended.left c.in-Tended.is) c.write_numbers-in-Tended.ensures.err
+
+pub returns-in-NotSettled-clause-ok : goal.returns-in-NotSettled-clause-ok
+returns-in-NotSettled-clause-ok g c = took_as c.write_all-in-NotSettled.result _ (reply_line c.args.reply.now) _ _ (ap reply_line (sym c.in-NotSettled.is)) c.write_all-in-NotSettled.ensures.ok
+
+pub returns-in-NotSettled-clause-err : goal.returns-in-NotSettled-clause-err
+returns-in-NotSettled-clause-err g c = took_part_as c.write_all-in-NotSettled.result _ (reply_line c.args.reply.now) _ _ (ap reply_line (sym c.in-NotSettled.is)) c.write_all-in-NotSettled.ensures.err
+
+pub returns-in-Given-clause-ok : goal.returns-in-Given-clause-ok
+returns-in-Given-clause-ok g c = took_as c.write_file.result _ (reply_line c.args.reply.now) _ _ (ap (λ (x : List (List ℕ)). reply_line (Given x)) c.as_slice-in-Given.ensures ∙ ap reply_line (sym c.in-Given.is)) c.write_file.ensures.ok
+
+pub returns-in-Given-clause-err : goal.returns-in-Given-clause-err
+returns-in-Given-clause-err g c = took_part_as c.write_file.result _ (reply_line c.args.reply.now) _ _ (ap (λ (x : List (List ℕ)). reply_line (Given x)) c.as_slice-in-Given.ensures ∙ ap reply_line (sym c.in-Given.is)) c.write_file.ensures.err
+
+pub returns-in-Cut-clause-ok : goal.returns-in-Cut-clause-ok
+returns-in-Cut-clause-ok g c = took_as c.write_file-in-Cut.result _ (reply_line c.args.reply.now) _ _ (ap (λ (x : List (List ℕ)). reply_line (Cut x)) c.as_slice-in-Cut.ensures ∙ ap reply_line (sym c.in-Cut.is)) c.write_file-in-Cut.ensures.ok
+
+pub returns-in-Cut-clause-err : goal.returns-in-Cut-clause-err
+returns-in-Cut-clause-err g c = took_part_as c.write_file-in-Cut.result _ (reply_line c.args.reply.now) _ _ (ap (λ (x : List (List ℕ)). reply_line (Cut x)) c.as_slice-in-Cut.ensures ∙ ap reply_line (sym c.in-Cut.is)) c.write_file-in-Cut.ensures.err
+
+pub returns-in-Listed-clause-ok : goal.returns-in-Listed-clause-ok
+returns-in-Listed-clause-ok g c = took_as c.write_listing.result _ (reply_line c.args.reply.now) _ _ (ap (λ (x : List Listed). reply_line (ListedReply x)) c.as_slice-in-Listed.ensures ∙ ap reply_line (sym c.in-Listed.is)) c.write_listing.ensures.ok
+
+pub returns-in-Listed-clause-err : goal.returns-in-Listed-clause-err
+returns-in-Listed-clause-err g c = took_part_as c.write_listing.result _ (reply_line c.args.reply.now) _ _ (ap (λ (x : List Listed). reply_line (ListedReply x)) c.as_slice-in-Listed.ensures ∙ ap reply_line (sym c.in-Listed.is)) c.write_listing.ensures.err
+
+pub returns-in-ListedCut-clause-ok : goal.returns-in-ListedCut-clause-ok
+returns-in-ListedCut-clause-ok g c = took_as c.write_listing-in-ListedCut.result _ (reply_line c.args.reply.now) _ _ (ap (λ (x : List Listed). reply_line (ListedCut x)) c.as_slice-in-ListedCut.ensures ∙ ap reply_line (sym c.in-ListedCut.is)) c.write_listing-in-ListedCut.ensures.ok
+
+pub returns-in-ListedCut-clause-err : goal.returns-in-ListedCut-clause-err
+returns-in-ListedCut-clause-err g c = took_part_as c.write_listing-in-ListedCut.result _ (reply_line c.args.reply.now) _ _ (ap (λ (x : List Listed). reply_line (ListedCut x)) c.as_slice-in-ListedCut.ensures ∙ ap reply_line (sym c.in-ListedCut.is)) c.write_listing-in-ListedCut.ensures.err
+
+pub returns-in-Nodes-clause-ok : goal.returns-in-Nodes-clause-ok
+returns-in-Nodes-clause-ok g c = took_as c.write_listing-in-Nodes.result _ (reply_line c.args.reply.now) _ _ (ap (λ (x : List Listed). reply_line (Nodes x)) c.as_slice-in-Nodes.ensures ∙ ap reply_line (sym c.in-Nodes.is)) c.write_listing-in-Nodes.ensures.ok
+
+pub returns-in-Nodes-clause-err : goal.returns-in-Nodes-clause-err
+returns-in-Nodes-clause-err g c = took_part_as c.write_listing-in-Nodes.result _ (reply_line c.args.reply.now) _ _ (ap (λ (x : List Listed). reply_line (Nodes x)) c.as_slice-in-Nodes.ensures ∙ ap reply_line (sym c.in-Nodes.is)) c.write_listing-in-Nodes.ensures.err
+
+pub returns-in-NodesCut-clause-ok : goal.returns-in-NodesCut-clause-ok
+returns-in-NodesCut-clause-ok g c = took_as c.write_listing-in-NodesCut.result _ (reply_line c.args.reply.now) _ _ (ap (λ (x : List Listed). reply_line (NodesCut x)) c.as_slice-in-NodesCut.ensures ∙ ap reply_line (sym c.in-NodesCut.is)) c.write_listing-in-NodesCut.ensures.ok
+
+pub returns-in-NodesCut-clause-err : goal.returns-in-NodesCut-clause-err
+returns-in-NodesCut-clause-err g c = took_part_as c.write_listing-in-NodesCut.result _ (reply_line c.args.reply.now) _ _ (ap (λ (x : List Listed). reply_line (NodesCut x)) c.as_slice-in-NodesCut.ensures ∙ ap reply_line (sym c.in-NodesCut.is)) c.write_listing-in-NodesCut.ensures.err

@@ -1,0 +1,22 @@
+-- The lines of a listing of a directory, or of the whole volume.
+use Rattle.std.specs.Prelude.{ℕ, List, ◌++◌, codes}
+use Rattle.std.specs.Fmt.{decimal}
+use Rattle.std.specs.List.{flat_map}
+use Rattle.dg_text.specs.Replies.{entry_line, node_line}
+use Rattle.dg_text.specs.declared.listings.Form.{Form}
+use Rattle.dg_text.specs.declared.listings.Form.TheVariants.{Directory, Volume}
+use Rattle.ufs_model.specs.Listings.{Listed}
+
+-- the line of an entry
+abbrev pub line_in : Form → Listed → List ℕ
+line_in Directory entry = entry_line entry
+line_in Volume entry = node_line entry
+
+-- its first word, and its depth where that is told
+abbrev pub front_in : Form → ℕ → List ℕ
+front_in Directory depth = codes "entry "
+front_in Volume depth = codes "node " ++ (decimal depth ++ codes " ")
+
+-- the lines of the entries
+abbrev pub listing_text : Form → List Listed → List ℕ
+listing_text form entries = flat_map (line_in form) entries

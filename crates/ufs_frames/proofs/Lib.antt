@@ -1,0 +1,13 @@
+pub mod LocalLaws
+pub mod BlockLaws
+pub mod PathLaws
+pub mod VolumeLaws
+pub mod FragmentLaws
+pub mod ReachLaws
+pub mod ClaimLaws
+pub mod DataLaws
+pub mod MalformationLaws
+pub mod StructureLaws
+pub mod RoleLaws
+pub mod UseLaws
+pub mod LooseLaws

@@ -1,0 +1,2 @@
+-- What stays of a volume that changes elsewhere.
+pub mod Frames
