@@ -1,16 +1,16 @@
 -- An event is answered.
 use Rattle.std.proofs.Common.{ℕ, List}
 use Rattle.std.specs.Prelude.{Option, Result, Ok, Err, OnOk}
-use Rattle.dg_model.specs.States.{Counts}
 use Rattle.dg_model.specs.declared.events.Event.{Event}
 use Rattle.dg_model.specs.declared.replies.Reply.{Reply}
 use Rattle.dg_io.specs.Told.{Told, Took}
+use Rattle.dg_io.specs.declared.outside.Rack.{Ghosts}
 use Rattle.dg_store.specs.declared.store.Store.{Store}
 use Rattle.dg_text.specs.Replies.{reply_line}
 use Rattle.dg_run.specs.Stores.{StepsTo, Answered}
 
 -- a step was made, and where its reply was written, the event is answered
-pub answered : {R T E : Type 0} (counts : R → Counts) (bytes : R → ℕ → Option (List ℕ)) (event : Event) (reply : Reply) (taken given : Option (List ℕ)) (old new : Store R) (result : Result T E)
-    → StepsTo counts bytes old event reply new → OnOk result (Told (Took (reply_line reply)) taken given) → OnOk result (Answered counts bytes event taken given old new)
-answered counts bytes event reply taken given old new (Ok done) steps told = record { reply = reply; steps = steps; output = told }
-answered counts bytes event reply taken given old new (Err failed) steps told = tt
+pub answered : {R T E : Type 0} (rack : Ghosts R) (event : Event) (reply : Reply) (taken given : Option (List ℕ)) (old new : Store R) (result : Result T E)
+    → StepsTo rack old event reply new → OnOk result (Told (Took (reply_line reply)) taken given) → OnOk result (Answered rack event taken given old new)
+answered rack event reply taken given old new (Ok done) steps told = record { reply = reply; steps = steps; output = told }
+answered rack event reply taken given old new (Err failed) steps told = tt

@@ -1,8 +1,10 @@
 mod Answers
-mod PathSteps
+mod FileLaws
 mod Inputs
 mod LineFeeds
+mod PathSteps
 mod Ranges
 mod Runs
+mod StoreSteps
 mod ToldSteps
 mod Whole

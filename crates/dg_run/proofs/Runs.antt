@@ -4,64 +4,52 @@ use Rattle.std.specs.Prelude.{Option, Some}
 use Rattle.std.proofs.lemmas.List.{append-nil}
 use Rattle.std.proofs.lemmas.List.Concat.{flat_map-append}
 use Rattle.std.proofs.lemmas.List.Elements.{All-append}
-use Rattle.dg_model.specs.States.{Counts, CountsRise, State}
-use Rattle.dg_model.specs.Steps.{Step, Stays}
-use Rattle.dg_model.specs.Runs.{Run}
+use Rattle.dg_io.specs.declared.outside.Rack.{Ghosts}
+use Rattle.dg_model.proofs.KnownLaws.{run_less}
+use Rattle.dg_model.proofs.RunLaws.{run_push}
 use Rattle.dg_model.specs.declared.shapes.Shape.{Shape}
 use Rattle.dg_model.specs.declared.events.Event.{Event}
 use Rattle.dg_model.specs.declared.replies.Reply.{Reply}
 use Rattle.dg_io.specs.Told.{Told, Took, StillTold}
 use Rattle.dg_store.specs.declared.store.Store.{Store}
-use Rattle.dg_model.specs.Members.{MembersFall, IsStruck}
-use Rattle.dg_model.specs.declared.members.MemberState.{MemberState}
-use Rattle.dg_model.specs.declared.members.MemberState.TheVariants.{Out}
-use Rattle.std.proofs.lemmas.Bool.{cases_lt, cases_eq}
-use Rattle.dg_store.specs.Stores.{rack_of, shape_of, members_of, Tells, TellsAll}
+use Rattle.dg_store.specs.Stores.{IsSound, TellsAll, rack_of, shape_of}
 use Rattle.dg_text.specs.Lines.{line_of, input_of, IsInPlace}
 use Rattle.dg_text.specs.Replies.{reply_line, output_of}
 use Rattle.dg_run.specs.Events.{IsRefused}
 use Rattle.dg_run.specs.Lines.{BeginsAll, Served, ServedLine, AllServed, ServedTo, Turned, LinesEndAt}
-use Rattle.dg_run.specs.Stores.{StepsTo, RunsTo, IsReady, GoesOn}
+use Rattle.dg_run.specs.Stores.{StepsTo, RunsTo, GoesOn}
 use Rattle.dg_run.specs.declared.lines.Turn.{Turn}
 use Rattle.dg_run.specs.declared.lines.Turn.TheVariants.{Served as turn_served, End as turn_end, Refused as turn_refused}
 use Rattle.dg_run.specs.declared.lines.LinesEnd.{LinesEnd}
 use Rattle.dg_run.specs.declared.lines.LinesEnd.TheVariants.{Input as input_end, Refused as line_refused}
 use Rattle.dg_run.proofs.Inputs.{All-one, begins_none, begins_more}
+use Rattle.dg_run.proofs.StoreSteps.{told_before}
 use Rattle.dg_run.proofs.ToldSteps.{Told-refl, Told-then}
 
-run_more : (old mid new : State) (events : List Event) (replies : List Reply) (event : Event) (reply : Reply) → Run old events replies mid → Step mid event reply new → Run old (events ++ event ∷ []) (replies ++ reply ∷ []) new
-run_more old mid new [] [] event reply run step = (new, subst (λ (s : State). Step s event reply new) run step, refl)
-run_more old mid new (e ∷ es) (r ∷ rs) event reply run step = (run.0, run.1, run_more run.0 mid new es rs event reply run.2 step)
-run_more old mid new [] (r ∷ rs) event reply run step = absurd run
-run_more old mid new (e ∷ es) [] event reply run step = absurd run
-
-module _ {R : Type 0} (counts : R → Counts) (bytes : R → ℕ → Option (List ℕ)) where
-  runs_more : (a b c : Store R) (es : List Event) (rs : List Reply) (e : Event) (r : Reply) → RunsTo counts bytes a es rs b → StepsTo counts bytes b e r c → shape_of c ≡ shape_of b → StillTold (bytes (rack_of b)) (bytes (rack_of c)) → RunsTo counts bytes a (es ++ e ∷ []) (rs ++ r ∷ []) c
-  runs_more a b c es rs e r runs steps shape tells V st =
-      let one = runs V st in
-      let two = steps one.0 one.1 in (
-        two.0,
-        two.1,
-        λ told.
-            let was : TellsAll bytes b = λ (q : ℕ) (h : q / 2 < (shape_of b).b). tells q (told q (subst (λ (s : Shape). q / 2 < s.b) (sym shape) h)) in
-            run_more _ _ _ es rs e r (one.2 was) (two.2 told),
-      )
+module _ {R : Type 0} (rack : Ghosts R) where
+  runs_more : (a b c : Store R) (es : List Event) (rs : List Reply) (e : Event) (r : Reply) → RunsTo rack a es rs b → StepsTo rack b e r c → shape_of c ≡ shape_of b
+      → StillTold (rack.bytes (rack_of b)) (rack.bytes (rack_of c)) → RunsTo rack a (es ++ e ∷ []) (rs ++ r ∷ []) c
+  runs_more a b c es rs e r runs steps shape tells state st =
+      let one = runs state st in
+      let two = steps one.0 one.1 in
+      let run = run_less (told_before rack b c shape tells) state es rs one.0 one.2 in
+      (two.0, two.1, run_push (TellsAll rack c) state es rs one.0 e r two.0 run two.2)
 
   output_more : (rs : List Reply) (r : Reply) (x y z : Option (List ℕ)) → Told (Took (output_of rs)) x y → Told (Took (reply_line r)) y z → Told (Took (output_of (rs ++ r ∷ []))) x z
   output_more rs r x y z p q = Told-then _ _ (Took (output_of (rs ++ r ∷ []))) (λ a b c f s.
       s ∙ ap (λ (l : List ℕ). l ++ reply_line r) f ∙ append_assoc a (output_of rs) (reply_line r)
       ∙ ap (λ (l : List ℕ). a ++ l) (ap (λ (l : List ℕ). output_of rs ++ l) (sym (append-nil (reply_line r))) ∙ sym (flat_map-append reply_line rs (r ∷ [])))) x y z p q
 
-  pub served_none : (shape : Shape) (left taken : Option (List ℕ)) (store : Store R) → Served counts bytes shape [] left left taken taken store store
+  pub served_none : (shape : Shape) (left taken : Option (List ℕ)) (store : Store R) → Served rack shape [] left left taken taken store store
   served_none shape left taken store = record {
     replies = [];
     in_place = λ k d h. absurd (omega arith);
     input = Told-refl _ (begins_none (Some shape)) left;
     output = Told-refl _ (λ b. sym (append-nil b)) taken;
-    runs = λ V st. (V, st, λ told. refl);
+    runs = λ state st. (state, st, refl);
   }
 
-  pub served_more : (shape : Shape) (room n : ℕ) (es : List Event) (x y z t u v : Option (List ℕ)) (a b c : Store R) → Served counts bytes shape es x y t u a b → (line : ServedLine counts bytes shape room n y z u v b c) → shape_of c ≡ shape_of b → StillTold (bytes (rack_of b)) (bytes (rack_of c)) → Served counts bytes shape (es ++ line.event ∷ []) x z t v a c
+  pub served_more : (shape : Shape) (room n : ℕ) (es : List Event) (x y z t u v : Option (List ℕ)) (a b c : Store R) → Served rack shape es x y t u a b → (line : ServedLine rack shape room n y z u v b c) → shape_of c ≡ shape_of b → StillTold (rack.bytes (rack_of b)) (rack.bytes (rack_of c)) → Served rack shape (es ++ line.event ∷ []) x z t v a c
   served_more shape room n es x y z t u v a b c was line same tells = record {
     replies = was.replies ++ line.answered.reply ∷ [];
     in_place = All-append (IsInPlace (Some shape)) es (line.event ∷ []) was.in_place (All-one (IsInPlace (Some shape)) line.event line.in_place);
@@ -71,35 +59,35 @@ module _ {R : Type 0} (counts : R → Counts) (bytes : R → ℕ → Option (Lis
   }
 
 -- lines so far: of so many bytes behind a first line, the next one with this number
-pub record SoFar {R : Type 0} (counts : R → Counts) (bytes : R → ℕ → Option (List ℕ)) (shape : Shape) (first passed number : ℕ) (left rest taken given : Option (List ℕ)) (old new : Store R) : Type 0 where
+pub record SoFar {R : Type 0} (rack : Ghosts R) (shape : Shape) (first passed number : ℕ) (left rest taken given : Option (List ℕ)) (old new : Store R) : Type 0 where
   pub events : List Event
-  pub served : Served counts bytes shape events left rest taken given old new
+  pub served : Served rack shape events left rest taken given old new
   pub passed_is : passed ≡ first + length (input_of events)
   pub number_is : number ≡ length events + 2
 
-module _ {R : Type 0} (counts : R → Counts) (bytes : R → ℕ → Option (List ℕ)) where
-  pub so_far_none : (shape : Shape) (first : ℕ) (left taken : Option (List ℕ)) (store : Store R) → SoFar counts bytes shape first first 2 left left taken taken store store
-  so_far_none shape first left taken store = record { events = []; served = served_none counts bytes shape left taken store; passed_is = omega arith; number_is = refl }
+module _ {R : Type 0} (rack : Ghosts R) where
+  pub so_far_none : (shape : Shape) (first : ℕ) (left taken : Option (List ℕ)) (store : Store R) → SoFar rack shape first first 2 left left taken taken store store
+  so_far_none shape first left taken store = record { events = []; served = served_none rack shape left taken store; passed_is = omega arith; number_is = refl }
 
-  pub so_far_more : (shape : Shape) (first passed number room n : ℕ) (x y z t u v : Option (List ℕ)) (a b c : Store R) → SoFar counts bytes shape first passed number x y t u a b → ServedLine counts bytes shape room n y z u v b c → shape_of c ≡ shape_of b → StillTold (bytes (rack_of b)) (bytes (rack_of c))
-      → SoFar counts bytes shape first (passed + n) (number + 1) x z t v a c
+  pub so_far_more : (shape : Shape) (first passed number room n : ℕ) (x y z t u v : Option (List ℕ)) (a b c : Store R) → SoFar rack shape first passed number x y t u a b → ServedLine rack shape room n y z u v b c → shape_of c ≡ shape_of b → StillTold (rack.bytes (rack_of b)) (rack.bytes (rack_of c))
+      → SoFar rack shape first (passed + n) (number + 1) x z t v a c
   so_far_more shape first passed number room n x y z t u v a b c was line same tells =
       let text : input_of (was.events ++ line.event ∷ []) ≡ input_of was.events ++ line_of line.event = flat_map-append line_of was.events (line.event ∷ []) ∙ ap (λ (l : List ℕ). input_of was.events ++ l) (append-nil (line_of line.event)) in
       let size = ap length text in
       record {
         events = was.events ++ line.event ∷ [];
-        served = served_more counts bytes shape room n was.events x y z t u v a b c was.served line same tells;
+        served = served_more rack shape room n was.events x y z t u v a b c was.served line same tells;
         passed_is = omega (arith, size, length-append (input_of was.events) (line_of line.event), was.passed_is, line.size);
         number_is = omega (arith, length-append was.events (line.event ∷ []), was.number_is);
       }
 
-  pub so_far_next : (shape here : Shape) (first passed number room n : ℕ) (x y z t u v : Option (List ℕ)) (a b c : Store R) → here ≡ shape → SoFar counts bytes shape first passed number x y t u a b → ServedLine counts bytes here room n y z u v b c → shape_of c ≡ shape_of b → StillTold (bytes (rack_of b)) (bytes (rack_of c))
-      → SoFar counts bytes shape first (passed + n) (number + 1) x z t v a c
+  pub so_far_next : (shape here : Shape) (first passed number room n : ℕ) (x y z t u v : Option (List ℕ)) (a b c : Store R) → here ≡ shape → SoFar rack shape first passed number x y t u a b → ServedLine rack here room n y z u v b c → shape_of c ≡ shape_of b → StillTold (rack.bytes (rack_of b)) (rack.bytes (rack_of c))
+      → SoFar rack shape first (passed + n) (number + 1) x z t v a c
   so_far_next shape here first passed number room n x y z t u v a b c is was line same tells =
-      so_far_more shape first passed number room n x y z t u v a b c was (subst (λ (s : Shape). ServedLine counts bytes s room n y z u v b c) is line) same tells
+      so_far_more shape first passed number room n x y z t u v a b c was (subst (λ (s : Shape). ServedLine rack s room n y z u v b c) is line) same tells
 
   -- the input is at its end
-  pub all_served : (shape : Shape) (first passed number : ℕ) (x y z t u : Option (List ℕ)) (a b : Store R) → passed ≤ 2 ^ 40 → SoFar counts bytes shape first passed number x y t u a b → Told (λ before after. (before ≡ []) × (after ≡ [])) y z → AllServed counts bytes shape first x z t u a b
+  pub all_served : (shape : Shape) (first passed number : ℕ) (x y z t u : Option (List ℕ)) (a b : Store R) → passed ≤ 2 ^ 40 → SoFar rack shape first passed number x y t u a b → Told (λ before after. (before ≡ []) × (after ≡ [])) y z → AllServed rack shape first x z t u a b
   all_served shape first passed number x y z t u a b budget was end = record {
     events = was.events;
     served = record {
@@ -114,7 +102,7 @@ module _ {R : Type 0} (counts : R → Counts) (bytes : R → ℕ → Option (Lis
   }
 
   -- the next line is refused
-  pub served_to : (shape : Shape) (first passed number : ℕ) (x y z t u : Option (List ℕ)) (a b : Store R) → passed ≤ 2 ^ 40 → SoFar counts bytes shape first passed number x y t u a b → Told (λ before after. IsRefused (Some shape) (2 ^ 40 - passed) before) y z → ServedTo counts bytes shape first number x z t u a b
+  pub served_to : (shape : Shape) (first passed number : ℕ) (x y z t u : Option (List ℕ)) (a b : Store R) → passed ≤ 2 ^ 40 → SoFar rack shape first passed number x y t u a b → Told (λ before after. IsRefused (Some shape) (2 ^ 40 - passed) before) y z → ServedTo rack shape first number x z t u a b
   served_to shape first passed number x y z t u a b budget was refused = record {
     events = was.events;
     middle = y;
@@ -125,65 +113,33 @@ module _ {R : Type 0} (counts : R → Counts) (bytes : R → ℕ → Option (Lis
   }
 
 -- what a turn did, by its answer
-module _ {R : Type 0} (counts : R → Counts) (bytes : R → ℕ → Option (List ℕ)) where
-  pub turned_end : (room : ℕ) (y z u v : Option (List ℕ)) (b c : Store R) (turn : Turn) → turn ≡ turn_end → Turned counts bytes room y z u v b c turn → Told (λ before after. (before ≡ []) × (after ≡ [])) y z × (v ≡ u) × (c ≡ b)
+module _ {R : Type 0} (rack : Ghosts R) where
+  pub turned_end : (room : ℕ) (y z u v : Option (List ℕ)) (b c : Store R) (turn : Turn) → turn ≡ turn_end → Turned rack room y z u v b c turn → Told (λ before after. (before ≡ []) × (after ≡ [])) y z × (v ≡ u) × (c ≡ b)
   turned_end room y z u v b c (turn_served n) is turned = absurd (cc is)
   turned_end room y z u v b c turn_end is turned = turned
   turned_end room y z u v b c turn_refused is turned = absurd (cc is)
 
-  pub turned_served : (room n : ℕ) (y z u v : Option (List ℕ)) (b c : Store R) (turn : Turn) → turn ≡ turn_served n → Turned counts bytes room y z u v b c turn → ServedLine counts bytes (shape_of b) room n y z u v b c
-  turned_served room n y z u v b c (turn_served m) is turned = let same : m ≡ n = cc is in subst (λ (k : ℕ). ServedLine counts bytes (shape_of b) room k y z u v b c) same turned
+  pub turned_served : (room n : ℕ) (y z u v : Option (List ℕ)) (b c : Store R) (turn : Turn) → turn ≡ turn_served n → Turned rack room y z u v b c turn → ServedLine rack (shape_of b) room n y z u v b c
+  turned_served room n y z u v b c (turn_served m) is turned = let same : m ≡ n = cc is in subst (λ (k : ℕ). ServedLine rack (shape_of b) room k y z u v b c) same turned
   turned_served room n y z u v b c turn_end is turned = absurd (cc is)
   turned_served room n y z u v b c turn_refused is turned = absurd (cc is)
 
-  pub lines_end : (shape : Shape) (first passed number room : ℕ) (x y z t u v : Option (List ℕ)) (a b c : Store R) (turn : Turn) → turn ≡ turn_end → Turned counts bytes room y z u v b c turn → passed ≤ 2 ^ 40 → SoFar counts bytes shape first passed number x y t u a b → AllServed counts bytes shape first x z t v a c
+  pub lines_end : (shape : Shape) (first passed number room : ℕ) (x y z t u v : Option (List ℕ)) (a b c : Store R) (turn : Turn) → turn ≡ turn_end → Turned rack room y z u v b c turn → passed ≤ 2 ^ 40 → SoFar rack shape first passed number x y t u a b → AllServed rack shape first x z t v a c
   lines_end shape first passed number room x y z t u v a b c turn is turned budget was =
       let end = turned_end room y z u v b c turn is turned in
-      subst (λ (o : Option (List ℕ)). AllServed counts bytes shape first x z t o a c) (sym end.1)
-      (subst (λ (s : Store R). AllServed counts bytes shape first x z t u a s) (sym end.2) (all_served counts bytes shape first passed number x y z t u a b budget was end.0))
+      subst (λ (o : Option (List ℕ)). AllServed rack shape first x z t o a c) (sym end.1)
+      (subst (λ (s : Store R). AllServed rack shape first x z t u a s) (sym end.2) (all_served rack shape first passed number x y z t u a b budget was end.0))
 
-  pub goes_none : (named : R → ℕ) (a : Store R) → IsReady bytes a → GoesOn bytes named a a
-  goes_none named a ready = record { ready = ready; shape = refl; tells = λ q h. h; name = refl }
+  pub goes_none : (a : Store R) → IsSound rack a → GoesOn rack a a
+  goes_none a sound = record { sound = sound; shape = refl; tells = λ q h. h; name = refl }
 
-  pub goes_then : (named : R → ℕ) (a b c : Store R) → GoesOn bytes named a b → GoesOn bytes named b c → GoesOn bytes named a c
-  goes_then named a b c first second = record { ready = second.ready; shape = second.shape ∙ first.shape; tells = λ q h. first.tells q (second.tells q h); name = second.name ∙ first.name }
+  pub goes_then : (a b c : Store R) → GoesOn rack a b → GoesOn rack b c → GoesOn rack a c
+  goes_then a b c first second = record { sound = second.sound; shape = second.shape ∙ first.shape; tells = λ q h. first.tells q (second.tells q h); name = second.name ∙ first.name }
 
-  pub ended_input : (first : ℕ) (x z t u : Option (List ℕ)) (a b : Store R) (end : LinesEnd) → end ≡ input_end → LinesEndAt counts bytes first x z t u a b end → AllServed counts bytes (shape_of a) first x z t u a b
+  pub ended_input : (first : ℕ) (x z t u : Option (List ℕ)) (a b : Store R) (end : LinesEnd) → end ≡ input_end → LinesEndAt rack first x z t u a b end → AllServed rack (shape_of a) first x z t u a b
   ended_input first x z t u a b input_end is ended = ended
   ended_input first x z t u a b (line_refused n) is ended = absurd (cc is)
 
-  pub ended_line : (first number : ℕ) (x z t u : Option (List ℕ)) (a b : Store R) (end : LinesEnd) → end ≡ line_refused number → LinesEndAt counts bytes first x z t u a b end → ServedTo counts bytes (shape_of a) first number x z t u a b
+  pub ended_line : (first number : ℕ) (x z t u : Option (List ℕ)) (a b : Store R) (end : LinesEnd) → end ≡ line_refused number → LinesEndAt rack first x z t u a b end → ServedTo rack (shape_of a) first number x z t u a b
   ended_line first number x z t u a b input_end is ended = absurd (cc is)
-  ended_line first number x z t u a b (line_refused n) is ended = let same : n ≡ number = cc is in subst (λ (k : ℕ). ServedTo counts bytes (shape_of a) first k x z t u a b) same ended
-
--- members outside the array stay out
-pub others_stay : (b : ℕ) (before now : ℕ → ℕ) (old new : ℕ → MemberState) → ((q : ℕ) → b ≤ q / 2 → old q ≡ Out) → MembersFall before now old new → (q : ℕ) → b ≤ q / 2 → new q ≡ Out
-others_stay b before now old new out falls q h = elim (falls q) [ inl same ↦ same ∙ out q h | inr fell ↦ fell.out ]
-
--- good members are among those of the array
-pub tells_good : {R : Type 0} (bytes : R → ℕ → Option (List ℕ)) (store : Store R) → ((q : ℕ) → (shape_of store).b ≤ q / 2 → members_of store q ≡ Out) → TellsAll bytes store → Tells bytes store
-tells_good bytes store out told q good = elim (cases_lt (q / 2) (shape_of store).b) [
-  | inl below ↦ told q below
-  | inr past ↦ let no = out q (omega arith) in absurd (cc (good, no))
-]
-
-pub false_of : (b : Bool) → (b ≡ true → ⊥) → b ≡ false
-false_of true none = absurd (none refl)
-false_of false none = refl
-
--- a member that was out already is made to fail: nothing changes but with a cause
-pub struck_falls : (q : ℕ) (before now : ℕ → ℕ) (old new : ℕ → MemberState) → old q ≡ Out → IsStruck q old new → MembersFall before now old new
-struck_falls q before now old new was struck p = elim (cases_eq p q) [
-  | inl here ↦ inl (ap new here ∙ struck.out ∙ sym was ∙ ap old (sym here))
-  | inr other ↦ elim (struck.others p other) [
-    | inl same ↦ inl same
-    | inr gone ↦ inr (record { out = gone.1; caused = inr (gone.0, ap new gone.2 ∙ struck.out) })
-  ]
-]
-
-pub counts_stay : (before now : Counts) → now ≡ before → CountsRise before now
-counts_stay before now same = subst (λ (c : Counts). CountsRise before c) (sym same) (record { faults = λ q. omega arith; calls = omega arith; writes = omega arith })
-
--- nothing was done
-pub stays_none : (s : State) → Stays s s
-stays_none s = record { goes = record { shape = refl; counts = counts_stay s.counts s.counts refl; members = λ q. inl refl }; blocks = refl; table = refl }
+  ended_line first number x z t u a b (line_refused n) is ended = let same : n ≡ number = cc is in subst (λ (k : ℕ). ServedTo rack (shape_of a) first k x z t u a b) same ended

@@ -1,27 +1,34 @@
 -- A whole replay.
-use Rattle.std.proofs.Common.{◌≡◌, ◌≤◌, ◌<◌, ◌+◌, ◌-◌, ◌^◌, ℕ, List, [], ◌∷◌, ◌++◌, length, replicate, take, refl, sym, ◌∙◌, ap, subst, arith, append_assoc, length-append}
-use Rattle.std.specs.Prelude.{Option, Some, None, All, Result, Ok, Err, IfOk}
+use Rattle.std.proofs.Common.{◌≡◌, ◌≤◌, ◌<◌, ◌+◌, ◌-◌, ◌/◌, ◌^◌, ℕ, List, [], ◌∷◌, ◌++◌, length, replicate, take, refl, sym, ◌∙◌, ap, subst, arith, append_assoc, inl, inr, length-append}
+use Rattle.std.specs.Prelude.{◌⊎◌, Option, Some, None, All, Result, Ok, Err, IfOk, IsSome}
 use Rattle.std.proofs.lemmas.List.{append_cancel_left}
 use Rattle.std.proofs.lemmas.List.Concat.{flat_map-append}
 use Rattle.dg_model.specs.Shapes.{IsShape}
-use Rattle.dg_model.specs.States.{Counts, State, IsBlank, zeros}
-use Rattle.dg_model.specs.Tables.{Table}
+use Rattle.dg_model.specs.States.{Counts, Holds, IsBlank, State, plain_state}
+use Rattle.dg_model.specs.Blocks.{zeros}
+use Rattle.dg_model.proofs.KnownLaws.{run_less}
+use Rattle.dg_io.specs.declared.outside.Rack.{Ghosts}
+use Rattle.dg_store.specs.Answers.{IsBlankStore}
+use Rattle.dg_run.specs.Stores.{StandsIn}
+use Rattle.dg_model.specs.Tables.{Table, empty_table}
 use Rattle.dg_model.specs.declared.shapes.Shape.{Shape}
 use Rattle.dg_model.specs.declared.events.Event.{Event}
-use Rattle.dg_model.specs.declared.events.Event.TheVariants.{Array, Write, Read, Fail, Cat, Ls}
+use Rattle.dg_model.specs.declared.events.Event.TheVariants.{Array}
 use Rattle.dg_model.specs.declared.replies.Reply.{Reply}
 use Rattle.dg_model.specs.declared.replies.Reply.TheVariants.{Done}
 use Rattle.dg_model.specs.declared.members.MemberState.TheVariants.{Out}
 use Rattle.dg_io.specs.Told.{Told, Took}
 use Rattle.dg_store.specs.declared.store.Store.{Store}
-use Rattle.dg_store.specs.Stores.{rack_of, shape_of, state_of, StandsFor}
+use Rattle.dg_store.specs.Stores.{TellsAll, members_of, rack_of, shape_of}
 use Rattle.dg_text.specs.Lines.{line_of, spelling, input_of, IsInPlace}
 use Rattle.dg_text.specs.Replies.{reply_line, output_of, refusal}
 use Rattle.dg_text.specs.declared.lines.BadLine.TheVariants.{Form}
 use Rattle.dg_run.specs.Events.{Begins, IsRefused}
 use Rattle.dg_run.specs.Lines.{Served}
-use Rattle.dg_run.specs.Replays.{Ran, Replayed, Stopped, StopsAt, IsNoInput}
-use Rattle.dg_run.specs.Arrays.{AllAnswered, AnsweredTo, ArrayReplayed, ArrayStopped, IsCutAt}
+use Rattle.dg_run.specs.declared.top.Status.{Status}
+use Rattle.dg_run.specs.declared.top.Status.TheVariants.{Done as status_done, Usage, BadLine, ReadFault, WriteFault, NoMemory, NoState, Unclean, Refused}
+use Rattle.dg_run.specs.Replays.{IsInput, Ran, TellsBoundaries, Replayed, Stopped, StopsAt, IsNoInput}
+use Rattle.dg_run.specs.Arrays.{AllAnswered, AnsweredTo, ArrayReplayed, ArrayStopped, IsCutAt, IsOfReplay}
 use Rattle.dg_run.proofs.Inputs.{All-head, All-right, no_line}
 use Rattle.std.specs.Option.{option_map}
 use Rattle.dg_run.specs.Bytes.{HasNoLineFeed}
@@ -35,21 +42,44 @@ took_first rs t m v p q = Told-then _ _ (Took (output_of (Done ∷ rs))) (λ a b
 took_last : (text last : List ℕ) (t m v : Option (List ℕ)) → Told (Took text) t m → Told (Took last) m v → Told (Took (text ++ last)) t v
 took_last text last t m v p q = Told-then _ _ (Took (text ++ last)) (λ a b c f s. s ∙ ap (λ (l : List ℕ). l ++ last) f ∙ append_assoc a text last) t m v p q
 
-module _ {R : Type 0} (counts : R → Counts) (bytes : R → ℕ → Option (List ℕ)) (shape : Shape) (first : ℕ) (rack : R) (a b : Store R) (is : first ≡ length (line_of (Array shape))) (well : IsShape shape)
-    (blank : IsBlank shape (counts rack) (state_of counts a (replicate shape.n (zeros shape.l)))) (stands : StandsFor counts bytes a (replicate shape.n (zeros shape.l))) where
-  ran : (events : List Event) (x z t v : Option (List ℕ)) → (served : Served counts bytes (shape_of a) events x z t v a b) → first + length (input_of events) ≤ 2 ^ 40 → Ran (counts rack) (counts (rack_of b)) (bytes (rack_of b)) (Array shape ∷ events) (Done ∷ served.replies)
+module _ {R : Type 0} (ghosts : Ghosts R) (shape : Shape) (first : ℕ) (rack : R) (a b : Store R) (is : first ≡ length (line_of (Array shape))) (well : IsShape shape)
+    (blank : IsBlankStore ghosts shape rack a) where
+  same_shape : shape_of a ≡ shape
+  same_shape = ap (λ (t : Table). t.shape) blank.table
+
+  -- the state of the blank array
+  start : State
+  start = plain_state (empty_table shape) (replicate shape.n (zeros shape.l)) (members_of a) (ghosts.counts (rack_of a))
+
+  start_in : StandsIn ghosts a start
+  unfolding start
+  start_in = record {
+    is = λ i. record start { table = sym blank.table i };
+    label = refl;
+    holds = λ told. blank.stands;
+  }
+
+  start_blank : IsBlank shape (ghosts.counts rack) start
+  unfolding start
+  start_blank = record { is = refl; others = blank.members.others; members = blank.members.begins; counts = blank.stays.rise }
+
+  ran : (events : List Event) (x z t v : Option (List ℕ)) → (served : Served ghosts (shape_of a) events x z t v a b) → first + length (input_of events) ≤ 2 ^ 40
+      → Ran (ghosts.counts rack) (ghosts.counts (rack_of b)) (ghosts.bytes (rack_of b)) (Array shape ∷ events) (Done ∷ served.replies)
   ran events x z t v served budget =
-      let W = served.runs (replicate shape.n (zeros shape.l)) stands in
+      let W = served.runs start start_in in
+      let final = W.0 in
+      let stands : StandsIn ghosts b final = W.1 in
+      let known : TellsBoundaries (ghosts.bytes (rack_of b)) final → TellsAll ghosts b = λ told q below. told q (subst (λ (n : ℕ). q / 2 < n) (sym (ap (λ (s : State). s.table.shape.b) stands.is)) below) in
       record {
-        in_place = (well, subst (λ (s : Shape). All (IsInPlace (Some s)) events) (ap (λ (t : Table). t.shape) blank.table) served.in_place);
+        in_place = (well, subst (λ (s : Shape). All (IsInPlace (Some s)) events) same_shape served.in_place);
         budget = omega (arith, length-append (line_of (Array shape)) (input_of events));
-        final = state_of counts b W.0;
-        trace = λ told. (state_of counts a (replicate shape.n (zeros shape.l)), blank, W.2 told);
-        holds = W.1;
-        counts = refl;
+        final = final;
+        trace = (start, start_blank, run_less known start events served.replies final W.2);
+        holds = λ told. subst (λ (s : State). Holds (ghosts.bytes (rack_of b)) s) (sym stands.is) (stands.holds (known told));
+        counts = ap (λ (s : State). s.counts) stands.is;
       }
 
-  pub array_replayed : (x z t v : Option (List ℕ)) → AllAnswered counts bytes first x z t v a b → ArrayReplayed (counts rack) (counts (rack_of b)) (bytes (rack_of b)) shape x z t v
+  pub array_replayed : (x z t v : Option (List ℕ)) → AllAnswered ghosts first x z t v a b → ArrayReplayed (ghosts.counts rack) (ghosts.counts (rack_of b)) (ghosts.bytes (rack_of b)) shape x z t v
   array_replayed x z t v all = record {
     events = all.served.events;
     replies = all.served.served.replies;
@@ -58,7 +88,7 @@ module _ {R : Type 0} (counts : R → Counts) (bytes : R → ℕ → Option (Lis
     output = took_first all.served.served.replies t all.middle v all.ok all.served.served.output;
   }
 
-  pub array_stopped : (x z t v : Option (List ℕ)) → AnsweredTo counts bytes first x z t v a b → ArrayStopped (counts rack) (counts (rack_of b)) (bytes (rack_of b)) shape x z t v
+  pub array_stopped : (x z t v : Option (List ℕ)) → AnsweredTo ghosts first x z t v a b → ArrayStopped (ghosts.counts rack) (ghosts.counts (rack_of b)) (ghosts.bytes (rack_of b)) shape x z t v
   array_stopped x z t v to =
       let s = to.served in
       let room : 2 ^ 40 - (first + length (input_of s.events)) ≡ 2 ^ 40 - length (input_of (Array shape ∷ s.events)) = ap (λ (n : ℕ). 2 ^ 40 - n) (omega (arith, length-append (line_of (Array shape)) (input_of s.events))) in
@@ -70,8 +100,8 @@ module _ {R : Type 0} (counts : R → Counts) (bytes : R → ℕ → Option (Lis
           q,
           record {
             lines = f.lines;
-            refused = subst (λ (n : ℕ). IsRefused (Some shape) n q) room (subst (λ (h : Shape). IsRefused (Some h) (2 ^ 40 - (first + length (input_of s.events))) q) (ap (λ (t : Table). t.shape) blank.table) refused);
-            only = λ others placed made. f.only others (subst (λ (h : Shape). All (IsInPlace (Some h)) others) (sym (ap (λ (t : Table). t.shape) blank.table)) placed) made;
+            refused = subst (λ (n : ℕ). IsRefused (Some shape) n q) room (subst (λ (h : Shape). IsRefused (Some h) (2 ^ 40 - (first + length (input_of s.events))) q) same_shape refused);
+            only = λ others placed made. f.only others (subst (λ (h : Shape). All (IsInPlace (Some h)) others) (sym same_shape) placed) made;
           },
         )) x s.middle z s.served.input s.refused;
         output = took_last (output_of (Done ∷ s.served.replies)) (refusal (length s.events + 2) Form) t to.before v
@@ -102,11 +132,6 @@ module _ (before now : Counts) (bytes : ℕ → Option (List ℕ)) (shape : Shap
   -- lines of a whole input can't be cut there
   no_input : (events : List Event) (a b text : List ℕ) → Begins None (Array shape) a b → IsCutAt shape events b text → IsNoInput a
   no_input events a b text line cut [] input is = absurd (input.some refl)
-  no_input events a b text line cut (Write n bs ∷ es) input is = absurd input.in_place
-  no_input events a b text line cut (Read n ∷ es) input is = absurd input.in_place
-  no_input events a b text line cut (Fail s j ∷ es) input is = absurd input.in_place
-  no_input events a b text line cut (Cat path ∷ es) input is = absurd input.in_place
-  no_input events a b text line cut (Ls path ∷ es) input is = absurd input.in_place
   no_input events a b text line cut (Array s ∷ es) input is =
       let same : Array s ≡ Array shape = line.only (Array s) (input_of es) input.in_place.0 is in
       let shapes : s ≡ shape = cc same in
@@ -115,6 +140,7 @@ module _ (before now : Counts) (bytes : ℕ → Option (List ℕ)) (shape : Shap
       let had = cut.only es placed rest in
       let budget : length (line_of (Array shape)) + length (input_of es) ≤ 2 ^ 40 = subst (λ (h : Shape). length (line_of (Array h)) + length (input_of es) ≤ 2 ^ 40) shapes (let e = length-append (line_of (Array s)) (input_of es) in let h = input.budget in omega arith) in
       past events text b cut es had.0 placed had.1 had.2 budget
+  no_input events a b text line cut (event ∷ es) input is = absurd input.in_place
 
   pub stopped : (x y z t v : Option (List ℕ)) → Told (Begins None (Array shape)) x y → ArrayStopped before now bytes shape y z t v → Stopped before now bytes x z t v
   stopped x y z t v line rest = record {
@@ -131,7 +157,7 @@ module _ (before now : Counts) (bytes : ℕ → Option (List ℕ)) (shape : Shap
   }
 
 unmade : Counts → State
-unmade now = record { table = record { shape = record { l = 0; n = 0; b = 0; k = 0; m = 0 }; rows = [] }; blocks = []; members = λ q. Out; counts = now }
+unmade now = plain_state (record { shape = record { l = 0; n = 0; b = 0; k = 0; m = 0 }; rows = [] }) [] (λ q. Out) now
 
 -- the text begins with no line of an event that may stand first and keeps to the budget
 abbrev pub IsNoFirst : List ℕ → Type 0
@@ -139,15 +165,11 @@ IsNoFirst text = (event : Event) (tail : List ℕ) → IsInPlace None event → 
 
 first_no_input : (text : List ℕ) → IsNoFirst text → IsNoInput text
 first_no_input text none [] input is = input.some refl
-first_no_input text none (Write n bs ∷ es) input is = input.in_place
-first_no_input text none (Read n ∷ es) input is = input.in_place
-first_no_input text none (Fail s j ∷ es) input is = input.in_place
-first_no_input text none (Cat path ∷ es) input is = input.in_place
-first_no_input text none (Ls path ∷ es) input is = input.in_place
 first_no_input text none (Array s ∷ es) input is =
     let over = none (Array s) (input_of es) input.in_place.0 is in
     let budget = input.budget in
     absurd (omega (arith, over, budget, length-append (line_of (Array s)) (input_of es)))
+first_no_input text none (event ∷ es) input is = input.in_place
 
 pub told_each : (f s : List ℕ → List ℕ → Type 0) → ((a b : List ℕ) → f a b → s a b) → (x y : Option (List ℕ)) → Told f x y → Told s x y
 told_each f s h x None told = tt
@@ -164,8 +186,8 @@ stopped_first now bytes x z t v refused output = record {
     in_place = tt;
     budget = omega arith;
     final = unmade now;
-    trace = λ told. record { boundaries = refl; size = refl; rows = refl; blocks = refl; counts = refl };
-    holds = record { size = refl; blank = λ b h e. absurd (omega arith); held = λ b h. absurd (omega arith) };
+    trace = record { is = refl; boundaries = refl; size = refl; rows = refl };
+    holds = λ told. record { size = refl; blank = λ b h e. absurd (omega arith); held = λ b h. absurd (omega arith) };
     counts = refl;
   };
   input = told_each _ _ (λ a b none. (a, refl, record { some = λ e. refl; none = none }, first_no_input a none)) x z refused;
@@ -245,3 +267,26 @@ module _ (before now : Counts) (bytes : ℕ → Option (List ℕ)) (unread kept 
 pub IfOk-map : {T E : Type 0} (result : Result T E) (P Q : T → Type 0) → ((x : T) → P x → Q x) → IfOk result P → IfOk result Q
 IfOk-map (Ok x) P Q h p = h x p
 IfOk-map (Err e) P Q h p = tt
+
+-- what is said of a text that is told
+told_front : (f : List ℕ → List ℕ → Type 0) (left rest : Option (List ℕ)) (x : List ℕ) → left ≡ Some x → IsSome rest → Told f left rest → (a : List ℕ) × f x a
+told_front f (Some b) (Some a) x e some t = let same : b ≡ x = cc e in (a, subst (λ (z : List ℕ). f z a) same t)
+told_front f None rest x e some t = absurd (cc e)
+told_front f left None x e some t = absurd (cc some)
+
+-- where the input is acceptable and no count of faults rose, a replay is done, but for want of memory
+pub completes : (before now : Counts) (bytes : ℕ → Option (List ℕ)) (left rest taken given : Option (List ℕ)) (events : List Event) (status : Status) → IsInput events
+    → left ≡ Some (input_of events) → IsSome rest → (status ≡ BadLine → Stopped before now bytes left rest taken given) → (status ≡ ReadFault → ⊥) → (status ≡ WriteFault → ⊥)
+    → IsOfReplay status → (status ≡ status_done) ⊎ (status ≡ NoMemory)
+completes before now bytes left rest taken given events status_done input is some stopped read write never = inl refl
+completes before now bytes left rest taken given events BadLine input is some stopped read write never =
+    let stop = stopped refl in
+    let front = told_front _ left rest (input_of events) is some stop.input in
+    absurd (front.1.3 events input refl)
+completes before now bytes left rest taken given events ReadFault input is some stopped read write never = absurd (read refl)
+completes before now bytes left rest taken given events WriteFault input is some stopped read write never = absurd (write refl)
+completes before now bytes left rest taken given events NoMemory input is some stopped read write never = inr refl
+completes before now bytes left rest taken given events Usage input is some stopped read write never = absurd never
+completes before now bytes left rest taken given events NoState input is some stopped read write never = absurd never
+completes before now bytes left rest taken given events Unclean input is some stopped read write never = absurd never
+completes before now bytes left rest taken given events Refused input is some stopped read write never = absurd never

@@ -1,5 +1,6 @@
 -- A replay behind its first line.
 use Rattle.std.specs.Prelude.{◌≡◌, ◌+◌, ◌-◌, ◌^◌, ◌++◌, ◌∷◌, [], ℕ, List, length, Option, Some, All}
+use Rattle.dg_io.specs.declared.outside.Rack.{Ghosts}
 use Rattle.dg_model.specs.States.{Counts}
 use Rattle.dg_model.specs.declared.shapes.Shape.{Shape}
 use Rattle.dg_model.specs.declared.events.Event.{Event}
@@ -19,18 +20,18 @@ use Rattle.dg_run.specs.declared.top.Status.{Status}
 use Rattle.dg_run.specs.declared.top.Status.TheVariants.{Done as status_done, Usage, BadLine, ReadFault, WriteFault, NoMemory, NoState, Unclean, Refused}
 
 -- the array was answered, and all lines behind the first one were served
-pub record AllAnswered {R : Type 0} (counts : R → Counts) (bytes : R → ℕ → Option (List ℕ)) (first : ℕ) (left rest taken given : Option (List ℕ)) (old new : Store R) : Type 0 where
+pub record AllAnswered {R : Type 0} (rack : Ghosts R) (first : ℕ) (left rest taken given : Option (List ℕ)) (old new : Store R) : Type 0 where
   pub middle : Option (List ℕ)
   pub ok : Told (Took (reply_line Done)) taken middle
-  pub served : AllServed counts bytes (shape_of old) first left rest middle given old new
+  pub served : AllServed rack (shape_of old) first left rest middle given old new
 
 -- the array was answered, lines behind the first one were served, and the next one was refused
-pub record AnsweredTo {R : Type 0} (counts : R → Counts) (bytes : R → ℕ → Option (List ℕ)) (first : ℕ) (left rest taken given : Option (List ℕ)) (old new : Store R) : Type 0 where
+pub record AnsweredTo {R : Type 0} (rack : Ghosts R) (first : ℕ) (left rest taken given : Option (List ℕ)) (old new : Store R) : Type 0 where
   pub middle : Option (List ℕ)
   pub before : Option (List ℕ)
   pub number : ℕ
   pub ok : Told (Took (reply_line Done)) taken middle
-  pub served : ServedTo counts bytes (shape_of old) first number left rest middle before old new
+  pub served : ServedTo rack (shape_of old) first number left rest middle before old new
   pub refused : Told (Took (refusal number Form)) before given
 
 -- a status that a replay can have

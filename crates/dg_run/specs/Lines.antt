@@ -1,6 +1,6 @@
 -- Lines served one after another.
 use Rattle.std.specs.Prelude.{◌≡◌, ◌≤◌, ◌++◌, ◌+◌, ◌-◌, ◌^◌, [], ℕ, List, length, Option, Some, All}
-use Rattle.dg_model.specs.States.{Counts}
+use Rattle.dg_io.specs.declared.outside.Rack.{Ghosts}
 use Rattle.dg_model.specs.declared.shapes.Shape.{Shape}
 use Rattle.dg_model.specs.declared.events.Event.{Event}
 use Rattle.dg_model.specs.declared.replies.Reply.{Reply}
@@ -17,13 +17,13 @@ use Rattle.dg_run.specs.declared.lines.LinesEnd.{LinesEnd}
 use Rattle.dg_run.specs.declared.lines.LinesEnd.TheVariants.{Input as input_end, Refused as line_refused}
 
 -- one line was taken, of n bytes and no more than the room, its event was done, and its reply was written
-pub record ServedLine {R : Type 0} (counts : R → Counts) (bytes : R → ℕ → Option (List ℕ)) (shape : Shape) (room n : ℕ) (left rest taken given : Option (List ℕ)) (old new : Store R) : Type 0 where
+pub record ServedLine {R : Type 0} (rack : Ghosts R) (shape : Shape) (room n : ℕ) (left rest taken given : Option (List ℕ)) (old new : Store R) : Type 0 where
   pub event : Event
   pub in_place : IsInPlace (Some shape) event
   pub size : n ≡ length (line_of event)
   pub within : n ≤ room
   pub input : Told (Begins (Some shape) event) left rest
-  pub answered : Answered counts bytes event taken given old new
+  pub answered : Answered rack event taken given old new
 
 -- the text begins with the lines of these events, and any lines of events in their places that make it up begin so
 pub record BeginsAll (shape : Option Shape) (events : List Event) (before after : List ℕ) : Type 0 where
@@ -31,36 +31,36 @@ pub record BeginsAll (shape : Option Shape) (events : List Event) (before after 
   pub only : (others : List Event) → All (IsInPlace shape) others → before ≡ input_of others → (more : List Event) × (others ≡ events ++ more) × (after ≡ input_of more)
 
 -- what a turn did: nothing changes where it served no line
-abbrev pub Turned : {R : Type 0} → (R → Counts) → (R → ℕ → Option (List ℕ)) → ℕ → Option (List ℕ) → Option (List ℕ) → Option (List ℕ) → Option (List ℕ) → Store R → Store R → Turn → Type 0
-Turned counts bytes room left rest taken given old new (turn_served n) = ServedLine counts bytes (shape_of old) room n left rest taken given old new
-Turned counts bytes room left rest taken given old new turn_end = Told (λ before after. (before ≡ []) × (after ≡ [])) left rest × (given ≡ taken) × (new ≡ old)
-Turned counts bytes room left rest taken given old new turn_refused = Told (λ before after. IsRefused (Some (shape_of old)) room before) left rest × (given ≡ taken) × (new ≡ old)
+abbrev pub Turned : {R : Type 0} → Ghosts R → ℕ → Option (List ℕ) → Option (List ℕ) → Option (List ℕ) → Option (List ℕ) → Store R → Store R → Turn → Type 0
+Turned rack room left rest taken given old new (turn_served n) = ServedLine rack (shape_of old) room n left rest taken given old new
+Turned rack room left rest taken given old new turn_end = Told (λ before after. (before ≡ []) × (after ≡ [])) left rest × (given ≡ taken) × (new ≡ old)
+Turned rack room left rest taken given old new turn_refused = Told (λ before after. IsRefused (Some (shape_of old)) room before) left rest × (given ≡ taken) × (new ≡ old)
 
 -- lines were taken one after another, their events were done, and their replies were written
-pub record Served {R : Type 0} (counts : R → Counts) (bytes : R → ℕ → Option (List ℕ)) (shape : Shape) (events : List Event) (left rest taken given : Option (List ℕ)) (old new : Store R) : Type 0 where
+pub record Served {R : Type 0} (rack : Ghosts R) (shape : Shape) (events : List Event) (left rest taken given : Option (List ℕ)) (old new : Store R) : Type 0 where
   pub replies : List Reply
   pub in_place : All (IsInPlace (Some shape)) events
   pub input : Told (BeginsAll (Some shape) events) left rest
   pub output : Told (Took (output_of replies)) taken given
-  pub runs : RunsTo counts bytes old events replies new
+  pub runs : RunsTo rack old events replies new
 
 -- all lines to the end of the input were served, and keep to the budget behind a first line of so many bytes
-pub record AllServed {R : Type 0} (counts : R → Counts) (bytes : R → ℕ → Option (List ℕ)) (shape : Shape) (first : ℕ) (left rest taken given : Option (List ℕ)) (old new : Store R) : Type 0 where
+pub record AllServed {R : Type 0} (rack : Ghosts R) (shape : Shape) (first : ℕ) (left rest taken given : Option (List ℕ)) (old new : Store R) : Type 0 where
   pub events : List Event
-  pub served : Served counts bytes shape events left rest taken given old new
+  pub served : Served rack shape events left rest taken given old new
   pub budget : first + length (input_of events) ≤ 2 ^ 40
   pub end : Told (λ before after. (before ≡ input_of events) × (after ≡ [])) left rest
 
 -- some lines were served, and the next one, of this number, is refused
-pub record ServedTo {R : Type 0} (counts : R → Counts) (bytes : R → ℕ → Option (List ℕ)) (shape : Shape) (first number : ℕ) (left rest taken given : Option (List ℕ)) (old new : Store R) : Type 0 where
+pub record ServedTo {R : Type 0} (rack : Ghosts R) (shape : Shape) (first number : ℕ) (left rest taken given : Option (List ℕ)) (old new : Store R) : Type 0 where
   pub events : List Event
   pub middle : Option (List ℕ)
-  pub served : Served counts bytes shape events left middle taken given old new
+  pub served : Served rack shape events left middle taken given old new
   pub budget : first + length (input_of events) ≤ 2 ^ 40
   pub count : number ≡ length events + 2
   pub refused : Told (λ before after. IsRefused (Some shape) (2 ^ 40 - (first + length (input_of events))) before) middle rest
 
 -- how the lines behind the first one ended
-abbrev pub LinesEndAt : {R : Type 0} → (R → Counts) → (R → ℕ → Option (List ℕ)) → ℕ → Option (List ℕ) → Option (List ℕ) → Option (List ℕ) → Option (List ℕ) → Store R → Store R → LinesEnd → Type 0
-LinesEndAt counts bytes first left rest taken given old new input_end = AllServed counts bytes (shape_of old) first left rest taken given old new
-LinesEndAt counts bytes first left rest taken given old new (line_refused number) = ServedTo counts bytes (shape_of old) first number left rest taken given old new
+abbrev pub LinesEndAt : {R : Type 0} → Ghosts R → ℕ → Option (List ℕ) → Option (List ℕ) → Option (List ℕ) → Option (List ℕ) → Store R → Store R → LinesEnd → Type 0
+LinesEndAt rack first left rest taken given old new input_end = AllServed rack (shape_of old) first left rest taken given old new
+LinesEndAt rack first left rest taken given old new (line_refused number) = ServedTo rack (shape_of old) first number left rest taken given old new

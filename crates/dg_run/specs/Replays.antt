@@ -4,7 +4,7 @@ use Rattle.dg_model.specs.States.{Counts, State, Holds}
 use Rattle.dg_model.specs.Runs.{Trace}
 use Rattle.dg_model.specs.declared.shapes.Shape.{Shape}
 use Rattle.dg_model.specs.declared.events.Event.{Event}
-use Rattle.dg_model.specs.declared.events.Event.TheVariants.{Array, Write, Read, Fail, Cat, Ls}
+use Rattle.dg_model.specs.declared.events.Event.TheVariants.{Array}
 use Rattle.dg_model.specs.declared.replies.Reply.{Reply}
 use Rattle.dg_io.specs.Told.{Told, Took}
 use Rattle.dg_text.specs.Lines.{line_of, input_of, IsInPlace, AreInPlace}
@@ -15,21 +15,21 @@ use Rattle.dg_text.specs.declared.lines.BadLine.TheVariants.{Form}
 abbrev pub shape_after : List Event → Option Shape
 shape_after [] = None
 shape_after (Array shape ∷ events) = Some shape
-shape_after (Write b bytes ∷ events) = None
-shape_after (Read b ∷ events) = None
-shape_after (Fail s j ∷ events) = None
-shape_after (Cat path ∷ events) = None
-shape_after (Ls path ∷ events) = None
+shape_after (event ∷ events) = None
 
--- The events are in their places, and their lines keep to the budget of 2^40 bytes. They had these replies, in steps of
--- the flat array from nothing to a state that the rack holds, its counts among it. The steps are known where each member
--- of the array tells its bytes.
+-- each member of a state's boundaries tells its bytes
+abbrev pub TellsBoundaries : (ℕ → Option (List ℕ)) → State → Type 0
+TellsBoundaries bytes state = (q : ℕ) → q / 2 < state.table.shape.b → IsSome (bytes q)
+
+-- The events are in their places, and their lines keep to the budget of 2^40 bytes. They had these replies, in steps of the array
+-- from nothing to a final state, which has the counts of the rack. Where each member of the array tells its bytes at the end, the
+-- steps are known in their bytes too, and the members hold the blocks of the final state.
 pub record Ran (before now : Counts) (bytes : ℕ → Option (List ℕ)) (events : List Event) (replies : List Reply) : Type 0 where
   pub in_place : AreInPlace events
   pub budget : length (input_of events) ≤ 2 ^ 40
   pub final : State
-  pub trace : ((q : ℕ) → q / 2 < final.table.shape.b → IsSome (bytes q)) → Trace before events replies final
-  pub holds : Holds bytes final
+  pub trace : Trace (TellsBoundaries bytes final) before events replies final
+  pub holds : TellsBoundaries bytes final → Holds bytes final
   pub counts : final.counts ≡ now
 
 -- the input was read to its end, and is the lines of these events; the output is the text of their replies

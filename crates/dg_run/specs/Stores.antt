@@ -1,40 +1,42 @@
 -- A store beside the model's states.
-use Rattle.std.specs.Prelude.{◌≡◌, ◌/◌, ◌≤◌, ℕ, List, Option}
-use Rattle.dg_model.specs.States.{Counts}
-use Rattle.dg_model.specs.Steps.{Step}
+use Rattle.std.specs.Prelude.{◌≡◌, ℕ, List, Option, None}
+use Rattle.dg_io.specs.declared.outside.Rack.{Ghosts}
+use Rattle.dg_io.specs.Told.{Told, Took, StillTold}
 use Rattle.dg_model.specs.Runs.{Run}
-use Rattle.dg_model.specs.declared.members.MemberState.TheVariants.{Out}
+use Rattle.dg_model.specs.States.{State}
+use Rattle.dg_model.specs.Steps.{Step}
 use Rattle.dg_model.specs.declared.events.Event.{Event}
 use Rattle.dg_model.specs.declared.replies.Reply.{Reply}
-use Rattle.dg_io.specs.Told.{Told, Took, StillTold}
 use Rattle.dg_store.specs.declared.store.Store.{Store}
-use Rattle.dg_store.specs.Stores.{rack_of, shape_of, members_of, state_of, IsSound, StandsFor, TellsAll}
+use Rattle.dg_store.specs.Stores.{rack_of, shape_of, state_of, IsSound, StandsFor, TellsAll}
 use Rattle.dg_text.specs.Replies.{reply_line}
 
--- the store is sound, and only members of its boundaries are called
-pub record IsReady {R : Type 0} (bytes : R → ℕ → Option (List ℕ)) (store : Store R) : Type 0 where
-  pub sound : IsSound bytes store
-  pub others : (q : ℕ) → (shape_of store).b ≤ q / 2 → members_of store q ≡ Out
+-- The store is in this state: its blocks stand where those of the state do, its members do the same, and its rack has the same counts.
+-- No label was written yet. The members hold the blocks of the state, where each tells its bytes.
+pub record StandsIn {R : Type 0} (rack : Ghosts R) (store : Store R) (state : State) : Type 0 where
+  pub is : state ≡ state_of rack store state state.blocks
+  pub label : state.label ≡ None
+  pub holds : TellsAll rack store → StandsFor rack store state.blocks
 
--- whichever blocks the store stood for, it made a step from them, and stands for those that the step left
-abbrev pub StepsTo : {R : Type 0} → (R → Counts) → (R → ℕ → Option (List ℕ)) → Store R → Event → Reply → Store R → Type 0
-StepsTo counts bytes old event reply new = (V : List (List ℕ)) → StandsFor counts bytes old V →
-    (W : List (List ℕ)) × StandsFor counts bytes new W × (TellsAll bytes new → Step (state_of counts old V) event reply (state_of counts new W))
+-- whichever state the store was in, it made a step from it, to a state that it is in now
+abbrev pub StepsTo : {R : Type 0} → Ghosts R → Store R → Event → Reply → Store R → Type 0
+StepsTo rack old event reply new = (state : State) → StandsIn rack old state →
+    (next : State) × StandsIn rack new next × Step (TellsAll rack new) state event reply next
 
 -- the same of a run of steps
-abbrev pub RunsTo : {R : Type 0} → (R → Counts) → (R → ℕ → Option (List ℕ)) → Store R → List Event → List Reply → Store R → Type 0
-RunsTo counts bytes old events replies new = (V : List (List ℕ)) → StandsFor counts bytes old V →
-    (W : List (List ℕ)) × StandsFor counts bytes new W × (TellsAll bytes new → Run (state_of counts old V) events replies (state_of counts new W))
+abbrev pub RunsTo : {R : Type 0} → Ghosts R → Store R → List Event → List Reply → Store R → Type 0
+RunsTo rack old events replies new = (state : State) → StandsIn rack old state →
+    (next : State) × StandsIn rack new next × Run (TellsAll rack new) state events replies next
 
 -- the event was done, and its reply was written
-pub record Answered {R : Type 0} (counts : R → Counts) (bytes : R → ℕ → Option (List ℕ)) (event : Event) (taken given : Option (List ℕ)) (old new : Store R) : Type 0 where
+pub record Answered {R : Type 0} (rack : Ghosts R) (event : Event) (taken given : Option (List ℕ)) (old new : Store R) : Type 0 where
   pub reply : Reply
-  pub steps : StepsTo counts bytes old event reply new
+  pub steps : StepsTo rack old event reply new
   pub output : Told (Took (reply_line reply)) taken given
 
 -- what stays of a store, whatever was done
-pub record GoesOn {R : Type 0} (bytes : R → ℕ → Option (List ℕ)) (named : R → ℕ) (old new : Store R) : Type 0 where
-  pub ready : IsReady bytes new
+pub record GoesOn {R : Type 0} (rack : Ghosts R) (old new : Store R) : Type 0 where
+  pub sound : IsSound rack new
   pub shape : shape_of new ≡ shape_of old
-  pub tells : StillTold (bytes (rack_of old)) (bytes (rack_of new))
-  pub name : named (rack_of new) ≡ named (rack_of old)
+  pub tells : StillTold (rack.bytes (rack_of old)) (rack.bytes (rack_of new))
+  pub name : rack.name (rack_of new) ≡ rack.name (rack_of old)

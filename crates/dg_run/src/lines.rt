@@ -2,10 +2,10 @@
 ghost use Rattle.std.specs.Prelude.{◌≡◌, ◌-◌, ◌+◌, ◌≤◌, ◌<◌, ◌^◌, ◌++◌, [], ℕ, List, length, IfOk, Some};
 ghost use Rattle.dg_io.specs.Told.{Told, IsSame};
 ghost use Rattle.dg_model.specs.Causes.{Rose};
-ghost use Rattle.dg_store.specs.Stores.{shape_of};
+ghost use Rattle.dg_store.specs.Stores.{IsSound, shape_of};
 ghost use Rattle.dg_run.specs.Inputs.{ahead};
 ghost use Rattle.dg_run.specs.Buffers.{AreFor};
-ghost use Rattle.dg_run.specs.Stores.{IsReady, GoesOn};
+ghost use Rattle.dg_run.specs.Stores.{GoesOn};
 ghost use Rattle.dg_run.specs.Lines.{Turned, LinesEndAt};
 
 use crate::buffers::Buffers;
@@ -49,13 +49,15 @@ fn serve_next<S: Source, K: Sink, R: Rack>(
     buffers: &mut Buffers,
     room: u64,
 ) -> Result<Turn, Fault>
-    requires ready { IsReady R.bytes store.old }
+    requires sound { IsSound R.Rack store.old }
     requires buffers { AreFor (shape_of store.old).l buffers.old }
-    ensures goes { GoesOn R.bytes R.name store.old store.new }
+    ensures goes { GoesOn R.Rack store.old store.new }
     ensures buffers { AreFor (shape_of store.old).l buffers.new }
-    ensures turned { IfOk result (Turned R.counts R.bytes room (ahead input.old (S.left source.old)) (ahead input.new (S.left source.new)) (K.taken sink.old) (K.taken sink.new) store.old store.new) }
+    ensures turned { IfOk result (Turned R.Rack room (ahead input.old (S.left source.old)) (ahead input.new (S.left source.new)) (K.taken sink.old) (K.taken sink.new) store.old store.new) }
     ensures source_later { S.faults source.old ≤ S.faults source.new }
     ensures sink_later { K.faults sink.old ≤ K.faults sink.new }
+    ensures source_kept { (result ≡ Err Fault.Read → ⊥) → S.faults source.new ≡ S.faults source.old }
+    ensures sink_kept { (result ≡ Err Fault.Write → ⊥) → K.faults sink.new ≡ K.faults sink.old }
     ensures read { result ≡ Err Fault.Read → Rose (S.faults source.old) (S.faults source.new) }
     ensures write { result ≡ Err Fault.Write → Rose (K.faults sink.old) (K.faults sink.new) }
 {
@@ -80,13 +82,15 @@ pub fn serve_lines<S: Source, K: Sink, R: Rack>(
     buffers: &mut Buffers,
     first: u64,
 ) -> Result<LinesEnd, Fault>
-    requires ready { IsReady R.bytes store.old }
+    requires sound { IsSound R.Rack store.old }
     requires buffers { AreFor (shape_of store.old).l buffers.old }
     requires first { first ≤ 2 ^ 40 }
-    ensures goes { GoesOn R.bytes R.name store.old store.new }
-    ensures end { IfOk result (LinesEndAt R.counts R.bytes first (ahead input.old (S.left source.old)) (ahead input.new (S.left source.new)) (K.taken sink.old) (K.taken sink.new) store.old store.new) }
+    ensures goes { GoesOn R.Rack store.old store.new }
+    ensures end { IfOk result (LinesEndAt R.Rack first (ahead input.old (S.left source.old)) (ahead input.new (S.left source.new)) (K.taken sink.old) (K.taken sink.new) store.old store.new) }
     ensures source_later { S.faults source.old ≤ S.faults source.new }
     ensures sink_later { K.faults sink.old ≤ K.faults sink.new }
+    ensures source_kept { (result ≡ Err Fault.Read → ⊥) → S.faults source.new ≡ S.faults source.old }
+    ensures sink_kept { (result ≡ Err Fault.Write → ⊥) → K.faults sink.new ≡ K.faults sink.old }
     ensures read { result ≡ Err Fault.Read → Rose (S.faults source.old) (S.faults source.new) }
     ensures write { result ≡ Err Fault.Write → Rose (K.faults sink.old) (K.faults sink.new) }
 {

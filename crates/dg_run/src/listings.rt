@@ -1,8 +1,8 @@
 // The event that lists a directory by its path.
 ghost use Rattle.std.specs.Prelude.{◌≡◌, ◌≤◌, true, ℕ, List, OnOk};
 ghost use Rattle.dg_model.specs.Causes.{Rose};
-ghost use Rattle.dg_store.specs.Stores.{shape_of};
-ghost use Rattle.dg_run.specs.Stores.{IsReady, GoesOn, Answered};
+ghost use Rattle.dg_store.specs.Stores.{IsSound, shape_of};
+ghost use Rattle.dg_run.specs.Stores.{GoesOn, Answered};
 ghost use Rattle.ufs_model.specs.Paths.{is_path};
 
 use crate::events::Fault;
@@ -20,13 +20,14 @@ pub fn serve_ls<R: Rack, K: Sink>(
     path: &Bytes,
     levels: &mut Levels,
 ) -> Result<(), Fault>
-    requires ready { IsReady R.bytes store.old }
+    requires sound { IsSound R.Rack store.old }
     requires levels { levels.old.fragment ≡ (shape_of store.old).l }
     requires path { is_path path.now ≡ true }
-    ensures goes { GoesOn R.bytes R.name store.old store.new }
+    ensures goes { GoesOn R.Rack store.old store.new }
     ensures levels { levels.new.fragment ≡ levels.old.fragment }
-    ensures answered { OnOk result (Answered R.counts R.bytes (Event.Ls path.now) (K.taken sink.old) (K.taken sink.new) store.old store.new) }
+    ensures answered { OnOk result (Answered R.Rack (Event.Ls path.now) (K.taken sink.old) (K.taken sink.new) store.old store.new) }
     ensures later { K.faults sink.old ≤ K.faults sink.new }
+    ensures kept { (result ≡ Err Fault.Write → ⊥) → K.faults sink.new ≡ K.faults sink.old }
     ensures read { result ≡ Err Fault.Read → ⊥ }
     ensures write { result ≡ Err Fault.Write → Rose (K.faults sink.old) (K.faults sink.new) }
 {

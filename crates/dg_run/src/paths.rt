@@ -3,7 +3,7 @@ ghost use Rattle.std.specs.Prelude.{◌≡◌, ◌≤◌, IsSome, Some, OnOk, On
 ghost use Rattle.dg_model.specs.Causes.{Rose};
 ghost use Rattle.dg_model.specs.declared.replies.Reply.{Reply};
 ghost use Rattle.dg_io.specs.Told.{Told, Took};
-ghost use Rattle.dg_text.specs.Replies.{IsShort, reply_line};
+ghost use Rattle.dg_text.specs.Replies.{reply_line};
 ghost use Rattle.dg_run.specs.Paths.{reply_at};
 
 use crate::events::Fault;
@@ -17,7 +17,6 @@ use ufs_path::CatAnswer;
 fn reply_at(answer: CatAnswer) -> Reply
     requires { IsSome (reply_at answer) }
     ensures is { reply_at answer ≡ Some result }
-    ensures short { IsShort result }
 {
     match answer {
         CatAnswer::NotFound => Reply::Refused(PathRefusal::NotFound),
@@ -34,6 +33,7 @@ pub fn send_nothing<K: Sink>(sink: &mut K, answer: CatAnswer) -> Result<(), Faul
     requires { IsSome (reply_at answer) }
     ensures ok { (reply : Reply) → reply_at answer ≡ Some reply → OnOk result (Told (Took (reply_line reply)) (K.taken sink.old) (K.taken sink.new)) }
     ensures later { K.faults sink.old ≤ K.faults sink.new }
+    ensures kept { OnOk result (K.faults sink.new ≡ K.faults sink.old) }
     ensures err { OnErr result (result ≡ Err Fault.Write) }
     ensures write { OnErr result (Rose (K.faults sink.old) (K.faults sink.new)) }
 {

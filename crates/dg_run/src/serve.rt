@@ -1,13 +1,13 @@
 // One event on a store, and its reply.
 ghost use Rattle.std.specs.Prelude.{◌≡◌, ◌≢◌, ◌+◌, ◌-◌, ◌≤◌, ◌<◌, ◌++◌, ℕ, List, length, IfOk, OnOk, OnErr, Some, replicate, take, slice_index};
 ghost use Rattle.dg_model.specs.Causes.{Rose};
-ghost use Rattle.dg_model.specs.States.{padded, IsTrimmed};
-ghost use Rattle.dg_store.specs.Stores.{shape_of};
+ghost use Rattle.dg_model.specs.Blocks.{padded, IsTrimmed};
+ghost use Rattle.dg_store.specs.Stores.{IsSound, shape_of};
 ghost use Rattle.dg_text.specs.Lines.{IsInPlace};
-ghost use Rattle.dg_text.specs.Replies.{IsShort, reply_line};
+ghost use Rattle.dg_text.specs.Replies.{reply_line};
 ghost use Rattle.dg_io.specs.Told.{Told, Took};
 ghost use Rattle.dg_run.specs.Buffers.{AreFor};
-ghost use Rattle.dg_run.specs.Stores.{IsReady, GoesOn, StepsTo, Answered};
+ghost use Rattle.dg_run.specs.Stores.{GoesOn, StepsTo, Answered};
 
 use crate::buffers::Buffers;
 use crate::cats::serve_cat;
@@ -53,12 +53,11 @@ fn write_block<R: Rack>(
     bytes: &Bytes,
     block: &mut [u8],
 ) -> Result<Reply, NoMemory>
-    requires ready { IsReady R.bytes store.old }
+    requires sound { IsSound R.Rack store.old }
     requires size { length block.old ≡ (shape_of store.old).l }
     requires fits { length bytes.now ≤ (shape_of store.old).l }
-    ensures goes { GoesOn R.bytes R.name store.old store.new }
-    ensures short { IfOk result IsShort }
-    ensures steps { IfOk result (λ reply. StepsTo R.counts R.bytes store.old (Event.Write b bytes.now) reply store.new) }
+    ensures goes { GoesOn R.Rack store.old store.new }
+    ensures steps { IfOk result (λ reply. StepsTo R.Rack store.old (Event.Write b bytes.now) reply store.new) }
 {
     if b >= store.shape().n {
         return Ok(Reply::Range);
@@ -75,9 +74,9 @@ fn write_block<R: Rack>(
 
 /// Writes a reply.
 pub fn send<K: Sink>(sink: &mut K, reply: &Reply) -> Result<(), Fault>
-    requires { IsShort reply.now }
     ensures ok { OnOk result (Told (Took (reply_line reply.now)) (K.taken sink.old) (K.taken sink.new)) }
     ensures later { K.faults sink.old ≤ K.faults sink.new }
+    ensures kept { OnOk result (K.faults sink.new ≡ K.faults sink.old) }
     ensures err { OnErr result (result ≡ Err Fault.Write) }
     ensures write { OnErr result (Rose (K.faults sink.old) (K.faults sink.new)) }
 {
@@ -89,9 +88,9 @@ pub fn send<K: Sink>(sink: &mut K, reply: &Reply) -> Result<(), Fault>
 
 /// Writes the reply that gives bytes of a block.
 fn send_data<K: Sink>(sink: &mut K, bytes: &[u8]) -> Result<(), Fault>
-    requires { length bytes.now ≤ 4096 }
     ensures ok { OnOk result (Told (Took (reply_line (Reply.Data bytes.now))) (K.taken sink.old) (K.taken sink.new)) }
     ensures later { K.faults sink.old ≤ K.faults sink.new }
+    ensures kept { OnOk result (K.faults sink.new ≡ K.faults sink.old) }
     ensures err { OnErr result (result ≡ Err Fault.Write) }
     ensures write { OnErr result (Rose (K.faults sink.old) (K.faults sink.new)) }
 {
@@ -109,12 +108,13 @@ fn serve_write<R: Rack, K: Sink>(
     bytes: &Bytes,
     block: &mut [u8],
 ) -> Result<(), Fault>
-    requires ready { IsReady R.bytes store.old }
+    requires sound { IsSound R.Rack store.old }
     requires size { length block.old ≡ (shape_of store.old).l }
     requires fits { length bytes.now ≤ (shape_of store.old).l }
-    ensures goes { GoesOn R.bytes R.name store.old store.new }
-    ensures answered { OnOk result (Answered R.counts R.bytes (Event.Write b bytes.now) (K.taken sink.old) (K.taken sink.new) store.old store.new) }
+    ensures goes { GoesOn R.Rack store.old store.new }
+    ensures answered { OnOk result (Answered R.Rack (Event.Write b bytes.now) (K.taken sink.old) (K.taken sink.new) store.old store.new) }
     ensures later { K.faults sink.old ≤ K.faults sink.new }
+    ensures kept { (result ≡ Err Fault.Write → ⊥) → K.faults sink.new ≡ K.faults sink.old }
     ensures read { result ≡ Err Fault.Read → ⊥ }
     ensures write { result ≡ Err Fault.Write → Rose (K.faults sink.old) (K.faults sink.new) }
 {
@@ -131,11 +131,12 @@ fn serve_read<R: Rack, K: Sink>(
     b: u32,
     block: &mut [u8],
 ) -> Result<(), Fault>
-    requires ready { IsReady R.bytes store.old }
+    requires sound { IsSound R.Rack store.old }
     requires size { length block.old ≡ (shape_of store.old).l }
-    ensures goes { GoesOn R.bytes R.name store.old store.new }
-    ensures answered { OnOk result (Answered R.counts R.bytes (Event.Read b) (K.taken sink.old) (K.taken sink.new) store.old store.new) }
+    ensures goes { GoesOn R.Rack store.old store.new }
+    ensures answered { OnOk result (Answered R.Rack (Event.Read b) (K.taken sink.old) (K.taken sink.new) store.old store.new) }
     ensures later { K.faults sink.old ≤ K.faults sink.new }
+    ensures kept { (result ≡ Err Fault.Write → ⊥) → K.faults sink.new ≡ K.faults sink.old }
     ensures read { result ≡ Err Fault.Read → ⊥ }
     ensures write { result ≡ Err Fault.Write → Rose (K.faults sink.old) (K.faults sink.new) }
 {
@@ -150,10 +151,9 @@ fn serve_read<R: Rack, K: Sink>(
 
 /// Makes a member fail.
 fn fail_member<R: Rack>(store: &mut Store<R>, s: u32, j: u32) -> Reply
-    requires ready { IsReady R.bytes store.old }
-    ensures goes { GoesOn R.bytes R.name store.old store.new }
-    ensures short { IsShort result }
-    ensures steps { StepsTo R.counts R.bytes store.old (Event.Fail s j) result store.new }
+    requires sound { IsSound R.Rack store.old }
+    ensures goes { GoesOn R.Rack store.old store.new }
+    ensures steps { StepsTo R.Rack store.old (Event.Fail s j) result store.new }
 {
     if s >= store.shape().b as u32 || j >= 2 {
         return Reply::Range;
@@ -171,10 +171,11 @@ fn serve_fail<R: Rack, K: Sink>(
     s: u32,
     j: u32,
 ) -> Result<(), Fault>
-    requires ready { IsReady R.bytes store.old }
-    ensures goes { GoesOn R.bytes R.name store.old store.new }
-    ensures answered { OnOk result (Answered R.counts R.bytes (Event.Fail s j) (K.taken sink.old) (K.taken sink.new) store.old store.new) }
+    requires sound { IsSound R.Rack store.old }
+    ensures goes { GoesOn R.Rack store.old store.new }
+    ensures answered { OnOk result (Answered R.Rack (Event.Fail s j) (K.taken sink.old) (K.taken sink.new) store.old store.new) }
     ensures later { K.faults sink.old ≤ K.faults sink.new }
+    ensures kept { (result ≡ Err Fault.Write → ⊥) → K.faults sink.new ≡ K.faults sink.old }
     ensures read { result ≡ Err Fault.Read → ⊥ }
     ensures write { result ≡ Err Fault.Write → Rose (K.faults sink.old) (K.faults sink.new) }
 {
@@ -189,13 +190,14 @@ pub fn serve<R: Rack, K: Sink>(
     event: &Event,
     buffers: &mut Buffers,
 ) -> Result<(), Fault>
-    requires ready { IsReady R.bytes store.old }
+    requires sound { IsSound R.Rack store.old }
     requires buffers { AreFor (shape_of store.old).l buffers.old }
     requires in_place { IsInPlace (Some (shape_of store.old)) event.now }
-    ensures goes { GoesOn R.bytes R.name store.old store.new }
+    ensures goes { GoesOn R.Rack store.old store.new }
     ensures buffers { AreFor (shape_of store.old).l buffers.new }
-    ensures answered { OnOk result (Answered R.counts R.bytes event.now (K.taken sink.old) (K.taken sink.new) store.old store.new) }
+    ensures answered { OnOk result (Answered R.Rack event.now (K.taken sink.old) (K.taken sink.new) store.old store.new) }
     ensures later { K.faults sink.old ≤ K.faults sink.new }
+    ensures kept { (result ≡ Err Fault.Write → ⊥) → K.faults sink.new ≡ K.faults sink.old }
     ensures read { result ≡ Err Fault.Read → ⊥ }
     ensures write { result ≡ Err Fault.Write → Rose (K.faults sink.old) (K.faults sink.new) }
 {
@@ -205,6 +207,16 @@ pub fn serve<R: Rack, K: Sink>(
         Event::Fail(s, j) => serve_fail(store, sink, *s, *j),
         Event::Cat(path) => serve_cat(store, sink, path, &mut buffers.levels),
         Event::Ls(path) => serve_ls(store, sink, path, &mut buffers.levels),
-        Event::Array(_) => unreachable!(),
+        Event::Array(_)
+        | Event::Replace(_, _)
+        | Event::Rebuild(_, _)
+        | Event::Settle
+        | Event::Tend(_)
+        | Event::Diffuse
+        | Event::Who(_)
+        | Event::Pending
+        | Event::Tree
+        | Event::Home(_)
+        | Event::Save => unreachable!(),
     }
 }

@@ -1,13 +1,13 @@
 // The top call.
-ghost use Rattle.std.specs.Prelude.{◌≡◌, ◌≢◌, ◌⊎◌, ◌≤◌, ◌++◌, ◌↔◌, ◌^◌, [], ℕ, List, length, map, IfOk, IfSome, IsTrue, IsSome, Some, None, string_bytes};
+ghost use Rattle.std.specs.Prelude.{◌≡◌, ◌≢◌, ◌⊎◌, ◌≤◌, ◌++◌, ◌↔◌, ◌^◌, [], ℕ, List, length, map, IfOk, OnErr, IfSome, IsTrue, IsSome, Some, None, string_bytes};
 ghost use Rattle.dg_io.specs.Told.{Told, Took};
 ghost use Rattle.dg_model.specs.Causes.{Rose};
-ghost use Rattle.dg_store.specs.Stores.{shape_of, rack_of};
+ghost use Rattle.dg_store.specs.Stores.{IsSound, shape_of, rack_of};
 ghost use Rattle.dg_text.specs.Lines.{line_of, input_of};
 ghost use Rattle.dg_text.specs.Replies.{usage, refusal};
 ghost use Rattle.dg_run.specs.Inputs.{ahead};
 ghost use Rattle.dg_run.specs.Statuses.{code_of};
-ghost use Rattle.dg_run.specs.Stores.{IsReady, GoesOn};
+ghost use Rattle.dg_run.specs.Stores.{GoesOn};
 ghost use Rattle.dg_run.specs.Replays.{Replayed, Stopped, IsReplay, IsInput};
 ghost use Rattle.dg_run.specs.Arrays.{AllAnswered, AnsweredTo, ArrayReplayed, ArrayStopped, IsOfReplay};
 ghost use Rattle.dg_model.specs.Shapes.{IsShape};
@@ -97,6 +97,7 @@ fn refuse<K: Sink>(sink: &mut K, number: u64) -> Status
     ensures read { result ≡ Status.ReadFault → ⊥ }
     ensures never { IsOfReplay result }
     ensures later { K.faults sink.old ≤ K.faults sink.new }
+    ensures kept { (result ≡ Status.WriteFault → ⊥) → K.faults sink.new ≡ K.faults sink.old }
 {
     match write_refusal(sink, number, BadLine::Form) {
         Ok(()) => Status::BadLine,
@@ -113,15 +114,17 @@ fn serve_array<S: Source, K: Sink, R: Rack>(
     store: &mut Store<R>,
     first: u64,
 ) -> Status
-    requires ready { IsReady R.bytes store.old }
+    requires sound { IsSound R.Rack store.old }
     requires first { first ≤ 2 ^ 40 }
-    ensures goes { GoesOn R.bytes R.name store.old store.new }
-    ensures done { result ≡ Status.Done → AllAnswered R.counts R.bytes first (ahead input.old (S.left source.old)) (ahead input.new (S.left source.new)) (K.taken sink.old) (K.taken sink.new) store.old store.new }
-    ensures bad_line { result ≡ Status.BadLine → AnsweredTo R.counts R.bytes first (ahead input.old (S.left source.old)) (ahead input.new (S.left source.new)) (K.taken sink.old) (K.taken sink.new) store.old store.new }
+    ensures goes { GoesOn R.Rack store.old store.new }
+    ensures done { result ≡ Status.Done → AllAnswered R.Rack first (ahead input.old (S.left source.old)) (ahead input.new (S.left source.new)) (K.taken sink.old) (K.taken sink.new) store.old store.new }
+    ensures bad_line { result ≡ Status.BadLine → AnsweredTo R.Rack first (ahead input.old (S.left source.old)) (ahead input.new (S.left source.new)) (K.taken sink.old) (K.taken sink.new) store.old store.new }
     ensures read { result ≡ Status.ReadFault → Rose (S.faults source.old) (S.faults source.new) }
     ensures write { result ≡ Status.WriteFault → Rose (K.faults sink.old) (K.faults sink.new) }
     ensures source_later { S.faults source.old ≤ S.faults source.new }
     ensures sink_later { K.faults sink.old ≤ K.faults sink.new }
+    ensures source_kept { (result ≡ Status.ReadFault → ⊥) → S.faults source.new ≡ S.faults source.old }
+    ensures sink_kept { (result ≡ Status.WriteFault → ⊥) → K.faults sink.new ≡ K.faults sink.old }
     ensures never { IsOfReplay result }
 {
     let Ok(mut buffers) = Buffers::new(alloc, store.shape().l) else {
@@ -157,6 +160,10 @@ fn replay_array<S: Source, K: Sink, R: Rack + Drop>(
     ensures write { IfOk result (λ end. end.status ≡ Status.WriteFault → Rose (K.faults sink.old) (K.faults sink.new)) }
     ensures source_later { S.faults source.old ≤ S.faults source.new }
     ensures sink_later { K.faults sink.old ≤ K.faults sink.new }
+    ensures source_kept { IfOk result (λ end. (end.status ≡ Status.ReadFault → ⊥) → S.faults source.new ≡ S.faults source.old) }
+    ensures sink_kept { IfOk result (λ end. (end.status ≡ Status.WriteFault → ⊥) → K.faults sink.new ≡ K.faults sink.old) }
+    ensures err_source { OnErr result (S.faults source.new ≡ S.faults source.old) }
+    ensures err_sink { OnErr result (K.faults sink.new ≡ K.faults sink.old) }
     ensures never { IfOk result (λ end. IsOfReplay end.status) }
 {
     let mut store = Store::new(alloc, rack, shape)?;
@@ -179,6 +186,10 @@ fn replay<S: Source, K: Sink, R: Rack + Drop>(
     ensures bad_line { IfOk result (λ end. end.status ≡ Status.BadLine → Stopped (R.counts rack) (R.counts end.rack) (R.bytes end.rack) (S.left source.old) (S.left source.new) (K.taken sink.old) (K.taken sink.new)) }
     ensures read { IfOk result (λ end. end.status ≡ Status.ReadFault → Rose (S.faults source.old) (S.faults source.new)) }
     ensures write { IfOk result (λ end. end.status ≡ Status.WriteFault → Rose (K.faults sink.old) (K.faults sink.new)) }
+    ensures source_kept { IfOk result (λ end. (end.status ≡ Status.ReadFault → ⊥) → S.faults source.new ≡ S.faults source.old) }
+    ensures sink_kept { IfOk result (λ end. (end.status ≡ Status.WriteFault → ⊥) → K.faults sink.new ≡ K.faults sink.old) }
+    ensures err_source { OnErr result (S.faults source.new ≡ S.faults source.old) }
+    ensures err_sink { OnErr result (K.faults sink.new ≡ K.faults sink.old) }
     ensures never { IfOk result (λ end. IsOfReplay end.status) }
 {
     let mut input = Input::new(alloc)?;
@@ -228,6 +239,8 @@ pub fn run<S: Source, K: Sink, R: Rack>(
     // The causes of the other answers. Want of memory is free.
     ensures read { result ≡ Status.ReadFault → Rose (S.faults source.old) (S.faults source.new) }
     ensures write { result ≡ Status.WriteFault → Rose (K.faults sink.old) (K.faults sink.new) }
+    ensures source_kept { (result ≡ Status.ReadFault → ⊥) → S.faults source.new ≡ S.faults source.old }
+    ensures sink_kept { (result ≡ Status.WriteFault → ⊥) → K.faults sink.new ≡ K.faults sink.old }
     ensures never { (result ≡ Status.NoState → ⊥) × (result ≡ Status.Unclean → ⊥) × (result ≡ Status.Refused → ⊥) }
 
     // Each input of acceptable lines is done, where neither the source nor the sink fails.

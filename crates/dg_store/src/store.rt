@@ -1,5 +1,5 @@
 // The flat array: each block stands at the sites that the map has for it, on both members of each.
-ghost use Rattle.std.specs.Prelude.{◌≡◌, ◌≢◌, ◌↔◌, ◌⊎◌, ◌+◌, ◌*◌, ◌/◌, ◌≤◌, ◌<◌, ◌-◌, ℕ, List, length, true, false, [], IfOk, IfSome, OnErr, MatchOption};
+ghost use Rattle.std.specs.Prelude.{◌≡◌, ◌≢◌, ◌↔◌, ◌⊎◌, ◌+◌, ◌*◌, ◌/◌, ◌≤◌, ◌<◌, ◌-◌, ℕ, List, length, max, true, false, [], IfOk, IfSome, OnErr, MatchOption};
 ghost use Rattle.dg_io.specs.Told.{Extended, FitsIn, IsZeros, KeepsFront, Patched, Torn};
 ghost use Rattle.dg_model.specs.Blocks.{zeros};
 ghost use Rattle.dg_model.specs.Members.{is_filling, is_lost, IsStruck, MembersFall};
@@ -255,7 +255,7 @@ impl<R: Rack> Store<R> {
         ensures stored { IfOk result (λ answer. answer ≡ StoreWrite.Stored → IsStored R.Rack block buf.now self.old self.new) }
         ensures lost { IfOk result (λ answer. answer ≡ StoreWrite.AllLost → IsAllLost R.Rack block self.old self.new) }
         ensures err { OnErr result (IsUnchanged R.Rack self.old self.new) }
-        ensures most { CallsAtMost R.Rack self.old self.new (2 * length (sites_in (table_of self.old) block) + 2) }
+        ensures most { CallsAtMost R.Rack self.old self.new (2 * max 1 (length (sites_in (table_of self.old) block))) }
     {
         if self.map.sites(block).is_empty() {
             self.write_first(block, buf)

@@ -20,12 +20,12 @@ returns-in-Ok-clause-answered g c =
     let file = c.in-Ok.ensures.ok c.new-lines.result given.0 c.new-lines.ensures.nothing given.2 in
     let size = c.new-lines.ensures.l ∙ ap (λ (s : Shape). s.l) c.shape.ensures in
     let are = subst (λ (l : ℕ). AreLines l file.lines) size file.are in
-    let read = subst (λ (p : List ℕ). Reads g.R.Rack.counts g.R.Rack.bytes g.R.Rack.name p a b (Some (Ok given.0))) c.as_slice.ensures given.3 in
-    let reads = subst (λ (l : List ℕ). Reads g.R.Rack.counts g.R.Rack.bytes g.R.Rack.name c.args.path.now a b (Some (Ok l))) (sym file.whole) read in
+    let read = subst (λ (p : List ℕ). Reads g.R.Rack p a b (Some (Ok given.0))) c.as_slice.ensures given.3 in
+    let reads = subst (λ (l : List ℕ). Reads g.R.Rack c.args.path.now a b (Some (Ok l))) (sym file.whole) read in
     let told = subst (λ k. Told (Took (file_text file.lines ++ last_line (codes "end ") c.in-Given.n)) (g.K.Sink.taken k) (g.K.Sink.taken c.end.new.self.sink.now)) c.new-lines.ensures.sink file.told in
     record {
       reply = Given file.lines;
-      steps = given_steps g.R.Rack.counts g.R.Rack.bytes g.R.Rack.name c.args.path.now file.lines a b (record { stands = keeps.stands; goes = keeps.goes }) are reads;
+      steps = given_steps g.R.Rack c.args.path.now file.lines a b (record { stands = keeps.stands; reads = keeps.goes; sound = keeps.sound }) are reads;
       output = subst (λ k. Told (Took (reply_line (Given file.lines))) (g.K.Sink.taken c.args.sink.now) (g.K.Sink.taken k)) (search rules) (told_lines (file_text file.lines) (codes "end ") (concat file.lines) c.in-Given.n _ _ (ap length file.whole ∙ given.1) told);
     }
 
@@ -38,13 +38,13 @@ returns-in-Ok-cut-clause-answered g c =
     let file = c.in-Ok-cut.ensures.ok c.new-lines.result cut.0 c.new-lines.ensures.nothing cut.3 in
     let size = c.new-lines.ensures.l ∙ ap (λ (s : Shape). s.l) c.shape.ensures in
     let are = subst (λ (l : ℕ). AreLines l file.lines) size file.are in
-    let read = subst (λ (p : List ℕ). Reads g.R.Rack.counts g.R.Rack.bytes g.R.Rack.name p a b (Some (Ok (cut.0 ++ cut.1)))) c.as_slice.ensures cut.4 in
-    let reads = subst (λ (l : List ℕ). Reads g.R.Rack.counts g.R.Rack.bytes g.R.Rack.name c.args.path.now a b (Some (Ok (l ++ cut.1)))) (sym file.whole) read in
-    let lost = subst (λ (p : List ℕ). Reads g.R.Rack.counts g.R.Rack.bytes g.R.Rack.name p a b None) c.as_slice.ensures cut.5 in
+    let read = subst (λ (p : List ℕ). Reads g.R.Rack p a b (Some (Ok (cut.0 ++ cut.1)))) c.as_slice.ensures cut.4 in
+    let reads = subst (λ (l : List ℕ). Reads g.R.Rack c.args.path.now a b (Some (Ok (l ++ cut.1)))) (sym file.whole) read in
+    let lost = subst (λ (p : List ℕ). Reads g.R.Rack p a b None) c.as_slice.ensures cut.5 in
     let told = subst (λ k. Told (Took (file_text file.lines ++ last_line (codes "cut ") c.in-Cut.n)) (g.K.Sink.taken k) (g.K.Sink.taken c.cut.new.self.sink.now)) c.new-lines.ensures.sink file.told in
     record {
       reply = Cut file.lines;
-      steps = cut_steps g.R.Rack.counts g.R.Rack.bytes g.R.Rack.name c.args.path.now file.lines cut.1 a b (record { stands = keeps.stands; goes = keeps.goes }) are reads lost;
+      steps = cut_steps g.R.Rack c.args.path.now file.lines cut.1 a b (record { stands = keeps.stands; reads = keeps.goes; sound = keeps.sound }) are reads lost;
       output = subst (λ k. Told (Took (reply_line (Cut file.lines))) (g.K.Sink.taken c.args.sink.now) (g.K.Sink.taken k)) (search rules) (told_lines (file_text file.lines) (codes "cut ") (concat file.lines) c.in-Cut.n _ _ (ap length file.whole ∙ cut.2) told);
     }
 
@@ -56,11 +56,12 @@ returns-in_default g c =
     record {
       goes = search rules;
       levels = search rules;
-      answered = cat_nothing g.R.Rack.counts g.R.Rack.bytes g.R.Rack.name (TookBytes g.K.Sink.taken) (TookBytesPart g.K.Sink.taken) (λ (s : HexLines g.row.K.Denot). g.K.Sink.faults s.sink.now) c.new-lines.result c.cat.new.out
+      answered = cat_nothing g.R.Rack (TookBytes g.K.Sink.taken) (TookBytesPart g.K.Sink.taken) (λ (s : HexLines g.row.K.Denot). g.K.Sink.faults s.sink.now) c.new-lines.result c.cat.new.out
           c.as_slice.result.now c.args.path.now (g.K.Sink.taken c.args.sink.now) (g.K.Sink.taken c.send_nothing.new.sink) a b c.send_nothing.result c.cat.result
-          c.in_default.not-Given c.in_default.not-Cut c.in_default.not-SinkFault c.as_slice.ensures (record { stands = keeps.stands; goes = keeps.goes }) c.cat.ensures.rule
+          c.in_default.not-Given c.in_default.not-Cut c.in_default.not-SinkFault c.as_slice.ensures (record { stands = keeps.stands; reads = keeps.goes; sound = keeps.sound }) (λ none. let cause = c.cat.ensures.consults.cause none in (cause.block, cause.lost)) c.cat.ensures.rule
           (λ same reply is. subst (λ k. OnOk c.send_nothing.result (Told (Took (reply_line reply)) (g.K.Sink.taken k) (g.K.Sink.taken c.send_nothing.new.sink))) (search (rules, same)) (c.send_nothing.ensures.ok reply is));
       later = search rules;
+      kept = search rules;
       read = search rules;
       write = search rules;
     }

@@ -1,4 +1,4 @@
-use Rattle.std.proofs.Common.{subst, arith}
+use Rattle.std.proofs.Common.{refl, subst, arith, ◌∙◌}
 use Rattle.dg_model.specs.declared.shapes.Shape.{Shape}
 use Rattle.dg_run.specs.Buffers.{AreFor}
 use Rattle.dg_run.proofs.Inputs.{line_some}
@@ -7,38 +7,38 @@ use Rattle.dg_run.proofs.lines.serve_lines.Goals as goal
 
 pub loop-passed-init : goal.loop-passed-init
 loop-passed-init g c = record {
-  goes = goes_none g.R.Rack.counts g.R.Rack.bytes g.R.Rack.name c.args.store.now c.requires.ready;
+  goes = goes_none g.R.Rack c.args.store.now c.requires.sound;
   buffers = c.requires.buffers;
   budget = c.requires.first;
   number = omega arith;
-  so_far = so_far_none g.R.Rack.counts g.R.Rack.bytes _ c.args.first _ _ _;
-  source_later = omega arith;
-  sink_later = omega arith;
+  so_far = so_far_none g.R.Rack _ c.args.first _ _ _;
+  source_kept = refl;
+  sink_kept = refl;
 }
 
 pub loop-passed-preserved : goal.loop-passed-preserved
 loop-passed-preserved g c =
     let inv = c.loop-passed.invariant in
     let e = c.in_ok-bytes.ensures in
-    let line = turned_served g.R.Rack.counts g.R.Rack.bytes _ c.in-Served.bytes _ _ _ _ _ _ _ c.in-Served.is e.turned in
+    let line = turned_served g.R.Rack _ c.in-Served.bytes _ _ _ _ _ _ _ c.in-Served.is e.turned in
     let some = line_some line.event in
     record {
-      goes = goes_then g.R.Rack.counts g.R.Rack.bytes g.R.Rack.name _ _ _ inv.goes e.goes;
+      goes = goes_then g.R.Rack _ _ _ inv.goes e.goes;
       buffers = subst (λ (s : Shape). AreFor s.l c.serve_next.new.buffers) inv.goes.shape c.in_ok-bytes.ensures.buffers;
       budget = omega (arith, line.within, inv.budget);
       number = omega (arith, line.size, inv.number);
-      so_far = so_far_next g.R.Rack.counts g.R.Rack.bytes _ _ c.args.first _ _ _ c.in-Served.bytes _ _ _ _ _ _ _ _ _ inv.goes.shape inv.so_far line e.goes.shape e.goes.tells;
-      source_later = omega (arith, inv.source_later, e.source_later);
-      sink_later = omega (arith, inv.sink_later, e.sink_later);
+      so_far = so_far_next g.R.Rack _ _ c.args.first _ _ _ c.in-Served.bytes _ _ _ _ _ _ _ _ _ inv.goes.shape inv.so_far line e.goes.shape e.goes.tells;
+      source_kept = e.source_kept (λ is. cc is) ∙ inv.source_kept;
+      sink_kept = e.sink_kept (λ is. cc is) ∙ inv.sink_kept;
     }
 
 pub loop-passed-smaller : goal.loop-passed-smaller
 loop-passed-smaller g c =
-    let line = turned_served g.R.Rack.counts g.R.Rack.bytes _ c.in-Served.bytes _ _ _ _ _ _ _ c.in-Served.is c.in_ok-bytes.ensures.turned in
+    let line = turned_served g.R.Rack _ c.in-Served.bytes _ _ _ _ _ _ _ c.in-Served.is c.in_ok-bytes.ensures.turned in
     let some = line_some line.event in
     omega (arith, line.within, line.size, some)
 
 pub returns-in-End-clause-end : goal.returns-in-End-clause-end
 returns-in-End-clause-end g c =
     let inv = c.loop-passed.invariant in
-    lines_end g.R.Rack.counts g.R.Rack.bytes _ c.args.first _ _ _ _ _ _ _ _ _ _ _ _ _ c.in-End.is c.in_ok-bytes.ensures.turned inv.budget inv.so_far
+    lines_end g.R.Rack _ c.args.first _ _ _ _ _ _ _ _ _ _ _ _ _ c.in-End.is c.in_ok-bytes.ensures.turned inv.budget inv.so_far

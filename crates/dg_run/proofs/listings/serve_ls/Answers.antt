@@ -16,12 +16,12 @@ returns-in-Ok-clause-answered g c =
     let keeps = c.ls.ensures.keeps in
     let given = c.in-Given.ensures.rule in
     let entries = given.0 in
-    let read = subst (λ (p : List ℕ). Lists g.R.Rack.counts g.R.Rack.bytes g.R.Rack.name p a b (Some (Ok entries))) c.as_slice.ensures given.3 in
+    let read = subst (λ (p : List ℕ). Lists g.R.Rack p a b (Some (Ok entries))) c.as_slice.ensures given.3 in
     let taken = subst (λ k. Told (Took (entries_text entries)) (g.K.Sink.taken k) (g.K.Sink.taken c.ls.new.out.sink.now)) c.new-entries.ensures.sink given.2.told in
     let told = told_end (entries_text entries) (last_line (codes "end ") c.in-Given.n) _ _ _ taken c.in-Ok.ensures.ok in
     record {
       reply = Listed entries;
-      steps = listed_steps g.R.Rack.counts g.R.Rack.bytes g.R.Rack.name c.args.path.now entries a b (record { stands = keeps.stands; goes = keeps.goes }) read;
+      steps = listed_steps g.R.Rack c.args.path.now entries a b (record { stands = keeps.stands; reads = keeps.goes; sound = keeps.sound }) read;
       output = subst (λ k. Told (Took (reply_line (Listed entries))) (g.K.Sink.taken c.args.sink.now) (g.K.Sink.taken k)) (search rules) (told_lines (entries_text entries) (codes "end ") entries c.in-Given.n _ _ given.1 told);
     }
 
@@ -32,13 +32,13 @@ returns-in-Ok-cut-clause-answered g c =
     let keeps = c.ls.ensures.keeps in
     let cut = c.in-Cut.ensures.rule in
     let entries = cut.0 in
-    let read = subst (λ (p : List ℕ). Lists g.R.Rack.counts g.R.Rack.bytes g.R.Rack.name p a b (Some (Ok (entries ++ cut.1)))) c.as_slice.ensures cut.4 in
-    let lost = subst (λ (p : List ℕ). Lists g.R.Rack.counts g.R.Rack.bytes g.R.Rack.name p a b None) c.as_slice.ensures cut.5 in
+    let read = subst (λ (p : List ℕ). Lists g.R.Rack p a b (Some (Ok (entries ++ cut.1)))) c.as_slice.ensures cut.4 in
+    let lost = subst (λ (p : List ℕ). Lists g.R.Rack p a b None) c.as_slice.ensures cut.5 in
     let taken = subst (λ k. Told (Took (entries_text entries)) (g.K.Sink.taken k) (g.K.Sink.taken c.ls.new.out.sink.now)) c.new-entries.ensures.sink cut.3.told in
     let told = told_end (entries_text entries) (last_line (codes "cut ") c.in-Cut.n) _ _ _ taken c.in-Ok-cut.ensures.ok in
     record {
       reply = ListedCut entries;
-      steps = listed_cut_steps g.R.Rack.counts g.R.Rack.bytes g.R.Rack.name c.args.path.now entries cut.1 a b (record { stands = keeps.stands; goes = keeps.goes }) read lost;
+      steps = listed_cut_steps g.R.Rack c.args.path.now entries cut.1 a b (record { stands = keeps.stands; reads = keeps.goes; sound = keeps.sound }) read lost;
       output = subst (λ k. Told (Took (reply_line (ListedCut entries))) (g.K.Sink.taken c.args.sink.now) (g.K.Sink.taken k)) (search rules) (told_lines (entries_text entries) (codes "cut ") entries c.in-Cut.n _ _ cut.2 told);
     }
 
@@ -50,11 +50,12 @@ returns-in_default g c =
     record {
       goes = search rules;
       levels = search rules;
-      answered = ls_nothing g.R.Rack.counts g.R.Rack.bytes g.R.Rack.name (TookEntries g.K.Sink.taken) (TookEntriesPart g.K.Sink.taken) (λ (s : EntryLines g.row.K.Denot). g.K.Sink.faults s.sink.now) c.new-entries.result c.ls.new.out
+      answered = ls_nothing g.R.Rack (TookEntries g.K.Sink.taken) (TookEntriesPart g.K.Sink.taken) (λ (s : EntryLines g.row.K.Denot). g.K.Sink.faults s.sink.now) c.new-entries.result c.ls.new.out
           c.as_slice.result.now c.args.path.now (g.K.Sink.taken c.args.sink.now) (g.K.Sink.taken c.send_nothing.new.sink) a b c.send_nothing.result c.ls.result
-          c.in_default.not-Given c.in_default.not-Cut c.in_default.not-SinkFault c.as_slice.ensures (record { stands = keeps.stands; goes = keeps.goes }) c.ls.ensures.rule
+          c.in_default.not-Given c.in_default.not-Cut c.in_default.not-SinkFault c.as_slice.ensures (record { stands = keeps.stands; reads = keeps.goes; sound = keeps.sound }) (λ none. let cause = c.ls.ensures.consults.cause none in (cause.block, cause.lost)) c.ls.ensures.rule
           (λ same reply is. subst (λ k. OnOk c.send_nothing.result (Told (Took (reply_line reply)) (g.K.Sink.taken k) (g.K.Sink.taken c.send_nothing.new.sink))) (search (rules, same)) (c.send_nothing.ensures.ok reply is));
       later = search rules;
+      kept = search rules;
       read = search rules;
       write = search rules;
     }

@@ -8,12 +8,12 @@ pub returns-clause-done : goal.returns-clause-done
 returns-clause-done g c is =
     let n = c.in_ok-store.ensures in
     let s = c.serve_array-status in
-    let all = array_replayed g.R.Rack.counts g.R.Rack.bytes c.args.shape c.args.first c.args.rack c.in_ok-store.store s.new.store c.requires.first c.requires.shape n.blank n.stands _ _ _ _ (s.ensures.done is) in
+    let all = array_replayed g.R.Rack c.args.shape c.args.first c.args.rack c.in_ok-store.store s.new.store c.requires.first c.requires.shape n _ _ _ _ (s.ensures.done is) in
     subst (λ r. ArrayReplayed (g.R.Rack.counts c.args.rack) (g.R.Rack.counts r) (g.R.Rack.bytes r) c.args.shape (ahead c.args.input.now (g.S.Source.left c.args.source.now)) (ahead s.new.input (g.S.Source.left s.new.source)) (g.K.Sink.taken c.args.sink.now) (g.K.Sink.taken s.new.sink)) (sym c.into_rack.ensures) all
 
 pub returns-clause-bad_line : goal.returns-clause-bad_line
 returns-clause-bad_line g c is =
     let n = c.in_ok-store.ensures in
     let s = c.serve_array-status in
-    let all = array_stopped g.R.Rack.counts g.R.Rack.bytes c.args.shape c.args.first c.args.rack c.in_ok-store.store s.new.store c.requires.first c.requires.shape n.blank n.stands _ _ _ _ (s.ensures.bad_line is) in
+    let all = array_stopped g.R.Rack c.args.shape c.args.first c.args.rack c.in_ok-store.store s.new.store c.requires.first c.requires.shape n _ _ _ _ (s.ensures.bad_line is) in
     subst (λ r. ArrayStopped (g.R.Rack.counts c.args.rack) (g.R.Rack.counts r) (g.R.Rack.bytes r) c.args.shape (ahead c.args.input.now (g.S.Source.left c.args.source.now)) (ahead s.new.input (g.S.Source.left s.new.source)) (g.K.Sink.taken c.args.sink.now) (g.K.Sink.taken s.new.sink)) (sym c.into_rack.ensures) all

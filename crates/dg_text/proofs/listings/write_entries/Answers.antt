@@ -1,4 +1,4 @@
-use Rattle.std.proofs.Common.{◌≡◌, ℕ, List, arith}
+use Rattle.std.proofs.Common.{◌∙◌, ◌≡◌, ℕ, List, arith}
 use Rattle.dg_text.specs.Listings.{line_in}
 use Rattle.dg_text.specs.ToldSteps.{on_err}
 use Rattle.dg_text.proofs.FileLines.{took_line_more, took_part_of_lines}
@@ -27,5 +27,5 @@ loop-entry-preserved g c =
     record {
       told = took_line_more (line_in c.args.form) c.args.entries.now c.loop-entry.entry-index entry _ c.loop-entry-test.true c.entry-item.is same
           _ _ _ c.loop-entry.invariant.told c.in_ok-write_entry_line.ensures.ok;
-      later = omega (arith, c.in_ok-write_entry_line.ensures.cause.later, c.loop-entry.invariant.later);
+      kept = c.in_ok-write_entry_line.ensures.cause.kept ∙ c.loop-entry.invariant.kept;
     }

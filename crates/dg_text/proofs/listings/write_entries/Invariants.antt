@@ -1,4 +1,4 @@
-use Rattle.std.proofs.Common.{◌≤◌, take}
+use Rattle.std.proofs.Common.{◌≡◌, take}
 use Rattle.dg_io.specs.Told.{Told, Took}
 use Rattle.dg_text.specs.Listings.{listing_text}
 use Rattle.dg_text.proofs.listings.write_entries.Given as goal
@@ -6,5 +6,5 @@ use Rattle.dg_text.proofs.listings.write_entries.Given as goal
 abbrev pub invariant-loop-entry : goal.invariant-loop-entry
 invariant-loop-entry g l = record {
   told : Told (Took (listing_text l.form (take l.entry-index l.entries))) (g.K.Sink.taken l.fn.sink) (g.K.Sink.taken l.sink);
-  later : g.K.Sink.faults l.fn.sink ≤ g.K.Sink.faults l.sink;
+  kept : g.K.Sink.faults l.sink ≡ g.K.Sink.faults l.fn.sink;
 }

@@ -25,5 +25,5 @@ loop-at-preserved g c =
     record {
       within = omega (arith, c.in_ok-count.ensures.within, c.split_at.ensures.back_len);
       took = subst P whole (took_then g.K.Sink.taken c.args.self.now c.loop-at.self c.fill.new.self (take at bytes) (take n c.split_at.result.1.now) c.loop-at.invariant.took c.in_ok-count.ensures.ok);
-      later = omega (arith, c.in_ok-count.ensures.cause.later, c.loop-at.invariant.later);
+      kept = c.in_ok-count.ensures.cause.kept ∙ c.loop-at.invariant.kept;
     }
