@@ -149,26 +149,28 @@ module _ {R : Type 0} (rack : Ghosts R) where
       let next = state_of rack b (touched_rest a path rest V) V in (
         next,
         still a b (touched_rest a path rest V) V label keeps holds,
-        (are,
-        record {
-          rule = λ told. reads.rule told V (holds (told_before rack a b keeps.reads.keeps.shape keeps.reads.keeps.stays.tells told));
-          cause = tt;
-          unwritten = keeps.reads.writes;
-        },
-        record {
-          goes = goes_plain (state_of rack a rest V) next label label keeps.reads.keeps.stays.rise keeps.reads.keeps.falls keeps.sound.paired;
-          i = inode_at a path V;
-          is = λ told.
-              let rule = reads.rule told V (holds (told_before rack a b keeps.reads.keeps.shape keeps.reads.keeps.stays.tells told)) in
-              file_number (shape_of a).l (shape_of a).n path V (concat lines) (sym rule.answer);
-          rest = λ j. record rest {
-            table = keeps.reads.table j;
-            blocks = V;
-            members = members_of b;
-            counts = rack.counts (rack_of b);
-            recent = recent_after rest.phase (inode_at a path V) rest.recent;
-          };
-        }),
+        (
+          are,
+          record {
+            rule = λ told. reads.rule told V (holds (told_before rack a b keeps.reads.keeps.shape keeps.reads.keeps.stays.tells told));
+            cause = tt;
+            unwritten = keeps.reads.writes;
+          },
+          record {
+            goes = goes_plain (state_of rack a rest V) next label label keeps.reads.keeps.stays.rise keeps.reads.keeps.falls keeps.sound.paired;
+            i = inode_at a path V;
+            is = λ told.
+                let rule = reads.rule told V (holds (told_before rack a b keeps.reads.keeps.shape keeps.reads.keeps.stays.tells told)) in
+                file_number (shape_of a).l (shape_of a).n path V (concat lines) (sym rule.answer);
+            rest = λ j. record rest {
+              table = keeps.reads.table j;
+              blocks = V;
+              members = members_of b;
+              counts = rack.counts (rack_of b);
+              recent = recent_after rest.phase (inode_at a path V) rest.recent;
+            };
+          },
+        ),
       ))
 
   -- what was cut short

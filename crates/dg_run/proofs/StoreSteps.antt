@@ -45,8 +45,8 @@ struck_same q old new paired out struck p = elim (cases_eq p q) [
   | inr other ↦ elim (struck.others p other) [
     | inl same ↦ same
     | inr gone ↦
-    let good : is_good (old q) ≡ true = subst (λ (k : ℕ). is_good (old k) ≡ true) gone.2 (paired p gone.0) in
-    absurd (false≢true (sym (ap is_good out) ∙ good))
+        let good : is_good (old q) ≡ true = subst (λ (k : ℕ). is_good (old k) ≡ true) gone.2 (paired p gone.0) in
+        absurd (false≢true (sym (ap is_good out) ∙ good))
   ]
 ]
 
@@ -174,13 +174,17 @@ module _ {R : Type 0} (rack : Ghosts R) where
         next,
         in_state new (written_rest a b new rest W) W label
             (λ told. subst (λ (x : List ℕ). StandsFor rack new (slice_set V b x)) pads (stored.sets V (holds (told_before a new h.leaves.keeps.shape h.leaves.keeps.stays.tells told)))),
-        (h.within, h.whole, record {
-          goes = goes_plain (state_of rack a rest V) next label label h.leaves.keeps.stays.rise h.leaves.keeps.falls h.leaves.sound.paired;
-          few = few_calls (TellsAll rack new) (state_of rack a rest V) b next h.most;
-          sited = stored.sited;
-          marks = next_are (has_lost (shape_of new) (members_of new)) (TellsAll rack new) (shape_of a).l (shape_of a).n W (with_mark rest.pending b);
-          rest = refl;
-        }),
+        (
+          h.within,
+          h.whole,
+          record {
+            goes = goes_plain (state_of rack a rest V) next label label h.leaves.keeps.stays.rise h.leaves.keeps.falls h.leaves.sound.paired;
+            few = few_calls (TellsAll rack new) (state_of rack a rest V) b next h.most;
+            sited = stored.sited;
+            marks = next_are (has_lost (shape_of new) (members_of new)) (TellsAll rack new) (shape_of a).l (shape_of a).n W (with_mark rest.pending b);
+            rest = refl;
+          },
+        ),
       ))
 
   pub steps_lost : (a : Store R) (b : ℕ) (bytes : List ℕ) (new : Store R) → HasWritten a b new → IsAllLost rack b a new → StepsTo rack a (Write b bytes) Degraded new
