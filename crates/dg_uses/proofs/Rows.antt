@@ -164,7 +164,7 @@ stops one before now bytes (Array s ∷ []) replies text taken ran is stop took 
     took ∙ ap (λ (l : List Reply). output_of l ++ refusal 2 Form) (array_alone (TellsBoundaries bytes ran.final) before s replies ran.final ran.trace) ∙ refused_output
 stops one before now bytes (Array s ∷ event ∷ es) replies text taken ran is stop took =
     let split = one None (Array shape_here) (Array s) (codes "reed 3\n") (input_of (event ∷ es) ++ text) shape_is ran.in_place.0
-        (sym refused_text ∙ is ∙ append_assoc (line_of (Array s)) (input_of (event ∷ es)) text) in
+    (sym refused_text ∙ is ∙ append_assoc (line_of (Array s)) (input_of (event ∷ es)) text) in
     absurd (no_reed s event (input_of es ++ text) (All-head (IsInPlace (Some s)) event es ran.in_place.1) (split.1 ∙ append_assoc (line_of event) (input_of es) text))
 stops one before now bytes (event ∷ es) replies text taken ran is stop took = absurd ran.in_place
 
