@@ -1,6 +1,6 @@
 // A member that is replaced is refilled, noted on and made longer. Four blocks of 512 bytes over two boundaries of two
 // counted slots.
-ghost use Rattle.std.specs.Prelude.{◌≡◌, ◌<◌};
+ghost use Rattle.std.specs.Prelude.{◌≡◌, ◌<◌, IfOk};
 ghost use Rattle.dg_store.specs.Stores.{IsSound, shape_of};
 
 use super::*;
@@ -134,6 +134,18 @@ fn live<R: Rack>(store: &mut Store<R>) -> Outcome
     (replaced, noted, read, lost, reaped)
 }
 
+// What an opening makes of the parts of a store.
+fn reopened<R: Rack>(alloc: Global, store: Store<R>) -> Result<Store<R>, dg_io::NoMemory>
+where
+    R: Drop,
+    requires { IsSound R.Rack store }
+    ensures { IfOk result (λ again. IsSound R.Rack again) }
+{
+    let shape = *store.shape();
+    let (rack, map, boundaries) = store.into_parts();
+    Store::opened(alloc, rack, shape, map, boundaries)
+}
+
 // The same over members of which one call fails, and then once more over what an opening makes of the parts.
 fn outcome(rt: &impl Abort, alloc: Global, fails: u64) -> Result<Outcome, Fail> {
     let shape = Shape::check(512, 4, 2, 2, 1).ok_or("shape")?;
@@ -145,8 +157,7 @@ fn outcome(rt: &impl Abort, alloc: Global, fails: u64) -> Result<Outcome, Fail> 
     };
     let outcome = live(&mut store);
     let lost = store.lost();
-    let (rack, map, boundaries) = store.into_parts();
-    let Ok(again) = Store::opened(alloc, rack, shape, map, boundaries) else {
+    let Ok(again) = reopened(alloc, store) else {
         return Err("again".into());
     };
     assert_eq!(rt; again.lost(), lost);
