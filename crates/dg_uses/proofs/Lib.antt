@@ -2,3 +2,8 @@ pub mod Cores
 pub mod StepViews
 pub mod OneView
 pub mod Chains
+pub mod Ran
+pub mod Results
+pub mod Prints
+pub mod Rows
+pub mod Refused

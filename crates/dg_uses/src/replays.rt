@@ -1,0 +1,89 @@
+// Replays between objects in memory.
+ghost use Rattle.std.specs.Prelude.{◌≡◌, IfOk, codes, map, string_bytes};
+ghost use Rattle.dg_io.specs.Sinks.{taken_in};
+ghost use Rattle.dg_run.specs.Replays.{IsReplay};
+ghost use Rattle.dg_uses.specs.Replays.{HasReplayed, HasStopped, NeverFailed};
+
+use dg_io::{MemRack, MemSink, MemSource, NoMemory};
+use dg_run::{Status, run};
+use dg_text::{input_is_unique, line_is_unique};
+use std::alloc::Global;
+
+// Members of the array 1024 64 4 32 2, and the bytes of each: those of a label, of its slots, of a spare one, and of a saved state.
+const MEMBERS: u8 = 8;
+
+const LENGTH: u64 = 65_536;
+
+// Bytes of all replies of a short trace.
+const OUTPUT: usize = 256;
+
+/// A replay that came to an end: how, and what its objects hold then.
+#[derive(Drop)]
+pub struct Replay {
+    pub status: Status,
+    pub source: MemSource,
+    pub sink: MemSink,
+    pub rack: MemRack,
+}
+
+// The words of a replay.
+fn replay_words(alloc: Global) -> Result<Vec<String>, NoMemory>
+    ensures { IfOk result (λ words. IsReplay (map string_bytes words.items)) }
+{
+    let mut words = Vec::new(alloc);
+    let Ok(word) = String::from_str(alloc, "replay") else {
+        return Err(NoMemory);
+    };
+    let Ok(()) = words.push(word) else {
+        return Err(NoMemory);
+    };
+    Ok(words)
+}
+
+/// Replays a text over a new rack.
+pub fn replay_text(alloc: Global, text: &[u8]) -> Result<Replay, NoMemory>
+    ensures done { IfOk result (λ end. end.status ≡ Status.Done → HasReplayed text.now end) }
+    ensures bad_line { IfOk result (λ end. end.status ≡ Status.BadLine → HasStopped text.now end) }
+{
+    let words = replay_words(alloc)?;
+    let Ok(bytes) = Vec::from_slice(alloc, text) else {
+        return Err(NoMemory);
+    };
+    let mut source = MemSource::new(bytes, Vec::new(alloc));
+    let mut sink = MemSink::new(alloc, OUTPUT, Vec::new(alloc))?;
+    let mut rack = MemRack::new(alloc, MEMBERS, LENGTH, Vec::new(alloc))?;
+    let status = run(alloc, &words, &mut source, &mut sink, &mut rack);
+    Ok(Replay {
+        status,
+        source,
+        sink,
+        rack,
+    })
+}
+
+/// A block is written and read.
+pub fn read_what_was_written(alloc: Global) -> Result<Replay, NoMemory>
+    ensures { IfOk result (λ end. end.status ≡ Status.Done → NeverFailed end → taken_in end.sink ≡ codes "ok\nok\ndata 6869\n") }
+{
+    input_is_unique();
+    replay_text(alloc, b"array 1024 64 4 32 2\nwrite 3 6869\nread 3\n")
+}
+
+/// A member fails between two writes of a block, and the block is read.
+pub fn read_past_a_failure(alloc: Global) -> Result<Replay, NoMemory>
+    ensures { IfOk result (λ end. end.status ≡ Status.Done → NeverFailed end → taken_in end.sink ≡ codes "ok\nok\nok\nok\ndata bb\n") }
+{
+    input_is_unique();
+    replay_text(
+        alloc,
+        b"array 1024 64 4 32 2\nwrite 3 aa\nfail 3 0\nwrite 3 bb\nread 3\n",
+    )
+}
+
+/// The second line is refused.
+pub fn refuse_the_second_line(alloc: Global) -> Result<Replay, NoMemory>
+    ensures { IfOk result (λ end. end.status ≡ Status.BadLine → taken_in end.sink ≡ codes "ok\nline 2 form\n") }
+{
+    line_is_unique();
+    replay_text(alloc, b"array 1024 64 4 32 2\nreed 3\n")
+}
