@@ -13,7 +13,7 @@ use Rattle.dg_model.specs.declared.replies.Reply.TheVariants.{Done}
 use Rattle.dg_run.specs.Replays.{Ran}
 use Rattle.dg_text.specs.Lines.{AreInPlace, input_of}
 use Rattle.dg_text.specs.Replies.{output_of}
-use Rattle.dg_uses.specs.Replays.{HasReplayed, IsSmooth, NeverFailed}
+use Rattle.dg_uses.specs.Replays.{AreNone, HasReplayed, IsSmooth, NeverFailed, RanSmoothly}
 use Rattle.dg_uses.specs.Views.{Core, Views, blank_core}
 use Rattle.dg_uses.specs.declared.replays.Replay.{Replay}
 use Rattle.dg_uses.proofs.Ran.{ran_views}
@@ -22,11 +22,11 @@ use Rattle.dg_uses.proofs.Ran.{ran_views}
 abbrev pub OneInput : Type 0
 OneInput = (events others : List Event) → AreInPlace events → AreInPlace others → input_of events ≡ input_of others → events ≡ others
 
-smooth_from : (before now : Counts) (bytes : ℕ → Option (List ℕ)) → ((q : ℕ) → before.faults q ≡ 0) → NoneRose (λ q. 0) now.faults
-    → ((q : ℕ) → IsSome (bytes q)) → IsSmooth before now bytes
+smooth_from : (before now : Counts) (bytes : ℕ → Option (List ℕ)) → AreNone before → NoneRose (λ q. 0) now.faults → ((q : ℕ) → IsSome (bytes q))
+    → IsSmooth before now bytes
 smooth_from before now bytes new none tells = record {
   tells = tells;
-  none = subst (λ (f : ℕ → ℕ). NoneRose f now.faults) (λ i q. sym (new q) i) none;
+  none = subst (λ (f : ℕ → ℕ). NoneRose f now.faults) (λ i q. sym (new.faults q) i) none;
 }
 
 pub prints : OneInput → (shape : Shape) (events : List Event) (chain : List Reply) (last : Core) → AreInPlace (Array shape ∷ events)
@@ -37,6 +37,11 @@ prints one shape events chain last places views text spelled end did never =
     let same : replayed.events ≡ Array shape ∷ events =
     one replayed.events (Array shape ∷ events) replayed.ran.in_place places (sym replayed.input.0 ∙ spelled) in
     let ran = subst (λ (es : List Event). Ran did.before (counts_in end.rack) (member_in end.rack) es replayed.replies) same replayed.ran in
-    let smooth = smooth_from did.before (counts_in end.rack) (member_in end.rack) did.new never (λ q. refl) in
-    replayed.output
-    ∙ ap output_of (ran_views did.before (counts_in end.rack) (member_in end.rack) shape events replayed.replies chain last smooth ran views)
+    let smoothly : RanSmoothly (Array shape ∷ events) replayed.replies = record {
+      before = did.before;
+      now = counts_in end.rack;
+      bytes = member_in end.rack;
+      smooth = smooth_from did.before (counts_in end.rack) (member_in end.rack) did.new never (λ q. refl);
+      ran = ran;
+    } in
+    replayed.output ∙ ap output_of (ran_views shape events replayed.replies chain last smoothly views)
