@@ -5,4 +5,9 @@ mod Rows
 pub mod Chains
 pub mod Cores
 pub mod OneView
-pub mod StepViews
+pub mod Chains
+pub mod Ran
+pub mod Results
+pub mod Prints
+pub mod Rows
+pub mod Refused
