@@ -1,9 +1,5 @@
-mod Flat
-mod Lines
-mod Results
-mod Rows
-pub mod Chains
 pub mod Cores
+pub mod StepViews
 pub mod OneView
 pub mod Chains
 pub mod Ran
