@@ -4,6 +4,8 @@
 
 mod laws;
 mod replays;
+#[cfg(test)]
+mod tests;
 
 pub use laws::{replies_are_a_function, replies_by_views};
 pub use replays::{

@@ -1,0 +1,27 @@
+use crate::{read_past_a_failure, read_what_was_written, refuse_the_second_line};
+use dg_run::Status;
+use std::test::Fail;
+
+#[test]
+fn a_written_block_is_read(rt: HostRuntime) -> Result<(), Fail> {
+    let end = read_what_was_written(rt.alloc())?;
+    assert_eq!(rt; end.status, Status::Done);
+    assert!(rt; end.sink.taken() == "ok\nok\ndata 6869\n".as_bytes());
+    Ok(())
+}
+
+#[test]
+fn a_block_is_read_past_a_failure(rt: HostRuntime) -> Result<(), Fail> {
+    let end = read_past_a_failure(rt.alloc())?;
+    assert_eq!(rt; end.status, Status::Done);
+    assert!(rt; end.sink.taken() == "ok\nok\nok\nok\ndata bb\n".as_bytes());
+    Ok(())
+}
+
+#[test]
+fn a_second_line_is_refused(rt: HostRuntime) -> Result<(), Fail> {
+    let end = refuse_the_second_line(rt.alloc())?;
+    assert_eq!(rt; end.status, Status::BadLine);
+    assert!(rt; end.sink.taken() == "ok\nline 2 form\n".as_bytes());
+    Ok(())
+}
