@@ -1,5 +1,5 @@
 -- One block that is read, and fetches one after another.
-use Rattle.std.proofs.Common.{◌≡◌, ◌∙◌, ℕ, ◌+◌, List, Bool, true, false, Option, sym, ap, arith}
+use Rattle.std.proofs.Common.{◌≡◌, ◌∙◌, ℕ, ◌+◌, List, Bool, true, false, ap, arith}
 use Rattle.std.specs.Bool.{then_some}
 use Rattle.std.proofs.lemmas.Bool.{false≢true}
 use Rattle.ufs_model.specs.Blocks.{Volume, area_of, bind, block_at}

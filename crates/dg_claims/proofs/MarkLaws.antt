@@ -1,5 +1,5 @@
 -- What a change of the sources of one fragment does.
-use Rattle.std.proofs.Common.{◌≡◌, ℕ, suc, ◌+◌, ◌-◌, ◌^◌, ◌<◌, ◌≤◌, ◌↔◌, ◌⊎◌, ◌∙◌, ◌==◌, ◌||◌, inl, inr, List, [], ◌∷◌, Bool, true, false, Contains, Option, Some, None, IfOk, IfSome, IfNone, length, map, refl, sym, ap, subst, arith, get_or-set_same, get_or-set_other, length-set, MatchResult, Result, Ok, Err, Decides, Less, Equal, Greater}
+use Rattle.std.proofs.Common.{◌≡◌, ℕ, suc, ◌-◌, ◌^◌, ◌<◌, ◌↔◌, ◌⊎◌, ◌∙◌, ◌==◌, ◌||◌, inl, inr, List, [], ◌∷◌, Bool, true, false, Contains, Option, Some, None, IfOk, IfSome, IfNone, length, map, refl, sym, ap, subst, arith, get_or-set_same, get_or-set_other, length-set, MatchResult, Result, Ok, Err, Decides, Less}
 use Rattle.std.specs.BTreeMap.{BTreeMap, is_at}
 use Rattle.std.specs.BTreeSet.{BTreeSet, insert_key}
 use Rattle.std.specs.List.{list_any}
@@ -16,7 +16,6 @@ use Rattle.dg_claims.specs.Places.{mark_cmp, mark_of}
 use Rattle.dg_claims.specs.declared.marks.Marks.{Marks}
 use Rattle.dg_claims.specs.declared.places.Mark.{Mark}
 use Rattle.dg_claims.specs.declared.places.Place.{Place}
-use Rattle.dg_claims.specs.declared.places.Place.TheVariants.{Slot, Pointer}
 
 -- ---- sources with their levels, and without
 

@@ -1,7 +1,6 @@
 -- Which blocks are read for the claims of a volume, and what its claims are by its geometry.
-use Rattle.std.proofs.Common.{◌≡◌, ◌∙◌, ℕ, ◌*◌, ◌<◌, ◌≤◌, ◌↔◌, List, [], Bool, true, false, cond, inl, inr, Option, Some, None, Result, Ok, Err, refl, sym, ap, subst, arith, All, Contains}
+use Rattle.std.proofs.Common.{◌≡◌, ◌∙◌, ℕ, ◌<◌, ◌≤◌, List, [], Bool, true, false, cond, inl, inr, Option, Some, None, Result, Ok, Err, refl, sym, ap, subst, arith, Contains}
 use Rattle.std.proofs.lemmas.List.{append-nil}
-use Rattle.std.proofs.lemmas.List.Elements.{All-contains_itself, All-weaker}
 use Rattle.ufs_model.specs.Blocks.{Volume, bind}
 use Rattle.ufs_model.specs.Claims.{IsClaim, IsClaimedAt, by_pointer, by_slot, level_of, slot_fragments_in, source_fragments, source_fragments_in, volume_fragments}
 use Rattle.ufs_model.specs.Inodes.{inode_of, is_inode_number}
@@ -16,7 +15,7 @@ use Rattle.dg_claims.proofs.SourceLaws.{past_slots}
 use Rattle.ufs_pointer.specs.Fetches.{IsNeeded}
 use Rattle.ufs_model.specs.Metadata.{IsMetadata, IsMetadataBy, by_geometry, of_indirect, of_inode, of_superblock}
 use Rattle.dg_claims.specs.Scans.{HasInode, IsIndirect, IsRightAbove}
-use Rattle.dg_claims.specs.Tables.{ClaimTable, HasClaims, IsLeveled, IsTableOf, TableClaims, accepted}
+use Rattle.dg_claims.specs.Tables.{ClaimTable, HasClaims, IsLeveled, IsTableOf, accepted}
 
 -- ---- the superblock's blocks
 

@@ -1,5 +1,5 @@
 -- The order of sources with their levels, lists in that order, and that it is the order of the claims on a fragment.
-use Rattle.std.proofs.Common.{◌≡◌, ℕ, ◌<◌, ◌≤◌, ◌⊎◌, ◌↔◌, ◌∙◌, inl, inr, List, [], ◌∷◌, suc, ◌+◌, Bool, true, false, cond, Contains, length, refl, sym, ap, subst, arith, rules, Ordering, Less, Equal, Greater}
+use Rattle.std.proofs.Common.{◌≡◌, ◌≤◌, ◌⊎◌, ◌↔◌, ◌∙◌, inl, inr, List, [], ◌∷◌, suc, ◌+◌, true, false, cond, Contains, length, refl, sym, ap, arith, rules, Ordering, Less, Equal, Greater}
 use Rattle.std.proofs.lemmas.Bool.{false≢true}
 use Rattle.std.proofs.lemmas.Bool.Decides.{nat_tests}
 use Rattle.std.proofs.lemmas.Grind.{common_steps}
@@ -9,7 +9,7 @@ use Rattle.std.specs.Cmp.{IsTotalOrder}
 use Rattle.std.specs.List.Sorted.{IsStrictlySortedBy}
 use Rattle.std.specs.Ordering.{is_eq, match_ordering, ordering_reverse}
 use Rattle.std.specs.Set.{remove_key}
-use Rattle.ufs_model.specs.Claims.{is_earlier_claim, level_of}
+use Rattle.ufs_model.specs.Claims.{is_earlier_claim}
 use Rattle.dg_claims.proofs.ListLaws.{contains_cons, contains_none, holds_of}
 use Rattle.dg_claims.specs.Marks.{AreOrdered}
 use Rattle.dg_claims.specs.Places.{mark_cmp, mark_of, source_of}

@@ -1,7 +1,7 @@
 -- The sources of a fragment, in the order of claims, and its owner.
-use Rattle.std.proofs.Common.{◌≡◌, ℕ, zero, suc, ◌<◌, ◌↔◌, ◌∙◌, inl, inr, List, [], ◌∷◌, All, Contains, Option, Some, None, IfSome, IfNone, length, map, true, refl, sym, ap, subst, arith, Less}
+use Rattle.std.proofs.Common.{◌≡◌, ℕ, zero, suc, ◌↔◌, ◌∙◌, inl, inr, List, [], ◌∷◌, All, Contains, Option, Some, None, IfSome, IfNone, length, map, true, refl, sym, ap, subst, arith, Less}
 use Rattle.std.specs.List.{AllPairs}
-use Rattle.std.specs.Prelude.{option_map, slice_get, slice_index_or}
+use Rattle.std.specs.Prelude.{option_map, slice_get}
 use Rattle.std.proofs.lemmas.Bool.Decides.{nat_tests}
 use Rattle.std.proofs.lemmas.List.Elements.{All-cons, All-nil}
 use Rattle.std.proofs.lemmas.List.Kept.{AllPairs-cons}

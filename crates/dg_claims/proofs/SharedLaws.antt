@@ -1,5 +1,5 @@
 -- Which fragments are shared, and with how many claims.
-use Rattle.std.proofs.Common.{◌≡◌, ◌∙◌, ℕ, ◌+◌, ◌-◌, ◌<◌, ◌≤◌, List, Option, Some, None, IfSome, IfNone, length, sym, ap, subst, arith}
+use Rattle.std.proofs.Common.{◌≡◌, ◌∙◌, ℕ, ◌+◌, ◌-◌, ◌≤◌, Option, Some, None, IfSome, IfNone, length, sym, ap, subst, arith}
 use Rattle.ufs_model.specs.Claims.{HasClaimCount, level_of}
 use Rattle.ufs_model.specs.Owners.{IsOnlyClaim, IsShared, by_chain, by_itself}
 use Rattle.ufs_model.specs.declared.claims.ClaimSource.{ClaimSource}

@@ -30,6 +30,11 @@ use Rattle.dg_store.proofs.Rows.{set_changed}
 abbrev pub IsLong : Shape → Option (List ℕ) → Type 0
 IsLong shape told = IfSome told (λ all. member_length 1 shape ≤ length all)
 
+-- a label fits before the slots
+pub label_fits : (shape : Shape) (told : Option (List ℕ)) → IsLong shape told → IfSome told (λ all. 512 ≤ length all)
+label_fits shape None long = tt
+label_fits shape (Some all) long = omega (arith, long)
+
 -- ---- replacements
 
 replaced_here : (p : ℕ) (members : ℕ → MemberState) → replaced Replaced p members p ≡ Filling 0

@@ -2,6 +2,7 @@
 use Rattle.std.specs.Prelude.{◌≡◌, ◌≢◌, ◌+◌, ◌/◌, ◌<◌, ℕ, true, List, Option, IsSome}
 use Rattle.std.specs.List.{All, Contains}
 use Rattle.dg_io.specs.declared.outside.Rack.{Ghosts}
+use Rattle.dg_model.specs.Blocks.{block_in}
 use Rattle.dg_model.specs.Members.{is_lost, MembersFall, SlotHolds}
 use Rattle.dg_model.specs.declared.members.MemberState.{MemberState}
 use Rattle.dg_model.specs.declared.members.MemberState.TheVariants.{Good, Out}
@@ -11,6 +12,8 @@ use Rattle.dg_pair.specs.declared.boundaries.Boundary.{Boundary}
 use Rattle.dg_pair.specs.Calls.{KeepsBeside}
 use Rattle.dg_store.specs.Leaves.{RackStays}
 use Rattle.dg_store.specs.Rows.{IsRow, members_in}
+use Rattle.dg_store.specs.Stores.{StandsFor}
+use Rattle.dg_store.specs.declared.store.Store.{Store}
 
 -- what a call on slots leaves of boundaries over their rack
 pub record RowKeeps {R : Type 0} (rack : Ghosts R) (shape : Shape) (was : List Boundary) (old : R) (now : List Boundary) (new : R) : Type 0 where
@@ -60,3 +63,7 @@ TellsAt members bytes s = (q : ℕ) → q / 2 ≡ s → members q ≡ Good → I
 -- so do those of the boundaries of these sites
 abbrev pub SitesTell : (ℕ → MemberState) → (ℕ → Option (List ℕ)) → List Site → Type 0
 SitesTell members bytes sites = All (λ site. TellsAt members bytes site.boundary) sites
+
+-- it stands for what it stood for where its copy of block b was right
+abbrev pub PutsBlock : {R : Type 0} → Ghosts R → Store R → ℕ → Store R → Type 0
+PutsBlock rack old b new = (V : List (List ℕ)) → StandsFor rack old V → old.block.items ≡ block_in V b → StandsFor rack new V

@@ -62,10 +62,6 @@ KeepsBlocks rack old new = (V : List (List ℕ)) → StandsFor rack old V → St
 abbrev pub SetsBlock : {R : Type 0} → Ghosts R → Store R → ℕ → List ℕ → Store R → Type 0
 SetsBlock rack old b value new = (V : List (List ℕ)) → StandsFor rack old V → StandsFor rack new (slice_set V b value)
 
--- it stands for what it stood for where its copy of block b was right
-abbrev pub PutsBlock : {R : Type 0} → Ghosts R → Store R → ℕ → Store R → Type 0
-PutsBlock rack old b new = (V : List (List ℕ)) → StandsFor rack old V → old.block.items ≡ block_in V b → StandsFor rack new V
-
 -- in all that it stands for, block b has this value
 abbrev pub HasBlock : {R : Type 0} → Ghosts R → Store R → ℕ → List ℕ → Type 0
 HasBlock rack store b value = (V : List (List ℕ)) → StandsFor rack store V → value ≡ block_in V b

@@ -140,13 +140,15 @@ fn outcome(rt: &impl Abort, alloc: Global, fails: u64) -> Result<Outcome, Fail> 
     let mut calls = Vec::new(alloc);
     calls.push(fails)?;
     let rack = MemRack::new(alloc, 4, 4096, calls).ok().ok_or("rack")?;
-    let mut store = Store::new(alloc, rack, shape).ok().ok_or("store")?;
+    let Ok(mut store) = Store::new(alloc, rack, shape) else {
+        return Err("store".into());
+    };
     let outcome = live(&mut store);
     let lost = store.lost();
     let (rack, map, boundaries) = store.into_parts();
-    let again = Store::opened(alloc, rack, shape, map, boundaries)
-        .ok()
-        .ok_or("again")?;
+    let Ok(again) = Store::opened(alloc, rack, shape, map, boundaries) else {
+        return Err("again".into());
+    };
     assert_eq!(rt; again.lost(), lost);
     Ok(outcome)
 }

@@ -13,8 +13,8 @@ ghost use Rattle.dg_pair.specs.Calls.{KeepsBeside, copied, replaced};
 ghost use Rattle.dg_store.specs.Answers.{ChangesAt, HasAllSlots, HasFreeSlot, HasNextSlot, IsAllLost, IsBlankStore, IsFull, IsPlaced, IsStored, IsUnchanged, SameWritten, reaped};
 ghost use Rattle.dg_store.specs.Leaves.{BytesChange, CallsAtMost, FaultRose, HasCalled, HasWritten, Leaves, NoFault, OnlyBytesOf, OnlyFaultsOf, Stays};
 ghost use Rattle.dg_store.specs.Rows.{IsRow, members_in};
-ghost use Rattle.dg_store.specs.Slots.{SitesTell};
-ghost use Rattle.dg_store.specs.Stores.{rack_of, table_of, shape_of, members_of, HasBlock, IsSound, KeepsBlocks, PutsBlock, SetsBlock, Tells, lost_bits};
+ghost use Rattle.dg_store.specs.Slots.{PutsBlock, SitesTell};
+ghost use Rattle.dg_store.specs.Stores.{rack_of, table_of, shape_of, members_of, HasBlock, IsSound, KeepsBlocks, SetsBlock, Tells, lost_bits};
 ghost use Rattle.dg_store.specs.Views.{ReadsOn};
 
 use crate::Shape;

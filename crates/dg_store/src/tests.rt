@@ -154,7 +154,9 @@ fn play(rt: &impl Abort, alloc: Global, fails: &[u64], steps: &[Step]) -> Result
     let rack = MemRack::new(alloc, 4, 4096, fails.to_vec(alloc)?)
         .ok()
         .ok_or("rack")?;
-    let mut store = Store::new(alloc, rack, shape).ok().ok_or("store")?;
+    let Ok(mut store) = Store::new(alloc, rack, shape) else {
+        return Err("store".into());
+    };
     act_all(rt, &mut store, steps);
     let degraded = store.is_degraded();
     assert_eq!(rt; *store.shape(), shape);

@@ -60,12 +60,12 @@ claim_along t u same (by_slot {fragment = f} {inode = i} {slot = slot} has) = by
 claim_along t u same (by_pointer {fragment = f} {upper = upper} {level = level} {at = at} above is low has) =
     by_pointer (claim_along t u same above) is low (subst (λ xs. Contains xs f) (same (Pointer upper level at)) has)
 
-volume_target : (l n : ℕ) (g : Geometry) (v : Volume) → (geometry_of l n v).value ≡ Ok g → (source : ClaimSource) → volume_fragments l n v source ≡ source_fragments g v source
+volume_source : (l n : ℕ) (g : Geometry) (v : Volume) → (geometry_of l n v).value ≡ Ok g → (source : ClaimSource) → volume_fragments l n v source ≡ source_fragments g v source
 unfolding volume_fragments
-volume_target l n g v is source = ap (λ r. source_fragments_in v r source) is
+volume_source l n g v is source = ap (λ r. source_fragments_in v r source) is
 
 pub table_claims : (l n : ℕ) (g : Geometry) (v : Volume) (table : ClaimTable) → (geometry_of l n v).value ≡ Ok g → IsTableOf l n v table → HasClaimsOf g table v
 table_claims l n g v table is has = λ f source. (
-  λ listed. claim_along (volume_fragments l n v) (source_fragments g v) (volume_target l n g v is) ((has.claims f source).0 listed),
-  λ claim. (has.claims f source).1 (claim_along (source_fragments g v) (volume_fragments l n v) (λ s. sym (volume_target l n g v is s)) claim),
+  λ listed. claim_along (volume_fragments l n v) (source_fragments g v) (volume_source l n g v is) ((has.claims f source).0 listed),
+  λ claim. (has.claims f source).1 (claim_along (source_fragments g v) (volume_fragments l n v) (λ s. sym (volume_source l n g v is s)) claim),
 )

@@ -1,16 +1,15 @@
 -- What a table of claims says of the fragments of its volume.
-use Rattle.std.proofs.Common.{◌≡◌, ◌≢◌, ◌∙◌, ℕ, ◌/◌, ◌%◌, ◌<◌, ◌≤◌, List, [], ◌∷◌, Bool, true, false, Option, None, Some, length, refl, sym, ap, subst, arith}
+use Rattle.std.proofs.Common.{◌≡◌, ◌≢◌, ◌∙◌, ℕ, ◌/◌, ◌%◌, ◌<◌, ◌≤◌, List, [], ◌∷◌, Bool, true, false, Some, length, refl, sym, subst, arith}
 use Rattle.std.specs.Prelude.{Contains, nat_le}
 use Rattle.std.specs.List.{AllPairs}
 use Rattle.std.specs.Bool.{Decides}
 use Rattle.std.proofs.lemmas.Bool.Decides.{nat_tests, not_from_Decides}
 use Rattle.ufs_model.specs.Blocks.{Volume, bind}
-use Rattle.ufs_model.specs.Claims.{AreClaimsOn, HasClaimCount, IsClaim, IsClaimedAt, is_earlier_claim, level_of, source_fragments}
+use Rattle.ufs_model.specs.Claims.{HasClaimCount, IsClaim, IsClaimedAt, is_earlier_claim, level_of, source_fragments}
 use Rattle.ufs_model.specs.GroupMaps.{by_maps, group_bytes, group_in, is_free, is_marked_free}
 use Rattle.ufs_model.specs.Malformations.{HasTwoClaims, IsFree, IsUpper}
 use Rattle.ufs_model.specs.Metadata.{IsMetadataBy}
 use Rattle.ufs_model.specs.Metadata.IsMetadataBy.{of_indirect}
-use Rattle.ufs_model.specs.Owners.{IsOnlyClaim}
 use Rattle.ufs_model.specs.declared.claims.ClaimSource.{ClaimSource}
 use Rattle.ufs_model.specs.declared.claims.ClaimSource.TheVariants.{Slot, Pointer}
 use Rattle.ufs_model.specs.declared.geometries.Geometry.{Geometry}

@@ -1,6 +1,6 @@
 -- Where an inode is read, and what is noted of it.
-use Rattle.std.proofs.Common.{◌≡◌, ◌∙◌, ℕ, ◌+◌, ◌*◌, ◌/◌, ◌%◌, ◌<◌, ◌≤◌, List, Bool, true, false, Some, take, drop, refl, sym, subst, arith}
-use Rattle.std.specs.Prelude.{Contains, MatchOption, nat_le, not}
+use Rattle.std.proofs.Common.{◌≡◌, ◌∙◌, ℕ, ◌+◌, ◌*◌, ◌/◌, ◌%◌, ◌<◌, ◌≤◌, List, Bool, true, Some, take, drop, refl, sym, subst, arith}
+use Rattle.std.specs.Prelude.{MatchOption, nat_le, not}
 use Rattle.std.specs.Bool.{Decides}
 use Rattle.std.proofs.lemmas.Bool.Decides.{nat_tests}
 use Rattle.ufs_model.specs.Blocks.{Volume, area_of, bind, block_at, consult}

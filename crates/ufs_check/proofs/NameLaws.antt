@@ -1,13 +1,13 @@
 -- The names of a directory's entries, one after the other.
-use Rattle.std.proofs.Common.{◌≡◌, ◌≢◌, ◌∙◌, ℕ, ◌+◌, ◌<◌, ◌≤◌, inl, inr, Bool, true, false, List, Option, Some, None, Ok, length, get_or, refl, sym, ap, subst, arith}
-use Rattle.std.specs.Prelude.{◌==◌, cond, not, slice_get, MatchOption}
+use Rattle.std.proofs.Common.{◌≡◌, ◌∙◌, ℕ, ◌+◌, ◌<◌, ◌≤◌, ◌⊎◌, inl, inr, Bool, true, false, List, Option, Some, None, Ok, length, get_or, refl, sym, ap, subst, arith}
+use Rattle.std.specs.Prelude.{◌==◌, ◌||◌, cond, not, slice_get, MatchOption}
 use Rattle.std.specs.Bool.{Decides}
 use Rattle.std.specs.Cmp.Lexicographic.{pointwise, slice_cmp}
 use Rattle.std.specs.List.{list_any}
 use Rattle.std.specs.Option.{option_map}
 use Rattle.std.specs.Ordering.{is_eq, nat_cmp}
 use Rattle.std.proofs.lemmas.Bool.{cases_order}
-use Rattle.std.proofs.lemmas.Bool.Decides.{Decides-and, Decides-eqb, Decides-like, Decides-not}
+use Rattle.std.proofs.lemmas.Bool.Decides.{Decides-and, Decides-eqb, Decides-like, Decides-not, Decides-or}
 use Rattle.std.proofs.lemmas.List.Folds.{Any-from_list_any, list_any-from_Any}
 use Rattle.std.proofs.lemmas.Map.Text.{is_eq-slice_cmp}
 use Rattle.std.proofs.lemmas.Option.{get_or_from_slice_get, slice_get-map, slice_get_read, slice_get_within}
@@ -21,7 +21,8 @@ use Rattle.ufs_model.specs.declared.geometries.Geometry.{Geometry}
 use Rattle.ufs_model.specs.declared.inodes.Inode.{Inode}
 use Rattle.ufs_model.specs.declared.inodes.Kind.TheVariants.{Directory}
 use Rattle.ufs_model.specs.declared.malformations.BadKind.TheVariants.{Names, RootNamed}
-use Rattle.ufs_check.specs.Names.{AreNameFaultsBelow, HasNamed, HasSameIn, is_plain, names_root}
+use Rattle.ufs_model.specs.Trees.{is_plain}
+use Rattle.ufs_check.specs.Names.{AreNameFaultsBelow, HasNamed, HasSameIn, names_root}
 use Rattle.ufs_check.specs.OwnedEntries.{owned_all, owned_of}
 use Rattle.ufs_check.specs.declared.names.NameFaults.{NameFaults}
 use Rattle.ufs_check.specs.declared.owned_entries.OwnedEntry.{OwnedEntry}
@@ -174,13 +175,17 @@ distinct_all entries i end distinct h =
 
 -- ---- plain entries
 
-plain_parts : (g : Geometry) (v : Volume) (entry : DirEntry) → (entry.name ≢ dot) × (entry.name ≢ dot_dot) → IsPlain g v entry
-plain_parts g v entry h = record { dot = h.0; dot_dot = h.1 }
+plain_parts : (g : Geometry) (v : Volume) (entry : DirEntry) → ((entry.name ≡ dot) ⊎ (entry.name ≡ dot_dot) → ⊥) → IsPlain g v entry
+plain_parts g v entry h = record { dot = λ is. h (inl is); dot_dot = λ is. h (inr is) }
+
+plain_none : (g : Geometry) (v : Volume) (entry : DirEntry) → IsPlain g v entry → (entry.name ≡ dot) ⊎ (entry.name ≡ dot_dot) → ⊥
+plain_none g v entry h (inl is) = h.dot is
+plain_none g v entry h (inr is) = h.dot_dot is
 
 pub plain_decides : (g : Geometry) (v : Volume) (entry : DirEntry) → Decides (is_plain entry) (IsPlain g v entry)
-plain_decides g v entry = Decides-like (is_plain entry) (plain_parts g v entry) (λ h. (h.dot, h.dot_dot))
-    (Decides-and (not (pointwise ◌==◌ entry.name dot)) (not (pointwise ◌==◌ entry.name dot_dot))
-    (Decides-not (pointwise ◌==◌ entry.name dot) (bytes_eq-Decides entry.name dot)) (Decides-not (pointwise ◌==◌ entry.name dot_dot) (bytes_eq-Decides entry.name dot_dot)))
+plain_decides g v entry = Decides-like (is_plain entry) (plain_parts g v entry) (plain_none g v entry)
+    (Decides-not (pointwise ◌==◌ entry.name dot || pointwise ◌==◌ entry.name dot_dot)
+    (Decides-or (pointwise ◌==◌ entry.name dot) (pointwise ◌==◌ entry.name dot_dot) (bytes_eq-Decides entry.name dot) (bytes_eq-Decides entry.name dot_dot)))
 
 -- ---- what is wrong with the names of one directory
 

@@ -1,14 +1,13 @@
 -- Gathering the entries of a directory.
 use Rattle.std.proofs.Common.{◌≡◌, ◌∙◌, ℕ, zero, suc, ◌+◌, ◌/◌, ◌%◌, ◌^◌, ◌<◌, ◌≤◌, inl, inr, true, false, List, [], ◌++◌, Option, Some, Result, Ok, Err, refl, sym, ap, subst, add-one, append_assoc, append-nil, arith}
-use Rattle.std.specs.Prelude.{◌==◌, IfOk, OnOk, nat_le}
+use Rattle.std.specs.Prelude.{◌==◌, IfOk, OnOk}
 use Rattle.std.specs.List.{list_any}
 use Rattle.std.proofs.lemmas.Bool.{cases_order}
-use Rattle.std.proofs.lemmas.Bool.Decides.{nat_tests}
 use Rattle.ufs_model.specs.Blocks.{Volume}
 use Rattle.ufs_model.specs.Chunks.{DirEntry}
 use Rattle.ufs_model.specs.Inodes.{block_count, kind_of}
 use Rattle.ufs_model.specs.Malformations.{HasEntries, inode_at}
-use Rattle.ufs_model.specs.Paths.{block_of, bytes_in_block, chunks_in, directory_refusal, entries_before, entries_of, entries_through}
+use Rattle.ufs_model.specs.Paths.{block_of, bytes_in_block, chunks_in, entries_before, entries_of, entries_through}
 use Rattle.ufs_model.specs.declared.geometries.Geometry.{Geometry}
 use Rattle.ufs_model.specs.declared.inodes.Inode.{Inode}
 use Rattle.ufs_model.specs.declared.inodes.Kind.TheVariants.{Directory}

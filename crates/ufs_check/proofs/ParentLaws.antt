@@ -16,7 +16,7 @@ use Rattle.ufs_model.specs.Paths.{entries_of}
 use Rattle.ufs_model.specs.declared.geometries.Geometry.{Geometry}
 use Rattle.ufs_model.specs.declared.inodes.Kind.TheVariants.{Directory}
 use Rattle.ufs_check.specs.Links.{AddsLink, FitsDots, IsEmptyTable, IsUpOf, ParentAt, ParentKept, ParentsBefore, PlainBefore, SetsUp, TableBelow, TwoBefore, UpAt, UpKept, UpsBelow, are_dots, linked}
-use Rattle.ufs_check.specs.Names.{is_plain}
+use Rattle.ufs_model.specs.Trees.{is_plain}
 use Rattle.ufs_check.specs.OwnedEntries.{owned_all}
 use Rattle.ufs_check.specs.declared.owned_entries.OwnedEntry.{OwnedEntry}
 use Rattle.ufs_check.specs.declared.parents.LinkTable.{LinkTable}

@@ -1,11 +1,10 @@
 -- The blocks that are read to look at the directories have the volume's structure.
 use Rattle.std.proofs.Common.{◌≡◌, ◌∙◌, ℕ, zero, suc, ◌+◌, ◌-◌, ◌*◌, ◌/◌, ◌%◌, ◌^◌, ◌<◌, ◌≤◌, ◌⊎◌, lit<, inl, inr, length, get_or, Bool, true, false, List, [], ◌∷◌, ◌++◌, Option, Some, None, Ok, refl, sym, ap, subst, arith}
-use Rattle.std.specs.Prelude.{◌==◌, Contains, MatchOption, if◌then◌else◌, nat_le, nat_lt, slice_get}
+use Rattle.std.specs.Prelude.{◌==◌, Contains, MatchOption, if◌then◌else◌, nat_lt, slice_get}
 use Rattle.std.proofs.lemmas.Bool.{cases_order}
 use Rattle.std.proofs.lemmas.Bool.Decides.{nat_tests}
 use Rattle.std.proofs.lemmas.List.{get_or-append-add, get_or-drop, get_or_append_left, length-append}
 use Rattle.std.proofs.lemmas.List.Elements.{Contains-append_cases}
-use Rattle.std.proofs.lemmas.Option.{get_or_from_slice_get, slice_get_within}
 use native.Mathlib.Numerals.{unary_clauses}
 use Rattle.std.proofs.Math.Nat.{div-lt_iff_lt-mul, mul-le-mul, mul-le-mul_right, one-mul, pow-suc}
 use Rattle.ufs_model.specs.Blocks.{Consulted, Volume, area_of, bind, block_at}
@@ -40,6 +39,7 @@ use Rattle.ufs_check.specs.Directories.IsDirectoryRead.{by_directory, by_metadat
 use Rattle.ufs_check.specs.Directories.IsFileRead.{of_file, of_metadata}
 use Rattle.ufs_check.specs.Fragments.{HasWholeUppers}
 use Rattle.ufs_check.proofs.FaultLaws.{directory_there}
+use Rattle.ufs_check.proofs.RunLaws.{contains_from, get_from, whole_span}
 use Rattle.ufs_check.proofs.Sizes.{count_few}
 
 -- ---- blocks end to end
@@ -119,18 +119,7 @@ pointer_at_fragment endian l a k p v whole fours some low =
     let place : 4 * p + m ≡ p / (l / 4) * l + (4 * (p % (l / 4)) + m) = omega arith in
     rw place (area_at l a k (p / (l / 4)) (4 * (p % (l / 4)) + m) v whole low (omega arith)))
 
--- ---- fragments from one on
-
-fragments_get : (a k q : ℕ) → q < k → slice_get (fragments_from a k) q ≡ Some (a + q)
-fragments_get a zero q lt = absurd (omega arith)
-fragments_get a (suc k) zero lt = let same : a ≡ a + 0 = omega arith in ap Some same
-fragments_get a (suc k) (suc q) lt = fragments_get (suc a) k q (omega arith) ∙ ap Some (let same : suc a + q ≡ a + suc q = omega arith in same)
-
-pub fragments_have : (a k f : ℕ) → a ≤ f → f < a + k → Contains (fragments_from a k) f
-fragments_have a k f low high =
-    let back : a + (f - a) ≡ f = omega arith in
-    let here = fragments_get a k (f - a) (omega arith) ∙ ap Some back in
-    (f - a, slice_get_within (fragments_from a k) (f - a) f here, get_or_from_slice_get (fragments_from a k) (f - a) f f here)
+-- ---- the blocks of an area
 
 in_one : (a b : ℕ) → Contains (a ∷ []) b → b ≡ a
 in_one a b h = let first : h.0 ≡ 0 = let lt = h.1 in omega arith in sym (rw first at h.2)
@@ -144,7 +133,7 @@ area_range l a (suc k) b v h = elim (Contains-append_cases ((area_of l a k v).ne
 ]
 
 area_have : (l a k b : ℕ) (v : Volume) → Contains ((area_of l a k v).needs) b → Contains (fragments_from a k) b
-area_have l a k b v h = let range = area_range l a k b v h in fragments_have a k b range.0 range.1
+area_have l a k b v h = let range = area_range l a k b v h in contains_from a k b range.0 range.1
 
 -- ---- what a source claims, where an address is reached through it
 
@@ -174,39 +163,35 @@ slot_by : (g : Geometry) (slot : ℕ) (inode : Inode) (within : Bool) (found : O
 slot_by g slot inode true found is = rw is refl
 slot_by g slot inode false found is = let no : None ≡ Some inode = is in cc
 
-slot_targets : (g : Geometry) (v : Volume) (i slot : ℕ) (inode : Inode) → inode_at g v i ≡ Some inode → has_pointers g inode ≡ true → slot < 15
+slot_claims : (g : Geometry) (v : Volume) (i slot : ℕ) (inode : Inode) → inode_at g v i ≡ Some inode → has_pointers g inode ≡ true → slot < 15
     → source_fragments g v (Slot i slot) ≡ fragments_at (slot_address g inode slot)
 unfolding source_fragments slot_fragments
-slot_targets g v i slot inode is pointers low =
+slot_claims g v i slot inode is pointers low =
     let within : nat_lt slot 15 ≡ true = grind (arith, nat_tests) in
     slot_by g slot inode (is_inode_number g i) ((inode_of g i v).value) is ∙ rw (pointers, within) refl
-
-slot_whole : (g : Geometry) (inode : Inode) (slot : ℕ) → 12 ≤ slot → span g inode slot ≡ g.frag
-unfolding span
-slot_whole g inode slot high = let past : nat_le 12 slot ≡ true = grind (arith, nat_tests) in rw past refl
 
 pub slot_claimed : (g : Geometry) (v : Volume) (i slot : ℕ) (inode : Inode) → inode_at g v i ≡ Some inode → has_pointers g inode ≡ true → slot < 15
     → IsClaimed g v i (slot - 11) (slot_address g inode slot)
 slot_claimed g v i slot inode is pointers low = record {
   reached = λ a k at.
-      let are = slot_targets g v i slot inode is pointers low ∙ ap fragments_at at in
+      let are = slot_claims g v i slot inode is pointers low ∙ ap fragments_at at in
       (Slot i slot, record { first = first_block g slot; owner = of_slot; of_level = refl; are = are; claims = λ f h. by_slot (subst (λ fragments. Contains fragments f) (sym are) h) });
-  whole = λ above a k at. address_span g (slot_of inode slot) (span g inode slot) a k at ∙ slot_whole g inode slot (omega arith);
+  whole = λ above a k at. address_span g (slot_of inode slot) (span g inode slot) a k at ∙ whole_span g inode slot (omega arith);
 }
 
 -- ---- through an indirect block
 
-pointer_targets : (g : Geometry) (v : Volume) (f level at : ℕ) → at < g.fsize / 4
+pointer_claims : (g : Geometry) (v : Volume) (f level at : ℕ) → at < g.fsize / 4
     → source_fragments g v (Pointer f level at) ≡ fragments_at (address g (pointer_in g.endian (block_at g.fsize v f) at) g.frag)
 unfolding source_fragments pointer_fragments
-pointer_targets g v f level at low = let within : nat_lt at (g.fsize / 4) ≡ true = grind (arith, nat_tests) in rw within refl
+pointer_claims g v f level at low = let within : nat_lt at (g.fsize / 4) ≡ true = grind (arith, nat_tests) in rw within refl
 
 -- the fragments of an indirect block have their bytes
 pub upper_blocks : (g : Geometry) (v : Volume) (i level a : ℕ) (source : ClaimSource) → HasWholeUppers g v → IsReached g v i (suc level) source (At a g.frag)
     → (j : ℕ) → j < g.frag → length (block_at g.fsize v (a + j)) ≡ g.fsize
 upper_blocks g v i level a source whole one j low =
     let of_level = one.of_level in
-    whole (a + j) source (one.claims (a + j) (fragments_have a g.frag (a + j) (omega arith) (omega arith))) (omega arith)
+    whole (a + j) source (one.claims (a + j) (contains_from a g.frag (a + j) (omega arith) (omega arith))) (omega arith)
 
 through_reached : (g : Geometry) (v : Volume) (i level p a b j : ℕ) (source : ClaimSource) → HasWholeUppers g v → g.fsize ≡ 4 * (g.fsize / 4) → 0 < g.fsize / 4 → p / (g.fsize / 4) < g.frag
     → IsReached g v i (suc level) source (At a g.frag) → address g (pointer_in g.endian ((area_of g.fsize a g.frag v).value) p) g.frag ≡ At b j
@@ -217,14 +202,14 @@ through_reached g v i level p a b j source whole fours some low one is =
     let inside : p % (g.fsize / 4) < g.fsize / 4 = omega arith in
     let same = pointer_at_fragment g.endian g.fsize a g.frag p v (upper_blocks g v i level a source whole one) fours some low in
     let are : source_fragments g v (Pointer (a + p / (g.fsize / 4)) (suc level) (p % (g.fsize / 4))) ≡ fragments_at (At b j) =
-    pointer_targets g v f (suc level) at inside ∙ ap (λ pointer. fragments_at (address g pointer g.frag)) (sym same) ∙ ap fragments_at is in
-    let upper : slice_get (source_fragments g v source) (p / (g.fsize / 4)) ≡ Some (a + p / (g.fsize / 4)) = rw one.are (fragments_get a g.frag (p / (g.fsize / 4)) low) in
+    pointer_claims g v f (suc level) at inside ∙ ap (λ pointer. fragments_at (address g pointer g.frag)) (sym same) ∙ ap fragments_at is in
+    let upper : slice_get (source_fragments g v source) (p / (g.fsize / 4)) ≡ Some (a + p / (g.fsize / 4)) = rw one.are (get_from a g.frag (p / (g.fsize / 4)) low) in
     record {
       first = one.first + (p / (g.fsize / 4) * (g.fsize / 4) + p % (g.fsize / 4)) * g.nindir ^ (suc level - 1);
       owner = of_pointer (p / (g.fsize / 4)) one.owner upper one.of_level (omega arith);
       of_level = let back : suc level - 1 ≡ level = omega arith in back;
       are = are;
-      claims = λ h inside. by_pointer (one.claims f (fragments_have a g.frag f (omega arith) (omega arith))) one.of_level (omega arith) (subst (λ fragments. Contains fragments h) (sym are) inside);
+      claims = λ h inside. by_pointer (one.claims f (contains_from a g.frag f (omega arith) (omega arith))) one.of_level (omega arith) (subst (λ fragments. Contains fragments h) (sym are) inside);
     }
 
 pub through_claimed : (g : Geometry) (v : Volume) (i level p : ℕ) (at : Address) → HasWholeUppers g v → g.fsize ≡ 4 * (g.fsize / 4) → 0 < g.fsize / 4 → p / (g.fsize / 4) < g.frag

@@ -1,5 +1,5 @@
 -- Where no pointer is wild, no directory has a hole and none of its chunks is refused, the entries of all directories are read.
-use Rattle.std.proofs.Common.{◌≡◌, ◌≢◌, ◌∙◌, ℕ, zero, suc, ◌+◌, ◌*◌, ◌/◌, ◌%◌, ◌^◌, ◌<◌, ◌≤◌, ◌⊎◌, inl, inr, lit<, Bool, true, false, List, [], ◌++◌, Option, Some, None, Result, Ok, refl, sym, ap, subst, arith}
+use Rattle.std.proofs.Common.{◌≡◌, ◌≢◌, ◌∙◌, ℕ, zero, suc, ◌+◌, ◌*◌, ◌/◌, ◌%◌, ◌^◌, ◌<◌, ◌≤◌, inl, inr, lit<, Bool, true, false, List, [], ◌++◌, Option, Some, None, Result, Ok, refl, sym, ap, subst, arith}
 use Rattle.std.specs.Prelude.{◌==◌, MatchOption}
 use Rattle.std.specs.Bool.{Decides}
 use Rattle.std.specs.List.{list_any}
@@ -30,8 +30,9 @@ use Rattle.ufs_check.specs.Fragments.{HasWholeUppers}
 use Rattle.ufs_check.specs.Links.{HasAllEntries}
 use Rattle.ufs_check.proofs.DirectoryLaws.{before_next, chunks_value, joined, through_whole}
 use Rattle.ufs_check.proofs.FaultLaws.{HasRefused, HasSmallChunk, HasSmallHole, block_value, directory_there, entries_are, not_too_long, refused_is, whole_entries}
+use Rattle.ufs_check.proofs.RunLaws.{contains_from}
 use Rattle.ufs_check.proofs.Sizes.{count_few}
-use Rattle.ufs_check.proofs.StructureLaws.{IsClaimed, IsOwner, IsReached, chain_bounds, fragments_have, place_below, pointer_at_fragment, quarters, slot_claimed, through_claimed, upper_blocks}
+use Rattle.ufs_check.proofs.StructureLaws.{IsClaimed, IsOwner, IsReached, chain_bounds, place_below, pointer_at_fragment, quarters, slot_claimed, through_claimed, upper_blocks}
 
 -- ---- no pointer on the way is wild
 
@@ -54,7 +55,7 @@ through_wild g v i level p a inode source owner tame low fours some one is =
       at = p % (g.fsize / 4);
       upper = record {
         source = source;
-        claim = one.claims (a + p / (g.fsize / 4)) (fragments_have a g.frag (a + p / (g.fsize / 4)) (omega arith) (omega arith));
+        claim = one.claims (a + p / (g.fsize / 4)) (contains_from a g.frag (a + p / (g.fsize / 4)) (omega arith) (omega arith));
         of_level = one.of_level;
         above = omega arith;
       };

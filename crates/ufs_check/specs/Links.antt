@@ -8,10 +8,11 @@ use Rattle.std.specs.Ordering.{nat_cmp}
 use Rattle.ufs_model.specs.Blocks.{Volume}
 use Rattle.ufs_model.specs.Chunks.{DirEntry}
 use Rattle.ufs_model.specs.Malformations.{HasEntries, IsBad, IsDirectory, PlainAt, dot, dot_dot}
+use Rattle.ufs_model.specs.Trees.{is_plain}
 use Rattle.ufs_model.specs.declared.geometries.Geometry.{Geometry}
 use Rattle.ufs_model.specs.declared.malformations.BadKind.TheVariants.{Dots, Names, DirTwice, RootNamed}
 use Rattle.ufs_check.specs.Least.{IsLeast}
-use Rattle.ufs_check.specs.Names.{AreNameFaultsBelow, HasNamed, is_plain}
+use Rattle.ufs_check.specs.Names.{AreNameFaultsBelow, HasNamed}
 use Rattle.ufs_check.specs.declared.links.LinkFaults.{LinkFaults}
 use Rattle.ufs_check.specs.declared.names.NameFaults.{NameFaults}
 use Rattle.ufs_check.specs.declared.parents.LinkTable.{LinkTable}

@@ -1,17 +1,13 @@
 -- What is wrong with the names of a directory's entries. The words of this file are this crate's own.
-use Rattle.std.specs.Prelude.{◌≡◌, ◌≢◌, ℕ, ◌==◌, ◌&&◌, not, Bool, List, Some, slice_get}
-use Rattle.std.specs.Cmp.Lexicographic.{pointwise}
+use Rattle.std.specs.Prelude.{◌≡◌, ◌≢◌, ℕ, ◌==◌, ◌&&◌, Bool, List, Some, slice_get}
 use Rattle.ufs_model.specs.Blocks.{Volume}
 use Rattle.ufs_model.specs.Chunks.{DirEntry}
-use Rattle.ufs_model.specs.Malformations.{EntryAt, IsBad, IsNamed, dot, dot_dot}
+use Rattle.ufs_model.specs.Malformations.{EntryAt, IsBad, IsNamed}
+use Rattle.ufs_model.specs.Trees.{is_plain}
 use Rattle.ufs_model.specs.declared.geometries.Geometry.{Geometry}
 use Rattle.ufs_model.specs.declared.malformations.BadKind.TheVariants.{Names, RootNamed}
 use Rattle.ufs_check.specs.Least.{IsLeastBelow}
 use Rattle.ufs_check.specs.declared.names.NameFaults.{NameFaults}
-
--- an entry is neither `.` nor `..`
-abbrev pub is_plain : DirEntry → Bool
-is_plain entry = not (pointwise ◌==◌ entry.name dot) && not (pointwise ◌==◌ entry.name dot_dot)
 
 -- a plain entry names the root
 abbrev pub names_root : DirEntry → Bool

@@ -6,7 +6,8 @@ ghost use Rattle.std.specs.List.{list_any};
 ghost use Rattle.ufs_model.specs.Blocks.{Volume};
 ghost use Rattle.ufs_model.specs.Malformations.{HasEntries};
 ghost use Rattle.ufs_model.specs.declared.geometries.Geometry.{Geometry};
-ghost use Rattle.ufs_check.specs.Names.{AreNameFaultsBelow, HasSameIn, is_plain, names_root};
+ghost use Rattle.ufs_model.specs.Trees.{is_plain};
+ghost use Rattle.ufs_check.specs.Names.{AreNameFaultsBelow, HasSameIn, names_root};
 ghost use Rattle.ufs_check.specs.OwnedEntries.{owned_all, owned_of};
 
 use crate::notes::note;
@@ -36,7 +37,7 @@ pub fn is_named(entry: &OwnedEntry, name: &[u8]) -> bool
 pub fn is_plain(entry: &OwnedEntry) -> bool
     ensures { result ≡ is_plain (owned_of entry.now) }
 {
-    !is_named(entry, b".") && !is_named(entry, b"..")
+    !(is_named(entry, b".") || is_named(entry, b".."))
 }
 
 /// Two of the entries have one name.

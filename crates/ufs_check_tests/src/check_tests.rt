@@ -1,7 +1,7 @@
 use crate::fault_rows::*;
 use crate::volumes::{
     D, ENTRY_B, Edit, FRAGMENT_MAP, GROUP, INDIRECT, INODE_3, INODE_4, INODE_5, INODE_6, INODE_MAP,
-    NOTHING, verdict, verdict_by, verdict_without,
+    verdict, verdict_by, verdict_without,
 };
 use dg_io::Loss;
 use std::alloc::Global;
@@ -229,10 +229,10 @@ fn a_table_of_another_volume(rt: HostRuntime) -> Result<(), Fail> {
         (Which::Fb, &[]),
     ];
     for (which, edits) in tables {
-        let told = verdict_by(rt.alloc(), which, edits, Which::F, 128, &[], NOTHING)?;
+        let told = verdict_by(rt.alloc(), which, edits)?;
         assert_eq!(rt; told, other, "{which:?} with {edits:?}");
     }
-    let same = verdict_by(rt.alloc(), Which::F, &[], Which::F, 128, &[], NOTHING)?;
+    let same = verdict_by(rt.alloc(), Which::F, &[])?;
     assert_eq!(rt; same, Verdict::Sound);
     Ok(())
 }

@@ -101,6 +101,25 @@ fn claims_of(
     }
 }
 
+/// What is told of a volume of so many blocks with bytes put in, by these claims, where a block becomes
+/// gone.
+fn told_by(
+    alloc: Global,
+    which: Which,
+    count: u32,
+    edits: &[Edit],
+    loss: Loss,
+    levels: &mut Levels,
+    claims: &Claims,
+) -> Result<Verdict, Fail>
+    requires count { count ≤ 256 }
+    requires levels { levels.old.fragment ≡ 1024 }
+{
+    let image = edited(alloc, which, count, edits)?;
+    let mut view = MemView::new(image, 1024, count, vec![in alloc; loss]?);
+    Ok(check(alloc, &mut view, levels, claims)?)
+}
+
 /// What is told of a volume of so many blocks with bytes put in, where a block becomes gone after its
 /// claims were scanned.
 pub fn verdict_without(
@@ -112,26 +131,16 @@ pub fn verdict_without(
 ) -> Result<Verdict, Fail>
     requires { count ≤ 256 }
 {
-    verdict_by(alloc, which, edits, which, count, edits, loss)
+    let mut levels = Levels::new(alloc, 1024)?;
+    let claims = claims_of(alloc, which, count, edits, &mut levels)?;
+    told_by(alloc, which, count, edits, loss, &mut levels, &claims)
 }
 
-/// What is told of a volume of so many blocks with bytes put in, by the claims of another one of as many.
-pub fn verdict_by(
-    alloc: Global,
-    other: Which,
-    other_edits: &[Edit],
-    which: Which,
-    count: u32,
-    edits: &[Edit],
-    loss: Loss,
-) -> Result<Verdict, Fail>
-    requires { count ≤ 256 }
-{
+/// What is told of the volume F by the claims of a volume with bytes put in.
+pub fn verdict_by(alloc: Global, other: Which, edits: &[Edit]) -> Result<Verdict, Fail> {
     let mut levels = Levels::new(alloc, 1024)?;
-    let claims = claims_of(alloc, other, count, other_edits, &mut levels)?;
-    let image = edited(alloc, which, count, edits)?;
-    let mut view = MemView::new(image, 1024, count, vec![in alloc; loss]?);
-    Ok(check(alloc, &mut view, &mut levels, &claims)?)
+    let claims = claims_of(alloc, other, 128, edits, &mut levels)?;
+    told_by(alloc, Which::F, 128, &[], NOTHING, &mut levels, &claims)
 }
 
 /// What is told of a volume of so many blocks with bytes put in.

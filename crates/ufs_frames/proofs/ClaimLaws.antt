@@ -46,9 +46,6 @@ same_claims t u same f source = (λ h. claim_back t u same h, λ h. claim_onto t
 
 -- ---- owners by two relations of claims that are the same
 
-pub SameClaims : (ℕ → ClaimSource → Type 0) → (ℕ → ClaimSource → Type 0) → Type 0
-SameClaims c d = (f : ℕ) (source : ClaimSource) → d f source ↔ c f source
-
 pub other_way : {c d : ℕ → ClaimSource → Type 0} → ((f : ℕ) (source : ClaimSource) → d f source ↔ c f source) → (f : ℕ) (source : ClaimSource) → c f source ↔ d f source
 other_way same f source = ((same f source).1, (same f source).0)
 

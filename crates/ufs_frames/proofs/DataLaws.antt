@@ -90,7 +90,7 @@ claim_contains claimed f source (by_pointer upper level above h) = h
 pub claim_data : (g : Geometry) (v : Volume) (f : ℕ) (source : ClaimSource) → IsClaim (source_fragments g v) f source → IsData g f
 claim_data g v f source claim = source_data g v source f (claim_contains (source_fragments g v) f source claim)
 
--- ---- data is inside the volume, and no part of the file system itself
+-- ---- data is inside the volume
 
 role_by : (past super boot : Bool) (c : ℕ) (rest : Role) → is_data_of c (if past then Outside else if super then System Super else if boot then System Boot else rest) ≡ true → past ≡ false
 role_by true super boot c rest h = absurd (false≢true h)
@@ -110,14 +110,6 @@ data_group g f is data_of =
     let size : g.size ≤ g.ncg * g.fpg = groups.3 in
     let some : 1 ≤ g.fpg = groups.1 in
     (div-lt_iff_lt-mul {k = g.fpg} {x = f} {y = g.ncg} (omega arith)).1 (omega arith)
-
-data_or_system : (c : ℕ) (r : Role) → is_data_of c r ≡ true → is_system r ≡ false
-data_or_system c Outside h = refl
-data_or_system c (System kind) h = absurd (false≢true h)
-data_or_system c (Data d) h = refl
-
-pub data_no_system : (g : Geometry) (f : ℕ) → IsData g f → is_system (role g f) ≡ false
-data_no_system g f data_of = data_or_system data_of.group (role g f) data_of.is
 
 -- an inode's group is one of the volume's
 pub inode_group : (g : Geometry) (i : ℕ) → IsGeometry g → i < g.ncg * g.ipg → i / g.ipg < g.ncg

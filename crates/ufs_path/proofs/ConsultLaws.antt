@@ -1,10 +1,10 @@
 -- What readers in a row consulted.
-use Rattle.std.proofs.Common.{◌≡◌, ◌∙◌, ℕ, List, [], ◌∷◌, ◌++◌, Bool, Option, None, IfNone, refl}
+use Rattle.std.proofs.Common.{ℕ, List, [], ◌∷◌, ◌++◌, Option, refl}
 use Rattle.dg_io.specs.ViewWords.{Keeps}
 use Rattle.dg_io.specs.declared.views.View.{Ghosts}
 use Rattle.ufs_model.specs.Blocks.{Volume, Reading}
-use Rattle.ufs_pointer.specs.Fetches.{Fetches, FetchesOnly, IsNeeded, LosesOne}
-use Rattle.ufs_pointer.specs.KindLaws.{loses_along, loses_once, only_along, only_both, only_none, only_of, only_once}
+use Rattle.ufs_pointer.specs.Fetches.{Fetches, IsNeeded, LosesOne}
+use Rattle.ufs_pointer.specs.KindLaws.{loses_along, only_along, only_both, only_none, only_of, only_once}
 use Rattle.ufs_path.specs.Consults.{ConsultsKind}
 
 -- no block

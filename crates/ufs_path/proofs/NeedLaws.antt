@@ -1,5 +1,5 @@
 -- Which blocks the parts of a reading need, and so the whole.
-use Rattle.std.proofs.Common.{◌≡◌, ◌∙◌, ℕ, zero, suc, ◌+◌, ◌-◌, ◌*◌, ◌<◌, ◌≤◌, Bool, true, false, List, [], ◌∷◌, ◌++◌, Option, Some, None, Result, Ok, Err, length, drop, refl, sym, ap, subst, arith}
+use Rattle.std.proofs.Common.{◌≡◌, ◌∙◌, ℕ, zero, suc, ◌+◌, ◌-◌, ◌*◌, ◌<◌, ◌≤◌, Bool, true, false, List, [], ◌∷◌, ◌++◌, Option, Some, None, Result, Ok, Err, length, drop, sym, subst, arith}
 use Rattle.std.specs.Prelude.{Contains, if◌then◌else◌}
 use Rattle.std.proofs.lemmas.Bool.Decides.{nat_tests}
 use Rattle.std.proofs.lemmas.List.{append_assoc}
@@ -8,7 +8,7 @@ use Rattle.ufs_model.specs.Blocks.{Consulted, Reading, Volume, bind, consult, kn
 use Rattle.ufs_model.specs.Chunks.{DirEntry}
 use Rattle.ufs_model.specs.Inodes.{block_count, inode_block, inode_of, is_inode_number}
 use Rattle.ufs_model.specs.Listings.{Listed, listed_entries, listed_entry, listing_of, ls_of}
-use Rattle.ufs_model.specs.Paths.{allocated, block_of, cat_of, chunks_of, contents_of, directory_refusal, entries_before, entries_of, file_refusal, find_from, find_in_block, find_of, found_else, front_of, look_from, look_of, named_inode, names_after, names_of, part_of, unless_refused, volume_geometry}
+use Rattle.ufs_model.specs.Paths.{allocated, block_of, cat_of, chunks_of, contents_of, directory_refusal, entries_before, file_refusal, find_from, find_in_block, find_of, found_else, front_of, look_from, look_of, named_inode, names_after, names_of, part_of, unless_refused, volume_geometry}
 use Rattle.ufs_model.specs.Readings.{ReadsAs, and_then, on_ok}
 use Rattle.ufs_model.specs.Superblocks.{geometry_of}
 use Rattle.ufs_model.specs.declared.geometries.Geometry.{Geometry}
@@ -18,7 +18,6 @@ use Rattle.ufs_model.specs.declared.reads.PathRefusal.{PathRefusal}
 use Rattle.ufs_model.specs.declared.reads.PathRefusal.TheVariants.{Bad}
 use Rattle.ufs_pointer.specs.Fetches.{IsNeeded}
 use Rattle.ufs_path.proofs.EntryLaws.{entry_fronts, listed_append}
-use Rattle.ufs_path.proofs.FileLaws.{file_fronts}
 use Rattle.ufs_path.proofs.PartLaws.{AreFronts, rest_is}
 use Rattle.ufs_path.specs.Consults.{Leads}
 use Rattle.ufs_path.specs.Parts.{cat_below}

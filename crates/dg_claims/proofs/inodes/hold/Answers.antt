@@ -1,5 +1,5 @@
 use Rattle.ufs_pointer.specs.Fetches.{IsJust}
-use Rattle.ufs_pointer.specs.KindLaws.{only_none, only_once}
+use Rattle.ufs_pointer.specs.KindLaws.{only_once}
 use Rattle.std.proofs.Common.{refl}
 use Rattle.dg_claims.proofs.inodes.hold.Goals as goal
 

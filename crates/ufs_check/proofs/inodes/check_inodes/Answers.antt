@@ -1,4 +1,4 @@
-use Rattle.std.proofs.Common.{◌≡◌, ◌∙◌, ◌+◌, ◌-◌, ◌/◌, sym, arith}
+use Rattle.std.proofs.Common.{◌≡◌, ◌∙◌, ◌/◌, sym}
 use Rattle.dg_io.specs.ViewLaws.{keeps_both}
 use Rattle.ufs_model.specs.Blocks.{Volume, block_at}
 use Rattle.ufs_model.specs.GroupMaps.{group_bytes}

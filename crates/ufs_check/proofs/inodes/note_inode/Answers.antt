@@ -1,4 +1,4 @@
-use Rattle.std.proofs.Common.{◌≡◌, ◌∙◌, true, rules, sym}
+use Rattle.std.proofs.Common.{◌≡◌, ◌∙◌, true, rules}
 use Rattle.ufs_model.specs.GroupMaps.{is_marked_unused}
 use Rattle.ufs_model.specs.Inodes.{kind_of}
 use Rattle.ufs_model.specs.Malformations.{IsBad}

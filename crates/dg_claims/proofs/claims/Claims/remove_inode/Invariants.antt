@@ -1,4 +1,4 @@
-use Rattle.std.proofs.Common.{◌≡◌, ℕ, List, []}
+use Rattle.std.proofs.Common.{◌≡◌, []}
 use Rattle.dg_claims.specs.Kept.{SetsFirst}
 use Rattle.dg_claims.specs.Places.{slot_place}
 use Rattle.dg_claims.proofs.claims.Claims.remove_inode.Given as goal

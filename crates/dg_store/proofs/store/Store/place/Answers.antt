@@ -5,7 +5,8 @@ use Rattle.dg_model.specs.Members.{is_lost}
 use Rattle.dg_model.specs.Sites.{all_lost, has_site, is_gone}
 use Rattle.dg_model.specs.Tables.{sites_in}
 use Rattle.dg_store.specs.ReadLaws.{keeps_both, keeps_none}
-use Rattle.dg_store.specs.Stores.{KeepsBlocks, PutsBlock, Tells, members_of}
+use Rattle.dg_store.specs.Slots.{PutsBlock}
+use Rattle.dg_store.specs.Stores.{KeepsBlocks, Tells, members_of}
 use Rattle.dg_store.specs.declared.store.PlaceAnswer.{PlaceAnswer}
 use Rattle.dg_store.specs.declared.store.PlaceAnswer.TheVariants.{Full, Gone, Lost, Placed}
 use Rattle.dg_store.proofs.PlaceLemmas.{tell_before}
