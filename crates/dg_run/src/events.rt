@@ -63,7 +63,8 @@ pub fn take_event<S: Source>(
 ) -> Result<Taken, Fault>
     requires { IfSome (option_copied shape) IsShape }
     ensures is { IfOk result (IsTaken (option_copied shape.entry) room) }
-    ensures took { IfOk result (λ taken. Told (TookEvent (option_copied shape.entry) room taken) (ahead input.old (S.left source.old)) (ahead input.new (S.left source.new))) }
+    ensures took { IfOk result (λ taken. Told (TookEvent (option_copied shape.entry) room taken) (ahead input.old (S.left source.old))
+        (ahead input.new (S.left source.new))) }
     ensures later { S.faults source.old ≤ S.faults source.new }
     ensures kept { (result ≡ Err Fault.Read → ⊥) → S.faults source.new ≡ S.faults source.old }
     ensures read { result ≡ Err Fault.Read → Rose (S.faults source.old) (S.faults source.new) }

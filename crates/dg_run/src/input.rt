@@ -87,7 +87,8 @@ impl Input {
         requires { length (unread self.old) < 65536 }
         ensures size { IfOk result (λ n. length (unread self.new) ≡ length (unread self.old) + n) }
         ensures front { IfOk result (λ n. take (length (unread self.old)) (unread self.new) ≡ unread self.old) }
-        ensures end { IfOk result (λ n. n ≡ 0 → Told (λ before after. before ≡ unread self.old) (ahead self.old (S.left source.old)) (ahead self.new (S.left source.new))) }
+        ensures end { IfOk result (λ n. n ≡ 0 → Told (λ before after. before ≡ unread self.old) (ahead self.old (S.left source.old)) (ahead self.new
+            (S.left source.new))) }
         ensures same { Told IsSame (ahead self.old (S.left source.old)) (ahead self.new (S.left source.new)) }
         ensures cause { HasCause (S.faults source.old) (S.faults source.new) result }
     {

@@ -53,7 +53,8 @@ fn serve_next<S: Source, K: Sink, R: Rack>(
     requires buffers { AreFor (shape_of store.old).l buffers.old }
     ensures goes { GoesOn R.Rack store.old store.new }
     ensures buffers { AreFor (shape_of store.old).l buffers.new }
-    ensures turned { IfOk result (Turned R.Rack room (ahead input.old (S.left source.old)) (ahead input.new (S.left source.new)) (K.taken sink.old) (K.taken sink.new) store.old store.new) }
+    ensures turned { IfOk result (Turned R.Rack room (ahead input.old (S.left source.old)) (ahead input.new (S.left source.new)) (K.taken sink.old)
+        (K.taken sink.new) store.old store.new) }
     ensures source_later { S.faults source.old ≤ S.faults source.new }
     ensures sink_later { K.faults sink.old ≤ K.faults sink.new }
     ensures source_kept { (result ≡ Err Fault.Read → ⊥) → S.faults source.new ≡ S.faults source.old }
@@ -86,7 +87,8 @@ pub fn serve_lines<S: Source, K: Sink, R: Rack>(
     requires buffers { AreFor (shape_of store.old).l buffers.old }
     requires first { first ≤ 2 ^ 40 }
     ensures goes { GoesOn R.Rack store.old store.new }
-    ensures end { IfOk result (LinesEndAt R.Rack first (ahead input.old (S.left source.old)) (ahead input.new (S.left source.new)) (K.taken sink.old) (K.taken sink.new) store.old store.new) }
+    ensures end { IfOk result (LinesEndAt R.Rack first (ahead input.old (S.left source.old)) (ahead input.new (S.left source.new))
+        (K.taken sink.old) (K.taken sink.new) store.old store.new) }
     ensures source_later { S.faults source.old ≤ S.faults source.new }
     ensures sink_later { K.faults sink.old ≤ K.faults sink.new }
     ensures source_kept { (result ≡ Err Fault.Read → ⊥) → S.faults source.new ≡ S.faults source.old }

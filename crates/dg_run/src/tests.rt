@@ -267,6 +267,32 @@ fn one_failed_call_of_the_rack_shows_in_no_reply(rt: HostRuntime) -> Result<(), 
     Ok(())
 }
 
+// Members are blanked one after another, ascending by number.
+#[test]
+fn a_member_whose_blanking_fails_is_out(rt: HostRuntime) -> Result<(), Fail> {
+    let alloc = rt.alloc();
+    let rows = [
+        (0, "fail 0 0"),
+        (1, "fail 0 1"),
+        (2, "fail 1 0"),
+        (7, "fail 3 1"),
+    ];
+    for (call, line) in rows {
+        let mut input = Vec::new(alloc);
+        input.extend_from_slice(b"array 1024 64 4 32 2\n")?;
+        input.extend_from_slice(line.as_bytes())?;
+        input.extend_from_slice(b"\nwrite 0 aa\nread 0\n")?;
+        let mut sink = sink_of(alloc, &[])?;
+        let status = replay(alloc, &input, &mut sink, &[call])?;
+        assert_eq!(rt; status, Status::Done);
+        assert!(rt;
+            sink.taken() == b"ok\nalready\nok\ndata aa\n".as_slice(),
+            "call {call}"
+        );
+    }
+    Ok(())
+}
+
 // Call i of the source fails after 16 * i bytes, which have so many whole lines.
 #[test]
 fn a_failed_call_of_the_source_ends_the_replies(rt: HostRuntime) -> Result<(), Fail> {

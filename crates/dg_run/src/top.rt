@@ -117,8 +117,11 @@ fn serve_array<S: Source, K: Sink, R: Rack>(
     requires sound { IsSound R.Rack store.old }
     requires first { first ≤ 2 ^ 40 }
     ensures goes { GoesOn R.Rack store.old store.new }
-    ensures done { result ≡ Status.Done → AllAnswered R.Rack first (ahead input.old (S.left source.old)) (ahead input.new (S.left source.new)) (K.taken sink.old) (K.taken sink.new) store.old store.new }
-    ensures bad_line { result ≡ Status.BadLine → AnsweredTo R.Rack first (ahead input.old (S.left source.old)) (ahead input.new (S.left source.new)) (K.taken sink.old) (K.taken sink.new) store.old store.new }
+    ensures done { result ≡ Status.Done → AllAnswered R.Rack first (ahead input.old (S.left source.old)) (ahead input.new (S.left source.new))
+        (K.taken sink.old) (K.taken sink.new) store.old store.new }
+    ensures bad_line { result ≡ Status.BadLine
+        → AnsweredTo R.Rack first (ahead input.old (S.left source.old)) (ahead input.new (S.left source.new)) (K.taken sink.old)
+        (K.taken sink.new) store.old store.new }
     ensures read { result ≡ Status.ReadFault → Rose (S.faults source.old) (S.faults source.new) }
     ensures write { result ≡ Status.WriteFault → Rose (K.faults sink.old) (K.faults sink.new) }
     ensures source_later { S.faults source.old ≤ S.faults source.new }
@@ -154,8 +157,12 @@ fn replay_array<S: Source, K: Sink, R: Rack + Drop>(
     requires first { first ≡ length (line_of (Event.Array shape)) }
     requires budget { first ≤ 2 ^ 40 }
     ensures name { IfOk result (λ end. R.name end.rack ≡ R.name rack) }
-    ensures done { IfOk result (λ end. end.status ≡ Status.Done → ArrayReplayed (R.counts rack) (R.counts end.rack) (R.bytes end.rack) shape (ahead input.old (S.left source.old)) (ahead input.new (S.left source.new)) (K.taken sink.old) (K.taken sink.new)) }
-    ensures bad_line { IfOk result (λ end. end.status ≡ Status.BadLine → ArrayStopped (R.counts rack) (R.counts end.rack) (R.bytes end.rack) shape (ahead input.old (S.left source.old)) (ahead input.new (S.left source.new)) (K.taken sink.old) (K.taken sink.new)) }
+    ensures done { IfOk result (λ end. end.status ≡ Status.Done
+        → ArrayReplayed (R.counts rack) (R.counts end.rack) (R.bytes end.rack) shape (ahead input.old (S.left source.old)) (ahead input.new
+        (S.left source.new)) (K.taken sink.old) (K.taken sink.new)) }
+    ensures bad_line { IfOk result (λ end. end.status ≡ Status.BadLine
+        → ArrayStopped (R.counts rack) (R.counts end.rack) (R.bytes end.rack) shape (ahead input.old (S.left source.old)) (ahead input.new
+        (S.left source.new)) (K.taken sink.old) (K.taken sink.new)) }
     ensures read { IfOk result (λ end. end.status ≡ Status.ReadFault → Rose (S.faults source.old) (S.faults source.new)) }
     ensures write { IfOk result (λ end. end.status ≡ Status.WriteFault → Rose (K.faults sink.old) (K.faults sink.new)) }
     ensures source_later { S.faults source.old ≤ S.faults source.new }
@@ -182,8 +189,10 @@ fn replay<S: Source, K: Sink, R: Rack + Drop>(
     rack: R,
 ) -> Result<Ended<R>, NoMemory>
     ensures name { IfOk result (λ end. R.name end.rack ≡ R.name rack) }
-    ensures done { IfOk result (λ end. end.status ≡ Status.Done → Replayed (R.counts rack) (R.counts end.rack) (R.bytes end.rack) (S.left source.old) (S.left source.new) (K.taken sink.old) (K.taken sink.new)) }
-    ensures bad_line { IfOk result (λ end. end.status ≡ Status.BadLine → Stopped (R.counts rack) (R.counts end.rack) (R.bytes end.rack) (S.left source.old) (S.left source.new) (K.taken sink.old) (K.taken sink.new)) }
+    ensures done { IfOk result (λ end. end.status ≡ Status.Done
+        → Replayed (R.counts rack) (R.counts end.rack) (R.bytes end.rack) (S.left source.old) (S.left source.new) (K.taken sink.old) (K.taken sink.new)) }
+    ensures bad_line { IfOk result (λ end. end.status ≡ Status.BadLine
+        → Stopped (R.counts rack) (R.counts end.rack) (R.bytes end.rack) (S.left source.old) (S.left source.new) (K.taken sink.old) (K.taken sink.new)) }
     ensures read { IfOk result (λ end. end.status ≡ Status.ReadFault → Rose (S.faults source.old) (S.faults source.new)) }
     ensures write { IfOk result (λ end. end.status ≡ Status.WriteFault → Rose (K.faults sink.old) (K.faults sink.new)) }
     ensures source_kept { IfOk result (λ end. (end.status ≡ Status.ReadFault → ⊥) → S.faults source.new ≡ S.faults source.old) }
@@ -230,11 +239,14 @@ pub fn run<S: Source, K: Sink, R: Rack>(
 ) -> Status
     // The words are exactly `replay`, else the usage line is printed and nothing else is done.
     ensures usage { result ≡ Status.Usage → (IsReplay (map string_bytes words.now.items) → ⊥) × Told (Took usage) (K.taken sink.old) (K.taken sink.new) }
-    ensures other { (IsReplay (map string_bytes words.now.items) → ⊥) → ((result ≡ Status.Usage) ⊎ (result ≡ Status.WriteFault)) × (source.new ≡ source.old) × (rack.new ≡ rack.old) }
+    ensures other { (IsReplay (map string_bytes words.now.items) → ⊥) → ((result ≡ Status.Usage) ⊎ (result ≡ Status.WriteFault))
+        × (source.new ≡ source.old) × (rack.new ≡ rack.old) }
 
     // What was done, and what the rack holds.
-    ensures done { result ≡ Status.Done → Replayed (R.counts rack.old) (R.counts rack.new) (R.bytes rack.new) (S.left source.old) (S.left source.new) (K.taken sink.old) (K.taken sink.new) }
-    ensures bad_line { result ≡ Status.BadLine → Stopped (R.counts rack.old) (R.counts rack.new) (R.bytes rack.new) (S.left source.old) (S.left source.new) (K.taken sink.old) (K.taken sink.new) }
+    ensures done { result ≡ Status.Done → Replayed (R.counts rack.old) (R.counts rack.new) (R.bytes rack.new) (S.left source.old)
+        (S.left source.new) (K.taken sink.old) (K.taken sink.new) }
+    ensures bad_line { result ≡ Status.BadLine
+        → Stopped (R.counts rack.old) (R.counts rack.new) (R.bytes rack.new) (S.left source.old) (S.left source.new) (K.taken sink.old) (K.taken sink.new) }
 
     // The causes of the other answers. Want of memory is free.
     ensures read { result ≡ Status.ReadFault → Rose (S.faults source.old) (S.faults source.new) }
@@ -244,7 +256,9 @@ pub fn run<S: Source, K: Sink, R: Rack>(
     ensures never { (result ≡ Status.NoState → ⊥) × (result ≡ Status.Unclean → ⊥) × (result ≡ Status.Refused → ⊥) }
 
     // Each input of acceptable lines is done, where neither the source nor the sink fails.
-    ensures complete { IsReplay (map string_bytes words.now.items) → (events : List Event) → IsInput events → S.left source.old ≡ Some (input_of events) → IsSome (S.left source.new) → (Rose (S.faults source.old) (S.faults source.new) → ⊥) → (Rose (K.faults sink.old) (K.faults sink.new) → ⊥) → (result ≡ Status.Done) ⊎ (result ≡ Status.NoMemory) }
+    ensures complete { IsReplay (map string_bytes words.now.items) → (events : List Event) → IsInput events
+        → S.left source.old ≡ Some (input_of events) → IsSome (S.left source.new) → (Rose (S.faults source.old) (S.faults source.new) → ⊥)
+        → (Rose (K.faults sink.old) (K.faults sink.new) → ⊥) → (result ≡ Status.Done) ⊎ (result ≡ Status.NoMemory) }
 {
     if !is_replay(words) {
         return match write_usage(sink) {

@@ -87,8 +87,10 @@ impl<'a, K: Sink> HexLines<'a, K> {
     // Writes the line of the bytes that wait, and the one that ends the file.
     fn finish(&mut self, word: &[u8], n: u32) -> Result<(), Failed>
         requires { length word.now ≤ 4 }
-        ensures ok { OnOk result (Told (Took (file_text (rest_lines (waiting self.old)) ++ last_line word.now n)) (K.taken (sink_of self.old)) (K.taken (sink_of self.new))) }
-        ensures err { OnErr result (Told (TookPart (file_text (rest_lines (waiting self.old)) ++ last_line word.now n)) (K.taken (sink_of self.old)) (K.taken (sink_of self.new))) }
+        ensures ok { OnOk result (Told (Took (file_text (rest_lines (waiting self.old)) ++ last_line word.now n)) (K.taken (sink_of self.old))
+            (K.taken (sink_of self.new))) }
+        ensures err { OnErr result (Told (TookPart (file_text (rest_lines (waiting self.old)) ++ last_line word.now n)) (K.taken (sink_of self.old))
+            (K.taken (sink_of self.new))) }
         ensures sink { loan_of self.new ≡ loan_of self.old }
         ensures cause { HasCause (K.faults (sink_of self.old)) (K.faults (sink_of self.new)) result }
     {

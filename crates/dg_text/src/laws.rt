@@ -6,7 +6,8 @@ ghost use Rattle.dg_text.specs.Lines.{AreInPlace, IsInPlace, input_of, line_of};
 
 /// A text begins with the line of no more than one event in its place.
 pub fn line_is_unique()
-    ensures { (shape : Option Shape) (one other : Event) (rest more : List ℕ) → IsInPlace shape one → IsInPlace shape other → line_of one ++ rest ≡ line_of other ++ more → (one ≡ other) × (rest ≡ more) }
+    ensures { (shape : Option Shape) (one other : Event) (rest more : List ℕ) → IsInPlace shape one → IsInPlace shape other
+        → line_of one ++ rest ≡ line_of other ++ more → (one ≡ other) × (rest ≡ more) }
 {}
 
 /// An input spells its events in one way.

@@ -30,7 +30,8 @@ pub fn read_line(
     ensures in_place { IfOk result (λ r. IfOk r (IsInPlace (option_copied shape.entry))) }
     // where the line and its LF begin a text that also begins with the line of an event in its place, the answer is
     // that event
-    ensures exact { IfOk result (λ r. (event : Event) (more tail : List ℕ) → IsInPlace (option_copied shape.entry) event → (Contains line.now 10 → ⊥) → line.now ++ 10 ∷ more ≡ line_of event ++ tail → r ≡ Ok event) }
+    ensures exact { IfOk result (λ r. (event : Event) (more tail : List ℕ) → IsInPlace (option_copied shape.entry) event → (Contains line.now 10
+        → ⊥) → line.now ++ 10 ∷ more ≡ line_of event ++ tail → r ≡ Ok event) }
 {
     match event_of(alloc, line, shape)? {
         Some(event) => Ok(Ok(event)),
@@ -129,7 +130,8 @@ fn fail_of(words: &[u8]) -> Option<Event>
 fn cat_of(alloc: Global, word: &[u8]) -> Result<Option<Event>, NoMemory>
     ensures spelled { IfOk result (λ r. IfSome r (λ event. codes "cat " ++ word.now ≡ spelling event)) }
     ensures in_place { (shape : Shape) → IfOk result (λ r. IfSome r (IsInPlace (Some shape))) }
-    ensures exact { IfOk result (λ r. (shape : Shape) (event : Event) → IsInPlace (Some shape) event → codes "cat " ++ word.now ≡ spelling event → r ≡ Some event) }
+    ensures exact { IfOk result (λ r. (shape : Shape) (event : Event) → IsInPlace (Some shape) event → codes "cat " ++ word.now ≡ spelling event
+        → r ≡ Some event) }
 {
     match read_path(alloc, word)? {
         Some(path) => Ok(Some(Event::Cat(path))),
@@ -141,7 +143,8 @@ fn cat_of(alloc: Global, word: &[u8]) -> Result<Option<Event>, NoMemory>
 fn ls_of(alloc: Global, word: &[u8]) -> Result<Option<Event>, NoMemory>
     ensures spelled { IfOk result (λ r. IfSome r (λ event. codes "ls " ++ word.now ≡ spelling event)) }
     ensures in_place { (shape : Shape) → IfOk result (λ r. IfSome r (IsInPlace (Some shape))) }
-    ensures exact { IfOk result (λ r. (shape : Shape) (event : Event) → IsInPlace (Some shape) event → codes "ls " ++ word.now ≡ spelling event → r ≡ Some event) }
+    ensures exact { IfOk result (λ r. (shape : Shape) (event : Event) → IsInPlace (Some shape) event → codes "ls " ++ word.now ≡ spelling event
+        → r ≡ Some event) }
 {
     match read_path(alloc, word)? {
         Some(path) => Ok(Some(Event::Ls(path))),
@@ -153,7 +156,9 @@ fn ls_of(alloc: Global, word: &[u8]) -> Result<Option<Event>, NoMemory>
 fn read_of(line: &[u8]) -> Option<Event>
     ensures spelled { IfSome result (λ event. line.now ≡ spelling event) }
     ensures in_place { (shape : Shape) → IfSome result (IsInPlace (Some shape)) }
-    ensures exact { (shape : Shape) (event : Event) → IsInPlace (Some shape) event → line.now ≡ spelling event → ((rest : List ℕ) → line.now ≢ codes "write " ++ rest) → ((rest : List ℕ) → line.now ≢ codes "fail " ++ rest) → ((rest : List ℕ) → line.now ≢ codes "cat " ++ rest) → ((rest : List ℕ) → line.now ≢ codes "ls " ++ rest) → result ≡ Some event }
+    ensures exact { (shape : Shape) (event : Event) → IsInPlace (Some shape) event → line.now ≡ spelling event → ((rest : List ℕ)
+        → line.now ≢ codes "write " ++ rest) → ((rest : List ℕ) → line.now ≢ codes "fail " ++ rest) → ((rest : List ℕ)
+        → line.now ≢ codes "cat " ++ rest) → ((rest : List ℕ) → line.now ≢ codes "ls " ++ rest) → result ≡ Some event }
 {
     let number = after_word(line, b"read ")?;
     Some(Event::Read(whole_number(number)?))

@@ -42,8 +42,10 @@ pub fn write_listing<K: Sink>(
     word: &[u8],
 ) -> Result<(), Failed>
     requires word { length word.now ≤ 32 }
-    ensures ok { OnOk result (Told (Took ((listing_text form entries.now ++ (word.now ++ decimal (length entries.now))) ++ codes "\n")) (K.taken sink.old) (K.taken sink.new)) }
-    ensures err { OnErr result (Told (TookPart ((listing_text form entries.now ++ (word.now ++ decimal (length entries.now))) ++ codes "\n")) (K.taken sink.old) (K.taken sink.new)) }
+    ensures ok { OnOk result (Told (Took ((listing_text form entries.now ++ (word.now ++ decimal (length entries.now))) ++ codes "\n"))
+        (K.taken sink.old) (K.taken sink.new)) }
+    ensures err { OnErr result (Told (TookPart ((listing_text form entries.now ++ (word.now ++ decimal (length entries.now))) ++ codes "\n"))
+        (K.taken sink.old) (K.taken sink.new)) }
     ensures cause { HasCause (K.faults sink.old) (K.faults sink.new) result }
 {
     write_entries(sink, form, entries)?;
@@ -80,8 +82,10 @@ pub fn write_entry_line<K: Sink>(
     size: u64,
     name: &[u8],
 ) -> Result<(), Failed>
-    ensures ok { OnOk result (Told (Took (line_in form (record { depth = depth; inode = inode; kind = kind; size = size; name = name.now }))) (K.taken sink.old) (K.taken sink.new)) }
-    ensures err { OnErr result (Told (TookPart (line_in form (record { depth = depth; inode = inode; kind = kind; size = size; name = name.now }))) (K.taken sink.old) (K.taken sink.new)) }
+    ensures ok { OnOk result (Told (Took (line_in form (record { depth = depth; inode = inode; kind = kind; size = size; name = name.now })))
+        (K.taken sink.old) (K.taken sink.new)) }
+    ensures err { OnErr result (Told (TookPart (line_in form (record { depth = depth; inode = inode; kind = kind; size = size; name = name.now })))
+        (K.taken sink.old) (K.taken sink.new)) }
     ensures cause { HasCause (K.faults sink.old) (K.faults sink.new) result }
 {
     let mut line = [0u8; ENTRY_ROOM];
@@ -132,7 +136,8 @@ fn write_byte<K: Sink>(sink: &mut K, byte: u8) -> Result<(), Failed>
 fn spell_head(line: &mut [u8], form: Form, depth: u32, inode: u32, kind: Kind, size: u64) -> usize
     requires { 50 ≤ length line.old }
     ensures end { result ≤ 50 }
-    ensures text { take result line.new ≡ front_in form depth ++ (decimal inode ++ (codes " " ++ (kind_letter kind ++ (codes " " ++ (decimal size ++ codes " "))))) }
+    ensures text { take result line.new ≡ front_in form depth ++ (decimal inode ++ (codes " " ++ (kind_letter kind ++ (codes " " ++
+        (decimal size ++ codes " "))))) }
 {
     let word = spell_front(line, form, depth);
     let mut digits = Buffer::new();

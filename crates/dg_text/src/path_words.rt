@@ -69,7 +69,8 @@ fn next_byte(word: &[u8]) -> Option<(u8, usize)>
 // The bytes that a word spells, if they are no more than those of the longest path.
 fn spelled_bytes(alloc: Global, word: &[u8]) -> Result<Option<Vec<u8>>, NoMemory>
     ensures found { IfOk result (λ r. IfSome r (λ bytes. (word.now ≡ path_word bytes.items) × AreBytes bytes.items)) }
-    ensures exact { IfOk result (λ r. (bytes : List ℕ) → length bytes ≤ 1023 → AreBytes bytes → word.now ≡ path_word bytes → MatchOption r ⊥ (λ found. found.items ≡ bytes)) }
+    ensures exact { IfOk result (λ r. (bytes : List ℕ) → length bytes ≤ 1023 → AreBytes bytes → word.now ≡ path_word bytes
+        → MatchOption r ⊥ (λ found. found.items ≡ bytes)) }
 {
     let mut bytes = Vec::new(alloc);
     let mut at = 0;

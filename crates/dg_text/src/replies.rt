@@ -165,8 +165,10 @@ fn bytes_in(lines: &[Bytes]) -> u128
 // Writes the lines of a file, and the one that ends it.
 fn write_file<K: Sink>(sink: &mut K, lines: &[Bytes], word: &[u8]) -> Result<(), Failed>
     requires word { length word.now ≤ 32 }
-    ensures ok { OnOk result (Told (Took ((file_text lines.now ++ (word.now ++ decimal (length (concat lines.now)))) ++ codes "\n")) (K.taken sink.old) (K.taken sink.new)) }
-    ensures err { OnErr result (Told (TookPart ((file_text lines.now ++ (word.now ++ decimal (length (concat lines.now)))) ++ codes "\n")) (K.taken sink.old) (K.taken sink.new)) }
+    ensures ok { OnOk result (Told (Took ((file_text lines.now ++ (word.now ++ decimal (length (concat lines.now)))) ++ codes "\n"))
+        (K.taken sink.old) (K.taken sink.new)) }
+    ensures err { OnErr result (Told (TookPart ((file_text lines.now ++ (word.now ++ decimal (length (concat lines.now)))) ++ codes "\n"))
+        (K.taken sink.old) (K.taken sink.new)) }
     ensures cause { HasCause (K.faults sink.old) (K.faults sink.new) result }
 {
     write_lines(sink, lines)?;

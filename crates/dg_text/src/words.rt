@@ -37,7 +37,8 @@ fn first_space(text: &[u8]) -> Option<usize>
 /// What stands before the first space, and behind it.
 fn cut_at_space(text: &[u8]) -> Option<(&[u8], &[u8])>
     ensures found { IfSome result (λ cut. text.now ≡ cut.0.now ++ 32 ∷ cut.1.now) }
-    ensures exact { (word rest : List ℕ) → (Contains word 32 → ⊥) → text.now ≡ word ++ 32 ∷ rest → MatchOption result ⊥ (λ cut. (cut.0.now ≡ word) × (cut.1.now ≡ rest)) }
+    ensures exact { (word rest : List ℕ) → (Contains word 32 → ⊥) → text.now ≡ word ++ 32 ∷ rest → MatchOption result ⊥ (λ cut. (cut.0.now ≡ word)
+        × (cut.1.now ≡ rest)) }
 {
     let i = first_space(text)?;
     Some((&text[..i], &text[i + 1..]))
