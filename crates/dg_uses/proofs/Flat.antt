@@ -11,11 +11,11 @@ use Rattle.dg_model.proofs.StepLaws.{run_keeps, step_keeps}
 use Rattle.dg_model.proofs.TrimLaws.{trimmed_written, zeros_padded}
 use Rattle.dg_model.specs.Blocks.{block_in, padded, stripped, zeros}
 use Rattle.dg_model.specs.Causes.{NoneRose}
-use Rattle.dg_model.specs.Changes.{Goes, IsMember, LosesSites, Stays, Strikes, Writes}
+use Rattle.dg_model.specs.Changes.{IsMember, LosesSites, Stays, Strikes, Writes}
 use Rattle.dg_model.specs.Members.{IsStruck, MembersFall, is_filling, is_good, is_lost}
 use Rattle.dg_model.specs.Runs.{Run, Trace}
 use Rattle.dg_model.specs.Shapes.{IsShape}
-use Rattle.dg_model.specs.Sites.{all_lost, has_site, is_gone}
+use Rattle.dg_model.specs.Sites.{all_lost, has_site}
 use Rattle.dg_model.specs.States.{Counts, IsBlank, State, has_lost, is_broken}
 use Rattle.dg_model.specs.Steps.{Step}
 use Rattle.dg_model.specs.Tables.{Table, sites_in}

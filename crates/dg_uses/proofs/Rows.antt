@@ -1,12 +1,11 @@
 -- What replays of some short texts print.
-use Rattle.std.proofs.Common.{◌≡◌, ◌<◌, ◌+◌, ◌-◌, ◌^◌, ◌∙◌, ℕ, zero, suc, false, List, [], ◌∷◌, ◌++◌, length, get_or, refl, sym, ap, subst, arith, append_assoc, inl, inr}
-use Rattle.std.specs.Prelude.{All, Option, Some, None, codes}
+use Rattle.std.proofs.Common.{◌≡◌, ◌<◌, ◌+◌, ◌-◌, ◌∙◌, ℕ, false, List, [], ◌∷◌, ◌++◌, length, get_or, refl, sym, ap, arith, append_assoc, inl, inr}
+use Rattle.std.specs.Prelude.{Option, Some, None, codes}
 use Rattle.std.specs.Fmt.{digits}
 use Rattle.std.proofs.lemmas.List.Elements.{All-cons, All-head, All-nil}
 use Rattle.hex.specs.Hex.{encode_with}
 use Rattle.dg_io.specs.Racks.{counts_in, member_in}
 use Rattle.dg_io.specs.Sinks.{taken_in}
-use Rattle.dg_io.specs.Sources.{left_in}
 use Rattle.dg_model.proofs.RunLaws.{run_none, trace_more}
 use Rattle.dg_model.specs.Runs.{Trace}
 use Rattle.dg_model.specs.Shapes.{IsShape}

@@ -1,5 +1,5 @@
 -- What a client promises of a replay in which no call on a member fails, and no boundary is lost: a function of the events.
-use Rattle.std.specs.Prelude.{◌≡◌, ◌<◌, ◌+◌, ◌*◌, ◌/◌, ◌==◌, ◌&&◌, ◌||◌, not, if◌then◌else◌, nat_lt, ℕ, Bool, true, false, List, [], ◌∷◌, IsSome, Option}
+use Rattle.std.specs.Prelude.{◌≡◌, ◌<◌, ◌+◌, ◌*◌, ◌/◌, ◌==◌, ◌&&◌, ◌||◌, not, if◌then◌else◌, nat_lt, ℕ, Bool, false, List, [], ◌∷◌, IsSome, Option}
 use Rattle.dg_model.specs.Blocks.{stripped}
 use Rattle.dg_model.specs.States.{has_lost}
 use Rattle.dg_model.specs.declared.events.Event.{Event}
