@@ -1,6 +1,6 @@
 -- A trace in which no count of faults rises, where bytes are told, is a chain of views, and such a chain is one.
 use Rattle.std.proofs.Common.{◌≡◌, ◌/◌, ℕ, false, List, [], ◌∷◌, refl, sym, ◌∙◌, ap, subst, arith, inl, inr}
-use Rattle.std.specs.Prelude.{All, nat_lt, if◌then◌else◌}
+use Rattle.std.specs.Prelude.{All, nat_lt}
 use Rattle.std.proofs.lemmas.Bool.{cases_lt, lt-ltb, le-ltb, cond-true, cond-false}
 use Rattle.std.proofs.lemmas.List.Elements.{All-head, All-tail}
 use Rattle.dg_model.specs.Causes.{NoneRose}
@@ -16,7 +16,7 @@ use Rattle.dg_model.specs.declared.replies.Reply.{Reply}
 use Rattle.dg_model.specs.declared.replies.Reply.TheVariants.{Done}
 use Rattle.dg_model.proofs.FirstSites.{empty_inside}
 use Rattle.dg_model.proofs.MemberLaws.{none_back, none_front}
-use Rattle.dg_model.proofs.RunLaws.{run_more, run_none, trace_more}
+use Rattle.dg_model.proofs.RunLaws.{trace_more}
 use Rattle.dg_model.proofs.StepLaws.{run_keeps, step_keeps}
 use Rattle.dg_uses.specs.Views.{Core, IsServed, Views, blank_core, core_of}
 use Rattle.dg_uses.proofs.Cores.{Sound, core_is}

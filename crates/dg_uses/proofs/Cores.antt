@@ -1,6 +1,6 @@
 -- Cores of sound arrays, and what a step leaves of them where no count of faults rises.
-use Rattle.std.proofs.Common.{◌≡◌, ◌<◌, ◌+◌, ◌*◌, ℕ, Bool, true, false, List, [], ◌∷◌, refl, sym, ◌∙◌, ap, subst, arith, inl, inr}
-use Rattle.std.proofs.lemmas.Bool.{and_parts, cases_Bool, cases_eq, false≢true}
+use Rattle.std.proofs.Common.{◌≡◌, ◌<◌, ℕ, true, false, List, [], ◌∷◌, refl, sym, ◌∙◌, ap, subst, inl, inr}
+use Rattle.std.proofs.lemmas.Bool.{and_parts, cases_eq, false≢true}
 use Rattle.std.proofs.lemmas.List.Elements.{All-head}
 use Rattle.dg_model.specs.Causes.{NoneRose}
 use Rattle.dg_model.specs.Changes.{Goes, LosesSites, Stays}
@@ -13,7 +13,7 @@ use Rattle.dg_model.specs.declared.sites.Site.{Site}
 use Rattle.dg_model.specs.declared.members.MemberState.{MemberState}
 use Rattle.dg_model.proofs.FirstSites.{AreBelow, IsInside, sited_inside}
 use Rattle.dg_model.proofs.MemberLaws.{has_lost_at, stays_where_none}
-use Rattle.dg_uses.specs.Views.{Core, Struck, View, Wrote, core_of}
+use Rattle.dg_uses.specs.Views.{Core, Struck, Wrote, core_of}
 
 -- no member is being refilled
 abbrev pub NoneFills : (ℕ → MemberState) → Type 0

@@ -1,9 +1,10 @@
-pub mod Cores
-pub mod StepViews
-pub mod OneView
+mod Flat
+mod Lines
+mod LossRows
+mod Ran
+mod Results
+mod Rows
 pub mod Chains
-pub mod Ran
-pub mod Results
-pub mod Prints
-pub mod Rows
-pub mod Refused
+pub mod Cores
+pub mod OneView
+pub mod StepViews

@@ -1,12 +1,11 @@
 -- From one core an event has one reply, and leads to one core.
-use Rattle.std.proofs.Common.{◌≡◌, ◌<◌, ◌+◌, ◌*◌, ℕ, Bool, true, false, List, [], ◌∷◌, length, take, drop, refl, sym, ◌∙◌, ap, subst, arith, inl, inr}
+use Rattle.std.proofs.Common.{◌≡◌, ◌<◌, ◌+◌, ◌*◌, ℕ, Bool, true, false, List, [], ◌∷◌, length, take, drop, refl, sym, ◌∙◌, ap, subst, arith}
 use Rattle.std.specs.Prelude.{Result, Ok, Err}
 use Rattle.std.specs.List.{concat}
 use Rattle.std.proofs.lemmas.Bool.{false≢true}
 use Rattle.std.proofs.lemmas.List.{append-nil, length-append, take_at, drop_at}
 use Rattle.dg_model.specs.Blocks.{block_in}
 use Rattle.dg_model.specs.Lists.{AreLines}
-use Rattle.dg_model.specs.Tables.{Table}
 use Rattle.dg_model.specs.declared.shapes.Shape.{Shape}
 use Rattle.dg_model.specs.declared.members.MemberState.{MemberState}
 use Rattle.dg_model.specs.declared.events.Event.{Event}
@@ -15,8 +14,6 @@ use Rattle.dg_model.specs.declared.replies.Reply.{Reply}
 use Rattle.dg_model.specs.declared.replies.Reply.TheVariants.{Done, Range, Degraded, Unavailable, Already, Data, Given, Listed as ListedReply, Refused}
 use Rattle.dg_model.proofs.FirstSites.{sited_same}
 use Rattle.dg_model.proofs.TrimLaws.{trimmed_is}
-use Rattle.ufs_model.specs.Listings.{Listed}
-use Rattle.ufs_model.specs.declared.reads.PathRefusal.{PathRefusal}
 use Rattle.dg_uses.specs.Views.{Core, Struck, View, Wrote, file_in, listing_in}
 use Rattle.dg_uses.proofs.Cores.{NoneFills, Sound, core_is, same_sound, struck_same, struck_sound, wrote_sound}
 

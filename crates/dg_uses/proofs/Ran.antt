@@ -1,5 +1,5 @@
 -- Runs over members that tell their bytes, in which no count of faults rose.
-use Rattle.std.proofs.Common.{◌≡◌, ◌<◌, ℕ, List, [], ◌∷◌, refl, sym, ◌∙◌, subst}
+use Rattle.std.proofs.Common.{◌≡◌, false, List, [], ◌∷◌, refl, sym, ◌∙◌, subst}
 use Rattle.std.specs.Prelude.{All, Some}
 use Rattle.std.proofs.lemmas.List.Elements.{All-cons, All-head, All-nil, All-tail}
 use Rattle.dg_model.specs.Causes.{NoneRose}
@@ -14,7 +14,9 @@ use Rattle.dg_run.specs.Replays.{TellsBoundaries}
 use Rattle.dg_text.specs.Lines.{IsInPlace}
 use Rattle.dg_uses.specs.Replays.{RanSmoothly}
 use Rattle.dg_uses.specs.Views.{Core, IsServed, Views, blank_core}
+use Rattle.dg_uses.specs.Answers.{StaysWhole, answers}
 use Rattle.dg_uses.proofs.Chains.{trace_views, traces_same}
+use Rattle.dg_uses.proofs.Flat.{trace_answers}
 
 -- an event in its place behind the first one is served
 served : (shape : Shape) (event : Event) → IsInPlace (Some shape) event → IsServed event
@@ -58,3 +60,9 @@ ran_same (Array shape ∷ events) replies others x y =
     (told (Array shape ∷ events) others y) shape events x.before y.before replies others x.ran.final y.ran.final x.ran.in_place.0
     (all_served shape events x.ran.in_place.1) (none_at_end (Array shape ∷ events) replies x) (none_at_end (Array shape ∷ events) others y) x.ran.trace y.ran.trace
 ran_same (event ∷ events) replies others x y = absurd x.ran.in_place
+
+pub ran_answers : (shape : Shape) (events : List Event) (replies : List Reply) → StaysWhole shape (λ q. false) events → RanSmoothly (Array shape ∷ events) replies
+    → replies ≡ Done ∷ answers shape (λ q. false) (λ b. []) events
+ran_answers shape events replies whole run =
+    trace_answers (TellsBoundaries run.bytes run.ran.final) (told (Array shape ∷ events) replies run) run.before shape events replies run.ran.final
+    run.ran.in_place.0 whole (none_at_end (Array shape ∷ events) replies run) run.ran.trace

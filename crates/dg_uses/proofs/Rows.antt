@@ -1,32 +1,29 @@
--- Two short replays of an array, as chains of views.
-use Rattle.std.proofs.Common.{◌≡◌, ◌≢◌, ◌<◌, ◌/◌, ◌==◌, ◌∙◌, ℕ, true, false, List, [], ◌∷◌, refl, sym, ap, arith, inl, inr}
-use Rattle.std.specs.Prelude.{All, Some, codes, slice_set, if◌then◌else◌}
+-- What replays of some short texts print.
+use Rattle.std.proofs.Common.{◌≡◌, ◌<◌, ◌+◌, ◌-◌, ◌∙◌, ℕ, false, List, [], ◌∷◌, ◌++◌, length, get_or, refl, sym, ap, arith, append_assoc, inl, inr}
+use Rattle.std.specs.Prelude.{Option, Some, None, codes}
 use Rattle.std.specs.Fmt.{digits}
-use Rattle.std.proofs.lemmas.Bool.{cond-false, false≢true, ne_eqb}
-use Rattle.std.proofs.lemmas.List.Elements.{All-cons, All-nil}
+use Rattle.std.proofs.lemmas.List.Elements.{All-cons, All-head, All-nil}
 use Rattle.hex.specs.Hex.{encode_with}
+use Rattle.dg_io.specs.Racks.{counts_in, member_in}
 use Rattle.dg_io.specs.Sinks.{taken_in}
-use Rattle.dg_model.specs.Blocks.{IsTrimmed, block_in, padded}
-use Rattle.dg_model.specs.Members.{IsStruck, is_good}
+use Rattle.dg_model.proofs.RunLaws.{run_none, trace_more}
+use Rattle.dg_model.specs.Runs.{Trace}
 use Rattle.dg_model.specs.Shapes.{IsShape}
-use Rattle.dg_model.specs.Sites.{IsSited}
-use Rattle.dg_model.specs.Tables.{Table, empty_table, lowest_free}
-use Rattle.dg_model.specs.declared.shapes.Shape.{Shape}
-use Rattle.dg_model.specs.declared.members.MemberState.{MemberState}
-use Rattle.dg_model.specs.declared.members.MemberState.TheVariants.{Good, Out}
+use Rattle.dg_model.specs.States.{Counts, State, has_lost}
 use Rattle.dg_model.specs.declared.events.Event.{Event}
-use Rattle.dg_model.specs.declared.events.Event.TheVariants.{Array, Fail, Read, Write}
+use Rattle.dg_model.specs.declared.events.Event.TheVariants.{Array, Cat, Fail, Ls, Read, Write}
 use Rattle.dg_model.specs.declared.replies.Reply.{Reply}
-use Rattle.dg_model.specs.declared.replies.Reply.TheVariants.{Data, Done}
-use Rattle.dg_model.proofs.FirstSites.{first_sited, first_table}
-use Rattle.dg_text.specs.Lines.{AreBytes, AreInPlace, IsInPlace, input_of}
-use Rattle.dg_text.specs.Replies.{output_of}
-use Rattle.dg_uses.specs.Replays.{HasReplayed, NeverFailed}
-use Rattle.dg_uses.specs.Views.{Core, View, Views, Wrote, blank_core, has_lost_in, is_gone_in}
+use Rattle.dg_model.specs.declared.replies.Reply.TheVariants.{Done}
+use Rattle.dg_model.specs.declared.shapes.Shape.{Shape}
+use Rattle.dg_run.specs.Replays.{Ran, StopsAt, TellsBoundaries}
+use Rattle.dg_text.specs.Lines.{AreBytes, AreInPlace, IsInPlace, input_of, line_of}
+use Rattle.dg_text.specs.Replies.{output_of, refusal}
+use Rattle.dg_text.specs.declared.lines.BadLine.TheVariants.{Form}
+use Rattle.dg_uses.proofs.Lines.{OneInput, prints}
+use Rattle.dg_uses.proofs.Ran.{ran_answers}
+use Rattle.dg_uses.specs.Answers.{StaysWhole, answers, member_by, struck}
+use Rattle.dg_uses.specs.Replays.{HasReplayed, HasStopped, NeverFailed}
 use Rattle.dg_uses.specs.declared.replays.Replay.{Replay}
-use Rattle.dg_uses.proofs.Prints.{OneInput, prints}
-
--- ---- the array
 
 abbrev pub shape_here : Shape
 shape_here = record { l = 1024; n = 64; b = 4; k = 32; m = 2 }
@@ -46,55 +43,19 @@ shape_is = record {
   most_places = omega arith;
 }
 
-abbrev IsHere : Event → Type 0
+abbrev pub IsHere : Event → Type 0
 IsHere event = IsInPlace (Some shape_here) event
 
-one_byte : (x : ℕ) → x < 256 → AreBytes (x ∷ [])
+pub one_byte : (x : ℕ) → x < 256 → AreBytes (x ∷ [])
 one_byte x low = All-cons (λ (z : ℕ). z < 256) x [] low (All-nil (λ (z : ℕ). z < 256))
 
 two_bytes : (x y : ℕ) → x < 256 → y < 256 → AreBytes (x ∷ y ∷ [])
 two_bytes x y low small = All-cons (λ (z : ℕ). z < 256) x (y ∷ []) low (one_byte y small)
 
--- ---- block 3 is written first
-
-abbrev empty : Core
-empty = blank_core shape_here
-
--- the core once block 3 was written with these bytes
-abbrev with_3 : Core → Table → List ℕ → Core
-with_3 old table bytes = record old { table = table; blocks = slice_set old.blocks 3 (padded 1024 bytes) }
-
--- block 3 stands on boundary 3
-abbrev table_3 : Table
-table_3 = first_table (empty_table shape_here) 3
-
-sited_3 : IsSited (empty_table shape_here) 3 table_3
-unfolding lowest_free
-sited_3 = first_sited (empty_table shape_here) 3 (omega arith) refl (omega arith) (omega arith)
-
-whole_here : has_lost_in empty ≡ false
-whole_here = refl
-
-first_write : (bytes : List ℕ) → View empty (Write 3 bytes) Done (with_3 empty table_3 bytes)
-first_write bytes = (omega arith, whole_here, record { sited = sited_3; blocks = refl; members = refl })
-
--- ---- it is written and read
+-- ---- a block is written and read
 
 abbrev written : List Event
 written = Write 3 (104 ∷ 105 ∷ []) ∷ Read 3 ∷ []
-
-abbrev core_hi : Core
-core_hi = with_3 empty table_3 (104 ∷ 105 ∷ [])
-
-trimmed_hi : IsTrimmed (104 ∷ 105 ∷ []) (block_in core_hi.blocks 3)
-trimmed_hi = record { whole = refl; last = λ some e. absurd (omega (arith, e)) }
-
-read_hi : View core_hi (Read 3) (Data (104 ∷ 105 ∷ [])) core_hi
-unfolding lowest_free
-read_hi = (omega arith, refl, trimmed_hi, refl)
-
-written_views : Views empty written (Done ∷ Data (104 ∷ 105 ∷ []) ∷ []) core_hi
-written_views = (core_hi, first_write (104 ∷ 105 ∷ []), (core_hi, read_hi, refl))
 
 written_placed : AreInPlace (Array shape_here ∷ written)
 written_placed = (
@@ -107,63 +68,21 @@ written_text : codes "array 1024 64 4 32 2\nwrite 3 6869\nread 3\n" ≡ input_of
 unfolding digits encode_with
 written_text = refl
 
-written_output : output_of (Done ∷ Done ∷ Data (104 ∷ 105 ∷ []) ∷ []) ≡ codes "ok\nok\ndata 6869\n"
+written_output : output_of (Done ∷ answers shape_here (λ q. false) (λ b. []) written) ≡ codes "ok\nok\ndata 6869\n"
 unfolding encode_with
 written_output = refl
 
 pub prints_written : OneInput → (end : Replay) → HasReplayed (codes "array 1024 64 4 32 2\nwrite 3 6869\nread 3\n") end → NeverFailed end
     → taken_in end.sink ≡ codes "ok\nok\ndata 6869\n"
 prints_written one end did never =
-    prints one shape_here written (Done ∷ Data (104 ∷ 105 ∷ []) ∷ []) core_hi written_placed written_views
-    (codes "array 1024 64 4 32 2\nwrite 3 6869\nread 3\n") written_text end did never
+    prints one shape_here written (answers shape_here (λ q. false) (λ b. []) written) written_placed
+    (λ replies run. ran_answers shape_here written replies tt run) (codes "array 1024 64 4 32 2\nwrite 3 6869\nread 3\n") written_text end did never
     ∙ written_output
 
 -- ---- a member fails between two writes
 
 abbrev failed : List Event
 failed = Write 3 (170 ∷ []) ∷ Fail 3 0 ∷ Write 3 (187 ∷ []) ∷ Read 3 ∷ []
-
-abbrev without_6 : (ℕ → MemberState) → ℕ → MemberState
-without_6 members q = if q == 6 then Out else members q
-
-abbrev core_aa : Core
-core_aa = with_3 empty table_3 (170 ∷ [])
-
-abbrev core_failed : Core
-core_failed = record core_aa { members = without_6 core_aa.members }
-
-abbrev core_bb : Core
-core_bb = with_3 core_failed table_3 (187 ∷ [])
-
-good_is_not_out : (state : MemberState) → state ≡ Good → state ≢ Out
-good_is_not_out state good e = false≢true (sym (ap is_good e) ∙ ap is_good good)
-
-struck : IsStruck 6 core_aa.members core_failed.members
-struck = record { out = refl; others = λ p other. inl (cond-false (p == 6) Out (core_aa.members p) (ne_eqb p 6 other)) }
-
-fail_view : View core_aa (Fail 3 0) Done core_failed
-fail_view = (record { boundary = omega arith; side = omega arith }, good_is_not_out (core_aa.members 6) refl, record { members = struck; rest = refl })
-
--- it has a site by now, and keeps it
-kept_3 : IsSited table_3 3 table_3
-unfolding lowest_free
-kept_3 = record { kept = λ has. refl; first = λ none. absurd (false≢true (sym none)) }
-
-still_whole : has_lost_in core_failed ≡ false
-still_whole = refl
-
-second_write : View core_failed (Write 3 (187 ∷ [])) Done core_bb
-second_write = (omega arith, still_whole, record { sited = kept_3; blocks = refl; members = refl })
-
-trimmed_bb : IsTrimmed (187 ∷ []) (block_in core_bb.blocks 3)
-trimmed_bb = record { whole = refl; last = λ some e. absurd (omega (arith, e)) }
-
-read_bb : View core_bb (Read 3) (Data (187 ∷ [])) core_bb
-unfolding lowest_free
-read_bb = (omega arith, refl, trimmed_bb, refl)
-
-failed_views : Views empty failed (Done ∷ Done ∷ Done ∷ Data (187 ∷ []) ∷ []) core_bb
-failed_views = (core_aa, first_write (170 ∷ []), (core_failed, fail_view, (core_bb, second_write, (core_bb, read_bb, refl))))
 
 failed_placed : AreInPlace (Array shape_here ∷ failed)
 failed_placed = (
@@ -178,13 +97,78 @@ failed_text : codes "array 1024 64 4 32 2\nwrite 3 aa\nfail 3 0\nwrite 3 bb\nrea
 unfolding digits encode_with
 failed_text = refl
 
-failed_output : output_of (Done ∷ Done ∷ Done ∷ Done ∷ Data (187 ∷ []) ∷ []) ≡ codes "ok\nok\nok\nok\ndata bb\n"
+failed_output : output_of (Done ∷ answers shape_here (λ q. false) (λ b. []) failed) ≡ codes "ok\nok\nok\nok\ndata bb\n"
 unfolding encode_with
 failed_output = refl
+
+-- the other member of the boundary is good still
+still_whole : has_lost shape_here (member_by shape_here (struck (λ q. false) 6)) ≡ false
+still_whole = refl
+
+failed_whole : StaysWhole shape_here (λ q. false) failed
+failed_whole = (record { boundary = omega arith; side = omega arith }, still_whole, tt)
 
 pub prints_failed : OneInput → (end : Replay) → HasReplayed (codes "array 1024 64 4 32 2\nwrite 3 aa\nfail 3 0\nwrite 3 bb\nread 3\n") end → NeverFailed end
     → taken_in end.sink ≡ codes "ok\nok\nok\nok\ndata bb\n"
 prints_failed one end did never =
-    prints one shape_here failed (Done ∷ Done ∷ Done ∷ Data (187 ∷ []) ∷ []) core_bb failed_placed failed_views
-    (codes "array 1024 64 4 32 2\nwrite 3 aa\nfail 3 0\nwrite 3 bb\nread 3\n") failed_text end did never
+    prints one shape_here failed (answers shape_here (λ q. false) (λ b. []) failed) failed_placed
+    (λ replies run. ran_answers shape_here failed replies failed_whole run) (codes "array 1024 64 4 32 2\nwrite 3 aa\nfail 3 0\nwrite 3 bb\nread 3\n")
+    failed_text end did never
     ∙ failed_output
+
+-- ---- a line is refused
+
+-- a text begins with the line of no more than one event in its place: a law of lines, which is handed in
+abbrev pub OneLine : Type 0
+OneLine = (shape : Option Shape) (event other : Event) (rest more : List ℕ) → IsInPlace shape event → IsInPlace shape other
+    → line_of event ++ rest ≡ line_of other ++ more → (event ≡ other) × (rest ≡ more)
+
+abbrev refused : List ℕ
+refused = codes "array 1024 64 4 32 2\nreed 3\n"
+
+refused_text : refused ≡ line_of (Array shape_here) ++ codes "reed 3\n"
+unfolding digits
+refused_text = refl
+
+line_short : length (line_of (Array shape_here)) ≡ 21
+unfolding digits
+line_short = refl
+
+refused_output : output_of (Done ∷ []) ++ refusal 2 Form ≡ codes "ok\nline 2 form\n"
+unfolding digits
+refused_output = refl
+
+at : (k : ℕ) (x y : List ℕ) → x ≡ y → get_or x k 0 ≡ get_or y k 0
+at k x y e = ap (λ (l : List ℕ). get_or l k 0) e
+
+no_reed : (shape : Shape) (event : Event) (more : List ℕ) → IsInPlace (Some shape) event → codes "reed 3\n" ≡ line_of event ++ more → ⊥
+no_reed shape (Write b bytes) more h e = absurd (omega (arith, at 0 _ _ e))
+no_reed shape (Read b) more h e = absurd (omega (arith, at 2 _ _ e))
+no_reed shape (Fail s j) more h e = absurd (omega (arith, at 0 _ _ e))
+no_reed shape (Cat path) more h e = absurd (omega (arith, at 0 _ _ e))
+no_reed shape (Ls path) more h e = absurd (omega (arith, at 0 _ _ e))
+no_reed shape event more h e = absurd h
+
+array_alone : (Known : Type 0) (before : Counts) (shape : Shape) (replies : List Reply) (final : State) → Trace Known before (Array shape ∷ []) replies final → replies ≡ Done ∷ []
+array_alone Known before shape replies final trace =
+    let t = trace_more Known before shape [] replies final trace in
+    t.is ∙ ap (λ (l : List Reply). Done ∷ l) (run_none Known t.blank final t.rest t.run).0
+
+stops : OneLine → (before now : Counts) (bytes : ℕ → Option (List ℕ)) (events : List Event) (replies : List Reply) (text taken : List ℕ) → Ran before now bytes events replies
+    → refused ≡ input_of events ++ text → StopsAt events text → taken ≡ output_of replies ++ refusal (length events + 1) Form → taken ≡ codes "ok\nline 2 form\n"
+stops one before now bytes [] replies text taken ran is stop took =
+    let over = stop.none (Array shape_here) (codes "reed 3\n") shape_is (sym is ∙ refused_text) in
+    absurd (omega (arith, over, line_short))
+stops one before now bytes (Array s ∷ []) replies text taken ran is stop took =
+    took ∙ ap (λ (l : List Reply). output_of l ++ refusal 2 Form) (array_alone (TellsBoundaries bytes ran.final) before s replies ran.final ran.trace) ∙ refused_output
+stops one before now bytes (Array s ∷ event ∷ es) replies text taken ran is stop took =
+    let split = one None (Array shape_here) (Array s) (codes "reed 3\n") (input_of (event ∷ es) ++ text) shape_is ran.in_place.0
+    (sym refused_text ∙ is ∙ append_assoc (line_of (Array s)) (input_of (event ∷ es)) text) in
+    absurd (no_reed s event (input_of es ++ text) (All-head (IsInPlace (Some s)) event es ran.in_place.1) (split.1 ∙ append_assoc (line_of event) (input_of es) text))
+stops one before now bytes (event ∷ es) replies text taken ran is stop took = absurd ran.in_place
+
+pub prints_refused : OneLine → (end : Replay) → HasStopped (codes "array 1024 64 4 32 2\nreed 3\n") end → taken_in end.sink ≡ codes "ok\nline 2 form\n"
+prints_refused one end did =
+    let stopped = did.stopped in
+    let input = stopped.input in
+    stops one did.before (counts_in end.rack) (member_in end.rack) stopped.events stopped.replies input.0 (taken_in end.sink) stopped.ran input.1 input.2 stopped.output

@@ -1,10 +1,10 @@
 -- A step in which no count of faults rises, where bytes are told, is one of the views.
-use Rattle.std.proofs.Common.{◌≡◌, ◌<◌, ◌≤◌, ◌++◌, ℕ, Bool, true, false, List, refl, sym, ◌∙◌, ap, subst, arith, inl, inr}
-use Rattle.std.specs.Prelude.{Option, Some, None, Result, Ok, Err}
-use Rattle.std.specs.List.{concat, list_any}
+use Rattle.std.proofs.Common.{◌≡◌, ◌<◌, ◌++◌, ℕ, Bool, true, false, List, refl, sym, ◌∙◌, ap, subst, arith, inl, inr}
+use Rattle.std.specs.Prelude.{Some, None, Ok, Err}
+use Rattle.std.specs.List.{concat}
 use Rattle.std.proofs.lemmas.Bool.{cases_Bool, false≢true}
-use Rattle.ufs_model.specs.Blocks.{Consulted, Reading}
-use Rattle.ufs_model.specs.Listings.{Listed, ls_of}
+use Rattle.ufs_model.specs.Blocks.{Reading}
+use Rattle.ufs_model.specs.Listings.{ls_of}
 use Rattle.ufs_model.specs.Paths.{cat_of}
 use Rattle.dg_model.specs.Causes.{NoneRose}
 use Rattle.dg_model.specs.Changes.{IsCutShort, MayRead, LosesSites}
@@ -16,7 +16,7 @@ use Rattle.dg_model.specs.declared.events.Event.{Event}
 use Rattle.dg_model.specs.declared.events.Event.TheVariants.{Write, Read, Fail, Cat, Ls}
 use Rattle.dg_model.specs.declared.replies.Reply.{Reply}
 use Rattle.dg_model.specs.declared.replies.Reply.TheVariants.{Done, Range, Degraded, Unavailable, Already, Data, Given, Cut, Listed as ListedReply, ListedCut, Refused}
-use Rattle.dg_uses.specs.Views.{Core, HasMember, IsServed, Struck, View, Wrote, any_gone_in, core_of, is_gone_in}
+use Rattle.dg_uses.specs.Views.{Core, IsServed, View, any_gone_in, core_of, is_gone_in}
 use Rattle.dg_uses.proofs.Cores.{Sound, core_is, goes_members, keeps_sites, same_core, stays_core}
 
 not_true : (x : Bool) → (x ≡ true → ⊥) → x ≡ false

@@ -1,2 +1,3 @@
+pub mod Answers
 pub mod Replays
 pub mod Views

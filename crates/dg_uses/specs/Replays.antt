@@ -1,5 +1,5 @@
 -- What a replay between objects in memory has done.
-use Rattle.std.specs.Prelude.{◌≡◌, ℕ, List, [], Option, Some, IsSome}
+use Rattle.std.specs.Prelude.{◌≡◌, ℕ, List, [], Option, Some}
 use Rattle.dg_io.specs.Racks.{counts_in, member_in}
 use Rattle.dg_io.specs.Sinks.{taken_in}
 use Rattle.dg_io.specs.Sources.{left_in}
@@ -8,11 +8,12 @@ use Rattle.dg_model.specs.States.{Counts}
 use Rattle.dg_model.specs.declared.events.Event.{Event}
 use Rattle.dg_model.specs.declared.replies.Reply.{Reply}
 use Rattle.dg_run.specs.Replays.{Ran, Replayed, Stopped}
+use Rattle.dg_uses.specs.Answers.{TellsEach}
 use Rattle.dg_uses.specs.declared.replays.Replay.{Replay}
 
 -- each member tells its bytes at the end, and of none of them did the count of faults rise
 pub record IsSmooth (before now : Counts) (bytes : ℕ → Option (List ℕ)) : Type 0 where
-  pub tells : (q : ℕ) → IsSome (bytes q)
+  pub tells : TellsEach bytes
   pub none : NoneRose before.faults now.faults
 
 -- a run of these events with these replies, in which that is so
@@ -29,18 +30,18 @@ pub record AreNone (counts : Counts) : Type 0 where
   pub calls : counts.calls ≡ 0
   pub writes : counts.writes ≡ 0
 
--- no call on a member failed: each count of faults is still that of a new rack
+-- no call on a member failed: each count of faults is 0 still
 abbrev pub NeverFailed : Replay → Type 0
 NeverFailed end = NoneRose (λ q. 0) (counts_in end.rack).faults
 
 -- All lines of the text were replayed over a new rack.
 pub record HasReplayed (text : List ℕ) (end : Replay) : Type 0 where
   pub before : Counts
-  pub new : AreNone before
+  pub fresh : AreNone before
   pub replayed : Replayed before (counts_in end.rack) (member_in end.rack) (Some text) (Some (left_in end.source)) (Some []) (Some (taken_in end.sink))
 
 -- the same up to a line that is refused
 pub record HasStopped (text : List ℕ) (end : Replay) : Type 0 where
   pub before : Counts
-  pub new : AreNone before
+  pub fresh : AreNone before
   pub stopped : Stopped before (counts_in end.rack) (member_in end.rack) (Some text) (Some (left_in end.source)) (Some []) (Some (taken_in end.sink))

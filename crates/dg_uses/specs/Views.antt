@@ -1,6 +1,6 @@
 -- What each event that is served does to an array where bytes are told and no call fails: its reply, and what the array is then. The
 -- rules are this project's own.
-use Rattle.std.specs.Prelude.{◌≡◌, ◌≢◌, ◌+◌, ◌*◌, ◌/◌, ◌<◌, ◌≤◌, ℕ, Bool, true, false, List, [], ◌∷◌, Result, Ok, Err, replicate, slice_set, nat_lt, if◌then◌else◌}
+use Rattle.std.specs.Prelude.{◌≡◌, ◌≢◌, ◌+◌, ◌*◌, ◌/◌, ◌<◌, ℕ, Bool, true, false, List, [], ◌∷◌, Result, Ok, Err, replicate, slice_set, nat_lt, if◌then◌else◌}
 use Rattle.std.specs.List.{concat, list_any}
 use Rattle.ufs_model.specs.Blocks.{Consulted}
 use Rattle.ufs_model.specs.Listings.{Listed, ls_of}

@@ -1,5 +1,5 @@
-//! A client of the run: what follows from the clauses of `run` alone. The contracts of its functions say what a replay prints, and
-//! their proofs execute nothing.
+//! What a client concludes from the clauses of a run alone. The contracts of its functions say what a replay prints, and their proofs
+//! execute nothing.
 #![tactic(auto)]
 
 mod laws;
@@ -7,7 +7,8 @@ mod replays;
 #[cfg(test)]
 mod tests;
 
-pub use laws::{replies_are_a_function, replies_by_views};
+pub use laws::{answers_are_promised, replies_are_a_function, replies_by_views};
 pub use replays::{
-    Replay, read_past_a_failure, read_what_was_written, refuse_the_second_line, replay_text,
+    Replay, lose_a_block, read_past_a_failure, read_what_was_written, refuse_the_second_line,
+    replay_text,
 };

@@ -9,15 +9,12 @@ use dg_run::{Status, run};
 use dg_text::{input_is_unique, line_is_unique};
 use std::alloc::Global;
 
-// Members of the array 1024 64 4 32 2, and the bytes of each: those of a label, of its slots, of a spare one, and of a saved state.
-const MEMBERS: u8 = 8;
+// Bytes of a member of the array 1024 64 4 32 2, and of all replies.
+const LENGTH: u64 = 35_817;
 
-const LENGTH: u64 = 65_536;
-
-// Bytes of all replies of a short trace.
 const OUTPUT: usize = 256;
 
-/// A replay that came to an end: how, and what its objects hold then.
+/// A replay that came to its end: how, and what its objects hold then.
 #[derive(Drop)]
 pub struct Replay {
     pub status: Status,
@@ -40,7 +37,7 @@ fn replay_words(alloc: Global) -> Result<Vec<String>, NoMemory>
     Ok(words)
 }
 
-/// Replays a text over a new rack.
+/// Replays a text over a rack of eight members, each of them there.
 pub fn replay_text(alloc: Global, text: &[u8]) -> Result<Replay, NoMemory>
     ensures done { IfOk result (λ end. end.status ≡ Status.Done → HasReplayed text.now end) }
     ensures bad_line { IfOk result (λ end. end.status ≡ Status.BadLine → HasStopped text.now end) }
@@ -51,7 +48,7 @@ pub fn replay_text(alloc: Global, text: &[u8]) -> Result<Replay, NoMemory>
     };
     let mut source = MemSource::new(bytes, Vec::new(alloc));
     let mut sink = MemSink::new(alloc, OUTPUT, Vec::new(alloc))?;
-    let mut rack = MemRack::new(alloc, MEMBERS, LENGTH, Vec::new(alloc))?;
+    let mut rack = MemRack::new(alloc, 8, LENGTH, Vec::new(alloc))?;
     let status = run(alloc, &words, &mut source, &mut sink, &mut rack);
     Ok(Replay {
         status,
@@ -77,6 +74,17 @@ pub fn read_past_a_failure(alloc: Global) -> Result<Replay, NoMemory>
     replay_text(
         alloc,
         b"array 1024 64 4 32 2\nwrite 3 aa\nfail 3 0\nwrite 3 bb\nread 3\n",
+    )
+}
+
+/// Both members of a boundary fail: its block is lost, and nothing is written any more.
+pub fn lose_a_block(alloc: Global) -> Result<Replay, NoMemory>
+    ensures { IfOk result (λ end. end.status ≡ Status.Done → NeverFailed end → taken_in end.sink ≡ codes "ok\nok\nok\nok\nunavailable\ndegraded\n") }
+{
+    input_is_unique();
+    replay_text(
+        alloc,
+        b"array 1024 64 4 32 2\nwrite 3 aa\nfail 3 0\nfail 3 1\nread 3\nwrite 2 00\n",
     )
 }
 

@@ -1,4 +1,4 @@
-use crate::{read_past_a_failure, read_what_was_written, refuse_the_second_line};
+use crate::{lose_a_block, read_past_a_failure, read_what_was_written, refuse_the_second_line};
 use dg_run::Status;
 use std::test::Fail;
 
@@ -15,6 +15,14 @@ fn a_block_is_read_past_a_failure(rt: HostRuntime) -> Result<(), Fail> {
     let end = read_past_a_failure(rt.alloc())?;
     assert_eq!(rt; end.status, Status::Done);
     assert!(rt; end.sink.taken() == "ok\nok\nok\nok\ndata bb\n".as_bytes());
+    Ok(())
+}
+
+#[test]
+fn a_block_is_lost(rt: HostRuntime) -> Result<(), Fail> {
+    let end = lose_a_block(rt.alloc())?;
+    assert_eq!(rt; end.status, Status::Done);
+    assert!(rt; end.sink.taken() == "ok\nok\nok\nok\nunavailable\ndegraded\n".as_bytes());
     Ok(())
 }
 
