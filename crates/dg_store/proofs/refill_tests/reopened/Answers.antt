@@ -3,10 +3,10 @@ use Rattle.dg_model.specs.Tables.{Table}
 use Rattle.dg_store.proofs.refill_tests.reopened.Goals as goal
 
 pub opened-requires-clause-shape : goal.opened-requires-clause-shape
-opened-requires-clause-shape g c = ap (λ (t : Table). t.shape) c.into_parts.ensures.map ∙ sym c.shape.ensures
+opened-requires-clause-shape g c = ap (λ (t : Table). t.shape) c.into_parts-rack.ensures.map ∙ sym c.shape-shape.ensures
 
 pub opened-requires-clause-table : goal.opened-requires-clause-table
-opened-requires-clause-table g c = rw c.into_parts.ensures.map c.requires.table
+opened-requires-clause-table g c = rw c.into_parts-rack.ensures.map c.requires.table
 
 pub opened-requires-clause-row : goal.opened-requires-clause-row
-opened-requires-clause-row g c = rw c.shape.ensures c.into_parts.ensures.row
+opened-requires-clause-row g c = rw c.shape-shape.ensures c.into_parts-rack.ensures.row
