@@ -7,5 +7,5 @@ use Rattle.dg_map.proofs.tests.made_again.Goals as goal
 
 pub restored-requires : goal.restored-requires
 restored-requires c =
-    subst (λ (t : Table). AreSites t) (sym (ap (λ (s : Shape). table_with s c.in_ok-lists.lists.items) c.shape.ensures.shape ∙ c.in_ok-lists.ensures))
-    (sites_of_table c.args.map.now c.shape.ensures.table)
+    subst (λ (t : Table). AreSites t) (sym (ap (λ (s : Shape). table_with s c.in_ok-lists.lists.items) c.shape-shape.ensures.shape ∙ c.in_ok-lists.ensures))
+    (sites_of_table c.args.map.now c.shape-shape.ensures.table)
