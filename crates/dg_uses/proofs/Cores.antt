@@ -1,5 +1,5 @@
 -- Cores of sound arrays, and what a step leaves of them where no count of faults rises.
-use Rattle.std.proofs.Common.{◌≡◌, ◌<◌, ℕ, true, false, List, [], ◌∷◌, refl, sym, ◌∙◌, ap, subst, inl, inr}
+use Rattle.std.proofs.Common.{◌≡◌, ◌<◌, ℕ, true, false, List, [], ◌∷◌, sym, ◌∙◌, ap, subst, inl, inr}
 use Rattle.std.proofs.lemmas.Bool.{and_parts, cases_eq, false≢true}
 use Rattle.std.proofs.lemmas.List.Elements.{All-head}
 use Rattle.dg_model.specs.Causes.{NoneRose}

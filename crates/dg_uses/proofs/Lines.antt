@@ -1,5 +1,5 @@
 -- What a replay prints.
-use Rattle.std.proofs.Common.{◌≡◌, ◌∙◌, ℕ, List, [], ◌∷◌, refl, sym, ap, subst}
+use Rattle.std.proofs.Common.{◌≡◌, ◌∙◌, ℕ, List, ◌∷◌, refl, sym, ap, subst}
 use Rattle.std.specs.Prelude.{Option}
 use Rattle.dg_io.specs.Racks.{counts_in, member_in}
 use Rattle.dg_io.specs.Sinks.{taken_in}

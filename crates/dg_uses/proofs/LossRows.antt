@@ -1,5 +1,5 @@
 -- A replay in which a block is lost, as a chain of views.
-use Rattle.std.proofs.Common.{◌≡◌, ◌≢◌, ◌==◌, ◌∙◌, ℕ, true, false, List, [], ◌∷◌, refl, sym, ap, arith, inl}
+use Rattle.std.proofs.Common.{◌≡◌, ◌≢◌, ◌==◌, ◌∙◌, ℕ, false, List, [], ◌∷◌, refl, sym, ap, arith, inl}
 use Rattle.std.specs.Prelude.{codes, slice_set, if◌then◌else◌}
 use Rattle.std.specs.Fmt.{digits}
 use Rattle.std.proofs.lemmas.Bool.{cond-false, false≢true, ne_eqb}
