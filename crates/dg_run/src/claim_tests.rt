@@ -1,6 +1,6 @@
 // The claims and the first malformation of volumes that are written to an array in memory, block by block: 128 fragments of
 // 1024 bytes on four boundaries with 64 slots. Inode i stands at byte 28 * 1024 + 128 * i.
-ghost use Rattle.std.specs.Prelude.{◌≡◌, IfOk, length};
+ghost use Rattle.std.specs.Prelude.{◌≡◌, IfOk, OnOk, length};
 ghost use Rattle.dg_store.specs.Stores.{IsSound, shape_of};
 
 use dg_claims::{Claims, scan};
@@ -42,8 +42,8 @@ fn image(alloc: Global, at: usize, number: u32) -> Result<Vec<u8>, Fail>
 
 // Writes a block, where it isn't zero.
 fn put_block<R: Rack>(store: &mut Store<R>, block: usize, bytes: &[u8]) -> Result<(), Fail>
-    requires sound { IsSound R.bytes store.old }
-    ensures sound { IsSound R.bytes store.new }
+    requires sound { IsSound R.Rack store.old }
+    ensures sound { IsSound R.Rack store.new }
     ensures shape { shape_of store.new ≡ shape_of store.old }
 {
     let shape = *store.shape();
@@ -60,9 +60,20 @@ fn put_block<R: Rack>(store: &mut Store<R>, block: usize, bytes: &[u8]) -> Resul
     }
 }
 
+// Writes the blocks of an image that aren't zero, ascending.
+fn put_image<R: Rack>(store: &mut Store<R>, image: &[u8]) -> Result<(), Fail>
+    requires sound { IsSound R.Rack store.old }
+    ensures sound { OnOk result (IsSound R.Rack store.new) }
+{
+    for (block, bytes) in image.chunks(1024).enumerate() {
+        put_block(store, block, bytes)?;
+    }
+    Ok(())
+}
+
 // The claims on a store, by a scan of it, and what a check tells of it.
 fn read<R: Rack>(alloc: Global, store: &mut Store<R>) -> Result<(Claims, Verdict), Fail>
-    requires sound { IsSound R.bytes store.old }
+    requires sound { IsSound R.Rack store.old }
 {
     let l = store.shape().l;
     if l != 1024 {
@@ -86,9 +97,7 @@ fn told_of(alloc: Global, at: usize, number: u32) -> Result<(Claims, Verdict), F
     let shape = Shape::check(1024, 128, 4, 64, 2).ok_or("shape")?;
     let rack = SureRack::new(alloc, 8, LENGTH)?;
     let mut store = Store::new(alloc, rack, shape)?;
-    for (block, bytes) in image.chunks(1024).enumerate() {
-        put_block(&mut store, block, bytes)?;
-    }
+    put_image(&mut store, &image)?;
     read(alloc, &mut store)
 }
 
