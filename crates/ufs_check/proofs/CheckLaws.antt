@@ -1,5 +1,5 @@
 -- The check of a volume, by its superblock and by its geometry.
-use Rattle.std.proofs.Common.{◌≡◌, ℕ, ap, List, Ok, Err, refl, sym, subst, arith}
+use Rattle.std.proofs.Common.{◌≡◌, ◌++◌, ℕ, ap, List, Option, Result, Ok, Err, refl, sym, subst, arith}
 use Rattle.std.specs.Prelude.{Contains}
 use Rattle.std.proofs.lemmas.List.{append-nil}
 use Rattle.ufs_model.specs.Blocks.{Volume, bind}
@@ -17,9 +17,13 @@ use Rattle.ufs_model.specs.declared.geometries.BadSuper.{BadSuper}
 use Rattle.ufs_model.specs.declared.geometries.Geometry.{Geometry}
 use Rattle.ufs_model.specs.declared.malformations.BadKind.{BadKind}
 use Rattle.ufs_model.specs.declared.malformations.BadKind.TheVariants.{Super}
-use Rattle.ufs_check.specs.Fragments.{HasClaimsOf}
-use Rattle.ufs_check.specs.Verdicts.{Judges}
+use Rattle.ufs_frames.specs.Frames.{HasWholeUppers}
+use Rattle.ufs_pointer.specs.Fetches.{Fetches, FetchesOnly}
+use Rattle.ufs_check.specs.Directories.{IsDirectoryRead}
+use Rattle.ufs_check.specs.Fragments.{HasClaimsOf, IsClaimedBy}
+use Rattle.ufs_check.specs.Verdicts.{IsOnView, IsTabled, Judges}
 use Rattle.ufs_check.specs.declared.verdicts.Verdict.TheVariants.{Malformed, Sound}
+use Rattle.ufs_check.proofs.PassLaws.{only_both, only_needs, only_told}
 
 pub super_structure : (l n : ℕ) (v : Volume) (block : ℕ) → Contains ((geometry_of l n v).needs) block → IsStructure l n v block
 unfolding geometry_of bind
@@ -27,6 +31,19 @@ super_structure l n v block needs = of_metadata (of_superblock (subst (λ (block
 
 pub metadata_structure : (l n : ℕ) (g : Geometry) (v : Volume) (block : ℕ) → (geometry_of l n v).value ≡ Ok g → IsMetadataBy g v block → IsStructure l n v block
 metadata_structure l n g v block has is = of_metadata (by_geometry g has is)
+
+-- what is fetched for the metadata has the structure
+pub metadata_only : {S : Type 0} {fetched : S → List ℕ → S → Type 0} {stands : Volume → Type 0} {tells : Type 0} {old new : S} (l n : ℕ) (g : Geometry) (table : ClaimTable)
+    → FetchesOnly fetched (IsClaimedBy stands g table) tells (IsMetadataBy g) old new → FetchesOnly fetched (IsOnView stands l n g table) tells (IsStructure l n) old new
+metadata_only l n g table one = only_told (IsMetadataBy g) (IsStructure l n) (λ told v on. ((on.0, on.1), λ block is. metadata_structure l n g v block (on.2) is)) one
+
+-- so has what is fetched for the directories, where each fragment of an indirect block has its bytes
+pub directories_only : {S : Type 0} {fetched : S → List ℕ → S → Type 0} {stands still : Volume → Type 0} {tells : Type 0} {old new : S} (l n : ℕ) (g : Geometry) (table : ClaimTable)
+    → ((l n : ℕ) (g : Geometry) (v : Volume) (block : ℕ) → (geometry_of l n v).value ≡ Ok g → HasWholeUppers g v → IsDirectoryRead g v block → IsStructure l n v block)
+    → ((v : Volume) → stands v → still v) → (tells → (v : Volume) → IsOnView stands l n g table v → HasWholeUppers g v)
+    → FetchesOnly fetched still tells (IsDirectoryRead g) old new → FetchesOnly fetched (IsOnView stands l n g table) tells (IsStructure l n) old new
+directories_only l n g table structure keeps whole one =
+    only_told (IsDirectoryRead g) (IsStructure l n) (λ told v on. (keeps v (on.0), λ block read. structure l n g v block (on.2) (whole told v on) read)) one
 
 -- the superblock is refused
 refused_by : (l n : ℕ) (v : Volume) (bad : BadSuper) → (geometry_of l n v).value ≡ Err bad → IsFirstMalformation l n v (Super bad) 0
@@ -69,3 +86,20 @@ table_claims l n g v table is has = λ f source. (
   λ listed. claim_along (volume_fragments l n v) (source_fragments g v) (volume_source l n g v is) ((has.claims f source).0 listed),
   λ claim. (has.claims f source).1 (claim_along (source_fragments g v) (volume_fragments l n v) (λ s. sym (volume_source l n g v is s)) claim),
 )
+
+-- ---- the superblock, and then the passes
+
+-- a volume of which the superblock gave this geometry, on the view as it is then
+pub on_view : {stands still : Volume → Type 0} {k m : ℕ} (l n : ℕ) (g : Geometry) (table : ClaimTable) (v : Volume) → k ≡ l → m ≡ n → ((v : Volume) → stands v → still v)
+    → (geometry_of l n v).value ≡ Ok g → IsTabled stands l n table v → IsOnView still k m g table v
+on_view l n g table v size count keeps is tabled = (keeps v (tabled.0), table_claims l n g v table is (tabled.1), rw (size, count) is)
+
+-- what both fetch has the structure
+pub volume_fetched : {S : Type 0} {fetched : S → List ℕ → S → Type 0} {stands still : Volume → Type 0} {tells told : Type 0} {r : Option (Result Geometry BadSuper)} {old middle new : S} {k m : ℕ} (l n : ℕ) (g : Geometry) (table : ClaimTable)
+    → k ≡ l → m ≡ n → ((s t u : S) (x y : List ℕ) → fetched s x t → fetched t y u → fetched s (x ++ y) u) → ((v : Volume) → stands v → still v) → (told → tells)
+    → (told → (v : Volume) → stands v → (geometry_of l n v).value ≡ Ok g) → Fetches fetched stands tells (geometry_of l n) r old middle
+    → FetchesOnly fetched (IsOnView still k m g table) told (IsStructure k m) middle new → FetchesOnly fetched (IsTabled stands l n table) told (IsStructure l n) old new
+volume_fetched {k = k} {m = m} l n g table size count both keeps tell geometry one two =
+    only_both both (λ v tabled. tabled) tell
+    (only_told (IsStructure l n) (IsStructure l n) (λ told v tabled. (tabled.0, λ block h. h)) (only_needs (IsStructure l n) (λ v block needs. super_structure l n v block needs) one))
+    (only_told (IsStructure k m) (IsStructure l n) (λ told v tabled. (on_view l n g table v size count keeps (geometry told v (tabled.0)) tabled, λ block h. rw (size, count) at h)) two)

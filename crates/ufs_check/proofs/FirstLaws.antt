@@ -16,6 +16,7 @@ use Rattle.ufs_check.specs.Names.{HasNamed}
 use Rattle.ufs_check.specs.Verdicts.{AreFaults, Judges, all_kinds, first_by, found_in, later, no_directory_fault, no_metadata_fault}
 use Rattle.ufs_check.specs.declared.faults.Faults.{Faults}
 use Rattle.ufs_check.specs.declared.verdicts.Verdict.TheVariants.{Sound, Malformed}
+use Rattle.ufs_frames.specs.Frames.{FilesAreTame}
 use Rattle.ufs_check.proofs.WildLaws.{all_entries}
 
 -- ---- the order of the kinds
@@ -190,75 +191,78 @@ directories_told : (g : Geometry) (v : Volume) (faults : Faults) (order : ℕ) �
 directories_told g v faults order high are none =
     are.directories (no_metadata faults order high none)
 
--- the entries of all directories are read
-entries_all : (g : Geometry) (v : Volume) (faults : Faults) (order : ℕ) → 19 ≤ order → IsGeometry g → AreFaults g v faults → NoneBelow (found_in faults) order → HasAllEntries g v
-entries_all g v faults order high is are none =
-    let told = directories_told g v faults order (omega arith) are none in
-    let hole : faults.directories.hole ≡ None = none Hole (omega arith) in
-    all_entries g v is are.metadata.whole
-    (not_there (IsBad g v Filesize) faults.metadata.inodes.filesize (none Filesize (omega arith)) are.metadata.inodes.filesize)
-    (not_there (IsBad g v Wild) faults.metadata.inodes.wild (none Wild (omega arith)) are.metadata.inodes.wild)
-    (not_there (IsBad g v WildIn) faults.metadata.fragments.wild_in (none WildIn (omega arith)) are.metadata.fragments.wild_in)
-    (not_there (IsBad g v Hole) faults.directories.hole hole told.hole)
-    (not_there (IsBad g v Chunk) faults.directories.chunk (none Chunk (omega arith)) (told.chunk hole))
-
 named_by : (o : Option Inode) → (o ≡ None → ⊥) → MatchOption o ⊥ (λ _. Unit {0})
 named_by None none = none refl
 named_by (Some inode) none = tt
 
--- and each of them names an inode
+-- and each entry of a directory names an inode
 entries_named : (g : Geometry) (v : Volume) (faults : Faults) (order : ℕ) → 19 ≤ order → AreFaults g v faults → NoneBelow (found_in faults) order → HasNamed g v
 entries_named g v faults order high are none = λ i k entry at.
     let told = directories_told g v faults order (omega arith) are none in
     named_by (inode_at g v entry.inode)
     (λ absent. not_there (IsBad g v Entry) faults.directories.entry (none Entry (omega arith)) (told.entry (none Hole (omega arith))) i (record { k = k; entry = entry; here = at; none = absent }))
 
--- so links are told
-links_told : (g : Geometry) (v : Volume) (faults : Faults) (order : ℕ) → 19 ≤ order → IsGeometry g → AreFaults g v faults → NoneBelow (found_in faults) order → AreLinkFaults g v faults.links
-links_told g v faults order high is are none =
-    are.links (no_metadata faults order (omega arith) none) (no_directory faults order high none) (entries_all g v faults order high is are none) (entries_named g v faults order high are none)
+-- ---- where no file block is wild without a wild pointer
 
--- of each kind, where none of a lower order is found
-least_found : (g : Geometry) (v : Volume) (faults : Faults) (kind : BadKind) → IsGeometry g → AreFaults g v faults → NoneBelow (found_in faults) (order_of kind)
-    → IsLeast (IsBad g v kind) (found_in faults kind)
-least_found g v faults (Super bad) is are none = λ m h. absurd h
-least_found g v faults GroupMagic is are none = are.metadata.groups.magic
-least_found g v faults GroupMap is are none = are.metadata.groups.map
-least_found g v faults WrongType is are none = are.metadata.inodes.wrong_type
-least_found g v faults Filesize is are none = are.metadata.inodes.filesize
-least_found g v faults Past is are none = are.metadata.inodes.past
-least_found g v faults Wild is are none = are.metadata.inodes.wild
-least_found g v faults WildIn is are none = are.metadata.fragments.wild_in
-least_found g v faults Align is are none = are.metadata.inodes.align
-least_found g v faults AlignIn is are none = are.metadata.fragments.align_in
-least_found g v faults Run is are none = are.metadata.inodes.run
-least_found g v faults Twice is are none = are.metadata.fragments.twice
-least_found g v faults PastIn is are none = are.metadata.fragments.past_in (none Twice (lit< tt))
-least_found g v faults Free is are none = are.metadata.fragments.free
-least_found g v faults Unused is are none = are.metadata.inodes.unused
-least_found g v faults Hole is are none = (directories_told g v faults 15 (lit< tt) are none).hole
-least_found g v faults Chunk is are none = (directories_told g v faults 16 (lit< tt) are none).chunk (none Hole (lit< tt))
-least_found g v faults Entry is are none = (directories_told g v faults 17 (lit< tt) are none).entry (none Hole (lit< tt))
-least_found g v faults EntryType is are none = (directories_told g v faults 18 (lit< tt) are none).entry_type (none Hole (lit< tt))
-least_found g v faults Dots is are none = (links_told g v faults 19 (lit< tt) is are none).dots
-least_found g v faults Names is are none = (links_told g v faults 20 (lit< tt) is are none).names
-least_found g v faults DirTwice is are none = (links_told g v faults 21 (lit< tt) is are none).dir_twice
-least_found g v faults RootNamed is are none = (links_told g v faults 22 (lit< tt) is are none).root_named
+module _ (tame : FilesAreTame) where
+  -- the entries of all directories are read
+  entries_all : (g : Geometry) (v : Volume) (faults : Faults) (order : ℕ) → 19 ≤ order → IsGeometry g → AreFaults g v faults → NoneBelow (found_in faults) order → HasAllEntries g v
+  entries_all g v faults order high is are none =
+      let told = directories_told g v faults order (omega arith) are none in
+      let hole : faults.directories.hole ≡ None = none Hole (omega arith) in
+      all_entries tame g v is are.metadata.whole
+      (not_there (IsBad g v Filesize) faults.metadata.inodes.filesize (none Filesize (omega arith)) are.metadata.inodes.filesize)
+      (not_there (IsBad g v Wild) faults.metadata.inodes.wild (none Wild (omega arith)) are.metadata.inodes.wild)
+      (not_there (IsBad g v WildIn) faults.metadata.fragments.wild_in (none WildIn (omega arith)) are.metadata.fragments.wild_in)
+      (not_there (IsBad g v Hole) faults.directories.hole hole told.hole)
+      (not_there (IsBad g v Chunk) faults.directories.chunk (none Chunk (omega arith)) (told.chunk hole))
 
--- ---- the verdict
+  -- so links are told
+  links_told : (g : Geometry) (v : Volume) (faults : Faults) (order : ℕ) → 19 ≤ order → IsGeometry g → AreFaults g v faults → NoneBelow (found_in faults) order → AreLinkFaults g v faults.links
+  links_told g v faults order high is are none =
+      are.links (no_metadata faults order (omega arith) none) (no_directory faults order high none) (entries_all g v faults order high is are none) (entries_named g v faults order high are none)
 
-pub sound_judges : (g : Geometry) (v : Volume) (faults : Faults) → IsGeometry g → AreFaults g v faults → IsFirstBelow (found_in faults) 23 None → Judges g v Sound
-sound_judges g v faults is are none = λ kind n h.
-    not_there (IsBad g v kind) (found_in faults kind) (none kind (order_most kind))
-    (least_found g v faults kind is are (λ other lt. none other (order_most other))) n h
+  -- of each kind, where none of a lower order is found
+  least_found : (g : Geometry) (v : Volume) (faults : Faults) (kind : BadKind) → IsGeometry g → AreFaults g v faults → NoneBelow (found_in faults) (order_of kind)
+      → IsLeast (IsBad g v kind) (found_in faults kind)
+  least_found g v faults (Super bad) is are none = λ m h. absurd h
+  least_found g v faults GroupMagic is are none = are.metadata.groups.magic
+  least_found g v faults GroupMap is are none = are.metadata.groups.map
+  least_found g v faults WrongType is are none = are.metadata.inodes.wrong_type
+  least_found g v faults Filesize is are none = are.metadata.inodes.filesize
+  least_found g v faults Past is are none = are.metadata.inodes.past
+  least_found g v faults Wild is are none = are.metadata.inodes.wild
+  least_found g v faults WildIn is are none = are.metadata.fragments.wild_in
+  least_found g v faults Align is are none = are.metadata.inodes.align
+  least_found g v faults AlignIn is are none = are.metadata.fragments.align_in
+  least_found g v faults Run is are none = are.metadata.inodes.run
+  least_found g v faults Twice is are none = are.metadata.fragments.twice
+  least_found g v faults PastIn is are none = are.metadata.fragments.past_in (none Twice (lit< tt))
+  least_found g v faults Free is are none = are.metadata.fragments.free
+  least_found g v faults Unused is are none = are.metadata.inodes.unused
+  least_found g v faults Hole is are none = (directories_told g v faults 15 (lit< tt) are none).hole
+  least_found g v faults Chunk is are none = (directories_told g v faults 16 (lit< tt) are none).chunk (none Hole (lit< tt))
+  least_found g v faults Entry is are none = (directories_told g v faults 17 (lit< tt) are none).entry (none Hole (lit< tt))
+  least_found g v faults EntryType is are none = (directories_told g v faults 18 (lit< tt) are none).entry_type (none Hole (lit< tt))
+  least_found g v faults Dots is are none = (links_told g v faults 19 (lit< tt) is are none).dots
+  least_found g v faults Names is are none = (links_told g v faults 20 (lit< tt) is are none).names
+  least_found g v faults DirTwice is are none = (links_told g v faults 21 (lit< tt) is are none).dir_twice
+  least_found g v faults RootNamed is are none = (links_told g v faults 22 (lit< tt) is are none).root_named
 
-pub malformed_judges : (g : Geometry) (v : Volume) (faults : Faults) (kind : BadKind) (n : ℕ) → IsGeometry g → AreFaults g v faults → IsFirstBelow (found_in faults) 23 (Some (kind, n))
-    → Judges g v (Malformed kind n)
-malformed_judges g v faults kind n is are one =
-    let least = subst (IsLeast (IsBad g v kind)) one.found (least_found g v faults kind is are one.none) in record {
-      here = least.0;
-      least = least.1;
-      first = λ other m lt h.
-          not_there (IsBad g v other) (found_in faults other) (one.none other lt)
-          (least_found g v faults other is are (λ lower below. one.none lower (omega arith))) m h;
-    }
+  -- ---- the verdict
+
+  pub sound_judges : (g : Geometry) (v : Volume) (faults : Faults) → IsGeometry g → AreFaults g v faults → IsFirstBelow (found_in faults) 23 None → Judges g v Sound
+  sound_judges g v faults is are none = λ kind n h.
+      not_there (IsBad g v kind) (found_in faults kind) (none kind (order_most kind))
+      (least_found g v faults kind is are (λ other lt. none other (order_most other))) n h
+
+  pub malformed_judges : (g : Geometry) (v : Volume) (faults : Faults) (kind : BadKind) (n : ℕ) → IsGeometry g → AreFaults g v faults → IsFirstBelow (found_in faults) 23 (Some (kind, n))
+      → Judges g v (Malformed kind n)
+  malformed_judges g v faults kind n is are one =
+      let least = subst (IsLeast (IsBad g v kind)) one.found (least_found g v faults kind is are one.none) in record {
+        here = least.0;
+        least = least.1;
+        first = λ other m lt h.
+            not_there (IsBad g v other) (found_in faults other) (one.none other lt)
+            (least_found g v faults other is are (λ lower below. one.none lower (omega arith))) m h;
+      }

@@ -4,7 +4,6 @@ pub mod GroupLaws
 pub mod InodeLaws
 pub mod ChunkLaws
 pub mod EntryLaws
-pub mod Sizes
 pub mod DirectoryLaws
 pub mod FaultLaws
 pub mod StructureLaws

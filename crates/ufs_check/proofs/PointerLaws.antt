@@ -15,7 +15,8 @@ use Rattle.dg_claims.specs.Tables.{ClaimTable}
 use Rattle.ufs_check.proofs.ClaimLaws.{claim_inside, upper_in, upper_of}
 use Rattle.ufs_check.proofs.ReachLaws.{pointer_owner, reach_upper}
 use Rattle.ufs_check.proofs.LeastLaws.{least_all, least_same}
-use Rattle.ufs_check.specs.Fragments.{AreFragmentFaults, AreFragmentFaultsBelow, ArePointerFaultsBelow, HasClaimsOf, HasWholeUppers, IsUpperIn}
+use Rattle.ufs_check.specs.Fragments.{AreFragmentFaults, AreFragmentFaultsBelow, ArePointerFaultsBelow, HasClaimsOf, IsUpperIn}
+use Rattle.ufs_frames.specs.Frames.{HasWholeUppers}
 use Rattle.ufs_check.specs.Least.{IsLeast, IsLeastBelow}
 use Rattle.ufs_check.specs.Limits.{IsLimit}
 use Rattle.ufs_check.specs.Pointers.{HasMisalignedPointer, HasPastPointer, HasWildPointer}

@@ -1,7 +1,7 @@
 -- What is wrong with the fragments of a volume.
-use Rattle.std.specs.Prelude.{◌≡◌, ◌<◌, ℕ, None, Contains, length}
-use Rattle.ufs_model.specs.Blocks.{Volume, block_at}
-use Rattle.ufs_model.specs.Claims.{IsClaim, level_of, source_fragments}
+use Rattle.std.specs.Prelude.{◌≡◌, ◌<◌, ℕ, None, Contains}
+use Rattle.ufs_model.specs.Blocks.{Volume}
+use Rattle.ufs_model.specs.Claims.{level_of}
 use Rattle.ufs_model.specs.Malformations.{Claims, IsBad}
 use Rattle.ufs_model.specs.declared.claims.ClaimSource.{ClaimSource}
 use Rattle.ufs_model.specs.declared.geometries.Geometry.{Geometry}
@@ -18,10 +18,6 @@ HasClaimsOf g table v = HasClaims table (Claims g v)
 -- a volume of a view, of which the claims are those of a table
 abbrev pub IsClaimedBy : (Volume → Type 0) → Geometry → ClaimTable → Volume → Type 0
 IsClaimedBy stands g table v = stands v × HasClaimsOf g table v
-
--- each fragment of an indirect block has its bytes
-abbrev pub HasWholeUppers : Geometry → Volume → Type 0
-HasWholeUppers g v = (f : ℕ) (source : ClaimSource) → IsClaim (source_fragments g v) f source → 0 < level_of source → length (block_at g.fsize v f) ≡ g.fsize
 
 -- by a table a fragment has a claim at a level above 0
 abbrev pub IsUpperIn : ClaimTable → ℕ → Type 0

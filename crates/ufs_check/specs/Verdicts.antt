@@ -7,9 +7,10 @@ use Rattle.ufs_model.specs.Superblocks.{geometry_of}
 use Rattle.ufs_model.specs.declared.geometries.Geometry.{Geometry}
 use Rattle.ufs_model.specs.declared.malformations.BadKind.{BadKind}
 use Rattle.ufs_model.specs.declared.malformations.BadKind.TheVariants.{Super, GroupMagic, GroupMap, WrongType, Filesize, Past, Wild, WildIn, Align, AlignIn, Run, Twice, PastIn, Free, Unused, Hole, Chunk, Entry, EntryType, Dots, Names, DirTwice, RootNamed}
+use Rattle.ufs_frames.specs.Frames.{HasWholeUppers}
 use Rattle.dg_claims.specs.Tables.{ClaimTable, IsTableOf}
 use Rattle.ufs_check.specs.Directories.{AreDirectoryFaults}
-use Rattle.ufs_check.specs.Fragments.{AreFragmentFaults, HasClaimsOf, HasWholeUppers}
+use Rattle.ufs_check.specs.Fragments.{AreFragmentFaults, HasClaimsOf}
 use Rattle.ufs_check.specs.Groups.{AreGroupFaults}
 use Rattle.ufs_check.specs.Inodes.{AreInodeFaults}
 use Rattle.ufs_check.specs.Links.{AreLinkFaults, HasAllEntries}

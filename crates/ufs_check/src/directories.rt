@@ -3,7 +3,7 @@ ghost use Rattle.std.specs.Prelude.{◌≡◌, ◌+◌, ◌*◌, ◌/◌, ◌^�
 ghost use Rattle.std.specs.Bool.{Decides};
 ghost use Rattle.dg_io.specs.ViewWords.{Keeps};
 ghost use Rattle.ufs_model.specs.Blocks.{Volume};
-ghost use Rattle.ufs_model.specs.Geometries.{IsGeometry, IsGeometryOn};
+ghost use Rattle.ufs_model.specs.Geometries.{IsGeometryOn};
 ghost use Rattle.ufs_model.specs.Inodes.{block_count, kind_of};
 ghost use Rattle.ufs_model.specs.Malformations.{inode_at};
 ghost use Rattle.ufs_model.specs.Metadata.{IsMetadataBy, IsStructure};
@@ -12,7 +12,7 @@ ghost use Rattle.ufs_model.specs.Superblocks.{geometry_of};
 ghost use Rattle.ufs_model.specs.declared.geometries.Geometry.{Geometry};
 ghost use Rattle.ufs_model.specs.declared.inodes.Kind.TheVariants.{Directory};
 ghost use Rattle.ufs_check.specs.Directories.{AreDirectoryFaults, AreDirectoryFaultsBelow, IsDirectoryRead, IsFileRead, ScannedWhole, ScansBlock};
-ghost use Rattle.ufs_check.specs.Fragments.{HasWholeUppers};
+ghost use Rattle.ufs_frames.specs.Frames.{HasWholeUppers};
 ghost use Rattle.ufs_pointer.specs.ViewWords.{FetchesKind, LosesKind};
 
 use crate::entries::{EntryFaults, has_refused, read_named, scan_chunks};
@@ -21,6 +21,7 @@ use crate::notes::note;
 use crate::verdicts::{DirectoryFaults, NO_DIRECTORY_FAULTS};
 use dg_io::View;
 use ufs_dir::CHUNK_BYTES;
+use ufs_frames::{directories_need_structure, indirects_by_geometry};
 use ufs_model::{Geometry, Inode, Kind, ROOT_INODE};
 use ufs_pointer::{FileBlock, Levels, block_count, bytes_in_block, read_file_block};
 
@@ -249,6 +250,9 @@ pub fn check_directories<V: View>(
 /// What is read to look at the directories of a volume has its structure, where each fragment of an
 /// indirect block has its bytes.
 pub fn directories_are_structure()
-    ensures { (l n : ℕ) (g : Geometry) (v : Volume) (block : ℕ) → (geometry_of l n v).value ≡ Ok g → IsGeometry g → HasWholeUppers g v
+    ensures { (l n : ℕ) (g : Geometry) (v : Volume) (block : ℕ) → (geometry_of l n v).value ≡ Ok g → HasWholeUppers g v
         → IsDirectoryRead g v block → IsStructure l n v block }
-{}
+{
+    indirects_by_geometry();
+    directories_need_structure();
+}

@@ -8,6 +8,7 @@ ghost use Rattle.ufs_check.specs.Verdicts.{AreFaults, Judges, first_by, found_in
 
 use crate::links::LinkFaults;
 use crate::verdicts::{DirectoryFaults, FragmentFaults, GroupFaults, InodeFaults, Verdict};
+use ufs_frames::files_are_tame;
 use ufs_model::BadKind;
 
 /// What is found by metadata alone.
@@ -104,6 +105,7 @@ pub fn verdict_of(faults: &Faults) -> Verdict
     ensures judges { (g : Geometry) (v : Volume) → IsGeometry g → AreFaults g v faults.now → Judges g v result }
     ensures there { result ≡ Verdict.Gone → ⊥ }
 {
+    files_are_tame();
     let mut first = None;
     keep_slots(faults, &mut first);
     keep_claims(faults, &mut first);

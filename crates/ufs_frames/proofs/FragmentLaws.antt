@@ -20,6 +20,7 @@ use Rattle.ufs_model.specs.declared.numbers.Endian.{Endian}
 use Rattle.ufs_model.specs.declared.numbers.Endian.TheVariants.{Big, Little}
 use Rattle.ufs_model.specs.declared.pointers.Chain.{Chain}
 use Rattle.ufs_model.specs.declared.pointers.Chain.TheVariants.{Direct, One, Two, Three}
+use Rattle.ufs_frames.specs.Chains.{IsChain}
 
 -- ---- blocks end to end
 
@@ -178,15 +179,8 @@ place_below g p is low =
     let turned : g.fsize / 4 * g.frag ≡ g.frag * (g.fsize / 4) = omega arith in
     (div-lt_iff_lt-mul {k = g.fsize / 4} {x = p} {y = g.frag} quarter.1).1 (omega arith)
 
--- a direct slot is one of 12, and each index is below the number of pointers of an indirect block
-abbrev pub IsInChain : ℕ → Chain → Type 0
-IsInChain nindir (Direct slot) = slot < 12
-IsInChain nindir (One i) = i < nindir
-IsInChain nindir (Two i j) = (i < nindir) × (j < nindir)
-IsInChain nindir (Three i j k) = (i < nindir) × (j < nindir) × (k < nindir)
-
 bounds_far : (nindir m : ℕ) (one two : Bool) → 1024 ≤ nindir → m < 2 ^ 30 → nat_lt m nindir ≡ one → nat_lt (m - nindir) (nindir ^ 2) ≡ two
-    → IsInChain nindir (if one then One m else if two then Two ((m - nindir) / nindir) ((m - nindir) % nindir)
+    → IsChain nindir (if one then One m else if two then Two ((m - nindir) / nindir) ((m - nindir) % nindir)
     else Three ((m - nindir - nindir ^ 2) / nindir ^ 2) ((m - nindir - nindir ^ 2) / nindir % nindir) ((m - nindir - nindir ^ 2) % nindir))
 bounds_far nindir m true two large small is further = grind (arith, nat_tests)
 bounds_far nindir m false true large small is further =
@@ -194,11 +188,11 @@ bounds_far nindir m false true large small is further =
     (quotient_below nindir (m - nindir) large low, omega arith)
 bounds_far nindir m false false large small is further = (cube_below nindir (m - nindir - nindir ^ 2) large (omega arith), omega arith, omega arith)
 
-bounds_near : (nindir n : ℕ) (direct : Bool) (far : Chain) → nat_lt n 12 ≡ direct → IsInChain nindir far → IsInChain nindir (if direct then Direct n else far)
+bounds_near : (nindir n : ℕ) (direct : Bool) (far : Chain) → nat_lt n 12 ≡ direct → IsChain nindir far → IsChain nindir (if direct then Direct n else far)
 bounds_near nindir n true far is whole = grind (arith, nat_tests)
 bounds_near nindir n false far is whole = whole
 
-pub chain_bounds : (g : Geometry) (n : ℕ) → IsGeometry g → n < 2 ^ 30 → IsInChain g.nindir (locate_of g n)
+pub chain_bounds : (g : Geometry) (n : ℕ) → IsGeometry g → n < 2 ^ 30 → IsChain g.nindir (locate_of g n)
 unfolding locate_of
 chain_bounds g n is small =
     let large = pointers_many g is in

@@ -4,6 +4,7 @@ pub mod PathLaws
 pub mod VolumeLaws
 pub mod FragmentLaws
 pub mod ReachLaws
+pub mod TameLaws
 pub mod ClaimLaws
 pub mod DataLaws
 pub mod MalformationLaws

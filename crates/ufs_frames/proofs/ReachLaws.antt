@@ -22,7 +22,9 @@ use Rattle.ufs_model.specs.declared.pointers.Address.{Address}
 use Rattle.ufs_model.specs.declared.pointers.Address.TheVariants.{At, Hole, Wild}
 use Rattle.ufs_model.specs.declared.pointers.Chain.{Chain}
 use Rattle.ufs_model.specs.declared.pointers.Chain.TheVariants.{Direct, One, Two, Three}
-use Rattle.ufs_frames.proofs.FragmentLaws.{IsInChain, area_have, chain_bounds, count_few, fragments_get, fragments_have, in_none, place_below, pointer_at_fragment, quarters}
+use Rattle.ufs_frames.specs.Chains.{IsChain}
+use Rattle.ufs_frames.specs.Frames.{IsFile, IsWhole}
+use Rattle.ufs_frames.proofs.FragmentLaws.{area_have, chain_bounds, count_few, fragments_get, fragments_have, in_none, place_below, pointer_at_fragment, quarters}
 
 -- ---- what a source claims, where an address is reached through it
 
@@ -67,7 +69,7 @@ slot_whole : (g : Geometry) (inode : Inode) (slot : ℕ) → 12 ≤ slot → spa
 unfolding span
 slot_whole g inode slot high = let past : nat_le 12 slot ≡ true = grind (arith, nat_tests) in rw past refl
 
-slot_claimed : (g : Geometry) (v : Volume) (i slot : ℕ) (inode : Inode) → inode_at g v i ≡ Some inode → has_pointers g inode ≡ true → slot < 15
+pub slot_claimed : (g : Geometry) (v : Volume) (i slot : ℕ) (inode : Inode) → inode_at g v i ≡ Some inode → has_pointers g inode ≡ true → slot < 15
     → IsClaimed g v i (slot - 11) (slot_address g inode slot)
 slot_claimed g v i slot inode is pointers low = record {
   reached = λ a k at.
@@ -83,12 +85,7 @@ pointer_claims : (g : Geometry) (v : Volume) (f level at : ℕ) → at < g.fsize
 unfolding source_fragments pointer_fragments
 pointer_claims g v f level at low = let within : nat_lt at (g.fsize / 4) ≡ true = grind (arith, nat_tests) in rw within refl
 
--- the condition: of a geometry, with indirect blocks that have all their bytes
-pub record IsWhole (g : Geometry) (v : Volume) : Type 0 where
-  pub geometry : IsGeometry g
-  pub uppers : (f : ℕ) (source : ClaimSource) → IsClaim (source_fragments g v) f source → 0 < level_of source → length (block_at g.fsize v f) ≡ g.fsize
-
-upper_blocks : (g : Geometry) (v : Volume) (i level a : ℕ) (source : ClaimSource) → IsWhole g v → IsReached g v i (suc level) source (At a g.frag)
+pub upper_blocks : (g : Geometry) (v : Volume) (i level a : ℕ) (source : ClaimSource) → IsWhole g v → IsReached g v i (suc level) source (At a g.frag)
     → (j : ℕ) → j < g.frag → length (block_at g.fsize v (a + j)) ≡ g.fsize
 upper_blocks g v i level a source whole one j low =
     let of_level = one.of_level in
@@ -115,7 +112,7 @@ through_reached g v i level p a b j source whole low one is =
       claims = λ h inside. by_pointer (one.claims f (fragments_have a g.frag f (omega arith) (omega arith))) one.of_level (omega arith) (subst (λ fragments. Contains fragments h) (sym are) inside);
     }
 
-through_claimed : (g : Geometry) (v : Volume) (i level p : ℕ) (at : Address) → IsWhole g v → p / (g.fsize / 4) < g.frag
+pub through_claimed : (g : Geometry) (v : Volume) (i level p : ℕ) (at : Address) → IsWhole g v → p / (g.fsize / 4) < g.frag
     → IsClaimed g v i (suc level) at → IsClaimed g v i level ((through g p at v).value)
 unfolding through bind
 through_claimed g v i level p Hole whole low one = claims_nothing g v i level Hole (λ a k is. let no : Hole ≡ At a k = is in cc)
@@ -148,12 +145,7 @@ record IsChained (g : Geometry) (v : Volume) (i : ℕ) (reading : Consulted Addr
   claimed : IsClaimed g v i 0 reading.value
   needs : (b : ℕ) → Contains reading.needs b → IsMetadataBy g v b
 
--- inode i has pointers
-pub record IsFile (g : Geometry) (v : Volume) (i : ℕ) (inode : Inode) : Type 0 where
-  pub there : inode_at g v i ≡ Some inode
-  pub pointers : has_pointers g inode ≡ true
-
-chain_by : (g : Geometry) (v : Volume) (i : ℕ) (inode : Inode) (chain : Chain) → IsWhole g v → IsFile g v i inode → IsInChain g.nindir chain → IsChained g v i (chain_address g inode chain v)
+chain_by : (g : Geometry) (v : Volume) (i : ℕ) (inode : Inode) (chain : Chain) → IsWhole g v → IsFile g v i inode → IsChain g.nindir chain → IsChained g v i (chain_address g inode chain v)
 unfolding bind
 chain_by g v i inode (Direct slot) whole file low = record {
   claimed = let none : slot - 11 ≡ 0 = omega arith in subst (λ level. IsClaimed g v i level (slot_address g inode slot)) none (slot_claimed g v i slot inode file.there file.pointers (omega arith));
@@ -223,7 +215,7 @@ pub data IsOfFile (g : Geometry) (v : Volume) (i b : ℕ) : Type 0 where
   of_indirects : IsMetadataBy g v b → IsOfFile g v i b
   of_data : (first : ℕ) (source : ClaimSource) → IsClaim (source_fragments g v) b source → FirstBlock g v source i first → IsOfFile g v i b
 
-few : (g : Geometry) (inode : Inode) (n : ℕ) → IsGeometry g → inode.size < 2 ^ 32 → n < block_count g inode → n < 2 ^ 30
+pub few : (g : Geometry) (inode : Inode) (n : ℕ) → IsGeometry g → inode.size < 2 ^ 32 → n < block_count g inode → n < 2 ^ 30
 few g inode n is small low = let most = count_few inode.size g.bsize (is.bsize.1) small in omega arith
 
 -- what is needed to find a file block

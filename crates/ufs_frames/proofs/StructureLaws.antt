@@ -26,13 +26,13 @@ use Rattle.ufs_model.specs.declared.malformations.BadKind.{BadKind}
 use Rattle.ufs_model.specs.declared.reads.BadRead.TheVariants.{Filesize}
 use Rattle.ufs_model.specs.declared.reads.PathRefusal.{PathRefusal}
 use Rattle.ufs_model.specs.declared.reads.PathRefusal.TheVariants.{Bad, NotDirectory}
-use Rattle.ufs_frames.specs.Frames.{AgreeOn, HasWholeIndirects, HaveSameClaims, HaveSameStructure, IsLocal}
+use Rattle.ufs_frames.specs.Frames.{AgreeOn, HasWholeIndirects, HasWholeUppers, HaveSameClaims, HaveSameStructure, IsFile, IsLocal, IsWhole}
 use Rattle.ufs_frames.proofs.BlockLaws.{local_block, local_file_block}
 use Rattle.ufs_frames.proofs.ClaimLaws.{ClaimAlike, alike, first_back, first_onto, other_way, owner_along, same_claims, same_group, same_inode, same_upper, shared_along}
 use Rattle.ufs_frames.proofs.FragmentLaws.{in_none}
 use Rattle.ufs_frames.proofs.LocalLaws.{bind_same, local_within}
 use Rattle.ufs_frames.proofs.MalformationLaws.{AreAlike, is_directory as directory_onto, same_bad, turned}
-use Rattle.ufs_frames.proofs.ReachLaws.{IsFile, IsOfFile, IsWhole, block_of_needs, file_block_needs, of_data, of_indirects}
+use Rattle.ufs_frames.proofs.ReachLaws.{IsOfFile, block_of_needs, file_block_needs, of_data, of_indirects}
 use Rattle.ufs_frames.proofs.VolumeLaws.{geometry_is, local_geometry}
 
 -- ---- readings one after another
@@ -164,6 +164,11 @@ whole_by l n v g is whole =
       geometry = on.tests;
       uppers = λ f source claim above. subst (λ (k : ℕ). length (block_at k v f) ≡ k) (sym on.fsize) (whole f source ((claims_by l n v g is f source).1 claim) above);
     }
+
+-- indirect blocks by the geometry are those of the volume
+pub indirects_by : (l n : ℕ) (v : Volume) (g : Geometry) → (geometry_of l n v).value ≡ Ok g → HasWholeUppers g v → HasWholeIndirects l n v
+indirects_by l n v g is uppers = λ b source claim above.
+    subst (λ (k : ℕ). length (block_at k v b) ≡ k) ((geometry_is l n v g is).fsize) (uppers b source ((claims_by l n v g is b source).0 claim) above)
 
 directory_found : (g : Geometry) (v : Volume) (i : ℕ) (inode : Inode) → inode_at g v i ≡ Some inode → kind_of inode.mode ≡ Directory → IsDirectory g v i (λ _. Unit {0})
 directory_found g v i inode there is = subst (λ found. MatchOption found ⊥ (λ inode. (kind_of inode.mode ≡ Directory) × Unit {0})) (sym there) (is, tt)

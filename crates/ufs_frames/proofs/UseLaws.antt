@@ -27,7 +27,8 @@ use Rattle.ufs_model.specs.declared.reads.PathRefusal.{PathRefusal}
 use Rattle.ufs_model.specs.declared.reads.PathRefusal.TheVariants.{Bad, NotFound, NotRegular}
 use Rattle.ufs_frames.proofs.ClaimLaws.{inode_needs, number_below}
 use Rattle.ufs_frames.proofs.FragmentLaws.{in_none}
-use Rattle.ufs_frames.proofs.ReachLaws.{IsFile, IsOfFile, IsWhole, block_of_needs, of_data, of_indirects}
+use Rattle.ufs_frames.specs.Frames.{IsFile, IsWhole}
+use Rattle.ufs_frames.proofs.ReachLaws.{IsOfFile, block_of_needs, of_data, of_indirects}
 use Rattle.ufs_frames.proofs.RoleLaws.{group_system, inode_system}
 use Rattle.ufs_frames.proofs.StructureLaws.{small_directory}
 

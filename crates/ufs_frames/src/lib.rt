@@ -6,6 +6,7 @@
 #![tactic(auto)]
 
 mod loose_blocks;
+mod reaches;
 mod readings;
 mod structures;
 #[cfg(test)]
@@ -14,6 +15,7 @@ mod tests;
 pub use crate::loose_blocks::{
     change_of_a_loose_block, change_of_loose_blocks, needed_blocks_are_used,
 };
+pub use crate::reaches::{file_blocks_are_few, files_are_tame, indirects_by_geometry};
 pub use crate::readings::{parts_are_local, readings_are_local};
 pub use crate::structures::{
     directories_need_structure, same_metadata, same_structure, volumes_of_whole_blocks,

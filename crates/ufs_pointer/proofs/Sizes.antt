@@ -1,22 +1,15 @@
 -- The file blocks of a file, and the bytes in them.
-use Rattle.std.proofs.Common.{◌≡◌, ◌∙◌, ℕ, ◌+◌, ◌-◌, ◌*◌, ◌/◌, ◌%◌, ◌^◌, ◌<◌, ◌≤◌, min, Bool, true, false, nat_le, nat_lt, if◌then◌else◌, refl, ap, arith}
+use Rattle.std.proofs.Common.{◌≡◌, ◌∙◌, ℕ, ◌+◌, ◌-◌, ◌*◌, ◌/◌, ◌%◌, ◌<◌, ◌≤◌, min, Bool, true, false, nat_le, nat_lt, if◌then◌else◌, refl, ap, arith}
 use Rattle.std.specs.Int.{div_ceil}
 use Rattle.std.proofs.lemmas.Bool.Decides.{nat_tests}
 use Rattle.std.proofs.lemmas.Grind.{div_ceil_times}
 use Rattle.std.proofs.lemmas.Nat.{div-mul-add}
-use Rattle.std.proofs.Math.Nat.{lt_of_mul-lt-mul_right, mod-eq-sub-div-mul}
+use Rattle.std.proofs.Math.Nat.{mod-eq-sub-div-mul}
 use Rattle.ufs_model.specs.Geometries.{IsGeometry}
 use Rattle.ufs_model.specs.Inodes.{block_span, span}
 use Rattle.ufs_model.specs.Paths.{bytes_in_block}
 use Rattle.ufs_model.specs.declared.geometries.Geometry.{Geometry}
 use Rattle.ufs_model.specs.declared.inodes.Inode.{Inode}
-
--- a file of less than 2^32 bytes has at most 2^20 file blocks
-pub count_few : (s b : ℕ) → 4096 ≤ b → s < 2 ^ 32 → div_ceil s b ≤ 2 ^ 20
-count_few s b large small =
-    let bound = (div_ceil_times s b (omega arith)).1 in
-    let less : div_ceil s b * b < (2 ^ 20 + 1) * b = omega arith in
-    let below = lt_of_mul-lt-mul_right b less in omega arith
 
 last_bytes : (s b n : ℕ) → n * b < s → s < (n + 1) * b → s % b ≡ s - n * b
 last_bytes s b n low high =

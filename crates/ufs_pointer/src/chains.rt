@@ -1,7 +1,7 @@
 ghost use Rattle.std.specs.Prelude.{◌≡◌, ◌^◌, ◌<◌, ◌≤◌};
 ghost use Rattle.ufs_model.specs.Geometries.{IsGeometry};
 ghost use Rattle.ufs_model.specs.Pointers.{locate_of};
-ghost use Rattle.ufs_pointer.specs.Chains.{IsChain};
+ghost use Rattle.ufs_frames.specs.Chains.{IsChain};
 
 use ufs_model::{Chain, Geometry};
 

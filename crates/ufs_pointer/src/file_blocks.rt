@@ -11,6 +11,7 @@ ghost use Rattle.ufs_pointer.specs.ViewWords.{FetchesFor, LosesNeeded};
 use crate::answers::BlockAnswer;
 use crate::levels::{Levels, file_block};
 use dg_io::View;
+use ufs_frames::file_blocks_are_few;
 use ufs_model::{Geometry, Inode};
 
 /// What there is of a file block.
@@ -31,6 +32,7 @@ pub fn block_count(g: &Geometry, inode: &Inode) -> u32
     ensures value { result ≡ block_count g.now inode.now }
     ensures few { result ≤ 2 ^ 20 }
 {
+    file_blocks_are_few();
     inode.size.div_ceil(u64::from(g.bsize)) as u32
 }
 

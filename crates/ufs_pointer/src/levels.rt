@@ -7,7 +7,8 @@ ghost use Rattle.ufs_model.specs.Inodes.{block_span};
 ghost use Rattle.ufs_model.specs.Pointers.{chain_address, file_block_of};
 ghost use Rattle.ufs_pointer.specs.Addresses.{HasSpan, IsInside, address_in};
 ghost use Rattle.ufs_pointer.specs.Buffers.{Buffers};
-ghost use Rattle.ufs_pointer.specs.Chains.{IsChain, chain_span};
+ghost use Rattle.ufs_frames.specs.Chains.{IsChain};
+ghost use Rattle.ufs_pointer.specs.Chains.{chain_span};
 ghost use Rattle.ufs_pointer.specs.ViewWords.{FetchesFor, FetchesFrom, LosesNeeded};
 
 use crate::addresses::{direct_address, indirect_address};

@@ -6,8 +6,8 @@ use Rattle.ufs_check.specs.Verdicts.{Judges}
 use Rattle.ufs_check.specs.declared.verdicts.Verdict.TheVariants.{Gone, Malformed, Sound}
 use Rattle.ufs_model.specs.Metadata.{IsStructure}
 use Rattle.ufs_model.specs.declared.malformations.BadKind.TheVariants.{Super}
-use Rattle.ufs_check.proofs.CheckLaws.{first_volume, refused_first, sound_volume, super_structure, table_claims}
-use Rattle.ufs_check.proofs.PassLaws.{lost_told, only_both, only_needs, only_told}
+use Rattle.ufs_check.proofs.CheckLaws.{first_volume, on_view, refused_first, sound_volume, super_structure, table_claims, volume_fetched}
+use Rattle.ufs_check.proofs.PassLaws.{lost_told, only_needs, only_told}
 use Rattle.ufs_check.proofs.checks.check.Goals as goal
 
 pub returns-in-None-clause-gone : goal.returns-in-None-clause-gone
@@ -43,66 +43,44 @@ pub returns-in_err-check_volume-clause-fetched : goal.returns-in_err-check_volum
 returns-in_err-check_volume-clause-fetched g c =
     let l = g.V.View.size c.args.view.now in
     let n = g.V.View.count c.args.view.now in
-    let gg = c.in-Some-Ok.g in
-    let table = table_of c.args.claims.now in
     let first = c.read_geometry.ensures.keeps in
     let second = c.check_volume.ensures.keeps in
     let reads = rw c.in-Some-Ok.field-0-is at c.in-Some-Ok.ensures.rule in
-    only_both g.met.V.View.fetched_both (λ v stands. stands) second.told
-    (only_told (IsStructure l n) (IsStructure l n) (λ told v tabled. (tabled.0, λ block h. h))
-    (only_needs (IsStructure l n) (λ v block needs. super_structure l n v block needs) c.read_geometry.ensures.fetched))
-    (only_told (IsStructure (g.V.View.size c.read_geometry.new.view) (g.V.View.count c.read_geometry.new.view)) (IsStructure l n) (λ told v tabled.
-    let is = sym ((reads.rule (second.told told) v (tabled.0)).answer) in
-    ((first.stands v (tabled.0), table_claims l n gg v table is (tabled.1), rw (first.bytes, first.blocks) is), λ block h. rw (first.bytes, first.blocks) at h))
-    c.check_volume.ensures.fetched)
+    volume_fetched l n c.in-Some-Ok.g (table_of c.args.claims.now) first.bytes first.blocks g.met.V.View.fetched_both first.stands second.told
+    (λ told v stands. sym ((reads.rule (second.told told) v stands).answer)) c.read_geometry.ensures.fetched c.check_volume.ensures.fetched
 
 pub returns-in-None-2-clause-fetched : goal.returns-in-None-2-clause-fetched
 returns-in-None-2-clause-fetched g c =
     let l = g.V.View.size c.args.view.now in
     let n = g.V.View.count c.args.view.now in
-    let gg = c.in-Some-Ok.g in
-    let table = table_of c.args.claims.now in
     let first = c.read_geometry.ensures.keeps in
     let second = c.check_volume.ensures.keeps in
     let reads = rw c.in-Some-Ok.field-0-is at c.in-Some-Ok.ensures.rule in
-    only_both g.met.V.View.fetched_both (λ v stands. stands) second.told
-    (only_told (IsStructure l n) (IsStructure l n) (λ told v tabled. (tabled.0, λ block h. h))
-    (only_needs (IsStructure l n) (λ v block needs. super_structure l n v block needs) c.read_geometry.ensures.fetched))
-    (only_told (IsStructure (g.V.View.size c.read_geometry.new.view) (g.V.View.count c.read_geometry.new.view)) (IsStructure l n) (λ told v tabled.
-    let is = sym ((reads.rule (second.told told) v (tabled.0)).answer) in
-    ((first.stands v (tabled.0), table_claims l n gg v table is (tabled.1), rw (first.bytes, first.blocks) is), λ block h. rw (first.bytes, first.blocks) at h))
-    c.check_volume.ensures.fetched)
+    volume_fetched l n c.in-Some-Ok.g (table_of c.args.claims.now) first.bytes first.blocks g.met.V.View.fetched_both first.stands second.told
+    (λ told v stands. sym ((reads.rule (second.told told) v stands).answer)) c.read_geometry.ensures.fetched c.check_volume.ensures.fetched
 
 pub returns-in-Some-clause-fetched : goal.returns-in-Some-clause-fetched
 returns-in-Some-clause-fetched g c =
     let l = g.V.View.size c.args.view.now in
     let n = g.V.View.count c.args.view.now in
-    let gg = c.in-Some-Ok.g in
-    let table = table_of c.args.claims.now in
     let first = c.read_geometry.ensures.keeps in
     let second = c.check_volume.ensures.keeps in
     let reads = rw c.in-Some-Ok.field-0-is at c.in-Some-Ok.ensures.rule in
-    only_both g.met.V.View.fetched_both (λ v stands. stands) second.told
-    (only_told (IsStructure l n) (IsStructure l n) (λ told v tabled. (tabled.0, λ block h. h))
-    (only_needs (IsStructure l n) (λ v block needs. super_structure l n v block needs) c.read_geometry.ensures.fetched))
-    (only_told (IsStructure (g.V.View.size c.read_geometry.new.view) (g.V.View.count c.read_geometry.new.view)) (IsStructure l n) (λ told v tabled.
-    let is = sym ((reads.rule (second.told told) v (tabled.0)).answer) in
-    ((first.stands v (tabled.0), table_claims l n gg v table is (tabled.1), rw (first.bytes, first.blocks) is), λ block h. rw (first.bytes, first.blocks) at h))
-    c.check_volume.ensures.fetched)
+    volume_fetched l n c.in-Some-Ok.g (table_of c.args.claims.now) first.bytes first.blocks g.met.V.View.fetched_both first.stands second.told
+    (λ told v stands. sym ((reads.rule (second.told told) v stands).answer)) c.read_geometry.ensures.fetched c.check_volume.ensures.fetched
 
 pub returns-in-None-2-clause-gone : goal.returns-in-None-2-clause-gone
 returns-in-None-2-clause-gone g c =
     let l = g.V.View.size c.args.view.now in
     let n = g.V.View.count c.args.view.now in
     let gg = c.in-Some-Ok.g in
-    let table = table_of c.args.claims.now in
     let first = c.read_geometry.ensures.keeps in
     let second = c.check_volume.ensures.keeps in
     let reads = rw c.in-Some-Ok.field-0-is at c.in-Some-Ok.ensures.rule in
     let gone = rw c.in-None-2.is at c.in_ok-check_volume.ensures.gone in
     λ same. lost_told (IsStructure (g.V.View.size c.read_geometry.new.view) (g.V.View.count c.read_geometry.new.view)) (IsStructure l n) first.blocks (λ told v tabled.
     let is = sym ((reads.rule (second.told told) v (tabled.0)).answer) in
-    ((first.stands v (tabled.0), table_claims l n gg v table is (tabled.1), rw (first.bytes, first.blocks) is), λ block h. rw (first.bytes, first.blocks) at h)) gone
+    (on_view l n gg (table_of c.args.claims.now) v first.bytes first.blocks first.stands is tabled, λ block h. rw (first.bytes, first.blocks) at h)) gone
 
 pub returns-in-Some-clause-keeps : goal.returns-in-Some-clause-keeps
 returns-in-Some-clause-keeps g c =

@@ -6,9 +6,9 @@ use Rattle.ufs_check.proofs.faults.verdict_of.Goals as goal
 pub returns-in-None-clause-judges : goal.returns-in-None-clause-judges
 returns-in-None-clause-judges c = λ g v is are.
     let all = whole_first c.args.faults.now _ _ _ _ c.keep_slots.ensures c.keep_claims.ensures c.keep_entries.ensures c.keep_links.ensures in
-    sound_judges g v c.args.faults.now is are (subst (IsFirstBelow (found_in c.args.faults.now) 23) c.in-None.is all)
+    sound_judges c.files_are_tame.ensures g v c.args.faults.now is are (subst (IsFirstBelow (found_in c.args.faults.now) 23) c.in-None.is all)
 
 pub returns-in-Some-clause-judges : goal.returns-in-Some-clause-judges
 returns-in-Some-clause-judges c = λ g v is are.
     let all = whole_first c.args.faults.now _ _ _ _ c.keep_slots.ensures c.keep_claims.ensures c.keep_entries.ensures c.keep_links.ensures in
-    malformed_judges g v c.args.faults.now c.in-Some.kind c.in-Some.number is are (subst (IsFirstBelow (found_in c.args.faults.now) 23) c.in-Some.is all)
+    malformed_judges c.files_are_tame.ensures g v c.args.faults.now c.in-Some.kind c.in-Some.number is are (subst (IsFirstBelow (found_in c.args.faults.now) 23) c.in-Some.is all)
