@@ -75,7 +75,8 @@ written = (
 changes_none : (place : ClaimPlace) → IsChangedAt 512 2 blocks written_blocks place → ⊥
 changes_none place change = elim change.changed [
   | inl ended ↦ unclaimed_without 512 2 blocks Magic place.fragment no_volume (ended.0.source, ended.0.claim)
-  | inr begun ↦ unclaimed_without 512 2 written_blocks Magic place.fragment still_no_volume (begun.0.source, begun.0.claim)
+  | inr (inl begun) ↦ unclaimed_without 512 2 written_blocks Magic place.fragment still_no_volume (begun.0.source, begun.0.claim)
+  | inr (inr anew) ↦ unclaimed_without 512 2 written_blocks Magic place.fragment still_no_volume (anew.claimed.source, anew.claimed.claim)
 ]
 
 no_needs : (superblock_of 512 2 written_blocks).needs ≡ []

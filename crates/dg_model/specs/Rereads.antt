@@ -14,12 +14,19 @@ pub record ClaimPlace : Type 0 where
   pub fragment : ℕ
   pub level : ℕ
 
--- The claims on a fragment at a level above 0 began or ended between two volumes of n blocks of l bytes.
+-- The fragment is claimed at the level by the new volume, whose geometry is another one: that ends every claim of the old volume and
+-- begins every claim of the new one.
+pub record IsRenewedAt (l n : ℕ) (old new : Volume) (place : ClaimPlace) : Type 0 where
+  pub geometry : (geometry_of l n old).value ≢ (geometry_of l n new).value
+  pub claimed : IsClaimedAt (VolumeClaims l n new) place.level place.fragment
+
+-- The claims on a fragment at a level above 0 ended, began, or were made anew between two volumes of n blocks of l bytes.
 pub record IsChangedAt (l n : ℕ) (old new : Volume) (place : ClaimPlace) : Type 0 where
   pub above : 0 < place.level
   pub changed :
       (IsClaimedAt (VolumeClaims l n old) place.level place.fragment × (IsClaimedAt (VolumeClaims l n new) place.level place.fragment → ⊥))
       ⊎ (IsClaimedAt (VolumeClaims l n new) place.level place.fragment × (IsClaimedAt (VolumeClaims l n old) place.level place.fragment → ⊥))
+      ⊎ IsRenewedAt l n old new place
 
 -- two blocks of one group block
 pub record AreOfGroup (g : Geometry) (v : Volume) (b f : ℕ) : Type 0 where
