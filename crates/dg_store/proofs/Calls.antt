@@ -3,8 +3,8 @@ use Rattle.std.proofs.Common.{◌≡◌, ◌≢◌, inl, inr, ℕ, ◌+◌, ◌*
 use Rattle.std.specs.Prelude.{Option, Some, None, IfSome, slice_get, slice_set}
 use Rattle.std.proofs.lemmas.Bool.{cases_eq}
 use Rattle.std.proofs.lemmas.List.{length-set}
-use Rattle.dg_model.specs.Members.{is_lost, place_of, HasRoom, SlotHolds, MembersFall}
-use Rattle.dg_model.specs.Saves.{body_place, member_length}
+use Rattle.dg_model.specs.Members.{is_lost, HasRoom, SlotHolds, MembersFall}
+use Rattle.dg_model.specs.Saves.{member_length}
 use Rattle.dg_model.specs.declared.members.MemberState.{MemberState}
 use Rattle.dg_model.specs.declared.members.MemberState.TheVariants.{Good, Out}
 use Rattle.dg_model.specs.declared.shapes.Shape.{Shape}
@@ -12,7 +12,7 @@ use Rattle.dg_io.specs.Told.{Told, IsSame, Torn}
 use Rattle.dg_io.specs.declared.outside.Rack.{Ghosts}
 use Rattle.dg_pair.specs.declared.boundaries.Boundary.{Boundary}
 use Rattle.dg_pair.specs.Boundaries.{MembersFit, MembersStand, members_of, number_of, size_of, slots_of}
-use Rattle.dg_pair.specs.Calls.{IsPair, KeepsBeside, KeepsPair, LeavesPair}
+use Rattle.dg_pair.specs.Calls.{KeepsBeside, KeepsPair, LeavesPair}
 use Rattle.dg_store.specs.Rows.{AreLong, IsRow, RowStands, members_in}
 use Rattle.dg_store.specs.Slots.{KeepsOtherSlots, KeepsSlots, RowKeeps}
 use Rattle.dg_store.proofs.Changed.{OtherPairsSame, falls_changed, lost_is, holds_part, holds_whole, kept_changed}

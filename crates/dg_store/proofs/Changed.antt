@@ -1,10 +1,10 @@
 -- One boundary of a row was called: what holds of its members holds of the row's.
-use Rattle.std.proofs.Common.{◌≡◌, ◌≢◌, inl, inr, ℕ, ◌+◌, ◌*◌, ◌/◌, ◌≤◌, List, length, sym, ◌∙◌, ap, subst, arith}
+use Rattle.std.proofs.Common.{◌≡◌, ◌≢◌, inl, inr, ℕ, ◌+◌, ◌*◌, ◌/◌, ◌≤◌, List, length, sym, ◌∙◌, ap, arith}
 use Rattle.std.specs.Prelude.{IfSome, Option, Some, None, ◌&&◌, not}
 use Rattle.std.proofs.lemmas.Bool.{cases_eq, cases_lt}
 use Rattle.dg_model.specs.Members.{is_good, is_filling, serves, is_lost, partner_of, SlotOf, SlotHolds, MembersFall, slot_of}
 use Rattle.dg_model.specs.declared.members.MemberState.{MemberState}
-use Rattle.dg_model.specs.declared.members.MemberState.TheVariants.{Good, Out}
+use Rattle.dg_model.specs.declared.members.MemberState.TheVariants.{Good}
 use Rattle.dg_io.specs.Told.{Told, IsSame, IsZeros}
 use Rattle.dg_pair.specs.Boundaries.{MembersStand}
 use Rattle.dg_model.specs.Saves.{member_length}

@@ -4,6 +4,8 @@ mod Calls
 mod Changed
 mod EvictionCounts
 mod EvictionSteps
+mod Parts
+mod Filled
 mod PlaceLemmas
 mod Quiet
 mod Refills

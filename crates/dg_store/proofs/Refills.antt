@@ -1,10 +1,10 @@
 -- One boundary of a store was refilled, noted on, or made longer: what its clauses say of the members, their lengths and slots.
-use Rattle.std.proofs.Common.{◌≡◌, ◌≢◌, ◌⊎◌, inl, inr, ℕ, suc, ◌+◌, ◌*◌, ◌/◌, ◌-◌, ◌≤◌, ◌<◌, ◌++◌, Bool, true, false, List, [], ◌∷◌, length, take, drop, replicate, refl, sym, ◌∙◌, ap, subst, arith, length-append, eq-eqb}
-use Rattle.std.specs.Prelude.{◌↔◌, IfSome, IsSome, Option, Some, None, slice_get, slice_set, if◌then◌else◌}
+use Rattle.std.proofs.Common.{◌≡◌, ◌≢◌, ◌⊎◌, inl, inr, ℕ, ◌+◌, ◌/◌, ◌-◌, ◌≤◌, ◌<◌, ◌++◌, Bool, List, length, take, drop, replicate, refl, sym, ◌∙◌, ap, subst, arith, length-append}
+use Rattle.std.specs.Prelude.{◌↔◌, IfSome, IsSome, Option, Some, None, slice_get, if◌then◌else◌}
 use Rattle.std.proofs.lemmas.Bool.{cases_eq, false≢true}
 use Rattle.std.proofs.lemmas.List.{length-drop, length-replicate, length-take-le}
-use Rattle.dg_io.specs.Told.{Extended, FitsIn, IsSame, IsZeros, KeepsFront, OthersSame, Patched, Told, Torn}
-use Rattle.dg_model.specs.Members.{ArePaired, IsRefilled, MembersFall, SlotHolds, is_filling, is_good, partner_of, serves}
+use Rattle.dg_io.specs.Told.{Extended, IsSame, IsZeros, OthersSame, Patched, Told}
+use Rattle.dg_model.specs.Members.{ArePaired, IsRefilled, MembersFall, is_filling, is_good, partner_of}
 use Rattle.dg_model.proofs.SiteLists.{apart_test, same_test}
 use Rattle.dg_model.specs.Saves.{member_length}
 use Rattle.dg_model.specs.declared.members.MemberState.{MemberState}
@@ -19,8 +19,8 @@ use Rattle.dg_pair.specs.declared.boundaries.NoteAnswer.{NoteAnswer}
 use Rattle.dg_pair.specs.declared.boundaries.NoteAnswer.TheVariants.{Noted, NotGood, Fell as NoteFell}
 use Rattle.dg_pair.specs.declared.boundaries.ReplaceAnswer.{ReplaceAnswer}
 use Rattle.dg_pair.specs.declared.boundaries.ReplaceAnswer.TheVariants.{Replaced, Lost, NotOut, Failed}
-use Rattle.dg_pair.specs.Boundaries.{HasNext, IsFilling, members_of, number_of, raised, slots_of}
-use Rattle.dg_pair.specs.Calls.{IsPair, copied, replaced}
+use Rattle.dg_pair.specs.Boundaries.{HasNext, IsFilling, members_of, raised, slots_of}
+use Rattle.dg_pair.specs.Calls.{copied, replaced}
 use Rattle.dg_store.specs.Answers.{ChangesAt, HasAllSlots, HasNextSlot}
 use Rattle.dg_store.specs.Rows.{RowStands, members_in}
 use Rattle.dg_store.proofs.Calls.{same_long}

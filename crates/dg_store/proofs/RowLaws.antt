@@ -1,5 +1,5 @@
 -- Calls on a row of boundaries, one after another.
-use Rattle.std.proofs.Common.{◌≡◌, inl, refl, ℕ, ◌+◌, List}
+use Rattle.std.proofs.Common.{inl, refl, ◌+◌, List}
 use Rattle.dg_io.specs.declared.outside.Rack.{Ghosts}
 use Rattle.dg_model.specs.declared.shapes.Shape.{Shape}
 use Rattle.dg_pair.specs.declared.boundaries.Boundary.{Boundary}

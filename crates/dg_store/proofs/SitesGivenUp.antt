@@ -12,7 +12,7 @@ use Rattle.dg_model.specs.Shapes.{IsShape}
 use Rattle.dg_model.specs.Sites.{IsLeastSpread, has_site, without_last}
 use Rattle.dg_model.specs.Tables.{IsFree, IsTable, StandsIn, Table, count_on, put_site, sites_in, sites_off, used_in, without_site}
 use Rattle.dg_store.specs.declared.sites.GivenUp.{GivenUp}
-use Rattle.dg_store.specs.Evictions.{GaveUp, IsLastSite, IsThinned, NoneSpreadBelow, table_before}
+use Rattle.dg_store.specs.Evictions.{GaveUp, IsLastSite, IsThinned, table_before}
 use Rattle.dg_model.proofs.SiteLists.{count_on-append, count_on-last, count_pos, off_last, single_off}
 use Rattle.dg_store.proofs.SitesLists.{front_none, has_site-some, split_last, take_others}
 
@@ -263,10 +263,3 @@ module _ (items es : List GivenUp) (e : GivenUp) (before now : Table) (ok : IsTa
 pub on_err : {A E : Type 0} (r : Result A E) (P : Type 0) → P → OnErr r P
 on_err (Ok x) P holds = tt
 on_err (Err x) P holds = holds
-
--- no block below has more sites than before
-pub none_spread : (table new : Table) (b s : ℕ) → IsLeastSpread table b → new ≡ without_site table b s → NoneSpreadBelow new b
-none_spread table new b s least is a below =
-    let apart : a ≢ b = λ e. absurd (omega (arith, below, e)) in
-    let same : sites_in new a ≡ sites_in table a = ap (λ (t : Table). sites_in t a) is ∙ get_or-set_other table.rows b a (sites_off s (sites_in table b)) [] apart in
-    omega (arith, least.least a below, ap length same)

@@ -1,15 +1,14 @@
 -- When the parts of a store fit one another.
-use Rattle.std.proofs.Common.{◌≡◌, ◌≢◌, ℕ, ◌+◌, ◌/◌, ◌≤◌, true, List, [], length, refl, sym, ◌∙◌, ap, subst, arith}
+use Rattle.std.proofs.Common.{◌≡◌, ℕ, ◌+◌, ◌/◌, true, List, [], length, refl, sym, ◌∙◌, ap, subst, arith}
 use Rattle.std.specs.Prelude.{Option, Some, None, slice_get}
 use Rattle.std.proofs.lemmas.Bool.{false≢true}
 use Rattle.dg_io.specs.declared.outside.Rack.{Ghosts}
 use Rattle.dg_model.specs.Members.{ArePaired, is_filling, is_good, partner_of}
 use Rattle.dg_model.specs.Tables.{IsTable}
-use Rattle.dg_model.specs.declared.members.MemberState.{MemberState}
 use Rattle.dg_model.specs.declared.shapes.Shape.{Shape}
 use Rattle.dg_pair.specs.declared.boundaries.Boundary.{Boundary}
 use Rattle.dg_store.specs.declared.store.Store.{Store}
-use Rattle.dg_store.specs.Leaves.{Keeps, Leaves, Stays}
+use Rattle.dg_store.specs.Leaves.{Leaves}
 use Rattle.dg_store.specs.Rows.{IsRow, RowStands, member_at, members_in}
 use Rattle.dg_store.specs.Slots.{RowKeeps}
 use Rattle.dg_store.specs.Stores.{IsSound}

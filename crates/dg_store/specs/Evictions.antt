@@ -17,10 +17,6 @@ abbrev pub GaveUp : List GivenUp → Table → Table → Type 0
 GaveUp [] old new = new ≡ old
 GaveUp (given ∷ more) old new = IsLastSite old given × GaveUp more (without_site old given.block given.site.boundary) new
 
--- each block below this one has at most one site
-abbrev pub NoneSpreadBelow : Table → ℕ → Type 0
-NoneSpreadBelow table b = (a : ℕ) → a < b → length (sites_in table a) ≤ 1
-
 -- each block has a front of its sites, and at least one where it had one
 pub record IsThinned (old new : Table) : Type 0 where
   pub shape : new.shape ≡ old.shape

@@ -1,14 +1,13 @@
 -- Laws of what calls leave: none, and one after another. They stand here since the view's members cite them.
-use Rattle.std.proofs.Common.{◌≡◌, inl, inr, ℕ, ◌≤◌, ◌+◌, ◌*◌, ◌/◌, ◌-◌, ◌^◌, ◌++◌, Bool, true, false, cond, List, [], ◌∷◌, length, refl, sym, ◌∙◌, ap, subst, arith}
-use Rattle.std.specs.Prelude.{Option, Some, None, ◌&&◌, not, min, count_by}
-use Rattle.std.specs.List.{sum_by}
+use Rattle.std.proofs.Common.{◌≡◌, inl, inr, ℕ, ◌≤◌, ◌+◌, ◌*◌, ◌++◌, Bool, true, false, cond, List, [], ◌∷◌, length, refl, sym, ◌∙◌, ap, subst, arith}
+use Rattle.std.specs.Prelude.{Option, Some, None, not, count_by}
 use Rattle.std.proofs.lemmas.Bool.{and_parts, and_from, false≢true}
 use Rattle.std.proofs.lemmas.List.Sums.{sum_by-append, sum_by-cons}
-use Rattle.dg_io.specs.Told.{StillTold, Told, Torn}
+use Rattle.dg_io.specs.Told.{Told, Torn}
 use Rattle.dg_io.specs.declared.outside.Rack.{Ghosts}
-use Rattle.dg_model.specs.Causes.{NoneRose, Rose}
+use Rattle.dg_model.specs.Causes.{NoneRose}
 use Rattle.dg_model.specs.Members.{is_filling, is_good, is_lost, partner_of, MembersFall}
-use Rattle.dg_model.specs.Sites.{all_lost, has_site}
+use Rattle.dg_model.specs.Sites.{all_lost}
 use Rattle.dg_model.specs.States.{Counts, CountsRise}
 use Rattle.dg_model.specs.Tables.{Table, sites_in}
 use Rattle.dg_model.specs.declared.members.MemberState.{MemberState}

@@ -1,5 +1,5 @@
 -- What a store means. The words below are all that the crates above cite; they say nothing of how a store keeps it.
-use Rattle.std.specs.Prelude.{◌/◌, ◌≤◌, ◌<◌, ◌≡◌, ◌+◌, ◌^◌, ℕ, zero, suc, List, [], length, Option, IsSome, if◌then◌else◌, slice_set}
+use Rattle.std.specs.Prelude.{◌/◌, ◌≤◌, ◌<◌, ◌≡◌, ◌+◌, ◌^◌, ℕ, zero, suc, List, [], length, IsSome, if◌then◌else◌, slice_set}
 use Rattle.dg_io.specs.declared.outside.Rack.{Ghosts}
 use Rattle.dg_model.specs.Blocks.{block_in}
 use Rattle.dg_model.specs.Members.{ArePaired, is_lost}

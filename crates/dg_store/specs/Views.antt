@@ -1,5 +1,5 @@
 -- What any number of reads leave of a store.
-use Rattle.std.specs.Prelude.{◌≡◌, ◌≤◌, ◌*◌, ◌&&◌, not, ℕ, Bool, List, Option, count_by, length}
+use Rattle.std.specs.Prelude.{◌≡◌, ◌≤◌, ◌*◌, ◌&&◌, not, ℕ, Bool, List, count_by, length}
 use Rattle.std.specs.List.{sum_by}
 use Rattle.dg_io.specs.declared.outside.Rack.{Ghosts}
 use Rattle.dg_model.specs.Members.{MembersFall}

@@ -4,7 +4,7 @@ ghost use Rattle.std.specs.List.{Contains};
 ghost use Rattle.dg_model.specs.Sites.{Evicts, IsFewest, IsGivenFirst, IsFirstBoundary, IsPacked, IsLeastSpread};
 ghost use Rattle.dg_model.specs.Tables.{Table, IsTable, sites_in, put_site, without_site};
 ghost use Rattle.dg_store.specs.Answers.{reaped};
-ghost use Rattle.dg_store.specs.Evictions.{GaveUp, IsEvicted, IsThinned, NoneSpreadBelow, table_before};
+ghost use Rattle.dg_store.specs.Evictions.{GaveUp, IsEvicted, IsThinned, table_before};
 
 use dg_io::NoMemory;
 use dg_map::{Map, TakeFault};
@@ -92,12 +92,11 @@ fn make_room(map: &mut Map, block: u32, given_up: &mut Vec<GivenUp>) -> Result<u
     ensures up { OnOk result (GaveUp given_up.new.items map.old map.new) }
     ensures others { IsThinned map.old map.new }
 {
-    let mut from = 0;
     loop {
         if let Some(boundary) = first_boundary(map, block) {
             return Ok(boundary);
         }
-        from = evict_one(map, block, from, given_up)?;
+        evict_one(map, block, given_up)?;
     }
 }
 
@@ -132,25 +131,18 @@ fn fewest(map: &Map) -> u8
     fewest
 }
 
-/// Makes the least block with more than one site give up its last one, adds that to the list, and gives the block. Each
-/// boundary is packed, the given block has no site, and no block below `from` has more than one.
-fn evict_one(
-    map: &mut Map,
-    block: u32,
-    from: u32,
-    given_up: &mut Vec<GivenUp>,
-) -> Result<u32, NoMemory>
+/// Makes the least block with more than one site give up its last one, and adds that to the list. Each boundary is packed,
+/// and the given block has no site.
+fn evict_one(map: &mut Map, block: u32, given_up: &mut Vec<GivenUp>) -> Result<(), NoMemory>
     requires table { IsTable map.old }
     requires packed { IsPacked map.old }
     requires within { block < map.old.shape.n }
     requires none { sites_in map.old block ≡ [] }
-    requires below { NoneSpreadBelow map.old from }
     ensures table { IsTable map.new }
     ensures evicted { OnOk result (IsEvicted map.old map.new given_up.old.items given_up.new.items) }
-    ensures below { IfOk result (λ spread. NoneSpreadBelow map.new spread) }
     ensures refused { OnErr result (map.new ≡ map.old) }
 {
-    let spread = least_spread(map, block, from);
+    let spread = least_spread(map, block);
     let site = last_site(map.sites(spread));
     let given = GivenUp {
         block: spread,
@@ -160,24 +152,20 @@ fn evict_one(
         return Err(NoMemory);
     };
     map.drop_site(spread, site.boundary);
-    Ok(spread)
+    Ok(())
 }
 
-/// The least block with more than one site, which is none below `from`. There is one, since each boundary is packed and
-/// the given block has no site.
-fn least_spread(map: &Map, block: u32, from: u32) -> u32
+/// The least block with more than one site. There is one, since each boundary is packed and the given block has no site.
+fn least_spread(map: &Map, block: u32) -> u32
     requires packed { IsPacked map.now }
     requires within { block < map.now.shape.n }
     requires none { sites_in map.now block ≡ [] }
-    requires below { NoneSpreadBelow map.now from }
     ensures { IsLeastSpread map.now result }
 {
-    for spread in from..map.shape().n {
-        if map.sites(spread).len() > 1 {
-            return spread;
-        }
+    match map.least_spread() {
+        Some(spread) => spread,
+        None => unreachable!(),
     }
-    unreachable!()
 }
 
 /// The last one of the sites, if there is one.

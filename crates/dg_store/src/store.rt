@@ -157,6 +157,7 @@ impl<R: Rack> Store<R> {
         ensures well { IsWell result.now }
         ensures number { number_of result.now ≡ boundary }
         ensures members { (q : ℕ) → q / 2 ≡ boundary → boundary_members result.now q ≡ members_of self.now q }
+        ensures filled { (q have : ℕ) → q / 2 ≡ boundary → members_of self.now q ≡ MemberState.Filling have → have ≤ (shape_of self.now).k + 1 }
     {
         &self.row[boundary as usize]
     }

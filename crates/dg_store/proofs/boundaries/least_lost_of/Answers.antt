@@ -1,4 +1,4 @@
-use Rattle.std.proofs.Common.{◌≡◌, ◌≤◌, inl, inr, ℕ, false, sym, ◌∙◌, ap, arith}
+use Rattle.std.proofs.Common.{inl, inr, sym, ◌∙◌, ap, arith}
 use Rattle.std.proofs.lemmas.Bool.{cases_eq}
 use Rattle.dg_model.specs.Members.{is_lost}
 use Rattle.dg_store.specs.Rows.{members_in}

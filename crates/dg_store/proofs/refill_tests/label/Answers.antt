@@ -1,4 +1,3 @@
-use Rattle.std.proofs.Common.{sym, ◌∙◌}
 use Rattle.dg_store.proofs.Refills.{label_fits}
 use Rattle.dg_store.proofs.refill_tests.label.Goals as goal
 

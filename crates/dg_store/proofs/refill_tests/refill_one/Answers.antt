@@ -1,4 +1,4 @@
-use Rattle.std.proofs.Common.{◌≡◌, ◌+◌, ◌*◌, ◌/◌, ◌<◌, ℕ, sym, ◌∙◌, ap, arith}
+use Rattle.std.proofs.Common.{◌≡◌, ◌+◌, ◌*◌, ◌/◌, ℕ, sym, ◌∙◌, ap, arith}
 use Rattle.dg_model.specs.declared.shapes.Shape.{Shape}
 use Rattle.dg_pair.specs.Boundaries.{members_of}
 use Rattle.dg_store.proofs.refill_tests.refill_one.Goals as goal

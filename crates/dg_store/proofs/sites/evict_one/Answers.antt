@@ -1,4 +1,4 @@
-use Rattle.dg_store.proofs.SitesGivenUp.{none_spread, last_of, last_within, last_counts}
+use Rattle.dg_store.proofs.SitesGivenUp.{last_of, last_within, last_counts}
 use Rattle.dg_store.proofs.sites.evict_one.Goals as goal
 
 pub drop_site-requires-clause-boundary : goal.drop_site-requires-clause-boundary
@@ -17,7 +17,3 @@ returns-clause-evicted c = record {
   left = c.drop_site.ensures.dropped;
   listed = c.in-Ok.ensures.items;
 }
-
-pub returns-clause-below : goal.returns-clause-below
-returns-clause-below c =
-    none_spread c.args.map.now c.drop_site.new.self c.least_spread-spread.result c.last_site-site.result.boundary c.least_spread-spread.ensures c.drop_site.ensures.dropped

@@ -1,4 +1,4 @@
-use Rattle.std.proofs.Common.{◌≡◌, ◌<◌, List, length, refl, subst}
+use Rattle.std.proofs.Common.{◌<◌, List, length, refl, subst}
 use Rattle.std.specs.List.{Contains}
 use Rattle.dg_model.specs.declared.sites.Site.{Site}
 use Rattle.dg_model.proofs.SiteLists.{count_pos}

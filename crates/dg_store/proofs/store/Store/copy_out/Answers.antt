@@ -1,4 +1,4 @@
-use Rattle.std.proofs.Common.{refl, ◌∙◌}
+use Rattle.std.proofs.Common.{refl}
 use Rattle.dg_store.proofs.Sound.{leaves_of, row_of}
 use Rattle.dg_store.proofs.TableLemmas.{are_slots}
 use Rattle.dg_store.proofs.store.Store.copy_out.Goals as goal

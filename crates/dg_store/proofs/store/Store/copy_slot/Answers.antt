@@ -1,199 +1,134 @@
-use Rattle.std.proofs.Common.{◌≡◌, ◌≢◌, inl, inr, ℕ, ◌+◌, ◌*◌, ◌/◌, ◌<◌, List, length, refl, sym, ◌∙◌, ap, subst, arith}
-use Rattle.dg_store.specs.ReadLaws.{rack_none}
-use Rattle.dg_store.specs.Rows.{members_in}
-use Rattle.dg_store.proofs.Blocks.{stands_below, stands_free, stands_kept}
-use Rattle.dg_store.proofs.Calls.{kept_at, part_room, part_stand, row_falls, row_is, row_kept, row_kept_others, row_lost, row_stands, still_long}
+use Rattle.std.proofs.Common.{inl, inr, refl, sym, ◌∙◌, ap}
+use Rattle.dg_store.proofs.Blocks.{stands_kept}
+use Rattle.dg_store.proofs.Calls.{kept_at, row_falls, row_is, row_kept, row_lost, still_long}
 use Rattle.dg_model.specs.Members.{is_filling}
-use Rattle.dg_store.proofs.Refills.{changes_at, copy_told, copied_in, extended_is_long, not_next, noted_long, one_filling, part_filling, part_full, part_next, replaced_changed, replaced_long, replaced_other, uncopied_falls}
-use Rattle.dg_store.proofs.Rows.{lost_at, set_changed, there}
+use Rattle.dg_store.proofs.Refills.{changes_at, copy_told, copied_in, not_next, part_filling, part_next, uncopied_falls}
+use Rattle.dg_store.proofs.Parts.{part_of, stays_of}
 use Rattle.dg_store.proofs.Sound.{row_of, sound_of}
-use Rattle.dg_store.proofs.Struck.{struck}
 use Rattle.std.proofs.lemmas.Bool.{cases_eq}
-use Rattle.std.specs.Prelude.{Option}
 use Rattle.dg_pair.specs.Boundaries.{raised, unfilled}
-use Rattle.dg_pair.specs.Calls.{KeepsBeside}
 use Rattle.dg_store.proofs.store.Store.copy_slot.Goals as goal
 
 pub copy_slot-requires-clause-well : goal.copy_slot-requires-clause-well
 copy_slot-requires-clause-well g c =
-    let within : c.args.boundary < length c.args.self.now.row.items = omega (arith, c.requires.boundary, c.requires.sound.built.count) in
-    (c.requires.sound.built.stands _ _ (there _ _ _ within c.index_mut.ensures.value)).well
+    let part = part_of c.requires.sound c.requires.boundary c.index_mut.ensures.value in
+    part.pair.well
 
 pub copy_slot-requires-clause-room : goal.copy_slot-requires-clause-room
 copy_slot-requires-clause-room g c =
-    let within : c.args.boundary < length c.args.self.now.row.items = omega (arith, c.requires.boundary, c.requires.sound.built.count) in
-    part_room _ _ _ _ _ c.index_mut.result.now within (there _ _ _ within c.index_mut.ensures.value) c.requires.sound.built.stands c.args.self.now.map.shape _ refl refl c.requires.sound.long
+    let part = part_of c.requires.sound c.requires.boundary c.index_mut.ensures.value in
+    part.room
 
 pub copy_slot-requires-clause-stand : goal.copy_slot-requires-clause-stand
 copy_slot-requires-clause-stand g c =
-    let within : c.args.boundary < length c.args.self.now.row.items = omega (arith, c.requires.boundary, c.requires.sound.built.count) in
-    part_stand _ _ _ _ _ c.index_mut.result.now within (there _ _ _ within c.index_mut.ensures.value) c.requires.sound.built.stands _ c.requires.sound.stand
+    let part = part_of c.requires.sound c.requires.boundary c.index_mut.ensures.value in
+    part.stand
 
 pub copy_slot-requires-clause-next : goal.copy_slot-requires-clause-next
 copy_slot-requires-clause-next g c =
-    let within : c.args.boundary < length c.args.self.now.row.items = omega (arith, c.requires.boundary, c.requires.sound.built.count) in
-    part_next _ _ _ _ c.index_mut.result.now within (there _ _ _ within c.index_mut.ensures.value) c.requires.sound.built.stands c.requires.next
+    let part = part_of c.requires.sound c.requires.boundary c.index_mut.ensures.value in
+    part_next _ _ _ _ c.index_mut.result.now part.within part.was c.requires.sound.built.stands c.requires.next
 
 pub copy_slot-requires-clause-size : goal.copy_slot-requires-clause-size
 copy_slot-requires-clause-size g c =
-    let within : c.args.boundary < length c.args.self.now.row.items = omega (arith, c.requires.boundary, c.requires.sound.built.count) in
-    c.requires.size ∙ sym (c.requires.sound.built.stands _ _ (there _ _ _ within c.index_mut.ensures.value)).size_is
+    let part = part_of c.requires.sound c.requires.boundary c.index_mut.ensures.value in
+    c.requires.size ∙ sym part.pair.size_is
 
 pub returns-clause-sound : goal.returns-clause-sound
 returns-clause-sound g c =
     let s = c.requires.sound in
-    let within : c.args.boundary < length c.args.self.now.row.items = omega (arith, c.requires.boundary, s.built.count) in
-    let was = there _ _ _ within c.index_mut.ensures.value in
+    let part = part_of c.requires.sound c.requires.boundary c.index_mut.ensures.value in
     let x = c.index_mut.result.now in
     let y = c.copy_slot.new.self in
     let row = c.args.self.now.row.items in
-    let st = s.built.stands _ _ was in
-    let k = rw st.number_is at c.copy_slot.ensures in
-    let changed = set_changed row c.args.boundary x y within was in
+    let changed = part.changed y in
     let leaves = c.copy_slot.ensures.leaves in
     sound_of g.R.Rack _ s.table
-    (row_is g.R.Rack c.args.self.now.map.shape c.args.boundary row x y _ _ within was (row_of g.R.Rack c.args.self.now s) leaves.pair leaves.stand leaves.others_stand leaves.other_bytes
+    (row_is g.R.Rack c.args.self.now.map.shape c.args.boundary row x y _ _ part.within part.was (row_of g.R.Rack c.args.self.now s) leaves.pair leaves.stand leaves.others_stand leaves.other_bytes
     (λ q here serving. still_long c.args.self.now.map.shape 512 _ _ _ (c.copy_slot.ensures.beside q)
     (s.long q (λ out. copied_in _ _ c.copy_slot.result _ _ leaves.falls q serving (sym (changed.was q here) ∙ out)))))
     s.built.block s.built.given_up
 
 pub returns-clause-stays : goal.returns-clause-stays
 returns-clause-stays g c =
-    let s = c.requires.sound in
-    let within : c.args.boundary < length c.args.self.now.row.items = omega (arith, c.requires.boundary, s.built.count) in
-    let was = there _ _ _ within c.index_mut.ensures.value in
-    let x = c.index_mut.result.now in
-    let y = c.copy_slot.new.self in
-    let row = c.args.self.now.row.items in
-    let st = s.built.stands _ _ was in
-    let k = rw st.number_is at c.copy_slot.ensures in
-    let changed = set_changed row c.args.boundary x y within was in
-    let leaves = c.copy_slot.ensures.leaves in
-    record { shape = refl; stays = record { rise = leaves.rise; tells = leaves.tells; same_rack = leaves.same_rack; steady_on = leaves.steady_on } }
+    record { shape = refl; stays = stays_of c.copy_slot.ensures.leaves }
 
 pub returns-clause-beside : goal.returns-clause-beside
 returns-clause-beside g c =
-    let s = c.requires.sound in
-    let within : c.args.boundary < length c.args.self.now.row.items = omega (arith, c.requires.boundary, s.built.count) in
-    let was = there _ _ _ within c.index_mut.ensures.value in
-    let x = c.index_mut.result.now in
-    let y = c.copy_slot.new.self in
-    let row = c.args.self.now.row.items in
-    let st = s.built.stands _ _ was in
-    let k = rw st.number_is at c.copy_slot.ensures in
-    let changed = set_changed row c.args.boundary x y within was in
-    rw (st.slots_is, st.size_is) at c.copy_slot.ensures.beside
+    let part = part_of c.requires.sound c.requires.boundary c.index_mut.ensures.value in
+    rw (part.pair.slots_is, part.pair.size_is) at c.copy_slot.ensures.beside
 
 pub returns-clause-lost : goal.returns-clause-lost
 returns-clause-lost g c =
     let s = c.requires.sound in
-    let within : c.args.boundary < length c.args.self.now.row.items = omega (arith, c.requires.boundary, s.built.count) in
-    let was = there _ _ _ within c.index_mut.ensures.value in
+    let part = part_of c.requires.sound c.requires.boundary c.index_mut.ensures.value in
     let x = c.index_mut.result.now in
     let y = c.copy_slot.new.self in
-    let row = c.args.self.now.row.items in
-    let st = s.built.stands _ _ was in
-    let k = rw st.number_is at c.copy_slot.ensures in
-    let changed = set_changed row c.args.boundary x y within was in
-    let lost = row_lost _ _ _ _ x y within was s.built.stands in
+    let lost = row_lost _ _ _ _ x y part.within part.was s.built.stands in
     (λ is. lost ∙ c.copy_slot.ensures.lost.0 is, λ is. c.copy_slot.ensures.lost.1 (sym lost ∙ is))
 
 pub returns-clause-copied : goal.returns-clause-copied
 returns-clause-copied g c is =
-    let s = c.requires.sound in
-    let within : c.args.boundary < length c.args.self.now.row.items = omega (arith, c.requires.boundary, s.built.count) in
-    let was = there _ _ _ within c.index_mut.ensures.value in
-    let x = c.index_mut.result.now in
+    let part = part_of c.requires.sound c.requires.boundary c.index_mut.ensures.value in
     let y = c.copy_slot.new.self in
-    let row = c.args.self.now.row.items in
-    let st = s.built.stands _ _ was in
-    let k = rw st.number_is at c.copy_slot.ensures in
-    let changed = set_changed row c.args.boundary x y within was in
+    let k = rw part.pair.number_is at c.copy_slot.ensures in
+    let changed = part.changed y in
     changes_at raised c.args.boundary _ _ _ _ changed (k.copied is)
 
 pub returns-clause-fell : goal.returns-clause-fell
 returns-clause-fell g c is =
-    let s = c.requires.sound in
-    let within : c.args.boundary < length c.args.self.now.row.items = omega (arith, c.requires.boundary, s.built.count) in
-    let was = there _ _ _ within c.index_mut.ensures.value in
-    let x = c.index_mut.result.now in
+    let part = part_of c.requires.sound c.requires.boundary c.index_mut.ensures.value in
     let y = c.copy_slot.new.self in
-    let row = c.args.self.now.row.items in
-    let st = s.built.stands _ _ was in
-    let k = rw st.number_is at c.copy_slot.ensures in
-    let changed = set_changed row c.args.boundary x y within was in
+    let k = rw part.pair.number_is at c.copy_slot.ensures in
+    let changed = part.changed y in
     changes_at unfilled c.args.boundary _ _ _ _ changed (k.fell is)
 
 pub returns-clause-fault : goal.returns-clause-fault
 returns-clause-fault g c is q at fills =
-    let s = c.requires.sound in
-    let within : c.args.boundary < length c.args.self.now.row.items = omega (arith, c.requires.boundary, s.built.count) in
-    let was = there _ _ _ within c.index_mut.ensures.value in
-    let x = c.index_mut.result.now in
+    let part = part_of c.requires.sound c.requires.boundary c.index_mut.ensures.value in
     let y = c.copy_slot.new.self in
-    let row = c.args.self.now.row.items in
-    let st = s.built.stands _ _ was in
-    let k = rw st.number_is at c.copy_slot.ensures in
-    let changed = set_changed row c.args.boundary x y within was in
+    let k = rw part.pair.number_is at c.copy_slot.ensures in
+    let changed = part.changed y in
     k.filling_fell is q (ap is_filling (sym (changed.was q at)) ∙ fills)
 
 pub returns-clause-others : goal.returns-clause-others
 returns-clause-others g c q off =
-    let s = c.requires.sound in
-    let within : c.args.boundary < length c.args.self.now.row.items = omega (arith, c.requires.boundary, s.built.count) in
-    let was = there _ _ _ within c.index_mut.ensures.value in
-    let x = c.index_mut.result.now in
+    let part = part_of c.requires.sound c.requires.boundary c.index_mut.ensures.value in
     let y = c.copy_slot.new.self in
-    let row = c.args.self.now.row.items in
-    let st = s.built.stands _ _ was in
-    let k = rw st.number_is at c.copy_slot.ensures in
-    let changed = set_changed row c.args.boundary x y within was in
+    let changed = part.changed y in
     changed.other q off
 
 pub returns-clause-falls : goal.returns-clause-falls
 returns-clause-falls g c other =
     let s = c.requires.sound in
-    let within : c.args.boundary < length c.args.self.now.row.items = omega (arith, c.requires.boundary, s.built.count) in
-    let was = there _ _ _ within c.index_mut.ensures.value in
+    let part = part_of c.requires.sound c.requires.boundary c.index_mut.ensures.value in
     let x = c.index_mut.result.now in
     let y = c.copy_slot.new.self in
-    let row = c.args.self.now.row.items in
-    let st = s.built.stands _ _ was in
-    let k = rw st.number_is at c.copy_slot.ensures in
-    let changed = set_changed row c.args.boundary x y within was in
-    row_falls _ _ _ _ x y within was s.built.stands _ _ (uncopied_falls _ _ c.copy_slot.result _ _ other c.copy_slot.ensures.leaves.falls)
+    row_falls _ _ _ _ x y part.within part.was s.built.stands _ _ (uncopied_falls _ _ c.copy_slot.result _ _ other c.copy_slot.ensures.leaves.falls)
 
 pub returns-clause-stands : goal.returns-clause-stands
 returns-clause-stands g c is told V st_for =
     let s = c.requires.sound in
-    let within : c.args.boundary < length c.args.self.now.row.items = omega (arith, c.requires.boundary, s.built.count) in
-    let was = there _ _ _ within c.index_mut.ensures.value in
+    let part = part_of c.requires.sound c.requires.boundary c.index_mut.ensures.value in
     let x = c.index_mut.result.now in
     let y = c.copy_slot.new.self in
-    let row = c.args.self.now.row.items in
-    let st = s.built.stands _ _ was in
-    let k = rw st.number_is at c.copy_slot.ensures in
-    let changed = set_changed row c.args.boundary x y within was in
+    let k = rw part.pair.number_is at c.copy_slot.ensures in
+    let changed = part.changed y in
     let next = c.requires.next in
     stands_kept _ _ _ _ V c.args.self.now.map
-    (λ t slot v. kept_at _ _ _ _ x y within was s.built.stands _ _ c.copy_slot.ensures.leaves.other_bytes t slot v
-    (λ here part. elim (cases_eq slot next.have) [
+    (λ t slot v. kept_at _ _ _ _ x y part.within part.was s.built.stands _ _ c.copy_slot.ensures.leaves.other_bytes t slot v
+    (λ here had. elim (cases_eq slot next.have) [
       | inl same ↦ c.copy_slot.ensures.moved is slot v
-          (rw same (part_filling _ _ _ _ x within was s.built.stands next))
-          (λ q good. copy_told c.args.boundary q _ _ _ _ changed (k.copied is) st.own _ told good) part
-      | inr apart ↦ c.copy_slot.ensures.kept slot v (λ done. not_next _ _ _ _ x within was s.built.stands next slot apart) part
+          (rw same (part_filling _ _ _ _ x part.within part.was s.built.stands next))
+          (λ q good. copy_told c.args.boundary q _ _ _ _ changed (k.copied is) part.pair.own _ told good) had
+      | inr apart ↦ c.copy_slot.ensures.kept slot v (λ done. not_next _ _ _ _ x part.within part.was s.built.stands next slot apart) had
     ])) st_for
 
 pub returns-clause-same : goal.returns-clause-same
 returns-clause-same g c other V st_for =
     let s = c.requires.sound in
-    let within : c.args.boundary < length c.args.self.now.row.items = omega (arith, c.requires.boundary, s.built.count) in
-    let was = there _ _ _ within c.index_mut.ensures.value in
+    let part = part_of c.requires.sound c.requires.boundary c.index_mut.ensures.value in
     let x = c.index_mut.result.now in
     let y = c.copy_slot.new.self in
-    let row = c.args.self.now.row.items in
-    let st = s.built.stands _ _ was in
-    let k = rw st.number_is at c.copy_slot.ensures in
-    let changed = set_changed row c.args.boundary x y within was in
     stands_kept _ _ _ _ V c.args.self.now.map
-    (row_kept _ _ _ _ x y within was s.built.stands _ _ c.copy_slot.ensures.leaves.other_bytes (λ slot v. c.copy_slot.ensures.kept slot v (λ done. absurd (other done)))) st_for
+    (row_kept _ _ _ _ x y part.within part.was s.built.stands _ _ c.copy_slot.ensures.leaves.other_bytes (λ slot v. c.copy_slot.ensures.kept slot v (λ done. absurd (other done)))) st_for

@@ -1,5 +1,4 @@
-use Rattle.std.proofs.Common.{refl, ◌∙◌}
-use Rattle.dg_store.specs.ReadLaws.{reads_none}
+use Rattle.std.proofs.Common.{refl}
 use Rattle.dg_store.proofs.Sound.{leaves_of, row_of}
 use Rattle.dg_store.proofs.TableLemmas.{are_slots}
 use Rattle.dg_store.proofs.PlaceLemmas.{sites_tell}

@@ -1,6 +1,6 @@
-use Rattle.std.proofs.Common.{◌≡◌, ◌<◌, ◌/◌, ◌∙◌, [], ◌∷◌, ℕ, true, false, length, sym, ap, subst, arith}
+use Rattle.std.proofs.Common.{◌<◌, ◌/◌, ◌∙◌, [], length, sym, ap, subst, arith}
 use Rattle.std.proofs.lemmas.List.{get_or_default}
-use Rattle.dg_model.specs.Tables.{Table, sites_in}
+use Rattle.dg_model.specs.Tables.{Table}
 use Rattle.dg_store.proofs.ViewLaws.{fetched_one, gone_stays, tells_good}
 use Rattle.dg_store.proofs.views.StoreView.fetch.Goals as goal
 

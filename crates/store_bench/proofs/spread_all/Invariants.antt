@@ -1,0 +1,6 @@
+use Rattle.std.proofs.Common.{◌≡◌}
+use Rattle.dg_store.specs.Stores.{IsSound, shape_of}
+use Rattle.store_bench.proofs.spread_all.Given as goal
+
+abbrev pub invariant-loop-block : goal.invariant-loop-block
+invariant-loop-block g l = IsSound g.R.Rack l.store × (shape_of l.store ≡ shape_of l.fn.store)
