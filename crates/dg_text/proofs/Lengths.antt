@@ -8,7 +8,7 @@ use Rattle.hex.specs.Hex.{lower_digits}
 use Rattle.hex.proofs.HexLemmas.{length-encode_with}
 use Rattle.dg_model.specs.declared.shapes.Shape.{Shape}
 use Rattle.dg_model.specs.declared.events.Event.{Event}
-use Rattle.dg_model.specs.declared.events.Event.TheVariants.{Array, Write, Read, Fail, Cat, Ls}
+use Rattle.dg_model.specs.declared.events.Event.TheVariants.{Array, Write, Read, Fail, Replace, Rebuild, Settle, Tend, Diffuse, Who, Pending, Cat, Ls, Tree, Home, Save}
 use Rattle.dg_text.specs.Lines.{hex_word, line_of, IsInPlace, longest}
 use Rattle.dg_text.proofs.PathWords.{length-path_word}
 use Rattle.ufs_model.specs.Paths.{is_path, is_path_name, names_after}
@@ -64,4 +64,27 @@ line_fits (Some shape) (Ls path) h =
     let bytes = path_short path h.0 in
     let word = length-path_word path in
     simp length-append (omega arith)
+line_fits (Some shape) (Replace s j) h =
+    let boundary = short s h.0 in
+    let second = short j h.1 in
+    simp length-append (omega arith)
+line_fits (Some shape) (Rebuild s n) h =
+    let boundary = short s h.0 in
+    let second = short n h.1 in
+    simp length-append (omega arith)
+line_fits (Some shape) (Tend n) h =
+    let number = short n h in
+    simp length-append (omega arith)
+line_fits (Some shape) (Who b) h =
+    let number = short b h in
+    simp length-append (omega arith)
+line_fits (Some shape) (Home path) h =
+    let bytes = path_short path h.0 in
+    let word = length-path_word path in
+    simp length-append (omega arith)
+line_fits (Some shape) Settle h = omega arith
+line_fits (Some shape) Diffuse h = omega arith
+line_fits (Some shape) Pending h = omega arith
+line_fits (Some shape) Tree h = omega arith
+line_fits (Some shape) Save h = omega arith
 line_fits shape event h = absurd h

@@ -3,6 +3,11 @@ mod Numbers
 mod HexWords
 mod PathWords
 mod Lengths
+mod LineWords
+mod KindWords
+mod EventWords
+mod Reasons
+mod Decisions
 mod WholeLines
 mod FileLines
 mod HexLineSteps

@@ -1,40 +1,14 @@
 -- Words of paths: each byte has one spelling.
-use Rattle.std.proofs.Common.{rules, ◌≡◌, ◌<◌, ◌≤◌, ◌+◌, ◌*◌, inl, inr, Bool, true, false, ℕ, List, [], ◌∷◌, ◌++◌, length, take, drop, slice_index, refl, sym, ◌∙◌, ap, subst, arith, append_assoc, length-append, take-append-drop}
-use Rattle.std.specs.Prelude.{All, Ok, codes, ◌==◌}
+use Rattle.std.proofs.Common.{◌≡◌, ◌<◌, ◌≤◌, ◌+◌, ◌*◌, inl, inr, Bool, true, false, ℕ, List, [], ◌∷◌, ◌++◌, length, take, drop, slice_index, refl, sym, ◌∙◌, ap, subst, arith, append_assoc, length-append, take-append-drop}
+use Rattle.std.specs.Prelude.{All, codes, ◌==◌}
 use Rattle.std.specs.List.{flat_map}
 use Rattle.std.proofs.lemmas.List.{append-nil, length-drop, drop_all, drop-drop}
 use Rattle.std.proofs.lemmas.List.Elements.{All-head, All-tail, All-cons, All-nil, All-weaker, All-append, All-contains, Contains-append_right}
 use Rattle.std.proofs.lemmas.Bool.Decides.{nat_tests}
 use Rattle.std.proofs.lemmas.Grind.{flat_map-append}
-use Rattle.hex.specs.Hex.{decode_sized, encode_lower, encode_with}
-use Rattle.hex.proofs.HexLemmas.{decode_sized-ok, decode_sized-twice, decode_sized-encode_lower, decode_of-ok}
-use Rattle.dg_text.specs.Lines.{IsNotUpper, AreBytes, is_plain, spelled_byte, path_word}
-use Rattle.dg_text.proofs.HexWords.{IsLowerDigit, spelled_by_decoded, encode_is_lower, encode_has_no_upper, IsBytes-from}
-
--- two digits that decode spell their byte
-pub byte_found : (digits bytes : List ℕ) → All IsNotUpper digits → decode_sized digits 1 ≡ Ok bytes → digits ≡ encode_lower (slice_index bytes 0 ∷ [])
-byte_found digits [] high is =
-    let two = decode_sized-ok digits 1 [] is in
-    let facts = decode_of-ok digits [] (sym (decode_sized-twice digits 1 two) ∙ is) in
-    absurd (omega (arith, facts.2))
-byte_found digits (x ∷ []) high is =
-    let two = decode_sized-ok digits 1 (x ∷ []) is in
-    spelled_by_decoded digits (x ∷ []) high (sym (decode_sized-twice digits 1 two) ∙ is)
-byte_found digits (x ∷ y ∷ more) high is =
-    let two = decode_sized-ok digits 1 (x ∷ y ∷ more) is in
-    let facts = decode_of-ok digits (x ∷ y ∷ more) (sym (decode_sized-twice digits 1 two) ∙ is) in
-    absurd (omega (arith, facts.2))
-
-one_byte : (x : ℕ) → x < 256 → AreBytes (x ∷ [])
-one_byte x small = search rules
-
--- a byte's digits decode to it
-pub byte_exact : (digits : List ℕ) (x : ℕ) → x < 256 → digits ≡ encode_lower (x ∷ []) → decode_sized digits 1 ≡ Ok (x ∷ [])
-byte_exact digits x small is =
-    ap (λ (l : List ℕ). decode_sized l 1) is ∙ decode_sized-encode_lower (x ∷ []) 1 refl (IsBytes-from (x ∷ []) (one_byte x small))
-
-pub byte_has_no_upper : (digits : List ℕ) (x : ℕ) → x < 256 → digits ≡ encode_lower (x ∷ []) → All IsNotUpper digits
-byte_has_no_upper digits x small is = encode_has_no_upper digits (x ∷ []) (one_byte x small) is
+use Rattle.hex.specs.Hex.{encode_lower, encode_with}
+use Rattle.dg_text.specs.Lines.{AreBytes, is_plain, spelled_byte, path_word}
+use Rattle.dg_text.proofs.HexWords.{IsLowerDigit, encode_is_lower, one_byte}
 
 -- ---- the spelling of one byte
 
@@ -84,6 +58,11 @@ spelled_length : (x : ℕ) (b : Bool) → is_plain x ≡ b → (0 < length (spel
 unfolding encode_with
 spelled_length x true plain = rw (plain_is x plain) (omega arith, omega arith)
 spelled_length x false escaped = rw (escaped_is x escaped) (omega arith, omega arith)
+
+pub two_front : (digits : List ℕ) → 2 ≤ length digits → take 2 digits ≡ slice_index digits 0 ∷ slice_index digits 1 ∷ []
+two_front [] some = absurd (omega arith)
+two_front (a ∷ []) some = absurd (omega arith)
+two_front (a ∷ b ∷ more) some = refl
 
 -- two digits at the front
 pub two_digits : (digits : List ℕ) (x : ℕ) (rest : List ℕ) → digits ≡ encode_lower (x ∷ []) ++ rest → (take 2 digits ≡ encode_lower (x ∷ [])) × (2 ≤ length digits)

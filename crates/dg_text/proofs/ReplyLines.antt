@@ -1,12 +1,12 @@
 -- The lines of replies, as they are put together.
-use Rattle.std.proofs.Common.{◌≡◌, ℕ, List, [], ◌++◌, length, refl, sym, ◌∙◌, ap, subst, append_assoc}
+use Rattle.std.proofs.Common.{◌≡◌, ℕ, List, ◌++◌, length, refl, sym, ◌∙◌, ap, subst, append_assoc}
 use Rattle.std.specs.Prelude.{codes, Option, Some, None, Result, OnOk, OnErr}
 use Rattle.std.specs.Fmt.{decimal}
 use Rattle.std.specs.List.{concat}
 use Rattle.std.proofs.lemmas.List.{append-nil}
 use Rattle.dg_io.specs.Told.{Told, Took, TookPart}
 use Rattle.dg_model.specs.declared.replies.Reply.{Reply}
-use Rattle.dg_model.specs.declared.replies.Reply.TheVariants.{Copied, Cut, Given, HomeAt, Listed as ListedReply, ListedCut, Nodes, NodesCut, NotSettled, Tended}
+use Rattle.dg_model.specs.declared.replies.Reply.TheVariants.{Copied, HomeAt, Tended}
 use Rattle.dg_text.specs.Replies.{file_text, reply_line}
 use Rattle.dg_text.specs.Listings.{front_in, line_in, listing_text}
 use Rattle.dg_text.specs.declared.listings.Form.{Form}

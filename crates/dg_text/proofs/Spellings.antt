@@ -1,38 +1,30 @@
 -- An input spells its events in one way.
-use Rattle.std.proofs.Common.{◌≡◌, ◌<◌, ◌^◌, ℕ, zero, suc, Bool, true, false, List, [], ◌∷◌, ◌++◌, length, drop, get_or, refl, sym, ◌∙◌, ap, append_assoc, length-append, arith}
+use Rattle.std.proofs.Common.{◌≡◌, ◌<◌, ◌^◌, ℕ, Bool, true, false, List, [], ◌∷◌, ◌++◌, length, drop, get_or, map, refl, sym, ◌∙◌, ap, subst, append_assoc, length-append, arith}
 use Rattle.std.specs.Prelude.{Option, Some, None, All, codes}
 use Rattle.std.specs.Fmt.{decimal}
 use Rattle.std.proofs.lemmas.Fmt.{decimal_injective}
-use Rattle.std.proofs.lemmas.List.Elements.{All-head, All-tail}
-use Rattle.hex.specs.Hex.{encode_lower, decode_of}
-use Rattle.hex.proofs.HexLemmas.{decode_of-encode_lower, decode_of-same}
+use Rattle.std.proofs.lemmas.List.Elements.{All-nil, All-cons, All-head, All-tail}
+use Rattle.hex.specs.Hex.{encode_lower}
+use Rattle.dg_model.specs.Shapes.{IsShape}
 use Rattle.dg_model.specs.declared.shapes.Shape.{Shape}
 use Rattle.dg_model.specs.declared.events.Event.{Event}
-use Rattle.dg_model.specs.declared.events.Event.TheVariants.{Array, Write, Read, Fail, Cat, Ls}
-use Rattle.dg_text.specs.Lines.{AreBytes, AreInPlace, hex_word, path_word, spelled_byte, is_plain, shape_words, spelling, line_of, input_of, IsInPlace}
+use Rattle.dg_model.specs.declared.events.Event.TheVariants.{Array, Write, Read, Fail, Replace, Rebuild, Settle, Tend, Diffuse, Who, Pending, Cat, Ls, Tree, Home, Save}
+use Rattle.dg_text.specs.Lines.{AreBytes, AreInPlace, hex_word, path_word, spelled_byte, is_plain, spelling, line_of, input_of, IsInPlace}
+use Rattle.dg_text.specs.Refusals.{numbers_of, tail_of, word_of, words}
+use Rattle.dg_text.specs.Texts.{event_kind}
+use Rattle.dg_text.specs.declared.kinds.EventKind.{EventKind}
+use Rattle.dg_text.specs.declared.kinds.EventKind.TheVariants.{Array as KindArray, Write as KindWrite, Read as KindRead, Fail as KindFail, Replace as KindReplace, Rebuild as KindRebuild, Settle as KindSettle, Tend as KindTend, Diffuse as KindDiffuse, Who as KindWho, Pending as KindPending, Cat as KindCat, Ls as KindLs, Tree as KindTree, Home as KindHome, Save as KindSave}
+use Rattle.dg_text.specs.declared.kinds.Tail.{Tail}
+use Rattle.dg_text.specs.declared.kinds.Tail.TheVariants.{Nothing, Bytes, Path as PathTail}
 use Rattle.dg_text.proofs.Cuts.{first_cut}
-use Rattle.dg_text.proofs.Numbers.{decimal_lacks}
-use Rattle.dg_text.proofs.HexWords.{dash_is_none, IsBytes-from}
+use Rattle.dg_text.proofs.EventWords.{later_of, split_event}
+use Rattle.dg_text.proofs.HexWords.{dash_is_none, encoded_same, one_byte}
+use Rattle.dg_text.proofs.KindWords.{kind_same}
 use Rattle.dg_text.proofs.PathWords.{path_word_none, path_word_first, path_none, front_tells, plain_exact, escaped_exact, two_digits}
 use Rattle.dg_text.proofs.Lengths.{block_small}
 use Rattle.dg_text.proofs.WholeLines.{spelling_lacks}
 
--- ---- numbers
-
--- a number in front of a space
-number_cut : (m n : ℕ) (x y : List ℕ) → m < 2 ^ 32 → n < 2 ^ 32 → decimal m ++ 32 ∷ x ≡ decimal n ++ 32 ∷ y → (m ≡ n) × (x ≡ y)
-number_cut m n x y low small e =
-    let cut = first_cut 32 (decimal m) (decimal n) x y (decimal_lacks 32 m (omega arith) (omega arith)) (decimal_lacks 32 n (omega arith) (omega arith)) e in
-    (decimal_injective m n (omega arith) (omega arith) cut.0, cut.1)
-
-number_end : (m n : ℕ) → m < 2 ^ 32 → n < 2 ^ 32 → decimal m ≡ decimal n → m ≡ n
-number_end m n low small e = decimal_injective m n (omega arith) (omega arith) e
-
 -- ---- bytes
-
-encoded_same : (xs ys : List ℕ) → AreBytes xs → AreBytes ys → encode_lower xs ≡ encode_lower ys → xs ≡ ys
-encoded_same xs ys hx hy e =
-    decode_of-same (encode_lower xs) xs ys (decode_of-encode_lower xs (IsBytes-from xs hx)) (ap decode_of e ∙ decode_of-encode_lower ys (IsBytes-from ys hy))
 
 hex_same : (xs ys : List ℕ) → AreBytes xs → AreBytes ys → hex_word xs ≡ hex_word ys → xs ≡ ys
 hex_same [] ys hx hy e = sym (dash_is_none ys e)
@@ -40,10 +32,6 @@ hex_same (x ∷ xs) [] hx hy e = dash_is_none (x ∷ xs) (sym e)
 hex_same (x ∷ xs) (y ∷ ys) hx hy e = encoded_same (x ∷ xs) (y ∷ ys) hx hy e
 
 -- ---- paths
-
-one_byte : (x : ℕ) → x < 256 → AreBytes (x ∷ [])
-one_byte x small zero d lt = small
-one_byte x small (suc k) d lt = absurd (omega arith)
 
 byte_same : (word : List ℕ) (x y : ℕ) (p q : List ℕ) (b : Bool) → x < 256 → y < 256 → is_plain x ≡ b → is_plain y ≡ b
     → word ≡ spelled_byte x ++ p → word ≡ spelled_byte y ++ q → (x ≡ y) × (p ≡ q)
@@ -74,69 +62,219 @@ path_same (x ∷ p) (y ∷ q) hp hq e =
 
 -- ---- events
 
-shape_same : (s t : Shape) → s.l ≡ t.l → s.n ≡ t.n → s.b ≡ t.b → s.k ≡ t.k → s.m ≡ t.m → s ≡ t
-shape_same s t l n b k m = λ i. record { l = l i; n = n i; b = b i; k = k i; m = m i }
+-- the numbers of an event
+numbers_in : Event → List ℕ
+numbers_in (Array s) = s.l ∷ s.n ∷ s.b ∷ s.k ∷ s.m ∷ []
+numbers_in (Write b bytes) = b ∷ []
+numbers_in (Read b) = b ∷ []
+numbers_in (Fail s j) = s ∷ j ∷ []
+numbers_in (Replace s j) = s ∷ j ∷ []
+numbers_in (Rebuild s n) = s ∷ n ∷ []
+numbers_in Settle = []
+numbers_in (Tend n) = n ∷ []
+numbers_in Diffuse = []
+numbers_in (Who b) = b ∷ []
+numbers_in Pending = []
+numbers_in (Cat path) = []
+numbers_in (Ls path) = []
+numbers_in Tree = []
+numbers_in (Home path) = []
+numbers_in Save = []
 
-front : (x y : List ℕ) → x ≡ y → get_or x 0 0 ≡ get_or y 0 0
-front x y e = ap (λ (l : List ℕ). get_or l 0 0) e
+-- its bytes
+bytes_in : Event → List ℕ
+bytes_in (Array s) = []
+bytes_in (Write b bytes) = bytes
+bytes_in (Read b) = []
+bytes_in (Fail s j) = []
+bytes_in (Replace s j) = []
+bytes_in (Rebuild s n) = []
+bytes_in Settle = []
+bytes_in (Tend n) = []
+bytes_in Diffuse = []
+bytes_in (Who b) = []
+bytes_in Pending = []
+bytes_in (Cat path) = path
+bytes_in (Ls path) = path
+bytes_in Tree = []
+bytes_in (Home path) = path
+bytes_in Save = []
+
+-- the event of some numbers and bytes
+made_of : EventKind → List ℕ → List ℕ → Event
+made_of KindArray ns bs = Array (record { l = get_or ns 0 0; n = get_or ns 1 0; b = get_or ns 2 0; k = get_or ns 3 0; m = get_or ns 4 0 })
+made_of KindWrite ns bs = Write (get_or ns 0 0) bs
+made_of KindRead ns bs = Read (get_or ns 0 0)
+made_of KindFail ns bs = Fail (get_or ns 0 0) (get_or ns 1 0)
+made_of KindReplace ns bs = Replace (get_or ns 0 0) (get_or ns 1 0)
+made_of KindRebuild ns bs = Rebuild (get_or ns 0 0) (get_or ns 1 0)
+made_of KindSettle ns bs = Settle
+made_of KindTend ns bs = Tend (get_or ns 0 0)
+made_of KindDiffuse ns bs = Diffuse
+made_of KindWho ns bs = Who (get_or ns 0 0)
+made_of KindPending ns bs = Pending
+made_of KindCat ns bs = Cat bs
+made_of KindLs ns bs = Ls bs
+made_of KindTree ns bs = Tree
+made_of KindHome ns bs = Home bs
+made_of KindSave ns bs = Save
+
+made_back : (event : Event) → made_of (event_kind event) (numbers_in event) (bytes_in event) ≡ event
+unfolding numbers_in bytes_in made_of
+made_back (Array s) = refl
+made_back (Write b bytes) = refl
+made_back (Read b) = refl
+made_back (Fail s j) = refl
+made_back (Replace s j) = refl
+made_back (Rebuild s n) = refl
+made_back Settle = refl
+made_back (Tend n) = refl
+made_back Diffuse = refl
+made_back (Who b) = refl
+made_back Pending = refl
+made_back (Cat path) = refl
+made_back (Ls path) = refl
+made_back Tree = refl
+made_back (Home path) = refl
+made_back Save = refl
+
+-- the word behind the numbers, if there is one
+abbrev tail_words : Tail → List ℕ → List (List ℕ)
+tail_words Nothing bs = []
+tail_words Bytes bs = hex_word bs ∷ []
+tail_words PathTail bs = path_word bs ∷ []
+
+later_is : (event : Event) → later_of event ≡ map decimal (numbers_in event) ++ tail_words (tail_of (event_kind event)) (bytes_in event)
+unfolding numbers_in bytes_in
+later_is (Array s) = refl
+later_is (Write b bytes) = refl
+later_is (Read b) = refl
+later_is (Fail s j) = refl
+later_is (Replace s j) = refl
+later_is (Rebuild s n) = refl
+later_is Settle = refl
+later_is (Tend n) = refl
+later_is Diffuse = refl
+later_is (Who b) = refl
+later_is Pending = refl
+later_is (Cat path) = refl
+later_is (Ls path) = refl
+later_is Tree = refl
+later_is (Home path) = refl
+later_is Save = refl
+
+numbers_count : (event : Event) → length (numbers_in event) ≡ numbers_of (event_kind event)
+unfolding numbers_in
+numbers_count (Array s) = refl
+numbers_count (Write b bytes) = refl
+numbers_count (Read b) = refl
+numbers_count (Fail s j) = refl
+numbers_count (Replace s j) = refl
+numbers_count (Rebuild s n) = refl
+numbers_count Settle = refl
+numbers_count (Tend n) = refl
+numbers_count Diffuse = refl
+numbers_count (Who b) = refl
+numbers_count Pending = refl
+numbers_count (Cat path) = refl
+numbers_count (Ls path) = refl
+numbers_count Tree = refl
+numbers_count (Home path) = refl
+numbers_count Save = refl
+
+abbrev IsSmall : ℕ → Type 0
+IsSmall n = n < 2 ^ 32
+
+one_small : (n : ℕ) → n < 2 ^ 32 → All IsSmall (n ∷ [])
+one_small n small = All-cons IsSmall n [] small (All-nil IsSmall)
+
+two_small : (m n : ℕ) → m < 2 ^ 32 → n < 2 ^ 32 → All IsSmall (m ∷ n ∷ [])
+two_small m n low small = All-cons IsSmall m (n ∷ []) low (one_small n small)
+
+array_small : (s : Shape) → IsShape s → All IsSmall (s.l ∷ s.n ∷ s.b ∷ s.k ∷ s.m ∷ [])
+array_small s h =
+    All-cons IsSmall s.l (s.n ∷ s.b ∷ s.k ∷ s.m ∷ []) (block_small s.l h.block)
+    (All-cons IsSmall s.n (s.b ∷ s.k ∷ s.m ∷ []) (omega arith)
+    (All-cons IsSmall s.b (s.k ∷ s.m ∷ []) (omega arith) (two_small s.k s.m (omega arith) (omega arith))))
+
+numbers_small : (shape : Option Shape) (event : Event) → IsInPlace shape event → All IsSmall (numbers_in event)
+unfolding numbers_in
+numbers_small None (Array s) h = array_small s h
+numbers_small (Some shape) (Write b bytes) h = one_small b h.0
+numbers_small (Some shape) (Read b) h = one_small b h
+numbers_small (Some shape) (Tend n) h = one_small n h
+numbers_small (Some shape) (Who b) h = one_small b h
+numbers_small (Some shape) (Fail s j) h = two_small s j h.0 h.1
+numbers_small (Some shape) (Replace s j) h = two_small s j h.0 h.1
+numbers_small (Some shape) (Rebuild s n) h = two_small s n h.0 h.1
+numbers_small (Some shape) (Cat path) h = All-nil IsSmall
+numbers_small (Some shape) (Ls path) h = All-nil IsSmall
+numbers_small (Some shape) (Home path) h = All-nil IsSmall
+numbers_small (Some shape) Settle h = All-nil IsSmall
+numbers_small (Some shape) Diffuse h = All-nil IsSmall
+numbers_small (Some shape) Pending h = All-nil IsSmall
+numbers_small (Some shape) Tree h = All-nil IsSmall
+numbers_small (Some shape) Save h = All-nil IsSmall
+numbers_small shape event h = absurd h
+
+-- bytes that may stand there
+abbrev IsTail : Tail → List ℕ → Type 0
+IsTail Nothing bs = bs ≡ []
+IsTail Bytes bs = AreBytes bs
+IsTail PathTail bs = AreBytes bs
+
+tail_right : (shape : Option Shape) (event : Event) → IsInPlace shape event → IsTail (tail_of (event_kind event)) (bytes_in event)
+unfolding bytes_in
+tail_right None (Array s) h = refl
+tail_right (Some shape) (Write b bytes) h = h.2
+tail_right (Some shape) (Read b) h = refl
+tail_right (Some shape) (Tend n) h = refl
+tail_right (Some shape) (Who b) h = refl
+tail_right (Some shape) (Fail s j) h = refl
+tail_right (Some shape) (Replace s j) h = refl
+tail_right (Some shape) (Rebuild s n) h = refl
+tail_right (Some shape) Settle h = refl
+tail_right (Some shape) Diffuse h = refl
+tail_right (Some shape) Pending h = refl
+tail_right (Some shape) Tree h = refl
+tail_right (Some shape) Save h = refl
+tail_right (Some shape) (Cat path) h = h.1
+tail_right (Some shape) (Ls path) h = h.1
+tail_right (Some shape) (Home path) h = h.1
+tail_right shape event h = absurd h
+
+tail_same : (tail : Tail) (bs cs : List ℕ) → IsTail tail bs → IsTail tail cs → tail_words tail bs ≡ tail_words tail cs → bs ≡ cs
+tail_same Nothing bs cs hb hc e = hb ∙ sym hc
+tail_same Bytes bs cs hb hc e = hex_same bs cs hb hc (cc e)
+tail_same PathTail bs cs hb hc e = path_same bs cs hb hc (cc e)
+
+-- numbers in front of other words
+numbers_same : (ns ms : List ℕ) (xs ys : List (List ℕ)) → length ns ≡ length ms → All IsSmall ns → All IsSmall ms → map decimal ns ++ xs ≡ map decimal ms ++ ys → (ns ≡ ms) × (xs ≡ ys)
+numbers_same [] [] xs ys size hn hm e = (refl, e)
+numbers_same [] (m ∷ ms) xs ys size hn hm e = absurd (omega arith)
+numbers_same (n ∷ ns) [] xs ys size hn hm e = absurd (omega arith)
+numbers_same (n ∷ ns) (m ∷ ms) xs ys size hn hm e =
+    let word : decimal n ≡ decimal m = cc e in
+    let more : map decimal ns ++ xs ≡ map decimal ms ++ ys = cc e in
+    let low : n < 2 ^ 32 = All-head IsSmall n ns hn in
+    let small : m < 2 ^ 32 = All-head IsSmall m ms hm in
+    let first = decimal_injective n m (omega arith) (omega arith) word in
+    let rest = numbers_same ns ms xs ys (omega arith) (All-tail IsSmall n ns hn) (All-tail IsSmall m ms hm) more in
+    (cc (first, rest.0), rest.1)
 
 -- two events in one place with one spelling are one
 pub spelling_same : (shape : Option Shape) (a b : Event) → IsInPlace shape a → IsInPlace shape b → spelling a ≡ spelling b → a ≡ b
-spelling_same None (Array s) (Array t) h g e =
-    let words : shape_words s ≡ shape_words t = ap (λ (x : List ℕ). drop 6 x) e in
-    let l = number_cut s.l t.l _ _ (block_small s.l h.block) (block_small t.l g.block) words in
-    let n = number_cut s.n t.n _ _ (omega arith) (omega arith) l.1 in
-    let b = number_cut s.b t.b _ _ (omega arith) (omega arith) n.1 in
-    let k = number_cut s.k t.k _ _ (omega arith) (omega arith) b.1 in
-    let m = number_end s.m t.m (omega arith) (omega arith) k.1 in
-    ap Array (shape_same s t l.0 n.0 b.0 k.0 m)
-spelling_same None (Array s) other h g e = absurd g
-spelling_same None event other h g e = absurd h
-spelling_same (Some shape) (Write b bytes) (Write c more) h g e =
-    let words : decimal b ++ 32 ∷ hex_word bytes ≡ decimal c ++ 32 ∷ hex_word more = ap (λ (x : List ℕ). drop 6 x) e in
-    let n = number_cut b c _ _ h.0 g.0 words in
-    let bs = hex_same bytes more h.2 g.2 n.1 in
-    cc (n.0, bs)
-spelling_same (Some shape) (Write b bytes) (Read c) h g e = absurd (omega (arith, front _ _ e))
-spelling_same (Some shape) (Write b bytes) (Fail t i) h g e = absurd (omega (arith, front _ _ e))
-spelling_same (Some shape) (Write b bytes) (Cat other) h g e = absurd (omega (arith, front _ _ e))
-spelling_same (Some shape) (Write b bytes) (Ls other) h g e = absurd (omega (arith, front _ _ e))
-spelling_same (Some shape) (Write b bytes) other h g e = absurd g
-spelling_same (Some shape) (Read b) (Write c more) h g e = absurd (omega (arith, front _ _ e))
-spelling_same (Some shape) (Read b) (Read c) h g e =
-    let words : decimal b ≡ decimal c = ap (λ (x : List ℕ). drop 5 x) e in
-    ap Read (number_end b c h g words)
-spelling_same (Some shape) (Read b) (Fail t i) h g e = absurd (omega (arith, front _ _ e))
-spelling_same (Some shape) (Read b) (Cat other) h g e = absurd (omega (arith, front _ _ e))
-spelling_same (Some shape) (Read b) (Ls other) h g e = absurd (omega (arith, front _ _ e))
-spelling_same (Some shape) (Read b) other h g e = absurd g
-spelling_same (Some shape) (Fail s j) (Write c more) h g e = absurd (omega (arith, front _ _ e))
-spelling_same (Some shape) (Fail s j) (Read c) h g e = absurd (omega (arith, front _ _ e))
-spelling_same (Some shape) (Fail s j) (Fail t i) h g e =
-    let words : decimal s ++ 32 ∷ decimal j ≡ decimal t ++ 32 ∷ decimal i = ap (λ (x : List ℕ). drop 5 x) e in
-    let n = number_cut s t _ _ h.0 g.0 words in
-    let m = number_end j i h.1 g.1 n.1 in
-    cc (n.0, m)
-spelling_same (Some shape) (Fail s j) (Cat other) h g e = absurd (omega (arith, front _ _ e))
-spelling_same (Some shape) (Fail s j) (Ls other) h g e = absurd (omega (arith, front _ _ e))
-spelling_same (Some shape) (Fail s j) other h g e = absurd g
-spelling_same (Some shape) (Cat path) (Write c more) h g e = absurd (omega (arith, front _ _ e))
-spelling_same (Some shape) (Cat path) (Read c) h g e = absurd (omega (arith, front _ _ e))
-spelling_same (Some shape) (Cat path) (Fail t i) h g e = absurd (omega (arith, front _ _ e))
-spelling_same (Some shape) (Cat path) (Cat other) h g e =
-    let words : path_word path ≡ path_word other = ap (λ (x : List ℕ). drop 4 x) e in
-    ap Cat (path_same path other h.1 g.1 words)
-spelling_same (Some shape) (Cat path) (Ls other) h g e = absurd (omega (arith, front _ _ e))
-spelling_same (Some shape) (Cat path) other h g e = absurd g
-spelling_same (Some shape) (Ls path) (Write c more) h g e = absurd (omega (arith, front _ _ e))
-spelling_same (Some shape) (Ls path) (Read c) h g e = absurd (omega (arith, front _ _ e))
-spelling_same (Some shape) (Ls path) (Fail t i) h g e = absurd (omega (arith, front _ _ e))
-spelling_same (Some shape) (Ls path) (Cat other) h g e = absurd (omega (arith, front _ _ e))
-spelling_same (Some shape) (Ls path) (Ls other) h g e =
-    let words : path_word path ≡ path_word other = ap (λ (x : List ℕ). drop 3 x) e in
-    ap Ls (path_same path other h.1 g.1 words)
-spelling_same (Some shape) (Ls path) other h g e = absurd g
-spelling_same (Some shape) event other h g e = absurd h
+spelling_same shape a b h g e =
+    let split : word_of (event_kind a) ∷ later_of a ≡ word_of (event_kind b) ∷ later_of b = sym (split_event shape a h) ∙ ap words e ∙ split_event shape b g in
+    let first : word_of (event_kind a) ≡ word_of (event_kind b) = cc split in
+    let later : later_of a ≡ later_of b = cc split in
+    let kind = kind_same (event_kind a) (event_kind b) first in
+    let size : length (numbers_in a) ≡ length (numbers_in b) = numbers_count a ∙ ap numbers_of kind ∙ sym (numbers_count b) in
+    let P : EventKind → Type 0 = λ k. IsTail (tail_of k) (bytes_in a) in
+    let Q : EventKind → Type 0 = λ k. map decimal (numbers_in a) ++ tail_words (tail_of k) (bytes_in a) ≡ map decimal (numbers_in b) ++ tail_words (tail_of (event_kind b)) (bytes_in b) in
+    let both = numbers_same (numbers_in a) (numbers_in b) _ _ size (numbers_small shape a h) (numbers_small shape b g) (subst Q kind (sym (later_is a) ∙ later ∙ later_is b)) in
+    let bytes = tail_same (tail_of (event_kind b)) (bytes_in a) (bytes_in b) (subst P kind (tail_right shape a h)) (tail_right shape b g) both.1 in
+    sym (made_back a) ∙ (λ i. made_of (kind i) (both.0 i) (bytes i)) ∙ made_back b
 
 -- a text begins with the line of one event in its place
 pub line_cut : (shape : Option Shape) (a b : Event) (x y : List ℕ) → IsInPlace shape a → IsInPlace shape b → line_of a ++ x ≡ line_of b ++ y → (a ≡ b) × (x ≡ y)

@@ -8,7 +8,7 @@ use Rattle.std.proofs.lemmas.List.Elements.{All-append, All-weaker}
 use Rattle.std.proofs.lemmas.Bool.{ltb-true}
 use Rattle.dg_model.specs.declared.shapes.Shape.{Shape}
 use Rattle.dg_model.specs.declared.events.Event.{Event}
-use Rattle.dg_model.specs.declared.events.Event.TheVariants.{Array, Write, Read, Fail, Cat, Ls}
+use Rattle.dg_model.specs.declared.events.Event.TheVariants.{Array, Write, Read, Fail, Replace, Rebuild, Settle, Tend, Diffuse, Who, Pending, Cat, Ls, Tree, Home, Save}
 use Rattle.dg_text.specs.Lines.{AreBytes, hex_word, path_word, shape_words, spelling, line_of, IsInPlace}
 use Rattle.dg_text.proofs.Cuts.{Lacks, Lacks-from_not, first_cut}
 use Rattle.dg_text.proofs.Numbers.{decimal_lacks}
@@ -62,6 +62,20 @@ spelling_lacks (Some shape) (Fail s j) h =
     (joined (decimal s) _ (number s h.0) (joined (codes " ") (decimal j) space (number j h.1)))
 spelling_lacks (Some shape) (Cat path) h = joined (codes "cat ") (path_word path) (plain (codes "cat ") refl) (path_lacks path h.1)
 spelling_lacks (Some shape) (Ls path) h = joined (codes "ls ") (path_word path) (plain (codes "ls ") refl) (path_lacks path h.1)
+spelling_lacks (Some shape) (Replace s j) h =
+    joined (codes "replace ") _ (plain (codes "replace ") refl)
+    (joined (decimal s) _ (number s h.0) (joined (codes " ") (decimal j) space (number j h.1)))
+spelling_lacks (Some shape) (Rebuild s n) h =
+    joined (codes "rebuild ") _ (plain (codes "rebuild ") refl)
+    (joined (decimal s) _ (number s h.0) (joined (codes " ") (decimal n) space (number n h.1)))
+spelling_lacks (Some shape) (Tend n) h = joined (codes "tend ") (decimal n) (plain (codes "tend ") refl) (number n h)
+spelling_lacks (Some shape) (Who b) h = joined (codes "who ") (decimal b) (plain (codes "who ") refl) (number b h)
+spelling_lacks (Some shape) (Home path) h = joined (codes "home ") (path_word path) (plain (codes "home ") refl) (path_lacks path h.1)
+spelling_lacks (Some shape) Settle h = plain (codes "settle") refl
+spelling_lacks (Some shape) Diffuse h = plain (codes "diffuse") refl
+spelling_lacks (Some shape) Pending h = plain (codes "pending") refl
+spelling_lacks (Some shape) Tree h = plain (codes "tree") refl
+spelling_lacks (Some shape) Save h = plain (codes "save") refl
 spelling_lacks shape event h = absurd h
 
 -- where a line and its LF begin a text that begins with an event's line, the line spells the event

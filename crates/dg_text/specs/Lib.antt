@@ -1,8 +1,12 @@
-pub mod EntryLineLaws
-pub mod EntryLines
 pub mod HexLineLaws
 pub mod HexLines
 pub mod Lines
+pub mod ListingLineLaws
+pub mod ListingLines
 pub mod Listings
+pub mod RawByteLaws
+pub mod RawBytes
+pub mod Refusals
 pub mod Replies
+pub mod Texts
 pub mod ToldSteps

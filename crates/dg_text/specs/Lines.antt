@@ -1,7 +1,7 @@
 -- The lines of a trace. Each event has one spelling: words with one space between them, numbers in decimal without a
 -- leading zero, bytes as pairs of hex digits in lower case, and a path byte by byte, each either itself or `\x` and its
 -- two hex digits. The rules are this project's own.
-use Rattle.std.specs.Prelude.{◌≡◌, ◌⊎◌, ◌≤◌, ◌<◌, ◌+◌, ◌*◌, ◌^◌, ◌==◌, ◌&&◌, not, nat_le, if◌then◌else◌, Bool, true, ℕ, List, [], ◌∷◌, ◌++◌, length, codes, Option, Some, None, All}
+use Rattle.std.specs.Prelude.{◌≡◌, ◌≤◌, ◌<◌, ◌+◌, ◌*◌, ◌^◌, ◌==◌, ◌&&◌, not, nat_le, if◌then◌else◌, Bool, true, ℕ, List, [], ◌∷◌, ◌++◌, length, codes, Option, Some, None, All}
 use Rattle.std.specs.Fmt.{decimal}
 use Rattle.std.specs.List.{flat_map}
 use Rattle.hex.specs.Hex.{encode_lower}
@@ -63,15 +63,26 @@ input_of events = flat_map line_of events
 abbrev pub AreBytes : List ℕ → Type 0
 AreBytes bytes = All (λ x. x < 256) bytes
 
--- the events that are served, and may stand first, or after an array of this shape
+-- the events that may stand first, or after an array of this shape
 abbrev pub IsInPlace : Option Shape → Event → Type 0
 IsInPlace None (Array s) = IsShape s
+IsInPlace None event = ⊥
+IsInPlace (Some shape) (Array s) = ⊥
 IsInPlace (Some shape) (Write b bytes) = (b < 2 ^ 32) × (length bytes ≤ shape.l) × AreBytes bytes
 IsInPlace (Some shape) (Read b) = b < 2 ^ 32
 IsInPlace (Some shape) (Fail s j) = (s < 2 ^ 32) × (j < 2 ^ 32)
+IsInPlace (Some shape) (Replace s j) = (s < 2 ^ 32) × (j < 2 ^ 32)
+IsInPlace (Some shape) (Rebuild s n) = (s < 2 ^ 32) × (n < 2 ^ 32)
+IsInPlace (Some shape) Settle = Unit {0}
+IsInPlace (Some shape) (Tend n) = n < 2 ^ 32
+IsInPlace (Some shape) Diffuse = Unit {0}
+IsInPlace (Some shape) (Who b) = b < 2 ^ 32
+IsInPlace (Some shape) Pending = Unit {0}
 IsInPlace (Some shape) (Cat path) = (is_path path ≡ true) × AreBytes path
 IsInPlace (Some shape) (Ls path) = (is_path path ≡ true) × AreBytes path
-IsInPlace shape event = ⊥
+IsInPlace (Some shape) Tree = Unit {0}
+IsInPlace (Some shape) (Home path) = (is_path path ≡ true) × AreBytes path
+IsInPlace (Some shape) Save = Unit {0}
 
 -- the events of an input are in their places: the first makes an array, and the others follow it
 abbrev pub AreInPlace : List Event → Type 0
@@ -79,11 +90,11 @@ AreInPlace [] = Unit {0}
 AreInPlace (Array s ∷ events) = IsShape s × All (IsInPlace (Some s)) events
 AreInPlace (event ∷ events) = ⊥
 
--- a bound on the bytes of a line, with its LF: a block as hex and 4201 more. Before the array a block counts as 512 bytes
-abbrev pub longest : Option Shape → ℕ
-longest None = 2 * 512 + 4201
-longest (Some shape) = 2 * shape.l + 4201
+-- the bytes of a block; before the array it counts as 512
+abbrev pub block_bytes : Option Shape → ℕ
+block_bytes None = 512
+block_bytes (Some shape) = shape.l
 
--- no letter in upper case
-abbrev pub IsNotUpper : ℕ → Type 0
-IsNotUpper c = (c < 65) ⊎ (90 < c)
+-- a bound on the bytes of a line, with its LF: a block as hex and 4201 more
+abbrev pub longest : Option Shape → ℕ
+longest shape = 2 * block_bytes shape + 4201

@@ -2,7 +2,7 @@
 use Rattle.std.specs.Prelude.{ℕ, List, ◌++◌, codes}
 use Rattle.std.specs.Fmt.{decimal}
 use Rattle.std.specs.List.{flat_map}
-use Rattle.dg_text.specs.Replies.{entry_line, node_line}
+use Rattle.dg_text.specs.Replies.{entry_line, node_line, entries_text, nodes_text}
 use Rattle.dg_text.specs.declared.listings.Form.{Form}
 use Rattle.dg_text.specs.declared.listings.Form.TheVariants.{Directory, Volume}
 use Rattle.ufs_model.specs.Listings.{Listed}
@@ -20,3 +20,8 @@ front_in Volume depth = codes "node " ++ (decimal depth ++ codes " ")
 -- the lines of the entries
 abbrev pub listing_text : Form → List Listed → List ℕ
 listing_text form entries = flat_map (line_in form) entries
+
+-- these lines, by the form
+abbrev pub lines_in : Form → List Listed → List ℕ
+lines_in Directory entries = entries_text entries
+lines_in Volume entries = nodes_text entries

@@ -3,21 +3,30 @@
 #![tactic(auto)]
 
 mod counts;
-mod entry_lines;
 mod hex_lines;
 mod hex_words;
+mod kinds;
 mod laws;
+#[cfg(test)]
+mod line_tests;
 mod lines;
+mod listing_lines;
 mod listings;
 mod path_words;
+mod raw;
 mod replies;
 #[cfg(test)]
 mod tests;
 mod verdicts;
 mod words;
+mod written;
 
-pub use entry_lines::EntryLines;
 pub use hex_lines::HexLines;
-pub use laws::{input_is_unique, line_is_unique};
+pub use laws::{input_is_unique, line_is_read, line_is_unique, reading_is_unique};
 pub use lines::{BadLine, longest_line, read_line};
+pub use listing_lines::Lines;
+pub use listings::Form;
+pub use path_words::read_path;
+pub use raw::Raw;
 pub use replies::{write_data, write_refusal, write_reply, write_usage};
+pub use written::write_event;

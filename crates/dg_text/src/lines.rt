@@ -1,26 +1,50 @@
 // Lines.
-ghost use Rattle.std.specs.Prelude.{◌≡◌, ◌≢◌, ◌≤◌, ◌++◌, ◌∷◌, ℕ, List, length, codes, Contains, IfOk, IfSome};
+ghost use Rattle.std.specs.Prelude.{◌≡◌, ◌<◌, ◌≤◌, ◌↔◌, ◌^◌, ◌++◌, ◌∷◌, ℕ, List, length, Contains, IsTrue, IfOk, IfErr, IfSome, IfNone, MatchOption};
+ghost use Rattle.std.specs.Fmt.{decimal};
 ghost use Rattle.std.specs.Option.{option_copied};
 ghost use Rattle.dg_model.specs.Shapes.{IsShape};
 ghost use Rattle.dg_text.specs.Lines.{shape_words, spelling, line_of, IsInPlace, longest};
+ghost use Rattle.dg_text.specs.Refusals.{IsRefused, IsEventOf, IsOutOfOrder, word_of, count_of};
+ghost use Rattle.dg_text.specs.Texts.{IsEventWith, AreTwoNumbers};
 ghost use Rattle.dg_model.specs.declared.events.Event.{Event};
 ghost use Rattle.dg_model.specs.declared.shapes.Shape.{Shape};
 
 use crate::hex_words::read_hex;
+use crate::kinds::{EventKind, Tail, kind_with};
 use crate::path_words::read_path;
-use crate::words::{after_word, number_before_space, whole_number};
+use crate::words::{begins_with_numbers, cut_word, has_words, number_before_space, whole_number};
 use dg_model::{Event, NoMemory, Shape};
 use std::alloc::Global;
 
-/// Why a line is refused.
+/// Why a line is refused: of these kinds the first that fits.
 #[derive(Clone, Copy, Debug, PartialEq, Eq)]
 pub enum BadLine {
-    /// It spells no event that may stand in its place.
+    /// It has no LF among its first bytes, more than which no line in its place has. The reader of the input judges it.
+    Long,
+    /// With its LF it goes past the first 2^40 bytes of the input. The reader of the input judges it.
+    Size,
+    /// The input ends in the middle of it, or before any line. The reader of the input judges it.
+    Cut,
+    /// Its first word is that of no event.
+    Word,
+    /// It is no `array` and comes before the array, or is one and comes behind it.
+    Order,
+    /// It has more or fewer words than the event, or an empty word.
     Form,
+    /// A number isn't in decimal without a leading zero, or is 2^32 or more.
+    Number,
+    /// The numbers of an array break a limit.
+    Limits,
+    /// The bytes of a block aren't in pairs of hex digits in lower case, nor `-`, or are more than those of a block.
+    Hex,
+    /// The path isn't one, or isn't spelled in the one way.
+    Path,
+    /// It spells an event in its place that isn't served yet. Which events are, the run decides, and it answers so.
+    Later,
 }
 
-/// The event that a line spells in its place. The line is given without its LF, and the shape is that of the array, or
-/// `None` before it. Where it spells no such event, the answer within `Ok` says why it is refused.
+/// The event that a line spells in its place, or the kind by which the line is refused. The line is given without its LF, and
+/// the shape is that of the array, or `None` before it.
 pub fn read_line(
     alloc: Global,
     line: &[u8],
@@ -28,6 +52,7 @@ pub fn read_line(
 ) -> Result<Result<Event, BadLine>, NoMemory>
     ensures spelled { IfOk result (λ r. IfOk r (λ event. line.now ≡ spelling event)) }
     ensures in_place { IfOk result (λ r. IfOk r (IsInPlace (option_copied shape.entry))) }
+    ensures refused { IfOk result (λ r. IfErr r (IsRefused (option_copied shape.entry) line.now)) }
     // where the line and its LF begin a text that also begins with the line of an event in its place, the answer is
     // that event
     ensures exact { IfOk result (λ r. (event : Event) (more tail : List ℕ) → IsInPlace (option_copied shape.entry) event → (Contains line.now 10
@@ -35,7 +60,7 @@ pub fn read_line(
 {
     match event_of(alloc, line, shape)? {
         Some(event) => Ok(Ok(event)),
-        None => Ok(Err(BadLine::Form)),
+        None => Ok(Err(refusal_of(line, shape))),
     }
 }
 
@@ -54,37 +79,32 @@ pub fn longest_line(shape: Option<&Shape>) -> usize
 
 // The event that a line spells in its place, if there is one.
 fn event_of(alloc: Global, line: &[u8], shape: Option<&Shape>) -> Result<Option<Event>, NoMemory>
-    ensures spelled { IfOk result (λ r. IfSome r (λ event. line.now ≡ spelling event)) }
-    ensures in_place { IfOk result (λ r. IfSome r (IsInPlace (option_copied shape.entry))) }
-    ensures exact { IfOk result (λ r. (event : Event) → IsInPlace (option_copied shape.entry) event → line.now ≡ spelling event → r ≡ Some event) }
+    ensures { IfOk result (IsEventOf (option_copied shape.entry) line.now) }
 {
-    let Some(shape) = shape else {
-        return Ok(array_of(line));
+    let (first, rest) = cut_word(line);
+    let Some(kind) = kind_with(first) else {
+        return Ok(None);
     };
-    if let Some(rest) = after_word(line, b"write ") {
-        return write_of(alloc, rest, shape);
+    let Some(shape) = shape else {
+        return Ok(first_event(kind, rest));
+    };
+    match rest {
+        Some(text) => event_with(alloc, kind, text, shape),
+        None => Ok(bare_event(kind)),
     }
-    if let Some(rest) = after_word(line, b"fail ") {
-        return Ok(fail_of(rest));
-    }
-    if let Some(rest) = after_word(line, b"cat ") {
-        return cat_of(alloc, rest);
-    }
-    if let Some(rest) = after_word(line, b"ls ") {
-        return ls_of(alloc, rest);
-    }
-    Ok(read_of(line))
 }
 
-// The event that makes the array that a line spells.
-fn array_of(line: &[u8]) -> Option<Event>
-    ensures spelled { IfSome result (λ event. line.now ≡ spelling event) }
-    ensures in_place { IfSome result (IsInPlace None) }
-    ensures exact { (event : Event) → IsInPlace None event → line.now ≡ spelling event → result ≡ Some event }
+// The event that makes the array, if the first word is that of such an event and the text behind it and a space spells a
+// shape.
+fn first_event(kind: EventKind, rest: Option<&[u8]>) -> Option<Event>
+    ensures found { IfSome result (λ event. IsInPlace None event × MatchOption rest.entry ⊥ (λ text. word_of kind ++ 32 ∷ text.now ≡ spelling event)) }
+    ensures none { IfNone result ((s : Shape) → IsShape s → kind ≡ EventKind.Array → IfSome rest.entry (λ text. text.now ≡ shape_words s → ⊥)) }
 {
-    let numbers = after_word(line, b"array ")?;
-    let shape = shape_of(numbers)?;
-    Some(Event::Array(shape))
+    let text = rest?;
+    match kind {
+        EventKind::Array => shape_of(text).map(Event::Array),
+        _ => None,
+    }
 }
 
 // The shape that five numbers spell.
@@ -101,13 +121,50 @@ fn shape_of(numbers: &[u8]) -> Option<Shape>
     Shape::check(l, n, b, k, m)
 }
 
-// The write that the words behind `write ` spell.
-fn write_of(alloc: Global, words: &[u8], shape: &Shape) -> Result<Option<Event>, NoMemory>
-    ensures spelled { IfOk result (λ r. IfSome r (λ event. codes "write " ++ words.now ≡ spelling event)) }
-    ensures in_place { IfOk result (λ r. IfSome r (IsInPlace (Some shape.now))) }
-    ensures exact { IfOk result (λ r. (event : Event) → IsInPlace (Some shape.now) event → codes "write " ++ words.now ≡ spelling event → r ≡ Some event) }
+// The event that stands as its first word alone, if it's such an event.
+fn bare_event(kind: EventKind) -> Option<Event>
+    ensures found { (shape : Shape) → IfSome result (λ event. IsInPlace (Some shape) event × (word_of kind ≡ spelling event)) }
+    ensures none { IfNone result (count_of kind ≡ 0 → ⊥) }
 {
-    let Some((block, word)) = number_before_space(words) else {
+    match kind {
+        EventKind::Settle => Some(Event::Settle),
+        EventKind::Diffuse => Some(Event::Diffuse),
+        EventKind::Pending => Some(Event::Pending),
+        EventKind::Tree => Some(Event::Tree),
+        EventKind::Save => Some(Event::Save),
+        _ => None,
+    }
+}
+
+// The event that the text behind its first word and a space spells, after an array of this shape.
+fn event_with(
+    alloc: Global,
+    kind: EventKind,
+    text: &[u8],
+    shape: &Shape,
+) -> Result<Option<Event>, NoMemory>
+    ensures { IfOk result (IsEventWith shape.now kind text.now) }
+{
+    match kind {
+        EventKind::Write => write_of(alloc, text, shape),
+        EventKind::Read => Ok(whole_number(text).map(Event::Read)),
+        EventKind::Fail => Ok(two_numbers(text).map(|(s, j)| Event::Fail(s, j))),
+        EventKind::Replace => Ok(two_numbers(text).map(|(s, j)| Event::Replace(s, j))),
+        EventKind::Rebuild => Ok(two_numbers(text).map(|(s, n)| Event::Rebuild(s, n))),
+        EventKind::Tend => Ok(whole_number(text).map(Event::Tend)),
+        EventKind::Who => Ok(whole_number(text).map(Event::Who)),
+        EventKind::Cat => Ok(read_path(alloc, text)?.map(Event::Cat)),
+        EventKind::Ls => Ok(read_path(alloc, text)?.map(Event::Ls)),
+        EventKind::Home => Ok(read_path(alloc, text)?.map(Event::Home)),
+        _ => Ok(None),
+    }
+}
+
+// The write that the text behind `write ` spells.
+fn write_of(alloc: Global, text: &[u8], shape: &Shape) -> Result<Option<Event>, NoMemory>
+    ensures { IfOk result (IsEventWith shape.now EventKind.Write text.now) }
+{
+    let Some((block, word)) = number_before_space(text) else {
         return Ok(None);
     };
     match read_hex(alloc, word, shape.l as usize)? {
@@ -116,50 +173,47 @@ fn write_of(alloc: Global, words: &[u8], shape: &Shape) -> Result<Option<Event>,
     }
 }
 
-// The failure that the words behind `fail ` spell.
-fn fail_of(words: &[u8]) -> Option<Event>
-    ensures spelled { IfSome result (λ event. codes "fail " ++ words.now ≡ spelling event) }
-    ensures in_place { (shape : Shape) → IfSome result (IsInPlace (Some shape)) }
-    ensures exact { (shape : Shape) (event : Event) → IsInPlace (Some shape) event → codes "fail " ++ words.now ≡ spelling event → result ≡ Some event }
+// The two numbers that a text spells.
+fn two_numbers(text: &[u8]) -> Option<(u32, u32)>
+    ensures found { IfSome result (λ r. (r.0 < 2 ^ 32) × (r.1 < 2 ^ 32) × (text.now ≡ decimal r.0 ++ 32 ∷ decimal r.1)) }
+    ensures none { IfNone result (AreTwoNumbers text.now → ⊥) }
 {
-    let (boundary, side) = number_before_space(words)?;
-    Some(Event::Fail(boundary, whole_number(side)?))
+    let (first, rest) = number_before_space(text)?;
+    let second = whole_number(rest)?;
+    Some((first, second))
 }
 
-// The reading of a file whose path the word behind `cat ` spells.
-fn cat_of(alloc: Global, word: &[u8]) -> Result<Option<Event>, NoMemory>
-    ensures spelled { IfOk result (λ r. IfSome r (λ event. codes "cat " ++ word.now ≡ spelling event)) }
-    ensures in_place { (shape : Shape) → IfOk result (λ r. IfSome r (IsInPlace (Some shape))) }
-    ensures exact { IfOk result (λ r. (shape : Shape) (event : Event) → IsInPlace (Some shape) event → codes "cat " ++ word.now ≡ spelling event
-        → r ≡ Some event) }
+// Whether no event of this kind may stand there.
+fn is_out_of_order(kind: EventKind, shape: Option<&Shape>) -> bool
+    ensures { IsTrue result ↔ IsOutOfOrder (option_copied shape.entry) kind }
 {
-    match read_path(alloc, word)? {
-        Some(path) => Ok(Some(Event::Cat(path))),
-        None => Ok(None),
+    match shape {
+        None => kind != EventKind::Array,
+        Some(_) => kind == EventKind::Array,
     }
 }
 
-// The listing of a directory whose path the word behind `ls ` spells.
-fn ls_of(alloc: Global, word: &[u8]) -> Result<Option<Event>, NoMemory>
-    ensures spelled { IfOk result (λ r. IfSome r (λ event. codes "ls " ++ word.now ≡ spelling event)) }
-    ensures in_place { (shape : Shape) → IfOk result (λ r. IfSome r (IsInPlace (Some shape))) }
-    ensures exact { IfOk result (λ r. (shape : Shape) (event : Event) → IsInPlace (Some shape) event → codes "ls " ++ word.now ≡ spelling event
-        → r ≡ Some event) }
+// Why a line is refused that spells no event in its place.
+fn refusal_of(line: &[u8], shape: Option<&Shape>) -> BadLine
+    requires { IsEventOf (option_copied shape) line.now None }
+    ensures { IsRefused (option_copied shape.entry) line.now result }
 {
-    match read_path(alloc, word)? {
-        Some(path) => Ok(Some(Event::Ls(path))),
-        None => Ok(None),
+    let (first, rest) = cut_word(line);
+    let Some(kind) = kind_with(first) else {
+        return BadLine::Word;
+    };
+    if is_out_of_order(kind, shape) {
+        return BadLine::Order;
     }
-}
-
-// The read that a line spells.
-fn read_of(line: &[u8]) -> Option<Event>
-    ensures spelled { IfSome result (λ event. line.now ≡ spelling event) }
-    ensures in_place { (shape : Shape) → IfSome result (IsInPlace (Some shape)) }
-    ensures exact { (shape : Shape) (event : Event) → IsInPlace (Some shape) event → line.now ≡ spelling event → ((rest : List ℕ)
-        → line.now ≢ codes "write " ++ rest) → ((rest : List ℕ) → line.now ≢ codes "fail " ++ rest) → ((rest : List ℕ)
-        → line.now ≢ codes "cat " ++ rest) → ((rest : List ℕ) → line.now ≢ codes "ls " ++ rest) → result ≡ Some event }
-{
-    let number = after_word(line, b"read ")?;
-    Some(Event::Read(whole_number(number)?))
+    if !has_words(rest, kind.words()) {
+        return BadLine::Form;
+    }
+    if !begins_with_numbers(rest, kind.numbers()) {
+        return BadLine::Number;
+    }
+    match kind.tail() {
+        Tail::Nothing => BadLine::Limits,
+        Tail::Bytes => BadLine::Hex,
+        Tail::Path => BadLine::Path,
+    }
 }

@@ -186,8 +186,8 @@ fn put_name(line: &mut [u8], at: usize, name: &[u8]) -> usize
     end
 }
 
-// Puts the spelling of a byte of a name at a place of a line, and answers where it ends.
-fn put_byte(line: &mut [u8], at: usize, byte: u8) -> usize
+/// Puts the spelling of a byte of a name at a place of a line, and answers where it ends.
+pub fn put_byte(line: &mut [u8], at: usize, byte: u8) -> usize
     requires { at + 4 ≤ length line.old }
     ensures end { result ≤ at + 4 }
     ensures text { take result line.new ≡ take at line.old ++ spelled_byte byte }

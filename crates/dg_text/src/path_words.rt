@@ -1,13 +1,12 @@
 // Words of paths: each byte by itself, or as `\x` and two hex digits in lower case.
-ghost use Rattle.std.specs.Prelude.{◌≡◌, ◌≤◌, ◌<◌, ◌++◌, ◌∷◌, [], ℕ, List, length, drop, codes, true, false, IfOk, IfSome, MatchOption};
-ghost use Rattle.hex.specs.Hex.{encode_lower};
+ghost use Rattle.std.specs.Prelude.{◌≡◌, ◌≤◌, ◌<◌, ◌++◌, ℕ, List, length, drop, true, false, IfOk, IfSome, IfNone, MatchOption};
 ghost use Rattle.ufs_model.specs.Paths.{is_path};
 ghost use Rattle.dg_text.specs.Lines.{is_plain, spelled_byte, path_word, AreBytes};
+ghost use Rattle.dg_text.specs.Refusals.{IsPathWord};
 
-use crate::hex_words::has_no_upper;
+use crate::hex_words::byte_of;
 use crate::words::after_word;
 use dg_model::{Bytes, NoMemory};
-use hex::FromHex;
 use std::alloc::Global;
 
 // Bytes of the longest path.
@@ -20,20 +19,6 @@ pub fn is_plain(byte: u8) -> bool
     matches!(byte, 0x21..=0x7e) && byte != b'\\'
 }
 
-// The byte that two hex digits in lower case spell.
-fn hex_byte(digits: &[u8]) -> Option<u8>
-    ensures found { IfSome result (λ x. digits.now ≡ encode_lower (x ∷ [])) }
-    ensures exact { (x : ℕ) → x < 256 → digits.now ≡ encode_lower (x ∷ []) → result ≡ Some x }
-{
-    if !has_no_upper(digits) {
-        return None;
-    }
-    let Ok(bytes) = <[u8; 1] as FromHex>::from_hex(digits) else {
-        return None;
-    };
-    Some(bytes[0])
-}
-
 // The byte that `\x` and two digits at the front of a word spell. None spells a byte that stands for itself.
 fn escaped_byte(word: &[u8]) -> Option<u8>
     ensures found { IfSome result (λ x. (word.now ≡ spelled_byte x ++ drop 4 word.now) × (4 ≤ length word.now)) }
@@ -43,7 +28,7 @@ fn escaped_byte(word: &[u8]) -> Option<u8>
     if digits.len() < 2 {
         return None;
     }
-    let byte = hex_byte(&digits[..2])?;
+    let byte = byte_of(digits[0], digits[1])?;
     if is_plain(byte) {
         return None;
     }
@@ -90,10 +75,10 @@ fn spelled_bytes(alloc: Global, word: &[u8]) -> Result<Option<Vec<u8>>, NoMemory
     Ok(Some(bytes))
 }
 
-/// The path that a word spells.
+/// The path that a word spells, as the bytes of the path; `None` where it spells none.
 pub fn read_path(alloc: Global, word: &[u8]) -> Result<Option<Bytes>, NoMemory>
     ensures found { IfOk result (λ r. IfSome r (λ path. (word.now ≡ path_word path) × (is_path path ≡ true) × AreBytes path)) }
-    ensures exact { IfOk result (λ r. (path : List ℕ) → is_path path ≡ true → AreBytes path → word.now ≡ path_word path → r ≡ Some path) }
+    ensures none { IfOk result (λ r. IfNone r (IsPathWord word.now → ⊥)) }
 {
     let Some(bytes) = spelled_bytes(alloc, word)? else {
         return Ok(None);

@@ -262,16 +262,26 @@ fn spell_refusal(line: &mut [u8], number: u64, kind: BadLine) -> usize
     let mut digits = Buffer::new();
     let start = put(line, 0, b"line ");
     let end = put(line, start, digits.format(number).as_bytes());
-    put(line, end, tail_of(kind))
+    put(line, end, behind_number(kind))
 }
 
 // What stands behind the number in the answer to a refused line.
-fn tail_of(kind: BadLine) -> &'static [u8]
+fn behind_number(kind: BadLine) -> &'static [u8]
     ensures text { result.now ≡ codes " " ++ (kind_of kind ++ codes "\n") }
-    ensures short { length result.now ≤ 6 }
+    ensures short { length result.now ≤ 8 }
 {
     match kind {
+        BadLine::Long => b" long\n",
+        BadLine::Size => b" size\n",
+        BadLine::Cut => b" cut\n",
+        BadLine::Word => b" word\n",
+        BadLine::Order => b" order\n",
         BadLine::Form => b" form\n",
+        BadLine::Number => b" number\n",
+        BadLine::Limits => b" limits\n",
+        BadLine::Hex => b" hex\n",
+        BadLine::Path => b" path\n",
+        BadLine::Later => b" later\n",
     }
 }
 

@@ -1,4 +1,4 @@
-ghost use Rattle.std.specs.Prelude.{◌≡◌, ◌≤◌, ◌++◌, ℕ, List, length, codes, IfOk, OnOk};
+ghost use Rattle.std.specs.Prelude.{◌≡◌, ◌++◌, ℕ, List, codes, OnOk};
 ghost use Rattle.std.specs.List.{concat};
 ghost use Rattle.dg_io.specs.Told.{Told, Took};
 ghost use Rattle.dg_model.specs.Lists.{AreLines};
@@ -6,185 +6,14 @@ ghost use Rattle.dg_text.specs.Replies.{file_text};
 ghost use Rattle.dg_text.specs.HexLines.{last_line};
 
 use crate::{
-    BadLine, EntryLines, HexLines, longest_line, read_line, write_data, write_refusal, write_reply,
-    write_usage,
+    BadLine, Form, HexLines, Lines, Raw, write_data, write_refusal, write_reply, write_usage,
 };
 use dg_io::{MemSink, Pieces, Sink};
-use dg_model::{
-    Bytes, Event, Failed, Lines, ListedEntries, ListedEntry, NoRoom, Numbers, Reply, Shape, Who,
-};
+use dg_model::{Bytes, Failed, ListedEntries, ListedEntry, NoRoom, Numbers, Reply, Who};
 use std::alloc::{AllocError, Global};
 use std::test::Fail;
 use ufs_model::{BadKind, BadRead, BadSuper, Kind, PathRefusal, SystemKind};
 use ufs_path::Listing;
-
-const SHAPE: Shape = Shape {
-    l: 1024,
-    n: 64,
-    b: 4,
-    k: 32,
-    m: 2,
-};
-
-// What a line is wanted to give.
-#[derive(Debug, Drop)]
-enum Want {
-    Refused,
-    Array,
-    Write(u32, &'static [u8]),
-    Read(u32),
-    Cat(&'static [u8]),
-    Ls(&'static [u8]),
-}
-
-fn gives(answer: &Result<Event, BadLine>, want: &Want) -> bool {
-    match (answer, want) {
-        (Err(BadLine::Form), Want::Refused) => true,
-        (Ok(Event::Array(shape)), Want::Array) => *shape == SHAPE,
-        (Ok(Event::Write(block, bytes)), Want::Write(at, data)) => {
-            *block == *at && bytes.as_slice() == *data
-        }
-        (Ok(Event::Read(block)), Want::Read(at)) => *block == *at,
-        (Ok(Event::Cat(path)), Want::Cat(bytes)) => path.as_slice() == *bytes,
-        (Ok(Event::Ls(path)), Want::Ls(bytes)) => path.as_slice() == *bytes,
-        _ => false,
-    }
-}
-
-#[test]
-fn lines_spell_events_in_their_places(rt: HostRuntime) -> Result<(), Fail> {
-    let first = [
-        ("array 1024 64 4 32 2", Want::Array),
-        ("array 1024 64 2 16 2", Want::Refused),
-        ("array 1024 64 4 32 02", Want::Refused),
-        ("array 1024 64 4 32", Want::Refused),
-        ("read 3", Want::Refused),
-        ("", Want::Refused),
-    ];
-    for (line, want) in first {
-        let answer = read_line(rt.alloc(), line.as_bytes(), None)?;
-        assert!(rt; gives(&answer, &want), "first {line}");
-    }
-    let later = [
-        ("write 3 6869", Want::Write(3, b"hi")),
-        ("write 5 -", Want::Write(5, b"")),
-        (
-            "write 4294967295 00ff",
-            Want::Write(4294967295, b"\x00\xff"),
-        ),
-        ("read 3", Want::Read(3)),
-        ("read 0", Want::Read(0)),
-        ("reed 3", Want::Refused),
-        ("array 1024 64 4 32 2", Want::Refused),
-        ("read 03", Want::Refused),
-        ("read +3", Want::Refused),
-        ("read  3", Want::Refused),
-        ("read 3 ", Want::Refused),
-        ("read 4294967296", Want::Refused),
-        ("write 3 6A", Want::Refused),
-        ("write 3 6a6", Want::Refused),
-        ("write 3 ", Want::Refused),
-        ("write 3", Want::Refused),
-        ("", Want::Refused),
-    ];
-    for (line, want) in later {
-        let answer = read_line(rt.alloc(), line.as_bytes(), Some(&SHAPE))?;
-        assert!(rt; gives(&answer, &want), "later {line}");
-    }
-    Ok(())
-}
-
-#[test]
-fn paths_have_one_spelling(rt: HostRuntime) -> Result<(), Fail> {
-    let rows = [
-        ("cat /a", Want::Cat(b"/a")),
-        ("cat /a/b", Want::Cat(b"/a/b")),
-        ("cat /", Want::Cat(b"/")),
-        ("cat /x\\x20y", Want::Cat(b"/x y")),
-        ("cat /\\x5c", Want::Cat(b"/\\")),
-        ("cat /\\xff", Want::Cat(b"/\xff")),
-        ("ls /d", Want::Ls(b"/d")),
-        ("ls /", Want::Ls(b"/")),
-        ("ls /a/\\x80b", Want::Ls(b"/a/\x80b")),
-        ("cat a", Want::Refused),
-        ("cat //", Want::Refused),
-        ("cat /a/", Want::Refused),
-        ("cat /\\x41", Want::Refused),
-        ("cat /a\\x2fb", Want::Refused),
-        ("cat /\\x2F", Want::Refused),
-        ("cat /\\xfF", Want::Refused),
-        ("cat /a b", Want::Refused),
-        ("cat /\\x00", Want::Refused),
-        ("cat /\\x2", Want::Refused),
-        ("cat ", Want::Refused),
-        ("cat", Want::Refused),
-        ("ls //", Want::Refused),
-        ("ls /a/", Want::Refused),
-        ("ls a", Want::Refused),
-        ("ls ", Want::Refused),
-        ("ls", Want::Refused),
-        ("ls  /d", Want::Refused),
-    ];
-    for (line, want) in rows {
-        let answer = read_line(rt.alloc(), line.as_bytes(), Some(&SHAPE))?;
-        assert!(rt; gives(&answer, &want), "{line}");
-    }
-    let first = read_line(rt.alloc(), b"ls /a", None)?;
-    assert!(rt; gives(&first, &Want::Refused));
-    Ok(())
-}
-
-// A word, and then a path of 1023 bytes: three names of 255 bytes, and one of 254.
-fn longest_path(alloc: Global, word: &[u8]) -> Result<Vec<u8>, AllocError> {
-    let mut line = Vec::from_slice(alloc, word)?;
-    for i in 0..1023 {
-        line.push(if i % 256 == 0 { b'/' } else { b'a' })?;
-    }
-    Ok(line)
-}
-
-#[test]
-fn a_path_is_at_most_1023_bytes(rt: HostRuntime) -> Result<(), Fail> {
-    for word in ["cat ", "ls "] {
-        let mut line = longest_path(rt.alloc(), word.as_bytes())?;
-        let whole = read_line(rt.alloc(), &line, Some(&SHAPE))?;
-        assert!(rt; whole.is_ok(), "{word}");
-        line.push(b'a')?;
-        let longer = read_line(rt.alloc(), &line, Some(&SHAPE))?;
-        assert!(rt; gives(&longer, &Want::Refused), "{word}");
-    }
-    Ok(())
-}
-
-#[test]
-fn a_name_is_at_most_255_bytes(rt: HostRuntime) -> Result<(), Fail> {
-    let mut line = Vec::from_slice(rt.alloc(), b"cat /")?;
-    for _ in 0..255 {
-        line.extend_from_slice(b"\\x01")?;
-    }
-    let whole = read_line(rt.alloc(), &line, Some(&SHAPE))?;
-    assert!(rt; whole.is_ok());
-    line.push(b'a')?;
-    let longer = read_line(rt.alloc(), &line, Some(&SHAPE))?;
-    assert!(rt; gives(&longer, &Want::Refused));
-    Ok(())
-}
-
-#[test]
-fn a_block_is_at_most_l_bytes(rt: HostRuntime) -> Result<(), Fail> {
-    let mut line = Vec::from_slice(rt.alloc(), b"write 3 ")?;
-    for _ in 0..1024 {
-        line.extend_from_slice(b"00")?;
-    }
-    let whole = read_line(rt.alloc(), &line, Some(&SHAPE))?;
-    assert!(rt; whole.is_ok());
-    line.extend_from_slice(b"00")?;
-    let longer = read_line(rt.alloc(), &line, Some(&SHAPE))?;
-    assert!(rt; gives(&longer, &Want::Refused));
-    assert_eq!(rt; longest_line(Some(&SHAPE)), 6249);
-    assert_eq!(rt; longest_line(None), 5225);
-    Ok(())
-}
 
 #[test]
 fn replies_are_written_as_lines(rt: HostRuntime) -> Result<(), Fail> {
@@ -198,10 +27,36 @@ fn replies_are_written_as_lines(rt: HostRuntime) -> Result<(), Fail> {
     write_reply(&mut sink, &Reply::Data(data))?;
     write_data(&mut sink, b"\x00\xff")?;
     write_data(&mut sink, b"")?;
-    write_refusal(&mut sink, 2, BadLine::Form)?;
     write_usage(&mut sink)?;
     let text =
-        b"ok\nrange\ndegraded\nunavailable\ndata 6869\ndata 00ff\ndata -\nline 2 form\nusage: dgraid replay | resume | cat PATH | ls PATH | status | trace ORDER B K M | drill SEED FILES\n";
+        b"ok\nrange\ndegraded\nunavailable\ndata 6869\ndata 00ff\ndata -\nusage: dgraid replay | resume | cat PATH | ls PATH | status | trace ORDER B K M | drill SEED FILES\n";
+    assert!(rt; sink.taken() == text.as_slice());
+    Ok(())
+}
+
+#[test]
+fn a_refusal_tells_its_line_and_its_kind(rt: HostRuntime) -> Result<(), Fail> {
+    let alloc = rt.alloc();
+    let mut sink = MemSink::new(alloc, 512, Vec::new(alloc))?;
+    let kinds = [
+        BadLine::Long,
+        BadLine::Size,
+        BadLine::Cut,
+        BadLine::Word,
+        BadLine::Order,
+        BadLine::Form,
+        BadLine::Number,
+        BadLine::Limits,
+        BadLine::Hex,
+        BadLine::Path,
+        BadLine::Later,
+    ];
+    for kind in kinds {
+        write_refusal(&mut sink, 2, kind)?;
+    }
+    write_refusal(&mut sink, u64::MAX, BadLine::Word)?;
+    let text =
+        b"line 2 long\nline 2 size\nline 2 cut\nline 2 word\nline 2 order\nline 2 form\nline 2 number\nline 2 limits\nline 2 hex\nline 2 path\nline 2 later\nline 18446744073709551615 word\n";
     assert!(rt; sink.taken() == text.as_slice());
     Ok(())
 }
@@ -214,11 +69,11 @@ fn line_of(alloc: Global, byte: u8) -> Result<Bytes, AllocError> {
 }
 
 // A file of two lines.
-fn two_lines(alloc: Global, first: u8, second: u8) -> Result<Lines, AllocError> {
+fn two_lines(alloc: Global, first: u8, second: u8) -> Result<dg_model::Lines, AllocError> {
     let mut lines = Vec::new(alloc);
     lines.push(line_of(alloc, first)?)?;
     lines.push(line_of(alloc, second)?)?;
-    Ok(Lines::new(lines))
+    Ok(dg_model::Lines::new(lines))
 }
 
 #[test]
@@ -236,7 +91,10 @@ fn what_cat_answers_is_written(rt: HostRuntime) -> Result<(), Fail> {
     for refusal in rows {
         write_reply(&mut sink, &Reply::Refused(refusal))?;
     }
-    write_reply(&mut sink, &Reply::Cut(Lines::new(Vec::new(alloc))))?;
+    write_reply(
+        &mut sink,
+        &Reply::Cut(dg_model::Lines::new(Vec::new(alloc))),
+    )?;
     write_reply(&mut sink, &Reply::Given(two_lines(alloc, b'h', b'i')?))?;
     let text =
         b"notfound\nnotdir\nnotregular\nbad magic\nbad summary\nbad wild\ncut 0\nbytes 68\nbytes 69\nend 2\n";
@@ -389,7 +247,7 @@ fn hand_three<L: Listing>(listing: &mut L) -> Result<(), Failed> {
 fn entries_are_written_one_by_one(rt: HostRuntime) -> Result<(), Fail> {
     let alloc = rt.alloc();
     let mut sink = MemSink::new(alloc, 256, Vec::new(alloc))?;
-    let mut lines = EntryLines::new(&mut sink);
+    let mut lines = Lines::new(&mut sink, Form::Directory);
     hand_three(&mut lines)?;
     lines.end(3)?;
     lines.line(2, 4294967295, Kind::Socket, 18446744073709551615, b"\xff")?;
@@ -397,6 +255,37 @@ fn entries_are_written_one_by_one(rt: HostRuntime) -> Result<(), Fail> {
     let text =
         b"entry 4 d 512 .\nentry 2 d 512 ..\nentry 5 r 53248 b\nend 3\nentry 4294967295 s 18446744073709551615 \\xff\ncut 1\n";
     assert!(rt; sink.taken() == text.as_slice());
+    Ok(())
+}
+
+#[test]
+fn nodes_are_written_one_by_one(rt: HostRuntime) -> Result<(), Fail> {
+    let alloc = rt.alloc();
+    let mut sink = MemSink::new(alloc, 256, Vec::new(alloc))?;
+    let mut lines = Lines::new(&mut sink, Form::Volume);
+    lines.line(1, 4, Kind::Directory, 512, b"d")?;
+    lines.line(2, 5, Kind::Regular, 53248, b"b")?;
+    lines.end(2)?;
+    lines.cut(0)?;
+    let text = b"node 1 4 d 512 d\nnode 2 5 r 53248 b\nend 2\ncut 0\n";
+    assert!(rt; sink.taken() == text.as_slice());
+    Ok(())
+}
+
+// Hands on two pieces.
+fn hand_two<P: Pieces>(pieces: &mut P, first: &[u8], second: &[u8]) -> Result<(), Failed> {
+    pieces.piece(first)?;
+    pieces.piece(second)
+}
+
+#[test]
+fn raw_bytes_are_written_as_they_are(rt: HostRuntime) -> Result<(), Fail> {
+    let alloc = rt.alloc();
+    let mut sink = MemSink::new(alloc, 16, Vec::from_slice(alloc, &[2])?)?;
+    let mut raw = Raw::new(&mut sink);
+    hand_two(&mut raw, b"hello\n", b"")?;
+    assert_eq!(rt; hand_two(&mut raw, b"\x00\xff", b"more"), Err(Failed));
+    assert!(rt; sink.taken() == b"hello\n\x00\xff".as_slice());
     Ok(())
 }
 
@@ -425,7 +314,7 @@ fn a_line_of_an_entry_may_fail_in_the_middle(rt: HostRuntime) -> Result<(), Fail
     let alloc = rt.alloc();
     let inner = MemSink::new(alloc, 256, Vec::from_slice(alloc, &[4])?)?;
     let mut sink = NarrowSink { inner };
-    let mut lines = EntryLines::new(&mut sink);
+    let mut lines = Lines::new(&mut sink, Form::Directory);
     assert_eq!(rt; hand_three(&mut lines), Err(Failed));
     assert!(rt; sink.inner.taken() == b"entry 4 d 512 .\nentry 2 d 512 ..".as_slice());
     Ok(())

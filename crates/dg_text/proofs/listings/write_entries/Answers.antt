@@ -1,4 +1,4 @@
-use Rattle.std.proofs.Common.{◌∙◌, ◌≡◌, ℕ, List, arith}
+use Rattle.std.proofs.Common.{◌∙◌, ◌≡◌, ℕ, List}
 use Rattle.dg_text.specs.Listings.{line_in}
 use Rattle.dg_text.specs.ToldSteps.{on_err}
 use Rattle.dg_text.proofs.FileLines.{took_line_more, took_part_of_lines}

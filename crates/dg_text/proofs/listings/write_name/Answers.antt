@@ -1,4 +1,4 @@
-use Rattle.std.proofs.Common.{List, ℕ, get_or, refl, subst, ◌≡◌, ◌∙◌, ap, sym, take, length, arith}
+use Rattle.std.proofs.Common.{List, ℕ, get_or, refl, subst, ◌≡◌, ◌∙◌, ap, take, arith}
 use Rattle.std.specs.List.{flat_map}
 use Rattle.std.proofs.lemmas.List.{take_all}
 use Rattle.dg_io.specs.Told.{Told, Took, TookPart}

@@ -1,6 +1,8 @@
 use Rattle.std.proofs.Common.{false, ◌≡◌, ◌++◌, ◌∷◌, [], ◌∙◌, sym, ap, arith, length}
 use Rattle.hex.specs.Hex.{encode_lower}
-use Rattle.dg_text.proofs.PathWords.{escaped_found, escaped_exact, two_digits}
+use Rattle.std.specs.Prelude.{Some}
+use Rattle.dg_text.proofs.HexWords.{byte_same}
+use Rattle.dg_text.proofs.PathWords.{escaped_found, escaped_exact, two_digits, two_front}
 use Rattle.dg_text.specs.Lines.{is_plain}
 use Rattle.dg_text.proofs.path_words.escaped_byte.Goals as goal
 
@@ -21,16 +23,16 @@ returns-in_err-byte-clause-exact c x rest small escaped is =
     let begins = escaped_exact c.args.word.now x rest escaped is in
     let digits = c.in_ok-digits.ensures.exact (encode_lower (x ∷ []) ++ rest) begins.0 in
     let two = two_digits c.in_ok-digits.digits.now x rest digits in
-    let read = c.in_err-byte.ensures.exact x small two.0 in
-    cc (read, c.from_residual-in_err-byte.ensures)
+    let front = two_front c.in_ok-digits.digits.now two.1 in
+    absurd (c.in_err-byte.ensures.none x small (sym two.0 ∙ front))
 
 pub returns-then-is_plain-clause-exact : goal.returns-then-is_plain-clause-exact
 returns-then-is_plain-clause-exact c x rest small escaped is =
     let begins = escaped_exact c.args.word.now x rest escaped is in
     let digits = c.in_ok-digits.ensures.exact (encode_lower (x ∷ []) ++ rest) begins.0 in
     let two = two_digits c.in_ok-digits.digits.now x rest digits in
-    let read = c.in_ok-byte.ensures.exact x small two.0 in
-    let same : c.in_ok-byte.byte ≡ x = cc read in
+    let front = two_front c.in_ok-digits.digits.now two.1 in
+    let same = byte_same c.in_ok-byte.byte x c.in_ok-byte.ensures.found.0 small (c.in_ok-byte.ensures.found.1 ∙ sym front ∙ two.0) in
     let test = ap is_plain same in
     absurd (cc (test, escaped, c.is_plain.ensures, c.if-is_plain.true))
 
@@ -38,11 +40,13 @@ pub returns-clause-found : goal.returns-clause-found
 returns-clause-found c =
     let escaped : is_plain c.in_ok-byte.byte ≡ false = sym c.is_plain.ensures ∙ c.if-is_plain.false in
     let size = ap length c.in_ok-digits.ensures.found in
-    (escaped_found c.args.word.now c.in_ok-digits.digits.now c.in_ok-byte.byte c.in_ok-digits.ensures.found c.in_ok-byte.ensures.found escaped, omega arith)
+    let front = two_front c.in_ok-digits.digits.now (omega arith) in
+    (escaped_found c.args.word.now c.in_ok-digits.digits.now c.in_ok-byte.byte c.in_ok-digits.ensures.found (front ∙ sym c.in_ok-byte.ensures.found.1) escaped, omega arith)
 
 pub returns-clause-exact : goal.returns-clause-exact
 returns-clause-exact c x rest small escaped is =
     let begins = escaped_exact c.args.word.now x rest escaped is in
     let digits = c.in_ok-digits.ensures.exact (encode_lower (x ∷ []) ++ rest) begins.0 in
     let two = two_digits c.in_ok-digits.digits.now x rest digits in
-    c.in_ok-byte.ensures.exact x small two.0
+    let front = two_front c.in_ok-digits.digits.now two.1 in
+    ap Some (byte_same c.in_ok-byte.byte x c.in_ok-byte.ensures.found.0 small (c.in_ok-byte.ensures.found.1 ∙ sym front ∙ two.0))

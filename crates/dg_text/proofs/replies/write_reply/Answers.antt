@@ -1,4 +1,4 @@
-use Rattle.std.proofs.Common.{ap, refl, sym, ◌∙◌, ◌≡◌, ℕ, List}
+use Rattle.std.proofs.Common.{ap, sym, ◌∙◌, ℕ, List}
 use Rattle.dg_model.specs.declared.replies.Reply.TheVariants.{Cut, Given, Listed as ListedReply, ListedCut, Nodes, NodesCut}
 use Rattle.dg_text.specs.Replies.{reply_line}
 use Rattle.dg_text.proofs.ReplyLines.{copied_line, took_as, took_part_as, tended_line}

@@ -1,4 +1,4 @@
-use Rattle.std.proofs.Common.{◌+◌, ℕ, List, take, drop, sym, ◌∙◌, subst}
+use Rattle.std.proofs.Common.{◌+◌, ◌∷◌, ◌++◌, ℕ, List, take, drop, sym, ◌∙◌, ap, subst}
 use Rattle.std.specs.Prelude.{Contains}
 use Rattle.std.proofs.lemmas.List.{take_rest}
 use Rattle.dg_text.proofs.Cuts.{Lacks-from_not, first_cut, has_at_cut, cut_there}
@@ -16,3 +16,10 @@ returns-clause-exact c word rest lacks is =
     let f = c.in_ok-i.ensures.found in
     let cut = first_cut 32 (take i text) word (drop (i + 1) text) rest (Lacks-from_not 32 (take i text) f.2) (Lacks-from_not 32 word lacks) (cut_there 32 text i f.0 f.1 ∙ is) in
     (cut.0, take_rest text (i + 1) ∙ cut.1)
+
+pub returns-clause-found : goal.returns-clause-found
+returns-clause-found c =
+    let i = c.in_ok-i.i in
+    let text = c.args.text.now in
+    let f = c.in_ok-i.ensures.found in
+    sym (cut_there 32 text i f.0 f.1) ∙ ap (λ (l : List ℕ). take i text ++ 32 ∷ l) (sym (take_rest text (i + 1)))

@@ -1,0 +1,466 @@
+-- The words of an event's line, and the event of a line whose words are right.
+use Rattle.std.proofs.Common.{◌≡◌, ◌<◌, ◌≤◌, ◌^◌, true, ℕ, List, [], ◌∷◌, ◌++◌, length, take, drop, refl, sym, ◌∙◌, ap, subst, arith}
+use Rattle.std.specs.Prelude.{All, Contains, Option, Some, None, codes}
+use Rattle.std.specs.Fmt.{decimal}
+use Rattle.std.proofs.lemmas.Fmt.{decimal_nonempty}
+use Rattle.std.proofs.lemmas.List.{take_all}
+use Rattle.std.proofs.lemmas.List.Elements.{All-nil, All-cons, All-head, All-tail, All-contains}
+use Rattle.dg_model.specs.Shapes.{IsShape}
+use Rattle.dg_model.specs.declared.shapes.Shape.{Shape}
+use Rattle.dg_model.specs.declared.events.Event.{Event}
+use Rattle.dg_model.specs.declared.events.Event.TheVariants.{Array, Write, Read, Fail, Replace, Rebuild, Settle, Tend, Diffuse, Who, Pending, Cat, Ls, Tree, Home, Save}
+use Rattle.ufs_model.specs.Paths.{is_path}
+use Rattle.dg_text.specs.Lines.{AreBytes, block_bytes, hex_word, path_word, shape_words, spelling, IsInPlace}
+use Rattle.dg_text.specs.Refusals.{Begins, IsHexWord, IsNumberWord, IsOutOfOrder, IsPathWord, count_of, numbers_of, tail_of, words, word_of}
+use Rattle.dg_text.specs.Texts.{IsTextOf, event_kind}
+use Rattle.dg_text.specs.declared.kinds.EventKind.{EventKind}
+use Rattle.dg_text.specs.declared.kinds.EventKind.TheVariants.{Array as KindArray, Write as KindWrite, Read as KindRead, Fail as KindFail, Replace as KindReplace, Rebuild as KindRebuild, Settle as KindSettle, Tend as KindTend, Diffuse as KindDiffuse, Who as KindWho, Pending as KindPending, Cat as KindCat, Ls as KindLs, Tree as KindTree, Home as KindHome, Save as KindSave}
+use Rattle.dg_text.specs.declared.kinds.Tail.TheVariants.{Nothing, Bytes, Path as PathTail}
+use Rattle.dg_text.proofs.Cuts.{Lacks, Lacks-from_above}
+use Rattle.dg_text.proofs.HexWords.{hex_word_nonempty, hex_word_high}
+use Rattle.dg_text.proofs.KindWords.{begins_once, kind_same, word_lacks}
+use Rattle.dg_text.proofs.Lengths.{block_small}
+use Rattle.dg_text.proofs.LineWords.{joined, joined_words, words_cut, words_same, words_whole}
+use Rattle.dg_text.proofs.Numbers.{decimal_lacks}
+use Rattle.dg_text.proofs.PathWords.{path_none, path_word_high}
+
+-- the words behind the first
+abbrev pub later_of : Event → List (List ℕ)
+later_of (Array s) = decimal s.l ∷ decimal s.n ∷ decimal s.b ∷ decimal s.k ∷ decimal s.m ∷ []
+later_of (Write b bytes) = decimal b ∷ hex_word bytes ∷ []
+later_of (Read b) = decimal b ∷ []
+later_of (Fail s j) = decimal s ∷ decimal j ∷ []
+later_of (Replace s j) = decimal s ∷ decimal j ∷ []
+later_of (Rebuild s n) = decimal s ∷ decimal n ∷ []
+later_of Settle = []
+later_of (Tend n) = decimal n ∷ []
+later_of Diffuse = []
+later_of (Who b) = decimal b ∷ []
+later_of Pending = []
+later_of (Cat path) = path_word path ∷ []
+later_of (Ls path) = path_word path ∷ []
+later_of Tree = []
+later_of (Home path) = path_word path ∷ []
+later_of Save = []
+
+-- ---- the words of an event in its place
+
+number_lacks : (n : ℕ) → n < 2 ^ 32 → Lacks 32 (decimal n)
+number_lacks n small = decimal_lacks 32 n (omega arith) (omega arith)
+
+hex_lacks : (bytes : List ℕ) → AreBytes bytes → Lacks 32 (hex_word bytes)
+hex_lacks bytes are = Lacks-from_above 32 45 (hex_word bytes) (omega arith) (hex_word_high bytes are)
+
+path_lacks : (path : List ℕ) → AreBytes path → Lacks 32 (path_word path)
+path_lacks path are = Lacks-from_above 32 33 (path_word path) (omega arith) (path_word_high path are)
+
+split_one : (kind : EventKind) (w : List ℕ) → Lacks 32 w → words (word_of kind ++ 32 ∷ w) ≡ word_of kind ∷ w ∷ []
+split_one kind w lacks = words_cut (word_of kind) w (word_lacks kind) ∙ ap (λ (l : List (List ℕ)). word_of kind ∷ l) (words_whole w lacks)
+
+split_two : (kind : EventKind) (v w : List ℕ) → Lacks 32 v → Lacks 32 w → words (word_of kind ++ 32 ∷ (v ++ 32 ∷ w)) ≡ word_of kind ∷ v ∷ w ∷ []
+split_two kind v w first second =
+    words_cut (word_of kind) (v ++ 32 ∷ w) (word_lacks kind)
+    ∙ ap (λ (l : List (List ℕ)). word_of kind ∷ l) (words_cut v w first ∙ ap (λ (l : List (List ℕ)). v ∷ l) (words_whole w second))
+
+-- five words that have no spaces
+five_words : (a b c d e : List ℕ) → Lacks 32 a → Lacks 32 b → Lacks 32 c → Lacks 32 d → Lacks 32 e
+    → words (a ++ 32 ∷ (b ++ 32 ∷ (c ++ 32 ∷ (d ++ 32 ∷ e)))) ≡ a ∷ b ∷ c ∷ d ∷ e ∷ []
+five_words a b c d e la lb lc ld le =
+    words_cut a (b ++ 32 ∷ (c ++ 32 ∷ (d ++ 32 ∷ e))) la ∙ ap (λ (l : List (List ℕ)). a ∷ l)
+    (words_cut b (c ++ 32 ∷ (d ++ 32 ∷ e)) lb ∙ ap (λ (l : List (List ℕ)). b ∷ l)
+    (words_cut c (d ++ 32 ∷ e) lc ∙ ap (λ (l : List (List ℕ)). c ∷ l)
+    (words_cut d e ld ∙ ap (λ (l : List (List ℕ)). d ∷ l) (words_whole e le))))
+
+split_array : (s : Shape) → IsShape s → words (spelling (Array s)) ≡ word_of KindArray ∷ later_of (Array s)
+split_array s h =
+    words_cut (codes "array") (shape_words s) (word_lacks KindArray)
+    ∙ ap (λ (l : List (List ℕ)). codes "array" ∷ l)
+    (five_words (decimal s.l) (decimal s.n) (decimal s.b) (decimal s.k) (decimal s.m) (number_lacks s.l (block_small s.l h.block))
+    (number_lacks s.n (omega arith)) (number_lacks s.b (omega arith)) (number_lacks s.k (omega arith)) (number_lacks s.m (omega arith)))
+
+pub split_event : (shape : Option Shape) (event : Event) → IsInPlace shape event → words (spelling event) ≡ word_of (event_kind event) ∷ later_of event
+split_event None (Array s) h = split_array s h
+split_event (Some shape) (Write b bytes) h = split_two KindWrite (decimal b) (hex_word bytes) (number_lacks b h.0) (hex_lacks bytes h.2)
+split_event (Some shape) (Read b) h = split_one KindRead (decimal b) (number_lacks b h)
+split_event (Some shape) (Tend n) h = split_one KindTend (decimal n) (number_lacks n h)
+split_event (Some shape) (Who b) h = split_one KindWho (decimal b) (number_lacks b h)
+split_event (Some shape) (Fail s j) h = split_two KindFail (decimal s) (decimal j) (number_lacks s h.0) (number_lacks j h.1)
+split_event (Some shape) (Replace s j) h = split_two KindReplace (decimal s) (decimal j) (number_lacks s h.0) (number_lacks j h.1)
+split_event (Some shape) (Rebuild s n) h = split_two KindRebuild (decimal s) (decimal n) (number_lacks s h.0) (number_lacks n h.1)
+split_event (Some shape) (Cat path) h = split_one KindCat (path_word path) (path_lacks path h.1)
+split_event (Some shape) (Ls path) h = split_one KindLs (path_word path) (path_lacks path h.1)
+split_event (Some shape) (Home path) h = split_one KindHome (path_word path) (path_lacks path h.1)
+split_event (Some shape) Settle h = words_whole (word_of KindSettle) (word_lacks KindSettle)
+split_event (Some shape) Diffuse h = words_whole (word_of KindDiffuse) (word_lacks KindDiffuse)
+split_event (Some shape) Pending h = words_whole (word_of KindPending) (word_lacks KindPending)
+split_event (Some shape) Tree h = words_whole (word_of KindTree) (word_lacks KindTree)
+split_event (Some shape) Save h = words_whole (word_of KindSave) (word_lacks KindSave)
+split_event shape event h = absurd h
+
+-- ---- what is right about them
+
+-- the words of an array that keeps the limits
+abbrev pub AreShapeWords : List (List ℕ) → Type 0
+AreShapeWords later = (s : Shape) × IsShape s × (later ≡ later_of (Array s))
+
+-- the words of an event of this kind in its place
+pub record IsRight (shape : Option Shape) (kind : EventKind) (later : List (List ℕ)) : Type 0 where
+  pub order : IsOutOfOrder shape kind → ⊥
+  pub count : length later ≡ count_of kind
+  pub filled : Contains later [] → ⊥
+  pub numbers : All IsNumberWord (take (numbers_of kind) later)
+  pub limits : kind ≡ KindArray → AreShapeWords later
+  pub hex : tail_of kind ≡ Bytes → All (IsHexWord (block_bytes shape)) (drop (numbers_of kind) later)
+  pub path : tail_of kind ≡ PathTail → All IsPathWord (drop (numbers_of kind) later)
+
+abbrev IsSome : List ℕ → Type 0
+IsSome word = 0 < length word
+
+none_empty : (later : List (List ℕ)) → All IsSome later → Contains later [] → ⊥
+none_empty later some has =
+    let zero : 0 < length {A = ℕ} [] = All-contains IsSome later [] some has in
+    omega arith
+
+no_words : All IsSome []
+no_words = All-nil IsSome
+
+number_some : (n : ℕ) → n < 2 ^ 32 → 0 < length (decimal n)
+number_some n small = decimal_nonempty n (omega arith)
+
+path_some_of : (path word : List ℕ) → is_path path ≡ true → word ≡ path_word path → 0 < length word
+unfolding is_path
+path_some_of path [] is e =
+    let none = path_none path e in
+    absurd (cc (ap is_path none, is))
+path_some_of path (c ∷ word) is e = omega arith
+
+path_some : (path : List ℕ) → is_path path ≡ true → 0 < length (path_word path)
+path_some path is = path_some_of path (path_word path) is refl
+
+numbers_one : (w : List ℕ) → IsNumberWord w → All IsNumberWord (w ∷ [])
+numbers_one w h = All-cons IsNumberWord w [] h (All-nil IsNumberWord)
+
+numbers_two : (v w : List ℕ) → IsNumberWord v → IsNumberWord w → All IsNumberWord (v ∷ w ∷ [])
+numbers_two v w g h = All-cons IsNumberWord v (w ∷ []) g (numbers_one w h)
+
+small_word : (n : ℕ) → n < 2 ^ 32 → IsNumberWord (decimal n)
+small_word n small = (n, small, refl)
+
+some_one : (w : List ℕ) → 0 < length w → All IsSome (w ∷ [])
+some_one w h = All-cons IsSome w [] h no_words
+
+some_two : (v w : List ℕ) → 0 < length v → 0 < length w → All IsSome (v ∷ w ∷ [])
+some_two v w g h = All-cons IsSome v (w ∷ []) g (some_one w h)
+
+five_all : (P : List ℕ → Type 0) (a b c d e : List ℕ) → P a → P b → P c → P d → P e → All P (a ∷ b ∷ c ∷ d ∷ e ∷ [])
+five_all P a b c d e pa pb pc pd pe =
+    All-cons P a (b ∷ c ∷ d ∷ e ∷ []) pa (All-cons P b (c ∷ d ∷ e ∷ []) pb (All-cons P c (d ∷ e ∷ []) pc (All-cons P d (e ∷ []) pd (All-cons P e [] pe (All-nil P)))))
+
+right_array : (s : Shape) → IsShape s → IsRight None KindArray (later_of (Array s))
+right_array s h =
+    let l = block_small s.l h.block in
+    let n : s.n < 2 ^ 32 = omega arith in
+    let b : s.b < 2 ^ 32 = omega arith in
+    let k : s.k < 2 ^ 32 = omega arith in
+    let m : s.m < 2 ^ 32 = omega arith in
+    record {
+      order = λ other. other refl;
+      count = refl;
+      filled = none_empty (later_of (Array s)) (five_all IsSome (decimal s.l) (decimal s.n) (decimal s.b) (decimal s.k) (decimal s.m)
+          (number_some s.l l) (number_some s.n n) (number_some s.b b) (number_some s.k k) (number_some s.m m));
+      numbers = five_all IsNumberWord (decimal s.l) (decimal s.n) (decimal s.b) (decimal s.k) (decimal s.m)
+          (small_word s.l l) (small_word s.n n) (small_word s.b b) (small_word s.k k) (small_word s.m m);
+      limits = λ is. (s, h, refl);
+      hex = λ is. absurd (cc is);
+      path = λ is. absurd (cc is);
+    }
+
+right_write : (shape : Shape) (b : ℕ) (bytes : List ℕ) → b < 2 ^ 32 → length bytes ≤ shape.l → AreBytes bytes → IsRight (Some shape) KindWrite (later_of (Write b bytes))
+right_write shape b bytes small fits are = record {
+  order = λ is. cc is;
+  count = refl;
+  filled = none_empty (later_of (Write b bytes)) (some_two (decimal b) (hex_word bytes) (number_some b small) (hex_word_nonempty bytes));
+  numbers = numbers_one (decimal b) (small_word b small);
+  limits = λ is. absurd (cc is);
+  hex = λ is. All-cons (IsHexWord shape.l) (hex_word bytes) [] (bytes, fits, are, refl) (All-nil (IsHexWord shape.l));
+  path = λ is. absurd (cc is);
+}
+
+-- of numbers alone
+right_numbers : (shape : Shape) (kind : EventKind) (later : List (List ℕ)) → (kind ≡ KindArray → ⊥) → tail_of kind ≡ Nothing → length later ≡ count_of kind → All IsSome later
+    → All IsNumberWord (take (numbers_of kind) later) → IsRight (Some shape) kind later
+right_numbers shape kind later other tail count some numbers = record {
+  order = other;
+  count = count;
+  filled = none_empty later some;
+  numbers = numbers;
+  limits = λ is. absurd (other is);
+  hex = λ is. absurd (cc (tail, is));
+  path = λ is. absurd (cc (tail, is));
+}
+
+-- of a path
+right_path : (shape : Shape) (kind : EventKind) (path : List ℕ) → (kind ≡ KindArray → ⊥) → tail_of kind ≡ PathTail → numbers_of kind ≡ 0 → count_of kind ≡ 1 → is_path path ≡ true → AreBytes path
+    → IsRight (Some shape) kind (path_word path ∷ [])
+right_path shape kind path other tail none one is are =
+    let P : ℕ → Type 0 = λ n. All IsNumberWord (take n (path_word path ∷ [])) in
+    let Q : ℕ → Type 0 = λ n. All IsPathWord (drop n (path_word path ∷ [])) in
+    record {
+      order = other;
+      count = sym one;
+      filled = none_empty (path_word path ∷ []) (some_one (path_word path) (path_some path is));
+      numbers = subst P (sym none) (All-nil IsNumberWord);
+      limits = λ array. absurd (other array);
+      hex = λ bytes. absurd (cc (tail, bytes));
+      path = λ same. subst Q (sym none) (All-cons IsPathWord (path_word path) [] (path, is, are, refl) (All-nil IsPathWord));
+    }
+
+pub right_event : (shape : Option Shape) (event : Event) → IsInPlace shape event → IsRight shape (event_kind event) (later_of event)
+right_event None (Array s) h = right_array s h
+right_event (Some shape) (Write b bytes) h = right_write shape b bytes h.0 h.1 h.2
+right_event (Some shape) (Read b) h =
+    right_numbers shape KindRead (decimal b ∷ []) (λ is. cc is) refl refl (some_one (decimal b) (number_some b h)) (numbers_one (decimal b) (small_word b h))
+right_event (Some shape) (Tend n) h =
+    right_numbers shape KindTend (decimal n ∷ []) (λ is. cc is) refl refl (some_one (decimal n) (number_some n h)) (numbers_one (decimal n) (small_word n h))
+right_event (Some shape) (Who b) h =
+    right_numbers shape KindWho (decimal b ∷ []) (λ is. cc is) refl refl (some_one (decimal b) (number_some b h)) (numbers_one (decimal b) (small_word b h))
+right_event (Some shape) (Fail s j) h =
+    right_numbers shape KindFail (decimal s ∷ decimal j ∷ []) (λ is. cc is) refl refl (some_two (decimal s) (decimal j) (number_some s h.0) (number_some j h.1))
+    (numbers_two (decimal s) (decimal j) (small_word s h.0) (small_word j h.1))
+right_event (Some shape) (Replace s j) h =
+    right_numbers shape KindReplace (decimal s ∷ decimal j ∷ []) (λ is. cc is) refl refl (some_two (decimal s) (decimal j) (number_some s h.0) (number_some j h.1))
+    (numbers_two (decimal s) (decimal j) (small_word s h.0) (small_word j h.1))
+right_event (Some shape) (Rebuild s n) h =
+    right_numbers shape KindRebuild (decimal s ∷ decimal n ∷ []) (λ is. cc is) refl refl (some_two (decimal s) (decimal n) (number_some s h.0) (number_some n h.1))
+    (numbers_two (decimal s) (decimal n) (small_word s h.0) (small_word n h.1))
+right_event (Some shape) (Cat path) h = right_path shape KindCat path (λ is. cc is) refl refl refl h.0 h.1
+right_event (Some shape) (Ls path) h = right_path shape KindLs path (λ is. cc is) refl refl refl h.0 h.1
+right_event (Some shape) (Home path) h = right_path shape KindHome path (λ is. cc is) refl refl refl h.0 h.1
+right_event (Some shape) Settle h = right_numbers shape KindSettle [] (λ is. cc is) refl refl no_words (All-nil IsNumberWord)
+right_event (Some shape) Diffuse h = right_numbers shape KindDiffuse [] (λ is. cc is) refl refl no_words (All-nil IsNumberWord)
+right_event (Some shape) Pending h = right_numbers shape KindPending [] (λ is. cc is) refl refl no_words (All-nil IsNumberWord)
+right_event (Some shape) Tree h = right_numbers shape KindTree [] (λ is. cc is) refl refl no_words (All-nil IsNumberWord)
+right_event (Some shape) Save h = right_numbers shape KindSave [] (λ is. cc is) refl refl no_words (All-nil IsNumberWord)
+right_event shape event h = absurd h
+
+-- ---- the event of words that are right
+
+none_of : (later : List (List ℕ)) → length later ≡ 0 → later ≡ []
+none_of [] is = refl
+none_of (w ∷ later) is = absurd (omega arith)
+
+one_of : (later : List (List ℕ)) → length later ≡ 1 → (w : List ℕ) × (later ≡ w ∷ [])
+one_of [] is = absurd (omega arith)
+one_of (w ∷ later) is = (w, ap (λ (l : List (List ℕ)). w ∷ l) (none_of later (omega arith)))
+
+two_of : (later : List (List ℕ)) → length later ≡ 2 → (v : List ℕ) × (w : List ℕ) × (later ≡ v ∷ w ∷ [])
+two_of [] is = absurd (omega arith)
+two_of (v ∷ later) is =
+    let rest = one_of later (omega arith) in
+    (v, rest.0, ap (λ (l : List (List ℕ)). v ∷ l) rest.1)
+
+-- five numbers
+pub record AreFiveNumbers (later : List (List ℕ)) : Type 0 where
+  pub l : ℕ
+  pub n : ℕ
+  pub b : ℕ
+  pub k : ℕ
+  pub m : ℕ
+  pub small : (l < 2 ^ 32) × (n < 2 ^ 32) × (b < 2 ^ 32) × (k < 2 ^ 32) × (m < 2 ^ 32)
+  pub spelled : later ≡ decimal l ∷ decimal n ∷ decimal b ∷ decimal k ∷ decimal m ∷ []
+
+two_numbers_of : (later : List (List ℕ)) → length later ≡ 2 → All IsNumberWord later
+    → (k : ℕ) × (m : ℕ) × (k < 2 ^ 32) × (m < 2 ^ 32) × (later ≡ decimal k ∷ decimal m ∷ [])
+two_numbers_of later size all =
+    let ws = two_of later size in
+    let both = subst (All IsNumberWord) ws.2 all in
+    let first = All-head IsNumberWord ws.0 (ws.1 ∷ []) both in
+    let second = All-head IsNumberWord ws.1 [] (All-tail IsNumberWord ws.0 (ws.1 ∷ []) both) in
+    (first.0, second.0, first.1, second.1, ws.2 ∙ (λ i. first.2 i ∷ second.2 i ∷ []))
+
+five_of_list : (later : List (List ℕ)) → length later ≡ 5 → All IsNumberWord later → AreFiveNumbers later
+five_of_list [] size all = absurd (omega arith)
+five_of_list (a ∷ []) size all = absurd (omega arith)
+five_of_list (a ∷ b ∷ []) size all = absurd (omega arith)
+five_of_list (a ∷ b ∷ c ∷ rest) size all =
+    let behind_a = All-tail IsNumberWord a (b ∷ c ∷ rest) all in
+    let behind_b = All-tail IsNumberWord b (c ∷ rest) behind_a in
+    let l = All-head IsNumberWord a (b ∷ c ∷ rest) all in
+    let n = All-head IsNumberWord b (c ∷ rest) behind_a in
+    let h = All-head IsNumberWord c rest behind_b in
+    let last = two_numbers_of rest (omega arith) (All-tail IsNumberWord c rest behind_b) in
+    record {
+      l = l.0;
+      n = n.0;
+      b = h.0;
+      k = last.0;
+      m = last.1;
+      small = (l.1, n.1, h.1, last.2, last.3);
+      spelled = λ i. l.2 i ∷ n.2 i ∷ h.2 i ∷ last.4 i;
+    }
+
+-- the numbers of an array
+pub array_numbers : (kind : EventKind) (later : List (List ℕ)) → kind ≡ KindArray → length later ≡ count_of kind → All IsNumberWord (take (numbers_of kind) later) → AreFiveNumbers later
+array_numbers kind later is count numbers =
+    let P : EventKind → Type 0 = λ k. All IsNumberWord (take (numbers_of k) later) in
+    let size : length later ≡ 5 = count ∙ ap count_of is in
+    let whole : take 5 later ≡ later = take_all 5 later (omega arith) in
+    five_of_list later size (subst (All IsNumberWord) whole (subst P is numbers))
+
+-- an event in its place has these words
+abbrev Spells : Option Shape → EventKind → List (List ℕ) → Type 0
+Spells shape kind later = (event : Event) × IsInPlace shape event × (event_kind event ≡ kind) × (later_of event ≡ later)
+
+number_in : (w : List ℕ) (later : List (List ℕ)) → later ≡ w ∷ [] → All IsNumberWord (take 1 later) → IsNumberWord w
+number_in w later is all =
+    let P : List (List ℕ) → Type 0 = λ l. All IsNumberWord (take 1 l) in
+    All-head IsNumberWord w [] (subst P is all)
+
+numbers_in : (v w : List ℕ) (later : List (List ℕ)) → later ≡ v ∷ w ∷ [] → All IsNumberWord (take 2 later) → IsNumberWord v × IsNumberWord w
+numbers_in v w later is all =
+    let P : List (List ℕ) → Type 0 = λ l. All IsNumberWord (take 2 l) in
+    let both = subst P is all in
+    (All-head IsNumberWord v (w ∷ []) both, All-head IsNumberWord w [] (All-tail IsNumberWord v (w ∷ []) both))
+
+-- the first of two words
+number_in_first : (v w : List ℕ) (later : List (List ℕ)) → later ≡ v ∷ w ∷ [] → All IsNumberWord (take 1 later) → IsNumberWord v
+number_in_first v w later is all =
+    let P : List (List ℕ) → Type 0 = λ l. All IsNumberWord (take 1 l) in
+    All-head IsNumberWord v [] (subst P is all)
+
+path_in : (w : List ℕ) (later : List (List ℕ)) → later ≡ w ∷ [] → All IsPathWord (drop 0 later) → IsPathWord w
+path_in w later is all =
+    let P : List (List ℕ) → Type 0 = λ l. All IsPathWord l in
+    All-head IsPathWord w [] (subst P is all)
+
+hex_in : (most : ℕ) (v w : List ℕ) (later : List (List ℕ)) → later ≡ v ∷ w ∷ [] → All (IsHexWord most) (drop 1 later) → IsHexWord most w
+hex_in most v w later is all =
+    let P : List (List ℕ) → Type 0 = λ l. All (IsHexWord most) (drop 1 l) in
+    All-head (IsHexWord most) w [] (subst P is all)
+
+word_is : (v w : List ℕ) (later : List (List ℕ)) → later ≡ w ∷ [] → w ≡ v → v ∷ [] ≡ later
+word_is v w later is e = ap (λ (l : List ℕ). l ∷ []) (sym e) ∙ sym is
+
+words_are : (u v x y : List ℕ) (later : List (List ℕ)) → later ≡ x ∷ y ∷ [] → x ≡ u → y ≡ v → u ∷ v ∷ [] ≡ later
+words_are u v x y later is e f = (λ i. sym e i ∷ sym f i ∷ []) ∙ sym is
+
+pub spelled : (shape : Option Shape) (kind : EventKind) (later : List (List ℕ)) → IsRight shape kind later → Spells shape kind later
+spelled None KindArray later right =
+    let s = right.limits refl in
+    (Array s.0, s.1, refl, sym s.2)
+spelled None KindWrite later right = absurd (right.order (λ is. cc is))
+spelled None KindRead later right = absurd (right.order (λ is. cc is))
+spelled None KindFail later right = absurd (right.order (λ is. cc is))
+spelled None KindReplace later right = absurd (right.order (λ is. cc is))
+spelled None KindRebuild later right = absurd (right.order (λ is. cc is))
+spelled None KindSettle later right = absurd (right.order (λ is. cc is))
+spelled None KindTend later right = absurd (right.order (λ is. cc is))
+spelled None KindDiffuse later right = absurd (right.order (λ is. cc is))
+spelled None KindWho later right = absurd (right.order (λ is. cc is))
+spelled None KindPending later right = absurd (right.order (λ is. cc is))
+spelled None KindCat later right = absurd (right.order (λ is. cc is))
+spelled None KindLs later right = absurd (right.order (λ is. cc is))
+spelled None KindTree later right = absurd (right.order (λ is. cc is))
+spelled None KindHome later right = absurd (right.order (λ is. cc is))
+spelled None KindSave later right = absurd (right.order (λ is. cc is))
+spelled (Some shape) KindArray later right = absurd (right.order refl)
+spelled (Some shape) KindWrite later right =
+    let w = two_of later right.count in
+    let n = number_in_first w.0 w.1 later w.2 right.numbers in
+    let b = hex_in shape.l w.0 w.1 later w.2 (right.hex refl) in
+    (Write n.0 b.0, (n.1, b.1, b.2), refl, words_are (decimal n.0) (hex_word b.0) w.0 w.1 later w.2 n.2 b.3)
+spelled (Some shape) KindRead later right =
+    let w = one_of later right.count in
+    let n = number_in w.0 later w.1 right.numbers in
+    (Read n.0, n.1, refl, word_is (decimal n.0) w.0 later w.1 n.2)
+spelled (Some shape) KindTend later right =
+    let w = one_of later right.count in
+    let n = number_in w.0 later w.1 right.numbers in
+    (Tend n.0, n.1, refl, word_is (decimal n.0) w.0 later w.1 n.2)
+spelled (Some shape) KindWho later right =
+    let w = one_of later right.count in
+    let n = number_in w.0 later w.1 right.numbers in
+    (Who n.0, n.1, refl, word_is (decimal n.0) w.0 later w.1 n.2)
+spelled (Some shape) KindFail later right =
+    let w = two_of later right.count in
+    let n = numbers_in w.0 w.1 later w.2 right.numbers in
+    (Fail n.0.0 n.1.0, (n.0.1, n.1.1), refl, words_are (decimal n.0.0) (decimal n.1.0) w.0 w.1 later w.2 n.0.2 n.1.2)
+spelled (Some shape) KindReplace later right =
+    let w = two_of later right.count in
+    let n = numbers_in w.0 w.1 later w.2 right.numbers in
+    (Replace n.0.0 n.1.0, (n.0.1, n.1.1), refl, words_are (decimal n.0.0) (decimal n.1.0) w.0 w.1 later w.2 n.0.2 n.1.2)
+spelled (Some shape) KindRebuild later right =
+    let w = two_of later right.count in
+    let n = numbers_in w.0 w.1 later w.2 right.numbers in
+    (Rebuild n.0.0 n.1.0, (n.0.1, n.1.1), refl, words_are (decimal n.0.0) (decimal n.1.0) w.0 w.1 later w.2 n.0.2 n.1.2)
+spelled (Some shape) KindCat later right =
+    let w = one_of later right.count in
+    let p = path_in w.0 later w.1 (right.path refl) in
+    (Cat p.0, (p.1, p.2), refl, word_is (path_word p.0) w.0 later w.1 p.3)
+spelled (Some shape) KindLs later right =
+    let w = one_of later right.count in
+    let p = path_in w.0 later w.1 (right.path refl) in
+    (Ls p.0, (p.1, p.2), refl, word_is (path_word p.0) w.0 later w.1 p.3)
+spelled (Some shape) KindHome later right =
+    let w = one_of later right.count in
+    let p = path_in w.0 later w.1 (right.path refl) in
+    (Home p.0, (p.1, p.2), refl, word_is (path_word p.0) w.0 later w.1 p.3)
+spelled (Some shape) KindSettle later right = (Settle, tt, refl, sym (none_of later right.count))
+spelled (Some shape) KindDiffuse later right = (Diffuse, tt, refl, sym (none_of later right.count))
+spelled (Some shape) KindPending later right = (Pending, tt, refl, sym (none_of later right.count))
+spelled (Some shape) KindTree later right = (Tree, tt, refl, sym (none_of later right.count))
+spelled (Some shape) KindSave later right = (Save, tt, refl, sym (none_of later right.count))
+
+-- a line whose words are right spells an event
+pub line_spelled : (shape : Option Shape) (line : List ℕ) (b : Begins line) → IsRight shape b.kind b.later → (event : Event) × IsInPlace shape event × (line ≡ spelling event)
+line_spelled shape line b right =
+    let found = spelled shape b.kind b.later right in
+    let same : word_of (event_kind found.0) ∷ later_of found.0 ≡ word_of b.kind ∷ b.later = (λ i. word_of (found.2 i) ∷ found.3 i) in
+    (found.0, found.1, words_same line (spelling found.0) (b.split ∙ sym same ∙ sym (split_event shape found.0 found.1)))
+
+-- the first word of an event's line, and those behind it
+abbrev pub begins_of : (shape : Option Shape) (line : List ℕ) (event : Event) → IsInPlace shape event → line ≡ spelling event → Begins line
+begins_of shape line event place is = record { kind = event_kind event; later = later_of event; split = ap words is ∙ split_event shape event place }
+
+-- and one that spells an event has right words
+pub right_line : (shape : Option Shape) (line : List ℕ) (event : Event) → IsInPlace shape event → line ≡ spelling event → (b : Begins line) → IsRight shape b.kind b.later
+right_line shape line event place is b =
+    let same = begins_once line (begins_of shape line event place is) b in
+    let right = right_event shape event place in
+    let P : EventKind → Type 0 = λ kind. IsRight shape kind (later_of event) in
+    let Q : List (List ℕ) → Type 0 = λ later. IsRight shape b.kind later in
+    subst Q same.1 (subst P same.0 right)
+
+-- ---- what a line says behind its first word and a space
+
+-- what stands behind the first word and a space of an event's line
+text_of : (shape : Shape) (event : Event) → IsInPlace (Some shape) event → 0 < length (later_of event) → IsTextOf shape (event_kind event) (joined (later_of event))
+text_of shape (Array s) h some = absurd h
+text_of shape (Write b bytes) h some = (b, bytes, h.0, h.1, h.2, refl)
+text_of shape (Read b) h some = (b, h, refl)
+text_of shape (Tend n) h some = (n, h, refl)
+text_of shape (Who b) h some = (b, h, refl)
+text_of shape (Fail s j) h some = (s, j, h.0, h.1, refl)
+text_of shape (Replace s j) h some = (s, j, h.0, h.1, refl)
+text_of shape (Rebuild s n) h some = (s, n, h.0, h.1, refl)
+text_of shape (Cat path) h some = (path, h.0, h.1, refl)
+text_of shape (Ls path) h some = (path, h.0, h.1, refl)
+text_of shape (Home path) h some = (path, h.0, h.1, refl)
+text_of shape Settle h some = absurd (omega arith)
+text_of shape Diffuse h some = absurd (omega arith)
+text_of shape Pending h some = absurd (omega arith)
+text_of shape Tree h some = absurd (omega arith)
+text_of shape Save h some = absurd (omega arith)
+
+pub text_is : (shape : Shape) (line : List ℕ) (event : Event) (kind : EventKind) (text : List ℕ) → IsInPlace (Some shape) event → line ≡ spelling event
+    → words line ≡ word_of kind ∷ words text → 0 < length (words text) → IsTextOf shape kind text
+text_is shape line event kind text place is split some =
+    let own : word_of (event_kind event) ∷ later_of event ≡ word_of kind ∷ words text = sym (split_event (Some shape) event place) ∙ ap words (sym is) ∙ split in
+    let first : word_of (event_kind event) ≡ word_of kind = cc own in
+    let later : later_of event ≡ words text = cc own in
+    let same = kind_same (event_kind event) kind first in
+    let size = ap length later in
+    let made : joined (later_of event) ≡ text = ap joined later ∙ joined_words text in
+    let P : EventKind → Type 0 = λ k. IsTextOf shape k (joined (later_of event)) in
+    let Q : List ℕ → Type 0 = λ t. IsTextOf shape kind t in
+    subst Q made (subst P same (text_of shape event place (omega arith)))

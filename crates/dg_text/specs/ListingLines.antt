@@ -1,0 +1,31 @@
+-- What a receiver wrote that puts the entries of a listing into lines.
+use Rattle.std.specs.Prelude.{◌≡◌, ℕ, List, Option}
+use Rattle.dg_io.specs.Told.{Told, Took, TookPart}
+use Rattle.dg_text.specs.Listings.{lines_in}
+use Rattle.dg_text.specs.declared.listings.Form.{Form}
+use Rattle.dg_text.specs.declared.listing_lines.Lines.{Lines}
+use Rattle.ufs_model.specs.Listings.{Listed}
+
+-- the form of its lines
+abbrev pub form_of : {K : Type 0} → Lines K → Form
+form_of receiver = receiver.form
+
+-- the sink that it was lent, as it is now
+abbrev pub sink_of : {K : Type 0} → Lines K → K
+sink_of receiver = receiver.sink.now
+
+-- which sink that is
+abbrev pub loan_of : {K : Type 0} → Lines K → ℕ
+loan_of receiver = receiver.sink.ghost_name
+
+-- it was handed entries, and wrote their lines
+pub record TookEntries {K : Type 0} (taken : K → Option (List ℕ)) (old : Lines K) (entries : List Listed) (new : Lines K) : Type 0 where
+  pub form : new.form ≡ old.form
+  pub same : new.sink.ghost_name ≡ old.sink.ghost_name
+  pub told : Told (Took (lines_in old.form entries)) (taken old.sink.now) (taken new.sink.now)
+
+-- it was handed entries, and wrote a part of their lines
+pub record TookEntriesPart {K : Type 0} (taken : K → Option (List ℕ)) (old : Lines K) (entries : List Listed) (new : Lines K) : Type 0 where
+  pub form : new.form ≡ old.form
+  pub same : new.sink.ghost_name ≡ old.sink.ghost_name
+  pub told : Told (TookPart (lines_in old.form entries)) (taken old.sink.now) (taken new.sink.now)

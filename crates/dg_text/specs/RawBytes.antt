@@ -1,0 +1,22 @@
+-- What a receiver wrote that puts bytes out as they are.
+use Rattle.std.specs.Prelude.{◌≡◌, ℕ, List, Option}
+use Rattle.dg_io.specs.Told.{Told, Took, TookPart}
+use Rattle.dg_text.specs.declared.raw.Raw.{Raw}
+
+-- the sink that it was lent, as it is now
+abbrev pub sink_of : {K : Type 0} → Raw K → K
+sink_of receiver = receiver.sink.now
+
+-- which sink that is
+abbrev pub loan_of : {K : Type 0} → Raw K → ℕ
+loan_of receiver = receiver.sink.ghost_name
+
+-- it was handed bytes, and wrote them
+pub record TookRaw {K : Type 0} (taken : K → Option (List ℕ)) (old : Raw K) (bytes : List ℕ) (new : Raw K) : Type 0 where
+  pub same : new.sink.ghost_name ≡ old.sink.ghost_name
+  pub told : Told (Took bytes) (taken old.sink.now) (taken new.sink.now)
+
+-- it was handed bytes, and wrote a part of them
+pub record TookRawPart {K : Type 0} (taken : K → Option (List ℕ)) (old : Raw K) (bytes : List ℕ) (new : Raw K) : Type 0 where
+  pub same : new.sink.ghost_name ≡ old.sink.ghost_name
+  pub told : Told (TookPart bytes) (taken old.sink.now) (taken new.sink.now)

@@ -1,0 +1,154 @@
+// The table of events: the first word of a line, and what stands behind it.
+ghost use Rattle.std.specs.Prelude.{◌≡◌, IfSome};
+ghost use Rattle.dg_text.specs.Refusals.{count_of, numbers_of, tail_of, word_of};
+
+/// Which event a line is of, by its first word.
+#[derive(Clone, Copy, Debug, PartialEq, Eq)]
+pub enum EventKind {
+    /// `array L N B K m`
+    Array,
+    /// `write b HEX`
+    Write,
+    /// `read b`
+    Read,
+    /// `fail s j`
+    Fail,
+    /// `replace s j`
+    Replace,
+    /// `rebuild s n`
+    Rebuild,
+    /// `settle`
+    Settle,
+    /// `tend n`
+    Tend,
+    /// `diffuse`
+    Diffuse,
+    /// `who b`
+    Who,
+    /// `pending`
+    Pending,
+    /// `cat PATH`
+    Cat,
+    /// `ls PATH`
+    Ls,
+    /// `tree`
+    Tree,
+    /// `home PATH`
+    Home,
+    /// `save`
+    Save,
+}
+
+/// What stands behind the numbers of a line.
+#[derive(Clone, Copy, Debug, PartialEq, Eq)]
+pub enum Tail {
+    /// Nothing more.
+    Nothing,
+    /// The bytes of a block, as hex digits.
+    Bytes,
+    /// A path.
+    Path,
+}
+
+/// The kind of event that has this first word, if there is one.
+pub fn kind_with(word: &[u8]) -> Option<EventKind>
+    ensures found { IfSome result (λ kind. word.now ≡ word_of kind) }
+    ensures exact { (kind : EventKind) → word.now ≡ word_of kind → result ≡ Some kind }
+{
+    match word {
+        b"array" => Some(EventKind::Array),
+        b"write" => Some(EventKind::Write),
+        b"read" => Some(EventKind::Read),
+        b"fail" => Some(EventKind::Fail),
+        b"replace" => Some(EventKind::Replace),
+        b"rebuild" => Some(EventKind::Rebuild),
+        b"settle" => Some(EventKind::Settle),
+        b"tend" => Some(EventKind::Tend),
+        b"diffuse" => Some(EventKind::Diffuse),
+        b"who" => Some(EventKind::Who),
+        b"pending" => Some(EventKind::Pending),
+        b"cat" => Some(EventKind::Cat),
+        b"ls" => Some(EventKind::Ls),
+        b"tree" => Some(EventKind::Tree),
+        b"home" => Some(EventKind::Home),
+        b"save" => Some(EventKind::Save),
+        _ => None,
+    }
+}
+
+impl EventKind {
+    /// The first word.
+    pub fn word(self) -> &'static [u8]
+        ensures { result.now ≡ word_of self }
+    {
+        match self {
+            EventKind::Array => b"array",
+            EventKind::Write => b"write",
+            EventKind::Read => b"read",
+            EventKind::Fail => b"fail",
+            EventKind::Replace => b"replace",
+            EventKind::Rebuild => b"rebuild",
+            EventKind::Settle => b"settle",
+            EventKind::Tend => b"tend",
+            EventKind::Diffuse => b"diffuse",
+            EventKind::Who => b"who",
+            EventKind::Pending => b"pending",
+            EventKind::Cat => b"cat",
+            EventKind::Ls => b"ls",
+            EventKind::Tree => b"tree",
+            EventKind::Home => b"home",
+            EventKind::Save => b"save",
+        }
+    }
+
+    /// How many numbers stand behind the first word.
+    pub fn numbers(self) -> usize
+        ensures { result ≡ numbers_of self }
+    {
+        match self {
+            EventKind::Array => 5,
+            EventKind::Fail | EventKind::Replace | EventKind::Rebuild => 2,
+            EventKind::Write | EventKind::Read | EventKind::Tend | EventKind::Who => 1,
+            EventKind::Settle
+            | EventKind::Diffuse
+            | EventKind::Pending
+            | EventKind::Cat
+            | EventKind::Ls
+            | EventKind::Tree
+            | EventKind::Home
+            | EventKind::Save => 0,
+        }
+    }
+
+    /// What stands behind the numbers.
+    pub fn tail(self) -> Tail
+        ensures { result ≡ tail_of self }
+    {
+        match self {
+            EventKind::Write => Tail::Bytes,
+            EventKind::Cat | EventKind::Ls | EventKind::Home => Tail::Path,
+            EventKind::Array
+            | EventKind::Read
+            | EventKind::Fail
+            | EventKind::Replace
+            | EventKind::Rebuild
+            | EventKind::Settle
+            | EventKind::Tend
+            | EventKind::Diffuse
+            | EventKind::Who
+            | EventKind::Pending
+            | EventKind::Tree
+            | EventKind::Save => Tail::Nothing,
+        }
+    }
+
+    /// How many words stand behind the first one.
+    pub fn words(self) -> usize
+        ensures { result ≡ count_of self }
+    {
+        match self.tail() {
+            Tail::Nothing => self.numbers(),
+            Tail::Bytes | Tail::Path => self.numbers() + 1,
+        }
+    }
+}

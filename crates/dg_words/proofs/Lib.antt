@@ -1,0 +1,4 @@
+mod Places
+mod Takes
+mod Plain
+mod OneCommand

@@ -1,0 +1,56 @@
+-- The commands of the program: the words of each, and the values that it takes. The words are this project's own.
+use Rattle.std.specs.Prelude.{◌≡◌, ◌⊎◌, ◌≤◌, ◌<◌, ◌^◌, ℕ, true, List, [], ◌∷◌, codes, Result, Ok, Err}
+use Rattle.std.specs.Fmt.{decimal}
+use Rattle.ufs_model.specs.Paths.{is_path}
+use Rattle.dg_text.specs.Lines.{AreBytes, path_word}
+use Rattle.dg_words.specs.declared.commands.Command.{Command}
+use Rattle.dg_words.specs.declared.commands.Command.TheVariants.{Replay, Resume, Cat, Ls, Status, Trace, Drill}
+use Rattle.dg_words.specs.declared.commands.Order.{Order}
+use Rattle.dg_words.specs.declared.commands.Order.TheVariants.{Up, Down, Late}
+use Rattle.dg_words.specs.declared.commands.WordsRefused.{WordsRefused}
+use Rattle.dg_words.specs.declared.commands.WordsRefused.TheVariants.{NoMemory}
+
+-- the word of an order
+abbrev pub order_word : Order → List ℕ
+order_word Up = codes "up"
+order_word Down = codes "down"
+order_word Late = codes "late"
+
+-- the one way to write a command
+abbrev pub words_of : Command → List (List ℕ)
+words_of Replay = codes "replay" ∷ []
+words_of Resume = codes "resume" ∷ []
+words_of (Cat path) = codes "cat" ∷ path_word path ∷ []
+words_of (Ls path) = codes "ls" ∷ path_word path ∷ []
+words_of Status = codes "status" ∷ []
+words_of (Trace order b k m) = codes "trace" ∷ order_word order ∷ decimal b ∷ decimal k ∷ decimal m ∷ []
+words_of (Drill seed files) = codes "drill" ∷ decimal seed ∷ decimal files ∷ []
+
+-- the values that a command may have
+abbrev pub HasValues : Command → Type 0
+HasValues Replay = Unit {0}
+HasValues Resume = Unit {0}
+HasValues (Cat path) = (is_path path ≡ true) × AreBytes path
+HasValues (Ls path) = (is_path path ≡ true) × AreBytes path
+HasValues Status = Unit {0}
+HasValues (Trace order b k m) = (b < 2 ^ 32) × (k < 2 ^ 32) × (m < 2 ^ 32)
+HasValues (Drill seed files) = (seed < 2 ^ 64) × (1 ≤ files) × (files ≤ 2000)
+
+-- these words are this command
+pub record IsCommand (words : List (List ℕ)) (command : Command) : Type 0 where
+  pub written : words ≡ words_of command
+  pub values : HasValues command
+
+-- the words are the one word of this path
+pub record IsPathWord (words : List (List ℕ)) (path : List ℕ) : Type 0 where
+  pub spelled : words ≡ path_word path ∷ []
+  pub well : is_path path ≡ true
+  pub bytes : AreBytes path
+
+-- a word is the word of one path at most
+abbrev pub ArePathsUnique : Type 0
+ArePathsUnique = (p q : List ℕ) → is_path p ≡ true → AreBytes p → is_path q ≡ true → AreBytes q → path_word p ≡ path_word q → p ≡ q
+
+-- the answer is this value, but for want of memory
+abbrev pub Gives : {A : Type 0} → Result A WordsRefused → A → Type 0
+Gives result x = (result ≡ Ok x) ⊎ (result ≡ Err NoMemory)
