@@ -13,3 +13,10 @@ pub mod SuperLaws
 pub mod ListLaws
 pub mod ConsultLaws
 pub mod NeedLaws
+pub mod NamingLaws
+pub mod RunLaws
+pub mod AnsweredLaws
+pub mod InodeLaws
+pub mod TreeLaws
+pub mod GrowLaws
+pub mod BranchLaws

@@ -46,7 +46,7 @@ front_fails_whole {stands = stands} {tells = tells} {before = before} {after = a
 
 -- ---- the items of a front are a front of the items
 
-abbrev joined : {A R : Type 0} → Result (List A) R → Result (List A) R → Result (List A) R
+abbrev pub joined : {A R : Type 0} → Result (List A) R → Result (List A) R → Result (List A) R
 joined (Ok x) (Ok y) = Ok (x ++ y)
 joined (Ok x) (Err e) = Err e
 joined (Err e) y = Err e

@@ -1,4 +1,6 @@
 pub mod Answers
+pub mod Parents
 pub mod Parts
 pub mod Walks
 pub mod Consults
+pub mod Trees

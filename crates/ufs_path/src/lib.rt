@@ -2,11 +2,13 @@
 //!
 //! A read of a file or a directory first consults all that its answer needs, and hands nothing on; so
 //! each refusal comes before any byte or entry. Then it reads it again, and hands on the bytes or
-//! entries. No call takes memory but [`Levels::new`].
+//! entries. No call takes memory but [`Levels::new`], [`parents`] and [`tree`].
 #![tactic(auto)]
 
 mod blocks;
+mod branches;
 mod cats;
+mod chunk_runs;
 mod directories;
 mod entries;
 mod faults;
@@ -18,11 +20,17 @@ mod list_tests;
 mod listings;
 mod lists;
 mod looks;
+mod naming;
 #[cfg(test)]
 mod order_tests;
+#[cfg(test)]
+mod parent_tests;
 mod superblocks;
 #[cfg(test)]
 mod tests;
+#[cfg(test)]
+mod tree_tests;
+mod trees;
 mod walks;
 
 pub use cats::cat;
@@ -30,6 +38,8 @@ pub use faults::{CatAnswer, LookFault};
 pub use listings::Listing;
 pub use lists::ls;
 pub use looks::look;
+pub use naming::parents;
 pub use superblocks::geometry;
+pub use trees::tree;
 pub use ufs_model::{BadRead, BadSuper, Geometry, Inode, is_path};
 pub use ufs_pointer::Levels;

@@ -10,14 +10,25 @@ use ufs_rows::Which;
 
 /// A listing in memory: the text of its entries, of which it takes so many.
 #[derive(Drop)]
-struct MemListing {
+pub struct MemListing {
     alloc: Global,
-    text: Vec<u8>,
+    /// The lines that it took.
+    pub text: Vec<u8>,
     room: usize,
     faults: u64,
 }
 
 impl MemListing {
+    /// A listing that takes so many entries.
+    pub fn new(alloc: Global, room: usize) -> MemListing {
+        MemListing {
+            alloc,
+            text: Vec::new(alloc),
+            room,
+            faults: 0,
+        }
+    }
+
     /// Writes an entry, if there is memory.
     fn write(&mut self, depth: u32, inode: u32, kind: Kind, size: u64, name: &[u8]) -> bool
         ensures { self.new.faults ≡ self.old.faults }
@@ -75,12 +86,7 @@ pub fn list(
 {
     let mut view = MemView::new(image, 1024, 128, vec![in alloc; loss]?);
     let mut levels = Levels::new(alloc, 1024)?;
-    let mut out = MemListing {
-        alloc,
-        text: Vec::new(alloc),
-        room,
-        faults: 0,
-    };
+    let mut out = MemListing::new(alloc, room);
     if !is_path(path) {
         return Err("path".into());
     }
