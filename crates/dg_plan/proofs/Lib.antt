@@ -1,0 +1,13 @@
+pub mod BesideLaws
+pub mod EachLaws
+pub mod FileLaws
+pub mod PlaceLaws
+pub mod RoomLaws
+pub mod SumLaws
+pub mod TargetLaws
+pub mod RiseLaws
+pub mod StayLaws
+pub mod GoLaws
+pub mod MarkLaws
+pub mod HousedLaws
+pub mod PlanLaws

@@ -1,0 +1,9 @@
+pub mod Beside
+pub mod Files
+pub mod Folds
+pub mod Marks
+pub mod Placings
+pub mod Planned
+pub mod Steps
+pub mod Strays
+pub mod Targets
