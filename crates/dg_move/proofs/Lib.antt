@@ -1,0 +1,8 @@
+pub mod ActLaws
+pub mod CallLaws
+pub mod CursorLaws
+pub mod MeetLaws
+pub mod MissingLaws
+pub mod SpareSteps
+pub mod StoreLaws
+pub mod TurnLaws

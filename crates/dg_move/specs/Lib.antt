@@ -1,0 +1,5 @@
+pub mod Answers
+pub mod Cursors
+pub mod Spares
+pub mod Stores
+pub mod Turns
