@@ -1,0 +1,235 @@
+-- What was fetched after a write is what the write gave reason to read.
+use Rattle.std.proofs.Common.{◌≡◌, ◌≢◌, ◌∙◌, ◌⊎◌, ℕ, ◌+◌, ◌-◌, ◌*◌, ◌/◌, ◌<◌, ◌≤◌, ◌++◌, ◌∷◌, inl, inr, List, [], Option, Some, None, IfSome, length, length-append, All, sym, ap, subst, arith, Contains}
+use Rattle.std.proofs.lemmas.Grind.{div_ceil_times}
+use Rattle.std.proofs.lemmas.List.{length-map}
+use Rattle.std.proofs.lemmas.List.Elements.{All-append, All-contains_itself, All-weaker, Contains-append_left}
+use Rattle.std.proofs.lemmas.List.Kept.{AllPairs-cons}
+use Rattle.std.specs.Int.{div_ceil}
+use Rattle.std.specs.List.{AllPairs}
+use Rattle.std.specs.Prelude.{min}
+use Rattle.dg_io.specs.declared.views.View.{Ghosts}
+use Rattle.dg_model.specs.Rereads.{AreOfGroup, ClaimPlace, IsAreaOf, IsBeside, IsChangedAt, of_areas, of_group, of_group_block, of_inodes, of_superblock}
+use Rattle.dg_model.specs.Volumes.{geometry_on}
+use Rattle.ufs_model.specs.Blocks.{Volume, area_of, area_within, bind}
+use Rattle.ufs_model.specs.Claims.{IsClaimedAt, VolumeClaims}
+use Rattle.ufs_model.specs.Geometries.{IsGeometry, IsGeometryOn, cgstart}
+use Rattle.ufs_model.specs.GroupMaps.{group_bytes}
+use Rattle.ufs_model.specs.Inodes.{inode_block}
+use Rattle.ufs_model.specs.Superblocks.{superblock_of}
+use Rattle.ufs_model.specs.declared.claims.ClaimSource.{ClaimSource}
+use Rattle.ufs_model.specs.declared.geometries.Geometry.{Geometry}
+use Rattle.ufs_pointer.specs.Superblocks.{superblock_blocks}
+use Rattle.dg_claims.specs.Tables.{ClaimTable, IsTableOf, accepted}
+use Rattle.dg_infer.proofs.AreaLaws.{area_needs, area_needed}
+use Rattle.dg_infer.proofs.FetchedLaws.{fetches_both, fetches_none}
+use Rattle.dg_infer.proofs.ListLaws.{below_cases, contains_none, once_both}
+use Rattle.dg_infer.proofs.VolumeLaws.{to_accepted}
+use Rattle.dg_infer.specs.Areas.{IsAreaRest, IsFrom, IsGroupRest, IsRest}
+use Rattle.dg_infer.specs.Bounds.{FetchesFollowing, FetchesKept, FetchesReread, IsGroupRestBy, dropped, fresh, kept}
+use Rattle.dg_infer.specs.Claimed.{IsOnce}
+use Rattle.dg_infer.specs.Fetched.{FetchesBegun, FetchesOnce, IsBegun, fragments_of}
+
+-- ---- lists
+
+all_of : {X : Type 0} (P : X → Type 0) (xs : List X) → ((x : X) → Contains xs x → P x) → All P xs
+all_of P xs each = All-weaker (Contains xs) P each xs (All-contains_itself xs)
+
+pub once_pairs : {X : Type 0} (xs : List X) → IsOnce xs → AllPairs (λ one other. one ≢ other) xs
+once_pairs [] once = λ i j d lt inside. absurd (omega (arith, inside))
+once_pairs (x ∷ xs) once =
+    AllPairs-cons (λ one other. one ≢ other) x xs (all_of (λ y. x ≢ y) xs (λ y has e. once.0 (subst (λ z. Contains xs z) (sym e) has))) (once_pairs xs (once.1))
+
+-- ---- all that was fetched
+
+read_count : (a c : List ℕ) (places : List ClaimPlace) → length (a ++ (fragments_of places ++ c)) ≡ length places + length (a ++ c)
+read_count a c places =
+    let whole = length-append a (fragments_of places ++ c) in
+    let rest = length-append (fragments_of places) c in
+    let mapped = length-map places (λ place. place.fragment) in
+    let beside = length-append a c in
+    omega (arith, whole, rest, mapped, beside)
+
+pub reread_of : {S : Type 0} (view : Ghosts S) (Super Group : ℕ → Type 0) (Known : Type 0) (l n : ℕ) (v w : Volume) (block : ℕ) (before now : ClaimSource → List ℕ) (s t u x : S)
+    → ((s t u : S) (x y : List ℕ) → view.fetched s x t → view.fetched t y u → view.fetched s (x ++ y) u)
+    → FetchesOnce view.fetched Super s t → FetchesBegun view.fetched before now 0 t u → FetchesOnce view.fetched Group u x → ((b : ℕ) → Super b → Group b → ⊥)
+    → (Known → (b : ℕ) → Super b → IsBeside l n v w block b) → (Known → (b : ℕ) → Group b → IsBeside l n v w block b)
+    → (Known → (place : ClaimPlace) → 0 < place.level → IsBegun before now place.level place.fragment → IsChangedAt l n v w place)
+    → FetchesReread view s x Known l n v w block
+reread_of view Super Group Known l n v w block before now s t u x both super begun group apart super_is group_is begun_is = record {
+  reads = record {
+    indirect = begun.places;
+    indirect_once = once_pairs begun.places begun.once;
+    changed = λ known. all_of (IsChangedAt l n v w) begun.places (λ place has. let is = begun.each place has in begun_is known place (is.0) (is.1));
+    beside = super.blocks ++ group.blocks;
+    beside_once = once_pairs (super.blocks ++ group.blocks) (once_both super.blocks group.blocks super.once group.once (λ b one other. apart b (super.each b one) (group.each b other)));
+    are_beside = λ known.
+        All-append (IsBeside l n v w block) super.blocks group.blocks (all_of (IsBeside l n v w block) super.blocks (λ b has. super_is known b (super.each b has)))
+        (all_of (IsBeside l n v w block) group.blocks (λ b has. group_is known b (group.each b has)));
+  };
+  blocks = super.blocks ++ (fragments_of begun.places ++ group.blocks);
+  were = both s t x super.blocks (fragments_of begun.places ++ group.blocks) super.were (both t u x (fragments_of begun.places) group.blocks begun.were group.were);
+  count = read_count super.blocks group.blocks begun.places;
+}
+
+-- ---- blocks beside the block
+
+pub in_superblock : (l n : ℕ) (w : Volume) (b : ℕ) → IsFrom (8192 / l) (superblock_blocks l n) b → Contains (superblock_of l n w).needs b
+unfolding superblock_of area_within bind
+in_superblock l n w b from =
+    Contains-append_left ((area_of l (8192 / l) (min (div_ceil 1376 l) (n - 8192 / l)) w).needs) [] b (area_needs l (8192 / l) (min (div_ceil 1376 l) (n - 8192 / l)) w b (from.0) (from.1))
+
+pub super_beside : (l n : ℕ) (v w : Volume) (block b : ℕ) → IsFrom (8192 / l) (div_ceil 1376 l) block → block < n → IsRest (8192 / l) (superblock_blocks l n) block b → IsBeside l n v w block b
+super_beside l n v w block b from inside rest =
+    of_superblock (in_superblock l n w block (from.0, (let low = from.0 in let high = from.1 in omega (arith, low, high, inside)))) (in_superblock l n w b (rest.from, rest.to))
+
+in_group_block : (g : Geometry) (c : ℕ) (w : Volume) (b : ℕ) → IsFrom (cgstart g c + g.cblkno) g.frag b → Contains (group_bytes g c w).needs b
+unfolding group_bytes
+in_group_block g c w b from = area_needs g.fsize (cgstart g c + g.cblkno) g.frag w b (from.0) (from.1)
+
+pub group_beside : (l n : ℕ) (v w : Volume) (g : Geometry) (block b : ℕ) → Some g ≡ accepted (geometry_on l n w) → IsGroupRest g block b → IsBeside l n v w block b
+group_beside l n v w g block b is rest =
+    of_group_block (to_accepted (geometry_on l n w) g (λ h. AreOfGroup h w block b) is (record {
+      group = rest.group;
+      within = rest.within;
+      one = in_group_block g rest.group w block rest.one;
+      other = in_group_block g rest.group w b (rest.rest.from, rest.rest.to);
+    }))
+
+pub areas_beside : (l n : ℕ) (v w : Volume) (g : Geometry) (end block b : ℕ) → geometry_on l n v ≢ geometry_on l n w → Some g ≡ accepted (geometry_on l n w) → IsAreaRest g end block b
+    → IsBeside l n v w block b
+areas_beside l n v w g end block b changed is rest = of_areas changed (inr (to_accepted (geometry_on l n w) g (λ h. IsAreaOf h w b) is (rest.area w)))
+
+-- ---- they are apart
+
+square : (s k l : ℕ) → s ≤ k → s * l ≤ k * l
+square s k l le = grind (arith)
+
+-- the superblock ends before what its geometry places
+super_end : (l s : ℕ) → 0 < l → 9568 ≤ s * l → 8192 / l + div_ceil 1376 l ≤ s
+super_end l s some far =
+    let ceil = div_ceil_times 1376 l some in
+    let q = 8192 / l in
+    let r = div_ceil 1376 l in
+    let first : q * l ≤ 8192 = omega (arith, some) in
+    let parts : (q + r) * l ≡ q * l + r * l = grind (arith) in
+    let below : (q + r) * l < s * l + l = omega (arith, parts, first, ceil.1, far) in
+    let next : s * l + l ≡ (s + 1) * l = grind (arith) in
+    elim (below_cases (q + r) (s + 1)) [
+      | inl lt ↦ omega (arith, lt)
+      | inr le ↦ absurd (let more = square (s + 1) (q + r) l le in omega (arith, more, below, next))
+    ]
+
+super_before : (l n : ℕ) (g : Geometry) (block b : ℕ) → IsGeometryOn l n g → IsRest (8192 / l) (superblock_blocks l n) block b → b < g.cblkno
+super_before l n g block b on rest =
+    let is = on.tests in
+    let size = on.fsize in
+    let far : 9568 ≤ g.sblkno * l = subst (λ (x : ℕ). 9568 ≤ g.sblkno * x) size is.sblkno in
+    let bounds = is.fsize in
+    let end = super_end l g.sblkno (omega (arith, size, bounds.0)) far in
+    let high = rest.to in
+    let order = is.cblkno in
+    omega (arith, end, high, order)
+
+pub super_not_group : (l n : ℕ) (g : Geometry) (block b : ℕ) → IsGeometryOn l n g → IsRest (8192 / l) (superblock_blocks l n) block b → IsGroupRest g block b → ⊥
+super_not_group l n g block b on super group =
+    let low = group.rest.from in
+    let early = super_before l n g block b on super in
+    omega (arith, low, early)
+
+area_after : (g : Geometry) (v : Volume) {b : ℕ} → IsGeometry g → IsAreaOf g v b → g.cblkno ≤ b
+unfolding group_bytes inode_block
+area_after g v is (of_group c small has) = let from = area_needed g.fsize (cgstart g c + g.cblkno) g.frag v _ has in omega (arith, from.0)
+area_after g v is (of_inodes i small here) = let order = is.iblkno in omega (arith, here, order)
+
+pub super_not_area : (l n : ℕ) (g : Geometry) (end block b : ℕ) → IsGeometryOn l n g → IsRest (8192 / l) (superblock_blocks l n) block b → IsAreaRest g end block b → ⊥
+super_not_area l n g end block b on super area =
+    let late = area_after g [] on.tests (area.area []) in
+    let early = super_before l n g block b on super in
+    omega (arith, late, early)
+
+-- ---- claims that began
+
+table_at : (l n : ℕ) (v : Volume) (table : ClaimTable) (level fragment : ℕ) → IsTableOf l n v table → IsClaimedAt (VolumeClaims l n v) level fragment → IsClaimedAt (λ f s. Contains (table.claimed s) f) level fragment
+table_at l n v table level fragment of at = record { source = at.source; claim = (of.claims fragment at.source).1 at.claim; is = at.is }
+
+volume_at : (l n : ℕ) (v : Volume) (table : ClaimTable) (level fragment : ℕ) → IsTableOf l n v table → IsClaimedAt (λ f s. Contains (table.claimed s) f) level fragment → IsClaimedAt (VolumeClaims l n v) level fragment
+volume_at l n v table level fragment of at = record { source = at.source; claim = (of.claims fragment at.source).0 at.claim; is = at.is }
+
+pub begun_kept : (l n : ℕ) (v w : Volume) (before now : ClaimTable) (place : ClaimPlace) → IsTableOf l n v before → IsTableOf l n w now → 0 < place.level
+    → IsBegun before.claimed now.claimed place.level place.fragment → IsChangedAt l n v w place
+begun_kept l n v w before now place was is above begun =
+    record {
+      above = above;
+      changed = inr (inl (volume_at l n w now place.level place.fragment is begun.some, λ had. begun.none (table_at l n v before place.level place.fragment was had)));
+    }
+
+pub begun_anew : (l n : ℕ) (v w : Volume) (before : ClaimSource → List ℕ) (now : ClaimTable) (place : ClaimPlace) → geometry_on l n v ≢ geometry_on l n w → IsTableOf l n w now → 0 < place.level
+    → IsBegun before now.claimed place.level place.fragment → IsChangedAt l n v w place
+begun_anew l n v w before now place changed is above begun =
+    record { above = above; changed = inr (inr (record { geometry = changed; claimed = volume_at l n w now place.level place.fragment is begun.some })) }
+
+-- ---- all that a write fetched
+
+rest_beside : (l n : ℕ) (v w : Volume) (geometry : Option Geometry) (block b : ℕ) → geometry ≡ accepted (geometry_on l n w) → IsGroupRestBy geometry block b → IsBeside l n v w block b
+rest_beside l n v w None block b is rest = absurd rest
+rest_beside l n v w (Some g) block b is rest = group_beside l n v w g block b is rest
+
+rest_apart : (l n : ℕ) (geometry : Option Geometry) (block b : ℕ) → IfSome geometry (IsGeometryOn l n) → IsRest (8192 / l) (superblock_blocks l n) block b → IsGroupRestBy geometry block b → ⊥
+rest_apart l n None block b on super rest = rest
+rest_apart l n (Some g) block b on super rest = super_not_group l n g block b on super rest
+
+-- What is known of a write: the geometries and the tables of both volumes.
+pub record IsTold (l n : ℕ) (v w : Volume) (geometry next : Option Geometry) (before now : ClaimTable) : Type 0 where
+  pub first : geometry ≡ accepted (geometry_on l n v)
+  pub second : next ≡ accepted (geometry_on l n w)
+  pub were : IsTableOf l n v before
+  pub are : IsTableOf l n w now
+
+pub bound_off : {S : Type 0} (view : Ghosts S) (Known : Type 0) (l n : ℕ) (v w : Volume) (block : ℕ) (geometry : Option Geometry) (before now : ClaimTable) (s x : S)
+    → ((s t u : S) (x y : List ℕ) → view.fetched s x t → view.fetched t y u → view.fetched s (x ++ y) u) → ((s : S) → view.fetched s [] s)
+    → FetchesKept view.fetched geometry block before.claimed now.claimed s x → (Known → IsTold l n v w geometry geometry before now) → FetchesReread view s x Known l n v w block
+bound_off view Known l n v w block geometry before now s x both none one told =
+    reread_of view (λ b. ⊥) (IsGroupRestBy geometry block) Known l n v w block before.claimed now.claimed s s one.middle x both (fetches_none view.fetched (λ b. ⊥) s (none s)) one.levels one.group
+    (λ b early rest. early) (λ known b one. absurd one) (λ known b rest. rest_beside l n v w geometry block b ((told known).second) rest)
+    (λ known place above begun. begun_kept l n v w before now place ((told known).were) ((told known).are) above begun)
+
+bound_kept : {S : Type 0} (view : Ghosts S) (Known : Type 0) (l n : ℕ) (v w : Volume) (block : ℕ) (geometry next : Option Geometry) (before now : ClaimTable) (s t x : S)
+    → ((s t u : S) (x y : List ℕ) → view.fetched s x t → view.fetched t y u → view.fetched s (x ++ y) u)
+    → IsFrom (8192 / l) (div_ceil 1376 l) block → block < n → IfSome next (IsGeometryOn l n) → geometry ≡ next
+    → FetchesOnce view.fetched (IsRest (8192 / l) (superblock_blocks l n) block) s t → FetchesKept view.fetched geometry block before.claimed now.claimed t x
+    → (Known → IsTold l n v w geometry next before now) → FetchesReread view s x Known l n v w block
+bound_kept view Known l n v w block geometry next before now s t x both from inside on same super one told =
+    reread_of view (IsRest (8192 / l) (superblock_blocks l n) block) (IsGroupRestBy geometry block) Known l n v w block before.claimed now.claimed s t one.middle x both super one.levels one.group
+    (λ b one rest. rest_apart l n geometry block b (subst (λ o. IfSome o (IsGeometryOn l n)) (sym same) on) one rest)
+    (λ known b one. super_beside l n v w block b from inside one)
+    (λ known b rest. rest_beside l n v w geometry block b (same ∙ (told known).second) rest)
+    (λ known place above begun. begun_kept l n v w before now place ((told known).were) ((told known).are) above begun)
+
+changed_volumes : (l n : ℕ) (v w : Volume) (geometry next : Option Geometry) (before now : ClaimTable) → (geometry ≡ next → ⊥) → IsTold l n v w geometry next before now → geometry_on l n v ≢ geometry_on l n w
+changed_volumes l n v w geometry next before now changed told e = changed (told.first ∙ ap accepted e ∙ sym told.second)
+
+pub bound_on : {S : Type 0} (view : Ghosts S) (Known : Type 0) (l n : ℕ) (v w : Volume) (block : ℕ) (geometry next : Option Geometry) (before now : ClaimTable) (s t x : S)
+    → ((s t u : S) (x y : List ℕ) → view.fetched s x t → view.fetched t y u → view.fetched s (x ++ y) u) → ((s : S) → view.fetched s [] s)
+    → IsFrom (8192 / l) (div_ceil 1376 l) block → block < n → IfSome next (IsGeometryOn l n)
+    → FetchesOnce view.fetched (IsRest (8192 / l) (superblock_blocks l n) block) s t → FetchesFollowing view.fetched geometry next block before.claimed now.claimed t x
+    → (Known → IsTold l n v w geometry next before now) → FetchesReread view s x Known l n v w block
+bound_on view Known l n v w block geometry next before now s t x both none from inside on super (kept same one) told =
+    bound_kept view Known l n v w block geometry next before now s t x both from inside on same super one told
+bound_on view Known l n v w block geometry next before now s t x both none from inside on super (dropped changed is one) told =
+    reread_of view (IsRest (8192 / l) (superblock_blocks l n) block) (λ b. ⊥) Known l n v w block before.claimed now.claimed s t x x both super
+    (record { places = []; were = one; once = tt; each = λ place has. absurd (contains_none place has) }) (fetches_none view.fetched (λ b. ⊥) x (none x))
+    (λ b one rest. rest) (λ known b one. super_beside l n v w block b from inside one) (λ known b rest. absurd rest)
+    (λ known place above begun. begun_kept l n v w before now place ((told known).were) ((told known).are) above begun)
+bound_on view Known l n v w block geometry next before now s t x both none from inside on super (fresh changed g is one) told =
+    let Super : ℕ → Type 0 = λ b. IsRest (8192 / l) (superblock_blocks l n) block b ⊎ IsAreaRest g g.size block b in
+    let on_g = subst (λ o. IfSome o (IsGeometryOn l n)) is on in
+    reread_of view Super (λ b. ⊥) Known l n v w block (λ source. []) now.claimed s one.middle x x both
+    (fetches_both view.fetched (IsRest (8192 / l) (superblock_blocks l n) block) (IsAreaRest g g.size block) Super s t one.middle both (λ b h. inl h) (λ b h. inr h)
+    (λ b early late. super_not_area l n g g.size block b on_g early late) super one.areas)
+    one.levels (fetches_none view.fetched (λ b. ⊥) x (none x)) (λ b one rest. rest)
+    (λ known b either. elim either [
+      | inl early ↦ super_beside l n v w block b from inside early
+      | inr late ↦ areas_beside l n v w g g.size block b (changed_volumes l n v w geometry next before now changed (told known)) (sym is ∙ (told known).second) late
+    ])
+    (λ known b rest. absurd rest)
+    (λ known place above begun. begun_anew l n v w (λ source. []) now place (changed_volumes l n v w geometry next before now changed (told known)) ((told known).are) above begun)

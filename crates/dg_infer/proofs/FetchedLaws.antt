@@ -1,0 +1,199 @@
+-- What was fetched, each block once.
+use Rattle.std.proofs.Common.{◌≡◌, ◌≢◌, ◌∙◌, ℕ, ◌+◌, ◌<◌, ◌≤◌, List, [], ◌∷◌, ◌++◌, length, inl, inr, Option, Some, None, IfSome, Result, Ok, Err, IfOk, OnOk, refl, sym, ap, subst, arith, Contains}
+use Rattle.std.proofs.lemmas.Bool.{false≢true}
+use Rattle.dg_model.specs.Rereads.{ClaimPlace}
+use Rattle.ufs_model.specs.declared.claims.ClaimSource.{ClaimSource}
+use Rattle.ufs_model.specs.declared.claims.ClaimSource.TheVariants.{Pointer}
+use Rattle.dg_infer.specs.Claimed.{IsClaimedBy}
+use Rattle.dg_infer.specs.Claimed.{IsOnce}
+use Rattle.dg_infer.proofs.ListLaws.{contains_cons, contains_front, contains_none, once_both}
+use Rattle.dg_infer.proofs.ChangeLaws.{claimed_off}
+use Rattle.dg_infer.specs.Fetched.{Begins, FetchesBegun, FetchesOnce, IsNewAt, fragments_of}
+use Rattle.dg_infer.specs.Areas.{IsAreaRest, IsGroupRest, IsInGroupBlock, IsRest}
+use Rattle.ufs_model.specs.Geometries.{cgstart}
+use Rattle.ufs_model.specs.declared.geometries.Geometry.{Geometry}
+use Rattle.dg_infer.specs.Watches.{IsDistinct, IsWatched, touch_at}
+use Rattle.dg_infer.specs.declared.watches.Touch.{Touch}
+
+pub fetches_none : {S : Type 0} (fetched : S → List ℕ → S → Type 0) (kind : ℕ → Type 0) (s : S) → fetched s [] s → FetchesOnce fetched kind s s
+fetches_none fetched kind s none = record { blocks = []; were = none; once = tt; each = λ b has. absurd (contains_none b has) }
+
+pub fetches_one : {S : Type 0} (fetched : S → List ℕ → S → Type 0) (kind : ℕ → Type 0) (b : ℕ) (s t : S) → fetched s (b ∷ []) t → kind b → FetchesOnce fetched kind s t
+fetches_one fetched kind b s t one is = record {
+  blocks = b ∷ [];
+  were = one;
+  once = (contains_none b, tt);
+  each = λ x has. elim ((contains_cons b [] x).0 has) [ inl e ↦ subst kind (sym e) is | inr h ↦ absurd (contains_none x h) ];
+}
+
+pub fetches_both : {S : Type 0} (fetched : S → List ℕ → S → Type 0) (first second all : ℕ → Type 0) (s t u : S)
+    → ((s t u : S) (x y : List ℕ) → fetched s x t → fetched t y u → fetched s (x ++ y) u)
+    → ((b : ℕ) → first b → all b) → ((b : ℕ) → second b → all b) → ((b : ℕ) → first b → second b → ⊥)
+    → FetchesOnce fetched first s t → FetchesOnce fetched second t u → FetchesOnce fetched all s u
+fetches_both fetched first second all s t u both one_in two_in apart one two = record {
+  blocks = one.blocks ++ two.blocks;
+  were = both s t u one.blocks two.blocks one.were two.were;
+  once = once_both one.blocks two.blocks one.once two.once (λ b f g. apart b (one.each b f) (two.each b g));
+  each = λ b has. elim (contains_front one.blocks two.blocks b has) [ inl h ↦ one_in b (one.each b h) | inr h ↦ two_in b (two.each b h) ];
+}
+
+pub fetches_along : {S : Type 0} (fetched : S → List ℕ → S → Type 0) (kind all : ℕ → Type 0) (s t : S) → ((b : ℕ) → kind b → all b) → FetchesOnce fetched kind s t → FetchesOnce fetched all s t
+fetches_along fetched kind all s t along one = record { blocks = one.blocks; were = one.were; once = one.once; each = λ b has. along b (one.each b has) }
+
+pub begins_more : (touches : List Touch) (claimed : ClaimSource → List ℕ) (level few count b : ℕ) → few ≤ count → Begins touches claimed level few b → Begins touches claimed level count b
+begins_more touches claimed level few count b le is = record {
+  index = is.index;
+  inside = let x = is.inside in omega arith;
+  at = is.at;
+  on = is.on;
+  none = is.none;
+  some = is.some;
+}
+
+pub begins_one : (touches : List Touch) (touch : Touch) (first now : ClaimSource → List ℕ) (level k count b : ℕ) → k < count → touch ≡ touch_at touches k
+    → (IsClaimedBy now level touch.fragment → IsClaimedBy first level touch.fragment) → IsNewAt touch now level b → Begins touches first level count b
+begins_one touches touch first now level k count b more same along h = record {
+  index = k;
+  inside = more;
+  at = ap (λ (t : Touch). t.fragment) (sym same) ∙ sym h.at;
+  on = ap (λ (t : Touch). t.level) (sym same) ∙ h.on;
+  none = ap (λ (t : Touch). t.was) (sym same) ∙ h.none;
+  some = subst (λ (x : ℕ). IsClaimedBy first level x) (sym h.at) (along h.some);
+}
+
+pub begins_apart : (touches : List Touch) (touch : Touch) (first now : ClaimSource → List ℕ) (level k b : ℕ) → IsDistinct touches → k < length touches → touch ≡ touch_at touches k
+    → Begins touches first level k b → IsNewAt touch now level b → ⊥
+begins_apart touches touch first now level k b distinct inside same before h =
+    distinct.apart before.index k before.inside inside (before.at ∙ h.at ∙ ap (λ (t : Touch). t.fragment) same) (before.on ∙ sym h.on ∙ ap (λ (t : Touch). t.level) same)
+
+pub fetches_more : {S : Type 0} (fetched : S → List ℕ → S → Type 0) (touches : List Touch) (touch : Touch) (first now : ClaimSource → List ℕ) (level k count : ℕ) (s t u : S)
+    → ((s t u : S) (x y : List ℕ) → fetched s x t → fetched t y u → fetched s (x ++ y) u) → k < count → k < length touches → touch ≡ touch_at touches k → IsDistinct touches
+    → (IsClaimedBy now level touch.fragment → IsClaimedBy first level touch.fragment) → FetchesOnce fetched (Begins touches first level k) s t
+    → FetchesOnce fetched (IsNewAt touch now level) t u → FetchesOnce fetched (Begins touches first level count) s u
+fetches_more fetched touches touch first now level k count s t u both more inside same distinct along one two =
+    fetches_both fetched (Begins touches first level k) (IsNewAt touch now level) (Begins touches first level count) s t u both
+    (λ b h. begins_more touches first level k count b (omega (arith, more)) h) (λ b h. begins_one touches touch first now level k count b more same along h)
+    (λ b f h. begins_apart touches touch first now level k b distinct inside same f h) one two
+
+-- ---- fragments with their levels
+
+abbrev places_at : ℕ → List ℕ → List ClaimPlace
+places_at level [] = []
+places_at level (b ∷ bs) = (record { fragment = b; level = level }) ∷ places_at level bs
+
+places_blocks : (level : ℕ) (bs : List ℕ) → fragments_of (places_at level bs) ≡ bs
+places_blocks level [] = refl
+places_blocks level (b ∷ bs) = ap (λ xs. b ∷ xs) (places_blocks level bs)
+
+both_blocks : (ps qs : List ClaimPlace) → fragments_of (ps ++ qs) ≡ fragments_of ps ++ fragments_of qs
+both_blocks [] qs = refl
+both_blocks (p ∷ ps) qs = ap (λ xs. p.fragment ∷ xs) (both_blocks ps qs)
+
+places_have : (level : ℕ) (bs : List ℕ) (place : ClaimPlace) → Contains (places_at level bs) place → Contains bs place.fragment × (place.level ≡ level)
+places_have level [] place has = absurd (contains_none place has)
+places_have level (x ∷ bs) place has = elim ((contains_cons (record { fragment = x; level = level }) (places_at level bs) place).0 has) [
+  | inl e ↦ ((contains_cons x bs place.fragment).1 (inl (ap (λ (p : ClaimPlace). p.fragment) e)), ap (λ (p : ClaimPlace). p.level) e)
+  | inr h ↦ let rest = places_have level bs place h in ((contains_cons x bs place.fragment).1 (inr (rest.0)), rest.1)
+]
+
+places_once : (level : ℕ) (bs : List ℕ) → IsOnce bs → IsOnce (places_at level bs)
+places_once level [] once = tt
+places_once level (b ∷ bs) once = (λ has. once.0 ((places_have level bs (record { fragment = b; level = level }) has).0), places_once level bs (once.1))
+
+pub begun_first : {S : Type 0} (fetched : S → List ℕ → S → Type 0) (before now : ClaimSource → List ℕ) (most : ℕ) (s : S) → fetched s [] s → FetchesBegun fetched before now most s s
+begun_first fetched before now most s none = record { places = []; were = none; once = tt; each = λ place has. absurd (contains_none place has) }
+
+pub begun_more : {S : Type 0} (fetched : S → List ℕ → S → Type 0) (before now next : ClaimSource → List ℕ) (touches : List Touch) (level less : ℕ) (s t u : S)
+    → ((s t u : S) (x y : List ℕ) → fetched s x t → fetched t y u → fetched s (x ++ y) u) → 1 ≤ level → less + 1 ≡ level
+    → ((source : ClaimSource) → ((upper at : ℕ) → source ≡ Pointer upper level at → ⊥) → next source ≡ now source) → IsWatched before now touches
+    → FetchesBegun fetched before now level s t → FetchesOnce fetched (Begins touches now level (length touches)) t u → FetchesBegun fetched before next less s u
+begun_more fetched before now next touches level less s t u both low is others watched one two =
+    let stays = λ (k fragment : ℕ) (le : level ≤ k). claimed_off now next level k fragment le low others in
+    record {
+      places = one.places ++ places_at level two.blocks;
+      were = subst (λ (xs : List ℕ). fetched s xs u) (sym (both_blocks one.places (places_at level two.blocks) ∙ ap (λ xs. fragments_of one.places ++ xs) (places_blocks level two.blocks)))
+          (both s t u (fragments_of one.places) two.blocks one.were two.were);
+      once = once_both one.places (places_at level two.blocks) one.once (places_once level two.blocks two.once)
+          (λ p f b. let high = (one.each p f).0 in let on = (places_have level two.blocks p b).1 in omega (arith, high, on));
+      each = λ place has. elim (contains_front one.places (places_at level two.blocks) place has) [
+        | inl f ↦
+            let old = one.each place f in
+            let begun = old.1 in
+            (omega (arith, old.0, is), record { some = stays place.level place.fragment (omega (arith, old.0)) begun.some; none = begun.none })
+        | inr b ↦
+            let here = places_have level two.blocks place b in
+            let begins = two.each place.fragment (here.0) in (
+              omega (arith, here.1, is),
+              record {
+                some = stays place.level place.fragment (omega (arith, here.1)) (subst (λ (n : ℕ). IsClaimedBy now n place.fragment) (sym (here.1)) begins.some);
+                none = λ had. false≢true (sym begins.none ∙ (watched.known begins.index begins.inside).1
+                    (subst (λ (n : ℕ). IsClaimedBy before n ((touch_at touches begins.index).fragment)) (here.1 ∙ sym begins.on)
+                    (subst (λ (x : ℕ). IsClaimedBy before place.level x) (sym begins.at) had)));
+              },
+            )
+      ];
+    }
+
+pub begun_cut : {S : Type 0} (fetched : S → List ℕ → S → Type 0) (before now : ClaimSource → List ℕ) (most less : ℕ) (s t : S) → less ≤ most → FetchesBegun fetched before now most s t → FetchesBegun fetched before now less s t
+begun_cut fetched before now most less s t le one = record {
+  places = one.places;
+  were = one.were;
+  once = one.once;
+  each = λ place has. let old = one.each place has in (omega (arith, old.0, le), old.1);
+}
+
+pub begun_fresh : {S : Type 0} (fetched : S → List ℕ → S → Type 0) (before now : ClaimSource → List ℕ) (most : ℕ) (s t : S) → FetchesBegun fetched before now most s t → FetchesBegun fetched (λ source. []) now most s t
+begun_fresh fetched before now most s t one = record {
+  places = one.places;
+  were = one.were;
+  once = one.once;
+  each = λ place has. let old = one.each place has in let begun = old.1 in (old.0, record { some = begun.some; none = λ had. contains_none place.fragment had.claim });
+}
+
+-- ---- blocks beside one that is at hand
+
+pub rest_more : {S : Type 0} (fetched : S → List ℕ → S → Type 0) (a i count block : ℕ) (s t u : S) → ((s t u : S) (x y : List ℕ) → fetched s x t → fetched t y u → fetched s (x ++ y) u)
+    → i < count → FetchesOnce fetched (IsRest a i block) s t → FetchesOnce fetched (λ b. (b ≡ a + i) × (b ≢ block)) t u → FetchesOnce fetched (IsRest a count block) s u
+rest_more fetched a i count block s t u both more one two =
+    fetches_both fetched (IsRest a i block) (λ b. (b ≡ a + i) × (b ≢ block)) (IsRest a count block) s t u both
+    (λ b h. record { from = h.from; to = (let high = h.to in omega (arith, high, more)); other = h.other })
+    (λ b h. record { from = (let at = h.0 in omega (arith, at)); to = (let at = h.0 in omega (arith, at, more)); other = h.1 })
+    (λ b f h. let high = f.to in let at = h.0 in omega (arith, high, at)) one two
+
+pub group_fetched : {S : Type 0} (fetched : S → List ℕ → S → Type 0) (g : Geometry) (c first block : ℕ) (s t : S) → c < g.ncg → IsInGroupBlock g c block → first ≡ cgstart g c + g.cblkno
+    → FetchesOnce fetched (IsRest first g.frag block) s t → FetchesOnce fetched (IsGroupRest g block) s t
+group_fetched fetched g c first block s t small in_block is one =
+    fetches_along fetched (IsRest first g.frag block) (IsGroupRest g block) s t
+    (λ b h. record { group = c; within = small; one = in_block; rest = subst (λ (a : ℕ). IsRest a g.frag block b) is h }) one
+
+pub areas_cut : {S : Type 0} (fetched : S → List ℕ → S → Type 0) (g : Geometry) (less end block : ℕ) (s t : S) → less ≤ end → FetchesOnce fetched (IsAreaRest g less block) s t
+    → FetchesOnce fetched (IsAreaRest g end block) s t
+areas_cut fetched g less end block s t le one =
+    fetches_along fetched (IsAreaRest g less block) (IsAreaRest g end block) s t (λ b h. record { before = (let high = h.before in omega (arith, high, le)); other = h.other; area = h.area }) one
+
+pub areas_more : {S : Type 0} (fetched : S → List ℕ → S → Type 0) (g : Geometry) (place end block : ℕ) (s t u : S) → ((s t u : S) (x y : List ℕ) → fetched s x t → fetched t y u → fetched s (x ++ y) u)
+    → place < end → FetchesOnce fetched (IsAreaRest g place block) s t → FetchesOnce fetched (λ b. (place ≤ b) × IsAreaRest g (place + 1) block b) t u
+    → FetchesOnce fetched (IsAreaRest g end block) s u
+areas_more fetched g place end block s t u both more one two =
+    fetches_both fetched (IsAreaRest g place block) (λ b. (place ≤ b) × IsAreaRest g (place + 1) block b) (IsAreaRest g end block) s t u both
+    (λ b h. record { before = (let high = h.before in omega (arith, high, more)); other = h.other; area = h.area })
+    (λ b h. let rest = h.1 in record { before = (let high = rest.before in omega (arith, high, more)); other = rest.other; area = rest.area })
+    (λ b f h. let high = f.before in let low = h.0 in omega (arith, high, low)) one two
+
+-- ---- answers of calls
+
+pub ok_map : {A E : Type 0} (r : Result A E) (P Q : A → Type 0) → ((a : A) → P a → Q a) → IfOk r P → IfOk r Q
+ok_map (Ok a) P Q f h = f a h
+ok_map (Err e) P Q f h = tt
+
+pub some_map : {A : Type 0} (o : Option A) (P Q : A → Type 0) → ((a : A) → P a → Q a) → IfSome o P → IfSome o Q
+some_map (Some a) P Q f h = f a h
+some_map None P Q f h = tt
+
+pub on_ok_map : {A E : Type 0} (r : Result A E) {P Q : Type 0} → (P → Q) → OnOk r P → OnOk r Q
+on_ok_map (Ok a) f h = f h
+on_ok_map (Err e) f h = tt
+
+pub on_ok_any : {A E : Type 0} (r : Result A E) {P : Type 0} → P → OnOk r P
+on_ok_any (Ok a) p = p
+on_ok_any (Err e) p = tt

@@ -1,0 +1,17 @@
+pub mod AreaLaws
+pub mod BlankLaws
+pub mod BoundLaws
+pub mod ChainLaws
+pub mod ChangeLaws
+pub mod FetchedLaws
+pub mod GroupLaws
+pub mod KindLaws
+pub mod ListLaws
+pub mod PendingLaws
+pub mod ReapLaws
+pub mod SweepLaws
+pub mod TargetLaws
+pub mod VerdictLaws
+pub mod VolumeLaws
+pub mod WatchLaws
+pub mod WriteLaws

@@ -1,0 +1,16 @@
+pub mod Areas
+pub mod AtHand
+pub mod Bounds
+pub mod Chains
+pub mod Changes
+pub mod Claimed
+pub mod Fetched
+pub mod Fits
+pub mod Inferences
+pub mod Known
+pub mod Meanings
+pub mod Seen
+pub mod Spots
+pub mod Sweeps
+pub mod Watches
+pub mod Writes
