@@ -1,0 +1,194 @@
+-- A file on a store: its copy, or none.
+use Rattle.std.proofs.Common.{◌≡◌, ◌≢◌, ◌<◌, ◌≤◌, ◌+◌, ℕ, Bool, true, false, List, [], ◌∷◌, length, get_or, take, inl, inr, refl, sym, ◌∙◌, ap, subst, arith}
+use Rattle.std.specs.Prelude.{Err, IfOk, IfSome, None, Ok, OnErr, OnOk, Option, Result, Some, if◌then◌else◌, nat_le}
+use Rattle.std.specs.List.{Contains, range_with_len}
+use Rattle.std.proofs.lemmas.Bool.{false≢true}
+use Rattle.std.proofs.lemmas.Bool.Decides.{nat_tests}
+use Rattle.dg_model.specs.Copies.{Spread, copied_to, emptiest, fitted, spread_by, spread_over}
+use Rattle.dg_model.specs.Homes.{home_of, with_home}
+use Rattle.dg_model.specs.Moves.{all_done}
+use Rattle.dg_model.specs.Placed.{IsPlaced}
+use Rattle.dg_model.specs.Plans.{blocks_of, blocks_with, is_file}
+use Rattle.dg_model.specs.States.{has_lost}
+use Rattle.dg_model.specs.Tables.{used_in}
+use Rattle.dg_model.specs.Wants.{FitWants, want_of}
+use Rattle.dg_model.specs.declared.homes.Home.{Home}
+use Rattle.dg_model.specs.declared.shapes.Shape.{Shape}
+use Rattle.dg_model.specs.declared.wants.Want.{Want}
+use Rattle.dg_model.specs.declared.wants.Want.TheVariants.{Kept, File, Stray}
+use Rattle.dg_store.specs.Stores.{members_of, shape_of, table_of}
+use Rattle.dg_store.specs.declared.store.Store.{Store}
+use Rattle.dg_hot.specs.Copied.{copies_to, is_of, of_file}
+use Rattle.dg_hot.specs.Spreads.{HasSpread, HasSpreadSome, IsSpread, SpreadsOrNot, spread_of}
+use Rattle.dg_hot.proofs.CopyLaws.{copies_sized}
+use Rattle.dg_hot.proofs.HomeLaws.{length_home}
+use Rattle.dg_hot.proofs.Lists.{among_in, filter_below, filter_both}
+use Rattle.dg_hot.proofs.PlacedLaws.{placed_copy, written_copy}
+use Rattle.dg_hot.proofs.SpreadLaws.{does_fit, emptiest_other, spread_next, spread_none}
+
+-- ---- the blocks of a file among those of some files
+
+of_some : (files : List ℕ) (i : ℕ) (want : Option Want) → Contains files i → is_file i want ≡ true → is_of files want ≡ true
+of_some files i None there e = absurd (false≢true e)
+of_some files i (Some Kept) there e = absurd (false≢true e)
+of_some files i (Some (File j)) there e =
+    let same : i ≡ j = grind (arith, nat_tests, e) in
+    among_in j files (subst (λ (n : ℕ). Contains files n) same there)
+of_some files i (Some Stray) there e = absurd (false≢true e)
+
+pub own_blocks : (wants : List (Option Want)) (files blocks : List ℕ) (i : ℕ) → blocks ≡ blocks_with (is_of files) wants → Contains files i → of_file wants i blocks ≡ blocks_of wants i
+own_blocks wants files blocks i are there =
+    ap (of_file wants i) are
+    ∙ filter_both (λ b. is_file i (want_of wants b)) (λ b. is_of files (want_of wants b)) (λ b e. of_some files i (want_of wants b) there e) (range_with_len 0 (length wants))
+
+pub blocks_below : (wants : List (Option Want)) (files blocks : List ℕ) → blocks ≡ blocks_with (is_of files) wants → (b : ℕ) → Contains blocks b → b < length wants
+blocks_below wants files blocks are b there =
+    filter_below (λ c. is_of files (want_of wants c)) (length wants) b (subst (λ (xs : List ℕ). Contains xs b) are there)
+
+-- ---- a file that fits, or not
+
+-- each block is in its place, by the wants of the written ones
+pub record IsSettled (wants : List (Option Want)) (homes : List Home) (spread : Spread) : Type 0 where
+  pub placed : IsPlaced wants spread.table homes spread.copies
+  pub fit : FitWants spread.table wants
+  pub sized : length spread.table.rows ≡ spread.table.shape.n
+
+module _ (wants : List (Option Want)) (homes : List Home) where
+  settled_copy : (i h s : ℕ) (old : Spread) → IsSettled wants homes old → home_of homes i ≡ Some h → home_of old.copies i ≡ None → s ≢ h
+      → IsSettled wants homes (copied_to i s (blocks_of wants i) old)
+  settled_copy i h s old is home none off =
+      let size = copies_sized s old.table (blocks_of wants i) in
+      let n = ap (λ (sh : Shape). sh.n) size.shape in
+      record {
+        placed = placed_copy wants old.table homes old.copies i h s is.placed is.fit is.sized home none off;
+        fit = record {
+          size = is.fit.size ∙ sym n;
+          written = λ b. is.fit.written b ∙ sym (written_copy wants old.table homes old.copies i h s is.placed is.fit is.sized home none b);
+        };
+        sized = size.rows ∙ is.sized ∙ sym n;
+      }
+
+  settled_fitted : (i h : ℕ) (best : Option ℕ) (old : Spread) → IsSettled wants homes old → home_of homes i ≡ Some h → home_of old.copies i ≡ None → IfSome best (λ s. s ≢ h)
+      → IsSettled wants homes (fitted i best (blocks_of wants i) old)
+  settled_fitted i h None old is home none off = is
+  settled_fitted i h (Some s) old is home none off = by_test (nat_le (used_in old.table s + length (blocks_of wants i)) old.table.shape.k)
+    where
+      by_test : (t : Bool) → IsSettled wants homes (if t then copied_to i s (blocks_of wants i) old else old)
+      by_test true = settled_copy i h s old is home none off
+      by_test false = is
+
+  settled_by : (i : ℕ) (home there : Option ℕ) (old : Spread) → IsSettled wants homes old → home_of homes i ≡ home → home_of old.copies i ≡ there
+      → IsSettled wants homes (spread_by wants i home there old)
+  settled_by i None there old is has none = is
+  settled_by i (Some h) (Some s) old is has none = is
+  settled_by i (Some h) None old is has none = settled_fitted i h (emptiest old.table h) old is has none (emptiest_other old.table h)
+
+  settled_over : (files : List ℕ) (old : Spread) → IsSettled wants homes old → IsSettled wants homes (spread_over wants homes files old)
+  unfolding spread_over
+  settled_over [] old is = is
+  settled_over (i ∷ files) old is =
+      settled_over files (spread_by wants i (home_of homes i) (home_of old.copies i) old) (settled_by i (home_of homes i) (home_of old.copies i) old is refl refl)
+
+-- ---- answers
+
+pub map_ok : {A E : Type 0} (r : Result A E) (P Q : A → Type 0) → ((a : A) → P a → Q a) → IfOk r P → IfOk r Q
+map_ok (Ok a) P Q step is = step a is
+map_ok (Err e) P Q step is = tt
+
+pub map_err : {A E : Type 0} (r : Result A E) (P Q : Type 0) → (P → Q) → OnErr r P → OnErr r Q
+map_err (Ok a) P Q step is = tt
+map_err (Err e) P Q step is = step is
+
+pub on_err : {A E : Type 0} (r : Result A E) (P : Type 0) → P → OnErr r P
+on_err (Ok a) P is = tt
+on_err (Err e) P is = is
+
+-- ---- on a store
+
+module _ {R : Type 0} where
+  -- nothing has changed, and nothing was to change
+  pub spreads_not : (spread : Spread) (copies : List Home) (store : Store R) → spread ≡ spread_of store copies → SpreadsOrNot spread 0 copies copies store store
+  spreads_not spread copies store e = inl (record { is = sym e; gained_is = omega arith })
+
+  -- a copy stands
+  pub spreads_one : (spread : Spread) (before after : List Home) (copy : Home) (old new : Store R) (blocks : List ℕ)
+      → after ≡ with_home copy before → table_of new ≡ all_done (table_of old) (copies_to copy.boundary blocks)
+      → used_in (table_of old) copy.boundary + length blocks ≤ (table_of old).shape.k
+      → SpreadsOrNot (fitted copy.inode (Some copy.boundary) blocks (spread_of old before)) 1 before after old new
+  spreads_one spread before after copy old new blocks list table fits = inl (record {
+    is = both ∙ sym (does_fit copy.inode copy.boundary blocks (spread_of old before) fits);
+    gained_is = ap (λ (xs : List Home). length xs) list ∙ length_home copy before;
+  })
+    where
+      both : spread_of new after ≡ copied_to copy.inode copy.boundary blocks (spread_of old before)
+      both i = record { table = table i; copies = list i }
+
+  pub same_spread : (before after : List Home) (old new : Store R) → after ≡ before → table_of new ≡ table_of old → spread_of new after ≡ spread_of old before
+  same_spread before after old new list table i = record { table = table i; copies = list i }
+
+  pub spreads_cut : (spread : Spread) (copies : List Home) (old new : Store R) → has_lost (shape_of new) (members_of new) ≡ true → table_of new ≡ table_of old
+      → SpreadsOrNot spread 0 copies copies old new
+  spreads_cut spread copies old new lost table = inr (record { lost = lost; none = refl; same = same_spread copies copies old new refl table })
+
+  -- the same by another name of the spread
+  pub spreads_as : (a b : Spread) (n : ℕ) (before after : List Home) (old new : Store R) → a ≡ b → SpreadsOrNot a n before after old new → SpreadsOrNot b n before after old new
+  spreads_as a b n before after old new e is = subst (λ (spread : Spread). SpreadsOrNot spread n before after old new) e is
+
+  -- what becomes of a copy that stands
+  pub kept_one : {E : Type 0} (r : Result ℕ E) (before after : List Home) (copy : Home) (old mid new : Store R) (blocks : List ℕ)
+      → IfOk r (λ n. n ≡ 1) → OnOk r (after ≡ with_home copy before) → OnOk r (new ≡ mid) → table_of mid ≡ all_done (table_of old) (copies_to copy.boundary blocks)
+      → used_in (table_of old) copy.boundary + length blocks ≤ (table_of old).shape.k
+      → IfOk r (λ n. SpreadsOrNot (fitted copy.inode (Some copy.boundary) blocks (spread_of old before)) n before after old new)
+  kept_one (Ok n) before after copy old mid new blocks one added stays table fits =
+      subst (λ (m : ℕ). SpreadsOrNot (fitted copy.inode (Some copy.boundary) blocks (spread_of old before)) m before after old new) (sym one)
+      (spreads_one (fitted copy.inode (Some copy.boundary) blocks (spread_of old before)) before after copy old new blocks added
+      (ap (λ (store : Store R). table_of store) stays ∙ table) fits)
+  kept_one (Err e) before after copy old mid new blocks one added stays table fits = tt
+
+  pub not_kept : {A E : Type 0} (r : Result A E) (before after : List Home) (old new : Store R) → OnErr r (after ≡ before) → OnErr r (table_of new ≡ table_of old)
+      → OnErr r (spread_of new after ≡ spread_of old before)
+  not_kept (Ok a) before after old new list table = tt
+  not_kept (Err e) before after old new list table = same_spread before after old new list table
+
+  pub settled_has : (wants : List (Option Want)) (homes : List Home) (recent : List ℕ) (count gained : ℕ) (before after : List Home) (old new : Store R)
+      → IsSettled wants homes (spread_of old before) → HasSpread wants homes recent count gained before after old new → IsSettled wants homes (spread_of new after)
+  settled_has wants homes recent count gained before after old new is has =
+      subst (IsSettled wants homes) (sym has.spread) (settled_over wants homes (take count recent) (spread_of old before) is)
+
+  pub settled_some : (wants : List (Option Want)) (homes : List Home) (recent : List ℕ) (before after : List Home) (old new : Store R)
+      → IsSettled wants homes (spread_of old before) → HasSpreadSome wants homes recent before after old new → IsPlaced wants (table_of new) homes after
+  settled_some wants homes recent before after old new is some = (settled_has wants homes recent some.count some.gained before after old new is some.has).placed
+
+  -- ---- one file after another
+
+  module _ (wants : List (Option Want)) (homes : List Home) (recent : List ℕ) where
+    pub has_none : (copies : List Home) (store : Store R) → HasSpread wants homes recent 0 0 copies copies store store
+    has_none copies store = record { spread = sym (spread_none wants homes (spread_of store copies)); gained_is = omega arith }
+
+    module _ (k n gained more i : ℕ) (before mid after : List Home) (a b c : Store R) (low : k < length recent) (at : get_or recent k 0 ≡ i) (total : n ≡ gained + more)
+        (has : HasSpread wants homes recent k gained before mid a b) where
+      next_of : IsSpread (spread_by wants i (home_of homes i) (home_of mid i) (spread_of b mid)) more mid after c → HasSpread wants homes recent (k + 1) n before after a c
+      next_of is = record {
+        spread = is.is ∙ spread_next wants homes recent k i (spread_of a before) (spread_of b mid) low at has.spread;
+        gained_is = omega (arith, is.gained_is, has.gained_is, total);
+      }
+
+      same_of : spread_of c after ≡ spread_of b mid → HasSpread wants homes recent k gained before after a c
+      same_of same = record {
+        spread = same ∙ has.spread;
+        gained_is = ap (λ (spread : Spread). length spread.copies) same ∙ has.gained_is;
+      }
+
+      pub spread_on : SpreadsOrNot (spread_by wants i (home_of homes i) (home_of mid i) (spread_of b mid)) more mid after b c
+          → has_lost (shape_of c) (members_of c) ≡ false → HasSpread wants homes recent (k + 1) n before after a c
+      spread_on tried whole = elim tried [ inl is ↦ next_of is | inr cut ↦ absurd (false≢true (sym whole ∙ cut.lost)) ]
+
+      pub spread_some : SpreadsOrNot (spread_by wants i (home_of homes i) (home_of mid i) (spread_of b mid)) more mid after b c
+          → HasSpreadSome wants homes recent before after a c
+      spread_some tried = elim tried [
+        | inl is ↦ record { count = k + 1; gained = n; has = next_of is }
+        | inr cut ↦ record { count = k; gained = gained; has = same_of cut.same }
+      ]
+
+      pub spread_same : spread_of c after ≡ spread_of b mid → HasSpreadSome wants homes recent before after a c
+      spread_same same = record { count = k; gained = gained; has = same_of same }

@@ -1,0 +1,54 @@
+-- What a spreading of copies leaves.
+use Rattle.std.specs.Prelude.{◌≡◌, ◌⊎◌, ◌+◌, ℕ, true, List, Option, length, take}
+use Rattle.dg_io.specs.declared.outside.Rack.{Ghosts}
+use Rattle.dg_model.specs.Copies.{Spread, spread_over}
+use Rattle.dg_model.specs.States.{IsLeastLost, has_lost}
+use Rattle.dg_model.specs.declared.homes.Home.{Home}
+use Rattle.dg_model.specs.declared.wants.Want.{Want}
+use Rattle.dg_store.specs.Answers.{SameWritten}
+use Rattle.dg_store.specs.Leaves.{Leaves}
+use Rattle.dg_store.specs.Stores.{KeepsBlocks, TellsAll, members_of, shape_of, table_of}
+use Rattle.dg_store.specs.declared.store.Store.{Store}
+
+-- where blocks stand, and which files have a copy
+abbrev pub spread_of : {R : Type 0} → Store R → List Home → Spread
+spread_of store copies = record { table = table_of store; copies = copies }
+
+-- Sites were taken and given up: members only fell, the same blocks are written, and the array stands for what it stood for, where each
+-- member tells its bytes.
+pub record Moved {R : Type 0} (rack : Ghosts R) (old new : Store R) : Type 0 where
+  pub leaves : Leaves rack old new
+  pub written : SameWritten (table_of old) (table_of new)
+  pub stands : TellsAll rack new → KeepsBlocks rack old new
+
+-- The first `count` of the recent files may have got copies, and so many did.
+pub record HasSpread {R : Type 0} (wants : List (Option Want)) (homes : List Home) (recent : List ℕ) (count gained : ℕ)
+    (before after : List Home) (old new : Store R) : Type 0 where
+  pub spread : spread_of new after ≡ spread_over wants homes (take count recent) (spread_of old before)
+  pub gained_is : length after ≡ length before + gained
+
+-- that is so of some front of the recent files
+pub record HasSpreadSome {R : Type 0} (wants : List (Option Want)) (homes : List Home) (recent : List ℕ)
+    (before after : List Home) (old new : Store R) : Type 0 where
+  pub count : ℕ
+  pub gained : ℕ
+  pub has : HasSpread wants homes recent count gained before after old new
+
+-- blocks stand as in this spread, and so many copies are new
+pub record IsSpread {R : Type 0} (spread : Spread) (gained : ℕ) (before after : List Home) (new : Store R) : Type 0 where
+  pub is : spread_of new after ≡ spread
+  pub gained_is : length after ≡ length before + gained
+
+-- nothing has changed, since a boundary is lost
+pub record IsCutShort {R : Type 0} (gained : ℕ) (before after : List Home) (old new : Store R) : Type 0 where
+  pub lost : has_lost (shape_of new) (members_of new) ≡ true
+  pub none : gained ≡ 0
+  pub same : spread_of new after ≡ spread_of old before
+
+-- one of both
+abbrev pub SpreadsOrNot : {R : Type 0} → Spread → ℕ → List Home → List Home → Store R → Store R → Type 0
+SpreadsOrNot spread gained before after old new = IsSpread spread gained before after new ⊎ IsCutShort gained before after old new
+
+-- boundary s is the least one that is lost now
+abbrev pub IsLost : {R : Type 0} → Store R → ℕ → Type 0
+IsLost store s = IsLeastLost (shape_of store) (members_of store) s

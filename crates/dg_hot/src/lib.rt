@@ -1,0 +1,16 @@
+//! Popular files: the inodes that were read last, and copies of their files on a second boundary.
+#![tactic(auto)]
+
+mod copies;
+mod emptiest;
+mod file_blocks;
+mod home_lists;
+mod hot;
+mod spreads;
+#[cfg(test)]
+mod tests;
+
+pub use dg_io::NoMemory;
+pub use dg_plan::{Homes, Wants};
+pub use hot::Hot;
+pub use spreads::{DiffuseAnswer, diffuse};

@@ -1,0 +1,5 @@
+mod Answers
+mod Counts
+mod Members
+mod Reaping
+mod Steps

@@ -1,0 +1,10 @@
+//! The refill of a member that was replaced: the blocks that are alive are copied, and dead ones are reaped on the way.
+#![tactic(auto)]
+
+mod rebuilds;
+mod slots;
+#[cfg(test)]
+mod tests;
+
+pub use dg_io::NoMemory;
+pub use rebuilds::{RebuildAnswer, rebuild};

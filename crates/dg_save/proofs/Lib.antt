@@ -1,0 +1,9 @@
+mod BodyLemmas
+mod CheckLemmas
+mod EncodeLemmas
+mod FormLemmas
+mod LabelLemmas
+mod PartLemmas
+mod ReadLemmas
+mod RoomLemmas
+mod SiteLemmas
