@@ -1,0 +1,70 @@
+-- The volume of a blank array is in the state of the blank array.
+use Rattle.std.proofs.Common.{◌≡◌, ◌∙◌, false, List, [], length, refl, sym, ap, subst, rules}
+use Rattle.std.specs.Prelude.{replicate}
+use Rattle.std.proofs.lemmas.List.{length-replicate}
+use Rattle.dg_infer.specs.Meanings.{KeptInference}
+use Rattle.dg_infer.specs.Meanings as inferences
+use Rattle.dg_io.specs.declared.outside.Rack.{Ghosts}
+use Rattle.dg_model.specs.Blocks.{zeros}
+use Rattle.dg_model.specs.Saves.{AreHomes}
+use Rattle.dg_model.specs.States.{IsBlank, State, plain_state}
+use Rattle.dg_model.specs.Tables.{Table, empty_table}
+use Rattle.dg_model.specs.declared.homes.Home.{Home}
+use Rattle.dg_model.specs.declared.shapes.Shape.{Shape}
+use Rattle.dg_store.specs.Answers.{IsBlankStore}
+use Rattle.dg_volume.specs.Volumes.{IsBlankVolume, StandsIn, loose_phase, members_of, rack_of, shape_of}
+use Rattle.dg_volume.specs.declared.phases.Loose.{Loose}
+use Rattle.dg_volume.specs.declared.volumes.Volume.{Volume}
+
+no_homes : (shape : Shape) → AreHomes shape []
+no_homes shape = search rules
+
+-- What is inferred of a blank volume, and that it has no homes.
+pub record IsPlain {R : Type 0} (shape : Shape) (volume : Volume Loose R) : Type 0 where
+  pub bytes : volume.phase.inference.l ≡ shape.l
+  pub number : volume.phase.inference.n ≡ shape.n
+  pub pending : volume.phase.inference.pending ≡ replicate shape.n false
+  pub inferred : inferences.StandsFor volume.phase.inference (replicate shape.n (zeros shape.l))
+  pub levels : volume.levels.fragment ≡ shape.l
+  pub homes : volume.homes ≡ []
+  pub copies : volume.copies ≡ []
+
+module _ {R : Type 0} (rack : Ghosts R) (shape : Shape) (before : R) (volume : Volume Loose R) (blank : IsBlankStore rack shape before volume.store) (plain : IsPlain shape volume) where
+  same_shape : shape_of volume ≡ shape
+  same_shape = ap (λ (t : Table). t.shape) blank.table
+
+  -- the state of the blank array
+  start : State
+  start = plain_state (empty_table shape) (replicate shape.n (zeros shape.l)) (members_of volume) (rack.counts (rack_of volume))
+
+  start_in : StandsIn loose_phase rack volume start
+  unfolding start
+  start_in = record {
+    is = λ i. record start { table = sym blank.table i; pending = sym plain.pending i; homes = sym plain.homes i; copies = sym plain.copies i };
+    label = refl;
+    holds = λ told. record { array = blank.stands; inferred = plain.inferred };
+  }
+
+  start_blank : IsBlank shape (rack.counts before) start
+  unfolding start
+  start_blank = record { is = refl; others = blank.members.others; members = blank.members.begins; counts = blank.stays.rise }
+
+  pub is_blank : IsBlankVolume rack shape before volume
+  is_blank = record {
+    well = record {
+      array = blank.sound;
+      levels = plain.levels ∙ sym (ap (λ (s : Shape). s.l) same_shape);
+      marks = ap length plain.pending ∙ length-replicate shape.n false ∙ sym (ap (λ (s : Shape). s.n) same_shape);
+      inferred = record { bytes = plain.bytes ∙ sym (ap (λ (s : Shape). s.l) same_shape); number = plain.number ∙ sym (ap (λ (s : Shape). s.n) same_shape) };
+      homes_are = subst (λ (x : List Home). AreHomes (shape_of volume) x) (sym plain.homes) (no_homes (shape_of volume));
+      copies_are = subst (λ (x : List Home). AreHomes (shape_of volume) x) (sym plain.copies) (no_homes (shape_of volume));
+      worn = λ worn. absurd (cc worn);
+    };
+    shape_is = same_shape;
+    tells = blank.stays.tells;
+    same_rack = blank.stays.same_rack;
+    state = start;
+    blank = start_blank;
+    stands = start_in;
+    few = blank.most;
+  }

@@ -1,0 +1,5 @@
+mod BlankLaws
+mod FileLaws
+mod PathSteps
+mod VolumeLaws
+mod VolumeSteps

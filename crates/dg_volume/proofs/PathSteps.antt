@@ -1,0 +1,222 @@
+-- A volume makes a step by a file that is read, or a directory that is listed, by its path.
+use Rattle.std.proofs.Common.{◌≡◌, ℕ, List, ◌++◌, sym, subst, true}
+use Rattle.std.specs.Prelude.{Option, Some, None, Result, Ok, Err, IfNone}
+use Rattle.std.specs.List.{concat}
+use Rattle.dg_io.specs.declared.outside.Rack.{Ghosts}
+use Rattle.dg_model.proofs.SealLaws.{goes_plain}
+use Rattle.dg_model.specs.Changes.{IsCutShort, MayRead}
+use Rattle.dg_model.specs.Lists.{AreLines}
+use Rattle.dg_model.specs.Sites.{is_gone}
+use Rattle.dg_model.specs.States.{State}
+use Rattle.dg_model.specs.Steps.{recent_after}
+use Rattle.dg_model.specs.declared.events.Event.TheVariants.{Cat, Ls}
+use Rattle.dg_model.specs.declared.replies.Reply.TheVariants.{Cut, Given, Listed as ListedReply, ListedCut, Refused, Unavailable as ReplyUnavailable}
+use Rattle.dg_store.specs.Stores as stores
+use Rattle.dg_volume.proofs.FileLaws.{file_number, number_in}
+use Rattle.dg_volume.proofs.VolumeLaws.{HasRead, read_keeps, reads_in, reads_stay, steps_from, told_before}
+use Rattle.dg_volume.specs.Replies.{AnswersCat, AnswersLs}
+use Rattle.dg_volume.specs.Volumes.{StandsFor, StepsTo, Tells, marks_by, members_of, rack_of, shape_of, state_of, table_of}
+use Rattle.dg_volume.specs.declared.phases.InPhase as phases
+use Rattle.dg_volume.specs.declared.volumes.Volume.{Volume}
+use Rattle.ufs_model.specs.Blocks.{Reading}
+use Rattle.ufs_model.specs.Listings.{Listed, ls_of}
+use Rattle.ufs_model.specs.Paths.{cat_of}
+use Rattle.ufs_model.specs.Readings.{ReadsAs}
+use Rattle.ufs_model.specs.Trees.{file_of}
+use Rattle.ufs_model.specs.declared.reads.PathRefusal.{PathRefusal}
+use Rattle.ufs_model.specs.declared.reads.PathRefusal.TheVariants.{NotFound as RefusedNotFound, NotDirectory as RefusedNotDirectory, NotRegular as RefusedNotRegular, Bad as RefusedBad}
+use Rattle.ufs_path.specs.Answers.{IsAnswer}
+use Rattle.ufs_path.specs.Consults.{IsUnanswered}
+use Rattle.ufs_path.specs.declared.faults.CatAnswer.{CatAnswer}
+use Rattle.ufs_path.specs.declared.faults.CatAnswer.TheVariants.{Given as AnswerGiven, NotFound, NotDirectory, Bad, Unavailable, NotRegular, Cut as AnswerCut, SinkFault}
+
+module _ {S R : Type 0} (phase : phases.Ghosts S) (rack : Ghosts R) where
+  -- some block of a volume is gone
+  abbrev pub LosesBlock : Volume S R → Type 0
+  LosesBlock volume = (b : ℕ) × (is_gone (table_of volume) (members_of volume) b ≡ true)
+
+  -- what is read of the blocks that the volume stands for
+  abbrev pub ReadsBy : {A : Type 0} → Reading A → Volume S R → Volume S R → Option A → Type 0
+  ReadsBy reading a b answer =
+      ReadsAs (stores.StandsFor rack a.store) (is_gone (table_of a) (members_of a)) (Tells rack b) (is_gone (table_of b) (members_of b)) reading answer
+
+  -- of the file at a path
+  abbrev pub Reads : List ℕ → Volume S R → Volume S R → Option (Result (List ℕ) PathRefusal) → Type 0
+  Reads path a b answer = ReadsBy (cat_of (shape_of a).l (shape_of a).n path) a b answer
+
+  -- of the directory at a path
+  abbrev pub Lists : List ℕ → Volume S R → Volume S R → Option (Result (List Listed) PathRefusal) → Type 0
+  Lists path a b answer = ReadsBy (ls_of (shape_of a).l (shape_of a).n path) a b answer
+
+  held : (a b : Volume S R) (V : List (List ℕ)) → HasRead phase rack a b → (Tells rack a → StandsFor phase rack a V) → Tells rack b → stores.StandsFor rack a.store V
+  held a b V h holds told = let all = holds (told_before phase rack a b (read_keeps phase rack a b h) told) in all.array
+
+  -- what may be answered of a state by what was read of the volume
+  may_read : {A : Type 0} (reading : Reading A) (a b : Volume S R) (rest : State) (V : List (List ℕ)) (answer : Option A) → HasRead phase rack a b
+      → (Tells rack a → StandsFor phase rack a V) → ReadsBy reading a b answer → IfNone answer (LosesBlock b)
+      → MayRead (Tells rack b) (state_of phase rack a rest V) (state_of phase rack b rest V) reading answer
+  may_read reading a b rest V answer h holds reads gone = record {
+    rule = λ told. reads.rule told V (held a b V h holds told);
+    cause = gone;
+    unwritten = h.reads.writes;
+  }
+
+  -- what was cut short
+  cut_short : {A : Type 0} (reading : Reading A) (a b : Volume S R) (rest : State) (V : List (List ℕ)) → HasRead phase rack a b
+      → (Tells rack a → StandsFor phase rack a V) → ReadsBy reading a b None → IsCutShort (Tells rack b) (state_of phase rack a rest V) (state_of phase rack b rest V) reading
+  cut_short reading a b rest V h holds lost told =
+      let rule = lost.rule told V (held a b V h holds told) in
+      rule.only
+
+  -- ---- a file
+
+  cat_refused : (path : List ℕ) (refusal : PathRefusal) (a b : Volume S R) → HasRead phase rack a b → Reads path a b (Some (Err refusal))
+      → StepsTo phase phase rack a (Cat path) (Refused refusal) b
+  cat_refused path refusal a b h reads = steps_from phase rack a b (Cat path) (Refused refusal) (λ rest V label holds. (
+    state_of phase rack b rest V,
+    reads_in phase rack a b rest V label h holds,
+    (
+      may_read (cat_of (shape_of a).l (shape_of a).n path) a b rest V (Some (Err refusal)) h holds reads tt,
+      reads_stay phase rack a b rest V label h,
+    ),
+  ))
+
+  cat_lost : (path : List ℕ) (a b : Volume S R) → HasRead phase rack a b → Reads path a b None → LosesBlock b → StepsTo phase phase rack a (Cat path) ReplyUnavailable b
+  cat_lost path a b h reads gone = steps_from phase rack a b (Cat path) ReplyUnavailable (λ rest V label holds. (
+    state_of phase rack b rest V,
+    reads_in phase rack a b rest V label h holds,
+    (
+      may_read (cat_of (shape_of a).l (shape_of a).n path) a b rest V None h holds reads gone,
+      reads_stay phase rack a b rest V label h,
+    ),
+  ))
+
+  -- the inode of the file that was given
+  abbrev inode_at : Volume S R → List ℕ → List (List ℕ) → ℕ
+  inode_at a path V = number_in ((file_of (shape_of a).l (shape_of a).n path V).value)
+
+  -- the rest of the state once it was given whole
+  abbrev touched_rest : Volume S R → List ℕ → State → List (List ℕ) → State
+  touched_rest a path rest V = record rest { recent = recent_after (phase.phase a.phase) (inode_at a path V) rest.recent }
+
+  given_steps : (path : List ℕ) (lines : List (List ℕ)) (a b : Volume S R) → HasRead phase rack a b → AreLines (shape_of a).l lines → Reads path a b (Some (Ok (concat lines)))
+      → StepsTo phase phase rack a (Cat path) (Given lines) b
+  given_steps path lines a b h are reads = steps_from phase rack a b (Cat path) (Given lines) (λ rest V label holds.
+      let next = state_of phase rack b (touched_rest a path rest V) V in (
+        next,
+        reads_in phase rack a b (touched_rest a path rest V) V label h holds,
+        (
+          are,
+          record {
+            rule = λ told. reads.rule told V (held a b V h holds told);
+            cause = tt;
+            unwritten = h.reads.writes;
+          },
+          record {
+            goes = goes_plain (state_of phase rack a rest V) next label label h.reads.keeps.stays.rise h.reads.keeps.falls h.sound.paired;
+            i = inode_at a path V;
+            is = λ told.
+                let rule = reads.rule told V (held a b V h holds told) in
+                file_number (shape_of a).l (shape_of a).n path V (concat lines) (sym rule.answer);
+            rest = λ j. record rest {
+              table = h.reads.table j;
+              blocks = V;
+              pending = marks_by (phase.kept (h.beside.phase_is j)) ((h.beside.pending j).items);
+              homes = h.beside.homes j;
+              copies = h.beside.copies j;
+              phase = phase.phase (h.beside.phase_is j);
+              members = members_of b;
+              counts = rack.counts (rack_of b);
+              recent = recent_after (phase.phase a.phase) (inode_at a path V) rest.recent;
+            };
+          },
+        ),
+      ))
+
+  cut_steps : (path : List ℕ) (lines : List (List ℕ)) (more : List ℕ) (a b : Volume S R) → HasRead phase rack a b → AreLines (shape_of a).l lines
+      → Reads path a b (Some (Ok (concat lines ++ more))) → Reads path a b None → StepsTo phase phase rack a (Cat path) (Cut lines) b
+  cut_steps path lines more a b h are reads lost = steps_from phase rack a b (Cat path) (Cut lines) (λ rest V label holds. (
+    state_of phase rack b rest V,
+    reads_in phase rack a b rest V label h holds,
+    (
+      are,
+      (more, may_read (cat_of (shape_of a).l (shape_of a).n path) a b rest V (Some (Ok (concat lines ++ more))) h holds reads tt),
+      cut_short (cat_of (shape_of a).l (shape_of a).n path) a b rest V h holds lost,
+      reads_stay phase rack a b rest V label h,
+    ),
+  ))
+
+  -- each answer
+  pub cat_answers : {C : Type 0} (took took_part : C → List ℕ → C → Type 0) (faults : C → ℕ) (old new : C) (path : List ℕ) (a b : Volume S R) (answer : CatAnswer) → HasRead phase rack a b
+      → (IsUnanswered answer → LosesBlock b) → IsAnswer took took_part faults old new (Reads path a b) answer
+      → AnswersCat took took_part faults old new (shape_of a).l (λ reply. StepsTo phase phase rack a (Cat path) reply b) answer
+  cat_answers took took_part faults old new path a b (AnswerGiven n) h cause rule =
+      (rule.0, rule.1, rule.2, λ lines are whole. given_steps path lines a b h are (subst (λ (l : List ℕ). Reads path a b (Some (Ok l))) (sym whole) rule.3))
+  cat_answers took took_part faults old new path a b NotFound h cause rule = (rule.0, cat_refused path RefusedNotFound a b h rule.1)
+  cat_answers took took_part faults old new path a b NotDirectory h cause rule = (rule.0, cat_refused path RefusedNotDirectory a b h rule.1)
+  cat_answers took took_part faults old new path a b (Bad bad) h cause rule = (rule.0, cat_refused path (RefusedBad bad) a b h rule.1)
+  cat_answers took took_part faults old new path a b Unavailable h cause rule = (rule.0, cat_lost path a b h rule.1 (cause tt))
+  cat_answers took took_part faults old new path a b NotRegular h cause rule = (rule.0, cat_refused path RefusedNotRegular a b h rule.1)
+  cat_answers took took_part faults old new path a b (AnswerCut n) h cause rule =
+      (rule.0, rule.2, rule.3, λ lines are whole. cut_steps path lines rule.1 a b h are (subst (λ (l : List ℕ). Reads path a b (Some (Ok (l ++ rule.1)))) (sym whole) rule.4) rule.5)
+  cat_answers took took_part faults old new path a b SinkFault h cause rule =
+      (rule.0, rule.1, rule.3, λ lines are whole. given_steps path lines a b h are (subst (λ (l : List ℕ). Reads path a b (Some (Ok l))) (sym whole) rule.2))
+
+  -- ---- a directory
+
+  ls_refused : (path : List ℕ) (refusal : PathRefusal) (a b : Volume S R) → HasRead phase rack a b → Lists path a b (Some (Err refusal))
+      → StepsTo phase phase rack a (Ls path) (Refused refusal) b
+  ls_refused path refusal a b h reads = steps_from phase rack a b (Ls path) (Refused refusal) (λ rest V label holds. (
+    state_of phase rack b rest V,
+    reads_in phase rack a b rest V label h holds,
+    (
+      may_read (ls_of (shape_of a).l (shape_of a).n path) a b rest V (Some (Err refusal)) h holds reads tt,
+      reads_stay phase rack a b rest V label h,
+    ),
+  ))
+
+  ls_lost : (path : List ℕ) (a b : Volume S R) → HasRead phase rack a b → Lists path a b None → LosesBlock b → StepsTo phase phase rack a (Ls path) ReplyUnavailable b
+  ls_lost path a b h reads gone = steps_from phase rack a b (Ls path) ReplyUnavailable (λ rest V label holds. (
+    state_of phase rack b rest V,
+    reads_in phase rack a b rest V label h holds,
+    (
+      may_read (ls_of (shape_of a).l (shape_of a).n path) a b rest V None h holds reads gone,
+      reads_stay phase rack a b rest V label h,
+    ),
+  ))
+
+  listed_steps : (path : List ℕ) (entries : List Listed) (a b : Volume S R) → HasRead phase rack a b → Lists path a b (Some (Ok entries))
+      → StepsTo phase phase rack a (Ls path) (ListedReply entries) b
+  listed_steps path entries a b h reads = steps_from phase rack a b (Ls path) (ListedReply entries) (λ rest V label holds. (
+    state_of phase rack b rest V,
+    reads_in phase rack a b rest V label h holds,
+    (
+      may_read (ls_of (shape_of a).l (shape_of a).n path) a b rest V (Some (Ok entries)) h holds reads tt,
+      reads_stay phase rack a b rest V label h,
+    ),
+  ))
+
+  listed_cut_steps : (path : List ℕ) (entries more : List Listed) (a b : Volume S R) → HasRead phase rack a b → Lists path a b (Some (Ok (entries ++ more))) → Lists path a b None
+      → StepsTo phase phase rack a (Ls path) (ListedCut entries) b
+  listed_cut_steps path entries more a b h reads lost = steps_from phase rack a b (Ls path) (ListedCut entries) (λ rest V label holds. (
+    state_of phase rack b rest V,
+    reads_in phase rack a b rest V label h holds,
+    (
+      (more, may_read (ls_of (shape_of a).l (shape_of a).n path) a b rest V (Some (Ok (entries ++ more))) h holds reads tt),
+      cut_short (ls_of (shape_of a).l (shape_of a).n path) a b rest V h holds lost,
+      reads_stay phase rack a b rest V label h,
+    ),
+  ))
+
+  -- each answer
+  pub ls_answers : {C : Type 0} (took took_part : C → List Listed → C → Type 0) (faults : C → ℕ) (old new : C) (path : List ℕ) (a b : Volume S R) (answer : CatAnswer) → HasRead phase rack a b
+      → (IsUnanswered answer → LosesBlock b) → IsAnswer took took_part faults old new (Lists path a b) answer
+      → AnswersLs took took_part faults old new (λ reply. StepsTo phase phase rack a (Ls path) reply b) answer
+  ls_answers took took_part faults old new path a b (AnswerGiven n) h cause rule = (rule.0, rule.1, rule.2, listed_steps path rule.0 a b h rule.3)
+  ls_answers took took_part faults old new path a b NotFound h cause rule = (rule.0, ls_refused path RefusedNotFound a b h rule.1)
+  ls_answers took took_part faults old new path a b NotDirectory h cause rule = (rule.0, ls_refused path RefusedNotDirectory a b h rule.1)
+  ls_answers took took_part faults old new path a b (Bad bad) h cause rule = (rule.0, ls_refused path (RefusedBad bad) a b h rule.1)
+  ls_answers took took_part faults old new path a b Unavailable h cause rule = (rule.0, ls_lost path a b h rule.1 (cause tt))
+  ls_answers took took_part faults old new path a b NotRegular h cause rule = (rule.0, ls_refused path RefusedNotRegular a b h rule.1)
+  ls_answers took took_part faults old new path a b (AnswerCut n) h cause rule = (rule.0, rule.2, rule.3, listed_cut_steps path rule.0 rule.1 a b h rule.4 rule.5)
+  ls_answers took took_part faults old new path a b SinkFault h cause rule = (rule.0, rule.1, rule.3, listed_steps path rule.0 a b h rule.2)

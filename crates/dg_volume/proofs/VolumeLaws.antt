@@ -1,0 +1,150 @@
+-- What calls that keep all of a volume but its array leave of it.
+use Rattle.std.proofs.Common.{◌≡◌, ◌∙◌, ◌<◌, ◌/◌, ℕ, true, List, length, refl, sym, ap, subst}
+use Rattle.std.specs.Prelude.{None, IfSome}
+use Rattle.dg_infer.specs.Meanings.{KeptInference}
+use Rattle.dg_infer.specs.Meanings as inferences
+use Rattle.dg_io.specs.Told.{StillTold}
+use Rattle.dg_io.specs.declared.outside.Rack.{Ghosts}
+use Rattle.dg_model.proofs.MemberLaws.{NoneRecovers, good_was, has_lost_at, has_lost_from, lost_stays}
+use Rattle.dg_model.proofs.SealLaws.{stays_plain}
+use Rattle.dg_model.specs.Changes.{Stays}
+use Rattle.dg_model.specs.Members.{MembersFall}
+use Rattle.dg_model.specs.Saves.{AreHomes}
+use Rattle.dg_model.specs.States.{CountsRise, State, has_lost}
+use Rattle.dg_model.specs.Steps.{Step}
+use Rattle.dg_model.specs.Tables.{Table}
+use Rattle.dg_model.specs.declared.events.Event.{Event}
+use Rattle.dg_model.specs.declared.homes.Home.{Home}
+use Rattle.dg_model.specs.declared.members.MemberState.{MemberState}
+use Rattle.dg_model.specs.declared.replies.Reply.{Reply}
+use Rattle.dg_model.specs.declared.shapes.Shape.{Shape}
+use Rattle.dg_store.specs.Stores.{IsSound, KeepsBlocks}
+use Rattle.dg_store.specs.Views.{ReadsOn}
+use Rattle.dg_volume.specs.Volumes.{FitsArray, IsWell, Leaves, StandsFor, StandsIn, StepsTo, Tells, marks_by, marks_of, members_of, rack_of, shape_of, state_of, table_of}
+use Rattle.dg_volume.specs.declared.phases.InPhase as phases
+use Rattle.dg_volume.specs.declared.volumes.Volume.{Volume}
+
+lost_on : (shape : Shape) (old new : ℕ → MemberState) → NoneRecovers old new → has_lost shape old ≡ true → has_lost shape new ≡ true
+lost_on shape old new back lost =
+    let found = has_lost_from shape old lost in
+    has_lost_at shape new found.0 found.1 (lost_stays old new found.0 back found.2)
+
+module _ {S R : Type 0} (phase : phases.Ghosts S) (rack : Ghosts R) where
+  -- all but the array and the buffers is as it was
+  pub record IsBeside (a b : Volume S R) : Type 0 where
+    pub phase_is : b.phase ≡ a.phase
+    pub pending : b.pending ≡ a.pending
+    pub homes : b.homes ≡ a.homes
+    pub copies : b.copies ≡ a.copies
+
+  -- what any such call keeps of the array
+  pub record Keeps (a b : Volume S R) : Type 0 where
+    pub beside : IsBeside a b
+    pub levels : b.levels.fragment ≡ a.levels.fragment
+    pub sound : IsSound rack b.store
+    pub table : table_of b ≡ table_of a
+    pub tells : StillTold (rack.bytes (rack_of a)) (rack.bytes (rack_of b))
+    pub same_rack : rack.name (rack_of b) ≡ rack.name (rack_of a)
+    pub back : NoneRecovers (members_of a) (members_of b)
+    pub stands : KeepsBlocks rack a.store b.store
+
+  pub shape_kept : (a b : Volume S R) → Keeps a b → shape_of b ≡ shape_of a
+  shape_kept a b keeps = ap (λ (t : Table). t.shape) keeps.table
+
+  marks_kept : (a b : Volume S R) → IsBeside a b → marks_of phase b ≡ marks_of phase a
+  marks_kept a b beside = λ i. marks_by (phase.kept (beside.phase_is i)) ((beside.pending i).items)
+
+  well_on : (a b : Volume S R) → IsWell phase rack a → Keeps a b → IsWell phase rack b
+  well_on a b well keeps =
+      let shape = shape_kept a b keeps in
+      let fits = subst (λ (x : Shape). IfSome (phase.kept a.phase) (FitsArray x)) (sym shape) well.inferred in
+      let homes = subst (λ (x : Shape). AreHomes x a.homes) (sym shape) well.homes_are in
+      let copies = subst (λ (x : Shape). AreHomes x a.copies) (sym shape) well.copies_are in
+      record {
+        array = keeps.sound;
+        levels = keeps.levels ∙ well.levels ∙ sym (ap (λ (x : Shape). x.l) shape);
+        marks = ap length (marks_kept a b keeps.beside) ∙ well.marks ∙ sym (ap (λ (x : Shape). x.n) shape);
+        inferred = subst (λ (p : S). IfSome (phase.kept p) (FitsArray (shape_of b))) (sym keeps.beside.phase_is) fits;
+        homes_are = subst (λ (x : List Home). AreHomes (shape_of b) x) (sym keeps.beside.homes) homes;
+        copies_are = subst (λ (x : List Home). AreHomes (shape_of b) x) (sym keeps.beside.copies) copies;
+        worn = λ worn.
+            let lost = lost_on (shape_of a) (members_of a) (members_of b) keeps.back (well.worn (ap phase.phase (sym keeps.beside.phase_is) ∙ worn)) in
+            ap (λ (x : Shape). has_lost x (members_of b)) shape ∙ lost;
+      }
+
+  pub leaves : (a b : Volume S R) → IsWell phase rack a → Keeps a b → Leaves phase phase rack a b
+  leaves a b well keeps = record { well = well_on a b well keeps; shape = shape_kept a b keeps; tells = keeps.tells; same_rack = keeps.same_rack }
+
+  -- ---- states
+
+  -- a state of the volume, and a step to it from the state with this rest and these blocks that another was in
+  abbrev pub StepsAt : Volume S R → State → List (List ℕ) → Event → Reply → Volume S R → Type 0
+  StepsAt a rest V event reply b = (next : State) × StandsIn phase rack b next × Step (Tells rack b) (state_of phase rack a rest V) event reply next
+
+  -- the same of all such states
+  abbrev pub StepsFrom : Volume S R → Event → Reply → Volume S R → Type 0
+  StepsFrom a event reply b = (rest : State) (V : List (List ℕ)) → rest.label ≡ None → (Tells rack a → StandsFor phase rack a V) → StepsAt a rest V event reply b
+
+  pub steps_from : (a b : Volume S R) (event : Event) (reply : Reply) → StepsFrom a event reply b → StepsTo phase phase rack a event reply b
+  steps_from a b event reply h state st =
+      subst (λ (s : State). (next : State) × StandsIn phase rack b next × Step (Tells rack b) s event reply next) (sym st.is) (h state state.blocks st.label st.holds)
+
+  -- what is told in the end was told before
+  pub told_before : (a b : Volume S R) → Keeps a b → Tells rack b → Tells rack a
+  told_before a b keeps told q below = keeps.tells q (told q (subst (λ (s : Shape). q / 2 < s.b) (sym (shape_kept a b keeps)) below))
+
+  holds_on : (a b : Volume S R) (V : List (List ℕ)) → Keeps a b → StandsFor phase rack a V → StandsFor phase rack b V
+  holds_on a b V keeps holds = record {
+    array = keeps.stands V holds.array;
+    inferred = subst (λ (p : S). IfSome (phase.kept p) (λ kept. inferences.StandsFor kept V)) (sym keeps.beside.phase_is) holds.inferred;
+  }
+
+  -- it is in the state with the same rest and blocks
+  pub still_in : (a b : Volume S R) (rest : State) (V : List (List ℕ)) → rest.label ≡ None → Keeps a b → (Tells rack a → StandsFor phase rack a V) → StandsIn phase rack b (state_of phase rack b rest V)
+  still_in a b rest V label keeps holds = record { is = refl; label = label; holds = λ told. holds_on a b V keeps (holds (told_before a b keeps told)) }
+
+  -- and it stays in it where its members fall
+  pub stays : (a b : Volume S R) (rest : State) (V : List (List ℕ)) → rest.label ≡ None → Keeps a b → CountsRise (rack.counts (rack_of a)) (rack.counts (rack_of b))
+      → MembersFall (rack.counts (rack_of a)).faults (rack.counts (rack_of b)).faults (members_of a) (members_of b)
+      → Stays (state_of phase rack a rest V) (state_of phase rack b rest V)
+  stays a b rest V label keeps rises falls = stays_plain (state_of phase rack a rest V) (state_of phase rack b rest V) label label rises falls keeps.sound.paired (λ i. record rest {
+    table = keeps.table i;
+    blocks = V;
+    pending = marks_kept a b keeps.beside i;
+    homes = keeps.beside.homes i;
+    copies = keeps.beside.copies i;
+    phase = phase.phase (keeps.beside.phase_is i);
+    members = members_of b;
+    counts = rack.counts (rack_of b);
+  })
+
+  -- ---- reads
+
+  -- what reads left
+  pub record HasRead (a b : Volume S R) : Type 0 where
+    pub beside : IsBeside a b
+    pub levels : b.levels.fragment ≡ a.levels.fragment
+    pub sound : IsSound rack b.store
+    pub reads : ReadsOn rack a.store b.store
+    pub stands : KeepsBlocks rack a.store b.store
+
+  pub read_keeps : (a b : Volume S R) → HasRead a b → Keeps a b
+  read_keeps a b h = record {
+    beside = h.beside;
+    levels = h.levels;
+    sound = h.sound;
+    table = h.reads.table;
+    tells = h.reads.keeps.stays.tells;
+    same_rack = h.reads.keeps.stays.same_rack;
+    back = λ q. good_was (rack.counts (rack_of a)).faults (rack.counts (rack_of b)).faults (members_of a) (members_of b) q h.reads.keeps.falls;
+    stands = h.stands;
+  }
+
+  pub reads_stay : (a b : Volume S R) (rest : State) (V : List (List ℕ)) → rest.label ≡ None → HasRead a b → Stays (state_of phase rack a rest V) (state_of phase rack b rest V)
+  reads_stay a b rest V label h = stays a b rest V label (read_keeps a b h) h.reads.keeps.stays.rise h.reads.keeps.falls
+
+  pub reads_in : (a b : Volume S R) (rest : State) (V : List (List ℕ)) → rest.label ≡ None → HasRead a b → (Tells rack a → StandsFor phase rack a V) → StandsIn phase rack b (state_of phase rack b rest V)
+  reads_in a b rest V label h holds = still_in a b rest V label (read_keeps a b h) holds
+
+  pub reads_leave : (a b : Volume S R) → IsWell phase rack a → HasRead a b → Leaves phase phase rack a b
+  reads_leave a b well h = leaves a b well (read_keeps a b h)

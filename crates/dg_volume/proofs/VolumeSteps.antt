@@ -1,0 +1,170 @@
+-- A volume makes a step by a read of a block, and by a failure of a member.
+use Rattle.std.proofs.Common.{◌≡◌, ◌≢◌, ◌∙◌, ◌<◌, ◌+◌, ◌*◌, ◌/◌, ℕ, Bool, true, false, List, length, refl, sym, ap, subst, arith, inl, inr}
+use Rattle.std.specs.Prelude.{Option}
+use Rattle.std.proofs.lemmas.Bool.{cases_eq, cases_lt, false≢true}
+use Rattle.dg_io.specs.Told.{StillTold}
+use Rattle.dg_io.specs.declared.outside.Rack.{Ghosts}
+use Rattle.dg_model.proofs.MemberLaws.{struck_good_was}
+use Rattle.dg_model.specs.Blocks.{IsTrimmed}
+use Rattle.dg_model.specs.Changes.{IsMember, ReadsFew}
+use Rattle.dg_model.specs.Members.{ArePaired, IsStruck, is_good}
+use Rattle.dg_model.specs.Seals.{LastLabel, label_after}
+use Rattle.dg_model.specs.Sites.{is_gone}
+use Rattle.dg_model.specs.States.{State}
+use Rattle.dg_model.specs.Tables.{sites_in}
+use Rattle.dg_model.specs.declared.events.Event.TheVariants.{Fail, Read}
+use Rattle.dg_model.specs.declared.members.MemberState.{MemberState}
+use Rattle.dg_model.specs.declared.members.MemberState.TheVariants.{Out}
+use Rattle.dg_model.specs.declared.replies.Reply.TheVariants.{Already, Data, Done, Unavailable}
+use Rattle.dg_store.specs.Leaves.{CallsAtMost, NoFault}
+use Rattle.dg_store.specs.Stores.{HasBlock, IsSound, KeepsBlocks}
+use Rattle.dg_store.specs.Stores as stores
+use Rattle.dg_volume.proofs.VolumeLaws.{HasRead, IsBeside, Keeps, leaves, read_keeps, reads_in, reads_stay, steps_from, still_in, told_before}
+use Rattle.dg_volume.specs.Volumes.{IsWell, Leaves, StepsTo, Tells, marks_by, members_of, rack_of, shape_of, state_of, table_of}
+use Rattle.dg_volume.specs.declared.phases.InPhase as phases
+use Rattle.dg_volume.specs.declared.volumes.Volume.{Volume}
+
+pub false_of : (b : Bool) → (b ≡ true → ⊥) → b ≡ false
+false_of true none = absurd (none refl)
+false_of false none = refl
+
+-- where a member was out already, making it fail changes no member: one that was refilled has another partner
+struck_same : (q : ℕ) (old new : ℕ → MemberState) → ArePaired old → old q ≡ Out → IsStruck q old new → (p : ℕ) → new p ≡ old p
+struck_same q old new paired out struck p = elim (cases_eq p q) [
+  | inl here ↦ ap new here ∙ struck.out ∙ sym out ∙ ap old (sym here)
+  | inr other ↦ elim (struck.others p other) [
+    | inl same ↦ same
+    | inr gone ↦
+        let good : is_good (old q) ≡ true = subst (λ (k : ℕ). is_good (old k) ≡ true) gone.2 (paired p gone.0) in
+        absurd (false≢true (sym (ap is_good out) ∙ good))
+  ]
+]
+
+module _ {S R : Type 0} (phase : phases.Ghosts S) (rack : Ghosts R) where
+  -- good members are among those of the array
+  tells_good : (volume : Volume S R) → IsSound rack volume.store → Tells rack volume → stores.Tells rack volume.store
+  tells_good volume sound told q good = elim (cases_lt (q / 2) (shape_of volume).b) [
+    | inl below ↦ told q below
+    | inr past ↦ let no = sound.others q (omega arith) in absurd (cc (good, no))
+  ]
+
+  -- ---- reads
+
+  pub record HasReadBlock (a : Volume S R) (block : ℕ) (b : Volume S R) : Type 0 where
+    pub within : block < (shape_of a).n
+    pub read : HasRead phase rack a b
+    pub most : CallsAtMost rack a.store b.store (2 * length (sites_in (table_of a) block))
+    pub once : NoFault rack a.store b.store → CallsAtMost rack a.store b.store 1
+
+  few : (a : Volume S R) (block : ℕ) (b : Volume S R) (rest : State) (V : List (List ℕ)) → HasReadBlock a block b
+      → ReadsFew (state_of phase rack a rest V) block (state_of phase rack b rest V)
+  few a block b rest V h = record { unwritten = h.read.reads.writes; most = h.most; one = h.once }
+
+  pub steps_data : (a : Volume S R) (block : ℕ) (bytes value : List ℕ) (b : Volume S R) → HasReadBlock a block b → is_gone (table_of b) (members_of b) block ≡ false
+      → IsTrimmed bytes value → (stores.Tells rack b.store → HasBlock rack a.store block value) → StepsTo phase phase rack a (Read block) (Data bytes) b
+  steps_data a block bytes value b h here trimmed got = steps_from phase rack a b (Read block) (Data bytes) (λ rest V label holds. (
+    state_of phase rack b rest V,
+    reads_in phase rack a b rest V label h.read holds,
+    (
+      h.within,
+      here,
+      λ told.
+          let held = holds (told_before phase rack a b (read_keeps phase rack a b h.read) told) in
+          subst (λ (x : List ℕ). IsTrimmed bytes x) (got (tells_good b h.read.sound told) V held.array) trimmed,
+      few a block b rest V h,
+      reads_stay phase rack a b rest V label h.read,
+    ),
+  ))
+
+  pub steps_gone : (a : Volume S R) (block : ℕ) (b : Volume S R) → HasReadBlock a block b → is_gone (table_of b) (members_of b) block ≡ true
+      → StepsTo phase phase rack a (Read block) Unavailable b
+  steps_gone a block b h gone = steps_from phase rack a b (Read block) Unavailable (λ rest V label holds. (
+    state_of phase rack b rest V,
+    reads_in phase rack a b rest V label h.read holds,
+    (
+      h.within,
+      gone,
+      few a block b rest V h,
+      reads_stay phase rack a b rest V label h.read,
+    ),
+  ))
+
+  -- ---- failures
+
+  pub record HasFailed (a : Volume S R) (s j : ℕ) (b : Volume S R) : Type 0 where
+    pub boundary : s < (shape_of a).b
+    pub side : j < 2
+    pub beside : IsBeside phase rack a b
+    pub levels : b.levels.fragment ≡ a.levels.fragment
+    pub sound : IsSound rack b.store
+    pub rack_is : rack_of b ≡ rack_of a
+    pub table : table_of b ≡ table_of a
+    pub struck : IsStruck (2 * s + j) (members_of a) (members_of b)
+    pub stands : KeepsBlocks rack a.store b.store
+
+  is_member : (a : Volume S R) (rest : State) (V : List (List ℕ)) (s j : ℕ) (b : Volume S R) → HasFailed a s j b → IsMember (state_of phase rack a rest V) s j
+  is_member a rest V s j b h = record { boundary = h.boundary; side = h.side }
+
+  fail_keeps : (a : Volume S R) (s j : ℕ) (b : Volume S R) → HasFailed a s j b → Keeps phase rack a b
+  fail_keeps a s j b h = record {
+    beside = h.beside;
+    levels = h.levels;
+    sound = h.sound;
+    table = h.table;
+    tells = subst (λ (r : R). StillTold (rack.bytes (rack_of a)) (rack.bytes r)) (sym h.rack_is) (λ q told. told);
+    same_rack = ap rack.name h.rack_is;
+    back = λ q good. struck_good_was (2 * s + j) (members_of a) (members_of b) q h.struck good;
+    stands = h.stands;
+  }
+
+  pub fail_leaves : (a : Volume S R) (s j : ℕ) (b : Volume S R) → IsWell phase rack a → HasFailed a s j b → Leaves phase phase rack a b
+  fail_leaves a s j b well h = leaves phase rack a b well (fail_keeps a s j b h)
+
+  pub steps_struck : (a : Volume S R) (s j : ℕ) (b : Volume S R) → HasFailed a s j b → members_of a (2 * s + j) ≢ Out → StepsTo phase phase rack a (Fail s j) Done b
+  steps_struck a s j b h stood = steps_from phase rack a b (Fail s j) Done (λ rest V label holds. (
+    state_of phase rack b rest V,
+    still_in phase rack a b rest V label (fail_keeps a s j b h) holds,
+    (
+      is_member a rest V s j b h,
+      stood,
+      record {
+        members = h.struck;
+        paired = h.sound.paired;
+        rest = λ i. record rest {
+          table = h.table i;
+          blocks = V;
+          pending = marks_by (phase.kept (h.beside.phase_is i)) ((h.beside.pending i).items);
+          homes = h.beside.homes i;
+          copies = h.beside.copies i;
+          phase = phase.phase (h.beside.phase_is i);
+          members = members_of b;
+          label = (label ∙ sym (ap (λ (l : Option LastLabel). label_after false (members_of a) (members_of b) l) label)) i;
+          counts = rack.counts (h.rack_is i);
+        };
+      },
+    ),
+  ))
+
+  -- a member that is out already: nothing changes
+  pub steps_already : (a : Volume S R) (s j : ℕ) (b : Volume S R) → HasFailed a s j b → IsSound rack a.store → members_of a (2 * s + j) ≡ Out
+      → StepsTo phase phase rack a (Fail s j) Already b
+  steps_already a s j b h sound out =
+      let same = struck_same (2 * s + j) (members_of a) (members_of b) sound.paired out h.struck in
+      steps_from phase rack a b (Fail s j) Already (λ rest V label holds. (
+        state_of phase rack b rest V,
+        still_in phase rack a b rest V label (fail_keeps a s j b h) holds,
+        (
+          is_member a rest V s j b h,
+          out,
+          λ i. record rest {
+            table = h.table i;
+            blocks = V;
+            pending = marks_by (phase.kept (h.beside.phase_is i)) ((h.beside.pending i).items);
+            homes = h.beside.homes i;
+            copies = h.beside.copies i;
+            phase = phase.phase (h.beside.phase_is i);
+            members = λ p. same p i;
+            counts = rack.counts (h.rack_is i);
+          },
+        ),
+      ))

@@ -1,0 +1,79 @@
+use Rattle.std.proofs.Common.{◌≡◌, refl, ap, arith}
+use Rattle.dg_model.specs.declared.shapes.Shape.{Shape}
+use Rattle.dg_volume.proofs.VolumeSteps.{fail_leaves, steps_already, steps_struck}
+use Rattle.dg_volume.specs.Volumes.{shape_of}
+use Rattle.dg_volume.proofs.volumes.Volume.fail.Goals as goal
+
+pub returns-in-Already-clause-leaves : goal.returns-in-Already-clause-leaves
+returns-in-Already-clause-leaves g c =
+    let a = c.args.self.now in
+    let k = c.in-Already.ensures in
+    let b : c.shape.result.now.b ≡ (shape_of a).b = ap (λ (x : Shape). x.b) c.shape.ensures in
+    fail_leaves g.S.InPhase g.R.Rack a c.args.boundary c.args.side (record a { store = c.fail.new.self }) c.requires.well
+    (record {
+      boundary = omega arith;
+      side = omega arith;
+      beside = record { phase_is = refl; pending = refl; homes = refl; copies = refl };
+      levels = refl;
+      sound = k.sound;
+      rack_is = k.rack;
+      table = k.table;
+      struck = k.struck;
+      stands = k.stands;
+    })
+
+pub returns-in-Taken-clause-leaves : goal.returns-in-Taken-clause-leaves
+returns-in-Taken-clause-leaves g c =
+    let a = c.args.self.now in
+    let k = c.in-Taken.ensures in
+    let b : c.shape.result.now.b ≡ (shape_of a).b = ap (λ (x : Shape). x.b) c.shape.ensures in
+    fail_leaves g.S.InPhase g.R.Rack a c.args.boundary c.args.side (record a { store = c.fail.new.self }) c.requires.well
+    (record {
+      boundary = omega arith;
+      side = omega arith;
+      beside = record { phase_is = refl; pending = refl; homes = refl; copies = refl };
+      levels = refl;
+      sound = k.sound;
+      rack_is = k.rack;
+      table = k.table;
+      struck = k.struck;
+      stands = k.stands;
+    })
+
+pub returns-in-Already-clause-steps : goal.returns-in-Already-clause-steps
+returns-in-Already-clause-steps g c =
+    let a = c.args.self.now in
+    let k = c.in-Already.ensures in
+    let b : c.shape.result.now.b ≡ (shape_of a).b = ap (λ (x : Shape). x.b) c.shape.ensures in
+    steps_already g.S.InPhase g.R.Rack a c.args.boundary c.args.side (record a { store = c.fail.new.self })
+    (record {
+      boundary = omega arith;
+      side = omega arith;
+      beside = record { phase_is = refl; pending = refl; homes = refl; copies = refl };
+      levels = refl;
+      sound = k.sound;
+      rack_is = k.rack;
+      table = k.table;
+      struck = k.struck;
+      stands = k.stands;
+    })
+    c.requires.well.array (k.already.0 refl)
+
+pub returns-in-Taken-clause-steps : goal.returns-in-Taken-clause-steps
+returns-in-Taken-clause-steps g c =
+    let a = c.args.self.now in
+    let k = c.in-Taken.ensures in
+    let b : c.shape.result.now.b ≡ (shape_of a).b = ap (λ (x : Shape). x.b) c.shape.ensures in
+    steps_struck g.S.InPhase g.R.Rack a c.args.boundary c.args.side (record a { store = c.fail.new.self })
+    (record {
+      boundary = omega arith;
+      side = omega arith;
+      beside = record { phase_is = refl; pending = refl; homes = refl; copies = refl };
+      levels = refl;
+      sound = k.sound;
+      rack_is = k.rack;
+      table = k.table;
+      struck = k.struck;
+      stands = k.stands;
+    })
+    (λ out. cc (k.already.1 out))

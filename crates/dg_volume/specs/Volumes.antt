@@ -1,0 +1,123 @@
+-- A volume beside the states of the model.
+use Rattle.std.specs.Prelude.{◌≡◌, ◌+◌, ◌*◌, ◌≤◌, ℕ, Bool, true, List, length, Option, Some, None, IfSome}
+use Rattle.dg_infer.specs.Meanings.{KeptInference}
+use Rattle.dg_infer.specs.Meanings as inferences
+use Rattle.dg_io.specs.declared.outside.Rack.{Ghosts}
+use Rattle.dg_io.specs.Told.{StillTold}
+use Rattle.dg_model.specs.Saves.{AreHomes}
+use Rattle.dg_model.specs.States.{IsBlank, State, has_lost}
+use Rattle.dg_model.specs.Steps.{Step}
+use Rattle.dg_model.specs.Tables.{Table}
+use Rattle.dg_model.specs.declared.events.Event.{Event}
+use Rattle.dg_model.specs.declared.members.MemberState.{MemberState}
+use Rattle.dg_model.specs.declared.phases.Phase.TheVariants.{Loose as LoosePhase, Worn}
+use Rattle.dg_model.specs.declared.replies.Reply.{Reply}
+use Rattle.dg_model.specs.declared.shapes.Shape.{Shape}
+use Rattle.dg_store.specs.Stores.{IsSound, TellsAll}
+use Rattle.dg_store.specs.Stores as stores
+use Rattle.dg_volume.specs.declared.phases.InPhase as phases
+use Rattle.dg_volume.specs.declared.phases.Loose.{Loose}
+use Rattle.dg_volume.specs.declared.volumes.Volume.{Volume}
+
+-- ---- parts
+
+-- the numbers of the array
+abbrev pub shape_of : {S R : Type 0} → Volume S R → Shape
+shape_of volume = stores.shape_of volume.store
+
+-- its numbers and the sites of each block
+abbrev pub table_of : {S R : Type 0} → Volume S R → Table
+table_of volume = stores.table_of volume.store
+
+-- what each member does
+abbrev pub members_of : {S R : Type 0} → Volume S R → ℕ → MemberState
+members_of volume = stores.members_of volume.store
+
+-- the rack that it holds
+abbrev pub rack_of : {S R : Type 0} → Volume S R → R
+rack_of volume = stores.rack_of volume.store
+
+-- each member of the array tells its bytes
+abbrev pub Tells : {S R : Type 0} → Ghosts R → Volume S R → Type 0
+Tells rack volume = TellsAll rack volume.store
+
+-- the marks of pending blocks: those that are kept with the inference, or where there is none those of the volume itself
+abbrev pub marks_by : Option KeptInference → List Bool → List Bool
+marks_by None marks = marks
+marks_by (Some kept) marks = kept.pending
+
+abbrev pub marks_of : {S R : Type 0} → phases.Ghosts S → Volume S R → List Bool
+marks_of phase volume = marks_by (phase.kept volume.phase) volume.pending.items
+
+-- ---- states
+
+-- the state that it is in, where these are its blocks, and the rest is as in another state
+abbrev pub state_of : {S R : Type 0} → phases.Ghosts S → Ghosts R → Volume S R → State → List (List ℕ) → State
+state_of phase rack volume rest blocks = record rest {
+  table = table_of volume;
+  blocks = blocks;
+  pending = marks_of phase volume;
+  homes = volume.homes;
+  copies = volume.copies;
+  phase = phase.phase volume.phase;
+  members = members_of volume;
+  counts = rack.counts (rack_of volume);
+}
+
+-- it stands for these blocks: so does its array, and what is inferred is so of them
+pub record StandsFor {S R : Type 0} (phase : phases.Ghosts S) (rack : Ghosts R) (volume : Volume S R) (blocks : List (List ℕ)) : Type 0 where
+  pub array : stores.StandsFor rack volume.store blocks
+  pub inferred : IfSome (phase.kept volume.phase) (λ kept. inferences.StandsFor kept blocks)
+
+-- The volume is in this state. No label was written yet. Where each member tells its bytes, it stands for the blocks of the state.
+pub record StandsIn {S R : Type 0} (phase : phases.Ghosts S) (rack : Ghosts R) (volume : Volume S R) (state : State) : Type 0 where
+  pub is : state ≡ state_of phase rack volume state state.blocks
+  pub label : state.label ≡ None
+  pub holds : Tells rack volume → StandsFor phase rack volume state.blocks
+
+-- whichever state the volume was in, it made a step from it, to a state that it is in now
+abbrev pub StepsTo : {S T R : Type 0} → phases.Ghosts S → phases.Ghosts T → Ghosts R → Volume S R → Event → Reply → Volume T R → Type 0
+StepsTo from to rack old event reply new = (state : State) → StandsIn from rack old state →
+    (next : State) × StandsIn to rack new next × Step (Tells rack new) state event reply next
+
+-- ---- what holds between calls
+
+-- what is inferred is of blocks of this array
+pub record FitsArray (shape : Shape) (kept : KeptInference) : Type 0 where
+  pub bytes : kept.l ≡ shape.l
+  pub number : kept.n ≡ shape.n
+
+-- What holds of a volume between calls: its array is sound; its buffers are for blocks of its size; it has a mark for each block; what is
+-- inferred is of this array; homes are on its boundaries; and a worn one has a lost boundary.
+pub record IsWell {S R : Type 0} (phase : phases.Ghosts S) (rack : Ghosts R) (volume : Volume S R) : Type 0 where
+  pub array : IsSound rack volume.store
+  pub levels : volume.levels.fragment ≡ (shape_of volume).l
+  pub marks : length (marks_of phase volume) ≡ (shape_of volume).n
+  pub inferred : IfSome (phase.kept volume.phase) (FitsArray (shape_of volume))
+  pub homes_are : AreHomes (shape_of volume) volume.homes
+  pub copies_are : AreHomes (shape_of volume) volume.copies
+  pub worn : phase.phase volume.phase ≡ Worn → has_lost (shape_of volume) (members_of volume) ≡ true
+
+-- what any call leaves: a volume of the same array with which all is well, over the same rack, and what that tells it told before
+pub record Leaves {S T R : Type 0} (from : phases.Ghosts S) (to : phases.Ghosts T) (rack : Ghosts R) (old : Volume S R) (new : Volume T R) : Type 0 where
+  pub well : IsWell to rack new
+  pub shape : shape_of new ≡ shape_of old
+  pub tells : StillTold (rack.bytes (rack_of old)) (rack.bytes (rack_of new))
+  pub same_rack : rack.name (rack_of new) ≡ rack.name (rack_of old)
+
+-- ---- a blank volume
+
+-- what a loose volume keeps
+abbrev pub loose_phase : phases.Ghosts Loose
+loose_phase = record { phase = λ loose. LoosePhase; kept = λ loose. Some loose.inference }
+
+-- A volume of a blank array of this shape, over a rack that was so before: it is in the state of the blank array.
+pub record IsBlankVolume {R : Type 0} (rack : Ghosts R) (shape : Shape) (before : R) (volume : Volume Loose R) : Type 0 where
+  pub well : IsWell loose_phase rack volume
+  pub shape_is : shape_of volume ≡ shape
+  pub tells : StillTold (rack.bytes before) (rack.bytes (rack_of volume))
+  pub same_rack : rack.name (rack_of volume) ≡ rack.name before
+  pub state : State
+  pub blank : IsBlank shape (rack.counts before) state
+  pub stands : StandsIn loose_phase rack volume state
+  pub few : (rack.counts (rack_of volume)).calls ≤ (rack.counts before).calls + 2 * shape.b

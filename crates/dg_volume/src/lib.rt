@@ -1,0 +1,18 @@
+//! The typed volume: the flat array, what its blocks belong to, and what is known of it in its phase.
+//!
+//! A volume is loose as long as it is known what its blocks belong to. It is worn once a block was written while a boundary is lost.
+#![tactic(auto)]
+
+mod paths;
+mod phases;
+mod queries;
+#[cfg(test)]
+mod tests;
+mod volumes;
+
+pub use dg_model::{NoMemory, Who};
+pub use dg_store::{Boundary, Shape};
+pub use phases::{InPhase, Loose, Worn};
+pub use queries::WhoAnswer;
+pub use ufs_path::{CatAnswer, Listing};
+pub use volumes::{FailAnswer, ReadAnswer, Volume};
