@@ -1,7 +1,7 @@
 -- A file whose bytes can be read has an inode.
 use Rattle.std.proofs.Common.{◌≡◌, ◌∙◌, ℕ, Bool, true, false, List, refl, sym, ap}
-use Rattle.std.specs.Prelude.{Option, Some, None, Result, Ok, Err, if◌then◌else◌, cond}
-use Rattle.std.proofs.lemmas.Bool.{cases_Bool, false≢true}
+use Rattle.std.specs.Prelude.{Some, Result, Ok, Err, if◌then◌else◌}
+use Rattle.std.proofs.lemmas.Bool.{false≢true}
 use Rattle.ufs_model.specs.Blocks.{Reading, Volume, bind, known}
 use Rattle.ufs_model.specs.Inodes.{block_count, kind_of}
 use Rattle.ufs_model.specs.Paths.{cat_of, contents_of, file_refusal, front_of, is_regular, look_from, look_of, names_of, size_refusal, unless_refused, volume_geometry}

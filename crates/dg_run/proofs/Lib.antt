@@ -7,4 +7,8 @@ mod Ranges
 mod Runs
 mod StoreSteps
 mod ToldSteps
+mod Refusing
+mod FileParts
+mod Breaks
 mod Whole
+mod Broken

@@ -38,7 +38,7 @@ use Rattle.ufs_path.specs.declared.faults.CatAnswer.{CatAnswer}
 use Rattle.ufs_path.specs.declared.faults.CatAnswer.TheVariants.{Given as AnswerGiven, NotFound, NotDirectory, Bad, Unavailable, NotRegular, Cut as AnswerCut, SinkFault}
 
 -- each answer but these three has a reply
-has_reply : (answer : CatAnswer) → ((n : ℕ) → answer ≡ AnswerGiven n → ⊥) → ((n : ℕ) → answer ≡ AnswerCut n → ⊥) → (answer ≡ SinkFault → ⊥) → IsSome (reply_at answer)
+pub has_reply : (answer : CatAnswer) → ((n : ℕ) → answer ≡ AnswerGiven n → ⊥) → ((n : ℕ) → answer ≡ AnswerCut n → ⊥) → (answer ≡ SinkFault → ⊥) → IsSome (reply_at answer)
 has_reply (AnswerGiven n) given cut fault = absurd (given n refl)
 has_reply NotFound given cut fault = refl
 has_reply NotDirectory given cut fault = refl
@@ -49,7 +49,7 @@ has_reply (AnswerCut n) given cut fault = absurd (cut n refl)
 has_reply SinkFault given cut fault = absurd (fault refl)
 
 -- where there is a reply, nothing was handed on
-handed_nothing : {S A : Type 0} (took took_part : S → List A → S → Type 0) (faults : S → ℕ) (old new : S) (reads : Option (Result (List A) PathRefusal) → Type 0) (answer : CatAnswer)
+pub handed_nothing : {S A : Type 0} (took took_part : S → List A → S → Type 0) (faults : S → ℕ) (old new : S) (reads : Option (Result (List A) PathRefusal) → Type 0) (answer : CatAnswer)
     → IsSome (reply_at answer) → IsAnswer took took_part faults old new reads answer → new ≡ old
 handed_nothing took took_part faults old new reads (AnswerGiven n) some rule = absurd (cc some)
 handed_nothing took took_part faults old new reads NotFound some rule = rule.0
@@ -61,7 +61,7 @@ handed_nothing took took_part faults old new reads (AnswerCut n) some rule = abs
 handed_nothing took took_part faults old new reads SinkFault some rule = absurd (cc some)
 
 -- What holds of each reply that there is where nothing was handed on, and of those writings that hold of this reply.
-nothing_by : {S A : Type 0} (took took_part : S → List A → S → Type 0) (faults : S → ℕ) (old new : S) (reads : Option (Result (List A) PathRefusal) → Type 0) (writes : Reply → Type 0) (gone P : Type 0)
+pub nothing_by : {S A : Type 0} (took took_part : S → List A → S → Type 0) (faults : S → ℕ) (old new : S) (reads : Option (Result (List A) PathRefusal) → Type 0) (writes : Reply → Type 0) (gone P : Type 0)
     → ((refusal : PathRefusal) → reads (Some (Err refusal)) → writes (Refused refusal) → P) → (reads None → gone → writes ReplyUnavailable → P)
     → (answer : CatAnswer) → IsSome (reply_at answer) → (IsUnanswered answer → gone) → ((reply : Reply) → reply_at answer ≡ Some reply → writes reply)
     → IsAnswer took took_part faults old new reads answer → P
@@ -115,7 +115,7 @@ module _ {R : Type 0} (rack : Ghosts R) where
 
   -- ---- a file
 
-  cat_refused : (path : List ℕ) (refusal : PathRefusal) (a b : Store R) → Keeps a b → Reads path a b (Some (Err refusal)) → StepsTo rack a (Cat path) (Refused refusal) b
+  pub cat_refused : (path : List ℕ) (refusal : PathRefusal) (a b : Store R) → Keeps a b → Reads path a b (Some (Err refusal)) → StepsTo rack a (Cat path) (Refused refusal) b
   cat_refused path refusal a b keeps reads = steps_from rack a b (Cat path) (Refused refusal) (λ rest V label holds. (
     state_of rack b rest V,
     still a b rest V label keeps holds,
@@ -125,7 +125,7 @@ module _ {R : Type 0} (rack : Ghosts R) where
     ),
   ))
 
-  cat_lost : (path : List ℕ) (a b : Store R) → Keeps a b → Reads path a b None → LosesBlock b → StepsTo rack a (Cat path) ReplyUnavailable b
+  pub cat_lost : (path : List ℕ) (a b : Store R) → Keeps a b → Reads path a b None → LosesBlock b → StepsTo rack a (Cat path) ReplyUnavailable b
   cat_lost path a b keeps reads gone = steps_from rack a b (Cat path) ReplyUnavailable (λ rest V label holds. (
     state_of rack b rest V,
     still a b rest V label keeps holds,
@@ -208,7 +208,7 @@ module _ {R : Type 0} (rack : Ghosts R) where
 
   -- ---- a directory
 
-  ls_refused : (path : List ℕ) (refusal : PathRefusal) (a b : Store R) → Keeps a b → Lists path a b (Some (Err refusal)) → StepsTo rack a (Ls path) (Refused refusal) b
+  pub ls_refused : (path : List ℕ) (refusal : PathRefusal) (a b : Store R) → Keeps a b → Lists path a b (Some (Err refusal)) → StepsTo rack a (Ls path) (Refused refusal) b
   ls_refused path refusal a b keeps reads = steps_from rack a b (Ls path) (Refused refusal) (λ rest V label holds. (
     state_of rack b rest V,
     still a b rest V label keeps holds,
@@ -218,7 +218,7 @@ module _ {R : Type 0} (rack : Ghosts R) where
     ),
   ))
 
-  ls_lost : (path : List ℕ) (a b : Store R) → Keeps a b → Lists path a b None → LosesBlock b → StepsTo rack a (Ls path) ReplyUnavailable b
+  pub ls_lost : (path : List ℕ) (a b : Store R) → Keeps a b → Lists path a b None → LosesBlock b → StepsTo rack a (Ls path) ReplyUnavailable b
   ls_lost path a b keeps reads gone = steps_from rack a b (Ls path) ReplyUnavailable (λ rest V label holds. (
     state_of rack b rest V,
     still a b rest V label keeps holds,

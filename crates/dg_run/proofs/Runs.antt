@@ -1,5 +1,5 @@
 -- Lines are served one after another.
-use Rattle.std.proofs.Common.{◌≡◌, ◌≤◌, ◌<◌, ◌+◌, ◌-◌, ◌/◌, ◌^◌, ℕ, List, [], ◌∷◌, ◌++◌, length, refl, sym, ◌∙◌, ap, subst, arith, append_assoc, length-append, inl, inr, Bool, true, false}
+use Rattle.std.proofs.Common.{◌≡◌, ◌≤◌, ◌+◌, ◌-◌, ◌^◌, ℕ, List, [], ◌∷◌, ◌++◌, length, refl, sym, ◌∙◌, ap, subst, arith, append_assoc, length-append, true}
 use Rattle.std.specs.Prelude.{Option, Some}
 use Rattle.std.proofs.lemmas.List.{append-nil}
 use Rattle.std.proofs.lemmas.List.Concat.{flat_map-append}
@@ -15,8 +15,10 @@ use Rattle.dg_store.specs.declared.store.Store.{Store}
 use Rattle.dg_store.specs.Stores.{IsSound, TellsAll, rack_of, shape_of}
 use Rattle.dg_text.specs.Lines.{line_of, input_of, IsInPlace}
 use Rattle.dg_text.specs.Replies.{reply_line, output_of}
+use Rattle.dg_text.specs.declared.lines.BadLine.{BadLine}
 use Rattle.dg_run.specs.Events.{IsRefused}
 use Rattle.dg_run.specs.Lines.{BeginsAll, Served, ServedLine, AllServed, ServedTo, Turned, LinesEndAt}
+use Rattle.dg_run.specs.Served.{is_served}
 use Rattle.dg_run.specs.Stores.{StepsTo, RunsTo, GoesOn}
 use Rattle.dg_run.specs.declared.lines.Turn.{Turn}
 use Rattle.dg_run.specs.declared.lines.Turn.TheVariants.{Served as turn_served, End as turn_end, Refused as turn_refused}
@@ -27,7 +29,7 @@ use Rattle.dg_run.proofs.StoreSteps.{told_before}
 use Rattle.dg_run.proofs.ToldSteps.{Told-refl, Told-then}
 
 module _ {R : Type 0} (rack : Ghosts R) where
-  runs_more : (a b c : Store R) (es : List Event) (rs : List Reply) (e : Event) (r : Reply) → RunsTo rack a es rs b → StepsTo rack b e r c → shape_of c ≡ shape_of b
+  pub runs_more : (a b c : Store R) (es : List Event) (rs : List Reply) (e : Event) (r : Reply) → RunsTo rack a es rs b → StepsTo rack b e r c → shape_of c ≡ shape_of b
       → StillTold (rack.bytes (rack_of b)) (rack.bytes (rack_of c)) → RunsTo rack a (es ++ e ∷ []) (rs ++ r ∷ []) c
   runs_more a b c es rs e r runs steps shape tells state st =
       let one = runs state st in
@@ -44,6 +46,7 @@ module _ {R : Type 0} (rack : Ghosts R) where
   served_none shape left taken store = record {
     replies = [];
     in_place = λ k d h. absurd (omega arith);
+    done = λ k d h. absurd (omega arith);
     input = Told-refl _ (begins_none (Some shape)) left;
     output = Told-refl _ (λ b. sym (append-nil b)) taken;
     runs = λ state st. (state, st, refl);
@@ -53,6 +56,7 @@ module _ {R : Type 0} (rack : Ghosts R) where
   served_more shape room n es x y z t u v a b c was line same tells = record {
     replies = was.replies ++ line.answered.reply ∷ [];
     in_place = All-append (IsInPlace (Some shape)) es (line.event ∷ []) was.in_place (All-one (IsInPlace (Some shape)) line.event line.in_place);
+    done = All-append (λ (event : Event). is_served event ≡ true) es (line.event ∷ []) was.done (All-one (λ (event : Event). is_served event ≡ true) line.event line.done);
     input = Told-then _ _ _ (begins_more (Some shape) es line.event) x y z was.input line.input;
     output = output_more was.replies line.answered.reply t u v was.output line.answered.output;
     runs = runs_more a b c es was.replies line.event line.answered.reply was.runs line.answered.steps same tells;
@@ -93,6 +97,7 @@ module _ {R : Type 0} (rack : Ghosts R) where
     served = record {
       replies = was.served.replies;
       in_place = was.served.in_place;
+      done = was.served.done;
       input = Told-then _ _ (BeginsAll (Some shape) was.events) (λ p q r f s. subst (λ (l : List ℕ). BeginsAll (Some shape) was.events p l) (s.0 ∙ sym s.1) f) x y z was.served.input end;
       output = was.served.output;
       runs = was.served.runs;
@@ -102,14 +107,14 @@ module _ {R : Type 0} (rack : Ghosts R) where
   }
 
   -- the next line is refused
-  pub served_to : (shape : Shape) (first passed number : ℕ) (x y z t u : Option (List ℕ)) (a b : Store R) → passed ≤ 2 ^ 40 → SoFar rack shape first passed number x y t u a b → Told (λ before after. IsRefused (Some shape) (2 ^ 40 - passed) before) y z → ServedTo rack shape first number x z t u a b
-  served_to shape first passed number x y z t u a b budget was refused = record {
+  pub served_to : (shape : Shape) (first passed number : ℕ) (kind : BadLine) (x y z t u : Option (List ℕ)) (a b : Store R) → passed ≤ 2 ^ 40 → SoFar rack shape first passed number x y t u a b → Told (λ before after. IsRefused (Some shape) (2 ^ 40 - passed) before kind) y z → ServedTo rack shape first number kind x z t u a b
+  served_to shape first passed number kind x y z t u a b budget was refused = record {
     events = was.events;
     middle = y;
     served = was.served;
     budget = omega (arith, was.passed_is);
     count = was.number_is;
-    refused = subst (λ (n : ℕ). Told (λ before after. IsRefused (Some shape) (2 ^ 40 - n) before) y z) was.passed_is refused;
+    refused = subst (λ (n : ℕ). Told (λ before after. IsRefused (Some shape) (2 ^ 40 - n) before kind) y z) was.passed_is refused;
   }
 
 -- what a turn did, by its answer
@@ -117,12 +122,12 @@ module _ {R : Type 0} (rack : Ghosts R) where
   pub turned_end : (room : ℕ) (y z u v : Option (List ℕ)) (b c : Store R) (turn : Turn) → turn ≡ turn_end → Turned rack room y z u v b c turn → Told (λ before after. (before ≡ []) × (after ≡ [])) y z × (v ≡ u) × (c ≡ b)
   turned_end room y z u v b c (turn_served n) is turned = absurd (cc is)
   turned_end room y z u v b c turn_end is turned = turned
-  turned_end room y z u v b c turn_refused is turned = absurd (cc is)
+  turned_end room y z u v b c (turn_refused kind) is turned = absurd (cc is)
 
   pub turned_served : (room n : ℕ) (y z u v : Option (List ℕ)) (b c : Store R) (turn : Turn) → turn ≡ turn_served n → Turned rack room y z u v b c turn → ServedLine rack (shape_of b) room n y z u v b c
   turned_served room n y z u v b c (turn_served m) is turned = let same : m ≡ n = cc is in subst (λ (k : ℕ). ServedLine rack (shape_of b) room k y z u v b c) same turned
   turned_served room n y z u v b c turn_end is turned = absurd (cc is)
-  turned_served room n y z u v b c turn_refused is turned = absurd (cc is)
+  turned_served room n y z u v b c (turn_refused kind) is turned = absurd (cc is)
 
   pub lines_end : (shape : Shape) (first passed number room : ℕ) (x y z t u v : Option (List ℕ)) (a b c : Store R) (turn : Turn) → turn ≡ turn_end → Turned rack room y z u v b c turn → passed ≤ 2 ^ 40 → SoFar rack shape first passed number x y t u a b → AllServed rack shape first x z t v a c
   lines_end shape first passed number room x y z t u v a b c turn is turned budget was =
@@ -136,10 +141,29 @@ module _ {R : Type 0} (rack : Ghosts R) where
   pub goes_then : (a b c : Store R) → GoesOn rack a b → GoesOn rack b c → GoesOn rack a c
   goes_then a b c first second = record { sound = second.sound; shape = second.shape ∙ first.shape; tells = λ q h. first.tells q (second.tells q h); name = second.name ∙ first.name }
 
+  pub turned_refused : (room : ℕ) (kind : BadLine) (y z u v : Option (List ℕ)) (b c : Store R) (turn : Turn) → turn ≡ turn_refused kind → Turned rack room y z u v b c turn
+      → Told (λ before after. IsRefused (Some (shape_of b)) room before kind) y z × (v ≡ u) × (c ≡ b)
+  turned_refused room kind y z u v b c (turn_served n) is turned = absurd (cc is)
+  turned_refused room kind y z u v b c turn_end is turned = absurd (cc is)
+  turned_refused room kind y z u v b c (turn_refused other) is turned =
+      let same : other ≡ kind = cc is in
+      subst (λ (k : BadLine). Told (λ before after. IsRefused (Some (shape_of b)) room before k) y z × (v ≡ u) × (c ≡ b)) same turned
+
+  pub lines_refused : (shape : Shape) (first passed number : ℕ) (kind : BadLine) (x y z t u v : Option (List ℕ)) (a b c : Store R) (turn : Turn) → turn ≡ turn_refused kind → Turned rack (2 ^ 40 - passed) y z u v b c turn
+      → shape_of b ≡ shape → passed ≤ 2 ^ 40 → SoFar rack shape first passed number x y t u a b → ServedTo rack shape first number kind x z t v a c
+  lines_refused shape first passed number kind x y z t u v a b c turn is turned same budget was =
+      let stop = turned_refused (2 ^ 40 - passed) kind y z u v b c turn is turned in
+      let refused = subst (λ (s : Shape). Told (λ before after. IsRefused (Some s) (2 ^ 40 - passed) before kind) y z) same stop.0 in
+      subst (λ (o : Option (List ℕ)). ServedTo rack shape first number kind x z t o a c) (sym stop.1)
+      (subst (λ (s : Store R). ServedTo rack shape first number kind x z t u a s) (sym stop.2) (served_to rack shape first passed number kind x y z t u a b budget was refused))
+
   pub ended_input : (first : ℕ) (x z t u : Option (List ℕ)) (a b : Store R) (end : LinesEnd) → end ≡ input_end → LinesEndAt rack first x z t u a b end → AllServed rack (shape_of a) first x z t u a b
   ended_input first x z t u a b input_end is ended = ended
-  ended_input first x z t u a b (line_refused n) is ended = absurd (cc is)
+  ended_input first x z t u a b (line_refused n kind) is ended = absurd (cc is)
 
-  pub ended_line : (first number : ℕ) (x z t u : Option (List ℕ)) (a b : Store R) (end : LinesEnd) → end ≡ line_refused number → LinesEndAt rack first x z t u a b end → ServedTo rack (shape_of a) first number x z t u a b
-  ended_line first number x z t u a b input_end is ended = absurd (cc is)
-  ended_line first number x z t u a b (line_refused n) is ended = let same : n ≡ number = cc is in subst (λ (k : ℕ). ServedTo rack (shape_of a) first k x z t u a b) same ended
+  pub ended_line : (first number : ℕ) (kind : BadLine) (x z t u : Option (List ℕ)) (a b : Store R) (end : LinesEnd) → end ≡ line_refused number kind → LinesEndAt rack first x z t u a b end → ServedTo rack (shape_of a) first number kind x z t u a b
+  ended_line first number kind x z t u a b input_end is ended = absurd (cc is)
+  ended_line first number kind x z t u a b (line_refused n other) is ended =
+      let numbers : n ≡ number = cc is in
+      let kinds : other ≡ kind = cc is in
+      subst (λ (k : BadLine). ServedTo rack (shape_of a) first number k x z t u a b) kinds (subst (λ (m : ℕ). ServedTo rack (shape_of a) first m other x z t u a b) numbers ended)

@@ -1,26 +1,25 @@
 -- A store makes a step.
 use Rattle.std.proofs.Common.{◌≡◌, ◌≢◌, ◌∙◌, ◌<◌, ◌≤◌, ◌+◌, ◌*◌, ◌/◌, ℕ, Bool, true, false, List, [], length, refl, sym, ap, subst, arith, inl, inr}
-use Rattle.std.specs.Prelude.{◌⊎◌, Option, None, max, slice_set}
+use Rattle.std.specs.Prelude.{Option, None, max, slice_set}
 use Rattle.std.proofs.lemmas.Bool.{cases_eq, cases_lt, false≢true}
 use Rattle.dg_io.specs.Told.{StillTold}
 use Rattle.dg_io.specs.declared.outside.Rack.{Ghosts}
 use Rattle.dg_model.proofs.MarkLaws.{next_are, next_marks}
 use Rattle.dg_model.proofs.RereadLaws.{few_calls, refused_calls}
 use Rattle.dg_model.proofs.SealLaws.{goes_plain, stays_plain}
-use Rattle.dg_model.specs.Blocks.{IsTrimmed, block_in, padded}
-use Rattle.dg_model.specs.Causes.{NoneRose}
-use Rattle.dg_model.specs.Changes.{IsMember, LosesSites, ReadsFew, Stays, Strikes, phase_after}
+use Rattle.dg_model.specs.Blocks.{IsTrimmed, padded}
+use Rattle.dg_model.specs.Changes.{IsMember, ReadsFew, Stays, phase_after}
 use Rattle.dg_model.specs.Marks.{with_mark}
 use Rattle.dg_model.specs.Members.{ArePaired, IsStruck, MembersFall, is_good}
 use Rattle.dg_model.specs.Seals.{LastLabel, label_after}
-use Rattle.dg_model.specs.Sites.{IsSited, has_site, is_gone}
-use Rattle.dg_model.specs.States.{Counts, CountsRise, State, has_lost}
+use Rattle.dg_model.specs.Sites.{is_gone}
+use Rattle.dg_model.specs.States.{CountsRise, State, has_lost}
 use Rattle.dg_model.specs.Steps.{Step}
 use Rattle.dg_model.specs.Tables.{Table, sites_in}
 use Rattle.dg_model.specs.declared.events.Event.{Event}
 use Rattle.dg_model.specs.declared.events.Event.TheVariants.{Fail, Read, Write}
 use Rattle.dg_model.specs.declared.members.MemberState.{MemberState}
-use Rattle.dg_model.specs.declared.members.MemberState.TheVariants.{Good, Out}
+use Rattle.dg_model.specs.declared.members.MemberState.TheVariants.{Out}
 use Rattle.dg_model.specs.declared.replies.Reply.{Reply}
 use Rattle.dg_model.specs.declared.replies.Reply.TheVariants.{Already, Data, Degraded, Done, Range, Unavailable}
 use Rattle.dg_model.specs.declared.shapes.Shape.{Shape}

@@ -1,8 +1,10 @@
 -- How steps on told bytes go on from one another.
-use Rattle.std.proofs.Common.{◌≡◌, ℕ, ◌+◌, ◌≤◌, ◌<◌, List, [], ◌∷◌, ◌++◌, length, take, drop, sym, ◌∙◌, ap, arith, append_assoc, length-append}
+use Rattle.std.proofs.Common.{◌≡◌, ℕ, ◌+◌, ◌≤◌, List, [], ◌∷◌, ◌++◌, length, take, drop, sym, ◌∙◌, ap, arith, append_assoc, length-append}
 use Rattle.std.specs.Prelude.{Option, Some, None, slice_range}
 use Rattle.std.specs.Option.{option_map}
-use Rattle.dg_io.specs.Told.{Told, IsSame, Gave}
+use Rattle.dg_io.specs.Told.{Told, AreAny, IsSame, Gave}
+use Rattle.dg_run.specs.Endings.{GaveLines}
+use Rattle.dg_run.specs.Inputs.{IsFull}
 use Rattle.dg_run.specs.Bytes.{HasNoLineFeed}
 use Rattle.dg_run.proofs.LineFeeds.{none_in_front}
 use Rattle.dg_run.proofs.Ranges.{slice_range-grown, take_range, drop_range}
@@ -41,7 +43,24 @@ Told-line bytes at end n (Some more) h is =
     ∙ ap (λ (l : List ℕ). slice_range bytes at (at + n) ++ 10 ∷ (l ++ more)) rest
 
 -- no line feed came among the first bytes
-pub Told-unended : (unread : List ℕ) (limit : ℕ) (left : Option (List ℕ)) → 0 < limit → limit ≤ length unread → HasNoLineFeed (take limit unread)
-    → Told (λ before after. (before ≡ [] → ⊥) × HasNoLineFeed (take limit before)) (option_map (λ more. unread ++ more) left) (option_map (λ more. unread ++ more) left)
-Told-unended unread limit None some within none = tt
-Told-unended unread limit (Some more) some within none = (λ e. let n = ap length e in let m = length-append unread more in absurd (omega arith), none_in_front unread more limit within none)
+pub Told-full : (unread : List ℕ) (limit : ℕ) (left : Option (List ℕ)) → limit ≤ length unread → HasNoLineFeed (take limit unread)
+    → Told (λ before after. IsFull limit before) (option_map (λ more. unread ++ more) left) (option_map (λ more. unread ++ more) left)
+Told-full unread limit None within none = tt
+Told-full unread limit (Some more) within none = record { there = omega (arith, length-append unread more); none = none_in_front unread more limit within none }
+
+-- bytes without a line feed wait, and the source has given no more
+pub gave_rest : (unread : List ℕ) (x y : Option (List ℕ)) → HasNoLineFeed unread → Told IsSame x (option_map (λ more. unread ++ more) y) → Told (GaveLines []) x y
+gave_rest unread x None none told = tt
+gave_rest unread None (Some b) none told = absurd told
+gave_rest unread (Some a) (Some b) none told = record { part = unread; split = sym told; none = none }
+
+-- what is ahead is told just where the source tells what it has left
+pub any_left : (step : List ℕ → List ℕ → Type 0) (unread : List ℕ) (x y : Option (List ℕ)) → Told step x (option_map (λ more. unread ++ more) y) → Told AreAny x y
+any_left step unread x None told = tt
+any_left step unread None (Some b) told = absurd told
+any_left step unread (Some a) (Some b) told = tt
+
+pub Told-each : (f s : List ℕ → List ℕ → Type 0) → ((a b : List ℕ) → f a b → s a b) → (x y : Option (List ℕ)) → Told f x y → Told s x y
+Told-each f s h x None told = tt
+Told-each f s h None (Some b) told = absurd told
+Told-each f s h (Some a) (Some b) told = h a b told

@@ -1,15 +1,16 @@
 -- A whole replay.
-use Rattle.std.proofs.Common.{◌≡◌, ◌≤◌, ◌<◌, ◌+◌, ◌-◌, ◌/◌, ◌^◌, ℕ, List, [], ◌∷◌, ◌++◌, length, replicate, take, refl, sym, ◌∙◌, ap, subst, arith, append_assoc, inl, inr, length-append}
+use Rattle.std.proofs.Common.{◌≡◌, ◌≤◌, ◌<◌, ◌+◌, ◌-◌, ◌/◌, ◌^◌, ℕ, List, [], ◌∷◌, ◌++◌, length, replicate, true, refl, sym, ◌∙◌, ap, subst, arith, append_assoc, inl, inr, length-append}
 use Rattle.std.specs.Prelude.{◌⊎◌, Option, Some, None, All, Result, Ok, Err, IfOk, IsSome}
 use Rattle.std.proofs.lemmas.List.{append_cancel_left}
 use Rattle.std.proofs.lemmas.List.Concat.{flat_map-append}
+use Rattle.std.proofs.lemmas.List.Elements.{All-cons}
 use Rattle.dg_model.specs.Shapes.{IsShape}
 use Rattle.dg_model.specs.States.{Counts, Holds, IsBlank, State, plain_state}
 use Rattle.dg_model.specs.Blocks.{zeros}
 use Rattle.dg_model.proofs.KnownLaws.{run_less}
 use Rattle.dg_io.specs.declared.outside.Rack.{Ghosts}
 use Rattle.dg_store.specs.Answers.{IsBlankStore}
-use Rattle.dg_run.specs.Stores.{StandsIn}
+use Rattle.dg_run.specs.Stores.{RunsTo, StandsIn}
 use Rattle.dg_model.specs.Tables.{Table, empty_table}
 use Rattle.dg_model.specs.declared.shapes.Shape.{Shape}
 use Rattle.dg_model.specs.declared.events.Event.{Event}
@@ -17,41 +18,47 @@ use Rattle.dg_model.specs.declared.events.Event.TheVariants.{Array}
 use Rattle.dg_model.specs.declared.replies.Reply.{Reply}
 use Rattle.dg_model.specs.declared.replies.Reply.TheVariants.{Done}
 use Rattle.dg_model.specs.declared.members.MemberState.TheVariants.{Out}
-use Rattle.dg_io.specs.Told.{Told, Took}
+use Rattle.dg_io.specs.Told.{Told, Took, TookPart}
 use Rattle.dg_store.specs.declared.store.Store.{Store}
 use Rattle.dg_store.specs.Stores.{TellsAll, members_of, rack_of, shape_of}
-use Rattle.dg_text.specs.Lines.{line_of, spelling, input_of, IsInPlace}
+use Rattle.dg_text.specs.Lines.{line_of, input_of, IsInPlace}
 use Rattle.dg_text.specs.Replies.{reply_line, output_of, refusal}
-use Rattle.dg_text.specs.declared.lines.BadLine.TheVariants.{Form}
+use Rattle.dg_text.specs.declared.lines.BadLine.{BadLine as Kind}
+use Rattle.dg_text.specs.declared.lines.BadLine.TheVariants.{Cut}
 use Rattle.dg_run.specs.Events.{Begins, IsRefused}
-use Rattle.dg_run.specs.Lines.{Served}
+use Rattle.dg_run.specs.Lines.{Served, ServedTo}
 use Rattle.dg_run.specs.declared.top.Status.{Status}
 use Rattle.dg_run.specs.declared.top.Status.TheVariants.{Done as status_done, Usage, BadLine, ReadFault, WriteFault, NoMemory, NoState, Unclean, Refused}
-use Rattle.dg_run.specs.Replays.{IsInput, Ran, TellsBoundaries, Replayed, Stopped, StopsAt, IsNoInput}
+use Rattle.dg_run.specs.Endings.{TookUpTo}
+use Rattle.dg_run.specs.Refusals.{IsRefusedBy}
+use Rattle.dg_run.specs.Replays.{CutRefusal, IsCut, IsInput, IsNoInput, Ran, Replayed, Stopped, StopsAt, TellsBoundaries}
+use Rattle.dg_run.specs.Served.{AreServed, is_served}
 use Rattle.dg_run.specs.Arrays.{AllAnswered, AnsweredTo, ArrayReplayed, ArrayStopped, IsCutAt, IsOfReplay}
-use Rattle.dg_run.proofs.Inputs.{All-head, All-right, no_line}
+use Rattle.dg_run.proofs.Inputs.{All-head, All-right, All-tail, no_line}
 use Rattle.std.specs.Option.{option_map}
-use Rattle.dg_run.specs.Bytes.{HasNoLineFeed}
-use Rattle.dg_run.proofs.LineFeeds.{no_short_line}
-use Rattle.dg_run.proofs.ToldSteps.{Told-then}
+use Rattle.dg_run.proofs.Refusing.{empty_cut}
+use Rattle.dg_run.proofs.ToldSteps.{Told-each, Told-then}
 
 -- outputs go on from one another
-took_first : (rs : List Reply) (t m v : Option (List ℕ)) → Told (Took (reply_line Done)) t m → Told (Took (output_of rs)) m v → Told (Took (output_of (Done ∷ rs))) t v
+pub took_first : (rs : List Reply) (t m v : Option (List ℕ)) → Told (Took (reply_line Done)) t m → Told (Took (output_of rs)) m v → Told (Took (output_of (Done ∷ rs))) t v
 took_first rs t m v p q = Told-then _ _ (Took (output_of (Done ∷ rs))) (λ a b c f s. s ∙ ap (λ (l : List ℕ). l ++ output_of rs) f ∙ append_assoc a (reply_line Done) (output_of rs)) t m v p q
 
 took_last : (text last : List ℕ) (t m v : Option (List ℕ)) → Told (Took text) t m → Told (Took last) m v → Told (Took (text ++ last)) t v
 took_last text last t m v p q = Told-then _ _ (Took (text ++ last)) (λ a b c f s. s ∙ ap (λ (l : List ℕ). l ++ last) f ∙ append_assoc a text last) t m v p q
 
+pub array_served : (shape : Shape) (events : List Event) → AreServed events → AreServed (Array shape ∷ events)
+array_served shape events served = All-cons (λ (event : Event). is_served event ≡ true) (Array shape) events refl served
+
 module _ {R : Type 0} (ghosts : Ghosts R) (shape : Shape) (first : ℕ) (rack : R) (a b : Store R) (is : first ≡ length (line_of (Array shape))) (well : IsShape shape)
     (blank : IsBlankStore ghosts shape rack a) where
-  same_shape : shape_of a ≡ shape
+  pub same_shape : shape_of a ≡ shape
   same_shape = ap (λ (t : Table). t.shape) blank.table
 
   -- the state of the blank array
-  start : State
+  pub start : State
   start = plain_state (empty_table shape) (replicate shape.n (zeros shape.l)) (members_of a) (ghosts.counts (rack_of a))
 
-  start_in : StandsIn ghosts a start
+  pub start_in : StandsIn ghosts a start
   unfolding start
   start_in = record {
     is = λ i. record start { table = sym blank.table i };
@@ -59,25 +66,30 @@ module _ {R : Type 0} (ghosts : Ghosts R) (shape : Shape) (first : ℕ) (rack : 
     holds = λ told. blank.stands;
   }
 
-  start_blank : IsBlank shape (ghosts.counts rack) start
+  pub start_blank : IsBlank shape (ghosts.counts rack) start
   unfolding start
   start_blank = record { is = refl; others = blank.members.others; members = blank.members.begins; counts = blank.stays.rise }
 
-  ran : (events : List Event) (x z t v : Option (List ℕ)) → (served : Served ghosts (shape_of a) events x z t v a b) → first + length (input_of events) ≤ 2 ^ 40
-      → Ran (ghosts.counts rack) (ghosts.counts (rack_of b)) (ghosts.bytes (rack_of b)) (Array shape ∷ events) (Done ∷ served.replies)
-  ran events x z t v served budget =
-      let W = served.runs start start_in in
+  pub ran_of : (events : List Event) (replies : List Reply) → RunsTo ghosts a events replies b → All (IsInPlace (Some (shape_of a))) events → AreServed events → first + length (input_of events) ≤ 2 ^ 40
+      → Ran (ghosts.counts rack) (ghosts.counts (rack_of b)) (ghosts.bytes (rack_of b)) (Array shape ∷ events) (Done ∷ replies)
+  ran_of events replies runs placed served budget =
+      let W = runs start start_in in
       let final = W.0 in
       let stands : StandsIn ghosts b final = W.1 in
       let known : TellsBoundaries (ghosts.bytes (rack_of b)) final → TellsAll ghosts b = λ told q below. told q (subst (λ (n : ℕ). q / 2 < n) (sym (ap (λ (s : State). s.table.shape.b) stands.is)) below) in
       record {
-        in_place = (well, subst (λ (s : Shape). All (IsInPlace (Some s)) events) same_shape served.in_place);
+        in_place = (well, subst (λ (s : Shape). All (IsInPlace (Some s)) events) same_shape placed);
+        done = array_served shape events served;
         budget = omega (arith, length-append (line_of (Array shape)) (input_of events));
         final = final;
-        trace = (start, start_blank, run_less known start events served.replies final W.2);
+        trace = (start, start_blank, run_less known start events replies final W.2);
         holds = λ told. subst (λ (s : State). Holds (ghosts.bytes (rack_of b)) s) (sym stands.is) (stands.holds (known told));
         counts = ap (λ (s : State). s.counts) stands.is;
       }
+
+  ran : (events : List Event) (x z t v : Option (List ℕ)) → (served : Served ghosts (shape_of a) events x z t v a b) → first + length (input_of events) ≤ 2 ^ 40
+      → Ran (ghosts.counts rack) (ghosts.counts (rack_of b)) (ghosts.bytes (rack_of b)) (Array shape ∷ events) (Done ∷ served.replies)
+  ran events x z t v served budget = ran_of events served.replies served.runs served.in_place served.done budget
 
   pub array_replayed : (x z t v : Option (List ℕ)) → AllAnswered ghosts first x z t v a b → ArrayReplayed (ghosts.counts rack) (ghosts.counts (rack_of b)) (ghosts.bytes (rack_of b)) shape x z t v
   array_replayed x z t v all = record {
@@ -88,25 +100,30 @@ module _ {R : Type 0} (ghosts : Ghosts R) (shape : Shape) (first : ℕ) (rack : 
     output = took_first all.served.served.replies t all.middle v all.ok all.served.served.output;
   }
 
+  pub cut_input : (number : ℕ) (kind : Kind) (x z t m : Option (List ℕ)) → (s : ServedTo ghosts (shape_of a) first number kind x z t m a b) → Told (λ p q. (text : List ℕ) × IsCutAt shape s.events kind p text) x z
+  cut_input number kind x z t m s =
+      let room : 2 ^ 40 - (first + length (input_of s.events)) ≡ 2 ^ 40 - length (input_of (Array shape ∷ s.events)) = ap (λ (n : ℕ). 2 ^ 40 - n) (omega (arith, length-append (line_of (Array shape)) (input_of s.events))) in
+      Told-then _ _ (λ p q. (text : List ℕ) × IsCutAt shape s.events kind p text) (λ p q r f refused. (
+        q,
+        record {
+          lines = f.lines;
+          refused = subst (λ (n : ℕ). IsRefused (Some shape) n q kind) room (subst (λ (h : Shape). IsRefused (Some h) (2 ^ 40 - (first + length (input_of s.events))) q kind) same_shape refused);
+          only = λ others placed made. f.only others (subst (λ (h : Shape). All (IsInPlace (Some h)) others) (sym same_shape) placed) made;
+        },
+      )) x s.middle z s.served.input s.refused
+
   pub array_stopped : (x z t v : Option (List ℕ)) → AnsweredTo ghosts first x z t v a b → ArrayStopped (ghosts.counts rack) (ghosts.counts (rack_of b)) (ghosts.bytes (rack_of b)) shape x z t v
   array_stopped x z t v to =
       let s = to.served in
-      let room : 2 ^ 40 - (first + length (input_of s.events)) ≡ 2 ^ 40 - length (input_of (Array shape ∷ s.events)) = ap (λ (n : ℕ). 2 ^ 40 - n) (omega (arith, length-append (line_of (Array shape)) (input_of s.events))) in
       record {
         events = s.events;
         replies = s.served.replies;
+        kind = to.kind;
         ran = ran s.events x s.middle to.middle to.before s.served s.budget;
-        input = Told-then _ _ (λ p q. (text : List ℕ) × IsCutAt shape s.events p text) (λ p q r f refused. (
-          q,
-          record {
-            lines = f.lines;
-            refused = subst (λ (n : ℕ). IsRefused (Some shape) n q) room (subst (λ (h : Shape). IsRefused (Some h) (2 ^ 40 - (first + length (input_of s.events))) q) same_shape refused);
-            only = λ others placed made. f.only others (subst (λ (h : Shape). All (IsInPlace (Some h)) others) (sym same_shape) placed) made;
-          },
-        )) x s.middle z s.served.input s.refused;
-        output = took_last (output_of (Done ∷ s.served.replies)) (refusal (length s.events + 2) Form) t to.before v
+        input = cut_input to.number to.kind x z to.middle to.before s;
+        output = took_last (output_of (Done ∷ s.served.replies)) (refusal (length s.events + 2) to.kind) t to.before v
             (took_first s.served.replies t to.middle to.before to.ok s.served.output)
-            (subst (λ (n : ℕ). Told (Took (refusal n Form)) to.before v) s.count to.refused);
+            (subst (λ (n : ℕ). Told (Took (refusal n to.kind)) to.before v) s.count to.refused);
       }
 
 module _ (before now : Counts) (bytes : ℕ → Option (List ℕ)) (shape : Shape) (well : IsShape shape) where
@@ -121,102 +138,121 @@ module _ (before now : Counts) (bytes : ℕ → Option (List ℕ)) (shape : Shap
   }
 
   -- no event of an input stands where it is cut
-  past : (events : List Event) (text b : List ℕ) → IsCutAt shape events b text → (es more : List Event) → All (IsInPlace (Some shape)) es → es ≡ events ++ more → text ≡ input_of more → length (line_of (Array shape)) + length (input_of es) ≤ 2 ^ 40 → ⊥
-  past events text b cut es [] placed split made budget = cut.refused.some made
-  past events text b cut es (m ∷ ms) placed split made budget =
+  past : (events : List Event) (kind : Kind) (text b : List ℕ) → IsCutAt shape events kind b text → (es more : List Event) → All (IsInPlace (Some shape)) es → AreServed es → es ≡ events ++ more → text ≡ input_of more
+      → length (line_of (Array shape)) + length (input_of es) ≤ 2 ^ 40 → ⊥
+  past events kind text b cut es [] placed served split made budget = cut.refused.some made
+  past events kind text b cut es (m ∷ ms) placed served split made budget =
       let here : IsInPlace (Some shape) m = All-head (IsInPlace (Some shape)) m ms (All-right (IsInPlace (Some shape)) events (m ∷ ms) (subst (λ (l : List Event). All (IsInPlace (Some shape)) l) split placed)) in
-      let over = cut.refused.none m (input_of ms) here made in
+      let done : is_served m ≡ true = All-head (λ (event : Event). is_served event ≡ true) m ms (All-right (λ (event : Event). is_served event ≡ true) events (m ∷ ms) (subst (λ (l : List Event). All (λ event. is_served event ≡ true) l) split served)) in
+      let over = cut.refused.none m (input_of ms) here done made in
       let size : length (input_of es) ≡ length (input_of events ++ input_of (m ∷ ms)) = ap (λ (l : List Event). length (input_of l)) split ∙ ap length (flat_map-append line_of events (m ∷ ms)) in
       absurd (omega (arith, size, over, budget, length-append (input_of events) (input_of (m ∷ ms)), length-append (line_of m) (input_of ms), length-append (line_of (Array shape)) (input_of events)))
 
   -- lines of a whole input can't be cut there
-  no_input : (events : List Event) (a b text : List ℕ) → Begins None (Array shape) a b → IsCutAt shape events b text → IsNoInput a
-  no_input events a b text line cut [] input is = absurd (input.some refl)
-  no_input events a b text line cut (Array s ∷ es) input is =
+  no_input : (events : List Event) (kind : Kind) (a b text : List ℕ) → Begins None (Array shape) a b → IsCutAt shape events kind b text → IsNoInput a
+  no_input events kind a b text line cut [] input is = absurd (input.some refl)
+  no_input events kind a b text line cut (Array s ∷ es) input is =
       let same : Array s ≡ Array shape = line.only (Array s) (input_of es) input.in_place.0 is in
       let shapes : s ≡ shape = cc same in
       let rest : b ≡ input_of es = append_cancel_left (line_of (Array shape)) b (input_of es) (sym line.line ∙ is ∙ ap (λ (e : Event). line_of e ++ input_of es) same) in
       let placed : All (IsInPlace (Some shape)) es = subst (λ (h : Shape). All (IsInPlace (Some h)) es) shapes input.in_place.1 in
       let had = cut.only es placed rest in
       let budget : length (line_of (Array shape)) + length (input_of es) ≤ 2 ^ 40 = subst (λ (h : Shape). length (line_of (Array h)) + length (input_of es) ≤ 2 ^ 40) shapes (let e = length-append (line_of (Array s)) (input_of es) in let h = input.budget in omega arith) in
-      past events text b cut es had.0 placed had.1 had.2 budget
-  no_input events a b text line cut (event ∷ es) input is = absurd input.in_place
+      past events kind text b cut es had.0 placed (All-tail (λ (event : Event). is_served event ≡ true) (Array s) es input.served) had.1 had.2 budget
+  no_input events kind a b text line cut (event ∷ es) input is = absurd input.in_place
+
+  -- where the text behind the first line is cut, the whole is
+  pub stops_text : (events : List Event) (kind : Kind) (x y z : Option (List ℕ)) → Told (Begins None (Array shape)) x y → Told (λ p q. (text : List ℕ) × IsCutAt shape events kind p text) y z
+      → Told (λ p q. (text : List ℕ) × (p ≡ input_of (Array shape ∷ events) ++ text) × StopsAt (Array shape ∷ events) kind text × IsNoInput p) x z
+  stops_text events kind x y z line cut = Told-then _ _ (λ p r. (text : List ℕ) × (p ≡ input_of (Array shape ∷ events) ++ text) × StopsAt (Array shape ∷ events) kind text × IsNoInput p) (λ p q r f s. (
+    s.0,
+    f.line ∙ ap (λ (l : List ℕ). line_of (Array shape) ++ l) s.1.lines ∙ sym (append_assoc (line_of (Array shape)) (input_of events) s.0),
+    record { by_kind = s.1.refused.by_kind; some = λ e. absurd (s.1.refused.some e); none = s.1.refused.none },
+    no_input events kind p q s.0 f s.1,
+  )) x y z line cut
 
   pub stopped : (x y z t v : Option (List ℕ)) → Told (Begins None (Array shape)) x y → ArrayStopped before now bytes shape y z t v → Stopped before now bytes x z t v
   stopped x y z t v line rest = record {
     events = Array shape ∷ rest.events;
     replies = Done ∷ rest.replies;
+    kind = rest.kind;
     ran = rest.ran;
-    input = Told-then _ _ (λ p r. (text : List ℕ) × (p ≡ input_of (Array shape ∷ rest.events) ++ text) × StopsAt (Array shape ∷ rest.events) text × IsNoInput p) (λ p q r f s. (
-      s.0,
-      f.line ∙ ap (λ (l : List ℕ). line_of (Array shape) ++ l) s.1.lines ∙ sym (append_assoc (line_of (Array shape)) (input_of rest.events) s.0),
-      record { some = λ e. absurd (s.1.refused.some e); none = s.1.refused.none },
-      no_input rest.events p q s.0 f s.1,
-    )) x y z line rest.input;
-    output = subst (λ (n : ℕ). Told (Took (output_of (Done ∷ rest.replies) ++ refusal n Form)) t v) (omega arith) rest.output;
+    input = stops_text rest.events rest.kind x y z line rest.input;
+    output = subst (λ (n : ℕ). Told (Took (output_of (Done ∷ rest.replies) ++ refusal n rest.kind)) t v) (omega arith) rest.output;
   }
 
 unmade : Counts → State
 unmade now = plain_state (record { shape = record { l = 0; n = 0; b = 0; k = 0; m = 0 }; rows = [] }) [] (λ q. Out) now
 
--- the text begins with no line of an event that may stand first and keeps to the budget
-abbrev pub IsNoFirst : List ℕ → Type 0
-IsNoFirst text = (event : Event) (tail : List ℕ) → IsInPlace None event → text ≡ line_of event ++ tail → 2 ^ 40 < length (line_of event)
+-- the text is refused by this kind where the first line should stand
+pub record IsNoFirst (kind : Kind) (text : List ℕ) : Type 0 where
+  pub by_kind : IsRefusedBy None (2 ^ 40) text kind
+  pub none : (event : Event) (tail : List ℕ) → IsInPlace None event → is_served event ≡ true → text ≡ line_of event ++ tail → 2 ^ 40 < length (line_of event)
 
-first_no_input : (text : List ℕ) → IsNoFirst text → IsNoInput text
-first_no_input text none [] input is = input.some refl
-first_no_input text none (Array s ∷ es) input is =
-    let over = none (Array s) (input_of es) input.in_place.0 is in
+first_no_input : (kind : Kind) (text : List ℕ) → IsNoFirst kind text → IsNoInput text
+first_no_input kind text first [] input is = input.some refl
+first_no_input kind text first (Array s ∷ es) input is =
+    let over = first.none (Array s) (input_of es) input.in_place.0 (All-head (λ (event : Event). is_served event ≡ true) (Array s) es input.served) is in
     let budget = input.budget in
     absurd (omega (arith, over, budget, length-append (line_of (Array s)) (input_of es)))
-first_no_input text none (event ∷ es) input is = input.in_place
+first_no_input kind text first (event ∷ es) input is = input.in_place
 
-pub told_each : (f s : List ℕ → List ℕ → Type 0) → ((a b : List ℕ) → f a b → s a b) → (x y : Option (List ℕ)) → Told f x y → Told s x y
-told_each f s h x None told = tt
-told_each f s h None (Some b) told = absurd told
-told_each f s h (Some a) (Some b) told = h a b told
+first_stops : (kind : Kind) (text : List ℕ) → IsNoFirst kind text → StopsAt [] kind text
+first_stops kind text first = record { by_kind = first.by_kind; some = λ e. refl; none = first.none }
+
+-- nothing was done
+pub ran_nothing : (now : Counts) (bytes : ℕ → Option (List ℕ)) → Ran now now bytes [] []
+unfolding unmade
+ran_nothing now bytes = record {
+  in_place = tt;
+  done = λ k d h. absurd (omega arith);
+  budget = omega arith;
+  final = unmade now;
+  trace = record { is = refl; boundaries = refl; size = refl; rows = refl };
+  holds = λ told. record { size = refl; blank = λ b h e. absurd (omega arith); held = λ b h. absurd (omega arith) };
+  counts = refl;
+}
 
 -- the first line is refused, or there is none
-pub stopped_first : (now : Counts) (bytes : ℕ → Option (List ℕ)) (x z t v : Option (List ℕ)) → Told (λ before after. IsNoFirst before) x z → Told (Took (refusal 1 Form)) t v → Stopped now now bytes x z t v
-unfolding unmade
-stopped_first now bytes x z t v refused output = record {
+pub stopped_first : (now : Counts) (bytes : ℕ → Option (List ℕ)) (kind : Kind) (x z t v : Option (List ℕ)) → Told (λ before after. IsNoFirst kind before) x z → Told (Took (refusal 1 kind)) t v → Stopped now now bytes x z t v
+stopped_first now bytes kind x z t v refused output = record {
   events = [];
   replies = [];
-  ran = record {
-    in_place = tt;
-    budget = omega arith;
-    final = unmade now;
-    trace = record { is = refl; boundaries = refl; size = refl; rows = refl };
-    holds = λ told. record { size = refl; blank = λ b h e. absurd (omega arith); held = λ b h. absurd (omega arith) };
-    counts = refl;
-  };
-  input = told_each _ _ (λ a b none. (a, refl, record { some = λ e. refl; none = none }, first_no_input a none)) x z refused;
+  kind = kind;
+  ran = ran_nothing now bytes;
+  input = Told-each _ _ (λ a b first. (a, refl, first_stops kind a first, first_no_input kind a first)) x z refused;
   output = output;
 }
 
+-- the same, but its refusal was written in part
+pub cut_first : (now : Counts) (bytes : ℕ → Option (List ℕ)) (kind : Kind) (x z t v : Option (List ℕ)) → Told (λ before after. IsNoFirst kind before) x z → Told (TookPart (refusal 1 kind)) t v → CutRefusal now now bytes x z t v
+cut_first now bytes kind x z t v refused output = record {
+  events = [];
+  replies = [];
+  kind = kind;
+  ran = ran_nothing now bytes;
+  input = Told-each _ _ (λ a b first. (a, refl, first_stops kind a first)) x z refused;
+  output = Told-each (TookPart (refusal 1 kind)) (TookUpTo [] (refusal 1 kind)) (λ p q s. record { n = s.0; is = s.1 }) t v output;
+}
+
 -- what is refused first
-pub none_first : (x z : Option (List ℕ)) → Told (λ before after. IsRefused None (2 ^ 40) before) x z → Told (λ before after. IsNoFirst before) x z
-none_first x z told = told_each _ _ (λ a b refused. refused.none) x z told
+pub none_first : (kind : Kind) (x z : Option (List ℕ)) → Told (λ before after. IsRefused None (2 ^ 40) before kind) x z → Told (λ before after. IsNoFirst kind before) x z
+none_first kind x z told = Told-each _ (λ before after. IsNoFirst kind before) (λ a b refused. record { by_kind = refused.by_kind; none = refused.none }) x z told
 
 -- an empty input
-pub none_at_all : (x z : Option (List ℕ)) → Told (λ before after. (before ≡ []) × (after ≡ [])) x z → Told (λ before after. IsNoFirst before) x z
-none_at_all x z told = told_each _ _ (λ a b empty event tail placed is. absurd (no_line event tail (sym is ∙ empty.0))) x z told
-
--- bytes without a line feed among the first ones, of which a line has no more
-pub unended_refused : (shape : Option Shape) (room limit : ℕ) (x z : Option (List ℕ)) → ((event : Event) → IsInPlace shape event → length (line_of event) ≤ limit)
-    → Told (λ before after. (before ≡ [] → ⊥) × HasNoLineFeed (take limit before)) x z → Told (λ before after. IsRefused shape room before) x z
-unended_refused shape room limit x z fits told = told_each _ (λ before after. IsRefused shape room before) (λ before after found. record {
-  some = found.0;
-  none = λ event tail placed is. absurd (no_short_line before (spelling event) tail limit is (fits event placed) found.1);
+pub none_at_all : (x z : Option (List ℕ)) → Told (λ before after. (before ≡ []) × (after ≡ [])) x z → Told (λ before after. IsNoFirst Cut before) x z
+none_at_all x z told = Told-each _ (λ before after. IsNoFirst Cut before) (λ a b empty. record {
+  by_kind = subst (λ (l : List ℕ). IsRefusedBy None (2 ^ 40) l Cut) (sym empty.0) (empty_cut (2 ^ 40));
+  none = λ event tail placed served is. absurd (no_line event tail (sym is ∙ empty.0));
 }) x z told
 
 -- a fresh buffer has nothing, and what a buffer still has at the end doesn't matter
-fresh_told : (step : List ℕ → List ℕ → Type 0) (unread : List ℕ) (x y : Option (List ℕ)) → unread ≡ [] → Told step (option_map (λ more. unread ++ more) x) y → Told step x y
+pub fresh_told : (step : List ℕ → List ℕ → Type 0) (unread : List ℕ) (x y : Option (List ℕ)) → unread ≡ [] → Told step (option_map (λ more. unread ++ more) x) y → Told step x y
 fresh_told step unread x None is told = tt
 fresh_told step unread None (Some b) is told = absurd told
 fresh_told step unread (Some a) (Some b) is told = subst (λ (l : List ℕ). step (l ++ a) b) is told
 
-rest_told : (P : List ℕ → Type 0) (unread : List ℕ) (x y : Option (List ℕ)) → Told (λ before after. P before) x (option_map (λ more. unread ++ more) y) → Told (λ before after. P before) x y
+pub rest_told : (P : List ℕ → Type 0) (unread : List ℕ) (x y : Option (List ℕ)) → Told (λ before after. P before) x (option_map (λ more. unread ++ more) y) → Told (λ before after. P before) x y
 rest_told P unread x None told = tt
 rest_told P unread None (Some b) told = absurd told
 rest_told P unread (Some a) (Some b) told = told
@@ -251,18 +287,29 @@ module _ (before now : Counts) (bytes : ℕ → Option (List ℕ)) (unread kept 
       record {
         events = whole.events;
         replies = whole.replies;
+        kind = whole.kind;
         ran = whole.ran;
-        input = rest_told (λ l. (text : List ℕ) × (l ≡ input_of whole.events ++ text) × StopsAt whole.events text × IsNoInput l) kept left rest whole.input;
+        input = rest_told (λ l. (text : List ℕ) × (l ≡ input_of whole.events ++ text) × StopsAt whole.events whole.kind text × IsNoInput l) kept left rest whole.input;
         output = whole.output;
       }
 
-  pub replay_refused : Told (λ b a. IsRefused None (2 ^ 40) b) (option_map (λ more. unread ++ more) left) (option_map (λ more. kept ++ more) rest) → Told (Took (refusal 1 Form)) taken given → Stopped before before bytes left rest taken given
-  replay_refused refused output =
-      stopped_first before bytes left rest taken given (rest_told IsNoFirst kept left rest (fresh_told (λ b a. IsNoFirst b) unread left _ fresh (none_first _ _ refused))) output
+  first_refused : (kind : Kind) → Told (λ b a. IsRefused None (2 ^ 40) b kind) (option_map (λ more. unread ++ more) left) (option_map (λ more. kept ++ more) rest) → Told (λ b a. IsNoFirst kind b) left rest
+  first_refused kind refused = rest_told (IsNoFirst kind) kept left rest (fresh_told (λ b a. IsNoFirst kind b) unread left _ fresh (none_first kind _ _ refused))
 
-  pub replay_empty : Told (λ b a. (b ≡ []) × (a ≡ [])) (option_map (λ more. unread ++ more) left) (option_map (λ more. kept ++ more) rest) → Told (Took (refusal 1 Form)) taken given → Stopped before before bytes left rest taken given
-  replay_empty empty output =
-      stopped_first before bytes left rest taken given (rest_told IsNoFirst kept left rest (fresh_told (λ b a. IsNoFirst b) unread left _ fresh (none_at_all _ _ empty))) output
+  first_empty : Told (λ b a. (b ≡ []) × (a ≡ [])) (option_map (λ more. unread ++ more) left) (option_map (λ more. kept ++ more) rest) → Told (λ b a. IsNoFirst Cut b) left rest
+  first_empty empty = rest_told (IsNoFirst Cut) kept left rest (fresh_told (λ b a. IsNoFirst Cut b) unread left _ fresh (none_at_all _ _ empty))
+
+  pub replay_refused : (kind : Kind) → Told (λ b a. IsRefused None (2 ^ 40) b kind) (option_map (λ more. unread ++ more) left) (option_map (λ more. kept ++ more) rest) → Told (Took (refusal 1 kind)) taken given → Stopped before before bytes left rest taken given
+  replay_refused kind refused output = stopped_first before bytes kind left rest taken given (first_refused kind refused) output
+
+  pub replay_empty : Told (λ b a. (b ≡ []) × (a ≡ [])) (option_map (λ more. unread ++ more) left) (option_map (λ more. kept ++ more) rest) → Told (Took (refusal 1 Cut)) taken given → Stopped before before bytes left rest taken given
+  replay_empty empty output = stopped_first before bytes Cut left rest taken given (first_empty empty) output
+
+  pub refused_part : (kind : Kind) → Told (λ b a. IsRefused None (2 ^ 40) b kind) (option_map (λ more. unread ++ more) left) (option_map (λ more. kept ++ more) rest) → Told (TookPart (refusal 1 kind)) taken given → IsCut before before bytes left rest taken given
+  refused_part kind refused output = inr (cut_first before bytes kind left rest taken given (first_refused kind refused) output)
+
+  pub empty_part : Told (λ b a. (b ≡ []) × (a ≡ [])) (option_map (λ more. unread ++ more) left) (option_map (λ more. kept ++ more) rest) → Told (TookPart (refusal 1 Cut)) taken given → IsCut before before bytes left rest taken given
+  empty_part empty output = inr (cut_first before bytes Cut left rest taken given (first_empty empty) output)
 
 pub IfOk-map : {T E : Type 0} (result : Result T E) (P Q : T → Type 0) → ((x : T) → P x → Q x) → IfOk result P → IfOk result Q
 IfOk-map (Ok x) P Q h p = h x p

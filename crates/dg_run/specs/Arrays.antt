@@ -1,5 +1,5 @@
 -- A replay behind its first line.
-use Rattle.std.specs.Prelude.{◌≡◌, ◌+◌, ◌-◌, ◌^◌, ◌++◌, ◌∷◌, [], ℕ, List, length, Option, Some, All}
+use Rattle.std.specs.Prelude.{◌≡◌, ◌+◌, ◌-◌, ◌^◌, ◌++◌, ◌∷◌, ◌⊎◌, [], ℕ, List, length, Option, Some, All}
 use Rattle.dg_io.specs.declared.outside.Rack.{Ghosts}
 use Rattle.dg_model.specs.States.{Counts}
 use Rattle.dg_model.specs.declared.shapes.Shape.{Shape}
@@ -7,12 +7,14 @@ use Rattle.dg_model.specs.declared.events.Event.{Event}
 use Rattle.dg_model.specs.declared.events.Event.TheVariants.{Array}
 use Rattle.dg_model.specs.declared.replies.Reply.{Reply}
 use Rattle.dg_model.specs.declared.replies.Reply.TheVariants.{Done}
-use Rattle.dg_io.specs.Told.{Told, Took}
+use Rattle.dg_io.specs.Told.{Told, Took, TookPart}
 use Rattle.dg_store.specs.declared.store.Store.{Store}
 use Rattle.dg_store.specs.Stores.{shape_of}
 use Rattle.dg_text.specs.Lines.{input_of, IsInPlace}
 use Rattle.dg_text.specs.Replies.{reply_line, output_of, refusal}
-use Rattle.dg_text.specs.declared.lines.BadLine.TheVariants.{Form}
+use Rattle.dg_text.specs.declared.lines.BadLine.{BadLine as Kind}
+use Rattle.dg_io.specs.Told.{AreAny}
+use Rattle.dg_run.specs.Endings.{LinesCut, LinesRanOut}
 use Rattle.dg_run.specs.Events.{IsRefused}
 use Rattle.dg_run.specs.Lines.{AllServed, ServedTo}
 use Rattle.dg_run.specs.Replays.{Ran}
@@ -30,9 +32,31 @@ pub record AnsweredTo {R : Type 0} (rack : Ghosts R) (first : ℕ) (left rest ta
   pub middle : Option (List ℕ)
   pub before : Option (List ℕ)
   pub number : ℕ
+  pub kind : Kind
   pub ok : Told (Took (reply_line Done)) taken middle
-  pub served : ServedTo rack (shape_of old) first number left rest middle before old new
-  pub refused : Told (Took (refusal number Form)) before given
+  pub served : ServedTo rack (shape_of old) first number kind left rest middle before old new
+  pub refused : Told (Took (refusal number kind)) before given
+
+-- the same, but the refusal was written in part
+pub record AnsweredToPart {R : Type 0} (rack : Ghosts R) (first : ℕ) (left rest taken given : Option (List ℕ)) (old new : Store R) : Type 0 where
+  pub middle : Option (List ℕ)
+  pub before : Option (List ℕ)
+  pub number : ℕ
+  pub kind : Kind
+  pub ok : Told (Took (reply_line Done)) taken middle
+  pub served : ServedTo rack (shape_of old) first number kind left rest middle before old new
+  pub refused : Told (TookPart (refusal number kind)) before given
+
+-- The sink failed behind a first line that made the array: at its answer, at the reply to a later line, or at the refusal of one.
+abbrev pub ArrayCut : {R : Type 0} → Ghosts R → ℕ → Option (List ℕ) → Option (List ℕ) → Option (List ℕ) → Option (List ℕ) → Option (List ℕ) → Store R → Store R → Type 0
+ArrayCut rack first left ahead rest taken given old new =
+    (Told (TookPart (reply_line Done)) taken given × (new ≡ old) × Told AreAny left rest)
+    ⊎ (LinesCut rack (reply_line Done) (shape_of old) first left rest taken given old new ⊎ AnsweredToPart rack first left ahead taken given old new)
+
+-- memory was wanting behind such a line: for the array, or for a later line
+abbrev pub ArrayRanOut : {R : Type 0} → Ghosts R → ℕ → Option (List ℕ) → Option (List ℕ) → Option (List ℕ) → Option (List ℕ) → Store R → Store R → Type 0
+ArrayRanOut rack first left rest taken given old new =
+    ((given ≡ taken) × Told AreAny left rest) ⊎ LinesRanOut rack (reply_line Done) (shape_of old) first left rest taken given old new
 
 -- a status that a replay can have
 abbrev pub IsOfReplay : Status → Type 0
@@ -54,17 +78,18 @@ pub record ArrayReplayed (before now : Counts) (bytes : ℕ → Option (List ℕ
   pub input : Told (λ b a. (b ≡ input_of events) × (a ≡ [])) left rest
   pub output : Told (Took (output_of (Done ∷ replies))) taken given
 
--- The text behind the lines of these events is refused, and any lines of events in their places that make up the whole
+-- The text behind the lines of these events is refused by this kind, and any lines of events in their places that make up the whole
 -- begin with them.
-pub record IsCutAt (shape : Shape) (events : List Event) (whole text : List ℕ) : Type 0 where
+pub record IsCutAt (shape : Shape) (events : List Event) (kind : Kind) (whole text : List ℕ) : Type 0 where
   pub lines : whole ≡ input_of events ++ text
-  pub refused : IsRefused (Some shape) (2 ^ 40 - length (input_of (Array shape ∷ events))) text
+  pub refused : IsRefused (Some shape) (2 ^ 40 - length (input_of (Array shape ∷ events))) text kind
   pub only : (others : List Event) → All (IsInPlace (Some shape)) others → whole ≡ input_of others → (more : List Event) × (others ≡ events ++ more) × (text ≡ input_of more)
 
 -- the same up to a line that is refused
 pub record ArrayStopped (before now : Counts) (bytes : ℕ → Option (List ℕ)) (shape : Shape) (left rest taken given : Option (List ℕ)) : Type 0 where
   pub events : List Event
   pub replies : List Reply
+  pub kind : Kind
   pub ran : Ran before now bytes (Array shape ∷ events) (Done ∷ replies)
-  pub input : Told (λ b a. (text : List ℕ) × IsCutAt shape events b text) left rest
-  pub output : Told (Took (output_of (Done ∷ replies) ++ refusal (length events + 2) Form)) taken given
+  pub input : Told (λ b a. (text : List ℕ) × IsCutAt shape events kind b text) left rest
+  pub output : Told (Took (output_of (Done ∷ replies) ++ refusal (length events + 2) kind)) taken given

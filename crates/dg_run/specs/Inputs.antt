@@ -1,10 +1,10 @@
 -- The input as a reader sees it: what its buffer still has, and then what the source has left.
-use Rattle.std.specs.Prelude.{◌≡◌, ◌≤◌, ◌+◌, ◌++◌, ◌∷◌, [], ℕ, List, take, slice_range, Option}
+use Rattle.std.specs.Prelude.{◌≡◌, ◌≤◌, ◌+◌, ◌++◌, ◌∷◌, ◌<◌, [], ℕ, List, length, take, slice_range, Option}
 use Rattle.std.specs.Option.{option_map}
 use Rattle.dg_run.specs.Bytes.{HasNoLineFeed}
 use Rattle.dg_run.specs.declared.input.Input.{Input}
 use Rattle.dg_run.specs.declared.input.LineStep.{LineStep}
-use Rattle.dg_run.specs.declared.input.LineStep.TheVariants.{Line, End, Unended}
+use Rattle.dg_run.specs.declared.input.LineStep.TheVariants.{Line, End, Full, Cut}
 
 -- the bytes of the buffer that are still to be used
 abbrev pub unread : Input → List ℕ
@@ -21,10 +21,23 @@ line_in input from to = slice_range input.bytes.items from to
 abbrev pub IsStep : ℕ → Input → LineStep → Type 0
 IsStep limit input (Line from to) = (from ≤ to) × (to ≤ 65536) × (to + 1 ≤ from + limit) × HasNoLineFeed (line_in input from to)
 IsStep limit input End = Unit {0}
-IsStep limit input Unended = Unit {0}
+IsStep limit input Full = Unit {0}
+IsStep limit input (Cut n) = n < limit
 
--- what came next: the line and its line feed; or nothing; or bytes without a line feed among the first ones
+-- the text ends after so many bytes, at least one, and has no line feed
+pub record IsCutOff (n : ℕ) (text : List ℕ) : Type 0 where
+  pub some : text ≡ [] → ⊥
+  pub size : n ≡ length text
+  pub none : HasNoLineFeed text
+
+-- there are so many first bytes without a line feed
+pub record IsFull (limit : ℕ) (text : List ℕ) : Type 0 where
+  pub there : limit ≤ length text
+  pub none : HasNoLineFeed (take limit text)
+
+-- what came next: the line and its line feed; or nothing; or bytes without a line feed
 abbrev pub TookStep : ℕ → Input → LineStep → List ℕ → List ℕ → Type 0
 TookStep limit input (Line from to) before after = before ≡ line_in input from to ++ 10 ∷ after
 TookStep limit input End before after = (before ≡ []) × (after ≡ [])
-TookStep limit input Unended before after = (before ≡ [] → ⊥) × HasNoLineFeed (take limit before)
+TookStep limit input Full before after = IsFull limit before
+TookStep limit input (Cut n) before after = IsCutOff n before

@@ -1,11 +1,14 @@
 pub mod Arrays
 pub mod Buffers
 pub mod Bytes
+pub mod Endings
 pub mod Events
 pub mod Inputs
 pub mod Lines
 pub mod Paths
+pub mod Refusals
 pub mod Replays
 pub mod Scans
+pub mod Served
 pub mod Statuses
 pub mod Stores

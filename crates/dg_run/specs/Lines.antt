@@ -1,5 +1,5 @@
 -- Lines served one after another.
-use Rattle.std.specs.Prelude.{◌≡◌, ◌≤◌, ◌++◌, ◌+◌, ◌-◌, ◌^◌, [], ℕ, List, length, Option, Some, All}
+use Rattle.std.specs.Prelude.{◌≡◌, ◌≤◌, ◌++◌, ◌+◌, ◌-◌, ◌^◌, [], true, ℕ, List, length, Option, Some, All}
 use Rattle.dg_io.specs.declared.outside.Rack.{Ghosts}
 use Rattle.dg_model.specs.declared.shapes.Shape.{Shape}
 use Rattle.dg_model.specs.declared.events.Event.{Event}
@@ -9,7 +9,9 @@ use Rattle.dg_store.specs.declared.store.Store.{Store}
 use Rattle.dg_text.specs.Lines.{line_of, input_of, IsInPlace}
 use Rattle.dg_text.specs.Replies.{output_of}
 use Rattle.dg_store.specs.Stores.{shape_of}
+use Rattle.dg_text.specs.declared.lines.BadLine.{BadLine}
 use Rattle.dg_run.specs.Events.{Begins, IsRefused}
+use Rattle.dg_run.specs.Served.{AreServed, is_served}
 use Rattle.dg_run.specs.Stores.{Answered, RunsTo}
 use Rattle.dg_run.specs.declared.lines.Turn.{Turn}
 use Rattle.dg_run.specs.declared.lines.Turn.TheVariants.{Served as turn_served, End as turn_end, Refused as turn_refused}
@@ -20,6 +22,7 @@ use Rattle.dg_run.specs.declared.lines.LinesEnd.TheVariants.{Input as input_end,
 pub record ServedLine {R : Type 0} (rack : Ghosts R) (shape : Shape) (room n : ℕ) (left rest taken given : Option (List ℕ)) (old new : Store R) : Type 0 where
   pub event : Event
   pub in_place : IsInPlace (Some shape) event
+  pub done : is_served event ≡ true
   pub size : n ≡ length (line_of event)
   pub within : n ≤ room
   pub input : Told (Begins (Some shape) event) left rest
@@ -34,12 +37,13 @@ pub record BeginsAll (shape : Option Shape) (events : List Event) (before after 
 abbrev pub Turned : {R : Type 0} → Ghosts R → ℕ → Option (List ℕ) → Option (List ℕ) → Option (List ℕ) → Option (List ℕ) → Store R → Store R → Turn → Type 0
 Turned rack room left rest taken given old new (turn_served n) = ServedLine rack (shape_of old) room n left rest taken given old new
 Turned rack room left rest taken given old new turn_end = Told (λ before after. (before ≡ []) × (after ≡ [])) left rest × (given ≡ taken) × (new ≡ old)
-Turned rack room left rest taken given old new turn_refused = Told (λ before after. IsRefused (Some (shape_of old)) room before) left rest × (given ≡ taken) × (new ≡ old)
+Turned rack room left rest taken given old new (turn_refused kind) = Told (λ before after. IsRefused (Some (shape_of old)) room before kind) left rest × (given ≡ taken) × (new ≡ old)
 
 -- lines were taken one after another, their events were done, and their replies were written
 pub record Served {R : Type 0} (rack : Ghosts R) (shape : Shape) (events : List Event) (left rest taken given : Option (List ℕ)) (old new : Store R) : Type 0 where
   pub replies : List Reply
   pub in_place : All (IsInPlace (Some shape)) events
+  pub done : AreServed events
   pub input : Told (BeginsAll (Some shape) events) left rest
   pub output : Told (Took (output_of replies)) taken given
   pub runs : RunsTo rack old events replies new
@@ -51,16 +55,16 @@ pub record AllServed {R : Type 0} (rack : Ghosts R) (shape : Shape) (first : ℕ
   pub budget : first + length (input_of events) ≤ 2 ^ 40
   pub end : Told (λ before after. (before ≡ input_of events) × (after ≡ [])) left rest
 
--- some lines were served, and the next one, of this number, is refused
-pub record ServedTo {R : Type 0} (rack : Ghosts R) (shape : Shape) (first number : ℕ) (left rest taken given : Option (List ℕ)) (old new : Store R) : Type 0 where
+-- some lines were served, and the next one, of this number, is refused by this kind
+pub record ServedTo {R : Type 0} (rack : Ghosts R) (shape : Shape) (first number : ℕ) (kind : BadLine) (left rest taken given : Option (List ℕ)) (old new : Store R) : Type 0 where
   pub events : List Event
   pub middle : Option (List ℕ)
   pub served : Served rack shape events left middle taken given old new
   pub budget : first + length (input_of events) ≤ 2 ^ 40
   pub count : number ≡ length events + 2
-  pub refused : Told (λ before after. IsRefused (Some shape) (2 ^ 40 - (first + length (input_of events))) before) middle rest
+  pub refused : Told (λ before after. IsRefused (Some shape) (2 ^ 40 - (first + length (input_of events))) before kind) middle rest
 
 -- how the lines behind the first one ended
 abbrev pub LinesEndAt : {R : Type 0} → Ghosts R → ℕ → Option (List ℕ) → Option (List ℕ) → Option (List ℕ) → Option (List ℕ) → Store R → Store R → LinesEnd → Type 0
 LinesEndAt rack first left rest taken given old new input_end = AllServed rack (shape_of old) first left rest taken given old new
-LinesEndAt rack first left rest taken given old new (line_refused number) = ServedTo rack (shape_of old) first number left rest taken given old new
+LinesEndAt rack first left rest taken given old new (line_refused number kind) = ServedTo rack (shape_of old) first number kind left rest taken given old new

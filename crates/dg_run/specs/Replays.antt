@@ -1,5 +1,5 @@
 -- What a whole replay means: the events of its input, their replies, and what the rack holds at the end.
-use Rattle.std.specs.Prelude.{◌≡◌, ◌≤◌, ◌<◌, ◌+◌, ◌-◌, ◌/◌, ◌^◌, ◌++◌, [], ◌∷◌, ℕ, List, length, Option, Some, None, IsSome, codes}
+use Rattle.std.specs.Prelude.{◌≡◌, ◌⊎◌, ◌≤◌, ◌<◌, ◌+◌, ◌-◌, ◌/◌, ◌^◌, ◌++◌, [], ◌∷◌, true, false, Bool, ℕ, List, length, Option, Some, None, IsSome, codes}
 use Rattle.dg_model.specs.States.{Counts, State, Holds}
 use Rattle.dg_model.specs.Runs.{Trace}
 use Rattle.dg_model.specs.declared.shapes.Shape.{Shape}
@@ -8,8 +8,14 @@ use Rattle.dg_model.specs.declared.events.Event.TheVariants.{Array}
 use Rattle.dg_model.specs.declared.replies.Reply.{Reply}
 use Rattle.dg_io.specs.Told.{Told, Took}
 use Rattle.dg_text.specs.Lines.{line_of, input_of, IsInPlace, AreInPlace}
-use Rattle.dg_text.specs.Replies.{output_of, refusal}
-use Rattle.dg_text.specs.declared.lines.BadLine.TheVariants.{Form}
+use Rattle.dg_text.specs.Replies.{reply_line, output_of, refusal}
+use Rattle.dg_text.specs.declared.lines.BadLine.{BadLine}
+use Rattle.dg_words.specs.Commands.{IsCommand}
+use Rattle.dg_words.specs.declared.commands.Command.{Command}
+use Rattle.dg_words.specs.declared.commands.Command.TheVariants.{Replay}
+use Rattle.dg_run.specs.Endings.{GaveLines, StartsWith, TookUpTo}
+use Rattle.dg_run.specs.Refusals.{IsRefusedBy}
+use Rattle.dg_run.specs.Served.{AreServed, is_served}
 
 -- the shape of the array that the first event made
 abbrev pub shape_after : List Event → Option Shape
@@ -21,11 +27,12 @@ shape_after (event ∷ events) = None
 abbrev pub TellsBoundaries : (ℕ → Option (List ℕ)) → State → Type 0
 TellsBoundaries bytes state = (q : ℕ) → q / 2 < state.table.shape.b → IsSome (bytes q)
 
--- The events are in their places, and their lines keep to the budget of 2^40 bytes. They had these replies, in steps of the array
+-- The events are in their places and served, and their lines keep to the budget of 2^40 bytes. They had these replies, in steps of the array
 -- from nothing to a final state, which has the counts of the rack. Where each member of the array tells its bytes at the end, the
 -- steps are known in their bytes too, and the members hold the blocks of the final state.
 pub record Ran (before now : Counts) (bytes : ℕ → Option (List ℕ)) (events : List Event) (replies : List Reply) : Type 0 where
   pub in_place : AreInPlace events
+  pub done : AreServed events
   pub budget : length (input_of events) ≤ 2 ^ 40
   pub final : State
   pub trace : Trace (TellsBoundaries bytes final) before events replies final
@@ -41,16 +48,19 @@ pub record Replayed (before now : Counts) (bytes : ℕ → Option (List ℕ)) (l
   pub input : Told (λ b a. (b ≡ input_of events) × (a ≡ [])) left rest
   pub output : Told (Took (output_of replies)) taken given
 
--- The text behind the lines of these events is refused: it begins with no line of an event in its place that keeps to
--- the budget. It is empty only where the whole input is.
-pub record StopsAt (events : List Event) (text : List ℕ) : Type 0 where
+-- The text behind the lines of these events is refused by this kind, the first that fits there. So it begins with no line of an event
+-- that is served in its place and keeps to the budget; and it is empty only where the whole input is.
+pub record StopsAt (events : List Event) (kind : BadLine) (text : List ℕ) : Type 0 where
+  pub by_kind : IsRefusedBy (shape_after events) (2 ^ 40 - length (input_of events)) text kind
   pub some : text ≡ [] → events ≡ []
-  pub none : (event : Event) (tail : List ℕ) → IsInPlace (shape_after events) event → text ≡ line_of event ++ tail → 2 ^ 40 - length (input_of events) < length (line_of event)
+  pub none : (event : Event) (tail : List ℕ) → IsInPlace (shape_after events) event → is_served event ≡ true → text ≡ line_of event ++ tail
+      → 2 ^ 40 - length (input_of events) < length (line_of event)
 
--- an input of acceptable lines: its events are in their places, and it keeps to the budget
+-- an input of acceptable lines: its events are in their places and served, and it keeps to the budget
 pub record IsInput (events : List Event) : Type 0 where
   pub some : events ≡ [] → ⊥
   pub in_place : AreInPlace events
+  pub served : AreServed events
   pub budget : length (input_of events) ≤ 2 ^ 40
 
 -- no events make up the text as an input of acceptable lines
@@ -58,13 +68,68 @@ abbrev pub IsNoInput : List ℕ → Type 0
 IsNoInput text = (events : List Event) → IsInput events → text ≡ input_of events → ⊥
 
 -- the input is the lines of these events and then a line that is refused; the output is the text of their replies and
--- then the refusal with that line's number
+-- then the refusal with that line's number and kind
 pub record Stopped (before now : Counts) (bytes : ℕ → Option (List ℕ)) (left rest taken given : Option (List ℕ)) : Type 0 where
   pub events : List Event
   pub replies : List Reply
+  pub kind : BadLine
   pub ran : Ran before now bytes events replies
-  pub input : Told (λ b a. (text : List ℕ) × (b ≡ input_of events ++ text) × StopsAt events text × IsNoInput b) left rest
-  pub output : Told (Took (output_of replies ++ refusal (length events + 1) Form)) taken given
+  pub input : Told (λ b a. (text : List ℕ) × (b ≡ input_of events ++ text) × StopsAt events kind text × IsNoInput b) left rest
+  pub output : Told (Took (output_of replies ++ refusal (length events + 1) kind)) taken given
+
+-- The source failed: the lines that it gave whole are those of these events, and the output is the text of their replies.
+pub record BrokeOff (before now : Counts) (bytes : ℕ → Option (List ℕ)) (left rest taken given : Option (List ℕ)) : Type 0 where
+  pub events : List Event
+  pub replies : List Reply
+  pub ran : Ran before now bytes events replies
+  pub input : Told (GaveLines (input_of events)) left rest
+  pub output : Told (Took (output_of replies)) taken given
+
+-- The sink failed at a reply: the input begins with the lines of these events, all of which were done. The output is the text of
+-- the replies before, and a part of the last one.
+pub record CutReply (before now : Counts) (bytes : ℕ → Option (List ℕ)) (left rest taken given : Option (List ℕ)) : Type 0 where
+  pub events : List Event
+  pub replies : List Reply
+  pub last : Reply
+  pub ran : Ran before now bytes events (replies ++ last ∷ [])
+  pub input : Told (StartsWith (input_of events)) left rest
+  pub output : Told (TookUpTo (output_of replies) (reply_line last)) taken given
+
+-- The sink failed at the refusal of a line: the input is the lines of these events and then a line that is refused. The output is the
+-- text of their replies, and a part of the refusal.
+pub record CutRefusal (before now : Counts) (bytes : ℕ → Option (List ℕ)) (left rest taken given : Option (List ℕ)) : Type 0 where
+  pub events : List Event
+  pub replies : List Reply
+  pub kind : BadLine
+  pub ran : Ran before now bytes events replies
+  pub input : Told (λ b a. (text : List ℕ) × (b ≡ input_of events ++ text) × StopsAt events kind text) left rest
+  pub output : Told (TookUpTo (output_of replies) (refusal (length events + 1) kind)) taken given
+
+-- the sink failed at a reply, or at the refusal of a line
+abbrev pub IsCut : Counts → Counts → (ℕ → Option (List ℕ)) → Option (List ℕ) → Option (List ℕ) → Option (List ℕ) → Option (List ℕ) → Type 0
+IsCut before now bytes left rest taken given = CutReply before now bytes left rest taken given ⊎ CutRefusal before now bytes left rest taken given
+
+-- Memory was wanting: the input begins with the lines of these events, and the output is the text of their replies. Nothing is said of
+-- what the rack holds, nor of the counts that it has.
+pub record RanOut (before : Counts) (bytes : ℕ → Option (List ℕ)) (left rest taken given : Option (List ℕ)) : Type 0 where
+  pub events : List Event
+  pub replies : List Reply
+  pub in_place : AreInPlace events
+  pub done : AreServed events
+  pub budget : length (input_of events) ≤ 2 ^ 40
+  pub final : State
+  pub trace : Trace (TellsBoundaries bytes final) before events replies final
+  pub input : Told (StartsWith (input_of events)) left rest
+  pub output : Told (Took (output_of replies)) taken given
+
+-- the commands that are built
+abbrev pub is_built : Command → Bool
+is_built Replay = true
+is_built command = false
+
+-- the words are no command, or one that isn't built yet
+abbrev pub AreUnbuilt : List (List ℕ) → Type 0
+AreUnbuilt words = (command : Command) → IsCommand words command → is_built command ≡ false
 
 -- the words are those of a replay
 abbrev pub IsReplay : List (List ℕ) → Type 0

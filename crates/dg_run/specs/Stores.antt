@@ -1,7 +1,7 @@
 -- A store beside the model's states.
 use Rattle.std.specs.Prelude.{◌≡◌, ℕ, List, Option, None}
 use Rattle.dg_io.specs.declared.outside.Rack.{Ghosts}
-use Rattle.dg_io.specs.Told.{Told, Took, StillTold}
+use Rattle.dg_io.specs.Told.{Told, Took, TookPart, StillTold}
 use Rattle.dg_model.specs.Runs.{Run}
 use Rattle.dg_model.specs.States.{State}
 use Rattle.dg_model.specs.Steps.{Step}
@@ -28,11 +28,22 @@ abbrev pub RunsTo : {R : Type 0} → Ghosts R → Store R → List Event → Lis
 RunsTo rack old events replies new = (state : State) → StandsIn rack old state →
     (next : State) × StandsIn rack new next × Run (TellsAll rack new) state events replies next
 
+-- the same, but nothing is said of what the store stands for now
+abbrev pub RunsBefore : {R : Type 0} → Ghosts R → Store R → List Event → List Reply → Store R → Type 0
+RunsBefore rack old events replies now = (state : State) → StandsIn rack old state →
+    (next : State) × (next.table.shape ≡ shape_of now) × Run (TellsAll rack now) state events replies next
+
 -- the event was done, and its reply was written
 pub record Answered {R : Type 0} (rack : Ghosts R) (event : Event) (taken given : Option (List ℕ)) (old new : Store R) : Type 0 where
   pub reply : Reply
   pub steps : StepsTo rack old event reply new
   pub output : Told (Took (reply_line reply)) taken given
+
+-- the event was done, and a part of its reply was written
+pub record AnsweredPart {R : Type 0} (rack : Ghosts R) (event : Event) (taken given : Option (List ℕ)) (old new : Store R) : Type 0 where
+  pub reply : Reply
+  pub steps : StepsTo rack old event reply new
+  pub output : Told (TookPart (reply_line reply)) taken given
 
 -- what stays of a store, whatever was done
 pub record GoesOn {R : Type 0} (rack : Ghosts R) (old new : Store R) : Type 0 where

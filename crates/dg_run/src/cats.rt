@@ -1,8 +1,8 @@
 // The event that reads a file by its path.
-ghost use Rattle.std.specs.Prelude.{◌≡◌, ◌≤◌, true, ℕ, List, OnOk};
+ghost use Rattle.std.specs.Prelude.{◌≡◌, ◌≤◌, true, OnOk};
 ghost use Rattle.dg_model.specs.Causes.{Rose};
 ghost use Rattle.dg_store.specs.Stores.{IsSound, shape_of};
-ghost use Rattle.dg_run.specs.Stores.{GoesOn, Answered};
+ghost use Rattle.dg_run.specs.Stores.{GoesOn, Answered, AnsweredPart};
 ghost use Rattle.ufs_model.specs.Paths.{is_path};
 
 use crate::events::Fault;
@@ -26,6 +26,8 @@ pub fn serve_cat<R: Rack, K: Sink>(
     ensures goes { GoesOn R.Rack store.old store.new }
     ensures levels { levels.new.fragment ≡ levels.old.fragment }
     ensures answered { OnOk result (Answered R.Rack (Event.Cat path.now) (K.taken sink.old) (K.taken sink.new) store.old store.new) }
+    ensures part { result ≡ Err Fault.Write → AnsweredPart R.Rack (Event.Cat path.now) (K.taken sink.old) (K.taken sink.new) store.old store.new }
+    ensures wanting { result ≡ Err Fault.NoMemory → K.taken sink.new ≡ K.taken sink.old }
     ensures later { K.faults sink.old ≤ K.faults sink.new }
     ensures kept { (result ≡ Err Fault.Write → ⊥) → K.faults sink.new ≡ K.faults sink.old }
     ensures read { result ≡ Err Fault.Read → ⊥ }

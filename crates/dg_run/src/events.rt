@@ -1,17 +1,22 @@
 // Events of the input.
-ghost use Rattle.std.specs.Prelude.{◌≡◌, ◌≤◌, ◌++◌, ◌∷◌, ℕ, List, IfOk, IfSome};
+ghost use Rattle.std.specs.Prelude.{◌≡◌, ◌≤◌, ◌<◌, ◌+◌, ◌++◌, ◌∷◌, [], ℕ, List, Option, length, IfOk, IfSome};
 ghost use Rattle.std.specs.Option.{option_copied};
 ghost use Rattle.dg_model.specs.Causes.{Rose};
 ghost use Rattle.dg_model.specs.Shapes.{IsShape};
-ghost use Rattle.dg_io.specs.Told.{Told};
+ghost use Rattle.dg_io.specs.Told.{Told, AreAny};
+ghost use Rattle.dg_model.specs.declared.shapes.Shape.{Shape};
+ghost use Rattle.dg_text.specs.Lines.{longest};
 ghost use Rattle.dg_run.specs.Bytes.{HasNoLineFeed};
-ghost use Rattle.dg_run.specs.Inputs.{ahead};
+ghost use Rattle.dg_run.specs.Endings.{GaveLines};
+ghost use Rattle.dg_run.specs.Inputs.{ahead, IsCutOff, IsFull};
+ghost use Rattle.dg_run.specs.Refusals.{IsRefusedBy};
+ghost use Rattle.dg_run.specs.Served.{is_served};
 ghost use Rattle.dg_run.specs.Events.{IsTaken, TookEvent};
 
 use crate::input::{Input, LineStep};
 use dg_io::Source;
 use dg_model::{Event as Spelled, NoMemory, Shape};
-use dg_text::{longest_line, read_line};
+use dg_text::{BadLine, longest_line, read_line, reading_is_unique};
 use std::alloc::Global;
 
 /// What was taken of the input.
@@ -21,8 +26,8 @@ pub enum Taken {
     Event(Spelled, u64),
     /// Nothing: the input is at its end.
     End,
-    /// A line that is refused.
-    Refused,
+    /// A line that is refused by this kind.
+    Refused(BadLine),
 }
 
 /// Why a replay stops in the middle.
@@ -35,21 +40,72 @@ pub enum Fault {
     NoMemory,
 }
 
-/// The event that a line spells, given without its line feed. A line of more bytes than the room is refused.
+/// Whether the event is served.
+fn is_served(event: &Spelled) -> bool
+    ensures { result ≡ is_served event.now }
+{
+    match event {
+        Spelled::Array(_)
+        | Spelled::Write(_, _)
+        | Spelled::Read(_)
+        | Spelled::Fail(_, _)
+        | Spelled::Cat(_)
+        | Spelled::Ls(_) => true,
+        Spelled::Replace(_, _)
+        | Spelled::Rebuild(_, _)
+        | Spelled::Settle
+        | Spelled::Tend(_)
+        | Spelled::Diffuse
+        | Spelled::Who(_)
+        | Spelled::Pending
+        | Spelled::Tree
+        | Spelled::Home(_)
+        | Spelled::Save => false,
+    }
+}
+
+/// The event that a line spells, given without its line feed, or why it is refused.
 fn judge(alloc: Global, line: &[u8], shape: Option<&Shape>, room: u64) -> Result<Taken, NoMemory>
-    requires { HasNoLineFeed line.now }
+    requires none { HasNoLineFeed line.now }
+    requires short { length line.now + 1 ≤ longest (option_copied shape) }
     ensures is { IfOk result (IsTaken (option_copied shape.entry) room) }
     ensures took { IfOk result (λ taken. (more : List ℕ) → TookEvent (option_copied shape.entry) room taken (line.now ++ 10 ∷ more) more) }
 {
     let bytes = line.len() as u64 + 1;
+    if bytes > room {
+        return Ok(Taken::Refused(BadLine::Size));
+    }
+    reading_is_unique();
     match read_line(alloc, line, shape)? {
         Ok(event) => {
-            if bytes <= room {
+            if is_served(&event) {
                 return Ok(Taken::Event(event, bytes));
             }
-            Ok(Taken::Refused)
+            Ok(Taken::Refused(BadLine::Later))
         }
-        Err(_) => Ok(Taken::Refused),
+        Err(kind) => Ok(Taken::Refused(kind)),
+    }
+}
+
+/// Why bytes without a line feed are refused that are as many as a line may have.
+fn judge_full(most: usize, room: u64) -> BadLine
+    ensures fits { (shape : Option Shape) (text : List ℕ) → longest shape ≡ most → IsFull most text → IsRefusedBy shape room text result }
+{
+    if most as u64 <= room {
+        BadLine::Long
+    } else {
+        BadLine::Size
+    }
+}
+
+/// Why so many bytes without a line feed are refused behind which the input ends. A line may have more.
+fn judge_cut(n: usize, room: u64) -> BadLine
+    ensures fits { (shape : Option Shape) (text : List ℕ) → n < longest shape → IsCutOff n text → IsRefusedBy shape room text result }
+{
+    if n as u64 > room {
+        BadLine::Size
+    } else {
+        BadLine::Cut
     }
 }
 
@@ -65,18 +121,22 @@ pub fn take_event<S: Source>(
     ensures is { IfOk result (IsTaken (option_copied shape.entry) room) }
     ensures took { IfOk result (λ taken. Told (TookEvent (option_copied shape.entry) room taken) (ahead input.old (S.left source.old))
         (ahead input.new (S.left source.new))) }
+    ensures broken { result ≡ Err Fault.Read → Told (GaveLines []) (ahead input.old (S.left source.old)) (S.left source.new) }
+    ensures wanting { result ≡ Err Fault.NoMemory → Told AreAny (ahead input.old (S.left source.old)) (S.left source.new) }
     ensures later { S.faults source.old ≤ S.faults source.new }
     ensures kept { (result ≡ Err Fault.Read → ⊥) → S.faults source.new ≡ S.faults source.old }
     ensures read { result ≡ Err Fault.Read → Rose (S.faults source.old) (S.faults source.new) }
     ensures write { result ≡ Err Fault.Write → ⊥ }
 {
-    match input.next_line(source, longest_line(shape)) {
+    let most = longest_line(shape);
+    match input.next_line(source, most) {
         Ok(LineStep::Line(from, to)) => match judge(alloc, input.line(from, to), shape, room) {
             Ok(taken) => Ok(taken),
             Err(_) => Err(Fault::NoMemory),
         },
         Ok(LineStep::End) => Ok(Taken::End),
-        Ok(LineStep::Unended) => Ok(Taken::Refused),
+        Ok(LineStep::Full) => Ok(Taken::Refused(judge_full(most, room))),
+        Ok(LineStep::Cut(n)) => Ok(Taken::Refused(judge_cut(n, room))),
         Err(_) => Err(Fault::Read),
     }
 }

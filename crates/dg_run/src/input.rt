@@ -28,11 +28,14 @@ pub enum LineStep {
     Line(usize, usize),
     /// The end of the input.
     End,
-    /// Bytes without a line feed: as many as the limit, or to the end of the input.
-    Unended,
+    /// Bytes without a line feed, as many as the limit.
+    Full,
+    /// So many bytes without a line feed, and then the end of the input.
+    Cut(usize),
 }
 
 impl Input {
+    ghost use Rattle.dg_run.specs.Endings.{GaveLines};
     ghost use Rattle.dg_run.specs.Inputs.{unread, ahead, line_in, TookStep, IsStep};
     ghost use Rattle.dg_run.specs.Bytes.{HasNoLineFeed};
 
@@ -90,6 +93,7 @@ impl Input {
         ensures end { IfOk result (λ n. n ≡ 0 → Told (λ before after. before ≡ unread self.old) (ahead self.old (S.left source.old)) (ahead self.new
             (S.left source.new))) }
         ensures same { Told IsSame (ahead self.old (S.left source.old)) (ahead self.new (S.left source.new)) }
+        ensures err { OnErr result (unread self.new ≡ unread self.old) }
         ensures cause { HasCause (S.faults source.old) (S.faults source.new) result }
     {
         self.make_room();
@@ -124,7 +128,7 @@ impl Input {
                 self.at = from + n + 1;
                 Some(LineStep::Line(from, from + n))
             }
-            Scan::Unended => Some(LineStep::Unended),
+            Scan::Unended => Some(LineStep::Full),
             Scan::More => None,
         }
     }
@@ -135,7 +139,7 @@ impl Input {
         requires room { limit < 65536 }
         ensures step { IfOk result (IsStep limit self.new) }
         ensures took { IfOk result (λ step. Told (TookStep limit self.new step) (ahead self.old (S.left source.old)) (ahead self.new (S.left source.new))) }
-        ensures err { OnErr result (Told IsSame (ahead self.old (S.left source.old)) (ahead self.new (S.left source.new))) }
+        ensures err { OnErr result (Told (GaveLines []) (ahead self.old (S.left source.old)) (S.left source.new)) }
         ensures cause { HasCause (S.faults source.old) (S.faults source.new) result }
     {
         let mut seen = 0;
@@ -148,7 +152,7 @@ impl Input {
                 return Ok(if seen == 0 {
                     LineStep::End
                 } else {
-                    LineStep::Unended
+                    LineStep::Cut(seen)
                 });
             }
         }

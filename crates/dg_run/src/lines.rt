@@ -1,10 +1,11 @@
 // The lines of a trace, one after another.
-ghost use Rattle.std.specs.Prelude.{◌≡◌, ◌-◌, ◌+◌, ◌≤◌, ◌<◌, ◌^◌, ◌++◌, [], ℕ, List, length, IfOk, Some};
-ghost use Rattle.dg_io.specs.Told.{Told, IsSame};
+ghost use Rattle.std.specs.Prelude.{◌≡◌, ◌-◌, ◌+◌, ◌≤◌, ◌<◌, ◌^◌, [], IfOk, Some};
+ghost use Rattle.dg_io.specs.Told.{Told, AreAny};
 ghost use Rattle.dg_model.specs.Causes.{Rose};
 ghost use Rattle.dg_store.specs.Stores.{IsSound, shape_of};
 ghost use Rattle.dg_run.specs.Inputs.{ahead};
 ghost use Rattle.dg_run.specs.Buffers.{AreFor};
+ghost use Rattle.dg_run.specs.Endings.{GaveLines, LinesBrokeOff, LinesCut, LinesRanOut, ServedLinePart};
 ghost use Rattle.dg_run.specs.Stores.{GoesOn};
 ghost use Rattle.dg_run.specs.Lines.{Turned, LinesEndAt};
 
@@ -14,6 +15,7 @@ use crate::input::Input;
 use crate::serve::serve;
 use dg_io::{Rack, Sink, Source};
 use dg_store::Store;
+use dg_text::BadLine;
 use std::alloc::Global;
 
 /// No line may go past so many bytes of the input.
@@ -26,8 +28,8 @@ pub enum Turn {
     Served(u64),
     /// Nothing: the input is at its end.
     End,
-    /// Nothing: the line is refused.
-    Refused,
+    /// Nothing: the line is refused by this kind.
+    Refused(BadLine),
 }
 
 /// How the lines ended.
@@ -35,8 +37,8 @@ pub enum Turn {
 pub enum LinesEnd {
     /// All were served.
     Input,
-    /// The line of this number, counted from 1, is refused.
-    Refused(u64),
+    /// The line of this number, counted from 1, is refused by this kind.
+    Refused(u64, BadLine),
 }
 
 /// Takes a line of no more bytes than the room, does its event and writes the reply.
@@ -55,6 +57,12 @@ fn serve_next<S: Source, K: Sink, R: Rack>(
     ensures buffers { AreFor (shape_of store.old).l buffers.new }
     ensures turned { IfOk result (Turned R.Rack room (ahead input.old (S.left source.old)) (ahead input.new (S.left source.new)) (K.taken sink.old)
         (K.taken sink.new) store.old store.new) }
+    ensures broken { result ≡ Err Fault.Read → Told (GaveLines []) (ahead input.old (S.left source.old)) (S.left source.new)
+        × (K.taken sink.new ≡ K.taken sink.old) × (store.new ≡ store.old) }
+    ensures part { result ≡ Err Fault.Write → ServedLinePart R.Rack (shape_of store.old) room (ahead input.old (S.left source.old)) (S.left source.new)
+        (K.taken sink.old) (K.taken sink.new) store.old store.new }
+    ensures wanting { result ≡ Err Fault.NoMemory → Told AreAny (ahead input.old (S.left source.old)) (S.left source.new)
+        × (K.taken sink.new ≡ K.taken sink.old) }
     ensures source_later { S.faults source.old ≤ S.faults source.new }
     ensures sink_later { K.faults sink.old ≤ K.faults sink.new }
     ensures source_kept { (result ≡ Err Fault.Read → ⊥) → S.faults source.new ≡ S.faults source.old }
@@ -68,7 +76,7 @@ fn serve_next<S: Source, K: Sink, R: Rack>(
             Ok(Turn::Served(bytes))
         }
         Taken::End => Ok(Turn::End),
-        Taken::Refused => Ok(Turn::Refused),
+        Taken::Refused(kind) => Ok(Turn::Refused(kind)),
     }
 }
 
@@ -89,6 +97,13 @@ pub fn serve_lines<S: Source, K: Sink, R: Rack>(
     ensures goes { GoesOn R.Rack store.old store.new }
     ensures end { IfOk result (LinesEndAt R.Rack first (ahead input.old (S.left source.old)) (ahead input.new (S.left source.new))
         (K.taken sink.old) (K.taken sink.new) store.old store.new) }
+    ensures broken { result ≡ Err Fault.Read → LinesBrokeOff R.Rack [] (shape_of store.old) first (ahead input.old (S.left source.old)) (S.left source.new)
+        (K.taken sink.old) (K.taken sink.new) store.old store.new }
+    ensures part { result ≡ Err Fault.Write → LinesCut R.Rack [] (shape_of store.old) first (ahead input.old (S.left source.old)) (S.left source.new)
+        (K.taken sink.old) (K.taken sink.new) store.old store.new }
+    ensures wanting { result ≡ Err Fault.NoMemory
+        → LinesRanOut R.Rack [] (shape_of store.old) first (ahead input.old (S.left source.old)) (S.left source.new)
+        (K.taken sink.old) (K.taken sink.new) store.old store.new }
     ensures source_later { S.faults source.old ≤ S.faults source.new }
     ensures sink_later { K.faults sink.old ≤ K.faults sink.new }
     ensures source_kept { (result ≡ Err Fault.Read → ⊥) → S.faults source.new ≡ S.faults source.old }
@@ -105,7 +120,7 @@ pub fn serve_lines<S: Source, K: Sink, R: Rack>(
                 number += 1;
             }
             Turn::End => return Ok(LinesEnd::Input),
-            Turn::Refused => return Ok(LinesEnd::Refused(number)),
+            Turn::Refused(kind) => return Ok(LinesEnd::Refused(number, kind)),
         }
     }
     unreachable!()

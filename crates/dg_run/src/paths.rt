@@ -2,7 +2,7 @@
 ghost use Rattle.std.specs.Prelude.{◌≡◌, ◌≤◌, IsSome, Some, OnOk, OnErr};
 ghost use Rattle.dg_model.specs.Causes.{Rose};
 ghost use Rattle.dg_model.specs.declared.replies.Reply.{Reply};
-ghost use Rattle.dg_io.specs.Told.{Told, Took};
+ghost use Rattle.dg_io.specs.Told.{Told, Took, TookPart};
 ghost use Rattle.dg_text.specs.Replies.{reply_line};
 ghost use Rattle.dg_run.specs.Paths.{reply_at};
 
@@ -32,6 +32,8 @@ fn reply_at(answer: CatAnswer) -> Reply
 pub fn send_nothing<K: Sink>(sink: &mut K, answer: CatAnswer) -> Result<(), Fault>
     requires { IsSome (reply_at answer) }
     ensures ok { (reply : Reply) → reply_at answer ≡ Some reply → OnOk result (Told (Took (reply_line reply)) (K.taken sink.old) (K.taken sink.new)) }
+    ensures part { (reply : Reply) → reply_at answer ≡ Some reply
+        → OnErr result (Told (TookPart (reply_line reply)) (K.taken sink.old) (K.taken sink.new)) }
     ensures later { K.faults sink.old ≤ K.faults sink.new }
     ensures kept { OnOk result (K.faults sink.new ≡ K.faults sink.old) }
     ensures err { OnErr result (result ≡ Err Fault.Write) }

@@ -1,13 +1,14 @@
 // One event on a store, and its reply.
-ghost use Rattle.std.specs.Prelude.{◌≡◌, ◌≢◌, ◌+◌, ◌-◌, ◌≤◌, ◌<◌, ◌++◌, ℕ, List, length, IfOk, OnOk, OnErr, Some, replicate, take, slice_index};
+ghost use Rattle.std.specs.Prelude.{◌≡◌, ◌≢◌, ◌+◌, ◌-◌, ◌≤◌, ◌<◌, ◌++◌, ℕ, List, length, true, IfOk, OnOk, OnErr, Some, replicate, take, slice_index};
 ghost use Rattle.dg_model.specs.Causes.{Rose};
 ghost use Rattle.dg_model.specs.Blocks.{padded, IsTrimmed};
 ghost use Rattle.dg_store.specs.Stores.{IsSound, shape_of};
 ghost use Rattle.dg_text.specs.Lines.{IsInPlace};
 ghost use Rattle.dg_text.specs.Replies.{reply_line};
-ghost use Rattle.dg_io.specs.Told.{Told, Took};
+ghost use Rattle.dg_io.specs.Told.{Told, Took, TookPart};
 ghost use Rattle.dg_run.specs.Buffers.{AreFor};
-ghost use Rattle.dg_run.specs.Stores.{GoesOn, StepsTo, Answered};
+ghost use Rattle.dg_run.specs.Served.{is_served};
+ghost use Rattle.dg_run.specs.Stores.{GoesOn, StepsTo, Answered, AnsweredPart};
 
 use crate::buffers::Buffers;
 use crate::cats::serve_cat;
@@ -75,6 +76,7 @@ fn write_block<R: Rack>(
 /// Writes a reply.
 pub fn send<K: Sink>(sink: &mut K, reply: &Reply) -> Result<(), Fault>
     ensures ok { OnOk result (Told (Took (reply_line reply.now)) (K.taken sink.old) (K.taken sink.new)) }
+    ensures part { OnErr result (Told (TookPart (reply_line reply.now)) (K.taken sink.old) (K.taken sink.new)) }
     ensures later { K.faults sink.old ≤ K.faults sink.new }
     ensures kept { OnOk result (K.faults sink.new ≡ K.faults sink.old) }
     ensures err { OnErr result (result ≡ Err Fault.Write) }
@@ -89,6 +91,7 @@ pub fn send<K: Sink>(sink: &mut K, reply: &Reply) -> Result<(), Fault>
 /// Writes the reply that gives bytes of a block.
 fn send_data<K: Sink>(sink: &mut K, bytes: &[u8]) -> Result<(), Fault>
     ensures ok { OnOk result (Told (Took (reply_line (Reply.Data bytes.now))) (K.taken sink.old) (K.taken sink.new)) }
+    ensures part { OnErr result (Told (TookPart (reply_line (Reply.Data bytes.now))) (K.taken sink.old) (K.taken sink.new)) }
     ensures later { K.faults sink.old ≤ K.faults sink.new }
     ensures kept { OnOk result (K.faults sink.new ≡ K.faults sink.old) }
     ensures err { OnErr result (result ≡ Err Fault.Write) }
@@ -113,6 +116,8 @@ fn serve_write<R: Rack, K: Sink>(
     requires fits { length bytes.now ≤ (shape_of store.old).l }
     ensures goes { GoesOn R.Rack store.old store.new }
     ensures answered { OnOk result (Answered R.Rack (Event.Write b bytes.now) (K.taken sink.old) (K.taken sink.new) store.old store.new) }
+    ensures part { result ≡ Err Fault.Write → AnsweredPart R.Rack (Event.Write b bytes.now) (K.taken sink.old) (K.taken sink.new) store.old store.new }
+    ensures wanting { result ≡ Err Fault.NoMemory → K.taken sink.new ≡ K.taken sink.old }
     ensures later { K.faults sink.old ≤ K.faults sink.new }
     ensures kept { (result ≡ Err Fault.Write → ⊥) → K.faults sink.new ≡ K.faults sink.old }
     ensures read { result ≡ Err Fault.Read → ⊥ }
@@ -135,6 +140,8 @@ fn serve_read<R: Rack, K: Sink>(
     requires size { length block.old ≡ (shape_of store.old).l }
     ensures goes { GoesOn R.Rack store.old store.new }
     ensures answered { OnOk result (Answered R.Rack (Event.Read b) (K.taken sink.old) (K.taken sink.new) store.old store.new) }
+    ensures part { result ≡ Err Fault.Write → AnsweredPart R.Rack (Event.Read b) (K.taken sink.old) (K.taken sink.new) store.old store.new }
+    ensures wanting { result ≡ Err Fault.NoMemory → K.taken sink.new ≡ K.taken sink.old }
     ensures later { K.faults sink.old ≤ K.faults sink.new }
     ensures kept { (result ≡ Err Fault.Write → ⊥) → K.faults sink.new ≡ K.faults sink.old }
     ensures read { result ≡ Err Fault.Read → ⊥ }
@@ -174,6 +181,8 @@ fn serve_fail<R: Rack, K: Sink>(
     requires sound { IsSound R.Rack store.old }
     ensures goes { GoesOn R.Rack store.old store.new }
     ensures answered { OnOk result (Answered R.Rack (Event.Fail s j) (K.taken sink.old) (K.taken sink.new) store.old store.new) }
+    ensures part { result ≡ Err Fault.Write → AnsweredPart R.Rack (Event.Fail s j) (K.taken sink.old) (K.taken sink.new) store.old store.new }
+    ensures wanting { result ≡ Err Fault.NoMemory → K.taken sink.new ≡ K.taken sink.old }
     ensures later { K.faults sink.old ≤ K.faults sink.new }
     ensures kept { (result ≡ Err Fault.Write → ⊥) → K.faults sink.new ≡ K.faults sink.old }
     ensures read { result ≡ Err Fault.Read → ⊥ }
@@ -193,9 +202,12 @@ pub fn serve<R: Rack, K: Sink>(
     requires sound { IsSound R.Rack store.old }
     requires buffers { AreFor (shape_of store.old).l buffers.old }
     requires in_place { IsInPlace (Some (shape_of store.old)) event.now }
+    requires served { is_served event.now ≡ true }
     ensures goes { GoesOn R.Rack store.old store.new }
     ensures buffers { AreFor (shape_of store.old).l buffers.new }
     ensures answered { OnOk result (Answered R.Rack event.now (K.taken sink.old) (K.taken sink.new) store.old store.new) }
+    ensures part { result ≡ Err Fault.Write → AnsweredPart R.Rack event.now (K.taken sink.old) (K.taken sink.new) store.old store.new }
+    ensures wanting { result ≡ Err Fault.NoMemory → K.taken sink.new ≡ K.taken sink.old }
     ensures later { K.faults sink.old ≤ K.faults sink.new }
     ensures kept { (result ≡ Err Fault.Write → ⊥) → K.faults sink.new ≡ K.faults sink.old }
     ensures read { result ≡ Err Fault.Read → ⊥ }

@@ -95,20 +95,21 @@ fn lines_are_answered(rt: HostRuntime) -> Result<(), Fail> {
 fn lines_are_refused(rt: HostRuntime) -> Result<(), Fail> {
     let alloc = rt.alloc();
     let rows = [
-        ("", "line 1 form\n"),
-        ("read 3\n", "line 1 form\n"),
-        ("array 1024 64 2 16 2\n", "line 1 form\n"),
-        ("array 1024 64 4 32 2", "line 1 form\n"),
-        ("array 1024 64 4 32 2\nreed 3\n", "ok\nline 2 form\n"),
-        ("array 1024 64 4 32 2\nread 3", "ok\nline 2 form\n"),
-        ("array 1024 64 4 32 2\n\n", "ok\nline 2 form\n"),
+        ("", "line 1 cut\n"),
+        ("read 3\n", "line 1 order\n"),
+        ("array 1024 64 2 16 2\n", "line 1 limits\n"),
+        ("array 1024 64 4 32\n", "line 1 form\n"),
+        ("array 1024 64 4 32 2", "line 1 cut\n"),
+        ("array 1024 64 4 32 2\nreed 3\n", "ok\nline 2 word\n"),
+        ("array 1024 64 4 32 2\nread 3", "ok\nline 2 cut\n"),
+        ("array 1024 64 4 32 2\n\n", "ok\nline 2 word\n"),
         (
             "array 1024 64 4 32 2\narray 1024 64 4 32 2\n",
-            "ok\nline 2 form\n",
+            "ok\nline 2 order\n",
         ),
         (
             "array 1024 64 4 32 2\nwrite 3 aa\nread 03\n",
-            "ok\nok\nline 3 form\n",
+            "ok\nok\nline 3 number\n",
         ),
         (
             "array 1024 64 4 32 2\nwrite 3 aa\nread  3\n",
@@ -116,11 +117,14 @@ fn lines_are_refused(rt: HostRuntime) -> Result<(), Fail> {
         ),
         (
             "array 1024 64 4 32 2\nread 3\nwrite 3 AA\nread 3\n",
-            "ok\ndata -\nline 3 form\n",
+            "ok\ndata -\nline 3 hex\n",
         ),
+        ("array 1024 64 4 32 2\nwrite 3 abc\n", "ok\nline 2 hex\n"),
+        ("array 1024 64 4 32 2\ncat a\n", "ok\nline 2 path\n"),
+        ("array 1024 64 4 32 2\nsettle\n", "ok\nline 2 later\n"),
         (
-            "array 1024 64 4 32 2\nread 3\nwrite 3 aaa\nread 3\n",
-            "ok\ndata -\nline 3 form\n",
+            "array 1024 64 4 32 2\nread 3\nwho 3\nread 3\n",
+            "ok\ndata -\nline 3 later\n",
         ),
     ];
     for (input, output) in rows {
@@ -148,9 +152,10 @@ fn long_lines_are_refused(rt: HostRuntime) -> Result<(), Fail> {
     let alloc = rt.alloc();
     let rows = [
         ("write 3 ", 2048, Status::Done, "ok\nok\n"),
-        ("write 3 ", 2050, Status::BadLine, "ok\nline 2 form\n"),
-        ("", 6249, Status::BadLine, "ok\nline 2 form\n"),
-        ("", 70000, Status::BadLine, "ok\nline 2 form\n"),
+        ("write 3 ", 2050, Status::BadLine, "ok\nline 2 hex\n"),
+        ("", 6248, Status::BadLine, "ok\nline 2 word\n"),
+        ("", 6249, Status::BadLine, "ok\nline 2 long\n"),
+        ("", 70000, Status::BadLine, "ok\nline 2 long\n"),
     ];
     for (words, count, want, output) in rows {
         let input = long_input(alloc, words.as_bytes(), count)?;
@@ -163,9 +168,15 @@ fn long_lines_are_refused(rt: HostRuntime) -> Result<(), Fail> {
 }
 
 #[test]
-fn other_words_are_no_command(rt: HostRuntime) -> Result<(), Fail> {
+fn words_of_no_command_that_is_built_are_refused(rt: HostRuntime) -> Result<(), Fail> {
     let alloc = rt.alloc();
-    let rows: [&[&str]; 3] = [&[], &["reply"], &["replay", "x"]];
+    let rows: [&[&str]; 5] = [
+        &[],
+        &["reply"],
+        &["replay", "x"],
+        &["status"],
+        &["cat", "/a"],
+    ];
     for texts in rows {
         let words = words_of(alloc, texts)?;
         let mut source = source_of(alloc, b"", &[0])?;

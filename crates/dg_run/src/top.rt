@@ -1,17 +1,20 @@
 // The top call.
-ghost use Rattle.std.specs.Prelude.{◌≡◌, ◌≢◌, ◌⊎◌, ◌≤◌, ◌++◌, ◌↔◌, ◌^◌, [], ℕ, List, length, map, IfOk, OnErr, IfSome, IsTrue, IsSome, Some, None, string_bytes};
-ghost use Rattle.dg_io.specs.Told.{Told, Took};
+ghost use Rattle.std.specs.Prelude.{◌≡◌, ◌⊎◌, ◌≤◌, ◌↔◌, ◌^◌, ℕ, List, Option, length, map, IfOk, OnErr, IsSome, Some, None, string_bytes};
+ghost use Rattle.dg_io.specs.Told.{Told, Took, TookPart, AreAny};
 ghost use Rattle.dg_model.specs.Causes.{Rose};
-ghost use Rattle.dg_store.specs.Stores.{IsSound, shape_of, rack_of};
+ghost use Rattle.dg_store.specs.Stores.{IsSound, shape_of};
 ghost use Rattle.dg_text.specs.Lines.{line_of, input_of};
-ghost use Rattle.dg_text.specs.Replies.{usage, refusal};
+ghost use Rattle.dg_text.specs.Replies.{reply_line, usage, refusal};
 ghost use Rattle.dg_run.specs.Inputs.{ahead};
 ghost use Rattle.dg_run.specs.Statuses.{code_of};
 ghost use Rattle.dg_run.specs.Stores.{GoesOn};
-ghost use Rattle.dg_run.specs.Replays.{Replayed, Stopped, IsReplay, IsInput};
-ghost use Rattle.dg_run.specs.Arrays.{AllAnswered, AnsweredTo, ArrayReplayed, ArrayStopped, IsOfReplay};
+ghost use Rattle.dg_run.specs.Endings.{LinesBrokeOff};
+ghost use Rattle.dg_run.specs.Events.{Begins};
+ghost use Rattle.dg_run.specs.Replays.{AreUnbuilt, BrokeOff, IsCut, IsInput, IsReplay, RanOut, Replayed, Stopped};
+ghost use Rattle.dg_run.specs.Arrays.{AllAnswered, AnsweredTo, ArrayCut, ArrayRanOut, ArrayReplayed, ArrayStopped, IsOfReplay};
 ghost use Rattle.dg_model.specs.Shapes.{IsShape};
 ghost use Rattle.dg_model.specs.declared.events.Event.{Event};
+ghost use Rattle.dg_model.specs.declared.replies.Reply.{Reply};
 
 use crate::buffers::Buffers;
 use crate::events::{Fault, Taken, take_event};
@@ -22,6 +25,7 @@ use dg_io::{Rack, Sink, Source};
 use dg_model::{Event, NoMemory, Reply, Shape};
 use dg_store::Store;
 use dg_text::{BadLine, write_refusal, write_usage};
+use dg_words::{Command, WordsRefused, command};
 use std::alloc::Global;
 
 /// How a run ended.
@@ -90,16 +94,18 @@ fn status_of(fault: Fault) -> Status
 }
 
 /// Refuses the line of this number, counted from 1.
-fn refuse<K: Sink>(sink: &mut K, number: u64) -> Status
-    ensures bad { result ≡ Status.BadLine → Told (Took (refusal number BadLine.Form)) (K.taken sink.old) (K.taken sink.new) }
+fn refuse<K: Sink>(sink: &mut K, number: u64, kind: BadLine) -> Status
+    ensures bad { result ≡ Status.BadLine → Told (Took (refusal number kind)) (K.taken sink.old) (K.taken sink.new) }
+    ensures part { result ≡ Status.WriteFault → Told (TookPart (refusal number kind)) (K.taken sink.old) (K.taken sink.new) }
     ensures write { result ≡ Status.WriteFault → Rose (K.faults sink.old) (K.faults sink.new) }
     ensures done { result ≡ Status.Done → ⊥ }
     ensures read { result ≡ Status.ReadFault → ⊥ }
+    ensures memory { result ≡ Status.NoMemory → ⊥ }
     ensures never { IsOfReplay result }
     ensures later { K.faults sink.old ≤ K.faults sink.new }
     ensures kept { (result ≡ Status.WriteFault → ⊥) → K.faults sink.new ≡ K.faults sink.old }
 {
-    match write_refusal(sink, number, BadLine::Form) {
+    match write_refusal(sink, number, kind) {
         Ok(()) => Status::BadLine,
         Err(_) => Status::WriteFault,
     }
@@ -122,6 +128,13 @@ fn serve_array<S: Source, K: Sink, R: Rack>(
     ensures bad_line { result ≡ Status.BadLine
         → AnsweredTo R.Rack first (ahead input.old (S.left source.old)) (ahead input.new (S.left source.new)) (K.taken sink.old)
         (K.taken sink.new) store.old store.new }
+    ensures broken { result ≡ Status.ReadFault
+        → LinesBrokeOff R.Rack (reply_line Reply.Done) (shape_of store.old) first (ahead input.old (S.left source.old))
+        (S.left source.new) (K.taken sink.old) (K.taken sink.new) store.old store.new }
+    ensures part { result ≡ Status.WriteFault → ArrayCut R.Rack first (ahead input.old (S.left source.old)) (ahead input.new (S.left source.new))
+        (S.left source.new) (K.taken sink.old) (K.taken sink.new) store.old store.new }
+    ensures wanting { result ≡ Status.NoMemory → ArrayRanOut R.Rack first (ahead input.old (S.left source.old)) (S.left source.new)
+        (K.taken sink.old) (K.taken sink.new) store.old store.new }
     ensures read { result ≡ Status.ReadFault → Rose (S.faults source.old) (S.faults source.new) }
     ensures write { result ≡ Status.WriteFault → Rose (K.faults sink.old) (K.faults sink.new) }
     ensures source_later { S.faults source.old ≤ S.faults source.new }
@@ -138,7 +151,7 @@ fn serve_array<S: Source, K: Sink, R: Rack>(
     };
     match serve_lines(alloc, input, source, sink, store, &mut buffers, first) {
         Ok(LinesEnd::Input) => Status::Done,
-        Ok(LinesEnd::Refused(number)) => refuse(sink, number),
+        Ok(LinesEnd::Refused(number, kind)) => refuse(sink, number, kind),
         Err(fault) => status_of(fault),
     }
 }
@@ -163,6 +176,16 @@ fn replay_array<S: Source, K: Sink, R: Rack + Drop>(
     ensures bad_line { IfOk result (λ end. end.status ≡ Status.BadLine
         → ArrayStopped (R.counts rack) (R.counts end.rack) (R.bytes end.rack) shape (ahead input.old (S.left source.old)) (ahead input.new
         (S.left source.new)) (K.taken sink.old) (K.taken sink.new)) }
+    ensures broken { IfOk result (λ end. end.status ≡ Status.ReadFault → (text : Option (List ℕ))
+        → Told (Begins None (Event.Array shape)) text (ahead input.old (S.left source.old))
+        → BrokeOff (R.counts rack) (R.counts end.rack) (R.bytes end.rack) text (S.left source.new) (K.taken sink.old) (K.taken sink.new)) }
+    ensures part { IfOk result (λ end. end.status ≡ Status.WriteFault → (text : Option (List ℕ))
+        → Told (Begins None (Event.Array shape)) text (ahead input.old (S.left source.old))
+        → IsCut (R.counts rack) (R.counts end.rack) (R.bytes end.rack) text (S.left source.new) (K.taken sink.old) (K.taken sink.new)) }
+    ensures wanting { IfOk result (λ end. end.status ≡ Status.NoMemory → (text : Option (List ℕ))
+        → Told (Begins None (Event.Array shape)) text (ahead input.old (S.left source.old))
+        → RanOut (R.counts rack) (R.bytes end.rack) text (S.left source.new) (K.taken sink.old) (K.taken sink.new)) }
+    ensures none { OnErr result (Told AreAny (ahead input.old (S.left source.old)) (S.left source.new) × (K.taken sink.new ≡ K.taken sink.old)) }
     ensures read { IfOk result (λ end. end.status ≡ Status.ReadFault → Rose (S.faults source.old) (S.faults source.new)) }
     ensures write { IfOk result (λ end. end.status ≡ Status.WriteFault → Rose (K.faults sink.old) (K.faults sink.new)) }
     ensures source_later { S.faults source.old ≤ S.faults source.new }
@@ -193,6 +216,13 @@ fn replay<S: Source, K: Sink, R: Rack + Drop>(
         → Replayed (R.counts rack) (R.counts end.rack) (R.bytes end.rack) (S.left source.old) (S.left source.new) (K.taken sink.old) (K.taken sink.new)) }
     ensures bad_line { IfOk result (λ end. end.status ≡ Status.BadLine
         → Stopped (R.counts rack) (R.counts end.rack) (R.bytes end.rack) (S.left source.old) (S.left source.new) (K.taken sink.old) (K.taken sink.new)) }
+    ensures broken { IfOk result (λ end. end.status ≡ Status.ReadFault
+        → BrokeOff (R.counts rack) (R.counts end.rack) (R.bytes end.rack) (S.left source.old) (S.left source.new) (K.taken sink.old) (K.taken sink.new)) }
+    ensures part { IfOk result (λ end. end.status ≡ Status.WriteFault
+        → IsCut (R.counts rack) (R.counts end.rack) (R.bytes end.rack) (S.left source.old) (S.left source.new) (K.taken sink.old) (K.taken sink.new)) }
+    ensures wanting { IfOk result (λ end. end.status ≡ Status.NoMemory
+        → RanOut (R.counts rack) (R.bytes end.rack) (S.left source.old) (S.left source.new) (K.taken sink.old) (K.taken sink.new)) }
+    ensures none { OnErr result (Told AreAny (S.left source.old) (S.left source.new) × (K.taken sink.new ≡ K.taken sink.old)) }
     ensures read { IfOk result (λ end. end.status ≡ Status.ReadFault → Rose (S.faults source.old) (S.faults source.new)) }
     ensures write { IfOk result (λ end. end.status ≡ Status.WriteFault → Rose (K.faults sink.old) (K.faults sink.new)) }
     ensures source_kept { IfOk result (λ end. (end.status ≡ Status.ReadFault → ⊥) → S.faults source.new ≡ S.faults source.old) }
@@ -209,11 +239,11 @@ fn replay<S: Source, K: Sink, R: Rack + Drop>(
         Ok(Taken::Event(_, _)) => unreachable!(),
         Ok(Taken::End) => Ok(Ended {
             rack,
-            status: refuse(sink, 1),
+            status: refuse(sink, 1, BadLine::Cut),
         }),
-        Ok(Taken::Refused) => Ok(Ended {
+        Ok(Taken::Refused(kind)) => Ok(Ended {
             rack,
-            status: refuse(sink, 1),
+            status: refuse(sink, 1, kind),
         }),
         Err(fault) => Ok(Ended {
             rack,
@@ -222,11 +252,18 @@ fn replay<S: Source, K: Sink, R: Rack + Drop>(
     }
 }
 
-/// Whether the words are those of a replay.
-fn is_replay(words: &Vec<String>) -> bool
-    ensures { IsTrue result ↔ IsReplay (map string_bytes words.now.items) }
+/// Answers words that are no command.
+fn refuse_words<K: Sink>(sink: &mut K) -> Status
+    ensures is { (result ≡ Status.Usage) ⊎ (result ≡ Status.WriteFault) }
+    ensures usage { result ≡ Status.Usage → Told (Took usage) (K.taken sink.old) (K.taken sink.new) }
+    ensures part { result ≡ Status.WriteFault → Told (TookPart usage) (K.taken sink.old) (K.taken sink.new) }
+    ensures write { result ≡ Status.WriteFault → Rose (K.faults sink.old) (K.faults sink.new) }
+    ensures kept { (result ≡ Status.WriteFault → ⊥) → K.faults sink.new ≡ K.faults sink.old }
 {
-    words.len() == 1 && words[0].as_str() == "replay"
+    match write_usage(sink) {
+        Ok(()) => Status::Usage,
+        Err(_) => Status::WriteFault,
+    }
 }
 
 /// Does what the words say, with the trace in the source, the replies to the sink, and the members in the rack.
@@ -237,16 +274,25 @@ pub fn run<S: Source, K: Sink, R: Rack>(
     sink: &mut K,
     rack: &mut R,
 ) -> Status
-    // The words are exactly `replay`, else the usage line is printed and nothing else is done.
-    ensures usage { result ≡ Status.Usage → (IsReplay (map string_bytes words.now.items) → ⊥) × Told (Took usage) (K.taken sink.old) (K.taken sink.new) }
-    ensures other { (IsReplay (map string_bytes words.now.items) → ⊥) → ((result ≡ Status.Usage) ⊎ (result ≡ Status.WriteFault))
+    // The usage line is printed exactly where the words are no command, or one that isn't built yet, and nothing else is done then.
+    ensures usage { result ≡ Status.Usage → AreUnbuilt (map string_bytes words.now.items) × Told (Took usage) (K.taken sink.old) (K.taken sink.new) }
+    ensures other { AreUnbuilt (map string_bytes words.now.items)
+        → ((result ≡ Status.Usage) ⊎ ((result ≡ Status.WriteFault) ⊎ (result ≡ Status.NoMemory)))
         × (source.new ≡ source.old) × (rack.new ≡ rack.old) }
+    ensures usage_part { AreUnbuilt (map string_bytes words.now.items) → result ≡ Status.WriteFault
+        → Told (TookPart usage) (K.taken sink.old) (K.taken sink.new) }
 
     // What was done, and what the rack holds.
     ensures done { result ≡ Status.Done → Replayed (R.counts rack.old) (R.counts rack.new) (R.bytes rack.new) (S.left source.old)
         (S.left source.new) (K.taken sink.old) (K.taken sink.new) }
     ensures bad_line { result ≡ Status.BadLine
         → Stopped (R.counts rack.old) (R.counts rack.new) (R.bytes rack.new) (S.left source.old) (S.left source.new) (K.taken sink.old) (K.taken sink.new) }
+    ensures broken { result ≡ Status.ReadFault
+        → BrokeOff (R.counts rack.old) (R.counts rack.new) (R.bytes rack.new) (S.left source.old) (S.left source.new) (K.taken sink.old) (K.taken sink.new) }
+    ensures part { IsReplay (map string_bytes words.now.items) → result ≡ Status.WriteFault
+        → IsCut (R.counts rack.old) (R.counts rack.new) (R.bytes rack.new) (S.left source.old) (S.left source.new) (K.taken sink.old) (K.taken sink.new) }
+    ensures wanting { result ≡ Status.NoMemory
+        → RanOut (R.counts rack.old) (R.bytes rack.new) (S.left source.old) (S.left source.new) (K.taken sink.old) (K.taken sink.new) }
 
     // The causes of the other answers. Want of memory is free.
     ensures read { result ≡ Status.ReadFault → Rose (S.faults source.old) (S.faults source.new) }
@@ -260,14 +306,13 @@ pub fn run<S: Source, K: Sink, R: Rack>(
         → S.left source.old ≡ Some (input_of events) → IsSome (S.left source.new) → (Rose (S.faults source.old) (S.faults source.new) → ⊥)
         → (Rose (K.faults sink.old) (K.faults sink.new) → ⊥) → (result ≡ Status.Done) ⊎ (result ≡ Status.NoMemory) }
 {
-    if !is_replay(words) {
-        return match write_usage(sink) {
-            Ok(()) => Status::Usage,
-            Err(_) => Status::WriteFault,
-        };
-    }
-    match replay(alloc, source, sink, &mut *rack) {
-        Ok(end) => end.status,
-        Err(_) => Status::NoMemory,
+    match command(alloc, words) {
+        Ok(Command::Replay) => match replay(alloc, source, sink, &mut *rack) {
+            Ok(end) => end.status,
+            Err(_) => Status::NoMemory,
+        },
+        Ok(_) => refuse_words(sink),
+        Err(WordsRefused::Usage) => refuse_words(sink),
+        Err(WordsRefused::NoMemory) => Status::NoMemory,
     }
 }

@@ -4,6 +4,7 @@ mod LossRows
 mod Ran
 mod Results
 mod Rows
+mod RefusedRows
 pub mod Chains
 pub mod Cores
 pub mod OneView

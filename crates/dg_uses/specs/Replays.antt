@@ -1,5 +1,5 @@
 -- What a replay between objects in memory has done.
-use Rattle.std.specs.Prelude.{◌≡◌, ℕ, List, [], Option, Some}
+use Rattle.std.specs.Prelude.{◌≡◌, ◌++◌, ℕ, List, [], Option, Some}
 use Rattle.dg_io.specs.Racks.{counts_in, member_in}
 use Rattle.dg_io.specs.Sinks.{taken_in}
 use Rattle.dg_io.specs.Sources.{left_in}
@@ -7,7 +7,7 @@ use Rattle.dg_model.specs.Causes.{NoneRose}
 use Rattle.dg_model.specs.States.{Counts}
 use Rattle.dg_model.specs.declared.events.Event.{Event}
 use Rattle.dg_model.specs.declared.replies.Reply.{Reply}
-use Rattle.dg_run.specs.Replays.{Ran, Replayed, Stopped}
+use Rattle.dg_run.specs.Replays.{IsCut, Ran, Replayed, Stopped}
 use Rattle.dg_uses.specs.Answers.{TellsEach}
 use Rattle.dg_uses.specs.declared.replays.Replay.{Replay}
 
@@ -45,3 +45,14 @@ pub record HasStopped (text : List ℕ) (end : Replay) : Type 0 where
   pub before : Counts
   pub fresh : AreNone before
   pub stopped : Stopped before (counts_in end.rack) (member_in end.rack) (Some text) (Some (left_in end.source)) (Some []) (Some (taken_in end.sink))
+
+-- the same up to a fault of the sink
+pub record HasBeenCut (text : List ℕ) (end : Replay) : Type 0 where
+  pub before : Counts
+  pub fresh : AreNone before
+  pub cut : IsCut before (counts_in end.rack) (member_in end.rack) (Some text) (Some (left_in end.source)) (Some []) (Some (taken_in end.sink))
+
+-- a text begins with this part
+pub record IsFront (part whole : List ℕ) : Type 0 where
+  pub rest : List ℕ
+  pub split : whole ≡ part ++ rest

@@ -9,6 +9,6 @@ mod tests;
 
 pub use laws::{answers_are_promised, replies_are_a_function, replies_by_views};
 pub use replays::{
-    Replay, lose_a_block, read_past_a_failure, read_what_was_written, refuse_the_second_line,
-    replay_text,
+    Replay, fail_at_the_first_reply, lose_a_block, read_past_a_failure, read_what_was_written,
+    refuse_the_second_line, replay_text,
 };

@@ -2,7 +2,7 @@
 ghost use Rattle.std.specs.Prelude.{◌≡◌, IfOk, codes, map, string_bytes};
 ghost use Rattle.dg_io.specs.Sinks.{taken_in};
 ghost use Rattle.dg_run.specs.Replays.{IsReplay};
-ghost use Rattle.dg_uses.specs.Replays.{HasReplayed, HasStopped, NeverFailed};
+ghost use Rattle.dg_uses.specs.Replays.{HasBeenCut, HasReplayed, HasStopped, IsFront, NeverFailed};
 
 use dg_io::{MemRack, MemSink, MemSource, NoMemory};
 use dg_run::{Status, run};
@@ -37,17 +37,18 @@ fn replay_words(alloc: Global) -> Result<Vec<String>, NoMemory>
     Ok(words)
 }
 
-/// Replays a text over a rack of eight members, each of them there.
-pub fn replay_text(alloc: Global, text: &[u8]) -> Result<Replay, NoMemory>
+/// Replays a text over a rack of eight members, each of them there, to a sink that fails at these of its calls.
+pub fn replay_text(alloc: Global, text: &[u8], fails: Vec<u64>) -> Result<Replay, NoMemory>
     ensures done { IfOk result (λ end. end.status ≡ Status.Done → HasReplayed text.now end) }
     ensures bad_line { IfOk result (λ end. end.status ≡ Status.BadLine → HasStopped text.now end) }
+    ensures part { IfOk result (λ end. end.status ≡ Status.WriteFault → HasBeenCut text.now end) }
 {
     let words = replay_words(alloc)?;
     let Ok(bytes) = Vec::from_slice(alloc, text) else {
         return Err(NoMemory);
     };
     let mut source = MemSource::new(bytes, Vec::new(alloc));
-    let mut sink = MemSink::new(alloc, OUTPUT, Vec::new(alloc))?;
+    let mut sink = MemSink::new(alloc, OUTPUT, fails)?;
     let mut rack = MemRack::new(alloc, 8, LENGTH, Vec::new(alloc))?;
     let status = run(alloc, &words, &mut source, &mut sink, &mut rack);
     Ok(Replay {
@@ -63,7 +64,11 @@ pub fn read_what_was_written(alloc: Global) -> Result<Replay, NoMemory>
     ensures { IfOk result (λ end. end.status ≡ Status.Done → NeverFailed end → taken_in end.sink ≡ codes "ok\nok\ndata 6869\n") }
 {
     input_is_unique();
-    replay_text(alloc, b"array 1024 64 4 32 2\nwrite 3 6869\nread 3\n")
+    replay_text(
+        alloc,
+        b"array 1024 64 4 32 2\nwrite 3 6869\nread 3\n",
+        Vec::new(alloc),
+    )
 }
 
 /// A member fails between two writes of a block, and the block is read.
@@ -74,6 +79,7 @@ pub fn read_past_a_failure(alloc: Global) -> Result<Replay, NoMemory>
     replay_text(
         alloc,
         b"array 1024 64 4 32 2\nwrite 3 aa\nfail 3 0\nwrite 3 bb\nread 3\n",
+        Vec::new(alloc),
     )
 }
 
@@ -85,13 +91,25 @@ pub fn lose_a_block(alloc: Global) -> Result<Replay, NoMemory>
     replay_text(
         alloc,
         b"array 1024 64 4 32 2\nwrite 3 aa\nfail 3 0\nfail 3 1\nread 3\nwrite 2 00\n",
+        Vec::new(alloc),
     )
 }
 
 /// The second line is refused.
 pub fn refuse_the_second_line(alloc: Global) -> Result<Replay, NoMemory>
-    ensures { IfOk result (λ end. end.status ≡ Status.BadLine → taken_in end.sink ≡ codes "ok\nline 2 form\n") }
+    ensures { IfOk result (λ end. end.status ≡ Status.BadLine → taken_in end.sink ≡ codes "ok\nline 2 word\n") }
 {
     line_is_unique();
-    replay_text(alloc, b"array 1024 64 4 32 2\nreed 3\n")
+    replay_text(alloc, b"array 1024 64 4 32 2\nreed 3\n", Vec::new(alloc))
+}
+
+/// The sink fails at its first call, or at another: a front of the reply was written.
+pub fn fail_at_the_first_reply(alloc: Global) -> Result<Replay, NoMemory>
+    ensures { IfOk result (λ end. end.status ≡ Status.WriteFault → IsFront (taken_in end.sink) (codes "ok\n")) }
+{
+    line_is_unique();
+    let Ok(fails) = Vec::from_slice(alloc, &[0]) else {
+        return Err(NoMemory);
+    };
+    replay_text(alloc, b"array 1024 64 4 32 2\n", fails)
 }

@@ -1,4 +1,7 @@
-use crate::{lose_a_block, read_past_a_failure, read_what_was_written, refuse_the_second_line};
+use crate::{
+    fail_at_the_first_reply, lose_a_block, read_past_a_failure, read_what_was_written,
+    refuse_the_second_line,
+};
 use dg_run::Status;
 use std::test::Fail;
 
@@ -30,6 +33,14 @@ fn a_block_is_lost(rt: HostRuntime) -> Result<(), Fail> {
 fn a_second_line_is_refused(rt: HostRuntime) -> Result<(), Fail> {
     let end = refuse_the_second_line(rt.alloc())?;
     assert_eq!(rt; end.status, Status::BadLine);
-    assert!(rt; end.sink.taken() == "ok\nline 2 form\n".as_bytes());
+    assert!(rt; end.sink.taken() == "ok\nline 2 word\n".as_bytes());
+    Ok(())
+}
+
+#[test]
+fn a_sink_fails_at_the_first_reply(rt: HostRuntime) -> Result<(), Fail> {
+    let end = fail_at_the_first_reply(rt.alloc())?;
+    assert_eq!(rt; end.status, Status::WriteFault);
+    assert!(rt; end.sink.taken().is_empty());
     Ok(())
 }

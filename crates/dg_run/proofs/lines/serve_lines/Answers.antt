@@ -1,8 +1,9 @@
-use Rattle.std.proofs.Common.{refl, subst, arith, ◌∙◌}
+use Rattle.std.proofs.Common.{refl, rules, subst, arith, ◌∙◌}
 use Rattle.dg_model.specs.declared.shapes.Shape.{Shape}
 use Rattle.dg_run.specs.Buffers.{AreFor}
+use Rattle.dg_run.proofs.Breaks.{lines_broke_off, lines_cut_at, lines_ran_out}
 use Rattle.dg_run.proofs.Inputs.{line_some}
-use Rattle.dg_run.proofs.Runs.{so_far_none, so_far_next, turned_served, lines_end, goes_none, goes_then}
+use Rattle.dg_run.proofs.Runs.{so_far_none, so_far_next, turned_served, lines_end, lines_refused, goes_none, goes_then}
 use Rattle.dg_run.proofs.lines.serve_lines.Goals as goal
 
 pub loop-passed-init : goal.loop-passed-init
@@ -42,3 +43,28 @@ pub returns-in-End-clause-end : goal.returns-in-End-clause-end
 returns-in-End-clause-end g c =
     let inv = c.loop-passed.invariant in
     lines_end g.R.Rack _ c.args.first _ _ _ _ _ _ _ _ _ _ _ _ _ c.in-End.is c.in_ok-bytes.ensures.turned inv.budget inv.so_far
+
+pub returns-in-Refused-clause-end : goal.returns-in-Refused-clause-end
+returns-in-Refused-clause-end g c =
+    let inv = c.loop-passed.invariant in
+    lines_refused g.R.Rack _ c.args.first _ _ c.in-Refused.kind _ _ _ _ _ _ _ _ _ _ c.in-Refused.is c.in_ok-bytes.ensures.turned inv.goes.shape inv.budget inv.so_far
+
+pub returns-in_err-bytes-clause-broken : goal.returns-in_err-bytes-clause-broken
+returns-in_err-bytes-clause-broken g c = λ is.
+    let inv = c.loop-passed.invariant in
+    let broken = c.in_err-bytes.ensures.broken (search rules) in
+    lines_broke_off g.R.Rack _ c.args.first _ _ _ _ _ _ _ _ _ _ _ inv.budget inv.so_far broken.0 broken.1 broken.2
+
+pub returns-in_err-bytes-clause-part : goal.returns-in_err-bytes-clause-part
+returns-in_err-bytes-clause-part g c = λ is.
+    let inv = c.loop-passed.invariant in
+    let e = c.in_err-bytes.ensures in
+    let part = e.part (search rules) in
+    lines_cut_at g.R.Rack _ _ c.args.first _ _ _ _ _ _ _ _ _ _ _ inv.budget inv.so_far inv.goes.shape part e.goes.shape e.goes.tells
+
+pub returns-in_err-bytes-clause-wanting : goal.returns-in_err-bytes-clause-wanting
+returns-in_err-bytes-clause-wanting g c = λ is.
+    let inv = c.loop-passed.invariant in
+    let e = c.in_err-bytes.ensures in
+    let wanting = e.wanting (search rules) in
+    lines_ran_out g.R.Rack _ c.args.first _ _ _ _ _ _ _ _ _ _ _ inv.budget inv.so_far wanting.0 wanting.1 e.goes.shape e.goes.tells

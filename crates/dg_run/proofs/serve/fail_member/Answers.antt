@@ -1,7 +1,7 @@
-use Rattle.std.proofs.Common.{◌≡◌, ◌<◌, refl, ap, arith}
+use Rattle.std.proofs.Common.{◌≡◌, refl, ap, arith}
 use Rattle.dg_model.specs.declared.shapes.Shape.{Shape}
 use Rattle.dg_store.specs.Stores.{shape_of}
-use Rattle.dg_run.proofs.StoreSteps.{steps_already, steps_no_member, steps_struck}
+use Rattle.dg_run.proofs.StoreSteps.{steps_already, steps_struck}
 use Rattle.dg_run.proofs.serve.fail_member.Goals as goal
 
 pub returns-in-Already-clause-steps : goal.returns-in-Already-clause-steps

@@ -1,4 +1,4 @@
-use Rattle.std.proofs.Common.{◌≡◌, ◌<◌, ◌≤◌, ℕ, List, true, false, refl, ◌∙◌, ap, sym, arith}
+use Rattle.std.proofs.Common.{◌≡◌, ◌<◌, ◌≤◌, ℕ, List, true, false, ◌∙◌, ap, sym, arith}
 use Rattle.dg_model.specs.Blocks.{padded}
 use Rattle.dg_model.specs.States.{has_lost}
 use Rattle.dg_model.specs.declared.shapes.Shape.{Shape}

@@ -1,5 +1,5 @@
 use Rattle.dg_uses.proofs.Results.{if_ok}
-use Rattle.dg_uses.proofs.Rows.{prints_refused}
+use Rattle.dg_uses.proofs.RefusedRows.{prints_refused}
 use Rattle.dg_uses.proofs.replays.refuse_the_second_line.Goals as goal
 
 pub returns : goal.returns

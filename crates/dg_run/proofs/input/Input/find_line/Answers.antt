@@ -1,7 +1,7 @@
 use Rattle.std.proofs.Common.{◌≡◌, ℕ, List, ◌+◌, ◌++◌, ◌∷◌, ◌≤◌, length, take, drop, subst, arith}
 use Rattle.dg_run.specs.Bytes.{HasNoLineFeed}
 use Rattle.dg_run.specs.Inputs.{unread}
-use Rattle.dg_run.proofs.ToldSteps.{Told-line, Told-unended}
+use Rattle.dg_run.proofs.ToldSteps.{Told-line, Told-full}
 use Rattle.dg_run.proofs.input.Input.find_line.Goals as goal
 
 pub returns-in-Found-clause-took : goal.returns-in-Found-clause-took
@@ -17,4 +17,4 @@ returns-in-Unended-clause-took c left =
     let limit = c.args.limit in
     let within = subst (λ (l : List ℕ). limit ≤ length l) c.waiting.ensures c.in-Unended.ensures.0 in
     let none = subst (λ (l : List ℕ). HasNoLineFeed (take limit l)) c.waiting.ensures c.in-Unended.ensures.1 in
-    Told-unended (unread self) limit left c.requires.some within none
+    Told-full (unread self) limit left within none

@@ -1,0 +1,153 @@
+-- Lines that are served break off.
+use Rattle.std.proofs.Common.{◌≡◌, ◌≤◌, ◌-◌, ◌^◌, ℕ, List, [], ◌∷◌, ◌++◌, length, take, true, sym, ◌∙◌, ap, subst, arith, append_assoc, length-append}
+use Rattle.std.specs.Prelude.{Option, Some, None}
+use Rattle.std.specs.Option.{option_map}
+use Rattle.std.proofs.lemmas.List.{append-nil}
+use Rattle.std.proofs.lemmas.List.Concat.{flat_map-append}
+use Rattle.std.proofs.lemmas.List.Elements.{All-append}
+use Rattle.dg_io.specs.declared.outside.Rack.{Ghosts}
+use Rattle.dg_io.specs.Told.{AreAny, Told, Took, TookPart, StillTold}
+use Rattle.dg_model.proofs.KnownLaws.{run_less}
+use Rattle.dg_model.specs.States.{State}
+use Rattle.dg_model.specs.declared.shapes.Shape.{Shape}
+use Rattle.dg_model.specs.declared.events.Event.{Event}
+use Rattle.dg_store.specs.declared.store.Store.{Store}
+use Rattle.dg_store.specs.Stores.{rack_of, shape_of}
+use Rattle.dg_text.specs.Lines.{line_of, input_of, IsInPlace}
+use Rattle.dg_text.specs.Replies.{reply_line, output_of}
+use Rattle.dg_run.specs.Endings.{GaveLines, StartsWith, TookUpTo, LinesBrokeOff, LinesCut, LinesRanOut, ServedLinePart}
+use Rattle.dg_run.specs.Events.{Begins}
+use Rattle.dg_run.specs.Lines.{BeginsAll}
+use Rattle.dg_run.specs.Served.{is_served}
+use Rattle.dg_run.proofs.Inputs.{All-one}
+use Rattle.dg_run.proofs.Runs.{SoFar, runs_more}
+use Rattle.dg_run.proofs.StoreSteps.{told_before}
+use Rattle.dg_run.proofs.ToldSteps.{Told-then}
+
+-- the line of an event was taken, and the source has so much left
+pub starts_left : (shape : Option Shape) (event : Event) (unread : List ℕ) (x y : Option (List ℕ)) → Told (Begins shape event) x (option_map (λ more. unread ++ more) y) → Told (StartsWith (line_of event)) x y
+starts_left shape event unread x None told = tt
+starts_left shape event unread None (Some b) told = absurd told
+starts_left shape event unread (Some a) (Some b) told = record { more = unread ++ b; split = told.line }
+
+more_lines : (es : List Event) (e : Event) → input_of (es ++ e ∷ []) ≡ input_of es ++ line_of e
+more_lines es e = flat_map-append line_of es (e ∷ []) ∙ ap (λ (l : List ℕ). input_of es ++ l) (append-nil (line_of e))
+
+module _ {R : Type 0} (rack : Ghosts R) where
+  broke_off : (shape : Shape) (first passed number : ℕ) (x y z t u : Option (List ℕ)) (a b : Store R) → passed ≤ 2 ^ 40 → SoFar rack shape first passed number x y t u a b
+      → Told (GaveLines []) y z → LinesBrokeOff rack [] shape first x z t u a b
+  broke_off shape first passed number x y z t u a b budget was told = record {
+    events = was.events;
+    replies = was.served.replies;
+    in_place = was.served.in_place;
+    done = was.served.done;
+    budget = omega (arith, was.passed_is);
+    runs = was.served.runs;
+    input = Told-then (BeginsAll (Some shape) was.events) (GaveLines []) (GaveLines (input_of was.events))
+        (λ p q r f s. record { part = s.part; split = f.lines ∙ ap (λ (l : List ℕ). input_of was.events ++ l) s.split; none = s.none }) x y z was.served.input told;
+    output = was.served.output;
+  }
+
+  pub lines_broke_off : (shape : Shape) (first passed number : ℕ) (x y z t u v : Option (List ℕ)) (a b c : Store R) → passed ≤ 2 ^ 40 → SoFar rack shape first passed number x y t u a b
+      → Told (GaveLines []) y z → v ≡ u → c ≡ b → LinesBrokeOff rack [] shape first x z t v a c
+  lines_broke_off shape first passed number x y z t u v a b c budget was told same kept =
+      subst (λ (o : Option (List ℕ)). LinesBrokeOff rack [] shape first x z t o a c) (sym same)
+      (subst (λ (s : Store R). LinesBrokeOff rack [] shape first x z t u a s) (sym kept) (broke_off shape first passed number x y z t u a b budget was told))
+
+  pub lines_cut : (shape : Shape) (first passed number : ℕ) (x y z t u v : Option (List ℕ)) (a b c : Store R) → passed ≤ 2 ^ 40 → SoFar rack shape first passed number x y t u a b
+      → ServedLinePart rack shape (2 ^ 40 - passed) y z u v b c → shape_of c ≡ shape_of b → StillTold (rack.bytes (rack_of b)) (rack.bytes (rack_of c)) → LinesCut rack [] shape first x z t v a c
+  lines_cut shape first passed number x y z t u v a b c budget was line same tells =
+      let es = was.events in
+      let e = line.event in
+      let rs = was.served.replies in
+      let r = line.answered.reply in
+      let size = ap length (more_lines es e) in
+      record {
+        events = es ++ e ∷ [];
+        replies = rs;
+        last = r;
+        in_place = All-append (IsInPlace (Some shape)) es (e ∷ []) was.served.in_place (All-one (IsInPlace (Some shape)) e line.in_place);
+        done = All-append (λ (event : Event). is_served event ≡ true) es (e ∷ []) was.served.done (All-one (λ (event : Event). is_served event ≡ true) e line.done);
+        budget = omega (arith, size, length-append (input_of es) (line_of e), was.passed_is, line.within);
+        runs = runs_more rack a b c es rs e r was.served.runs line.answered.steps same tells;
+        input = Told-then (BeginsAll (Some shape) es) (StartsWith (line_of e)) (StartsWith (input_of (es ++ e ∷ [])))
+            (λ p q o f s. record {
+              more = s.more;
+              split = f.lines ∙ ap (λ (l : List ℕ). input_of es ++ l) s.split ∙ sym (append_assoc (input_of es) (line_of e) s.more)
+                  ∙ ap (λ (l : List ℕ). l ++ s.more) (sym (more_lines es e));
+            }) x y z was.served.input line.input;
+        output = Told-then (Took (output_of rs)) (TookPart (reply_line r)) (TookUpTo (output_of rs) (reply_line r))
+            (λ p q o f s. record { n = s.0; is = s.1 ∙ ap (λ (l : List ℕ). l ++ take s.0 (reply_line r)) f ∙ append_assoc p (output_of rs) (take s.0 (reply_line r)) })
+            t u v was.served.output line.answered.output;
+      }
+
+  pub lines_cut_at : (shape here : Shape) (first passed number : ℕ) (x y z t u v : Option (List ℕ)) (a b c : Store R) → passed ≤ 2 ^ 40 → SoFar rack shape first passed number x y t u a b → here ≡ shape
+      → ServedLinePart rack here (2 ^ 40 - passed) y z u v b c → shape_of c ≡ shape_of b → StillTold (rack.bytes (rack_of b)) (rack.bytes (rack_of c)) → LinesCut rack [] shape first x z t v a c
+  lines_cut_at shape here first passed number x y z t u v a b c budget was is line same tells =
+      lines_cut shape first passed number x y z t u v a b c budget was (subst (λ (s : Shape). ServedLinePart rack s (2 ^ 40 - passed) y z u v b c) is line) same tells
+
+  pub lines_ran_out : (shape : Shape) (first passed number : ℕ) (x y z t u v : Option (List ℕ)) (a b c : Store R) → passed ≤ 2 ^ 40 → SoFar rack shape first passed number x y t u a b
+      → Told AreAny y z → v ≡ u → shape_of c ≡ shape_of b → StillTold (rack.bytes (rack_of b)) (rack.bytes (rack_of c)) → LinesRanOut rack [] shape first x z t v a c
+  lines_ran_out shape first passed number x y z t u v a b c budget was told kept same tells = record {
+    events = was.events;
+    replies = was.served.replies;
+    in_place = was.served.in_place;
+    done = was.served.done;
+    budget = omega (arith, was.passed_is);
+    runs = λ state st.
+        let one = was.served.runs state st in (
+          one.0,
+          ap (λ (s : State). s.table.shape) one.1.is ∙ sym same,
+          run_less (told_before rack b c same tells) state was.events was.served.replies one.0 one.2,
+        );
+    input = Told-then (BeginsAll (Some shape) was.events) AreAny (StartsWith (input_of was.events)) (λ p q o f s. record { more = q; split = f.lines }) x y z was.served.input told;
+    output = subst (λ (o : Option (List ℕ)). Told (Took (output_of was.served.replies)) t o) (sym kept) was.served.output;
+  }
+
+  -- ---- behind what was written before
+
+  pub broke_off_behind : (front : List ℕ) (shape : Shape) (first : ℕ) (x z t m v : Option (List ℕ)) (a b : Store R) → Told (Took front) t m → LinesBrokeOff rack [] shape first x z m v a b → LinesBrokeOff rack front shape first x z t v a b
+  broke_off_behind front shape first x z t m v a b wrote lines = record {
+    events = lines.events;
+    replies = lines.replies;
+    in_place = lines.in_place;
+    done = lines.done;
+    budget = lines.budget;
+    runs = lines.runs;
+    input = lines.input;
+    output = Told-then (Took front) (Took (output_of lines.replies)) (Took (front ++ output_of lines.replies))
+        (λ p q o f s. s ∙ ap (λ (l : List ℕ). l ++ output_of lines.replies) f ∙ append_assoc p front (output_of lines.replies)) t m v wrote lines.output;
+  }
+
+  pub cut_behind : (front : List ℕ) (shape : Shape) (first : ℕ) (x z t m v : Option (List ℕ)) (a b : Store R) → Told (Took front) t m → LinesCut rack [] shape first x z m v a b → LinesCut rack front shape first x z t v a b
+  cut_behind front shape first x z t m v a b wrote lines =
+      let out = output_of lines.replies in
+      record {
+        events = lines.events;
+        replies = lines.replies;
+        last = lines.last;
+        in_place = lines.in_place;
+        done = lines.done;
+        budget = lines.budget;
+        runs = lines.runs;
+        input = lines.input;
+        output = Told-then (Took front) (TookUpTo out (reply_line lines.last)) (TookUpTo (front ++ out) (reply_line lines.last))
+            (λ p q o f s. record {
+              n = s.n;
+              is = s.is ∙ ap (λ (l : List ℕ). l ++ (out ++ take s.n (reply_line lines.last))) f ∙ append_assoc p front (out ++ take s.n (reply_line lines.last))
+                  ∙ ap (λ (l : List ℕ). p ++ l) (sym (append_assoc front out (take s.n (reply_line lines.last))));
+            }) t m v wrote lines.output;
+      }
+
+  pub ran_out_behind : (front : List ℕ) (shape : Shape) (first : ℕ) (x z t m v : Option (List ℕ)) (a b : Store R) → Told (Took front) t m → LinesRanOut rack [] shape first x z m v a b → LinesRanOut rack front shape first x z t v a b
+  ran_out_behind front shape first x z t m v a b wrote lines = record {
+    events = lines.events;
+    replies = lines.replies;
+    in_place = lines.in_place;
+    done = lines.done;
+    budget = lines.budget;
+    runs = lines.runs;
+    input = lines.input;
+    output = Told-then (Took front) (Took (output_of lines.replies)) (Took (front ++ output_of lines.replies))
+        (λ p q o f s. s ∙ ap (λ (l : List ℕ). l ++ output_of lines.replies) f ∙ append_assoc p front (output_of lines.replies)) t m v wrote lines.output;
+  }
