@@ -103,4 +103,5 @@ def main():
     sys.exit(ratios[0] > 1.2)
 
 
-main()
+if __name__ == "__main__":
+    main()

@@ -21,4 +21,5 @@ def sound_volume(fragments):
     return Volume(FRAGMENT, fragments, [few if i % MANY_EACH else many for i in range(count)], IN_DIRECTORY)
 
 
-compare("check", sound_volume, r"Sound\n", r"no check was asked for\n")
+if __name__ == "__main__":
+    compare("check", sound_volume, r"Sound\n", r"no check was asked for\n")

@@ -1,7 +1,8 @@
 """Replays traces of random writes and reads, and prints the time per event and the peak memory.
 
-Two arrays are compared, of 2^10 and of 2^17 blocks of 1024 bytes, replayed by turns. The clock's time per event may grow
-by a factor of 1.3 at most; else the exit status is 1. The traces, the replies and the image files stand in a temporary folder
+Three arrays are compared, of 2^10, 2^17 and 2^20 blocks of 1024 bytes, replayed by turns. From the least to the next the clock's time
+per event may grow by a factor of 1.3 at most, and the processor's time in the program by one of 1.2 from the least to each; else the
+exit status is 1. The traces, the replies and the image files stand in a temporary folder
 (TMPDIR says where). Each reply is compared with that of a dictionary of blocks.
 """
 import os
@@ -14,6 +15,7 @@ import time
 BLOCK = 1024
 BOUNDARIES = 4
 ROUNDS = 9
+BITS = (10, 17, 20)
 
 
 def write_trace(path, blocks, events, seed):
@@ -114,17 +116,19 @@ class Array:
 def main():
     program, events, seed = sys.argv[1], int(sys.argv[2]), int(sys.argv[3])
     with tempfile.TemporaryDirectory() as folder:
-        arrays = [Array(folder, bits, events, seed) for bits in (10, 17)]
+        arrays = [Array(folder, bits, events, seed) for bits in BITS]
         for _ in range(ROUNDS):
             for array in arrays:
                 array.replay(program)
-        small, large = (array.least() for array in arrays)
-    ratios = [b / a for a, b in zip(small, large)]
-    print(
-        "time per event at N = 2^17 to that at N = 2^10: {:.2f} by the clock, {:.2f} of the processor, "
-        "{:.2f} in the program".format(*ratios)
-    )
-    sys.exit(ratios[0] > 1.3)
+        small, *others = [array.least() for array in arrays]
+    ratios = [[b / a for a, b in zip(small, other)] for other in others]
+    for bits, ratio in zip(BITS[1:], ratios):
+        print(
+            "time per event at N = 2^{} to that at N = 2^{}: {:.2f} by the clock, {:.2f} of the processor, "
+            "{:.2f} in the program".format(bits, BITS[0], *ratio)
+        )
+    sys.exit(ratios[0][0] > 1.3 or max(ratio[2] for ratio in ratios) > 1.2)
 
 
-main()
+if __name__ == "__main__":
+    main()

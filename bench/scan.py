@@ -20,4 +20,5 @@ def full_volume(fragments):
 
 
 LINE = r"\d+ of \d+ fragments are claimed\n"
-compare("scan", full_volume, LINE, LINE)
+if __name__ == "__main__":
+    compare("scan", full_volume, LINE, LINE)
