@@ -59,6 +59,7 @@ module _ {R : Type 0} (rack : Ghosts R) (shape : Shape) (before : R) (volume : V
       homes_are = subst (λ (x : List Home). AreHomes (shape_of volume) x) (sym plain.homes) (no_homes (shape_of volume));
       copies_are = subst (λ (x : List Home). AreHomes (shape_of volume) x) (sym plain.copies) (no_homes (shape_of volume));
       worn = λ worn. absurd (cc worn);
+      settled = λ settled. absurd (cc settled);
     };
     shape_is = same_shape;
     tells = blank.stays.tells;

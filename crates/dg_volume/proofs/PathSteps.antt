@@ -1,5 +1,5 @@
 -- A volume makes a step by a file that is read, or a directory that is listed, by its path.
-use Rattle.std.proofs.Common.{◌≡◌, ℕ, List, ◌++◌, sym, subst, true}
+use Rattle.std.proofs.Common.{◌≡◌, ℕ, List, ◌++◌, refl, sym, subst, true}
 use Rattle.std.specs.Prelude.{Option, Some, None, Result, Ok, Err, IfNone}
 use Rattle.std.specs.List.{concat}
 use Rattle.dg_io.specs.declared.outside.Rack.{Ghosts}
@@ -13,9 +13,9 @@ use Rattle.dg_model.specs.declared.events.Event.TheVariants.{Cat, Ls}
 use Rattle.dg_model.specs.declared.replies.Reply.TheVariants.{Cut, Given, Listed as ListedReply, ListedCut, Refused, Unavailable as ReplyUnavailable}
 use Rattle.dg_store.specs.Stores as stores
 use Rattle.dg_volume.proofs.FileLaws.{file_number, number_in}
-use Rattle.dg_volume.proofs.VolumeLaws.{HasRead, read_keeps, reads_in, reads_stay, steps_from, told_before}
+use Rattle.dg_volume.proofs.VolumeLaws.{HasRead, read_keeps, reads_in, reads_stay, steps_from, steps_some, told_before}
 use Rattle.dg_volume.specs.Replies.{AnswersCat, AnswersLs}
-use Rattle.dg_volume.specs.Volumes.{StandsFor, StepsTo, Tells, marks_by, members_of, rack_of, shape_of, state_of, table_of}
+use Rattle.dg_volume.specs.Volumes.{StandsFor, StepsSome, StepsTo, Tells, marks_by, members_of, rack_of, shape_of, state_of, table_of}
 use Rattle.dg_volume.specs.declared.phases.InPhase as phases
 use Rattle.dg_volume.specs.declared.volumes.Volume.{Volume}
 use Rattle.ufs_model.specs.Blocks.{Reading}
@@ -79,6 +79,7 @@ module _ {S R : Type 0} (phase : phases.Ghosts S) (rack : Ghosts R) where
       may_read (cat_of (shape_of a).l (shape_of a).n path) a b rest V (Some (Err refusal)) h holds reads tt,
       reads_stay phase rack a b rest V label h,
     ),
+    refl,
   ))
 
   cat_lost : (path : List ℕ) (a b : Volume S R) → HasRead phase rack a b → Reads path a b None → LosesBlock b → StepsTo phase phase rack a (Cat path) ReplyUnavailable b
@@ -89,6 +90,7 @@ module _ {S R : Type 0} (phase : phases.Ghosts S) (rack : Ghosts R) where
       may_read (cat_of (shape_of a).l (shape_of a).n path) a b rest V None h holds reads gone,
       reads_stay phase rack a b rest V label h,
     ),
+    refl,
   ))
 
   -- the inode of the file that was given
@@ -100,8 +102,8 @@ module _ {S R : Type 0} (phase : phases.Ghosts S) (rack : Ghosts R) where
   touched_rest a path rest V = record rest { recent = recent_after (phase.phase a.phase) (inode_at a path V) rest.recent }
 
   given_steps : (path : List ℕ) (lines : List (List ℕ)) (a b : Volume S R) → HasRead phase rack a b → AreLines (shape_of a).l lines → Reads path a b (Some (Ok (concat lines)))
-      → StepsTo phase phase rack a (Cat path) (Given lines) b
-  given_steps path lines a b h are reads = steps_from phase rack a b (Cat path) (Given lines) (λ rest V label holds.
+      → StepsSome phase phase rack a (Cat path) (Given lines) b
+  given_steps path lines a b h are reads = steps_some phase rack a b (Cat path) (Given lines) (λ rest V label holds.
       let next = state_of phase rack b (touched_rest a path rest V) V in (
         next,
         reads_in phase rack a b (touched_rest a path rest V) V label h holds,
@@ -144,12 +146,14 @@ module _ {S R : Type 0} (phase : phases.Ghosts S) (rack : Ghosts R) where
       cut_short (cat_of (shape_of a).l (shape_of a).n path) a b rest V h holds lost,
       reads_stay phase rack a b rest V label h,
     ),
+    refl,
   ))
 
   -- each answer
   pub cat_answers : {C : Type 0} (took took_part : C → List ℕ → C → Type 0) (faults : C → ℕ) (old new : C) (path : List ℕ) (a b : Volume S R) (answer : CatAnswer) → HasRead phase rack a b
       → (IsUnanswered answer → LosesBlock b) → IsAnswer took took_part faults old new (Reads path a b) answer
-      → AnswersCat took took_part faults old new (shape_of a).l (λ reply. StepsTo phase phase rack a (Cat path) reply b) answer
+      → AnswersCat took took_part faults old new (shape_of a).l (λ reply. StepsSome phase phase rack a (Cat path) reply b)
+      (λ reply. StepsTo phase phase rack a (Cat path) reply b) answer
   cat_answers took took_part faults old new path a b (AnswerGiven n) h cause rule =
       (rule.0, rule.1, rule.2, λ lines are whole. given_steps path lines a b h are (subst (λ (l : List ℕ). Reads path a b (Some (Ok l))) (sym whole) rule.3))
   cat_answers took took_part faults old new path a b NotFound h cause rule = (rule.0, cat_refused path RefusedNotFound a b h rule.1)
@@ -173,6 +177,7 @@ module _ {S R : Type 0} (phase : phases.Ghosts S) (rack : Ghosts R) where
       may_read (ls_of (shape_of a).l (shape_of a).n path) a b rest V (Some (Err refusal)) h holds reads tt,
       reads_stay phase rack a b rest V label h,
     ),
+    refl,
   ))
 
   ls_lost : (path : List ℕ) (a b : Volume S R) → HasRead phase rack a b → Lists path a b None → LosesBlock b → StepsTo phase phase rack a (Ls path) ReplyUnavailable b
@@ -183,6 +188,7 @@ module _ {S R : Type 0} (phase : phases.Ghosts S) (rack : Ghosts R) where
       may_read (ls_of (shape_of a).l (shape_of a).n path) a b rest V None h holds reads gone,
       reads_stay phase rack a b rest V label h,
     ),
+    refl,
   ))
 
   listed_steps : (path : List ℕ) (entries : List Listed) (a b : Volume S R) → HasRead phase rack a b → Lists path a b (Some (Ok entries))
@@ -194,6 +200,7 @@ module _ {S R : Type 0} (phase : phases.Ghosts S) (rack : Ghosts R) where
       may_read (ls_of (shape_of a).l (shape_of a).n path) a b rest V (Some (Ok entries)) h holds reads tt,
       reads_stay phase rack a b rest V label h,
     ),
+    refl,
   ))
 
   listed_cut_steps : (path : List ℕ) (entries more : List Listed) (a b : Volume S R) → HasRead phase rack a b → Lists path a b (Some (Ok (entries ++ more))) → Lists path a b None
@@ -206,6 +213,7 @@ module _ {S R : Type 0} (phase : phases.Ghosts S) (rack : Ghosts R) where
       cut_short (ls_of (shape_of a).l (shape_of a).n path) a b rest V h holds lost,
       reads_stay phase rack a b rest V label h,
     ),
+    refl,
   ))
 
   -- each answer

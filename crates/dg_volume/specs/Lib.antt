@@ -1,2 +1,6 @@
+pub mod Any
+pub mod Phases
 pub mod Replies
+pub mod Settles
 pub mod Volumes
+pub mod Writes

@@ -41,24 +41,25 @@ IsReadReply ReadUnavailable block reply = reply ≡ Unavailable
 
 -- ---- reads by path
 
--- What was handed on by `cat` and by `ls`, from one state of the receiver to another, and what holds of each reply to it. The bytes of a
--- file stand in the reply as lines. A refusal hands nothing on. Where the receiver failed, the reply is the one that it would have taken.
+-- What was handed on by `cat` and by `ls`, from one state of the receiver to another, and what holds of each reply to it; of that which
+-- gives a file, by `cat`, more holds. The bytes of a file stand in the reply as lines. A refusal hands nothing on. Where the receiver failed,
+-- the reply is the one that it would have taken.
 abbrev pub AnswersCat : {S : Type 0} → (S → List ℕ → S → Type 0) → (S → List ℕ → S → Type 0) → (S → ℕ) → S → S → ℕ → (Reply → Type 0)
-    → CatAnswer → Type 0
-AnswersCat took took_part faults old new l holds (AnswerGiven n) =
+    → (Reply → Type 0) → CatAnswer → Type 0
+AnswersCat took took_part faults old new l gives holds (AnswerGiven n) =
     (bytes : List ℕ) × (length bytes ≡ n) × took old bytes new
-    × ((lines : List (List ℕ)) → AreLines l lines → concat lines ≡ bytes → holds (Given lines))
-AnswersCat took took_part faults old new l holds NotFound = (new ≡ old) × holds (Refused RefusedNotFound)
-AnswersCat took took_part faults old new l holds NotDirectory = (new ≡ old) × holds (Refused RefusedNotDirectory)
-AnswersCat took took_part faults old new l holds (Bad bad) = (new ≡ old) × holds (Refused (RefusedBad bad))
-AnswersCat took took_part faults old new l holds AnswerUnavailable = (new ≡ old) × holds Unavailable
-AnswersCat took took_part faults old new l holds NotRegular = (new ≡ old) × holds (Refused RefusedNotRegular)
-AnswersCat took took_part faults old new l holds (AnswerCut n) =
+    × ((lines : List (List ℕ)) → AreLines l lines → concat lines ≡ bytes → gives (Given lines))
+AnswersCat took took_part faults old new l gives holds NotFound = (new ≡ old) × holds (Refused RefusedNotFound)
+AnswersCat took took_part faults old new l gives holds NotDirectory = (new ≡ old) × holds (Refused RefusedNotDirectory)
+AnswersCat took took_part faults old new l gives holds (Bad bad) = (new ≡ old) × holds (Refused (RefusedBad bad))
+AnswersCat took took_part faults old new l gives holds AnswerUnavailable = (new ≡ old) × holds Unavailable
+AnswersCat took took_part faults old new l gives holds NotRegular = (new ≡ old) × holds (Refused RefusedNotRegular)
+AnswersCat took took_part faults old new l gives holds (AnswerCut n) =
     (bytes : List ℕ) × (length bytes ≡ n) × took old bytes new
     × ((lines : List (List ℕ)) → AreLines l lines → concat lines ≡ bytes → holds (Cut lines))
-AnswersCat took took_part faults old new l holds SinkFault =
+AnswersCat took took_part faults old new l gives holds SinkFault =
     (bytes : List ℕ) × took_part old bytes new × Rose (faults old) (faults new)
-    × ((lines : List (List ℕ)) → AreLines l lines → concat lines ≡ bytes → holds (Given lines))
+    × ((lines : List (List ℕ)) → AreLines l lines → concat lines ≡ bytes → gives (Given lines))
 
 -- the same of the entries of a directory
 abbrev pub AnswersLs : {S : Type 0} → (S → List Listed → S → Type 0) → (S → List Listed → S → Type 0) → (S → ℕ) → S → S → (Reply → Type 0)

@@ -3,16 +3,22 @@
 //! A volume is loose as long as it is known what its blocks belong to. It is worn once a block was written while a boundary is lost.
 #![tactic(auto)]
 
+mod any;
 mod paths;
 mod phases;
 mod queries;
+mod settles;
 #[cfg(test)]
 mod tests;
 mod volumes;
+mod writes;
 
 pub use dg_model::{NoMemory, Who};
 pub use dg_store::{Boundary, Shape};
-pub use phases::{InPhase, Loose, Worn};
+pub use any::{AnyVolume, WriteAnswer};
+pub use phases::{AnyPhase, InPhase, Loose, Settled, Worn};
 pub use queries::WhoAnswer;
+pub use settles::{TendRun, Unsettled};
 pub use ufs_path::{CatAnswer, Listing};
 pub use volumes::{FailAnswer, ReadAnswer, Volume};
+pub use writes::Wrote;

@@ -2,7 +2,7 @@
 ghost use Rattle.std.specs.Prelude.{◌≡◌, ◌≤◌, true};
 ghost use Rattle.dg_model.specs.declared.events.Event.{Event};
 ghost use Rattle.dg_volume.specs.Replies.{AnswersCat, AnswersLs};
-ghost use Rattle.dg_volume.specs.Volumes.{IsWell, Leaves, StepsTo, shape_of};
+ghost use Rattle.dg_volume.specs.Volumes.{IsWell, Leaves, StepsSome, StepsTo, shape_of};
 ghost use Rattle.ufs_model.specs.Paths.{is_path};
 ghost use Rattle.ufs_path.specs.Consults.{StaysUnlessFailed};
 
@@ -20,6 +20,7 @@ impl<S: InPhase, R: Rack> Volume<S, R> {
         ensures later { O.faults out.old ≤ O.faults out.new }
         ensures stays { StaysUnlessFailed result (O.faults out.old) (O.faults out.new) }
         ensures steps { AnswersCat O.took O.took_part O.faults out.old out.new (shape_of self.old).l
+            (λ reply. StepsSome S.InPhase S.InPhase R.Rack self.old (Event.Cat path.now) reply self.new)
             (λ reply. StepsTo S.InPhase S.InPhase R.Rack self.old (Event.Cat path.now) reply self.new) result }
     {
         cat(&mut self.store, &mut self.levels, path, out)

@@ -25,6 +25,8 @@ pub struct Volume<S, R> {
     pub(crate) homes: Homes,
     pub(crate) copies: Homes,
     pub(crate) levels: Levels,
+    /// The inode of the file that was given last.
+    pub(crate) given: Option<u32>,
 }
 
 /// What became of a read of a block.
@@ -67,6 +69,7 @@ impl<R: Rack> Volume<Loose, R> {
             homes: Homes::new(Vec::new(alloc)),
             copies: Homes::new(Vec::new(alloc)),
             levels,
+            given: None,
         })
     }
 }

@@ -1,0 +1,36 @@
+-- What a write of a block leaves of a volume, by its answer.
+use Rattle.std.specs.Prelude.{◌≡◌, ℕ, List}
+use Rattle.dg_io.specs.declared.outside.Rack.{Ghosts}
+use Rattle.dg_model.specs.Blocks.{padded}
+use Rattle.dg_model.specs.declared.events.Event.TheVariants.{Write}
+use Rattle.dg_model.specs.declared.replies.Reply.{Reply}
+use Rattle.dg_model.specs.declared.replies.Reply.TheVariants.{Degraded as DegradedReply, Done, Range as RangeReply}
+use Rattle.dg_volume.specs.Volumes.{Leaves, StepsTo, any_phase, loose_phase, shape_of, worn_phase}
+use Rattle.dg_volume.specs.declared.any.WriteAnswer.{WriteAnswer}
+use Rattle.dg_volume.specs.declared.any.WriteAnswer.TheVariants.{Degraded as AnyDegraded, Range as AnyRange, Written}
+use Rattle.dg_volume.specs.declared.phases.AnyPhase.{AnyPhase}
+use Rattle.dg_volume.specs.declared.phases.InPhase as phases
+use Rattle.dg_volume.specs.declared.volumes.Volume.{Volume}
+use Rattle.dg_volume.specs.declared.writes.Wrote.{Wrote}
+use Rattle.dg_volume.specs.declared.writes.Wrote.TheVariants.{Degraded, Loose, Range, Worn}
+
+-- The volume made a step by each write of block b with bytes that fill it so.
+pub record WritesTo {S T R : Type 0} (from : phases.Ghosts S) (to : phases.Ghosts T) (rack : Ghosts R) (old : Volume S R) (b : ℕ) (block : List ℕ) (reply : Reply) (new : Volume T R) : Type 0 where
+  pub leaves : Leaves from to rack old new
+  pub steps : (bytes : List ℕ) → block ≡ padded (shape_of old).l bytes → StepsTo from to rack old (Write b bytes) reply new
+
+-- by each answer
+abbrev pub AnswersWrite : {S R : Type 0} → phases.Ghosts S → Ghosts R → Volume S R → ℕ → List ℕ → Wrote S R → Type 0
+AnswersWrite phase rack old b block (Loose new) = WritesTo phase loose_phase rack old b block Done new
+AnswersWrite phase rack old b block (Worn new) = WritesTo phase worn_phase rack old b block Done new
+AnswersWrite phase rack old b block (Range new) = WritesTo phase phase rack old b block RangeReply new
+AnswersWrite phase rack old b block (Degraded new) = WritesTo phase phase rack old b block DegradedReply new
+
+-- the same where the phase is told only when the program runs
+abbrev pub write_reply : WriteAnswer → Reply
+write_reply Written = Done
+write_reply AnyRange = RangeReply
+write_reply AnyDegraded = DegradedReply
+
+abbrev pub WritesAny : {R : Type 0} → Ghosts R → Volume AnyPhase R → ℕ → List ℕ → WriteAnswer → Volume AnyPhase R → Type 0
+WritesAny rack old b block answer new = WritesTo any_phase any_phase rack old b block (write_reply answer) new
