@@ -1,4 +1,3 @@
-pub mod Any
 pub mod Phases
 pub mod Replies
 pub mod Settles

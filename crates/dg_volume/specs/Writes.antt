@@ -5,10 +5,9 @@ use Rattle.dg_model.specs.Blocks.{padded}
 use Rattle.dg_model.specs.declared.events.Event.TheVariants.{Write}
 use Rattle.dg_model.specs.declared.replies.Reply.{Reply}
 use Rattle.dg_model.specs.declared.replies.Reply.TheVariants.{Degraded as DegradedReply, Done, Range as RangeReply}
-use Rattle.dg_volume.specs.Volumes.{Leaves, StepsTo, any_phase, loose_phase, shape_of, worn_phase}
+use Rattle.dg_volume.specs.Volumes.{Leaves, StepsTo, loose_phase, shape_of, worn_phase}
 use Rattle.dg_volume.specs.declared.any.WriteAnswer.{WriteAnswer}
 use Rattle.dg_volume.specs.declared.any.WriteAnswer.TheVariants.{Degraded as AnyDegraded, Range as AnyRange, Written}
-use Rattle.dg_volume.specs.declared.phases.AnyPhase.{AnyPhase}
 use Rattle.dg_volume.specs.declared.phases.InPhase as phases
 use Rattle.dg_volume.specs.declared.volumes.Volume.{Volume}
 use Rattle.dg_volume.specs.declared.writes.Wrote.{Wrote}
@@ -26,11 +25,8 @@ AnswersWrite phase rack old b block (Worn new) = WritesTo phase worn_phase rack 
 AnswersWrite phase rack old b block (Range new) = WritesTo phase phase rack old b block RangeReply new
 AnswersWrite phase rack old b block (Degraded new) = WritesTo phase phase rack old b block DegradedReply new
 
--- the same where the phase is told only when the program runs
+-- the replies, where the phase is told only when the program runs
 abbrev pub write_reply : WriteAnswer → Reply
 write_reply Written = Done
 write_reply AnyRange = RangeReply
 write_reply AnyDegraded = DegradedReply
-
-abbrev pub WritesAny : {R : Type 0} → Ghosts R → Volume AnyPhase R → ℕ → List ℕ → WriteAnswer → Volume AnyPhase R → Type 0
-WritesAny rack old b block answer new = WritesTo any_phase any_phase rack old b block (write_reply answer) new

@@ -1,40 +1,31 @@
-// A volume whose phase is told only when the program runs, and the calls that depend on it.
-ghost use Rattle.std.specs.Prelude.{◌≡◌, IfOk, length};
+// A volume whose phase is told only when the program runs. Its calls that change the phase do so in place.
+ghost use Rattle.std.specs.Prelude.{◌≡◌, IfOk, OnErr, length};
 ghost use Rattle.dg_model.specs.declared.events.Event.{Event};
-ghost use Rattle.dg_volume.specs.Any.{IsSameOf};
-ghost use Rattle.dg_volume.specs.Settles.{GoesBy, settle_reply, tend_reply};
-ghost use Rattle.dg_volume.specs.Volumes.{IsSame, IsWell, any_phase, shape_of};
-ghost use Rattle.dg_volume.specs.Writes.{WritesAny};
+ghost use Rattle.dg_volume.specs.Settles.{KeepsArray, settle_reply, tend_reply};
+ghost use Rattle.dg_volume.specs.Volumes.{IsSame, IsWell, Leaves, StepsTo, any_phase, shape_of};
+ghost use Rattle.dg_volume.specs.Writes.{WritesTo, write_reply};
 
-use crate::phases::{AnyPhase, InPhase, Loose, Settled, Worn};
+use crate::phases::{AnyPhase, InPhase};
 use crate::settles::{TendRun, Unsettled};
 use crate::volumes::Volume;
 use dg_io::{NoMemory, Rack};
 use std::alloc::Global;
-
-/// A volume in one of its phases.
-#[derive(Drop)]
-pub enum AnyVolume<R> {
-    Loose(Volume<Loose, R>),
-    Settled(Volume<Settled, R>),
-    Worn(Volume<Worn, R>),
-}
 
 /// What became of a write.
 #[derive(Clone, Copy, Debug, PartialEq, Eq)]
 pub enum WriteAnswer {
     /// The block was written.
     Written,
-    /// There is no such block.
+    /// There is no such block. Nothing has changed.
     Range,
-    /// A boundary was lost before, or all sites of the block were lost in this call.
+    /// A boundary was lost before, or all sites of the block were lost in this call. Nothing was written.
     Degraded,
 }
 
 impl<S: InPhase + Drop, R: Rack> Volume<S, R> {
     /// The same volume, whose phase is told only when the program runs.
     pub fn into_any(self) -> Volume<AnyPhase, R>
-        requires well { IsWell S.InPhase R.Rack self }
+        requires { IsWell S.InPhase R.Rack self }
         ensures { IsSame S.InPhase any_phase R.Rack self result }
     {
         let Volume {
@@ -58,85 +49,39 @@ impl<S: InPhase + Drop, R: Rack> Volume<S, R> {
     }
 }
 
-impl<R: Rack + Drop> Volume<AnyPhase, R> {
-    /// The same volume, in its phase.
-    pub fn into_phase(self) -> AnyVolume<R>
-        requires well { IsWell any_phase R.Rack self }
-        ensures { IsSameOf R.Rack self result }
-    {
-        let Volume {
-            store,
-            phase,
-            pending,
-            homes,
-            copies,
-            levels,
-            given,
-        } = self;
-        match phase {
-            AnyPhase::Loose(phase) => AnyVolume::Loose(Volume {
-                store,
-                phase,
-                pending,
-                homes,
-                copies,
-                levels,
-                given,
-            }),
-            AnyPhase::Settled(phase) => AnyVolume::Settled(Volume {
-                store,
-                phase,
-                pending,
-                homes,
-                copies,
-                levels,
-                given,
-            }),
-            AnyPhase::Worn(phase) => AnyVolume::Worn(Volume {
-                store,
-                phase,
-                pending,
-                homes,
-                copies,
-                levels,
-                given,
-            }),
-        }
-    }
-
-    /// Writes a block of L bytes to its sites, and follows what blocks belong to.
+impl<R: Rack> Volume<AnyPhase, R> {
+    /// Writes a block of L bytes to its sites, and follows what blocks belong to. After want of memory the volume is loose, and it isn't
+    /// known what its blocks belong to.
     pub fn write_block(
-        self,
+        &mut self,
         alloc: Global,
         block: u32,
         buf: &[u8],
-    ) -> Result<(Volume<AnyPhase, R>, WriteAnswer), NoMemory>
-        requires well { IsWell any_phase R.Rack self }
-        requires size { length buf.now ≡ (shape_of self).l }
-        ensures { IfOk result (λ end. WritesAny R.Rack self block buf.now end.1 end.0) }
+    ) -> Result<WriteAnswer, NoMemory>
+        requires well { IsWell any_phase R.Rack self.old }
+        requires size { length buf.now ≡ (shape_of self.old).l }
+        ensures leaves { Leaves any_phase any_phase R.Rack self.old self.new }
+        ensures steps { IfOk result (λ answer. WritesTo any_phase any_phase R.Rack self.old block buf.now (write_reply answer) self.new) }
     {
         Err(NoMemory)
     }
 
     /// Checks the volume, and puts each block in its place by the plan. A settled one stays as it is.
-    pub fn settle(
-        self,
-        alloc: Global,
-    ) -> Result<(Volume<AnyPhase, R>, Result<(), Unsettled>), NoMemory>
-        requires well { IsWell any_phase R.Rack self }
-        ensures { IfOk result (λ end. GoesBy any_phase any_phase R.Rack self Event.Settle (settle_reply end.1) end.0) }
+    pub fn settle(&mut self, alloc: Global) -> Result<Result<(), Unsettled>, NoMemory>
+        requires well { IsWell any_phase R.Rack self.old }
+        ensures leaves { Leaves any_phase any_phase R.Rack self.old self.new }
+        ensures steps { IfOk result (λ answer. StepsTo any_phase any_phase R.Rack self.old Event.Settle (settle_reply answer) self.new) }
+        ensures err { OnErr result (KeepsArray R.Rack self.old self.new) }
     {
         Err(NoMemory)
     }
 
     /// Meets at most `limit` missing placements of the plan. A settled volume has none.
-    pub fn tend(
-        self,
-        alloc: Global,
-        limit: u32,
-    ) -> Result<(Volume<AnyPhase, R>, TendRun), NoMemory>
-        requires well { IsWell any_phase R.Rack self }
-        ensures { IfOk result (λ end. GoesBy any_phase any_phase R.Rack self (Event.Tend limit) (tend_reply end.1) end.0) }
+    pub fn tend(&mut self, alloc: Global, limit: u32) -> Result<TendRun, NoMemory>
+        requires well { IsWell any_phase R.Rack self.old }
+        ensures leaves { Leaves any_phase any_phase R.Rack self.old self.new }
+        ensures steps { IfOk result (λ answer. StepsTo any_phase any_phase R.Rack self.old (Event.Tend limit) (tend_reply answer) self.new) }
+        ensures err { OnErr result (KeepsArray R.Rack self.old self.new) }
     {
         Err(NoMemory)
     }

@@ -15,7 +15,7 @@ mod writes;
 
 pub use dg_model::{NoMemory, Who};
 pub use dg_store::{Boundary, Shape};
-pub use any::{AnyVolume, WriteAnswer};
+pub use any::WriteAnswer;
 pub use phases::{AnyPhase, InPhase, Loose, Settled, Worn};
 pub use queries::WhoAnswer;
 pub use settles::{TendRun, Unsettled};
