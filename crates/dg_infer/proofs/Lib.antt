@@ -14,4 +14,5 @@ pub mod TargetLaws
 pub mod VerdictLaws
 pub mod VolumeLaws
 pub mod WatchLaws
+pub mod WholeLaws
 pub mod WriteLaws
