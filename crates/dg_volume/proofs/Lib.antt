@@ -1,5 +1,10 @@
+mod ArrayLaws
 mod BlankLaws
 mod FileLaws
+mod GoneLaws
+mod HomeLaws
+mod MoveSteps
 mod PathSteps
+mod PlacedLaws
 mod VolumeLaws
 mod VolumeSteps

@@ -1,5 +1,5 @@
 // What each block is to the plan, and where the plan puts it.
-ghost use Rattle.std.specs.Prelude.{◌≡◌, ◌<◌, IfErr, IfOk, false};
+ghost use Rattle.std.specs.Prelude.{◌≡◌, ◌<◌, ◌^◌, All, IfErr, IfOk, false};
 ghost use Rattle.dg_infer.specs.Meanings.{StandsFor};
 ghost use Rattle.dg_model.specs.Homes.{Ascend};
 ghost use Rattle.dg_model.specs.Sites.{has_site};
@@ -13,7 +13,7 @@ ghost use Rattle.dg_volume.specs.Volumes.{FitsArray};
 use crate::settles::Unsettled;
 use dg_infer::Inference;
 use dg_io::{NoMemory, Rack};
-use dg_model::{NoRoom, Want};
+use dg_model::{Home, NoRoom, Want};
 use dg_plan::{Homes, Parents, Targets, Wants, plan};
 use dg_store::Store;
 use std::alloc::Global;
@@ -133,5 +133,21 @@ pub fn checked<R: Rack>(
             Some(lost) => Ok(Err(Unsettled::Lost(lost))),
             None => unreachable!(),
         },
+    }
+}
+
+/// An inode is a number of 32 bits.
+fn fits(home: &Home)
+    ensures { home.now.inode < 2 ^ 32 }
+{
+    let _inode = home.inode;
+}
+
+/// Inodes are numbers of 32 bits.
+pub fn inodes_fit(homes: &[Home])
+    ensures { All (λ home. home.inode < 2 ^ 32) homes.now }
+{
+    for home in homes {
+        fits(home);
     }
 }

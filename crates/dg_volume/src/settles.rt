@@ -8,7 +8,7 @@ ghost use Rattle.dg_volume.specs.Settles.{GoesBy, KeepsArray, tend_reply, unsett
 ghost use Rattle.dg_volume.specs.Volumes.{IsWell, Leaves, StepsTo, loose_phase, settled_phase};
 
 use crate::phases::{InPhase, Loose, Settled};
-use crate::plans::{PlanAnswer, checked, planned};
+use crate::plans::{PlanAnswer, checked, inodes_fit, planned};
 use crate::volumes::Volume;
 use dg_io::{NoMemory, Rack};
 use dg_model::NoRoom;
@@ -96,6 +96,7 @@ impl<S: InPhase, R: Rack> Volume<S, R> {
             PlanAnswer::Found(targets) => match tend(&mut self.store, &targets, u32::MAX)? {
                 TendAnswer::Tended { .. } => {
                     self.homes = targets.into_homes();
+                    inodes_fit(self.homes.as_slice());
                     Ok(Ok(()))
                 }
                 TendAnswer::Lost(lost) => Ok(Err(Unsettled::Lost(lost))),
