@@ -1,3 +1,4 @@
+mod AnyLaws
 mod ArrayLaws
 mod BlankLaws
 mod FileLaws

@@ -1,5 +1,5 @@
 -- What is planned and checked over an array, and what reads and moves leave of it.
-use Rattle.std.specs.Prelude.{◌≡◌, ℕ, List, Option, None, Unit, Result, Ok, Err, false, IfSome, is_some}
+use Rattle.std.specs.Prelude.{◌≡◌, ℕ, List, Option, None, Result, Ok, Err, false, IfSome, is_some}
 use Rattle.dg_infer.specs.Meanings.{KeptInference}
 use Rattle.dg_infer.specs.Meanings as inferences
 use Rattle.dg_io.specs.declared.outside.Rack.{Ghosts}
