@@ -9,3 +9,4 @@ mod PathSteps
 mod PlacedLaws
 mod VolumeLaws
 mod VolumeSteps
+mod WantLaws
