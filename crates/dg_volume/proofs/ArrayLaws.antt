@@ -1,7 +1,10 @@
 -- What reads and moves leave of an array, one after another, and what was planned over it before and after reads.
 use Rattle.std.proofs.Common.{◌≡◌, ◌∙◌, ◌<◌, ◌/◌, ℕ, Bool, List, sym, subst}
-use Rattle.std.specs.Prelude.{Err}
+use Rattle.std.specs.Prelude.{Result, Ok, Err, OnErr}
+use Rattle.dg_claims.specs.Kept.{KeptClaims, table_of}
+use Rattle.dg_claims.specs.Tables.{IsTableOf}
 use Rattle.dg_infer.specs.Meanings.{KeptInference}
+use Rattle.dg_infer.specs.Meanings as inferences
 use Rattle.dg_io.specs.declared.outside.Rack.{Ghosts}
 use Rattle.dg_model.specs.Plans.{plan}
 use Rattle.dg_model.specs.Tables.{Table}
@@ -18,6 +21,19 @@ use Rattle.dg_store.specs.ReadLaws.{keeps_both, reads_both}
 use Rattle.dg_store.specs.Stores.{TellsAll}
 use Rattle.dg_store.specs.declared.store.Store.{Store}
 use Rattle.dg_volume.specs.Planned.{AreKnown, AreWanted, HasMovedArray, HasNoPlan, HasPlan, HasReadArray}
+use Rattle.dg_volume.specs.Volumes.{FitsArray}
+
+pub on_err : {A E : Type 0} (r : Result A E) (P : Type 0) → P → OnErr r P
+on_err (Ok a) P p = tt
+on_err (Err e) P p = p
+
+-- the claims that are kept are those of each volume for which the inference stands
+pub table_right : (shape : Shape) (kept : KeptInference) (claims : KeptClaims) (V : List (List ℕ)) → FitsArray shape kept → claims ≡ kept.claims → inferences.StandsFor kept V
+    → IsTableOf shape.l shape.n V (table_of claims)
+table_right shape kept claims V fits same held =
+    let by_bytes = subst (λ (l : ℕ). IsTableOf l kept.n V (table_of kept.claims)) fits.bytes held.claims in
+    let by_number = subst (λ (n : ℕ). IsTableOf shape.l n V (table_of kept.claims)) fits.number by_bytes in
+    subst (λ (c : KeptClaims). IsTableOf shape.l shape.n V (table_of c)) (sym same) by_number
 
 module _ {R : Type 0} (rack : Ghosts R) where
   -- what is told in the end was told before

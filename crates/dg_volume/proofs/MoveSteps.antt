@@ -30,7 +30,7 @@ use Rattle.dg_store.specs.Stores.{TellsAll}
 use Rattle.dg_store.specs.Stores as stores
 use Rattle.dg_store.specs.declared.store.Store.{Store}
 use Rattle.dg_volume.proofs.ArrayLaws.{told_by}
-use Rattle.dg_volume.proofs.VolumeLaws.{HasRead, reads_in, reads_stay, steps_from}
+use Rattle.dg_volume.proofs.VolumeLaws.{HasRead, IsBeside, reads_in, reads_stay, steps_from}
 use Rattle.dg_volume.specs.Planned.{AreKnown, AreWanted, FindsOn, HasMovedArray, HasNoPlan, HasPlan, HasReadArray}
 use Rattle.dg_volume.specs.Volumes.{FitsArray, IsWell, Leaves, StandsFor, StandsIn, StepsTo, Tells, marks_by, marks_of, members_of, rack_of, shape_of, state_of, table_of}
 use Rattle.dg_volume.specs.declared.phases.InPhase as phases
@@ -97,6 +97,23 @@ module _ {S R : Type 0} (phase : phases.Ghosts S) (rack : Ghosts R) where
   moved_goes : (a b : Volume S R) (rest : State) (V : List (List ℕ)) → rest.label ≡ None → HasMoved a b → Goes (state_of phase rack a rest V) (state_of phase rack b rest V)
   moved_goes a b rest V label h =
       goes_plain (state_of phase rack a rest V) (state_of phase rack b rest V) label label h.array.leaves.keeps.stays.rise h.array.leaves.keeps.falls h.array.leaves.sound.paired
+
+  -- what reads left of a volume, by what they left of its array
+  pub has_read : (a b : Volume S R) → IsBeside phase rack a b → b.levels.fragment ≡ a.levels.fragment → HasReadArray rack a.store b.store → HasRead phase rack a b
+  has_read a b beside levels h = record { beside = beside; levels = levels; sound = h.sound; reads = h.reads; stands = h.stands }
+
+  -- what moves left of it, where the homes stay
+  pub has_moved : (a b : Volume S R) → IsBeside phase rack a b → b.levels.fragment ≡ a.levels.fragment → IsWell phase rack a → HasMovedArray rack a.store b.store → HasMoved a b
+  has_moved a b beside levels well h = record {
+    phase_is = beside.phase_is;
+    pending = beside.pending;
+    copies = beside.copies;
+    levels = levels;
+    array = h;
+    homes_are =
+        subst (λ (x : Shape). AreHomes x b.homes) (sym h.leaves.keeps.shape)
+        (subst (λ (x : List Home). AreHomes (shape_of a) x) (sym beside.homes) well.homes_are);
+  }
 
   -- ---- what is inferred
 

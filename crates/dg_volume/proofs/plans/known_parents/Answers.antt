@@ -1,4 +1,4 @@
-use Rattle.std.proofs.Common.{rules, ◌≡◌, ◌∙◌, sym, ap, true}
+use Rattle.std.proofs.Common.{◌≡◌, ◌∙◌, sym, ap, true}
 use Rattle.std.specs.Prelude.{Ok}
 use Rattle.std.proofs.lemmas.Bool.{false≢true}
 use Rattle.dg_model.specs.States.{has_lost}
