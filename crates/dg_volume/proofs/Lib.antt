@@ -7,6 +7,7 @@ mod HomeLaws
 mod MoveSteps
 mod PathSteps
 mod PlacedLaws
+mod SettleSteps
 mod VolumeLaws
 mod VolumeSteps
 mod WantLaws

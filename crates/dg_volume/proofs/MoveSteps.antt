@@ -1,6 +1,6 @@
 -- A volume makes a step by moves of its blocks: what is left of it, and each answer of `tend` and of `settle`.
 use Rattle.std.proofs.Common.{◌≡◌, ◌≢◌, ◌∙◌, ◌<◌, ◌/◌, ℕ, Bool, true, false, List, [], length, refl, sym, ap, subst, inl, inr}
-use Rattle.std.specs.Prelude.{Option, Some, None, Ok, IfSome}
+use Rattle.std.specs.Prelude.{Option, Some, None, Err, IfSome}
 use Rattle.dg_infer.specs.Meanings.{KeptInference}
 use Rattle.dg_infer.specs.Meanings as inferences
 use Rattle.dg_io.specs.declared.outside.Rack.{Ghosts}
@@ -31,9 +31,12 @@ use Rattle.dg_store.specs.Stores as stores
 use Rattle.dg_store.specs.declared.store.Store.{Store}
 use Rattle.dg_volume.proofs.ArrayLaws.{told_by}
 use Rattle.dg_volume.proofs.VolumeLaws.{HasRead, IsBeside, reads_in, reads_stay, steps_from}
-use Rattle.dg_volume.specs.Planned.{AreKnown, AreWanted, FindsOn, HasMovedArray, HasNoPlan, HasPlan, HasReadArray}
+use Rattle.dg_volume.specs.Planned.{AnswersCheck, AreKnown, AreWanted, FindsOn, HasMovedArray, HasNoPlan, HasPlan, HasReadArray}
+use Rattle.dg_volume.specs.Settles.{unsettled_reply}
 use Rattle.dg_volume.specs.Volumes.{FitsArray, IsWell, Leaves, StandsFor, StandsIn, StepsTo, Tells, marks_by, marks_of, members_of, rack_of, shape_of, state_of, table_of}
 use Rattle.dg_volume.specs.declared.phases.InPhase as phases
+use Rattle.dg_volume.specs.declared.settles.Unsettled.{Unsettled}
+use Rattle.dg_volume.specs.declared.settles.Unsettled.TheVariants.{Lost, Malformed, NoSpace}
 use Rattle.dg_volume.specs.declared.volumes.Volume.{Volume}
 use Rattle.ufs_model.specs.Malformations.{IsFirstMalformation, IsSoundVolume}
 use Rattle.ufs_model.specs.declared.malformations.BadKind.{BadKind}
@@ -290,6 +293,13 @@ module _ {S R : Type 0} (phase : phases.Ghosts S) (rack : Ghosts R) where
     ),
     refl,
   ))
+
+  -- each refusal of a check
+  pub check_refused : (a b : Volume S R) (kept : KeptInference) (unsettled : Unsettled) → IsReady a → Keeps a kept → HasRead phase rack a b
+      → AnswersCheck rack a.store b.store kept (Err unsettled) → StepsTo phase phase rack a Settle (unsettled_reply unsettled) b
+  check_refused a b kept (Lost s) ready keeps h answer = settle_lost_reading a b s ready h answer
+  check_refused a b kept (Malformed kind n) ready keeps h answer = settle_malformed a b kept kind n ready keeps h answer
+  check_refused a b kept (NoSpace bad) ready keeps h answer = absurd answer
 
   -- ---- moves by the plan
 
