@@ -1,6 +1,13 @@
 mod AnyLaws
+mod ArrayLaws
 mod BlankLaws
 mod FileLaws
+mod GoneLaws
+mod HomeLaws
+mod MoveSteps
 mod PathSteps
+mod PlacedLaws
+mod SettleSteps
 mod VolumeLaws
 mod VolumeSteps
+mod WantLaws

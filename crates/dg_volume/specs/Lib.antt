@@ -1,4 +1,5 @@
 pub mod Phases
+pub mod Planned
 pub mod Replies
 pub mod Settles
 pub mod Volumes
