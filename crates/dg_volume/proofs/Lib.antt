@@ -1,5 +1,7 @@
 mod BlankLaws
+mod FileAnswers
 mod FileLaws
 mod PathSteps
+mod SettledSteps
 mod VolumeLaws
 mod VolumeSteps
