@@ -111,11 +111,11 @@ at_found front needs (Ok a) f v = record {
 
 at_read : (l n : ℕ) (path : List ℕ) (v : Volume) (needs : List ℕ) (geometry : Result Geometry PathRefusal)
     → Follows
-      (record { value = (on_ok geometry (λ g. look_from g (names_of path) 2) v).value; needs = needs ++ (on_ok geometry (λ g. look_from g (names_of path) 2) v).needs })
-      (record {
-        value = (on_ok geometry (λ g. and_then (look_from g (names_of path) 2) (λ found. contents_of g found.1)) v).value;
-        needs = needs ++ (on_ok geometry (λ g. and_then (look_from g (names_of path) 2) (λ found. contents_of g found.1)) v).needs;
-      })
+    (record { value = (on_ok geometry (λ g. look_from g (names_of path) 2) v).value; needs = needs ++ (on_ok geometry (λ g. look_from g (names_of path) 2) v).needs })
+    (record {
+      value = (on_ok geometry (λ g. and_then (look_from g (names_of path) 2) (λ found. contents_of g found.1)) v).value;
+      needs = needs ++ (on_ok geometry (λ g. and_then (look_from g (names_of path) 2) (λ found. contents_of g found.1)) v).needs;
+    })
 unfolding and_then bind
 at_read l n path v needs (Err r) = record { more = []; needs = sym (append-nil (needs ++ [])); refused = λ refusal e. (err_on e, refl) }
 at_read l n path v needs (Ok g) = at_found needs ((look_from g (names_of path) 2 v).needs) ((look_from g (names_of path) 2 v).value) (λ found. contents_of g found.1) v

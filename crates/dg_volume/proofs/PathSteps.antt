@@ -21,6 +21,7 @@ use Rattle.ufs_model.specs.Blocks.{Reading}
 use Rattle.ufs_model.specs.Listings.{Listed, ls_of}
 use Rattle.ufs_model.specs.Paths.{cat_of}
 use Rattle.ufs_model.specs.Readings.{ReadsAs}
+use Rattle.ufs_model.specs.Trees.{file_of}
 use Rattle.ufs_model.specs.declared.reads.PathRefusal.{PathRefusal}
 use Rattle.ufs_model.specs.declared.reads.PathRefusal.TheVariants.{NotFound as RefusedNotFound, NotDirectory as RefusedNotDirectory, NotRegular as RefusedNotRegular, Bad as RefusedBad}
 use Rattle.ufs_path.specs.Answers.{IsAnswer}
@@ -90,6 +91,11 @@ module _ {S R : Type 0} (phase : phases.Ghosts S) (rack : Ghosts R) where
     ),
     refl,
   ))
+
+  -- what the blocks of the volume say of the file at a path
+  pub has_file : (path : List ℕ) (a b : Volume S R) (i : ℕ) → (Tells rack b → Tells rack a)
+      → (Tells rack b → (V : List (List ℕ)) → stores.StandsFor rack a.store V → (file_of (shape_of a).l (shape_of a).n path V).value ≡ Ok i) → HasFileAt phase rack a path b i
+  has_file path a b i back is state stands told = let all = stands.holds (back told) in is told state.blocks all.array
 
   -- the rest of the state once file i was given whole
   abbrev touched_rest : Volume S R → ℕ → State → State

@@ -51,11 +51,11 @@ module _ {stands : blocks.Volume → Type 0} {tells : Type 0} {before after : �
 module _ {S R : Type 0} (phase : phases.Ghosts S) (rack : Ghosts R) where
   -- what is read of all directories
   abbrev pub Walks : Volume S R → Volume S R → Option (Result (List Listed) PathRefusal) → Type 0
-  Walks a b answer = ReadsBy rack (tree_of (shape_of a).l (shape_of a).n) a b answer
+  Walks a b answer = ReadsBy phase rack (tree_of (shape_of a).l (shape_of a).n) a b answer
 
   -- and of the inode of a file
   abbrev pub Finds : List ℕ → Volume S R → Volume S R → Option (Result ℕ PathRefusal) → Type 0
-  Finds path a b answer = ReadsBy rack (file_of (shape_of a).l (shape_of a).n path) a b answer
+  Finds path a b answer = ReadsBy phase rack (file_of (shape_of a).l (shape_of a).n path) a b answer
 
   -- ---- all directories
 

@@ -77,7 +77,7 @@ impl<S: InPhase, R: Rack> Volume<S, R> {
         ensures stays { StaysUnlessFailed result (O.faults out.old) (O.faults out.new) }
         ensures steps { AnswersCat O.took O.took_part O.faults out.old out.new (shape_of self.old).l
             (λ reply. StepsBy S.InPhase S.InPhase R.Rack (touched_by (phase_of S.InPhase self.old) (given_of self.new))
-                self.old (Event.Cat path.now) reply self.new)
+            self.old (Event.Cat path.now) reply self.new)
             (λ reply. StepsTo S.InPhase S.InPhase R.Rack self.old (Event.Cat path.now) reply self.new) result }
         ensures inode { TellsInode (HasFileAt S.InPhase R.Rack self.old path.now self.new) (given_of self.old) (given_of self.new) result }
     {

@@ -81,11 +81,7 @@ fn home_in(homes: &Homes, copies: &Homes, inode: u32) -> HomeAnswer
 
 impl<S: InPhase, R: Rack> Volume<S, R> {
     /// Hands on all entries of a settled volume but `.` and `..`.
-    fn list_all<O: Listing>(
-        &mut self,
-        alloc: Global,
-        out: &mut O,
-    ) -> Result<CatAnswer, NoMemory>
+    fn list_all<O: Listing>(&mut self, alloc: Global, out: &mut O) -> Result<CatAnswer, NoMemory>
         requires well { IsWell S.InPhase R.Rack self.old }
         requires settled { phase_of S.InPhase self.old ≡ Phase.Settled }
         ensures leaves { Leaves S.InPhase S.InPhase R.Rack self.old self.new }
@@ -122,11 +118,7 @@ impl<S: InPhase, R: Rack> Volume<S, R> {
 impl<R: Rack> Volume<Settled, R> {
     /// Hands on all entries of the volume but `.` and `..`, depth first, each directory's in its order. All are consulted before the first
     /// is handed on. Where there is no memory some entries may have been handed on.
-    pub fn tree<O: Listing>(
-        &mut self,
-        alloc: Global,
-        out: &mut O,
-    ) -> Result<CatAnswer, NoMemory>
+    pub fn tree<O: Listing>(&mut self, alloc: Global, out: &mut O) -> Result<CatAnswer, NoMemory>
         requires well { IsWell settled_phase R.Rack self.old }
         ensures leaves { Leaves settled_phase settled_phase R.Rack self.old self.new }
         ensures later { O.faults out.old ≤ O.faults out.new }
@@ -151,11 +143,7 @@ impl<R: Rack> Volume<Settled, R> {
 
 impl<R: Rack> Volume<AnyPhase, R> {
     /// Hands on all entries of the volume but `.` and `..`, as the `tree` of a settled one does, where it is settled.
-    pub fn tree<O: Listing>(
-        &mut self,
-        alloc: Global,
-        out: &mut O,
-    ) -> Result<TreeAnswer, NoMemory>
+    pub fn tree<O: Listing>(&mut self, alloc: Global, out: &mut O) -> Result<TreeAnswer, NoMemory>
         requires well { IsWell any_phase R.Rack self.old }
         ensures leaves { Leaves any_phase any_phase R.Rack self.old self.new }
         ensures later { O.faults out.old ≤ O.faults out.new }
