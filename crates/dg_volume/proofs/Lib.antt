@@ -3,6 +3,7 @@ mod BlankLaws
 mod FileAnswers
 mod FileLaws
 mod PathSteps
+mod ReplaceSteps
 mod SettledSteps
 mod VolumeLaws
 mod VolumeSteps

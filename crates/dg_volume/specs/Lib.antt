@@ -1,4 +1,5 @@
 pub mod Phases
+pub mod Refills
 pub mod Replies
 pub mod Settles
 pub mod Volumes
