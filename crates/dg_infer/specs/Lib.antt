@@ -9,6 +9,7 @@ pub mod Fits
 pub mod Inferences
 pub mod Known
 pub mod Meanings
+pub mod Moves
 pub mod Seen
 pub mod Spots
 pub mod Sweeps
