@@ -4,3 +4,4 @@ mod FileLaws
 mod PathSteps
 mod VolumeLaws
 mod VolumeSteps
+mod WriteSteps

@@ -13,7 +13,6 @@ mod tests;
 mod volumes;
 mod writes;
 
-pub use any::WriteAnswer;
 pub use dg_model::{NoMemory, Phase, Who};
 pub use dg_store::{Boundary, Shape};
 pub use phases::{AnyPhase, InPhase, Loose, Settled, Worn};
@@ -21,4 +20,4 @@ pub use queries::WhoAnswer;
 pub use settles::{TendRun, Unsettled};
 pub use ufs_path::{CatAnswer, Listing};
 pub use volumes::{FailAnswer, ReadAnswer, Volume};
-pub use writes::Wrote;
+pub use writes::{WriteAnswer, Wrote};
