@@ -378,24 +378,31 @@ module _ {S R : Type 0} (phase : phases.Ghosts S) (rack : Ghosts R) where
         let done = on_plan (λ f t. IsTended f limit t (table_of b) m l) is in (
           state_of phase rack b rest V,
           moved_in a b rest V label run.moves holds,
-          (ready.whole, inr (not_settled a ready, live, record {
-            wants = run.plan.wants;
-            found = run.plan.planned.found;
-            planned = plan_at rest V holds;
-            goes = moved_goes a b rest V label run.moves;
-            rest = λ i. record rest {
-              table = done.table i;
-              blocks = V;
-              pending = marks_moved a b run.moves i;
-              homes = homes i;
-              copies = run.moves.copies i;
-              phase = phase.phase (run.moves.phase_is i);
-              members = members_of b;
-              counts = rack.counts (rack_of b);
-            };
-            met = done.met;
-            left = done.left;
-          })),
+          (
+            ready.whole,
+            inr (
+              not_settled a ready,
+              live,
+              record {
+                wants = run.plan.wants;
+                found = run.plan.planned.found;
+                planned = plan_at rest V holds;
+                goes = moved_goes a b rest V label run.moves;
+                rest = λ i. record rest {
+                  table = done.table i;
+                  blocks = V;
+                  pending = marks_moved a b run.moves i;
+                  homes = homes i;
+                  copies = run.moves.copies i;
+                  phase = phase.phase (run.moves.phase_is i);
+                  members = members_of b;
+                  counts = rack.counts (rack_of b);
+                };
+                met = done.met;
+                left = done.left;
+              },
+            ),
+          ),
           refl,
         ))
 
@@ -406,23 +413,29 @@ module _ {S R : Type 0} (phase : phases.Ghosts S) (rack : Ghosts R) where
         → Step (Tells rack b) (state_of phase rack a rest V) Settle SettledReply (record (state_of phase rack b rest V) { phase = SettledPhase })
     settle_step ready check homes live is rest V label holds =
         let done = on_plan (λ f t. table_of b ≡ moved f None t) is in
-        let next = record (state_of phase rack b rest V) { phase = SettledPhase } in
-        (ready.whole, inr (not_settled a ready, live, record {
-          wants = run.plan.wants;
-          found = run.plan.planned.found;
-          planned = plan_at rest V holds;
-          goes =
-              goes_plain (state_of phase rack a rest V) next label label run.moves.array.leaves.keeps.stays.rise run.moves.array.leaves.keeps.falls
-              run.moves.array.leaves.sound.paired;
-          sound = sound_in a b kept V run.keeps check (held_at V holds);
-          rest = λ i. record rest {
-            table = done i;
-            blocks = V;
-            pending = marks_moved a b run.moves i;
-            homes = homes i;
-            copies = run.moves.copies i;
-            phase = SettledPhase;
-            members = members_of b;
-            counts = rack.counts (rack_of b);
-          };
-        }))
+        let next = record (state_of phase rack b rest V) { phase = SettledPhase } in (
+          ready.whole,
+          inr (
+            not_settled a ready,
+            live,
+            record {
+              wants = run.plan.wants;
+              found = run.plan.planned.found;
+              planned = plan_at rest V holds;
+              goes =
+                  goes_plain (state_of phase rack a rest V) next label label run.moves.array.leaves.keeps.stays.rise run.moves.array.leaves.keeps.falls
+                  run.moves.array.leaves.sound.paired;
+              sound = sound_in a b kept V run.keeps check (held_at V holds);
+              rest = λ i. record rest {
+                table = done i;
+                blocks = V;
+                pending = marks_moved a b run.moves i;
+                homes = homes i;
+                copies = run.moves.copies i;
+                phase = SettledPhase;
+                members = members_of b;
+                counts = rack.counts (rack_of b);
+              };
+            },
+          ),
+        )

@@ -40,8 +40,8 @@ none_on s (x ∷ xs) none =
 off_table : (table : Table) (b s : ℕ) → IsTable table → table.shape.b ≤ s → is_on table b s ≡ false
 off_table table b s is past =
     ap (nat_lt 0) (none_on s (sites_in table b) (λ site here on.
-      let low = is.boundaries b site.boundary site.slot here in
-      absurd (omega (arith, low, past, on))))
+    let low = is.boundaries b site.boundary site.slot here in
+    absurd (omega (arith, low, past, on))))
 
 -- ---- numbers of placements
 
@@ -53,10 +53,10 @@ one_each false = omega arith
 pub few_missing : (targets : ℕ → ℕ → Bool) (table : Table) → IsShape table.shape → missing_in targets table ≤ 2 ^ 32 - 1
 few_missing targets table shape =
     let row : (b : ℕ) → count_upto table.shape.b (is_missing targets table b) ≤ table.shape.b * 1 =
-        λ b. sum_le_most (λ s. cond (is_missing targets table b s) 1 0) table.shape.b 1 (λ s low. one_each (is_missing targets table b s)) in
+    λ b. sum_le_most (λ s. cond (is_missing targets table b s) 1 0) table.shape.b 1 (λ s low. one_each (is_missing targets table b s)) in
     let all : missing_in targets table ≤ table.shape.n * 16 =
-        sum_le_most (λ b. count_upto table.shape.b (is_missing targets table b)) table.shape.n 16
-        (λ b low. let most = shape.most_boundaries in omega (arith, row b, most)) in
+    sum_le_most (λ b. count_upto table.shape.b (is_missing targets table b)) table.shape.n 16
+    (λ b low. let most = shape.most_boundaries in omega (arith, row b, most)) in
     let blocks = shape.most_blocks in
     omega (arith, all, blocks)
 

@@ -1,5 +1,5 @@
 -- A volume whose blocks are put in their places, and which is settled by that.
-use Rattle.std.proofs.Common.{◌≡◌, ◌∙◌, ◌<◌, ◌≤◌, ◌+◌, ◌-◌, ◌^◌, min, ℕ, Bool, true, false, List, [], length, refl, sym, ap, subst, arith}
+use Rattle.std.proofs.Common.{◌≡◌, ◌∙◌, ◌<◌, ◌≤◌, ◌/◌, ◌+◌, ◌-◌, ◌^◌, min, ℕ, Bool, true, false, List, [], length, refl, sym, ap, subst, arith}
 use Rattle.std.specs.Prelude.{Option, Some, None, All, IfSome}
 use Rattle.dg_infer.specs.Meanings.{KeptInference}
 use Rattle.dg_infer.specs.Meanings as inferences
@@ -28,7 +28,7 @@ use Rattle.dg_volume.proofs.MoveSteps.{HasMoved, HasRun, IsChecked, IsReady, Kee
 use Rattle.dg_volume.proofs.PlacedLaws.{are_placed, few_missing}
 use Rattle.dg_volume.specs.Planned.{HasPlan, IsPutInPlace}
 use Rattle.dg_volume.specs.Settles.{GoesBy}
-use Rattle.dg_volume.specs.Volumes.{FitsArray, IsInPlace, IsWell, Leaves, StandsFor, StandsIn, StepsTo, Tells, marks_by, marks_of, members_of, rack_of, shape_of, state_of, table_of}
+use Rattle.dg_volume.specs.Volumes.{FitsArray, IsInPlace, IsWell, Leaves, StandsFor, StepsTo, Tells, marks_by, marks_of, members_of, rack_of, shape_of, state_of, table_of}
 use Rattle.dg_volume.specs.declared.phases.InPhase as phases
 use Rattle.dg_volume.specs.declared.volumes.Volume.{Volume}
 
@@ -60,14 +60,14 @@ module _ {S R : Type 0} (phase : phases.Ghosts S) (rack : Ghosts R) where
     right_on : (V : List (List ℕ)) → IfSome (phase.kept a.phase) (λ inference. inferences.StandsFor inference V → AreWants (shape_of b).l (shape_of b).n V run.plan.wants)
     right_on V =
         let right : inferences.StandsFor kept V → AreWants (shape_of b).l (shape_of b).n V run.plan.wants =
-            λ held. subst (λ (x : Shape). AreWants x.l x.n V run.plan.wants) (sym shape_on) (wants_right phase rack a kept run.plan.wants V run.keeps run.plan.wanted held) in
+        λ held. subst (λ (x : Shape). AreWants x.l x.n V run.plan.wants) (sym shape_on) (wants_right phase rack a kept run.plan.wants V run.keeps run.plan.wanted held) in
         subst (λ (k : Option KeptInference). IfSome k (λ inference. inferences.StandsFor inference V → AreWants (shape_of b).l (shape_of b).n V run.plan.wants))
         (sym run.keeps.is) right
 
     placed_on : b.homes ≡ homes_of targets → b.copies ≡ [] → IsAtTargets (wants_of targets) (table_of b) → IsPlaced run.plan.wants (table_of b) b.homes b.copies
     placed_on homes copies at =
         let placed =
-            are_placed (shape_of a) run.plan.wants targets run.plan.rules (table_of b) run.moves.array.leaves.sound.table shape_on run.plan.wanted.fit.size at in
+        are_placed (shape_of a) run.plan.wants targets run.plan.rules (table_of b) run.moves.array.leaves.sound.table shape_on run.plan.wanted.fit.size at in
         subst (λ (x : List Home). IsPlaced run.plan.wants (table_of b) b.homes x) (sym copies)
         (subst (λ (x : List Home). IsPlaced run.plan.wants (table_of b) x []) (sym homes) placed)
 
@@ -88,4 +88,84 @@ module _ {S R : Type 0} (phase : phases.Ghosts S) (rack : Ghosts R) where
       steps =
           settle_step phase rack a kept targets mid b run ready check (homes ∙ run.plan.planned.same_homes) live
           (is.table ∙ ap (all_done (stores.table_of mid)) all);
+    }
+
+-- ---- the settled volume
+
+settled_not_loose : SettledPhase ≡ LoosePhase → ⊥
+settled_not_loose e = absurd (cc e)
+
+settled_not_worn : SettledPhase ≡ WornPhase → ⊥
+settled_not_worn e = absurd (cc e)
+
+module _ {S T R : Type 0} (from : phases.Ghosts S) (to : phases.Ghosts T) (rack : Ghosts R) where
+  -- the volume in another phase
+  abbrev pub in_phase : Volume S R → T → Volume T R
+  in_phase volume phase = record {
+    store = volume.store;
+    phase = phase;
+    pending = volume.pending;
+    homes = volume.homes;
+    copies = volume.copies;
+    levels = volume.levels;
+    given = volume.given;
+  }
+
+  -- that is Settled, and what is inferred is kept
+  pub record IsSettledPhase (volume : Volume S R) (phase : T) : Type 0 where
+    pub phase_is : to.phase phase ≡ SettledPhase
+    pub kept_is : to.kept phase ≡ from.kept volume.phase
+
+  module _ (a b : Volume S R) (phase : T) (is : IsSettledPhase b phase) (left : Leaves from from rack a b) (put : IsPutInPlace from rack a b) where
+    settled_well : IsWell to rack (in_phase b phase)
+    settled_well = record {
+      array = left.well.array;
+      levels = left.well.levels;
+      marks = subst (λ (k : Option KeptInference). length (marks_by k b.pending.items) ≡ (shape_of b).n) (sym is.kept_is) left.well.marks;
+      inferred = subst (λ (k : Option KeptInference). IfSome k (FitsArray (shape_of b))) (sym is.kept_is) left.well.inferred;
+      homes_are = left.well.homes_are;
+      copies_are = left.well.copies_are;
+      loose = λ loose. absurd (settled_not_loose (sym is.phase_is ∙ loose));
+      worn = λ worn. absurd (settled_not_worn (sym is.phase_is ∙ worn));
+      settled = λ settled.
+          subst (λ (k : Option KeptInference). IsInPlace (table_of b) k b.homes b.copies) (sym (ap from.kept put.phase_is) ∙ sym is.kept_is) put.placed;
+    }
+
+    told_first : Tells rack b → Tells rack a
+    told_first told q below = left.tells q (told q (subst (λ (s : Shape). q / 2 < s.b) (sym left.shape) below))
+
+    settled_stands : (V : List (List ℕ)) → (Tells rack a → StandsFor from rack a V) → Tells rack b → StandsFor to rack (in_phase b phase) V
+    settled_stands V holds told =
+        let held = put.stands V told (holds (told_first told)) in
+        record { array = held.array; inferred = subst (λ (k : Option KeptInference). IfSome k (λ kept. inferences.StandsFor kept V)) (sym is.kept_is) held.inferred }
+
+    settled_state : (rest : State) (V : List (List ℕ)) → record (state_of from rack b rest V) { phase = SettledPhase } ≡ state_of to rack (in_phase b phase) rest V
+    settled_state rest V = λ i. record rest {
+      table = table_of b;
+      blocks = V;
+      pending = marks_by (sym is.kept_is i) b.pending.items;
+      homes = b.homes;
+      copies = b.copies;
+      phase = sym is.phase_is i;
+      members = members_of b;
+      counts = rack.counts (rack_of b);
+    }
+
+    settled_steps : StepsTo from to rack a Settle SettledReply (in_phase b phase)
+    settled_steps state st =
+        let next = state_of to rack (in_phase b phase) state state.blocks in
+        let step =
+        subst (λ (x : State). Step (Tells rack b) (state_of from rack a state state.blocks) Settle SettledReply x) (settled_state state state.blocks)
+        (put.steps state state.blocks st.label st.holds) in (
+          next,
+          record { is = refl; label = st.label; holds = settled_stands state.blocks st.holds },
+          subst (λ (x : State). Step (Tells rack b) x Settle SettledReply next) (sym st.is) step,
+          refl,
+        )
+
+    -- the volume is settled by that
+    pub goes_settled : GoesBy from to rack a Settle SettledReply (in_phase b phase)
+    goes_settled = record {
+      leaves = record { well = settled_well; shape = left.shape; tells = left.tells; same_rack = left.same_rack };
+      steps = settled_steps;
     }

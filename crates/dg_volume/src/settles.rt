@@ -56,7 +56,13 @@ impl<S: InPhase, R: Rack> Volume<S, R> {
         let Some(inference) = self.phase.inference() else {
             unreachable!();
         };
-        match planned(alloc, &mut self.store, &mut self.levels, inference, &self.homes)? {
+        match planned(
+            alloc,
+            &mut self.store,
+            &mut self.levels,
+            inference,
+            &self.homes,
+        )? {
             PlanAnswer::Lost(lost) => Ok(TendRun::Lost(lost)),
             PlanAnswer::NoSpace(bad) => Ok(TendRun::NoSpace(bad)),
             PlanAnswer::Found(targets) => match tend(&mut self.store, &targets, limit)? {
@@ -67,10 +73,7 @@ impl<S: InPhase, R: Rack> Volume<S, R> {
     }
 
     /// Checks a loose volume, and puts each block in its place by the plan.
-    pub(crate) fn put_in_place(
-        &mut self,
-        alloc: Global,
-    ) -> Result<Result<(), Unsettled>, NoMemory>
+    pub(crate) fn put_in_place(&mut self, alloc: Global) -> Result<Result<(), Unsettled>, NoMemory>
         requires well { IsWell S.InPhase R.Rack self.old }
         requires loose { S.phase self.old.phase ≡ Phase.Loose }
         ensures leaves { Leaves S.InPhase S.InPhase R.Rack self.old self.new }
@@ -90,7 +93,13 @@ impl<S: InPhase, R: Rack> Volume<S, R> {
         if let Err(unsettled) = checked(alloc, &mut self.store, &mut self.levels, inference)? {
             return Ok(Err(unsettled));
         }
-        match planned(alloc, &mut self.store, &mut self.levels, inference, &self.homes)? {
+        match planned(
+            alloc,
+            &mut self.store,
+            &mut self.levels,
+            inference,
+            &self.homes,
+        )? {
             PlanAnswer::Lost(lost) => Ok(Err(Unsettled::Lost(lost))),
             PlanAnswer::NoSpace(bad) => Ok(Err(Unsettled::NoSpace(bad))),
             PlanAnswer::Found(targets) => match tend(&mut self.store, &targets, u32::MAX)? {
