@@ -13,5 +13,6 @@ pub mod SweepLaws
 pub mod TargetLaws
 pub mod VerdictLaws
 pub mod VolumeLaws
+pub mod WantLaws
 pub mod WatchLaws
 pub mod WriteLaws
