@@ -75,6 +75,7 @@ module _ {S R : Type 0} (phase : phases.Ghosts S) (rack : Ghosts R) where
         inferred = subst (λ (p : S). IfSome (phase.kept p) (FitsArray (shape_of b))) (sym keeps.beside.phase_is) fits;
         homes_are = subst (λ (x : List Home). AreHomes (shape_of b) x) (sym keeps.beside.homes) homes;
         copies_are = subst (λ (x : List Home). AreHomes (shape_of b) x) (sym keeps.beside.copies) copies;
+        loose = λ loose. keeps.beside.copies ∙ well.loose (ap phase.phase (sym keeps.beside.phase_is) ∙ loose);
         worn = λ worn.
             let lost = lost_on (shape_of a) (members_of a) (members_of b) keeps.back (well.worn (ap phase.phase (sym keeps.beside.phase_is) ∙ worn)) in
             ap (λ (x : Shape). has_lost x (members_of b)) shape ∙ lost;

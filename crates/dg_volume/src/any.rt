@@ -9,6 +9,7 @@ use crate::phases::{AnyPhase, InPhase};
 use crate::settles::{TendRun, Unsettled};
 use crate::volumes::Volume;
 use dg_io::{NoMemory, Rack};
+use dg_model::Phase;
 use std::alloc::Global;
 
 /// What became of a write.
@@ -73,7 +74,17 @@ impl<R: Rack> Volume<AnyPhase, R> {
         ensures steps { IfOk result (λ answer. StepsTo any_phase any_phase R.Rack self.old Event.Settle (settle_reply answer) self.new) }
         ensures err { OnErr result (KeepsArray R.Rack self.old self.new) }
     {
-        Err(NoMemory)
+        if self.phase.phase() != Phase::Loose {
+            return match self.store.least_lost() {
+                Some(lost) => Ok(Err(Unsettled::Lost(lost))),
+                None => Ok(Ok(())),
+            };
+        }
+        if let Err(unsettled) = self.put_in_place(alloc)? {
+            return Ok(Err(unsettled));
+        }
+        self.phase.settle();
+        Ok(Ok(()))
     }
 
     /// Meets at most `limit` missing placements of the plan. A settled volume has none.
@@ -83,6 +94,12 @@ impl<R: Rack> Volume<AnyPhase, R> {
         ensures steps { IfOk result (λ answer. StepsTo any_phase any_phase R.Rack self.old (Event.Tend limit) (tend_reply answer) self.new) }
         ensures err { OnErr result (KeepsArray R.Rack self.old self.new) }
     {
-        Err(NoMemory)
+        if self.phase.phase() != Phase::Loose {
+            return match self.store.least_lost() {
+                Some(lost) => Ok(TendRun::Lost(lost)),
+                None => Ok(TendRun::Tended { moved: 0, left: 0 }),
+            };
+        }
+        self.tend_loose(alloc, limit)
     }
 }

@@ -6,6 +6,7 @@
 mod any;
 mod paths;
 mod phases;
+mod plans;
 mod queries;
 mod refills;
 mod settled_paths;
