@@ -16,7 +16,7 @@ use Rattle.dg_volume.specs.Volumes.{IsBlankVolume, StandsIn, loose_phase, member
 use Rattle.dg_volume.specs.declared.phases.Loose.{Loose}
 use Rattle.dg_volume.specs.declared.volumes.Volume.{Volume}
 
-no_homes : (shape : Shape) → AreHomes shape []
+pub no_homes : (shape : Shape) → AreHomes shape []
 no_homes shape = search rules
 
 -- What is inferred of a blank volume, and that it has no homes.

@@ -14,3 +14,4 @@ mod SettledSteps
 mod VolumeLaws
 mod VolumeSteps
 mod WantLaws
+mod WriteSteps

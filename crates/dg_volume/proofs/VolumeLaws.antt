@@ -24,7 +24,7 @@ use Rattle.dg_volume.specs.Volumes.{FitsArray, IsInPlace, IsWell, Leaves, Stands
 use Rattle.dg_volume.specs.declared.phases.InPhase as phases
 use Rattle.dg_volume.specs.declared.volumes.Volume.{Volume}
 
-lost_on : (shape : Shape) (old new : ℕ → MemberState) → NoneRecovers old new → has_lost shape old ≡ true → has_lost shape new ≡ true
+pub lost_on : (shape : Shape) (old new : ℕ → MemberState) → NoneRecovers old new → has_lost shape old ≡ true → has_lost shape new ≡ true
 lost_on shape old new back lost =
     let found = has_lost_from shape old lost in
     has_lost_at shape new found.0 found.1 (lost_stays old new found.0 back found.2)

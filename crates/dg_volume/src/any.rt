@@ -1,9 +1,8 @@
 // A volume whose phase is told only when the program runs. Its calls that change the phase do so in place.
-ghost use Rattle.std.specs.Prelude.{◌≡◌, IfOk, OnErr, length};
+ghost use Rattle.std.specs.Prelude.{IfOk, OnErr};
 ghost use Rattle.dg_model.specs.declared.events.Event.{Event};
 ghost use Rattle.dg_volume.specs.Settles.{KeepsArray, settle_reply, tend_reply};
-ghost use Rattle.dg_volume.specs.Volumes.{IsSame, IsWell, Leaves, StepsTo, any_phase, shape_of};
-ghost use Rattle.dg_volume.specs.Writes.{WritesTo, write_reply};
+ghost use Rattle.dg_volume.specs.Volumes.{IsSame, IsWell, Leaves, StepsTo, any_phase};
 
 use crate::phases::{AnyPhase, InPhase};
 use crate::settles::{TendRun, Unsettled};
@@ -11,17 +10,6 @@ use crate::volumes::Volume;
 use dg_io::{NoMemory, Rack};
 use dg_model::Phase;
 use std::alloc::Global;
-
-/// What became of a write.
-#[derive(Clone, Copy, Debug, PartialEq, Eq)]
-pub enum WriteAnswer {
-    /// The block was written.
-    Written,
-    /// There is no such block. Nothing has changed.
-    Range,
-    /// A boundary was lost before, or all sites of the block were lost in this call. Nothing was written.
-    Degraded,
-}
 
 impl<S: InPhase + Drop, R: Rack> Volume<S, R> {
     /// The same volume, whose phase is told only when the program runs.
@@ -51,22 +39,6 @@ impl<S: InPhase + Drop, R: Rack> Volume<S, R> {
 }
 
 impl<R: Rack> Volume<AnyPhase, R> {
-    /// Writes a block of L bytes to its sites, and follows what blocks belong to. After want of memory the volume is loose, and it isn't
-    /// known what its blocks belong to.
-    pub fn write_block(
-        &mut self,
-        alloc: Global,
-        block: u32,
-        buf: &[u8],
-    ) -> Result<WriteAnswer, NoMemory>
-        requires well { IsWell any_phase R.Rack self.old }
-        requires size { length buf.now ≡ (shape_of self.old).l }
-        ensures leaves { Leaves any_phase any_phase R.Rack self.old self.new }
-        ensures steps { IfOk result (λ answer. WritesTo any_phase any_phase R.Rack self.old block buf.now (write_reply answer) self.new) }
-    {
-        Err(NoMemory)
-    }
-
     /// Checks the volume, and puts each block in its place by the plan. A settled one stays as it is.
     pub fn settle(&mut self, alloc: Global) -> Result<Result<(), Unsettled>, NoMemory>
         requires well { IsWell any_phase R.Rack self.old }

@@ -16,7 +16,6 @@ mod tests;
 mod volumes;
 mod writes;
 
-pub use any::WriteAnswer;
 pub use dg_model::{NoMemory, Phase, Who};
 pub use dg_store::{Boundary, Shape};
 pub use phases::{AnyPhase, InPhase, Loose, Settled, Worn};
@@ -26,4 +25,4 @@ pub use settled_paths::{AnyHome, HomeAnswer, TreeAnswer};
 pub use settles::{TendRun, Unsettled};
 pub use ufs_path::{CatAnswer, Listing, LookFault};
 pub use volumes::{FailAnswer, ReadAnswer, Volume};
-pub use writes::Wrote;
+pub use writes::{WriteAnswer, Wrote};
