@@ -13,5 +13,6 @@ pub mod Moves
 pub mod Seen
 pub mod Spots
 pub mod Sweeps
+pub mod Wants
 pub mod Watches
 pub mod Writes
