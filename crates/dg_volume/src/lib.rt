@@ -14,6 +14,8 @@ mod settles;
 #[cfg(test)]
 mod tests;
 mod volumes;
+#[cfg(test)]
+mod write_tests;
 mod writes;
 
 pub use dg_model::{NoMemory, Phase, Who};
