@@ -8,6 +8,8 @@ mod paths;
 mod phases;
 mod plans;
 mod queries;
+#[cfg(test)]
+mod settle_tests;
 mod settles;
 #[cfg(test)]
 mod tests;
