@@ -9,6 +9,8 @@ mod phases;
 mod plans;
 mod queries;
 mod refills;
+#[cfg(test)]
+mod settle_tests;
 mod settled_paths;
 mod settles;
 #[cfg(test)]
