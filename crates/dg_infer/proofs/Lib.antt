@@ -15,4 +15,5 @@ pub mod VerdictLaws
 pub mod VolumeLaws
 pub mod WantLaws
 pub mod WatchLaws
+pub mod WholeLaws
 pub mod WriteLaws

@@ -13,7 +13,7 @@ ghost use Rattle.dg_claims.specs.Tables.{accepted};
 ghost use Rattle.dg_infer.specs.Bounds.{FetchesFollowing, FetchesKept, FetchesReread};
 ghost use Rattle.dg_infer.specs.Meanings.{StandsFor};
 ghost use Rattle.dg_infer.specs.Moves.{Follows, with_pending};
-ghost use Rattle.dg_infer.specs.Writes.{IsKnownWhole, IsKnownWrite, IsWriteTo, LosesWhole, LosesWritten, LosesWrittenTo};
+ghost use Rattle.dg_infer.specs.Writes.{FetchesWhole, IsKnownWhole, IsKnownWrite, IsWriteTo, LosesWhole, LosesWritten, LosesWrittenTo};
 ghost use Rattle.dg_infer.specs.declared.watches.Touch.{Touch};
 
 use crate::fresh::{Parts, no_marks, no_parts, read_parts, restored_parts};
@@ -134,6 +134,7 @@ impl Inference {
         ensures pending { IfOk result (λ restored. IfSome restored (λ inference. (v : Volume)
             → AreLeft (IsKnownWhole V.View view.old view.new v) (V.size view.old) (V.count view.old) v pending.now inference.pending)) }
         ensures lost { IfOk result (λ restored. IfNone restored (LosesWhole V.View view.old view.new)) }
+        ensures fetched { IfOk result (λ restored. IfSome restored (λ inference. FetchesWhole V.View view.old view.new)) }
     {
         tables_of_volumes();
         let (l, n) = view.shape();
