@@ -11,6 +11,8 @@ mod plans;
 mod queries;
 mod refills;
 mod settled_paths;
+#[cfg(test)]
+mod settle_tests;
 mod settles;
 #[cfg(test)]
 mod tests;
