@@ -17,6 +17,8 @@ mod settles;
 #[cfg(test)]
 mod tests;
 mod volumes;
+#[cfg(test)]
+mod write_tests;
 mod writes;
 
 pub use copies::AnyDiffuse;
