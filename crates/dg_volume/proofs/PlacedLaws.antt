@@ -36,7 +36,7 @@ none_on s (x ∷ xs) none =
     )
 
 -- no block is on a boundary that the array doesn't have
-off_table : (table : Table) (b s : ℕ) → IsTable table → table.shape.b ≤ s → is_on table b s ≡ false
+pub off_table : (table : Table) (b s : ℕ) → IsTable table → table.shape.b ≤ s → is_on table b s ≡ false
 off_table table b s is past =
     ap (nat_lt 0) (none_on s (sites_in table b) (λ site here on.
     let low = is.boundaries b site.boundary site.slot here in

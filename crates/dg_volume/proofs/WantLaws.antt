@@ -6,6 +6,7 @@ use Rattle.std.proofs.lemmas.Bool.{cases_lt, false≢true}
 use Rattle.std.proofs.lemmas.List.{get_or_append_left, get_or_past, get_or_push, length-append}
 use Rattle.dg_infer.specs.Meanings.{KeptInference}
 use Rattle.dg_infer.specs.Meanings as inferences
+use Rattle.dg_infer.specs.Wants.{IsWantBy}
 use Rattle.dg_model.specs.Sites.{has_site}
 use Rattle.dg_model.specs.Tables.{IsTable, Table}
 use Rattle.dg_model.specs.Wants.{IsWant, want_of}
@@ -62,6 +63,10 @@ module _ (table : Table) (kept : KeptInference) where
     };
     are = λ V held b want found. elim (cases_lt b table.shape.n) [
       | inl low ↦ at_want V b (want_of wants b) want (first.each b low) held found
+      | inr past ↦ absurd (no_want want (sym (get_or_past wants b None (let e = first.size in omega (arith, e, past))) ∙ found))
+    ];
+    by = λ b want found. elim (cases_lt b table.shape.n) [
+      | inl low ↦ let right = first.each b low in subst (λ (w : Option Want). IfSome w (IsWantBy kept b)) found right.by
       | inr past ↦ absurd (no_want want (sym (get_or_past wants b None (let e = first.size in omega (arith, e, past))) ∙ found))
     ];
   }

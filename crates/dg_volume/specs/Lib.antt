@@ -1,3 +1,4 @@
+pub mod Copies
 pub mod Phases
 pub mod Planned
 pub mod Refills

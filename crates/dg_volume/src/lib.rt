@@ -4,6 +4,7 @@
 #![tactic(auto)]
 
 mod any;
+mod copies;
 mod paths;
 mod phases;
 mod plans;
@@ -20,11 +21,13 @@ mod volumes;
 mod write_tests;
 mod writes;
 
+pub use copies::AnyDiffuse;
+pub use dg_hot::{DiffuseAnswer, Hot};
 pub use dg_model::{NoMemory, Phase, Who};
 pub use dg_store::{Boundary, Shape};
 pub use phases::{AnyPhase, InPhase, Loose, Settled, Worn};
 pub use queries::WhoAnswer;
-pub use refills::ReplaceAnswer;
+pub use refills::{RebuildAnswer, ReplaceAnswer};
 pub use settled_paths::{AnyHome, HomeAnswer, TreeAnswer};
 pub use settles::{TendRun, Unsettled};
 pub use ufs_path::{CatAnswer, Listing, LookFault};
