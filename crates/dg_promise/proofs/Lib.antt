@@ -1,0 +1,6 @@
+pub mod FragmentLaws
+pub mod DataLaws
+pub mod ReachLaws
+pub mod RoleLaws
+pub mod NeedLaws
+pub mod OwnerLaws

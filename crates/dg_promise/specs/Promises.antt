@@ -1,0 +1,4 @@
+-- x
+use Rattle.std.specs.Prelude.{ℕ}
+abbrev pub some : ℕ
+some = 0
