@@ -4,3 +4,4 @@ pub mod ReachLaws
 pub mod RoleLaws
 pub mod NeedLaws
 pub mod OwnerLaws
+pub mod WalkLaws
