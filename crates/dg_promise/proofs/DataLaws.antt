@@ -37,7 +37,7 @@ below_at test (suc n) all i low =
       | inr ge ↦ let e : n ≡ i = omega arith in subst (λ (k : ℕ). test k ≡ true) e (parts.1)
     ]
 
-fragments_within : (a k f : ℕ) → Contains (fragments_from a k) f → (a ≤ f) × (f < a + k)
+pub fragments_within : (a k f : ℕ) → Contains (fragments_from a k) f → (a ≤ f) × (f < a + k)
 fragments_within a zero f h = absurd (in_none f h)
 fragments_within a (suc k) f h = elim (Contains-append_cases (a ∷ []) (fragments_from (suc a) k) f h) [
   | inl first ↦ let same = in_one a f first in (omega arith, omega arith)
@@ -64,7 +64,7 @@ address_data g a k f h =
 
 -- ---- what a source claims
 
-if_contains : (b : Bool) (xs : List ℕ) (f : ℕ) → Contains (if b then xs else []) f → Contains xs f
+pub if_contains : (b : Bool) (xs : List ℕ) (f : ℕ) → Contains (if b then xs else []) f → Contains xs f
 if_contains true xs f h = h
 if_contains false xs f h = absurd (in_none f h)
 

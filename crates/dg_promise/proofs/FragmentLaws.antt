@@ -139,7 +139,7 @@ two_powers n =
     let one : n ^ 1 ≡ n = pow-suc n 0 ∙ ap (λ k. k * n) none ∙ one-mul n in
     pow-suc n 1 ∙ ap (λ k. k * n) one
 
-pointers_many : (g : Geometry) → IsGeometry g → 1024 ≤ g.nindir
+pub pointers_many : (g : Geometry) → IsGeometry g → 1024 ≤ g.nindir
 pointers_many g is = let many = is.nindir in let low = is.bsize.1 in omega arith
 
 quotient_below : (n m : ℕ) → 1024 ≤ n → m < n ^ 2 → m / n < n

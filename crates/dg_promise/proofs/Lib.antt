@@ -5,3 +5,4 @@ pub mod RoleLaws
 pub mod NeedLaws
 pub mod OwnerLaws
 pub mod WalkLaws
+pub mod LedLaws

@@ -141,3 +141,10 @@ traced g v (by_upper {fragment = f} {upper = u} {at = at} {inode = i} {above = a
       one = one;
       of_level = is;
     }
+
+-- what is claimed through a source is claimed
+pub reached_claim : (g : Geometry) (v : Volume) (source : ClaimSource) (i n f : ℕ) → FirstBlock g v source i n → Contains (source_fragments g v source) f
+    → IsClaim (source_fragments g v) f source
+reached_claim g v source i n f of_slot has = by_slot has
+reached_claim g v source i n f (of_pointer {f = upper} {n = m} {source = other} place before here level above) has =
+    by_pointer (reached_claim g v other i m upper before (contains_got (source_fragments g v other) place upper here)) level above has

@@ -54,7 +54,7 @@ span_by true run a k b j is = let no : Hole ≡ At b j = is in cc
 span_by false true a k b j is = let same : At a k ≡ At b j = is in cc
 span_by false false a k b j is = let no : Wild ≡ At b j = is in cc
 
-address_span : (g : Geometry) (a k b j : ℕ) → address g a k ≡ At b j → j ≡ k
+pub address_span : (g : Geometry) (a k b j : ℕ) → address g a k ≡ At b j → j ≡ k
 unfolding address
 address_span g a k b j is = span_by (a == 0) (is_data_run g a k) a k b j is
 
@@ -63,14 +63,14 @@ slot_by : (g : Geometry) (slot : ℕ) (inode : Inode) (within : Bool) (found : O
 slot_by g slot inode true found is = rw is refl
 slot_by g slot inode false found is = let no : None ≡ Some inode = is in cc
 
-slot_claims : (g : Geometry) (v : Volume) (i slot : ℕ) (inode : Inode) → inode_at g v i ≡ Some inode → has_pointers g inode ≡ true → slot < 15
+pub slot_claims : (g : Geometry) (v : Volume) (i slot : ℕ) (inode : Inode) → inode_at g v i ≡ Some inode → has_pointers g inode ≡ true → slot < 15
     → source_fragments g v (Slot i slot) ≡ fragments_at (slot_address g inode slot)
 unfolding source_fragments slot_fragments
 slot_claims g v i slot inode is pointers low =
     let within : nat_lt slot 15 ≡ true = grind (arith, nat_tests) in
     slot_by g slot inode (is_inode_number g i) ((inode_of g i v).value) is ∙ rw (pointers, within) refl
 
-slot_whole : (g : Geometry) (inode : Inode) (slot : ℕ) → 12 ≤ slot → span g inode slot ≡ g.frag
+pub slot_whole : (g : Geometry) (inode : Inode) (slot : ℕ) → 12 ≤ slot → span g inode slot ≡ g.frag
 unfolding span
 slot_whole g inode slot high = let past : nat_le 12 slot ≡ true = grind (arith, nat_tests) in rw past refl
 
@@ -85,7 +85,7 @@ slot_claimed g v i slot inode is pointers low = record {
 
 -- ---- through an indirect block
 
-pointer_claims : (g : Geometry) (v : Volume) (f level at : ℕ) → at < g.fsize / 4
+pub pointer_claims : (g : Geometry) (v : Volume) (f level at : ℕ) → at < g.fsize / 4
     → source_fragments g v (Pointer f level at) ≡ fragments_at (address g (pointer_in g.endian (block_at g.fsize v f) at) g.frag)
 unfolding source_fragments pointer_fragments
 pointer_claims g v f level at low = let within : nat_lt at (g.fsize / 4) ≡ true = grind (arith, nat_tests) in rw within refl

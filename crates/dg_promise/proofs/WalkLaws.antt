@@ -151,7 +151,7 @@ module _ (g : Geometry) (inode : Inode) (v : Volume) (some : 0 < g.nindir) where
       same_two g v (m % g.nindir ^ 2) (m / g.nindir % g.nindir) (m % g.nindir) next
       (rw (power_one g.nindir) (upper_digit g.nindir m some)) (rw (power_one g.nindir) (lower_digit g.nindir m some)))))
 
-  slot_leads : (slot : ℕ) → slot < 15 → Leads g inode v (slot - 11) (first_block g slot) (slot_address g inode slot)
+  pub slot_leads : (slot : ℕ) → slot < 15 → Leads g inode v (slot - 11) (first_block g slot) (slot_address g inode slot)
   slot_leads slot low = elim (cases_lt slot 12) [
     | inl direct ↦
         let level : slot - 11 ≡ 0 = omega arith in
@@ -169,7 +169,7 @@ module _ (g : Geometry) (inode : Inode) (v : Volume) (some : 0 < g.nindir) where
 
 -- ---- one level down
 
-step_leads : (g : Geometry) (inode : Inode) (v : Volume) (k n p : ℕ) (at : Address) → 0 < g.nindir → p < g.nindir → Leads g inode v (suc k) n at
+pub step_leads : (g : Geometry) (inode : Inode) (v : Volume) (k n p : ℕ) (at : Address) → 0 < g.nindir → p < g.nindir → Leads g inode v (suc k) n at
     → Leads g inode v k (n + p * g.nindir ^ k) ((through g p at v).value)
 unfolding bind descend
 step_leads g inode v k n p at some low leads = leads_by g inode v k (n + p * g.nindir ^ k) ((through g p at v).value) (λ m few.
@@ -187,7 +187,7 @@ step_leads g inode v k n p at some low leads = leads_by g inode v k (n + p * g.n
     })
 
 -- the first of the file blocks needs what its address takes
-first_needs : (g : Geometry) (inode : Inode) (v : Volume) (k n b : ℕ) (at : Address) → 0 < g.nindir → Leads g inode v (suc k) n at
+pub first_needs : (g : Geometry) (inode : Inode) (v : Volume) (k n b : ℕ) (at : Address) → 0 < g.nindir → Leads g inode v (suc k) n at
     → Contains ((through g 0 at v).needs) b → Contains ((file_block_of g inode n v).needs) b
 unfolding bind descend
 first_needs g inode v k n b at some leads h =
@@ -196,3 +196,11 @@ first_needs g inode v k n b at some leads h =
     let here : n + 0 ≡ n = omega arith in
     let index : 0 / g.nindir ^ k ≡ 0 = omega arith in
     subst (λ (x : ℕ). Contains ((file_block_of g inode x v).needs) b) here (leads.needs 0 b whole (rw index (Contains-append_left ((through g 0 at v).needs) _ b h)))
+
+-- at the lowest level the address is that of the file block
+pub first_value : (g : Geometry) (inode : Inode) (v : Volume) (n : ℕ) (at : Address) → Leads g inode v 0 n at → (file_block_of g inode n v).value ≡ at
+unfolding descend
+first_value g inode v n at leads =
+    let none = power_none g.nindir in
+    let here : n + 0 ≡ n = omega arith in
+    sym (ap (λ (m : ℕ). (file_block_of g inode m v).value) here) ∙ leads.value 0 (omega arith)
