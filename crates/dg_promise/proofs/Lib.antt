@@ -6,3 +6,4 @@ pub mod NeedLaws
 pub mod OwnerLaws
 pub mod WalkLaws
 pub mod LedLaws
+pub mod ReadLaws

@@ -63,7 +63,7 @@ needs_unless kind v None d each = each refl
 needs_unless kind v (Some refusal) d each = needs_known kind v (Err refusal)
 
 -- an answer comes of an answer
-then_value : {A B R : Type 0} (d : Reading (Result A R)) (f : A → Reading (Result B R)) (v : Volume) (b : B) → (and_then d f v).value ≡ Ok b
+pub then_value : {A B R : Type 0} (d : Reading (Result A R)) (f : A → Reading (Result B R)) (v : Volume) (b : B) → (and_then d f v).value ≡ Ok b
     → (a : A) × ((d v).value ≡ Ok a) × ((f a v).value ≡ Ok b)
 unfolding and_then bind
 then_value {A} {B} {R} d f v b has = on ((d v).value) refl has
@@ -78,7 +78,7 @@ found_value : (within : Bool) (found : Option Inode) (inode : Inode) → within 
 found_value true found inode is there = there
 found_value false found inode is there = let no : false ≡ true = is in cc
 
-ok_same : {A R : Type 0} (a b : A) → ◌≡◌ {A = Result A R} (Ok a) (Ok b) → a ≡ b
+pub ok_same : {A R : Type 0} (a b : A) → ◌≡◌ {A = Result A R} (Ok a) (Ok b) → a ≡ b
 ok_same a b is = cc
 
 -- the answer of a named inode is the inode
@@ -114,7 +114,7 @@ directory_kind Block is = let no : false ≡ true = is in cc
 directory_kind Socket is = let no : false ≡ true = is in cc
 directory_kind Unknown is = let no : false ≡ true = is in cc
 
-regular_kind : (kind : Kind) → is_regular kind ≡ true → kind ≡ Regular
+pub regular_kind : (kind : Kind) → is_regular kind ≡ true → kind ≡ Regular
 regular_kind Regular is = refl
 regular_kind Directory is = let no : false ≡ true = is in cc
 regular_kind Link is = let no : false ≡ true = is in cc
@@ -242,7 +242,7 @@ module _ (g : Geometry) (v : Volume) (whole : IsWhole g v) (wanted : ℕ → Typ
       needs_then (IsNeededBy g v wanted) v (find_of g inode name) _ (needs_find i inode name has) (λ next is. needs_look names next))
 
   -- where names lead there is an inode
-  look_value : (names : List (List ℕ)) (i : ℕ) (found : ℕ × Inode) → (look_from g names i v).value ≡ Ok found → (named_inode g (found.0) v).value ≡ Ok (found.1)
+  pub look_value : (names : List (List ℕ)) (i : ℕ) (found : ℕ × Inode) → (look_from g names i v).value ≡ Ok found → (named_inode g (found.0) v).value ≡ Ok (found.1)
   unfolding look_from
   look_value [] i found has =
       let step = then_value (named_inode g i) (λ inode. known (Ok (i, inode))) v found has in
