@@ -7,3 +7,5 @@ pub mod OwnerLaws
 pub mod WalkLaws
 pub mod LedLaws
 pub mod ReadLaws
+pub mod VolumeLaws
+pub mod CatLaws

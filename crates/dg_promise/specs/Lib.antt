@@ -1,1 +1,4 @@
+-- Why blocks are needed to read a file.
+pub mod Needed
+-- What a settled array promises of the files of its volume.
 pub mod Promises
