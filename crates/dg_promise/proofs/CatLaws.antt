@@ -101,7 +101,7 @@ owned g v sound i inode file (by_upper {fragment = b} {upper = u} {at = at} {abo
 
 module _ (tame : FilesAreTame) (g : Geometry) (v : Volume) (whole : IsWhole g v) (sound : (kind : BadKind) (number : ℕ) → IsBad g v kind number → ⊥)
     (i : ℕ) (inode : Inode) (there : inode_at g v i ≡ Some inode) (regular : is_regular (kind_of inode.mode) ≡ true) where
-  the_file : IsFile g v i inode
+  pub the_file : IsFile g v i inode
   the_file = record { there = there; pointers = rw (regular_kind (kind_of inode.mode) regular) refl }
 
   is_small : inode.size < 2 ^ 32
@@ -116,10 +116,10 @@ module _ (tame : FilesAreTame) (g : Geometry) (v : Volume) (whole : IsWhole g v)
     pointers = λ f wild. sound WildIn f wild;
   })
 
-  file_read : IsRead (contents_of g inode) v
+  pub file_read : IsRead (contents_of g inode) v
   file_read = contents_read g v inode is_tame regular is_small
 
-  file_needs : (b level : ℕ) → IsOwner (IsClaim (source_fragments g v)) b i level → Contains ((contents_of g inode v).needs) b
+  pub file_needs : (b level : ℕ) → IsOwner (IsClaim (source_fragments g v)) b i level → Contains ((contents_of g inode v).needs) b
   file_needs b level owner =
       let one = owned g v sound i inode the_file owner in
       contents_need g v inode is_tame regular is_small one.first b one.low (reached_needed g v whole i inode the_file one.source one.first b one.reaches one.has)

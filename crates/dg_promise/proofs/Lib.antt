@@ -9,3 +9,4 @@ pub mod LedLaws
 pub mod ReadLaws
 pub mod VolumeLaws
 pub mod CatLaws
+pub mod PathLaws

@@ -143,6 +143,34 @@ inode_needs g v i b h = in_one (inode_block g i) b h
 number_below : (g : Geometry) (i : ℕ) → is_inode_number g i ≡ true → i < g.ncg * g.ipg
 number_below g i is = grind (arith, nat_tests)
 
+-- ---- what is named
+
+module _ (g : Geometry) (v : Volume) where
+  named_by : (i : ℕ) (inode : Inode) (within : Bool) → is_inode_number g i ≡ within → ((if within then allocated g i else known (Err (Bad Entry))) v).value ≡ Ok inode → inode_at g v i ≡ Some inode
+  unfolding bind
+  named_by i inode true is has = found_value (is_inode_number g i) ((inode_of g i v).value) inode is (allocated_value ((inode_of g i v).value) inode has)
+  named_by i inode false is has = grind (arith, has)
+
+  pub named_value : (i : ℕ) (inode : Inode) → (named_inode g i v).value ≡ Ok inode → inode_at g v i ≡ Some inode
+  unfolding named_inode
+  named_value i inode has = named_by i inode (is_inode_number g i) refl has
+
+  -- where names lead there is an inode
+  pub look_value : (names : List (List ℕ)) (i : ℕ) (found : ℕ × Inode) → (look_from g names i v).value ≡ Ok found → (named_inode g (found.0) v).value ≡ Ok (found.1)
+  unfolding look_from
+  look_value [] i found has =
+      let step = then_value (named_inode g i) (λ inode. known (Ok (i, inode))) v found has in
+      ended (step.0) (step.1) (step.2)
+    where
+      ended : (inode : Inode) → (named_inode g i v).value ≡ Ok inode → ◌≡◌ {A = Result (ℕ × Inode) PathRefusal} (Ok (i, inode)) (Ok found) → (named_inode g (found.0) v).value ≡ Ok (found.1)
+      ended inode named same = let pair : (i, inode) ≡ found = ok_same (i, inode) found same in subst (λ (place : ℕ × Inode). (named_inode g (place.0) v).value ≡ Ok (place.1)) pair named
+  look_value (name ∷ names) i found has =
+      let step = then_value (named_inode g i) _ v found has in
+      let other = then_value (find_of g (step.0) name) _ v found (step.2) in
+      look_value names (other.0) found (other.2)
+
+-- ---- which blocks are needed
+
 -- By a geometry g, with a kind of inodes among which all directories are.
 module _ (g : Geometry) (v : Volume) (whole : IsWhole g v) (wanted : ℕ → Type 0)
     (directories : (i : ℕ) (inode : Inode) → inode_at g v i ≡ Some inode → kind_of inode.mode ≡ Directory → wanted i) where
@@ -156,15 +184,6 @@ module _ (g : Geometry) (v : Volume) (whole : IsWhole g v) (wanted : ℕ → Typ
   needs_named i = needs_if (IsNeededBy g v wanted) v (is_inode_number g i) (allocated g i) (known (Err (Bad Entry)))
       (λ is. needs_bind (IsNeededBy g v wanted) v (inode_of g i) _ (needs_inode i is) (needs_known (IsNeededBy g v wanted) v _))
       (λ is. needs_known (IsNeededBy g v wanted) v (Err (Bad Entry)))
-
-  named_by : (i : ℕ) (inode : Inode) (within : Bool) → is_inode_number g i ≡ within → ((if within then allocated g i else known (Err (Bad Entry))) v).value ≡ Ok inode → inode_at g v i ≡ Some inode
-  unfolding bind
-  named_by i inode true is has = found_value (is_inode_number g i) ((inode_of g i v).value) inode is (allocated_value ((inode_of g i v).value) inode has)
-  named_by i inode false is has = grind (arith, has)
-
-  pub named_value : (i : ℕ) (inode : Inode) → (named_inode g i v).value ≡ Ok inode → inode_at g v i ≡ Some inode
-  unfolding named_inode
-  named_value i inode has = named_by i inode (is_inode_number g i) refl has
 
   -- ---- of one file
 
@@ -211,10 +230,10 @@ module _ (g : Geometry) (v : Volume) (whole : IsWhole g v) (wanted : ℕ → Typ
   -- ---- of an inode that is named
 
   directory_file : (i : ℕ) (inode : Inode) → (named_inode g i v).value ≡ Ok inode → is_directory (kind_of inode.mode) ≡ true → IsFile g v i inode
-  directory_file i inode has is = record { there = named_value i inode has; pointers = rw (directory_kind (kind_of inode.mode) is) refl }
+  directory_file i inode has is = record { there = named_value g v i inode has; pointers = rw (directory_kind (kind_of inode.mode) is) refl }
 
   directory_wanted : (i : ℕ) (inode : Inode) → (named_inode g i v).value ≡ Ok inode → is_directory (kind_of inode.mode) ≡ true → wanted i
-  directory_wanted i inode has is = directories i inode (named_value i inode has) (directory_kind (kind_of inode.mode) is)
+  directory_wanted i inode has is = directories i inode (named_value g v i inode has) (directory_kind (kind_of inode.mode) is)
 
   needs_entries : (i : ℕ) (inode : Inode) → (named_inode g i v).value ≡ Ok inode → Needs (IsNeededBy g v wanted) v (entries_of g inode)
   unfolding entries_of
@@ -230,7 +249,7 @@ module _ (g : Geometry) (v : Volume) (whole : IsWhole g v) (wanted : ℕ → Typ
   unfolding contents_of
   needs_contents i inode has asked = needs_unless (IsNeededBy g v wanted) v (file_refusal inode) (front_of g inode (block_count g inode)) (λ none.
       let accepted = accepted_file inode none in
-      let file : IsFile g v i inode = record { there = named_value i inode has; pointers = rw (regular_kind (kind_of inode.mode) (accepted.0)) refl } in
+      let file : IsFile g v i inode = record { there = named_value g v i inode has; pointers = rw (regular_kind (kind_of inode.mode) (accepted.0)) refl } in
       needs_front i inode file (asked (accepted.0)) (small_size inode (accepted.1)) (block_count g inode) (omega arith))
 
   -- ---- paths
@@ -241,22 +260,8 @@ module _ (g : Geometry) (v : Volume) (whole : IsWhole g v) (wanted : ℕ → Typ
   needs_look (name ∷ names) i = needs_then (IsNeededBy g v wanted) v (named_inode g i) _ (needs_named i) (λ inode has.
       needs_then (IsNeededBy g v wanted) v (find_of g inode name) _ (needs_find i inode name has) (λ next is. needs_look names next))
 
-  -- where names lead there is an inode
-  pub look_value : (names : List (List ℕ)) (i : ℕ) (found : ℕ × Inode) → (look_from g names i v).value ≡ Ok found → (named_inode g (found.0) v).value ≡ Ok (found.1)
-  unfolding look_from
-  look_value [] i found has =
-      let step = then_value (named_inode g i) (λ inode. known (Ok (i, inode))) v found has in
-      ended (step.0) (step.1) (step.2)
-    where
-      ended : (inode : Inode) → (named_inode g i v).value ≡ Ok inode → ◌≡◌ {A = Result (ℕ × Inode) PathRefusal} (Ok (i, inode)) (Ok found) → (named_inode g (found.0) v).value ≡ Ok (found.1)
-      ended inode named same = let pair : (i, inode) ≡ found = ok_same (i, inode) found same in subst (λ (place : ℕ × Inode). (named_inode g (place.0) v).value ≡ Ok (place.1)) pair named
-  look_value (name ∷ names) i found has =
-      let step = then_value (named_inode g i) _ v found has in
-      let other = then_value (find_of g (step.0) name) _ v found (step.2) in
-      look_value names (other.0) found (other.2)
-
   pub needs_cat : (names : List (List ℕ)) (i : ℕ)
       → ((found : ℕ × Inode) → (look_from g names i v).value ≡ Ok found → is_regular (kind_of (found.1).mode) ≡ true → wanted (found.0))
       → Needs (IsNeededBy g v wanted) v (and_then (look_from g names i) (λ found. contents_of g found.1))
   needs_cat names i asked = needs_then (IsNeededBy g v wanted) v (look_from g names i) _ (needs_look names i) (λ found has.
-      needs_contents (found.0) (found.1) (look_value names i found has) (asked found has))
+      needs_contents (found.0) (found.1) (look_value g v names i found has) (asked found has))
