@@ -10,3 +10,6 @@ pub mod ReadLaws
 pub mod VolumeLaws
 pub mod CatLaws
 pub mod PathLaws
+pub mod CountLaws
+pub mod GoneLaws
+pub mod WantLaws

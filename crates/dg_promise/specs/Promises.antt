@@ -1,4 +1,58 @@
--- x
-use Rattle.std.specs.Prelude.{ℕ}
-abbrev pub some : ℕ
-some = 0
+-- What a settled array promises of the files of its volume. The words are this project's own.
+use Rattle.std.specs.Prelude.{◌≡◌, ◌⊎◌, ◌<◌, ◌↔◌, ℕ, false, List, Ok, Err, IsNone, IsSomeAnd}
+use Rattle.std.specs.List.{concat}
+use Rattle.ufs_model.specs.Paths.{cat_of}
+use Rattle.ufs_model.specs.Trees.{file_of}
+use Rattle.ufs_model.specs.declared.reads.PathRefusal.{PathRefusal}
+use Rattle.dg_model.specs.Homes.{home_of}
+use Rattle.dg_model.specs.Members.{is_lost}
+use Rattle.dg_model.specs.Moves.{count_upto}
+use Rattle.dg_model.specs.States.{State}
+use Rattle.dg_model.specs.declared.replies.Reply.{Reply}
+use Rattle.dg_model.specs.declared.replies.Reply.TheVariants.{Given, Refused, Unavailable}
+
+-- ---- losses
+
+-- fewer than m boundaries are lost
+abbrev pub FewLost : State → Type 0
+FewLost state = count_upto state.table.shape.b (is_lost state.members) < state.table.shape.m
+
+-- no boundary becomes lost
+abbrev pub LosesNone : State → State → Type 0
+LosesNone old new = (s : ℕ) → s < old.table.shape.b → is_lost old.members s ≡ false → is_lost new.members s ≡ false
+
+-- boundary s isn't lost
+abbrev pub Stands : State → ℕ → Type 0
+Stands state s = is_lost state.members s ≡ false
+
+-- inode i has no home, or its home isn't lost, or it has a copy whose boundary isn't lost
+abbrev pub Survives : State → ℕ → Type 0
+Survives state i = IsNone (home_of state.homes i) ⊎ IsSomeAnd (home_of state.homes i) (Stands state) ⊎ IsSomeAnd (home_of state.copies i) (Stands state)
+
+-- ---- files
+
+-- the path leads to the regular file i
+abbrev pub LeadsTo : State → List ℕ → ℕ → Type 0
+LeadsTo state path i = (file_of state.table.shape.l state.table.shape.n path state.blocks).value ≡ Ok i
+
+-- it leads to none, for this reason
+abbrev pub LeadsNowhere : State → List ℕ → PathRefusal → Type 0
+LeadsNowhere state path refusal = (file_of state.table.shape.l state.table.shape.n path state.blocks).value ≡ Err refusal
+
+-- the reply gives all bytes of the file at the path, in lines
+pub record GivesAll (state : State) (path : List ℕ) (reply : Reply) : Type 0 where
+  pub lines : List (List ℕ)
+  pub reply_is : reply ≡ Given lines
+  pub bytes : (cat_of state.table.shape.l state.table.shape.n path state.blocks).value ≡ Ok (concat lines)
+
+-- the reply refuses the path for this reason, as reading it does
+pub record RefusesAs (state : State) (path : List ℕ) (reply : Reply) (refusal : PathRefusal) : Type 0 where
+  pub reply_is : reply ≡ Refused refusal
+  pub reading : (cat_of state.table.shape.l state.table.shape.n path state.blocks).value ≡ Err refusal
+
+-- A `cat` keeps its promise: all of a regular file is given exactly where it survives, and it is unavailable exactly where it doesn't; a
+-- path to none is refused.
+pub record KeepsPromise (state : State) (path : List ℕ) (reply : Reply) : Type 0 where
+  pub given : (i : ℕ) → LeadsTo state path i → Survives state i ↔ GivesAll state path reply
+  pub unavailable : (i : ℕ) → LeadsTo state path i → (Survives state i → ⊥) ↔ (reply ≡ Unavailable)
+  pub refused : (refusal : PathRefusal) → LeadsNowhere state path refusal → RefusesAs state path reply refusal

@@ -1,0 +1,52 @@
+-- A block is gone exactly where it is written, and each boundary that it stands on is lost.
+use Rattle.std.proofs.Common.{◌≡◌, ◌≢◌, ◌∙◌, ℕ, zero, suc, ◌+◌, ◌<◌, ◌≤◌, inl, inr, Bool, true, false, ◌&&◌, List, [], ◌∷◌, refl, sym, ap, subst, arith}
+use Rattle.std.specs.Prelude.{Contains, nat_lt, ◌==◌}
+use Rattle.std.specs.List.{list_any}
+use Rattle.std.proofs.lemmas.Bool.{and_from, and_parts, cases_Bool, false≢true, ltb-true}
+use Rattle.std.proofs.lemmas.Bool.Decides.{nat_tests}
+use Rattle.dg_model.specs.Members.{is_lost}
+use Rattle.dg_model.specs.Sites.{all_lost, has_site, is_gone}
+use Rattle.dg_model.specs.Tables.{Table, count_on, is_on, sites_in, stands_on}
+use Rattle.dg_model.specs.declared.members.MemberState.{MemberState}
+use Rattle.dg_model.specs.declared.sites.Site.{Site}
+use Rattle.dg_model.proofs.SpareLaws.{on_here, on_there}
+
+-- ---- one list of sites
+
+stands_first : (s : ℕ) (x : Site) (xs : List Site) → x.boundary ≡ s → stands_on s (x ∷ xs) ≡ true
+stands_first s x xs is = let count = on_here s x xs is in grind (arith, nat_tests)
+
+stands_more : (s : ℕ) (x : Site) (xs : List Site) → stands_on s xs ≡ true → stands_on s (x ∷ xs) ≡ true
+stands_more s x xs is = elim (cases_Bool (x.boundary == s)) [
+  | inl here ↦ let same : x.boundary ≡ s = grind (arith, nat_tests) in stands_first s x xs same
+  | inr there ↦ let apart : x.boundary ≢ s = λ (same : x.boundary ≡ s). grind (arith, nat_tests) in let count = on_there s x xs apart in grind (arith, nat_tests)
+]
+
+stands_rest : (s : ℕ) (x : Site) (xs : List Site) → x.boundary ≢ s → stands_on s (x ∷ xs) ≡ true → stands_on s xs ≡ true
+stands_rest s x xs apart is = let count = on_there s x xs apart in grind (arith, nat_tests)
+
+lost_each : (members : ℕ → MemberState) (sites : List Site) (s : ℕ) → all_lost members sites ≡ true → stands_on s sites ≡ true → is_lost members s ≡ true
+lost_each members [] s all on = absurd (false≢true on)
+lost_each members (x ∷ xs) s all on =
+    let parts = and_parts (is_lost members x.boundary) (all_lost members xs) all in
+    elim (cases_Bool (x.boundary == s)) [
+      | inl here ↦ let same : x.boundary ≡ s = grind (arith, nat_tests) in subst (λ (t : ℕ). is_lost members t ≡ true) same parts.0
+      | inr there ↦ let apart : x.boundary ≢ s = λ (same : x.boundary ≡ s). grind (arith, nat_tests) in lost_each members xs s parts.1 (stands_rest s x xs apart on)
+    ]
+
+lost_all : (members : ℕ → MemberState) (sites : List Site) → ((s : ℕ) → stands_on s sites ≡ true → is_lost members s ≡ true) → all_lost members sites ≡ true
+lost_all members [] each = refl
+lost_all members (x ∷ xs) each = and_from (is_lost members x.boundary) (all_lost members xs) (each x.boundary (stands_first x.boundary x xs refl))
+    (lost_all members xs (λ s on. each s (stands_more s x xs on)))
+
+-- ---- a block
+
+pub gone_written : (table : Table) (members : ℕ → MemberState) (b : ℕ) → is_gone table members b ≡ true → has_site (sites_in table b) ≡ true
+gone_written table members b gone = (and_parts (has_site (sites_in table b)) (all_lost members (sites_in table b)) gone).0
+
+pub gone_each : (table : Table) (members : ℕ → MemberState) (b s : ℕ) → is_gone table members b ≡ true → is_on table b s ≡ true → is_lost members s ≡ true
+gone_each table members b s gone on = lost_each members (sites_in table b) s ((and_parts (has_site (sites_in table b)) (all_lost members (sites_in table b)) gone).1) on
+
+pub gone_from : (table : Table) (members : ℕ → MemberState) (b : ℕ) → has_site (sites_in table b) ≡ true
+    → ((s : ℕ) → is_on table b s ≡ true → is_lost members s ≡ true) → is_gone table members b ≡ true
+gone_from table members b written each = and_from (has_site (sites_in table b)) (all_lost members (sites_in table b)) written (lost_all members (sites_in table b) each)
