@@ -13,3 +13,5 @@ pub mod PathLaws
 pub mod CountLaws
 pub mod GoneLaws
 pub mod WantLaws
+pub mod PromiseLaws
+pub mod CatSteps
