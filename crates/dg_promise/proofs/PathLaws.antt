@@ -1,6 +1,6 @@
 -- Reading the file at a path of a sound volume: which blocks it needs, and that it needs each of the file's own.
 use Rattle.std.proofs.Common.{◌≡◌, ◌≢◌, ◌∙◌, ◌⊎◌, ℕ, inl, inr, Bool, true, false, List, Option, Some, None, Result, Ok, Err, refl, sym, ap, subst, arith}
-use Rattle.std.specs.Prelude.{Contains, IsOkAnd, MatchOption, if◌then◌else◌}
+use Rattle.std.specs.Prelude.{Contains, IsOk, IsOkAnd, MatchOption, if◌then◌else◌}
 use Rattle.ufs_model.specs.Blocks.{Reading, Volume, known}
 use Rattle.ufs_model.specs.Claims.{IsClaim, level_of, source_fragments}
 use Rattle.ufs_model.specs.Inodes.{kind_of}
@@ -217,3 +217,6 @@ module _ (l n : ℕ) (v : Volume) (whole_blocks : HasWholeIndirects l n v) (soun
         let is = the_found.accepted in
         cat_has l n v path i b the_found (file_needs tame g v (whole_by l n v g is whole_blocks) (sound_by l n v g is sound) i the_found.inode the_inode the_found.regular b owner.0
         (subst (λ claimed. IsOwner (IsClaim claimed) b i owner.0) (fragments_by l n v g is) owner.1))
+
+pub file_is_read : FilesAreTame → (l n : ℕ) (v : Volume) (path : List ℕ) (i : ℕ) → HasWholeIndirects l n v → IsSoundVolume l n v → (file_of l n path v).value ≡ Ok i → IsOk (cat_of l n path v).value
+file_is_read tame l n v path i whole sound file = rw ((cat_read l n v whole sound path tame i file).is) refl

@@ -11,6 +11,10 @@ use Rattle.dg_model.specs.States.{State}
 use Rattle.dg_model.specs.declared.replies.Reply.{Reply}
 use Rattle.dg_model.specs.declared.replies.Reply.TheVariants.{Given, Refused, Unavailable}
 
+-- the bytes are told: what is said of a step where they are is said
+abbrev pub AreTold : Type 0
+AreTold = Unit {0}
+
 -- ---- losses
 
 -- fewer than m boundaries are lost

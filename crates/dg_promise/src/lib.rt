@@ -1,11 +1,13 @@
-//! What an array promises of the files of its volume, as laws over single steps.
+//! What an array promises of the files of its volume, as laws over single steps: where a settled array has lost fewer boundaries than
+//! blocks of directories have places, a file is given exactly where its home or its copy survives.
 //!
-//! Each law is a public function that does nothing, whose contract is the law.
+//! Each law is a public function that does nothing, whose contract is the law. The laws speak of steps whose bytes are told.
 #![tactic(auto)]
 
-ghost use Rattle.std.specs.Prelude.{◌≡◌, ℕ};
+mod needs;
+mod promises;
 
-/// A placeholder.
-pub fn one()
-    ensures { (n : ℕ) → n ≡ n }
-{}
+pub use crate::needs::{
+    blocks_have_one_owner, files_are_read, files_need_their_blocks, needed_blocks_have_reasons,
+};
+pub use crate::promises::cat_keeps_its_promise;
