@@ -15,3 +15,5 @@ pub mod GoneLaws
 pub mod WantLaws
 pub mod PromiseLaws
 pub mod CatSteps
+pub mod HomeLaws
+pub mod PlanLaws
