@@ -17,3 +17,8 @@ pub mod PromiseLaws
 pub mod CatSteps
 pub mod HomeLaws
 pub mod PlanLaws
+pub mod RowLaws
+pub mod TableLaws
+pub mod SpareSteps
+pub mod SlotLaws
+pub mod MoveLaws

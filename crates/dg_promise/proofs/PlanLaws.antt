@@ -39,7 +39,7 @@ RiseFrom : ℕ → List ℕ → Type 0
 RiseFrom n [] = Unit {0}
 RiseFrom n (i ∷ is) = (n ≤ i) × RiseFrom (suc i) is
 
-head_or_tail : (x y : ℕ) (ys : List ℕ) → Contains (y ∷ ys) x → (x ≡ y) ⊎ Contains ys x
+pub head_or_tail : (x y : ℕ) (ys : List ℕ) → Contains (y ∷ ys) x → (x ≡ y) ⊎ Contains ys x
 head_or_tail x y ys h = elim (Contains-append_cases (y ∷ []) ys x h) [
   | inl first ↦ inl (let place : first.0 ≡ 0 = let low = first.1 in omega arith in sym (rw place at first.2))
   | inr later ↦ inr later
@@ -122,7 +122,7 @@ rise_filter test n (i ∷ is) rise = elim (cases_Bool (test i)) [
   | inr fails ↦ rw fails (let low = rise.0 in rise_lower n (suc i) (filter test is) (omega arith) (rise_filter test (suc i) is rise.1))
 ]
 
-in_filter : (test : ℕ → Bool) (x : ℕ) (is : List ℕ) → Contains (filter test is) x → Contains is x × (test x ≡ true)
+pub in_filter : (test : ℕ → Bool) (x : ℕ) (is : List ℕ) → Contains (filter test is) x → Contains is x × (test x ≡ true)
 in_filter test x [] has = let low = has.1 in absurd (omega arith)
 in_filter test x (i ∷ is) has = elim (cases_Bool (test i)) [
   | inl passes ↦ elim (head_or_tail x i (filter test is) (rw passes at has)) [
@@ -228,7 +228,7 @@ not_some (Some s) h = absurd (false≢true h)
 
 -- ---- the homes of a plan
 
-good_plan : (shape : Shape) (wants : List (Option Want)) (parents : List Parent) (homes : List Home) (found : Plan) → Ascend homes → plan shape wants parents homes ≡ Ok found
+pub good_plan : (shape : Shape) (wants : List (Option Want)) (parents : List Parent) (homes : List Home) (found : Plan) → Ascend homes → plan shape wants parents homes ≡ Ok found
     → ((i : ℕ) → is_some (home_of found.homes i) ≡ true → 0 < count_of wants i) × Ascend found.homes
 unfolding plan
 good_plan shape wants parents homes found up is =

@@ -1,0 +1,247 @@
+-- After all moves each block stands on just its targets.
+use Rattle.std.proofs.Common.{◌≡◌, ◌≢◌, ◌∙◌, ◌&&◌, ◌==◌, ℕ, zero, suc, ◌+◌, ◌<◌, ◌≤◌, inl, inr, Bool, true, false, cond, not, List, [], ◌∷◌, ◌++◌, length, map, Option, Some, None, refl, sym, ap, subst, arith}
+use Rattle.std.specs.Prelude.{Contains, find, nat_le, nat_lt}
+use Rattle.std.specs.List.{filter, flat_map, range_with_len, sum_by}
+use Rattle.std.proofs.lemmas.Bool.{and_parts, both_ways, cases_Bool, cases_eq, cases_lt, false≢true, le-ltb, leb-true, lt-ltb, ltb-false}
+use Rattle.std.proofs.lemmas.Bool.Decides.{nat_tests}
+use Rattle.std.proofs.lemmas.Grind.{flat_map-append}
+use Rattle.std.proofs.lemmas.List.{append-nil, length-append, length-map}
+use Rattle.std.proofs.lemmas.List.Elements.{Contains-append_cases, Contains-append_right}
+use Rattle.std.proofs.lemmas.List.Sums.{length-filter, sum_by-append, sum_by-cons}
+use Rattle.dg_model.specs.Moves.{Action, AreTargets, IsAtTargets, IsTidy, all_done, copy_to, count_upto, done, ending, give_ups, has_met, is_missing, meeting, missing, missing_in, missing_of, moved, moves, next_placement, off_target, round, rounds, spare, sum_upto, tidying}
+use Rattle.dg_model.specs.Plans.{Placement}
+use Rattle.dg_model.specs.Sites.{has_site}
+use Rattle.dg_model.specs.Tables.{IsTable, Table, count_on, is_on, lowest_free, put_site, sites_in, sites_off, used_in, without_site}
+use Rattle.dg_model.specs.declared.shapes.Shape.{Shape}
+use Rattle.dg_model.specs.declared.sites.Site.{Site}
+use Rattle.dg_model.proofs.ClaimSearch.{part_of, range_low}
+use Rattle.dg_model.proofs.RoomLaws.{met_from, missing_from, two_steps_enough}
+use Rattle.dg_model.proofs.SiteLists.{apart_test, count_on-push, one_if, same_test, zero_if}
+use Rattle.dg_model.proofs.SpareLaws.{no_other, spare_met, unmet_none}
+use Rattle.dg_model.proofs.SumLaws.{count_one_less, count_pos, count_same, sum_one_less, sum_same, term_le}
+use Rattle.dg_promise.proofs.PlanLaws.{head_or_tail, in_filter}
+use Rattle.dg_promise.proofs.SlotLaws.{free_is, free_low}
+use Rattle.dg_promise.proofs.SpareSteps.{drops, has_off, spare_push}
+use Rattle.dg_promise.proofs.TableLaws.{IsTable-put, IsTable-without, sites_put_here, sites_put_other, sites_without_here, sites_without_other}
+
+all_both : (xs ys : List Action) (a : Table) → all_done a (xs ++ ys) ≡ all_done (all_done a xs) ys
+all_both [] ys a = refl
+all_both (x ∷ xs) ys a = all_both xs ys (done a x)
+
+-- ---- lists of placements
+
+range_last : (a n : ℕ) → range_with_len a (suc n) ≡ range_with_len a n ++ (a + n) ∷ []
+range_last a zero = let e : a ≡ a + 0 = omega arith in ap (λ (x : ℕ). x ∷ []) e
+range_last a (suc n) =
+    let e : a + 1 + n ≡ a + suc n = omega arith in
+    ap (λ (xs : List ℕ). a ∷ xs) (range_last (a + 1) n ∙ ap (λ (x : ℕ). range_with_len (a + 1) n ++ x ∷ []) e)
+
+sum_range : (f : ℕ → ℕ) (n : ℕ) → sum_by f (range_with_len 0 n) ≡ sum_upto n f
+sum_range f zero = refl
+sum_range f (suc n) =
+    let e : 0 + n ≡ n = omega arith in
+    omega (arith, ap (sum_by f) (range_last 0 n), sum_by-append f (range_with_len 0 n) ((0 + n) ∷ []), sum_by-cons f (0 + n) [], ap f e, sum_range f n)
+
+flat_length : {X Y : Type 0} (f : X → List Y) (xs : List X) → length (flat_map f xs) ≡ sum_by (λ (x : X). length (f x)) xs
+flat_length f [] = refl
+flat_length {X} {Y} f (x ∷ xs) = omega (arith, length-append (f x) (flat_map f xs), flat_length f xs, sum_by-cons (λ (y : X). length (f y)) x xs)
+
+one_length : (targets : ℕ → ℕ → Bool) (table : Table) (b : ℕ) → length (missing_of targets table b) ≡ count_upto table.shape.b (is_missing targets table b)
+one_length targets table b =
+    length-map (filter (is_missing targets table b) (range_with_len 0 table.shape.b)) (λ s. record { block = b; boundary = s })
+    ∙ length-filter (is_missing targets table b) (range_with_len 0 table.shape.b)
+    ∙ sum_range (λ s. cond (is_missing targets table b s) 1 0) table.shape.b
+
+-- there are as many missing placements as were counted
+missing_length : (targets : ℕ → ℕ → Bool) (table : Table) → length (missing targets table) ≡ missing_in targets table
+unfolding missing
+missing_length targets table =
+    flat_length (missing_of targets table) (range_with_len 0 table.shape.n)
+    ∙ sum_range (λ b. length (missing_of targets table b)) table.shape.n
+    ∙ sum_same (λ b. length (missing_of targets table b)) (λ b. count_upto table.shape.b (is_missing targets table b)) table.shape.n (λ b low. one_length targets table b)
+
+in_map : (f : ℕ → Placement) (xs : List ℕ) (y : Placement) → Contains (map f xs) y → (x : ℕ) × Contains xs x × (f x ≡ y)
+in_map f [] y has = let low = has.1 in absurd (omega arith)
+in_map f (x ∷ xs) y has = elim (Contains-append_cases (f x ∷ []) (map f xs) y has) [
+  | inl first ↦ (x, (0, omega arith, refl), (let place : first.0 ≡ 0 = let low = first.1 in omega arith in rw place at first.2))
+  | inr later ↦ let rest = in_map f xs y later in (rest.0, Contains-append_right (x ∷ []) xs rest.0 rest.1, rest.2)
+]
+
+find_some : (test : Placement → Bool) (xs : List Placement) (p : Placement) → find test xs ≡ Some p → (test p ≡ true) × Contains xs p
+find_some test [] p is = let no : None ≡ Some p = is in cc
+find_some test (x ∷ xs) p is = elim (cases_Bool (test x)) [
+  | inl passes ↦ let found : Some x ≡ Some p = rw passes at is in let same : x ≡ p = cc in (ap test (sym same) ∙ passes, (0, omega arith, same))
+  | inr fails ↦ let rest = find_some test xs p (rw fails at is) in (rest.0, Contains-append_right (x ∷ []) xs p rest.1)
+]
+
+-- a missing placement with room
+record IsOpen (targets : ℕ → ℕ → Bool) (table : Table) (b s : ℕ) : Type 0 where
+  block : b < table.shape.n
+  boundary : s < table.shape.b
+  missing : is_missing targets table b s ≡ true
+  room : used_in table s ≤ table.shape.k
+
+next_open : (targets : ℕ → ℕ → Bool) (table : Table) (p : Placement) → next_placement targets table ≡ Some p → IsOpen targets table p.block p.boundary
+unfolding missing
+next_open targets table p is =
+    let found = find_some (λ p. nat_le (used_in table p.boundary) table.shape.k) (missing targets table) p is in
+    let part = part_of (missing_of targets table) (range_with_len 0 table.shape.n) p found.1 in
+    let place = in_map (λ s. record { block = part.part; boundary = s }) (filter (is_missing targets table part.part) (range_with_len 0 table.shape.b)) p part.inside in
+    let inside = in_filter (is_missing targets table part.part) place.0 (range_with_len 0 table.shape.b) place.1 in
+    subst (λ (q : Placement). IsOpen targets table q.block q.boundary) place.2 (record {
+      block = range_low table.shape.n part.part part.there;
+      boundary = range_low table.shape.b place.0 inside.0;
+      missing = inside.1;
+      room = subst (λ (q : Placement). used_in table q.boundary ≤ table.shape.k) (sym place.2) (leb-true (used_in table p.boundary) table.shape.k found.0);
+    })
+
+-- ---- what a missing placement is
+
+missing_wanted : (targets : ℕ → ℕ → Bool) (table : Table) (b t : ℕ) → is_missing targets table b t ≡ true → targets b t ≡ true
+missing_wanted targets table b t is = (and_parts (targets b t) (not (is_on table b t)) is).0
+
+not_true : (b : Bool) → not b ≡ true → b ≡ false
+not_true true h = sym h
+not_true false h = refl
+
+missing_none : (targets : ℕ → ℕ → Bool) (table : Table) (b t : ℕ) → is_missing targets table b t ≡ true → count_on t (sites_in table b) ≡ 0
+missing_none targets table b t is =
+    let off = not_true (is_on table b t) (and_parts (targets b t) (not (is_on table b t)) is).1 in
+    let few : count_on t (sites_in table b) ≤ 0 = ltb-false 0 (count_on t (sites_in table b)) off in
+    omega arith
+
+not_missing : (targets : ℕ → ℕ → Bool) (table : Table) (b t : ℕ) → 0 < count_on t (sites_in table b) → is_missing targets table b t ≡ false
+not_missing targets table b t some = elim (cases_Bool (is_missing targets table b t)) [
+  | inl hit ↦ absurd (omega (arith, missing_none targets table b t hit, some))
+  | inr miss ↦ miss
+]
+
+missing_same : (targets : ℕ → ℕ → Bool) (old new : Table) (b t : ℕ) → (targets b t ≡ true → count_on t (sites_in new b) ≡ count_on t (sites_in old b)) → is_missing targets new b t ≡ is_missing targets old b t
+missing_same targets old new b t same = elim (cases_Bool (targets b t)) [
+  | inl wanted ↦ ap (λ (k : ℕ). targets b t && not (nat_lt 0 k)) (same wanted)
+  | inr other ↦ ap (λ (v : Bool). v && not (is_on new b t)) other ∙ sym (ap (λ (v : Bool). v && not (is_on old b t)) other)
+]
+
+-- ---- a block gives up what it can do without
+
+record IsTidied (targets : ℕ → ℕ → Bool) (b : ℕ) (old new : Table) : Type 0 where
+  ok : IsTable new
+  shape : new.shape ≡ old.shape
+  others : (c : ℕ) → c ≢ b → sites_in new c ≡ sites_in old c
+  none : spare (targets b) (sites_in new b) ≡ []
+  kept : (t : ℕ) → targets b t ≡ true → count_on t (sites_in new b) ≡ count_on t (sites_in old b)
+  written : has_site (sites_in new b) ≡ has_site (sites_in old b)
+
+give_block : (targets : ℕ → ℕ → Bool) (b : ℕ) (xs : List Site) (old : Table) → IsTable old → b < old.shape.n → spare (targets b) (sites_in old b) ≡ xs
+    → IsTidied targets b old (all_done old (give_ups b xs))
+give_block targets b [] old ok low is = record { ok = ok; shape = refl; others = λ c other. refl; none = is; kept = λ t wanted. refl; written = refl }
+give_block targets b (site ∷ rest) old ok low is =
+    let size = ok.size in
+    let within : b < length old.rows = omega arith in
+    let drop = drops (targets b) (sites_in old b) site rest (ok.one_site b) is in
+    let next = without_site old b site.boundary in
+    let here = sites_without_here old b site.boundary within in
+    let tidied = give_block targets b rest (without_site old b site.boundary) (IsTable-without old b site.boundary within ok) low (ap (spare (targets b)) here ∙ drop.left) in
+    record {
+      ok = tidied.ok;
+      shape = tidied.shape;
+      others = λ c other. tidied.others c other ∙ sites_without_other old b site.boundary within c other;
+      none = tidied.none;
+      kept = λ t wanted. tidied.kept t wanted ∙ ap (count_on t) here ∙ drop.kept t wanted;
+      written = tidied.written ∙ ap has_site here ∙ has_off site.boundary (sites_in old b) drop.more (ok.one_site b site.boundary);
+    }
+
+-- ---- all blocks do
+
+tidying_below : (ℕ → ℕ → Bool) → Table → ℕ → List Action
+tidying_below targets table k = flat_map (λ b. give_ups b (spare (targets b) (sites_in table b))) (range_with_len 0 k)
+
+tidying_is : (targets : ℕ → ℕ → Bool) (table : Table) → tidying targets table ≡ tidying_below targets table table.shape.n
+unfolding tidying tidying_below
+tidying_is targets table = refl
+
+tidying_more : (targets : ℕ → ℕ → Bool) (table : Table) (k : ℕ) → tidying_below targets table (suc k) ≡ tidying_below targets table k ++ give_ups k (spare (targets k) (sites_in table k))
+unfolding tidying_below
+tidying_more targets table k =
+    let f : ℕ → List Action = λ b. give_ups b (spare (targets b) (sites_in table b)) in
+    let e : 0 + k ≡ k = omega arith in
+    ap (flat_map (λ b. give_ups b (spare (targets b) (sites_in table b)))) (range_last 0 k)
+    ∙ flat_map-append (λ b. give_ups b (spare (targets b) (sites_in table b))) (range_with_len 0 k) ((0 + k) ∷ [])
+    ∙ ap (λ (xs : List Action). flat_map (λ b. give_ups b (spare (targets b) (sites_in table b))) (range_with_len 0 k) ++ xs)
+        (append-nil (give_ups (0 + k) (spare (targets (0 + k)) (sites_in table (0 + k)))) ∙ ap (λ b. give_ups b (spare (targets b) (sites_in table b))) e)
+
+record AreTidied (targets : ℕ → ℕ → Bool) (k : ℕ) (old new : Table) : Type 0 where
+  ok : IsTable new
+  shape : new.shape ≡ old.shape
+  tidy : (c : ℕ) → c < k → spare (targets c) (sites_in new c) ≡ []
+  later : (c : ℕ) → k ≤ c → sites_in new c ≡ sites_in old c
+  kept : (c t : ℕ) → targets c t ≡ true → count_on t (sites_in new c) ≡ count_on t (sites_in old c)
+  written : (c : ℕ) → has_site (sites_in new c) ≡ has_site (sites_in old c)
+
+tidied_below : (targets : ℕ → ℕ → Bool) (old : Table) (k : ℕ) → IsTable old → k ≤ old.shape.n → AreTidied targets k old (all_done old (tidying_below targets old k))
+unfolding tidying_below
+tidied_below targets old zero ok low = record { ok = ok; shape = refl; tidy = λ c few. absurd (omega arith); later = λ c high. refl; kept = λ c t wanted. refl; written = λ c. refl }
+tidied_below targets old (suc k) ok low =
+    let now = all_done old (tidying_below targets old k) in
+    let before = tidied_below targets old k ok (omega arith) in
+    let same = before.later k (omega arith) in
+    let inside : k < now.shape.n = subst (λ (shape : Shape). k < shape.n) (sym before.shape) (omega arith) in
+    let one = give_block targets k (spare (targets k) (sites_in old k)) (all_done old (tidying_below targets old k)) before.ok inside (ap (spare (targets k)) same) in
+    let acts : all_done old (tidying_below targets old (suc k)) ≡ all_done (all_done old (tidying_below targets old k)) (give_ups k (spare (targets k) (sites_in old k))) =
+        ap (all_done old) (tidying_more targets old k) ∙ all_both (tidying_below targets old k) (give_ups k (spare (targets k) (sites_in old k))) old in
+    subst (AreTidied targets (suc k) old) (sym acts) (record {
+      ok = one.ok;
+      shape = one.shape ∙ before.shape;
+      tidy = λ c few. elim (cases_eq c k) [
+        | inl here ↦ subst (λ (d : ℕ). spare (targets d) (sites_in (all_done (all_done old (tidying_below targets old k)) (give_ups k (spare (targets k) (sites_in old k)))) d) ≡ []) (sym here) one.none
+        | inr other ↦ ap (spare (targets c)) (one.others c other) ∙ before.tidy c (omega arith)
+      ];
+      later = λ c high. one.others c (λ (is : c ≡ k). absurd (omega arith)) ∙ before.later c (omega arith);
+      kept = λ c t wanted. elim (cases_eq c k) [
+        | inl here ↦ subst (λ (d : ℕ). targets d t ≡ true → count_on t (sites_in (all_done (all_done old (tidying_below targets old k)) (give_ups k (spare (targets k) (sites_in old k)))) d) ≡ count_on t (sites_in old d)) (sym here)
+            (λ wants. one.kept t wants ∙ before.kept k t wants) wanted
+        | inr other ↦ ap (count_on t) (one.others c other) ∙ before.kept c t wanted
+      ];
+      written = λ c. elim (cases_eq c k) [
+        | inl here ↦ subst (λ (d : ℕ). has_site (sites_in (all_done (all_done old (tidying_below targets old k)) (give_ups k (spare (targets k) (sites_in old k)))) d) ≡ has_site (sites_in old d)) (sym here)
+            (one.written ∙ before.written k)
+        | inr other ↦ ap has_site (one.others c other) ∙ before.written c
+      ];
+    })
+
+-- what tidying leaves
+pub record Leaves (targets : ℕ → ℕ → Bool) (old new : Table) : Type 0 where
+  pub ok : IsTable new
+  pub shape : new.shape ≡ old.shape
+  pub written : (c : ℕ) → has_site (sites_in new c) ≡ has_site (sites_in old c)
+
+tidied_missing : (targets : ℕ → ℕ → Bool) (old new : Table) → new.shape ≡ old.shape → ((b t : ℕ) → is_missing targets new b t ≡ is_missing targets old b t) → missing_in targets new ≡ missing_in targets old
+tidied_missing targets old new shape same =
+    ap (λ (s : Shape). sum_upto s.n (λ c. count_upto s.b (is_missing targets new c))) shape
+    ∙ sum_same (λ c. count_upto old.shape.b (is_missing targets new c)) (λ c. count_upto old.shape.b (is_missing targets old c)) old.shape.n
+    (λ c low. count_same old.shape.b (is_missing targets old c) (is_missing targets new c) (same c))
+
+targets_stay : (targets : ℕ → ℕ → Bool) (old new : Table) → new.shape ≡ old.shape → ((b : ℕ) → has_site (sites_in new b) ≡ has_site (sites_in old b)) → AreTargets targets old → AreTargets targets new
+targets_stay targets old new shape written are = record {
+  some = λ b within has.
+      let t = are.some b (subst (λ (s : Shape). b < s.n) shape within) (sym (written b) ∙ has) in
+      (t.0, subst (λ (s : Shape). t.0 < s.b) (sym shape) t.1, t.2);
+  written = λ b t wanted. written b ∙ are.written b t wanted;
+  within = λ b t wanted. subst (λ (s : Shape). t < s.b) (sym shape) (are.within b t wanted);
+  most = λ t within. subst (λ (s : Shape). count_upto s.n (λ b. targets b t) ≤ s.k) (sym shape) (are.most t (subst (λ (s : Shape). t < s.b) shape within));
+}
+
+record IsTidyTable (targets : ℕ → ℕ → Bool) (old new : Table) : Type 0 where
+  leaves : Leaves targets old new
+  tidy : IsTidy targets new
+  same : missing_in targets new ≡ missing_in targets old
+
+tidied : (targets : ℕ → ℕ → Bool) (old : Table) → IsTable old → IsTidyTable targets old (all_done old (tidying targets old))
+tidied targets old ok =
+    let all = tidied_below targets old old.shape.n ok (omega arith) in
+    subst (λ (actions : List Action). IsTidyTable targets old (all_done old actions)) (sym (tidying_is targets old)) (record {
+      leaves = record { ok = all.ok; shape = all.shape; written = all.written };
+      tidy = λ b low. all.tidy b (subst (λ (s : Shape). b < s.n) all.shape low);
+      same = tidied_missing targets old (all_done old (tidying_below targets old old.shape.n)) all.shape
+          (λ b t. missing_same targets old (all_done old (tidying_below targets old old.shape.n)) b t (λ wanted. all.kept b t wanted));
+    })
