@@ -245,3 +245,169 @@ tidied targets old ok =
       same = tidied_missing targets old (all_done old (tidying_below targets old old.shape.n)) all.shape
           (λ b t. missing_same targets old (all_done old (tidying_below targets old old.shape.n)) b t (λ wanted. all.kept b t wanted));
     })
+
+-- ---- a placement is met
+
+has_last : (xs : List Site) (x : Site) → has_site (xs ++ x ∷ []) ≡ true
+has_last [] x = refl
+has_last (y ∷ ys) x = refl
+
+record IsMet (targets : ℕ → ℕ → Bool) (old new : Table) : Type 0 where
+  leaves : Leaves targets old new
+  tidy : IsTidy targets new
+  less : missing_in targets new + 1 ≡ missing_in targets old
+
+-- the site that a copy gets
+abbrev copied : Table → ℕ → Site
+copied table s = record { boundary = s; slot = lowest_free table s }
+
+copy_ok : (targets : ℕ → ℕ → Bool) (old : Table) (b s : ℕ) → IsTable old → IsOpen targets old b s → IsTable (put_site old b (copied old s))
+copy_ok targets old b s ok open_at =
+    let size = ok.size in
+    let low = open_at.block in
+    let within : b < length old.rows = omega arith in
+    IsTable-put old b (copied old s) within ok open_at.boundary (free_low old s open_at.room) (free_is old s open_at.room).free (missing_none targets old b s open_at.missing) open_at.room
+
+met : (targets : ℕ → ℕ → Bool) (old : Table) (b s : ℕ) → IsTable old → AreTargets targets old → IsTidy targets old → IsOpen targets old b s
+    → IsMet targets old (all_done old (copy_to b s ∷ give_ups b (off_target (targets b) (sites_in old b))))
+met targets old b s ok are tidy open_at =
+    let size = ok.size in
+    let low = open_at.block in
+    let within : b < length old.rows = omega arith in
+    let mid = put_site old b (copied old s) in
+    let new = all_done (put_site old b (copied old s)) (give_ups b (off_target (targets b) (sites_in old b))) in
+    let row = sites_put_here old b (copied old s) within in
+    let wanted = missing_wanted targets old b s open_at.missing in
+    let one = give_block targets b (off_target (targets b) (sites_in old b)) (put_site old b (copied old s)) (copy_ok targets old b s ok open_at) low
+        (ap (spare (targets b)) row ∙ spare_push (targets b) (sites_in old b) (copied old s) wanted) in
+    let others : (c : ℕ) → c ≢ b → sites_in new c ≡ sites_in old c = λ c other. one.others c other ∙ sites_put_other old b (copied old s) within c other in
+    let here : (t : ℕ) → targets b t ≡ true → count_on t (sites_in new b) ≡ count_on t (sites_in old b) + cond (s == t) 1 0 =
+        λ t wants. one.kept t wants ∙ ap (count_on t) row ∙ count_on-push t (sites_in old b) (copied old s) in
+    let there : is_missing targets new b s ≡ false = not_missing targets new b s (let count = here s wanted in let one_more = one_if (s == s) (same_test s s refl) in omega arith) in
+    let rest : (c t : ℕ) → (c ≡ b → t ≢ s) → is_missing targets new c t ≡ is_missing targets old c t = λ c t apart. missing_same targets old new c t (λ wants. elim (cases_eq c b) [
+      | inl at ↦
+          let off : s ≢ t = λ is. apart at (sym is) in
+          let none = zero_if (s == t) (apart_test s t off) in
+          subst (λ (d : ℕ). targets d t ≡ true → count_on t (sites_in new d) ≡ count_on t (sites_in old d)) (sym at)
+          (λ wants. let count = here t wants in omega arith) wants
+      | inr other ↦ ap (count_on t) (others c other)
+    ]) in
+    record {
+      leaves = record {
+        ok = one.ok;
+        shape = one.shape;
+        written = λ c. elim (cases_eq c b) [
+          | inl at ↦ subst (λ (d : ℕ). has_site (sites_in new d) ≡ has_site (sites_in old d)) (sym at)
+              (one.written ∙ ap has_site row ∙ has_last (sites_in old b) (copied old s) ∙ sym (are.written b s wanted))
+          | inr other ↦ ap has_site (others c other)
+        ];
+      };
+      tidy = λ c few. elim (cases_eq c b) [
+        | inl at ↦ subst (λ (d : ℕ). spare (targets d) (sites_in new d) ≡ []) (sym at) one.none
+        | inr other ↦ ap (spare (targets c)) (others c other) ∙ tidy c (subst (λ (x : Shape). c < x.n) one.shape few)
+      ];
+      less =
+          let resized : missing_in targets new ≡ sum_upto old.shape.n (λ c. count_upto old.shape.b (is_missing targets new c)) =
+              ap (λ (x : Shape). sum_upto x.n (λ c. count_upto x.b (is_missing targets new c))) one.shape in
+          let less = sum_one_less (λ c. count_upto old.shape.b (is_missing targets old c)) (λ c. count_upto old.shape.b (is_missing targets new c)) old.shape.n b open_at.block
+              (count_one_less old.shape.b s (is_missing targets old b) (is_missing targets new b) open_at.boundary open_at.missing there (λ t apart. rest b t (λ same. apart)))
+              (λ c apart. count_same old.shape.b (is_missing targets old c) (is_missing targets new c) (λ t. rest c t (λ e. absurd (apart e)))) in
+          omega (arith, resized, less);
+    }
+
+-- ---- a round
+
+both_leave : (targets : ℕ → ℕ → Bool) (old mid new : Table) → Leaves targets old mid → Leaves targets mid new → Leaves targets old new
+both_leave targets old mid new one other = record { ok = other.ok; shape = other.shape ∙ one.shape; written = λ c. other.written c ∙ one.written c }
+
+round_met : (targets : ℕ → ℕ → Bool) (old : Table) → IsTable old → AreTargets targets old → 0 < missing_in targets old → IsMet targets old (all_done old (round targets old))
+unfolding round
+round_met targets old ok are some =
+    let now = all_done old (tidying targets old) in
+    let first = tidied targets old ok in
+    let are_now = targets_stay targets old (all_done old (tidying targets old)) first.leaves.shape first.leaves.written are in
+    subst (IsMet targets old) (sym (all_both (tidying targets old) (meeting targets now (next_placement targets now)) old)) (by_next first are_now (next_placement targets (all_done old (tidying targets old))) refl)
+  where
+    by_next : IsTidyTable targets old (all_done old (tidying targets old)) → AreTargets targets (all_done old (tidying targets old)) → (found : Option Placement)
+        → next_placement targets (all_done old (tidying targets old)) ≡ found → IsMet targets old (all_done (all_done old (tidying targets old)) (meeting targets (all_done old (tidying targets old)) found))
+    by_next first are_now None is =
+        let none = two_steps_enough targets (all_done old (tidying targets old)) first.leaves.ok are_now first.tidy is in
+        let same = first.same in
+        absurd (omega arith)
+    by_next first are_now (Some p) is =
+        let step = met targets (all_done old (tidying targets old)) p.block p.boundary first.leaves.ok are_now first.tidy (next_open targets (all_done old (tidying targets old)) p is) in
+        record {
+          leaves = both_leave targets old (all_done old (tidying targets old)) _ first.leaves step.leaves;
+          tidy = step.tidy;
+          less = let less = step.less in let same = first.same in omega arith;
+        }
+
+-- ---- where none is missing
+
+none_at_all : (targets : ℕ → ℕ → Bool) (table : Table) (b t : ℕ) → missing_in targets table ≡ 0 → b < table.shape.n → t < table.shape.b → is_missing targets table b t ≡ false
+none_at_all targets table b t none below within = elim (cases_Bool (is_missing targets table b t)) [
+  | inl hit ↦
+      absurd (omega (
+        arith,
+        none,
+        term_le (λ c. count_upto table.shape.b (is_missing targets table c)) table.shape.n b below,
+        count_pos table.shape.b t (is_missing targets table b) within hit,
+      ))
+  | inr miss ↦ miss
+]
+
+some_from : (t : ℕ) (sites : List Site) → 0 < count_on t sites → has_site sites ≡ true
+some_from t [] some = absurd (omega arith)
+some_from t (x ∷ xs) some = refl
+
+-- each block stands on just its targets
+placed_from : (targets : ℕ → ℕ → Bool) (table : Table) → AreTargets targets table → IsTidy targets table → missing_in targets table ≡ 0 → IsAtTargets targets table
+placed_from targets table are tidy none b t below within = elim (cases_Bool (targets b t)) [
+  | inl hit ↦ lt-ltb 0 (count_on t (sites_in table b)) (met_from targets table b t hit (none_at_all targets table b t none below within)) ∙ sym hit
+  | inr miss ↦ le-ltb 0 (count_on t (sites_in table b)) (elsewhere miss) ∙ sym miss
+]
+  where
+    elsewhere : targets b t ≡ false → count_on t (sites_in table b) ≤ 0
+    elsewhere miss = elim (cases_lt 0 (count_on t (sites_in table b))) [
+      | inr few ↦ few
+      | inl some ↦ elim (cases_Bool (has_met (targets b) (sites_in table b))) [
+        | inl met ↦ omega (arith, no_other (targets b) (sites_in table b) t (sym (spare_met (targets b) (sites_in table b) met) ∙ tidy b below) miss)
+        | inr unmet ↦
+            let other = are.some b below (some_from t (sites_in table b) some) in
+            absurd (both_ways (is_missing targets table b other.0) (none_at_all targets table b other.0 none below other.1) (missing_from targets table b other.0 other.2 (unmet_none (targets b) (sites_in table b) other.0 unmet other.2)))
+      ]
+    ]
+
+-- ---- all rounds
+
+pub record IsMoved (targets : ℕ → ℕ → Bool) (old new : Table) : Type 0 where
+  pub leaves : Leaves targets old new
+  pub at : IsAtTargets targets new
+
+ending_none : (targets : ℕ → ℕ → Bool) (table : Table) (ps : List Placement) → length ps ≡ 0 → ending targets table ps ≡ tidying targets table
+ending_none targets table [] none = refl
+ending_none targets table (p ∷ ps) none = absurd (omega (arith, none))
+
+rounds_end : (targets : ℕ → ℕ → Bool) (k : ℕ) (old : Table) → IsTable old → AreTargets targets old → missing_in targets old ≡ k → IsMoved targets old (all_done old (rounds targets k old))
+rounds_end targets zero old ok are none =
+    let all = tidied targets old ok in
+    let count = missing_length targets old in
+    let same = all.same in
+    subst (λ (actions : List Action). IsMoved targets old (all_done old actions)) (sym (ending_none targets old (missing targets old) (omega arith))) (record {
+      leaves = all.leaves;
+      at = placed_from targets (all_done old (tidying targets old)) (targets_stay targets old (all_done old (tidying targets old)) all.leaves.shape all.leaves.written are) all.tidy (omega arith);
+    })
+rounds_end targets (suc k) old ok are some =
+    let one = round_met targets old ok are (omega arith) in
+    let next = all_done old (round targets old) in
+    let less = one.less in
+    let rest = rounds_end targets k (all_done old (round targets old)) one.leaves.ok (targets_stay targets old (all_done old (round targets old)) one.leaves.shape one.leaves.written are) (omega arith) in
+    subst (IsMoved targets old) (sym (all_both (round targets old) (rounds targets k (all_done old (round targets old))) old)) (record {
+      leaves = both_leave targets old (all_done old (round targets old)) _ one.leaves rest.leaves;
+      at = rest.at;
+    })
+
+-- after all moves each block stands on just its targets
+pub all_moved : (targets : ℕ → ℕ → Bool) (old : Table) → IsTable old → AreTargets targets old → IsMoved targets old (moved targets None old)
+unfolding moves
+all_moved targets old ok are = rounds_end targets (missing_in targets old) old ok are refl
