@@ -22,3 +22,4 @@ pub mod TableLaws
 pub mod SpareSteps
 pub mod SlotLaws
 pub mod MoveLaws
+pub mod SettleLaws

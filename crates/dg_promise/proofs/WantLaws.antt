@@ -45,7 +45,7 @@ file_is i (Some Stray) is = absurd (false≢true is)
 is_file_of : (i : ℕ) (want : Option Want) → want ≡ Some (File i) → is_file i want ≡ true
 is_file_of i want is = let same : (i == i) ≡ true = grind (arith, nat_tests) in rw is same
 
-want_inside : (wants : List (Option Want)) (b : ℕ) (want : Want) → want_of wants b ≡ Some want → b < length wants
+pub want_inside : (wants : List (Option Want)) (b : ℕ) (want : Want) → want_of wants b ≡ Some want → b < length wants
 want_inside wants b want is = elim (cases_lt b (length wants)) [
   | inl lt ↦ lt
   | inr ge ↦ let no : None ≡ Some want = sym (get_or_past wants b None ge) ∙ is in cc
