@@ -23,3 +23,4 @@ pub mod SpareSteps
 pub mod SlotLaws
 pub mod MoveLaws
 pub mod SettleLaws
+pub mod ReapLaws

@@ -136,11 +136,11 @@ accepted_file : (inode : Inode) → file_refusal inode ≡ None → (is_regular 
 unfolding file_refusal
 accepted_file inode is = accepted_if (is_regular (kind_of inode.mode)) (size_refusal inode) NotRegular is
 
-inode_needs : (g : Geometry) (v : Volume) (i b : ℕ) → Contains ((inode_of g i v).needs) b → b ≡ inode_block g i
+pub inode_needs : (g : Geometry) (v : Volume) (i b : ℕ) → Contains ((inode_of g i v).needs) b → b ≡ inode_block g i
 unfolding inode_of bind
 inode_needs g v i b h = in_one (inode_block g i) b h
 
-number_below : (g : Geometry) (i : ℕ) → is_inode_number g i ≡ true → i < g.ncg * g.ipg
+pub number_below : (g : Geometry) (i : ℕ) → is_inode_number g i ≡ true → i < g.ncg * g.ipg
 number_below g i is = grind (arith, nat_tests)
 
 -- ---- what is named
