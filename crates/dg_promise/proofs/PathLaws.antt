@@ -116,7 +116,7 @@ data_no_system group Outside is system = let no : false ≡ true = is in cc
 data_no_system group (System kind) is system = let no : false ≡ true = is in cc
 data_no_system group (Data c) is system = let no : false ≡ true = system in cc
 
-owner_claim : {claims : ℕ → ClaimSource → Type 0} {b i level : ℕ} → IsOwner claims b i level → (source : ClaimSource) × claims b source
+pub owner_claim : {claims : ℕ → ClaimSource → Type 0} {b i level : ℕ} → IsOwner claims b i level → (source : ClaimSource) × claims b source
 owner_claim (by_own_slot one is) = (_, one.claim)
 owner_claim (by_upper one is owner) = (_, one.claim)
 

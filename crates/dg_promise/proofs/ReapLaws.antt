@@ -1,9 +1,9 @@
 -- A settled array from which dead blocks were reaped is in order.
-use Rattle.std.proofs.Common.{◌≡◌, ◌≢◌, ◌∙◌, ◌⊎◌, ℕ, ◌+◌, ◌<◌, ◌≤◌, inl, inr, length, get_or, Bool, true, false, cond, List, [], map, Option, Some, None, Result, Ok, Err, refl, sym, ap, subst, arith}
-use Rattle.std.specs.Prelude.{All, Contains, IsOkAnd, MatchOption, if◌then◌else◌, is_some, nat_lt, replicate}
+use Rattle.std.proofs.Common.{◌≡◌, ◌≢◌, ◌∙◌, ◌⊎◌, ℕ, zero, suc, ◌+◌, ◌<◌, ◌≤◌, inl, inr, length, get_or, Bool, true, false, cond, List, [], map, Option, Some, None, Result, Ok, Err, refl, sym, ap, subst, arith}
+use Rattle.std.specs.Prelude.{◌==◌, All, Contains, IsOkAnd, MatchOption, if◌then◌else◌, is_some, nat_lt, replicate}
 use Rattle.std.specs.List.{list_any, range_with_len}
 use Rattle.std.proofs.lemmas.Bool.{cases_Bool, cases_lt, false≢true}
-use Rattle.std.proofs.lemmas.List.{get_or_past}
+use Rattle.std.proofs.lemmas.List.{get_or_default, get_or_past}
 use Rattle.std.proofs.lemmas.List.FromFn.{get_or-map-range_with_len, length-map-range_with_len}
 use Rattle.ufs_model.specs.Blocks.{Consulted, Volume, block_at}
 use Rattle.ufs_model.specs.Inodes.{inode_block, inode_of, is_inode_number, kind_of}
@@ -37,7 +37,7 @@ use Rattle.dg_model.specs.declared.sites.Site.{Site}
 use Rattle.dg_model.specs.declared.wants.Want.{Want}
 use Rattle.dg_model.specs.declared.wants.Want.TheVariants.{File, Kept, Stray}
 use Rattle.dg_promise.proofs.NeedLaws.{inode_needs, number_below}
-use Rattle.dg_promise.proofs.PathLaws.{no_system}
+use Rattle.dg_promise.proofs.PathLaws.{no_system, owner_claim}
 use Rattle.dg_promise.proofs.RoleLaws.{inode_system}
 use Rattle.dg_promise.proofs.VolumeLaws.{geometry_is, one_geometry}
 use Rattle.dg_promise.proofs.WantLaws.{block_counts, some_block}
@@ -117,3 +117,100 @@ module _ (l n : ℕ) (v w : Volume) (g : Geometry) (is : (geometry_of l n v).val
 
   sound_onto : IsSoundVolume l n v → IsSoundVolume l n w
   sound_onto sound kind number bad = sound kind number ((differ.structure.malformations kind number).0 bad)
+
+-- ---- blocks that stay
+
+same_block : (v w : Volume) (b l : ℕ) → length w ≡ length v → block_in w b ≡ block_in v b → block_at l w b ≡ block_at l v b
+same_block v w b l size same = elim (cases_lt b (length v)) [
+  | inl low ↦ get_or_default w b (replicate l 0) [] (omega arith) ∙ same ∙ get_or_default v b [] (replicate l 0) low
+  | inr past ↦ get_or_past w b (replicate l 0) (omega arith) ∙ sym (get_or_past v b (replicate l 0) past)
+]
+
+-- the wants once blocks were reaped
+wants_left : (ℕ → Bool) → List (Option Want) → List (Option Want)
+wants_left reaped wants = map (λ b. if reaped b then None else want_of wants b) (range_with_len 0 (length wants))
+
+left_is : (reaped : ℕ → Bool) (wants : List (Option Want)) (b : ℕ) → want_of (wants_left reaped wants) b ≡ (if reaped b then None else want_of wants b)
+unfolding wants_left
+left_is reaped wants b = elim (cases_lt b (length wants)) [
+  | inl low ↦ get_or-map-range_with_len (λ b. if reaped b then None else want_of wants b) 0 (length wants) b b None low (omega arith)
+  | inr past ↦
+      let size = length-map-range_with_len (λ b. if reaped b then None else want_of wants b) 0 (length wants) in
+      get_or_past (map (λ b. if reaped b then None else want_of wants b) (range_with_len 0 (length wants))) b None (omega arith)
+      ∙ sym (nothing (reaped b) (want_of wants b) (get_or_past wants b None past))
+]
+  where
+    nothing : (reap : Bool) (want : Option Want) → want ≡ None → (if reap then None else want) ≡ None
+    nothing true want is = refl
+    nothing false want is = is
+
+left_length : (reaped : ℕ → Bool) (wants : List (Option Want)) → length (wants_left reaped wants) ≡ length wants
+unfolding wants_left
+left_length reaped wants = length-map-range_with_len (λ b. if reaped b then None else want_of wants b) 0 (length wants)
+
+-- a block that still has a want isn't reaped
+left_want : (reaped : ℕ → Bool) (wants : List (Option Want)) (b : ℕ) (want : Want) → want_of (wants_left reaped wants) b ≡ Some want → (reaped b ≡ false) × (want_of wants b ≡ Some want)
+left_want reaped wants b want is = by_test (reaped b) refl (sym (left_is reaped wants b) ∙ is)
+  where
+    by_test : (reap : Bool) → reaped b ≡ reap → (if reap then None else want_of wants b) ≡ Some want → (reaped b ≡ false) × (want_of wants b ≡ Some want)
+    by_test true same h = let no : None ≡ Some want = h in cc
+    by_test false same h = (same, h)
+
+want_left : (reaped : ℕ → Bool) (wants : List (Option Want)) (b : ℕ) → reaped b ≡ false → want_of (wants_left reaped wants) b ≡ want_of wants b
+want_left reaped wants b stays = left_is reaped wants b ∙ ap (λ (reap : Bool). if reap then None else want_of wants b) stays
+
+-- ---- what is reaped belongs to none
+
+module _ (old new : Table) (v w : Volume) (marks : List Bool) (s low high : ℕ) (reaped : ℕ → Bool) (wants : List (Option Want)) (homes copies : List Home)
+    (reaps : Reaps old v s low high reaped new w) (dead : (b : ℕ) → reaped b ≡ true → IsDead old v marks b)
+    (fit : FitWants old wants) (are : AreWants old.shape.l old.shape.n v wants) (placed : IsPlaced wants old homes copies)
+    (g : Geometry) (is : (geometry_of old.shape.l old.shape.n v).value ≡ Ok g) where
+  loose : (b : ℕ) → reaped b ≡ true → IsLoose old.shape.l old.shape.n v b
+  loose b reap = dead_loose old.shape.l old.shape.n v g b is (dead b reap).unclaimed (dead b reap).free
+
+  pub agree : AgreeOn old.shape.l (λ b. IsLoose old.shape.l old.shape.n v b → ⊥) v w
+  agree b tight = elim (cases_Bool (reaped b)) [
+    | inl reap ↦ absurd (tight (loose b reap))
+    | inr stays ↦ same_block v w b old.shape.l reaps.count (reaps.values b ∙ ap (λ (reap : Bool). if reap then zeros old.shape.l else block_in v b) stays)
+  ]
+
+  sites_stay : (b : ℕ) → reaped b ≡ false → sites_in new b ≡ sites_in old b
+  sites_stay b stays = reaps.sites b ∙ ap (λ (reap : Bool). if reap then [] else sites_in old b) stays
+
+  no_owner : (b i : ℕ) → reaped b ≡ true → IsOf old.shape.l old.shape.n v b i → ⊥
+  no_owner b i reap owner = (dead b reap).unclaimed (owner_claim owner.1)
+
+  file_stays : (b i : ℕ) → want_of wants b ≡ Some (File i) → reaped b ≡ false
+  file_stays b i there = elim (cases_Bool (reaped b)) [
+    | inl reap ↦ absurd (no_owner b i reap (are b (File i) there).0)
+    | inr stays ↦ stays
+  ]
+
+  left_fit : FitWants new (wants_left reaped wants)
+  left_fit = record {
+    size = left_length reaped wants ∙ fit.size ∙ ap (λ (shape : Shape). shape.n) (sym reaps.shape);
+    written = λ b. elim (cases_Bool (reaped b)) [
+      | inl reap ↦
+          ap is_some (left_is reaped wants b ∙ ap (λ (reap : Bool). if reap then None else want_of wants b) reap)
+          ∙ sym (ap has_site (reaps.sites b ∙ ap (λ (reap : Bool). if reap then [] else sites_in old b) reap))
+      | inr stays ↦ ap is_some (want_left reaped wants b stays) ∙ fit.written b ∙ sym (ap has_site (sites_stay b stays))
+    ];
+  }
+
+  on_same : (b t : ℕ) → reaped b ≡ false → is_on new b t ≡ is_on old b t
+  on_same b t stays = ap (λ (sites : List Site). nat_lt 0 (count_on t sites)) (sites_stay b stays)
+
+  left_placed : IsPlaced (wants_left reaped wants) new homes copies
+  left_placed = record {
+    kept = λ b there t.
+        let want = left_want reaped wants b Kept there in
+        on_same b t want.0 ∙ placed.kept b want.1 t ∙ ap (λ (shape : Shape). list_any (λ u. u == t) (places_of shape b)) (sym reaps.shape);
+    file = λ b i there t. let want = left_want reaped wants b (File i) there in on_same b t want.0 ∙ placed.file b i want.1 t;
+    homes_are = λ i. (
+      λ home. let block = some_block wants i ((placed.homes_are i).0 home) in block_counts (wants_left reaped wants) block.0 i (want_left reaped wants block.0 (file_stays block.0 i block.1) ∙ block.1),
+      λ some. let block = some_block (wants_left reaped wants) i some in (placed.homes_are i).1 (block_counts wants block.0 i (left_want reaped wants block.0 (File i) block.1).1),
+    );
+    copies_are = placed.copies_are;
+    homes_ascend = placed.homes_ascend;
+    copies_ascend = placed.copies_ascend;
+  }
