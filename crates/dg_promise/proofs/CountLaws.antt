@@ -51,10 +51,10 @@ places_count test n b m some few each =
     let at : (i : ℕ) → (b + i) % n ≡ (b % n + i) % n = λ i. sym (mod-add-mod b n i) in
     round_count test n (b % n) m low few
     (λ s from to below.
-        let back : b % n + (s - b % n) ≡ s = omega arith in
-        let place : (b + (s - b % n)) % n ≡ s = at (s - b % n) ∙ ap (λ (k : ℕ). k % n) back ∙ mod-eq_of_lt to in
-        subst (λ (k : ℕ). test k ≡ true) place (each (s - b % n) (omega arith)))
+    let back : b % n + (s - b % n) ≡ s = omega arith in
+    let place : (b + (s - b % n)) % n ≡ s = at (s - b % n) ∙ ap (λ (k : ℕ). k % n) back ∙ mod-eq_of_lt to in
+    subst (λ (k : ℕ). test k ≡ true) place (each (s - b % n) (omega arith)))
     (λ s below.
-        let back : b % n + (s + n - b % n) ≡ s + n = omega arith in
-        let place : (b + (s + n - b % n)) % n ≡ s = at (s + n - b % n) ∙ ap (λ (k : ℕ). k % n) back ∙ add-mod_right s n ∙ mod-eq_of_lt (omega arith) in
-        subst (λ (k : ℕ). test k ≡ true) place (each (s + n - b % n) (omega arith)))
+    let back : b % n + (s + n - b % n) ≡ s + n = omega arith in
+    let place : (b + (s + n - b % n)) % n ≡ s = at (s + n - b % n) ∙ ap (λ (k : ℕ). k % n) back ∙ add-mod_right s n ∙ mod-eq_of_lt (omega arith) in
+    subst (λ (k : ℕ). test k ≡ true) place (each (s + n - b % n) (omega arith)))

@@ -124,7 +124,7 @@ module _ (g : Geometry) (v : Volume) (whole : IsWhole g v) (i : ℕ) (inode : In
       let index : (place * (g.fsize / 4) + at) / (g.fsize / 4) ≡ place = div-mul-add place (g.fsize / 4) at inside in
       let rest : (place * (g.fsize / 4) + at) % (g.fsize / 4) ≡ at = mod-mul-add place (g.fsize / 4) at inside in
       let blocks : (j : ℕ) → j < g.frag → length (block_at g.fsize v (a + j)) ≡ g.fsize =
-          λ j low. whole.uppers (a + j) other (reached_claim g v other i m (a + j) before (rw are (fragments_have a g.frag (a + j) (omega arith) (omega arith)))) (omega arith) in
+      λ j low. whole.uppers (a + j) other (reached_claim g v other i m (a + j) before (rw are (fragments_have a g.frag (a + j) (omega arith) (omega arith)))) (omega arith) in
       let same = pointer_at_fragment g.endian g.fsize a g.frag (place * (g.fsize / 4) + at) v blocks (quarter.0) (quarter.1) (rw index (got.0)) in
       let pointer : pointer_in g.endian (block_at g.fsize v u) at ≡ pointer_in g.endian ((area_of g.fsize a g.frag v).value) (place * (g.fsize / 4) + at) = rw (got.1, same, index, rest) refl in
       let level_is : level_of other ≡ suc (level - 1) = omega arith in
@@ -170,7 +170,7 @@ module _ (g : Geometry) (v : Volume) (whole : IsWhole g v) (i : ℕ) (inode : In
       let level : Leads g inode v (suc k) n one.at = subst (λ (k : ℕ). Leads g inode v k n one.at) is one.leads in
       let range = fragments_within start.start start.count b (subst (λ x. Contains (fragments_at x) b) start.is (rw one.are at has)) in
       let taken : Contains ((through g 0 (At start.start start.count) v).needs) b =
-          Contains-append_left ((area_of g.fsize start.start start.count v).needs) [] b (area_all g.fsize start.start start.count b v range.0 range.1) in
+      Contains-append_left ((area_of g.fsize start.start start.count v).needs) [] b (area_all g.fsize start.start start.count b v range.0 range.1) in
       Contains-append_left ((file_block_of g inode n v).needs) _ b
       (first_needs g inode v k n b one.at some_pointers level (subst (λ x. Contains ((through g 0 x v).needs) b) (sym start.is) taken))
 

@@ -24,3 +24,9 @@ pub mod SlotLaws
 pub mod MoveLaws
 pub mod SettleLaws
 pub mod ReapLaws
+pub mod Lists
+pub mod CopyLaws
+pub mod PlacedLaws
+pub mod SpreadLaws
+pub mod Effects
+pub mod OrderLaws

@@ -168,7 +168,7 @@ tidying_more targets table k =
     ap (flat_map (λ b. give_ups b (spare (targets b) (sites_in table b)))) (range_last 0 k)
     ∙ flat_map-append (λ b. give_ups b (spare (targets b) (sites_in table b))) (range_with_len 0 k) ((0 + k) ∷ [])
     ∙ ap (λ (xs : List Action). flat_map (λ b. give_ups b (spare (targets b) (sites_in table b))) (range_with_len 0 k) ++ xs)
-        (append-nil (give_ups (0 + k) (spare (targets (0 + k)) (sites_in table (0 + k)))) ∙ ap (λ b. give_ups b (spare (targets b) (sites_in table b))) e)
+    (append-nil (give_ups (0 + k) (spare (targets (0 + k)) (sites_in table (0 + k)))) ∙ ap (λ b. give_ups b (spare (targets b) (sites_in table b))) e)
 
 record AreTidied (targets : ℕ → ℕ → Bool) (k : ℕ) (old new : Table) : Type 0 where
   ok : IsTable new
@@ -188,7 +188,7 @@ tidied_below targets old (suc k) ok low =
     let inside : k < now.shape.n = subst (λ (shape : Shape). k < shape.n) (sym before.shape) (omega arith) in
     let one = give_block targets k (spare (targets k) (sites_in old k)) (all_done old (tidying_below targets old k)) before.ok inside (ap (spare (targets k)) same) in
     let acts : all_done old (tidying_below targets old (suc k)) ≡ all_done (all_done old (tidying_below targets old k)) (give_ups k (spare (targets k) (sites_in old k))) =
-        ap (all_done old) (tidying_more targets old k) ∙ all_both (tidying_below targets old k) (give_ups k (spare (targets k) (sites_in old k))) old in
+    ap (all_done old) (tidying_more targets old k) ∙ all_both (tidying_below targets old k) (give_ups k (spare (targets k) (sites_in old k))) old in
     subst (AreTidied targets (suc k) old) (sym acts) (record {
       ok = one.ok;
       shape = one.shape ∙ before.shape;
@@ -279,10 +279,10 @@ met targets old b s ok are tidy open_at =
     let row = sites_put_here old b (copied old s) within in
     let wanted = missing_wanted targets old b s open_at.missing in
     let one = give_block targets b (off_target (targets b) (sites_in old b)) (put_site old b (copied old s)) (copy_ok targets old b s ok open_at) low
-        (ap (spare (targets b)) row ∙ spare_push (targets b) (sites_in old b) (copied old s) wanted) in
+    (ap (spare (targets b)) row ∙ spare_push (targets b) (sites_in old b) (copied old s) wanted) in
     let others : (c : ℕ) → c ≢ b → sites_in new c ≡ sites_in old c = λ c other. one.others c other ∙ sites_put_other old b (copied old s) within c other in
     let here : (t : ℕ) → targets b t ≡ true → count_on t (sites_in new b) ≡ count_on t (sites_in old b) + cond (s == t) 1 0 =
-        λ t wants. one.kept t wants ∙ ap (count_on t) row ∙ count_on-push t (sites_in old b) (copied old s) in
+    λ t wants. one.kept t wants ∙ ap (count_on t) row ∙ count_on-push t (sites_in old b) (copied old s) in
     let there : is_missing targets new b s ≡ false = not_missing targets new b s (let count = here s wanted in let one_more = one_if (s == s) (same_test s s refl) in omega arith) in
     let rest : (c t : ℕ) → (c ≡ b → t ≢ s) → is_missing targets new c t ≡ is_missing targets old c t = λ c t apart. missing_same targets old new c t (λ wants. elim (cases_eq c b) [
       | inl at ↦
@@ -308,10 +308,10 @@ met targets old b s ok are tidy open_at =
       ];
       less =
           let resized : missing_in targets new ≡ sum_upto old.shape.n (λ c. count_upto old.shape.b (is_missing targets new c)) =
-              ap (λ (x : Shape). sum_upto x.n (λ c. count_upto x.b (is_missing targets new c))) one.shape in
+          ap (λ (x : Shape). sum_upto x.n (λ c. count_upto x.b (is_missing targets new c))) one.shape in
           let less = sum_one_less (λ c. count_upto old.shape.b (is_missing targets old c)) (λ c. count_upto old.shape.b (is_missing targets new c)) old.shape.n b open_at.block
-              (count_one_less old.shape.b s (is_missing targets old b) (is_missing targets new b) open_at.boundary open_at.missing there (λ t apart. rest b t (λ same. apart)))
-              (λ c apart. count_same old.shape.b (is_missing targets old c) (is_missing targets new c) (λ t. rest c t (λ e. absurd (apart e)))) in
+          (count_one_less old.shape.b s (is_missing targets old b) (is_missing targets new b) open_at.boundary open_at.missing there (λ t apart. rest b t (λ same. apart)))
+          (λ c apart. count_same old.shape.b (is_missing targets old c) (is_missing targets new c) (λ t. rest c t (λ e. absurd (apart e)))) in
           omega (arith, resized, less);
     }
 

@@ -103,6 +103,7 @@ refused_too l n v path refusal has = on ((volume_geometry l n v).value) refl
         let look = then_ok (volume_geometry l n) (λ g. look_from g (names_of path) 2) v g accepted ∙ is in
         then_ok (volume_geometry l n) _ v g accepted ∙ then_refused (look_from g (names_of path) 2) _ v other is
         ∙ ap Err (same_refusal other refusal (sym (then_refused (look_of l n path) _ v other look) ∙ has))
+
     on : (found : Result Geometry PathRefusal) → (volume_geometry l n v).value ≡ found → (cat_of l n path v).value ≡ Err refusal
     on (Ok g) is = by_inode g is ((look_from g (names_of path) 2 v).value) refl
     on (Err other) is =

@@ -89,11 +89,12 @@ pub survives_or : (state : State) (i : ℕ) → Survives state i ⊎ (Survives s
 survives_or state i = by_home (home_of state.homes i) (home_of state.copies i)
   where
     by_copy : (s : ℕ) (copy : Option ℕ) → is_lost state.members s ≡ true → (IsNone (Some s) ⊎ IsSomeAnd (Some s) (Stands state) ⊎ IsSomeAnd copy (Stands state)) ⊎ (IsNone (Some s) ⊎ IsSomeAnd (Some s) (Stands state) ⊎ IsSomeAnd copy (Stands state) → ⊥)
-    by_copy s None lost = inr (λ h. elim h [ | inl none ↦ false≢true (sym none) | inr other ↦ elim other [ | inl stands ↦ false≢true (sym stands ∙ lost) | inr none ↦ none ] ])
+    by_copy s None lost = inr (λ h. elim h [ inl none ↦ false≢true (sym none) | inr other ↦ elim other [ inl stands ↦ false≢true (sym stands ∙ lost) | inr none ↦ none ] ])
     by_copy s (Some t) lost = elim (cases_Bool (is_lost state.members t)) [
-      | inl gone ↦ inr (λ h. elim h [ | inl none ↦ false≢true (sym none) | inr other ↦ elim other [ | inl stands ↦ false≢true (sym stands ∙ lost) | inr stands ↦ false≢true (sym stands ∙ gone) ] ])
+      | inl gone ↦ inr (λ h. elim h [ inl none ↦ false≢true (sym none) | inr other ↦ elim other [ inl stands ↦ false≢true (sym stands ∙ lost) | inr stands ↦ false≢true (sym stands ∙ gone) ] ])
       | inr stands ↦ inl (inr (inr stands))
     ]
+
     by_home : (home copy : Option ℕ) → (IsNone home ⊎ IsSomeAnd home (Stands state) ⊎ IsSomeAnd copy (Stands state)) ⊎ (IsNone home ⊎ IsSomeAnd home (Stands state) ⊎ IsSomeAnd copy (Stands state) → ⊥)
     by_home None copy = inl (inl refl)
     by_home (Some s) copy = elim (cases_Bool (is_lost state.members s)) [
@@ -116,7 +117,7 @@ module _ (state : State) (wants : List (Option Want)) (fit : FitWants state.tabl
   kept_stands shape few b is gone =
       let least = shape.least_boundaries in
       let many = places_count (is_lost state.members) state.table.shape.b b state.table.shape.m (omega arith) shape.most_places (λ i low.
-          gone_each state.table state.members b ((b + i) % state.table.shape.b) gone (placed.kept b is ((b + i) % state.table.shape.b) ∙ place_there state.table.shape b i low)) in
+      gone_each state.table state.members b ((b + i) % state.table.shape.b) gone (placed.kept b is ((b + i) % state.table.shape.b) ∙ place_there state.table.shape b i low)) in
       omega arith
 
   file_stands : (b i : ℕ) → Survives state i → want_of wants b ≡ Some (File i) → gone_in state b ≡ true → ⊥
@@ -131,12 +132,15 @@ module _ (state : State) (wants : List (Option Want)) (fit : FitWants state.tabl
   file_gone i none =
       let home = has_home (Stands state) (home_of state.homes i) (home_of state.copies i) none in
       let block = some_block wants i ((placed.homes_are i).0 home) in
-      let written : has_site (sites_in state.table block.0) ≡ true = sym (fit.written block.0) ∙ ap is_some block.1 in
-      (block.0, block.1, gone_from state.table state.members block.0 written (λ s on. elim (cases_Bool (is_lost state.members s)) [
-        | inl lost ↦ lost
-        | inr stands ↦ absurd (none (stands_by (Stands state) (home_of state.homes i) (home_of state.copies i) s
-            (home_on (home_of state.homes i) (home_of state.copies i) s (sym (placed.file block.0 i block.1 s) ∙ on)) stands))
-      ]))
+      let written : has_site (sites_in state.table block.0) ≡ true = sym (fit.written block.0) ∙ ap is_some block.1 in (
+        block.0,
+        block.1,
+        gone_from state.table state.members block.0 written (λ s on. elim (cases_Bool (is_lost state.members s)) [
+          | inl lost ↦ lost
+          | inr stands ↦ absurd (none (stands_by (Stands state) (home_of state.homes i) (home_of state.copies i) s
+              (home_on (home_of state.homes i) (home_of state.copies i) s (sym (placed.file block.0 i block.1 s) ∙ on)) stands))
+        ]),
+      )
 
   -- ---- what is needed
 

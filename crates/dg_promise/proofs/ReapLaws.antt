@@ -90,6 +90,7 @@ module _ (l n : ℕ) (v w : Volume) (g : Geometry) (is : (geometry_of l n v).val
           let place = inode_needs g v i b h in
           let system : is_system (role g b) ≡ true = subst (λ (f : ℕ). is_system (role g f) ≡ true) (sym place) (inode_system g i on.tests (number_below g i number)) in
           subst (λ (k : ℕ). block_at k w b ≡ block_at k v b) (sym on.fsize) (agree b (λ loose. loose.unused (of_system g is system))))
+
       by_number : (number : Bool) → is_inode_number g i ≡ number → inode_at g w i ≡ inode_at g v i
       by_number true number = ap (λ (found : Option Inode). if is_inode_number g i then found else None) (ap (λ (c : Consulted (Option Inode)). c.value) (same number))
       by_number false number = rw number refl
@@ -109,13 +110,13 @@ module _ (l n : ℕ) (v w : Volume) (g : Geometry) (is : (geometry_of l n v).val
   of_back : (b i : ℕ) → IsOf l n w b i → IsOf l n v b i
   of_back b i owner = (owner.0, (differ.structure.claims.owners b i owner.0).0 owner.1)
 
-  want_onto : (b : ℕ) (want : Want) → IsWant l n v b want → IsWant l n w b want
+  pub want_onto : (b : ℕ) (want : Want) → IsWant l n v b want → IsWant l n w b want
   want_onto b Kept (inl system) = inl (subst (λ (P : Type 0). P) (sym (system_same b)) system)
   want_onto b Kept (inr (i, owner, other)) = inr (i, of_onto b i owner, λ regular. other (subst (λ (P : Type 0). P) (regular_same i) regular))
   want_onto b (File i) (owner, regular) = (of_onto b i owner, subst (λ (P : Type 0). P) (sym (regular_same i)) regular)
   want_onto b Stray (other, none) = (λ system. other (subst (λ (P : Type 0). P) (system_same b) system), λ i owner. none i (of_back b i owner))
 
-  sound_onto : IsSoundVolume l n v → IsSoundVolume l n w
+  pub sound_onto : IsSoundVolume l n v → IsSoundVolume l n w
   sound_onto sound kind number bad = sound kind number ((differ.structure.malformations kind number).0 bad)
 
 -- ---- blocks that stay
@@ -127,7 +128,7 @@ same_block v w b l size same = elim (cases_lt b (length v)) [
 ]
 
 -- the wants once blocks were reaped
-wants_left : (ℕ → Bool) → List (Option Want) → List (Option Want)
+pub wants_left : (ℕ → Bool) → List (Option Want) → List (Option Want)
 wants_left reaped wants = map (λ b. if reaped b then None else want_of wants b) (range_with_len 0 (length wants))
 
 left_is : (reaped : ℕ → Bool) (wants : List (Option Want)) (b : ℕ) → want_of (wants_left reaped wants) b ≡ (if reaped b then None else want_of wants b)
@@ -149,14 +150,14 @@ unfolding wants_left
 left_length reaped wants = length-map-range_with_len (λ b. if reaped b then None else want_of wants b) 0 (length wants)
 
 -- a block that still has a want isn't reaped
-left_want : (reaped : ℕ → Bool) (wants : List (Option Want)) (b : ℕ) (want : Want) → want_of (wants_left reaped wants) b ≡ Some want → (reaped b ≡ false) × (want_of wants b ≡ Some want)
+pub left_want : (reaped : ℕ → Bool) (wants : List (Option Want)) (b : ℕ) (want : Want) → want_of (wants_left reaped wants) b ≡ Some want → (reaped b ≡ false) × (want_of wants b ≡ Some want)
 left_want reaped wants b want is = by_test (reaped b) refl (sym (left_is reaped wants b) ∙ is)
   where
     by_test : (reap : Bool) → reaped b ≡ reap → (if reap then None else want_of wants b) ≡ Some want → (reaped b ≡ false) × (want_of wants b ≡ Some want)
     by_test true same h = let no : None ≡ Some want = h in cc
     by_test false same h = (same, h)
 
-want_left : (reaped : ℕ → Bool) (wants : List (Option Want)) (b : ℕ) → reaped b ≡ false → want_of (wants_left reaped wants) b ≡ want_of wants b
+pub want_left : (reaped : ℕ → Bool) (wants : List (Option Want)) (b : ℕ) → reaped b ≡ false → want_of (wants_left reaped wants) b ≡ want_of wants b
 want_left reaped wants b stays = left_is reaped wants b ∙ ap (λ (reap : Bool). if reap then None else want_of wants b) stays
 
 -- ---- what is reaped belongs to none
@@ -186,7 +187,7 @@ module _ (old new : Table) (v w : Volume) (marks : List Bool) (s low high : ℕ)
     | inr stays ↦ stays
   ]
 
-  left_fit : FitWants new (wants_left reaped wants)
+  pub left_fit : FitWants new (wants_left reaped wants)
   left_fit = record {
     size = left_length reaped wants ∙ fit.size ∙ ap (λ (shape : Shape). shape.n) (sym reaps.shape);
     written = λ b. elim (cases_Bool (reaped b)) [
@@ -200,7 +201,7 @@ module _ (old new : Table) (v w : Volume) (marks : List Bool) (s low high : ℕ)
   on_same : (b t : ℕ) → reaped b ≡ false → is_on new b t ≡ is_on old b t
   on_same b t stays = ap (λ (sites : List Site). nat_lt 0 (count_on t sites)) (sites_stay b stays)
 
-  left_placed : IsPlaced (wants_left reaped wants) new homes copies
+  pub left_placed : IsPlaced (wants_left reaped wants) new homes copies
   left_placed = record {
     kept = λ b there t.
         let want = left_want reaped wants b Kept there in

@@ -22,6 +22,7 @@ once a (suc n) = elim (cases_lt a n) [
     before : (a n : ℕ) → n ≤ a → count_upto n (λ k. a == k) ≡ 0
     before a zero low = refl
     before a (suc n) low = let rest = before a n (omega arith) in let apart : (a == n) ≡ false = grind (arith, nat_tests) in let none : ◌≡◌ {A = ℕ} (cond (a == n) 1 0) 0 = rw apart refl in omega arith
+
     at_most : (b : Bool) → cond b 1 0 ≤ 1
     at_most true = omega arith
     at_most false = omega arith
@@ -50,8 +51,8 @@ some_sites s n (x ∷ xs) =
     let count = count_on-cons s x xs in
     let split = sum_both (λ slot. cond {A = ℕ} (is_slot s x slot) 1 0) (λ slot. cond {A = ℕ} (list_any (λ site. (site.boundary == s) && (site.slot == slot)) xs) 1 0) n in
     let most = sum_le (λ slot. cond {A = ℕ} (list_any (λ site. (site.boundary == s) && (site.slot == slot)) (x ∷ xs)) 1 0)
-        (λ slot. cond {A = ℕ} (is_slot s x slot) 1 0 + cond {A = ℕ} (list_any (λ site. (site.boundary == s) && (site.slot == slot)) xs) 1 0) n
-        (λ slot low. or_few (is_slot s x slot) (list_any (λ site. (site.boundary == s) && (site.slot == slot)) xs)) in
+    (λ slot. cond {A = ℕ} (is_slot s x slot) 1 0 + cond {A = ℕ} (list_any (λ site. (site.boundary == s) && (site.slot == slot)) xs) 1 0) n
+    (λ slot low. or_few (is_slot s x slot) (list_any (λ site. (site.boundary == s) && (site.slot == slot)) xs)) in
     omega arith
 
 some_rows : (s n : ℕ) (rows : List (List Site)) → count_upto n (λ slot. list_any (λ sites. list_any (λ site. (site.boundary == s) && (site.slot == slot)) sites) rows) ≤ sum_by (count_on s) rows
@@ -61,10 +62,10 @@ some_rows s n (xs ∷ rows) =
     let first = some_sites s n xs in
     let count = sum_by-cons (count_on s) xs rows in
     let split = sum_both (λ slot. cond {A = ℕ} (list_any (λ site. (site.boundary == s) && (site.slot == slot)) xs) 1 0)
-        (λ slot. cond {A = ℕ} (list_any (λ sites. list_any (λ site. (site.boundary == s) && (site.slot == slot)) sites) rows) 1 0) n in
+    (λ slot. cond {A = ℕ} (list_any (λ sites. list_any (λ site. (site.boundary == s) && (site.slot == slot)) sites) rows) 1 0) n in
     let most = sum_le (λ slot. cond {A = ℕ} (list_any (λ sites. list_any (λ site. (site.boundary == s) && (site.slot == slot)) sites) (xs ∷ rows)) 1 0)
-        (λ slot. cond {A = ℕ} (list_any (λ site. (site.boundary == s) && (site.slot == slot)) xs) 1 0 + cond {A = ℕ} (list_any (λ sites. list_any (λ site. (site.boundary == s) && (site.slot == slot)) sites) rows) 1 0) n
-        (λ slot low. or_few (list_any (λ site. (site.boundary == s) && (site.slot == slot)) xs) (list_any (λ sites. list_any (λ site. (site.boundary == s) && (site.slot == slot)) sites) rows)) in
+    (λ slot. cond {A = ℕ} (list_any (λ site. (site.boundary == s) && (site.slot == slot)) xs) 1 0 + cond {A = ℕ} (list_any (λ sites. list_any (λ site. (site.boundary == s) && (site.slot == slot)) sites) rows) 1 0) n
+    (λ slot low. or_few (list_any (λ site. (site.boundary == s) && (site.slot == slot)) xs) (list_any (λ sites. list_any (λ site. (site.boundary == s) && (site.slot == slot)) sites) rows)) in
     omega arith
 
 -- no more slots are taken than are used

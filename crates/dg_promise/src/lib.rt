@@ -11,5 +11,5 @@ mod promises;
 pub use crate::needs::{
     blocks_have_one_owner, files_are_read, files_need_their_blocks, needed_blocks_have_reasons,
 };
-pub use crate::orders::settled_is_in_order;
+pub use crate::orders::{order_is_kept, settled_is_in_order};
 pub use crate::promises::cat_keeps_its_promise;

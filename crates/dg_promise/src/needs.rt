@@ -1,5 +1,4 @@
 // Which blocks of a volume are needed to read the file at a path, and whose they are.
-use ufs_frames::files_are_tame;
 ghost use Rattle.std.specs.Prelude.{◌≡◌, ℕ, List, Ok, Err, IsOk, Contains};
 ghost use Rattle.ufs_model.specs.Blocks.{Volume};
 ghost use Rattle.ufs_model.specs.Malformations.{IsSoundVolume};
@@ -10,6 +9,8 @@ ghost use Rattle.ufs_frames.specs.Frames.{HasWholeIndirects};
 ghost use Rattle.dg_model.specs.Volumes.{IsSystemBlock};
 ghost use Rattle.dg_model.specs.Wants.{IsOf};
 ghost use Rattle.dg_promise.specs.Needed.{IsNeeded};
+
+use ufs_frames::files_are_tame;
 
 /// A block belongs to one inode at most, and none of the file system itself belongs to any.
 pub fn blocks_have_one_owner()

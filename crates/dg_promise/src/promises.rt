@@ -1,5 +1,4 @@
 // What a settled array promises while few boundaries are lost.
-use ufs_frames::{files_are_tame, volumes_of_whole_blocks};
 ghost use Rattle.std.specs.Prelude.{◌≡◌, ℕ, List, All, length};
 ghost use Rattle.dg_model.specs.Changes.{IsInOrder};
 ghost use Rattle.dg_model.specs.States.{State};
@@ -8,6 +7,8 @@ ghost use Rattle.dg_model.specs.Tables.{IsTable};
 ghost use Rattle.dg_model.specs.declared.events.Event.TheVariants.{Cat};
 ghost use Rattle.dg_model.specs.declared.replies.Reply.{Reply};
 ghost use Rattle.dg_promise.specs.Promises.{AreTold, FewLost, KeepsPromise, LosesNone};
+
+use ufs_frames::{files_are_tame, volumes_of_whole_blocks};
 
 /// In a state in order with fewer than m lost boundaries, in a step in which no boundary becomes lost, a `cat` gives all of a regular
 /// file exactly where the file has no home, or its home or its copy isn't lost; it is unavailable exactly where that isn't so. A path
