@@ -30,3 +30,5 @@ pub mod PlacedLaws
 pub mod SpreadLaws
 pub mod Effects
 pub mod OrderLaws
+pub mod ThinLaws
+pub mod SteadyLaws

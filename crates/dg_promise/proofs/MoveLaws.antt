@@ -5,10 +5,10 @@ use Rattle.std.specs.List.{filter, flat_map, range_with_len, sum_by}
 use Rattle.std.proofs.lemmas.Bool.{and_parts, both_ways, cases_Bool, cases_eq, cases_lt, false≢true, le-ltb, leb-true, lt-ltb, ltb-false}
 use Rattle.std.proofs.lemmas.Bool.Decides.{nat_tests}
 use Rattle.std.proofs.lemmas.Grind.{flat_map-append}
-use Rattle.std.proofs.lemmas.List.{append-nil, length-append, length-map}
+use Rattle.std.proofs.lemmas.List.{append-nil, length-append, length-map, set_past}
 use Rattle.std.proofs.lemmas.List.Elements.{Contains-append_cases, Contains-append_right}
 use Rattle.std.proofs.lemmas.List.Sums.{length-filter, sum_by-append, sum_by-cons}
-use Rattle.dg_model.specs.Moves.{Action, AreTargets, IsAtTargets, IsTidy, all_done, copy_to, count_upto, done, ending, give_ups, has_met, is_missing, meeting, missing, missing_in, missing_of, moved, moves, next_placement, off_target, round, rounds, spare, sum_upto, tidying}
+use Rattle.dg_model.specs.Moves.{Action, AreTargets, IsAtTargets, IsTidy, all_done, copy_to, count_upto, done, ending, give_ups, has_met, is_missing, meeting, missing, missing_in, missing_of, moved, moves, next_placement, off_target, round, rounds, spare, sum_upto, tidying, within}
 use Rattle.dg_model.specs.Plans.{Placement}
 use Rattle.dg_model.specs.Sites.{has_site}
 use Rattle.dg_model.specs.Tables.{IsTable, Table, count_on, is_on, lowest_free, put_site, sites_in, sites_off, used_in, without_site}
@@ -411,3 +411,74 @@ rounds_end targets (suc k) old ok are some =
 pub all_moved : (targets : ℕ → ℕ → Bool) (old : Table) → IsTable old → AreTargets targets old → IsMoved targets old (moved targets None old)
 unfolding moves
 all_moved targets old ok are = rounds_end targets (missing_in targets old) old ok are refl
+
+-- ---- each table on the way is one
+
+-- the table is one after each of the actions
+abbrev AreFine : Table → List Action → Type 0
+AreFine table [] = Unit {0}
+AreFine table (action ∷ more) = IsTable (done table action) × AreFine (done table action) more
+
+fine_both : (table : Table) (xs ys : List Action) → AreFine table xs → AreFine (all_done table xs) ys → AreFine table (xs ++ ys)
+fine_both table [] ys one other = other
+fine_both table (x ∷ xs) ys one other = (one.0, fine_both (done table x) xs ys one.1 other)
+
+fine_front : (table : Table) (xs ys : List Action) → IsTable table → AreFine table (xs ++ ys) → IsTable (all_done table xs)
+fine_front table [] ys ok fine = ok
+fine_front table (x ∷ xs) ys ok fine = fine_front (done table x) xs ys fine.0 fine.1
+
+fine_end : (table : Table) (xs : List Action) → IsTable table → AreFine table xs → IsTable (all_done table xs)
+fine_end table xs ok fine = fine_front table xs [] ok (subst (AreFine table) (sym (append-nil xs)) fine)
+
+without_ok : (table : Table) (b s : ℕ) → IsTable table → IsTable (without_site table b s)
+without_ok table b s ok = elim (cases_lt b (length table.rows)) [
+  | inl within ↦ IsTable-without table b s within ok
+  | inr past ↦ subst (λ (rows : List (List Site)). IsTable (record { shape = table.shape; rows = rows })) (sym (set_past table.rows b (sites_off s (sites_in table b)) past)) ok
+]
+
+gives_fine : (table : Table) (b : ℕ) (xs : List Site) → IsTable table → AreFine table (give_ups b xs)
+gives_fine table b [] ok = tt
+gives_fine table b (x ∷ xs) ok = let next = without_ok table b x.boundary ok in (next, gives_fine (without_site table b x.boundary) b xs next)
+
+all_fine : (table : Table) (spares : ℕ → List Site) (bs : List ℕ) → IsTable table → AreFine table (flat_map (λ b. give_ups b (spares b)) bs)
+all_fine table spares [] ok = tt
+all_fine table spares (b ∷ bs) ok =
+    let first = gives_fine table b (spares b) ok in
+    fine_both table (give_ups b (spares b)) (flat_map (λ b. give_ups b (spares b)) bs) first
+    (all_fine (all_done table (give_ups b (spares b))) spares bs (fine_end table (give_ups b (spares b)) ok first))
+
+tidying_fine : (targets : ℕ → ℕ → Bool) (table : Table) → IsTable table → AreFine table (tidying targets table)
+unfolding tidying
+tidying_fine targets table ok = all_fine table (λ b. spare (targets b) (sites_in table b)) (range_with_len 0 table.shape.n) ok
+
+meeting_fine : (targets : ℕ → ℕ → Bool) (table : Table) (found : Option Placement) → IsTable table → next_placement targets table ≡ found → AreFine table (meeting targets table found)
+meeting_fine targets table None ok is = tt
+meeting_fine targets table (Some p) ok is =
+    let next = copy_ok targets table p.block p.boundary ok (next_open targets table p is) in
+    (next, gives_fine (put_site table p.block (copied table p.boundary)) p.block (off_target (targets p.block) (sites_in table p.block)) next)
+
+round_fine : (targets : ℕ → ℕ → Bool) (table : Table) → IsTable table → AreFine table (round targets table)
+unfolding round
+round_fine targets table ok =
+    let first = tidying_fine targets table ok in
+    let now = all_done table (tidying targets table) in
+    fine_both table (tidying targets table) (meeting targets now (next_placement targets now)) first
+    (meeting_fine targets now (next_placement targets now) (fine_end table (tidying targets table) ok first) refl)
+
+ending_fine : (targets : ℕ → ℕ → Bool) (table : Table) (ps : List Placement) → IsTable table → AreFine table (ending targets table ps)
+ending_fine targets table [] ok = tidying_fine targets table ok
+ending_fine targets table (p ∷ ps) ok = tt
+
+rounds_fine : (targets : ℕ → ℕ → Bool) (k : ℕ) (table : Table) → IsTable table → AreFine table (rounds targets k table)
+rounds_fine targets zero table ok = ending_fine targets table (missing targets table) ok
+rounds_fine targets (suc k) table ok =
+    let one = round_fine targets table ok in
+    fine_both table (round targets table) (rounds targets k (all_done table (round targets table))) one
+    (rounds_fine targets k (all_done table (round targets table)) (fine_end table (round targets table) ok one))
+
+-- some of the first actions of moves lead to a table
+pub front_moved : (targets : ℕ → ℕ → Bool) (limit : Option ℕ) (old new : Table) (front rest : List Action) → IsTable old → moves targets limit old ≡ front ++ rest → new ≡ all_done old front
+    → IsTable new
+unfolding moves
+front_moved targets limit old new front rest ok whole led =
+    subst IsTable (sym led) (fine_front old front rest ok (subst (AreFine old) whole (rounds_fine targets (within limit (missing_in targets old)) old ok)))

@@ -31,7 +31,7 @@ use Rattle.dg_promise.proofs.VolumeLaws.{sound_geometry}
 
 -- ---- what order rests on
 
-order_stays : (Known : Type 0) (old new : State) → KeepsPlaces old new → IsInOrder Known old → IsInOrder Known new
+pub order_stays : (Known : Type 0) (old new : State) → KeepsPlaces old new → IsInOrder Known old → IsInOrder Known new
 order_stays Known old new kept order = record {
   wants = order.wants;
   seen = record {
@@ -87,7 +87,7 @@ pub record Volumes : Type 0 where
   pub local : InodesAreLocal
 
 module _ (facts : Volumes) (Known : Type 0) (told : Known) where
-  reaped_order : (old : State) (s low high : ℕ) (new : State) → HasWholeIndirects old.table.shape.l old.table.shape.n old.blocks → PassesSlots Known old s low high new → IsInOrder Known old
+  pub reaped_order : (old : State) (s low high : ℕ) (new : State) → HasWholeIndirects old.table.shape.l old.table.shape.n old.blocks → PassesSlots Known old s low high new → IsInOrder Known old
       → IsInOrder Known new
   reaped_order old s low high new whole h order =
       let sound = order.sound told in
@@ -113,7 +113,7 @@ module _ (facts : Volumes) (Known : Type 0) (told : Known) where
             (sound_onto old.table.shape.l old.table.shape.n old.blocks new.blocks has.0 has.1 same facts.local differ sound);
       }
 
-  spread_is : (old : State) (count gained : ℕ) (new : State) → IsTable old.table → Spreads Known old count gained new → (order : IsInOrder Known old)
+  pub spread_is : (old : State) (count gained : ℕ) (new : State) → IsTable old.table → Spreads Known old count gained new → (order : IsInOrder Known old)
       → IsSpread order.wants old.homes old.table.shape (spread_in new)
   spread_is old count gained new ok h order =
       let one = wants_same old.table old.blocks order.wants h.wants order.seen.fit (order.seen.are told) h.seen.fit (h.seen.are told) in
@@ -122,7 +122,7 @@ module _ (facts : Volumes) (Known : Type 0) (told : Known) where
       subst (IsSpread order.wants old.homes old.table.shape) (sym led)
       (all_spread order.wants old.homes old.table.shape (take count old.recent) (spread_in old) (record { placed = order.placed; fit = order.seen.fit; ok = ok; same = refl }))
 
-  spread_order : (old : State) (count gained : ℕ) (new : State) → IsTable old.table → Spreads Known old count gained new → IsInOrder Known old → IsInOrder Known new
+  pub spread_order : (old : State) (count gained : ℕ) (new : State) → IsTable old.table → Spreads Known old count gained new → IsInOrder Known old → IsInOrder Known new
   spread_order old count gained new ok h order =
       let is = spread_is old count gained new ok h order in
       let homes = ap (λ (state : State). state.homes) h.rest in

@@ -97,7 +97,7 @@ module _ (old : Table) (wants : List (Option Want)) (parents : List Parent) (hom
     written = λ b. fit.written b ∙ sym (all.leaves.written b);
   }
 
-settles : PlansAreTargets → (Known : Type 0) (old new : State) → IsTable old.table → Ascend old.homes → old.copies ≡ [] → Settles Known old new → IsInOrder Known new
+pub settles : PlansAreTargets → (Known : Type 0) (old new : State) → IsTable old.table → Ascend old.homes → old.copies ≡ [] → Settles Known old new → IsInOrder Known new
 settles plans Known old new ok up none h =
     let planned = h.planned in
     let fit = planned.sees_wants.fit in

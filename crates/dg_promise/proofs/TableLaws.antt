@@ -137,6 +137,34 @@ module _ (table : Table) (b s : ℕ) (within : b < length table.rows) where
           (λ ne. omega (arith, count_off_other s t (sites_in table b) ne, ok.one_site b t))
           (cases_eq s t)
 
+-- ---- the table without sites
+
+pub empty_row : (n b : ℕ) → get_or {A = List Site} (replicate n []) b [] ≡ []
+empty_row n b =
+    ⊎_elim
+    (λ lt. get_or-replicate n b [] [] lt)
+    (λ past. get_or_past (replicate n []) b [] (omega (arith, length-replicate {A = List Site} n [])))
+    (cases_lt b n)
+
+pub none_stands : (shape : Shape) (b s slot : ℕ) → StandsIn (empty_table shape) b s slot → ⊥
+none_stands shape b s slot h =
+    let there : Contains [] (site_at s slot) = subst (λ xs. Contains xs (site_at s slot)) (empty_row shape.n b) h in
+    absurd (omega (arith, there.1))
+
+pub used_empty : (shape : Shape) (s : ℕ) → used_in (empty_table shape) s ≡ 0
+used_empty shape s = omega (arith, sum_by-replicate (count_on s) shape.n [])
+
+pub IsTable-empty : (shape : Shape) → IsShape shape → IsTable (empty_table shape)
+IsTable-empty shape ok = record {
+  shape = ok;
+  size = length-replicate shape.n [];
+  boundaries = λ b s k h. absurd (none_stands shape b s k h);
+  slots = λ b s k h. absurd (none_stands shape b s k h);
+  one_block = λ a b s k g h. absurd (none_stands shape a s k g);
+  one_site = λ b s. subst (λ xs. count_on s xs ≤ 1) (sym (empty_row shape.n b)) (omega arith);
+  used = λ s. omega (arith, used_empty shape s);
+}
+
 -- a block that has a site is one of the table's
 pub block_within : (table : Table) (b s slot : ℕ) → StandsIn table b s slot → b < length table.rows
 block_within table b s slot h =

@@ -2,3 +2,5 @@
 pub mod Needed
 -- What a settled array promises of the files of its volume.
 pub mod Promises
+-- What all states keep.
+pub mod Steady
