@@ -1,5 +1,5 @@
 -- What every state keeps: the blank array has it, and each step leaves it.
-use Rattle.std.proofs.Common.{◌≡◌, ◌≢◌, ◌∙◌, ℕ, ◌+◌, ◌-◌, ◌<◌, ◌≤◌, ◌++◌, inl, inr, length, get_or, set, Bool, true, false, List, [], Option, Some, None, refl, sym, ap, subst, arith}
+use Rattle.std.proofs.Common.{◌≡◌, ◌≢◌, ◌∙◌, ℕ, suc, ◌+◌, ◌-◌, ◌<◌, ◌≤◌, ◌++◌, inl, inr, length, get_or, set, Bool, true, false, List, [], ◌∷◌, Option, Some, None, refl, sym, ap, subst, arith}
 use Rattle.std.specs.Prelude.{All, if◌then◌else◌, replicate}
 use Rattle.std.proofs.lemmas.Bool.{cases_Bool}
 use Rattle.std.proofs.lemmas.List.{get_or_default, length-append, length-replicate}
@@ -11,16 +11,19 @@ use Rattle.dg_model.specs.Changes.{IsInOrder, PassesSlots, Settles, Spreads, Wri
 use Rattle.dg_model.specs.Homes.{Ascend}
 use Rattle.dg_model.specs.Moves.{moves}
 use Rattle.dg_model.specs.Plans.{targets_of}
+use Rattle.dg_model.specs.Runs.{Run, Trace}
 use Rattle.dg_model.specs.Shapes.{IsShape}
 use Rattle.dg_model.specs.States.{Counts, IsBlank, State, after_calls, is_broken, plain_state}
 use Rattle.dg_model.specs.Steps.{Step}
 use Rattle.dg_model.specs.Tables.{IsTable, Table, empty_table}
 use Rattle.dg_model.specs.declared.events.Event.{Event}
-use Rattle.dg_model.specs.declared.events.Event.TheVariants.{Write}
+use Rattle.dg_model.specs.declared.events.Event.TheVariants.{Array, Write}
 use Rattle.dg_model.specs.declared.homes.Home.{Home}
 use Rattle.dg_model.specs.declared.phases.Phase.{Phase}
 use Rattle.dg_model.specs.declared.phases.Phase.TheVariants.{Loose, Settled, Worn}
 use Rattle.dg_model.specs.declared.replies.Reply.{Reply}
+use Rattle.dg_model.specs.declared.replies.Reply.TheVariants.{Done}
+use Rattle.dg_model.proofs.StepLaws.{step_keeps}
 use Rattle.dg_model.specs.declared.shapes.Shape.{Shape}
 use Rattle.dg_model.proofs.TableLaws.{IsSized, all_done_sized, sited_sized}
 use Rattle.dg_promise.proofs.Effects.{HasEffect, KeepsPlaces, Moves, effect_of}
@@ -159,3 +162,23 @@ blank_steady shape before state is blank = subst IsSteady (sym blank.is) (record
   no_copies = λ other. refl;
   settled = λ (no : Loose ≡ Settled). cc;
 })
+
+-- ---- runs
+
+module _ (facts : Volumes) (plans : PlansAreTargets) (whole : (l n : ℕ) (v : Volume) → All (λ block. length block ≡ l) v → HasWholeIndirects l n v) where
+  run_steady : (l : ℕ) (old : State) (events : List Event) (replies : List Reply) (new : State) → old.table.shape.l ≡ l → All (FitsBlock l) events → IsSteady old
+      → Run AreTold old events replies new → IsSteady new
+  run_steady l old [] [] new same fit steady is = subst IsSteady (sym is) steady
+  run_steady l old (event ∷ events) (reply ∷ replies) new same fit steady (mid, step, more) =
+      let fits = subst (λ (k : ℕ). FitsBlock k event) (sym same) (fit 0 event (omega arith)) in
+      let next = step_steady facts plans whole old event reply mid fits steady step in
+      let size : mid.table.shape.l ≡ l = ap (λ (x : Shape). x.l) (step_keeps AreTold old event reply mid step).table.shape ∙ same in
+      run_steady l mid events replies new size (λ k d low. fit (suc k) d (omega arith)) next more
+  run_steady l old [] (reply ∷ replies) new same fit steady none = absurd none
+  run_steady l old (event ∷ events) [] new same fit steady none = absurd none
+
+  pub trace_steady : (before : Counts) (shape : Shape) (events : List Event) (replies : List Reply) (new : State) → IsShape shape → All (FitsBlock shape.l) events
+      → Trace AreTold before (Array shape ∷ events) (Done ∷ replies) new → IsSteady new
+  trace_steady before shape events replies new is fit (blank, made, run) =
+      let size : blank.table.shape.l ≡ shape.l = ap (λ (state : State). state.table.shape.l) made.is in
+      run_steady shape.l blank events replies new size fit (blank_steady shape before blank is made) run
