@@ -1,44 +1,30 @@
 -- On a sound volume: which blocks the file at a path needs, and that it needs each of its own.
-use Rattle.std.proofs.Common.{◌≡◌, ◌≢◌, ◌∙◌, ◌⊎◌, ℕ, zero, suc, ◌+◌, ◌*◌, ◌-◌, ◌/◌, ◌^◌, ◌<◌, ◌≤◌, inl, inr, Bool, true, false, List, [], Option, Some, None, Result, Ok, Err, refl, sym, ap, subst, arith}
-use Rattle.std.specs.Prelude.{Contains, IsOkAnd, MatchOption, if◌then◌else◌, nat_le}
+use Rattle.std.proofs.Common.{◌≡◌, ◌≢◌, ℕ, ◌+◌, ◌*◌, ◌-◌, ◌/◌, ◌^◌, ◌<◌, ◌≤◌, inl, inr, true, Some, refl, sym, subst}
+use Rattle.std.specs.Prelude.{Contains, MatchOption}
 use Rattle.std.proofs.lemmas.Bool.{cases_lt}
-use Rattle.ufs_model.specs.Blocks.{Volume, bind, known}
-use Rattle.ufs_model.specs.Claims.{IsClaim, VolumeClaims, fragments_at, level_of, slot_fragments, source_fragments}
+use Rattle.ufs_model.specs.Blocks.{Volume}
+use Rattle.ufs_model.specs.Claims.{IsClaim, fragments_at, source_fragments}
 use Rattle.ufs_model.specs.Inodes.{block_count, has_pointers, kind_of, slot_of, span}
-use Rattle.ufs_model.specs.Malformations.{FirstBlock, HasPast, HasPastIn, HasTwoClaims, HasWild, HasWildIn, IsBad, IsInode, IsPointed, IsSoundVolume, first_block, inode_at, pointer_at}
+use Rattle.ufs_model.specs.Malformations.{FirstBlock, HasPast, HasWild, IsBad, IsPointed, first_block, inode_at, pointer_at}
 use Rattle.ufs_model.specs.Malformations.FirstBlock.{of_pointer, of_slot}
-use Rattle.ufs_model.specs.Owners.{BelongsTo, IsOwner}
+use Rattle.ufs_model.specs.Owners.{IsOwner}
 use Rattle.ufs_model.specs.Owners.IsOwner.{by_own_slot, by_upper}
-use Rattle.ufs_model.specs.Paths.{block_of, cat_of, contents_of, is_regular, look_from, look_of, named_inode, names_of, volume_geometry}
-use Rattle.ufs_model.specs.Pointers.{address, file_block_of, slot_address}
-use Rattle.ufs_model.specs.Readings.{and_then}
-use Rattle.ufs_model.specs.Roles.{is_system, role}
-use Rattle.ufs_model.specs.Superblocks.{geometry_of}
-use Rattle.ufs_model.specs.Trees.{file_of}
+use Rattle.ufs_model.specs.Paths.{contents_of, is_regular}
+use Rattle.ufs_model.specs.Pointers.{address, file_block_of}
 use Rattle.ufs_model.specs.declared.claims.ClaimSource.{ClaimSource}
 use Rattle.ufs_model.specs.declared.claims.ClaimSource.TheVariants.{Pointer, Slot}
 use Rattle.ufs_model.specs.declared.geometries.Geometry.{Geometry}
 use Rattle.ufs_model.specs.declared.inodes.Inode.{Inode}
-use Rattle.ufs_model.specs.declared.inodes.Kind.TheVariants.{Directory, Regular}
 use Rattle.ufs_model.specs.declared.malformations.BadKind.{BadKind}
-use Rattle.ufs_model.specs.declared.malformations.BadKind.TheVariants.{Filesize, Past, PastIn, Twice, Wild as WildSlot, WildIn}
+use Rattle.ufs_model.specs.declared.malformations.BadKind.TheVariants.{Filesize, Past, PastIn, Wild as WildSlot, WildIn}
 use Rattle.ufs_model.specs.declared.pointers.Address.TheVariants.{Hole, Wild}
-use Rattle.ufs_model.specs.declared.reads.PathRefusal.{PathRefusal}
-use Rattle.ufs_model.specs.declared.reads.PathRefusal.TheVariants.{NotRegular}
-use Rattle.ufs_frames.specs.Frames.{FilesAreTame, HasWholeIndirects, IsFile, IsTame, IsWhole}
-use Rattle.dg_model.specs.Volumes.{IsRegularFile, IsSystemBlock}
-use Rattle.dg_model.specs.Wants.{IsOf}
-use Rattle.dg_promise.proofs.DataLaws.{IsData, claim_data}
+use Rattle.ufs_frames.specs.Frames.{FilesAreTame, IsFile, IsWhole}
 use Rattle.dg_promise.proofs.FragmentLaws.{in_none}
 use Rattle.dg_promise.proofs.LedLaws.{pointer_low, reached_needed, slot_low}
-use Rattle.dg_promise.proofs.NeedLaws.{IsNeededBy, Needs, by_file, by_system, look_value, named_value, needs_bind, needs_cat, needs_known, needs_then, ok_same, regular_kind, then_value}
-use Rattle.dg_promise.proofs.OwnerLaws.{IsTraced, claim_contains, one_owner, owner_of_reached, place_in, pointer_above, traced}
-use Rattle.dg_promise.proofs.ReachLaws.{IsReachedFor, pointer_claims, slot_claims}
-use Rattle.dg_promise.proofs.ReadLaws.{IsRead, contents_need, contents_read, then_ok, then_refused, then_second}
-use Rattle.dg_promise.proofs.RoleLaws.{superblock_system}
-use Rattle.dg_promise.proofs.VolumeLaws.{accepted_is_read, fragments_by, geometry_is, geometry_needs, one_geometry, sound_by, sound_geometry, volume_accepted, whole_by}
-use Rattle.dg_promise.specs.Needed.{IsNeeded}
-use Rattle.dg_promise.specs.Needed.IsNeeded.{of_directory, of_file, of_system}
+use Rattle.dg_promise.proofs.NeedLaws.{regular_kind}
+use Rattle.dg_promise.proofs.OwnerLaws.{claim_contains, place_in, pointer_above, traced}
+use Rattle.dg_promise.proofs.ReachLaws.{pointer_claims, slot_claims}
+use Rattle.dg_promise.proofs.ReadLaws.{IsRead, contents_need, contents_read}
 
 -- ---- claims of what isn't 0
 

@@ -1,13 +1,11 @@
 -- A `cat` in a step in which no boundary becomes lost: what is answered, by whether a needed block is gone.
-use Rattle.std.proofs.Common.{◌≡◌, ◌≢◌, ◌∙◌, ◌⊎◌, ℕ, ◌<◌, inl, inr, Bool, true, false, List, [], ◌++◌, Option, Some, None, Result, Ok, Err, refl, sym, ap, subst, arith}
-use Rattle.std.specs.Prelude.{Contains}
+use Rattle.std.proofs.Common.{◌≡◌, ◌∙◌, ℕ, ◌<◌, inl, inr, Bool, true, false, List, Result, Ok, Err, refl, sym, ap, subst, arith}
 use Rattle.std.specs.List.{concat, list_any}
 use Rattle.std.proofs.lemmas.Bool.{cases_Bool, false≢true}
 use Rattle.ufs_model.specs.Paths.{cat_of}
 use Rattle.ufs_model.specs.declared.reads.PathRefusal.{PathRefusal}
 use Rattle.ufs_frames.specs.Frames.{FilesAreTame, HasWholeIndirects}
 use Rattle.dg_model.specs.Changes.{IsInOrder}
-use Rattle.dg_model.specs.Members.{is_lost}
 use Rattle.dg_model.specs.Sites.{is_gone}
 use Rattle.dg_model.specs.States.{State, gone_in}
 use Rattle.dg_model.specs.Steps.{Step}
@@ -18,7 +16,7 @@ use Rattle.dg_model.specs.declared.replies.Reply.TheVariants.{Cut, Given, Refuse
 use Rattle.dg_promise.proofs.GoneLaws.{any_found, any_there, gone_before, stands_site}
 use Rattle.dg_promise.proofs.PathLaws.{cat_read, refused_too}
 use Rattle.dg_promise.proofs.PromiseLaws.{lost_file, survives_or, whole_file, whole_refusal}
-use Rattle.dg_promise.specs.Promises.{FewLost, GivesAll, KeepsPromise, LeadsNowhere, LeadsTo, LosesNone, RefusesAs, Survives}
+use Rattle.dg_promise.specs.Promises.{FewLost, GivesAll, KeepsPromise, LosesNone}
 
 -- whether a block is gone that is needed for the file at a path
 abbrev pub lacks : State → List ℕ → Bool

@@ -1,15 +1,13 @@
 -- The table once blocks were copied to a boundary.
-use Rattle.std.proofs.Common.{◌≡◌, ◌≢◌, ◌<◌, ◌≤◌, ◌+◌, ◌++◌, ◌==◌, ℕ, zero, suc, true, cond, List, [], ◌∷◌, length, get_or, map, inl, inr, refl, sym, ◌∙◌, ap, subst, arith, get_or-set_other, get_or-set_same}
+use Rattle.std.proofs.Common.{◌≡◌, ◌≢◌, ◌<◌, ◌+◌, ◌++◌, ◌==◌, ℕ, true, cond, List, [], ◌∷◌, length, map, inl, inr, refl, sym, ◌∙◌, ap, subst, arith, get_or-set_other, get_or-set_same}
 use Rattle.std.specs.List.{Contains}
-use Rattle.std.proofs.lemmas.List.{length-set, same_lists}
-use Rattle.std.proofs.lemmas.List.Sums.{sum_by-set}
+use Rattle.std.proofs.lemmas.List.{length-set}
 use Rattle.dg_model.specs.Moves.{Action, all_done, copy_to, done}
 use Rattle.dg_model.specs.Sites.{has_site}
-use Rattle.dg_model.specs.Tables.{IsLowestFree, IsTable, Table, count_on, lowest_free, put_site, sites_in, sites_off, used_in, without_site}
+use Rattle.dg_model.specs.Tables.{Table, count_on, lowest_free, put_site, sites_in}
 use Rattle.dg_model.specs.declared.sites.Site.{Site}
-use Rattle.dg_model.proofs.FreeLaws.{lowest_free_found}
-use Rattle.dg_model.proofs.SiteLists.{count_on-last, count_on-push, off_last}
-use Rattle.dg_model.proofs.TableLaws.{IsSized, all_done_sized, sized_both}
+use Rattle.dg_model.proofs.SiteLists.{count_on-push}
+use Rattle.dg_model.proofs.TableLaws.{IsSized, all_done_sized}
 use Rattle.dg_promise.proofs.Lists.{AreApart, head_in, in_parts, nothing_in, tail_in}
 
 -- each of these blocks is copied to boundary s

@@ -12,14 +12,14 @@ use Rattle.ufs_model.specs.Geometries.{IsGeometry, cgstart}
 use Rattle.ufs_model.specs.Inodes.{has_pointers, inode_of, is_inode_number, slot_of, span}
 use Rattle.ufs_model.specs.Numbers.{all_below}
 use Rattle.ufs_model.specs.Pointers.{address, is_data_run, pointer_in}
-use Rattle.ufs_model.specs.Roles.{has_super, is_data_of, is_system, role, role_in}
+use Rattle.ufs_model.specs.Roles.{has_super, is_data_of, role, role_in}
 use Rattle.ufs_model.specs.declared.claims.ClaimSource.{ClaimSource}
 use Rattle.ufs_model.specs.declared.claims.ClaimSource.TheVariants.{Pointer, Slot}
 use Rattle.ufs_model.specs.declared.geometries.Geometry.{Geometry}
 use Rattle.ufs_model.specs.declared.inodes.Inode.{Inode}
 use Rattle.ufs_model.specs.declared.pointers.Address.TheVariants.{At, Hole, Wild}
 use Rattle.ufs_model.specs.declared.roles.Role.{Role}
-use Rattle.ufs_model.specs.declared.roles.Role.TheVariants.{Data, Outside, System}
+use Rattle.ufs_model.specs.declared.roles.Role.TheVariants.{Outside, System}
 use Rattle.ufs_model.specs.declared.roles.SystemKind.TheVariants.{Boot, Super}
 use Rattle.dg_promise.proofs.FragmentLaws.{in_none, in_one}
 

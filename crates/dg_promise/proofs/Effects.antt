@@ -1,7 +1,7 @@
 -- What a step does to the blocks, their places and the homes of files: one of six things.
-use Rattle.std.proofs.Common.{◌≡◌, ◌≢◌, ◌∙◌, ℕ, ◌+◌, ◌*◌, ◌<◌, inl, inr, length, List, [], ◌++◌, Option, Some, None, Bool, refl, sym, ap, subst}
+use Rattle.std.proofs.Common.{◌≡◌, ◌≢◌, ◌∙◌, ℕ, ◌<◌, inl, inr, length, List, [], ◌++◌, Option, Some, None, Bool, refl, sym, ap, subst}
 use Rattle.std.proofs.lemmas.List.{append-nil}
-use Rattle.dg_model.specs.Changes.{BreaksOff, IsCut, PassesSlots, Rebuilds, Settles, Spreads, Stays, Tends, Writes}
+use Rattle.dg_model.specs.Changes.{IsCut, PassesSlots, Settles, Spreads, Stays, Tends, Writes}
 use Rattle.dg_model.specs.Moves.{Action, all_done, moves}
 use Rattle.dg_model.specs.Plans.{targets_of}
 use Rattle.dg_model.specs.States.{State, after_calls}

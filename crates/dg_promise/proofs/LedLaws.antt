@@ -1,17 +1,15 @@
 -- What is reached through a source is consulted where its first file block is read.
-use Rattle.std.proofs.Common.{◌≡◌, ◌∙◌, ℕ, zero, suc, ◌+◌, ◌-◌, ◌*◌, ◌/◌, ◌%◌, ◌^◌, ◌<◌, ◌≤◌, inl, inr, length, Bool, true, false, ◌&&◌, List, [], ◌∷◌, ◌++◌, Option, Some, None, refl, sym, ap, subst, arith}
+use Rattle.std.proofs.Common.{◌≡◌, ◌∙◌, ℕ, zero, suc, ◌+◌, ◌-◌, ◌*◌, ◌/◌, ◌%◌, ◌^◌, ◌<◌, ◌≤◌, inl, inr, length, Bool, true, false, ◌&&◌, List, [], ◌∷◌, Option, Some, None, refl, sym, ap, subst, arith}
 use Rattle.std.specs.Prelude.{Contains, if◌then◌else◌, nat_lt, slice_get}
 use Rattle.std.proofs.Math.Nat.{mul-le-mul_right}
 use Rattle.std.proofs.lemmas.Bool.{cases_lt}
 use Rattle.std.proofs.lemmas.Bool.Decides.{nat_tests}
 use Rattle.std.proofs.lemmas.List.Elements.{Contains-append_left, Contains-append_right}
 use Rattle.std.proofs.lemmas.Nat.{div-mul-add, mod-mul-add}
-use Rattle.std.proofs.lemmas.Option.{slice_get_within}
 use Rattle.ufs_model.specs.Blocks.{Volume, area_of, bind, block_at}
 use Rattle.ufs_model.specs.Claims.{fragments_at, fragments_from, level_of, pointer_fragments, slot_fragments, slot_fragments_in, source_fragments}
-use Rattle.ufs_model.specs.Geometries.{IsGeometry}
 use Rattle.ufs_model.specs.Inodes.{has_pointers, inode_of, is_inode_number, slot_of, span}
-use Rattle.ufs_model.specs.Malformations.{FirstBlock, first_block, inode_at}
+use Rattle.ufs_model.specs.Malformations.{FirstBlock, inode_at}
 use Rattle.ufs_model.specs.Malformations.FirstBlock.{of_pointer, of_slot}
 use Rattle.ufs_model.specs.Paths.{block_of, bytes_at}
 use Rattle.ufs_model.specs.Pointers.{address, file_block_of, pointer_in, slot_address, through}
@@ -22,8 +20,8 @@ use Rattle.ufs_model.specs.declared.inodes.Inode.{Inode}
 use Rattle.ufs_model.specs.declared.pointers.Address.{Address}
 use Rattle.ufs_model.specs.declared.pointers.Address.TheVariants.{At, Hole, Wild}
 use Rattle.ufs_frames.specs.Frames.{IsFile, IsWhole}
-use Rattle.dg_promise.proofs.DataLaws.{fragments_within, if_contains}
-use Rattle.dg_promise.proofs.FragmentLaws.{contains_got, fragments_get, fragments_have, in_none, pointer_at_fragment, pointers_many, quarters}
+use Rattle.dg_promise.proofs.DataLaws.{fragments_within}
+use Rattle.dg_promise.proofs.FragmentLaws.{contains_got, fragments_have, in_none, pointer_at_fragment, pointers_many, quarters}
 use Rattle.dg_promise.proofs.OwnerLaws.{reached_claim}
 use Rattle.dg_promise.proofs.ReachLaws.{address_span, pointer_claims, slot_claims, slot_whole}
 use Rattle.dg_promise.proofs.WalkLaws.{Leads, first_needs, first_value, slot_leads, step_leads}

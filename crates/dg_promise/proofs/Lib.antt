@@ -32,3 +32,4 @@ pub mod Effects
 pub mod OrderLaws
 pub mod ThinLaws
 pub mod SteadyLaws
+mod Rows

@@ -2,8 +2,7 @@
 use Rattle.std.proofs.Common.{◌≡◌, ◌≢◌, ◌∙◌, ◌&&◌, ◌==◌, ℕ, zero, suc, ◌+◌, ◌<◌, ◌≤◌, inl, inr, Bool, true, false, cond, not, List, [], ◌∷◌, ◌++◌, length, map, Option, Some, None, refl, sym, ap, subst, arith}
 use Rattle.std.specs.Prelude.{Contains, find, nat_le, nat_lt}
 use Rattle.std.specs.List.{filter, flat_map, range_with_len, sum_by}
-use Rattle.std.proofs.lemmas.Bool.{and_parts, both_ways, cases_Bool, cases_eq, cases_lt, false≢true, le-ltb, leb-true, lt-ltb, ltb-false}
-use Rattle.std.proofs.lemmas.Bool.Decides.{nat_tests}
+use Rattle.std.proofs.lemmas.Bool.{and_parts, both_ways, cases_Bool, cases_eq, cases_lt, le-ltb, leb-true, lt-ltb, ltb-false}
 use Rattle.std.proofs.lemmas.Grind.{flat_map-append}
 use Rattle.std.proofs.lemmas.List.{append-nil, length-append, length-map, set_past}
 use Rattle.std.proofs.lemmas.List.Elements.{Contains-append_cases, Contains-append_right}
@@ -19,7 +18,7 @@ use Rattle.dg_model.proofs.RoomLaws.{met_from, missing_from, two_steps_enough}
 use Rattle.dg_model.proofs.SiteLists.{apart_test, count_on-push, one_if, same_test, zero_if}
 use Rattle.dg_model.proofs.SpareLaws.{no_other, spare_met, unmet_none}
 use Rattle.dg_model.proofs.SumLaws.{count_one_less, count_pos, count_same, sum_one_less, sum_same, term_le}
-use Rattle.dg_promise.proofs.PlanLaws.{head_or_tail, in_filter}
+use Rattle.dg_promise.proofs.PlanLaws.{in_filter}
 use Rattle.dg_promise.proofs.SlotLaws.{free_is, free_low}
 use Rattle.dg_promise.proofs.SpareSteps.{drops, has_off, spare_push}
 use Rattle.dg_promise.proofs.TableLaws.{IsTable-put, IsTable-without, sites_put_here, sites_put_other, sites_without_here, sites_without_other}

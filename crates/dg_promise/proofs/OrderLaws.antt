@@ -1,20 +1,19 @@
 -- A settled state in order stays in order in each step but a write.
-use Rattle.std.proofs.Common.{◌≡◌, ◌≢◌, ◌∙◌, ◌⊎◌, ℕ, ◌+◌, ◌<◌, ◌≤◌, inl, inr, length, Bool, true, false, List, [], take, Option, Some, None, Ok, Err, refl, sym, ap, subst, arith}
-use Rattle.std.specs.Prelude.{All, is_some}
+use Rattle.std.proofs.Common.{◌≡◌, ◌∙◌, ℕ, inl, inr, List, take, Option, Some, None, refl, sym, ap, subst, arith}
+use Rattle.std.specs.Prelude.{is_some}
 use Rattle.std.proofs.lemmas.Bool.{false≢true}
 use Rattle.std.proofs.lemmas.List.{same_lists, get_or_default}
 use Rattle.ufs_model.specs.Blocks.{Volume}
 use Rattle.ufs_model.specs.Malformations.{IsSoundVolume}
 use Rattle.ufs_frames.specs.Frames.{AgreeOn, HasWholeIndirects, IsLoose}
-use Rattle.dg_model.specs.Changes.{BreaksOff, IsInOrder, PassesSlots, Rebuilds, Spreads, Stays, spread_in}
-use Rattle.dg_model.specs.Copies.{Spread, spread_over}
+use Rattle.dg_model.specs.Changes.{IsInOrder, PassesSlots, Spreads, spread_in}
+use Rattle.dg_model.specs.Copies.{spread_over}
 use Rattle.dg_model.specs.Placed.{IsPlaced}
-use Rattle.dg_model.specs.States.{State, after_calls}
-use Rattle.dg_model.specs.Steps.{Step, recent_after}
-use Rattle.dg_model.specs.Tables.{IsTable, Table, sites_in}
+use Rattle.dg_model.specs.States.{State}
+use Rattle.dg_model.specs.Steps.{Step}
+use Rattle.dg_model.specs.Tables.{IsTable, Table}
 use Rattle.dg_model.specs.Wants.{AreWants, FitWants, IsWant, want_of}
 use Rattle.dg_model.specs.declared.homes.Home.{Home as HomeRecord}
-use Rattle.dg_model.specs.declared.phases.Phase.{Phase}
 use Rattle.dg_model.specs.declared.phases.Phase.TheVariants.{Settled}
 use Rattle.dg_model.specs.declared.shapes.Shape.{Shape}
 use Rattle.dg_model.specs.declared.wants.Want.{Want}

@@ -1,13 +1,13 @@
 -- Reading the file at a path of a sound volume: which blocks it needs, and that it needs each of the file's own.
-use Rattle.std.proofs.Common.{◌≡◌, ◌≢◌, ◌∙◌, ◌⊎◌, ℕ, inl, inr, Bool, true, false, List, Option, Some, None, Result, Ok, Err, refl, sym, ap, subst, arith}
+use Rattle.std.proofs.Common.{◌≡◌, ◌∙◌, ◌⊎◌, ℕ, inl, inr, Bool, true, false, List, Some, Result, Ok, Err, refl, sym, ap, subst, arith}
 use Rattle.std.specs.Prelude.{Contains, IsOk, IsOkAnd, MatchOption, if◌then◌else◌}
-use Rattle.ufs_model.specs.Blocks.{Reading, Volume, known}
-use Rattle.ufs_model.specs.Claims.{IsClaim, level_of, source_fragments}
+use Rattle.ufs_model.specs.Blocks.{Volume}
+use Rattle.ufs_model.specs.Claims.{IsClaim, level_of}
 use Rattle.ufs_model.specs.Inodes.{kind_of}
-use Rattle.ufs_model.specs.Malformations.{HasTwoClaims, IsSoundVolume, inode_at}
+use Rattle.ufs_model.specs.Malformations.{IsSoundVolume, inode_at}
 use Rattle.ufs_model.specs.Owners.{IsOwner}
 use Rattle.ufs_model.specs.Owners.IsOwner.{by_own_slot, by_upper}
-use Rattle.ufs_model.specs.Paths.{cat_of, contents_of, file_refusal, is_regular, look_from, look_of, named_inode, names_of, unless_refused, volume_geometry}
+use Rattle.ufs_model.specs.Paths.{cat_of, contents_of, file_refusal, is_regular, look_from, look_of, names_of, volume_geometry}
 use Rattle.ufs_model.specs.Readings.{and_then}
 use Rattle.ufs_model.specs.Roles.{is_data_of, is_system, role}
 use Rattle.ufs_model.specs.Superblocks.{geometry_of}
@@ -22,11 +22,11 @@ use Rattle.ufs_model.specs.declared.reads.PathRefusal.{PathRefusal}
 use Rattle.ufs_model.specs.declared.reads.PathRefusal.TheVariants.{NotRegular}
 use Rattle.ufs_model.specs.declared.roles.Role.{Role}
 use Rattle.ufs_model.specs.declared.roles.Role.TheVariants.{Data, Outside, System}
-use Rattle.ufs_frames.specs.Frames.{FilesAreTame, HasWholeIndirects, IsWhole}
-use Rattle.dg_model.specs.Volumes.{IsRegularFile, IsSystemBlock, geometry_on}
+use Rattle.ufs_frames.specs.Frames.{FilesAreTame, HasWholeIndirects}
+use Rattle.dg_model.specs.Volumes.{IsRegularFile, IsSystemBlock}
 use Rattle.dg_model.specs.Wants.{IsOf}
 use Rattle.dg_promise.proofs.CatLaws.{file_needs, file_read}
-use Rattle.dg_promise.proofs.DataLaws.{IsData, claim_data}
+use Rattle.dg_promise.proofs.DataLaws.{claim_data}
 use Rattle.dg_promise.proofs.NeedLaws.{IsNeededBy, Needs, by_file, by_system, look_value, named_value, needs_bind, needs_cat, needs_known, needs_then, ok_same, regular_kind, then_value}
 use Rattle.dg_promise.proofs.OwnerLaws.{one_owner, owner_of_reached}
 use Rattle.dg_promise.proofs.ReachLaws.{IsReachedFor}

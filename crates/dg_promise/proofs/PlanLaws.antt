@@ -1,23 +1,20 @@
 -- The homes that a plan gives: just the files with written blocks have one, and they ascend.
-use Rattle.std.proofs.Common.{◌≡◌, ◌≢◌, ◌∙◌, ◌⊎◌, ◌&&◌, ◌==◌, ℕ, zero, suc, ◌+◌, ◌<◌, ◌≤◌, inl, inr, Bool, true, false, cond, not, List, [], ◌∷◌, Option, Some, None, Result, Ok, Err, refl, sym, ap, subst, arith}
-use Rattle.std.specs.Prelude.{Contains, IsSome, is_some, nat_lt, option_to_list, replicate, ◌↔◌}
-use Rattle.std.specs.List.{filter, flat_map, list_any}
-use Rattle.std.proofs.lemmas.Bool.{and_parts, cases_Bool, cases_lt, false≢true, ltb-true}
+use Rattle.std.proofs.Common.{◌≡◌, ◌≢◌, ◌∙◌, ◌⊎◌, ◌&&◌, ◌==◌, ℕ, suc, ◌<◌, ◌≤◌, inl, inr, Bool, true, not, List, [], ◌∷◌, Option, Some, None, Result, Ok, Err, refl, sym, ap, subst, arith}
+use Rattle.std.specs.Prelude.{Contains, is_some, nat_lt, replicate}
+use Rattle.std.specs.List.{filter, flat_map}
+use Rattle.std.proofs.lemmas.Bool.{and_parts, cases_Bool, false≢true, ltb-true}
 use Rattle.std.proofs.lemmas.Bool.Decides.{nat_tests}
 use Rattle.std.proofs.lemmas.List.Elements.{Contains-append_cases, Contains-append_right}
 use Rattle.dg_model.specs.Homes.{Ascend, home_of}
-use Rattle.dg_model.specs.Moves.{AreTargets}
-use Rattle.dg_model.specs.Plans.{Placed, Plan, beside, blocks_with, boundary_for, count_of, each_ok, files_in, has_room, is_kept, is_stray, place_file, place_kept, place_stray, place_with, placed_on, places_of, plan, stay, stay_all, stay_with, targets_by, targets_of, then_ok, waiting, with_file, with_number}
-use Rattle.dg_model.specs.Sites.{has_site}
-use Rattle.dg_model.specs.Tables.{Table, sites_in}
-use Rattle.dg_model.specs.Wants.{FitWants, want_of}
+use Rattle.dg_model.specs.Plans.{Placed, Plan, beside, blocks_with, boundary_for, count_of, each_ok, files_in, has_room, is_kept, is_stray, place_file, place_kept, place_stray, place_with, placed_on, places_of, plan, stay, stay_all, then_ok, waiting, with_number}
+use Rattle.dg_model.specs.Wants.{want_of}
 use Rattle.dg_model.specs.declared.homes.Home.{Home}
 use Rattle.dg_model.specs.declared.parents.Parent.{Parent}
 use Rattle.dg_model.specs.declared.shapes.Shape.{Shape}
 use Rattle.dg_model.specs.declared.wants.NoRoom.TheVariants.{Inode}
 use Rattle.dg_model.specs.declared.wants.Want.{Want}
 use Rattle.dg_model.specs.declared.wants.Want.TheVariants.{File, Kept, Stray}
-use Rattle.dg_promise.proofs.HomeLaws.{AscendFrom, Ascending, ascending_from, home_new, home_others, with_ascends}
+use Rattle.dg_promise.proofs.HomeLaws.{AscendFrom, Ascending, ascending_from, home_others, with_ascends}
 use Rattle.dg_promise.proofs.WantLaws.{block_counts}
 
 -- ---- results

@@ -1,29 +1,27 @@
 -- What is gone of a settled array with few lost boundaries, and what that leaves of its files.
-use Rattle.std.proofs.Common.{◌≡◌, ◌≢◌, ◌∙◌, ◌⊎◌, ℕ, ◌+◌, ◌%◌, ◌<◌, ◌≤◌, inl, inr, length, Bool, true, false, List, [], ◌∷◌, ◌++◌, Option, Some, None, Result, Ok, Err, refl, sym, ap, subst, arith}
-use Rattle.std.specs.Prelude.{Contains, IsNone, IsSome, IsSomeAnd, is_some, option_to_list, ◌==◌}
+use Rattle.std.proofs.Common.{◌≡◌, ◌∙◌, ◌⊎◌, ℕ, ◌+◌, ◌%◌, ◌<◌, inl, inr, true, false, List, ◌++◌, Option, Some, None, Result, Ok, Err, refl, sym, ap, arith}
+use Rattle.std.specs.Prelude.{IsNone, IsSome, IsSomeAnd, is_some, option_to_list, ◌==◌}
 use Rattle.std.specs.List.{list_any}
 use Rattle.std.proofs.lemmas.Bool.{cases_Bool, false≢true}
 use Rattle.std.proofs.lemmas.Bool.Decides.{nat_tests}
 use Rattle.std.proofs.lemmas.List.FromFn.{get_or-map-range_with_len, length-map-range_with_len}
-use Rattle.ufs_model.specs.Blocks.{Volume}
 use Rattle.ufs_model.specs.Paths.{cat_of}
-use Rattle.ufs_model.specs.Trees.{file_of}
 use Rattle.ufs_model.specs.declared.reads.PathRefusal.{PathRefusal}
 use Rattle.ufs_frames.specs.Frames.{FilesAreTame, HasWholeIndirects}
 use Rattle.dg_model.specs.Changes.{IsSoundIn}
 use Rattle.dg_model.specs.Homes.{home_of}
 use Rattle.dg_model.specs.Members.{is_lost}
-use Rattle.dg_model.specs.Placed.{IsPlaced, boundaries_with}
+use Rattle.dg_model.specs.Placed.{IsPlaced}
 use Rattle.dg_model.specs.Plans.{places_of}
 use Rattle.dg_model.specs.Shapes.{IsShape}
 use Rattle.dg_model.specs.Sites.{has_site}
 use Rattle.dg_model.specs.States.{State, gone_in}
-use Rattle.dg_model.specs.Tables.{is_on, sites_in}
-use Rattle.dg_model.specs.Wants.{AreWants, FitWants, IsOf, IsWant, want_of}
+use Rattle.dg_model.specs.Tables.{sites_in}
+use Rattle.dg_model.specs.Wants.{AreWants, FitWants, IsWant, want_of}
 use Rattle.dg_model.specs.declared.shapes.Shape.{Shape}
 use Rattle.dg_model.specs.declared.wants.Want.{Want}
 use Rattle.dg_model.specs.declared.wants.Want.TheVariants.{File, Kept, Stray}
-use Rattle.dg_model.proofs.ClaimSearch.{number_found, number_there}
+use Rattle.dg_model.proofs.ClaimSearch.{number_found}
 use Rattle.dg_promise.proofs.CountLaws.{places_count}
 use Rattle.dg_promise.proofs.GoneLaws.{any_found, any_there, gone_each, gone_from, gone_written}
 use Rattle.dg_promise.proofs.PathLaws.{alone, needed, no_system, own_needed}

@@ -1,20 +1,18 @@
 -- The contents of a file of which no file block is wild: they are read, and each of its file blocks is consulted.
-use Rattle.std.proofs.Common.{◌≡◌, ◌≢◌, ◌∙◌, ℕ, zero, suc, ◌^◌, ◌<◌, ◌≤◌, inl, inr, Bool, true, false, List, [], ◌++◌, Option, Some, None, Result, Ok, Err, refl, sym, ap, subst, arith}
-use Rattle.std.specs.Prelude.{Contains, if◌then◌else◌, nat_le}
+use Rattle.std.proofs.Common.{◌≡◌, ◌≢◌, ◌∙◌, ℕ, zero, suc, ◌^◌, ◌<◌, ◌≤◌, inl, inr, true, false, [], ◌++◌, Some, None, Result, Ok, Err, refl, sym, ap, subst, arith}
+use Rattle.std.specs.Prelude.{Contains, nat_le}
 use Rattle.std.proofs.lemmas.Bool.{cases_lt}
 use Rattle.std.proofs.lemmas.Bool.Decides.{nat_tests}
 use Rattle.std.proofs.lemmas.List.Elements.{Contains-append_left, Contains-append_right}
-use Rattle.ufs_model.specs.Blocks.{Reading, Volume, bind, known}
+use Rattle.ufs_model.specs.Blocks.{Reading, Volume, bind}
 use Rattle.ufs_model.specs.Inodes.{block_count, kind_of}
-use Rattle.ufs_model.specs.Paths.{block_of, bytes_at, contents_of, file_refusal, front_of, is_regular, part_of, size_refusal, unless_refused}
+use Rattle.ufs_model.specs.Paths.{block_of, bytes_at, contents_of, file_refusal, front_of, is_regular, part_of, unless_refused}
 use Rattle.ufs_model.specs.Pointers.{file_block_of}
 use Rattle.ufs_model.specs.Readings.{and_then, on_ok}
 use Rattle.ufs_model.specs.declared.geometries.Geometry.{Geometry}
 use Rattle.ufs_model.specs.declared.inodes.Inode.{Inode}
 use Rattle.ufs_model.specs.declared.pointers.Address.{Address}
 use Rattle.ufs_model.specs.declared.pointers.Address.TheVariants.{At, Hole, Wild}
-use Rattle.ufs_model.specs.declared.reads.PathRefusal.{PathRefusal}
-use Rattle.ufs_model.specs.declared.reads.PathRefusal.TheVariants.{NotRegular}
 
 -- ---- one reading after another
 

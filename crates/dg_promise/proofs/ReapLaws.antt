@@ -1,31 +1,26 @@
 -- A settled array from which dead blocks were reaped is in order.
-use Rattle.std.proofs.Common.{◌≡◌, ◌≢◌, ◌∙◌, ◌⊎◌, ℕ, zero, suc, ◌+◌, ◌<◌, ◌≤◌, inl, inr, length, get_or, Bool, true, false, cond, List, [], map, Option, Some, None, Result, Ok, Err, refl, sym, ap, subst, arith}
-use Rattle.std.specs.Prelude.{◌==◌, All, Contains, IsOkAnd, MatchOption, if◌then◌else◌, is_some, nat_lt, replicate}
+use Rattle.std.proofs.Common.{◌≡◌, ◌∙◌, ℕ, inl, inr, length, Bool, true, false, List, [], map, Option, Some, None, Result, Ok, Err, refl, sym, ap, subst, arith}
+use Rattle.std.specs.Prelude.{◌==◌, IsOkAnd, MatchOption, if◌then◌else◌, is_some, nat_lt, replicate}
 use Rattle.std.specs.List.{list_any, range_with_len}
 use Rattle.std.proofs.lemmas.Bool.{cases_Bool, cases_lt, false≢true}
 use Rattle.std.proofs.lemmas.List.{get_or_default, get_or_past}
 use Rattle.std.proofs.lemmas.List.FromFn.{get_or-map-range_with_len, length-map-range_with_len}
 use Rattle.ufs_model.specs.Blocks.{Consulted, Volume, block_at}
-use Rattle.ufs_model.specs.Inodes.{inode_block, inode_of, is_inode_number, kind_of}
+use Rattle.ufs_model.specs.Inodes.{inode_of, is_inode_number, kind_of}
 use Rattle.ufs_model.specs.Malformations.{IsSoundVolume, inode_at}
-use Rattle.ufs_model.specs.Owners.{BelongsTo}
 use Rattle.ufs_model.specs.Roles.{is_system, role}
 use Rattle.ufs_model.specs.Superblocks.{geometry_of}
 use Rattle.ufs_model.specs.declared.geometries.BadSuper.{BadSuper}
 use Rattle.ufs_model.specs.declared.geometries.Geometry.{Geometry}
 use Rattle.ufs_model.specs.declared.inodes.Inode.{Inode}
 use Rattle.ufs_model.specs.declared.inodes.Kind.TheVariants.{Regular}
-use Rattle.ufs_model.specs.declared.malformations.BadKind.{BadKind}
-use Rattle.ufs_model.specs.declared.roles.Role.{Role}
 use Rattle.ufs_model.specs.declared.roles.Role.TheVariants.{Data}
 use Rattle.ufs_frames.specs.Frames.{AgreeOn, DifferLoosely, HasWholeIndirects, IsLocal, IsLoose, IsUsed}
 use Rattle.ufs_frames.specs.Frames.IsUsed.{of_claim, of_system}
 use Rattle.dg_model.specs.Blocks.{block_in, zeros}
-use Rattle.dg_model.specs.Changes.{IsInOrder}
-use Rattle.dg_model.specs.Homes.{home_of}
 use Rattle.dg_model.specs.Marks.{IsDead}
 use Rattle.dg_model.specs.Placed.{IsPlaced}
-use Rattle.dg_model.specs.Plans.{count_of, places_of}
+use Rattle.dg_model.specs.Plans.{places_of}
 use Rattle.dg_model.specs.Refills.{Reaps}
 use Rattle.dg_model.specs.Sites.{has_site}
 use Rattle.dg_model.specs.Tables.{Table, count_on, is_on, sites_in}
@@ -37,9 +32,9 @@ use Rattle.dg_model.specs.declared.sites.Site.{Site}
 use Rattle.dg_model.specs.declared.wants.Want.{Want}
 use Rattle.dg_model.specs.declared.wants.Want.TheVariants.{File, Kept, Stray}
 use Rattle.dg_promise.proofs.NeedLaws.{inode_needs, number_below}
-use Rattle.dg_promise.proofs.PathLaws.{no_system, owner_claim}
+use Rattle.dg_promise.proofs.PathLaws.{owner_claim}
 use Rattle.dg_promise.proofs.RoleLaws.{inode_system}
-use Rattle.dg_promise.proofs.VolumeLaws.{geometry_is, one_geometry}
+use Rattle.dg_promise.proofs.VolumeLaws.{geometry_is}
 use Rattle.dg_promise.proofs.WantLaws.{block_counts, some_block}
 
 -- loose blocks may change

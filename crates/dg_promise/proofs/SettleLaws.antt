@@ -1,17 +1,17 @@
 -- A state that was settled is in order.
-use Rattle.std.proofs.Common.{◌≡◌, ◌≢◌, ◌∙◌, ◌==◌, ℕ, ◌+◌, ◌<◌, ◌≤◌, inl, inr, Bool, true, false, List, [], ◌++◌, length, Option, Some, None, Result, Ok, Err, refl, sym, ap, subst, arith}
+use Rattle.std.proofs.Common.{◌≡◌, ◌≢◌, ◌∙◌, ◌==◌, ℕ, ◌<◌, ◌≤◌, inl, inr, Bool, true, false, List, [], Option, Some, None, Ok, refl, sym, ap, subst, arith}
 use Rattle.std.specs.Prelude.{is_some, option_to_list}
 use Rattle.std.specs.List.{list_any}
-use Rattle.std.proofs.lemmas.Bool.{cases_Bool, cases_lt, false≢true}
+use Rattle.std.proofs.lemmas.Bool.{cases_Bool, cases_lt}
 use Rattle.std.proofs.lemmas.List.{append-nil}
-use Rattle.dg_model.specs.Changes.{IsInOrder, IsPlan, SeesWants, Settles}
+use Rattle.dg_model.specs.Changes.{IsInOrder, Settles}
 use Rattle.dg_model.specs.Homes.{Ascend, home_of}
-use Rattle.dg_model.specs.Moves.{AreTargets, IsAtTargets, moved}
-use Rattle.dg_model.specs.Placed.{IsPlaced, StandsOnJust}
+use Rattle.dg_model.specs.Moves.{AreTargets, moved}
+use Rattle.dg_model.specs.Placed.{IsPlaced}
 use Rattle.dg_model.specs.Plans.{Plan, count_of, places_of, plan, targets_by, targets_of}
 use Rattle.dg_model.specs.Shapes.{IsShape}
 use Rattle.dg_model.specs.Sites.{has_site}
-use Rattle.dg_model.specs.States.{State, after_calls}
+use Rattle.dg_model.specs.States.{State}
 use Rattle.dg_model.specs.Steps.{Step}
 use Rattle.dg_model.specs.Tables.{IsTable, Table, is_on, sites_in}
 use Rattle.dg_model.specs.Wants.{FitWants, want_of}
@@ -22,7 +22,7 @@ use Rattle.dg_model.specs.declared.phases.Phase.TheVariants.{Settled}
 use Rattle.dg_model.specs.declared.replies.Reply.TheVariants.{Settled as SettledReply}
 use Rattle.dg_model.specs.declared.shapes.Shape.{Shape}
 use Rattle.dg_model.specs.declared.wants.Want.{Want}
-use Rattle.dg_model.specs.declared.wants.Want.TheVariants.{File, Kept, Stray}
+use Rattle.dg_model.specs.declared.wants.Want.TheVariants.{File, Kept}
 use Rattle.dg_promise.proofs.GoneLaws.{stands_site}
 use Rattle.dg_promise.proofs.MoveLaws.{IsMoved, all_moved}
 use Rattle.dg_promise.proofs.PlanLaws.{good_plan}

@@ -1,5 +1,5 @@
 -- What every state keeps: the blank array has it, and each step leaves it.
-use Rattle.std.proofs.Common.{◌≡◌, ◌≢◌, ◌∙◌, ℕ, suc, ◌+◌, ◌-◌, ◌<◌, ◌≤◌, ◌++◌, inl, inr, length, get_or, set, Bool, true, false, List, [], ◌∷◌, Option, Some, None, refl, sym, ap, subst, arith}
+use Rattle.std.proofs.Common.{◌≡◌, ◌≢◌, ◌∙◌, ℕ, suc, ◌-◌, ◌<◌, ◌≤◌, inl, inr, length, get_or, Bool, true, false, List, [], ◌∷◌, None, refl, sym, ap, subst, arith}
 use Rattle.std.specs.Prelude.{All, if◌then◌else◌, replicate}
 use Rattle.std.proofs.lemmas.Bool.{cases_Bool}
 use Rattle.std.proofs.lemmas.List.{get_or_default, length-append, length-replicate}
@@ -7,26 +7,24 @@ use Rattle.std.proofs.lemmas.List.Elements.{All-replicate, All-set}
 use Rattle.ufs_frames.specs.Frames.{HasWholeIndirects}
 use Rattle.ufs_model.specs.Blocks.{Volume}
 use Rattle.dg_model.specs.Blocks.{block_in, padded, zeros}
-use Rattle.dg_model.specs.Changes.{IsInOrder, PassesSlots, Settles, Spreads, Writes, phase_after}
+use Rattle.dg_model.specs.Changes.{PassesSlots, Writes, phase_after}
 use Rattle.dg_model.specs.Homes.{Ascend}
 use Rattle.dg_model.specs.Moves.{moves}
 use Rattle.dg_model.specs.Plans.{targets_of}
 use Rattle.dg_model.specs.Runs.{Run, Trace}
 use Rattle.dg_model.specs.Shapes.{IsShape}
-use Rattle.dg_model.specs.States.{Counts, IsBlank, State, after_calls, is_broken, plain_state}
+use Rattle.dg_model.specs.States.{Counts, IsBlank, State, is_broken}
 use Rattle.dg_model.specs.Steps.{Step}
-use Rattle.dg_model.specs.Tables.{IsTable, Table, empty_table}
+use Rattle.dg_model.specs.Tables.{IsTable, Table}
 use Rattle.dg_model.specs.declared.events.Event.{Event}
-use Rattle.dg_model.specs.declared.events.Event.TheVariants.{Array, Write}
-use Rattle.dg_model.specs.declared.homes.Home.{Home}
-use Rattle.dg_model.specs.declared.phases.Phase.{Phase}
-use Rattle.dg_model.specs.declared.phases.Phase.TheVariants.{Loose, Settled, Worn}
+use Rattle.dg_model.specs.declared.events.Event.TheVariants.{Array}
+use Rattle.dg_model.specs.declared.phases.Phase.TheVariants.{Loose, Settled}
 use Rattle.dg_model.specs.declared.replies.Reply.{Reply}
 use Rattle.dg_model.specs.declared.replies.Reply.TheVariants.{Done}
 use Rattle.dg_model.proofs.StepLaws.{step_keeps}
 use Rattle.dg_model.specs.declared.shapes.Shape.{Shape}
 use Rattle.dg_model.proofs.TableLaws.{IsSized, all_done_sized, sited_sized}
-use Rattle.dg_promise.proofs.Effects.{HasEffect, KeepsPlaces, Moves, effect_of}
+use Rattle.dg_promise.proofs.Effects.{HasEffect, KeepsPlaces, effect_of}
 use Rattle.dg_promise.proofs.Effects.HasEffect.{keeps, moves_some, passes, settles, spreads, writes}
 use Rattle.dg_promise.proofs.MoveLaws.{front_moved}
 use Rattle.dg_promise.proofs.OrderLaws.{Volumes, order_stays, reaped_order, spread_is, spread_order}

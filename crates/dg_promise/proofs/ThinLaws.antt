@@ -1,5 +1,5 @@
 -- Tables from which sites went, and one in which a block got its first site.
-use Rattle.std.proofs.Common.{◌≡◌, ◌≢◌, ◌∙◌, ℕ, zero, suc, ◌+◌, ◌-◌, ◌%◌, ◌<◌, ◌≤◌, inl, inr, length, get_or, take, drop, Bool, true, false, List, [], ◌∷◌, ◌++◌, refl, sym, ap, subst, arith}
+use Rattle.std.proofs.Common.{◌≡◌, ◌∙◌, ℕ, zero, suc, ◌+◌, ◌-◌, ◌%◌, ◌<◌, ◌≤◌, inl, inr, length, get_or, take, drop, Bool, true, false, List, [], ◌∷◌, ◌++◌, refl, sym, ap, subst, arith}
 use Rattle.std.specs.Prelude.{Contains, if◌then◌else◌}
 use Rattle.std.specs.List.{sum_by}
 use Rattle.std.proofs.lemmas.Bool.{cases_Bool, cases_eq, cases_lt, false≢true}
@@ -9,8 +9,8 @@ use Rattle.std.proofs.lemmas.List.Sums.{sum_by-cons}
 use Rattle.std.proofs.lemmas.Nat.{mod_below}
 use Rattle.dg_model.specs.Refills.{Reaps}
 use Rattle.dg_model.specs.Shapes.{IsShape}
-use Rattle.dg_model.specs.Sites.{Evicts, IsFirstBoundary, IsGivenFirst, IsSited, has_site, without_last}
-use Rattle.dg_model.specs.Tables.{IsTable, StandsIn, Table, count_on, put_site, sites_in, used_in}
+use Rattle.dg_model.specs.Sites.{Evicts, IsFirstBoundary, IsSited, has_site, without_last}
+use Rattle.dg_model.specs.Tables.{IsTable, StandsIn, Table, count_on, sites_in, used_in}
 use Rattle.dg_model.specs.declared.shapes.Shape.{Shape}
 use Rattle.dg_model.specs.declared.sites.Site.{Site}
 use Rattle.dg_model.proofs.FreeLaws.{taken_to}

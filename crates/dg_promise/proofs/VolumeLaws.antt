@@ -1,14 +1,13 @@
 -- What a volume of n blocks of l bytes is by its geometry.
-use Rattle.std.proofs.Common.{◌≡◌, ◌∙◌, ℕ, length, List, [], Option, Some, None, Result, Ok, Err, inl, inr, refl, sym, ap, subst, arith}
-use Rattle.std.specs.Prelude.{Contains, IsOkAnd, MatchOption}
+use Rattle.std.proofs.Common.{◌≡◌, ◌∙◌, ℕ, length, [], Result, Ok, Err, inl, inr, refl, sym, ap, subst, arith}
+use Rattle.std.specs.Prelude.{Contains}
 use Rattle.std.proofs.lemmas.List.Elements.{Contains-append_cases}
 use Rattle.ufs_model.specs.Blocks.{Volume, bind, block_at}
-use Rattle.ufs_model.specs.Claims.{IsClaim, VolumeClaims, source_fragments, source_fragments_in, volume_fragments}
+use Rattle.ufs_model.specs.Claims.{IsClaim, source_fragments, source_fragments_in, volume_fragments}
 use Rattle.ufs_model.specs.Geometries.{IsGeometryOn}
 use Rattle.ufs_model.specs.Malformations.{IsBad, IsBadBy, IsMalformed, IsSoundVolume}
 use Rattle.ufs_model.specs.Paths.{or_bad_super, volume_geometry}
 use Rattle.ufs_model.specs.Superblocks.{geometry_of, superblock_of}
-use Rattle.ufs_model.specs.declared.claims.ClaimSource.{ClaimSource}
 use Rattle.ufs_model.specs.declared.geometries.BadSuper.{BadSuper}
 use Rattle.ufs_model.specs.declared.geometries.Geometry.{Geometry}
 use Rattle.ufs_model.specs.declared.malformations.BadKind.{BadKind}

@@ -1,6 +1,6 @@
 -- File blocks are found through what they are reached through: the way from the slot of an inode, level by level.
-use Rattle.std.proofs.Common.{◌≡◌, ◌∙◌, ℕ, zero, suc, ◌+◌, ◌-◌, ◌*◌, ◌/◌, ◌%◌, ◌^◌, ◌<◌, ◌≤◌, inl, inr, lit<, Bool, true, false, List, [], ◌∷◌, ◌++◌, Some, refl, sym, ap, subst, arith}
-use Rattle.std.specs.Prelude.{◌==◌, Contains, if◌then◌else◌, nat_lt, slice_get}
+use Rattle.std.proofs.Common.{◌≡◌, ◌∙◌, ℕ, zero, suc, ◌+◌, ◌-◌, ◌*◌, ◌/◌, ◌%◌, ◌^◌, ◌<◌, ◌≤◌, inl, inr, Bool, true, false, refl, sym, ap, subst, arith}
+use Rattle.std.specs.Prelude.{◌==◌, Contains, if◌then◌else◌, nat_lt}
 use Rattle.std.proofs.Math.Nat.{div-one, mul-le-mul_right, one-le-pow, one-mul, pow-suc, pow-succ'}
 use Rattle.std.proofs.Math.Arith.{mod-mul}
 use Rattle.std.proofs.lemmas.Bool.{cases_lt}
@@ -9,8 +9,7 @@ use Rattle.std.proofs.lemmas.List.{append-nil}
 use Rattle.std.proofs.lemmas.List.Elements.{Contains-append_cases, Contains-append_left, Contains-append_right}
 use Rattle.std.proofs.lemmas.Nat.{div-mul-add, mod-mul-add, mod_below}
 use native.Mathlib.Numerals.{unary_clauses}
-use Rattle.ufs_model.specs.Blocks.{Consulted, Reading, Volume, area_of, bind, known, ◌>>=◌}
-use Rattle.ufs_model.specs.Inodes.{slot_of}
+use Rattle.ufs_model.specs.Blocks.{Consulted, Reading, Volume, bind, known, ◌>>=◌}
 use Rattle.ufs_model.specs.Malformations.{first_block}
 use Rattle.ufs_model.specs.Pointers.{chain_address, file_block_of, indirect_of, locate_of, slot_address, through}
 use Rattle.ufs_model.specs.declared.geometries.Geometry.{Geometry}
@@ -18,7 +17,7 @@ use Rattle.ufs_model.specs.declared.inodes.Inode.{Inode}
 use Rattle.ufs_model.specs.declared.pointers.Address.{Address}
 use Rattle.ufs_model.specs.declared.pointers.Chain.{Chain}
 use Rattle.ufs_model.specs.declared.pointers.Chain.TheVariants.{Direct, One, Two, Three}
-use Rattle.dg_promise.proofs.FragmentLaws.{in_none, two_powers}
+use Rattle.dg_promise.proofs.FragmentLaws.{two_powers}
 
 -- file block m of those that are found through an address, k levels down
 pub descend : Geometry → ℕ → ℕ → Address → Reading Address

@@ -8,6 +8,8 @@ mod needs;
 mod orders;
 mod promises;
 mod steady;
+#[cfg(test)]
+mod tests;
 
 pub use crate::needs::{
     blocks_have_one_owner, files_are_read, files_need_their_blocks, needed_blocks_have_reasons,
