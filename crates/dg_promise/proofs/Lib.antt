@@ -33,3 +33,5 @@ pub mod OrderLaws
 pub mod ThinLaws
 pub mod SteadyLaws
 mod Rows
+pub mod LossLaws
+pub mod ValidLaws

@@ -1,11 +1,13 @@
 // What a settled array promises while few boundaries are lost.
 ghost use Rattle.std.specs.Prelude.{◌≡◌, ℕ, List, ◌∷◌, All, length};
+ghost use Rattle.dg_model.specs.Causes.{NoneRose};
 ghost use Rattle.dg_model.specs.Changes.{IsInOrder};
 ghost use Rattle.dg_model.specs.Runs.{Trace};
 ghost use Rattle.dg_model.specs.Shapes.{IsShape};
 ghost use Rattle.dg_model.specs.States.{Counts, State};
 ghost use Rattle.dg_model.specs.Steps.{Step};
 ghost use Rattle.dg_model.specs.Tables.{IsTable};
+ghost use Rattle.dg_model.specs.Valid.{KeepsPromise as KeepsItsWord};
 ghost use Rattle.dg_model.specs.declared.events.Event.{Event};
 ghost use Rattle.dg_model.specs.declared.events.Event.TheVariants.{Array, Cat};
 ghost use Rattle.dg_model.specs.declared.phases.Phase.TheVariants.{Settled};
@@ -43,4 +45,20 @@ pub fn runs_keep_their_promise()
     volumes_of_whole_blocks();
     change_of_loose_blocks();
     parts_are_local();
+}
+
+/// A `cat` in which no member's count of faults rose loses no boundary.
+pub fn cats_without_faults_lose_none()
+    ensures { (old : State) (path : List ℕ) (reply : Reply) (new : State) → Step AreTold old (Cat path) reply new
+        → NoneRose old.counts.faults new.counts.faults → LosesNone old new }
+{}
+
+/// What the state itself promises, whatever is read: no block is gone that the path needs, exactly where the file is served; and none for
+/// a path that leads to no regular file.
+pub fn few_losses_leave_files_whole()
+    ensures { (state : State) (path : List ℕ) → IsTable state.table → All (λ block. length block ≡ state.table.shape.l) state.blocks
+        → IsInOrder AreTold state → FewLost state → KeepsItsWord state path }
+{
+    files_are_tame();
+    volumes_of_whole_blocks();
 }

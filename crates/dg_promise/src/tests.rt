@@ -1,5 +1,6 @@
 use crate::{
-    blank_arrays_are_steady, blocks_have_one_owner, cat_keeps_its_promise, files_are_read,
+    blank_arrays_are_steady, blocks_have_one_owner, cat_keeps_its_promise,
+    cats_without_faults_lose_none, few_losses_leave_files_whole, files_are_read,
     files_need_their_blocks, needed_blocks_have_reasons, order_is_kept, runs_keep_their_promise,
     settled_is_in_order, steps_keep_steady,
 };
@@ -12,6 +13,8 @@ fn laws_can_be_called(_rt: HostRuntime) {
     files_need_their_blocks();
     files_are_read();
     cat_keeps_its_promise();
+    cats_without_faults_lose_none();
+    few_losses_leave_files_whole();
     runs_keep_their_promise();
     settled_is_in_order();
     order_is_kept();
