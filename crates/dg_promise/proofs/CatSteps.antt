@@ -16,7 +16,7 @@ use Rattle.dg_model.specs.declared.replies.Reply.TheVariants.{Cut, Given, Refuse
 use Rattle.dg_promise.proofs.GoneLaws.{any_found, any_there, gone_before, stands_site}
 use Rattle.dg_promise.proofs.PathLaws.{cat_read, refused_too}
 use Rattle.dg_promise.proofs.PromiseLaws.{lost_file, survives_or, whole_file, whole_refusal}
-use Rattle.dg_promise.specs.Promises.{FewLost, GivesAll, KeepsPromise, LosesNone}
+use Rattle.dg_promise.specs.Promises.{FewLost, GivesAll, IsAsPromised, LosesNone}
 
 -- whether a block is gone that is needed for the file at a path
 abbrev pub lacks : State → List ℕ → Bool
@@ -61,7 +61,7 @@ by_reply Known told old path (Given lines) new is none (lines_are, read, touches
     let rule = read.rule told in
     let whole = whole_by old path (λ lacking. false≢true (sym (rule.unavailable lacking))) in
     record {
-      given = λ bytes all value. record { lines = lines; reply_is = refl; bytes = sym rule.answer };
+      given = λ bytes all value. record { lines = lines; reply_is = refl; are_lines = lines_are; bytes = sym rule.answer };
       refused = λ refusal all value. let no : ◌≡◌ {A = Result (List ℕ) PathRefusal} (Ok (concat lines)) (Err refusal) = rule.answer ∙ value in absurd (grind (arith, no));
       none = λ lacking. absurd (not_both old path whole lacking);
       whole = λ gives. whole;
@@ -95,7 +95,7 @@ by_reply Known told old path reply new is none h = absurd h
 
 pub keeps_promise : FilesAreTame → (Known : Type 0) → Known → (old : State) (path : List ℕ) (reply : Reply) (new : State) → IsTable old.table
     → HasWholeIndirects old.table.shape.l old.table.shape.n old.blocks → IsInOrder Known old → FewLost old → LosesNone old new → Step Known old (Cat path) reply new
-    → KeepsPromise old path reply
+    → IsAsPromised old path reply
 keeps_promise tame Known told old path reply new is whole order few none step =
     let by = by_reply Known told old path reply new is none step in
     let sound = order.sound told in

@@ -1,9 +1,9 @@
 -- A cat in which no member's count of faults rose loses no boundary.
-use Rattle.std.proofs.Common.{◌≡◌, ◌≢◌, ◌∙◌, ℕ, ◌+◌, ◌*◌, ◌<◌, ◌≤◌, inl, inr, Bool, true, false, ◌&&◌, not, List, [], refl, sym, ap, arith}
+use Rattle.std.proofs.Common.{◌≡◌, ◌∙◌, ℕ, ◌+◌, ◌*◌, inl, inr, Bool, true, false, not, List, refl, sym, ap}
 use Rattle.std.proofs.lemmas.Bool.{and_from, and_parts, cases_Bool, false≢true}
-use Rattle.dg_model.specs.Causes.{NoneRose, Rose}
+use Rattle.dg_model.specs.Causes.{NoneRose}
 use Rattle.dg_model.specs.Changes.{Goes}
-use Rattle.dg_model.specs.Members.{HasFallen, MembersFall, is_filling, is_good, is_lost}
+use Rattle.dg_model.specs.Members.{MembersFall, is_filling, is_good, is_lost}
 use Rattle.dg_model.specs.States.{State}
 use Rattle.dg_model.specs.Steps.{Step}
 use Rattle.dg_model.specs.declared.events.Event.TheVariants.{Cat}

@@ -239,4 +239,4 @@ good_plan shape wants parents homes found up is =
     let good = good_files wants parents 0 (waiting wants stayed) stayed two.0 (rise_filter _ 0 (files_in wants) (files_rise wants))
     (λ i has. file_counts wants i (in_filter _ i (files_in wants) has).0)
     (λ i has. not_some (home_of stayed.homes i) (in_filter _ i (files_in wants) has).1) two.1 first in
-    subst (λ (p : Plan). ((i : ℕ) → is_some (home_of p.homes i) ≡ true → 0 < count_of wants i) × Ascend p.homes) made (good.some, good.ascend)
+    subst (λ (p : Plan). ((i : ℕ) → is_some (home_of p.homes i) ≡ true → 0 < count_of wants i) × Ascend p.homes) {x = record { homes = two.0.homes; strays = three.0.places }} made (good.some, good.ascend)

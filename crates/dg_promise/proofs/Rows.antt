@@ -1,14 +1,11 @@
 -- The words of the promise on an array of three boundaries, of which two hold each block of a directory.
-use Rattle.std.proofs.Common.{◌≡◌, ◌≢◌, ℕ, ◌<◌, ◌/◌, inl, inr, Bool, true, false, List, [], ◌∷◌, Option, Some, None, refl, sym, arith}
+use Rattle.std.proofs.Common.{◌≡◌, ℕ, ◌/◌, inl, inr, true, false, List, [], ◌∷◌, refl, sym, arith}
 use Rattle.std.specs.Prelude.{◌==◌, if◌then◌else◌}
 use Rattle.std.specs.List.{list_any}
 use Rattle.std.proofs.lemmas.Bool.{false≢true}
-use Rattle.dg_model.specs.Members.{is_lost}
-use Rattle.dg_model.specs.Moves.{count_upto}
 use Rattle.dg_model.specs.Plans.{places_of}
 use Rattle.dg_model.specs.States.{Counts, State, gone_in, plain_state}
 use Rattle.dg_model.specs.Tables.{Table, is_on}
-use Rattle.dg_model.specs.declared.homes.Home.{Home}
 use Rattle.dg_model.specs.declared.members.MemberState.{MemberState}
 use Rattle.dg_model.specs.declared.members.MemberState.TheVariants.{Good, Out}
 use Rattle.dg_model.specs.declared.shapes.Shape.{Shape}

@@ -1,5 +1,5 @@
 -- What a state in order with few lost boundaries promises, in the words of the model.
-use Rattle.std.proofs.Common.{◌≡◌, ◌≢◌, ◌∙◌, ◌⊎◌, ℕ, ◌+◌, ◌<◌, ◌≤◌, inl, inr, Bool, true, false, List, [], Option, Some, None, Result, Ok, Err, refl, sym, ap, subst}
+use Rattle.std.proofs.Common.{◌≡◌, ◌∙◌, ◌⊎◌, ℕ, inl, inr, List, Option, Some, None, Result, Ok, Err, refl, sym}
 use Rattle.std.specs.Prelude.{IsNone, IsSomeAnd}
 use Rattle.std.proofs.lemmas.Bool.{false≢true}
 use Rattle.ufs_frames.specs.Frames.{FilesAreTame, HasWholeIndirects}
@@ -7,13 +7,11 @@ use Rattle.ufs_model.specs.Trees.{file_of}
 use Rattle.ufs_model.specs.declared.reads.PathRefusal.{PathRefusal}
 use Rattle.dg_model.specs.Changes.{IsInOrder}
 use Rattle.dg_model.specs.Homes.{home_of}
-use Rattle.dg_model.specs.Members.{is_lost}
 use Rattle.dg_model.specs.States.{State}
 use Rattle.dg_model.specs.Tables.{IsTable}
-use Rattle.dg_model.specs.Valid.{IsServed, KeepsPromise, Survives as SurvivesAt}
-use Rattle.dg_promise.proofs.CatSteps.{lacks}
+use Rattle.dg_model.specs.Valid.{KeepsPromise, Survives as SurvivesAt}
 use Rattle.dg_promise.proofs.PromiseLaws.{lost_file, survives_or, whole_file, whole_refusal}
-use Rattle.dg_promise.specs.Promises.{FewLost, LeadsTo, Stands, Survives}
+use Rattle.dg_promise.specs.Promises.{FewLost, LeadsTo, Stands}
 
 -- ---- the two words for a file that survives
 

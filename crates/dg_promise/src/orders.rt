@@ -28,7 +28,8 @@ pub fn settled_is_in_order()
 pub fn order_is_kept()
     ensures { (old : State) (event : Event) (reply : Reply) (new : State) → IsTable old.table
         → All (λ block. length block ≡ old.table.shape.l) old.blocks → old.phase ≡ Settled → IsInOrder AreTold old
-        → ((b : ℕ) (bytes : List ℕ) → event ≢ Write b bytes) → Step AreTold old event reply new → IsInOrder AreTold new × (new.phase ≡ Settled) }
+        → ((b : ℕ) (bytes : List ℕ) → event ≢ Write b bytes) → Step AreTold old event reply new
+        → IsInOrder AreTold new × (new.phase ≡ Settled) }
 {
     volumes_of_whole_blocks();
     change_of_loose_blocks();

@@ -7,14 +7,14 @@ ghost use Rattle.dg_model.specs.Shapes.{IsShape};
 ghost use Rattle.dg_model.specs.States.{Counts, State};
 ghost use Rattle.dg_model.specs.Steps.{Step};
 ghost use Rattle.dg_model.specs.Tables.{IsTable};
-ghost use Rattle.dg_model.specs.Valid.{KeepsPromise as KeepsItsWord};
+ghost use Rattle.dg_model.specs.Valid.{KeepsPromise};
 ghost use Rattle.dg_model.specs.declared.events.Event.{Event};
 ghost use Rattle.dg_model.specs.declared.events.Event.TheVariants.{Array, Cat};
 ghost use Rattle.dg_model.specs.declared.phases.Phase.TheVariants.{Settled};
 ghost use Rattle.dg_model.specs.declared.replies.Reply.{Reply};
 ghost use Rattle.dg_model.specs.declared.replies.Reply.TheVariants.{Done};
 ghost use Rattle.dg_model.specs.declared.shapes.Shape.{Shape};
-ghost use Rattle.dg_promise.specs.Promises.{AreTold, FewLost, KeepsPromise, LosesNone};
+ghost use Rattle.dg_promise.specs.Promises.{AreTold, FewLost, IsAsPromised, LosesNone};
 ghost use Rattle.dg_promise.specs.Steady.{FitsBlock};
 
 use dg_plan::targets_of_plans;
@@ -28,7 +28,7 @@ use ufs_frames::{
 pub fn cat_keeps_its_promise()
     ensures { (old : State) (path : List ℕ) (reply : Reply) (new : State) → IsTable old.table
         → All (λ block. length block ≡ old.table.shape.l) old.blocks → IsInOrder AreTold old → FewLost old → LosesNone old new
-        → Step AreTold old (Cat path) reply new → KeepsPromise old path reply }
+        → Step AreTold old (Cat path) reply new → IsAsPromised old path reply }
 {
     files_are_tame();
     volumes_of_whole_blocks();
@@ -38,7 +38,7 @@ pub fn cat_keeps_its_promise()
 pub fn runs_keep_their_promise()
     ensures { (before : Counts) (shape : Shape) (events : List Event) (replies : List Reply) (old : State) (path : List ℕ) (reply : Reply) (new : State)
         → IsShape shape → All (FitsBlock shape.l) events → Trace AreTold before (Array shape ∷ events) (Done ∷ replies) old → old.phase ≡ Settled
-        → FewLost old → LosesNone old new → Step AreTold old (Cat path) reply new → KeepsPromise old path reply }
+        → FewLost old → LosesNone old new → Step AreTold old (Cat path) reply new → IsAsPromised old path reply }
 {
     targets_of_plans();
     files_are_tame();
@@ -57,7 +57,7 @@ pub fn cats_without_faults_lose_none()
 /// a path that leads to no regular file.
 pub fn few_losses_leave_files_whole()
     ensures { (state : State) (path : List ℕ) → IsTable state.table → All (λ block. length block ≡ state.table.shape.l) state.blocks
-        → IsInOrder AreTold state → FewLost state → KeepsItsWord state path }
+        → IsInOrder AreTold state → FewLost state → KeepsPromise state path }
 {
     files_are_tame();
     volumes_of_whole_blocks();
