@@ -17,7 +17,8 @@ use Rattle.dg_model.specs.Shapes.{IsShape}
 use Rattle.dg_model.specs.Sites.{has_site}
 use Rattle.dg_model.specs.States.{State, gone_in}
 use Rattle.dg_model.specs.Tables.{sites_in}
-use Rattle.dg_model.specs.Wants.{AreWants, FitWants, IsWant, want_of}
+use Rattle.dg_model.specs.Volumes.{IsRegularFile}
+use Rattle.dg_model.specs.Wants.{AreWants, FitWants, IsOf, IsWant, want_of}
 use Rattle.dg_model.specs.declared.shapes.Shape.{Shape}
 use Rattle.dg_model.specs.declared.wants.Want.{Want}
 use Rattle.dg_model.specs.declared.wants.Want.TheVariants.{File, Kept, Stray}
@@ -103,13 +104,16 @@ survives_or state i = by_home (home_of state.homes i) (home_of state.copies i)
 -- ---- what is gone
 
 module _ (state : State) (wants : List (Option Want)) (fit : FitWants state.table wants) (placed : IsPlaced wants state.table state.homes state.copies) where
-  -- a block that is gone is written, so it has a want
-  want_there : (b : ℕ) → gone_in state b ≡ true → (want : Want) × (want_of wants b ≡ Some want)
-  want_there b gone = on (want_of wants b) refl (fit.written b ∙ gone_written state.table state.members b gone)
+  -- a block that is written has a want, and so has one that is gone
+  written_want : (b : ℕ) → has_site (sites_in state.table b) ≡ true → (want : Want) × (want_of wants b ≡ Some want)
+  written_want b written = on (want_of wants b) refl (fit.written b ∙ written)
     where
       on : (found : Option Want) → want_of wants b ≡ found → is_some found ≡ true → (want : Want) × (want_of wants b ≡ Some want)
       on None is some = absurd (false≢true some)
       on (Some want) is some = (want, is)
+
+  want_there : (b : ℕ) → gone_in state b ≡ true → (want : Want) × (want_of wants b ≡ Some want)
+  want_there b gone = written_want b (gone_written state.table state.members b gone)
 
   kept_stands : IsShape state.table.shape → FewLost state → (b : ℕ) → want_of wants b ≡ Some Kept → gone_in state b ≡ true → ⊥
   kept_stands shape few b is gone =
@@ -161,6 +165,22 @@ module _ (state : State) (wants : List (Option Want)) (fit : FitWants state.tabl
             absurd (other (rw same at own.1))
     file_want b i (File j) is own = let want = are b (File j) is in ap File (alone state.table.shape.l state.table.shape.n state.blocks b j i want.0 own.0)
     file_want b i Stray is own = absurd ((are b Stray is).1 i own.0)
+
+    -- a regular file has a home exactly where a written block belongs to it
+    pub no_home : (i : ℕ) → IsRegularFile state.table.shape.l state.table.shape.n state.blocks i → IsNone (home_of state.homes i)
+        → (b : ℕ) → has_site (sites_in state.table b) ≡ true → IsOf state.table.shape.l state.table.shape.n state.blocks b i → ⊥
+    no_home i regular none b written owner =
+        let want = written_want b written in
+        let is = want.1 ∙ ap Some (file_want b i want.0 want.1 (owner, regular)) in
+        false≢true (sym none ∙ (placed.homes_are i).1 (block_counts wants b i is))
+
+    pub owns_none : (i : ℕ) → ((b : ℕ) → has_site (sites_in state.table b) ≡ true → IsOf state.table.shape.l state.table.shape.n state.blocks b i → ⊥) → IsNone (home_of state.homes i)
+    owns_none i none = elim (cases_Bool (is_some (home_of state.homes i))) [
+      | inl some ↦
+          let block = some_block wants i ((placed.homes_are i).0 some) in
+          absurd (none block.0 (sym (fit.written block.0) ∙ ap is_some block.1) (are block.0 (File i) block.1).0)
+      | inr nowhere ↦ nowhere
+    ]
 
     -- ---- the promise
 

@@ -1,5 +1,5 @@
 -- What a settled array promises of the files of its volume. The words are this project's own.
-use Rattle.std.specs.Prelude.{◌≡◌, ◌⊎◌, ◌<◌, ◌↔◌, ℕ, false, List, Result, Ok, Err, IsNone, IsSomeAnd}
+use Rattle.std.specs.Prelude.{◌≡◌, ◌⊎◌, ◌<◌, ◌↔◌, ℕ, true, false, List, Result, Ok, Err, IsNone, IsSomeAnd}
 use Rattle.std.specs.List.{concat}
 use Rattle.ufs_model.specs.Paths.{cat_of}
 use Rattle.ufs_model.specs.Trees.{file_of}
@@ -8,7 +8,10 @@ use Rattle.dg_model.specs.Homes.{home_of}
 use Rattle.dg_model.specs.Lists.{AreLines}
 use Rattle.dg_model.specs.Members.{is_lost}
 use Rattle.dg_model.specs.Moves.{count_upto}
+use Rattle.dg_model.specs.Sites.{has_site}
 use Rattle.dg_model.specs.States.{State}
+use Rattle.dg_model.specs.Tables.{sites_in}
+use Rattle.dg_model.specs.Wants.{IsOf}
 use Rattle.dg_model.specs.declared.replies.Reply.{Reply}
 use Rattle.dg_model.specs.declared.replies.Reply.TheVariants.{Given, Refused, Unavailable}
 
@@ -33,6 +36,11 @@ Stands state s = is_lost state.members s ≡ false
 -- inode i has no home, or its home isn't lost, or it has a copy whose boundary isn't lost
 abbrev pub Survives : State → ℕ → Type 0
 Survives state i = IsNone (home_of state.homes i) ⊎ IsSomeAnd (home_of state.homes i) (Stands state) ⊎ IsSomeAnd (home_of state.copies i) (Stands state)
+
+-- no written block belongs to inode i
+abbrev pub OwnsNoWritten : State → ℕ → Type 0
+OwnsNoWritten state i =
+    (b : ℕ) → has_site (sites_in state.table b) ≡ true → IsOf state.table.shape.l state.table.shape.n state.blocks b i → ⊥
 
 -- ---- files
 

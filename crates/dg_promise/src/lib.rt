@@ -17,6 +17,6 @@ pub use crate::needs::{
 pub use crate::orders::{order_is_kept, settled_is_in_order};
 pub use crate::promises::{
     cat_keeps_its_promise, cats_without_faults_lose_none, few_losses_leave_files_whole,
-    runs_keep_their_promise,
+    homes_are_of_owners, runs_keep_their_promise,
 };
 pub use crate::steady::{blank_arrays_are_steady, steps_keep_steady};

@@ -1,20 +1,22 @@
 // What a settled array promises while few boundaries are lost.
-ghost use Rattle.std.specs.Prelude.{◌≡◌, ℕ, List, ◌∷◌, All, length};
+ghost use Rattle.std.specs.Prelude.{◌≡◌, ◌↔◌, ℕ, List, ◌∷◌, All, IsNone, length};
 ghost use Rattle.dg_model.specs.Causes.{NoneRose};
 ghost use Rattle.dg_model.specs.Changes.{IsInOrder};
+ghost use Rattle.dg_model.specs.Homes.{home_of};
 ghost use Rattle.dg_model.specs.Runs.{Trace};
 ghost use Rattle.dg_model.specs.Shapes.{IsShape};
 ghost use Rattle.dg_model.specs.States.{Counts, State};
 ghost use Rattle.dg_model.specs.Steps.{Step};
 ghost use Rattle.dg_model.specs.Tables.{IsTable};
 ghost use Rattle.dg_model.specs.Valid.{KeepsPromise};
+ghost use Rattle.dg_model.specs.Volumes.{IsRegularFile};
 ghost use Rattle.dg_model.specs.declared.events.Event.{Event};
 ghost use Rattle.dg_model.specs.declared.events.Event.TheVariants.{Array, Cat};
 ghost use Rattle.dg_model.specs.declared.phases.Phase.TheVariants.{Settled};
 ghost use Rattle.dg_model.specs.declared.replies.Reply.{Reply};
 ghost use Rattle.dg_model.specs.declared.replies.Reply.TheVariants.{Done};
 ghost use Rattle.dg_model.specs.declared.shapes.Shape.{Shape};
-ghost use Rattle.dg_promise.specs.Promises.{AreTold, FewLost, IsAsPromised, LosesNone};
+ghost use Rattle.dg_promise.specs.Promises.{AreTold, FewLost, IsAsPromised, LosesNone, OwnsNoWritten};
 ghost use Rattle.dg_promise.specs.Steady.{FitsBlock};
 
 use dg_plan::targets_of_plans;
@@ -62,3 +64,9 @@ pub fn few_losses_leave_files_whole()
     files_are_tame();
     volumes_of_whole_blocks();
 }
+
+/// In a state in order a regular file has no home exactly where it owns no written block.
+pub fn homes_are_of_owners()
+    ensures { (state : State) (i : ℕ) → IsInOrder AreTold state → IsRegularFile state.table.shape.l state.table.shape.n state.blocks i
+        → IsNone (home_of state.homes i) ↔ OwnsNoWritten state i }
+{}

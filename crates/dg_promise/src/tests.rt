@@ -1,8 +1,8 @@
 use crate::{
     blank_arrays_are_steady, blocks_have_one_owner, cat_keeps_its_promise,
     cats_without_faults_lose_none, few_losses_leave_files_whole, files_are_read,
-    files_need_their_blocks, needed_blocks_have_reasons, order_is_kept, runs_keep_their_promise,
-    settled_is_in_order, steps_keep_steady,
+    files_need_their_blocks, homes_are_of_owners, needed_blocks_have_reasons, order_is_kept,
+    runs_keep_their_promise, settled_is_in_order, steps_keep_steady,
 };
 
 /// The laws are functions that do nothing.
@@ -15,6 +15,7 @@ fn laws_can_be_called(_rt: HostRuntime) {
     cat_keeps_its_promise();
     cats_without_faults_lose_none();
     few_losses_leave_files_whole();
+    homes_are_of_owners();
     runs_keep_their_promise();
     settled_is_in_order();
     order_is_kept();
