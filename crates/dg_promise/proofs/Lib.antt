@@ -35,3 +35,4 @@ pub mod SteadyLaws
 mod Rows
 pub mod LossLaws
 pub mod ValidLaws
+pub mod ChainLaws

@@ -4,3 +4,5 @@ pub mod Needed
 pub mod Promises
 -- What all states keep.
 pub mod Steady
+-- A file that is read in the middle of a run.
+pub mod Chains

@@ -1,28 +1,18 @@
 // What a settled array promises while few boundaries are lost.
-ghost use Rattle.std.specs.Prelude.{◌≡◌, ◌↔◌, ℕ, List, ◌∷◌, All, IsNone, length};
+ghost use Rattle.std.specs.Prelude.{◌≡◌, ◌↔◌, ℕ, List, All, IsNone, length};
 ghost use Rattle.dg_model.specs.Causes.{NoneRose};
 ghost use Rattle.dg_model.specs.Changes.{IsInOrder};
 ghost use Rattle.dg_model.specs.Homes.{home_of};
-ghost use Rattle.dg_model.specs.Runs.{Trace};
-ghost use Rattle.dg_model.specs.Shapes.{IsShape};
-ghost use Rattle.dg_model.specs.States.{Counts, State};
+ghost use Rattle.dg_model.specs.States.{State};
 ghost use Rattle.dg_model.specs.Steps.{Step};
 ghost use Rattle.dg_model.specs.Tables.{IsTable};
 ghost use Rattle.dg_model.specs.Valid.{KeepsPromise};
 ghost use Rattle.dg_model.specs.Volumes.{IsRegularFile};
-ghost use Rattle.dg_model.specs.declared.events.Event.{Event};
-ghost use Rattle.dg_model.specs.declared.events.Event.TheVariants.{Array, Cat};
-ghost use Rattle.dg_model.specs.declared.phases.Phase.TheVariants.{Settled};
+ghost use Rattle.dg_model.specs.declared.events.Event.TheVariants.{Cat};
 ghost use Rattle.dg_model.specs.declared.replies.Reply.{Reply};
-ghost use Rattle.dg_model.specs.declared.replies.Reply.TheVariants.{Done};
-ghost use Rattle.dg_model.specs.declared.shapes.Shape.{Shape};
 ghost use Rattle.dg_promise.specs.Promises.{AreTold, FewLost, IsAsPromised, LosesNone, OwnsNoWritten};
-ghost use Rattle.dg_promise.specs.Steady.{FitsBlock};
 
-use dg_plan::targets_of_plans;
-use ufs_frames::{
-    change_of_loose_blocks, files_are_tame, parts_are_local, volumes_of_whole_blocks,
-};
+use ufs_frames::{files_are_tame, volumes_of_whole_blocks};
 
 /// In a state in order with fewer than m lost boundaries, in a step in which no boundary becomes lost, a `cat` gives all of a regular
 /// file exactly where the file has no home, or its home or its copy isn't lost; it is unavailable exactly where that isn't so. A path
@@ -34,19 +24,6 @@ pub fn cat_keeps_its_promise()
 {
     files_are_tame();
     volumes_of_whole_blocks();
-}
-
-/// The same after any run from the blank array: where it leaves the array settled, a `cat` of which comes next keeps its promise.
-pub fn runs_keep_their_promise()
-    ensures { (before : Counts) (shape : Shape) (events : List Event) (replies : List Reply) (old : State) (path : List ℕ) (reply : Reply) (new : State)
-        → IsShape shape → All (FitsBlock shape.l) events → Trace AreTold before (Array shape ∷ events) (Done ∷ replies) old → old.phase ≡ Settled
-        → FewLost old → LosesNone old new → Step AreTold old (Cat path) reply new → IsAsPromised old path reply }
-{
-    targets_of_plans();
-    files_are_tame();
-    volumes_of_whole_blocks();
-    change_of_loose_blocks();
-    parts_are_local();
 }
 
 /// A `cat` in which no member's count of faults rose loses no boundary.

@@ -1,7 +1,7 @@
 use Rattle.dg_promise.proofs.CatSteps.{keeps_promise}
 use Rattle.dg_promise.proofs.OrderLaws.{Volumes}
 use Rattle.dg_promise.proofs.SteadyLaws.{trace_steady}
-use Rattle.dg_promise.proofs.promises.runs_keep_their_promise.Goals as goal
+use Rattle.dg_promise.proofs.chains.runs_keep_their_promise.Goals as goal
 use Rattle.dg_promise.specs.Promises.{AreTold}
 
 pub returns : goal.returns
