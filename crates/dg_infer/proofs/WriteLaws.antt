@@ -11,7 +11,7 @@ use Rattle.ufs_pointer.specs.Fetches.{IsNeeded}
 use Rattle.std.proofs.Common.{◌≡◌, ◌∙◌, ◌↔◌, ◌⊎◌, ◌/◌, ℕ, ◌<◌, inl, inr, List, [], Bool, true, false, Option, Some, None, length, refl, sym, ap, subst, arith, Contains}
 use Rattle.std.proofs.lemmas.Bool.{false≢true}
 use Rattle.std.specs.Prelude.{slice_set, Err, Ok}
-use Rattle.dg_model.specs.Marks.{AreLeft, IsKnown, is_marked, with_mark}
+use Rattle.dg_model.specs.Marks.{IsKnown, is_marked, with_mark}
 use Rattle.dg_model.specs.Volumes.{geometry_on}
 use Rattle.ufs_model.specs.Blocks.{Volume, bind}
 use Rattle.ufs_model.specs.Claims.{IsClaim, source_fragments}
