@@ -10,9 +10,11 @@ mod phases;
 mod plans;
 mod queries;
 mod refills;
-mod settled_paths;
 #[cfg(test)]
 mod settle_tests;
+mod settled_paths;
+#[cfg(test)]
+mod settled_tests;
 mod settles;
 #[cfg(test)]
 mod tests;

@@ -9,6 +9,7 @@ ghost use Rattle.dg_volume.specs.Volumes.{IsWell, Leaves, StepsTo, any_phase, ph
 ghost use Rattle.ufs_model.specs.Inodes.{kind_of};
 ghost use Rattle.ufs_model.specs.Paths.{is_path, is_regular};
 ghost use Rattle.ufs_path.specs.Consults.{StaysUnlessFailed};
+ghost use Rattle.ufs_path.specs.Trees.{HandedSome};
 
 use crate::phases::{AnyPhase, InPhase, Settled};
 use crate::volumes::Volume;
@@ -90,6 +91,7 @@ impl<S: InPhase, R: Rack> Volume<S, R> {
         ensures steps { IfOk result (AnswersTree O.took O.took_part O.faults out.old out.new
             (λ reply. StepsTo S.InPhase S.InPhase R.Rack self.old Event.Tree reply self.new)) }
         ensures err { OnErr result (KeepsArray R.Rack self.old self.new) }
+        ensures wanting { OnErr result (HandedSome O.took O.faults out.old out.new) }
     {
         tree(alloc, &mut self.store, &mut self.levels, out)
     }
@@ -126,6 +128,7 @@ impl<R: Rack> Volume<Settled, R> {
         ensures steps { IfOk result (AnswersTree O.took O.took_part O.faults out.old out.new
             (λ reply. StepsTo settled_phase settled_phase R.Rack self.old Event.Tree reply self.new)) }
         ensures err { OnErr result (KeepsArray R.Rack self.old self.new) }
+        ensures wanting { OnErr result (HandedSome O.took O.faults out.old out.new) }
     {
         self.list_all(alloc, out)
     }
@@ -151,6 +154,7 @@ impl<R: Rack> Volume<AnyPhase, R> {
         ensures steps { IfOk result (AnswersTreeAny O.took O.took_part O.faults out.old out.new
             (λ reply. StepsTo any_phase any_phase R.Rack self.old Event.Tree reply self.new)) }
         ensures err { OnErr result (KeepsArray R.Rack self.old self.new) }
+        ensures wanting { OnErr result (HandedSome O.took O.faults out.old out.new) }
     {
         match self.phase() {
             Phase::Settled => {

@@ -131,6 +131,10 @@ IsGrown took took_part faults old new reads begins (Unread n fault) =
     (front : List Listed) × (length front ≡ n) × took old front new × begins front × reads (option_map Err (refusal_of fault))
 IsGrown took took_part faults old new reads begins Failed = (front : List Listed) × took_part old front new × begins front × Rose (faults old) (faults new)
 
+-- where memory was wanting: some entries were handed on before, and the receiver took them
+abbrev pub HandedSome : {S : Type 0} → (S → List Listed → S → Type 0) → (S → ℕ) → S → S → Type 0
+HandedSome took faults old new = (entries : List Listed) × took old entries new × (faults new ≡ faults old)
+
 -- ---- want of a block, where there is memory
 
 abbrev pub IsUnreadIn : {T E : Type 0} → Result (Result T LookFault) E → Type 0

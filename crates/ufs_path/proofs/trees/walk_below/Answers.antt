@@ -2,6 +2,7 @@ use Rattle.std.proofs.Common.{[], Result, refl, subst, sym}
 use Rattle.dg_io.specs.ViewWords.{Reads}
 use Rattle.ufs_path.proofs.BranchLaws.{all_opened, below_begins, below_first, below_read, below_second, below_unread, err_unread_walk, grown_map}
 use Rattle.ufs_path.proofs.ConsultLaws.{consults_along, consults_both}
+use Rattle.ufs_path.proofs.GrowLaws.{on_err}
 use Rattle.ufs_path.specs.Consults.{IsUnread}
 use Rattle.ufs_path.specs.Trees.{Begins, Opens, all_lines, branches_below, left_on, lines_below}
 use Rattle.ufs_path.specs.declared.faults.LookFault.{LookFault}
@@ -52,3 +53,6 @@ returns-in-Err-clause-rule g c =
 pub returns-in-Err-clause-consults : goal.returns-in-Err-clause-consults
 returns-in-Err-clause-consults g c =
     consults_along g.V.View (λ is v holds. (holds, below_first c.args.g.now c.args.depth c.args.inode.now v)) (λ h. subst (λ (r : Result (Unit {0}) LookFault). IsUnread r) (sym c.in-Err.is) h) c.in_ok-opened.ensures.consults
+
+pub returns-in_err-opened-clause-wanting : goal.returns-in_err-opened-clause-wanting
+returns-in_err-opened-clause-wanting g c = on_err c.from_residual.result ([], g.met.O.Listing.nothing c.args.out.now, refl)
