@@ -1,16 +1,14 @@
 -- A volume whose blocks are put in their places, and which is settled by that.
-use Rattle.std.proofs.Common.{◌≡◌, ◌∙◌, ◌<◌, ◌≤◌, ◌/◌, ◌+◌, ◌-◌, ◌^◌, min, ℕ, Bool, true, false, List, [], length, refl, sym, ap, subst, arith}
+use Rattle.std.proofs.Common.{◌≡◌, ◌∙◌, ◌<◌, ◌≤◌, ◌/◌, ◌+◌, ◌^◌, min, ℕ, false, List, [], length, refl, sym, ap, subst, arith}
 use Rattle.std.specs.Prelude.{Option, Some, None, All, IfSome}
 use Rattle.dg_infer.specs.Meanings.{KeptInference}
 use Rattle.dg_infer.specs.Meanings as inferences
 use Rattle.dg_io.specs.declared.outside.Rack.{Ghosts}
-use Rattle.dg_model.specs.Homes.{Ascend}
-use Rattle.dg_model.specs.Moves.{IsAtTargets, all_done, missing_in, moved, moves}
+use Rattle.dg_model.specs.Moves.{IsAtTargets, all_done, missing_in, moves}
 use Rattle.dg_model.specs.Placed.{IsPlaced}
 use Rattle.dg_model.specs.Saves.{AreHomes}
 use Rattle.dg_model.specs.States.{State, has_lost}
 use Rattle.dg_model.specs.Steps.{Step}
-use Rattle.dg_model.specs.Tables.{Table}
 use Rattle.dg_model.specs.Wants.{AreWants, FitWants}
 use Rattle.dg_model.specs.declared.events.Event.TheVariants.{Settle}
 use Rattle.dg_model.specs.declared.homes.Home.{Home}
@@ -24,8 +22,8 @@ use Rattle.dg_store.specs.Answers.{SameWritten}
 use Rattle.dg_store.specs.Stores as stores
 use Rattle.dg_store.specs.declared.store.Store.{Store}
 use Rattle.dg_volume.proofs.HomeLaws.{are_homes}
-use Rattle.dg_volume.proofs.MoveSteps.{HasMoved, HasRun, IsChecked, IsReady, Keeps, settle_step, stands_moved, wants_right}
-use Rattle.dg_volume.proofs.PlacedLaws.{are_placed, few_missing}
+use Rattle.dg_volume.proofs.MoveSteps.{HasRun, IsChecked, IsReady, settle_step, stands_moved, wants_right}
+use Rattle.dg_volume.proofs.PlacedLaws.{are_placed}
 use Rattle.dg_volume.specs.Planned.{HasPlan, IsPutInPlace}
 use Rattle.dg_volume.specs.Settles.{GoesBy}
 use Rattle.dg_volume.specs.Volumes.{AreWantsBy, FitsArray, IsInPlace, IsWell, Leaves, StandsFor, StepsTo, Tells, marks_by, marks_of, members_of, rack_of, shape_of, state_of, table_of}

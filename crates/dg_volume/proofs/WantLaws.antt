@@ -1,5 +1,5 @@
 -- What each block is to the plan, one after another.
-use Rattle.std.proofs.Common.{◌≡◌, ◌<◌, ◌≤◌, ◌+◌, ◌++◌, ◌∙◌, ℕ, Bool, true, false, List, [], ◌∷◌, length, get_or, inl, inr, refl, sym, ap, subst, arith}
+use Rattle.std.proofs.Common.{◌≡◌, ◌<◌, ◌+◌, ◌++◌, ◌∙◌, ℕ, Bool, true, false, List, [], ◌∷◌, length, inl, inr, refl, sym, ap, subst, arith}
 use Rattle.std.specs.Prelude.{Option, Some, None, Result, Ok, Err, IfSome, is_some, if◌then◌else◌}
 use Rattle.std.specs.Result.{is_err, is_ok}
 use Rattle.std.proofs.lemmas.Bool.{cases_lt, false≢true}
@@ -8,9 +8,8 @@ use Rattle.dg_infer.specs.Meanings.{KeptInference}
 use Rattle.dg_infer.specs.Meanings as inferences
 use Rattle.dg_infer.specs.Wants.{IsWantBy}
 use Rattle.dg_model.specs.Sites.{has_site}
-use Rattle.dg_model.specs.Tables.{IsTable, Table, sites_in}
-use Rattle.dg_model.specs.Wants.{AreWants, IsWant, want_of}
-use Rattle.dg_model.specs.declared.sites.Site.{Site}
+use Rattle.dg_model.specs.Tables.{IsTable, Table}
+use Rattle.dg_model.specs.Wants.{IsWant, want_of}
 use Rattle.dg_model.specs.declared.wants.Want.{Want}
 use Rattle.dg_volume.specs.Planned.{AreWanted, IsWantOf}
 

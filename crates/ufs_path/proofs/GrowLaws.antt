@@ -1,6 +1,6 @@
 -- What was handed on of the lines of a whole volume.
 use Rattle.std.proofs.Common.{◌≡◌, ◌∙◌, ℕ, ◌+◌, Bool, List, [], ◌∷◌, ◌++◌, Some, Result, Ok, Err, length, drop, refl, sym, ap, subst}
-use Rattle.std.specs.Prelude.{Contains, OnErr}
+use Rattle.std.specs.Prelude.{Contains}
 use Rattle.std.specs.Option.{option_map}
 use Rattle.std.proofs.lemmas.List.{length-append}
 use Rattle.ufs_model.specs.Blocks.{Reading, Volume, bind, known}
@@ -199,10 +199,3 @@ grown_failed took took_part faults {still = still} {told = told} {now = now} {la
     let is : IsGrown took took_part faults old new (ReadsAs still now told later whole) (Begins still told whole) Failed =
     subst (λ (w : Walked). IsGrown took took_part faults old new (ReadsAs still now told later whole) (Begins still told whole) w) e h in
     (is.0 ++ drop (length (is.0)) lines, part old new (is.0) (drop (length (is.0)) lines) (is.1), whole_lines whole lines (is.0) further keeps tell first (is.2), is.3)
-
--- ---- want of memory
-
--- what holds in any case holds where memory is wanting
-pub on_err : {T E P : Type 0} (result : Result T E) → P → OnErr result P
-on_err (Ok a) holds = tt
-on_err (Err e) holds = holds

@@ -7,7 +7,7 @@ ghost use Rattle.ufs_model.specs.Paths.{is_directory};
 ghost use Rattle.ufs_model.specs.Trees.{tree_of};
 ghost use Rattle.ufs_path.specs.Answers.{IsAnswer};
 ghost use Rattle.ufs_path.specs.Consults.{Consults, StaysAtWalk, StaysUnlessFailed};
-ghost use Rattle.ufs_path.specs.Trees.{Begins, HandedSome, IsGrown, IsUnansweredIn, IsUnreadWalkIn, all_lines, left_on, lines_below, lines_in, root_lines};
+ghost use Rattle.ufs_path.specs.Trees.{Begins, HandsFront, IsGrown, IsUnansweredIn, IsUnreadWalkIn, all_lines, left_on, lines_below, lines_in, root_lines};
 
 use crate::branches::{Pending, is_directory, open_entry, open_inode};
 use crate::faults::CatAnswer;
@@ -39,9 +39,10 @@ fn walk_stack<V: View, O: Listing>(
     ensures rule { IfOk result (IsGrown O.took O.took_part O.faults out.old out.new
         (Reads V.View view.old view.new (all_lines g.now (left_on entries.items)))
         (Begins (V.stands_for view.old) (V.tells view.new) (all_lines g.now (left_on entries.items)))) }
+    ensures part { OnErr result (HandsFront O.took out.old out.new
+        (Begins (V.stands_for view.old) (V.tells view.new) (all_lines g.now (left_on entries.items)))) }
     ensures consults { Consults V.View view.old view.new (all_lines g.now (left_on entries.items)) (IsUnreadWalkIn result) }
     ensures stays { IfOk result (λ walked. StaysAtWalk walked (O.faults out.old) (O.faults out.new)) }
-    ensures wanting { OnErr result (HandedSome O.took O.faults out.old out.new) }
 {
     let mut stack = entries;
     for given in 0..u32::MAX {
@@ -89,9 +90,10 @@ fn walk_below<V: View, O: Listing>(
     ensures rule { IfOk result (IsGrown O.took O.took_part O.faults out.old out.new
         (Reads V.View view.old view.new (lines_below g.now depth inode.now))
         (Begins (V.stands_for view.old) (V.tells view.new) (lines_below g.now depth inode.now))) }
+    ensures part { OnErr result (HandsFront O.took out.old out.new
+        (Begins (V.stands_for view.old) (V.tells view.new) (lines_below g.now depth inode.now))) }
     ensures consults { Consults V.View view.old view.new (lines_below g.now depth inode.now) (IsUnreadWalkIn result) }
     ensures stays { IfOk result (λ walked. StaysAtWalk walked (O.faults out.old) (O.faults out.new)) }
-    ensures wanting { OnErr result (HandedSome O.took O.faults out.old out.new) }
 {
     let mut stack = Vec::new(alloc);
     let opened = open_inode(alloc, view, g, inode, depth, &mut stack, levels)?;
@@ -118,9 +120,10 @@ fn list_below<V: View, O: Listing>(
     ensures later { O.faults out.old ≤ O.faults out.new }
     ensures rule { IfOk result (IsAnswer O.took O.took_part O.faults out.old out.new
         (Reads V.View view.old view.new (lines_below g.now 0 inode.now))) }
+    ensures part { OnErr result (HandsFront O.took out.old out.new
+        (Begins (V.stands_for view.old) (V.tells view.new) (lines_below g.now 0 inode.now))) }
     ensures consults { Consults V.View view.old view.new (lines_below g.now 0 inode.now) (IsUnansweredIn result) }
     ensures stays { IfOk result (λ answer. StaysUnlessFailed answer (O.faults out.old) (O.faults out.new)) }
-    ensures wanting { OnErr result (HandedSome O.took O.faults out.old out.new) }
 {
     let mut nowhere = Nowhere;
     let consulted = walk_below(alloc, view, g, inode, 0, &mut nowhere, levels)?;
@@ -155,9 +158,10 @@ fn list_root<V: View, O: Listing>(
     ensures later { O.faults out.old ≤ O.faults out.new }
     ensures rule { IfOk result (IsAnswer O.took O.took_part O.faults out.old out.new
         (Reads V.View view.old view.new (root_lines g.now root.now))) }
+    ensures part { OnErr result (HandsFront O.took out.old out.new
+        (Begins (V.stands_for view.old) (V.tells view.new) (root_lines g.now root.now))) }
     ensures consults { Consults V.View view.old view.new (root_lines g.now root.now) (IsUnansweredIn result) }
     ensures stays { IfOk result (λ answer. StaysUnlessFailed answer (O.faults out.old) (O.faults out.new)) }
-    ensures wanting { OnErr result (HandedSome O.took O.faults out.old out.new) }
 {
     if is_directory(root) {
         list_below(alloc, view, g, root, out, levels)
@@ -182,9 +186,10 @@ fn list_volume<V: View, O: Listing>(
     ensures later { O.faults out.old ≤ O.faults out.new }
     ensures rule { IfOk result (IsAnswer O.took O.took_part O.faults out.old out.new
         (Reads V.View view.old view.new (lines_in g.now))) }
+    ensures part { OnErr result (HandsFront O.took out.old out.new
+        (Begins (V.stands_for view.old) (V.tells view.new) (lines_in g.now))) }
     ensures consults { Consults V.View view.old view.new (lines_in g.now) (IsUnansweredIn result) }
     ensures stays { IfOk result (λ answer. StaysUnlessFailed answer (O.faults out.old) (O.faults out.new)) }
-    ensures wanting { OnErr result (HandedSome O.took O.faults out.old out.new) }
 {
     match read_named(view, g, ROOT_INODE, levels) {
         Ok(root) => list_root(alloc, view, g, &root, out, levels),
@@ -193,9 +198,8 @@ fn list_volume<V: View, O: Listing>(
 }
 
 /// Hands on all entries of the volume on a view but `.` and `..`, depth first, each directory's in its order. All are consulted
-/// before the first is handed on. Memory holds the entries, still to be listed, of the directories on one path. A
-/// listing of more entries than a `u32` counts is answered as want of memory. Where memory is wanting, some entries may have been
-/// handed on.
+/// before the first is handed on. Memory holds the entries, still to be listed, of the directories on one path. Where it is wanting,
+/// some first entries may have been handed on. A listing of more entries than a `u32` counts is answered as want of memory.
 pub fn tree<V: View, O: Listing>(
     alloc: Global,
     view: &mut V,
@@ -209,9 +213,10 @@ pub fn tree<V: View, O: Listing>(
     ensures later { O.faults out.old ≤ O.faults out.new }
     ensures rule { IfOk result (IsAnswer O.took O.took_part O.faults out.old out.new
         (Reads V.View view.old view.new (tree_of (V.size view.old) (V.count view.old)))) }
+    ensures part { OnErr result (HandsFront O.took out.old out.new
+        (Begins (V.stands_for view.old) (V.tells view.new) (tree_of (V.size view.old) (V.count view.old)))) }
     ensures consults { Consults V.View view.old view.new (tree_of (V.size view.old) (V.count view.old)) (IsUnansweredIn result) }
     ensures stays { IfOk result (λ answer. StaysUnlessFailed answer (O.faults out.old) (O.faults out.new)) }
-    ensures wanting { OnErr result (HandedSome O.took O.faults out.old out.new) }
 {
     match geometry(view, levels) {
         Ok(g) => list_volume(alloc, view, &g, out, levels),

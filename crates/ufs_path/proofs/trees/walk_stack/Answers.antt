@@ -3,9 +3,9 @@ use Rattle.dg_io.specs.ViewLaws.{keeps_both, keeps_same}
 use Rattle.dg_io.specs.ViewWords.{Reads}
 use Rattle.dg_model.specs.Causes.{Rose}
 use Rattle.ufs_model.specs.declared.inodes.Inode.{Inode}
-use Rattle.ufs_path.proofs.BranchLaws.{err_unread_walk, left_popped}
+use Rattle.ufs_path.proofs.BranchLaws.{err_unread_walk, left_popped, on_err}
 use Rattle.ufs_path.proofs.ConsultLaws.{consults_both, consults_none}
-use Rattle.ufs_path.proofs.GrowLaws.{all_grown, entry_needed, on_err, entry_unread, front_begins, grew_line, grew_none, grew_same, opens_next}
+use Rattle.ufs_path.proofs.GrowLaws.{all_grown, entry_needed, entry_unread, front_begins, grew_line, grew_none, grew_same, opens_next}
 use Rattle.ufs_path.specs.Consults.{IsUnread}
 use Rattle.ufs_path.specs.Trees.{OpensEntry, all_lines, branch_of, left_on, line_of, opened}
 use Rattle.ufs_path.specs.declared.faults.LookFault.{LookFault}
@@ -123,10 +123,20 @@ returns-in-None-clause-rule g c =
     let grew = grew_same c.args.g.now (left_on c.loop-given.stack.items) [] none c.loop-given.invariant.grew in
     (grew.done, grew.count, grew.taken, all_grown c.args.g.now grew)
 
-pub returns-in_err-opened-in-Some-clause-wanting : goal.returns-in_err-opened-in-Some-clause-wanting
-returns-in_err-opened-in-Some-clause-wanting g c =
+pub returns-in_err-opened-in-Some-clause-part : goal.returns-in_err-opened-in-Some-clause-part
+returns-in_err-opened-in-Some-clause-part g c =
     let grew = c.loop-given.invariant.grew in
-    on_err c.from_residual.result (grew.done, grew.taken, grew.stays)
+    let step = c.open_entry.ensures.keeps in
+    on_err c.from_residual.result (
+      grew.done,
+      grew.taken,
+      λ is v holds lines e. front_begins (all_lines c.args.g.now (left_on c.loop-given.stack.items)) grew.done grew.remains (step.told is) v holds lines e,
+    )
 
-pub returns-clause-wanting : goal.returns-clause-wanting
-returns-clause-wanting g c = let grew = c.loop-given.invariant.grew in (grew.done, grew.taken, grew.stays)
+pub returns-clause-part : goal.returns-clause-part
+returns-clause-part g c =
+    let grew = c.loop-given.invariant.grew in (
+      grew.done,
+      grew.taken,
+      λ is v holds lines e. front_begins (all_lines c.args.g.now (left_on c.loop-given.stack.items)) grew.done grew.remains is v holds lines e,
+    )
