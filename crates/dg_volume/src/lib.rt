@@ -13,6 +13,8 @@ mod refills;
 #[cfg(test)]
 mod settle_tests;
 mod settled_paths;
+#[cfg(test)]
+mod settled_tests;
 mod settles;
 #[cfg(test)]
 mod tests;
