@@ -6,6 +6,7 @@ mod FileAnswers
 mod FileLaws
 mod GoneLaws
 mod HomeLaws
+mod LooseLaws
 mod MoveSteps
 mod PathSteps
 mod PlacedLaws

@@ -41,6 +41,7 @@ use Rattle.dg_store.specs.Leaves as arrays
 use Rattle.dg_store.specs.Stores.{IsSound}
 use Rattle.dg_store.specs.Stores as stores
 use Rattle.dg_store.specs.declared.store.Store.{Store}
+use Rattle.dg_volume.proofs.LooseLaws.{LooseBlocksChange, reaped_differ}
 use Rattle.dg_volume.proofs.ReapLaws.{are_without, by_without, fit_without, placed_without, without, zeroed_stands}
 use Rattle.dg_volume.proofs.RefillLaws.{filling_live, lost_none_filling, lost_where_left}
 use Rattle.dg_volume.proofs.VolumeLaws.{IsBeside, Keeps, StepsAt, holds_on, leaves, lost_on, still_in}
@@ -295,23 +296,28 @@ module _ {S R : Type 0} (phase : phases.Ghosts S) (rack : Ghosts R) where
     dead_at : (V : List (List ℕ)) → StandsFor phase rack a V → (c : ℕ) → is_among reaped c ≡ true → IsDead (table_of a) V (marks_of phase a) c
     dead_at V held c among = mark_dead a.store (phase.kept a.phase) marks a.pending.items h.marks_are.known h.marks_are.safe V held.inferred c (marked c among)
 
-    spares_passed : (V : List (List ℕ)) → Tells rack b → StandsFor phase rack a V
-        → (W : List (List ℕ)) × StandsFor phase rack b W × AreReaped (table_of a) (marks_of phase a) V W
-    spares_passed V told held =
-        let all = reaps V held.array.size in (
-          zeroed (shape_of a).l reaped V,
-          stands_passed V told held,
-          record {
-            count = all.count;
-            each = λ c. at_block c (is_among reaped c) refl (all.values c);
-          },
-        )
+    each_block : (V : List (List ℕ)) → StandsFor phase rack a V → (c : ℕ)
+        → (block_in (zeroed (shape_of a).l reaped V) c ≡ block_in V c) ⊎ (IsDead (table_of a) V (marks_of phase a) c × (block_in (zeroed (shape_of a).l reaped V) c ≡ zeros (shape_of a).l))
+    each_block V held c = let all = reaps V held.array.size in at_block c (is_among reaped c) refl (all.values c)
       where
         at_block : (c : ℕ) (x : Bool) → is_among reaped c ≡ x
             → block_in (zeroed (shape_of a).l reaped V) c ≡ (if is_among reaped c then zeros (shape_of a).l else block_in V c)
             → (block_in (zeroed (shape_of a).l reaped V) c ≡ block_in V c) ⊎ (IsDead (table_of a) V (marks_of phase a) c × (block_in (zeroed (shape_of a).l reaped V) c ≡ zeros (shape_of a).l))
         at_block c true is value = inr (dead_at V held c is, value ∙ ap (λ (y : Bool). if y then zeros (shape_of a).l else block_in V c) is)
         at_block c false is value = inl (value ∙ ap (λ (y : Bool). if y then zeros (shape_of a).l else block_in V c) is)
+
+    spares_passed : LooseBlocksChange → (V : List (List ℕ)) → Tells rack b → StandsFor phase rack a V
+        → (W : List (List ℕ)) × StandsFor phase rack b W × AreReaped (table_of a) (marks_of phase a) V W
+    spares_passed law V told held =
+        let all = reaps V held.array.size in (
+          zeroed (shape_of a).l reaped V,
+          stands_passed V told held,
+          record {
+            count = all.count;
+            each = λ c. each_block V held c;
+            files = reaped_differ (table_of a) (marks_of phase a) V law (zeroed (shape_of a).l reaped V) all.count (each_block V held);
+          },
+        )
 
     -- ---- states
 
@@ -408,11 +414,11 @@ module _ {S R : Type 0} (phase : phases.Ghosts S) (rack : Ghosts R) where
     | inr passed ↦ leaves_passed a marks s after b (usual a s n marks before after result b well h) passed
   ]
 
-  pub rebuild_spares : {E : Type 0} (a : Volume S R) (s n : ℕ) (marks : List Bool) (before after : List ℕ) (result : Result RebuildAnswer E) (b : Volume S R) → IsWell phase rack a
+  pub rebuild_spares : {E : Type 0} (law : LooseBlocksChange) (a : Volume S R) (s n : ℕ) (marks : List Bool) (before after : List ℕ) (result : Result RebuildAnswer E) (b : Volume S R) → IsWell phase rack a
       → HasRebuilt a s n marks before after result b → SparesFiles phase rack a b
-  rebuild_spares a s n marks before after result b well h V told held = elim (outcome a s n marks before after result b well.array h) [
-    | inl same ↦ (V, holds_on phase rack a b V (quiet_keeps a b well.array h.beside h.levels same) held, record { count = refl; each = λ c. inl refl })
-    | inr passed ↦ spares_passed a marks s after b (usual a s n marks before after result b well h) passed V told held
+  rebuild_spares law a s n marks before after result b well h V told held = elim (outcome a s n marks before after result b well.array h) [
+    | inl same ↦ (V, holds_on phase rack a b V (quiet_keeps a b well.array h.beside h.levels same) held, record { count = refl; each = λ c. inl refl; files = reaped_differ (table_of a) (marks_of phase a) V law V refl (λ c. inl refl) })
+    | inr passed ↦ spares_passed a marks s after b (usual a s n marks before after result b well h) passed law V told held
   ]
 
   copied_not_lost : (d l s : ℕ) → Lost s ≡ Copied d l → ⊥

@@ -26,6 +26,9 @@ use Rattle.dg_volume.specs.declared.refills.RebuildAnswer.TheVariants.{Copied, F
 use Rattle.dg_volume.specs.declared.refills.ReplaceAnswer.{ReplaceAnswer}
 use Rattle.dg_volume.specs.declared.refills.ReplaceAnswer.TheVariants.{Failed, Lost, NotOut, Range, Replaced}
 use Rattle.dg_volume.specs.declared.volumes.Volume.{Volume}
+use Rattle.ufs_frames.specs.Frames.{DifferLoosely, HasWholeIndirects}
+use Rattle.ufs_model.specs.Superblocks.{geometry_of}
+use Rattle.ufs_model.specs.declared.geometries.Geometry.{Geometry}
 
 -- ---- replies
 
@@ -76,10 +79,13 @@ pub record AreReapMarks {R : Type 0} (store : Store R) (phase : Phase) (kept : O
 
 -- ---- what is left
 
--- some dead blocks became blocks of zeros, and no other block changed
+-- Some dead blocks became blocks of zeros, and no other block changed. Where the volume has a geometry, and its indirect blocks are whole,
+-- its claims, owners and malformations are the same then, and so is what is read of it by each path.
 pub record AreReaped (table : Table) (marks : List Bool) (V W : List (List ℕ)) : Type 0 where
   pub count : length W ≡ length V
   pub each : (b : ℕ) → (block_in W b ≡ block_in V b) ⊎ (IsDead table V marks b × (block_in W b ≡ zeros table.shape.l))
+  pub files : (g : Geometry) → (geometry_of table.shape.l table.shape.n V).value ≡ Ok g → HasWholeIndirects table.shape.l table.shape.n V
+      → DifferLoosely table.shape.l table.shape.n V W
 
 -- The volume stands for what it stood for, but for dead blocks.
 abbrev pub SparesFiles : {S R : Type 0} → phases.Ghosts S → Ghosts R → Volume S R → Volume S R → Type 0

@@ -14,6 +14,7 @@ use dg_io::{NoMemory, Rack};
 use dg_rebuild::{RebuildAnswer as Refilled, rebuild};
 use dg_store::{ReplaceAnswer as MemberAnswer, Store, member_length};
 use std::alloc::Global;
+use ufs_frames::change_of_loose_blocks;
 
 /// What became of a replacement of a member.
 #[derive(Clone, Copy, Debug, PartialEq, Eq)]
@@ -151,6 +152,7 @@ impl<S: InPhase, R: Rack> Volume<S, R> {
             StepsSized S.InPhase S.InPhase R.Rack self.old (Event.Rebuild boundary limit) (rebuild_reply answer) self.new) }
         ensures spares { SparesFiles S.InPhase R.Rack self.old self.new }
     {
+        change_of_loose_blocks();
         if boundary >= self.store.shape().b as u32 {
             return Ok(RebuildAnswer::Range);
         }

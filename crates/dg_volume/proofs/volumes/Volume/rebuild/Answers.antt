@@ -65,7 +65,7 @@ returns-clause-spares g c =
     let a = c.args.self.now in
     let k = c.rebuild-refilled.ensures in
     let b : c.shape.result.now.b ≡ (shape_of a).b = ap (λ (x : Shape). x.b) c.shape.ensures in
-    rebuild_spares g.S.InPhase g.R.Rack a c.args.boundary c.args.limit c.deref.result.now c.new-reaped.result.items c.rebuild-refilled.new.reaped.items c.rebuild-refilled.result
+    rebuild_spares g.S.InPhase g.R.Rack c.change_of_loose_blocks.ensures a c.args.boundary c.args.limit c.deref.result.now c.new-reaped.result.items c.rebuild-refilled.new.reaped.items c.rebuild-refilled.result
     (record a { store = c.rebuild-refilled.new.store; phase = c.reaped.new.self }) c.requires.well
     (record {
       boundary = omega arith;
