@@ -11,8 +11,8 @@ use Rattle.dg_model.proofs.KnownLaws.{run_less}
 use Rattle.dg_model.specs.States.{State}
 use Rattle.dg_model.specs.declared.shapes.Shape.{Shape}
 use Rattle.dg_model.specs.declared.events.Event.{Event}
-use Rattle.dg_store.specs.declared.store.Store.{Store}
-use Rattle.dg_store.specs.Stores.{rack_of, shape_of}
+use Rattle.dg_run.specs.declared.arrays.Array.{Array}
+use Rattle.dg_run.specs.Steps.{WantedFor, rack_of, shape_of}
 use Rattle.dg_text.specs.Lines.{line_of, input_of, IsInPlace}
 use Rattle.dg_text.specs.Replies.{reply_line, output_of}
 use Rattle.dg_run.specs.Endings.{GaveLines, StartsWith, TookUpTo, LinesBrokeOff, LinesCut, LinesRanOut, ServedLinePart}
@@ -21,7 +21,7 @@ use Rattle.dg_run.specs.Lines.{BeginsAll}
 use Rattle.dg_run.specs.Served.{is_served}
 use Rattle.dg_run.proofs.Inputs.{All-one}
 use Rattle.dg_run.proofs.Runs.{SoFar, runs_more}
-use Rattle.dg_run.proofs.StoreSteps.{told_before}
+use Rattle.dg_run.proofs.ArraySteps.{told_before}
 use Rattle.dg_run.proofs.ToldSteps.{Told-then}
 
 -- the line of an event was taken, and the source has so much left
@@ -34,7 +34,7 @@ more_lines : (es : List Event) (e : Event) → input_of (es ++ e ∷ []) ≡ inp
 more_lines es e = flat_map-append line_of es (e ∷ []) ∙ ap (λ (l : List ℕ). input_of es ++ l) (append-nil (line_of e))
 
 module _ {R : Type 0} (rack : Ghosts R) where
-  broke_off : (shape : Shape) (first passed number : ℕ) (x y z t u : Option (List ℕ)) (a b : Store R) → passed ≤ 2 ^ 40 → SoFar rack shape first passed number x y t u a b
+  broke_off : (shape : Shape) (first passed number : ℕ) (x y z t u : Option (List ℕ)) (a b : Array R) → passed ≤ 2 ^ 40 → SoFar rack shape first passed number x y t u a b
       → Told (GaveLines []) y z → LinesBrokeOff rack [] shape first x z t u a b
   broke_off shape first passed number x y z t u a b budget was told = record {
     events = was.events;
@@ -48,13 +48,13 @@ module _ {R : Type 0} (rack : Ghosts R) where
     output = was.served.output;
   }
 
-  pub lines_broke_off : (shape : Shape) (first passed number : ℕ) (x y z t u v : Option (List ℕ)) (a b c : Store R) → passed ≤ 2 ^ 40 → SoFar rack shape first passed number x y t u a b
+  pub lines_broke_off : (shape : Shape) (first passed number : ℕ) (x y z t u v : Option (List ℕ)) (a b c : Array R) → passed ≤ 2 ^ 40 → SoFar rack shape first passed number x y t u a b
       → Told (GaveLines []) y z → v ≡ u → c ≡ b → LinesBrokeOff rack [] shape first x z t v a c
   lines_broke_off shape first passed number x y z t u v a b c budget was told same kept =
       subst (λ (o : Option (List ℕ)). LinesBrokeOff rack [] shape first x z t o a c) (sym same)
-      (subst (λ (s : Store R). LinesBrokeOff rack [] shape first x z t u a s) (sym kept) (broke_off shape first passed number x y z t u a b budget was told))
+      (subst (λ (s : Array R). LinesBrokeOff rack [] shape first x z t u a s) (sym kept) (broke_off shape first passed number x y z t u a b budget was told))
 
-  pub lines_cut : (shape : Shape) (first passed number : ℕ) (x y z t u v : Option (List ℕ)) (a b c : Store R) → passed ≤ 2 ^ 40 → SoFar rack shape first passed number x y t u a b
+  pub lines_cut : (shape : Shape) (first passed number : ℕ) (x y z t u v : Option (List ℕ)) (a b c : Array R) → passed ≤ 2 ^ 40 → SoFar rack shape first passed number x y t u a b
       → ServedLinePart rack shape (2 ^ 40 - passed) y z u v b c → shape_of c ≡ shape_of b → StillTold (rack.bytes (rack_of b)) (rack.bytes (rack_of c)) → LinesCut rack [] shape first x z t v a c
   lines_cut shape first passed number x y z t u v a b c budget was line same tells =
       let es = was.events in
@@ -81,12 +81,12 @@ module _ {R : Type 0} (rack : Ghosts R) where
             t u v was.served.output line.answered.output;
       }
 
-  pub lines_cut_at : (shape here : Shape) (first passed number : ℕ) (x y z t u v : Option (List ℕ)) (a b c : Store R) → passed ≤ 2 ^ 40 → SoFar rack shape first passed number x y t u a b → here ≡ shape
+  pub lines_cut_at : (shape here : Shape) (first passed number : ℕ) (x y z t u v : Option (List ℕ)) (a b c : Array R) → passed ≤ 2 ^ 40 → SoFar rack shape first passed number x y t u a b → here ≡ shape
       → ServedLinePart rack here (2 ^ 40 - passed) y z u v b c → shape_of c ≡ shape_of b → StillTold (rack.bytes (rack_of b)) (rack.bytes (rack_of c)) → LinesCut rack [] shape first x z t v a c
   lines_cut_at shape here first passed number x y z t u v a b c budget was is line same tells =
       lines_cut shape first passed number x y z t u v a b c budget was (subst (λ (s : Shape). ServedLinePart rack s (2 ^ 40 - passed) y z u v b c) is line) same tells
 
-  pub lines_ran_out : (shape : Shape) (first passed number : ℕ) (x y z t u v : Option (List ℕ)) (a b c : Store R) → passed ≤ 2 ^ 40 → SoFar rack shape first passed number x y t u a b
+  pub lines_ran_out : (shape : Shape) (first passed number : ℕ) (x y z t u v : Option (List ℕ)) (a b c : Array R) → passed ≤ 2 ^ 40 → SoFar rack shape first passed number x y t u a b
       → Told AreAny y z → v ≡ u → shape_of c ≡ shape_of b → StillTold (rack.bytes (rack_of b)) (rack.bytes (rack_of c)) → LinesRanOut rack [] shape first x z t v a c
   lines_ran_out shape first passed number x y z t u v a b c budget was told kept same tells = record {
     events = was.events;
@@ -97,7 +97,7 @@ module _ {R : Type 0} (rack : Ghosts R) where
     runs = λ state st.
         let one = was.served.runs state st in (
           one.0,
-          ap (λ (s : State). s.table.shape) one.1.is ∙ sym same,
+          ap (λ (s : State). s.table.shape) one.1.volume.is ∙ sym same,
           run_less (told_before rack b c same tells) state was.events was.served.replies one.0 one.2,
         );
     input = Told-then (BeginsAll (Some shape) was.events) AreAny (StartsWith (input_of was.events)) (λ p q o f s. record { more = q; split = f.lines }) x y z was.served.input told;
@@ -106,7 +106,7 @@ module _ {R : Type 0} (rack : Ghosts R) where
 
   -- ---- behind what was written before
 
-  pub broke_off_behind : (front : List ℕ) (shape : Shape) (first : ℕ) (x z t m v : Option (List ℕ)) (a b : Store R) → Told (Took front) t m → LinesBrokeOff rack [] shape first x z m v a b → LinesBrokeOff rack front shape first x z t v a b
+  pub broke_off_behind : (front : List ℕ) (shape : Shape) (first : ℕ) (x z t m v : Option (List ℕ)) (a b : Array R) → Told (Took front) t m → LinesBrokeOff rack [] shape first x z m v a b → LinesBrokeOff rack front shape first x z t v a b
   broke_off_behind front shape first x z t m v a b wrote lines = record {
     events = lines.events;
     replies = lines.replies;
@@ -119,7 +119,7 @@ module _ {R : Type 0} (rack : Ghosts R) where
         (λ p q o f s. s ∙ ap (λ (l : List ℕ). l ++ output_of lines.replies) f ∙ append_assoc p front (output_of lines.replies)) t m v wrote lines.output;
   }
 
-  pub cut_behind : (front : List ℕ) (shape : Shape) (first : ℕ) (x z t m v : Option (List ℕ)) (a b : Store R) → Told (Took front) t m → LinesCut rack [] shape first x z m v a b → LinesCut rack front shape first x z t v a b
+  pub cut_behind : (front : List ℕ) (shape : Shape) (first : ℕ) (x z t m v : Option (List ℕ)) (a b : Array R) → Told (Took front) t m → LinesCut rack [] shape first x z m v a b → LinesCut rack front shape first x z t v a b
   cut_behind front shape first x z t m v a b wrote lines =
       let out = output_of lines.replies in
       record {
@@ -139,7 +139,7 @@ module _ {R : Type 0} (rack : Ghosts R) where
             }) t m v wrote lines.output;
       }
 
-  pub ran_out_behind : (front : List ℕ) (shape : Shape) (first : ℕ) (x z t m v : Option (List ℕ)) (a b : Store R) → Told (Took front) t m → LinesRanOut rack [] shape first x z m v a b → LinesRanOut rack front shape first x z t v a b
+  pub ran_out_behind : (front : List ℕ) (shape : Shape) (first : ℕ) (x z t m v : Option (List ℕ)) (a b : Array R) → Told (Took front) t m → LinesRanOut rack [] shape first x z m v a b → LinesRanOut rack front shape first x z t v a b
   ran_out_behind front shape first x z t m v a b wrote lines = record {
     events = lines.events;
     replies = lines.replies;

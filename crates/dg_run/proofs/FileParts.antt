@@ -12,13 +12,13 @@ use Rattle.dg_model.specs.Lists.{AreLines}
 use Rattle.dg_model.specs.declared.events.Event.TheVariants.{Cat, Ls}
 use Rattle.dg_model.specs.declared.replies.Reply.{Reply}
 use Rattle.dg_model.specs.declared.replies.Reply.TheVariants.{Given, Listed as ListedReply, Refused, Unavailable as ReplyUnavailable}
-use Rattle.dg_store.specs.declared.store.Store.{Store}
+use Rattle.dg_run.specs.declared.arrays.Array.{Array}
 use Rattle.dg_store.specs.Stores.{shape_of}
 use Rattle.dg_text.specs.HexLines.{InLines, last_line}
 use Rattle.dg_text.specs.Replies.{bytes_line, entries_text, file_text, reply_line}
 use Rattle.dg_text.specs.ToldSteps.{took_part_after, took_part_of_more}
 use Rattle.ufs_model.specs.Listings.{Listed}
-use Rattle.dg_run.specs.Stores.{AnsweredPart}
+use Rattle.dg_run.specs.Steps.{AnsweredPart}
 use Rattle.dg_run.proofs.Inputs.{All-head, All-one, All-tail}
 use Rattle.dg_run.specs.Paths.{reply_at}
 use Rattle.dg_run.specs.declared.events.Fault.{Fault}
@@ -106,7 +106,7 @@ part_end text last x y z first second = took_part_after text last x y z first se
 
 module _ {R : Type 0} (rack : Ghosts R) where
   -- the sink failed at the bytes of a file
-  pub file_part : (path items tail : List ℕ) (lines : List (List ℕ)) (x y : Option (List ℕ)) (a b : Store R) → 0 < (shape_of a).l → Keeps rack a b → Reads rack path a b (Some (Ok items)) → InLines (shape_of a).l items tail lines
+  pub file_part : (path items tail : List ℕ) (lines : List (List ℕ)) (x y : Option (List ℕ)) (a b : Array R) → 0 < (shape_of a).l → Keeps rack a b → Reads rack path a b (Some (Ok items)) → InLines (shape_of a).l items tail lines
       → Told (TookPart (file_text lines)) x y → AnsweredPart rack (Cat path) x y a b
   file_part path items tail lines x y a b some keeps reads split told =
       let l = (shape_of a).l in
@@ -120,13 +120,13 @@ module _ {R : Type 0} (rack : Ghosts R) where
       }
 
   -- the sink failed at the entries of a directory
-  pub listing_part : (path : List ℕ) (entries : List Listed) (x y : Option (List ℕ)) (a b : Store R) → Keeps rack a b → Lists rack path a b (Some (Ok entries))
+  pub listing_part : (path : List ℕ) (entries : List Listed) (x y : Option (List ℕ)) (a b : Array R) → Keeps rack a b → Lists rack path a b (Some (Ok entries))
       → Told (TookPart (entries_text entries)) x y → AnsweredPart rack (Ls path) x y a b
   listing_part path entries x y a b keeps reads told =
       record { reply = ListedReply entries; steps = listed_steps rack path entries a b keeps reads; output = part_of_listing entries x y told }
 
   -- the sink failed where nothing is told of a file
-  pub cat_nothing_part : {S T : Type 0} (took took_part : S → List ℕ → S → Type 0) (faults : S → ℕ) (before after : S) (slice path : List ℕ) (taken given : Option (List ℕ)) (a b : Store R) (result : Result T Fault) (fault : Fault) (answer : CatAnswer)
+  pub cat_nothing_part : {S T : Type 0} (took took_part : S → List ℕ → S → Type 0) (faults : S → ℕ) (before after : S) (slice path : List ℕ) (taken given : Option (List ℕ)) (a b : Array R) (result : Result T Fault) (fault : Fault) (answer : CatAnswer)
       → ((n : ℕ) → answer ≡ AnswerGiven n → ⊥) → ((n : ℕ) → answer ≡ AnswerCut n → ⊥) → (answer ≡ SinkFault → ⊥)
       → slice ≡ path → Keeps rack a b → (IsUnanswered answer → LosesBlock rack b) → IsAnswer took took_part faults before after (Reads rack slice a b) answer → result ≡ Err fault
       → (after ≡ before → (reply : Reply) → reply_at answer ≡ Some reply → OnErr result (Told (TookPart (reply_line reply)) taken given)) → AnsweredPart rack (Cat path) taken given a b
@@ -139,7 +139,7 @@ module _ {R : Type 0} (rack : Ghosts R) where
       answer some cause (wrote same) (subst (λ (p : List ℕ). IsAnswer took took_part faults before after (Reads rack p a b) answer) is rule)
 
   -- the sink failed where nothing is told of a directory
-  pub ls_nothing_part : {S T : Type 0} (took took_part : S → List Listed → S → Type 0) (faults : S → ℕ) (before after : S) (slice path : List ℕ) (taken given : Option (List ℕ)) (a b : Store R) (result : Result T Fault) (fault : Fault) (answer : CatAnswer)
+  pub ls_nothing_part : {S T : Type 0} (took took_part : S → List Listed → S → Type 0) (faults : S → ℕ) (before after : S) (slice path : List ℕ) (taken given : Option (List ℕ)) (a b : Array R) (result : Result T Fault) (fault : Fault) (answer : CatAnswer)
       → ((n : ℕ) → answer ≡ AnswerGiven n → ⊥) → ((n : ℕ) → answer ≡ AnswerCut n → ⊥) → (answer ≡ SinkFault → ⊥)
       → slice ≡ path → Keeps rack a b → (IsUnanswered answer → LosesBlock rack b) → IsAnswer took took_part faults before after (Lists rack slice a b) answer → result ≡ Err fault
       → (after ≡ before → (reply : Reply) → reply_at answer ≡ Some reply → OnErr result (Told (TookPart (reply_line reply)) taken given)) → AnsweredPart rack (Ls path) taken given a b

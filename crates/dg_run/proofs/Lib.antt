@@ -1,11 +1,9 @@
 mod Answers
-mod FileLaws
+mod ArraySteps
 mod Inputs
 mod LineFeeds
-mod PathSteps
 mod Ranges
 mod Runs
-mod StoreSteps
 mod ToldSteps
 mod Refusing
 mod FileParts

@@ -49,15 +49,15 @@ fn is_served(event: &Spelled) -> bool
         | Spelled::Write(_, _)
         | Spelled::Read(_)
         | Spelled::Fail(_, _)
+        | Spelled::Settle
+        | Spelled::Tend(_)
+        | Spelled::Who(_)
+        | Spelled::Pending
         | Spelled::Cat(_)
         | Spelled::Ls(_) => true,
         Spelled::Replace(_, _)
         | Spelled::Rebuild(_, _)
-        | Spelled::Settle
-        | Spelled::Tend(_)
         | Spelled::Diffuse
-        | Spelled::Who(_)
-        | Spelled::Pending
         | Spelled::Tree
         | Spelled::Home(_)
         | Spelled::Save => false,

@@ -11,7 +11,7 @@ use crate::serve::send;
 use dg_io::Sink;
 use dg_model::Reply;
 use ufs_model::PathRefusal;
-use ufs_path::CatAnswer;
+use dg_volume::CatAnswer;
 
 /// The reply to a path that gave nothing.
 fn reply_at(answer: CatAnswer) -> Reply

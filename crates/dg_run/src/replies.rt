@@ -1,0 +1,64 @@
+// The replies that the answers of a volume stand for.
+ghost use Rattle.std.specs.Prelude.{◌≡◌};
+ghost use Rattle.dg_volume.specs.Replies.{fail_reply, who_reply};
+ghost use Rattle.dg_volume.specs.Settles.{settle_reply, tend_reply};
+ghost use Rattle.dg_volume.specs.Writes.{write_reply};
+
+use dg_model::Reply;
+use dg_volume::{FailAnswer, TendRun, Unsettled, WhoAnswer, WriteAnswer};
+
+/// A block was written.
+pub fn write_reply(answer: WriteAnswer) -> Reply
+    ensures { result ≡ write_reply answer }
+{
+    match answer {
+        WriteAnswer::Written => Reply::Done,
+        WriteAnswer::Range => Reply::Range,
+        WriteAnswer::Degraded => Reply::Degraded,
+    }
+}
+
+/// A member was made to fail.
+pub fn fail_reply(answer: FailAnswer) -> Reply
+    ensures { result ≡ fail_reply answer }
+{
+    match answer {
+        FailAnswer::Failed => Reply::Done,
+        FailAnswer::Already => Reply::Already,
+        FailAnswer::Range => Reply::Range,
+    }
+}
+
+/// What a block belongs to.
+pub fn who_reply(answer: WhoAnswer) -> Reply
+    ensures { result ≡ who_reply answer }
+{
+    match answer {
+        WhoAnswer::Is(who) => Reply::Verdict(who),
+        WhoAnswer::Range => Reply::Range,
+        WhoAnswer::Unavailable => Reply::Unavailable,
+    }
+}
+
+/// The volume was settled, or why not.
+pub fn settle_reply(answer: Result<(), Unsettled>) -> Reply
+    ensures { result ≡ settle_reply answer }
+{
+    match answer {
+        Ok(()) => Reply::Settled,
+        Err(Unsettled::Lost(s)) => Reply::Lost(s as u32),
+        Err(Unsettled::Malformed(kind, n)) => Reply::Malformed(kind, n),
+        Err(Unsettled::NoSpace(room)) => Reply::NoSpace(room),
+    }
+}
+
+/// Blocks were moved to their places, or why not.
+pub fn tend_reply(answer: TendRun) -> Reply
+    ensures { result ≡ tend_reply answer }
+{
+    match answer {
+        TendRun::Tended { moved, left } => Reply::Tended(moved, left),
+        TendRun::Lost(s) => Reply::Lost(s as u32),
+        TendRun::NoSpace(room) => Reply::NoSpace(room),
+    }
+}
