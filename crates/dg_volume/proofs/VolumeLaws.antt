@@ -102,7 +102,7 @@ module _ {S R : Type 0} (phase : phases.Ghosts S) (rack : Ghosts R) where
 
   pub steps_some : (a b : Volume S R) (event : Event) (reply : Reply)
       → ((rest : State) (V : List (List ℕ)) → rest.label ≡ None → (Tells rack a → StandsFor phase rack a V)
-          → (next : State) × StandsIn phase rack b next × Step (Tells rack b) (state_of phase rack a rest V) event reply next)
+      → (next : State) × StandsIn phase rack b next × Step (Tells rack b) (state_of phase rack a rest V) event reply next)
       → StepsSome phase phase rack a event reply b
   steps_some a b event reply h state st =
       subst (λ (s : State). (next : State) × StandsIn phase rack b next × Step (Tells rack b) s event reply next) (sym st.is) (h state state.blocks st.label st.holds)

@@ -46,6 +46,10 @@ members_of volume = stores.members_of volume.store
 abbrev pub rack_of : {S R : Type 0} → Volume S R → R
 rack_of volume = stores.rack_of volume.store
 
+-- the phase that it is in
+abbrev pub phase_of : {S R : Type 0} → phases.Ghosts S → Volume S R → Phase
+phase_of phase volume = phase.phase volume.phase
+
 -- each member of the array tells its bytes
 abbrev pub Tells : {S R : Type 0} → Ghosts R → Volume S R → Type 0
 Tells rack volume = TellsAll rack volume.store

@@ -13,9 +13,9 @@ mod tests;
 mod volumes;
 mod writes;
 
-pub use dg_model::{NoMemory, Who};
-pub use dg_store::{Boundary, Shape};
 pub use any::WriteAnswer;
+pub use dg_model::{NoMemory, Phase, Who};
+pub use dg_store::{Boundary, Shape};
 pub use phases::{AnyPhase, InPhase, Loose, Settled, Worn};
 pub use queries::WhoAnswer;
 pub use settles::{TendRun, Unsettled};

@@ -23,12 +23,7 @@ pub enum Wrote<S, R> {
 
 impl<S: InPhase + Drop, R: Rack + Drop> Volume<S, R> {
     /// Writes a block of L bytes to its sites, and follows what blocks belong to.
-    pub fn write(
-        self,
-        alloc: Global,
-        block: u32,
-        buf: &[u8],
-    ) -> Result<Wrote<S, R>, NoMemory>
+    pub fn write(self, alloc: Global, block: u32, buf: &[u8]) -> Result<Wrote<S, R>, NoMemory>
         requires well { IsWell S.InPhase R.Rack self }
         requires size { length buf.now ≡ (shape_of self).l }
         ensures { IfOk result (AnswersWrite S.InPhase R.Rack self block buf.now) }
