@@ -1,11 +1,11 @@
 -- An array makes a step where its volume does.
-use Rattle.std.proofs.Common.{◌≡◌, ◌∙◌, ◌<◌, ◌/◌, sym, subst}
+use Rattle.std.proofs.Common.{◌≡◌, ◌∙◌, ◌<◌, ◌/◌, ℕ, List, ap, sym, subst}
 use Rattle.dg_io.specs.Told.{StillTold}
 use Rattle.dg_io.specs.declared.outside.Rack.{Ghosts}
 use Rattle.dg_model.specs.declared.events.Event.{Event}
 use Rattle.dg_model.specs.declared.replies.Reply.{Reply}
 use Rattle.dg_model.specs.declared.shapes.Shape.{Shape}
-use Rattle.dg_run.specs.Steps.{StepsTo, Tells, rack_of, shape_of}
+use Rattle.dg_run.specs.Steps.{StepsTo, Tells, VolumeStepsTo, rack_of, shape_of}
 use Rattle.dg_run.specs.declared.arrays.Array.{Array}
 use Rattle.dg_volume.specs.Volumes.{any_phase}
 use Rattle.dg_volume.specs.Volumes as volumes
@@ -15,9 +15,26 @@ module _ {R : Type 0} (rack : Ghosts R) where
   pub told_before : (a b : Array R) → shape_of b ≡ shape_of a → StillTold (rack.bytes (rack_of a)) (rack.bytes (rack_of b)) → Tells rack b → Tells rack a
   told_before a b shape tells told q below = tells q (told q (subst (λ (s : Shape). q / 2 < s.b) (sym shape) below))
 
-  -- a step at which no file is given
+  -- a step that changed the inodes that were read last as its volume says
+  pub steps_by : (touch : List ℕ → List ℕ) (a b : Array R) (event : Event) (reply : Reply) → b.hot ≡ touch a.hot
+      → volumes.StepsBy any_phase any_phase rack touch a.volume event reply b.volume → StepsTo rack a event reply b
+  steps_by touch a b event reply hot steps state st =
+      let one = steps state st.volume in
+      (one.0, record { volume = one.1; recent = one.3 ∙ ap touch st.recent ∙ sym hot }, one.2)
+
+  -- a step that changed none of them
   pub steps_of : (a b : Array R) (event : Event) (reply : Reply) → b.hot ≡ a.hot
       → volumes.StepsTo any_phase any_phase rack a.volume event reply b.volume → StepsTo rack a event reply b
-  steps_of a b event reply hot steps state st =
+  steps_of a b event reply hot steps = steps_by (λ recent. recent) a b event reply hot steps
+
+  -- the step of the volume alone
+  pub volume_steps : (touch : List ℕ → List ℕ) (a b : Array R) (event : Event) (reply : Reply)
+      → volumes.StepsBy any_phase any_phase rack touch a.volume event reply b.volume → VolumeStepsTo rack a event reply b
+  volume_steps touch a b event reply steps state st =
       let one = steps state st.volume in
-      (one.0, record { volume = one.1; recent = one.3 ∙ st.recent ∙ sym hot }, one.2)
+      (one.0, one.1, one.2)
+
+  pub weaker_steps : (a b : Array R) (event : Event) (reply : Reply) → StepsTo rack a event reply b → VolumeStepsTo rack a event reply b
+  weaker_steps a b event reply steps state st =
+      let one = steps state st in
+      (one.0, one.1.volume, one.2)

@@ -24,7 +24,8 @@ use Rattle.dg_run.specs.Arrays.{AnsweredToPart, ArrayCut, ArrayRanOut}
 use Rattle.dg_run.specs.Endings.{GaveLines, LinesBrokeOff, LinesCut, StartsWith, TookUpTo}
 use Rattle.dg_run.specs.Events.{Begins}
 use Rattle.dg_run.specs.Replays.{BrokeOff, CutRefusal, CutReply, IsCut, IsReplay, RanOut, StopsAt, TellsBoundaries}
-use Rattle.dg_run.specs.Steps.{IsBlankArray, RunsTo, Tells, rack_of, shape_of}
+use Rattle.dg_run.specs.Steps.{IsBlankArray, Tells, VolumeRunsTo, rack_of, shape_of}
+use Rattle.dg_run.proofs.Runs.{volume_runs}
 use Rattle.dg_run.proofs.ToldSteps.{Told-each, Told-refl, Told-then}
 use Rattle.dg_run.proofs.Whole.{array_served, cut_input, ran_nothing, ran_of, rest_told, same_shape, stops_text, took_first}
 
@@ -80,7 +81,7 @@ module _ {R : Type 0} (ghosts : Ghosts R) (shape : Shape) (first : ℕ) (rack : 
   array_broke_off text left rest taken given line lines = record {
     events = MakeArray shape ∷ lines.events;
     replies = Done ∷ lines.replies;
-    ran = ran_of ghosts shape first rack a b is well blank lines.events lines.replies lines.runs lines.in_place lines.done lines.budget;
+    ran = ran_of ghosts shape first rack a b is well blank lines.events lines.replies (volume_runs ghosts a b lines.events lines.replies lines.runs) lines.in_place lines.done lines.budget;
     input = Told-then (Begins None (MakeArray shape)) (GaveLines (input_of lines.events)) (GaveLines (input_of (MakeArray shape ∷ lines.events))) (λ p q r f s. record {
       part = s.part;
       split = f.line ∙ ap (λ (l : List ℕ). line_of (MakeArray shape) ++ l) s.split ∙ sym (append_assoc (line_of (MakeArray shape)) (input_of lines.events) (s.part ++ r));
@@ -89,8 +90,8 @@ module _ {R : Type 0} (ghosts : Ghosts R) (shape : Shape) (first : ℕ) (rack : 
     output = lines.output;
   }
 
-  no_runs : b ≡ a → RunsTo ghosts a [] [] b
-  no_runs same = subst (λ (s : Array R). RunsTo ghosts a [] [] s) (sym same) (λ state st. (state, st, refl))
+  no_runs : b ≡ a → VolumeRunsTo ghosts a [] [] b
+  no_runs same = subst (λ (s : Array R). VolumeRunsTo ghosts a [] [] s) (sym same) (λ state st. (state, st.volume, refl))
 
   first_cut : (text left rest taken given : Option (List ℕ)) → first ≤ 2 ^ 40 → Told (Begins None (MakeArray shape)) text left → Told (TookPart (reply_line Done)) taken given → b ≡ a → Told AreAny left rest
       → CutReply (ghosts.counts rack) (ghosts.counts (rack_of b)) (ghosts.bytes (rack_of b)) text rest taken given
@@ -130,7 +131,7 @@ module _ {R : Type 0} (ghosts : Ghosts R) (shape : Shape) (first : ℕ) (rack : 
         events = events;
         replies = Done ∷ s.served.replies;
         kind = to.kind;
-        ran = ran_of ghosts shape first rack a b is well blank s.events s.served.replies s.served.runs s.served.in_place s.served.done s.budget;
+        ran = ran_of ghosts shape first rack a b is well blank s.events s.served.replies (volume_runs ghosts a b s.events s.served.replies s.served.runs) s.served.in_place s.served.done s.budget;
         input = rest_told (λ p. (more : List ℕ) × (p ≡ input_of events ++ more) × StopsAt events to.kind more) unread text rest input;
         output = up_to (output_of (Done ∷ s.served.replies)) (refusal (length events + 1) to.kind) taken to.before given wrote part;
       }

@@ -7,6 +7,8 @@ mod Runs
 mod ToldSteps
 mod Refusing
 mod FileParts
+mod PathReplies
+mod PendingLists
 mod Breaks
 mod Whole
 mod Broken

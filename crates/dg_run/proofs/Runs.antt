@@ -18,7 +18,7 @@ use Rattle.dg_text.specs.declared.lines.BadLine.{BadLine}
 use Rattle.dg_run.specs.Events.{IsRefused}
 use Rattle.dg_run.specs.Lines.{BeginsAll, Served, ServedLine, AllServed, ServedTo, Turned, LinesEndAt}
 use Rattle.dg_run.specs.Served.{is_served}
-use Rattle.dg_run.specs.Steps.{GoesOn, IsSound, RunsTo, StepsTo, Tells, rack_of, shape_of}
+use Rattle.dg_run.specs.Steps.{GoesOn, IsSound, RunsTo, StepsTo, Tells, VolumeRunsTo, VolumeStepsTo, rack_of, shape_of}
 use Rattle.dg_run.specs.declared.lines.Turn.{Turn}
 use Rattle.dg_run.specs.declared.lines.Turn.TheVariants.{Served as turn_served, End as turn_end, Refused as turn_refused}
 use Rattle.dg_run.specs.declared.lines.LinesEnd.{LinesEnd}
@@ -36,7 +36,21 @@ module _ {R : Type 0} (rack : Ghosts R) where
       let run = run_less (told_before rack b c shape tells) state es rs one.0 one.2 in
       (two.0, two.1, run_push (Tells rack c) state es rs one.0 e r two.0 run two.2)
 
-  output_more : (rs : List Reply) (r : Reply) (x y z : Option (List ℕ)) → Told (Took (output_of rs)) x y → Told (Took (reply_line r)) y z → Told (Took (output_of (rs ++ r ∷ []))) x z
+  -- the same where nothing is said of the inodes that were read last
+  pub volume_runs_more : (a b c : Array R) (es : List Event) (rs : List Reply) (e : Event) (r : Reply) → RunsTo rack a es rs b → VolumeStepsTo rack b e r c → shape_of c ≡ shape_of b
+      → StillTold (rack.bytes (rack_of b)) (rack.bytes (rack_of c)) → VolumeRunsTo rack a (es ++ e ∷ []) (rs ++ r ∷ []) c
+  volume_runs_more a b c es rs e r runs steps shape tells state st =
+      let one = runs state st in
+      let two = steps one.0 one.1 in
+      let run = run_less (told_before rack b c shape tells) state es rs one.0 one.2 in
+      (two.0, two.1, run_push (Tells rack c) state es rs one.0 e r two.0 run two.2)
+
+  pub volume_runs : (a b : Array R) (es : List Event) (rs : List Reply) → RunsTo rack a es rs b → VolumeRunsTo rack a es rs b
+  volume_runs a b es rs runs state st =
+      let one = runs state st in
+      (one.0, one.1.volume, one.2)
+
+  pub output_more : (rs : List Reply) (r : Reply) (x y z : Option (List ℕ)) → Told (Took (output_of rs)) x y → Told (Took (reply_line r)) y z → Told (Took (output_of (rs ++ r ∷ []))) x z
   output_more rs r x y z p q = Told-then _ _ (Took (output_of (rs ++ r ∷ []))) (λ a b c f s.
       s ∙ ap (λ (l : List ℕ). l ++ reply_line r) f ∙ append_assoc a (output_of rs) (reply_line r)
       ∙ ap (λ (l : List ℕ). a ++ l) (ap (λ (l : List ℕ). output_of rs ++ l) (sym (append-nil (reply_line r))) ∙ sym (flat_map-append reply_line rs (r ∷ [])))) x y z p q

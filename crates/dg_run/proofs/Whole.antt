@@ -1,16 +1,14 @@
 -- A whole replay.
-use Rattle.std.proofs.Common.{◌≡◌, ◌≤◌, ◌<◌, ◌+◌, ◌-◌, ◌/◌, ◌^◌, ℕ, List, [], ◌∷◌, ◌++◌, length, replicate, true, refl, sym, ◌∙◌, ap, subst, arith, append_assoc, inl, inr, length-append}
+use Rattle.std.proofs.Common.{◌≡◌, ◌≤◌, ◌<◌, ◌+◌, ◌-◌, ◌/◌, ◌^◌, ℕ, List, [], ◌∷◌, ◌++◌, length, true, refl, sym, ◌∙◌, ap, subst, arith, append_assoc, inl, inr, length-append}
 use Rattle.std.specs.Prelude.{◌⊎◌, Option, Some, None, All, Result, Ok, Err, IfOk, IsSome}
 use Rattle.std.proofs.lemmas.List.{append_cancel_left}
 use Rattle.std.proofs.lemmas.List.Concat.{flat_map-append}
 use Rattle.std.proofs.lemmas.List.Elements.{All-cons}
 use Rattle.dg_model.specs.Shapes.{IsShape}
-use Rattle.dg_model.specs.States.{Counts, Holds, IsBlank, State, plain_state}
-use Rattle.dg_model.specs.Blocks.{zeros}
+use Rattle.dg_model.specs.States.{Counts, Holds, State, plain_state}
 use Rattle.dg_model.proofs.KnownLaws.{run_less}
 use Rattle.dg_io.specs.declared.outside.Rack.{Ghosts}
-use Rattle.dg_run.specs.Steps.{IsBlankArray, RunsTo, StandsIn, Tells, rack_of, shape_of}
-use Rattle.dg_model.specs.Tables.{Table, empty_table}
+use Rattle.dg_run.specs.Steps.{IsBlankArray, Tells, VolumeRunsTo, rack_of, shape_of}
 use Rattle.dg_model.specs.declared.shapes.Shape.{Shape}
 use Rattle.dg_model.specs.declared.events.Event.{Event}
 use Rattle.dg_model.specs.declared.events.Event.TheVariants.{Array as MakeArray}
@@ -33,6 +31,9 @@ use Rattle.dg_run.specs.Replays.{CutRefusal, IsCut, IsInput, IsNoInput, Ran, Rep
 use Rattle.dg_run.specs.Served.{AreServed, is_served}
 use Rattle.dg_run.specs.Arrays.{AllAnswered, AnsweredTo, ArrayReplayed, ArrayStopped, IsCutAt, IsOfReplay}
 use Rattle.dg_run.proofs.Inputs.{All-head, All-right, All-tail, no_line}
+use Rattle.dg_run.proofs.Runs.{volume_runs}
+use Rattle.dg_volume.specs.Volumes.{any_phase}
+use Rattle.dg_volume.specs.Volumes as volumes
 use Rattle.std.specs.Option.{option_map}
 use Rattle.dg_run.proofs.Refusing.{empty_cut}
 use Rattle.dg_run.proofs.ToldSteps.{Told-each, Told-then}
@@ -52,26 +53,26 @@ module _ {R : Type 0} (ghosts : Ghosts R) (shape : Shape) (first : ℕ) (rack : 
   pub same_shape : shape_of a ≡ shape
   same_shape = blank.shape_is
 
-  pub ran_of : (events : List Event) (replies : List Reply) → RunsTo ghosts a events replies b → All (IsInPlace (Some (shape_of a))) events → AreServed events → first + length (input_of events) ≤ 2 ^ 40
+  pub ran_of : (events : List Event) (replies : List Reply) → VolumeRunsTo ghosts a events replies b → All (IsInPlace (Some (shape_of a))) events → AreServed events → first + length (input_of events) ≤ 2 ^ 40
       → Ran (ghosts.counts rack) (ghosts.counts (rack_of b)) (ghosts.bytes (rack_of b)) (MakeArray shape ∷ events) (Done ∷ replies)
   ran_of events replies runs placed served budget =
       let W = runs blank.state blank.stands in
       let final = W.0 in
-      let stands : StandsIn ghosts b final = W.1 in
-      let known : TellsBoundaries (ghosts.bytes (rack_of b)) final → Tells ghosts b = λ told q below. told q (subst (λ (n : ℕ). q / 2 < n) (sym (ap (λ (s : State). s.table.shape.b) stands.volume.is)) below) in
+      let stands : volumes.StandsIn any_phase ghosts b.volume final = W.1 in
+      let known : TellsBoundaries (ghosts.bytes (rack_of b)) final → Tells ghosts b = λ told q below. told q (subst (λ (n : ℕ). q / 2 < n) (sym (ap (λ (s : State). s.table.shape.b) stands.is)) below) in
       record {
         in_place = (well, subst (λ (s : Shape). All (IsInPlace (Some s)) events) same_shape placed);
         done = array_served shape events served;
         budget = omega (arith, length-append (line_of (MakeArray shape)) (input_of events));
         final = final;
         trace = (blank.state, blank.blank, run_less known blank.state events replies final W.2);
-        holds = λ told. let all = stands.volume.holds (known told) in subst (λ (s : State). Holds (ghosts.bytes (rack_of b)) s) (sym stands.volume.is) all.array;
-        counts = ap (λ (s : State). s.counts) stands.volume.is;
+        holds = λ told. let all = stands.holds (known told) in subst (λ (s : State). Holds (ghosts.bytes (rack_of b)) s) (sym stands.is) all.array;
+        counts = ap (λ (s : State). s.counts) stands.is;
       }
 
   ran : (events : List Event) (x z t v : Option (List ℕ)) → (served : Served ghosts (shape_of a) events x z t v a b) → first + length (input_of events) ≤ 2 ^ 40
       → Ran (ghosts.counts rack) (ghosts.counts (rack_of b)) (ghosts.bytes (rack_of b)) (MakeArray shape ∷ events) (Done ∷ served.replies)
-  ran events x z t v served budget = ran_of events served.replies served.runs served.in_place served.done budget
+  ran events x z t v served budget = ran_of events served.replies (volume_runs ghosts a b events served.replies served.runs) served.in_place served.done budget
 
   pub array_replayed : (x z t v : Option (List ℕ)) → AllAnswered ghosts first x z t v a b → ArrayReplayed (ghosts.counts rack) (ghosts.counts (rack_of b)) (ghosts.bytes (rack_of b)) shape x z t v
   array_replayed x z t v all = record {

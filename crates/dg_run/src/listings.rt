@@ -22,11 +22,12 @@ pub fn serve_ls<R: Rack, K: Sink>(
     requires path { is_path path.now ≡ true }
     ensures goes { GoesOn R.Rack array.old array.new }
     ensures answered { OnOk result (Answered R.Rack (Event.Ls path.now) (K.taken sink.old) (K.taken sink.new) array.old array.new) }
-    ensures part { OnErr result (AnsweredPart R.Rack (Event.Ls path.now) (K.taken sink.old) (K.taken sink.new) array.old array.new) }
+    ensures part { result ≡ Err Fault.Write → AnsweredPart R.Rack (Event.Ls path.now) (K.taken sink.old) (K.taken sink.new) array.old array.new }
     ensures later { K.faults sink.old ≤ K.faults sink.new }
-    ensures kept { OnOk result (K.faults sink.new ≡ K.faults sink.old) }
-    ensures err { OnErr result (result ≡ Err Fault.Write) }
-    ensures write { OnErr result (Rose (K.faults sink.old) (K.faults sink.new)) }
+    ensures kept { (result ≡ Err Fault.Write → ⊥) → K.faults sink.new ≡ K.faults sink.old }
+    ensures read { result ≡ Err Fault.Read → ⊥ }
+    ensures memory { result ≡ Err Fault.NoMemory → ⊥ }
+    ensures write { result ≡ Err Fault.Write → Rose (K.faults sink.old) (K.faults sink.new) }
 {
     let mut entries = Lines::new(&mut *sink, Form::Directory);
     match array.volume.ls(path.as_slice(), &mut entries) {

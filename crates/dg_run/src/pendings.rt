@@ -41,11 +41,12 @@ fn write_pending<R: Rack, K: Sink>(
 pub fn serve_pending<R: Rack, K: Sink>(array: &Array<R>, sink: &mut K) -> Result<(), Fault>
     requires sound { IsSound R.Rack array.now }
     ensures answered { OnOk result (Answered R.Rack Event.Pending (K.taken sink.old) (K.taken sink.new) array.now array.now) }
-    ensures part { OnErr result (AnsweredPart R.Rack Event.Pending (K.taken sink.old) (K.taken sink.new) array.now array.now) }
+    ensures part { result ≡ Err Fault.Write → AnsweredPart R.Rack Event.Pending (K.taken sink.old) (K.taken sink.new) array.now array.now }
     ensures later { K.faults sink.old ≤ K.faults sink.new }
-    ensures kept { OnOk result (K.faults sink.new ≡ K.faults sink.old) }
-    ensures err { OnErr result (result ≡ Err Fault.Write) }
-    ensures write { OnErr result (Rose (K.faults sink.old) (K.faults sink.new)) }
+    ensures kept { (result ≡ Err Fault.Write → ⊥) → K.faults sink.new ≡ K.faults sink.old }
+    ensures read { result ≡ Err Fault.Read → ⊥ }
+    ensures memory { result ≡ Err Fault.NoMemory → ⊥ }
+    ensures write { result ≡ Err Fault.Write → Rose (K.faults sink.old) (K.faults sink.new) }
 {
     let Ok(count) = write_pending(&array.volume, sink) else {
         return Err(Fault::Write);

@@ -61,11 +61,12 @@ fn serve_read<R: Rack, K: Sink>(
     requires size { length block.old ≡ (shape_of array.old).l }
     ensures goes { GoesOn R.Rack array.old array.new }
     ensures answered { OnOk result (Answered R.Rack (Event.Read b) (K.taken sink.old) (K.taken sink.new) array.old array.new) }
-    ensures part { OnErr result (AnsweredPart R.Rack (Event.Read b) (K.taken sink.old) (K.taken sink.new) array.old array.new) }
+    ensures part { result ≡ Err Fault.Write → AnsweredPart R.Rack (Event.Read b) (K.taken sink.old) (K.taken sink.new) array.old array.new }
     ensures later { K.faults sink.old ≤ K.faults sink.new }
-    ensures kept { OnOk result (K.faults sink.new ≡ K.faults sink.old) }
-    ensures err { OnErr result (result ≡ Err Fault.Write) }
-    ensures write { OnErr result (Rose (K.faults sink.old) (K.faults sink.new)) }
+    ensures kept { (result ≡ Err Fault.Write → ⊥) → K.faults sink.new ≡ K.faults sink.old }
+    ensures read { result ≡ Err Fault.Read → ⊥ }
+    ensures memory { result ≡ Err Fault.NoMemory → ⊥ }
+    ensures write { result ≡ Err Fault.Write → Rose (K.faults sink.old) (K.faults sink.new) }
 {
     match array.volume.read(b, block) {
         ReadAnswer::Got => send_data(sink, trimmed(block)),
