@@ -1,3 +1,4 @@
+mod AnyLaws
 mod BlankLaws
 mod FileLaws
 mod PathSteps
