@@ -1,13 +1,17 @@
 -- An array makes a step where its volume does.
-use Rattle.std.proofs.Common.{◌≡◌, ◌∙◌, ◌<◌, ◌/◌, ℕ, List, ap, sym, subst}
+use Rattle.std.proofs.Common.{◌≡◌, ◌∙◌, ◌<◌, ◌/◌, ℕ, List, ap, refl, sym, subst}
 use Rattle.dg_io.specs.Told.{StillTold}
 use Rattle.dg_io.specs.declared.outside.Rack.{Ghosts}
+use Rattle.dg_model.specs.Marks.{marked}
+use Rattle.dg_model.specs.States.{State}
 use Rattle.dg_model.specs.declared.events.Event.{Event}
+use Rattle.dg_model.specs.declared.events.Event.TheVariants.{Pending}
 use Rattle.dg_model.specs.declared.replies.Reply.{Reply}
+use Rattle.dg_model.specs.declared.replies.Reply.TheVariants.{Blocks}
 use Rattle.dg_model.specs.declared.shapes.Shape.{Shape}
 use Rattle.dg_run.specs.Steps.{StepsTo, Tells, VolumeStepsTo, rack_of, shape_of}
 use Rattle.dg_run.specs.declared.arrays.Array.{Array}
-use Rattle.dg_volume.specs.Volumes.{any_phase}
+use Rattle.dg_volume.specs.Volumes.{any_phase, marks_of}
 use Rattle.dg_volume.specs.Volumes as volumes
 
 module _ {R : Type 0} (rack : Ghosts R) where
@@ -38,3 +42,7 @@ module _ {R : Type 0} (rack : Ghosts R) where
   weaker_steps a b event reply steps state st =
       let one = steps state st in
       (one.0, one.1.volume, one.2)
+
+  -- the pending blocks are told, and nothing is done
+  pub pending_steps : (a : Array R) → StepsTo rack a Pending (Blocks (marked (marks_of any_phase a.volume))) a
+  pending_steps a state st = (state, st, (ap (λ (s : State). marked s.pending) (sym st.volume.is), refl))

@@ -73,12 +73,13 @@ part_of_file lines more x y told =
     ∙ ap (λ (s : List ℕ). (s ++ w) ++ n) (sym (flat_map-append bytes_line lines more)) in
     subst (λ (s : List ℕ). Told (TookPart s) x y) same (took_part_of_more (file_text lines) ((file_text more ++ w) ++ n) x y told)
 
--- a part of the lines of a listing is a part of its reply
-part_of_listing : (entries : List Listed) (x y : Option (List ℕ)) → Told (TookPart (entries_text entries)) x y → Told (TookPart (reply_line (ListedReply entries))) x y
-part_of_listing entries x y told =
-    let w = codes "end " ++ decimal (length entries) in
+-- a part of the lines of items is a part of their reply
+pub part_of_lines : {A : Type 0} (text word : List ℕ) (items : List A) (x y : Option (List ℕ)) → Told (TookPart text) x y
+    → Told (TookPart ((text ++ (word ++ decimal (length items))) ++ codes "\n")) x y
+part_of_lines text word items x y told =
+    let w = word ++ decimal (length items) in
     let n = codes "\n" in
-    subst (λ (s : List ℕ). Told (TookPart s) x y) (sym (append_assoc (entries_text entries) w n)) (took_part_of_more (entries_text entries) (w ++ n) x y told)
+    subst (λ (s : List ℕ). Told (TookPart s) x y) (sym (append_assoc text w n)) (took_part_of_more text (w ++ n) x y told)
 
 -- lines of items, and a part of the line that ends them with their number, are a part of their reply
 pub part_lines : {A : Type 0} (text word : List ℕ) (items : List A) (n : ℕ) (x y : Option (List ℕ)) → length items ≡ n
@@ -127,4 +128,4 @@ module _ {R : Type 0} (rack : Ghosts R) where
   -- the sink failed at the entries of a directory
   pub listing_part : (path : List ℕ) (entries : List Listed) (x y : Option (List ℕ)) (a b : Array R) → VolumeStepsTo rack a (Ls path) (ListedReply entries) b
       → Told (TookPart (entries_text entries)) x y → AnsweredPart rack (Ls path) x y a b
-  listing_part path entries x y a b steps told = record { reply = ListedReply entries; steps = steps; output = part_of_listing entries x y told }
+  listing_part path entries x y a b steps told = record { reply = ListedReply entries; steps = steps; output = part_of_lines (entries_text entries) (codes "end ") entries x y told }

@@ -15,13 +15,15 @@ use Rattle.dg_text.specs.ToldSteps.{took_both, took_part_after, took_part_of_mor
 abbrev pub marked_below : List Bool → ℕ → List ℕ
 marked_below marks k = filter (λ b. is_marked marks b) (range_with_len 0 k)
 
-range_more : (a n j : ℕ) → a + n ≡ j → range_with_len a (n + 1) ≡ range_with_len a n ++ j ∷ []
+range_more : (a n j : ℕ) → a + n ≡ j → range_with_len a (suc n) ≡ range_with_len a n ++ j ∷ []
 range_more a zero j at = ap (λ (x : ℕ). x ∷ []) (omega (arith, at))
 range_more a (suc n) j at = ap (λ (l : List ℕ). a ∷ l) (range_more (a + 1) n j (omega (arith, at)))
 
 one_more : (marks : List Bool) (k : ℕ) → marked_below marks (k + 1) ≡ marked_below marks k ++ cond (is_marked marks k) (k ∷ []) []
 one_more marks k =
-    ap (λ (l : List ℕ). filter (λ b. is_marked marks b) l) (range_more 0 k k (omega arith))
+    let next : k + 1 ≡ suc k = omega arith in
+    ap (λ (n : ℕ). marked_below marks n) next
+    ∙ ap (λ (l : List ℕ). filter (λ b. is_marked marks b) l) (range_more 0 k k (omega arith))
     ∙ filter-append (λ b. is_marked marks b) (range_with_len 0 k) (k ∷ [])
 
 at_mark : (marks : List Bool) (k : ℕ) → is_marked marks k ≡ true → marked_below marks (k + 1) ≡ marked_below marks k ++ k ∷ []

@@ -17,11 +17,14 @@ const OUTPUT: usize = 131072;
 pub const F_BLOCKS: usize = 62;
 
 // The line that writes a block.
-fn push_write(text: &mut Vec<u8>, number: usize, block: &[u8]) -> Result<(), Fail> {
+pub fn push_write(text: &mut Vec<u8>, number: usize, block: &[u8]) -> Result<(), Fail> {
     let mut digits = Buffer::new();
     text.extend_from_slice(b"write ")?;
     text.extend_from_slice(digits.format(number).as_bytes())?;
     text.push(b' ')?;
+    if block.is_empty() {
+        text.push(b'-')?;
+    }
     for byte in block {
         let mut word = [0u8; 2];
         let _ = hex::encode_to_slice([*byte], &mut word);

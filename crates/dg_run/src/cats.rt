@@ -2,29 +2,26 @@
 ghost use Rattle.std.specs.Prelude.{◌≡◌, ◌≤◌, true, OnOk, OnErr};
 ghost use Rattle.dg_model.specs.Causes.{Rose};
 ghost use Rattle.dg_run.specs.Steps.{Answered, AnsweredPart, GoesOn, IsSound, WantedFor};
-ghost use Rattle.dg_volume.specs.Volumes.{any_phase, given_of, phase_of, touched_by};
+ghost use Rattle.dg_volume.specs.Volumes.{touched_by};
 ghost use Rattle.ufs_model.specs.Paths.{is_path};
 
 use crate::arrays::Array;
 use crate::events::Fault;
 use crate::paths::send_nothing;
+use dg_hot::Hot;
 use dg_io::{NoMemory, Rack, Sink};
 use dg_model::{Bytes, Event, Phase};
 use dg_text::HexLines;
 use dg_volume::CatAnswer;
 
-/// Counts the file that was given last among those read last, where the volume is settled.
-fn touch_given<R: Rack>(array: &mut Array<R>) -> Result<(), NoMemory>
-    ensures volume { array.new.volume ≡ array.old.volume }
-    ensures touched { OnOk result (array.new.hot ≡ touched_by (phase_of any_phase array.old.volume) (given_of array.old.volume) array.old.hot) }
-    ensures err { OnErr result (array.new ≡ array.old) }
+/// Counts a file that was given in a phase among those read last.
+fn touch(hot: &mut Hot, phase: Phase, given: Option<u32>) -> Result<(), NoMemory>
+    ensures touched { OnOk result (hot.new ≡ touched_by phase given hot.old) }
+    ensures err { OnErr result (hot.new ≡ hot.old) }
 {
-    if array.volume.phase() != Phase::Settled {
-        return Ok(());
-    }
-    match array.volume.given() {
-        Some(inode) => array.hot.touch(inode),
-        None => Ok(()),
+    match (phase, given) {
+        (Phase::Settled, Some(inode)) => hot.touch(inode),
+        _ => Ok(()),
     }
 }
 
@@ -45,13 +42,14 @@ pub fn serve_cat<R: Rack, K: Sink>(
     ensures read { result ≡ Err Fault.Read → ⊥ }
     ensures write { result ≡ Err Fault.Write → Rose (K.faults sink.old) (K.faults sink.new) }
 {
+    let phase = array.volume.phase();
     let mut lines = HexLines::new(&mut *sink, array.volume.shape().l);
     match array.volume.cat(path.as_slice(), &mut lines) {
         CatAnswer::Given(n) => {
             let Ok(()) = lines.end(n) else {
                 return Err(Fault::Write);
             };
-            match touch_given(array) {
+            match touch(&mut array.hot, phase, array.volume.given()) {
                 Ok(()) => Ok(()),
                 Err(_) => Err(Fault::NoMemory),
             }

@@ -24,5 +24,7 @@ mod serve;
 #[cfg(test)]
 mod tests;
 mod top;
+#[cfg(test)]
+mod volume_tests;
 
 pub use top::{Status, run};
