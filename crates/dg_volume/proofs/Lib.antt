@@ -1,6 +1,8 @@
 mod AnyLaws
 mod BlankLaws
+mod FileAnswers
 mod FileLaws
 mod PathSteps
+mod SettledSteps
 mod VolumeLaws
 mod VolumeSteps

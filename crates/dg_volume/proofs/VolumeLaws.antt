@@ -20,7 +20,7 @@ use Rattle.dg_model.specs.declared.replies.Reply.{Reply}
 use Rattle.dg_model.specs.declared.shapes.Shape.{Shape}
 use Rattle.dg_store.specs.Stores.{IsSound, KeepsBlocks}
 use Rattle.dg_store.specs.Views.{ReadsOn}
-use Rattle.dg_volume.specs.Volumes.{FitsArray, IsInPlace, IsWell, Leaves, StandsFor, StandsIn, StepsSome, StepsTo, Tells, marks_by, marks_of, members_of, rack_of, shape_of, state_of, table_of}
+use Rattle.dg_volume.specs.Volumes.{FitsArray, IsInPlace, IsWell, Leaves, StandsFor, StandsIn, StepsBy, StepsTo, Tells, marks_by, marks_of, members_of, rack_of, shape_of, state_of, table_of}
 use Rattle.dg_volume.specs.declared.phases.InPhase as phases
 use Rattle.dg_volume.specs.declared.volumes.Volume.{Volume}
 
@@ -95,17 +95,15 @@ module _ {S R : Type 0} (phase : phases.Ghosts S) (rack : Ghosts R) where
   abbrev pub StepsFrom : Volume S R → Event → Reply → Volume S R → Type 0
   StepsFrom a event reply b = (rest : State) (V : List (List ℕ)) → rest.label ≡ None → (Tells rack a → StandsFor phase rack a V) → StepsAt (λ recent. recent) a rest V event reply b
 
-  pub steps_from : (a b : Volume S R) (event : Event) (reply : Reply) → StepsFrom a event reply b → StepsTo phase phase rack a event reply b
-  steps_from a b event reply h state st =
-      subst (λ (s : State). (next : State) × StandsIn phase rack b next × Step (Tells rack b) s event reply next × (next.recent ≡ s.recent)) (sym st.is)
+  pub steps_by : (touch : List ℕ → List ℕ) (a b : Volume S R) (event : Event) (reply : Reply)
+      → ((rest : State) (V : List (List ℕ)) → rest.label ≡ None → (Tells rack a → StandsFor phase rack a V) → StepsAt touch a rest V event reply b)
+      → StepsBy phase phase rack touch a event reply b
+  steps_by touch a b event reply h state st =
+      subst (λ (s : State). (next : State) × StandsIn phase rack b next × Step (Tells rack b) s event reply next × (next.recent ≡ touch s.recent)) (sym st.is)
       (h state state.blocks st.label st.holds)
 
-  pub steps_some : (a b : Volume S R) (event : Event) (reply : Reply)
-      → ((rest : State) (V : List (List ℕ)) → rest.label ≡ None → (Tells rack a → StandsFor phase rack a V)
-      → (next : State) × StandsIn phase rack b next × Step (Tells rack b) (state_of phase rack a rest V) event reply next)
-      → StepsSome phase phase rack a event reply b
-  steps_some a b event reply h state st =
-      subst (λ (s : State). (next : State) × StandsIn phase rack b next × Step (Tells rack b) s event reply next) (sym st.is) (h state state.blocks st.label st.holds)
+  pub steps_from : (a b : Volume S R) (event : Event) (reply : Reply) → StepsFrom a event reply b → StepsTo phase phase rack a event reply b
+  steps_from a b event reply h = steps_by (λ recent. recent) a b event reply h
 
   -- what is told in the end was told before
   pub told_before : (a b : Volume S R) → Keeps a b → Tells rack b → Tells rack a

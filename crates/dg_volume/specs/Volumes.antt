@@ -62,6 +62,10 @@ marks_by (Some kept) marks = kept.pending
 abbrev pub marks_of : {S R : Type 0} → phases.Ghosts S → Volume S R → List Bool
 marks_of phase volume = marks_by (phase.kept volume.phase) volume.pending.items
 
+-- the inode of the file that was given last
+abbrev pub given_of : {S R : Type 0} → Volume S R → Option ℕ
+given_of volume = volume.given
+
 -- ---- states
 
 -- the state that it is in, where these are its blocks, and the rest is as in another state
@@ -96,11 +100,6 @@ StepsBy from to rack touch old event reply new = (state : State) → StandsIn fr
 -- the same of a step that reads no file
 abbrev pub StepsTo : {S T R : Type 0} → phases.Ghosts S → phases.Ghosts T → Ghosts R → Volume S R → Event → Reply → Volume T R → Type 0
 StepsTo from to rack old event reply new = StepsBy from to rack (λ recent. recent) old event reply new
-
--- the same, but nothing is said of the inodes that were read last
-abbrev pub StepsSome : {S T R : Type 0} → phases.Ghosts S → phases.Ghosts T → Ghosts R → Volume S R → Event → Reply → Volume T R → Type 0
-StepsSome from to rack old event reply new = (state : State) → StandsIn from rack old state →
-    (next : State) × StandsIn to rack new next × Step (Tells rack new) state event reply next
 
 -- the inodes that were read last, once the file of this inode was given in a phase
 abbrev pub touched_by : Phase → Option ℕ → List ℕ → List ℕ

@@ -7,6 +7,7 @@ mod any;
 mod paths;
 mod phases;
 mod queries;
+mod settled_paths;
 mod settles;
 #[cfg(test)]
 mod tests;
@@ -18,7 +19,8 @@ pub use dg_model::{NoMemory, Phase, Who};
 pub use dg_store::{Boundary, Shape};
 pub use phases::{AnyPhase, InPhase, Loose, Settled, Worn};
 pub use queries::WhoAnswer;
+pub use settled_paths::{AnyHome, HomeAnswer, TreeAnswer};
 pub use settles::{TendRun, Unsettled};
-pub use ufs_path::{CatAnswer, Listing};
+pub use ufs_path::{CatAnswer, Listing, LookFault};
 pub use volumes::{FailAnswer, ReadAnswer, Volume};
 pub use writes::Wrote;
