@@ -12,7 +12,7 @@ use Rattle.dg_model.specs.States.{State}
 use Rattle.dg_model.specs.declared.shapes.Shape.{Shape}
 use Rattle.dg_model.specs.declared.events.Event.{Event}
 use Rattle.dg_run.specs.declared.arrays.Array.{Array}
-use Rattle.dg_run.specs.Steps.{rack_of, shape_of}
+use Rattle.dg_run.specs.Steps.{WantedFor, rack_of, shape_of}
 use Rattle.dg_text.specs.Lines.{line_of, input_of, IsInPlace}
 use Rattle.dg_text.specs.Replies.{reply_line, output_of}
 use Rattle.dg_run.specs.Endings.{GaveLines, StartsWith, TookUpTo, LinesBrokeOff, LinesCut, LinesRanOut, RanOutAt, ServedLinePart, WantedLine}
@@ -22,7 +22,7 @@ use Rattle.dg_run.specs.Served.{is_served}
 use Rattle.dg_run.proofs.Inputs.{All-one}
 use Rattle.dg_run.proofs.Runs.{SoFar, output_more, volume_runs_more}
 use Rattle.dg_run.proofs.ArraySteps.{told_before}
-use Rattle.dg_run.proofs.ToldSteps.{Told-then}
+use Rattle.dg_run.proofs.ToldSteps.{Told-then, any_left}
 
 -- the line of an event was taken, and the source has so much left
 pub starts_left : (shape : Option Shape) (event : Event) (unread : List ℕ) (x y : Option (List ℕ)) → Told (Begins shape event) x (option_map (λ more. unread ++ more) y) → Told (StartsWith (line_of event)) x y
@@ -138,6 +138,20 @@ module _ {R : Type 0} (rack : Ghosts R) where
       lines_ran_out shape first passed number x y z t u v a b c budget was none.0 none.1 same tells
   lines_ran_out_at shape here first passed number x y z t u v a b c budget was is (inr line) same tells =
       ran_out_behind_reply shape first passed number x y z t u v a b c budget was (subst (λ (s : Shape). WantedLine rack s (2 ^ 40 - passed) y z u v b c) is line) same tells
+
+  -- memory was wanting for the event of a line that was taken
+  pub ran_out_of : (shape : Shape) (room : ℕ) (event : Event) (unread : List ℕ) (left rest taken given : Option (List ℕ)) (old now : Array R) → IsInPlace (Some shape) event → is_served event ≡ true
+      → length (line_of event) ≤ room → Told (Begins (Some shape) event) left (option_map (λ more. unread ++ more) rest) → WantedFor rack event taken given old now
+      → RanOutAt rack shape room left rest taken given old now
+  ran_out_of shape room event unread left rest taken given old now place served within told (inl same) = inl (any_left (Begins (Some shape) event) unread left rest told, same)
+  ran_out_of shape room event unread left rest taken given old now place served within told (inr answered) = inr (record {
+    event = event;
+    in_place = place;
+    done = served;
+    within = within;
+    input = starts_left (Some shape) event unread left rest told;
+    answered = answered;
+  })
 
   -- ---- behind what was written before
 

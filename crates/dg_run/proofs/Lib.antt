@@ -6,6 +6,7 @@ mod Ranges
 mod Runs
 mod ToldSteps
 mod Refusing
+mod ServedKinds
 mod FileParts
 mod PathReplies
 mod PendingLists

@@ -1,7 +1,7 @@
 -- Which events are served.
 use Rattle.std.specs.Prelude.{◌≡◌, Bool, true, false, List, All}
 use Rattle.dg_model.specs.declared.events.Event.{Event}
-use Rattle.dg_model.specs.declared.events.Event.TheVariants.{Array, Write, Read, Fail, Settle, Tend, Who, Pending, Cat, Ls}
+use Rattle.dg_model.specs.declared.events.Event.TheVariants.{Array, Write, Read, Fail, Settle, Tend, Who, Pending, Cat, Ls, Home}
 
 -- a line of any other event is refused, though it is spelled right
 abbrev pub is_served : Event → Bool
@@ -15,6 +15,7 @@ is_served (Who b) = true
 is_served Pending = true
 is_served (Cat path) = true
 is_served (Ls path) = true
+is_served (Home path) = true
 is_served event = false
 
 abbrev pub AreServed : List Event → Type 0
@@ -27,4 +28,5 @@ is_plain (Fail s j) = true
 is_plain Settle = true
 is_plain (Tend n) = true
 is_plain (Who b) = true
+is_plain (Home path) = true
 is_plain event = false

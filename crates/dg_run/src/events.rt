@@ -54,12 +54,12 @@ fn is_served(event: &Spelled) -> bool
         | Spelled::Who(_)
         | Spelled::Pending
         | Spelled::Cat(_)
-        | Spelled::Ls(_) => true,
+        | Spelled::Ls(_)
+        | Spelled::Home(_) => true,
         Spelled::Replace(_, _)
         | Spelled::Rebuild(_, _)
         | Spelled::Diffuse
         | Spelled::Tree
-        | Spelled::Home(_)
         | Spelled::Save => false,
     }
 }

@@ -1,11 +1,14 @@
 // The replies that the answers of a volume stand for.
 ghost use Rattle.std.specs.Prelude.{◌≡◌};
-ghost use Rattle.dg_volume.specs.Replies.{fail_reply, who_reply};
+ghost use Rattle.dg_volume.specs.Replies.{any_home_reply, fail_reply, fault_reply, home_reply as settled_home_reply, who_reply};
 ghost use Rattle.dg_volume.specs.Settles.{settle_reply, tend_reply};
 ghost use Rattle.dg_volume.specs.Writes.{write_reply};
 
 use dg_model::Reply;
-use dg_volume::{FailAnswer, TendRun, Unsettled, WhoAnswer, WriteAnswer};
+use dg_volume::{
+    AnyHome, FailAnswer, HomeAnswer, LookFault, TendRun, Unsettled, WhoAnswer, WriteAnswer,
+};
+use ufs_model::PathRefusal;
 
 /// A block was written.
 pub fn write_reply(answer: WriteAnswer) -> Reply
@@ -60,5 +63,43 @@ pub fn tend_reply(answer: TendRun) -> Reply
         TendRun::Tended { moved, left } => Reply::Tended(moved, left),
         TendRun::Lost(s) => Reply::Lost(s as u32),
         TendRun::NoSpace(room) => Reply::NoSpace(room),
+    }
+}
+
+/// A path leads to no inode.
+fn fault_reply(fault: LookFault) -> Reply
+    ensures { result ≡ fault_reply fault }
+{
+    match fault {
+        LookFault::NotFound => Reply::Refused(PathRefusal::NotFound),
+        LookFault::NotDirectory => Reply::Refused(PathRefusal::NotDirectory),
+        LookFault::Bad(bad) => Reply::Refused(PathRefusal::Bad(bad)),
+        LookFault::Unavailable => Reply::Unavailable,
+    }
+}
+
+/// The home of a file of a settled volume.
+fn settled_home_reply(answer: HomeAnswer) -> Reply
+    ensures { result ≡ settled_home_reply answer }
+{
+    match answer {
+        HomeAnswer::At {
+            home,
+            copy: Some(copy),
+        } => Reply::HomeAt(home as u32, Some(copy as u32)),
+        HomeAnswer::At { home, copy: None } => Reply::HomeAt(home as u32, None),
+        HomeAnswer::NoHome => Reply::NoHome,
+        HomeAnswer::Fault(fault) => fault_reply(fault),
+        HomeAnswer::NotRegular => Reply::Refused(PathRefusal::NotRegular),
+    }
+}
+
+/// The home of a file.
+pub fn home_reply(answer: AnyHome) -> Reply
+    ensures { result ≡ any_home_reply answer }
+{
+    match answer {
+        AnyHome::Is(answer) => settled_home_reply(answer),
+        AnyHome::NotSettled => Reply::NotSettled,
     }
 }

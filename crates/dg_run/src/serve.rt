@@ -13,7 +13,7 @@ use crate::cats::serve_cat;
 use crate::events::Fault;
 use crate::listings::serve_ls;
 use crate::pendings::serve_pending;
-use crate::replies::{fail_reply, settle_reply, tend_reply, who_reply, write_reply};
+use crate::replies::{fail_reply, home_reply, settle_reply, tend_reply, who_reply, write_reply};
 use dg_io::{Rack, Sink};
 use dg_model::{Event, NoMemory, Reply};
 use dg_text::{write_data, write_reply as write_line};
@@ -98,6 +98,7 @@ fn reply_to<R: Rack>(
         Event::Settle => Ok(settle_reply(array.volume.settle(alloc)?)),
         Event::Tend(n) => Ok(tend_reply(array.volume.tend(alloc, *n)?)),
         Event::Who(b) => Ok(who_reply(array.volume.who(*b))),
+        Event::Home(path) => Ok(home_reply(array.volume.home(path.as_slice()))),
         Event::Array(_)
         | Event::Read(_)
         | Event::Replace(_, _)
@@ -107,8 +108,34 @@ fn reply_to<R: Rack>(
         | Event::Cat(_)
         | Event::Ls(_)
         | Event::Tree
-        | Event::Home(_)
         | Event::Save => unreachable!(),
+    }
+}
+
+/// Does such an event, and writes its reply.
+fn serve_plain<R: Rack, K: Sink>(
+    alloc: Global,
+    array: &mut Array<R>,
+    sink: &mut K,
+    event: &Event,
+    block: &mut [u8],
+) -> Result<(), Fault>
+    requires sound { IsSound R.Rack array.old }
+    requires size { length block.old ≡ (shape_of array.old).l }
+    requires in_place { IsInPlace (Some (shape_of array.old)) event.now }
+    requires plain { is_plain event.now ≡ true }
+    ensures goes { GoesOn R.Rack array.old array.new }
+    ensures answered { OnOk result (Answered R.Rack event.now (K.taken sink.old) (K.taken sink.new) array.old array.new) }
+    ensures part { result ≡ Err Fault.Write → AnsweredPart R.Rack event.now (K.taken sink.old) (K.taken sink.new) array.old array.new }
+    ensures wanting { result ≡ Err Fault.NoMemory → K.taken sink.new ≡ K.taken sink.old }
+    ensures later { K.faults sink.old ≤ K.faults sink.new }
+    ensures kept { (result ≡ Err Fault.Write → ⊥) → K.faults sink.new ≡ K.faults sink.old }
+    ensures read { result ≡ Err Fault.Read → ⊥ }
+    ensures write { result ≡ Err Fault.Write → Rose (K.faults sink.old) (K.faults sink.new) }
+{
+    match reply_to(alloc, array, event, block) {
+        Ok(reply) => send(sink, &reply),
+        Err(_) => Err(Fault::NoMemory),
     }
 }
 
@@ -138,9 +165,6 @@ pub fn serve<R: Rack, K: Sink>(
         Event::Pending => serve_pending(array, sink),
         Event::Cat(path) => serve_cat(array, sink, path),
         Event::Ls(path) => serve_ls(array, sink, path),
-        plain => match reply_to(alloc, array, plain, block) {
-            Ok(reply) => send(sink, &reply),
-            Err(_) => Err(Fault::NoMemory),
-        },
+        plain => serve_plain(alloc, array, sink, plain, block),
     }
 }

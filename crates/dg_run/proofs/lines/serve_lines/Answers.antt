@@ -22,7 +22,7 @@ loop-passed-preserved g c =
     let line = turned_served g.R.Rack _ c.in-Served.bytes _ _ _ _ _ _ _ c.in-Served.is e.turned in
     let some = line_some line.event in
     record {
-      goes = goes_then g.R.Rack _ _ _ inv.goes e.goes;
+      goes = goes_then g.R.Rack c.args.array.now c.loop-passed.array c.serve_next.new.array inv.goes e.goes;
       size = search (rules, inv.size);
       budget = omega (arith, line.within, inv.budget);
       number = omega (arith, line.size, inv.number);

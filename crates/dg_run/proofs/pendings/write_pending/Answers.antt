@@ -1,4 +1,4 @@
-use Rattle.std.proofs.Common.{◌≡◌, ◌∙◌, ◌<◌, ◌+◌, ℕ, List, ap, arith, length, subst, sym}
+use Rattle.std.proofs.Common.{◌≡◌, ◌∙◌, ◌<◌, ◌+◌, ◌∷◌, [], ℕ, List, ap, arith, length, subst, sym}
 use Rattle.std.proofs.lemmas.List.{length-append}
 use Rattle.dg_io.specs.Told.{Told, Took}
 use Rattle.dg_run.proofs.PendingLists.{marked_below, marked_end, marked_next, marked_within, wrote_next, wrote_next_part}
@@ -30,7 +30,7 @@ loop-block-preserved g c =
       count = ap (λ (n : ℕ). n + 1) inv.count ∙ sym size;
       few = omega (arith, inv.few, some.0);
       told = wrote_next marks c.loop-block.from c.in-Some.block _ _ _ next inv.told c.in_ok-write_block_line.ensures.ok;
-      kept = c.in_ok-write_block_line.ensures.cause ∙ inv.kept;
+      kept = c.in_ok-write_block_line.ensures.cause.kept ∙ inv.kept;
     }
 
 pub returns-clause-count : goal.returns-clause-count
