@@ -37,6 +37,7 @@ module _ {S R : Type 0} (phase : phases.Ghosts S) (rack : Ghosts R) where
     inferred = subst (λ (k : Option KeptInference). IfSome k (FitsArray (shape_of volume))) (sym h.kept_is) well.inferred;
     homes_are = well.homes_are;
     copies_are = well.copies_are;
+    loose = λ loose. well.loose (sym h.phase_is ∙ loose);
     worn = λ worn. well.worn (sym h.phase_is ∙ worn);
     settled = λ settled.
         subst (λ (k : Option KeptInference). IsInPlace (table_of volume) k volume.homes volume.copies) (sym h.kept_is) (well.settled (sym h.phase_is ∙ settled));

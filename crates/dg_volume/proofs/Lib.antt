@@ -1,8 +1,17 @@
 mod AnyLaws
+mod ArrayLaws
 mod BlankLaws
 mod FileAnswers
 mod FileLaws
+mod GoneLaws
+mod HomeLaws
+mod MoveSteps
 mod PathSteps
+mod PlacedLaws
+mod ReplaceSteps
+mod SettleSteps
 mod SettledSteps
 mod VolumeLaws
 mod VolumeSteps
+mod WantLaws
+mod WriteSteps

@@ -24,7 +24,7 @@ use Rattle.dg_volume.specs.Volumes.{FitsArray, IsInPlace, IsWell, Leaves, Stands
 use Rattle.dg_volume.specs.declared.phases.InPhase as phases
 use Rattle.dg_volume.specs.declared.volumes.Volume.{Volume}
 
-lost_on : (shape : Shape) (old new : ℕ → MemberState) → NoneRecovers old new → has_lost shape old ≡ true → has_lost shape new ≡ true
+pub lost_on : (shape : Shape) (old new : ℕ → MemberState) → NoneRecovers old new → has_lost shape old ≡ true → has_lost shape new ≡ true
 lost_on shape old new back lost =
     let found = has_lost_from shape old lost in
     has_lost_at shape new found.0 found.1 (lost_stays old new found.0 back found.2)
@@ -75,6 +75,7 @@ module _ {S R : Type 0} (phase : phases.Ghosts S) (rack : Ghosts R) where
         inferred = subst (λ (p : S). IfSome (phase.kept p) (FitsArray (shape_of b))) (sym keeps.beside.phase_is) fits;
         homes_are = subst (λ (x : List Home). AreHomes (shape_of b) x) (sym keeps.beside.homes) homes;
         copies_are = subst (λ (x : List Home). AreHomes (shape_of b) x) (sym keeps.beside.copies) copies;
+        loose = λ loose. keeps.beside.copies ∙ well.loose (ap phase.phase (sym keeps.beside.phase_is) ∙ loose);
         worn = λ worn.
             let lost = lost_on (shape_of a) (members_of a) (members_of b) keeps.back (well.worn (ap phase.phase (sym keeps.beside.phase_is) ∙ worn)) in
             ap (λ (x : Shape). has_lost x (members_of b)) shape ∙ lost;

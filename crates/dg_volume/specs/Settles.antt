@@ -5,7 +5,7 @@ use Rattle.dg_model.specs.declared.events.Event.{Event}
 use Rattle.dg_model.specs.declared.replies.Reply.{Reply}
 use Rattle.dg_model.specs.declared.replies.Reply.TheVariants.{Lost as LostReply, Malformed as MalformedReply, NoSpace as NoSpaceReply, Settled as SettledReply, Tended as TendedReply}
 use Rattle.dg_store.specs.Stores.{KeepsBlocks}
-use Rattle.dg_volume.specs.Volumes.{Leaves, StepsTo}
+use Rattle.dg_volume.specs.Volumes.{Leaves, StepsTo, Tells}
 use Rattle.dg_volume.specs.declared.phases.InPhase as phases
 use Rattle.dg_volume.specs.declared.settles.TendRun.{TendRun}
 use Rattle.dg_volume.specs.declared.settles.TendRun.TheVariants.{Lost as TendLost, NoSpace as TendNoSpace, Tended}
@@ -35,6 +35,6 @@ pub record GoesBy {S T R : Type 0} (from : phases.Ghosts S) (to : phases.Ghosts 
   pub leaves : Leaves from to rack old new
   pub steps : StepsTo from to rack old event reply new
 
--- its array stands for what it stood for
+-- its array stands for what it stood for, where each member tells its bytes
 abbrev pub KeepsArray : {S T R : Type 0} → Ghosts R → Volume S R → Volume T R → Type 0
-KeepsArray rack old new = KeepsBlocks rack old.store new.store
+KeepsArray rack old new = Tells rack new → KeepsBlocks rack old.store new.store

@@ -1,5 +1,5 @@
 -- A volume beside the states of the model.
-use Rattle.std.specs.Prelude.{◌≡◌, ◌+◌, ◌*◌, ◌≤◌, ℕ, Bool, true, List, length, Option, Some, None, IfSome}
+use Rattle.std.specs.Prelude.{◌≡◌, ◌+◌, ◌*◌, ◌≤◌, ℕ, Bool, true, List, [], length, Option, Some, None, IfSome}
 use Rattle.dg_infer.specs.Meanings.{KeptInference}
 use Rattle.dg_infer.specs.Meanings as inferences
 use Rattle.dg_io.specs.declared.outside.Rack.{Ghosts}
@@ -121,7 +121,8 @@ pub record IsInPlace (table : Table) (kept : Option KeptInference) (homes copies
   pub are : (V : List (List ℕ)) → IfSome kept (λ inference. inferences.StandsFor inference V → AreWants table.shape.l table.shape.n V wants)
 
 -- What holds of a volume between calls: its array is sound; its buffers are for blocks of its size; it has a mark for each block; what is
--- inferred is of this array; homes are on its boundaries; a worn one has a lost boundary; and of a settled one each block is in its place.
+-- inferred is of this array; homes are on its boundaries; a loose one has no copies; a worn one has a lost boundary; and of a settled one
+-- each block is in its place.
 pub record IsWell {S R : Type 0} (phase : phases.Ghosts S) (rack : Ghosts R) (volume : Volume S R) : Type 0 where
   pub array : IsSound rack volume.store
   pub levels : volume.levels.fragment ≡ (shape_of volume).l
@@ -129,6 +130,7 @@ pub record IsWell {S R : Type 0} (phase : phases.Ghosts S) (rack : Ghosts R) (vo
   pub inferred : IfSome (phase.kept volume.phase) (FitsArray (shape_of volume))
   pub homes_are : AreHomes (shape_of volume) volume.homes
   pub copies_are : AreHomes (shape_of volume) volume.copies
+  pub loose : phase.phase volume.phase ≡ LoosePhase → volume.copies ≡ []
   pub worn : phase.phase volume.phase ≡ WornPhase → has_lost (shape_of volume) (members_of volume) ≡ true
   pub settled : phase.phase volume.phase ≡ SettledPhase → IsInPlace (table_of volume) (phase.kept volume.phase) volume.homes volume.copies
 

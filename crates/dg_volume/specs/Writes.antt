@@ -1,13 +1,20 @@
 -- What a write of a block leaves of a volume, by its answer.
-use Rattle.std.specs.Prelude.{◌≡◌, ℕ, List}
+use Rattle.std.specs.Prelude.{◌≡◌, ℕ, List, slice_set}
+use Rattle.dg_infer.specs.Meanings.{KeptInference}
+use Rattle.dg_infer.specs.Meanings as inferences
 use Rattle.dg_io.specs.declared.outside.Rack.{Ghosts}
 use Rattle.dg_model.specs.Blocks.{padded}
+use Rattle.dg_model.specs.Rereads.{Rereads, count_read}
 use Rattle.dg_model.specs.declared.events.Event.TheVariants.{Write}
 use Rattle.dg_model.specs.declared.replies.Reply.{Reply}
 use Rattle.dg_model.specs.declared.replies.Reply.TheVariants.{Degraded as DegradedReply, Done, Range as RangeReply}
+use Rattle.dg_store.specs.Leaves.{CallsAtMost, NoFault}
+use Rattle.dg_store.specs.Stores.{TellsAll}
+use Rattle.dg_store.specs.Stores as stores
+use Rattle.dg_store.specs.declared.store.Store.{Store}
 use Rattle.dg_volume.specs.Volumes.{Leaves, StepsTo, loose_phase, shape_of, worn_phase}
-use Rattle.dg_volume.specs.declared.any.WriteAnswer.{WriteAnswer}
-use Rattle.dg_volume.specs.declared.any.WriteAnswer.TheVariants.{Degraded as AnyDegraded, Range as AnyRange, Written}
+use Rattle.dg_volume.specs.declared.writes.WriteAnswer.{WriteAnswer}
+use Rattle.dg_volume.specs.declared.writes.WriteAnswer.TheVariants.{Degraded as AnyDegraded, Range as AnyRange, Written}
 use Rattle.dg_volume.specs.declared.phases.InPhase as phases
 use Rattle.dg_volume.specs.declared.volumes.Volume.{Volume}
 use Rattle.dg_volume.specs.declared.writes.Wrote.{Wrote}
@@ -30,3 +37,16 @@ abbrev pub write_reply : WriteAnswer → Reply
 write_reply Written = Done
 write_reply AnyRange = RangeReply
 write_reply AnyDegraded = DegradedReply
+
+-- ---- following a write
+
+-- The array stood for what a write of block b made of V, and tells its bytes in the end. The inference stood for V.
+pub record IsFollowed {R : Type 0} (rack : Ghosts R) (old new : Store R) (kept : KeptInference) (b : ℕ) (block : List ℕ) (V : List (List ℕ)) : Type 0 where
+  pub tells : TellsAll rack new
+  pub stands : stores.StandsFor rack old (slice_set V b block)
+  pub was : inferences.StandsFor kept V
+
+-- At most one call was made for each block that a write of block b gives reason to read, where no fault came.
+pub record RereadsFew {R : Type 0} (rack : Ghosts R) (Known : Type 0) (old new : Store R) (before after : List (List ℕ)) (b : ℕ) : Type 0 where
+  pub rereads : Rereads Known (stores.shape_of old).l (stores.shape_of old).n before after b
+  pub few : NoFault rack old new → CallsAtMost rack old new (count_read rereads)

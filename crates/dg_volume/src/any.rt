@@ -1,26 +1,15 @@
 // A volume whose phase is told only when the program runs. Its calls that change the phase do so in place.
-ghost use Rattle.std.specs.Prelude.{◌≡◌, IfOk, OnErr, length};
+ghost use Rattle.std.specs.Prelude.{IfOk, OnErr};
 ghost use Rattle.dg_model.specs.declared.events.Event.{Event};
 ghost use Rattle.dg_volume.specs.Settles.{KeepsArray, settle_reply, tend_reply};
-ghost use Rattle.dg_volume.specs.Volumes.{IsSame, IsWell, Leaves, StepsTo, any_phase, shape_of};
-ghost use Rattle.dg_volume.specs.Writes.{WritesTo, write_reply};
+ghost use Rattle.dg_volume.specs.Volumes.{IsSame, IsWell, Leaves, StepsTo, any_phase};
 
 use crate::phases::{AnyPhase, InPhase};
 use crate::settles::{TendRun, Unsettled};
 use crate::volumes::Volume;
 use dg_io::{NoMemory, Rack};
+use dg_model::Phase;
 use std::alloc::Global;
-
-/// What became of a write.
-#[derive(Clone, Copy, Debug, PartialEq, Eq)]
-pub enum WriteAnswer {
-    /// The block was written.
-    Written,
-    /// There is no such block. Nothing has changed.
-    Range,
-    /// A boundary was lost before, or all sites of the block were lost in this call. Nothing was written.
-    Degraded,
-}
 
 impl<S: InPhase + Drop, R: Rack> Volume<S, R> {
     /// The same volume, whose phase is told only when the program runs.
@@ -50,22 +39,6 @@ impl<S: InPhase + Drop, R: Rack> Volume<S, R> {
 }
 
 impl<R: Rack> Volume<AnyPhase, R> {
-    /// Writes a block of L bytes to its sites, and follows what blocks belong to. After want of memory the volume is loose, and it isn't
-    /// known what its blocks belong to.
-    pub fn write_block(
-        &mut self,
-        alloc: Global,
-        block: u32,
-        buf: &[u8],
-    ) -> Result<WriteAnswer, NoMemory>
-        requires well { IsWell any_phase R.Rack self.old }
-        requires size { length buf.now ≡ (shape_of self.old).l }
-        ensures leaves { Leaves any_phase any_phase R.Rack self.old self.new }
-        ensures steps { IfOk result (λ answer. WritesTo any_phase any_phase R.Rack self.old block buf.now (write_reply answer) self.new) }
-    {
-        Err(NoMemory)
-    }
-
     /// Checks the volume, and puts each block in its place by the plan. A settled one stays as it is.
     pub fn settle(&mut self, alloc: Global) -> Result<Result<(), Unsettled>, NoMemory>
         requires well { IsWell any_phase R.Rack self.old }
@@ -73,7 +46,17 @@ impl<R: Rack> Volume<AnyPhase, R> {
         ensures steps { IfOk result (λ answer. StepsTo any_phase any_phase R.Rack self.old Event.Settle (settle_reply answer) self.new) }
         ensures err { OnErr result (KeepsArray R.Rack self.old self.new) }
     {
-        Err(NoMemory)
+        if self.phase.phase() != Phase::Loose {
+            return match self.store.least_lost() {
+                Some(lost) => Ok(Err(Unsettled::Lost(lost))),
+                None => Ok(Ok(())),
+            };
+        }
+        if let Err(unsettled) = self.put_in_place(alloc)? {
+            return Ok(Err(unsettled));
+        }
+        self.phase.settle();
+        Ok(Ok(()))
     }
 
     /// Meets at most `limit` missing placements of the plan. A settled volume has none.
@@ -83,6 +66,12 @@ impl<R: Rack> Volume<AnyPhase, R> {
         ensures steps { IfOk result (λ answer. StepsTo any_phase any_phase R.Rack self.old (Event.Tend limit) (tend_reply answer) self.new) }
         ensures err { OnErr result (KeepsArray R.Rack self.old self.new) }
     {
-        Err(NoMemory)
+        if self.phase.phase() != Phase::Loose {
+            return match self.store.least_lost() {
+                Some(lost) => Ok(TendRun::Lost(lost)),
+                None => Ok(TendRun::Tended { moved: 0, left: 0 }),
+            };
+        }
+        self.tend_loose(alloc, limit)
     }
 }

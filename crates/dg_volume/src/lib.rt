@@ -6,7 +6,9 @@
 mod any;
 mod paths;
 mod phases;
+mod plans;
 mod queries;
+mod refills;
 mod settled_paths;
 mod settles;
 #[cfg(test)]
@@ -14,13 +16,13 @@ mod tests;
 mod volumes;
 mod writes;
 
-pub use any::WriteAnswer;
 pub use dg_model::{NoMemory, Phase, Who};
 pub use dg_store::{Boundary, Shape};
 pub use phases::{AnyPhase, InPhase, Loose, Settled, Worn};
 pub use queries::WhoAnswer;
+pub use refills::ReplaceAnswer;
 pub use settled_paths::{AnyHome, HomeAnswer, TreeAnswer};
 pub use settles::{TendRun, Unsettled};
 pub use ufs_path::{CatAnswer, Listing, LookFault};
 pub use volumes::{FailAnswer, ReadAnswer, Volume};
-pub use writes::Wrote;
+pub use writes::{WriteAnswer, Wrote};

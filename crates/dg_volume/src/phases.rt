@@ -5,6 +5,7 @@ ghost use Rattle.dg_model.specs.declared.phases.Phase.{Phase};
 
 use dg_infer::Inference;
 use dg_model::Phase;
+use std::mem;
 
 /// The phase of a volume, with what is kept in it.
 pub trait InPhase {
@@ -61,6 +62,23 @@ pub enum AnyPhase {
     Loose(Loose),
     Settled(Settled),
     Worn(Worn),
+}
+
+impl AnyPhase {
+    ghost use Rattle.std.specs.Prelude.{◌≡◌};
+    ghost use Rattle.dg_volume.specs.Phases.{kept_in, phase_in};
+
+    /// The volume is settled from now on.
+    pub(crate) fn settle(&mut self)
+        requires { phase_in self.old ≡ Phase.Loose }
+        ensures phase { phase_in self.new ≡ Phase.Settled }
+        ensures kept { kept_in self.new ≡ kept_in self.old }
+    {
+        *self = match mem::replace(self, AnyPhase::Worn(Worn)) {
+            AnyPhase::Loose(Loose { inference }) => AnyPhase::Settled(Settled { inference }),
+            other => other,
+        };
+    }
 }
 
 impl InPhase for Loose {

@@ -2,8 +2,8 @@ ghost use Rattle.std.specs.Prelude.{◌≡◌};
 ghost use Rattle.dg_volume.specs.Volumes.{IsWell, any_phase, shape_of};
 
 use crate::{
-    AnyHome, AnyPhase, CatAnswer, FailAnswer, InPhase, Listing, ReadAnswer, TreeAnswer, Volume,
-    Who, WhoAnswer,
+    AnyHome, AnyPhase, CatAnswer, FailAnswer, InPhase, Listing, ReadAnswer, ReplaceAnswer,
+    TreeAnswer, Volume, Who, WhoAnswer,
 };
 use dg_io::{Failed, MemRack, MemSink, Rack};
 use dg_model::Shape;
@@ -68,7 +68,13 @@ fn ask<S: InPhase, R: Rack>(rt: &impl Abort, volume: &mut Volume<S, R>)
     assert_eq!(rt; volume.fail(3, 0), FailAnswer::Failed);
     assert_eq!(rt; volume.fail(3, 0), FailAnswer::Already);
     assert_eq!(rt; volume.lost(), 0);
+    assert_eq!(rt; volume.replace(4, 0), ReplaceAnswer::Range);
+    assert_eq!(rt; volume.replace(0, 2), ReplaceAnswer::Range);
+    assert_eq!(rt; volume.replace(3, 1), ReplaceAnswer::NotOut);
+    assert_eq!(rt; volume.replace(3, 0), ReplaceAnswer::Replaced);
+    assert_eq!(rt; volume.replace(3, 0), ReplaceAnswer::NotOut);
     assert_eq!(rt; volume.fail(3, 1), FailAnswer::Failed);
+    assert_eq!(rt; volume.replace(3, 1), ReplaceAnswer::Lost);
     assert_eq!(rt; volume.lost(), 8);
     assert!(rt; volume.boundary(3).is_lost());
     assert_eq!(rt; volume.used(3), 0);
