@@ -154,7 +154,7 @@ fn moves_in_a_full_array(rt: HostRuntime) -> Result<(), Fail> {
     }
     input.extend_from_slice(b"tend 1\ntend 99\nsettle\n")?;
     let answer = last_replies(alloc, &input, 129)?;
-    assert!(rt; answer.as_slice() == b"tended 1 15\ntended 15 0\nsettled\n".as_slice());
+    assert_eq!(rt; answer.as_slice(), b"tended 1 15\ntended 15 0\nsettled\n".as_slice());
     Ok(())
 }
 

@@ -1,5 +1,5 @@
 -- A volume whose phase is told only when the program runs is the same volume.
-use Rattle.std.proofs.Common.{◌≡◌, ◌∙◌, List, length, refl, sym, subst}
+use Rattle.std.proofs.Common.{◌≡◌, ◌∙◌, length, refl, sym, subst}
 use Rattle.std.specs.Prelude.{Option, IfSome}
 use Rattle.dg_infer.specs.Meanings.{KeptInference}
 use Rattle.dg_infer.specs.Meanings as inferences

@@ -1,5 +1,5 @@
 -- Homes that ascend, each of which is found by its inode.
-use Rattle.std.proofs.Common.{◌≡◌, ◌<◌, ◌+◌, ◌^◌, ℕ, zero, suc, Bool, cond, List, [], ◌∷◌, length, get_or, map, refl, sym, ◌∙◌, ap, subst, arith}
+use Rattle.std.proofs.Common.{◌≡◌, ◌<◌, ◌+◌, ◌^◌, ℕ, zero, suc, Bool, cond, List, [], ◌∷◌, length, get_or, map, refl, ◌∙◌, ap, subst, arith}
 use Rattle.std.specs.Prelude.{Some, All}
 use Rattle.dg_model.proofs.SiteLists.{apart_test, same_test}
 use Rattle.dg_model.specs.Homes.{Ascend, home_of}

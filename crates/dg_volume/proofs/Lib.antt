@@ -1,6 +1,7 @@
 mod AnyLaws
 mod ArrayLaws
 mod BlankLaws
+mod CopySteps
 mod FileAnswers
 mod FileLaws
 mod GoneLaws
@@ -8,10 +9,14 @@ mod HomeLaws
 mod MoveSteps
 mod PathSteps
 mod PlacedLaws
+mod ReapLaws
+mod RebuildSteps
+mod RefillLaws
 mod ReplaceSteps
 mod SettleSteps
 mod SettledSteps
 mod VolumeLaws
 mod VolumeSteps
 mod WantLaws
+mod WantedLaws
 mod WriteSteps

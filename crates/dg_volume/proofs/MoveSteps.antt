@@ -1,5 +1,5 @@
 -- A volume makes a step by moves of its blocks: what is left of it, and each answer of `tend` and of `settle`.
-use Rattle.std.proofs.Common.{◌≡◌, ◌≢◌, ◌∙◌, ◌<◌, ◌/◌, ℕ, Bool, true, false, List, [], length, refl, sym, ap, subst, inl, inr}
+use Rattle.std.proofs.Common.{◌≡◌, ◌≢◌, ◌∙◌, ℕ, Bool, false, List, length, refl, sym, ap, subst, inl, inr}
 use Rattle.std.specs.Prelude.{Option, Some, None, Err, IfSome}
 use Rattle.dg_infer.specs.Meanings.{KeptInference}
 use Rattle.dg_infer.specs.Meanings as inferences
@@ -13,11 +13,9 @@ use Rattle.dg_model.specs.States.{IsLeastLost, State, has_lost}
 use Rattle.dg_model.specs.Steps.{Step}
 use Rattle.dg_model.specs.Tables.{Table}
 use Rattle.dg_model.specs.Wants.{AreWants}
-use Rattle.dg_model.specs.declared.events.Event.{Event}
 use Rattle.dg_model.specs.declared.events.Event.TheVariants.{Settle, Tend}
 use Rattle.dg_model.specs.declared.homes.Home.{Home}
 use Rattle.dg_model.specs.declared.parents.Parent.{Parent}
-use Rattle.dg_model.specs.declared.phases.Phase.{Phase}
 use Rattle.dg_model.specs.declared.phases.Phase.TheVariants.{Loose as LoosePhase, Settled as SettledPhase, Worn as WornPhase}
 use Rattle.dg_model.specs.declared.replies.Reply.TheVariants.{Lost as LostReply, Malformed as MalformedReply, NoSpace as NoSpaceReply, Settled as SettledReply, Tended as TendedReply}
 use Rattle.dg_model.specs.declared.shapes.Shape.{Shape}

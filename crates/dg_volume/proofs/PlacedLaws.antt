@@ -1,19 +1,18 @@
 -- Blocks that stand on just the targets of a plan are in their places.
-use Rattle.std.proofs.Common.{◌≡◌, ◌≢◌, ◌<◌, ◌≤◌, ◌*◌, ◌^◌, ℕ, zero, suc, Bool, true, false, cond, List, [], ◌∷◌, length, inl, inr, refl, sym, ◌∙◌, ap, subst, arith}
+use Rattle.std.proofs.Common.{◌≡◌, ◌≢◌, ◌<◌, ◌≤◌, ◌*◌, ◌^◌, ℕ, suc, Bool, true, false, cond, List, [], ◌∷◌, length, inl, inr, refl, sym, ◌∙◌, ap, subst, arith}
 use Rattle.std.specs.Prelude.{◌==◌, ◌++◌, ◌-◌, Option, Some, None, nat_lt, option_to_list}
 use Rattle.std.specs.List.{Contains, list_any}
 use Rattle.std.proofs.lemmas.Bool.{cases_lt}
 use Rattle.std.proofs.lemmas.List.{get_or_past}
 use Rattle.dg_model.proofs.SiteLists.{apart_test, count_on-cons, zero_if}
 use Rattle.dg_model.proofs.SumLaws.{sum_le_most}
-use Rattle.dg_model.specs.Homes.{Ascend, home_of}
+use Rattle.dg_model.specs.Homes.{Ascend}
 use Rattle.dg_model.specs.Moves.{IsAtTargets, count_upto, is_missing, missing_in}
-use Rattle.dg_model.specs.Placed.{IsPlaced, boundaries_with}
+use Rattle.dg_model.specs.Placed.{IsPlaced}
 use Rattle.dg_model.specs.Plans.{places_of}
 use Rattle.dg_model.specs.Shapes.{IsShape}
 use Rattle.dg_model.specs.Tables.{IsTable, Table, count_on, is_on, sites_in}
 use Rattle.dg_model.specs.Wants.{want_of}
-use Rattle.dg_model.specs.declared.homes.Home.{Home}
 use Rattle.dg_model.specs.declared.shapes.Shape.{Shape}
 use Rattle.dg_model.specs.declared.sites.Site.{Site}
 use Rattle.dg_model.specs.declared.wants.Want.{Want}
@@ -37,7 +36,7 @@ none_on s (x ∷ xs) none =
     )
 
 -- no block is on a boundary that the array doesn't have
-off_table : (table : Table) (b s : ℕ) → IsTable table → table.shape.b ≤ s → is_on table b s ≡ false
+pub off_table : (table : Table) (b s : ℕ) → IsTable table → table.shape.b ≤ s → is_on table b s ≡ false
 off_table table b s is past =
     ap (nat_lt 0) (none_on s (sites_in table b) (λ site here on.
     let low = is.boundaries b site.boundary site.slot here in

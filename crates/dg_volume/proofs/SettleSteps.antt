@@ -1,16 +1,14 @@
 -- A volume whose blocks are put in their places, and which is settled by that.
-use Rattle.std.proofs.Common.{◌≡◌, ◌∙◌, ◌<◌, ◌≤◌, ◌/◌, ◌+◌, ◌-◌, ◌^◌, min, ℕ, Bool, true, false, List, [], length, refl, sym, ap, subst, arith}
+use Rattle.std.proofs.Common.{◌≡◌, ◌∙◌, ◌<◌, ◌≤◌, ◌/◌, ◌+◌, ◌^◌, min, ℕ, false, List, [], length, refl, sym, ap, subst, arith}
 use Rattle.std.specs.Prelude.{Option, Some, None, All, IfSome}
 use Rattle.dg_infer.specs.Meanings.{KeptInference}
 use Rattle.dg_infer.specs.Meanings as inferences
 use Rattle.dg_io.specs.declared.outside.Rack.{Ghosts}
-use Rattle.dg_model.specs.Homes.{Ascend}
-use Rattle.dg_model.specs.Moves.{IsAtTargets, all_done, missing_in, moved, moves}
+use Rattle.dg_model.specs.Moves.{IsAtTargets, all_done, missing_in, moves}
 use Rattle.dg_model.specs.Placed.{IsPlaced}
 use Rattle.dg_model.specs.Saves.{AreHomes}
 use Rattle.dg_model.specs.States.{State, has_lost}
 use Rattle.dg_model.specs.Steps.{Step}
-use Rattle.dg_model.specs.Tables.{Table}
 use Rattle.dg_model.specs.Wants.{AreWants, FitWants}
 use Rattle.dg_model.specs.declared.events.Event.TheVariants.{Settle}
 use Rattle.dg_model.specs.declared.homes.Home.{Home}
@@ -24,11 +22,11 @@ use Rattle.dg_store.specs.Answers.{SameWritten}
 use Rattle.dg_store.specs.Stores as stores
 use Rattle.dg_store.specs.declared.store.Store.{Store}
 use Rattle.dg_volume.proofs.HomeLaws.{are_homes}
-use Rattle.dg_volume.proofs.MoveSteps.{HasMoved, HasRun, IsChecked, IsReady, Keeps, settle_step, stands_moved, wants_right}
-use Rattle.dg_volume.proofs.PlacedLaws.{are_placed, few_missing}
+use Rattle.dg_volume.proofs.MoveSteps.{HasRun, IsChecked, IsReady, settle_step, stands_moved, wants_right}
+use Rattle.dg_volume.proofs.PlacedLaws.{are_placed}
 use Rattle.dg_volume.specs.Planned.{HasPlan, IsPutInPlace}
 use Rattle.dg_volume.specs.Settles.{GoesBy}
-use Rattle.dg_volume.specs.Volumes.{FitsArray, IsInPlace, IsWell, Leaves, StandsFor, StepsTo, Tells, marks_by, marks_of, members_of, rack_of, shape_of, state_of, table_of}
+use Rattle.dg_volume.specs.Volumes.{AreWantsBy, FitsArray, IsInPlace, IsWell, Leaves, StandsFor, StepsTo, Tells, marks_by, marks_of, members_of, rack_of, shape_of, state_of, table_of}
 use Rattle.dg_volume.specs.declared.phases.InPhase as phases
 use Rattle.dg_volume.specs.declared.volumes.Volume.{Volume}
 
@@ -64,6 +62,9 @@ module _ {S R : Type 0} (phase : phases.Ghosts S) (rack : Ghosts R) where
         subst (λ (k : Option KeptInference). IfSome k (λ inference. inferences.StandsFor inference V → AreWants (shape_of b).l (shape_of b).n V run.plan.wants))
         (sym run.keeps.is) right
 
+    by_on : IfSome (phase.kept a.phase) (λ inference. AreWantsBy inference run.plan.wants)
+    by_on = subst (λ (k : Option KeptInference). IfSome k (λ inference. AreWantsBy inference run.plan.wants)) (sym run.keeps.is) run.plan.wanted.by
+
     placed_on : b.homes ≡ homes_of targets → b.copies ≡ [] → IsAtTargets (wants_of targets) (table_of b) → IsPlaced run.plan.wants (table_of b) b.homes b.copies
     placed_on homes copies at =
         let placed =
@@ -73,7 +74,7 @@ module _ {S R : Type 0} (phase : phases.Ghosts S) (rack : Ghosts R) where
 
     in_place : b.homes ≡ homes_of targets → b.copies ≡ [] → SameWritten (table_of a) (table_of b) → IsAtTargets (wants_of targets) (table_of b)
         → IsInPlace (table_of b) (phase.kept a.phase) b.homes b.copies
-    in_place homes copies written at = record { wants = run.plan.wants; fit = written_on written; placed = placed_on homes copies at; are = right_on }
+    in_place homes copies written at = record { wants = run.plan.wants; fit = written_on written; placed = placed_on homes copies at; are = right_on; by = by_on }
 
     -- moves without a limit put each block in its place
     pub put_in_place : (m l limit : ℕ) → IsReady phase rack a → IsChecked phase rack a kept b → b.homes ≡ homes_of targets → b.copies ≡ []

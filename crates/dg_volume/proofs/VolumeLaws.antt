@@ -110,7 +110,7 @@ module _ {S R : Type 0} (phase : phases.Ghosts S) (rack : Ghosts R) where
   pub told_before : (a b : Volume S R) → Keeps a b → Tells rack b → Tells rack a
   told_before a b keeps told q below = keeps.tells q (told q (subst (λ (s : Shape). q / 2 < s.b) (sym (shape_kept a b keeps)) below))
 
-  holds_on : (a b : Volume S R) (V : List (List ℕ)) → Keeps a b → StandsFor phase rack a V → StandsFor phase rack b V
+  pub holds_on : (a b : Volume S R) (V : List (List ℕ)) → Keeps a b → StandsFor phase rack a V → StandsFor phase rack b V
   holds_on a b V keeps holds = record {
     array = keeps.stands V holds.array;
     inferred = subst (λ (p : S). IfSome (phase.kept p) (λ kept. inferences.StandsFor kept V)) (sym keeps.beside.phase_is) holds.inferred;

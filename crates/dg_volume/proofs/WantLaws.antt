@@ -1,15 +1,15 @@
 -- What each block is to the plan, one after another.
-use Rattle.std.proofs.Common.{◌≡◌, ◌<◌, ◌≤◌, ◌+◌, ◌++◌, ◌∙◌, ℕ, Bool, true, false, List, [], ◌∷◌, length, get_or, inl, inr, refl, sym, ap, subst, arith}
+use Rattle.std.proofs.Common.{◌≡◌, ◌<◌, ◌+◌, ◌++◌, ◌∙◌, ℕ, Bool, true, false, List, [], ◌∷◌, length, inl, inr, refl, sym, ap, subst, arith}
 use Rattle.std.specs.Prelude.{Option, Some, None, Result, Ok, Err, IfSome, is_some, if◌then◌else◌}
 use Rattle.std.specs.Result.{is_err, is_ok}
 use Rattle.std.proofs.lemmas.Bool.{cases_lt, false≢true}
 use Rattle.std.proofs.lemmas.List.{get_or_append_left, get_or_past, get_or_push, length-append}
 use Rattle.dg_infer.specs.Meanings.{KeptInference}
 use Rattle.dg_infer.specs.Meanings as inferences
+use Rattle.dg_infer.specs.Wants.{IsWantBy}
 use Rattle.dg_model.specs.Sites.{has_site}
-use Rattle.dg_model.specs.Tables.{IsTable, Table, sites_in}
-use Rattle.dg_model.specs.Wants.{AreWants, IsWant, want_of}
-use Rattle.dg_model.specs.declared.sites.Site.{Site}
+use Rattle.dg_model.specs.Tables.{IsTable, Table}
+use Rattle.dg_model.specs.Wants.{IsWant, want_of}
 use Rattle.dg_model.specs.declared.wants.Want.{Want}
 use Rattle.dg_volume.specs.Planned.{AreWanted, IsWantOf}
 
@@ -63,6 +63,10 @@ module _ (table : Table) (kept : KeptInference) where
     };
     are = λ V held b want found. elim (cases_lt b table.shape.n) [
       | inl low ↦ at_want V b (want_of wants b) want (first.each b low) held found
+      | inr past ↦ absurd (no_want want (sym (get_or_past wants b None (let e = first.size in omega (arith, e, past))) ∙ found))
+    ];
+    by = λ b want found. elim (cases_lt b table.shape.n) [
+      | inl low ↦ let right = first.each b low in subst (λ (w : Option Want). IfSome w (IsWantBy kept b)) found right.by
       | inr past ↦ absurd (no_want want (sym (get_or_past wants b None (let e = first.size in omega (arith, e, past))) ∙ found))
     ];
   }

@@ -152,6 +152,7 @@ module _ {S T R : Type 0} (from : phases.Ghosts S) (to : phases.Ghosts T) (rack 
     pub copies : AreHomes (shape_of a) c.copies
     pub marks : length (marks_of to c) ≡ length (marks_of from a)
     pub fits : IfSome (to.kept c.phase) (FitsArray (shape_of a))
+    pub loose : to.phase c.phase ≡ LoosePhase → c.copies ≡ []
     pub worn : to.phase c.phase ≡ WornPhase → has_lost (shape_of c) (members_of c) ≡ true
     pub settled : to.phase c.phase ≡ SettledPhase → ⊥
 
@@ -164,6 +165,7 @@ module _ {S T R : Type 0} (from : phases.Ghosts S) (to : phases.Ghosts T) (rack 
       inferred = subst (λ (x : Shape). IfSome (to.kept c.phase) (FitsArray x)) (sym h.shape) h.fits;
       homes_are = subst (λ (x : Shape). AreHomes x c.homes) (sym h.shape) (subst (λ (x : List Home). AreHomes (shape_of a) x) (sym h.homes) well.homes_are);
       copies_are = subst (λ (x : Shape). AreHomes x c.copies) (sym h.shape) h.copies;
+      loose = h.loose;
       worn = h.worn;
       settled = λ settled. absurd (h.settled settled);
     };
@@ -245,6 +247,7 @@ module _ {S T R : Type 0} (from : phases.Ghosts S) (to : phases.Ghosts T) (rack 
         copies = subst (λ (x : List Home). AreHomes (shape_of a) x) (sym h.copies) (no_homes (shape_of a));
         marks = next_size lost (IsOver a c []) (shape_of a).l (shape_of a).n (slice_set [] b block) (with_mark (marks_of from a) b) (marks_of to c) (h.marks []) ∙ length-set (marks_of from a) b true;
         fits = h.fits;
+        loose = λ loose. h.copies;
         worn = after_worn lost (to.phase c.phase) h.phase_is;
         settled = after_settled lost (to.phase c.phase) h.phase_is;
       })

@@ -1,3 +1,5 @@
+pub mod Copies
+pub mod Fronts
 pub mod Phases
 pub mod Planned
 pub mod Refills

@@ -2,6 +2,7 @@
 use Rattle.std.specs.Prelude.{◌≡◌, ℕ, List, Option, None, Result, Ok, Err, false, IfSome, is_some}
 use Rattle.dg_infer.specs.Meanings.{KeptInference}
 use Rattle.dg_infer.specs.Meanings as inferences
+use Rattle.dg_infer.specs.Wants.{IsWantBy}
 use Rattle.dg_io.specs.declared.outside.Rack.{Ghosts}
 use Rattle.dg_model.specs.Plans.{plan}
 use Rattle.dg_model.specs.States.{IsLeastLost, State, has_lost}
@@ -23,7 +24,7 @@ use Rattle.dg_store.specs.Stores.{IsSound, KeepsBlocks, TellsAll, members_of, sh
 use Rattle.dg_store.specs.Stores as stores
 use Rattle.dg_store.specs.Views.{ReadsOn}
 use Rattle.dg_store.specs.declared.store.Store.{Store}
-use Rattle.dg_volume.specs.Volumes.{IsInPlace, StandsFor, Tells, state_of}
+use Rattle.dg_volume.specs.Volumes.{AreWantsBy, IsInPlace, StandsFor, Tells, state_of}
 use Rattle.dg_volume.specs.Volumes as volumes
 use Rattle.dg_volume.specs.declared.phases.InPhase as phases
 use Rattle.dg_volume.specs.declared.plans.PlanAnswer.{PlanAnswer}
@@ -52,11 +53,13 @@ pub record HasMovedArray {R : Type 0} (rack : Ghosts R) (old new : Store R) : Ty
 pub record IsWantOf (table : Table) (kept : KeptInference) (b : ℕ) (found : Option Want) : Type 0 where
   pub written : is_some found ≡ has_site (sites_in table b)
   pub is : (V : List (List ℕ)) → inferences.StandsFor kept V → IfSome found (IsWant kept.l kept.n V b)
+  pub by : IfSome found (IsWantBy kept b)
 
 -- what each written block is to the plan, of each volume for which the inference stands
 pub record AreWanted (table : Table) (kept : KeptInference) (wants : List (Option Want)) : Type 0 where
   pub fit : FitWants table wants
   pub are : (V : List (List ℕ)) → inferences.StandsFor kept V → AreWants kept.l kept.n V wants
+  pub by : AreWantsBy kept wants
 
 -- the directories of files, on each volume for which the array stood, where it tells its bytes now
 abbrev pub AreKnown : {R : Type 0} → Ghosts R → Store R → Store R → List Parent → Type 0

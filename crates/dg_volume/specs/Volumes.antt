@@ -2,6 +2,7 @@
 use Rattle.std.specs.Prelude.{◌≡◌, ◌+◌, ◌*◌, ◌≤◌, ℕ, Bool, true, List, [], length, Option, Some, None, IfSome}
 use Rattle.dg_infer.specs.Meanings.{KeptInference}
 use Rattle.dg_infer.specs.Meanings as inferences
+use Rattle.dg_infer.specs.Wants.{IsWantBy}
 use Rattle.dg_io.specs.declared.outside.Rack.{Ghosts}
 use Rattle.dg_io.specs.Told.{StillTold}
 use Rattle.dg_model.specs.Saves.{AreHomes}
@@ -9,7 +10,7 @@ use Rattle.dg_model.specs.States.{IsBlank, State, has_lost}
 use Rattle.dg_model.specs.Placed.{IsPlaced}
 use Rattle.dg_model.specs.Steps.{Step, recent_after}
 use Rattle.dg_model.specs.Tables.{Table}
-use Rattle.dg_model.specs.Wants.{AreWants, FitWants}
+use Rattle.dg_model.specs.Wants.{AreWants, FitWants, want_of}
 use Rattle.dg_model.specs.declared.events.Event.{Event}
 use Rattle.dg_model.specs.declared.members.MemberState.{MemberState}
 use Rattle.dg_model.specs.declared.homes.Home.{Home}
@@ -101,6 +102,11 @@ StepsBy from to rack touch old event reply new = (state : State) → StandsIn fr
 abbrev pub StepsTo : {S T R : Type 0} → phases.Ghosts S → phases.Ghosts T → Ghosts R → Volume S R → Event → Reply → Volume T R → Type 0
 StepsTo from to rack old event reply new = StepsBy from to rack (λ recent. recent) old event reply new
 
+-- The same, but said of states that have a block for each of the array's alone: what becomes of blocks then counts them.
+abbrev pub StepsSized : {S T R : Type 0} → phases.Ghosts S → phases.Ghosts T → Ghosts R → Volume S R → Event → Reply → Volume T R → Type 0
+StepsSized from to rack old event reply new = (state : State) → StandsIn from rack old state → length state.blocks ≡ (shape_of old).n →
+    (next : State) × StandsIn to rack new next × Step (Tells rack new) state event reply next × (next.recent ≡ state.recent)
+
 -- the inodes that were read last, once the file of this inode was given in a phase
 abbrev pub touched_by : Phase → Option ℕ → List ℕ → List ℕ
 touched_by phase None recent = recent
@@ -113,12 +119,17 @@ pub record FitsArray (shape : Shape) (kept : KeptInference) : Type 0 where
   pub bytes : kept.l ≡ shape.l
   pub number : kept.n ≡ shape.n
 
+-- each want is that of its block, by what is kept
+abbrev pub AreWantsBy : KeptInference → List (Option Want) → Type 0
+AreWantsBy inference wants = (b : ℕ) (want : Want) → want_of wants b ≡ Some want → IsWantBy inference b want
+
 -- Each block is in its place, by wants that are right of each volume for which the inference stands.
 pub record IsInPlace (table : Table) (kept : Option KeptInference) (homes copies : List Home) : Type 0 where
   pub wants : List (Option Want)
   pub fit : FitWants table wants
   pub placed : IsPlaced wants table homes copies
   pub are : (V : List (List ℕ)) → IfSome kept (λ inference. inferences.StandsFor inference V → AreWants table.shape.l table.shape.n V wants)
+  pub by : IfSome kept (λ inference. AreWantsBy inference wants)
 
 -- What holds of a volume between calls: its array is sound; its buffers are for blocks of its size; it has a mark for each block; what is
 -- inferred is of this array; homes are on its boundaries; a loose one has no copies; a worn one has a lost boundary; and of a settled one

@@ -1,7 +1,8 @@
 // The phases of a volume.
-ghost use Rattle.std.specs.Prelude.{◌≡◌, ◌≢◌, MatchOption, None, Some, Option};
+ghost use Rattle.std.specs.Prelude.{◌≡◌, ◌≢◌, IfSome, MatchOption, None, Some, Option};
 ghost use Rattle.dg_infer.specs.Meanings.{KeptInference};
 ghost use Rattle.dg_model.specs.declared.phases.Phase.{Phase};
+ghost use Rattle.dg_volume.specs.Phases.{CanReapAll};
 
 use dg_infer::Inference;
 use dg_model::Phase;
@@ -34,10 +35,25 @@ pub trait InPhase {
         ensures kept { MatchOption result (kept self ≡ None) (λ inference. kept self ≡ Some inference) }
         ensures worn { MatchOption result (phase self ≡ Phase.Worn) (λ inference. phase self ≢ Phase.Worn) };
 
+    /// Dead blocks became blocks of zeros: what is kept stays.
+    fn reaped(&mut self, blocks: &[u32])
+        ensures same { self.new ≡ self.old }
+        ensures stands { IfSome (kept self.old) (λ inference. CanReapAll inference blocks.now) };
+
     /// The same phase, told only when the program runs.
     fn into_any(self) -> AnyPhase
         ensures phase { phase_in result ≡ phase self }
         ensures kept { kept_in result ≡ kept self };
+}
+
+/// Tells an inference of dead blocks that became blocks of zeros.
+fn tell_reaped(inference: &mut Inference, blocks: &[u32])
+    ensures same { inference.new ≡ inference.old }
+    ensures stands { CanReapAll inference.old blocks.now }
+{
+    for place in 0..blocks.len() {
+        inference.reaped(blocks[place]);
+    }
 }
 
 /// It is known what blocks belong to, and nothing is promised under a loss.
@@ -102,6 +118,10 @@ impl InPhase for Loose {
         Some(inference)
     }
 
+    fn reaped(&mut self, blocks: &[u32]) {
+        tell_reaped(&mut self.inference, blocks);
+    }
+
     fn into_any(self) -> AnyPhase {
         AnyPhase::Loose(self)
     }
@@ -128,6 +148,10 @@ impl InPhase for Settled {
         Some(inference)
     }
 
+    fn reaped(&mut self, blocks: &[u32]) {
+        tell_reaped(&mut self.inference, blocks);
+    }
+
     fn into_any(self) -> AnyPhase {
         AnyPhase::Settled(self)
     }
@@ -152,6 +176,8 @@ impl InPhase for Worn {
     fn into_inference(self) -> Option<Inference> {
         None
     }
+
+    fn reaped(&mut self, _blocks: &[u32]) {}
 
     fn into_any(self) -> AnyPhase {
         AnyPhase::Worn(self)
@@ -186,6 +212,14 @@ impl InPhase for AnyPhase {
             AnyPhase::Loose(loose) => loose.into_inference(),
             AnyPhase::Settled(settled) => settled.into_inference(),
             AnyPhase::Worn(_) => None,
+        }
+    }
+
+    fn reaped(&mut self, blocks: &[u32]) {
+        match self {
+            AnyPhase::Loose(loose) => loose.reaped(blocks),
+            AnyPhase::Settled(settled) => settled.reaped(blocks),
+            AnyPhase::Worn(_) => {}
         }
     }
 

@@ -46,7 +46,7 @@ fn want_of<R: Rack>(store: &Store<R>, inference: &Inference, block: u32) -> Opti
 }
 
 /// What each block is to the plan.
-fn all_wants<R: Rack>(
+pub fn all_wants<R: Rack>(
     alloc: Global,
     store: &Store<R>,
     inference: &Inference,

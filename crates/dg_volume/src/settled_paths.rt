@@ -3,6 +3,7 @@ ghost use Rattle.std.specs.Prelude.{◌≡◌, ◌≤◌, IfOk, OnErr, true};
 ghost use Rattle.dg_model.specs.Homes.{Ascend, home_of};
 ghost use Rattle.dg_model.specs.declared.events.Event.{Event};
 ghost use Rattle.dg_model.specs.declared.phases.Phase.{Phase};
+ghost use Rattle.dg_volume.specs.Fronts.{HandsLines};
 ghost use Rattle.dg_volume.specs.Replies.{AnswersTree, AnswersTreeAny, StaysUnlessFailedAny, answer_for, any_home_reply, home_reply};
 ghost use Rattle.dg_volume.specs.Settles.{KeepsArray};
 ghost use Rattle.dg_volume.specs.Volumes.{IsWell, Leaves, StepsTo, any_phase, phase_of, settled_phase};
@@ -90,6 +91,7 @@ impl<S: InPhase, R: Rack> Volume<S, R> {
         ensures steps { IfOk result (AnswersTree O.took O.took_part O.faults out.old out.new
             (λ reply. StepsTo S.InPhase S.InPhase R.Rack self.old Event.Tree reply self.new)) }
         ensures err { OnErr result (KeepsArray R.Rack self.old self.new) }
+        ensures part { OnErr result (HandsLines O.took R.Rack out.old out.new self.old self.new) }
     {
         tree(alloc, &mut self.store, &mut self.levels, out)
     }
@@ -126,6 +128,7 @@ impl<R: Rack> Volume<Settled, R> {
         ensures steps { IfOk result (AnswersTree O.took O.took_part O.faults out.old out.new
             (λ reply. StepsTo settled_phase settled_phase R.Rack self.old Event.Tree reply self.new)) }
         ensures err { OnErr result (KeepsArray R.Rack self.old self.new) }
+        ensures part { OnErr result (HandsLines O.took R.Rack out.old out.new self.old self.new) }
     {
         self.list_all(alloc, out)
     }
@@ -151,6 +154,7 @@ impl<R: Rack> Volume<AnyPhase, R> {
         ensures steps { IfOk result (AnswersTreeAny O.took O.took_part O.faults out.old out.new
             (λ reply. StepsTo any_phase any_phase R.Rack self.old Event.Tree reply self.new)) }
         ensures err { OnErr result (KeepsArray R.Rack self.old self.new) }
+        ensures part { OnErr result (HandsLines O.took R.Rack out.old out.new self.old self.new) }
     {
         match self.phase() {
             Phase::Settled => {

@@ -201,6 +201,7 @@ impl<R: Rack> Volume<AnyPhase, R> {
         }
         let Ok(written) = self.store.write(block, buf) else {
             loosen(&mut self.phase);
+            self.copies = Homes::new(Vec::new(alloc));
             return Err(NoMemory);
         };
         if let StoreWrite::AllLost = written {

@@ -1,4 +1,4 @@
-use Rattle.std.proofs.Common.{◌≡◌, ◌<◌, ◌^◌, ℕ, slice_index_or}
+use Rattle.std.proofs.Common.{◌<◌, ◌^◌, ℕ, slice_index_or}
 use Rattle.dg_model.specs.declared.homes.Home.{Home}
 use Rattle.dg_volume.proofs.plans.inodes_fit.Given as goal
 

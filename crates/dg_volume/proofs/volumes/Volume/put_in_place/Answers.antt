@@ -1,4 +1,4 @@
-use Rattle.std.proofs.Common.{◌≡◌, ◌∙◌, ◌<◌, ◌^◌, ◌-◌, List, refl, sym, subst}
+use Rattle.std.proofs.Common.{◌∙◌, ◌<◌, ◌^◌, ◌-◌, List, refl, subst}
 use Rattle.std.specs.Prelude.{All}
 use Rattle.dg_model.specs.Tables.{Table}
 use Rattle.dg_model.specs.declared.homes.Home.{Home}

@@ -1,8 +1,8 @@
-use Rattle.std.proofs.Common.{◌≡◌, refl}
+use Rattle.std.proofs.Common.{refl}
 use Rattle.dg_plan.specs.Targets.{wants_of}
 use Rattle.dg_store.specs.Stores.{KeepsBlocks, TellsAll}
 use Rattle.dg_volume.proofs.ArrayLaws.{moved_both, moved_by, on_err, told_by}
-use Rattle.dg_volume.proofs.MoveSteps.{HasRun, IsReady, has_moved, has_read, keeps_of, moved_leaves, tend_cramped, tend_done, tend_lost_moving, tend_lost_reading}
+use Rattle.dg_volume.proofs.MoveSteps.{has_moved, has_read, keeps_of, moved_leaves, tend_cramped, tend_done, tend_lost_moving, tend_lost_reading}
 use Rattle.dg_volume.proofs.volumes.Volume.tend_loose.Goals as goal
 
 pub returns-in-Lost-clause-steps : goal.returns-in-Lost-clause-steps

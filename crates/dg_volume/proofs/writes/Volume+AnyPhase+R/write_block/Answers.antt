@@ -55,12 +55,12 @@ returns-then-whole-clause-steps g c =
     let b : Volume AnyPhase g.row.R.Denot = record a {
       store = c.follow-followed.new.store;
       phase = Loose (record { inference = c.follow-followed.new.inference });
-      copies = c.new-2.result;
+      copies = c.new-3.result;
       levels = c.follow-followed.new.levels;
     } in
     written_to any_phase any_phase g.R.Rack a c.args.block c.args.buf.now c.write.new.self b c.requires.well
     (written_whole any_phase any_phase g.R.Rack a c.args.block c.args.buf.now c.write.new.self c.in-Some.inference c.follow-followed.new.inference b c.requires.well stored
-    f.levels refl (c.new-2.ensures ∙ c.new.ensures.items) (rw c.in-Some.is at c.take_inference.ensures.kept) refl refl followed)
+    f.levels refl (c.new-3.ensures ∙ c.new-2.ensures.items) (rw c.in-Some.is at c.take_inference.ensures.kept) refl refl followed)
 
 pub returns-clause-steps : goal.returns-clause-steps
 returns-clause-steps g c =
@@ -84,10 +84,10 @@ returns-clause-steps g c =
       store = c.follow-followed.new.store;
       phase = c.take_inference.new.phase;
       pending = c.worn_marks.result;
-      copies = c.new-2.result;
+      copies = c.new-3.result;
       levels = c.follow-followed.new.levels;
     } in
     written_to any_phase any_phase g.R.Rack a c.args.block c.args.buf.now c.write.new.self b c.requires.well
     (written_broken any_phase any_phase g.R.Rack a c.args.block c.args.buf.now c.write.new.self c.in-Some.inference b c.requires.well stored
-    f.levels refl (c.new-2.ensures ∙ c.new.ensures.items) (rw c.in-Some.is at c.take_inference.ensures.kept) c.take_inference.ensures.left c.take_inference.ensures.left_phase
+    f.levels refl (c.new-3.ensures ∙ c.new-2.ensures.items) (rw c.in-Some.is at c.take_inference.ensures.kept) c.take_inference.ensures.left c.take_inference.ensures.left_phase
     (c.worn_marks.ensures ∙ ap (λ xs. with_mark xs c.args.block) (f.kept c.if-whole.false)) (f.lost c.if-whole.false))
