@@ -3,7 +3,7 @@ use Rattle.std.proofs.Common.{◌≡◌, ℕ, List, false, refl, true}
 use Rattle.std.specs.Prelude.{Some}
 use Rattle.std.proofs.lemmas.Bool.{false≢true}
 use Rattle.dg_model.specs.declared.events.Event.{Event}
-use Rattle.dg_model.specs.declared.events.Event.TheVariants.{Array, Cat, Fail, Home, Ls, Pending, Read, Settle, Tend, Who, Write}
+use Rattle.dg_model.specs.declared.events.Event.TheVariants.{Array, Cat, Diffuse, Fail, Home, Ls, Pending, Read, Rebuild, Replace, Settle, Tend, Who, Write}
 use Rattle.dg_model.specs.declared.shapes.Shape.{Shape}
 use Rattle.dg_run.specs.Served.{is_plain, is_served}
 use Rattle.dg_text.specs.Lines.{IsInPlace}
@@ -13,6 +13,9 @@ pub plain_of : (shape : Shape) (event : Event) → IsInPlace (Some shape) event 
     → ((path : List ℕ) → event ≡ Cat path → ⊥) → ((path : List ℕ) → event ≡ Ls path → ⊥) → is_plain event ≡ true
 plain_of shape (Write b bytes) place served read pending cat ls = refl
 plain_of shape (Fail s j) place served read pending cat ls = refl
+plain_of shape (Replace s j) place served read pending cat ls = refl
+plain_of shape (Rebuild s n) place served read pending cat ls = refl
+plain_of shape Diffuse place served read pending cat ls = refl
 plain_of shape Settle place served read pending cat ls = refl
 plain_of shape (Tend n) place served read pending cat ls = refl
 plain_of shape (Who b) place served read pending cat ls = refl

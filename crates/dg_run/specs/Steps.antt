@@ -1,5 +1,5 @@
 -- An array beside the model's states.
-use Rattle.std.specs.Prelude.{◌≡◌, ◌⊎◌, ◌≤◌, ℕ, List, Option}
+use Rattle.std.specs.Prelude.{◌≡◌, ◌⊎◌, ◌≤◌, ℕ, List, Option, length}
 use Rattle.dg_io.specs.declared.outside.Rack.{Ghosts}
 use Rattle.dg_io.specs.Told.{StillTold, Told, Took, TookPart}
 use Rattle.dg_model.specs.Runs.{Run}
@@ -37,10 +37,11 @@ GoesOn rack old new = Leaves any_phase any_phase rack old.volume new.volume
 
 -- ---- states
 
--- The array is in this state: its volume is, and the inodes that it read last are those of the state.
+-- The array is in this state: its volume is, the inodes that it read last are those of the state, and that has a block for each of the array's.
 pub record StandsIn {R : Type 0} (rack : Ghosts R) (array : Array R) (state : State) : Type 0 where
   pub volume : volumes.StandsIn any_phase rack array.volume state
   pub recent : state.recent ≡ array.hot
+  pub sized : length state.blocks ≡ state.table.shape.n
 
 -- whichever state the array was in, it made a step from it, to a state that it is in now
 abbrev pub StepsTo : {R : Type 0} → Ghosts R → Array R → Event → Reply → Array R → Type 0

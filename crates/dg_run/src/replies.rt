@@ -1,12 +1,15 @@
 // The replies that the answers of a volume stand for.
 ghost use Rattle.std.specs.Prelude.{◌≡◌};
+ghost use Rattle.dg_volume.specs.Copies.{any_diffuse_reply};
+ghost use Rattle.dg_volume.specs.Refills.{rebuild_reply, replace_reply};
 ghost use Rattle.dg_volume.specs.Replies.{any_home_reply, fail_reply, fault_reply, home_reply as settled_home_reply, who_reply};
 ghost use Rattle.dg_volume.specs.Settles.{settle_reply, tend_reply};
 ghost use Rattle.dg_volume.specs.Writes.{write_reply};
 
 use dg_model::Reply;
 use dg_volume::{
-    AnyHome, FailAnswer, HomeAnswer, LookFault, TendRun, Unsettled, WhoAnswer, WriteAnswer,
+    AnyDiffuse, AnyHome, DiffuseAnswer, FailAnswer, HomeAnswer, LookFault, RebuildAnswer,
+    ReplaceAnswer, TendRun, Unsettled, WhoAnswer, WriteAnswer,
 };
 use ufs_model::PathRefusal;
 
@@ -29,6 +32,43 @@ pub fn fail_reply(answer: FailAnswer) -> Reply
         FailAnswer::Failed => Reply::Done,
         FailAnswer::Already => Reply::Already,
         FailAnswer::Range => Reply::Range,
+    }
+}
+
+/// A member of this boundary was replaced.
+pub fn replace_reply(boundary: u32, answer: ReplaceAnswer) -> Reply
+    ensures { result ≡ replace_reply boundary answer }
+{
+    match answer {
+        ReplaceAnswer::Replaced => Reply::Done,
+        ReplaceAnswer::Range => Reply::Range,
+        ReplaceAnswer::Lost => Reply::Lost(boundary),
+        ReplaceAnswer::NotOut => Reply::NotOut,
+        ReplaceAnswer::Failed => Reply::Failed,
+    }
+}
+
+/// A member was refilled.
+pub fn rebuild_reply(answer: RebuildAnswer) -> Reply
+    ensures { result ≡ rebuild_reply answer }
+{
+    match answer {
+        RebuildAnswer::Copied { done, left } => Reply::Copied(done, left),
+        RebuildAnswer::Range => Reply::Range,
+        RebuildAnswer::Lost(s) => Reply::Lost(s as u32),
+        RebuildAnswer::NotFilling => Reply::NotFilling,
+        RebuildAnswer::Failed => Reply::Failed,
+    }
+}
+
+/// Files got copies.
+pub fn diffuse_reply(answer: AnyDiffuse) -> Reply
+    ensures { result ≡ any_diffuse_reply answer }
+{
+    match answer {
+        AnyDiffuse::Is(DiffuseAnswer::Diffused(gained)) => Reply::Diffused(gained),
+        AnyDiffuse::Is(DiffuseAnswer::Lost(s)) => Reply::Lost(s as u32),
+        AnyDiffuse::NotSettled => Reply::NotSettled,
     }
 }
 

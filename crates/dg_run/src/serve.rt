@@ -13,7 +13,10 @@ use crate::cats::serve_cat;
 use crate::events::Fault;
 use crate::listings::serve_ls;
 use crate::pendings::serve_pending;
-use crate::replies::{fail_reply, home_reply, settle_reply, tend_reply, who_reply, write_reply};
+use crate::replies::{
+    diffuse_reply, fail_reply, home_reply, rebuild_reply, replace_reply, settle_reply, tend_reply,
+    who_reply, write_reply,
+};
 use dg_io::{Rack, Sink};
 use dg_model::{Event, NoMemory, Reply};
 use dg_text::{write_data, write_reply as write_line};
@@ -95,15 +98,15 @@ fn reply_to<R: Rack>(
             Ok(write_reply(array.volume.write_block(alloc, *b, block)?))
         }
         Event::Fail(s, j) => Ok(fail_reply(array.volume.fail(*s, *j))),
+        Event::Replace(s, j) => Ok(replace_reply(*s, array.volume.replace(*s, *j))),
+        Event::Rebuild(s, n) => Ok(rebuild_reply(array.volume.rebuild(alloc, *s, *n)?)),
         Event::Settle => Ok(settle_reply(array.volume.settle(alloc)?)),
         Event::Tend(n) => Ok(tend_reply(array.volume.tend(alloc, *n)?)),
+        Event::Diffuse => Ok(diffuse_reply(array.volume.diffuse(alloc, &array.hot)?)),
         Event::Who(b) => Ok(who_reply(array.volume.who(*b))),
         Event::Home(path) => Ok(home_reply(array.volume.home(path.as_slice()))),
         Event::Array(_)
         | Event::Read(_)
-        | Event::Replace(_, _)
-        | Event::Rebuild(_, _)
-        | Event::Diffuse
         | Event::Pending
         | Event::Cat(_)
         | Event::Ls(_)

@@ -122,6 +122,10 @@ fn volumes_are_settled(rt: HostRuntime) -> Result<(), Fail> {
             "settled\nsettled\ntended 0 0\nrange\ntended 0 0\n",
         ),
         (
+            "home /a\nsettle\nhome /a\nhome /d/b\nhome /h\nhome /z\nhome /d\nhome /x\n",
+            "not settled\nsettled\nhome 3\nhome 2\nhome 3\nhome none\nnotregular\nnotfound\n",
+        ),
+        (
             "settle\nfail 2 0\nfail 2 1\ncat /d/b\ncat /a\nls /d\ncat /z\n",
             "settled\nok\nok\nunavailable\nbytes 68656c6c6f\nend 5\nentry 4 d 512 .\nentry 2 d 512 ..\nentry 5 r 53248 b\nend 3\nend 0\n",
         ),
@@ -140,6 +144,7 @@ fn volumes_are_settled(rt: HostRuntime) -> Result<(), Fail> {
     Ok(())
 }
 
+// Both files stand in one directory, so both go to boundary 0. Eight blocks of each are on boundary 1, and sixteen other blocks make room.
 #[test]
 fn moves_in_a_full_array(rt: HostRuntime) -> Result<(), Fail> {
     let alloc = rt.alloc();
@@ -154,7 +159,83 @@ fn moves_in_a_full_array(rt: HostRuntime) -> Result<(), Fail> {
     }
     input.extend_from_slice(b"tend 1\ntend 99\nsettle\n")?;
     let answer = last_replies(alloc, &input, 129)?;
-    assert_eq!(rt; answer.as_slice(), b"tended 1 15\ntended 15 0\nsettled\n".as_slice());
+    assert_eq!(rt;
+        answer.as_slice(),
+        b"tended 1 31\ntended 31 0\nsettled\n".as_slice()
+    );
+    Ok(())
+}
+
+// A file that was read gets a copy on a second boundary, and keeps it until the next write.
+#[test]
+fn files_that_were_read_get_copies(rt: HostRuntime) -> Result<(), Fail> {
+    let alloc = rt.alloc();
+    let volume = image(alloc, Which::F)?;
+    for (lines, wanted) in [
+        (
+            "cat /a\nsettle\ndiffuse\ncat /a\ndiffuse\nhome /a\ndiffuse\n",
+            "bytes 68656c6c6f\nend 5\nsettled\ndiffused 0\nbytes 68656c6c6f\nend 5\ndiffused 1\nhome 3 copy 0\ndiffused 0\n",
+        ),
+        (
+            "settle\ncat /a\ndiffuse\nfail 3 0\nfail 3 1\ncat /a\ncat /h\n",
+            "settled\nbytes 68656c6c6f\nend 5\ndiffused 1\nok\nok\nbytes 68656c6c6f\nend 5\nunavailable\n",
+        ),
+        (
+            "settle\ncat /a\ndiffuse\nwrite 34 6a656c6c6f\ndiffuse\nsettle\nhome /a\ncat /a\n",
+            "settled\nbytes 68656c6c6f\nend 5\ndiffused 1\nok\nnot settled\nsettled\nhome 3\nbytes 6a656c6c6f\nend 5\n",
+        ),
+    ] {
+        let answer = replies(alloc, &volume, lines, &[])?;
+        assert!(rt; answer.as_slice() == wanted.as_bytes(), "{lines}");
+    }
+    Ok(())
+}
+
+#[test]
+fn members_are_refilled(rt: HostRuntime) -> Result<(), Fail> {
+    let alloc = rt.alloc();
+    let volume = image(alloc, Which::F)?;
+    for (lines, wanted) in [
+        (
+            "settle\nfail 2 0\nreplace 2 0\nrebuild 2 10\nfail 2 1\ncat /d/b\n",
+            "settled\nok\nok\ncopied 10 45\nok\nunavailable\n",
+        ),
+        (
+            "settle\nrebuild 1 9\nreplace 1 0\nreplace 4 0\nrebuild 4 1\n",
+            "settled\nnot filling\nnot out\nrange\nrange\n",
+        ),
+    ] {
+        let answer = replies(alloc, &volume, lines, &[])?;
+        assert!(rt; answer.as_slice() == wanted.as_bytes(), "{lines}");
+    }
+    let lines = "settle\nfail 2 0\nreplace 2 0\nrebuild 2 99\nfail 2 1\ncat /d/b\n";
+    let answer = replies(alloc, &volume, lines, &[])?;
+    assert!(rt; answer.starts_with(b"settled\nok\nok\ncopied 55 0\nok\nbytes 01"));
+    assert!(rt; answer.ends_with(b"\nend 53248\n"));
+    Ok(())
+}
+
+// A refill copies a pending block, and reaps dead ones.
+#[test]
+fn dead_blocks_are_reaped(rt: HostRuntime) -> Result<(), Fail> {
+    let alloc = rt.alloc();
+    let empty = image(alloc, Which::E)?;
+    let lines = "write 34 68656c6c6f\nsettle\nfail 3 0\nreplace 3 0\nrebuild 3 99\nwho 34\n";
+    let answer = replies(alloc, &empty, lines, &[])?;
+    assert!(rt; answer.as_slice() == b"ok\nsettled\nok\nok\ncopied 1 0\npending\n".as_slice());
+
+    let volume = image(alloc, Which::F)?;
+    let mut input = Vec::from_slice(alloc, ARRAY.as_bytes())?;
+    push_image(&mut input, &volume, 0)?;
+    let count = input.iter().filter(|byte| **byte == b'\n').count();
+    input.extend_from_slice(b"settle\n")?;
+    push_blocks(&mut input, &empty, &[24, 28, 33])?;
+    input.extend_from_slice(
+        b"who 34\nfail 3 0\nreplace 3 0\nrebuild 3 99\nwho 34\nread 34\nwho 36\n",
+    )?;
+    let answer = last_replies(alloc, &input, count)?;
+    let wanted = b"settled\nok\nok\nok\ndead\nok\nok\ncopied 0 0\nidle\ndata -\ndead\n";
+    assert!(rt; answer.as_slice() == wanted.as_slice());
     Ok(())
 }
 
@@ -291,10 +372,10 @@ fn a_block_changes_its_file(rt: HostRuntime) -> Result<(), Fail> {
     set(&mut volume, SIZE_OF_3, 0)?;
     set(&mut volume, FIRST_OF_3, 0)?;
     push_blocks(&mut input, &volume, &[28])?;
-    input.extend_from_slice(b"who 34\nsettle\ncat /z\n")?;
+    input.extend_from_slice(b"who 34\nsettle\ncat /z\nhome /z\n")?;
     let answer = last_replies(alloc, &input, count)?;
     let wanted =
-        b"settled\nok\nshared 2\nmalformed twice 34\nok\ninode 6 level 0\nsettled\nbytes 68656c6c6f\nend 5\n";
+        b"settled\nok\nshared 2\nmalformed twice 34\nok\ninode 6 level 0\nsettled\nbytes 68656c6c6f\nend 5\nhome 3\n";
     assert!(rt; answer.as_slice() == wanted.as_slice());
     Ok(())
 }

@@ -1,10 +1,11 @@
 use Rattle.std.proofs.Common.{◌≡◌, ◌∙◌, ℕ, List, ap, refl, subst, sym}
 use Rattle.dg_model.specs.Blocks.{padded}
 use Rattle.dg_model.specs.declared.events.Event.{Event}
-use Rattle.dg_model.specs.declared.events.Event.TheVariants.{Fail, Home, Settle, Tend, Who, Write}
+use Rattle.dg_model.specs.declared.events.Event.TheVariants.{Diffuse, Fail, Home, Rebuild, Replace, Settle, Tend, Who, Write}
 use Rattle.dg_model.specs.declared.replies.Reply.{Reply}
-use Rattle.dg_run.proofs.ArraySteps.{steps_of}
+use Rattle.dg_run.proofs.ArraySteps.{steps_hot, steps_of, steps_sized}
 use Rattle.dg_run.specs.Steps.{StepsTo, shape_of}
+use Rattle.dg_volume.specs.Copies.{StepsHot}
 use Rattle.dg_volume.specs.Volumes.{any_phase}
 use Rattle.dg_volume.specs.Volumes as volumes
 use Rattle.dg_run.proofs.serve.reply_to.Goals as goal
@@ -52,3 +53,27 @@ returns-in-Home-clause-steps g c =
     let step = subst (λ (p : List ℕ). volumes.StepsTo any_phase any_phase g.R.Rack a.volume (Home p) c.home_reply.result b.volume) c.as_slice-in-Home.ensures
     (subst (λ (r : Reply). volumes.StepsTo any_phase any_phase g.R.Rack a.volume (Home c.as_slice-in-Home.result.now) r b.volume) (sym c.home_reply.ensures) c.home.ensures.steps) in
     subst (λ (e : Event). StepsTo g.R.Rack a e c.home_reply.result b) (sym c.in-Home.is) (steps_of g.R.Rack a b (Home c.in-Home.path) c.home_reply.result refl step)
+
+pub returns-in-Replace-clause-steps : goal.returns-in-Replace-clause-steps
+returns-in-Replace-clause-steps g c =
+    let a = c.args.array.now in
+    let b = record a { volume = c.replace.new.self } in
+    let step = subst (λ (r : Reply). volumes.StepsTo any_phase any_phase g.R.Rack a.volume (Replace c.in-Replace.s c.in-Replace.j) r b.volume) (sym c.replace_reply.ensures) c.replace.ensures.steps in
+    subst (λ (e : Event). StepsTo g.R.Rack a e c.replace_reply.result b) (sym c.in-Replace.is)
+    (steps_of g.R.Rack a b (Replace c.in-Replace.s c.in-Replace.j) c.replace_reply.result refl step)
+
+pub returns-in_ok-rebuild-in-Rebuild-clause-steps : goal.returns-in_ok-rebuild-in-Rebuild-clause-steps
+returns-in_ok-rebuild-in-Rebuild-clause-steps g c =
+    let a = c.args.array.now in
+    let b = record a { volume = c.rebuild.new.self } in
+    let step = subst (λ (r : Reply). volumes.StepsSized any_phase any_phase g.R.Rack a.volume (Rebuild c.in-Rebuild.s c.in-Rebuild.n) r b.volume) (sym c.rebuild_reply.ensures)
+    c.in_ok-rebuild-in-Rebuild.ensures.steps in
+    subst (λ (e : Event). StepsTo g.R.Rack a e c.rebuild_reply.result b) (sym c.in-Rebuild.is)
+    (steps_sized g.R.Rack a b (Rebuild c.in-Rebuild.s c.in-Rebuild.n) c.rebuild_reply.result refl step)
+
+pub returns-in_ok-diffuse-in-Diffuse-clause-steps : goal.returns-in_ok-diffuse-in-Diffuse-clause-steps
+returns-in_ok-diffuse-in-Diffuse-clause-steps g c =
+    let a = c.args.array.now in
+    let b = record a { volume = c.diffuse.new.self } in
+    let step = subst (λ (r : Reply). StepsHot any_phase any_phase g.R.Rack a.hot a.volume Diffuse r b.volume) (sym c.diffuse_reply.ensures) c.in_ok-diffuse-in-Diffuse.ensures.steps in
+    subst (λ (e : Event). StepsTo g.R.Rack a e c.diffuse_reply.result b) (sym c.in-Diffuse.is) (steps_hot g.R.Rack a b Diffuse c.diffuse_reply.result refl step)

@@ -1,4 +1,6 @@
-use Rattle.std.proofs.Common.{◌∙◌, ap, sym}
+use Rattle.std.proofs.Common.{◌∙◌, ap, length, sym}
+use Rattle.std.proofs.lemmas.List.{length-replicate}
+use Rattle.dg_model.specs.Blocks.{zeros}
 use Rattle.dg_model.specs.States.{State}
 use Rattle.dg_run.proofs.arrays.Array.new.Goals as goal
 
@@ -16,5 +18,7 @@ returns g c =
       stands = record {
         volume = into.stands made.state made.stands;
         recent = ap (λ (s : State). s.recent) made.blank.is ∙ sym c.in_ok-hot.ensures;
+        sized = ap (λ (s : State). length s.blocks) made.blank.is ∙ length-replicate c.args.shape.n (zeros c.args.shape.l)
+            ∙ ap (λ (s : State). s.table.shape.n) (sym made.blank.is);
       };
     }
