@@ -3,7 +3,6 @@ use Rattle.std.proofs.lemmas.Bool.{false≢true}
 use Rattle.std.specs.Prelude.{slice_set}
 use Rattle.ufs_model.specs.Blocks.{block_at}
 use Rattle.ufs_model.specs.Metadata.{by_geometry}
-use Rattle.ufs_model.specs.declared.geometries.Geometry.{Geometry}
 use Rattle.ufs_pointer.specs.KindLaws.{loses_along}
 use Rattle.dg_claims.specs.Kept.{KeptClaims, claimed_by}
 use Rattle.dg_infer.proofs.TargetLaws.{this_block}

@@ -1,7 +1,6 @@
-use Rattle.std.proofs.Common.{◌≡◌, ◌∙◌, ◌<◌, List, Bool, true, Option, Some, length, refl, sym, ap, subst, arith}
+use Rattle.std.proofs.Common.{◌≡◌, ◌∙◌, List, Bool, Option, Some, length, refl, sym, ap, subst}
 use Rattle.std.proofs.lemmas.List.{with_items_is}
 use Rattle.std.specs.Prelude.{slice_set}
-use Rattle.std.specs.Vec.{with_items}
 use Rattle.dg_io.specs.ViewLaws.{keeps_both}
 use Rattle.dg_model.specs.Volumes.{geometry_on}
 use Rattle.ufs_model.specs.Metadata.{by_geometry, of_indirect}

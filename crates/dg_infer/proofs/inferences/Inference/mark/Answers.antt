@@ -1,7 +1,6 @@
-use Rattle.std.proofs.Common.{◌≡◌, ◌∙◌, ◌<◌, ℕ, List, Bool, true, Option, Some, None, length, sym, ap, subst, arith}
+use Rattle.std.proofs.Common.{◌≡◌, ◌∙◌, ◌<◌, List, Bool, true, Option, Some, None, length, sym, ap, subst, arith}
 use Rattle.std.proofs.lemmas.List.{with_items_is}
 use Rattle.std.specs.Vec.{with_items}
-use Rattle.ufs_model.specs.Blocks.{Volume}
 use Rattle.dg_model.specs.Marks.{AreLeft, with_mark}
 use Rattle.dg_infer.proofs.VolumeLaws.{length_mark}
 use Rattle.dg_infer.proofs.WriteLaws.{marks_anew, marks_fewer, marks_touched, stands_marked}

@@ -6,7 +6,6 @@ use Rattle.ufs_model.specs.Geometries.{IsGeometryOn}
 use Rattle.ufs_pointer.specs.Superblocks.{superblock_blocks}
 use Rattle.dg_infer.proofs.TargetLaws.{this_block}
 use Rattle.dg_infer.specs.Fetched.{FetchesOnce}
-use Rattle.dg_model.specs.Marks.{with_mark}
 use Rattle.dg_model.specs.Volumes.{geometry_on}
 use Rattle.ufs_model.specs.Blocks.{Volume, block_at}
 use Rattle.ufs_model.specs.Metadata.{IsMetadata, of_superblock}
