@@ -4,12 +4,12 @@ use Rattle.std.specs.Prelude.{Option, Some, None, IfSome, max, slice_set}
 use Rattle.std.specs.List.{All, Contains}
 use Rattle.std.proofs.lemmas.List.{length-set}
 use Rattle.std.proofs.lemmas.List.Sums.{count_by-le-length}
-use Rattle.std.proofs.lemmas.Bool.{and_parts, cases_Bool, false≢true}
+use Rattle.std.proofs.lemmas.Bool.{and_parts, false≢true}
 use Rattle.dg_infer.specs.Meanings.{KeptInference}
 use Rattle.dg_infer.specs.Meanings as inferences
 use Rattle.dg_io.specs.Told.{StillTold}
 use Rattle.dg_io.specs.declared.outside.Rack.{Ghosts}
-use Rattle.dg_model.proofs.MemberLaws.{NoneFell, NoneRecovers, falls_both, good_was, has_lost_at, none_back}
+use Rattle.dg_model.proofs.MemberLaws.{NoneRecovers, falls_both, good_was, has_lost_at, none_back}
 use Rattle.dg_model.proofs.SealLaws.{goes_plain}
 use Rattle.dg_model.specs.Blocks.{padded}
 use Rattle.dg_model.specs.Causes.{NoneRose}
@@ -29,7 +29,6 @@ use Rattle.dg_model.specs.declared.members.MemberState.{MemberState}
 use Rattle.dg_model.specs.declared.members.MemberState.TheVariants.{Filling, Good, Out}
 use Rattle.dg_model.specs.declared.phases.Phase.{Phase}
 use Rattle.dg_model.specs.declared.phases.Phase.TheVariants.{Loose as LoosePhase, Settled as SettledPhase, Worn as WornPhase}
-use Rattle.dg_model.specs.declared.replies.Reply.{Reply}
 use Rattle.dg_model.specs.declared.replies.Reply.TheVariants.{Degraded, Done, Range}
 use Rattle.dg_model.specs.declared.shapes.Shape.{Shape}
 use Rattle.dg_model.specs.declared.sites.Site.{Site}
@@ -42,7 +41,7 @@ use Rattle.dg_store.specs.Views.{Fetches, ReadsOn, is_written}
 use Rattle.dg_store.specs.declared.store.Store.{Store}
 use Rattle.dg_volume.proofs.BlankLaws.{no_homes}
 use Rattle.dg_volume.proofs.VolumeLaws.{IsBeside, Keeps, leaves, lost_on, stays, steps_from, still_in}
-use Rattle.dg_volume.specs.Volumes.{FitsArray, IsWell, Leaves, StandsFor, StandsIn, StepsTo, Tells, marks_by, marks_of, members_of, rack_of, shape_of, state_of, table_of}
+use Rattle.dg_volume.specs.Volumes.{FitsArray, IsWell, Leaves, StandsFor, StandsIn, Tells, marks_by, marks_of, members_of, rack_of, shape_of, state_of, table_of}
 use Rattle.dg_volume.specs.Writes.{IsFollowed, RereadsFew, WritesTo}
 use Rattle.dg_volume.specs.declared.phases.InPhase as phases
 use Rattle.dg_volume.specs.declared.volumes.Volume.{Volume}

@@ -1,8 +1,6 @@
-use Rattle.std.proofs.Common.{◌≡◌, ◌∙◌, ◌<◌, ℕ, List, [], Bool, true, length, sym, ap, subst, arith}
+use Rattle.std.proofs.Common.{◌∙◌, ◌<◌, ℕ, List, [], Bool, true, length, ap, subst, arith}
 use Rattle.std.proofs.lemmas.List.{length-set}
 use Rattle.std.specs.Prelude.{slice_set}
-use Rattle.dg_infer.specs.Meanings.{KeptInference}
-use Rattle.dg_infer.specs.Writes.{IsKnownWrite}
 use Rattle.dg_model.specs.Marks.{AreLeft, with_mark}
 use Rattle.dg_store.specs.Stores.{members_of}
 use Rattle.dg_store.specs.Stores as stores
