@@ -6,6 +6,7 @@ of it and mends them again, settles, and lets members fail; a lost boundary ends
 import random
 
 from image import GROUP_PLACES, INODE_PLACES, Image, Item, MODES, NoRoom, make_geometry
+from lines import damaged, refusal
 from model import GOOD, OUT, Array, Filling, spelled, unspelled
 from volume import FIELDS, ROOT, SUPER_AT, Refused, group_start, up
 
@@ -110,7 +111,7 @@ class Trace:
     def __init__(self, seed, served=EVENTS):
         self.rng = rng = random.Random(seed)
         self.served = set(served)
-        self.lines, self.replies = [], []
+        self.lines, self.replies, self.tail = [], [], ""
         l, n = rng.choice([512, 1024]), rng.randrange(64, 257)
         b = rng.choice([2, 2, 3, 3, 4, 4, 5, 8, 16])
         k = up(n, b) + rng.choice([0, 0, rng.randrange(1, 9), rng.randrange(n)])
@@ -405,16 +406,66 @@ class Trace:
             rng.choice([self.ask, self.ask, self.act, self.break_something])()
 
 
+    def end(self):
+        """A last line that is damaged; an event where it is still one."""
+        word = self.rng.choice(self.lines).split(" ")[0]
+        line = damaged(self.rng, self.rng.choice([line for line in self.lines if line.startswith(word)]), self.array.l)
+        kind = refusal(line, len(self.lines) + 1, self.array.l, self.served)
+        if kind:
+            self.tail = line
+            self.replies.append([f"line {len(self.lines) + 1} {kind}"])
+
+
+class Case:
+    """A trace: its events, a last line that is refused or the empty text, and the model's replies."""
+
+    def __init__(self, lines, tail, replies):
+        self.lines, self.tail, self.replies = lines, tail, replies
+
+    def without(self, first, end):
+        """The same trace without some events, answered anew."""
+        lines = self.lines[:first] + self.lines[end:]
+        kind = [f"line {len(lines) + 1} {self.replies[-1][0].split(' ')[2]}"] if self.tail else None
+        return Case(lines, self.tail, replay(lines) + ([kind] if kind else []))
+
+    def events(self):
+        return len(self.lines) + bool(self.tail)
+
+
 def make(seed, events, served=EVENTS):
-    """A trace of about so many events: its lines and the lines of each reply."""
+    """A trace of about so many events."""
+    rng = random.Random(-seed - 1)
+    if rng.random() < 0.002:
+        return Case([], "", [["line 1 cut"]])
+    if rng.random() < 0.02:
+        tail = damaged(rng, rng.choice(["array 512 64 2 64 2", "read 1"]), 512)
+        kind = refusal(tail, 1, 512, served)
+        if kind:
+            return Case([], tail, [[f"line 1 {kind}"]])
     trace = Trace(seed, served)
     while len(trace.lines) < events * 0.8:
         trace.step()
     trace.lose()
-    return trace.lines, trace.replies
+    if rng.random() < 0.4:
+        trace.end()
+    return Case(trace.lines, trace.tail, trace.replies)
+
+
+def read_case(text, served):
+    """The trace in a text."""
+    lines = text.split("\n")
+    tail = lines.pop()
+    lines, l = list(lines), int(lines[0].split(" ")[1]) if lines and lines[0].startswith("array ") else 512
+    for place, line in enumerate([line + "\n" for line in lines] + [tail] * bool(tail), 1):
+        kind = refusal(line, place, l, served)
+        if kind:
+            return Case(lines[:place - 1], line, replay(lines[:place - 1]) + [[f"line {place} {kind}"]])
+    return Case(lines, "", replay(lines))
 
 
 def replay(lines):
     """The model's replies to some lines, the first of which makes the array."""
+    if not lines:
+        return []
     array = Array(*map(int, lines[0].split(" ")[1:]))
     return [["ok"], *(array.do(line) for line in lines[1:])]

@@ -2,10 +2,11 @@
 
     soak.py PROGRAM [--events N] [--seed S] [--length M] [--without WORDS] [--minutes T]
     soak.py --cases FOLDER ...       writes the traces and the model's replies, for `rt try --cases FOLDER -- replay`
-    soak.py --trace FILE PROGRAM     replays one trace, and makes it shorter as long as a reply differs
+    soak.py PROGRAM --trace FILE     replays one trace, and makes it shorter as long as a reply differs
 
-At the first difference the trace is made shorter and printed with both replies; the status is 1. `--without who,tree` leaves
-events out that the program doesn't serve yet. Only numbers that are told decide a trace: the seed and the length.
+At the first difference the trace is made shorter and printed with both replies; the status is 1. `--without who,tree` says
+which events the program doesn't serve yet: a trace has them at most as its last line, which is refused. A trace is decided by
+its seed and the length.
 """
 import argparse
 import collections
@@ -15,64 +16,77 @@ import sys
 import tempfile
 import time
 
-from generate import EVENTS, make, replay
+from generate import EVENTS, make, read_case
 
 SECONDS = 120
 
 
-def text(replies):
-    return "".join(line + "\n" for reply in replies for line in reply)
+def trace_text(case):
+    return "".join(line + "\n" for line in case.lines) + case.tail
 
 
-def run(program, lines):
+def reply_text(case):
+    return "".join(line + "\n" for reply in case.replies for line in reply)
+
+
+def run(program, case):
     """The program's output and its status; the status is a text where it hangs."""
     with tempfile.TemporaryDirectory() as folder:
-        trace = "".join(line + "\n" for line in lines).encode()
+        trace = trace_text(case).encode("latin-1")
         try:
             done = subprocess.run([program, "replay"], input=trace, capture_output=True, cwd=folder, timeout=SECONDS)
         except subprocess.TimeoutExpired:
             return "", f"no end in {SECONDS} seconds"
-    return done.stdout.decode(errors="replace"), done.returncode
+    return done.stdout.decode("latin-1"), done.returncode
 
 
-def difference(program, lines, replies):
+def difference(program, case):
     """The first event whose reply differs, with the model's reply and the program's; None where none does."""
-    output, status = run(program, lines)
+    output, status = run(program, case)
     got = output.split("\n")[:-1]
+    want_status = 2 if case.tail or not case.lines else 0
+    if output == reply_text(case) and status == want_status:
+        return None
     at = 0
-    for number, reply in enumerate(replies):
+    for number, reply in enumerate(case.replies):
         if got[at:at + len(reply)] != reply:
             return number, reply, got[at:at + len(reply) + 1], status
         at += len(reply)
-    if status != 0 or at != len(got):
-        return len(lines), ["(the end, status 0)"], got[at:at + 2], status
-    return None
+    return case.events(), [f"(the end, status {want_status})"], got[at:at + 2], status
 
 
-def shorter(program, lines):
-    """A shorter trace with a difference: lines are left out, many at a time and then one at a time."""
-    lines = lines[:difference(program, lines, replay(lines))[0] + 1]
-    step = len(lines) // 2
+def shorter(program, case):
+    """A shorter trace with a difference: events are left out, many at a time and then one at a time."""
+    number = difference(program, case)[0]
+    if number < len(case.lines):
+        case.tail = ""
+        case = case.without(number + 1, len(case.lines))
+    step = max(1, len(case.lines) // 2)
     while step:
         at = 1
-        while at < len(lines):
-            fewer = lines[:at] + lines[at + step:]
-            found = difference(program, fewer, replay(fewer))
-            if found:
-                lines = fewer[:found[0] + 1]
+        while at < len(case.lines):
+            fewer = case.without(at, at + step)
+            if difference(program, fewer):
+                case = fewer
             else:
                 at += step
         step //= 2
-    return lines
+    return case
 
 
-def tell(program, lines):
+def tell(program, case):
     """Prints the shortened trace with what differs."""
-    lines = shorter(program, lines)
-    number, want, got, status = difference(program, lines, replay(lines))
-    print("\n".join(lines))
+    case = shorter(program, case)
+    number, want, got, status = difference(program, case)
+    print(trace_text(case))
     print(f"event {number}, status {status}\nmodel:   {want}\nprogram: {got}")
     sys.exit(1)
+
+
+def write_case(folder, seed, case):
+    for name, text in ((f"t{seed}", trace_text(case)), (f"t{seed}.stdout", reply_text(case))):
+        with open(os.path.join(folder, name), "w", encoding="latin-1") as out:
+            out.write(text)
 
 
 def words():
@@ -88,32 +102,27 @@ def words():
     return parser.parse_args()
 
 
-def write_case(folder, seed, lines, replies):
-    for name, parts in ((f"t{seed}", [lines]), (f"t{seed}.stdout", replies)):
-        with open(os.path.join(folder, name), "w") as out:
-            out.write(text(parts))
-
-
 def main():
     args = words()
     program = args.program and os.path.abspath(args.program)
-    if args.trace:
-        with open(args.trace) as trace:
-            lines = trace.read().split("\n")[:-1]
-        if difference(program, lines, replay(lines)):
-            tell(program, lines)
-        return
     served = set(EVENTS) - set(args.without.split(","))
+    if args.trace:
+        with open(args.trace, encoding="latin-1", newline="\n") as trace:
+            case = read_case(trace.read(), served)
+        if difference(program, case):
+            tell(program, case)
+        return
     counts, start, seed, done = collections.Counter(), time.monotonic(), args.seed, 0
     while done < args.events and time.monotonic() - start < 60 * args.minutes:
-        lines, replies = make(seed, args.length, served)
+        case = make(seed, args.length, served)
         if args.cases:
-            write_case(args.cases, seed, lines, replies)
-        elif difference(program, lines, replies):
+            write_case(args.cases, seed, case)
+        elif difference(program, case):
             print(f"seed {seed} length {args.length}")
-            tell(program, lines)
-        counts.update(line.split(" ")[0] for line in lines)
-        done += len(lines)
+            tell(program, case)
+        counts.update(line.split(" ")[0] for line in case.lines)
+        counts["refused"] += bool(case.tail)
+        done += case.events()
         seed += 1
     verdict = "written" if args.cases else "no difference"
     told = ", ".join(f"{count} {word}" for word, count in counts.most_common())
