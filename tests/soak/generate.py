@@ -8,7 +8,7 @@ import random
 from image import GROUP_PLACES, INODE_PLACES, Image, Item, MODES, NoRoom, make_geometry
 from lines import damaged, refusal
 from model import GOOD, OUT, Array, Filling, spelled, unspelled
-from volume import FIELDS, ROOT, SUPER_AT, Refused, group_start, up
+from volume import FIELDS, ROOT, SUPER_AT, Refused, group_start, inode_places, up
 
 EVENTS = "write read fail cat ls who pending settle tend tree home replace rebuild diffuse".split()
 LONGEST_FILE = 40_000
@@ -182,15 +182,10 @@ class Trace:
         ]
         self.rng.choice(breaks)()
 
-    def inode_place(self, i):
-        g = self.g
-        c, rest = divmod(i, g.ipg)
-        return group_start(g, c) + g.iblkno + g.frag * (rest // g.inopb), rest % g.inopb * 128
-
     def break_inode(self):
         rng, g = self.rng, self.g
         i = rng.choice([*self.inodes, *self.inodes, ROOT, rng.randrange(g.ncg * g.ipg)])
-        block, at = self.inode_place(i)
+        block, at = inode_places(g)[i]
         name = rng.choice(["mode", "mode", "size", "size", "size", *range(15), 0, 0, 12, 12])
         offset, count = INODE_PLACES[name]
         if name == "mode":
@@ -215,7 +210,7 @@ class Trace:
             self.patch(*self.inode_slot(rng.choice([12, 13, 14])))
 
     def inode_slot(self, slot):
-        block, at = self.inode_place(self.rng.choice([*self.inodes, ROOT]))
+        block, at = inode_places(self.g)[self.rng.choice([*self.inodes, ROOT])]
         return block, at + 40 + 4 * slot, self.number(self.hostile_number())
 
     def break_entry(self):

@@ -1,6 +1,6 @@
 """Images of small volumes, in either order of bytes: the blocks of a file system with given directories, files and links."""
 from volume import (
-    CHUNK, DIRECT, FIELDS, GROUP_MAGIC, KINDS, MAGIC, ROOT, SUPER_AT, SUPER_BYTES, Geometry, group_end, group_start, roles, up,
+    CHUNK, DIRECT, FIELDS, GROUP_MAGIC, KINDS, MAGIC, ROOT, SUPER_AT, SUPER_BYTES, Geometry, group_end, group_start, inode_places, roles, up,
 )
 
 MODES = {kind: mode for mode, (kind, _) in KINDS.items()}
@@ -75,9 +75,11 @@ class Image:
 
     def put(self, block, at, data):
         """Bytes from a place of a block on, over several blocks."""
-        for byte in data:
-            self.blocks[block + at // self.g.fsize][at % self.g.fsize] = byte
-            at += 1
+        block, at = block + at // self.g.fsize, at % self.g.fsize
+        while data:
+            piece, data = data[:self.g.fsize - at], data[self.g.fsize - at:]
+            self.blocks[block][at:at + len(piece)] = piece
+            block, at = block + 1, 0
 
     def put_number(self, block, at, value, count=4):
         self.put(block, at, value.to_bytes(count, self.g.order))
@@ -104,7 +106,7 @@ class Image:
                 if n not in item.holes and n * g.bsize < len(data):
                     self.add_block(slots, n, data[n * g.bsize:(n + 1) * g.bsize])
         self.inodes[item.inode] = slots
-        block, at = self.inode_place(item.inode)
+        block, at = inode_places(g)[item.inode]
         self.put_number(block, at, MODES[item.kind] | (0o755 if item.kind == "d" else 0o644), 2)
         self.put_number(block, at + 2, 1, 2)
         self.put_number(block, at + 8, size, 8)
@@ -112,11 +114,6 @@ class Image:
             self.put_number(block, at + 40 + 4 * slot, address)
         if item.kind == "l" and size < g.maxsymlinklen:
             self.put(block, at + 40, data)
-
-    def inode_place(self, i):
-        g = self.g
-        c, rest = divmod(i, g.ipg)
-        return group_start(g, c) + g.iblkno + g.frag * (rest // g.inopb), rest % g.inopb * 128
 
     def add_block(self, slots, n, data):
         """A file block with the indirect blocks above it that aren't there yet."""

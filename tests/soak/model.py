@@ -252,7 +252,7 @@ class Array:
         return (targets, homes), None
 
     def missing(self, targets):
-        return [(block, t) for block in sorted(targets) for t in sorted(targets[block]) if t not in self.boundaries_of(block)]
+        return [(block, t) for block in sorted(targets) for t in sorted(targets[block] - set(self.boundaries_of(block)))]
 
     def drop(self, block, wanted):
         """The sites that are no targets are given up."""

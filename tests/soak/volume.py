@@ -3,6 +3,7 @@
 Nothing is kept between two volumes, and nothing is read in a clever order. A reading by path collects the blocks that it
 consults, in order, in the list `seen`; a refusal is the exception `Refused` with the words of the reply.
 """
+import struct
 from collections import Counter, namedtuple
 from functools import cached_property, lru_cache
 
@@ -55,6 +56,19 @@ def letter(inode):
 
 def entry_type(inode):
     return KINDS.get(inode.mode & 0o170000, ("u", None))[1]
+
+
+@lru_cache(maxsize=1 << 14)
+def numbers_in(data, order):
+    """The numbers of four bytes each in some bytes."""
+    return struct.unpack(("<" if order == "little" else ">") + f"{len(data) // 4}I", data)
+
+
+@lru_cache(maxsize=1 << 14)
+def inode_in(data, order):
+    """The inode in 128 bytes, or None where it is unallocated."""
+    mode = number_at(data, 0, 2, order)
+    return Inode(mode, number_at(data, 8, 8, order), numbers_in(data, order)[10:25]) if mode else None
 
 
 # the geometry and the roles of blocks
@@ -126,6 +140,18 @@ def role_of(g, b):
 def roles(g):
     """The roles of the blocks below the geometry's size."""
     return [role_of(g, b) for b in range(g.size)]
+
+
+@lru_cache(maxsize=64)
+def inode_places(g):
+    """The block of each inode, and its byte in it."""
+    places = []
+    for i in range(g.ncg * g.ipg):
+        c, rest = divmod(i, g.ipg)
+        byte = rest % g.inopb * 128
+        block = group_start(g, c) + g.iblkno + g.frag * (rest // g.inopb) + byte // g.fsize
+        places.append((block, byte % g.fsize))
+    return places
 
 
 # directories
@@ -229,31 +255,22 @@ class Volume:
 
     # inodes
 
-    def inode_place(self, i):
-        g = self.geometry
-        c, rest = divmod(i, g.ipg)
-        byte = rest % g.inopb * 128
-        block = group_start(g, c) + g.iblkno + g.frag * (rest // g.inopb) + byte // self.l
-        return block, byte % self.l
-
     def inode(self, i, seen=None):
         """The inode of that number, or None where it is unallocated."""
         g = self.geometry
-        block, byte = self.inode_place(i)
+        block, byte = inode_places(g)[i]
         if seen is not None:
             seen.append(block)
-        data = self.blocks[block][byte:byte + 128]
-        mode = number_at(data, 0, 2, g.order)
-        if mode == 0:
-            return None
-        slots = tuple(number_at(data, 40 + 4 * s, 4, g.order) for s in range(15))
-        return Inode(mode, number_at(data, 8, 8, g.order), slots)
+        return inode_in(self.blocks[block][byte:byte + 128], g.order)
 
     @cached_property
     def inodes(self):
         """All allocated inodes, by number."""
         g = self.geometry
-        found = ((i, self.inode(i)) for i in range(ROOT, g.ncg * g.ipg)) if g else ()
+        if g is None:
+            return {}
+        numbered = [(block, byte, i) for i, (block, byte) in enumerate(inode_places(g)) if i >= ROOT]
+        found = ((i, inode_in(self.blocks[block][byte:byte + 128], g.order)) for block, byte, i in numbered)
         return {i: inode for i, inode in found if inode}
 
     def named_inode(self, i, seen):
@@ -283,9 +300,7 @@ class Volume:
         return per ** level, DIRECT + sum(per ** lower for lower in range(1, level))
 
     def pointers(self, fragment):
-        g = self.geometry
-        data = self.blocks[fragment]
-        return [number_at(data, at, 4, g.order) for at in range(0, self.l, 4)]
+        return numbers_in(self.blocks[fragment], self.geometry.order)
 
     def file_block(self, inode, n, seen=None):
         """The address and the fragments of a file block; None in a hole."""
@@ -329,7 +344,8 @@ class Volume:
                 for slot in (range(DIRECT) if level == 0 else [DIRECT + level - 1]):
                     claim(inode.slots[slot], self.span(inode, slot), level, ("slot", i, slot))
             for fragment in [f for f in claims if any(on == level + 1 for on, _ in claims[f])]:
-                for at, address in enumerate(self.pointers(fragment)):
+                pointers = self.pointers(fragment)
+                for at, address in enumerate(pointers) if any(pointers) else ():
                     claim(address, g.frag, level, ("pointer", fragment, level + 1, at))
         return claims
 
