@@ -5,10 +5,10 @@ of it and mends them again, settles, and lets members fail; a lost boundary ends
 """
 import random
 
-from image import GROUP_PLACES, INODE_PLACES, Image, Item, MODES, NoRoom, make_geometry
+from image import GROUP_PLACES, INODE_PLACES, Image, Item, MODES, NoRoom, directory_bytes, make_geometry
 from lines import damaged, refusal
 from model import GOOD, OUT, Array, Filling, spelled, unspelled
-from volume import FIELDS, ROOT, SUPER_AT, Refused, group_start, inode_places, up
+from volume import FIELDS, ROOT, SUPER_AT, Refused, group_start, inode_places, read_chunk, roles, up
 
 EVENTS = "write read fail cat ls who pending settle tend tree home replace rebuild diffuse".split()
 LONGEST_FILE = 40_000
@@ -161,8 +161,14 @@ class Trace:
         rng, n = self.rng, self.array.n
         return rng.choice([
             0, 1, 2, 3, rng.randrange(n), rng.randrange(n), rng.randrange(n), n, self.g.size, self.g.frag, (1 << 32) - 1,
-            rng.randrange(1 << 32), self.g.bsize, self.g.fsize, self.g.dblkno,
+            rng.randrange(1 << 32), self.g.bsize, self.g.fsize, self.g.dblkno, self.free_place(), self.free_place(),
         ])
+
+    def free_place(self):
+        """A multiple of frag whose block nobody claims, mostly."""
+        frag, claims = self.g.frag, self.array.volume.claims
+        places = [b for b in range(0, self.g.size, frag) if b not in claims and isinstance(roles(self.g)[b], int)]
+        return self.rng.choice(places or [0])
 
     def patch(self, block, at, data):
         """A block's bytes with a change, which is written."""
@@ -178,7 +184,8 @@ class Trace:
     def break_something(self):
         breaks = [
             self.break_inode, self.break_inode, self.break_inode, self.break_pointer, self.break_pointer, self.break_entry,
-            self.break_entry, self.break_group, self.break_super, self.break_block, self.move_block,
+            self.break_entry, self.break_group, self.break_super, self.break_block, self.move_block, self.break_directory,
+            self.break_directory, self.break_directory,
         ]
         self.rng.choice(breaks)()
 
@@ -237,6 +244,51 @@ class Trace:
             self.patch(address, at + 6, bytes([rng.choice([0, 4, 8, 10, 3])]))
         else:
             self.patch(address, at + 7, rng.choice([b"\0", b"\1.", b"\2..", b"\1a", b"\1b", b"\1/", b"\2a\0", b"\xff"]))
+
+    def break_directory(self):
+        """A directory whose chunk is whole, but whose entries say something else."""
+        rng, volume = self.rng, self.array.volume
+        number, inode = rng.choice([*volume.directories.items()] or [(None, None)])
+        if number is None or inode.size != 512 or not 0 < inode.slots[0] < self.array.n:
+            return
+        order = volume.geometry.order
+        entries = [list(entry) for entry in read_chunk(self.array.blocks[inode.slots[0]][:512], order) or []]
+        if not entries:
+            return
+        changed, other = rng.choice(entries), rng.choice(entries)
+        kind = rng.randrange(8)
+        if kind == 0:
+            changed[2] = other[2]
+        elif kind == 1:
+            changed[:2] = other[:2]
+        elif kind == 2:
+            changed[:2] = rng.choice([*volume.directories]), 4
+        elif kind == 3:
+            entries.append([rng.choice([ROOT, number, *volume.directories]), 4, rng.choice([b"again", b"..", b"."])])
+        elif kind == 4:
+            changed[:2] = rng.choice([ROOT, 1, 0, self.hostile_number()]), rng.choice([0, 4, 8])
+        elif kind == 5:
+            entries.remove(changed)
+        elif kind == 6:
+            rng.shuffle(entries)
+        else:
+            entries.append([rng.choice([*volume.inodes]), 0, b"more"])
+        data = directory_bytes(order, entries) if entries else b""
+        if len(data) == 512:
+            self.patch(inode.slots[0], 0, data)
+
+    def probe(self):
+        """A sound volume, one thing that is broken in it, and what is said of that."""
+        self.queue_goal()
+        while self.queue:
+            self.write_next()
+        self.do(self.rng.choice(["settle", "tend 0", "tend 3", "pending"]))
+        for _ in range(self.rng.choice([1, 1, 1, 2])):
+            self.break_something()
+        self.do("settle")
+        for _ in range(self.rng.randrange(6)):
+            self.ask()
+        self.queue_goal()
 
     def break_group(self):
         rng, g = self.rng, self.g
@@ -369,8 +421,10 @@ class Trace:
             self.ask()
         elif self.queue or kind < 0.85:
             self.act()
-        elif kind < 0.93:
+        elif kind < 0.91:
             self.queue_goal()
+        elif kind < 0.95:
+            self.probe()
         elif kind < 0.99:
             self.new_goal()
         else:

@@ -83,6 +83,14 @@ def tell(program, case):
     sys.exit(1)
 
 
+def answer_of(line, reply):
+    """What kind of answer a reply is: its event and its last line without numbers, bytes and names."""
+    words = [word for word in reply[-1].split(" ")[:3] if not word.isdigit()]
+    if words[0] == "data":
+        words = ["data"]
+    return " ".join([line.split(" ")[0], *words])
+
+
 def write_case(folder, seed, case):
     for name, text in ((f"t{seed}", trace_text(case)), (f"t{seed}.stdout", reply_text(case))):
         with open(os.path.join(folder, name), "w", encoding="latin-1") as out:
@@ -112,7 +120,7 @@ def main():
         if difference(program, case):
             tell(program, case)
         return
-    counts, start, seed, done = collections.Counter(), time.monotonic(), args.seed, 0
+    counts, answers, start, seed, done = collections.Counter(), collections.Counter(), time.monotonic(), args.seed, 0
     while done < args.events and time.monotonic() - start < 60 * args.minutes:
         case = make(seed, args.length, served)
         if args.cases:
@@ -121,12 +129,16 @@ def main():
             print(f"seed {seed} length {args.length}")
             tell(program, case)
         counts.update(line.split(" ")[0] for line in case.lines)
-        counts["refused"] += bool(case.tail)
+        answers.update(map(answer_of, case.lines, case.replies))
+        answers.update(["line " + case.replies[-1][0].split(" ")[2]] if case.tail else [])
         done += case.events()
         seed += 1
+        if done // 10_000 > (done - case.events()) // 10_000:
+            print(f"{done} events, seed {seed}", file=sys.stderr, flush=True)
     verdict = "written" if args.cases else "no difference"
     told = ", ".join(f"{count} {word}" for word, count in counts.most_common())
     print(f"{done} events in {seed - args.seed} traces, seeds {args.seed} to {seed - 1}, {verdict}: {told}")
+    print("answers: " + ", ".join(f"{answer} {count}" for answer, count in sorted(answers.items())))
 
 
 if __name__ == "__main__":
