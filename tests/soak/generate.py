@@ -76,10 +76,11 @@ def random_item(rng, g, inode, parent, name, kind):
         holes = rng.sample(range(14), rng.randrange(8, 14))
     else:
         size = (12 + g.nindir + rng.randrange(2)) * g.bsize + rng.randrange(1, g.bsize)
-        holes = set(range(size // g.bsize)) - {rng.randrange(14)}
+        holes = set(range(size // g.bsize + 1)) - {size // g.bsize, rng.randrange(14)}
     data = bytearray(size)
-    for at in range(0, size, g.fsize):
-        data[at:at + 3] = rng.randbytes(3)[:size - at]
+    for n in range(up(size, g.bsize)):
+        for at in range(n * g.bsize, min((n + 1) * g.bsize, size), g.fsize) if n not in holes else ():
+            data[at:at + 3] = rng.randbytes(3)[:size - at]
     return Item(inode, parent, name, kind, bytes(data), holes=holes)
 
 

@@ -103,8 +103,7 @@ class Array:
         if not self.sites[block]:
             self.take_first(block)
         self.set_block(block, bytes.fromhex("" if digits == "-" else digits).ljust(self.l, b"\0"))
-        self.pending.add(block)
-        self.pending = {p for p in self.pending if not self.volume.is_system(p) and p not in self.volume.claims}
+        self.pending = (self.pending | {block}) - self.volume.system_blocks() - self.volume.claims.keys()
         self.copies = {}
         self.settled = False
         return "ok"

@@ -64,11 +64,15 @@ def numbers_in(data, order):
     return struct.unpack(("<" if order == "little" else ">") + f"{len(data) // 4}I", data)
 
 
-@lru_cache(maxsize=1 << 14)
-def inode_in(data, order):
-    """The inode in 128 bytes, or None where it is unallocated."""
-    mode = number_at(data, 0, 2, order)
-    return Inode(mode, number_at(data, 8, 8, order), numbers_in(data, order)[10:25]) if mode else None
+@lru_cache(maxsize=1 << 12)
+def inodes_in(data, order):
+    """The inodes in a block, each of 128 bytes, by their places; None stands for an unallocated one."""
+    inodes = {}
+    for at in range(0, len(data), 128):
+        mode = number_at(data, at, 2, order)
+        slots = numbers_in(data[at + 40:at + 100], order)
+        inodes[at] = Inode(mode, number_at(data, at + 8, 8, order), slots) if mode else None
+    return inodes
 
 
 # the geometry and the roles of blocks
@@ -108,6 +112,7 @@ TESTS = (
 )
 
 
+@lru_cache(maxsize=1 << 10)
 def read_geometry(data, l, n):
     """The geometry in the bytes of a superblock, or the name of the first test that fails."""
     order = {MAGIC: "little", 0x54190100: "big"}.get(number_at(data, 1372, 4, "little"))
@@ -140,6 +145,12 @@ def role_of(g, b):
 def roles(g):
     """The roles of the blocks below the geometry's size."""
     return [role_of(g, b) for b in range(g.size)]
+
+
+@lru_cache(maxsize=64)
+def system_of(g):
+    """The blocks of the file system itself."""
+    return frozenset(b for b, role in enumerate(roles(g)) if role in ("super", "boot", "copy", "group", "inodes", "summary"))
 
 
 @lru_cache(maxsize=64)
@@ -212,8 +223,11 @@ class Volume:
         g = self.geometry
         return roles(g)[b] if b < g.size else "outside"
 
+    def system_blocks(self):
+        return system_of(self.geometry) if self.geometry else frozenset()
+
     def is_system(self, b):
-        return self.geometry is not None and self.role(b) in ("super", "boot", "copy", "group", "inodes", "summary")
+        return b in self.system_blocks()
 
     def is_wild(self, address, count):
         """Whether these fragments aren't all data of one group."""
@@ -261,7 +275,7 @@ class Volume:
         block, byte = inode_places(g)[i]
         if seen is not None:
             seen.append(block)
-        return inode_in(self.blocks[block][byte:byte + 128], g.order)
+        return inodes_in(self.blocks[block], g.order)[byte]
 
     @cached_property
     def inodes(self):
@@ -269,8 +283,8 @@ class Volume:
         g = self.geometry
         if g is None:
             return {}
-        numbered = [(block, byte, i) for i, (block, byte) in enumerate(inode_places(g)) if i >= ROOT]
-        found = ((i, inode_in(self.blocks[block][byte:byte + 128], g.order)) for block, byte, i in numbered)
+        blocks = {block: inodes_in(self.blocks[block], g.order) for block, _ in inode_places(g)}
+        found = ((i, blocks[block][byte]) for i, (block, byte) in enumerate(inode_places(g)) if i >= ROOT)
         return {i: inode for i, inode in found if inode}
 
     def named_inode(self, i, seen):
