@@ -1,5 +1,5 @@
 // A view of blocks in memory that are written.
-ghost use Rattle.std.specs.Prelude.{◌≡◌, ◌*◌, ◌<◌, ⊥, tt, false, Unit, IfOk, length};
+ghost use Rattle.std.specs.Prelude.{◌≡◌, ◌+◌, ◌*◌, ◌≤◌, ◌<◌, false, IfOk, length};
 
 use dg_io::{Fetched, NoMemory, View};
 use std::alloc::Global;
