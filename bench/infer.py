@@ -17,9 +17,10 @@ from check import FRAGMENT, MANY_BLOCKS, MANY_EACH, sound_volume
 from taken import least, more
 from volumes import FRAGMENTS
 
-ROUNDS = 9
+ROUNDS = 3
 SIZES = (12, 16, 20)
-TIMES, FEWER_TIMES = 4096, 64
+TIMES = {"data": 1 << 20, "indirect": 1 << 14, "inode": 1 << 12}
+COUNTED_TIMES = 64
 TRAFFIC_BITS = 17
 DATA = b"x" * FRAGMENT
 
@@ -83,9 +84,9 @@ class Volume:
 
     def measure(self, program, kind):
         """The seconds of a write, and the fetches that it makes."""
-        (without, with_writes), printed = least(program, self.runs(kind, TIMES), ROUNDS)
+        (without, with_writes), printed = least(program, self.runs(kind, TIMES[kind]), ROUNDS)
         fetches = [fetches_in(one) for one in printed]
-        return (with_writes - without) / TIMES / 2, (fetches[1] - fetches[0]) / TIMES / 2
+        return (with_writes - without) / TIMES[kind] / 2, (fetches[1] - fetches[0]) / TIMES[kind] / 2
 
 
 def fetches_in(printed):
@@ -107,7 +108,7 @@ def writes(program, folder, counts):
             taken, fetches = volume.measure(program, kind)
             line = f"2^{volume.bits}, {kind}: {taken * 1e9:,.0f} ns a write, {fetches:.1f} fetches"
             if counts:
-                line += f", {more(program, volume.runs(kind, FEWER_TIMES)) / FEWER_TIMES / 2:,.0f} instructions"
+                line += f", {more(program, volume.runs(kind, COUNTED_TIMES)) / COUNTED_TIMES / 2:,.0f} instructions"
             each.append(taken)
             print(line, flush=True)
         ratios = [one / each[0] for one in each[1:]]

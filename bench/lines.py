@@ -14,7 +14,9 @@ from taken import instructions
 
 ARRAY = b"array 4096 2 2 2 1\n"
 LENGTHS = (2000, 6000, 10000)
+BLOCK_LENGTHS = (2000, 5000, 8000)
 PATH_LENGTHS = (1000, 2500, 4000)
+SERVED_LENGTHS = (500, 1300, 2100)
 LONGEST = 2 * 4096 + 4201
 
 
@@ -38,13 +40,13 @@ CASES = (
     ("number", LENGTHS, filled(b"read ", b"0")),
     ("number", LENGTHS, filled(b"read 1", b"x")),
     ("number", LENGTHS, filled(b"write x ", b"00")),
-    ("hex", LENGTHS, filled(b"write 0 ", b"11", b"1g\n")),
-    ("hex", LENGTHS, filled(b"write 0 ", b"11", b"1\n")),
+    ("hex", BLOCK_LENGTHS, filled(b"write 0 ", b"11", b"1g\n")),
+    ("hex", BLOCK_LENGTHS, filled(b"write 0 ", b"11", b"1\n")),
     ("path", LENGTHS, filled(b"cat /", b"a")),
     ("path", LENGTHS, filled(b"cat ", b"/a")),
-    ("path", LENGTHS, filled(b"cat /", b"\\x00")),
+    ("path", PATH_LENGTHS, filled(b"cat /", b"\\x00")),
     ("path", LENGTHS, filled(b"cat /a", b"/")),
-    ("later", PATH_LENGTHS, filled(b"home ", b"/\\x01")),
+    ("later", SERVED_LENGTHS, filled(b"home ", b"/\\x01")),
 )
 
 
