@@ -59,7 +59,11 @@ fn write(alloc: Global, array: &mut Array, block: u32, bytes: &[u8]) -> Result<b
     let inferred = array
         .inference
         .written(alloc, &mut array.disk, &mut array.levels, block, bytes)?;
-    Ok(inferred == Inferred::Known)
+    let Inferred::Known(moved) = inferred else {
+        return Ok(false);
+    };
+    array.inference.mark(block, &moved);
+    Ok(true)
 }
 
 /// The writes of some records, in their order.
