@@ -1,3 +1,4 @@
+mod Promised
 mod Flat
 mod Lines
 mod LossRows

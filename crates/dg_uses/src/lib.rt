@@ -3,11 +3,13 @@
 #![tactic(auto)]
 
 mod laws;
+mod promises;
 mod replays;
 #[cfg(test)]
 mod tests;
 
 pub use laws::{answers_are_promised, replies_are_a_function, replies_by_views};
+pub use promises::cats_keep_their_promise;
 pub use replays::{
     Replay, fail_at_the_first_reply, lose_a_block, read_past_a_failure, read_what_was_written,
     refuse_the_second_line, replay_text,

@@ -1,0 +1,22 @@
+// What a replay promises of the files of its volume.
+ghost use Rattle.std.specs.Prelude.{◌++◌, ◌∷◌, ℕ, List, Option};
+ghost use Rattle.dg_model.specs.States.{Counts};
+ghost use Rattle.dg_model.specs.declared.events.Event.{Event};
+ghost use Rattle.dg_model.specs.declared.replies.Reply.{Reply};
+ghost use Rattle.dg_model.specs.declared.shapes.Shape.{Shape};
+ghost use Rattle.dg_promise.specs.Chains.{ReadsInRun};
+ghost use Rattle.dg_run.specs.Replays.{Ran};
+ghost use Rattle.dg_uses.specs.Promises.{IsToldAtEnd};
+
+use dg_promise::reads_keep_their_promise;
+
+/// Each `cat` of a run, in which the bytes are told at the end: where the array is settled then, and fewer than m boundaries are lost, and
+/// none is lost while the file is read, all of a regular file is given exactly where it has no home, or its home or its copy isn't lost;
+/// it is unavailable exactly where that isn't so; and a path to none is refused.
+pub fn cats_keep_their_promise()
+    ensures { (before now : Counts) (bytes : ℕ → Option (List ℕ)) (shape : Shape) (front rest : List Event) (path : List ℕ) (replies : List Reply)
+        → (ran : Ran before now bytes (Event.Array shape ∷ (front ++ Event.Cat path ∷ rest)) (Reply.Done ∷ replies)) → IsToldAtEnd bytes ran
+        → ReadsInRun before shape front path rest replies ran.final }
+{
+    reads_keep_their_promise();
+}
