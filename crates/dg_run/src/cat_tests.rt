@@ -83,11 +83,15 @@ pub fn calls_from(alloc: Global, first: u64) -> Result<Vec<u64>, Fail> {
 // Whether a member falls while the blocks of an image are written, where each call of the rack from one on fails.
 fn has_fallen(alloc: Global, image: &[u8], call: u64) -> Result<bool, Fail> {
     let fails = calls_from(alloc, call)?;
-    let lines = "fail 0 0\nfail 0 1\nfail 1 0\nfail 1 1\nfail 2 0\nfail 2 1\nfail 3 0\nfail 3 1\n";
-    match replies(alloc, image, lines, &fails) {
-        Ok(answer) => Ok(answer.as_slice() != b"ok\nok\nok\nok\nok\nok\nok\nok\n".as_slice()),
-        Err(_) => Ok(true),
+    let mut input = lines_of(alloc, image)?;
+    input.extend_from_slice(
+        b"fail 0 0\nfail 0 1\nfail 1 0\nfail 1 1\nfail 2 0\nfail 2 1\nfail 3 0\nfail 3 1\n",
+    )?;
+    let mut sink = MemSink::new(alloc, OUTPUT, Vec::new(alloc))?;
+    if replay(alloc, &input, &mut sink, &fails)? != Status::Done {
+        return Err("status".into());
     }
+    Ok(!sink.taken().ends_with(b"ok\nok\nok\nok\nok\nok\nok\nok\n"))
 }
 
 // The number of the first call of the rack behind those for the array and for the blocks of an image.
