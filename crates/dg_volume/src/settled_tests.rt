@@ -34,7 +34,7 @@ fn put<R: Rack>(
     bytes: &[u8],
 ) -> Result<(), Fail>
     requires { IsWell any_phase R.Rack volume.old }
-    ensures { IfOk result (λ done. IsWell any_phase R.Rack volume.new) }
+    ensures { IsWell any_phase R.Rack volume.new }
 {
     let size = volume.shape().l;
     if bytes.len() != size as usize || block >= 128 {
