@@ -3,7 +3,9 @@
 
 mod items;
 mod orders;
+mod parents;
 mod parts;
+mod paths;
 mod refusals;
 mod traces;
 mod volumes;
