@@ -1,5 +1,5 @@
 -- Bytes that are put at places, and numbers as bytes.
-use Rattle.std.specs.Prelude.{ℕ, ◌+◌, List, [], ◌∷◌, ◌++◌, length, take, drop, map}
+use Rattle.std.specs.Prelude.{ℕ, ◌+◌, nat_le, List, [], ◌∷◌, ◌++◌, length, take, drop, map, if◌then◌else◌}
 use Rattle.byteorder.specs.Endian.{big_bytes, little_bytes}
 use Rattle.ufs_model.specs.declared.numbers.Endian.{Endian}
 use Rattle.ufs_model.specs.declared.numbers.Endian.TheVariants.{Little, Big}
@@ -10,9 +10,9 @@ pub record Part : Type 0 where
   pub at : ℕ
   pub bytes : List ℕ
 
--- bytes in which a piece is put at a place
+-- bytes in which a piece is put at a place, where it fits
 unfoldable pub put_at : ℕ → List ℕ → List ℕ → List ℕ
-put_at at piece bytes = take at bytes ++ piece ++ drop (at + length piece) bytes
+put_at at piece bytes = if nat_le (at + length piece) (length bytes) then take at bytes ++ piece ++ drop (at + length piece) bytes else bytes
 
 -- bytes in which each part is put at its place
 abbrev pub put_parts : List Part → List ℕ → List ℕ

@@ -1,6 +1,5 @@
 // Bytes and numbers that are put at places of an image.
-ghost use Rattle.std.specs.Prelude.{◌≡◌, ◌+◌, ◌≤◌, length, IsTrue, nat_le, true};
-ghost use Rattle.std.specs.List.{list_all};
+ghost use Rattle.std.specs.Prelude.{◌≡◌, ◌+◌, ◌≤◌, ◌<◌, ◌^◌, length};
 ghost use Rattle.ufs_build.specs.Parts.{field_parts, number_bytes, put_at, put_parts};
 
 use ufs_model::Endian;
@@ -12,19 +11,19 @@ pub struct Field {
     pub value: u32,
 }
 
-/// Puts bytes at a place.
+/// Puts bytes at a place, where they fit there.
 #[tactic(auto, unfolding(crate::specs::Parts::put_at))]
 pub fn put(image: &mut [u8], at: usize, piece: &[u8])
-    requires { at + length piece.now ≤ length image.old }
     ensures { image.new ≡ put_at at piece.now image.old }
 {
-    image[at..at + piece.len()].copy_from_slice(piece);
+    if piece.len() <= image.len() && at <= image.len() - piece.len() {
+        image[at..at + piece.len()].copy_from_slice(piece);
+    }
 }
 
 /// Puts a number of 16 bits at a place.
 #[tactic(auto, unfolding(crate::specs::Parts::number_bytes))]
 pub fn put_u16(image: &mut [u8], at: usize, value: u16, endian: Endian)
-    requires { at + 2 ≤ length image.old }
     ensures { image.new ≡ put_at at (number_bytes endian 2 value) image.old }
 {
     match endian {
@@ -36,7 +35,6 @@ pub fn put_u16(image: &mut [u8], at: usize, value: u16, endian: Endian)
 /// Puts a number of 32 bits at a place.
 #[tactic(auto, unfolding(crate::specs::Parts::number_bytes))]
 pub fn put_u32(image: &mut [u8], at: usize, value: u32, endian: Endian)
-    requires { at + 4 ≤ length image.old }
     ensures { image.new ≡ put_at at (number_bytes endian 4 value) image.old }
 {
     match endian {
@@ -48,7 +46,6 @@ pub fn put_u32(image: &mut [u8], at: usize, value: u32, endian: Endian)
 /// Puts a number of 64 bits at a place.
 #[tactic(auto, unfolding(crate::specs::Parts::number_bytes))]
 pub fn put_u64(image: &mut [u8], at: usize, value: u64, endian: Endian)
-    requires { at + 8 ≤ length image.old }
     ensures { image.new ≡ put_at at (number_bytes endian 8 value) image.old }
 {
     match endian {
@@ -57,10 +54,9 @@ pub fn put_u64(image: &mut [u8], at: usize, value: u64, endian: Endian)
     }
 }
 
-/// Puts the fields of a structure that has `size` bytes from a place on.
-pub fn put_fields(image: &mut [u8], base: usize, size: u32, fields: &[Field], endian: Endian)
-    requires room { base + size ≤ length image.old }
-    requires inside { IsTrue (list_all (λ field. nat_le (field.at + 4) size) fields.now) }
+/// Puts the fields of a structure that begins at a place.
+pub fn put_fields(image: &mut [u8], base: usize, fields: &[Field], endian: Endian)
+    requires { base < 2 ^ 63 }
     ensures { image.new ≡ put_parts (field_parts endian base fields.now) image.old }
 {
     for field in fields {

@@ -11,7 +11,7 @@ use ufs_model::{Endian, Geometry};
 use ufs_super::read_super;
 
 /// Bytes of a superblock (`struct fs`).
-const SUPERBLOCK_BYTES: u32 = 1376;
+const SUPERBLOCK_BYTES: usize = 1376;
 
 /// The byte of a group block at which the map of used inodes begins.
 pub const IUSEDOFF: u32 = 256;
@@ -131,11 +131,11 @@ pub fn superblock_fields(g: &Geometry) -> [Field; 21]
 /// Puts a superblock at a place.
 #[tactic(auto, unfolding(crate::specs::Volumes::superblock_fields))]
 pub fn put_superblock(image: &mut [u8], at: usize, g: &Geometry)
-    requires { at + 1376 ≤ length image.old }
+    requires { at < 2 ^ 63 }
     ensures { image.new ≡ put_parts (field_parts g.now.endian at (superblock_fields g.now)) image.old }
 {
     let fields = superblock_fields(g);
-    put_fields(image, at, SUPERBLOCK_BYTES, &fields, g.endian);
+    put_fields(image, at, &fields, g.endian);
 }
 
 /// The geometry as a reader of the superblock finds it. There is none where a test fails.
@@ -144,7 +144,7 @@ fn read_geometry(g: &Geometry) -> Option<Geometry>
     ensures value { result ≡ result_ok (read_geometry g.now) }
     ensures tests { IfSome result (λ found. IsGeometry found) }
 {
-    let mut bytes = [0; SUPERBLOCK_BYTES as usize];
+    let mut bytes = [0; SUPERBLOCK_BYTES];
     put_superblock(&mut bytes, 0, g);
     read_super(&bytes, g.fsize, g.size).ok()
 }
