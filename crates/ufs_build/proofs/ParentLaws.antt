@@ -38,7 +38,7 @@ begun items before item k at =
     let long : length before ≡ k = ap length (sym (at.front)) ∙ length-take-le k items (omega (arith, at.low)) in
     let first : drop k items ≡ item ∷ drop (k + 1) items = drop_more items k item (at.low) ∙ ap (λ x. x ∷ drop (k + 1) items) (sym (at.here)) in
     let more : take (k + 1) items ≡ before ++ item ∷ [] =
-        take_more items k item (at.low) ∙ ap (λ x. take k items ++ x ∷ []) (sym (at.here)) ∙ ap (λ b. b ++ item ∷ []) (at.front) in
+    take_more items k item (at.low) ∙ ap (λ x. take k items ++ x ∷ []) (sym (at.here)) ∙ ap (λ b. b ++ item ∷ []) (at.front) in
     rw (more, at.front, first) (ap (λ n. if_placed n (parent_inode before item) (parents_after (before ++ item ∷ []) (drop (k + 1) items))) long)
 
 pub starts : (items : List Item) (inodes : List ℕ) → inodes ≡ [] → all_before inodes (parents_after [] items) ≡ parents_after [] items

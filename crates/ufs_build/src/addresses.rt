@@ -66,7 +66,9 @@ fn indirect_count(g: &Geometry, level: u32, blocks: u64) -> u64
     ensures count { result ≡ indirect_count g.now level blocks }
     ensures few { result ≤ blocks }
 {
-    blocks.saturating_sub(first_through(g, level)).div_ceil(count_through(g, level))
+    blocks
+        .saturating_sub(first_through(g, level))
+        .div_ceil(count_through(g, level))
 }
 
 /// So many zeros.

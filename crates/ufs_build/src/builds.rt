@@ -20,7 +20,12 @@ fn has_inodes(g: &Geometry, items: &[Item]) -> bool {
 }
 
 /// The volume of items that can stand where their paths say.
-fn volume_of(alloc: Global, g: &Geometry, items: &[Item], parents: &[u32]) -> Result<Vec<u8>, BuildRefused> {
+fn volume_of(
+    alloc: Global,
+    g: &Geometry,
+    items: &[Item],
+    parents: &[u32],
+) -> Result<Vec<u8>, BuildRefused> {
     let directories = directories_of(alloc, items, parents, g.endian)?;
     let nodes = nodes_of(alloc, items, &directories)?;
     let mut space = Space::new(alloc, g)?;

@@ -150,7 +150,12 @@ fn entry_length(name: &[u8]) -> u16
 }
 
 /// Appends an entry that takes so many bytes.
-fn append_entry(bytes: &mut Vec<u8>, entry: &Entry<'_>, reclen: u16, endian: Endian) -> Result<(), NoMemory>
+fn append_entry(
+    bytes: &mut Vec<u8>,
+    entry: &Entry<'_>,
+    reclen: u16,
+    endian: Endian,
+) -> Result<(), NoMemory>
     requires { entry_length entry.now.name.now ≤ reclen }
     ensures { OnOk result (bytes.new.items ≡ bytes.old.items ++ entry_bytes endian (entry_of entry.now) reclen) }
 {
@@ -202,17 +207,23 @@ fn directory_bytes(
     directory: u32,
     up: u32,
     endian: Endian,
-) -> Result<Vec<u8>, NoMemory>
-{
+) -> Result<Vec<u8>, NoMemory> {
     let entries = directory_entries(alloc, items, parents, directory, up)?;
     pack(alloc, &entries, endian)
 }
 
 /// The bytes of the root's directory, and for each item those of its directory, if it is one.
-pub fn directories_of(alloc: Global, items: &[Item], parents: &[u32], endian: Endian) -> Result<Vec<Bytes>, NoMemory>
-{
+pub fn directories_of(
+    alloc: Global,
+    items: &[Item],
+    parents: &[u32],
+    endian: Endian,
+) -> Result<Vec<Bytes>, NoMemory> {
     let mut directories = Vec::new(alloc);
-    push_bytes(&mut directories, directory_bytes(alloc, items, parents, ROOT, ROOT, endian)?)?;
+    push_bytes(
+        &mut directories,
+        directory_bytes(alloc, items, parents, ROOT, ROOT, endian)?,
+    )?;
     for k in 0..items.len() {
         let bytes = if is_dir(items[k].kind) {
             directory_bytes(alloc, items, parents, k as u32 + FIRST, parents[k], endian)?

@@ -1,5 +1,6 @@
 // The bytes of a volume.
 ghost use Rattle.std.specs.Prelude.{◌≡◌, ◌≤◌, ◌<◌, ◌+◌, ◌*◌, ◌^◌, IfOk, length};
+ghost use Rattle.ufs_build.specs.Images.{group_fields};
 ghost use Rattle.ufs_model.specs.Geometries.{IsGeometry};
 
 use crate::addresses::FileAddresses;
@@ -30,16 +31,35 @@ fn group_fields(g: &Geometry, c: u32) -> [Field; 5]
     ensures { result ≡ group_fields g.now c }
 {
     [
-        Field { at: 4, value: 0x0009_0255 },
+        Field {
+            at: 4,
+            value: 0x0009_0255,
+        },
         Field { at: 12, value: c },
-        Field { at: 20, value: g.fpg },
-        Field { at: 92, value: IUSEDOFF },
-        Field { at: 96, value: freeoff_of(g.ipg) },
+        Field {
+            at: 20,
+            value: g.fpg,
+        },
+        Field {
+            at: 92,
+            value: IUSEDOFF,
+        },
+        Field {
+            at: 96,
+            value: freeoff_of(g.ipg),
+        },
     ]
 }
 
 /// Puts the block of a group.
-fn put_group(alloc: Global, image: &mut [u8], g: &Geometry, inodes: u64, used: &[bool], c: u32) -> Result<(), NoMemory>
+fn put_group(
+    alloc: Global,
+    image: &mut [u8],
+    g: &Geometry,
+    inodes: u64,
+    used: &[bool],
+    c: u32,
+) -> Result<(), NoMemory>
     requires geometry { IsGeometry g.now }
     requires group { c < g.now.ncg }
     requires whole { g.now.size ≡ g.now.ncg * g.now.fpg }
@@ -63,7 +83,13 @@ fn slot_address(addresses: &FileAddresses, slot: u32) -> u32 {
 }
 
 /// Puts an inode.
-fn put_inode(image: &mut [u8], g: &Geometry, at: usize, node: &Node<'_>, addresses: &FileAddresses) {
+fn put_inode(
+    image: &mut [u8],
+    g: &Geometry,
+    at: usize,
+    node: &Node<'_>,
+    addresses: &FileAddresses,
+) {
     put_u16(image, at, node.mode, g.endian);
     put_u16(image, at + 2, 1, g.endian);
     put_u64(image, at + 8, node.bytes.len() as u64, g.endian);
@@ -72,7 +98,12 @@ fn put_inode(image: &mut [u8], g: &Geometry, at: usize, node: &Node<'_>, address
         return;
     }
     for slot in 0..SLOT_COUNT {
-        put_u32(image, at + SLOTS + 4 * slot as usize, slot_address(addresses, slot), g.endian);
+        put_u32(
+            image,
+            at + SLOTS + 4 * slot as usize,
+            slot_address(addresses, slot),
+            g.endian,
+        );
     }
 }
 
@@ -80,7 +111,11 @@ fn put_inode(image: &mut [u8], g: &Geometry, at: usize, node: &Node<'_>, address
 fn put_block(image: &mut [u8], g: &Geometry, node: &Node<'_>, addresses: &FileAddresses, n: u64) {
     let address = addresses.at(0, n);
     if address != 0 {
-        put(image, address as usize * g.fsize as usize, block_bytes(g, node.bytes, n));
+        put(
+            image,
+            address as usize * g.fsize as usize,
+            block_bytes(g, node.bytes, n),
+        );
     }
 }
 
@@ -138,7 +173,13 @@ fn put_files(image: &mut [u8], g: &Geometry, nodes: &[Node<'_>], files: &[FileAd
 }
 
 /// The bytes of a volume.
-pub fn volume_bytes(alloc: Global, g: &Geometry, nodes: &[Node<'_>], used: &[bool], files: &[FileAddresses]) -> Result<Vec<u8>, NoMemory> {
+pub fn volume_bytes(
+    alloc: Global,
+    g: &Geometry,
+    nodes: &[Node<'_>],
+    used: &[bool],
+    files: &[FileAddresses],
+) -> Result<Vec<u8>, NoMemory> {
     let Ok(mut image) = vec![in alloc; 0u8; g.size as usize * g.fsize as usize] else {
         return Err(NoMemory);
     };

@@ -91,7 +91,12 @@ fn is_data_of(c: u32, role: Role) -> bool
 
 /// The fragments of a group that are free: data that no block has.
 #[tactic(auto, unfolding(crate::specs::Images::fragment_bits))]
-pub fn fragment_bits(alloc: Global, g: &Geometry, c: u32, used: &[bool]) -> Result<Vec<bool>, NoMemory>
+pub fn fragment_bits(
+    alloc: Global,
+    g: &Geometry,
+    c: u32,
+    used: &[bool],
+) -> Result<Vec<bool>, NoMemory>
     requires geometry { IsGeometry g.now }
     requires group { c < g.now.ncg }
     requires whole { g.now.size ≡ g.now.ncg * g.now.fpg }
@@ -101,7 +106,10 @@ pub fn fragment_bits(alloc: Global, g: &Geometry, c: u32, used: &[bool]) -> Resu
     let base = cgbase(g, c);
     for i in 0..g.fpg {
         let fragment = base + i;
-        push_bit(&mut bits, is_data_of(c, role(g, fragment)) && !bit_at(used, fragment as usize))?;
+        push_bit(
+            &mut bits,
+            is_data_of(c, role(g, fragment)) && !bit_at(used, fragment as usize),
+        )?;
     }
     Ok(bits)
 }

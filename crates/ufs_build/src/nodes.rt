@@ -60,7 +60,11 @@ fn node_of<'a>(item: &'a Item, directory: &'a [u8]) -> Node<'a> {
 }
 
 /// The root and the items as files.
-pub fn nodes_of<'a>(alloc: Global, items: &'a [Item], directories: &'a [Bytes]) -> Result<Vec<Node<'a>>, NoMemory>
+pub fn nodes_of<'a>(
+    alloc: Global,
+    items: &'a [Item],
+    directories: &'a [Bytes],
+) -> Result<Vec<Node<'a>>, NoMemory>
     requires { length directories.now ≡ length items.now + 1 }
 {
     let mut nodes = Vec::new(alloc);
@@ -72,7 +76,10 @@ pub fn nodes_of<'a>(alloc: Global, items: &'a [Item], directories: &'a [Bytes]) 
     };
     push_node(&mut nodes, root)?;
     for k in 0..items.len() {
-        push_node(&mut nodes, node_of(&items[k], directories[k + 1].as_slice()))?;
+        push_node(
+            &mut nodes,
+            node_of(&items[k], directories[k + 1].as_slice()),
+        )?;
     }
     Ok(nodes)
 }

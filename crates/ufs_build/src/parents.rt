@@ -43,7 +43,9 @@ fn place_of_path(items: &[Item], path: &[u8]) -> Option<usize>
     ensures value { result ≡ place_of_path items.now path.now }
     ensures inside { IfSome result (λ k. k < length items.now) }
 {
-    items.iter().position(|item| is_same(item.path.as_slice(), path))
+    items
+        .iter()
+        .position(|item| is_same(item.path.as_slice(), path))
 }
 
 /// The inode of the directory at a path, which is the root or among the items.

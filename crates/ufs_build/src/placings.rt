@@ -10,7 +10,14 @@ use std::alloc::Global;
 use ufs_model::Geometry;
 
 /// Gives the block at a level an address, unless it has one. False where there is no room.
-fn place(space: &mut Space, addresses: &mut FileAddresses, g: &Geometry, level: u32, index: u64, count: u32) -> bool {
+fn place(
+    space: &mut Space,
+    addresses: &mut FileAddresses,
+    g: &Geometry,
+    level: u32,
+    index: u64,
+    count: u32,
+) -> bool {
     if addresses.at(level, index) != 0 {
         return true;
     }
@@ -22,12 +29,25 @@ fn place(space: &mut Space, addresses: &mut FileAddresses, g: &Geometry, level: 
 }
 
 /// Places the indirect block at a level above a file block, if there is one.
-fn place_above(space: &mut Space, addresses: &mut FileAddresses, g: &Geometry, level: u32, n: u64) -> bool {
+fn place_above(
+    space: &mut Space,
+    addresses: &mut FileAddresses,
+    g: &Geometry,
+    level: u32,
+    n: u64,
+) -> bool {
     let first = first_through(g, level);
     if n < first {
         return true;
     }
-    place(space, addresses, g, level, (n - first) / count_through(g, level), g.frag)
+    place(
+        space,
+        addresses,
+        g,
+        level,
+        (n - first) / count_through(g, level),
+        g.frag,
+    )
 }
 
 /// The fragments of a file block of a file of so many bytes.
@@ -40,7 +60,13 @@ fn fragments_of(g: &Geometry, size: u64, n: u64) -> u32 {
 }
 
 /// Places a file block, and before it the indirect blocks above it, the highest first.
-fn place_block(space: &mut Space, addresses: &mut FileAddresses, g: &Geometry, size: u64, n: u64) -> bool {
+fn place_block(
+    space: &mut Space,
+    addresses: &mut FileAddresses,
+    g: &Geometry,
+    size: u64,
+    n: u64,
+) -> bool {
     place_above(space, addresses, g, 3, n)
         && place_above(space, addresses, g, 2, n)
         && place_above(space, addresses, g, 1, n)
@@ -77,11 +103,18 @@ fn is_hole(g: &Geometry, node: &Node<'_>, n: u64) -> bool {
 }
 
 /// Places the blocks of a file. There are no addresses where there is no room.
-fn place_file(alloc: Global, space: &mut Space, g: &Geometry, node: &Node<'_>) -> Result<Option<FileAddresses>, NoMemory> {
+fn place_file(
+    alloc: Global,
+    space: &mut Space,
+    g: &Geometry,
+    node: &Node<'_>,
+) -> Result<Option<FileAddresses>, NoMemory> {
     let blocks = blocks_of(g, node);
     let mut addresses = FileAddresses::new(alloc, g, blocks)?;
     for n in 0..blocks {
-        if !is_hole(g, node, n) && !place_block(space, &mut addresses, g, node.bytes.len() as u64, n) {
+        if !is_hole(g, node, n)
+            && !place_block(space, &mut addresses, g, node.bytes.len() as u64, n)
+        {
             return Ok(None);
         }
     }
@@ -89,7 +122,12 @@ fn place_file(alloc: Global, space: &mut Space, g: &Geometry, node: &Node<'_>) -
 }
 
 /// Places the blocks of all files. There are no addresses where there is no room.
-pub fn place_files(alloc: Global, space: &mut Space, g: &Geometry, nodes: &[Node<'_>]) -> Result<Option<Vec<FileAddresses>>, NoMemory> {
+pub fn place_files(
+    alloc: Global,
+    space: &mut Space,
+    g: &Geometry,
+    nodes: &[Node<'_>],
+) -> Result<Option<Vec<FileAddresses>>, NoMemory> {
     let mut files = Vec::new(alloc);
     for node in nodes {
         let Some(addresses) = place_file(alloc, space, g, node)? else {
@@ -101,7 +139,10 @@ pub fn place_files(alloc: Global, space: &mut Space, g: &Geometry, nodes: &[Node
 }
 
 /// Appends the addresses of a file.
-fn push_addresses(files: &mut Vec<FileAddresses>, addresses: FileAddresses) -> Result<(), NoMemory> {
+fn push_addresses(
+    files: &mut Vec<FileAddresses>,
+    addresses: FileAddresses,
+) -> Result<(), NoMemory> {
     match files.push(addresses) {
         Ok(()) => Ok(()),
         Err(_) => Err(NoMemory),

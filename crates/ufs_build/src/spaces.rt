@@ -1,5 +1,5 @@
 // Free fragments.
-ghost use Rattle.std.specs.Prelude.{◌≡◌, ◌≤◌, ◌<◌, ◌+◌, ◌*◌, ◌^◌, ℕ, Bool, true, false, Some, None, MatchOption, IfOk, length, replicate, not};
+ghost use Rattle.std.specs.Prelude.{◌≡◌, ◌≤◌, ◌<◌, ◌+◌, ◌*◌, ◌^◌, ℕ, Bool, true, false, Some, None, MatchOption, IfOk, length, replicate, not, slice_set};
 ghost use Rattle.ufs_build.specs.Placements.{fits, is_used, lowest, marked};
 ghost use Rattle.ufs_build.specs.Spaces.{IsSearched, NoneBelow};
 ghost use Rattle.ufs_model.specs.Geometries.{IsGeometry};
@@ -67,7 +67,9 @@ fn fits(g: &Geometry, used: &[bool], k: u32, a: u32) -> bool
     requires geometry { IsGeometry g.now }
     ensures { result ≡ fits g.now used.now k a }
 {
-    u64::from(a % g.frag) + u64::from(k) <= u64::from(g.frag) && is_data_run(g, a, k) && are_free(used, a, k)
+    u64::from(a % g.frag) + u64::from(k) <= u64::from(g.frag)
+        && is_data_run(g, a, k)
+        && are_free(used, a, k)
 }
 
 /// The lowest fragment from one on at which a block of so many may begin, or the volume's end.
@@ -87,14 +89,22 @@ fn next_fit(g: &Geometry, used: &[bool], k: u32, from: u32) -> u32
     g.size
 }
 
+/// Sets a mark of a list.
+fn set_mark(marks: &mut Vec<bool>, index: u64)
+    requires { index < 2 ^ 63 }
+    ensures { marks.new.items ≡ slice_set marks.old.items index true }
+{
+    if let Some(mark) = marks.get_mut(index as usize) {
+        *mark = true;
+    }
+}
+
 /// Gives so many fragments from one on to a block.
 fn mark(used: &mut Vec<bool>, a: u32, k: u32)
     ensures { used.new.items ≡ marked used.old.items a k }
 {
     for i in 0..k {
-        if let Some(is) = used.get_mut(a as usize + i as usize) {
-            *is = true;
-        }
+        set_mark(used, u64::from(a) + u64::from(i));
     }
 }
 

@@ -38,7 +38,13 @@ fn run_of(alloc: Global, first: u8, count: usize, repeated: usize) -> Result<Byt
     Ok(Bytes::new(list))
 }
 
-fn item(alloc: Global, path: &[u8], kind: ItemKind, bytes: Bytes, sparse: bool) -> Result<Item, Fail> {
+fn item(
+    alloc: Global,
+    path: &[u8],
+    kind: ItemKind,
+    bytes: Bytes,
+    sparse: bool,
+) -> Result<Item, Fail> {
     Ok(Item {
         path: bytes_of(alloc, path)?,
         kind,
@@ -65,15 +71,39 @@ fn row_items(alloc: Global, which: Which) -> Result<Items, Fail> {
     match which {
         Which::E => {}
         Which::F | Which::Fb => {
-            items.push(item(alloc, b"/a", ItemKind::File, bytes_of(alloc, b"hello")?, false)?)?;
+            items.push(item(
+                alloc,
+                b"/a",
+                ItemKind::File,
+                bytes_of(alloc, b"hello")?,
+                false,
+            )?)?;
             items.push(item(alloc, b"/d", ItemKind::Dir, bytes_of(alloc, b"")?, false)?)?;
-            items.push(item(alloc, b"/d/b", ItemKind::File, run_of(alloc, 1, 53_248, 1024)?, false)?)?;
+            items.push(item(
+                alloc,
+                b"/d/b",
+                ItemKind::File,
+                run_of(alloc, 1, 53_248, 1024)?,
+                false,
+            )?)?;
             items.push(item(alloc, b"/z", ItemKind::File, bytes_of(alloc, b"")?, false)?)?;
             items.push(item(alloc, b"/h", ItemKind::File, hole_bytes(alloc)?, true)?)?;
         }
         Which::X => {
-            items.push(item(alloc, b"/p", ItemKind::File, run_of(alloc, b'p', 16_384, 16_384)?, false)?)?;
-            items.push(item(alloc, b"/q", ItemKind::File, run_of(alloc, b'q', 16_384, 16_384)?, false)?)?;
+            items.push(item(
+                alloc,
+                b"/p",
+                ItemKind::File,
+                run_of(alloc, b'p', 16_384, 16_384)?,
+                false,
+            )?)?;
+            items.push(item(
+                alloc,
+                b"/q",
+                ItemKind::File,
+                run_of(alloc, b'q', 16_384, 16_384)?,
+                false,
+            )?)?;
         }
     }
     Ok(Items::new(items))

@@ -141,7 +141,12 @@ fn written_late(alloc: Global, g: &Geometry, image: &[u8]) -> Result<Vec<u32>, N
 /// The blocks of an image that a trace writes, in its order: each block that isn't all zero, once.
 ///
 /// The image has just the bytes of the volume.
-pub fn trace_order(alloc: Global, order: Order, g: &Geometry, image: &[u8]) -> Result<Vec<u32>, NoMemory>
+pub fn trace_order(
+    alloc: Global,
+    order: Order,
+    g: &Geometry,
+    image: &[u8],
+) -> Result<Vec<u32>, NoMemory>
     requires geometry { IsGeometry g.now }
     requires bytes { length image.now ≡ g.now.size * g.now.fsize }
     ensures { IfOk result (λ blocks. blocks.items ≡ trace_of order g.now image.now) }

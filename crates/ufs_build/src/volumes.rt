@@ -104,27 +104,87 @@ pub fn superblock_fields(g: &Geometry) -> [Field; 21]
     ensures { result ≡ superblock_fields g.now }
 {
     [
-        Field { at: 8, value: g.sblkno },
-        Field { at: 12, value: g.cblkno },
-        Field { at: 16, value: g.iblkno },
-        Field { at: 20, value: g.dblkno },
-        Field { at: 24, value: g.cgoffset },
-        Field { at: 28, value: g.cgmask },
-        Field { at: 36, value: g.size },
-        Field { at: 44, value: g.ncg },
-        Field { at: 48, value: g.bsize },
-        Field { at: 52, value: g.fsize },
-        Field { at: 56, value: g.frag },
-        Field { at: 116, value: g.nindir },
-        Field { at: 120, value: g.inopb },
-        Field { at: 152, value: g.csaddr },
-        Field { at: 156, value: g.cssize },
-        Field { at: 160, value: g.cgsize },
-        Field { at: 184, value: g.ipg },
-        Field { at: 188, value: g.fpg },
-        Field { at: 1320, value: g.maxsymlinklen },
+        Field {
+            at: 8,
+            value: g.sblkno,
+        },
+        Field {
+            at: 12,
+            value: g.cblkno,
+        },
+        Field {
+            at: 16,
+            value: g.iblkno,
+        },
+        Field {
+            at: 20,
+            value: g.dblkno,
+        },
+        Field {
+            at: 24,
+            value: g.cgoffset,
+        },
+        Field {
+            at: 28,
+            value: g.cgmask,
+        },
+        Field {
+            at: 36,
+            value: g.size,
+        },
+        Field {
+            at: 44,
+            value: g.ncg,
+        },
+        Field {
+            at: 48,
+            value: g.bsize,
+        },
+        Field {
+            at: 52,
+            value: g.fsize,
+        },
+        Field {
+            at: 56,
+            value: g.frag,
+        },
+        Field {
+            at: 116,
+            value: g.nindir,
+        },
+        Field {
+            at: 120,
+            value: g.inopb,
+        },
+        Field {
+            at: 152,
+            value: g.csaddr,
+        },
+        Field {
+            at: 156,
+            value: g.cssize,
+        },
+        Field {
+            at: 160,
+            value: g.cgsize,
+        },
+        Field {
+            at: 184,
+            value: g.ipg,
+        },
+        Field {
+            at: 188,
+            value: g.fpg,
+        },
+        Field {
+            at: 1320,
+            value: g.maxsymlinklen,
+        },
         Field { at: 1324, value: 2 },
-        Field { at: 1372, value: 0x0001_1954 },
+        Field {
+            at: 1372,
+            value: 0x0001_1954,
+        },
     ]
 }
 
@@ -176,9 +236,5 @@ pub fn volume_of_spec(spec: &Spec) -> Option<Geometry>
         return None;
     }
     let found = read_geometry(&geometry_of_spec(spec))?;
-    if maps_fit(spec) {
-        Some(found)
-    } else {
-        None
-    }
+    if maps_fit(spec) { Some(found) } else { None }
 }

@@ -21,14 +21,14 @@ pub returns-in_default-clause-bad : goal.returns-in_default-clause-bad
 unfolding parents_of
 returns-in_default-clause-bad c =
     let at = is_at c.args.items.now c.split_at.result.0.now c.split_at.result.1.now c.index-rest-0.result c.loop-k.k c.loop-k-test.true
-        c.split_at.ensures.front c.split_at.ensures.back c.index-rest-0.is in
+    c.split_at.ensures.front c.split_at.ensures.back c.index-rest-0.is in
     λ k e. let same : c.loop-k.k ≡ k = cc in
     stops c.args.items.now _ c.index-rest-0.result c.loop-k.k _ at (c.in_default.ensures.value) c.loop-k.invariant.found ∙ ap Err same
 
 pub loop-k-preserved : goal.loop-k-preserved
 loop-k-preserved c =
     let at = is_at c.args.items.now c.split_at.result.0.now c.split_at.result.1.now c.index-rest-0.result c.loop-k.k c.loop-k-test.true
-        c.split_at.ensures.front c.split_at.ensures.back c.index-rest-0.is in
+    c.split_at.ensures.front c.split_at.ensures.back c.index-rest-0.is in
     let pushed : c.push.new.self.items ≡ c.loop-k.parents.items ++ c.in-Some.parent ∷ [] = search rules in
     record {
       found = goes_on c.args.items.now _ c.index-rest-0.result c.loop-k.k c.in-Some.parent _ _ at (c.in-Some.ensures.value) pushed c.loop-k.invariant.found;

@@ -8,5 +8,5 @@ abbrev pub invariant-loop-k : goal.invariant-loop-k
 invariant-loop-k l = record {
   found : all_before l.parents.items (parents_after (take l.k l.items) (drop l.k l.items)) ≡ parents_after [] l.items;
   names : All HasShortName (take l.k l.items);
-  slashes : All HasSlash (take l.k l.items)
+  slashes : All HasSlash (take l.k l.items);
 }

@@ -5,7 +5,7 @@ use Rattle.ufs_build.proofs.paths.split_path.Goals as goal
 pub returns-clause-parent : goal.returns-clause-parent
 returns-clause-parent c =
     c.split_at-2.ensures.front ∙ cut_parent c.args.path.now _ c.name_start.result c.name_start.ensures.some c.name_start.ensures.inside c.name_start.ensures.slash
-        c.name_start.ensures.last c.split_at.ensures.front
+    c.name_start.ensures.last c.split_at.ensures.front
 
 pub returns-clause-name : goal.returns-clause-name
 returns-clause-name c =
