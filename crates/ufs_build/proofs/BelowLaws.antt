@@ -19,8 +19,8 @@ pub false_at : (test : ℕ → Bool) (n i : ℕ) → i < n → test i ≡ false 
 false_at test zero i low e = absurd (omega arith)
 false_at test (suc n) i low e =
     elim (cases_eq i n) as (λ _. all_below test (suc n) ≡ false) [
-      inl same ↦ and_false (all_below test n) (test n) (rw (← same) e)
-    | inr differ ↦ first_false (all_below test n) (test n) (false_at test n i (same_or_below i n low differ) e)
+      | inl same ↦ and_false (all_below test n) (test n) (rw (← same) e)
+      | inr differ ↦ first_false (all_below test n) (test n) (false_at test n i (same_or_below i n low differ) e)
     ]
 
 -- tests that pass where others do

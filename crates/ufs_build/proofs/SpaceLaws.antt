@@ -18,13 +18,13 @@ finds_one : (test : ℕ → Bool) (from n a : ℕ) (here : Bool) → test from �
     → (from + 1 ≤ a → find test (range_with_len (from + 1) n) ≡ Some a) → cond here (Some from) (find test (range_with_len (from + 1) n)) ≡ Some a
 finds_one test from n a true e low high none here more =
     let first : from ≡ a = elim (cases_eq from a) as (λ _. from ≡ a) [
-      inl same ↦ same
-    | inr differ ↦ absurd (false≢true (sym (none from (omega arith) (let h : from < a = omega arith in h)) ∙ e))
+      | inl same ↦ same
+      | inr differ ↦ absurd (false≢true (sym (none from (omega arith) (let h : from < a = omega arith in h)) ∙ e))
     ] in ap Some first
 finds_one test from n a false e low high none here more =
     more (elim (cases_eq from a) as (λ _. from + 1 ≤ a) [
-      inl same ↦ absurd (false≢true (sym e ∙ ap test same ∙ here))
-    | inr differ ↦ omega arith
+      | inl same ↦ absurd (false≢true (sym e ∙ ap test same ∙ here))
+      | inr differ ↦ omega arith
     ])
 
 finds : (test : ℕ → Bool) (from n a : ℕ) → from ≤ a → a < from + n → ((b : ℕ) → from ≤ b → b < a → test b ≡ false) → test a ≡ true
@@ -77,8 +77,8 @@ fits_before : (g : Geometry) (used : List Bool) (a c k b : ℕ) → fits g (mark
 unfolding fits
 fits_before g used a c k b h =
     to_true (nat_le (b % g.frag + k) g.frag) (is_data_run g b k) _ _
-        (below_mono (λ i. not (is_used (marked used a c) (b + i))) (λ i. not (is_used used (b + i))) k
-            (λ i e. still_free (is_used (marked used a c) (b + i)) (is_used used (b + i)) (marked_kept used a c (b + i)) e)) h
+    (below_mono (λ i. not (is_used (marked used a c) (b + i))) (λ i. not (is_used used (b + i))) k
+    (λ i e. still_free (is_used (marked used a c) (b + i)) (is_used used (b + i)) (marked_kept used a c (b + i)) e)) h
 
 pub none_below_marked : (g : Geometry) (used : List Bool) (a c k from : ℕ) → NoneBelow g used k from → NoneBelow g (marked used a c) k from
 none_below_marked g used a c k from below = record {
@@ -99,11 +99,11 @@ searched_set g used searched k a is low below inside =
     record {
       size = length-set searched k a ∙ is.size;
       inside = λ j. elim (cases_eq j k) as (λ _. get_or (set searched k a) j 0 ≤ g.size) [
-        inl same ↦ rw (same, get_or-set_same searched k a 0 long) inside
-      | inr differ ↦ rw (get_or-set_other searched k j a 0 differ) (is.inside j)
+        | inl same ↦ rw (same, get_or-set_same searched k a 0 long) inside
+        | inr differ ↦ rw (get_or-set_other searched k j a 0 differ) (is.inside j)
       ];
       below = λ j. elim (cases_eq j k) as (λ _. NoneBelow g used j (get_or (set searched k a) j 0)) [
-        inl same ↦ rw (same, get_or-set_same searched k a 0 long) below
-      | inr differ ↦ rw (get_or-set_other searched k j a 0 differ) (is.below j)
+        | inl same ↦ rw (same, get_or-set_same searched k a 0 long) below
+        | inr differ ↦ rw (get_or-set_other searched k j a 0 differ) (is.below j)
       ];
     }

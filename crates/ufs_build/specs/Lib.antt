@@ -6,6 +6,7 @@ pub mod Items
 pub mod Nodes
 pub mod Parts
 pub mod Placements
+pub mod Placings
 pub mod Spaces
 pub mod Traces
 pub mod Volumes

@@ -128,11 +128,14 @@ is_hole g node n = node.sparse && (nat_le ((n + 1) * g.bsize) (length node.bytes
 unfoldable pub blocks_of : Geometry → Node → ℕ
 blocks_of g node = if node.inside then 0 else div_ceil (length node.bytes) g.bsize
 
+-- file block n, unless it is a hole
+abbrev pub with_block_or_hole : Geometry → Node → ℕ → Placed → Option Placed
+with_block_or_hole g node n placed = if is_hole g node n then Some placed else with_file_block g (length node.bytes) n placed
+
 -- the file blocks below n that are no holes
 abbrev pub with_blocks_below : Geometry → Node → ℕ → Placed → Option Placed
 with_blocks_below g node zero placed = Some placed
-with_blocks_below g node (suc n) placed =
-    and_then (with_blocks_below g node n placed) (λ now. if is_hole g node n then Some now else with_file_block g (length node.bytes) n now)
+with_blocks_below g node (suc n) placed = and_then (with_blocks_below g node n placed) (with_block_or_hole g node n)
 
 -- a file's blocks
 unfoldable pub placed_file : Geometry → Node → List Bool → Option Placed

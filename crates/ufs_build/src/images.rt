@@ -4,8 +4,8 @@ ghost use Rattle.ufs_build.specs.Images.{group_fields};
 ghost use Rattle.ufs_model.specs.Geometries.{IsGeometry};
 
 use crate::addresses::FileAddresses;
+use crate::files::Node;
 use crate::maps::{fragment_bits, inode_bits, map_bytes};
-use crate::nodes::Node;
 use crate::parents::ROOT;
 use crate::parts::{Field, put, put_fields, put_u16, put_u32, put_u64};
 use crate::placings::{block_bytes, blocks_of};

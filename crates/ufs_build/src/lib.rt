@@ -5,6 +5,7 @@ mod addresses;
 mod builds;
 mod directories;
 mod entries;
+mod files;
 mod images;
 mod items;
 mod maps;

@@ -15,12 +15,12 @@ returns-clause-place c =
     let differ = c.if-a-g.false in
     let low : c.next_fit-a.result < c.args.g.now.size = omega arith in
     lowest_is c.args.g.now c.args.space.now.used.items c.args.k c.next_fit-a.result below low
-        (rw c.deref.ensures.value at (c.next_fit-a.ensures.here low))
+    (rw c.deref.ensures.value at (c.next_fit-a.ensures.here low))
 
 pub returns-clause-searched : goal.returns-clause-searched
 returns-clause-searched c =
     let below : NoneBelow c.args.g.now c.args.space.now.used.items c.args.k c.next_fit-a.result = rw c.deref.ensures.value at c.next_fit-a.ensures.below in
     rw c.mark.ensures
     (searched_marked c.args.g.now c.args.space.now.used.items _ c.next_fit-a.result c.args.k
-        (searched_set c.args.g.now c.args.space.now.used.items c.args.space.now.searched.items c.args.k c.next_fit-a.result c.requires.searched c.requires.count
-            below c.next_fit-a.ensures.inside))
+    (searched_set c.args.g.now c.args.space.now.used.items c.args.space.now.searched.items c.args.k c.next_fit-a.result c.requires.searched c.requires.count
+    below c.next_fit-a.ensures.inside))
