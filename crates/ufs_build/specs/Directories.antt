@@ -46,8 +46,8 @@ entry_length name = div_ceil (8 + length name + 1) 4 * 4
 -- an entry that takes so many bytes
 unfoldable pub entry_bytes : Endian → DirEntry → ℕ → List ℕ
 entry_bytes endian entry reclen =
-    number_bytes endian 4 entry.inode ++ number_bytes endian 2 reclen ++ entry.kind ∷ length entry.name ∷ [] ++ entry.name
-    ++ replicate (reclen - (8 + length entry.name)) 0
+    number_bytes endian 4 entry.inode ++ (number_bytes endian 2 reclen ++ ((entry.kind ∷ length entry.name ∷ []) ++ (entry.name
+    ++ replicate (reclen - (8 + length entry.name)) 0)))
 
 -- The bytes that an entry takes of those left in its chunk: all, unless the next one fits behind it.
 abbrev pub reclen_in : ℕ → DirEntry → List DirEntry → ℕ

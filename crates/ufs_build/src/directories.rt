@@ -1,9 +1,10 @@
 // The bytes of directories.
-ghost use Rattle.std.specs.Prelude.{◌≡◌, ◌≤◌, ◌<◌, ◌+◌, ◌^◌, ◌++◌, ◌∷◌, [], IfOk, OnOk, length, replicate, drop};
+ghost use Rattle.std.specs.Prelude.{◌≡◌, ◌≤◌, ◌<◌, ◌+◌, ◌^◌, ◌++◌, ◌∷◌, [], ℕ, List, if◌then◌else◌, slice_index, IfOk, OnOk, length, replicate, drop};
 ghost use Rattle.std.specs.List.{All};
-ghost use Rattle.ufs_build.specs.Directories.{directories_of, directory_bytes, directory_entries, entry_bytes, entry_length, entry_type, item_entry, packed, reclen_in};
-ghost use Rattle.ufs_build.specs.Entries.{entries_in, entry_of};
-ghost use Rattle.ufs_build.specs.Items.{HasShortName, HasSlash};
+ghost use Rattle.ufs_build.specs.Directories.{directories_of, directory_bytes, directory_entries, entry_bytes, entry_if, entry_length, entry_type, item_entry, packed, reclen_in, room_after};
+ghost use Rattle.ufs_build.specs.Entries.{HasRoom, entries_in, entry_of};
+ghost use Rattle.ufs_build.specs.Items.{HasShortName, HasSlash, is_dir};
+ghost use Rattle.ufs_model.specs.Chunks.{DirEntry};
 ghost use Rattle.ufs_build.specs.Parts.{number_bytes};
 
 use crate::entries::Entry;
@@ -45,6 +46,26 @@ fn item_entry(inode: u32, item: &Item) -> Entry<'_>
     }
 }
 
+/// Appends the entry of an item, whose directory is `parent`, where that is the wanted one.
+fn push_item<'a>(
+    entries: &mut Vec<Entry<'a>>,
+    item: &'a Item,
+    inode: u32,
+    parent: u32,
+    wanted: u32,
+) -> Result<(), NoMemory>
+    requires short { HasShortName item.now }
+    requires slash { HasSlash item.now }
+    ensures { OnOk result ((further : List DirEntry)
+        → entries_in entries.new.items ++ further ≡ entries_in entries.old.items ++ entry_if wanted parent (item_entry inode item.now) further) }
+{
+    if parent != wanted {
+        return Ok(());
+    }
+    push_entry(entries, item_entry(inode, item))?;
+    Ok(())
+}
+
 /// The entries of a directory: its own, and those of its items.
 fn directory_entries<'a>(
     alloc: Global,
@@ -63,9 +84,13 @@ fn directory_entries<'a>(
     push_entry(&mut entries, own_entry(directory, b"."))?;
     push_entry(&mut entries, own_entry(up, b".."))?;
     for k in 0..items.len() {
-        if parents[k] == directory {
-            push_entry(&mut entries, item_entry(k as u32 + FIRST, &items[k]))?;
-        }
+        push_item(
+            &mut entries,
+            &items[k],
+            k as u32 + FIRST,
+            parents[k],
+            directory,
+        )?;
     }
     Ok(entries)
 }
@@ -84,7 +109,7 @@ fn own_entry(inode: u32, name: &[u8]) -> Entry<'_>
 
 /// Appends an entry.
 fn push_entry<'a>(entries: &mut Vec<Entry<'a>>, entry: Entry<'a>) -> Result<(), NoMemory>
-    ensures { OnOk result (entries_in entries.new.items ≡ entries_in entries.old.items ++ entry_of entry ∷ []) }
+    ensures { OnOk result (entries_in entries.new.items ≡ entries_in entries.old.items ++ entry_of entry.entry ∷ []) }
 {
     match entries.push(entry) {
         Ok(()) => Ok(()),
@@ -135,8 +160,10 @@ fn append_u32(bytes: &mut Vec<u8>, value: u32, endian: Endian) -> Result<(), NoM
 fn append_zeros(bytes: &mut Vec<u8>, count: u16) -> Result<(), NoMemory>
     ensures { OnOk result (bytes.new.items ≡ bytes.old.items ++ replicate count 0) }
 {
-    for _turn in 0..count {
+    let mut left = count;
+    while left > 0 {
         append(bytes, &[0])?;
+        left -= 1;
     }
     Ok(())
 }
@@ -164,19 +191,25 @@ fn append_entry(
     append_u16(bytes, reclen, endian)?;
     append(bytes, &[entry.kind, namlen])?;
     append(bytes, entry.name)?;
-    append_zeros(bytes, reclen - (8 + u16::from(namlen)))
+    append_zeros(bytes, reclen - (8 + u16::from(namlen)))?;
+    Ok(())
 }
 
 /// The bytes that an entry takes of those left in its chunk: all, unless the next one fits behind
 /// it.
 fn reclen_in(room: u16, entry: &Entry<'_>, further: &[Entry<'_>]) -> u16
-    ensures { result ≡ reclen_in room (entry_of entry.now) (entries_in further.now) }
+    requires { entry_length entry.now.name.now ≤ room }
+    ensures value { result ≡ reclen_in room (entry_of entry.now) (entries_in further.now) }
+    ensures room { entry_length entry.now.name.now ≤ result }
+    ensures inside { result ≤ room }
+    ensures next { HasRoom (room_after room result) (entries_in further.now) }
 {
-    match further.first() {
-        None => room,
-        Some(next) => {
-            let length = entry_length(entry.name);
-            if length + entry_length(next.name) <= room {
+    let length = entry_length(entry.name);
+    match further {
+        [] => room,
+        [next, ..] => {
+            let needed = entry_length(next.name);
+            if length + needed <= room {
                 length
             } else {
                 room
@@ -185,16 +218,26 @@ fn reclen_in(room: u16, entry: &Entry<'_>, further: &[Entry<'_>]) -> u16
     }
 }
 
+/// What is left of a chunk behind an entry, or a new chunk.
+fn room_after(room: u16, reclen: u16) -> u16
+    requires { reclen ≤ room }
+    ensures { result ≡ room_after room reclen }
+{
+    if reclen == room { CHUNK } else { room - reclen }
+}
+
 /// Entries one behind the other.
 fn pack(alloc: Global, entries: &[Entry<'_>], endian: Endian) -> Result<Vec<u8>, NoMemory>
+    requires { HasRoom 512 (entries_in entries.now) }
     ensures { IfOk result (λ bytes. bytes.items ≡ packed endian 512 (entries_in entries.now)) }
 {
     let mut bytes = Vec::new(alloc);
     let mut room = CHUNK;
     for k in 0..entries.len() {
-        let reclen = reclen_in(room, &entries[k], &entries[k + 1..]);
+        let (_, further) = entries.split_at(k + 1);
+        let reclen = reclen_in(room, &entries[k], further);
         append_entry(&mut bytes, &entries[k], reclen, endian)?;
-        room = if reclen == room { CHUNK } else { room - reclen };
+        room = room_after(room, reclen);
     }
     Ok(bytes)
 }
@@ -207,9 +250,40 @@ fn directory_bytes(
     directory: u32,
     up: u32,
     endian: Endian,
-) -> Result<Vec<u8>, NoMemory> {
+) -> Result<Vec<u8>, NoMemory>
+    requires few { length items.now + 3 < 2 ^ 32 }
+    requires names { All HasShortName items.now }
+    requires slashes { All HasSlash items.now }
+    requires parents { length parents.now ≡ length items.now }
+    ensures { IfOk result (λ bytes. bytes.items ≡ directory_bytes endian items.now parents.now directory up) }
+{
     let entries = directory_entries(alloc, items, parents, directory, up)?;
-    pack(alloc, &entries, endian)
+    let bytes = pack(alloc, &entries, endian)?;
+    Ok(bytes)
+}
+
+/// The bytes of the directory that item k is, and none where it isn't one.
+fn item_directory(
+    alloc: Global,
+    items: &[Item],
+    parents: &[u32],
+    item: &Item,
+    k: usize,
+    endian: Endian,
+) -> Result<Vec<u8>, NoMemory>
+    requires few { length items.now + 3 < 2 ^ 32 }
+    requires names { All HasShortName items.now }
+    requires slashes { All HasSlash items.now }
+    requires parents { length parents.now ≡ length items.now }
+    requires place { k < length items.now }
+    ensures { IfOk result (λ bytes. bytes.items
+        ≡ (if is_dir item.now.kind then directory_bytes endian items.now parents.now (k + 3) (slice_index parents.now k) else [])) }
+{
+    if !is_dir(item.kind) {
+        return Ok(Vec::new(alloc));
+    }
+    let bytes = directory_bytes(alloc, items, parents, k as u32 + FIRST, parents[k], endian)?;
+    Ok(bytes)
 }
 
 /// The bytes of the root's directory, and for each item those of its directory, if it is one.
@@ -218,18 +292,18 @@ pub fn directories_of(
     items: &[Item],
     parents: &[u32],
     endian: Endian,
-) -> Result<Vec<Bytes>, NoMemory> {
+) -> Result<Vec<Bytes>, NoMemory>
+    requires few { length items.now + 3 < 2 ^ 32 }
+    requires names { All HasShortName items.now }
+    requires slashes { All HasSlash items.now }
+    requires parents { length parents.now ≡ length items.now }
+    ensures { IfOk result (λ directories. directories.items ≡ directories_of endian items.now parents.now) }
+{
     let mut directories = Vec::new(alloc);
-    push_bytes(
-        &mut directories,
-        directory_bytes(alloc, items, parents, ROOT, ROOT, endian)?,
-    )?;
+    let root = directory_bytes(alloc, items, parents, ROOT, ROOT, endian)?;
+    push_bytes(&mut directories, root)?;
     for k in 0..items.len() {
-        let bytes = if is_dir(items[k].kind) {
-            directory_bytes(alloc, items, parents, k as u32 + FIRST, parents[k], endian)?
-        } else {
-            Vec::new(alloc)
-        };
+        let bytes = item_directory(alloc, items, parents, &items[k], k, endian)?;
         push_bytes(&mut directories, bytes)?;
     }
     Ok(directories)

@@ -1,8 +1,9 @@
 // Maps of bits.
-ghost use Rattle.std.specs.Prelude.{◌≡◌, ◌≤◌, ◌<◌, ◌+◌, ◌*◌, ◌^◌, ◌++◌, ◌∷◌, [], false, slice_index_or, IfOk, OnOk, length};
+ghost use Rattle.std.specs.Prelude.{◌≡◌, ◌≤◌, ◌<◌, ◌+◌, ◌*◌, ◌^◌, ◌++◌, ◌∷◌, [], false, nat_lt, not, ◌&&◌, slice_index_or, IfOk, OnOk, length};
 ghost use Rattle.ufs_build.specs.Images.{bit_sum, fragment_bits, inode_bits, map_bytes};
+ghost use Rattle.ufs_build.specs.Placements.{is_used};
 ghost use Rattle.ufs_model.specs.Geometries.{IsGeometry};
-ghost use Rattle.ufs_model.specs.Roles.{is_data_of};
+ghost use Rattle.ufs_model.specs.Roles.{is_data_of, role};
 
 use dg_model::NoMemory;
 use std::alloc::Global;
@@ -36,7 +37,6 @@ fn byte_at(bits: &[bool], start: usize) -> u8
 /// Bits in bytes.
 #[tactic(auto, unfolding(crate::specs::Images::map_bytes))]
 pub fn map_bytes(alloc: Global, bits: &[bool]) -> Result<Vec<u8>, NoMemory>
-    requires { length bits.now < 2 ^ 32 }
     ensures { IfOk result (λ bytes. bytes.items ≡ map_bytes bits.now) }
 {
     let mut bytes = Vec::new(alloc);
@@ -66,15 +66,21 @@ fn push_bit(bits: &mut Vec<bool>, bit: bool) -> Result<(), NoMemory>
     }
 }
 
+/// Whether an inode of a group is below a number.
+fn is_below(g: &Geometry, c: u32, i: u32, inodes: u64) -> bool
+    ensures { result ≡ nat_lt (c * g.now.ipg + i) inodes }
+{
+    u64::from(c) * u64::from(g.ipg) + u64::from(i) < inodes
+}
+
 /// The inodes of a group that are used, where all below a number are.
 #[tactic(auto, unfolding(crate::specs::Images::inode_bits))]
 pub fn inode_bits(alloc: Global, g: &Geometry, c: u32, inodes: u64) -> Result<Vec<bool>, NoMemory>
     ensures { IfOk result (λ bits. bits.items ≡ inode_bits g.now c inodes) }
 {
     let mut bits = Vec::new(alloc);
-    let first = u64::from(c) * u64::from(g.ipg);
     for i in 0..g.ipg {
-        push_bit(&mut bits, first + u64::from(i) < inodes)?;
+        push_bit(&mut bits, is_below(g, c, i, inodes))?;
     }
     Ok(bits)
 }
@@ -89,6 +95,18 @@ fn is_data_of(c: u32, role: Role) -> bool
     }
 }
 
+/// Whether a fragment is data of a group, and no block has it.
+#[tactic(auto, unfolding(ufs_model::specs::Roles::role))]
+fn is_free(g: &Geometry, c: u32, fragment: u64, used: &[bool]) -> bool
+    requires { IsGeometry g.now }
+    ensures { result ≡ (is_data_of c (role g.now fragment) && not (is_used used.now fragment)) }
+{
+    if u64::from(g.size) <= fragment {
+        return false;
+    }
+    is_data_of(c, role(g, fragment as u32)) && !bit_at(used, fragment as usize)
+}
+
 /// The fragments of a group that are free: data that no block has.
 #[tactic(auto, unfolding(crate::specs::Images::fragment_bits))]
 pub fn fragment_bits(
@@ -99,17 +117,12 @@ pub fn fragment_bits(
 ) -> Result<Vec<bool>, NoMemory>
     requires geometry { IsGeometry g.now }
     requires group { c < g.now.ncg }
-    requires whole { g.now.size ≡ g.now.ncg * g.now.fpg }
     ensures { IfOk result (λ bits. bits.items ≡ fragment_bits g.now c used.now) }
 {
     let mut bits = Vec::new(alloc);
-    let base = cgbase(g, c);
+    let base = u64::from(cgbase(g, c));
     for i in 0..g.fpg {
-        let fragment = base + i;
-        push_bit(
-            &mut bits,
-            is_data_of(c, role(g, fragment)) && !bit_at(used, fragment as usize),
-        )?;
+        push_bit(&mut bits, is_free(g, c, base + u64::from(i), used))?;
     }
     Ok(bits)
 }

@@ -86,7 +86,7 @@ pub fn nodes_of<'a>(
 
 /// Appends a file.
 fn push_node<'a>(nodes: &mut Vec<Node<'a>>, node: Node<'a>) -> Result<(), NoMemory>
-    ensures { OnOk result (files_of nodes.new.items ≡ files_of nodes.old.items ++ file_of node ∷ []) }
+    ensures { OnOk result (files_of nodes.new.items ≡ files_of nodes.old.items ++ file_of node.entry ∷ []) }
 {
     match nodes.push(node) {
         Ok(()) => Ok(()),

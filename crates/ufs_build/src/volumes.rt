@@ -211,8 +211,8 @@ fn read_geometry(g: &Geometry) -> Option<Geometry>
 
 /// Where the map of free fragments begins in a group block.
 pub fn freeoff_of(ipg: u32) -> u32
-    requires { ipg < 2 ^ 31 }
-    ensures { result ≡ freeoff_of ipg }
+    ensures value { result ≡ freeoff_of ipg }
+    ensures small { result < 2 ^ 31 }
 {
     (IUSEDOFF + ipg.div_ceil(8)).div_ceil(4) * 4
 }

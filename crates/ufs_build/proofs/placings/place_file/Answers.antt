@@ -15,6 +15,6 @@ unfolding placed_file
 returns-then-not-place_unless_hole-clause-placed c =
     let none : with_block_or_hole c.args.g.now (file_of c.args.node.now) c.loop-n.n (placed_in c.loop-n.space c.loop-n.addresses) ≡ None = c.if-not-place_unless_hole.ensures.placed in
     let stuck = no_room c.args.g.now (file_of c.args.node.now) c.loop-n.n c.blocks_of-blocks.result (placed_in c.args.space.now c.in_ok-addresses.addresses)
-        (placed_in c.loop-n.space c.loop-n.addresses) c.loop-n.invariant.placed none c.loop-n-test.true in
+    (placed_in c.loop-n.space c.loop-n.addresses) c.loop-n.invariant.placed none c.loop-n-test.true in
     let blank : c.in_ok-addresses.addresses ≡ no_addresses c.args.g.now c.blocks_of-blocks.result = c.in_ok-addresses.ensures in
     rw (← c.blocks_of-blocks.ensures, ← blank) stuck
