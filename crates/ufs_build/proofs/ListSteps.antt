@@ -2,7 +2,6 @@
 use Rattle.std.proofs.Common.{◌≡◌, ◌∙◌, ℕ, ◌+◌, ◌*◌, ◌<◌, ◌≤◌, List, [], ◌∷◌, ◌++◌, map, length, refl, sym, ap, append_assoc, arith}
 use Rattle.std.specs.List.{range_with_len}
 use Rattle.std.proofs.lemmas.List.{map_push}
-use Rattle.std.proofs.Math.Nat.{mul-le-mul_right}
 use Rattle.ufs_build.proofs.Ranges.{range_more}
 
 -- one more element of the list that a function gives
@@ -19,12 +18,6 @@ moved old new rest whole x e h = ap (λ r. r ++ rest) e ∙ append_assoc old (x 
 -- a piece more of what is left
 pub moved_piece : {A : Type 0} (old new piece rest whole : List A) → new ≡ old ++ piece → old ++ (piece ++ rest) ≡ whole → new ++ rest ≡ whole
 moved_piece old new piece rest whole e h = ap (λ r. r ++ rest) e ∙ append_assoc old piece rest ∙ h
-
--- group c ends inside the groups
-pub group_inside : (fpg c ncg i : ℕ) → c < ncg → i < fpg → fpg * c + i < ncg * fpg
-group_inside fpg c ncg i low inside =
-    let whole : (c + 1) * fpg ≤ ncg * fpg = mul-le-mul_right fpg (let h : c + 1 ≤ ncg = omega arith in h) in
-    omega arith
 
 -- the same for an element that is told otherwise
 pub moved_as : {A : Type 0} (old new rest whole : List A) (x y : A) → new ≡ old ++ x ∷ [] → x ≡ y → old ++ y ∷ rest ≡ whole → new ++ rest ≡ whole

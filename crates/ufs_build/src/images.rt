@@ -1,6 +1,6 @@
 // The bytes of a volume.
 ghost use Rattle.std.specs.Prelude.{◌≡◌, ◌≤◌, ◌<◌, ◌+◌, ◌*◌, ◌^◌, IfOk, OnOk, length};
-ghost use Rattle.ufs_build.specs.Images.{block_parts, data_parts, file_parts, first_below, group_fields, group_parts, indirect_parts, inode_parts, inode_place, level_parts, pointer_parts, slot_address, slot_parts, volume_bytes};
+ghost use Rattle.ufs_build.specs.Images.{block_parts, data_parts, file_parts, first_below, group_fields, group_parts, indirect_parts, inode_parts, inode_place, level_parts, pointer_parts, slot_address, slot_parts, volume_bytes, volume_parts};
 ghost use Rattle.std.specs.List.{flat_map, range_with_len};
 ghost use Rattle.ufs_build.specs.Placements.{address_at, blocks_of};
 ghost use Rattle.ufs_build.specs.Parts.{put_parts};
@@ -150,6 +150,7 @@ fn put_pointers(
     index: u64,
     address: u32,
 )
+    requires geometry { IsGeometry g.now }
     requires level { 1 ≤ level }
     requires index { index < 2 ^ 31 }
     requires address { address ≡ address_at addresses.now level index }
@@ -165,6 +166,7 @@ fn put_pointers(
 
 /// Puts the pointers of an indirect block, if there is one.
 fn put_indirect(image: &mut [u8], g: &Geometry, addresses: &FileAddresses, level: u32, index: u64)
+    requires geometry { IsGeometry g.now }
     requires level { 1 ≤ level }
     requires index { index < 2 ^ 31 }
     ensures { image.new ≡ put_parts (indirect_parts g.now addresses.now level index) image.old }
@@ -182,6 +184,7 @@ fn put_level(
     addresses: &FileAddresses,
     level: u32,
 ) -> Result<(), NoMemory>
+    requires geometry { IsGeometry g.now }
     requires level { 1 ≤ level }
     ensures { OnOk result (image.new ≡ put_parts (level_parts g.now addresses.now level) image.old) }
 {
@@ -289,8 +292,29 @@ fn put_groups(
     Ok(())
 }
 
+/// Puts all parts of a volume.
+#[tactic(auto, unfolding(crate::specs::Images::volume_parts))]
+fn put_volume(
+    alloc: Global,
+    image: &mut [u8],
+    g: &Geometry,
+    nodes: &[Node<'_>],
+    used: &[bool],
+    files: &[FileAddresses],
+) -> Result<(), NoMemory>
+    requires geometry { IsGeometry g.now }
+    requires few { length nodes.now + 2 ≤ g.now.ncg * g.now.ipg }
+    requires each { length nodes.now ≡ length files.now }
+    ensures { OnOk result (image.new ≡ put_parts (volume_parts g.now (files_of nodes.now) (record { used = used.now; files = files.now })) image.old) }
+{
+    put_superblock(image, SUPERBLOCK, g);
+    put_groups(alloc, image, g, nodes.len() as u64 + 2, used)?;
+    put_files(image, g, nodes, files)?;
+    Ok(())
+}
+
 /// The bytes of a volume.
-#[tactic(auto, unfolding(crate::specs::Images::volume_bytes, crate::specs::Images::volume_parts), using(crate::proofs::PartLaws::joined))]
+#[tactic(auto, unfolding(crate::specs::Images::volume_bytes))]
 pub fn volume_bytes(
     alloc: Global,
     g: &Geometry,
@@ -306,8 +330,6 @@ pub fn volume_bytes(
     let Ok(mut image) = vec![in alloc; 0u8; g.size as usize * g.fsize as usize] else {
         return Err(NoMemory);
     };
-    put_superblock(&mut image, SUPERBLOCK, g);
-    put_groups(alloc, &mut image, g, nodes.len() as u64 + 2, used)?;
-    put_files(&mut image, g, nodes, files)?;
+    put_volume(alloc, &mut image, g, nodes, used, files)?;
     Ok(image)
 }
