@@ -5,8 +5,8 @@ use Rattle.ufs_model.specs.Roles.{role}
 use Rattle.ufs_model.specs.declared.geometries.Geometry.{Geometry}
 use Rattle.ufs_model.specs.declared.roles.Role.{Role}
 use Rattle.ufs_model.specs.declared.roles.Role.TheVariants.{Outside, System, Data}
-use Rattle.ufs_build.specs.declared.orders.Order.{Order}
-use Rattle.ufs_build.specs.declared.orders.Order.TheVariants.{Up, Down, Late}
+use Rattle.dg_words.specs.declared.commands.Order.{Order}
+use Rattle.dg_words.specs.declared.commands.Order.TheVariants.{Up, Down, Late}
 
 -- block b of an image whose blocks have l bytes
 abbrev pub block_in : ℕ → List ℕ → ℕ → List ℕ

@@ -10,7 +10,6 @@ mod images;
 mod items;
 mod maps;
 mod nodes;
-mod orders;
 mod parents;
 mod parts;
 mod paths;
@@ -24,7 +23,7 @@ mod volumes;
 
 pub use builds::build;
 pub use items::{Item, ItemKind, Items};
-pub use orders::Order;
+pub use dg_words::Order;
 pub use refusals::{BuildRefused, What};
 pub use traces::trace_order;
 pub use volumes::Spec;

@@ -5,8 +5,8 @@ ghost use Rattle.ufs_build.specs.Traces.{block_in, is_data, is_written, numbers_
 ghost use Rattle.ufs_model.specs.Geometries.{IsGeometry};
 ghost use Rattle.ufs_model.specs.Roles.{role};
 
-use crate::orders::Order;
 use dg_model::NoMemory;
+use dg_words::Order;
 use std::alloc::Global;
 use ufs_model::{Geometry, Role};
 use ufs_super::role;
