@@ -8,10 +8,10 @@ use Rattle.std.proofs.lemmas.List.{append-nil}
 use Rattle.ufs_model.specs.Metadata.{IsMetadata, by_geometry, of_superblock}
 use Rattle.ufs_model.specs.Superblocks.{geometry_of, superblock_of}
 use Rattle.ufs_pointer.specs.Fetches.{IsNeeded}
-use Rattle.std.proofs.Common.{◌≡◌, ◌∙◌, ◌↔◌, ◌⊎◌, ◌/◌, ℕ, ◌<◌, inl, inr, List, [], Bool, true, false, Option, Some, None, length, refl, sym, ap, subst, Contains}
+use Rattle.std.proofs.Common.{◌≡◌, ◌∙◌, ◌↔◌, ◌⊎◌, ◌/◌, ℕ, ◌<◌, inl, inr, List, [], Bool, true, false, Option, Some, None, length, refl, sym, ap, subst, arith, Contains}
 use Rattle.std.proofs.lemmas.Bool.{false≢true}
 use Rattle.std.specs.Prelude.{slice_set, Err, Ok}
-use Rattle.dg_model.specs.Marks.{AreLeft, IsKnown, is_marked, with_mark}
+use Rattle.dg_model.specs.Marks.{IsKnown, is_marked, with_mark}
 use Rattle.dg_model.specs.Volumes.{geometry_on}
 use Rattle.ufs_model.specs.Blocks.{Volume, bind}
 use Rattle.ufs_model.specs.Claims.{IsClaim, source_fragments}
@@ -27,6 +27,9 @@ use Rattle.dg_infer.specs.Changes.{AreClaims}
 use Rattle.dg_infer.specs.Claimed.{StandsIn}
 use Rattle.dg_infer.specs.Known.{HasClaim, IsKnownBy, is_system_by}
 use Rattle.dg_infer.specs.Meanings.{AreParts, ClaimsOn, KeptInference, StandsFor, free_by, free_on, kind_at, kind_by, kind_on}
+use Rattle.dg_infer.specs.Moves.{Follows, with_pending}
+use Rattle.dg_infer.specs.Watches.{IsWatched}
+use Rattle.dg_infer.specs.declared.watches.Touch.{Touch}
 
 -- The laws of dg_claims on tables that are used.
 pub record TableLaws : Type 0 where
@@ -59,11 +62,12 @@ not_true true none = absurd (none refl)
 not_true false none = refl
 
 -- the marks that are left are those of the blocks that aren't known
-pub left_marks : (kept : KeptInference) (v w : Volume) (table : ClaimTable) (marks : List Bool) (block : ℕ) (system : Bool) → block < length kept.pending → StandsFor kept v
+pub left_marks : (kept : KeptInference) (w : Volume) (table : ClaimTable) (marks : List Bool) (block : ℕ) (system : Bool) → block < length kept.pending
+    → ((b : ℕ) → is_marked kept.pending b ≡ true → is_system_by kept.geometry b ≡ true → ⊥)
     → kept.geometry ≡ accepted (geometry_on kept.l kept.n w) → IsTableOf kept.l kept.n w table → system ≡ is_system_by kept.geometry block
     → ((b : ℕ) → (is_marked marks b ≡ true) ↔ (((is_marked kept.pending b ≡ true) ⊎ (b ≡ block)) × (HasClaim table.claimed b → ⊥) × (b ≡ block → system ≡ false)))
     → (b : ℕ) → (is_marked marks b ≡ true) ↔ ((is_marked (with_mark kept.pending block) b ≡ true) × (IsKnown kept.l kept.n w b → ⊥))
-left_marks kept v w table marks block system inside stands is of own now b =
+left_marks kept w table marks block system inside apart is of own now b =
     let known = known_by kept.l kept.n w kept.geometry table b is of in
     let had = marked_with kept.pending block inside b in (
       λ t.
@@ -72,7 +76,7 @@ left_marks kept v w table marks block system inside stands is of own now b =
             λ k. elim (known.0 k) [
               | inr claim ↦ parts.1 claim
               | inl own_block ↦ elim (parts.0) [
-                | inl was ↦ own_before kept v b stands was own_block
+                | inl was ↦ apart b was own_block
                 | inr e ↦ false≢true (sym (parts.2 e) ∙ own ∙ ap (is_system_by kept.geometry) (sym e) ∙ own_block)
               ]
             ],
@@ -85,11 +89,6 @@ left_marks kept v w table marks block system inside stands is of own now b =
     )
 
 -- ---- what stands
-
-pub stands_by : (kept : KeptInference) (w : Volume) → length w ≡ kept.n → kept.geometry ≡ accepted (geometry_on kept.l kept.n w) → IsTableOf kept.l kept.n w (table_of kept.claims)
-    → ((i : ℕ) → kind_at kept.kinds i ≡ kind_on w kept.geometry i) → ((b : ℕ) → is_marked kept.free b ≡ free_on w kept.geometry b)
-    → ((b : ℕ) → is_marked kept.pending b ≡ true → IsKnown kept.l kept.n w b → ⊥) → StandsFor kept w
-stands_by kept w number is table kept_kinds marks bare = record { number = number; geometry = is; claims = table; kinds = kept_kinds; free = marks; pending = bare }
 
 -- kinds and marks by a geometry that is there
 pub kinds_by : (v : Volume) (g : Geometry) (o : Option Geometry) (kinds : List (ℕ × Kind)) → o ≡ Some g → ((i : ℕ) → kind_at kinds i ≡ kind_on v o i) → (i : ℕ) → kind_at kinds i ≡ kind_by g v i
@@ -110,63 +109,58 @@ shown old claims kinds pending free = record { l = old.l; n = old.n; geometry = 
 
 -- ---- after a write, where the geometry stays
 
-pub record IsKept (old new : KeptInference) (w : Volume) (block : ℕ) : Type 0 where
-  pub stands : StandsFor new w
-  pub left : (b : ℕ) → (is_marked new.pending b ≡ true) ↔ ((is_marked (with_mark old.pending block) b ≡ true) × (IsKnown old.l old.n w b → ⊥))
-
-pub kept_by : TableLaws → (old : KeptInference) (g : Geometry) (v : Volume) (block : ℕ) (bytes : List ℕ) (claims : KeptClaims) (kinds : List (ℕ × Kind)) (pending free : List Bool) (system : Bool)
+pub kept_by : TableLaws → (old : KeptInference) (g : Geometry) (v : Volume) (block : ℕ) (bytes : List ℕ) (claims : KeptClaims) (kinds : List (ℕ × Kind)) (free : List Bool) (touches : List Touch)
     → old.geometry ≡ Some g → (table_of old.claims).geometry ≡ Some g → (table_of claims).geometry ≡ Some g → StandsFor old v
-    → old.geometry ≡ accepted (geometry_on old.l old.n (slice_set v block bytes)) → block < length old.pending
+    → old.geometry ≡ accepted (geometry_on old.l old.n (slice_set v block bytes))
     → (AreClaims (source_fragments g v) ((table_of old.claims).claimed) → AreClaims (source_fragments g (slice_set v block bytes)) ((table_of claims).claimed))
     → ((i : ℕ) → StandsIn g i block → kind_at kinds i ≡ kind_by g (slice_set v block bytes) i) → ((i : ℕ) → (StandsIn g i block → ⊥) → kind_at kinds i ≡ kind_at old.kinds i)
     → (((f : ℕ) → is_marked old.free f ≡ free_by g v f) → (f : ℕ) → is_marked free f ≡ free_by g (slice_set v block bytes) f)
-    → system ≡ is_system_by (Some g) block
-    → (((b : ℕ) → is_marked old.pending b ≡ true → HasClaim ((table_of old.claims).claimed) b → ⊥)
-    → (b : ℕ) → (is_marked pending b ≡ true) ↔ (((is_marked old.pending b ≡ true) ⊎ (b ≡ block)) × (HasClaim ((table_of claims).claimed) b → ⊥) × (b ≡ block → system ≡ false)))
-    → IsKept old (record { l = old.l; n = old.n; geometry = old.geometry; claims = claims; kinds = kinds; pending = pending; free = free }) (slice_set v block bytes) block
-kept_by laws old g v block bytes claims kinds pending free system known had has stands is inside step here others marks own left =
+    → IsWatched ((table_of old.claims).claimed) ((table_of claims).claimed) touches
+    → Follows (shown old claims kinds old.pending free) (Some touches) (slice_set v block bytes)
+kept_by laws old g v block bytes claims kinds free touches known had has stands is step here others marks watched =
     let w = slice_set v block bytes in
     let are = step (claims_by laws old.l old.n v g (table_of old.claims) had stands.claims) in
-    let table = laws.accepted old.l old.n w (table_of claims) g (accepted_some (geometry_on old.l old.n w) g (sym known ∙ is)) has are.each in
-    let all = left_marks old v w (table_of claims) pending block system inside stands is table (own ∙ ap (λ o. is_system_by o block) (sym known)) (left (bare_before old v stands)) in
     record {
-      stands = record {
+      stands = λ left unknown. record {
         number = length_mark v block bytes ∙ stands.number;
         geometry = is;
-        claims = table;
+        claims = laws.accepted old.l old.n w (table_of claims) g (accepted_some (geometry_on old.l old.n w) g (sym known ∙ is)) has are.each;
         kinds = kinds_on w g old.geometry kinds known (kinds_moved g v block bytes (kind_at old.kinds) (kind_at kinds) (kinds_by v g old.geometry old.kinds known stands.kinds) here others);
         free = free_on_of w g old.geometry free known (marks (free_by_of v g old.geometry old.free known stands.free));
-        pending = λ b t. ((all b).0 t).1;
+        pending = unknown;
       };
-      left = all;
+      tells = record {
+        before = (table_of old.claims).claimed;
+        watched = watched;
+        bare = bare_before old v stands;
+        own = λ b. own_before old v b stands;
+      };
     }
 
 -- without a geometry
-nothing_known : (l n : ℕ) (w : Volume) (table : ClaimTable) (b : ℕ) → None ≡ accepted (geometry_on l n w) → IsTableOf l n w table → ((fragment : ℕ) (source : ClaimSource) → TableClaims table fragment source → ⊥)
-    → IsKnown l n w b → ⊥
-nothing_known l n w table b is of none known = elim ((known_by l n w None table b is of).0 known) [
-  | inl system ↦ false≢true system
-  | inr claim ↦ none b (claim.0) (claim.1)
-]
+pub none_touched : (claimed : ClaimSource → List ℕ) → IsWatched claimed claimed []
+none_touched claimed = record { known = λ k past. absurd (omega (arith, past)); others = λ level fragment apart. (λ h. h, λ h. h) }
 
 pub kept_bare : TableLaws → (old : KeptInference) (v : Volume) (block : ℕ) (bytes : List ℕ) → old.geometry ≡ None → (table_of old.claims).geometry ≡ None
     → ((fragment : ℕ) (source : ClaimSource) → TableClaims (table_of old.claims) fragment source → ⊥) → StandsFor old v
-    → old.geometry ≡ accepted (geometry_on old.l old.n (slice_set v block bytes))
-    → IsKept old (record { l = old.l; n = old.n; geometry = old.geometry; claims = old.claims; kinds = old.kinds; pending = with_mark old.pending block; free = old.free }) (slice_set v block bytes) block
+    → old.geometry ≡ accepted (geometry_on old.l old.n (slice_set v block bytes)) → Follows old (Some []) (slice_set v block bytes)
 kept_bare laws old v block bytes none has empty stands is =
     let w = slice_set v block bytes in
-    let table = table_from laws old.l old.n w None (table_of old.claims) (sym none ∙ is) has (λ fragment source. (λ h. empty fragment source h, λ h. absurd h)) in
-    let unknown = λ (b : ℕ). nothing_known old.l old.n w (table_of old.claims) b (sym none ∙ is) table empty in
     record {
-      stands = record {
+      stands = λ left unknown. record {
         number = length_mark v block bytes ∙ stands.number;
         geometry = is;
-        claims = table;
+        claims = table_from laws old.l old.n w None (table_of old.claims) (sym none ∙ is) has (λ fragment source. (λ h. empty fragment source h, λ h. absurd h));
         kinds = λ i. stands.kinds i ∙ ap (λ o. kind_on v o i) none ∙ sym (ap (λ o. kind_on w o i) none);
         free = λ b. stands.free b ∙ ap (λ o. free_on v o b) none ∙ sym (ap (λ o. free_on w o b) none);
-        pending = λ b t. unknown b;
+        pending = unknown;
       };
-      left = λ b. (λ t. (t, unknown b), λ both. both.0);
+      tells = record {
+        before = (table_of old.claims).claimed;
+        watched = none_touched ((table_of old.claims).claimed);
+        bare = bare_before old v stands;
+        own = λ b. own_before old v b stands;
+      };
     }
 
 -- ---- read anew
@@ -198,22 +192,71 @@ pub marks_fewer : (old new : List Bool) (block : ℕ) → block < length old →
     → (b : ℕ) → is_marked new b ≡ true → is_marked (with_mark old block) b ≡ true
 marks_fewer old new block inside fewer b t = (marked_with old block inside b).1 (fewer b t)
 
--- the same of an inference with these parts
+-- an inference with these parts
+pub shown_is : (new : KeptInference) (l n : ℕ) (g : Option Geometry) (claims : KeptClaims) (kinds : List (ℕ × Kind)) (free : List Bool) → new.l ≡ l → new.n ≡ n → new.geometry ≡ g
+    → new.claims ≡ claims → new.kinds ≡ kinds → new.free ≡ free → record { l = l; n = n; geometry = g; claims = claims; kinds = kinds; pending = new.pending; free = free } ≡ new
+shown_is new l n g claims kinds free l_is n_is g_is claims_is kinds_is free_is =
+    let Is : KeptInference → Type 0 = λ k. k ≡ new in
+    subst (λ (x : ℕ). Is (record { l = x; n = n; geometry = g; claims = claims; kinds = kinds; pending = new.pending; free = free })) l_is
+    (subst (λ (x : ℕ). Is (record { l = new.l; n = x; geometry = g; claims = claims; kinds = kinds; pending = new.pending; free = free })) n_is
+    (subst (λ (x : Option Geometry). Is (record { l = new.l; n = new.n; geometry = x; claims = claims; kinds = kinds; pending = new.pending; free = free })) g_is
+    (subst (λ (x : KeptClaims). Is (record { l = new.l; n = new.n; geometry = new.geometry; claims = x; kinds = kinds; pending = new.pending; free = free })) claims_is
+    (subst (λ (x : List (ℕ × Kind)). Is (record { l = new.l; n = new.n; geometry = new.geometry; claims = new.claims; kinds = x; pending = new.pending; free = free })) kinds_is
+    (subst (λ (x : List Bool). Is (record { l = new.l; n = new.n; geometry = new.geometry; claims = new.claims; kinds = new.kinds; pending = new.pending; free = x })) free_is refl)))))
+
 pub stands_shown : (new : KeptInference) (l n : ℕ) (g : Option Geometry) (claims : KeptClaims) (kinds : List (ℕ × Kind)) (free : List Bool) (w : Volume) → new.l ≡ l → new.n ≡ n → new.geometry ≡ g
     → new.claims ≡ claims → new.kinds ≡ kinds → new.free ≡ free
     → StandsFor (record { l = l; n = n; geometry = g; claims = claims; kinds = kinds; pending = new.pending; free = free }) w → StandsFor new w
 stands_shown new l n g claims kinds free w l_is n_is g_is claims_is kinds_is free_is stands =
-    subst (λ (x : ℕ). StandsFor (record { l = x; n = new.n; geometry = new.geometry; claims = new.claims; kinds = new.kinds; pending = new.pending; free = new.free }) w) (sym l_is)
-    (subst (λ (x : ℕ). StandsFor (record { l = l; n = x; geometry = new.geometry; claims = new.claims; kinds = new.kinds; pending = new.pending; free = new.free }) w) (sym n_is)
-    (subst (λ (x : Option Geometry). StandsFor (record { l = l; n = n; geometry = x; claims = new.claims; kinds = new.kinds; pending = new.pending; free = new.free }) w) (sym g_is)
-    (subst (λ (x : KeptClaims). StandsFor (record { l = l; n = n; geometry = g; claims = x; kinds = new.kinds; pending = new.pending; free = new.free }) w) (sym claims_is)
-    (subst (λ (x : List (ℕ × Kind)). StandsFor (record { l = l; n = n; geometry = g; claims = claims; kinds = x; pending = new.pending; free = new.free }) w) (sym kinds_is)
-    (subst (λ (x : List Bool). StandsFor (record { l = l; n = n; geometry = g; claims = claims; kinds = kinds; pending = new.pending; free = x }) w) (sym free_is) stands)))))
+    subst (λ (k : KeptInference). StandsFor k w) (shown_is new l n g claims kinds free l_is n_is g_is claims_is kinds_is free_is) stands
+
+-- the same, read anew after a write
+pub follows_anew : TableLaws → (new : KeptInference) (l n : ℕ) (w : Volume) (g : Option Geometry) (claims : KeptClaims) (kinds : List (ℕ × Kind)) (free : List Bool)
+    → record { l = l; n = n; geometry = g; claims = claims; kinds = kinds; pending = new.pending; free = free } ≡ new → length w ≡ n
+    → g ≡ accepted (geometry_on l n w) → (table_of claims).geometry ≡ g → AreParts w g (table_of claims) kinds free → Follows new None w
+follows_anew laws new l n w g claims kinds free shown number is has parts =
+    subst (λ (k : KeptInference). Follows k None w) shown (record {
+      stands = λ left unknown. record {
+        number = number;
+        geometry = is;
+        claims = table_from laws l n w g (table_of claims) is has parts.claims;
+        kinds = parts.kinds;
+        free = parts.free;
+        pending = unknown;
+      };
+      tells = tt;
+    })
+
+-- ---- the marks move
+
+-- a volume that was followed is known by what is kept
+pub followed_by : (kept : KeptInference) (moved : Option (List Touch)) (w : Volume) → Follows kept moved w → StandsFor (with_pending kept []) w
+followed_by kept moved w h = h.stands [] (λ b t. absurd (false≢true t))
+
+pub marks_touched : (kept : KeptInference) (touches : List Touch) (w : Volume) (marks : List Bool) (block : ℕ) (system : Bool) → block < length kept.pending → system ≡ is_system_by kept.geometry block
+    → ((before : ClaimSource → List ℕ) → IsWatched before ((table_of kept.claims).claimed) touches → ((b : ℕ) → is_marked kept.pending b ≡ true → HasClaim before b → ⊥)
+    → (b : ℕ) → (is_marked marks b ≡ true) ↔ (((is_marked kept.pending b ≡ true) ⊎ (b ≡ block)) × (HasClaim ((table_of kept.claims).claimed) b → ⊥) × (b ≡ block → system ≡ false)))
+    → Follows kept (Some touches) w → (b : ℕ) → (is_marked marks b ≡ true) ↔ ((is_marked (with_mark kept.pending block) b ≡ true) × (IsKnown kept.l kept.n w b → ⊥))
+marks_touched kept touches w marks block system inside own now h =
+    let by = followed_by kept (Some touches) w h in
+    left_marks kept w (table_of kept.claims) marks block system inside h.tells.own by.geometry by.claims own (now h.tells.before h.tells.watched h.tells.bare)
+
+pub marks_anew : (kept : KeptInference) (w : Volume) (marks : List Bool) (block : ℕ)
+    → ((b : ℕ) → (is_marked marks b ≡ true) ↔ ((is_marked (with_mark kept.pending block) b ≡ true) × (IsKnownBy kept.geometry ((table_of kept.claims).claimed) b → ⊥)))
+    → Follows kept None w → (b : ℕ) → (is_marked marks b ≡ true) ↔ ((is_marked (with_mark kept.pending block) b ≡ true) × (IsKnown kept.l kept.n w b → ⊥))
+marks_anew kept w marks block now h b =
+    let by = followed_by kept None w h in
+    let known = known_by kept.l kept.n w kept.geometry (table_of kept.claims) b by.geometry by.claims in (
+      λ t. let both = (now b).0 t in (both.0, λ k. both.1 (known.0 k)),
+      λ both. (now b).1 (both.0, λ k. both.1 (known.1 k)),
+    )
+
+-- with the marks that are left it stands for the volume
+pub stands_marked : (kept : KeptInference) (moved : Option (List Touch)) (w : Volume) (marks : List Bool) (block : ℕ) → Follows kept moved w
+    → ((b : ℕ) → (is_marked marks b ≡ true) ↔ ((is_marked (with_mark kept.pending block) b ≡ true) × (IsKnown kept.l kept.n w b → ⊥))) → StandsFor (with_pending kept marks) w
+stands_marked kept moved w marks block h are = h.stands marks (λ b t. ((are b).0 t).1)
 
 -- ---- marks that are left
-
-pub left_along : (J K : Type 0) (l n : ℕ) (v : Volume) (old new : List Bool) → (J → K) → AreLeft K l n v old new → AreLeft J l n v old new
-left_along J K l n v old new along left = record { size = left.size; fewer = left.fewer; are = λ known. left.are (along known) }
 
 -- no marks are left of none
 pub bare_marks : (marks : List Bool) (P : ℕ → Type 0) → ((b : ℕ) → is_marked marks b ≡ false) → (b : ℕ) → (is_marked marks b ≡ true) ↔ ((is_marked marks b ≡ true) × (P b → ⊥))

@@ -9,8 +9,10 @@ pub mod Fits
 pub mod Inferences
 pub mod Known
 pub mod Meanings
+pub mod Moves
 pub mod Seen
 pub mod Spots
 pub mod Sweeps
+pub mod Wants
 pub mod Watches
 pub mod Writes

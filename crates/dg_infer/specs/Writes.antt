@@ -1,11 +1,11 @@
 -- A write of one block, beneath an inference that stood for the volume before it.
-use Rattle.std.specs.Prelude.{◌≡◌, ◌<◌, ℕ, List, Option, Some, None, length, slice_set}
+use Rattle.std.specs.Prelude.{◌≡◌, ◌<◌, ℕ, List, [], Option, Some, None, length, slice_set}
 use Rattle.dg_io.specs.declared.views.View.{Ghosts}
 use Rattle.dg_model.specs.Volumes.{geometry_on}
 use Rattle.ufs_model.specs.Blocks.{Volume}
 use Rattle.ufs_model.specs.Metadata.{IsMetadata, IsMetadataBy}
 use Rattle.ufs_model.specs.declared.geometries.Geometry.{Geometry}
-use Rattle.ufs_pointer.specs.Fetches.{LosesOne}
+use Rattle.ufs_pointer.specs.Fetches.{FetchesOnly, LosesOne}
 use Rattle.dg_claims.specs.Tables.{accepted}
 use Rattle.dg_infer.specs.AtHand.{IsWriteOf}
 use Rattle.dg_infer.specs.Meanings.{KeptInference, StandsFor}
@@ -60,3 +60,12 @@ LosesWhole view old new = LosesOne (StandsWhole view old) (view.tells new) (view
 abbrev pub LosesWholeBy : {S : Type 0} → Ghosts S → S → S → Option Geometry → Type 0
 LosesWholeBy view old new None = ⊥
 LosesWholeBy view old new (Some g) = LosesOne (StandsWhole view old) (view.tells new) (view.count old) (IsMetadataBy g) (view.is_gone new)
+
+-- only metadata blocks of the volume were fetched
+abbrev pub FetchesWhole : {S : Type 0} → Ghosts S → S → S → Type 0
+FetchesWhole view old new = FetchesOnly view.fetched (StandsWhole view old) (view.tells new) (IsMetadata (view.size old) (view.count old)) old new
+
+-- only metadata blocks by its geometry were fetched, and none where it has none
+abbrev pub FetchesWholeBy : {S : Type 0} → Ghosts S → S → S → Option Geometry → Type 0
+FetchesWholeBy view old new None = view.fetched old [] new
+FetchesWholeBy view old new (Some g) = FetchesOnly view.fetched (StandsWhole view old) (view.tells new) (IsMetadataBy g) old new

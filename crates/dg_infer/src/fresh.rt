@@ -11,7 +11,7 @@ ghost use Rattle.dg_infer.specs.AtHand.{OnVolumes, StandsWith};
 ghost use Rattle.dg_infer.specs.Fetched.{FetchesFresh};
 ghost use Rattle.dg_infer.specs.Meanings.{AreParts};
 ghost use Rattle.dg_infer.specs.Sweeps.{AreKindsBefore, AreMarksBefore, AreSlotsBefore};
-ghost use Rattle.dg_infer.specs.Writes.{IsKnownWhole, LosesWholeBy};
+ghost use Rattle.dg_infer.specs.Writes.{IsKnownWhole, FetchesWholeBy, LosesWholeBy};
 ghost use Rattle.dg_infer.specs.Watches.{IsTouched, IsWatched};
 ghost use Rattle.ufs_model.specs.declared.claims.ClaimSource.{ClaimSource};
 
@@ -162,6 +162,7 @@ pub fn restored_parts<V: View>(
     ensures parts { IfOk result (λ read. IfSome read (λ parts. (v : Volume) → IsKnownWhole V.View view.old view.new v
         → AreParts v geometry (table_of parts.claims) parts.kinds.entries parts.free.items)) }
     ensures lost { IfOk result (λ read. IfNone read (LosesWholeBy V.View view.old view.new geometry)) }
+    ensures fetched { IfOk result (λ read. IfSome read (λ parts. FetchesWholeBy V.View view.old view.new geometry)) }
 {
     let (l, n) = view.shape();
     let Some(g) = geometry else {

@@ -1,8 +1,8 @@
-ghost use Rattle.std.specs.Prelude.{◌≡◌, ◌<◌, ◌↔◌, ℕ, IfOk, IfSome, IfNone, OnOk, Some, None, false, true, length, replicate, slice_set};
+ghost use Rattle.std.specs.Prelude.{◌≡◌, ◌<◌, ℕ, IfOk, IfSome, IfNone, List, Option, Some, None, false, length, replicate, slice_set};
 ghost use Rattle.std.specs.Bool.{Decides};
 ghost use Rattle.dg_io.specs.ViewWords.{Keeps};
 ghost use Rattle.dg_model.specs.Blocks.{zeros};
-ghost use Rattle.dg_model.specs.Marks.{AreLeft, is_marked, with_mark};
+ghost use Rattle.dg_model.specs.Marks.{AreLeft, with_mark};
 ghost use Rattle.dg_model.specs.Volumes.{geometry_on};
 ghost use Rattle.ufs_model.specs.Blocks.{Volume};
 ghost use Rattle.ufs_model.specs.Geometries.{IsGeometryOn};
@@ -11,15 +11,17 @@ ghost use Rattle.ufs_pointer.specs.ViewWords.{LosesKind};
 ghost use Rattle.dg_claims.specs.Kept.{table_of};
 ghost use Rattle.dg_claims.specs.Tables.{accepted};
 ghost use Rattle.dg_infer.specs.Bounds.{FetchesFollowing, FetchesKept, FetchesReread};
-ghost use Rattle.dg_infer.specs.Known.{IsKnownBy};
-ghost use Rattle.dg_infer.specs.Meanings.{AreParts, StandsFor};
-ghost use Rattle.dg_infer.specs.Writes.{IsKnownWhole, IsKnownWrite, IsWriteTo, LosesWhole, LosesWritten, LosesWrittenTo};
+ghost use Rattle.dg_infer.specs.Meanings.{StandsFor};
+ghost use Rattle.dg_infer.specs.Moves.{Follows, with_pending};
+ghost use Rattle.dg_infer.specs.Writes.{FetchesWhole, IsKnownWhole, IsKnownWrite, IsWriteTo, LosesWhole, LosesWritten, LosesWrittenTo};
+ghost use Rattle.dg_infer.specs.declared.watches.Touch.{Touch};
 
 use crate::fresh::{Parts, no_marks, no_parts, read_parts, restored_parts};
 use crate::groups::move_free;
 use crate::kinds::move_kinds;
-use crate::pending::{is_system, left_marks, mark_anew, move_pending, set_mark};
+use crate::pending::{is_system, left_marks, mark_anew, move_pending};
 use crate::superblocks::{is_in_superblock, read_superblock};
+use crate::watches::Watch;
 use crate::writes::{move_claims, watch_block};
 use dg_claims::{Claims, Geometry, tables_of_volumes};
 use dg_io::{NoMemory, View};
@@ -29,11 +31,27 @@ use std::marker::Model;
 use ufs_model::{BadSuper, Kind};
 use ufs_pointer::{Levels, read_geometry};
 
+/// What a write touched of the claims on blocks: what moves the marks of pending blocks.
+#[derive(Drop)]
+pub struct Moved {
+    /// The fragments whose claims may have changed. All blocks were read anew where there is none.
+    touched: Option<Watch>,
+}
+
+impl Model for Moved {
+    ghost use Rattle.std.specs.Prelude.{List, Option};
+    ghost use Rattle.dg_infer.specs.declared.watches.Touch.{Touch};
+
+    ghost Value = { Option (List Touch) };
+
+    ghost view = { λ moved. moved.touched };
+}
+
 /// What became of an inference by a write.
-#[derive(Clone, Copy, Debug, PartialEq, Eq)]
+#[derive(Drop)]
 pub enum Inferred {
-    /// It is that of the volume after the write.
-    Known,
+    /// But for its marks it is that of the volume after the write. [`Inference::mark`] moves them.
+    Known(Moved),
     /// A block that has to be read for it is gone. But for its marks the inference is of no use any more.
     Gone,
 }
@@ -116,6 +134,7 @@ impl Inference {
         ensures pending { IfOk result (λ restored. IfSome restored (λ inference. (v : Volume)
             → AreLeft (IsKnownWhole V.View view.old view.new v) (V.size view.old) (V.count view.old) v pending.now inference.pending)) }
         ensures lost { IfOk result (λ restored. IfNone restored (LosesWhole V.View view.old view.new)) }
+        ensures fetched { IfOk result (λ restored. IfSome restored (λ inference. FetchesWhole V.View view.old view.new)) }
     {
         tables_of_volumes();
         let (l, n) = view.shape();
@@ -147,7 +166,7 @@ impl Inference {
         levels: &mut Levels,
         block: u32,
         bytes: &[u8],
-    ) -> Result<bool, NoMemory>
+    ) -> Result<Option<Moved>, NoMemory>
         requires sound { V.is_sound view.old }
         requires levels { levels.old.fragment ≡ V.size view.old }
         requires size { self.old.l ≡ V.size view.old }
@@ -158,29 +177,25 @@ impl Inference {
         ensures keeps { Keeps V.View view.old view.new }
         ensures levels { levels.new.fragment ≡ levels.old.fragment }
         ensures size { (self.new.l ≡ self.old.l) × (self.new.n ≡ self.old.n) }
-        ensures stands { IfOk result (λ got. got ≡ true → (v : Volume)
-            → IsWriteTo V.View view.old view.new self.old self.old.geometry block bytes.now v → StandsFor self.new (slice_set v block bytes.now)) }
-        ensures pending { IfOk result (λ got. got ≡ true → (v : Volume)
-            → AreLeft (IsWriteTo V.View view.old view.new self.old self.old.geometry block bytes.now v) self.old.l self.old.n
-            (slice_set v block bytes.now) (with_mark self.old.pending block) self.new.pending) }
-        ensures marks { IfOk result (λ got. got ≡ false → self.new.pending ≡ self.old.pending) }
-        ensures lost { IfOk result (λ got. got ≡ false
-            → LosesWrittenTo V.View view.old view.new self.old self.old.geometry block bytes.now) }
-        ensures fetched { IfOk result (λ got. got ≡ true
-            → FetchesKept V.fetched self.old.geometry block (table_of self.old.claims).claimed (table_of self.new.claims).claimed view.old view.new) }
+        ensures stands { IfOk result (λ got. IfSome got (λ moved. (v : Volume)
+            → IsWriteTo V.View view.old view.new self.old self.old.geometry block bytes.now v → Follows self.new moved (slice_set v block bytes.now))) }
+        ensures pending { self.new.pending ≡ self.old.pending }
+        ensures lost { IfOk result (λ got. IfNone got (LosesWrittenTo V.View view.old view.new self.old self.old.geometry block bytes.now)) }
+        ensures fetched { IfOk result (λ got. IfSome got (λ moved.
+            FetchesKept V.fetched self.old.geometry block (table_of self.old.claims).claimed (table_of self.new.claims).claimed view.old view.new)) }
     {
         tables_of_volumes();
         let mut watch = watch_block(alloc, &self.claims, block)?;
         if !move_claims(view, g, levels, &mut self.claims, &mut watch, block, bytes)? {
-            return Ok(false);
+            return Ok(None);
         }
         move_kinds(&mut self.kinds, g, block, bytes)?;
         if !move_free(alloc, view, g, levels, &mut self.free, block, bytes)? {
-            return Ok(false);
+            return Ok(None);
         }
-        let own = is_system(Some(*g), block);
-        move_pending(&mut self.pending, &self.claims, &watch, block, own);
-        Ok(true)
+        Ok(Some(Moved {
+            touched: Some(watch),
+        }))
     }
 
     /// The same, where there may be no geometry.
@@ -191,7 +206,7 @@ impl Inference {
         levels: &mut Levels,
         block: u32,
         bytes: &[u8],
-    ) -> Result<bool, NoMemory>
+    ) -> Result<Option<Moved>, NoMemory>
         requires sound { V.is_sound view.old }
         requires levels { levels.old.fragment ≡ V.size view.old }
         requires size { self.old.l ≡ V.size view.old }
@@ -201,46 +216,41 @@ impl Inference {
         ensures keeps { Keeps V.View view.old view.new }
         ensures levels { levels.new.fragment ≡ levels.old.fragment }
         ensures size { (self.new.l ≡ self.old.l) × (self.new.n ≡ self.old.n) }
-        ensures stands { IfOk result (λ got. got ≡ true → (v : Volume)
-            → IsWriteTo V.View view.old view.new self.old self.old.geometry block bytes.now v → StandsFor self.new (slice_set v block bytes.now)) }
-        ensures pending { IfOk result (λ got. got ≡ true → (v : Volume)
-            → AreLeft (IsWriteTo V.View view.old view.new self.old self.old.geometry block bytes.now v) self.old.l self.old.n
-            (slice_set v block bytes.now) (with_mark self.old.pending block) self.new.pending) }
-        ensures marks { IfOk result (λ got. got ≡ false → self.new.pending ≡ self.old.pending) }
-        ensures lost { IfOk result (λ got. got ≡ false
-            → LosesWrittenTo V.View view.old view.new self.old self.old.geometry block bytes.now) }
-        ensures fetched { IfOk result (λ got. got ≡ true
-            → FetchesKept V.fetched self.old.geometry block (table_of self.old.claims).claimed (table_of self.new.claims).claimed view.old view.new) }
+        ensures stands { IfOk result (λ got. IfSome got (λ moved. (v : Volume)
+            → IsWriteTo V.View view.old view.new self.old self.old.geometry block bytes.now v → Follows self.new moved (slice_set v block bytes.now))) }
+        ensures pending { self.new.pending ≡ self.old.pending }
+        ensures lost { IfOk result (λ got. IfNone got (LosesWrittenTo V.View view.old view.new self.old self.old.geometry block bytes.now)) }
+        ensures fetched { IfOk result (λ got. IfSome got (λ moved.
+            FetchesKept V.fetched self.old.geometry block (table_of self.old.claims).claimed (table_of self.new.claims).claimed view.old view.new)) }
     {
         tables_of_volumes();
         self.claims.claims_inside();
         let Some(g) = self.geometry else {
-            set_mark(&mut self.pending, block, true);
-            return Ok(true);
+            return Ok(Some(Moved {
+                touched: Some(Watch::new(alloc)),
+            }));
         };
         self.keep_by(alloc, view, &g, levels, block, bytes)
     }
 
-    /// Makes it that of a volume that was read anew after a write of one block.
-    fn renew(&mut self, parts: Parts, geometry: Option<Geometry>, block: u32)
+    /// Makes it that of a volume that was read anew.
+    fn renew(&mut self, parts: Parts, geometry: Option<Geometry>) -> Moved
         requires geometry { (table_of parts.claims).geometry ≡ geometry }
         requires on { IfSome geometry (IsGeometryOn self.old.l self.old.n) }
         requires room { length parts.free.items ≡ self.old.n }
-        requires inside { block < self.old.n }
         ensures size { (self.new.l ≡ self.old.l) × (self.new.n ≡ self.old.n) }
         ensures geometry { self.new.geometry ≡ geometry }
         ensures claims { self.new.claims ≡ parts.claims }
         ensures kinds { self.new.kinds ≡ parts.kinds.entries }
         ensures free { self.new.free ≡ parts.free.items }
-        ensures room { length self.new.pending ≡ length self.old.pending }
-        ensures pending { (b : ℕ) → (is_marked self.new.pending b ≡ true)
-            ↔ ((is_marked (with_mark self.old.pending block) b ≡ true) × (IsKnownBy geometry (table_of parts.claims).claimed b → ⊥)) }
+        ensures pending { self.new.pending ≡ self.old.pending }
+        ensures moved { result ≡ None }
     {
         self.geometry = geometry;
         self.claims = parts.claims;
         self.kinds = parts.kinds;
         self.free = parts.free;
-        mark_anew(&mut self.pending, &self.claims, geometry, block);
+        Moved { touched: None }
     }
 
     /// Makes it that of a volume after a write of one block that gave it this geometry, or left it without one.
@@ -252,7 +262,7 @@ impl Inference {
         geometry: Option<Geometry>,
         block: u32,
         bytes: &[u8],
-    ) -> Result<bool, NoMemory>
+    ) -> Result<Option<Moved>, NoMemory>
         requires sound { V.is_sound view.old }
         requires levels { levels.old.fragment ≡ V.size view.old }
         requires size { self.old.l ≡ V.size view.old }
@@ -263,16 +273,13 @@ impl Inference {
         ensures keeps { Keeps V.View view.old view.new }
         ensures levels { levels.new.fragment ≡ levels.old.fragment }
         ensures size { (self.new.l ≡ self.old.l) × (self.new.n ≡ self.old.n) }
-        ensures stands { IfOk result (λ got. got ≡ true → (v : Volume)
-            → IsWriteTo V.View view.old view.new self.old geometry block bytes.now v → StandsFor self.new (slice_set v block bytes.now)) }
-        ensures pending { IfOk result (λ got. got ≡ true → (v : Volume)
-            → AreLeft (IsWriteTo V.View view.old view.new self.old geometry block bytes.now v) self.old.l self.old.n
-            (slice_set v block bytes.now) (with_mark self.old.pending block) self.new.pending) }
-        ensures marks { IfOk result (λ got. got ≡ false → self.new.pending ≡ self.old.pending) }
-        ensures lost { IfOk result (λ got. got ≡ false → LosesWrittenTo V.View view.old view.new self.old geometry block bytes.now) }
-        ensures fetched { IfOk result (λ got. got ≡ true
-            → FetchesFollowing V.fetched self.old.geometry geometry block (table_of self.old.claims).claimed (table_of self.new.claims).claimed
-            view.old view.new) }
+        ensures stands { IfOk result (λ got. IfSome got (λ moved. (v : Volume)
+            → IsWriteTo V.View view.old view.new self.old geometry block bytes.now v → Follows self.new moved (slice_set v block bytes.now))) }
+        ensures pending { self.new.pending ≡ self.old.pending }
+        ensures lost { IfOk result (λ got. IfNone got (LosesWrittenTo V.View view.old view.new self.old geometry block bytes.now)) }
+        ensures fetched { IfOk result (λ got. IfSome got (λ moved.
+            FetchesFollowing V.fetched self.old.geometry geometry block (table_of self.old.claims).claimed (table_of self.new.claims).claimed
+            view.old view.new)) }
     {
         tables_of_volumes();
         if is_same(self.geometry, geometry) {
@@ -280,20 +287,17 @@ impl Inference {
         }
         let Some(g) = geometry else {
             let parts = no_parts(alloc, self.n)?;
-            self.renew(parts, None, block);
-            return Ok(true);
+            return Ok(Some(self.renew(parts, None)));
         };
         match read_parts(alloc, view, &g, levels, block, bytes)? {
-            Some(parts) => {
-                self.renew(parts, geometry, block);
-                Ok(true)
-            }
-            None => Ok(false),
+            Some(parts) => Ok(Some(self.renew(parts, geometry))),
+            None => Ok(None),
         }
     }
 
-    /// Makes it that of the volume after a write of a block, whose bytes are `new` now. The view has the blocks after the write, and the
-    /// buffers are for blocks of its size. After want of memory it is of no use any more, and after [`Inferred::Gone`] but for its marks.
+    /// Makes it, but for its marks of pending blocks, that of the volume after a write of a block, whose bytes are `new` now. The view has
+    /// the blocks after the write, and the buffers are for blocks of its size. The marks stay as they were. After want of memory it is of no
+    /// use any more, and after [`Inferred::Gone`] but for its marks.
     pub fn written<V: View>(
         &mut self,
         alloc: Global,
@@ -311,14 +315,11 @@ impl Inference {
         ensures keeps { Keeps V.View view.old view.new }
         ensures levels { levels.new.fragment ≡ levels.old.fragment }
         ensures size { (self.new.l ≡ self.old.l) × (self.new.n ≡ self.old.n) }
-        ensures stands { IfOk result (λ inferred. inferred ≡ Inferred.Known → (v : Volume)
-            → IsKnownWrite V.View view.old view.new self.old block new.now v → StandsFor self.new (slice_set v block new.now)) }
-        ensures pending { IfOk result (λ inferred. inferred ≡ Inferred.Known → (v : Volume)
-            → AreLeft (IsKnownWrite V.View view.old view.new self.old block new.now v) self.old.l self.old.n
-            (slice_set v block new.now) (with_mark self.old.pending block) self.new.pending) }
-        ensures marks { IfOk result (λ inferred. inferred ≡ Inferred.Gone → self.new.pending ≡ self.old.pending) }
+        ensures pending { self.new.pending ≡ self.old.pending }
+        ensures stands { IfOk result (λ inferred. (moved : Option (List Touch)) → inferred ≡ Inferred.Known moved → (v : Volume)
+            → IsKnownWrite V.View view.old view.new self.old block new.now v → Follows self.new moved (slice_set v block new.now)) }
         ensures gone { IfOk result (λ inferred. inferred ≡ Inferred.Gone → LosesWritten V.View view.old view.new self.old block new.now) }
-        ensures fetched { IfOk result (λ inferred. inferred ≡ Inferred.Known → (v : Volume)
+        ensures fetched { IfOk result (λ inferred. (moved : Option (List Touch)) → inferred ≡ Inferred.Known moved → (v : Volume)
             → FetchesReread V.View view.old view.new (IsKnownWrite V.View view.old view.new self.old block new.now v) self.old.l self.old.n
             v (slice_set v block new.now) block) }
     {
@@ -331,6 +332,23 @@ impl Inference {
                 Ok(outcome(got))
             }
             None => Ok(Inferred::Gone),
+        }
+    }
+
+    /// Moves the marks of pending blocks after a write of a block, by what the write touched. All else stays.
+    pub fn mark(&mut self, block: u32, moved: &Moved)
+        requires inside { block < self.old.n }
+        ensures stays { self.new ≡ with_pending self.old self.new.pending }
+        ensures stands { (w : Volume) → Follows self.old moved.now w → StandsFor self.new w }
+        ensures pending { (w : Volume)
+            → AreLeft (Follows self.old moved.now w) self.old.l self.old.n w (with_mark self.old.pending block) self.new.pending }
+    {
+        match &moved.touched {
+            Some(watch) => {
+                let own = is_system(self.geometry, block);
+                move_pending(&mut self.pending, &self.claims, watch, block, own);
+            }
+            None => mark_anew(&mut self.pending, &self.claims, self.geometry, block),
         }
     }
 
@@ -355,10 +373,13 @@ fn accepted(found: Result<Geometry, BadSuper>) -> Option<Geometry>
     }
 }
 
-/// What became of an inference, by whether each block that had to be read could be.
-fn outcome(got: bool) -> Inferred
-    ensures known { result ≡ Inferred.Known → got ≡ true }
-    ensures gone { result ≡ Inferred.Gone → got ≡ false }
+/// What became of an inference, by what was touched where each block that had to be read could be.
+fn outcome(got: Option<Moved>) -> Inferred
+    ensures known { (moved : Option (List Touch)) → result ≡ Inferred.Known moved → got ≡ Some moved }
+    ensures gone { result ≡ Inferred.Gone → got ≡ None }
 {
-    if got { Inferred::Known } else { Inferred::Gone }
+    match got {
+        Some(moved) => Inferred::Known(moved),
+        None => Inferred::Gone,
+    }
 }

@@ -22,5 +22,5 @@ mod verdicts;
 mod watches;
 mod writes;
 
-pub use crate::inferences::{Inference, Inferred};
+pub use crate::inferences::{Inference, Inferred, Moved};
 pub use ufs_model::{ClaimSource, Geometry};

@@ -54,7 +54,7 @@ fn blank(alloc: Global) -> Result<Array, Fail> {
     })
 }
 
-/// A write of a block that the view has, with these bytes now.
+/// A write of a block that the view has, with these bytes now. It answers whether each block that had to be read could be.
 fn take<V: View>(
     alloc: Global,
     inference: &mut Inference,
@@ -62,7 +62,7 @@ fn take<V: View>(
     levels: &mut Levels,
     block: u32,
     bytes: &[u8],
-) -> Result<Inferred, Fail>
+) -> Result<bool, Fail>
     requires { V.is_sound view.old }
 {
     let (l, n) = view.shape();
@@ -72,20 +72,26 @@ fn take<V: View>(
     if levels.fragment_bytes() != l || block >= n || bytes.len() != l as usize {
         return Err("bytes".into());
     }
-    match inference.written(alloc, view, levels, block, bytes) {
-        Ok(inferred) => Ok(inferred),
-        Err(_) => Err("memory".into()),
+    let Ok(inferred) = inference.written(alloc, view, levels, block, bytes) else {
+        return Err("memory".into());
+    };
+    match inferred {
+        Inferred::Known(moved) => {
+            inference.mark(block, &moved);
+            Ok(true)
+        }
+        Inferred::Gone => Ok(false),
     }
 }
 
-/// Writes a block as it is in another image, on an array some of whose blocks are gone.
+/// Writes a block as it is in another image, on an array some of whose blocks are gone, with the same answer.
 fn write_with(
     alloc: Global,
     array: &mut Array,
     from: &[u8],
     block: u32,
     losses: Vec<Loss>,
-) -> Result<Inferred, Fail> {
+) -> Result<bool, Fail> {
     if block >= BLOCKS || from.len() != 131072 || array.image.len() != 131072 {
         return Err("block".into());
     }
@@ -109,10 +115,10 @@ fn write_with(
 
 /// Writes a block as it is in another image.
 fn write(alloc: Global, array: &mut Array, from: &[u8], block: u32) -> Result<(), Fail> {
-    match write_with(alloc, array, from, block, Vec::new(alloc))? {
-        Inferred::Known => Ok(()),
-        Inferred::Gone => Err("gone".into()),
+    if !write_with(alloc, array, from, block, Vec::new(alloc))? {
+        return Err("gone".into());
     }
+    Ok(())
 }
 
 /// Writes some blocks in their order.
@@ -330,10 +336,7 @@ fn a_block_that_is_gone(rt: HostRuntime) -> Result<(), Fail> {
         block: 84,
         fetch: 0,
     })?;
-    assert_eq!(rt;
-        write_with(alloc, &mut array, &image, 28, losses)?,
-        Inferred::Gone
-    );
+    assert!(rt; !write_with(alloc, &mut array, &image, 28, losses)?);
     let marks = array.inference.into_marks();
     assert_eq!(rt; (marks.get(83), marks.get(84)), (Some(&false), Some(&true)));
     Ok(())

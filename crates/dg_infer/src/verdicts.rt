@@ -5,12 +5,14 @@ ghost use Rattle.dg_model.specs.Blocks.{zeros};
 ghost use Rattle.dg_model.specs.Marks.{IsDead, IsPlain, IsSpecial, IsVerdict, is_marked};
 ghost use Rattle.dg_model.specs.Tables.{Table};
 ghost use Rattle.dg_model.specs.Wants.{IsWant};
+ghost use Rattle.dg_model.specs.declared.wants.Want.TheVariants.{Stray};
 ghost use Rattle.ufs_model.specs.Blocks.{Volume};
 ghost use Rattle.ufs_model.specs.Geometries.{IsGeometry};
 ghost use Rattle.ufs_model.specs.declared.inodes.Kind.TheVariants.{Regular};
 ghost use Rattle.dg_infer.specs.Fits.{FitsTable};
 ghost use Rattle.dg_infer.specs.Known.{IsDataBy, role_by, verdict_by};
 ghost use Rattle.dg_infer.specs.Meanings.{StandsFor, kind_at};
+ghost use Rattle.dg_infer.specs.Wants.{IsWantBy};
 
 use crate::chains::{Chain, chain_of};
 use crate::inferences::Inference;
@@ -88,8 +90,10 @@ impl Inference {
     /// Whether a block is dead, which is written or isn't.
     pub fn dead(&self, written: bool, block: u32) -> bool
         requires { block < self.now.n }
-        ensures { (table : Table) (v : Volume) → FitsTable self.now table block written → StandsFor self.now v
+        ensures is { (table : Table) (v : Volume) → FitsTable self.now table block written → StandsFor self.now v
             → Decides result (IsDead table v self.now.pending block) }
+        ensures mark { result ≡ true → is_marked self.now.pending block ≡ false }
+        ensures stray { result ≡ true → IsWantBy self.now block Stray }
     {
         if !written {
             return false;
@@ -163,7 +167,8 @@ impl Inference {
 
     /// What a block is to the plan.
     pub fn want(&self, block: u32) -> Want
-        ensures { (v : Volume) → StandsFor self.now v → IsWant self.now.l self.now.n v block result }
+        ensures is { (v : Volume) → StandsFor self.now v → IsWant self.now.l self.now.n v block result }
+        ensures by { IsWantBy self.now block result }
     {
         if is_system(self.geometry, block) {
             return Want::Kept;

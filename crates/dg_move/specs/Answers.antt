@@ -1,5 +1,5 @@
 -- What a call that moves blocks answers.
-use Rattle.std.specs.Prelude.{◌≡◌, ◌⊎◌, ◌++◌, ℕ, Bool, true, false, List, ◌∷◌, Some, min}
+use Rattle.std.specs.Prelude.{◌≡◌, ◌⊎◌, ◌+◌, ◌++◌, ℕ, Bool, true, false, List, ◌∷◌, Some, min}
 use Rattle.dg_model.specs.Members.{is_lost}
 use Rattle.dg_model.specs.Moves.{Action, IsAtTargets, IsCutOff, copy_to, give_ups, missing_in, moved}
 use Rattle.dg_model.specs.Sites.{is_gone}
@@ -15,6 +15,7 @@ use Rattle.dg_move.specs.declared.tends.TendAnswer.TheVariants.{Tended, Lost}
 pub record IsTended (targets : ℕ → ℕ → Bool) (limit : ℕ) (old new : Table) (m l : ℕ) : Type 0 where
   pub table : new ≡ moved targets (Some limit) old
   pub met : m ≡ min limit (missing_in targets old)
+  pub whole : m + l ≡ missing_in targets old
   pub left : l ≡ missing_in targets new
   pub placed : l ≡ 0 → IsAtTargets targets new
 

@@ -1,5 +1,5 @@
 -- Lines that are served break off.
-use Rattle.std.proofs.Common.{◌≡◌, ◌≤◌, ◌-◌, ◌^◌, ℕ, List, [], ◌∷◌, ◌++◌, length, take, true, sym, ◌∙◌, ap, subst, arith, append_assoc, length-append}
+use Rattle.std.proofs.Common.{◌≡◌, ◌≤◌, ◌-◌, ◌^◌, ℕ, List, [], ◌∷◌, ◌++◌, length, take, true, sym, ◌∙◌, ap, subst, arith, append_assoc, length-append, inl, inr}
 use Rattle.std.specs.Prelude.{Option, Some, None}
 use Rattle.std.specs.Option.{option_map}
 use Rattle.std.proofs.lemmas.List.{append-nil}
@@ -11,18 +11,18 @@ use Rattle.dg_model.proofs.KnownLaws.{run_less}
 use Rattle.dg_model.specs.States.{State}
 use Rattle.dg_model.specs.declared.shapes.Shape.{Shape}
 use Rattle.dg_model.specs.declared.events.Event.{Event}
-use Rattle.dg_store.specs.declared.store.Store.{Store}
-use Rattle.dg_store.specs.Stores.{rack_of, shape_of}
+use Rattle.dg_run.specs.declared.arrays.Array.{Array}
+use Rattle.dg_run.specs.Steps.{WantedFor, rack_of, shape_of}
 use Rattle.dg_text.specs.Lines.{line_of, input_of, IsInPlace}
 use Rattle.dg_text.specs.Replies.{reply_line, output_of}
-use Rattle.dg_run.specs.Endings.{GaveLines, StartsWith, TookUpTo, LinesBrokeOff, LinesCut, LinesRanOut, ServedLinePart}
+use Rattle.dg_run.specs.Endings.{GaveLines, StartsWith, TookUpTo, LinesBrokeOff, LinesCut, LinesRanOut, RanOutAt, ServedLinePart, WantedLine}
 use Rattle.dg_run.specs.Events.{Begins}
 use Rattle.dg_run.specs.Lines.{BeginsAll}
 use Rattle.dg_run.specs.Served.{is_served}
 use Rattle.dg_run.proofs.Inputs.{All-one}
-use Rattle.dg_run.proofs.Runs.{SoFar, runs_more}
-use Rattle.dg_run.proofs.StoreSteps.{told_before}
-use Rattle.dg_run.proofs.ToldSteps.{Told-then}
+use Rattle.dg_run.proofs.Runs.{SoFar, output_more, volume_runs_more}
+use Rattle.dg_run.proofs.ArraySteps.{told_before}
+use Rattle.dg_run.proofs.ToldSteps.{Told-then, any_left}
 
 -- the line of an event was taken, and the source has so much left
 pub starts_left : (shape : Option Shape) (event : Event) (unread : List ℕ) (x y : Option (List ℕ)) → Told (Begins shape event) x (option_map (λ more. unread ++ more) y) → Told (StartsWith (line_of event)) x y
@@ -33,8 +33,18 @@ starts_left shape event unread (Some a) (Some b) told = record { more = unread +
 more_lines : (es : List Event) (e : Event) → input_of (es ++ e ∷ []) ≡ input_of es ++ line_of e
 more_lines es e = flat_map-append line_of es (e ∷ []) ∙ ap (λ (l : List ℕ). input_of es ++ l) (append-nil (line_of e))
 
+-- one line more of those that a text begins with
+starts_more : (shape : Option Shape) (es : List Event) (e : Event) (x y z : Option (List ℕ)) → Told (BeginsAll shape es) x y → Told (StartsWith (line_of e)) y z
+    → Told (StartsWith (input_of (es ++ e ∷ []))) x z
+starts_more shape es e x y z first second = Told-then (BeginsAll shape es) (StartsWith (line_of e)) (StartsWith (input_of (es ++ e ∷ [])))
+    (λ p q o f s. record {
+      more = s.more;
+      split = f.lines ∙ ap (λ (l : List ℕ). input_of es ++ l) s.split ∙ sym (append_assoc (input_of es) (line_of e) s.more)
+          ∙ ap (λ (l : List ℕ). l ++ s.more) (sym (more_lines es e));
+    }) x y z first second
+
 module _ {R : Type 0} (rack : Ghosts R) where
-  broke_off : (shape : Shape) (first passed number : ℕ) (x y z t u : Option (List ℕ)) (a b : Store R) → passed ≤ 2 ^ 40 → SoFar rack shape first passed number x y t u a b
+  broke_off : (shape : Shape) (first passed number : ℕ) (x y z t u : Option (List ℕ)) (a b : Array R) → passed ≤ 2 ^ 40 → SoFar rack shape first passed number x y t u a b
       → Told (GaveLines []) y z → LinesBrokeOff rack [] shape first x z t u a b
   broke_off shape first passed number x y z t u a b budget was told = record {
     events = was.events;
@@ -48,13 +58,13 @@ module _ {R : Type 0} (rack : Ghosts R) where
     output = was.served.output;
   }
 
-  pub lines_broke_off : (shape : Shape) (first passed number : ℕ) (x y z t u v : Option (List ℕ)) (a b c : Store R) → passed ≤ 2 ^ 40 → SoFar rack shape first passed number x y t u a b
+  pub lines_broke_off : (shape : Shape) (first passed number : ℕ) (x y z t u v : Option (List ℕ)) (a b c : Array R) → passed ≤ 2 ^ 40 → SoFar rack shape first passed number x y t u a b
       → Told (GaveLines []) y z → v ≡ u → c ≡ b → LinesBrokeOff rack [] shape first x z t v a c
   lines_broke_off shape first passed number x y z t u v a b c budget was told same kept =
       subst (λ (o : Option (List ℕ)). LinesBrokeOff rack [] shape first x z t o a c) (sym same)
-      (subst (λ (s : Store R). LinesBrokeOff rack [] shape first x z t u a s) (sym kept) (broke_off shape first passed number x y z t u a b budget was told))
+      (subst (λ (s : Array R). LinesBrokeOff rack [] shape first x z t u a s) (sym kept) (broke_off shape first passed number x y z t u a b budget was told))
 
-  pub lines_cut : (shape : Shape) (first passed number : ℕ) (x y z t u v : Option (List ℕ)) (a b c : Store R) → passed ≤ 2 ^ 40 → SoFar rack shape first passed number x y t u a b
+  pub lines_cut : (shape : Shape) (first passed number : ℕ) (x y z t u v : Option (List ℕ)) (a b c : Array R) → passed ≤ 2 ^ 40 → SoFar rack shape first passed number x y t u a b
       → ServedLinePart rack shape (2 ^ 40 - passed) y z u v b c → shape_of c ≡ shape_of b → StillTold (rack.bytes (rack_of b)) (rack.bytes (rack_of c)) → LinesCut rack [] shape first x z t v a c
   lines_cut shape first passed number x y z t u v a b c budget was line same tells =
       let es = was.events in
@@ -69,24 +79,19 @@ module _ {R : Type 0} (rack : Ghosts R) where
         in_place = All-append (IsInPlace (Some shape)) es (e ∷ []) was.served.in_place (All-one (IsInPlace (Some shape)) e line.in_place);
         done = All-append (λ (event : Event). is_served event ≡ true) es (e ∷ []) was.served.done (All-one (λ (event : Event). is_served event ≡ true) e line.done);
         budget = omega (arith, size, length-append (input_of es) (line_of e), was.passed_is, line.within);
-        runs = runs_more rack a b c es rs e r was.served.runs line.answered.steps same tells;
-        input = Told-then (BeginsAll (Some shape) es) (StartsWith (line_of e)) (StartsWith (input_of (es ++ e ∷ [])))
-            (λ p q o f s. record {
-              more = s.more;
-              split = f.lines ∙ ap (λ (l : List ℕ). input_of es ++ l) s.split ∙ sym (append_assoc (input_of es) (line_of e) s.more)
-                  ∙ ap (λ (l : List ℕ). l ++ s.more) (sym (more_lines es e));
-            }) x y z was.served.input line.input;
+        runs = volume_runs_more rack a b c es rs e r was.served.runs line.answered.steps same tells;
+        input = starts_more (Some shape) es e x y z was.served.input line.input;
         output = Told-then (Took (output_of rs)) (TookPart (reply_line r)) (TookUpTo (output_of rs) (reply_line r))
             (λ p q o f s. record { n = s.0; is = s.1 ∙ ap (λ (l : List ℕ). l ++ take s.0 (reply_line r)) f ∙ append_assoc p (output_of rs) (take s.0 (reply_line r)) })
             t u v was.served.output line.answered.output;
       }
 
-  pub lines_cut_at : (shape here : Shape) (first passed number : ℕ) (x y z t u v : Option (List ℕ)) (a b c : Store R) → passed ≤ 2 ^ 40 → SoFar rack shape first passed number x y t u a b → here ≡ shape
+  pub lines_cut_at : (shape here : Shape) (first passed number : ℕ) (x y z t u v : Option (List ℕ)) (a b c : Array R) → passed ≤ 2 ^ 40 → SoFar rack shape first passed number x y t u a b → here ≡ shape
       → ServedLinePart rack here (2 ^ 40 - passed) y z u v b c → shape_of c ≡ shape_of b → StillTold (rack.bytes (rack_of b)) (rack.bytes (rack_of c)) → LinesCut rack [] shape first x z t v a c
   lines_cut_at shape here first passed number x y z t u v a b c budget was is line same tells =
       lines_cut shape first passed number x y z t u v a b c budget was (subst (λ (s : Shape). ServedLinePart rack s (2 ^ 40 - passed) y z u v b c) is line) same tells
 
-  pub lines_ran_out : (shape : Shape) (first passed number : ℕ) (x y z t u v : Option (List ℕ)) (a b c : Store R) → passed ≤ 2 ^ 40 → SoFar rack shape first passed number x y t u a b
+  lines_ran_out : (shape : Shape) (first passed number : ℕ) (x y z t u v : Option (List ℕ)) (a b c : Array R) → passed ≤ 2 ^ 40 → SoFar rack shape first passed number x y t u a b
       → Told AreAny y z → v ≡ u → shape_of c ≡ shape_of b → StillTold (rack.bytes (rack_of b)) (rack.bytes (rack_of c)) → LinesRanOut rack [] shape first x z t v a c
   lines_ran_out shape first passed number x y z t u v a b c budget was told kept same tells = record {
     events = was.events;
@@ -97,16 +102,60 @@ module _ {R : Type 0} (rack : Ghosts R) where
     runs = λ state st.
         let one = was.served.runs state st in (
           one.0,
-          ap (λ (s : State). s.table.shape) one.1.is ∙ sym same,
+          ap (λ (s : State). s.table.shape) one.1.volume.is ∙ sym same,
           run_less (told_before rack b c same tells) state was.events was.served.replies one.0 one.2,
         );
     input = Told-then (BeginsAll (Some shape) was.events) AreAny (StartsWith (input_of was.events)) (λ p q o f s. record { more = q; split = f.lines }) x y z was.served.input told;
     output = subst (λ (o : Option (List ℕ)). Told (Took (output_of was.served.replies)) t o) (sym kept) was.served.output;
   }
 
+  -- the reply of the last line was written whole
+  ran_out_behind_reply : (shape : Shape) (first passed number : ℕ) (x y z t u v : Option (List ℕ)) (a b c : Array R) → passed ≤ 2 ^ 40 → SoFar rack shape first passed number x y t u a b
+      → WantedLine rack shape (2 ^ 40 - passed) y z u v b c → shape_of c ≡ shape_of b → StillTold (rack.bytes (rack_of b)) (rack.bytes (rack_of c)) → LinesRanOut rack [] shape first x z t v a c
+  ran_out_behind_reply shape first passed number x y z t u v a b c budget was line same tells =
+      let es = was.events in
+      let e = line.event in
+      let rs = was.served.replies in
+      let r = line.answered.reply in
+      let runs = volume_runs_more rack a b c es rs e r was.served.runs line.answered.steps same tells in
+      let size = ap length (more_lines es e) in
+      record {
+        events = es ++ e ∷ [];
+        replies = rs ++ r ∷ [];
+        in_place = All-append (IsInPlace (Some shape)) es (e ∷ []) was.served.in_place (All-one (IsInPlace (Some shape)) e line.in_place);
+        done = All-append (λ (event : Event). is_served event ≡ true) es (e ∷ []) was.served.done (All-one (λ (event : Event). is_served event ≡ true) e line.done);
+        budget = omega (arith, size, length-append (input_of es) (line_of e), was.passed_is, line.within);
+        runs = λ state st.
+            let one = runs state st in
+            (one.0, ap (λ (s : State). s.table.shape) one.1.is, one.2);
+        input = starts_more (Some shape) es e x y z was.served.input line.input;
+        output = output_more rack rs r t u v was.served.output line.answered.output;
+      }
+
+  pub lines_ran_out_at : (shape here : Shape) (first passed number : ℕ) (x y z t u v : Option (List ℕ)) (a b c : Array R) → passed ≤ 2 ^ 40 → SoFar rack shape first passed number x y t u a b → here ≡ shape
+      → RanOutAt rack here (2 ^ 40 - passed) y z u v b c → shape_of c ≡ shape_of b → StillTold (rack.bytes (rack_of b)) (rack.bytes (rack_of c)) → LinesRanOut rack [] shape first x z t v a c
+  lines_ran_out_at shape here first passed number x y z t u v a b c budget was is (inl none) same tells =
+      lines_ran_out shape first passed number x y z t u v a b c budget was none.0 none.1 same tells
+  lines_ran_out_at shape here first passed number x y z t u v a b c budget was is (inr line) same tells =
+      ran_out_behind_reply shape first passed number x y z t u v a b c budget was (subst (λ (s : Shape). WantedLine rack s (2 ^ 40 - passed) y z u v b c) is line) same tells
+
+  -- memory was wanting for the event of a line that was taken
+  pub ran_out_of : (shape : Shape) (room : ℕ) (event : Event) (unread : List ℕ) (left rest taken given : Option (List ℕ)) (old now : Array R) → IsInPlace (Some shape) event → is_served event ≡ true
+      → length (line_of event) ≤ room → Told (Begins (Some shape) event) left (option_map (λ more. unread ++ more) rest) → WantedFor rack event taken given old now
+      → RanOutAt rack shape room left rest taken given old now
+  ran_out_of shape room event unread left rest taken given old now place served within told (inl same) = inl (any_left (Begins (Some shape) event) unread left rest told, same)
+  ran_out_of shape room event unread left rest taken given old now place served within told (inr answered) = inr (record {
+    event = event;
+    in_place = place;
+    done = served;
+    within = within;
+    input = starts_left (Some shape) event unread left rest told;
+    answered = answered;
+  })
+
   -- ---- behind what was written before
 
-  pub broke_off_behind : (front : List ℕ) (shape : Shape) (first : ℕ) (x z t m v : Option (List ℕ)) (a b : Store R) → Told (Took front) t m → LinesBrokeOff rack [] shape first x z m v a b → LinesBrokeOff rack front shape first x z t v a b
+  pub broke_off_behind : (front : List ℕ) (shape : Shape) (first : ℕ) (x z t m v : Option (List ℕ)) (a b : Array R) → Told (Took front) t m → LinesBrokeOff rack [] shape first x z m v a b → LinesBrokeOff rack front shape first x z t v a b
   broke_off_behind front shape first x z t m v a b wrote lines = record {
     events = lines.events;
     replies = lines.replies;
@@ -119,7 +168,7 @@ module _ {R : Type 0} (rack : Ghosts R) where
         (λ p q o f s. s ∙ ap (λ (l : List ℕ). l ++ output_of lines.replies) f ∙ append_assoc p front (output_of lines.replies)) t m v wrote lines.output;
   }
 
-  pub cut_behind : (front : List ℕ) (shape : Shape) (first : ℕ) (x z t m v : Option (List ℕ)) (a b : Store R) → Told (Took front) t m → LinesCut rack [] shape first x z m v a b → LinesCut rack front shape first x z t v a b
+  pub cut_behind : (front : List ℕ) (shape : Shape) (first : ℕ) (x z t m v : Option (List ℕ)) (a b : Array R) → Told (Took front) t m → LinesCut rack [] shape first x z m v a b → LinesCut rack front shape first x z t v a b
   cut_behind front shape first x z t m v a b wrote lines =
       let out = output_of lines.replies in
       record {
@@ -139,7 +188,7 @@ module _ {R : Type 0} (rack : Ghosts R) where
             }) t m v wrote lines.output;
       }
 
-  pub ran_out_behind : (front : List ℕ) (shape : Shape) (first : ℕ) (x z t m v : Option (List ℕ)) (a b : Store R) → Told (Took front) t m → LinesRanOut rack [] shape first x z m v a b → LinesRanOut rack front shape first x z t v a b
+  pub ran_out_behind : (front : List ℕ) (shape : Shape) (first : ℕ) (x z t m v : Option (List ℕ)) (a b : Array R) → Told (Took front) t m → LinesRanOut rack [] shape first x z m v a b → LinesRanOut rack front shape first x z t v a b
   ran_out_behind front shape first x z t m v a b wrote lines = record {
     events = lines.events;
     replies = lines.replies;

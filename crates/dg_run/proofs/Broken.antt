@@ -10,11 +10,9 @@ use Rattle.dg_model.specs.Shapes.{IsShape}
 use Rattle.dg_model.specs.States.{Counts}
 use Rattle.dg_model.specs.declared.shapes.Shape.{Shape}
 use Rattle.dg_model.specs.declared.events.Event.{Event}
-use Rattle.dg_model.specs.declared.events.Event.TheVariants.{Array}
+use Rattle.dg_model.specs.declared.events.Event.TheVariants.{Array as MakeArray}
 use Rattle.dg_model.specs.declared.replies.Reply.TheVariants.{Done}
-use Rattle.dg_store.specs.Answers.{IsBlankStore}
-use Rattle.dg_store.specs.declared.store.Store.{Store}
-use Rattle.dg_store.specs.Stores.{TellsAll, rack_of, shape_of}
+use Rattle.dg_run.specs.declared.arrays.Array.{Array}
 use Rattle.dg_text.specs.Lines.{line_of, input_of, IsInPlace}
 use Rattle.dg_text.specs.Replies.{reply_line, output_of, refusal}
 use Rattle.dg_words.specs.Commands.{Gives, IsCommand}
@@ -26,18 +24,19 @@ use Rattle.dg_run.specs.Arrays.{AnsweredToPart, ArrayCut, ArrayRanOut}
 use Rattle.dg_run.specs.Endings.{GaveLines, LinesBrokeOff, LinesCut, StartsWith, TookUpTo}
 use Rattle.dg_run.specs.Events.{Begins}
 use Rattle.dg_run.specs.Replays.{BrokeOff, CutRefusal, CutReply, IsCut, IsReplay, RanOut, StopsAt, TellsBoundaries}
-use Rattle.dg_run.specs.Stores.{RunsTo}
+use Rattle.dg_run.specs.Steps.{IsBlankArray, Tells, VolumeRunsTo, rack_of, shape_of}
+use Rattle.dg_run.proofs.Runs.{volume_runs}
 use Rattle.dg_run.proofs.ToldSteps.{Told-each, Told-refl, Told-then}
-use Rattle.dg_run.proofs.Whole.{array_served, cut_input, ran_nothing, ran_of, rest_told, same_shape, start, start_blank, start_in, stops_text, took_first}
+use Rattle.dg_run.proofs.Whole.{array_served, cut_input, ran_nothing, ran_of, rest_told, same_shape, stops_text, took_first}
 
 any_starts : (left rest : Option (List ℕ)) → Told AreAny left rest → Told (StartsWith []) left rest
 any_starts left rest told = Told-each AreAny (StartsWith []) (λ p q any. record { more = p; split = refl }) left rest told
 
-starts_more : (shape : Shape) (events : List Event) (text left rest : Option (List ℕ)) → Told (Begins None (Array shape)) text left → Told (StartsWith (input_of events)) left rest
-    → Told (StartsWith (input_of (Array shape ∷ events))) text rest
-starts_more shape events text left rest line told = Told-then (Begins None (Array shape)) (StartsWith (input_of events)) (StartsWith (input_of (Array shape ∷ events))) (λ p q r f s. record {
+starts_more : (shape : Shape) (events : List Event) (text left rest : Option (List ℕ)) → Told (Begins None (MakeArray shape)) text left → Told (StartsWith (input_of events)) left rest
+    → Told (StartsWith (input_of (MakeArray shape ∷ events))) text rest
+starts_more shape events text left rest line told = Told-then (Begins None (MakeArray shape)) (StartsWith (input_of events)) (StartsWith (input_of (MakeArray shape ∷ events))) (λ p q r f s. record {
   more = s.more;
-  split = f.line ∙ ap (λ (l : List ℕ). line_of (Array shape) ++ l) s.split ∙ sym (append_assoc (line_of (Array shape)) (input_of events) s.more);
+  split = f.line ∙ ap (λ (l : List ℕ). line_of (MakeArray shape) ++ l) s.split ∙ sym (append_assoc (line_of (MakeArray shape)) (input_of events) s.more);
 }) text left rest line told
 
 -- a text was written, and then a part of another
@@ -75,29 +74,29 @@ broke_off_first now bytes x z t v told same = record {
 
 -- ---- behind a first line that made the array
 
-module _ {R : Type 0} (ghosts : Ghosts R) (shape : Shape) (first : ℕ) (rack : R) (a b : Store R) (is : first ≡ length (line_of (Array shape))) (well : IsShape shape)
-    (blank : IsBlankStore ghosts shape rack a) where
-  pub array_broke_off : (text left rest taken given : Option (List ℕ)) → Told (Begins None (Array shape)) text left → LinesBrokeOff ghosts (reply_line Done) (shape_of a) first left rest taken given a b
+module _ {R : Type 0} (ghosts : Ghosts R) (shape : Shape) (first : ℕ) (rack : R) (a b : Array R) (is : first ≡ length (line_of (MakeArray shape))) (well : IsShape shape)
+    (blank : IsBlankArray ghosts shape rack a) where
+  pub array_broke_off : (text left rest taken given : Option (List ℕ)) → Told (Begins None (MakeArray shape)) text left → LinesBrokeOff ghosts (reply_line Done) (shape_of a) first left rest taken given a b
       → BrokeOff (ghosts.counts rack) (ghosts.counts (rack_of b)) (ghosts.bytes (rack_of b)) text rest taken given
   array_broke_off text left rest taken given line lines = record {
-    events = Array shape ∷ lines.events;
+    events = MakeArray shape ∷ lines.events;
     replies = Done ∷ lines.replies;
-    ran = ran_of ghosts shape first rack a b is well blank lines.events lines.replies lines.runs lines.in_place lines.done lines.budget;
-    input = Told-then (Begins None (Array shape)) (GaveLines (input_of lines.events)) (GaveLines (input_of (Array shape ∷ lines.events))) (λ p q r f s. record {
+    ran = ran_of ghosts shape first rack a b is well blank lines.events lines.replies (volume_runs ghosts a b lines.events lines.replies lines.runs) lines.in_place lines.done lines.budget;
+    input = Told-then (Begins None (MakeArray shape)) (GaveLines (input_of lines.events)) (GaveLines (input_of (MakeArray shape ∷ lines.events))) (λ p q r f s. record {
       part = s.part;
-      split = f.line ∙ ap (λ (l : List ℕ). line_of (Array shape) ++ l) s.split ∙ sym (append_assoc (line_of (Array shape)) (input_of lines.events) (s.part ++ r));
+      split = f.line ∙ ap (λ (l : List ℕ). line_of (MakeArray shape) ++ l) s.split ∙ sym (append_assoc (line_of (MakeArray shape)) (input_of lines.events) (s.part ++ r));
       none = s.none;
     }) text left rest line lines.input;
     output = lines.output;
   }
 
-  no_runs : b ≡ a → RunsTo ghosts a [] [] b
-  no_runs same = subst (λ (s : Store R). RunsTo ghosts a [] [] s) (sym same) (λ state st. (state, st, refl))
+  no_runs : b ≡ a → VolumeRunsTo ghosts a [] [] b
+  no_runs same = subst (λ (s : Array R). VolumeRunsTo ghosts a [] [] s) (sym same) (λ state st. (state, st.volume, refl))
 
-  first_cut : (text left rest taken given : Option (List ℕ)) → first ≤ 2 ^ 40 → Told (Begins None (Array shape)) text left → Told (TookPart (reply_line Done)) taken given → b ≡ a → Told AreAny left rest
+  first_cut : (text left rest taken given : Option (List ℕ)) → first ≤ 2 ^ 40 → Told (Begins None (MakeArray shape)) text left → Told (TookPart (reply_line Done)) taken given → b ≡ a → Told AreAny left rest
       → CutReply (ghosts.counts rack) (ghosts.counts (rack_of b)) (ghosts.bytes (rack_of b)) text rest taken given
   first_cut text left rest taken given small line part same any = record {
-    events = Array shape ∷ [];
+    events = MakeArray shape ∷ [];
     replies = [];
     last = Done;
     ran = ran_of ghosts shape first rack a b is well blank [] [] (no_runs same) (λ k d h. absurd (omega arith)) (λ k d h. absurd (omega arith)) (omega arith);
@@ -105,10 +104,10 @@ module _ {R : Type 0} (ghosts : Ghosts R) (shape : Shape) (first : ℕ) (rack : 
     output = Told-each (TookPart (reply_line Done)) (TookUpTo [] (reply_line Done)) (λ p q s. record { n = s.0; is = s.1 }) taken given part;
   }
 
-  last_cut : (text left rest taken given : Option (List ℕ)) → Told (Begins None (Array shape)) text left → LinesCut ghosts (reply_line Done) (shape_of a) first left rest taken given a b
+  last_cut : (text left rest taken given : Option (List ℕ)) → Told (Begins None (MakeArray shape)) text left → LinesCut ghosts (reply_line Done) (shape_of a) first left rest taken given a b
       → CutReply (ghosts.counts rack) (ghosts.counts (rack_of b)) (ghosts.bytes (rack_of b)) text rest taken given
   last_cut text left rest taken given line lines = record {
-    events = Array shape ∷ lines.events;
+    events = MakeArray shape ∷ lines.events;
     replies = Done ∷ lines.replies;
     last = lines.last;
     ran = ran_of ghosts shape first rack a b is well blank lines.events (lines.replies ++ lines.last ∷ []) lines.runs lines.in_place lines.done lines.budget;
@@ -116,13 +115,13 @@ module _ {R : Type 0} (ghosts : Ghosts R) (shape : Shape) (first : ℕ) (rack : 
     output = lines.output;
   }
 
-  refusal_cut : (unread : List ℕ) (text left rest taken given : Option (List ℕ)) → Told (Begins None (Array shape)) text left → AnsweredToPart ghosts first left (option_map (λ more. unread ++ more) rest) taken given a b
+  refusal_cut : (unread : List ℕ) (text left rest taken given : Option (List ℕ)) → Told (Begins None (MakeArray shape)) text left → AnsweredToPart ghosts first left (option_map (λ more. unread ++ more) rest) taken given a b
       → CutRefusal (ghosts.counts rack) (ghosts.counts (rack_of b)) (ghosts.bytes (rack_of b)) text rest taken given
   refusal_cut unread text left rest taken given line to =
       let s = to.served in
-      let events = Array shape ∷ s.events in
+      let events = MakeArray shape ∷ s.events in
       let ahead = option_map (λ more. unread ++ more) rest in
-      let number : to.number ≡ length (Array shape ∷ s.events) + 1 = omega (arith, s.count) in
+      let number : to.number ≡ length (MakeArray shape ∷ s.events) + 1 = omega (arith, s.count) in
       let cut = cut_input ghosts shape first rack a b is well blank to.number to.kind left ahead to.middle to.before s in
       let stops = stops_text (ghosts.counts rack) (ghosts.counts (rack_of b)) (ghosts.bytes (rack_of b)) shape well s.events to.kind text left ahead line cut in
       let input = Told-each _ (λ p q. (more : List ℕ) × (p ≡ input_of events ++ more) × StopsAt events to.kind more) (λ p q h. (h.0, h.1, h.2)) text ahead stops in
@@ -132,33 +131,33 @@ module _ {R : Type 0} (ghosts : Ghosts R) (shape : Shape) (first : ℕ) (rack : 
         events = events;
         replies = Done ∷ s.served.replies;
         kind = to.kind;
-        ran = ran_of ghosts shape first rack a b is well blank s.events s.served.replies s.served.runs s.served.in_place s.served.done s.budget;
+        ran = ran_of ghosts shape first rack a b is well blank s.events s.served.replies (volume_runs ghosts a b s.events s.served.replies s.served.runs) s.served.in_place s.served.done s.budget;
         input = rest_told (λ p. (more : List ℕ) × (p ≡ input_of events ++ more) × StopsAt events to.kind more) unread text rest input;
         output = up_to (output_of (Done ∷ s.served.replies)) (refusal (length events + 1) to.kind) taken to.before given wrote part;
       }
 
-  pub array_cut : (unread : List ℕ) (text left rest taken given : Option (List ℕ)) → first ≤ 2 ^ 40 → Told (Begins None (Array shape)) text left
+  pub array_cut : (unread : List ℕ) (text left rest taken given : Option (List ℕ)) → first ≤ 2 ^ 40 → Told (Begins None (MakeArray shape)) text left
       → ArrayCut ghosts first left (option_map (λ more. unread ++ more) rest) rest taken given a b → IsCut (ghosts.counts rack) (ghosts.counts (rack_of b)) (ghosts.bytes (rack_of b)) text rest taken given
   array_cut unread text left rest taken given small line (inl at_first) = inl (first_cut text left rest taken given small line at_first.0 at_first.1 at_first.2)
   array_cut unread text left rest taken given small line (inr (inl lines)) = inl (last_cut text left rest taken given line lines)
   array_cut unread text left rest taken given small line (inr (inr to)) = inr (refusal_cut unread text left rest taken given line to)
 
-  pub array_ran_out : (text left rest taken given : Option (List ℕ)) → Told (Begins None (Array shape)) text left → ArrayRanOut ghosts first left rest taken given a b
+  pub array_ran_out : (text left rest taken given : Option (List ℕ)) → Told (Begins None (MakeArray shape)) text left → ArrayRanOut ghosts first left rest taken given a b
       → RanOut (ghosts.counts rack) (ghosts.bytes (rack_of b)) text rest taken given
   array_ran_out text left rest taken given line (inl none) =
-      ran_out_first (ghosts.counts rack) (ghosts.bytes (rack_of b)) text rest taken given (Told-then (Begins None (Array shape)) AreAny AreAny (λ p q r f s. tt) text left rest line none.1) none.0
+      ran_out_first (ghosts.counts rack) (ghosts.bytes (rack_of b)) text rest taken given (Told-then (Begins None (MakeArray shape)) AreAny AreAny (λ p q r f s. tt) text left rest line none.1) none.0
   array_ran_out text left rest taken given line (inr lines) =
-      let W = lines.runs (start ghosts shape first rack a b is well blank) (start_in ghosts shape first rack a b is well blank) in
+      let W = lines.runs blank.state blank.stands in
       let final = W.0 in
-      let known : TellsBoundaries (ghosts.bytes (rack_of b)) final → TellsAll ghosts b = λ told q below. told q (subst (λ (n : ℕ). q / 2 < n) (sym (ap (λ (s : Shape). s.b) W.1)) below) in
+      let known : TellsBoundaries (ghosts.bytes (rack_of b)) final → Tells ghosts b = λ told q below. told q (subst (λ (n : ℕ). q / 2 < n) (sym (ap (λ (s : Shape). s.b) W.1)) below) in
       record {
-        events = Array shape ∷ lines.events;
+        events = MakeArray shape ∷ lines.events;
         replies = Done ∷ lines.replies;
         in_place = (well, subst (λ (s : Shape). All (IsInPlace (Some s)) lines.events) (same_shape ghosts shape first rack a b is well blank) lines.in_place);
         done = array_served shape lines.events lines.done;
-        budget = omega (arith, length-append (line_of (Array shape)) (input_of lines.events), lines.budget, is);
+        budget = omega (arith, length-append (line_of (MakeArray shape)) (input_of lines.events), lines.budget, is);
         final = final;
-        trace = (start ghosts shape first rack a b is well blank, start_blank ghosts shape first rack a b is well blank, run_less known (start ghosts shape first rack a b is well blank) lines.events lines.replies final W.2);
+        trace = (blank.state, blank.blank, run_less known blank.state lines.events lines.replies final W.2);
         input = starts_more shape lines.events text left rest line lines.input;
         output = lines.output;
       }

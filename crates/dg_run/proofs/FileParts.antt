@@ -1,6 +1,6 @@
 -- A part of a file, or of a listing, was written.
 use Rattle.std.proofs.Common.{◌≡◌, ◌≤◌, ◌<◌, ℕ, zero, suc, List, [], ◌∷◌, ◌++◌, length, take, drop, refl, sym, ◌∙◌, ap, subst, arith, append_assoc, take-append-drop, inl, inr}
-use Rattle.std.specs.Prelude.{◌⊎◌, Option, Some, Result, Ok, Err, OnErr, All, codes}
+use Rattle.std.specs.Prelude.{◌⊎◌, Option, All, codes}
 use Rattle.std.specs.Fmt.{decimal}
 use Rattle.std.specs.List.{concat}
 use Rattle.std.proofs.lemmas.List.{append-nil, length-drop}
@@ -10,24 +10,14 @@ use Rattle.dg_io.specs.Told.{Told, Took, TookPart}
 use Rattle.dg_io.specs.declared.outside.Rack.{Ghosts}
 use Rattle.dg_model.specs.Lists.{AreLines}
 use Rattle.dg_model.specs.declared.events.Event.TheVariants.{Cat, Ls}
-use Rattle.dg_model.specs.declared.replies.Reply.{Reply}
-use Rattle.dg_model.specs.declared.replies.Reply.TheVariants.{Given, Listed as ListedReply, Refused, Unavailable as ReplyUnavailable}
-use Rattle.dg_store.specs.declared.store.Store.{Store}
-use Rattle.dg_store.specs.Stores.{shape_of}
+use Rattle.dg_model.specs.declared.replies.Reply.TheVariants.{Given, Listed as ListedReply}
+use Rattle.dg_run.specs.declared.arrays.Array.{Array}
 use Rattle.dg_text.specs.HexLines.{InLines, last_line}
 use Rattle.dg_text.specs.Replies.{bytes_line, entries_text, file_text, reply_line}
-use Rattle.dg_text.specs.ToldSteps.{took_part_after, took_part_of_more}
+use Rattle.dg_text.specs.ToldSteps.{took_both, took_part_after, took_part_of_more}
 use Rattle.ufs_model.specs.Listings.{Listed}
-use Rattle.dg_run.specs.Stores.{AnsweredPart}
+use Rattle.dg_run.specs.Steps.{AnsweredPart, VolumeStepsTo}
 use Rattle.dg_run.proofs.Inputs.{All-head, All-one, All-tail}
-use Rattle.dg_run.specs.Paths.{reply_at}
-use Rattle.dg_run.specs.declared.events.Fault.{Fault}
-use Rattle.dg_run.proofs.Answers.{answered_part}
-use Rattle.dg_run.proofs.PathSteps.{Keeps, Lists, LosesBlock, Reads, cat_lost, cat_refused, given_steps, handed_nothing, has_reply, listed_steps, ls_lost, ls_refused, nothing_by}
-use Rattle.ufs_path.specs.Answers.{IsAnswer}
-use Rattle.ufs_path.specs.Consults.{IsUnanswered}
-use Rattle.ufs_path.specs.declared.faults.CatAnswer.{CatAnswer}
-use Rattle.ufs_path.specs.declared.faults.CatAnswer.TheVariants.{Given as AnswerGiven, Cut as AnswerCut, SinkFault}
 use Rattle.dg_run.proofs.Refusing.{le_or_lt}
 
 abbrev IsFull : ℕ → List ℕ → Type 0
@@ -83,12 +73,13 @@ part_of_file lines more x y told =
     ∙ ap (λ (s : List ℕ). (s ++ w) ++ n) (sym (flat_map-append bytes_line lines more)) in
     subst (λ (s : List ℕ). Told (TookPart s) x y) same (took_part_of_more (file_text lines) ((file_text more ++ w) ++ n) x y told)
 
--- a part of the lines of a listing is a part of its reply
-part_of_listing : (entries : List Listed) (x y : Option (List ℕ)) → Told (TookPart (entries_text entries)) x y → Told (TookPart (reply_line (ListedReply entries))) x y
-part_of_listing entries x y told =
-    let w = codes "end " ++ decimal (length entries) in
+-- a part of the lines of items is a part of their reply
+pub part_of_lines : {A : Type 0} (text word : List ℕ) (items : List A) (x y : Option (List ℕ)) → Told (TookPart text) x y
+    → Told (TookPart ((text ++ (word ++ decimal (length items))) ++ codes "\n")) x y
+part_of_lines text word items x y told =
+    let w = word ++ decimal (length items) in
     let n = codes "\n" in
-    subst (λ (s : List ℕ). Told (TookPart s) x y) (sym (append_assoc (entries_text entries) w n)) (took_part_of_more (entries_text entries) (w ++ n) x y told)
+    subst (λ (s : List ℕ). Told (TookPart s) x y) (sym (append_assoc text w n)) (took_part_of_more text (w ++ n) x y told)
 
 -- lines of items, and a part of the line that ends them with their number, are a part of their reply
 pub part_lines : {A : Type 0} (text word : List ℕ) (items : List A) (n : ℕ) (x y : Option (List ℕ)) → length items ≡ n
@@ -100,53 +91,41 @@ part_lines text word items n x y size told =
     ∙ sym (append_assoc text (word ++ decimal m) (codes "\n") ∙ ap (λ (l : List ℕ). text ++ l) (append_assoc word (decimal m) (codes "\n"))) in
     subst (λ (l : List ℕ). Told (TookPart l) x y) same told
 
+-- Lines of items, and the line that ends them with their number, are their reply. `x` and `y` are what was written before and
+-- after.
+pub told_lines : {A : Type 0} (text word : List ℕ) (items : List A) (n : ℕ) (x y : Option (List ℕ)) → length items ≡ n
+    → Told (Took (text ++ last_line word n)) x y → Told (Took ((text ++ (word ++ decimal (length items))) ++ codes "\n")) x y
+told_lines text word items n x y size told =
+    let m = length items in
+    let same : text ++ last_line word n ≡ (text ++ (word ++ decimal m)) ++ codes "\n" =
+    ap (λ (k : ℕ). text ++ last_line word k) (sym size)
+    ∙ sym (append_assoc text (word ++ decimal m) (codes "\n") ∙ ap (λ (l : List ℕ). text ++ l) (append_assoc word (decimal m) (codes "\n"))) in
+    subst (λ (l : List ℕ). Told (Took l) x y) same told
+
+-- lines, and then the line that ends them
+pub told_end : (text last : List ℕ) (x y z : Option (List ℕ)) → Told (Took text) x y → Told (Took last) y z → Told (Took (text ++ last)) x z
+told_end text last x y z first second = took_both text last x y z first second
+
 -- lines, and then a part of the line that ends them
 pub part_end : (text last : List ℕ) (x y z : Option (List ℕ)) → Told (Took text) x y → Told (TookPart last) y z → Told (TookPart (text ++ last)) x z
 part_end text last x y z first second = took_part_after text last x y z first second
 
 module _ {R : Type 0} (rack : Ghosts R) where
   -- the sink failed at the bytes of a file
-  pub file_part : (path items tail : List ℕ) (lines : List (List ℕ)) (x y : Option (List ℕ)) (a b : Store R) → 0 < (shape_of a).l → Keeps rack a b → Reads rack path a b (Some (Ok items)) → InLines (shape_of a).l items tail lines
+  pub file_part : (l : ℕ) (path items tail : List ℕ) (lines : List (List ℕ)) (x y : Option (List ℕ)) (a b : Array R) → 0 < l → InLines l items tail lines
+      → ((all : List (List ℕ)) → AreLines l all → concat all ≡ items → VolumeStepsTo rack a (Cat path) (Given all) b)
       → Told (TookPart (file_text lines)) x y → AnsweredPart rack (Cat path) x y a b
-  file_part path items tail lines x y a b some keeps reads split told =
-      let l = (shape_of a).l in
+  file_part l path items tail lines x y a b some split gives told =
       let rest = in_lines l (length tail) tail some (omega arith) in
       let all = lines ++ rest.lines in
       let whole : concat all ≡ items = concat-append lines rest.lines ∙ ap (λ (s : List ℕ). concat lines ++ s) rest.whole ∙ sym split.whole in
       record {
         reply = Given all;
-        steps = given_steps rack path all a b keeps (more_are l lines rest.lines some split.full rest.are) (subst (λ (s : List ℕ). Reads rack path a b (Some (Ok s))) (sym whole) reads);
+        steps = gives all (more_are l lines rest.lines some split.full rest.are) whole;
         output = part_of_file lines rest.lines x y told;
       }
 
   -- the sink failed at the entries of a directory
-  pub listing_part : (path : List ℕ) (entries : List Listed) (x y : Option (List ℕ)) (a b : Store R) → Keeps rack a b → Lists rack path a b (Some (Ok entries))
+  pub listing_part : (path : List ℕ) (entries : List Listed) (x y : Option (List ℕ)) (a b : Array R) → VolumeStepsTo rack a (Ls path) (ListedReply entries) b
       → Told (TookPart (entries_text entries)) x y → AnsweredPart rack (Ls path) x y a b
-  listing_part path entries x y a b keeps reads told =
-      record { reply = ListedReply entries; steps = listed_steps rack path entries a b keeps reads; output = part_of_listing entries x y told }
-
-  -- the sink failed where nothing is told of a file
-  pub cat_nothing_part : {S T : Type 0} (took took_part : S → List ℕ → S → Type 0) (faults : S → ℕ) (before after : S) (slice path : List ℕ) (taken given : Option (List ℕ)) (a b : Store R) (result : Result T Fault) (fault : Fault) (answer : CatAnswer)
-      → ((n : ℕ) → answer ≡ AnswerGiven n → ⊥) → ((n : ℕ) → answer ≡ AnswerCut n → ⊥) → (answer ≡ SinkFault → ⊥)
-      → slice ≡ path → Keeps rack a b → (IsUnanswered answer → LosesBlock rack b) → IsAnswer took took_part faults before after (Reads rack slice a b) answer → result ≡ Err fault
-      → (after ≡ before → (reply : Reply) → reply_at answer ≡ Some reply → OnErr result (Told (TookPart (reply_line reply)) taken given)) → AnsweredPart rack (Cat path) taken given a b
-  cat_nothing_part took took_part faults before after slice path taken given a b result fault answer not_given not_cut not_fault is keeps cause rule failed wrote =
-      let some = has_reply answer not_given not_cut not_fault in
-      let same = handed_nothing took took_part faults before after (Reads rack slice a b) answer some rule in
-      nothing_by took took_part faults before after (Reads rack path a b) (λ (r : Reply). OnErr result (Told (TookPart (reply_line r)) taken given)) (LosesBlock rack b) (AnsweredPart rack (Cat path) taken given a b)
-      (λ refusal reads told. answered_part rack (Cat path) (Refused refusal) taken given a b result fault failed (cat_refused rack path refusal a b keeps reads) told)
-      (λ reads gone told. answered_part rack (Cat path) ReplyUnavailable taken given a b result fault failed (cat_lost rack path a b keeps reads gone) told)
-      answer some cause (wrote same) (subst (λ (p : List ℕ). IsAnswer took took_part faults before after (Reads rack p a b) answer) is rule)
-
-  -- the sink failed where nothing is told of a directory
-  pub ls_nothing_part : {S T : Type 0} (took took_part : S → List Listed → S → Type 0) (faults : S → ℕ) (before after : S) (slice path : List ℕ) (taken given : Option (List ℕ)) (a b : Store R) (result : Result T Fault) (fault : Fault) (answer : CatAnswer)
-      → ((n : ℕ) → answer ≡ AnswerGiven n → ⊥) → ((n : ℕ) → answer ≡ AnswerCut n → ⊥) → (answer ≡ SinkFault → ⊥)
-      → slice ≡ path → Keeps rack a b → (IsUnanswered answer → LosesBlock rack b) → IsAnswer took took_part faults before after (Lists rack slice a b) answer → result ≡ Err fault
-      → (after ≡ before → (reply : Reply) → reply_at answer ≡ Some reply → OnErr result (Told (TookPart (reply_line reply)) taken given)) → AnsweredPart rack (Ls path) taken given a b
-  ls_nothing_part took took_part faults before after slice path taken given a b result fault answer not_given not_cut not_fault is keeps cause rule failed wrote =
-      let some = has_reply answer not_given not_cut not_fault in
-      let same = handed_nothing took took_part faults before after (Lists rack slice a b) answer some rule in
-      nothing_by took took_part faults before after (Lists rack path a b) (λ (r : Reply). OnErr result (Told (TookPart (reply_line r)) taken given)) (LosesBlock rack b) (AnsweredPart rack (Ls path) taken given a b)
-      (λ refusal reads told. answered_part rack (Ls path) (Refused refusal) taken given a b result fault failed (ls_refused rack path refusal a b keeps reads) told)
-      (λ reads gone told. answered_part rack (Ls path) ReplyUnavailable taken given a b result fault failed (ls_lost rack path a b keeps reads gone) told)
-      answer some cause (wrote same) (subst (λ (p : List ℕ). IsAnswer took took_part faults before after (Lists rack p a b) answer) is rule)
+  listing_part path entries x y a b steps told = record { reply = ListedReply entries; steps = steps; output = part_of_lines (entries_text entries) (codes "end ") entries x y told }

@@ -11,38 +11,51 @@ use Rattle.dg_model.specs.declared.shapes.Shape.{Shape}
 use Rattle.dg_model.specs.declared.events.Event.{Event}
 use Rattle.dg_model.specs.declared.replies.Reply.{Reply}
 use Rattle.dg_io.specs.Told.{Told, Took, StillTold}
-use Rattle.dg_store.specs.declared.store.Store.{Store}
-use Rattle.dg_store.specs.Stores.{IsSound, TellsAll, rack_of, shape_of}
+use Rattle.dg_run.specs.declared.arrays.Array.{Array}
 use Rattle.dg_text.specs.Lines.{line_of, input_of, IsInPlace}
 use Rattle.dg_text.specs.Replies.{reply_line, output_of}
 use Rattle.dg_text.specs.declared.lines.BadLine.{BadLine}
 use Rattle.dg_run.specs.Events.{IsRefused}
 use Rattle.dg_run.specs.Lines.{BeginsAll, Served, ServedLine, AllServed, ServedTo, Turned, LinesEndAt}
 use Rattle.dg_run.specs.Served.{is_served}
-use Rattle.dg_run.specs.Stores.{StepsTo, RunsTo, GoesOn}
+use Rattle.dg_run.specs.Steps.{GoesOn, IsSound, RunsTo, StepsTo, Tells, VolumeRunsTo, VolumeStepsTo, rack_of, shape_of}
 use Rattle.dg_run.specs.declared.lines.Turn.{Turn}
 use Rattle.dg_run.specs.declared.lines.Turn.TheVariants.{Served as turn_served, End as turn_end, Refused as turn_refused}
 use Rattle.dg_run.specs.declared.lines.LinesEnd.{LinesEnd}
 use Rattle.dg_run.specs.declared.lines.LinesEnd.TheVariants.{Input as input_end, Refused as line_refused}
 use Rattle.dg_run.proofs.Inputs.{All-one, begins_none, begins_more}
-use Rattle.dg_run.proofs.StoreSteps.{told_before}
+use Rattle.dg_run.proofs.ArraySteps.{told_before}
 use Rattle.dg_run.proofs.ToldSteps.{Told-refl, Told-then}
 
 module _ {R : Type 0} (rack : Ghosts R) where
-  pub runs_more : (a b c : Store R) (es : List Event) (rs : List Reply) (e : Event) (r : Reply) → RunsTo rack a es rs b → StepsTo rack b e r c → shape_of c ≡ shape_of b
+  pub runs_more : (a b c : Array R) (es : List Event) (rs : List Reply) (e : Event) (r : Reply) → RunsTo rack a es rs b → StepsTo rack b e r c → shape_of c ≡ shape_of b
       → StillTold (rack.bytes (rack_of b)) (rack.bytes (rack_of c)) → RunsTo rack a (es ++ e ∷ []) (rs ++ r ∷ []) c
   runs_more a b c es rs e r runs steps shape tells state st =
       let one = runs state st in
       let two = steps one.0 one.1 in
       let run = run_less (told_before rack b c shape tells) state es rs one.0 one.2 in
-      (two.0, two.1, run_push (TellsAll rack c) state es rs one.0 e r two.0 run two.2)
+      (two.0, two.1, run_push (Tells rack c) state es rs one.0 e r two.0 run two.2)
 
-  output_more : (rs : List Reply) (r : Reply) (x y z : Option (List ℕ)) → Told (Took (output_of rs)) x y → Told (Took (reply_line r)) y z → Told (Took (output_of (rs ++ r ∷ []))) x z
+  -- the same where nothing is said of the inodes that were read last
+  pub volume_runs_more : (a b c : Array R) (es : List Event) (rs : List Reply) (e : Event) (r : Reply) → RunsTo rack a es rs b → VolumeStepsTo rack b e r c → shape_of c ≡ shape_of b
+      → StillTold (rack.bytes (rack_of b)) (rack.bytes (rack_of c)) → VolumeRunsTo rack a (es ++ e ∷ []) (rs ++ r ∷ []) c
+  volume_runs_more a b c es rs e r runs steps shape tells state st =
+      let one = runs state st in
+      let two = steps one.0 one.1 in
+      let run = run_less (told_before rack b c shape tells) state es rs one.0 one.2 in
+      (two.0, two.1, run_push (Tells rack c) state es rs one.0 e r two.0 run two.2)
+
+  pub volume_runs : (a b : Array R) (es : List Event) (rs : List Reply) → RunsTo rack a es rs b → VolumeRunsTo rack a es rs b
+  volume_runs a b es rs runs state st =
+      let one = runs state st in
+      (one.0, one.1.volume, one.2)
+
+  pub output_more : (rs : List Reply) (r : Reply) (x y z : Option (List ℕ)) → Told (Took (output_of rs)) x y → Told (Took (reply_line r)) y z → Told (Took (output_of (rs ++ r ∷ []))) x z
   output_more rs r x y z p q = Told-then _ _ (Took (output_of (rs ++ r ∷ []))) (λ a b c f s.
       s ∙ ap (λ (l : List ℕ). l ++ reply_line r) f ∙ append_assoc a (output_of rs) (reply_line r)
       ∙ ap (λ (l : List ℕ). a ++ l) (ap (λ (l : List ℕ). output_of rs ++ l) (sym (append-nil (reply_line r))) ∙ sym (flat_map-append reply_line rs (r ∷ [])))) x y z p q
 
-  pub served_none : (shape : Shape) (left taken : Option (List ℕ)) (store : Store R) → Served rack shape [] left left taken taken store store
+  pub served_none : (shape : Shape) (left taken : Option (List ℕ)) (store : Array R) → Served rack shape [] left left taken taken store store
   served_none shape left taken store = record {
     replies = [];
     in_place = λ k d h. absurd (omega arith);
@@ -52,7 +65,7 @@ module _ {R : Type 0} (rack : Ghosts R) where
     runs = λ state st. (state, st, refl);
   }
 
-  pub served_more : (shape : Shape) (room n : ℕ) (es : List Event) (x y z t u v : Option (List ℕ)) (a b c : Store R) → Served rack shape es x y t u a b → (line : ServedLine rack shape room n y z u v b c) → shape_of c ≡ shape_of b → StillTold (rack.bytes (rack_of b)) (rack.bytes (rack_of c)) → Served rack shape (es ++ line.event ∷ []) x z t v a c
+  pub served_more : (shape : Shape) (room n : ℕ) (es : List Event) (x y z t u v : Option (List ℕ)) (a b c : Array R) → Served rack shape es x y t u a b → (line : ServedLine rack shape room n y z u v b c) → shape_of c ≡ shape_of b → StillTold (rack.bytes (rack_of b)) (rack.bytes (rack_of c)) → Served rack shape (es ++ line.event ∷ []) x z t v a c
   served_more shape room n es x y z t u v a b c was line same tells = record {
     replies = was.replies ++ line.answered.reply ∷ [];
     in_place = All-append (IsInPlace (Some shape)) es (line.event ∷ []) was.in_place (All-one (IsInPlace (Some shape)) line.event line.in_place);
@@ -63,17 +76,17 @@ module _ {R : Type 0} (rack : Ghosts R) where
   }
 
 -- lines so far: of so many bytes behind a first line, the next one with this number
-pub record SoFar {R : Type 0} (rack : Ghosts R) (shape : Shape) (first passed number : ℕ) (left rest taken given : Option (List ℕ)) (old new : Store R) : Type 0 where
+pub record SoFar {R : Type 0} (rack : Ghosts R) (shape : Shape) (first passed number : ℕ) (left rest taken given : Option (List ℕ)) (old new : Array R) : Type 0 where
   pub events : List Event
   pub served : Served rack shape events left rest taken given old new
   pub passed_is : passed ≡ first + length (input_of events)
   pub number_is : number ≡ length events + 2
 
 module _ {R : Type 0} (rack : Ghosts R) where
-  pub so_far_none : (shape : Shape) (first : ℕ) (left taken : Option (List ℕ)) (store : Store R) → SoFar rack shape first first 2 left left taken taken store store
+  pub so_far_none : (shape : Shape) (first : ℕ) (left taken : Option (List ℕ)) (store : Array R) → SoFar rack shape first first 2 left left taken taken store store
   so_far_none shape first left taken store = record { events = []; served = served_none rack shape left taken store; passed_is = omega arith; number_is = refl }
 
-  pub so_far_more : (shape : Shape) (first passed number room n : ℕ) (x y z t u v : Option (List ℕ)) (a b c : Store R) → SoFar rack shape first passed number x y t u a b → ServedLine rack shape room n y z u v b c → shape_of c ≡ shape_of b → StillTold (rack.bytes (rack_of b)) (rack.bytes (rack_of c))
+  pub so_far_more : (shape : Shape) (first passed number room n : ℕ) (x y z t u v : Option (List ℕ)) (a b c : Array R) → SoFar rack shape first passed number x y t u a b → ServedLine rack shape room n y z u v b c → shape_of c ≡ shape_of b → StillTold (rack.bytes (rack_of b)) (rack.bytes (rack_of c))
       → SoFar rack shape first (passed + n) (number + 1) x z t v a c
   so_far_more shape first passed number room n x y z t u v a b c was line same tells =
       let text : input_of (was.events ++ line.event ∷ []) ≡ input_of was.events ++ line_of line.event = flat_map-append line_of was.events (line.event ∷ []) ∙ ap (λ (l : List ℕ). input_of was.events ++ l) (append-nil (line_of line.event)) in
@@ -85,13 +98,13 @@ module _ {R : Type 0} (rack : Ghosts R) where
         number_is = omega (arith, length-append was.events (line.event ∷ []), was.number_is);
       }
 
-  pub so_far_next : (shape here : Shape) (first passed number room n : ℕ) (x y z t u v : Option (List ℕ)) (a b c : Store R) → here ≡ shape → SoFar rack shape first passed number x y t u a b → ServedLine rack here room n y z u v b c → shape_of c ≡ shape_of b → StillTold (rack.bytes (rack_of b)) (rack.bytes (rack_of c))
+  pub so_far_next : (shape here : Shape) (first passed number room n : ℕ) (x y z t u v : Option (List ℕ)) (a b c : Array R) → here ≡ shape → SoFar rack shape first passed number x y t u a b → ServedLine rack here room n y z u v b c → shape_of c ≡ shape_of b → StillTold (rack.bytes (rack_of b)) (rack.bytes (rack_of c))
       → SoFar rack shape first (passed + n) (number + 1) x z t v a c
   so_far_next shape here first passed number room n x y z t u v a b c is was line same tells =
       so_far_more shape first passed number room n x y z t u v a b c was (subst (λ (s : Shape). ServedLine rack s room n y z u v b c) is line) same tells
 
   -- the input is at its end
-  pub all_served : (shape : Shape) (first passed number : ℕ) (x y z t u : Option (List ℕ)) (a b : Store R) → passed ≤ 2 ^ 40 → SoFar rack shape first passed number x y t u a b → Told (λ before after. (before ≡ []) × (after ≡ [])) y z → AllServed rack shape first x z t u a b
+  pub all_served : (shape : Shape) (first passed number : ℕ) (x y z t u : Option (List ℕ)) (a b : Array R) → passed ≤ 2 ^ 40 → SoFar rack shape first passed number x y t u a b → Told (λ before after. (before ≡ []) × (after ≡ [])) y z → AllServed rack shape first x z t u a b
   all_served shape first passed number x y z t u a b budget was end = record {
     events = was.events;
     served = record {
@@ -107,7 +120,7 @@ module _ {R : Type 0} (rack : Ghosts R) where
   }
 
   -- the next line is refused
-  pub served_to : (shape : Shape) (first passed number : ℕ) (kind : BadLine) (x y z t u : Option (List ℕ)) (a b : Store R) → passed ≤ 2 ^ 40 → SoFar rack shape first passed number x y t u a b → Told (λ before after. IsRefused (Some shape) (2 ^ 40 - passed) before kind) y z → ServedTo rack shape first number kind x z t u a b
+  pub served_to : (shape : Shape) (first passed number : ℕ) (kind : BadLine) (x y z t u : Option (List ℕ)) (a b : Array R) → passed ≤ 2 ^ 40 → SoFar rack shape first passed number x y t u a b → Told (λ before after. IsRefused (Some shape) (2 ^ 40 - passed) before kind) y z → ServedTo rack shape first number kind x z t u a b
   served_to shape first passed number kind x y z t u a b budget was refused = record {
     events = was.events;
     middle = y;
@@ -119,29 +132,29 @@ module _ {R : Type 0} (rack : Ghosts R) where
 
 -- what a turn did, by its answer
 module _ {R : Type 0} (rack : Ghosts R) where
-  pub turned_end : (room : ℕ) (y z u v : Option (List ℕ)) (b c : Store R) (turn : Turn) → turn ≡ turn_end → Turned rack room y z u v b c turn → Told (λ before after. (before ≡ []) × (after ≡ [])) y z × (v ≡ u) × (c ≡ b)
+  pub turned_end : (room : ℕ) (y z u v : Option (List ℕ)) (b c : Array R) (turn : Turn) → turn ≡ turn_end → Turned rack room y z u v b c turn → Told (λ before after. (before ≡ []) × (after ≡ [])) y z × (v ≡ u) × (c ≡ b)
   turned_end room y z u v b c (turn_served n) is turned = absurd (cc is)
   turned_end room y z u v b c turn_end is turned = turned
   turned_end room y z u v b c (turn_refused kind) is turned = absurd (cc is)
 
-  pub turned_served : (room n : ℕ) (y z u v : Option (List ℕ)) (b c : Store R) (turn : Turn) → turn ≡ turn_served n → Turned rack room y z u v b c turn → ServedLine rack (shape_of b) room n y z u v b c
+  pub turned_served : (room n : ℕ) (y z u v : Option (List ℕ)) (b c : Array R) (turn : Turn) → turn ≡ turn_served n → Turned rack room y z u v b c turn → ServedLine rack (shape_of b) room n y z u v b c
   turned_served room n y z u v b c (turn_served m) is turned = let same : m ≡ n = cc is in subst (λ (k : ℕ). ServedLine rack (shape_of b) room k y z u v b c) same turned
   turned_served room n y z u v b c turn_end is turned = absurd (cc is)
   turned_served room n y z u v b c (turn_refused kind) is turned = absurd (cc is)
 
-  pub lines_end : (shape : Shape) (first passed number room : ℕ) (x y z t u v : Option (List ℕ)) (a b c : Store R) (turn : Turn) → turn ≡ turn_end → Turned rack room y z u v b c turn → passed ≤ 2 ^ 40 → SoFar rack shape first passed number x y t u a b → AllServed rack shape first x z t v a c
+  pub lines_end : (shape : Shape) (first passed number room : ℕ) (x y z t u v : Option (List ℕ)) (a b c : Array R) (turn : Turn) → turn ≡ turn_end → Turned rack room y z u v b c turn → passed ≤ 2 ^ 40 → SoFar rack shape first passed number x y t u a b → AllServed rack shape first x z t v a c
   lines_end shape first passed number room x y z t u v a b c turn is turned budget was =
       let end = turned_end room y z u v b c turn is turned in
       subst (λ (o : Option (List ℕ)). AllServed rack shape first x z t o a c) (sym end.1)
-      (subst (λ (s : Store R). AllServed rack shape first x z t u a s) (sym end.2) (all_served rack shape first passed number x y z t u a b budget was end.0))
+      (subst (λ (s : Array R). AllServed rack shape first x z t u a s) (sym end.2) (all_served rack shape first passed number x y z t u a b budget was end.0))
 
-  pub goes_none : (a : Store R) → IsSound rack a → GoesOn rack a a
-  goes_none a sound = record { sound = sound; shape = refl; tells = λ q h. h; name = refl }
+  pub goes_none : (a : Array R) → IsSound rack a → GoesOn rack a a
+  goes_none a sound = record { well = sound; shape = refl; tells = λ q h. h; same_rack = refl }
 
-  pub goes_then : (a b c : Store R) → GoesOn rack a b → GoesOn rack b c → GoesOn rack a c
-  goes_then a b c first second = record { sound = second.sound; shape = second.shape ∙ first.shape; tells = λ q h. first.tells q (second.tells q h); name = second.name ∙ first.name }
+  pub goes_then : (a b c : Array R) → GoesOn rack a b → GoesOn rack b c → GoesOn rack a c
+  goes_then a b c first second = record { well = second.well; shape = second.shape ∙ first.shape; tells = λ q h. first.tells q (second.tells q h); same_rack = second.same_rack ∙ first.same_rack }
 
-  pub turned_refused : (room : ℕ) (kind : BadLine) (y z u v : Option (List ℕ)) (b c : Store R) (turn : Turn) → turn ≡ turn_refused kind → Turned rack room y z u v b c turn
+  pub turned_refused : (room : ℕ) (kind : BadLine) (y z u v : Option (List ℕ)) (b c : Array R) (turn : Turn) → turn ≡ turn_refused kind → Turned rack room y z u v b c turn
       → Told (λ before after. IsRefused (Some (shape_of b)) room before kind) y z × (v ≡ u) × (c ≡ b)
   turned_refused room kind y z u v b c (turn_served n) is turned = absurd (cc is)
   turned_refused room kind y z u v b c turn_end is turned = absurd (cc is)
@@ -149,19 +162,19 @@ module _ {R : Type 0} (rack : Ghosts R) where
       let same : other ≡ kind = cc is in
       subst (λ (k : BadLine). Told (λ before after. IsRefused (Some (shape_of b)) room before k) y z × (v ≡ u) × (c ≡ b)) same turned
 
-  pub lines_refused : (shape : Shape) (first passed number : ℕ) (kind : BadLine) (x y z t u v : Option (List ℕ)) (a b c : Store R) (turn : Turn) → turn ≡ turn_refused kind → Turned rack (2 ^ 40 - passed) y z u v b c turn
+  pub lines_refused : (shape : Shape) (first passed number : ℕ) (kind : BadLine) (x y z t u v : Option (List ℕ)) (a b c : Array R) (turn : Turn) → turn ≡ turn_refused kind → Turned rack (2 ^ 40 - passed) y z u v b c turn
       → shape_of b ≡ shape → passed ≤ 2 ^ 40 → SoFar rack shape first passed number x y t u a b → ServedTo rack shape first number kind x z t v a c
   lines_refused shape first passed number kind x y z t u v a b c turn is turned same budget was =
       let stop = turned_refused (2 ^ 40 - passed) kind y z u v b c turn is turned in
       let refused = subst (λ (s : Shape). Told (λ before after. IsRefused (Some s) (2 ^ 40 - passed) before kind) y z) same stop.0 in
       subst (λ (o : Option (List ℕ)). ServedTo rack shape first number kind x z t o a c) (sym stop.1)
-      (subst (λ (s : Store R). ServedTo rack shape first number kind x z t u a s) (sym stop.2) (served_to rack shape first passed number kind x y z t u a b budget was refused))
+      (subst (λ (s : Array R). ServedTo rack shape first number kind x z t u a s) (sym stop.2) (served_to rack shape first passed number kind x y z t u a b budget was refused))
 
-  pub ended_input : (first : ℕ) (x z t u : Option (List ℕ)) (a b : Store R) (end : LinesEnd) → end ≡ input_end → LinesEndAt rack first x z t u a b end → AllServed rack (shape_of a) first x z t u a b
+  pub ended_input : (first : ℕ) (x z t u : Option (List ℕ)) (a b : Array R) (end : LinesEnd) → end ≡ input_end → LinesEndAt rack first x z t u a b end → AllServed rack (shape_of a) first x z t u a b
   ended_input first x z t u a b input_end is ended = ended
   ended_input first x z t u a b (line_refused n kind) is ended = absurd (cc is)
 
-  pub ended_line : (first number : ℕ) (kind : BadLine) (x z t u : Option (List ℕ)) (a b : Store R) (end : LinesEnd) → end ≡ line_refused number kind → LinesEndAt rack first x z t u a b end → ServedTo rack (shape_of a) first number kind x z t u a b
+  pub ended_line : (first number : ℕ) (kind : BadLine) (x z t u : Option (List ℕ)) (a b : Array R) (end : LinesEnd) → end ≡ line_refused number kind → LinesEndAt rack first x z t u a b end → ServedTo rack (shape_of a) first number kind x z t u a b
   ended_line first number kind x z t u a b input_end is ended = absurd (cc is)
   ended_line first number kind x z t u a b (line_refused n other) is ended =
       let numbers : n ≡ number = cc is in

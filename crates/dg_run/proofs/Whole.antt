@@ -1,26 +1,22 @@
 -- A whole replay.
-use Rattle.std.proofs.Common.{◌≡◌, ◌≤◌, ◌<◌, ◌+◌, ◌-◌, ◌/◌, ◌^◌, ℕ, List, [], ◌∷◌, ◌++◌, length, replicate, true, refl, sym, ◌∙◌, ap, subst, arith, append_assoc, inl, inr, length-append}
+use Rattle.std.proofs.Common.{◌≡◌, ◌≤◌, ◌<◌, ◌+◌, ◌-◌, ◌/◌, ◌^◌, ℕ, List, [], ◌∷◌, ◌++◌, length, true, refl, sym, ◌∙◌, ap, subst, arith, append_assoc, inl, inr, length-append}
 use Rattle.std.specs.Prelude.{◌⊎◌, Option, Some, None, All, Result, Ok, Err, IfOk, IsSome}
 use Rattle.std.proofs.lemmas.List.{append_cancel_left}
 use Rattle.std.proofs.lemmas.List.Concat.{flat_map-append}
 use Rattle.std.proofs.lemmas.List.Elements.{All-cons}
 use Rattle.dg_model.specs.Shapes.{IsShape}
-use Rattle.dg_model.specs.States.{Counts, Holds, IsBlank, State, plain_state}
-use Rattle.dg_model.specs.Blocks.{zeros}
+use Rattle.dg_model.specs.States.{Counts, Holds, State, plain_state}
 use Rattle.dg_model.proofs.KnownLaws.{run_less}
 use Rattle.dg_io.specs.declared.outside.Rack.{Ghosts}
-use Rattle.dg_store.specs.Answers.{IsBlankStore}
-use Rattle.dg_run.specs.Stores.{RunsTo, StandsIn}
-use Rattle.dg_model.specs.Tables.{Table, empty_table}
+use Rattle.dg_run.specs.Steps.{IsBlankArray, Tells, VolumeRunsTo, rack_of, shape_of}
 use Rattle.dg_model.specs.declared.shapes.Shape.{Shape}
 use Rattle.dg_model.specs.declared.events.Event.{Event}
-use Rattle.dg_model.specs.declared.events.Event.TheVariants.{Array}
+use Rattle.dg_model.specs.declared.events.Event.TheVariants.{Array as MakeArray}
 use Rattle.dg_model.specs.declared.replies.Reply.{Reply}
 use Rattle.dg_model.specs.declared.replies.Reply.TheVariants.{Done}
 use Rattle.dg_model.specs.declared.members.MemberState.TheVariants.{Out}
 use Rattle.dg_io.specs.Told.{Told, Took, TookPart}
-use Rattle.dg_store.specs.declared.store.Store.{Store}
-use Rattle.dg_store.specs.Stores.{TellsAll, members_of, rack_of, shape_of}
+use Rattle.dg_run.specs.declared.arrays.Array.{Array}
 use Rattle.dg_text.specs.Lines.{line_of, input_of, IsInPlace}
 use Rattle.dg_text.specs.Replies.{reply_line, output_of, refusal}
 use Rattle.dg_text.specs.declared.lines.BadLine.{BadLine as Kind}
@@ -35,6 +31,9 @@ use Rattle.dg_run.specs.Replays.{CutRefusal, IsCut, IsInput, IsNoInput, Ran, Rep
 use Rattle.dg_run.specs.Served.{AreServed, is_served}
 use Rattle.dg_run.specs.Arrays.{AllAnswered, AnsweredTo, ArrayReplayed, ArrayStopped, IsCutAt, IsOfReplay}
 use Rattle.dg_run.proofs.Inputs.{All-head, All-right, All-tail, no_line}
+use Rattle.dg_run.proofs.Runs.{volume_runs}
+use Rattle.dg_volume.specs.Volumes.{any_phase}
+use Rattle.dg_volume.specs.Volumes as volumes
 use Rattle.std.specs.Option.{option_map}
 use Rattle.dg_run.proofs.Refusing.{empty_cut}
 use Rattle.dg_run.proofs.ToldSteps.{Told-each, Told-then}
@@ -46,50 +45,34 @@ took_first rs t m v p q = Told-then _ _ (Took (output_of (Done ∷ rs))) (λ a b
 took_last : (text last : List ℕ) (t m v : Option (List ℕ)) → Told (Took text) t m → Told (Took last) m v → Told (Took (text ++ last)) t v
 took_last text last t m v p q = Told-then _ _ (Took (text ++ last)) (λ a b c f s. s ∙ ap (λ (l : List ℕ). l ++ last) f ∙ append_assoc a text last) t m v p q
 
-pub array_served : (shape : Shape) (events : List Event) → AreServed events → AreServed (Array shape ∷ events)
-array_served shape events served = All-cons (λ (event : Event). is_served event ≡ true) (Array shape) events refl served
+pub array_served : (shape : Shape) (events : List Event) → AreServed events → AreServed (MakeArray shape ∷ events)
+array_served shape events served = All-cons (λ (event : Event). is_served event ≡ true) (MakeArray shape) events refl served
 
-module _ {R : Type 0} (ghosts : Ghosts R) (shape : Shape) (first : ℕ) (rack : R) (a b : Store R) (is : first ≡ length (line_of (Array shape))) (well : IsShape shape)
-    (blank : IsBlankStore ghosts shape rack a) where
+module _ {R : Type 0} (ghosts : Ghosts R) (shape : Shape) (first : ℕ) (rack : R) (a b : Array R) (is : first ≡ length (line_of (MakeArray shape))) (well : IsShape shape)
+    (blank : IsBlankArray ghosts shape rack a) where
   pub same_shape : shape_of a ≡ shape
-  same_shape = ap (λ (t : Table). t.shape) blank.table
+  same_shape = blank.shape_is
 
-  -- the state of the blank array
-  pub start : State
-  start = plain_state (empty_table shape) (replicate shape.n (zeros shape.l)) (members_of a) (ghosts.counts (rack_of a))
-
-  pub start_in : StandsIn ghosts a start
-  unfolding start
-  start_in = record {
-    is = λ i. record start { table = sym blank.table i };
-    label = refl;
-    holds = λ told. blank.stands;
-  }
-
-  pub start_blank : IsBlank shape (ghosts.counts rack) start
-  unfolding start
-  start_blank = record { is = refl; others = blank.members.others; members = blank.members.begins; counts = blank.stays.rise }
-
-  pub ran_of : (events : List Event) (replies : List Reply) → RunsTo ghosts a events replies b → All (IsInPlace (Some (shape_of a))) events → AreServed events → first + length (input_of events) ≤ 2 ^ 40
-      → Ran (ghosts.counts rack) (ghosts.counts (rack_of b)) (ghosts.bytes (rack_of b)) (Array shape ∷ events) (Done ∷ replies)
+  pub ran_of : (events : List Event) (replies : List Reply) → VolumeRunsTo ghosts a events replies b → All (IsInPlace (Some (shape_of a))) events → AreServed events → first + length (input_of events) ≤ 2 ^ 40
+      → Ran (ghosts.counts rack) (ghosts.counts (rack_of b)) (ghosts.bytes (rack_of b)) (MakeArray shape ∷ events) (Done ∷ replies)
   ran_of events replies runs placed served budget =
-      let W = runs start start_in in
+      let W = runs blank.state blank.stands in
       let final = W.0 in
-      let stands : StandsIn ghosts b final = W.1 in
-      let known : TellsBoundaries (ghosts.bytes (rack_of b)) final → TellsAll ghosts b = λ told q below. told q (subst (λ (n : ℕ). q / 2 < n) (sym (ap (λ (s : State). s.table.shape.b) stands.is)) below) in
+      let stands : volumes.StandsIn any_phase ghosts b.volume final = W.1 in
+      let known : TellsBoundaries (ghosts.bytes (rack_of b)) final → Tells ghosts b = λ told q below. told q (subst (λ (n : ℕ). q / 2 < n) (sym (ap (λ (s : State). s.table.shape.b) stands.is)) below) in
       record {
         in_place = (well, subst (λ (s : Shape). All (IsInPlace (Some s)) events) same_shape placed);
         done = array_served shape events served;
-        budget = omega (arith, length-append (line_of (Array shape)) (input_of events));
+        budget = omega (arith, length-append (line_of (MakeArray shape)) (input_of events));
         final = final;
-        trace = (start, start_blank, run_less known start events replies final W.2);
-        holds = λ told. subst (λ (s : State). Holds (ghosts.bytes (rack_of b)) s) (sym stands.is) (stands.holds (known told));
+        trace = (blank.state, blank.blank, run_less known blank.state events replies final W.2);
+        holds = λ told. let all = stands.holds (known told) in subst (λ (s : State). Holds (ghosts.bytes (rack_of b)) s) (sym stands.is) all.array;
         counts = ap (λ (s : State). s.counts) stands.is;
       }
 
   ran : (events : List Event) (x z t v : Option (List ℕ)) → (served : Served ghosts (shape_of a) events x z t v a b) → first + length (input_of events) ≤ 2 ^ 40
-      → Ran (ghosts.counts rack) (ghosts.counts (rack_of b)) (ghosts.bytes (rack_of b)) (Array shape ∷ events) (Done ∷ served.replies)
-  ran events x z t v served budget = ran_of events served.replies served.runs served.in_place served.done budget
+      → Ran (ghosts.counts rack) (ghosts.counts (rack_of b)) (ghosts.bytes (rack_of b)) (MakeArray shape ∷ events) (Done ∷ served.replies)
+  ran events x z t v served budget = ran_of events served.replies (volume_runs ghosts a b events served.replies served.runs) served.in_place served.done budget
 
   pub array_replayed : (x z t v : Option (List ℕ)) → AllAnswered ghosts first x z t v a b → ArrayReplayed (ghosts.counts rack) (ghosts.counts (rack_of b)) (ghosts.bytes (rack_of b)) shape x z t v
   array_replayed x z t v all = record {
@@ -102,7 +85,7 @@ module _ {R : Type 0} (ghosts : Ghosts R) (shape : Shape) (first : ℕ) (rack : 
 
   pub cut_input : (number : ℕ) (kind : Kind) (x z t m : Option (List ℕ)) → (s : ServedTo ghosts (shape_of a) first number kind x z t m a b) → Told (λ p q. (text : List ℕ) × IsCutAt shape s.events kind p text) x z
   cut_input number kind x z t m s =
-      let room : 2 ^ 40 - (first + length (input_of s.events)) ≡ 2 ^ 40 - length (input_of (Array shape ∷ s.events)) = ap (λ (n : ℕ). 2 ^ 40 - n) (omega (arith, length-append (line_of (Array shape)) (input_of s.events))) in
+      let room : 2 ^ 40 - (first + length (input_of s.events)) ≡ 2 ^ 40 - length (input_of (MakeArray shape ∷ s.events)) = ap (λ (n : ℕ). 2 ^ 40 - n) (omega (arith, length-append (line_of (MakeArray shape)) (input_of s.events))) in
       Told-then _ _ (λ p q. (text : List ℕ) × IsCutAt shape s.events kind p text) (λ p q r f refused. (
         q,
         record {
@@ -127,53 +110,53 @@ module _ {R : Type 0} (ghosts : Ghosts R) (shape : Shape) (first : ℕ) (rack : 
       }
 
 module _ (before now : Counts) (bytes : ℕ → Option (List ℕ)) (shape : Shape) (well : IsShape shape) where
-  pub replayed : (x y z t v : Option (List ℕ)) → Told (Begins None (Array shape)) x y → ArrayReplayed before now bytes shape y z t v → Replayed before now bytes x z t v
+  pub replayed : (x y z t v : Option (List ℕ)) → Told (Begins None (MakeArray shape)) x y → ArrayReplayed before now bytes shape y z t v → Replayed before now bytes x z t v
   replayed x y z t v line rest = record {
-    events = Array shape ∷ rest.events;
+    events = MakeArray shape ∷ rest.events;
     replies = Done ∷ rest.replies;
     some = λ e. cc e;
     ran = rest.ran;
-    input = Told-then _ _ (λ p r. (p ≡ input_of (Array shape ∷ rest.events)) × (r ≡ [])) (λ p q r f s. (f.line ∙ ap (λ (l : List ℕ). line_of (Array shape) ++ l) s.0, s.1)) x y z line rest.input;
+    input = Told-then _ _ (λ p r. (p ≡ input_of (MakeArray shape ∷ rest.events)) × (r ≡ [])) (λ p q r f s. (f.line ∙ ap (λ (l : List ℕ). line_of (MakeArray shape) ++ l) s.0, s.1)) x y z line rest.input;
     output = rest.output;
   }
 
   -- no event of an input stands where it is cut
   past : (events : List Event) (kind : Kind) (text b : List ℕ) → IsCutAt shape events kind b text → (es more : List Event) → All (IsInPlace (Some shape)) es → AreServed es → es ≡ events ++ more → text ≡ input_of more
-      → length (line_of (Array shape)) + length (input_of es) ≤ 2 ^ 40 → ⊥
+      → length (line_of (MakeArray shape)) + length (input_of es) ≤ 2 ^ 40 → ⊥
   past events kind text b cut es [] placed served split made budget = cut.refused.some made
   past events kind text b cut es (m ∷ ms) placed served split made budget =
       let here : IsInPlace (Some shape) m = All-head (IsInPlace (Some shape)) m ms (All-right (IsInPlace (Some shape)) events (m ∷ ms) (subst (λ (l : List Event). All (IsInPlace (Some shape)) l) split placed)) in
       let done : is_served m ≡ true = All-head (λ (event : Event). is_served event ≡ true) m ms (All-right (λ (event : Event). is_served event ≡ true) events (m ∷ ms) (subst (λ (l : List Event). All (λ event. is_served event ≡ true) l) split served)) in
       let over = cut.refused.none m (input_of ms) here done made in
       let size : length (input_of es) ≡ length (input_of events ++ input_of (m ∷ ms)) = ap (λ (l : List Event). length (input_of l)) split ∙ ap length (flat_map-append line_of events (m ∷ ms)) in
-      absurd (omega (arith, size, over, budget, length-append (input_of events) (input_of (m ∷ ms)), length-append (line_of m) (input_of ms), length-append (line_of (Array shape)) (input_of events)))
+      absurd (omega (arith, size, over, budget, length-append (input_of events) (input_of (m ∷ ms)), length-append (line_of m) (input_of ms), length-append (line_of (MakeArray shape)) (input_of events)))
 
   -- lines of a whole input can't be cut there
-  no_input : (events : List Event) (kind : Kind) (a b text : List ℕ) → Begins None (Array shape) a b → IsCutAt shape events kind b text → IsNoInput a
+  no_input : (events : List Event) (kind : Kind) (a b text : List ℕ) → Begins None (MakeArray shape) a b → IsCutAt shape events kind b text → IsNoInput a
   no_input events kind a b text line cut [] input is = absurd (input.some refl)
-  no_input events kind a b text line cut (Array s ∷ es) input is =
-      let same : Array s ≡ Array shape = line.only (Array s) (input_of es) input.in_place.0 is in
+  no_input events kind a b text line cut (MakeArray s ∷ es) input is =
+      let same : MakeArray s ≡ MakeArray shape = line.only (MakeArray s) (input_of es) input.in_place.0 is in
       let shapes : s ≡ shape = cc same in
-      let rest : b ≡ input_of es = append_cancel_left (line_of (Array shape)) b (input_of es) (sym line.line ∙ is ∙ ap (λ (e : Event). line_of e ++ input_of es) same) in
+      let rest : b ≡ input_of es = append_cancel_left (line_of (MakeArray shape)) b (input_of es) (sym line.line ∙ is ∙ ap (λ (e : Event). line_of e ++ input_of es) same) in
       let placed : All (IsInPlace (Some shape)) es = subst (λ (h : Shape). All (IsInPlace (Some h)) es) shapes input.in_place.1 in
       let had = cut.only es placed rest in
-      let budget : length (line_of (Array shape)) + length (input_of es) ≤ 2 ^ 40 = subst (λ (h : Shape). length (line_of (Array h)) + length (input_of es) ≤ 2 ^ 40) shapes (let e = length-append (line_of (Array s)) (input_of es) in let h = input.budget in omega arith) in
-      past events kind text b cut es had.0 placed (All-tail (λ (event : Event). is_served event ≡ true) (Array s) es input.served) had.1 had.2 budget
+      let budget : length (line_of (MakeArray shape)) + length (input_of es) ≤ 2 ^ 40 = subst (λ (h : Shape). length (line_of (MakeArray h)) + length (input_of es) ≤ 2 ^ 40) shapes (let e = length-append (line_of (MakeArray s)) (input_of es) in let h = input.budget in omega arith) in
+      past events kind text b cut es had.0 placed (All-tail (λ (event : Event). is_served event ≡ true) (MakeArray s) es input.served) had.1 had.2 budget
   no_input events kind a b text line cut (event ∷ es) input is = absurd input.in_place
 
   -- where the text behind the first line is cut, the whole is
-  pub stops_text : (events : List Event) (kind : Kind) (x y z : Option (List ℕ)) → Told (Begins None (Array shape)) x y → Told (λ p q. (text : List ℕ) × IsCutAt shape events kind p text) y z
-      → Told (λ p q. (text : List ℕ) × (p ≡ input_of (Array shape ∷ events) ++ text) × StopsAt (Array shape ∷ events) kind text × IsNoInput p) x z
-  stops_text events kind x y z line cut = Told-then _ _ (λ p r. (text : List ℕ) × (p ≡ input_of (Array shape ∷ events) ++ text) × StopsAt (Array shape ∷ events) kind text × IsNoInput p) (λ p q r f s. (
+  pub stops_text : (events : List Event) (kind : Kind) (x y z : Option (List ℕ)) → Told (Begins None (MakeArray shape)) x y → Told (λ p q. (text : List ℕ) × IsCutAt shape events kind p text) y z
+      → Told (λ p q. (text : List ℕ) × (p ≡ input_of (MakeArray shape ∷ events) ++ text) × StopsAt (MakeArray shape ∷ events) kind text × IsNoInput p) x z
+  stops_text events kind x y z line cut = Told-then _ _ (λ p r. (text : List ℕ) × (p ≡ input_of (MakeArray shape ∷ events) ++ text) × StopsAt (MakeArray shape ∷ events) kind text × IsNoInput p) (λ p q r f s. (
     s.0,
-    f.line ∙ ap (λ (l : List ℕ). line_of (Array shape) ++ l) s.1.lines ∙ sym (append_assoc (line_of (Array shape)) (input_of events) s.0),
+    f.line ∙ ap (λ (l : List ℕ). line_of (MakeArray shape) ++ l) s.1.lines ∙ sym (append_assoc (line_of (MakeArray shape)) (input_of events) s.0),
     record { by_kind = s.1.refused.by_kind; some = λ e. absurd (s.1.refused.some e); none = s.1.refused.none },
     no_input events kind p q s.0 f s.1,
   )) x y z line cut
 
-  pub stopped : (x y z t v : Option (List ℕ)) → Told (Begins None (Array shape)) x y → ArrayStopped before now bytes shape y z t v → Stopped before now bytes x z t v
+  pub stopped : (x y z t v : Option (List ℕ)) → Told (Begins None (MakeArray shape)) x y → ArrayStopped before now bytes shape y z t v → Stopped before now bytes x z t v
   stopped x y z t v line rest = record {
-    events = Array shape ∷ rest.events;
+    events = MakeArray shape ∷ rest.events;
     replies = Done ∷ rest.replies;
     kind = rest.kind;
     ran = rest.ran;
@@ -191,10 +174,10 @@ pub record IsNoFirst (kind : Kind) (text : List ℕ) : Type 0 where
 
 first_no_input : (kind : Kind) (text : List ℕ) → IsNoFirst kind text → IsNoInput text
 first_no_input kind text first [] input is = input.some refl
-first_no_input kind text first (Array s ∷ es) input is =
-    let over = first.none (Array s) (input_of es) input.in_place.0 (All-head (λ (event : Event). is_served event ≡ true) (Array s) es input.served) is in
+first_no_input kind text first (MakeArray s ∷ es) input is =
+    let over = first.none (MakeArray s) (input_of es) input.in_place.0 (All-head (λ (event : Event). is_served event ≡ true) (MakeArray s) es input.served) is in
     let budget = input.budget in
-    absurd (omega (arith, over, budget, length-append (line_of (Array s)) (input_of es)))
+    absurd (omega (arith, over, budget, length-append (line_of (MakeArray s)) (input_of es)))
 first_no_input kind text first (event ∷ es) input is = input.in_place
 
 first_stops : (kind : Kind) (text : List ℕ) → IsNoFirst kind text → StopsAt [] kind text
@@ -267,7 +250,7 @@ rest_ended P unread None (Some b) told = absurd told
 rest_ended P unread (Some a) (Some b) told = (told.0, none_left unread b told.1)
 
 module _ (before now : Counts) (bytes : ℕ → Option (List ℕ)) (unread kept : List ℕ) (fresh : unread ≡ []) (left rest taken given : Option (List ℕ)) where
-  pub replay_done : (shape : Shape) (y : Option (List ℕ)) → IsShape shape → Told (Begins None (Array shape)) (option_map (λ more. unread ++ more) left) y
+  pub replay_done : (shape : Shape) (y : Option (List ℕ)) → IsShape shape → Told (Begins None (MakeArray shape)) (option_map (λ more. unread ++ more) left) y
       → ArrayReplayed before now bytes shape y (option_map (λ more. kept ++ more) rest) taken given → Replayed before now bytes left rest taken given
   replay_done shape y well line all =
       let whole = replayed before now bytes shape well left y (option_map (λ more. kept ++ more) rest) taken given (fresh_told _ unread left y fresh line) all in
@@ -280,7 +263,7 @@ module _ (before now : Counts) (bytes : ℕ → Option (List ℕ)) (unread kept 
         output = whole.output;
       }
 
-  pub replay_stopped : (shape : Shape) (y : Option (List ℕ)) → IsShape shape → Told (Begins None (Array shape)) (option_map (λ more. unread ++ more) left) y
+  pub replay_stopped : (shape : Shape) (y : Option (List ℕ)) → IsShape shape → Told (Begins None (MakeArray shape)) (option_map (λ more. unread ++ more) left) y
       → ArrayStopped before now bytes shape y (option_map (λ more. kept ++ more) rest) taken given → Stopped before now bytes left rest taken given
   replay_stopped shape y well line all =
       let whole = stopped before now bytes shape well left y (option_map (λ more. kept ++ more) rest) taken given (fresh_told _ unread left y fresh line) all in

@@ -4,12 +4,12 @@ use Rattle.dg_io.specs.declared.outside.Rack.{Ghosts}
 use Rattle.dg_model.specs.States.{Counts}
 use Rattle.dg_model.specs.declared.shapes.Shape.{Shape}
 use Rattle.dg_model.specs.declared.events.Event.{Event}
-use Rattle.dg_model.specs.declared.events.Event.TheVariants.{Array}
+use Rattle.dg_model.specs.declared.events.Event.TheVariants.{Array as MakeArray}
 use Rattle.dg_model.specs.declared.replies.Reply.{Reply}
 use Rattle.dg_model.specs.declared.replies.Reply.TheVariants.{Done}
 use Rattle.dg_io.specs.Told.{Told, Took, TookPart}
-use Rattle.dg_store.specs.declared.store.Store.{Store}
-use Rattle.dg_store.specs.Stores.{shape_of}
+use Rattle.dg_run.specs.declared.arrays.Array.{Array}
+use Rattle.dg_run.specs.Steps.{shape_of}
 use Rattle.dg_text.specs.Lines.{input_of, IsInPlace}
 use Rattle.dg_text.specs.Replies.{reply_line, output_of, refusal}
 use Rattle.dg_text.specs.declared.lines.BadLine.{BadLine as Kind}
@@ -22,13 +22,13 @@ use Rattle.dg_run.specs.declared.top.Status.{Status}
 use Rattle.dg_run.specs.declared.top.Status.TheVariants.{Done as status_done, Usage, BadLine, ReadFault, WriteFault, NoMemory, NoState, Unclean, Refused}
 
 -- the array was answered, and all lines behind the first one were served
-pub record AllAnswered {R : Type 0} (rack : Ghosts R) (first : ℕ) (left rest taken given : Option (List ℕ)) (old new : Store R) : Type 0 where
+pub record AllAnswered {R : Type 0} (rack : Ghosts R) (first : ℕ) (left rest taken given : Option (List ℕ)) (old new : Array R) : Type 0 where
   pub middle : Option (List ℕ)
   pub ok : Told (Took (reply_line Done)) taken middle
   pub served : AllServed rack (shape_of old) first left rest middle given old new
 
 -- the array was answered, lines behind the first one were served, and the next one was refused
-pub record AnsweredTo {R : Type 0} (rack : Ghosts R) (first : ℕ) (left rest taken given : Option (List ℕ)) (old new : Store R) : Type 0 where
+pub record AnsweredTo {R : Type 0} (rack : Ghosts R) (first : ℕ) (left rest taken given : Option (List ℕ)) (old new : Array R) : Type 0 where
   pub middle : Option (List ℕ)
   pub before : Option (List ℕ)
   pub number : ℕ
@@ -38,7 +38,7 @@ pub record AnsweredTo {R : Type 0} (rack : Ghosts R) (first : ℕ) (left rest ta
   pub refused : Told (Took (refusal number kind)) before given
 
 -- the same, but the refusal was written in part
-pub record AnsweredToPart {R : Type 0} (rack : Ghosts R) (first : ℕ) (left rest taken given : Option (List ℕ)) (old new : Store R) : Type 0 where
+pub record AnsweredToPart {R : Type 0} (rack : Ghosts R) (first : ℕ) (left rest taken given : Option (List ℕ)) (old new : Array R) : Type 0 where
   pub middle : Option (List ℕ)
   pub before : Option (List ℕ)
   pub number : ℕ
@@ -48,13 +48,13 @@ pub record AnsweredToPart {R : Type 0} (rack : Ghosts R) (first : ℕ) (left res
   pub refused : Told (TookPart (refusal number kind)) before given
 
 -- The sink failed behind a first line that made the array: at its answer, at the reply to a later line, or at the refusal of one.
-abbrev pub ArrayCut : {R : Type 0} → Ghosts R → ℕ → Option (List ℕ) → Option (List ℕ) → Option (List ℕ) → Option (List ℕ) → Option (List ℕ) → Store R → Store R → Type 0
+abbrev pub ArrayCut : {R : Type 0} → Ghosts R → ℕ → Option (List ℕ) → Option (List ℕ) → Option (List ℕ) → Option (List ℕ) → Option (List ℕ) → Array R → Array R → Type 0
 ArrayCut rack first left ahead rest taken given old new =
     (Told (TookPart (reply_line Done)) taken given × (new ≡ old) × Told AreAny left rest)
     ⊎ (LinesCut rack (reply_line Done) (shape_of old) first left rest taken given old new ⊎ AnsweredToPart rack first left ahead taken given old new)
 
 -- memory was wanting behind such a line: for the array, or for a later line
-abbrev pub ArrayRanOut : {R : Type 0} → Ghosts R → ℕ → Option (List ℕ) → Option (List ℕ) → Option (List ℕ) → Option (List ℕ) → Store R → Store R → Type 0
+abbrev pub ArrayRanOut : {R : Type 0} → Ghosts R → ℕ → Option (List ℕ) → Option (List ℕ) → Option (List ℕ) → Option (List ℕ) → Array R → Array R → Type 0
 ArrayRanOut rack first left rest taken given old new =
     ((given ≡ taken) × Told AreAny left rest) ⊎ LinesRanOut rack (reply_line Done) (shape_of old) first left rest taken given old new
 
@@ -74,7 +74,7 @@ IsOfReplay Refused = ⊥
 pub record ArrayReplayed (before now : Counts) (bytes : ℕ → Option (List ℕ)) (shape : Shape) (left rest taken given : Option (List ℕ)) : Type 0 where
   pub events : List Event
   pub replies : List Reply
-  pub ran : Ran before now bytes (Array shape ∷ events) (Done ∷ replies)
+  pub ran : Ran before now bytes (MakeArray shape ∷ events) (Done ∷ replies)
   pub input : Told (λ b a. (b ≡ input_of events) × (a ≡ [])) left rest
   pub output : Told (Took (output_of (Done ∷ replies))) taken given
 
@@ -82,7 +82,7 @@ pub record ArrayReplayed (before now : Counts) (bytes : ℕ → Option (List ℕ
 -- begin with them.
 pub record IsCutAt (shape : Shape) (events : List Event) (kind : Kind) (whole text : List ℕ) : Type 0 where
   pub lines : whole ≡ input_of events ++ text
-  pub refused : IsRefused (Some shape) (2 ^ 40 - length (input_of (Array shape ∷ events))) text kind
+  pub refused : IsRefused (Some shape) (2 ^ 40 - length (input_of (MakeArray shape ∷ events))) text kind
   pub only : (others : List Event) → All (IsInPlace (Some shape)) others → whole ≡ input_of others → (more : List Event) × (others ≡ events ++ more) × (text ≡ input_of more)
 
 -- the same up to a line that is refused
@@ -90,6 +90,6 @@ pub record ArrayStopped (before now : Counts) (bytes : ℕ → Option (List ℕ)
   pub events : List Event
   pub replies : List Reply
   pub kind : Kind
-  pub ran : Ran before now bytes (Array shape ∷ events) (Done ∷ replies)
+  pub ran : Ran before now bytes (MakeArray shape ∷ events) (Done ∷ replies)
   pub input : Told (λ b a. (text : List ℕ) × IsCutAt shape events kind b text) left rest
   pub output : Told (Took (output_of (Done ∷ replies) ++ refusal (length events + 2) kind)) taken given

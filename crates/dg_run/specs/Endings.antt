@@ -1,16 +1,16 @@
 -- How lines that are served one after another break off: by a fault of the source, by a fault of the sink, or for want of memory.
-use Rattle.std.specs.Prelude.{◌≡◌, ◌≤◌, ◌++◌, ◌+◌, ◌∷◌, ◌^◌, [], true, ℕ, List, length, take, Option, Some, All}
+use Rattle.std.specs.Prelude.{◌≡◌, ◌⊎◌, ◌≤◌, ◌++◌, ◌+◌, ◌∷◌, ◌^◌, [], true, ℕ, List, length, take, Option, Some, All}
 use Rattle.dg_io.specs.declared.outside.Rack.{Ghosts}
-use Rattle.dg_io.specs.Told.{Told, Took}
+use Rattle.dg_io.specs.Told.{AreAny, Told, Took}
 use Rattle.dg_model.specs.declared.shapes.Shape.{Shape}
 use Rattle.dg_model.specs.declared.events.Event.{Event}
 use Rattle.dg_model.specs.declared.replies.Reply.{Reply}
-use Rattle.dg_store.specs.declared.store.Store.{Store}
+use Rattle.dg_run.specs.declared.arrays.Array.{Array}
 use Rattle.dg_text.specs.Lines.{line_of, input_of, IsInPlace}
 use Rattle.dg_text.specs.Replies.{reply_line, output_of}
 use Rattle.dg_run.specs.Bytes.{HasNoLineFeed}
 use Rattle.dg_run.specs.Served.{AreServed, is_served}
-use Rattle.dg_run.specs.Stores.{AnsweredPart, RunsBefore, RunsTo}
+use Rattle.dg_run.specs.Steps.{AnsweredBefore, AnsweredPart, RunsBefore, RunsTo, VolumeRunsTo}
 
 -- a source gave these lines, and behind them some bytes without a line feed
 pub record GaveLines (lines before after : List ℕ) : Type 0 where
@@ -29,7 +29,7 @@ pub record TookUpTo (whole part before after : List ℕ) : Type 0 where
   pub is : after ≡ before ++ (whole ++ take n part)
 
 -- one line was taken, of no more bytes than the room, its event was done, and a part of its reply was written
-pub record ServedLinePart {R : Type 0} (rack : Ghosts R) (shape : Shape) (room : ℕ) (left rest taken given : Option (List ℕ)) (old new : Store R) : Type 0 where
+pub record ServedLinePart {R : Type 0} (rack : Ghosts R) (shape : Shape) (room : ℕ) (left rest taken given : Option (List ℕ)) (old new : Array R) : Type 0 where
   pub event : Event
   pub in_place : IsInPlace (Some shape) event
   pub done : is_served event ≡ true
@@ -37,8 +37,22 @@ pub record ServedLinePart {R : Type 0} (rack : Ghosts R) (shape : Shape) (room :
   pub input : Told (StartsWith (line_of event)) left rest
   pub answered : AnsweredPart rack event taken given old new
 
+-- one line was taken, of no more bytes than the room, and memory was wanting for its event
+pub record WantedLine {R : Type 0} (rack : Ghosts R) (shape : Shape) (room : ℕ) (left rest taken given : Option (List ℕ)) (old now : Array R) : Type 0 where
+  pub event : Event
+  pub in_place : IsInPlace (Some shape) event
+  pub done : is_served event ≡ true
+  pub within : length (line_of event) ≤ room
+  pub input : Told (StartsWith (line_of event)) left rest
+  pub answered : AnsweredBefore rack event taken given old now
+
+-- memory was wanting for a line: nothing of a reply was written, or the whole one
+abbrev pub RanOutAt : {R : Type 0} → Ghosts R → Shape → ℕ → Option (List ℕ) → Option (List ℕ) → Option (List ℕ) → Option (List ℕ) → Array R → Array R → Type 0
+RanOutAt rack shape room left rest taken given old now =
+    (Told AreAny left rest × (given ≡ taken)) ⊎ WantedLine rack shape room left rest taken given old now
+
 -- all lines that the source gave whole were served, and then it failed. `front` was written before their replies
-pub record LinesBrokeOff {R : Type 0} (rack : Ghosts R) (front : List ℕ) (shape : Shape) (first : ℕ) (left rest taken given : Option (List ℕ)) (old new : Store R) : Type 0 where
+pub record LinesBrokeOff {R : Type 0} (rack : Ghosts R) (front : List ℕ) (shape : Shape) (first : ℕ) (left rest taken given : Option (List ℕ)) (old new : Array R) : Type 0 where
   pub events : List Event
   pub replies : List Reply
   pub in_place : All (IsInPlace (Some shape)) events
@@ -49,19 +63,19 @@ pub record LinesBrokeOff {R : Type 0} (rack : Ghosts R) (front : List ℕ) (shap
   pub output : Told (Took (front ++ output_of replies)) taken given
 
 -- lines were served, and of the last reply only a part was written
-pub record LinesCut {R : Type 0} (rack : Ghosts R) (front : List ℕ) (shape : Shape) (first : ℕ) (left rest taken given : Option (List ℕ)) (old new : Store R) : Type 0 where
+pub record LinesCut {R : Type 0} (rack : Ghosts R) (front : List ℕ) (shape : Shape) (first : ℕ) (left rest taken given : Option (List ℕ)) (old new : Array R) : Type 0 where
   pub events : List Event
   pub replies : List Reply
   pub last : Reply
   pub in_place : All (IsInPlace (Some shape)) events
   pub done : AreServed events
   pub budget : first + length (input_of events) ≤ 2 ^ 40
-  pub runs : RunsTo rack old events (replies ++ last ∷ []) new
+  pub runs : VolumeRunsTo rack old events (replies ++ last ∷ []) new
   pub input : Told (StartsWith (input_of events)) left rest
   pub output : Told (TookUpTo (front ++ output_of replies) (reply_line last)) taken given
 
 -- lines were served, and for the next one memory was wanting
-pub record LinesRanOut {R : Type 0} (rack : Ghosts R) (front : List ℕ) (shape : Shape) (first : ℕ) (left rest taken given : Option (List ℕ)) (old new : Store R) : Type 0 where
+pub record LinesRanOut {R : Type 0} (rack : Ghosts R) (front : List ℕ) (shape : Shape) (first : ℕ) (left rest taken given : Option (List ℕ)) (old new : Array R) : Type 0 where
   pub events : List Event
   pub replies : List Reply
   pub in_place : All (IsInPlace (Some shape)) events

@@ -1,5 +1,4 @@
 pub mod Arrays
-pub mod Buffers
 pub mod Bytes
 pub mod Endings
 pub mod Events
@@ -11,4 +10,4 @@ pub mod Replays
 pub mod Scans
 pub mod Served
 pub mod Statuses
-pub mod Stores
+pub mod Steps

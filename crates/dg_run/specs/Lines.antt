@@ -5,21 +5,21 @@ use Rattle.dg_model.specs.declared.shapes.Shape.{Shape}
 use Rattle.dg_model.specs.declared.events.Event.{Event}
 use Rattle.dg_model.specs.declared.replies.Reply.{Reply}
 use Rattle.dg_io.specs.Told.{Told, Took}
-use Rattle.dg_store.specs.declared.store.Store.{Store}
+use Rattle.dg_run.specs.declared.arrays.Array.{Array}
 use Rattle.dg_text.specs.Lines.{line_of, input_of, IsInPlace}
 use Rattle.dg_text.specs.Replies.{output_of}
-use Rattle.dg_store.specs.Stores.{shape_of}
+use Rattle.dg_run.specs.Steps.{shape_of}
 use Rattle.dg_text.specs.declared.lines.BadLine.{BadLine}
 use Rattle.dg_run.specs.Events.{Begins, IsRefused}
 use Rattle.dg_run.specs.Served.{AreServed, is_served}
-use Rattle.dg_run.specs.Stores.{Answered, RunsTo}
+use Rattle.dg_run.specs.Steps.{Answered, RunsTo}
 use Rattle.dg_run.specs.declared.lines.Turn.{Turn}
 use Rattle.dg_run.specs.declared.lines.Turn.TheVariants.{Served as turn_served, End as turn_end, Refused as turn_refused}
 use Rattle.dg_run.specs.declared.lines.LinesEnd.{LinesEnd}
 use Rattle.dg_run.specs.declared.lines.LinesEnd.TheVariants.{Input as input_end, Refused as line_refused}
 
 -- one line was taken, of n bytes and no more than the room, its event was done, and its reply was written
-pub record ServedLine {R : Type 0} (rack : Ghosts R) (shape : Shape) (room n : ℕ) (left rest taken given : Option (List ℕ)) (old new : Store R) : Type 0 where
+pub record ServedLine {R : Type 0} (rack : Ghosts R) (shape : Shape) (room n : ℕ) (left rest taken given : Option (List ℕ)) (old new : Array R) : Type 0 where
   pub event : Event
   pub in_place : IsInPlace (Some shape) event
   pub done : is_served event ≡ true
@@ -34,13 +34,13 @@ pub record BeginsAll (shape : Option Shape) (events : List Event) (before after 
   pub only : (others : List Event) → All (IsInPlace shape) others → before ≡ input_of others → (more : List Event) × (others ≡ events ++ more) × (after ≡ input_of more)
 
 -- what a turn did: nothing changes where it served no line
-abbrev pub Turned : {R : Type 0} → Ghosts R → ℕ → Option (List ℕ) → Option (List ℕ) → Option (List ℕ) → Option (List ℕ) → Store R → Store R → Turn → Type 0
+abbrev pub Turned : {R : Type 0} → Ghosts R → ℕ → Option (List ℕ) → Option (List ℕ) → Option (List ℕ) → Option (List ℕ) → Array R → Array R → Turn → Type 0
 Turned rack room left rest taken given old new (turn_served n) = ServedLine rack (shape_of old) room n left rest taken given old new
 Turned rack room left rest taken given old new turn_end = Told (λ before after. (before ≡ []) × (after ≡ [])) left rest × (given ≡ taken) × (new ≡ old)
 Turned rack room left rest taken given old new (turn_refused kind) = Told (λ before after. IsRefused (Some (shape_of old)) room before kind) left rest × (given ≡ taken) × (new ≡ old)
 
 -- lines were taken one after another, their events were done, and their replies were written
-pub record Served {R : Type 0} (rack : Ghosts R) (shape : Shape) (events : List Event) (left rest taken given : Option (List ℕ)) (old new : Store R) : Type 0 where
+pub record Served {R : Type 0} (rack : Ghosts R) (shape : Shape) (events : List Event) (left rest taken given : Option (List ℕ)) (old new : Array R) : Type 0 where
   pub replies : List Reply
   pub in_place : All (IsInPlace (Some shape)) events
   pub done : AreServed events
@@ -49,14 +49,14 @@ pub record Served {R : Type 0} (rack : Ghosts R) (shape : Shape) (events : List 
   pub runs : RunsTo rack old events replies new
 
 -- all lines to the end of the input were served, and keep to the budget behind a first line of so many bytes
-pub record AllServed {R : Type 0} (rack : Ghosts R) (shape : Shape) (first : ℕ) (left rest taken given : Option (List ℕ)) (old new : Store R) : Type 0 where
+pub record AllServed {R : Type 0} (rack : Ghosts R) (shape : Shape) (first : ℕ) (left rest taken given : Option (List ℕ)) (old new : Array R) : Type 0 where
   pub events : List Event
   pub served : Served rack shape events left rest taken given old new
   pub budget : first + length (input_of events) ≤ 2 ^ 40
   pub end : Told (λ before after. (before ≡ input_of events) × (after ≡ [])) left rest
 
 -- some lines were served, and the next one, of this number, is refused by this kind
-pub record ServedTo {R : Type 0} (rack : Ghosts R) (shape : Shape) (first number : ℕ) (kind : BadLine) (left rest taken given : Option (List ℕ)) (old new : Store R) : Type 0 where
+pub record ServedTo {R : Type 0} (rack : Ghosts R) (shape : Shape) (first number : ℕ) (kind : BadLine) (left rest taken given : Option (List ℕ)) (old new : Array R) : Type 0 where
   pub events : List Event
   pub middle : Option (List ℕ)
   pub served : Served rack shape events left middle taken given old new
@@ -65,6 +65,6 @@ pub record ServedTo {R : Type 0} (rack : Ghosts R) (shape : Shape) (first number
   pub refused : Told (λ before after. IsRefused (Some shape) (2 ^ 40 - (first + length (input_of events))) before kind) middle rest
 
 -- how the lines behind the first one ended
-abbrev pub LinesEndAt : {R : Type 0} → Ghosts R → ℕ → Option (List ℕ) → Option (List ℕ) → Option (List ℕ) → Option (List ℕ) → Store R → Store R → LinesEnd → Type 0
+abbrev pub LinesEndAt : {R : Type 0} → Ghosts R → ℕ → Option (List ℕ) → Option (List ℕ) → Option (List ℕ) → Option (List ℕ) → Array R → Array R → LinesEnd → Type 0
 LinesEndAt rack first left rest taken given old new input_end = AllServed rack (shape_of old) first left rest taken given old new
 LinesEndAt rack first left rest taken given old new (line_refused number kind) = ServedTo rack (shape_of old) first number kind left rest taken given old new

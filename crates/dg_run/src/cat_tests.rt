@@ -1,5 +1,5 @@
 // The event `cat`, on volumes that are written block by block: 128 fragments of 1024 bytes, in an array of four boundaries
-// with 64 slots. Block b stands on boundary b mod 4. Calls 0 to 7 of the rack blank the members, and each write makes two.
+// with 64 slots. Block b stands on boundary b mod 4.
 ghost use Rattle.std.specs.Prelude.{◌≡◌, IfOk, length};
 
 use crate::Status;
@@ -13,15 +13,15 @@ use ufs_rows::{Which, rows_image};
 // Bytes of all replies.
 const OUTPUT: usize = 131072;
 
-// Writes of blocks of a volume that aren't zero.
-pub const F_BLOCKS: usize = 62;
-
 // The line that writes a block.
-fn push_write(text: &mut Vec<u8>, number: usize, block: &[u8]) -> Result<(), Fail> {
+pub fn push_write(text: &mut Vec<u8>, number: usize, block: &[u8]) -> Result<(), Fail> {
     let mut digits = Buffer::new();
     text.extend_from_slice(b"write ")?;
     text.extend_from_slice(digits.format(number).as_bytes())?;
     text.push(b' ')?;
+    if block.is_empty() {
+        text.push(b'-')?;
+    }
     for byte in block {
         let mut word = [0u8; 2];
         let _ = hex::encode_to_slice([*byte], &mut word);
@@ -74,10 +74,36 @@ pub fn replies(alloc: Global, image: &[u8], lines: &str, fails: &[u64]) -> Resul
 // The calls of a rack from one on, to more than any trace here makes.
 pub fn calls_from(alloc: Global, first: u64) -> Result<Vec<u64>, Fail> {
     let mut calls = Vec::new(alloc);
-    for call in first..400 {
+    for call in first..4096 {
         calls.push(call)?;
     }
     Ok(calls)
+}
+
+// Whether a member falls while the blocks of an image are written, where each call of the rack from one on fails.
+fn has_fallen(alloc: Global, image: &[u8], call: u64) -> Result<bool, Fail> {
+    let fails = calls_from(alloc, call)?;
+    let lines = "fail 0 0\nfail 0 1\nfail 1 0\nfail 1 1\nfail 2 0\nfail 2 1\nfail 3 0\nfail 3 1\n";
+    match replies(alloc, image, lines, &fails) {
+        Ok(answer) => Ok(answer.as_slice() != b"ok\nok\nok\nok\nok\nok\nok\nok\n".as_slice()),
+        Err(_) => Ok(true),
+    }
+}
+
+// The number of the first call of the rack behind those for the array and for the blocks of an image.
+pub fn first_call(alloc: Global, image: &[u8]) -> Result<u64, Fail> {
+    let mut last: u64 = 0;
+    for bit in [2048, 1024, 512, 256, 128, 64, 32, 16, 8, 4, 2, 1] {
+        if has_fallen(alloc, image, last | bit)? {
+            last |= bit;
+        }
+    }
+    Ok(last.saturating_add(1))
+}
+
+// That call, and one further on.
+pub fn call_behind(first: u64, count: u64) -> u64 {
+    first.saturating_add(count)
 }
 
 // The first lines of an answer, so many of them, and the line that says that these are so many bytes or entries.
@@ -272,28 +298,31 @@ fn a_lost_boundary_takes_all_of_a_file(rt: HostRuntime) -> Result<(), Fail> {
     Ok(())
 }
 
-// A block is read by one call, or by two where the first fails. The first call of `cat` is call 132: the superblock, the
-// root's inode, its directory and the file's inode take five, the file's blocks one each, and then one each again.
+// A block is read by one call, or by two where the first fails. The superblock, the root's inode, its directory and the file's
+// inode take five calls, and five again; then the file's blocks take one each, and one each again.
 #[test]
 fn failing_calls_make_a_file_unavailable_or_cut_it(rt: HostRuntime) -> Result<(), Fail> {
     let alloc = rt.alloc();
     let volume = image(alloc, Which::F)?;
-    let first = 8 + 2 * F_BLOCKS as u64;
-    for (call, lines, wanted) in [
-        (first, "cat /a\n", "unavailable\n"),
-        (first + 3, "cat /a\n", "unavailable\n"),
-        (first + 5, "cat /a\n", "unavailable\n"),
-        (first + 6, "cat /a\n", "cut 0\n"),
-        (first + 7, "cat /a\n", "bytes 68656c6c6f\nend 5\n"),
-        (first + 6, "cat /h\n", "unavailable\n"),
+    let first = first_call(alloc, &volume)?;
+    for (passed, lines, wanted) in [
+        (0, "cat /a\n", "unavailable\n"),
+        (3, "cat /a\n", "unavailable\n"),
+        (5, "cat /a\n", "unavailable\n"),
+        (10, "cat /a\n", "unavailable\n"),
+        (11, "cat /a\n", "cut 0\n"),
+        (12, "cat /a\n", "bytes 68656c6c6f\nend 5\n"),
+        (11, "cat /h\n", "unavailable\n"),
     ] {
-        let answer = replies(alloc, &volume, lines, &[call, call + 1])?;
+        let call = call_behind(first, passed);
+        let answer = replies(alloc, &volume, lines, &[call, call_behind(call, 1)])?;
         assert!(rt; answer.as_slice() == wanted.as_bytes(), "{lines}");
     }
 
     // The hole of `/h` was handed on, and one of the two blocks behind it is lost the second time.
-    for call in [first + 7, first + 8] {
-        let answer = replies(alloc, &volume, "cat /h\n", &[call, call + 1])?;
+    for passed in [12, 13] {
+        let call = call_behind(first, passed);
+        let answer = replies(alloc, &volume, "cat /h\n", &[call, call_behind(call, 1)])?;
         let mut rest = answer.as_slice();
         for _ in 0..4 {
             let Some(line) = rest.strip_prefix(b"bytes ") else {
@@ -308,29 +337,29 @@ fn failing_calls_make_a_file_unavailable_or_cut_it(rt: HostRuntime) -> Result<()
     Ok(())
 }
 
-// The path `/d/b` takes seven calls, and its file twice 53: four for each of thirteen file blocks, and one for the indirect
+// The path `/d/b` takes seven calls, and seven again, and its file twice 53: four for each of thirteen file blocks, and one for the indirect
 // block, of which the other three blocks are zeros that were never written.
 #[test]
 fn a_rack_that_fails_from_a_call_on_cuts_a_file(rt: HostRuntime) -> Result<(), Fail> {
     let alloc = rt.alloc();
     let volume = image(alloc, Which::F)?;
     let whole = long_file(alloc)?;
-    let first = 8 + 2 * F_BLOCKS as u64;
-    for passed in [0, 6, 40, 59] {
-        let fails = calls_from(alloc, first + passed)?;
+    let first = first_call(alloc, &volume)?;
+    for passed in [0, 6, 13, 47, 66] {
+        let fails = calls_from(alloc, call_behind(first, passed))?;
         let answer = replies(alloc, &volume, "cat /d/b\n", &fails)?;
         assert!(rt;
             answer.as_slice() == b"unavailable\n".as_slice(),
             "{passed}"
         );
     }
-    for (passed, lines) in [(60, 0), (63, 0), (64, 4), (107, 44), (108, 48), (112, 48)] {
-        let fails = calls_from(alloc, first + passed)?;
+    for (passed, lines) in [(67, 0), (70, 0), (71, 4), (114, 44), (115, 48), (119, 48)] {
+        let fails = calls_from(alloc, call_behind(first, passed))?;
         let answer = replies(alloc, &volume, "cat /d/b\n", &fails)?;
         let wanted = cut_after(alloc, &whole, lines, 1024 * lines)?;
         assert!(rt; answer == wanted, "{passed}");
     }
-    let fails = calls_from(alloc, first + 113)?;
+    let fails = calls_from(alloc, call_behind(first, 120))?;
     let answer = replies(alloc, &volume, "cat /d/b\n", &fails)?;
     assert!(rt; answer == whole);
     Ok(())

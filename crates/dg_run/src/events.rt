@@ -49,18 +49,17 @@ fn is_served(event: &Spelled) -> bool
         | Spelled::Write(_, _)
         | Spelled::Read(_)
         | Spelled::Fail(_, _)
-        | Spelled::Cat(_)
-        | Spelled::Ls(_) => true,
-        Spelled::Replace(_, _)
+        | Spelled::Replace(_, _)
         | Spelled::Rebuild(_, _)
         | Spelled::Settle
         | Spelled::Tend(_)
         | Spelled::Diffuse
         | Spelled::Who(_)
         | Spelled::Pending
-        | Spelled::Tree
-        | Spelled::Home(_)
-        | Spelled::Save => false,
+        | Spelled::Cat(_)
+        | Spelled::Ls(_)
+        | Spelled::Home(_) => true,
+        Spelled::Tree | Spelled::Save => false,
     }
 }
 

@@ -1,16 +1,15 @@
 //! The top call: from the bytes of a trace to the bytes of its replies.
 //!
 //! `run` reads the words and starts a replay. A replay takes the lines of the input one by one (`input`, `events`), does
-//! the event of each on the store and writes its reply (`serve`), and goes on to the end of the input or to the first line
+//! the event of each on the volume and writes its reply (`serve`), and goes on to the end of the input or to the first line
 //! that is refused (`lines`, `top`).
 #![tactic(auto)]
 
-mod buffers;
+mod arrays;
+mod blocks;
 #[cfg(test)]
 mod cat_tests;
 mod cats;
-#[cfg(test)]
-mod claim_tests;
 mod events;
 mod input;
 mod lines;
@@ -18,10 +17,14 @@ mod lines;
 mod list_tests;
 mod listings;
 mod paths;
+mod pendings;
 mod pieces;
+mod replies;
 mod serve;
 #[cfg(test)]
 mod tests;
 mod top;
+#[cfg(test)]
+mod volume_tests;
 
 pub use top::{Status, run};

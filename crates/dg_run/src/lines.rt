@@ -1,20 +1,17 @@
 // The lines of a trace, one after another.
-ghost use Rattle.std.specs.Prelude.{◌≡◌, ◌-◌, ◌+◌, ◌≤◌, ◌<◌, ◌^◌, [], IfOk, Some};
-ghost use Rattle.dg_io.specs.Told.{Told, AreAny};
+ghost use Rattle.std.specs.Prelude.{◌≡◌, ◌-◌, ◌+◌, ◌≤◌, ◌<◌, ◌^◌, [], IfOk, Some, length};
+ghost use Rattle.dg_io.specs.Told.{Told};
 ghost use Rattle.dg_model.specs.Causes.{Rose};
-ghost use Rattle.dg_store.specs.Stores.{IsSound, shape_of};
 ghost use Rattle.dg_run.specs.Inputs.{ahead};
-ghost use Rattle.dg_run.specs.Buffers.{AreFor};
-ghost use Rattle.dg_run.specs.Endings.{GaveLines, LinesBrokeOff, LinesCut, LinesRanOut, ServedLinePart};
-ghost use Rattle.dg_run.specs.Stores.{GoesOn};
+ghost use Rattle.dg_run.specs.Endings.{GaveLines, LinesBrokeOff, LinesCut, LinesRanOut, RanOutAt, ServedLinePart};
+ghost use Rattle.dg_run.specs.Steps.{GoesOn, IsSound, shape_of};
 ghost use Rattle.dg_run.specs.Lines.{Turned, LinesEndAt};
 
-use crate::buffers::Buffers;
+use crate::arrays::Array;
 use crate::events::{Fault, Taken, take_event};
 use crate::input::Input;
 use crate::serve::serve;
 use dg_io::{Rack, Sink, Source};
-use dg_store::Store;
 use dg_text::BadLine;
 use std::alloc::Global;
 
@@ -47,22 +44,21 @@ fn serve_next<S: Source, K: Sink, R: Rack>(
     input: &mut Input,
     source: &mut S,
     sink: &mut K,
-    store: &mut Store<R>,
-    buffers: &mut Buffers,
+    array: &mut Array<R>,
+    block: &mut [u8],
     room: u64,
 ) -> Result<Turn, Fault>
-    requires sound { IsSound R.Rack store.old }
-    requires buffers { AreFor (shape_of store.old).l buffers.old }
-    ensures goes { GoesOn R.Rack store.old store.new }
-    ensures buffers { AreFor (shape_of store.old).l buffers.new }
+    requires sound { IsSound R.Rack array.old }
+    requires size { length block.old ≡ (shape_of array.old).l }
+    ensures goes { GoesOn R.Rack array.old array.new }
     ensures turned { IfOk result (Turned R.Rack room (ahead input.old (S.left source.old)) (ahead input.new (S.left source.new)) (K.taken sink.old)
-        (K.taken sink.new) store.old store.new) }
+        (K.taken sink.new) array.old array.new) }
     ensures broken { result ≡ Err Fault.Read → Told (GaveLines []) (ahead input.old (S.left source.old)) (S.left source.new)
-        × (K.taken sink.new ≡ K.taken sink.old) × (store.new ≡ store.old) }
-    ensures part { result ≡ Err Fault.Write → ServedLinePart R.Rack (shape_of store.old) room (ahead input.old (S.left source.old)) (S.left source.new)
-        (K.taken sink.old) (K.taken sink.new) store.old store.new }
-    ensures wanting { result ≡ Err Fault.NoMemory → Told AreAny (ahead input.old (S.left source.old)) (S.left source.new)
-        × (K.taken sink.new ≡ K.taken sink.old) }
+        × (K.taken sink.new ≡ K.taken sink.old) × (array.new ≡ array.old) }
+    ensures part { result ≡ Err Fault.Write → ServedLinePart R.Rack (shape_of array.old) room (ahead input.old (S.left source.old)) (S.left source.new)
+        (K.taken sink.old) (K.taken sink.new) array.old array.new }
+    ensures wanting { result ≡ Err Fault.NoMemory → RanOutAt R.Rack (shape_of array.old) room (ahead input.old (S.left source.old)) (S.left source.new)
+        (K.taken sink.old) (K.taken sink.new) array.old array.new }
     ensures source_later { S.faults source.old ≤ S.faults source.new }
     ensures sink_later { K.faults sink.old ≤ K.faults sink.new }
     ensures source_kept { (result ≡ Err Fault.Read → ⊥) → S.faults source.new ≡ S.faults source.old }
@@ -70,9 +66,9 @@ fn serve_next<S: Source, K: Sink, R: Rack>(
     ensures read { result ≡ Err Fault.Read → Rose (S.faults source.old) (S.faults source.new) }
     ensures write { result ≡ Err Fault.Write → Rose (K.faults sink.old) (K.faults sink.new) }
 {
-    match take_event(alloc, input, source, Some(store.shape()), room)? {
+    match take_event(alloc, input, source, Some(array.volume.shape()), room)? {
         Taken::Event(event, bytes) => {
-            serve(store, sink, &event, buffers)?;
+            serve(alloc, array, sink, &event, block)?;
             Ok(Turn::Served(bytes))
         }
         Taken::End => Ok(Turn::End),
@@ -87,23 +83,23 @@ pub fn serve_lines<S: Source, K: Sink, R: Rack>(
     input: &mut Input,
     source: &mut S,
     sink: &mut K,
-    store: &mut Store<R>,
-    buffers: &mut Buffers,
+    array: &mut Array<R>,
+    block: &mut [u8],
     first: u64,
 ) -> Result<LinesEnd, Fault>
-    requires sound { IsSound R.Rack store.old }
-    requires buffers { AreFor (shape_of store.old).l buffers.old }
+    requires sound { IsSound R.Rack array.old }
+    requires size { length block.old ≡ (shape_of array.old).l }
     requires first { first ≤ 2 ^ 40 }
-    ensures goes { GoesOn R.Rack store.old store.new }
+    ensures goes { GoesOn R.Rack array.old array.new }
     ensures end { IfOk result (LinesEndAt R.Rack first (ahead input.old (S.left source.old)) (ahead input.new (S.left source.new))
-        (K.taken sink.old) (K.taken sink.new) store.old store.new) }
-    ensures broken { result ≡ Err Fault.Read → LinesBrokeOff R.Rack [] (shape_of store.old) first (ahead input.old (S.left source.old)) (S.left source.new)
-        (K.taken sink.old) (K.taken sink.new) store.old store.new }
-    ensures part { result ≡ Err Fault.Write → LinesCut R.Rack [] (shape_of store.old) first (ahead input.old (S.left source.old)) (S.left source.new)
-        (K.taken sink.old) (K.taken sink.new) store.old store.new }
+        (K.taken sink.old) (K.taken sink.new) array.old array.new) }
+    ensures broken { result ≡ Err Fault.Read → LinesBrokeOff R.Rack [] (shape_of array.old) first (ahead input.old (S.left source.old)) (S.left source.new)
+        (K.taken sink.old) (K.taken sink.new) array.old array.new }
+    ensures part { result ≡ Err Fault.Write → LinesCut R.Rack [] (shape_of array.old) first (ahead input.old (S.left source.old)) (S.left source.new)
+        (K.taken sink.old) (K.taken sink.new) array.old array.new }
     ensures wanting { result ≡ Err Fault.NoMemory
-        → LinesRanOut R.Rack [] (shape_of store.old) first (ahead input.old (S.left source.old)) (S.left source.new)
-        (K.taken sink.old) (K.taken sink.new) store.old store.new }
+        → LinesRanOut R.Rack [] (shape_of array.old) first (ahead input.old (S.left source.old)) (S.left source.new)
+        (K.taken sink.old) (K.taken sink.new) array.old array.new }
     ensures source_later { S.faults source.old ≤ S.faults source.new }
     ensures sink_later { K.faults sink.old ≤ K.faults sink.new }
     ensures source_kept { (result ≡ Err Fault.Read → ⊥) → S.faults source.new ≡ S.faults source.old }
@@ -114,7 +110,7 @@ pub fn serve_lines<S: Source, K: Sink, R: Rack>(
     let mut passed = first;
     let mut number = 2;
     while passed <= BUDGET {
-        match serve_next(alloc, input, source, sink, store, buffers, BUDGET - passed)? {
+        match serve_next(alloc, input, source, sink, array, block, BUDGET - passed)? {
             Turn::Served(bytes) => {
                 passed += bytes;
                 number += 1;

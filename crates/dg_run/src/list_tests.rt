@@ -1,7 +1,7 @@
 // The event `ls`, on the volumes of the tests of `cat`.
 ghost use Rattle.std.specs.Prelude.{◌≡◌, IfOk, length};
 
-use crate::cat_tests::{F_BLOCKS, calls_from, cut_after, image, replies};
+use crate::cat_tests::{call_behind, calls_from, cut_after, first_call, image, replies};
 use std::alloc::Global;
 use std::test::Fail;
 use ufs_rows::Which;
@@ -101,9 +101,9 @@ fn a_lost_boundary_takes_the_directories_that_need_it(rt: HostRuntime) -> Result
 fn a_rack_that_fails_from_a_call_on_cuts_a_listing(rt: HostRuntime) -> Result<(), Fail> {
     let alloc = rt.alloc();
     let volume = image_with_link(alloc)?;
-    let first = 8 + 2 * F_BLOCKS as u64;
+    let first = first_call(alloc, &volume)?;
     for passed in [0, 2, 3, 4, 10] {
-        let fails = calls_from(alloc, first + passed)?;
+        let fails = calls_from(alloc, call_behind(first, passed))?;
         let answer = replies(alloc, &volume, "ls /\n", &fails)?;
         assert!(rt;
             answer.as_slice() == b"unavailable\n".as_slice(),
@@ -111,12 +111,12 @@ fn a_rack_that_fails_from_a_call_on_cuts_a_listing(rt: HostRuntime) -> Result<()
         );
     }
     for (passed, lines) in [(11, 0), (12, 0), (13, 1), (15, 3), (17, 5)] {
-        let fails = calls_from(alloc, first + passed)?;
+        let fails = calls_from(alloc, call_behind(first, passed))?;
         let answer = replies(alloc, &volume, "ls /\n", &fails)?;
         let wanted = cut_after(alloc, ROOT.as_bytes(), lines, lines)?;
         assert!(rt; answer == wanted, "{passed}");
     }
-    let fails = calls_from(alloc, first + 18)?;
+    let fails = calls_from(alloc, call_behind(first, 18))?;
     let answer = replies(alloc, &volume, "ls /\n", &fails)?;
     assert!(rt; answer.as_slice() == ROOT.as_bytes());
     Ok(())

@@ -10,8 +10,8 @@ use crate::events::Fault;
 use crate::serve::send;
 use dg_io::Sink;
 use dg_model::Reply;
+use dg_volume::CatAnswer;
 use ufs_model::PathRefusal;
-use ufs_path::CatAnswer;
 
 /// The reply to a path that gave nothing.
 fn reply_at(answer: CatAnswer) -> Reply

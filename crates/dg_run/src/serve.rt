@@ -1,77 +1,27 @@
-// One event on a store, and its reply.
-ghost use Rattle.std.specs.Prelude.{◌≡◌, ◌≢◌, ◌+◌, ◌-◌, ◌≤◌, ◌<◌, ◌++◌, ℕ, List, length, true, IfOk, OnOk, OnErr, Some, replicate, take, slice_index};
+// One event on an array, and its reply.
+ghost use Rattle.std.specs.Prelude.{◌≡◌, ◌≤◌, length, true, IfOk, OnOk, OnErr, Some};
 ghost use Rattle.dg_model.specs.Causes.{Rose};
-ghost use Rattle.dg_model.specs.Blocks.{padded, IsTrimmed};
-ghost use Rattle.dg_store.specs.Stores.{IsSound, shape_of};
 ghost use Rattle.dg_text.specs.Lines.{IsInPlace};
 ghost use Rattle.dg_text.specs.Replies.{reply_line};
 ghost use Rattle.dg_io.specs.Told.{Told, Took, TookPart};
-ghost use Rattle.dg_run.specs.Buffers.{AreFor};
-ghost use Rattle.dg_run.specs.Served.{is_served};
-ghost use Rattle.dg_run.specs.Stores.{GoesOn, StepsTo, Answered, AnsweredPart};
+ghost use Rattle.dg_run.specs.Served.{is_plain, is_served};
+ghost use Rattle.dg_run.specs.Steps.{Answered, AnsweredPart, GoesOn, IsSound, StepsTo, WantedFor, shape_of};
 
-use crate::buffers::Buffers;
+use crate::arrays::Array;
+use crate::blocks::{fill_block, trimmed};
 use crate::cats::serve_cat;
 use crate::events::Fault;
 use crate::listings::serve_ls;
+use crate::pendings::serve_pending;
+use crate::replies::{
+    diffuse_reply, fail_reply, home_reply, rebuild_reply, replace_reply, settle_reply, tend_reply,
+    who_reply, write_reply,
+};
 use dg_io::{Rack, Sink};
-use dg_model::{Bytes, Event, NoMemory, Reply};
-use dg_store::{FailAnswer, Fetched, Store, StoreWrite};
-use dg_text::{write_data, write_reply};
-
-/// Fills a block with these bytes, and zeros for its missing end.
-fn fill_block(block: &mut [u8], bytes: &[u8])
-    requires { length bytes.now ≤ length block.old }
-    ensures { block.new ≡ padded (length block.old) bytes.now }
-{
-    block.fill(0);
-    block[..bytes.len()].copy_from_slice(bytes);
-}
-
-/// How many bytes are left of a block without the zeros at its end.
-fn trimmed_len(block: &[u8]) -> usize
-    ensures within { result ≤ length block.now }
-    ensures zeros { block.now ≡ take result block.now ++ replicate (length block.now - result) 0 }
-    ensures last { 0 < result → slice_index block.now (result - 1) ≢ 0 }
-{
-    let mut n = block.len();
-    while n > 0 && block[n - 1] == 0 {
-        n -= 1;
-    }
-    n
-}
-
-/// A block without the zeros at its end.
-fn trimmed(block: &[u8]) -> &[u8]
-    ensures { IsTrimmed result.now block.now }
-{
-    &block[..trimmed_len(block)]
-}
-
-fn write_block<R: Rack>(
-    store: &mut Store<R>,
-    b: u32,
-    bytes: &Bytes,
-    block: &mut [u8],
-) -> Result<Reply, NoMemory>
-    requires sound { IsSound R.Rack store.old }
-    requires size { length block.old ≡ (shape_of store.old).l }
-    requires fits { length bytes.now ≤ (shape_of store.old).l }
-    ensures goes { GoesOn R.Rack store.old store.new }
-    ensures steps { IfOk result (λ reply. StepsTo R.Rack store.old (Event.Write b bytes.now) reply store.new) }
-{
-    if b >= store.shape().n {
-        return Ok(Reply::Range);
-    }
-    if store.is_degraded() {
-        return Ok(Reply::Degraded);
-    }
-    fill_block(block, bytes.as_slice());
-    match store.write(b, block)? {
-        StoreWrite::Stored => Ok(Reply::Done),
-        StoreWrite::AllLost => Ok(Reply::Degraded),
-    }
-}
+use dg_model::{Event, NoMemory, Reply};
+use dg_text::{write_data, write_reply as write_line};
+use dg_volume::ReadAnswer;
+use std::alloc::Global;
 
 /// Writes a reply.
 pub fn send<K: Sink>(sink: &mut K, reply: &Reply) -> Result<(), Fault>
@@ -82,7 +32,7 @@ pub fn send<K: Sink>(sink: &mut K, reply: &Reply) -> Result<(), Fault>
     ensures err { OnErr result (result ≡ Err Fault.Write) }
     ensures write { OnErr result (Rose (K.faults sink.old) (K.faults sink.new)) }
 {
-    match write_reply(sink, reply) {
+    match write_line(sink, reply) {
         Ok(()) => Ok(()),
         Err(_) => Err(Fault::Write),
     }
@@ -103,132 +53,121 @@ fn send_data<K: Sink>(sink: &mut K, bytes: &[u8]) -> Result<(), Fault>
     }
 }
 
-/// Writes a block, and the reply.
-fn serve_write<R: Rack, K: Sink>(
-    store: &mut Store<R>,
+/// Reads a block, and writes the reply.
+fn serve_read<R: Rack, K: Sink>(
+    array: &mut Array<R>,
     sink: &mut K,
     b: u32,
-    bytes: &Bytes,
     block: &mut [u8],
 ) -> Result<(), Fault>
-    requires sound { IsSound R.Rack store.old }
-    requires size { length block.old ≡ (shape_of store.old).l }
-    requires fits { length bytes.now ≤ (shape_of store.old).l }
-    ensures goes { GoesOn R.Rack store.old store.new }
-    ensures answered { OnOk result (Answered R.Rack (Event.Write b bytes.now) (K.taken sink.old) (K.taken sink.new) store.old store.new) }
-    ensures part { result ≡ Err Fault.Write → AnsweredPart R.Rack (Event.Write b bytes.now) (K.taken sink.old) (K.taken sink.new) store.old store.new }
+    requires sound { IsSound R.Rack array.old }
+    requires size { length block.old ≡ (shape_of array.old).l }
+    ensures goes { GoesOn R.Rack array.old array.new }
+    ensures answered { OnOk result (Answered R.Rack (Event.Read b) (K.taken sink.old) (K.taken sink.new) array.old array.new) }
+    ensures part { result ≡ Err Fault.Write → AnsweredPart R.Rack (Event.Read b) (K.taken sink.old) (K.taken sink.new) array.old array.new }
+    ensures later { K.faults sink.old ≤ K.faults sink.new }
+    ensures kept { (result ≡ Err Fault.Write → ⊥) → K.faults sink.new ≡ K.faults sink.old }
+    ensures read { result ≡ Err Fault.Read → ⊥ }
+    ensures memory { result ≡ Err Fault.NoMemory → ⊥ }
+    ensures write { result ≡ Err Fault.Write → Rose (K.faults sink.old) (K.faults sink.new) }
+{
+    match array.volume.read(b, block) {
+        ReadAnswer::Got => send_data(sink, trimmed(block)),
+        ReadAnswer::Range => send(sink, &Reply::Range),
+        ReadAnswer::Unavailable => send(sink, &Reply::Unavailable),
+    }
+}
+
+/// Does an event that is answered by one line, which tells no bytes of a block, and answers its reply.
+fn reply_to<R: Rack>(
+    alloc: Global,
+    array: &mut Array<R>,
+    event: &Event,
+    block: &mut [u8],
+) -> Result<Reply, NoMemory>
+    requires sound { IsSound R.Rack array.old }
+    requires size { length block.old ≡ (shape_of array.old).l }
+    requires in_place { IsInPlace (Some (shape_of array.old)) event.now }
+    requires plain { is_plain event.now ≡ true }
+    ensures goes { GoesOn R.Rack array.old array.new }
+    ensures steps { IfOk result (λ reply. StepsTo R.Rack array.old event.now reply array.new) }
+{
+    match event {
+        Event::Write(b, bytes) => {
+            fill_block(block, bytes.as_slice());
+            Ok(write_reply(array.volume.write_block(alloc, *b, block)?))
+        }
+        Event::Fail(s, j) => Ok(fail_reply(array.volume.fail(*s, *j))),
+        Event::Replace(s, j) => Ok(replace_reply(*s, array.volume.replace(*s, *j))),
+        Event::Rebuild(s, n) => Ok(rebuild_reply(array.volume.rebuild(alloc, *s, *n)?)),
+        Event::Settle => Ok(settle_reply(array.volume.settle(alloc)?)),
+        Event::Tend(n) => Ok(tend_reply(array.volume.tend(alloc, *n)?)),
+        Event::Diffuse => Ok(diffuse_reply(array.volume.diffuse(alloc, &array.hot)?)),
+        Event::Who(b) => Ok(who_reply(array.volume.who(*b))),
+        Event::Home(path) => Ok(home_reply(array.volume.home(path.as_slice()))),
+        Event::Array(_)
+        | Event::Read(_)
+        | Event::Pending
+        | Event::Cat(_)
+        | Event::Ls(_)
+        | Event::Tree
+        | Event::Save => unreachable!(),
+    }
+}
+
+/// Does such an event, and writes its reply.
+fn serve_plain<R: Rack, K: Sink>(
+    alloc: Global,
+    array: &mut Array<R>,
+    sink: &mut K,
+    event: &Event,
+    block: &mut [u8],
+) -> Result<(), Fault>
+    requires sound { IsSound R.Rack array.old }
+    requires size { length block.old ≡ (shape_of array.old).l }
+    requires in_place { IsInPlace (Some (shape_of array.old)) event.now }
+    requires plain { is_plain event.now ≡ true }
+    ensures goes { GoesOn R.Rack array.old array.new }
+    ensures answered { OnOk result (Answered R.Rack event.now (K.taken sink.old) (K.taken sink.new) array.old array.new) }
+    ensures part { result ≡ Err Fault.Write → AnsweredPart R.Rack event.now (K.taken sink.old) (K.taken sink.new) array.old array.new }
     ensures wanting { result ≡ Err Fault.NoMemory → K.taken sink.new ≡ K.taken sink.old }
     ensures later { K.faults sink.old ≤ K.faults sink.new }
     ensures kept { (result ≡ Err Fault.Write → ⊥) → K.faults sink.new ≡ K.faults sink.old }
     ensures read { result ≡ Err Fault.Read → ⊥ }
     ensures write { result ≡ Err Fault.Write → Rose (K.faults sink.old) (K.faults sink.new) }
 {
-    match write_block(store, b, bytes, block) {
+    match reply_to(alloc, array, event, block) {
         Ok(reply) => send(sink, &reply),
         Err(_) => Err(Fault::NoMemory),
     }
 }
 
-/// Reads a block, and writes the reply.
-fn serve_read<R: Rack, K: Sink>(
-    store: &mut Store<R>,
-    sink: &mut K,
-    b: u32,
-    block: &mut [u8],
-) -> Result<(), Fault>
-    requires sound { IsSound R.Rack store.old }
-    requires size { length block.old ≡ (shape_of store.old).l }
-    ensures goes { GoesOn R.Rack store.old store.new }
-    ensures answered { OnOk result (Answered R.Rack (Event.Read b) (K.taken sink.old) (K.taken sink.new) store.old store.new) }
-    ensures part { result ≡ Err Fault.Write → AnsweredPart R.Rack (Event.Read b) (K.taken sink.old) (K.taken sink.new) store.old store.new }
-    ensures wanting { result ≡ Err Fault.NoMemory → K.taken sink.new ≡ K.taken sink.old }
-    ensures later { K.faults sink.old ≤ K.faults sink.new }
-    ensures kept { (result ≡ Err Fault.Write → ⊥) → K.faults sink.new ≡ K.faults sink.old }
-    ensures read { result ≡ Err Fault.Read → ⊥ }
-    ensures write { result ≡ Err Fault.Write → Rose (K.faults sink.old) (K.faults sink.new) }
-{
-    if b >= store.shape().n {
-        return send(sink, &Reply::Range);
-    }
-    match store.read(b, block) {
-        Fetched::Got => send_data(sink, trimmed(block)),
-        Fetched::Gone => send(sink, &Reply::Unavailable),
-    }
-}
-
-/// Makes a member fail.
-fn fail_member<R: Rack>(store: &mut Store<R>, s: u32, j: u32) -> Reply
-    requires sound { IsSound R.Rack store.old }
-    ensures goes { GoesOn R.Rack store.old store.new }
-    ensures steps { StepsTo R.Rack store.old (Event.Fail s j) result store.new }
-{
-    if s >= store.shape().b as u32 || j >= 2 {
-        return Reply::Range;
-    }
-    match store.fail(s as u8, j as u8) {
-        FailAnswer::Already => Reply::Already,
-        FailAnswer::Taken => Reply::Done,
-    }
-}
-
-/// Makes a member fail, and writes the reply.
-fn serve_fail<R: Rack, K: Sink>(
-    store: &mut Store<R>,
-    sink: &mut K,
-    s: u32,
-    j: u32,
-) -> Result<(), Fault>
-    requires sound { IsSound R.Rack store.old }
-    ensures goes { GoesOn R.Rack store.old store.new }
-    ensures answered { OnOk result (Answered R.Rack (Event.Fail s j) (K.taken sink.old) (K.taken sink.new) store.old store.new) }
-    ensures part { result ≡ Err Fault.Write → AnsweredPart R.Rack (Event.Fail s j) (K.taken sink.old) (K.taken sink.new) store.old store.new }
-    ensures wanting { result ≡ Err Fault.NoMemory → K.taken sink.new ≡ K.taken sink.old }
-    ensures later { K.faults sink.old ≤ K.faults sink.new }
-    ensures kept { (result ≡ Err Fault.Write → ⊥) → K.faults sink.new ≡ K.faults sink.old }
-    ensures read { result ≡ Err Fault.Read → ⊥ }
-    ensures write { result ≡ Err Fault.Write → Rose (K.faults sink.old) (K.faults sink.new) }
-{
-    let reply = fail_member(store, s, j);
-    send(sink, &reply)
-}
-
 /// Does an event that is in its place after the array, and writes its reply.
 pub fn serve<R: Rack, K: Sink>(
-    store: &mut Store<R>,
+    alloc: Global,
+    array: &mut Array<R>,
     sink: &mut K,
     event: &Event,
-    buffers: &mut Buffers,
+    block: &mut [u8],
 ) -> Result<(), Fault>
-    requires sound { IsSound R.Rack store.old }
-    requires buffers { AreFor (shape_of store.old).l buffers.old }
-    requires in_place { IsInPlace (Some (shape_of store.old)) event.now }
+    requires sound { IsSound R.Rack array.old }
+    requires size { length block.old ≡ (shape_of array.old).l }
+    requires in_place { IsInPlace (Some (shape_of array.old)) event.now }
     requires served { is_served event.now ≡ true }
-    ensures goes { GoesOn R.Rack store.old store.new }
-    ensures buffers { AreFor (shape_of store.old).l buffers.new }
-    ensures answered { OnOk result (Answered R.Rack event.now (K.taken sink.old) (K.taken sink.new) store.old store.new) }
-    ensures part { result ≡ Err Fault.Write → AnsweredPart R.Rack event.now (K.taken sink.old) (K.taken sink.new) store.old store.new }
-    ensures wanting { result ≡ Err Fault.NoMemory → K.taken sink.new ≡ K.taken sink.old }
+    ensures goes { GoesOn R.Rack array.old array.new }
+    ensures answered { OnOk result (Answered R.Rack event.now (K.taken sink.old) (K.taken sink.new) array.old array.new) }
+    ensures part { result ≡ Err Fault.Write → AnsweredPart R.Rack event.now (K.taken sink.old) (K.taken sink.new) array.old array.new }
+    ensures wanting { result ≡ Err Fault.NoMemory → WantedFor R.Rack event.now (K.taken sink.old) (K.taken sink.new) array.old array.new }
     ensures later { K.faults sink.old ≤ K.faults sink.new }
     ensures kept { (result ≡ Err Fault.Write → ⊥) → K.faults sink.new ≡ K.faults sink.old }
     ensures read { result ≡ Err Fault.Read → ⊥ }
     ensures write { result ≡ Err Fault.Write → Rose (K.faults sink.old) (K.faults sink.new) }
 {
     match event {
-        Event::Write(b, bytes) => serve_write(store, sink, *b, bytes, &mut buffers.block),
-        Event::Read(b) => serve_read(store, sink, *b, &mut buffers.block),
-        Event::Fail(s, j) => serve_fail(store, sink, *s, *j),
-        Event::Cat(path) => serve_cat(store, sink, path, &mut buffers.levels),
-        Event::Ls(path) => serve_ls(store, sink, path, &mut buffers.levels),
-        Event::Array(_)
-        | Event::Replace(_, _)
-        | Event::Rebuild(_, _)
-        | Event::Settle
-        | Event::Tend(_)
-        | Event::Diffuse
-        | Event::Who(_)
-        | Event::Pending
-        | Event::Tree
-        | Event::Home(_)
-        | Event::Save => unreachable!(),
+        Event::Read(b) => serve_read(array, sink, *b, block),
+        Event::Pending => serve_pending(array, sink),
+        Event::Cat(path) => serve_cat(array, sink, path),
+        Event::Ls(path) => serve_ls(array, sink, path),
+        plain => serve_plain(alloc, array, sink, plain, block),
     }
 }

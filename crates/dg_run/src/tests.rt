@@ -78,8 +78,12 @@ fn lines_are_answered(rt: HostRuntime) -> Result<(), Fail> {
             "ok\nok\nok\nok\ndata bb\nalready\nok\nunavailable\n",
         ),
         (
-            "array 1024 128 4 64 2\nwrite 3 aa\nfail 3 0\nfail 3 1\nread 3\nread 2\nwrite 2 00\n",
-            "ok\nok\nok\nok\nunavailable\ndata -\ndegraded\n",
+            "array 1024 128 4 64 2\nwrite 3 aa\nfail 3 0\nfail 3 1\nread 3\nread 2\nwrite 2 00\nsettle\ntend 1\n",
+            "ok\nok\nok\nok\nunavailable\ndata -\ndegraded\nlost 3\nlost 3\n",
+        ),
+        (
+            "array 1024 128 4 64 2\nwho 3\nwho 128\npending\nfail 3 0\nfail 3 1\nwho 3\npending\n",
+            "ok\nidle\nrange\nend 0\nok\nok\nidle\nend 0\n",
         ),
     ];
     for (input, output) in rows {
@@ -121,9 +125,9 @@ fn lines_are_refused(rt: HostRuntime) -> Result<(), Fail> {
         ),
         ("array 1024 64 4 32 2\nwrite 3 abc\n", "ok\nline 2 hex\n"),
         ("array 1024 64 4 32 2\ncat a\n", "ok\nline 2 path\n"),
-        ("array 1024 64 4 32 2\nsettle\n", "ok\nline 2 later\n"),
+        ("array 1024 64 4 32 2\nsave\n", "ok\nline 2 later\n"),
         (
-            "array 1024 64 4 32 2\nread 3\nwho 3\nread 3\n",
+            "array 1024 64 4 32 2\nread 3\ntree\nread 3\n",
             "ok\ndata -\nline 3 later\n",
         ),
     ];

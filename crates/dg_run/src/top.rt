@@ -2,12 +2,11 @@
 ghost use Rattle.std.specs.Prelude.{◌≡◌, ◌⊎◌, ◌≤◌, ◌↔◌, ◌^◌, ℕ, List, Option, length, map, IfOk, OnErr, IsSome, Some, None, string_bytes};
 ghost use Rattle.dg_io.specs.Told.{Told, Took, TookPart, AreAny};
 ghost use Rattle.dg_model.specs.Causes.{Rose};
-ghost use Rattle.dg_store.specs.Stores.{IsSound, shape_of};
 ghost use Rattle.dg_text.specs.Lines.{line_of, input_of};
 ghost use Rattle.dg_text.specs.Replies.{reply_line, usage, refusal};
 ghost use Rattle.dg_run.specs.Inputs.{ahead};
 ghost use Rattle.dg_run.specs.Statuses.{code_of};
-ghost use Rattle.dg_run.specs.Stores.{GoesOn};
+ghost use Rattle.dg_run.specs.Steps.{GoesOn, IsSound, shape_of};
 ghost use Rattle.dg_run.specs.Endings.{LinesBrokeOff};
 ghost use Rattle.dg_run.specs.Events.{Begins};
 ghost use Rattle.dg_run.specs.Replays.{AreUnbuilt, BrokeOff, IsCut, IsInput, IsReplay, RanOut, Replayed, Stopped};
@@ -16,14 +15,13 @@ ghost use Rattle.dg_model.specs.Shapes.{IsShape};
 ghost use Rattle.dg_model.specs.declared.events.Event.{Event};
 ghost use Rattle.dg_model.specs.declared.replies.Reply.{Reply};
 
-use crate::buffers::Buffers;
+use crate::arrays::Array;
 use crate::events::{Fault, Taken, take_event};
 use crate::input::Input;
 use crate::lines::{BUDGET, LinesEnd, serve_lines};
 use crate::serve::send;
 use dg_io::{Rack, Sink, Source};
 use dg_model::{Event, NoMemory, Reply, Shape};
-use dg_store::Store;
 use dg_text::{BadLine, write_refusal, write_usage};
 use dg_words::{Command, WordsRefused, command};
 use std::alloc::Global;
@@ -117,24 +115,24 @@ fn serve_array<S: Source, K: Sink, R: Rack>(
     input: &mut Input,
     source: &mut S,
     sink: &mut K,
-    store: &mut Store<R>,
+    array: &mut Array<R>,
     first: u64,
 ) -> Status
-    requires sound { IsSound R.Rack store.old }
+    requires sound { IsSound R.Rack array.old }
     requires first { first ≤ 2 ^ 40 }
-    ensures goes { GoesOn R.Rack store.old store.new }
+    ensures goes { GoesOn R.Rack array.old array.new }
     ensures done { result ≡ Status.Done → AllAnswered R.Rack first (ahead input.old (S.left source.old)) (ahead input.new (S.left source.new))
-        (K.taken sink.old) (K.taken sink.new) store.old store.new }
+        (K.taken sink.old) (K.taken sink.new) array.old array.new }
     ensures bad_line { result ≡ Status.BadLine
         → AnsweredTo R.Rack first (ahead input.old (S.left source.old)) (ahead input.new (S.left source.new)) (K.taken sink.old)
-        (K.taken sink.new) store.old store.new }
+        (K.taken sink.new) array.old array.new }
     ensures broken { result ≡ Status.ReadFault
-        → LinesBrokeOff R.Rack (reply_line Reply.Done) (shape_of store.old) first (ahead input.old (S.left source.old))
-        (S.left source.new) (K.taken sink.old) (K.taken sink.new) store.old store.new }
+        → LinesBrokeOff R.Rack (reply_line Reply.Done) (shape_of array.old) first (ahead input.old (S.left source.old))
+        (S.left source.new) (K.taken sink.old) (K.taken sink.new) array.old array.new }
     ensures part { result ≡ Status.WriteFault → ArrayCut R.Rack first (ahead input.old (S.left source.old)) (ahead input.new (S.left source.new))
-        (S.left source.new) (K.taken sink.old) (K.taken sink.new) store.old store.new }
+        (S.left source.new) (K.taken sink.old) (K.taken sink.new) array.old array.new }
     ensures wanting { result ≡ Status.NoMemory → ArrayRanOut R.Rack first (ahead input.old (S.left source.old)) (S.left source.new)
-        (K.taken sink.old) (K.taken sink.new) store.old store.new }
+        (K.taken sink.old) (K.taken sink.new) array.old array.new }
     ensures read { result ≡ Status.ReadFault → Rose (S.faults source.old) (S.faults source.new) }
     ensures write { result ≡ Status.WriteFault → Rose (K.faults sink.old) (K.faults sink.new) }
     ensures source_later { S.faults source.old ≤ S.faults source.new }
@@ -143,13 +141,13 @@ fn serve_array<S: Source, K: Sink, R: Rack>(
     ensures sink_kept { (result ≡ Status.WriteFault → ⊥) → K.faults sink.new ≡ K.faults sink.old }
     ensures never { IsOfReplay result }
 {
-    let Ok(mut buffers) = Buffers::new(alloc, store.shape().l) else {
+    let Ok(mut block) = vec![in alloc; 0u8; array.volume.shape().l as usize] else {
         return Status::NoMemory;
     };
     let Ok(()) = send(sink, &Reply::Done) else {
         return Status::WriteFault;
     };
-    match serve_lines(alloc, input, source, sink, store, &mut buffers, first) {
+    match serve_lines(alloc, input, source, sink, array, &mut block, first) {
         Ok(LinesEnd::Input) => Status::Done,
         Ok(LinesEnd::Refused(number, kind)) => refuse(sink, number, kind),
         Err(fault) => status_of(fault),
@@ -196,10 +194,11 @@ fn replay_array<S: Source, K: Sink, R: Rack + Drop>(
     ensures err_sink { OnErr result (K.faults sink.new ≡ K.faults sink.old) }
     ensures never { IfOk result (λ end. IsOfReplay end.status) }
 {
-    let mut store = Store::new(alloc, rack, shape)?;
-    let status = serve_array(alloc, input, source, sink, &mut store, first);
+    let mut array = Array::new(alloc, rack, shape)?;
+    let status = serve_array(alloc, input, source, sink, &mut array, first);
+    let Array { volume, .. } = array;
     Ok(Ended {
-        rack: store.into_rack(),
+        rack: volume.into_rack(),
         status,
     })
 }

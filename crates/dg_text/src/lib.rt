@@ -28,5 +28,7 @@ pub use listing_lines::Lines;
 pub use listings::Form;
 pub use path_words::read_path;
 pub use raw::Raw;
-pub use replies::{write_data, write_refusal, write_reply, write_usage};
+pub use replies::{
+    write_block_line, write_blocks_end, write_data, write_refusal, write_reply, write_usage,
+};
 pub use written::write_event;

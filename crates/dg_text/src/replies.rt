@@ -5,7 +5,8 @@ ghost use Rattle.std.specs.List.{concat};
 ghost use Rattle.dg_io.specs.Told.{Told, Took, TookPart};
 ghost use Rattle.dg_io.specs.Faults.{HasCause};
 ghost use Rattle.hex.specs.Hex.{encode_lower};
-ghost use Rattle.dg_text.specs.Replies.{reply_line, refusal, kind_of, usage, bytes_line, file_text, blocks_text, super_word, bad_word, refusal_words};
+ghost use Rattle.dg_text.specs.HexLines.{last_line};
+ghost use Rattle.dg_text.specs.Replies.{reply_line, refusal, kind_of, usage, block_line, bytes_line, file_text, blocks_text, super_word, bad_word, refusal_words};
 
 use crate::BadLine;
 use crate::counts::{write_number, write_numbers};
@@ -185,6 +186,24 @@ fn write_blocks<K: Sink>(sink: &mut K, blocks: &[u32]) -> Result<(), Failed>
     write_number(sink, b"end ", blocks.len() as u128)
 }
 
+/// Writes the line of a block.
+pub fn write_block_line<K: Sink>(sink: &mut K, block: u32) -> Result<(), Failed>
+    ensures ok { OnOk result (Told (Took (block_line block)) (K.taken sink.old) (K.taken sink.new)) }
+    ensures err { OnErr result (Told (TookPart (block_line block)) (K.taken sink.old) (K.taken sink.new)) }
+    ensures cause { HasCause (K.faults sink.old) (K.faults sink.new) result }
+{
+    write_number(sink, b"block ", block as u128)
+}
+
+/// Writes the line that ends the lines of so many blocks.
+pub fn write_blocks_end<K: Sink>(sink: &mut K, count: u32) -> Result<(), Failed>
+    ensures ok { OnOk result (Told (Took (last_line (codes "end ") count)) (K.taken sink.old) (K.taken sink.new)) }
+    ensures err { OnErr result (Told (TookPart (last_line (codes "end ") count)) (K.taken sink.old) (K.taken sink.new)) }
+    ensures cause { HasCause (K.faults sink.old) (K.faults sink.new) result }
+{
+    write_number(sink, b"end ", count as u128)
+}
+
 // Writes the lines of blocks.
 fn write_block_lines<K: Sink>(sink: &mut K, blocks: &[u32]) -> Result<(), Failed>
     ensures ok { OnOk result (Told (Took (blocks_text blocks.now)) (K.taken sink.old) (K.taken sink.new)) }
@@ -192,7 +211,7 @@ fn write_block_lines<K: Sink>(sink: &mut K, blocks: &[u32]) -> Result<(), Failed
     ensures cause { HasCause (K.faults sink.old) (K.faults sink.new) result }
 {
     for block in blocks {
-        write_number(sink, b"block ", *block as u128)?;
+        write_block_line(sink, *block)?;
     }
     Ok(())
 }

@@ -18,7 +18,7 @@ use Rattle.dg_model.proofs.FirstSites.{empty_inside}
 use Rattle.dg_model.proofs.MemberLaws.{none_back, none_front}
 use Rattle.dg_model.proofs.RunLaws.{trace_more}
 use Rattle.dg_model.proofs.StepLaws.{run_keeps, step_keeps}
-use Rattle.dg_uses.specs.Views.{Core, IsServed, Views, blank_core, core_of}
+use Rattle.dg_uses.specs.Views.{Core, IsViewed, Views, blank_core, core_of}
 use Rattle.dg_uses.proofs.Cores.{Sound, core_is}
 use Rattle.dg_uses.proofs.OneView.{view_same, view_sound}
 use Rattle.dg_uses.proofs.StepViews.{view_of}
@@ -41,7 +41,7 @@ views_same shape (event ∷ events) c x y (reply ∷ r) (other ∷ q) sound u v 
 -- ---- runs
 
 module _ (Known : Type 0) (known : Known) (shape : Shape) where
-  pub run_views : (events : List Event) (old new : State) (replies : List Reply) → All IsServed events → Sound shape (core_of old)
+  pub run_views : (events : List Event) (old new : State) (replies : List Reply) → All IsViewed events → Sound shape (core_of old)
       → NoneRose old.counts.faults new.counts.faults → Run Known old events replies new → Views (core_of old) events replies (core_of new)
   run_views [] old new [] served sound none run = ap (λ (s : State). core_of s) run
   run_views [] old new (reply ∷ replies) served sound none run = absurd run
@@ -50,8 +50,8 @@ module _ (Known : Type 0) (known : Known) (shape : Shape) where
       let mid = run.0 in
       let front = none_front old.counts.faults mid.counts.faults new.counts.faults (run_keeps Known mid events replies new run.2).counts.faults none in
       let back = none_back old.counts.faults mid.counts.faults new.counts.faults (step_keeps Known old event reply mid run.1).counts.faults none in
-      let view = view_of Known known shape old mid sound front event reply (All-head IsServed event events served) run.1 in
-      let rest = run_views events mid new replies (All-tail IsServed event events served) (view_sound shape (core_of old) event reply (core_of mid) sound view) back run.2 in
+      let view = view_of Known known shape old mid sound front event reply (All-head IsViewed event events served) run.1 in
+      let rest = run_views events mid new replies (All-tail IsViewed event events served) (view_sound shape (core_of old) event reply (core_of mid) sound view) back run.2 in
       (core_of mid, view, rest)
 
 -- ---- traces
@@ -92,7 +92,7 @@ pub record IsChain (shape : Shape) (events : List Event) (replies : List Reply) 
   pub views : Views (blank_core shape) events rest new
 
 pub trace_chain : (Known : Type 0) → Known → (shape : Shape) (events : List Event) (before : Counts) (replies : List Reply) (final : State) → IsShape shape
-    → All IsServed events → NoneRose before.faults final.counts.faults → Trace Known before (Array shape ∷ events) replies final
+    → All IsViewed events → NoneRose before.faults final.counts.faults → Trace Known before (Array shape ∷ events) replies final
     → IsChain shape events replies (core_of final)
 trace_chain Known known shape events before replies final is served none trace =
     let t = trace_more Known before shape events replies final trace in
@@ -105,7 +105,7 @@ trace_chain Known known shape events before replies final is served none trace =
 
 -- any trace in which no count of faults rises, where bytes are told, has the replies of a chain that a client writes down
 pub trace_views : (Known : Type 0) → Known → (shape : Shape) (events : List Event) (before : Counts) (replies chain : List Reply) (final : State) (end : Core)
-    → IsShape shape → All IsServed events → NoneRose before.faults final.counts.faults → Trace Known before (Array shape ∷ events) replies final
+    → IsShape shape → All IsViewed events → NoneRose before.faults final.counts.faults → Trace Known before (Array shape ∷ events) replies final
     → Views (blank_core shape) events chain end → replies ≡ Done ∷ chain
 trace_views Known known shape events before replies chain final end is served none trace views =
     let found = trace_chain Known known shape events before replies final is served none trace in
@@ -113,7 +113,7 @@ trace_views Known known shape events before replies chain final end is served no
 
 -- two such traces of the same events have the same replies
 pub traces_same : (K J : Type 0) → K → J → (shape : Shape) (events : List Event) (before after : Counts) (r q : List Reply) (x y : State) → IsShape shape
-    → All IsServed events → NoneRose before.faults x.counts.faults → NoneRose after.faults y.counts.faults → Trace K before (Array shape ∷ events) r x
+    → All IsViewed events → NoneRose before.faults x.counts.faults → NoneRose after.faults y.counts.faults → Trace K before (Array shape ∷ events) r x
     → Trace J after (Array shape ∷ events) q y → r ≡ q
 traces_same K J k j shape events before after r q x y is served none never trace other =
     let found = trace_chain J j shape events after q y is served never other in

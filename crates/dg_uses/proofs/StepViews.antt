@@ -16,7 +16,7 @@ use Rattle.dg_model.specs.declared.events.Event.{Event}
 use Rattle.dg_model.specs.declared.events.Event.TheVariants.{Write, Read, Fail, Cat, Ls}
 use Rattle.dg_model.specs.declared.replies.Reply.{Reply}
 use Rattle.dg_model.specs.declared.replies.Reply.TheVariants.{Done, Range, Degraded, Unavailable, Already, Data, Given, Cut, Listed as ListedReply, ListedCut, Refused}
-use Rattle.dg_uses.specs.Views.{Core, IsServed, View, any_gone_in, core_of, is_gone_in}
+use Rattle.dg_uses.specs.Views.{Core, IsViewed, View, any_gone_in, core_of, is_gone_in}
 use Rattle.dg_uses.proofs.Cores.{Sound, core_is, goes_members, keeps_sites, same_core, stays_core}
 
 not_true : (x : Bool) → (x ≡ true → ⊥) → x ≡ false
@@ -118,7 +118,7 @@ module _ (Known : Type 0) (known : Known) (shape : Shape) (old new : State) (sou
   ls_view path reply h = absurd h
 
   -- a step of an event that is served
-  pub view_of : (event : Event) (reply : Reply) → IsServed event → Step Known old event reply new → View (core_of old) event reply (core_of new)
+  pub view_of : (event : Event) (reply : Reply) → IsViewed event → Step Known old event reply new → View (core_of old) event reply (core_of new)
   view_of (Write b bytes) reply place h = write_view b bytes reply h
   view_of (Read b) reply place h = read_view b reply h
   view_of (Fail s j) reply place h = fail_view s j reply h

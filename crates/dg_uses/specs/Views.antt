@@ -1,5 +1,5 @@
--- What each event that is served does to an array where bytes are told and no call fails: its reply, and what the array is then. The
--- rules are this project's own.
+-- What events on blocks and members, and reads by path, do to an array where bytes are told and no call fails: the reply of each, and what
+-- the array is then. The rules are this project's own.
 use Rattle.std.specs.Prelude.{◌≡◌, ◌≢◌, ◌+◌, ◌*◌, ◌/◌, ◌<◌, ℕ, Bool, true, false, List, [], ◌∷◌, Result, Ok, Err, replicate, slice_set, nat_lt, if◌then◌else◌}
 use Rattle.std.specs.List.{concat, list_any}
 use Rattle.ufs_model.specs.Blocks.{Consulted}
@@ -70,14 +70,14 @@ listing_in core path = ls_of core.table.shape.l core.table.shape.n path core.blo
 
 -- ---- one event
 
--- the events that are served behind the first one
-abbrev pub IsServed : Event → Type 0
-IsServed (Write b bytes) = Unit {0}
-IsServed (Read b) = Unit {0}
-IsServed (Fail s j) = Unit {0}
-IsServed (Cat path) = Unit {0}
-IsServed (Ls path) = Unit {0}
-IsServed event = ⊥
+-- the events of which this is said
+abbrev pub IsViewed : Event → Type 0
+IsViewed (Write b bytes) = Unit {0}
+IsViewed (Read b) = Unit {0}
+IsViewed (Fail s j) = Unit {0}
+IsViewed (Cat path) = Unit {0}
+IsViewed (Ls path) = Unit {0}
+IsViewed event = ⊥
 
 -- block b was written: it keeps its sites or has its first one, its value is these bytes with zeros for their missing end, and members
 -- stay

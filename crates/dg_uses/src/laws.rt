@@ -1,15 +1,16 @@
 // Laws of runs in which no count of faults rose, and of which bytes are told.
-ghost use Rattle.std.specs.Prelude.{◌≡◌, ◌∷◌, [], false, List};
+ghost use Rattle.std.specs.Prelude.{◌≡◌, ◌∷◌, [], All, false, List};
 ghost use Rattle.dg_model.specs.declared.events.Event.{Event};
 ghost use Rattle.dg_model.specs.declared.replies.Reply.{Reply};
 ghost use Rattle.dg_model.specs.declared.shapes.Shape.{Shape};
 ghost use Rattle.dg_uses.specs.Answers.{StaysWhole, answers};
 ghost use Rattle.dg_uses.specs.Replays.{RanSmoothly};
-ghost use Rattle.dg_uses.specs.Views.{Core, Views, blank_core};
+ghost use Rattle.dg_uses.specs.Views.{Core, IsViewed, Views, blank_core};
 
-/// The replies are a function of the events.
+/// The replies to events on blocks and members, and to reads by path, are a function of the events.
 pub fn replies_are_a_function()
-    ensures { (events : List Event) (replies others : List Reply) → RanSmoothly events replies → RanSmoothly events others → replies ≡ others }
+    ensures { (shape : Shape) (events : List Event) (replies others : List Reply) → All IsViewed events
+        → RanSmoothly (Event.Array shape ∷ events) replies → RanSmoothly (Event.Array shape ∷ events) others → replies ≡ others }
 {}
 
 /// The replies are those of each chain of views of the events.

@@ -16,7 +16,7 @@ use Rattle.dg_volume.specs.Volumes.{IsBlankVolume, StandsIn, loose_phase, member
 use Rattle.dg_volume.specs.declared.phases.Loose.{Loose}
 use Rattle.dg_volume.specs.declared.volumes.Volume.{Volume}
 
-no_homes : (shape : Shape) → AreHomes shape []
+pub no_homes : (shape : Shape) → AreHomes shape []
 no_homes shape = search rules
 
 -- What is inferred of a blank volume, and that it has no homes.
@@ -58,7 +58,9 @@ module _ {R : Type 0} (rack : Ghosts R) (shape : Shape) (before : R) (volume : V
       inferred = record { bytes = plain.bytes ∙ sym (ap (λ (s : Shape). s.l) same_shape); number = plain.number ∙ sym (ap (λ (s : Shape). s.n) same_shape) };
       homes_are = subst (λ (x : List Home). AreHomes (shape_of volume) x) (sym plain.homes) (no_homes (shape_of volume));
       copies_are = subst (λ (x : List Home). AreHomes (shape_of volume) x) (sym plain.copies) (no_homes (shape_of volume));
+      loose = λ loose. plain.copies;
       worn = λ worn. absurd (cc worn);
+      settled = λ settled. absurd (cc settled);
     };
     shape_is = same_shape;
     tells = blank.stays.tells;

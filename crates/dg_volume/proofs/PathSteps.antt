@@ -1,5 +1,5 @@
 -- A volume makes a step by a file that is read, or a directory that is listed, by its path.
-use Rattle.std.proofs.Common.{◌≡◌, ℕ, List, ◌++◌, sym, subst, true}
+use Rattle.std.proofs.Common.{◌≡◌, ℕ, List, ◌++◌, refl, sym, subst, true}
 use Rattle.std.specs.Prelude.{Option, Some, None, Result, Ok, Err, IfNone}
 use Rattle.std.specs.List.{concat}
 use Rattle.dg_io.specs.declared.outside.Rack.{Ghosts}
@@ -12,10 +12,9 @@ use Rattle.dg_model.specs.Steps.{recent_after}
 use Rattle.dg_model.specs.declared.events.Event.TheVariants.{Cat, Ls}
 use Rattle.dg_model.specs.declared.replies.Reply.TheVariants.{Cut, Given, Listed as ListedReply, ListedCut, Refused, Unavailable as ReplyUnavailable}
 use Rattle.dg_store.specs.Stores as stores
-use Rattle.dg_volume.proofs.FileLaws.{file_number, number_in}
-use Rattle.dg_volume.proofs.VolumeLaws.{HasRead, read_keeps, reads_in, reads_stay, steps_from, told_before}
-use Rattle.dg_volume.specs.Replies.{AnswersCat, AnswersLs}
-use Rattle.dg_volume.specs.Volumes.{StandsFor, StepsTo, Tells, marks_by, members_of, rack_of, shape_of, state_of, table_of}
+use Rattle.dg_volume.proofs.VolumeLaws.{HasRead, read_keeps, reads_in, reads_stay, steps_by, steps_from, told_before}
+use Rattle.dg_volume.specs.Replies.{AnswersCat, AnswersLs, HasFileAt, TellsInode}
+use Rattle.dg_volume.specs.Volumes.{StandsFor, StepsBy, StepsTo, Tells, marks_by, members_of, rack_of, shape_of, state_of, table_of, touched_by}
 use Rattle.dg_volume.specs.declared.phases.InPhase as phases
 use Rattle.dg_volume.specs.declared.volumes.Volume.{Volume}
 use Rattle.ufs_model.specs.Blocks.{Reading}
@@ -48,11 +47,11 @@ module _ {S R : Type 0} (phase : phases.Ghosts S) (rack : Ghosts R) where
   abbrev pub Lists : List ℕ → Volume S R → Volume S R → Option (Result (List Listed) PathRefusal) → Type 0
   Lists path a b answer = ReadsBy (ls_of (shape_of a).l (shape_of a).n path) a b answer
 
-  held : (a b : Volume S R) (V : List (List ℕ)) → HasRead phase rack a b → (Tells rack a → StandsFor phase rack a V) → Tells rack b → stores.StandsFor rack a.store V
+  pub held : (a b : Volume S R) (V : List (List ℕ)) → HasRead phase rack a b → (Tells rack a → StandsFor phase rack a V) → Tells rack b → stores.StandsFor rack a.store V
   held a b V h holds told = let all = holds (told_before phase rack a b (read_keeps phase rack a b h) told) in all.array
 
   -- what may be answered of a state by what was read of the volume
-  may_read : {A : Type 0} (reading : Reading A) (a b : Volume S R) (rest : State) (V : List (List ℕ)) (answer : Option A) → HasRead phase rack a b
+  pub may_read : {A : Type 0} (reading : Reading A) (a b : Volume S R) (rest : State) (V : List (List ℕ)) (answer : Option A) → HasRead phase rack a b
       → (Tells rack a → StandsFor phase rack a V) → ReadsBy reading a b answer → IfNone answer (LosesBlock b)
       → MayRead (Tells rack b) (state_of phase rack a rest V) (state_of phase rack b rest V) reading answer
   may_read reading a b rest V answer h holds reads gone = record {
@@ -62,7 +61,7 @@ module _ {S R : Type 0} (phase : phases.Ghosts S) (rack : Ghosts R) where
   }
 
   -- what was cut short
-  cut_short : {A : Type 0} (reading : Reading A) (a b : Volume S R) (rest : State) (V : List (List ℕ)) → HasRead phase rack a b
+  pub cut_short : {A : Type 0} (reading : Reading A) (a b : Volume S R) (rest : State) (V : List (List ℕ)) → HasRead phase rack a b
       → (Tells rack a → StandsFor phase rack a V) → ReadsBy reading a b None → IsCutShort (Tells rack b) (state_of phase rack a rest V) (state_of phase rack b rest V) reading
   cut_short reading a b rest V h holds lost told =
       let rule = lost.rule told V (held a b V h holds told) in
@@ -79,6 +78,7 @@ module _ {S R : Type 0} (phase : phases.Ghosts S) (rack : Ghosts R) where
       may_read (cat_of (shape_of a).l (shape_of a).n path) a b rest V (Some (Err refusal)) h holds reads tt,
       reads_stay phase rack a b rest V label h,
     ),
+    refl,
   ))
 
   cat_lost : (path : List ℕ) (a b : Volume S R) → HasRead phase rack a b → Reads path a b None → LosesBlock b → StepsTo phase phase rack a (Cat path) ReplyUnavailable b
@@ -89,22 +89,24 @@ module _ {S R : Type 0} (phase : phases.Ghosts S) (rack : Ghosts R) where
       may_read (cat_of (shape_of a).l (shape_of a).n path) a b rest V None h holds reads gone,
       reads_stay phase rack a b rest V label h,
     ),
+    refl,
   ))
 
-  -- the inode of the file that was given
-  abbrev inode_at : Volume S R → List ℕ → List (List ℕ) → ℕ
-  inode_at a path V = number_in ((file_of (shape_of a).l (shape_of a).n path V).value)
+  -- what the blocks of the volume say of the file at a path
+  pub has_file : (path : List ℕ) (a b : Volume S R) (i : ℕ) → (Tells rack b → Tells rack a)
+      → (Tells rack b → (V : List (List ℕ)) → stores.StandsFor rack a.store V → (file_of (shape_of a).l (shape_of a).n path V).value ≡ Ok i) → HasFileAt phase rack a path b i
+  has_file path a b i back is state stands told = let all = stands.holds (back told) in is told state.blocks all.array
 
-  -- the rest of the state once it was given whole
-  abbrev touched_rest : Volume S R → List ℕ → State → List (List ℕ) → State
-  touched_rest a path rest V = record rest { recent = recent_after (phase.phase a.phase) (inode_at a path V) rest.recent }
+  -- the rest of the state once file i was given whole
+  abbrev touched_rest : Volume S R → ℕ → State → State
+  touched_rest a i rest = record rest { recent = recent_after (phase.phase a.phase) i rest.recent }
 
-  given_steps : (path : List ℕ) (lines : List (List ℕ)) (a b : Volume S R) → HasRead phase rack a b → AreLines (shape_of a).l lines → Reads path a b (Some (Ok (concat lines)))
-      → StepsTo phase phase rack a (Cat path) (Given lines) b
-  given_steps path lines a b h are reads = steps_from phase rack a b (Cat path) (Given lines) (λ rest V label holds.
-      let next = state_of phase rack b (touched_rest a path rest V) V in (
+  touches : (path : List ℕ) (lines : List (List ℕ)) (i : ℕ) (a b : Volume S R) → HasRead phase rack a b → AreLines (shape_of a).l lines → Reads path a b (Some (Ok (concat lines)))
+      → HasFileAt phase rack a path b i → StepsBy phase phase rack (recent_after (phase.phase a.phase) i) a (Cat path) (Given lines) b
+  touches path lines i a b h are reads file = steps_by phase rack (recent_after (phase.phase a.phase) i) a b (Cat path) (Given lines) (λ rest V label holds.
+      let next = state_of phase rack b (touched_rest a i rest) V in (
         next,
-        reads_in phase rack a b (touched_rest a path rest V) V label h holds,
+        reads_in phase rack a b (touched_rest a i rest) V label h holds,
         (
           are,
           record {
@@ -114,10 +116,8 @@ module _ {S R : Type 0} (phase : phases.Ghosts S) (rack : Ghosts R) where
           },
           record {
             goes = goes_plain (state_of phase rack a rest V) next label label h.reads.keeps.stays.rise h.reads.keeps.falls h.sound.paired;
-            i = inode_at a path V;
-            is = λ told.
-                let rule = reads.rule told V (held a b V h holds told) in
-                file_number (shape_of a).l (shape_of a).n path V (concat lines) (sym rule.answer);
+            i = i;
+            is = λ told. file (state_of phase rack a rest V) (record { is = refl; label = label; holds = holds }) told;
             rest = λ j. record rest {
               table = h.reads.table j;
               blocks = V;
@@ -127,11 +127,18 @@ module _ {S R : Type 0} (phase : phases.Ghosts S) (rack : Ghosts R) where
               phase = phase.phase (h.beside.phase_is j);
               members = members_of b;
               counts = rack.counts (rack_of b);
-              recent = recent_after (phase.phase a.phase) (inode_at a path V) rest.recent;
+              recent = recent_after (phase.phase a.phase) i rest.recent;
             };
           },
         ),
+        refl,
       ))
+
+  -- as it is told
+  given_steps : (path : List ℕ) (lines : List (List ℕ)) (a b : Volume S R) → HasRead phase rack a b → AreLines (shape_of a).l lines → Reads path a b (Some (Ok (concat lines)))
+      → (i : ℕ) → b.given ≡ Some i → HasFileAt phase rack a path b i → StepsBy phase phase rack (touched_by (phase.phase a.phase) b.given) a (Cat path) (Given lines) b
+  given_steps path lines a b h are reads i is file =
+      subst (λ (told : Option ℕ). StepsBy phase phase rack (touched_by (phase.phase a.phase) told) a (Cat path) (Given lines) b) (sym is) (touches path lines i a b h are reads file)
 
   cut_steps : (path : List ℕ) (lines : List (List ℕ)) (more : List ℕ) (a b : Volume S R) → HasRead phase rack a b → AreLines (shape_of a).l lines
       → Reads path a b (Some (Ok (concat lines ++ more))) → Reads path a b None → StepsTo phase phase rack a (Cat path) (Cut lines) b
@@ -144,23 +151,25 @@ module _ {S R : Type 0} (phase : phases.Ghosts S) (rack : Ghosts R) where
       cut_short (cat_of (shape_of a).l (shape_of a).n path) a b rest V h holds lost,
       reads_stay phase rack a b rest V label h,
     ),
+    refl,
   ))
 
   -- each answer
   pub cat_answers : {C : Type 0} (took took_part : C → List ℕ → C → Type 0) (faults : C → ℕ) (old new : C) (path : List ℕ) (a b : Volume S R) (answer : CatAnswer) → HasRead phase rack a b
-      → (IsUnanswered answer → LosesBlock b) → IsAnswer took took_part faults old new (Reads path a b) answer
-      → AnswersCat took took_part faults old new (shape_of a).l (λ reply. StepsTo phase phase rack a (Cat path) reply b) answer
-  cat_answers took took_part faults old new path a b (AnswerGiven n) h cause rule =
-      (rule.0, rule.1, rule.2, λ lines are whole. given_steps path lines a b h are (subst (λ (l : List ℕ). Reads path a b (Some (Ok l))) (sym whole) rule.3))
-  cat_answers took took_part faults old new path a b NotFound h cause rule = (rule.0, cat_refused path RefusedNotFound a b h rule.1)
-  cat_answers took took_part faults old new path a b NotDirectory h cause rule = (rule.0, cat_refused path RefusedNotDirectory a b h rule.1)
-  cat_answers took took_part faults old new path a b (Bad bad) h cause rule = (rule.0, cat_refused path (RefusedBad bad) a b h rule.1)
-  cat_answers took took_part faults old new path a b Unavailable h cause rule = (rule.0, cat_lost path a b h rule.1 (cause tt))
-  cat_answers took took_part faults old new path a b NotRegular h cause rule = (rule.0, cat_refused path RefusedNotRegular a b h rule.1)
-  cat_answers took took_part faults old new path a b (AnswerCut n) h cause rule =
+      → (IsUnanswered answer → LosesBlock b) → IsAnswer took took_part faults old new (Reads path a b) answer → TellsInode (HasFileAt phase rack a path b) a.given b.given answer
+      → AnswersCat took took_part faults old new (shape_of a).l (λ reply. StepsBy phase phase rack (touched_by (phase.phase a.phase) b.given) a (Cat path) reply b)
+      (λ reply. StepsTo phase phase rack a (Cat path) reply b) answer
+  cat_answers took took_part faults old new path a b (AnswerGiven n) h cause rule told =
+      (rule.0, rule.1, rule.2, λ lines are whole. given_steps path lines a b h are (subst (λ (l : List ℕ). Reads path a b (Some (Ok l))) (sym whole) rule.3) told.0 told.1 told.2)
+  cat_answers took took_part faults old new path a b NotFound h cause rule told = (rule.0, cat_refused path RefusedNotFound a b h rule.1)
+  cat_answers took took_part faults old new path a b NotDirectory h cause rule told = (rule.0, cat_refused path RefusedNotDirectory a b h rule.1)
+  cat_answers took took_part faults old new path a b (Bad bad) h cause rule told = (rule.0, cat_refused path (RefusedBad bad) a b h rule.1)
+  cat_answers took took_part faults old new path a b Unavailable h cause rule told = (rule.0, cat_lost path a b h rule.1 (cause tt))
+  cat_answers took took_part faults old new path a b NotRegular h cause rule told = (rule.0, cat_refused path RefusedNotRegular a b h rule.1)
+  cat_answers took took_part faults old new path a b (AnswerCut n) h cause rule told =
       (rule.0, rule.2, rule.3, λ lines are whole. cut_steps path lines rule.1 a b h are (subst (λ (l : List ℕ). Reads path a b (Some (Ok (l ++ rule.1)))) (sym whole) rule.4) rule.5)
-  cat_answers took took_part faults old new path a b SinkFault h cause rule =
-      (rule.0, rule.1, rule.3, λ lines are whole. given_steps path lines a b h are (subst (λ (l : List ℕ). Reads path a b (Some (Ok l))) (sym whole) rule.2))
+  cat_answers took took_part faults old new path a b SinkFault h cause rule told =
+      (rule.0, rule.1, rule.3, λ lines are whole. given_steps path lines a b h are (subst (λ (l : List ℕ). Reads path a b (Some (Ok l))) (sym whole) rule.2) told.0 told.1 told.2)
 
   -- ---- a directory
 
@@ -173,6 +182,7 @@ module _ {S R : Type 0} (phase : phases.Ghosts S) (rack : Ghosts R) where
       may_read (ls_of (shape_of a).l (shape_of a).n path) a b rest V (Some (Err refusal)) h holds reads tt,
       reads_stay phase rack a b rest V label h,
     ),
+    refl,
   ))
 
   ls_lost : (path : List ℕ) (a b : Volume S R) → HasRead phase rack a b → Lists path a b None → LosesBlock b → StepsTo phase phase rack a (Ls path) ReplyUnavailable b
@@ -183,6 +193,7 @@ module _ {S R : Type 0} (phase : phases.Ghosts S) (rack : Ghosts R) where
       may_read (ls_of (shape_of a).l (shape_of a).n path) a b rest V None h holds reads gone,
       reads_stay phase rack a b rest V label h,
     ),
+    refl,
   ))
 
   listed_steps : (path : List ℕ) (entries : List Listed) (a b : Volume S R) → HasRead phase rack a b → Lists path a b (Some (Ok entries))
@@ -194,6 +205,7 @@ module _ {S R : Type 0} (phase : phases.Ghosts S) (rack : Ghosts R) where
       may_read (ls_of (shape_of a).l (shape_of a).n path) a b rest V (Some (Ok entries)) h holds reads tt,
       reads_stay phase rack a b rest V label h,
     ),
+    refl,
   ))
 
   listed_cut_steps : (path : List ℕ) (entries more : List Listed) (a b : Volume S R) → HasRead phase rack a b → Lists path a b (Some (Ok (entries ++ more))) → Lists path a b None
@@ -206,6 +218,7 @@ module _ {S R : Type 0} (phase : phases.Ghosts S) (rack : Ghosts R) where
       cut_short (ls_of (shape_of a).l (shape_of a).n path) a b rest V h holds lost,
       reads_stay phase rack a b rest V label h,
     ),
+    refl,
   ))
 
   -- each answer

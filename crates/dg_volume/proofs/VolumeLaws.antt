@@ -20,11 +20,11 @@ use Rattle.dg_model.specs.declared.replies.Reply.{Reply}
 use Rattle.dg_model.specs.declared.shapes.Shape.{Shape}
 use Rattle.dg_store.specs.Stores.{IsSound, KeepsBlocks}
 use Rattle.dg_store.specs.Views.{ReadsOn}
-use Rattle.dg_volume.specs.Volumes.{FitsArray, IsWell, Leaves, StandsFor, StandsIn, StepsTo, Tells, marks_by, marks_of, members_of, rack_of, shape_of, state_of, table_of}
+use Rattle.dg_volume.specs.Volumes.{FitsArray, IsInPlace, IsWell, Leaves, StandsFor, StandsIn, StepsBy, StepsTo, Tells, marks_by, marks_of, members_of, rack_of, shape_of, state_of, table_of}
 use Rattle.dg_volume.specs.declared.phases.InPhase as phases
 use Rattle.dg_volume.specs.declared.volumes.Volume.{Volume}
 
-lost_on : (shape : Shape) (old new : ℕ → MemberState) → NoneRecovers old new → has_lost shape old ≡ true → has_lost shape new ≡ true
+pub lost_on : (shape : Shape) (old new : ℕ → MemberState) → NoneRecovers old new → has_lost shape old ≡ true → has_lost shape new ≡ true
 lost_on shape old new back lost =
     let found = has_lost_from shape old lost in
     has_lost_at shape new found.0 found.1 (lost_stays old new found.0 back found.2)
@@ -54,6 +54,14 @@ module _ {S R : Type 0} (phase : phases.Ghosts S) (rack : Ghosts R) where
   marks_kept : (a b : Volume S R) → IsBeside a b → marks_of phase b ≡ marks_of phase a
   marks_kept a b beside = λ i. marks_by (phase.kept (beside.phase_is i)) ((beside.pending i).items)
 
+  in_place_on : (a b : Volume S R) → Keeps a b → IsInPlace (table_of a) (phase.kept a.phase) a.homes a.copies
+      → IsInPlace (table_of b) (phase.kept b.phase) b.homes b.copies
+  in_place_on a b keeps placed =
+      let by_table = subst (λ (t : Table). IsInPlace t (phase.kept a.phase) a.homes a.copies) (sym keeps.table) placed in
+      let by_phase = subst (λ (p : S). IsInPlace (table_of b) (phase.kept p) a.homes a.copies) (sym keeps.beside.phase_is) by_table in
+      let by_homes = subst (λ (x : List Home). IsInPlace (table_of b) (phase.kept b.phase) x a.copies) (sym keeps.beside.homes) by_phase in
+      subst (λ (x : List Home). IsInPlace (table_of b) (phase.kept b.phase) b.homes x) (sym keeps.beside.copies) by_homes
+
   well_on : (a b : Volume S R) → IsWell phase rack a → Keeps a b → IsWell phase rack b
   well_on a b well keeps =
       let shape = shape_kept a b keeps in
@@ -67,9 +75,11 @@ module _ {S R : Type 0} (phase : phases.Ghosts S) (rack : Ghosts R) where
         inferred = subst (λ (p : S). IfSome (phase.kept p) (FitsArray (shape_of b))) (sym keeps.beside.phase_is) fits;
         homes_are = subst (λ (x : List Home). AreHomes (shape_of b) x) (sym keeps.beside.homes) homes;
         copies_are = subst (λ (x : List Home). AreHomes (shape_of b) x) (sym keeps.beside.copies) copies;
+        loose = λ loose. keeps.beside.copies ∙ well.loose (ap phase.phase (sym keeps.beside.phase_is) ∙ loose);
         worn = λ worn.
             let lost = lost_on (shape_of a) (members_of a) (members_of b) keeps.back (well.worn (ap phase.phase (sym keeps.beside.phase_is) ∙ worn)) in
             ap (λ (x : Shape). has_lost x (members_of b)) shape ∙ lost;
+        settled = λ settled. in_place_on a b keeps (well.settled (ap phase.phase (sym keeps.beside.phase_is) ∙ settled));
       }
 
   pub leaves : (a b : Volume S R) → IsWell phase rack a → Keeps a b → Leaves phase phase rack a b
@@ -78,22 +88,29 @@ module _ {S R : Type 0} (phase : phases.Ghosts S) (rack : Ghosts R) where
   -- ---- states
 
   -- a state of the volume, and a step to it from the state with this rest and these blocks that another was in
-  abbrev pub StepsAt : Volume S R → State → List (List ℕ) → Event → Reply → Volume S R → Type 0
-  StepsAt a rest V event reply b = (next : State) × StandsIn phase rack b next × Step (Tells rack b) (state_of phase rack a rest V) event reply next
+  abbrev pub StepsAt : (List ℕ → List ℕ) → Volume S R → State → List (List ℕ) → Event → Reply → Volume S R → Type 0
+  StepsAt touch a rest V event reply b =
+      (next : State) × StandsIn phase rack b next × Step (Tells rack b) (state_of phase rack a rest V) event reply next × (next.recent ≡ touch rest.recent)
 
   -- the same of all such states
   abbrev pub StepsFrom : Volume S R → Event → Reply → Volume S R → Type 0
-  StepsFrom a event reply b = (rest : State) (V : List (List ℕ)) → rest.label ≡ None → (Tells rack a → StandsFor phase rack a V) → StepsAt a rest V event reply b
+  StepsFrom a event reply b = (rest : State) (V : List (List ℕ)) → rest.label ≡ None → (Tells rack a → StandsFor phase rack a V) → StepsAt (λ recent. recent) a rest V event reply b
+
+  pub steps_by : (touch : List ℕ → List ℕ) (a b : Volume S R) (event : Event) (reply : Reply)
+      → ((rest : State) (V : List (List ℕ)) → rest.label ≡ None → (Tells rack a → StandsFor phase rack a V) → StepsAt touch a rest V event reply b)
+      → StepsBy phase phase rack touch a event reply b
+  steps_by touch a b event reply h state st =
+      subst (λ (s : State). (next : State) × StandsIn phase rack b next × Step (Tells rack b) s event reply next × (next.recent ≡ touch s.recent)) (sym st.is)
+      (h state state.blocks st.label st.holds)
 
   pub steps_from : (a b : Volume S R) (event : Event) (reply : Reply) → StepsFrom a event reply b → StepsTo phase phase rack a event reply b
-  steps_from a b event reply h state st =
-      subst (λ (s : State). (next : State) × StandsIn phase rack b next × Step (Tells rack b) s event reply next) (sym st.is) (h state state.blocks st.label st.holds)
+  steps_from a b event reply h = steps_by (λ recent. recent) a b event reply h
 
   -- what is told in the end was told before
   pub told_before : (a b : Volume S R) → Keeps a b → Tells rack b → Tells rack a
   told_before a b keeps told q below = keeps.tells q (told q (subst (λ (s : Shape). q / 2 < s.b) (sym (shape_kept a b keeps)) below))
 
-  holds_on : (a b : Volume S R) (V : List (List ℕ)) → Keeps a b → StandsFor phase rack a V → StandsFor phase rack b V
+  pub holds_on : (a b : Volume S R) (V : List (List ℕ)) → Keeps a b → StandsFor phase rack a V → StandsFor phase rack b V
   holds_on a b V keeps holds = record {
     array = keeps.stands V holds.array;
     inferred = subst (λ (p : S). IfSome (phase.kept p) (λ kept. inferences.StandsFor kept V)) (sym keeps.beside.phase_is) holds.inferred;

@@ -74,6 +74,7 @@ module _ {S R : Type 0} (phase : phases.Ghosts S) (rack : Ghosts R) where
       few a block b rest V h,
       reads_stay phase rack a b rest V label h.read,
     ),
+    refl,
   ))
 
   pub steps_gone : (a : Volume S R) (block : ℕ) (b : Volume S R) → HasReadBlock a block b → is_gone (table_of b) (members_of b) block ≡ true
@@ -87,6 +88,7 @@ module _ {S R : Type 0} (phase : phases.Ghosts S) (rack : Ghosts R) where
       few a block b rest V h,
       reads_stay phase rack a b rest V label h.read,
     ),
+    refl,
   ))
 
   -- ---- failures
@@ -143,6 +145,7 @@ module _ {S R : Type 0} (phase : phases.Ghosts S) (rack : Ghosts R) where
         };
       },
     ),
+    refl,
   ))
 
   -- a member that is out already: nothing changes
@@ -167,4 +170,5 @@ module _ {S R : Type 0} (phase : phases.Ghosts S) (rack : Ghosts R) where
             counts = rack.counts (h.rack_is i);
           },
         ),
+        refl,
       ))

@@ -1,22 +1,32 @@
 -- A volume beside the states of the model.
-use Rattle.std.specs.Prelude.{◌≡◌, ◌+◌, ◌*◌, ◌≤◌, ℕ, Bool, true, List, length, Option, Some, None, IfSome}
+use Rattle.std.specs.Prelude.{◌≡◌, ◌+◌, ◌*◌, ◌≤◌, ℕ, Bool, true, List, [], length, Option, Some, None, IfSome}
 use Rattle.dg_infer.specs.Meanings.{KeptInference}
 use Rattle.dg_infer.specs.Meanings as inferences
+use Rattle.dg_infer.specs.Wants.{IsWantBy}
 use Rattle.dg_io.specs.declared.outside.Rack.{Ghosts}
 use Rattle.dg_io.specs.Told.{StillTold}
 use Rattle.dg_model.specs.Saves.{AreHomes}
 use Rattle.dg_model.specs.States.{IsBlank, State, has_lost}
-use Rattle.dg_model.specs.Steps.{Step}
+use Rattle.dg_model.specs.Placed.{IsPlaced}
+use Rattle.dg_model.specs.Steps.{Step, recent_after}
 use Rattle.dg_model.specs.Tables.{Table}
+use Rattle.dg_model.specs.Wants.{AreWants, FitWants, want_of}
 use Rattle.dg_model.specs.declared.events.Event.{Event}
 use Rattle.dg_model.specs.declared.members.MemberState.{MemberState}
-use Rattle.dg_model.specs.declared.phases.Phase.TheVariants.{Loose as LoosePhase, Worn}
+use Rattle.dg_model.specs.declared.homes.Home.{Home}
+use Rattle.dg_model.specs.declared.phases.Phase.{Phase}
+use Rattle.dg_model.specs.declared.phases.Phase.TheVariants.{Loose as LoosePhase, Settled as SettledPhase, Worn as WornPhase}
 use Rattle.dg_model.specs.declared.replies.Reply.{Reply}
 use Rattle.dg_model.specs.declared.shapes.Shape.{Shape}
+use Rattle.dg_model.specs.declared.wants.Want.{Want}
 use Rattle.dg_store.specs.Stores.{IsSound, TellsAll}
 use Rattle.dg_store.specs.Stores as stores
+use Rattle.dg_volume.specs.Phases.{kept_in, phase_in}
+use Rattle.dg_volume.specs.declared.phases.AnyPhase.{AnyPhase}
 use Rattle.dg_volume.specs.declared.phases.InPhase as phases
 use Rattle.dg_volume.specs.declared.phases.Loose.{Loose}
+use Rattle.dg_volume.specs.declared.phases.Settled.{Settled}
+use Rattle.dg_volume.specs.declared.phases.Worn.{Worn}
 use Rattle.dg_volume.specs.declared.volumes.Volume.{Volume}
 
 -- ---- parts
@@ -37,6 +47,10 @@ members_of volume = stores.members_of volume.store
 abbrev pub rack_of : {S R : Type 0} → Volume S R → R
 rack_of volume = stores.rack_of volume.store
 
+-- the phase that it is in
+abbrev pub phase_of : {S R : Type 0} → phases.Ghosts S → Volume S R → Phase
+phase_of phase volume = phase.phase volume.phase
+
 -- each member of the array tells its bytes
 abbrev pub Tells : {S R : Type 0} → Ghosts R → Volume S R → Type 0
 Tells rack volume = TellsAll rack volume.store
@@ -48,6 +62,10 @@ marks_by (Some kept) marks = kept.pending
 
 abbrev pub marks_of : {S R : Type 0} → phases.Ghosts S → Volume S R → List Bool
 marks_of phase volume = marks_by (phase.kept volume.phase) volume.pending.items
+
+-- the inode of the file that was given last
+abbrev pub given_of : {S R : Type 0} → Volume S R → Option ℕ
+given_of volume = volume.given
 
 -- ---- states
 
@@ -75,10 +93,24 @@ pub record StandsIn {S R : Type 0} (phase : phases.Ghosts S) (rack : Ghosts R) (
   pub label : state.label ≡ None
   pub holds : Tells rack volume → StandsFor phase rack volume state.blocks
 
--- whichever state the volume was in, it made a step from it, to a state that it is in now
+-- Whichever state the volume was in, it made a step from it, to a state that it is in now, in which so changed inodes were read last.
+abbrev pub StepsBy : {S T R : Type 0} → phases.Ghosts S → phases.Ghosts T → Ghosts R → (List ℕ → List ℕ) → Volume S R → Event → Reply → Volume T R → Type 0
+StepsBy from to rack touch old event reply new = (state : State) → StandsIn from rack old state →
+    (next : State) × StandsIn to rack new next × Step (Tells rack new) state event reply next × (next.recent ≡ touch state.recent)
+
+-- the same of a step that reads no file
 abbrev pub StepsTo : {S T R : Type 0} → phases.Ghosts S → phases.Ghosts T → Ghosts R → Volume S R → Event → Reply → Volume T R → Type 0
-StepsTo from to rack old event reply new = (state : State) → StandsIn from rack old state →
-    (next : State) × StandsIn to rack new next × Step (Tells rack new) state event reply next
+StepsTo from to rack old event reply new = StepsBy from to rack (λ recent. recent) old event reply new
+
+-- The same, but said of states that have a block for each of the array's alone: what becomes of blocks then counts them.
+abbrev pub StepsSized : {S T R : Type 0} → phases.Ghosts S → phases.Ghosts T → Ghosts R → Volume S R → Event → Reply → Volume T R → Type 0
+StepsSized from to rack old event reply new = (state : State) → StandsIn from rack old state → length state.blocks ≡ (shape_of old).n →
+    (next : State) × StandsIn to rack new next × Step (Tells rack new) state event reply next × (next.recent ≡ state.recent)
+
+-- the inodes that were read last, once the file of this inode was given in a phase
+abbrev pub touched_by : Phase → Option ℕ → List ℕ → List ℕ
+touched_by phase None recent = recent
+touched_by phase (Some i) recent = recent_after phase i recent
 
 -- ---- what holds between calls
 
@@ -87,8 +119,21 @@ pub record FitsArray (shape : Shape) (kept : KeptInference) : Type 0 where
   pub bytes : kept.l ≡ shape.l
   pub number : kept.n ≡ shape.n
 
+-- each want is that of its block, by what is kept
+abbrev pub AreWantsBy : KeptInference → List (Option Want) → Type 0
+AreWantsBy inference wants = (b : ℕ) (want : Want) → want_of wants b ≡ Some want → IsWantBy inference b want
+
+-- Each block is in its place, by wants that are right of each volume for which the inference stands.
+pub record IsInPlace (table : Table) (kept : Option KeptInference) (homes copies : List Home) : Type 0 where
+  pub wants : List (Option Want)
+  pub fit : FitWants table wants
+  pub placed : IsPlaced wants table homes copies
+  pub are : (V : List (List ℕ)) → IfSome kept (λ inference. inferences.StandsFor inference V → AreWants table.shape.l table.shape.n V wants)
+  pub by : IfSome kept (λ inference. AreWantsBy inference wants)
+
 -- What holds of a volume between calls: its array is sound; its buffers are for blocks of its size; it has a mark for each block; what is
--- inferred is of this array; homes are on its boundaries; and a worn one has a lost boundary.
+-- inferred is of this array; homes are on its boundaries; a loose one has no copies; a worn one has a lost boundary; and of a settled one
+-- each block is in its place.
 pub record IsWell {S R : Type 0} (phase : phases.Ghosts S) (rack : Ghosts R) (volume : Volume S R) : Type 0 where
   pub array : IsSound rack volume.store
   pub levels : volume.levels.fragment ≡ (shape_of volume).l
@@ -96,7 +141,9 @@ pub record IsWell {S R : Type 0} (phase : phases.Ghosts S) (rack : Ghosts R) (vo
   pub inferred : IfSome (phase.kept volume.phase) (FitsArray (shape_of volume))
   pub homes_are : AreHomes (shape_of volume) volume.homes
   pub copies_are : AreHomes (shape_of volume) volume.copies
-  pub worn : phase.phase volume.phase ≡ Worn → has_lost (shape_of volume) (members_of volume) ≡ true
+  pub loose : phase.phase volume.phase ≡ LoosePhase → volume.copies ≡ []
+  pub worn : phase.phase volume.phase ≡ WornPhase → has_lost (shape_of volume) (members_of volume) ≡ true
+  pub settled : phase.phase volume.phase ≡ SettledPhase → IsInPlace (table_of volume) (phase.kept volume.phase) volume.homes volume.copies
 
 -- what any call leaves: a volume of the same array with which all is well, over the same rack, and what that tells it told before
 pub record Leaves {S T R : Type 0} (from : phases.Ghosts S) (to : phases.Ghosts T) (rack : Ghosts R) (old : Volume S R) (new : Volume T R) : Type 0 where
@@ -105,11 +152,29 @@ pub record Leaves {S T R : Type 0} (from : phases.Ghosts S) (to : phases.Ghosts 
   pub tells : StillTold (rack.bytes (rack_of old)) (rack.bytes (rack_of new))
   pub same_rack : rack.name (rack_of new) ≡ rack.name (rack_of old)
 
--- ---- a blank volume
+-- It is in each state that the other was in: it is the same volume, and only what is known of its phase may be another.
+pub record IsSame {S T R : Type 0} (from : phases.Ghosts S) (to : phases.Ghosts T) (rack : Ghosts R) (old : Volume S R) (new : Volume T R) : Type 0 where
+  pub leaves : Leaves from to rack old new
+  pub stands : (state : State) → StandsIn from rack old state → StandsIn to rack new state
+  pub rack_is : rack_of new ≡ rack_of old
+  pub given_is : new.given ≡ old.given
 
--- what a loose volume keeps
+-- ---- phases
+
+-- what a volume keeps in each phase
 abbrev pub loose_phase : phases.Ghosts Loose
 loose_phase = record { phase = λ loose. LoosePhase; kept = λ loose. Some loose.inference }
+
+abbrev pub settled_phase : phases.Ghosts Settled
+settled_phase = record { phase = λ settled. SettledPhase; kept = λ settled. Some settled.inference }
+
+abbrev pub worn_phase : phases.Ghosts Worn
+worn_phase = record { phase = λ worn. WornPhase; kept = λ worn. None }
+
+abbrev pub any_phase : phases.Ghosts AnyPhase
+any_phase = record { phase = phase_in; kept = kept_in }
+
+-- ---- a blank volume
 
 -- A volume of a blank array of this shape, over a rack that was so before: it is in the state of the blank array.
 pub record IsBlankVolume {R : Type 0} (rack : Ghosts R) (shape : Shape) (before : R) (volume : Volume Loose R) : Type 0 where

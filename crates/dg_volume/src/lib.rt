@@ -3,16 +3,35 @@
 //! A volume is loose as long as it is known what its blocks belong to. It is worn once a block was written while a boundary is lost.
 #![tactic(auto)]
 
+mod any;
+mod copies;
 mod paths;
 mod phases;
+mod plans;
 mod queries;
+mod refills;
+#[cfg(test)]
+mod settle_tests;
+mod settled_paths;
+#[cfg(test)]
+mod settled_tests;
+mod settles;
 #[cfg(test)]
 mod tests;
 mod volumes;
+#[cfg(test)]
+mod write_tests;
+mod writes;
 
-pub use dg_model::{NoMemory, Who};
+pub use copies::AnyDiffuse;
+pub use dg_hot::{DiffuseAnswer, Hot};
+pub use dg_model::{NoMemory, Phase, Who};
 pub use dg_store::{Boundary, Shape};
-pub use phases::{InPhase, Loose, Worn};
+pub use phases::{AnyPhase, InPhase, Loose, Settled, Worn};
 pub use queries::WhoAnswer;
-pub use ufs_path::{CatAnswer, Listing};
+pub use refills::{RebuildAnswer, ReplaceAnswer};
+pub use settled_paths::{AnyHome, HomeAnswer, TreeAnswer};
+pub use settles::{TendRun, Unsettled};
+pub use ufs_path::{CatAnswer, Listing, LookFault};
 pub use volumes::{FailAnswer, ReadAnswer, Volume};
+pub use writes::{WriteAnswer, Wrote};

@@ -1,7 +1,10 @@
 ghost use Rattle.std.specs.Prelude.{◌≡◌};
-ghost use Rattle.dg_volume.specs.Volumes.{IsWell, shape_of};
+ghost use Rattle.dg_volume.specs.Volumes.{IsWell, any_phase, shape_of};
 
-use crate::{CatAnswer, FailAnswer, InPhase, Listing, ReadAnswer, Volume, Who, WhoAnswer};
+use crate::{
+    AnyHome, AnyPhase, CatAnswer, FailAnswer, InPhase, Listing, ReadAnswer, ReplaceAnswer,
+    TreeAnswer, Volume, Who, WhoAnswer,
+};
 use dg_io::{Failed, MemRack, MemSink, Rack};
 use dg_model::Shape;
 use std::alloc::Global;
@@ -14,8 +17,8 @@ const LENGTH: u64 = 40_000;
 
 /// A listing that counts its entries.
 #[derive(Drop)]
-struct Counted {
-    entries: u32,
+pub struct Counted {
+    pub entries: u32,
 }
 
 impl Listing for Counted {
@@ -65,7 +68,13 @@ fn ask<S: InPhase, R: Rack>(rt: &impl Abort, volume: &mut Volume<S, R>)
     assert_eq!(rt; volume.fail(3, 0), FailAnswer::Failed);
     assert_eq!(rt; volume.fail(3, 0), FailAnswer::Already);
     assert_eq!(rt; volume.lost(), 0);
+    assert_eq!(rt; volume.replace(4, 0), ReplaceAnswer::Range);
+    assert_eq!(rt; volume.replace(0, 2), ReplaceAnswer::Range);
+    assert_eq!(rt; volume.replace(3, 1), ReplaceAnswer::NotOut);
+    assert_eq!(rt; volume.replace(3, 0), ReplaceAnswer::Replaced);
+    assert_eq!(rt; volume.replace(3, 0), ReplaceAnswer::NotOut);
     assert_eq!(rt; volume.fail(3, 1), FailAnswer::Failed);
+    assert_eq!(rt; volume.replace(3, 1), ReplaceAnswer::Lost);
     assert_eq!(rt; volume.lost(), 8);
     assert!(rt; volume.boundary(3).is_lost());
     assert_eq!(rt; volume.used(3), 0);
@@ -88,8 +97,28 @@ fn ask_by_path<S: InPhase, R: Rack>(
     let mut out = MemSink::new(alloc, 64, Vec::new(alloc))?;
     assert_eq!(rt; volume.cat(path, &mut out), no_magic);
     assert!(rt; out.taken().is_empty());
+    assert_eq!(rt; volume.given(), None);
     let mut listing = Counted { entries: 0 };
     assert_eq!(rt; volume.ls(path, &mut listing), no_magic);
+    assert_eq!(rt; listing.entries, 0);
+    Ok(())
+}
+
+// Outside of the settled phase nothing is told of homes, nor of all directories.
+fn ask_unsettled<R: Rack>(
+    rt: &impl Abort,
+    alloc: Global,
+    volume: &mut Volume<AnyPhase, R>,
+    path: &[u8],
+) -> Result<(), Fail>
+    requires well { IsWell any_phase R.Rack volume.old }
+{
+    if !is_path(path) {
+        return Err("path".into());
+    }
+    assert_eq!(rt; volume.home(path), AnyHome::NotSettled);
+    let mut listing = Counted { entries: 0 };
+    assert_eq!(rt; volume.tree(alloc, &mut listing)?, TreeAnswer::NotSettled);
     assert_eq!(rt; listing.entries, 0);
     Ok(())
 }
@@ -115,4 +144,13 @@ fn paths_of_a_blank_volume(rt: HostRuntime) -> Result<(), Fail> {
     let rack = MemRack::new(alloc, 8, LENGTH, Vec::new(alloc))?;
     let mut volume = Volume::array(alloc, rack, shape)?;
     ask_by_path(&rt, alloc, &mut volume, b"/a")
+}
+
+#[test]
+fn settled_paths_of_a_blank_volume(rt: HostRuntime) -> Result<(), Fail> {
+    let alloc = rt.alloc();
+    let shape = Shape::check(1024, 64, 4, 32, 2).ok_or("shape")?;
+    let rack = MemRack::new(alloc, 8, LENGTH, Vec::new(alloc))?;
+    let mut volume = Volume::array(alloc, rack, shape)?.into_any();
+    ask_unsettled(&rt, alloc, &mut volume, b"/a")
 }

@@ -4,12 +4,12 @@ ghost use Rattle.dg_model.specs.Shapes.{IsShape};
 ghost use Rattle.dg_model.specs.declared.events.Event.{Event};
 ghost use Rattle.dg_model.specs.declared.replies.Reply.{Reply};
 ghost use Rattle.dg_volume.specs.Replies.{IsReadReply, fail_reply};
-ghost use Rattle.dg_volume.specs.Volumes.{IsBlankVolume, IsWell, Leaves, StepsTo, shape_of};
+ghost use Rattle.dg_volume.specs.Volumes.{IsBlankVolume, IsWell, Leaves, StepsTo, phase_of, rack_of, shape_of};
 
 use crate::phases::{InPhase, Loose};
 use dg_infer::Inference;
 use dg_io::{NoMemory, Rack};
-use dg_model::Shape;
+use dg_model::{Phase, Shape};
 use dg_plan::Homes;
 use dg_store::{FailAnswer as MemberAnswer, Fetched, Store};
 use std::alloc::Global;
@@ -25,6 +25,8 @@ pub struct Volume<S, R> {
     pub(crate) homes: Homes,
     pub(crate) copies: Homes,
     pub(crate) levels: Levels,
+    /// The inode of the file that was given last.
+    pub(crate) given: Option<u32>,
 }
 
 /// What became of a read of a block.
@@ -67,11 +69,29 @@ impl<R: Rack> Volume<Loose, R> {
             homes: Homes::new(Vec::new(alloc)),
             copies: Homes::new(Vec::new(alloc)),
             levels,
+            given: None,
         })
     }
 }
 
+impl<S: InPhase + Drop, R: Rack> Volume<S, R> {
+    /// Gives the rack back.
+    pub fn into_rack(self) -> R
+        ensures { result ≡ rack_of self }
+    {
+        let Volume { store, .. } = self;
+        store.into_rack()
+    }
+}
+
 impl<S: InPhase, R: Rack> Volume<S, R> {
+    /// The phase.
+    pub fn phase(&self) -> Phase
+        ensures { result ≡ phase_of S.InPhase self.now }
+    {
+        self.phase.phase()
+    }
+
     /// Reads a block. One that isn't written reads as zeros.
     pub fn read(&mut self, block: u32, buf: &mut [u8]) -> ReadAnswer
         requires well { IsWell S.InPhase R.Rack self.old }

@@ -131,6 +131,10 @@ IsGrown took took_part faults old new reads begins (Unread n fault) =
     (front : List Listed) × (length front ≡ n) × took old front new × begins front × reads (option_map Err (refusal_of fault))
 IsGrown took took_part faults old new reads begins Failed = (front : List Listed) × took_part old front new × begins front × Rose (faults old) (faults new)
 
+-- the first of the lines were handed on
+abbrev pub HandsFront : {S : Type 0} → (S → List Listed → S → Type 0) → S → S → (List Listed → Type 0) → Type 0
+HandsFront took old new begins = (front : List Listed) × took old front new × begins front
+
 -- ---- want of a block, where there is memory
 
 abbrev pub IsUnreadIn : {T E : Type 0} → Result (Result T LookFault) E → Type 0

@@ -1,5 +1,5 @@
 // The listing of a whole volume.
-ghost use Rattle.std.specs.Prelude.{◌≡◌, ◌^◌, ◌<◌, ◌≤◌, Some, Ok, IfOk, true};
+ghost use Rattle.std.specs.Prelude.{◌≡◌, ◌^◌, ◌<◌, ◌≤◌, Some, Ok, IfOk, OnErr, true};
 ghost use Rattle.dg_io.specs.ViewWords.{Keeps, Reads};
 ghost use Rattle.ufs_model.specs.Geometries.{IsGeometryOn};
 ghost use Rattle.ufs_model.specs.Inodes.{kind_of};
@@ -7,7 +7,7 @@ ghost use Rattle.ufs_model.specs.Paths.{is_directory};
 ghost use Rattle.ufs_model.specs.Trees.{tree_of};
 ghost use Rattle.ufs_path.specs.Answers.{IsAnswer};
 ghost use Rattle.ufs_path.specs.Consults.{Consults, StaysAtWalk, StaysUnlessFailed};
-ghost use Rattle.ufs_path.specs.Trees.{Begins, IsGrown, IsUnansweredIn, IsUnreadWalkIn, all_lines, left_on, lines_below, lines_in, root_lines};
+ghost use Rattle.ufs_path.specs.Trees.{Begins, HandsFront, IsGrown, IsUnansweredIn, IsUnreadWalkIn, all_lines, left_on, lines_below, lines_in, root_lines};
 
 use crate::branches::{Pending, is_directory, open_entry, open_inode};
 use crate::faults::CatAnswer;
@@ -38,6 +38,8 @@ fn walk_stack<V: View, O: Listing>(
     ensures later { O.faults out.old ≤ O.faults out.new }
     ensures rule { IfOk result (IsGrown O.took O.took_part O.faults out.old out.new
         (Reads V.View view.old view.new (all_lines g.now (left_on entries.items)))
+        (Begins (V.stands_for view.old) (V.tells view.new) (all_lines g.now (left_on entries.items)))) }
+    ensures part { OnErr result (HandsFront O.took out.old out.new
         (Begins (V.stands_for view.old) (V.tells view.new) (all_lines g.now (left_on entries.items)))) }
     ensures consults { Consults V.View view.old view.new (all_lines g.now (left_on entries.items)) (IsUnreadWalkIn result) }
     ensures stays { IfOk result (λ walked. StaysAtWalk walked (O.faults out.old) (O.faults out.new)) }
@@ -88,6 +90,8 @@ fn walk_below<V: View, O: Listing>(
     ensures rule { IfOk result (IsGrown O.took O.took_part O.faults out.old out.new
         (Reads V.View view.old view.new (lines_below g.now depth inode.now))
         (Begins (V.stands_for view.old) (V.tells view.new) (lines_below g.now depth inode.now))) }
+    ensures part { OnErr result (HandsFront O.took out.old out.new
+        (Begins (V.stands_for view.old) (V.tells view.new) (lines_below g.now depth inode.now))) }
     ensures consults { Consults V.View view.old view.new (lines_below g.now depth inode.now) (IsUnreadWalkIn result) }
     ensures stays { IfOk result (λ walked. StaysAtWalk walked (O.faults out.old) (O.faults out.new)) }
 {
@@ -116,6 +120,8 @@ fn list_below<V: View, O: Listing>(
     ensures later { O.faults out.old ≤ O.faults out.new }
     ensures rule { IfOk result (IsAnswer O.took O.took_part O.faults out.old out.new
         (Reads V.View view.old view.new (lines_below g.now 0 inode.now))) }
+    ensures part { OnErr result (HandsFront O.took out.old out.new
+        (Begins (V.stands_for view.old) (V.tells view.new) (lines_below g.now 0 inode.now))) }
     ensures consults { Consults V.View view.old view.new (lines_below g.now 0 inode.now) (IsUnansweredIn result) }
     ensures stays { IfOk result (λ answer. StaysUnlessFailed answer (O.faults out.old) (O.faults out.new)) }
 {
@@ -152,6 +158,8 @@ fn list_root<V: View, O: Listing>(
     ensures later { O.faults out.old ≤ O.faults out.new }
     ensures rule { IfOk result (IsAnswer O.took O.took_part O.faults out.old out.new
         (Reads V.View view.old view.new (root_lines g.now root.now))) }
+    ensures part { OnErr result (HandsFront O.took out.old out.new
+        (Begins (V.stands_for view.old) (V.tells view.new) (root_lines g.now root.now))) }
     ensures consults { Consults V.View view.old view.new (root_lines g.now root.now) (IsUnansweredIn result) }
     ensures stays { IfOk result (λ answer. StaysUnlessFailed answer (O.faults out.old) (O.faults out.new)) }
 {
@@ -178,6 +186,8 @@ fn list_volume<V: View, O: Listing>(
     ensures later { O.faults out.old ≤ O.faults out.new }
     ensures rule { IfOk result (IsAnswer O.took O.took_part O.faults out.old out.new
         (Reads V.View view.old view.new (lines_in g.now))) }
+    ensures part { OnErr result (HandsFront O.took out.old out.new
+        (Begins (V.stands_for view.old) (V.tells view.new) (lines_in g.now))) }
     ensures consults { Consults V.View view.old view.new (lines_in g.now) (IsUnansweredIn result) }
     ensures stays { IfOk result (λ answer. StaysUnlessFailed answer (O.faults out.old) (O.faults out.new)) }
 {
@@ -188,8 +198,8 @@ fn list_volume<V: View, O: Listing>(
 }
 
 /// Hands on all entries of the volume on a view but `.` and `..`, depth first, each directory's in its order. All are consulted
-/// before the first is handed on. Memory holds the entries, still to be listed, of the directories on one path. A
-/// listing of more entries than a `u32` counts is answered as want of memory.
+/// before the first is handed on. Memory holds the entries, still to be listed, of the directories on one path. Where it is wanting,
+/// some first entries may have been handed on. A listing of more entries than a `u32` counts is answered as want of memory.
 pub fn tree<V: View, O: Listing>(
     alloc: Global,
     view: &mut V,
@@ -203,6 +213,8 @@ pub fn tree<V: View, O: Listing>(
     ensures later { O.faults out.old ≤ O.faults out.new }
     ensures rule { IfOk result (IsAnswer O.took O.took_part O.faults out.old out.new
         (Reads V.View view.old view.new (tree_of (V.size view.old) (V.count view.old)))) }
+    ensures part { OnErr result (HandsFront O.took out.old out.new
+        (Begins (V.stands_for view.old) (V.tells view.new) (tree_of (V.size view.old) (V.count view.old)))) }
     ensures consults { Consults V.View view.old view.new (tree_of (V.size view.old) (V.count view.old)) (IsUnansweredIn result) }
     ensures stays { IfOk result (λ answer. StaysUnlessFailed answer (O.faults out.old) (O.faults out.new)) }
 {

@@ -20,6 +20,7 @@ returns-then-left-gt0-clause-moves g c =
     record {
       table = moved_none targets c.args.limit old (sym is ∙ c.if-rounds-eq0.true) (omega (arith, some, c.if-left-gt0.true));
       met = sym c.if-rounds-eq0.true ∙ is;
+      whole = omega (arith, some);
       left = some;
       placed = λ none. absurd (let more = c.if-left-gt0.true in omega (arith, none, more));
     }
@@ -60,6 +61,7 @@ returns-in-None-clause-moves g c =
     record {
       table = moved_of targets c.args.limit c.min-rounds.result old new is none turned;
       met = is;
+      whole = omega (arith, left, some);
       left = omega (arith, left, some);
       placed = λ none. placed_from targets new (targets_stay targets old new e.on.leaves.keeps.shape e.on.written c.requires.targets) tidy (omega (arith, left, some, none));
     }

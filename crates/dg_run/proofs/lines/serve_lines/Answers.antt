@@ -1,15 +1,13 @@
 use Rattle.std.proofs.Common.{refl, rules, subst, arith, ◌∙◌}
-use Rattle.dg_model.specs.declared.shapes.Shape.{Shape}
-use Rattle.dg_run.specs.Buffers.{AreFor}
-use Rattle.dg_run.proofs.Breaks.{lines_broke_off, lines_cut_at, lines_ran_out}
+use Rattle.dg_run.proofs.Breaks.{lines_broke_off, lines_cut_at, lines_ran_out_at}
 use Rattle.dg_run.proofs.Inputs.{line_some}
 use Rattle.dg_run.proofs.Runs.{so_far_none, so_far_next, turned_served, lines_end, lines_refused, goes_none, goes_then}
 use Rattle.dg_run.proofs.lines.serve_lines.Goals as goal
 
 pub loop-passed-init : goal.loop-passed-init
 loop-passed-init g c = record {
-  goes = goes_none g.R.Rack c.args.store.now c.requires.sound;
-  buffers = c.requires.buffers;
+  goes = goes_none g.R.Rack c.args.array.now c.requires.sound;
+  size = c.requires.size;
   budget = c.requires.first;
   number = omega arith;
   so_far = so_far_none g.R.Rack _ c.args.first _ _ _;
@@ -24,8 +22,8 @@ loop-passed-preserved g c =
     let line = turned_served g.R.Rack _ c.in-Served.bytes _ _ _ _ _ _ _ c.in-Served.is e.turned in
     let some = line_some line.event in
     record {
-      goes = goes_then g.R.Rack _ _ _ inv.goes e.goes;
-      buffers = subst (λ (s : Shape). AreFor s.l c.serve_next.new.buffers) inv.goes.shape c.in_ok-bytes.ensures.buffers;
+      goes = goes_then g.R.Rack c.args.array.now c.loop-passed.array c.serve_next.new.array inv.goes e.goes;
+      size = search (rules, inv.size);
       budget = omega (arith, line.within, inv.budget);
       number = omega (arith, line.size, inv.number);
       so_far = so_far_next g.R.Rack _ _ c.args.first _ _ _ c.in-Served.bytes _ _ _ _ _ _ _ _ _ inv.goes.shape inv.so_far line e.goes.shape e.goes.tells;
@@ -67,4 +65,4 @@ returns-in_err-bytes-clause-wanting g c = λ is.
     let inv = c.loop-passed.invariant in
     let e = c.in_err-bytes.ensures in
     let wanting = e.wanting (search rules) in
-    lines_ran_out g.R.Rack _ c.args.first _ _ _ _ _ _ _ _ _ _ _ inv.budget inv.so_far wanting.0 wanting.1 e.goes.shape e.goes.tells
+    lines_ran_out_at g.R.Rack _ _ c.args.first _ _ _ _ _ _ _ _ _ _ _ inv.budget inv.so_far inv.goes.shape wanting e.goes.shape e.goes.tells

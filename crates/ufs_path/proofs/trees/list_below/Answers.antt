@@ -1,4 +1,5 @@
-use Rattle.ufs_path.proofs.BranchLaws.{err_unanswered}
+use Rattle.std.proofs.Common.{[], refl}
+use Rattle.ufs_path.proofs.BranchLaws.{err_unanswered, on_err}
 use Rattle.ufs_path.proofs.ConsultLaws.{consults_both}
 use Rattle.ufs_path.proofs.GrowLaws.{grown_cut, grown_failed, grown_given}
 use Rattle.ufs_path.specs.Trees.{lines_below}
@@ -46,3 +47,12 @@ pub returns-in-Failed-listed-clause-consults : goal.returns-in-Failed-listed-cla
 returns-in-Failed-listed-clause-consults g c =
     let first = c.walk_below.ensures.keeps in
     consults_both g.V.View g.met.V.View.fetched_both first c.walk_below-in-All.ensures.keeps (λ is v holds. (first.stands v holds, λ b h. h)) (λ h. absurd h) c.walk_below.ensures.consults c.walk_below-in-All.ensures.consults
+
+pub returns-in_err-consulted-clause-part : goal.returns-in_err-consulted-clause-part
+returns-in_err-consulted-clause-part g c = on_err c.from_residual.result ([], g.met.O.Listing.nothing c.args.out.now, λ is v holds lines e. refl)
+
+pub returns-in_err-listed-in-All-clause-part : goal.returns-in_err-listed-in-All-clause-part
+returns-in_err-listed-in-All-clause-part g c =
+    let first = c.walk_below.ensures.keeps in
+    let part = c.in_err-listed-in-All.ensures.part in
+    on_err c.from_residual-in_err-listed-in-All.result (part.0, part.1, λ is v holds lines e. part.2 is v (first.stands v holds) lines e)

@@ -3,7 +3,7 @@ use Rattle.dg_io.specs.ViewLaws.{keeps_both, keeps_same}
 use Rattle.dg_io.specs.ViewWords.{Reads}
 use Rattle.dg_model.specs.Causes.{Rose}
 use Rattle.ufs_model.specs.declared.inodes.Inode.{Inode}
-use Rattle.ufs_path.proofs.BranchLaws.{err_unread_walk, left_popped}
+use Rattle.ufs_path.proofs.BranchLaws.{err_unread_walk, left_popped, on_err}
 use Rattle.ufs_path.proofs.ConsultLaws.{consults_both, consults_none}
 use Rattle.ufs_path.proofs.GrowLaws.{all_grown, entry_needed, entry_unread, front_begins, grew_line, grew_none, grew_same, opens_next}
 use Rattle.ufs_path.specs.Consults.{IsUnread}
@@ -122,3 +122,21 @@ returns-in-None-clause-rule g c =
     let none : left_on c.loop-given.stack.items ≡ [] = search rules in
     let grew = grew_same c.args.g.now (left_on c.loop-given.stack.items) [] none c.loop-given.invariant.grew in
     (grew.done, grew.count, grew.taken, all_grown c.args.g.now grew)
+
+pub returns-in_err-opened-in-Some-clause-part : goal.returns-in_err-opened-in-Some-clause-part
+returns-in_err-opened-in-Some-clause-part g c =
+    let grew = c.loop-given.invariant.grew in
+    let step = c.open_entry.ensures.keeps in
+    on_err c.from_residual.result (
+      grew.done,
+      grew.taken,
+      λ is v holds lines e. front_begins (all_lines c.args.g.now (left_on c.loop-given.stack.items)) grew.done grew.remains (step.told is) v holds lines e,
+    )
+
+pub returns-clause-part : goal.returns-clause-part
+returns-clause-part g c =
+    let grew = c.loop-given.invariant.grew in (
+      grew.done,
+      grew.taken,
+      λ is v holds lines e. front_begins (all_lines c.args.g.now (left_on c.loop-given.stack.items)) grew.done grew.remains is v holds lines e,
+    )

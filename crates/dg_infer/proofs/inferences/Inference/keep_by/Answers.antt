@@ -1,9 +1,7 @@
-use Rattle.std.proofs.Common.{◌≡◌, ◌∙◌, ◌<◌, List, Bool, true, Option, Some, length, refl, sym, ap, subst, arith}
+use Rattle.std.proofs.Common.{◌≡◌, ◌∙◌, List, Bool, Option, Some, length, refl, sym, ap, subst}
 use Rattle.std.proofs.lemmas.List.{with_items_is}
 use Rattle.std.specs.Prelude.{slice_set}
-use Rattle.std.specs.Vec.{with_items}
 use Rattle.dg_io.specs.ViewLaws.{keeps_both}
-use Rattle.dg_model.specs.Marks.{AreLeft, with_mark}
 use Rattle.dg_model.specs.Volumes.{geometry_on}
 use Rattle.ufs_model.specs.Metadata.{by_geometry, of_indirect}
 use Rattle.ufs_model.specs.declared.geometries.Geometry.{Geometry}
@@ -11,13 +9,13 @@ use Rattle.ufs_pointer.specs.KindLaws.{loses_along}
 use Rattle.dg_claims.specs.Kept.{claimed_by, table_of}
 use Rattle.dg_claims.specs.Tables.{accepted}
 use Rattle.dg_infer.proofs.TargetLaws.{this_block}
-use Rattle.dg_infer.proofs.VolumeLaws.{accepted_some, length_mark}
-use Rattle.dg_infer.proofs.WriteLaws.{TableLaws, claims_by, kept_by, marks_fewer, shown}
+use Rattle.dg_infer.proofs.VolumeLaws.{accepted_some}
+use Rattle.dg_infer.proofs.WriteLaws.{TableLaws, claims_by, kept_by, shown}
 use Rattle.dg_infer.specs.Bounds.{IsGroupRestBy}
 use Rattle.dg_infer.specs.Fetched.{FetchesBegun, FetchesOnce}
 use Rattle.dg_infer.specs.Inferences.{kept_in}
 use Rattle.dg_infer.specs.Meanings.{KeptInference, StandsFor}
-use Rattle.dg_infer.specs.Writes.{IsWriteTo}
+use Rattle.dg_infer.specs.Moves.{Follows}
 use Rattle.dg_infer.proofs.inferences.Inference.keep_by.Goals as goal
 
 pub returns-in_err-move_free-clause-keeps : goal.returns-in_err-move_free-clause-keeps
@@ -31,14 +29,14 @@ returns-then-not-branch-2-clause-keeps g c =
 pub returns-clause-keeps : goal.returns-clause-keeps
 returns-clause-keeps g c = keeps_both g.met.V.View.further c.args.view.now c.move_claims.new.view c.move_free.new.view c.move_claims.ensures.keeps c.move_free.ensures.keeps
 
-pub returns-then-not-branch-clause-marks : goal.returns-then-not-branch-clause-marks
-returns-then-not-branch-clause-marks g c = λ missed. ap (λ (k : KeptInference). k.pending) c.self.view_is
+pub returns-then-not-branch-clause-pending : goal.returns-then-not-branch-clause-pending
+returns-then-not-branch-clause-pending g c = ap (λ (k : KeptInference). k.pending) c.self.view_is
 
-pub returns-then-not-branch-2-clause-marks : goal.returns-then-not-branch-2-clause-marks
-returns-then-not-branch-2-clause-marks g c = λ missed. ap (λ (k : KeptInference). k.pending) c.self.view_is
+pub returns-then-not-branch-2-clause-pending : goal.returns-then-not-branch-2-clause-pending
+returns-then-not-branch-2-clause-pending g c = ap (λ (k : KeptInference). k.pending) c.self.view_is
 
 pub returns-then-not-branch-clause-lost : goal.returns-then-not-branch-clause-lost
-returns-then-not-branch-clause-lost g c = λ missed.
+returns-then-not-branch-clause-lost g c =
     let laws : TableLaws = record { accepted = c.tables_of_volumes.ensures.accepted; refused = c.tables_of_volumes.ensures.refused; claims = c.tables_of_volumes.ensures.claims } in
     let old = kept_in c.self.inside in
     let had : c.self.inside.claims.geometry ≡ Some c.args.g.now = c.self.invariant.same ∙ ap (λ (k : KeptInference). k.geometry) c.self.view_is ∙ c.requires.known in
@@ -59,7 +57,7 @@ returns-then-not-branch-clause-lost g c = λ missed.
     )) (c.in_ok-move_claims.ensures.lost c.if-not-branch.true)
 
 pub returns-then-not-branch-2-clause-lost : goal.returns-then-not-branch-2-clause-lost
-returns-then-not-branch-2-clause-lost g c = λ missed.
+returns-then-not-branch-2-clause-lost g c =
     let first = c.move_claims.ensures.keeps in
     loses_along first.blocks (λ b h. h) (λ h. h) (λ is w h.
     let written = h.0 in (
@@ -68,63 +66,27 @@ returns-then-not-branch-2-clause-lost g c = λ missed.
     )) (c.in_ok-move_free.ensures.lost c.if-not-branch-2.true)
 
 pub returns-clause-stands : goal.returns-clause-stands
-returns-clause-stands g c = λ is v h.
+returns-clause-stands g c = λ v h.
     let marks = c.in_ok-move_free.ensures.marks c.if-not-branch-2.false in
     let laws : TableLaws = record { accepted = c.tables_of_volumes.ensures.accepted; refused = c.tables_of_volumes.ensures.refused; claims = c.tables_of_volumes.ensures.claims } in
     let old = kept_in c.self.inside in
     let known : c.self.inside.geometry ≡ Some c.args.g.now = ap (λ (k : KeptInference). k.geometry) c.self.view_is ∙ c.requires.known in
     let had : c.self.inside.claims.geometry ≡ Some c.args.g.now = c.self.invariant.same ∙ known in
-    let count : c.self.inside.n ≡ c.args.self.now.n = ap (λ (k : KeptInference). k.n) c.self.view_is in
-    let inside : c.args.block < length c.self.inside.pending.items = omega (arith, c.self.invariant.marks, c.requires.inside, count) in
-    let size = c.move_pending.ensures.room ∙ ap length c.deref_mut-2.ensures.value in
-    let pending = with_items_is c.self.inside.pending c.move_pending.new.marks (size ∙ sym (c.self.inside.pending.ok.0)) in
     let free = with_items_is c.self.inside.free c.move_free.new.free (c.move_free.ensures.room ∙ ap length c.deref_mut.ensures.value ∙ sym (c.self.inside.free.ok.0)) in
     let w = slice_set v c.args.block c.args.bytes.now in
     let write = h.0 in
     let was : StandsFor old v = subst (λ (k : KeptInference). StandsFor k v) (sym c.self.view_is) write.was in
     let here : old.geometry ≡ accepted (geometry_on old.l old.n w) = subst (λ (k : KeptInference). k.geometry ≡ accepted (geometry_on k.l k.n w)) (sym c.self.view_is) (h.1) in
-    let kept = kept_by laws old c.args.g.now v c.args.block c.args.bytes.now c.move_claims.new.claims c.move_kinds.new.kinds.entries c.move_pending.new.marks c.move_free.new.free c.is_system-own.result
-    known had (c.move_claims.ensures.geometry ∙ had) was here inside
+    let kept = kept_by laws old c.args.g.now v c.args.block c.args.bytes.now c.move_claims.new.claims c.move_kinds.new.kinds.entries c.move_free.new.free c.move_claims.new.watch
+    known had (c.move_claims.ensures.geometry ∙ had) was here
     (c.in_ok-move_claims.ensures.claims c.if-not-branch.false (c.move_free.ensures.keeps.told write.tells) v write.inside write.stands)
     (c.in_ok-move_kinds.ensures.here w (this_block c.args.g.now.fsize v c.args.block c.args.bytes.now write.inside)) c.in_ok-move_kinds.ensures.others
-    (rw c.deref_mut.ensures.value at (marks write.tells v write.inside (c.move_claims.ensures.keeps.stands w write.stands))) c.is_system-own.ensures
-    (rw c.deref_mut-2.ensures.value at (c.move_pending.ensures.marks (claimed_by c.self.inside.claims.runs) c.in_ok-move_claims.ensures.watched)) in
-    subst (λ (xs : List Bool). StandsFor (shown old c.move_claims.new.claims c.move_kinds.new.kinds.entries xs (with_items c.self.inside.free c.move_free.new.free).items) w) (sym pending)
-    (subst (λ (ys : List Bool). StandsFor (shown old c.move_claims.new.claims c.move_kinds.new.kinds.entries c.move_pending.new.marks ys) w) (sym free) kept.stands)
-
-pub returns-clause-pending : goal.returns-clause-pending
-returns-clause-pending g c = λ is v.
-    let marks = c.in_ok-move_free.ensures.marks c.if-not-branch-2.false in
-    let laws : TableLaws = record { accepted = c.tables_of_volumes.ensures.accepted; refused = c.tables_of_volumes.ensures.refused; claims = c.tables_of_volumes.ensures.claims } in
-    let old = kept_in c.self.inside in
-    let known : c.self.inside.geometry ≡ Some c.args.g.now = ap (λ (k : KeptInference). k.geometry) c.self.view_is ∙ c.requires.known in
-    let had : c.self.inside.claims.geometry ≡ Some c.args.g.now = c.self.invariant.same ∙ known in
-    let count : c.self.inside.n ≡ c.args.self.now.n = ap (λ (k : KeptInference). k.n) c.self.view_is in
-    let inside : c.args.block < length c.self.inside.pending.items = omega (arith, c.self.invariant.marks, c.requires.inside, count) in
-    let size = c.move_pending.ensures.room ∙ ap length c.deref_mut-2.ensures.value in
-    let pending = with_items_is c.self.inside.pending c.move_pending.new.marks (size ∙ sym (c.self.inside.pending.ok.0)) in
-    let free = with_items_is c.self.inside.free c.move_free.new.free (c.move_free.ensures.room ∙ ap length c.deref_mut.ensures.value ∙ sym (c.self.inside.free.ok.0)) in
-    let w = slice_set v c.args.block c.args.bytes.now in
-    let Left : KeptInference → List Bool → Type 0 = λ k xs.
-    AreLeft (IsWriteTo g.V.View c.args.view.now c.move_free.new.view k k.geometry c.args.block c.args.bytes.now v) k.l k.n w (with_mark k.pending c.args.block) xs in
-    subst (λ (k : KeptInference). Left k (with_items c.self.inside.pending c.move_pending.new.marks).items) c.self.view_is (subst (λ (xs : List Bool). Left old xs) (sym pending) (record {
-      size = size ∙ sym (length_mark c.self.inside.pending.items c.args.block true);
-      fewer = marks_fewer c.self.inside.pending.items c.move_pending.new.marks c.args.block inside (rw c.deref_mut-2.ensures.value at c.move_pending.ensures.fewer);
-      are = λ h.
-          let write = h.0 in
-          let was = write.was in
-          let here = h.1 in
-          let kept = kept_by laws old c.args.g.now v c.args.block c.args.bytes.now c.move_claims.new.claims c.move_kinds.new.kinds.entries c.move_pending.new.marks c.move_free.new.free c.is_system-own.result
-          known had (c.move_claims.ensures.geometry ∙ had) was here inside
-          (c.in_ok-move_claims.ensures.claims c.if-not-branch.false (c.move_free.ensures.keeps.told write.tells) v write.inside write.stands)
-          (c.in_ok-move_kinds.ensures.here w (this_block c.args.g.now.fsize v c.args.block c.args.bytes.now write.inside)) c.in_ok-move_kinds.ensures.others
-          (rw c.deref_mut.ensures.value at (marks write.tells v write.inside (c.move_claims.ensures.keeps.stands w write.stands))) c.is_system-own.ensures
-          (rw c.deref_mut-2.ensures.value at (c.move_pending.ensures.marks (claimed_by c.self.inside.claims.runs) c.in_ok-move_claims.ensures.watched)) in
-          kept.left;
-    }))
+    (rw c.deref_mut.ensures.value at (marks write.tells v write.inside (c.move_claims.ensures.keeps.stands w write.stands)))
+    c.in_ok-move_claims.ensures.watched in
+    subst (λ (ys : List Bool). Follows (shown old c.move_claims.new.claims c.move_kinds.new.kinds.entries old.pending ys) (Some c.move_claims.new.watch) w) (sym free) kept
 
 pub returns-clause-fetched : goal.returns-clause-fetched
-returns-clause-fetched g c = λ is. record {
+returns-clause-fetched g c = record {
   middle = c.move_claims.new.view;
   levels = subst (λ (k : KeptInference). FetchesBegun g.V.View.fetched (claimed_by k.claims.runs) (claimed_by c.move_claims.new.claims.runs) 0 c.args.view.now c.move_claims.new.view) c.self.view_is
       c.move_claims.ensures.fetched;

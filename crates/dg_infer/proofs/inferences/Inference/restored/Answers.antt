@@ -3,6 +3,7 @@ use Rattle.ufs_pointer.specs.KindLaws.{loses_along}
 use Rattle.dg_model.specs.Volumes.{geometry_on}
 use Rattle.dg_claims.specs.Tables.{accepted}
 use Rattle.dg_infer.proofs.WriteLaws.{TableLaws, loses_whole, stands_anew, stands_shown, super_needed}
+use Rattle.dg_infer.proofs.WholeLaws.{whole_only}
 use Rattle.dg_infer.specs.Writes.{IsKnownWhole}
 use Rattle.dg_infer.proofs.inferences.Inference.restored.Goals as goal
 
@@ -54,3 +55,12 @@ returns-clause-pending g c = λ v. record {
       h.number is has (parts v known) c.in_ok-marks.ensures.marks in
       all.1;
 }
+
+pub returns-clause-fetched : goal.returns-clause-fetched
+returns-clause-fetched g c =
+    let first = c.read_geometry.ensures.keeps in
+    let reads = rw c.in-Some.is at c.read_geometry.ensures.rule in
+    whole_only g.V.View g.met.V.View.fetched_both c.args.view.now c.read_geometry.new.view c.restored_parts.new.view c.accepted-geometry.result c.read_geometry.result
+    first.stands first.blocks c.restored_parts.ensures.keeps.told
+    (λ told v holds. c.accepted-geometry.ensures.value ∙ ap accepted ((reads.rule (c.restored_parts.ensures.keeps.told told) v holds).answer))
+    c.read_geometry.ensures.fetched (rw c.in-Some-2.is at c.in_ok-parts.ensures.fetched)

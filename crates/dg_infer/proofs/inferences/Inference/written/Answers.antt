@@ -6,7 +6,6 @@ use Rattle.ufs_model.specs.Geometries.{IsGeometryOn}
 use Rattle.ufs_pointer.specs.Superblocks.{superblock_blocks}
 use Rattle.dg_infer.proofs.TargetLaws.{this_block}
 use Rattle.dg_infer.specs.Fetched.{FetchesOnce}
-use Rattle.dg_model.specs.Marks.{with_mark}
 use Rattle.dg_model.specs.Volumes.{geometry_on}
 use Rattle.ufs_model.specs.Blocks.{Volume, block_at}
 use Rattle.ufs_model.specs.Metadata.{IsMetadata, of_superblock}
@@ -15,60 +14,43 @@ use Rattle.dg_claims.specs.Kept.{table_of}
 use Rattle.dg_claims.specs.Tables.{IsTableOf, accepted}
 use Rattle.dg_infer.proofs.BoundLaws.{bound_off, bound_on, in_superblock}
 use Rattle.dg_infer.proofs.VolumeLaws.{super_off}
-use Rattle.dg_infer.proofs.WriteLaws.{left_along, loses_off}
+use Rattle.dg_infer.proofs.WriteLaws.{followed_by, loses_off}
 use Rattle.dg_infer.specs.Areas.{IsFrom, IsRest}
 use Rattle.dg_infer.specs.Writes.{IsKnownWrite, IsWriteTo}
 use Rattle.dg_infer.proofs.inferences.Inference.written.Goals as goal
 
 pub returns-then-not-is_in_superblock-clause-stands : goal.returns-then-not-is_in_superblock-clause-stands
-returns-then-not-is_in_superblock-clause-stands g c = λ is v h.
+returns-then-not-is_in_superblock-clause-stands g c = λ moved is v h.
     let size = c.fragment_bytes.ensures.value ∙ c.requires.levels ∙ sym c.requires.size in
     let out : IsFrom (8192 / c.args.self.now.l) (div_ceil 1376 c.args.self.now.l) c.args.block → ⊥ = λ from.
     false≢true (sym c.if-not-is_in_superblock.true ∙ c.is_in_superblock.ensures.1 (subst (λ (l : ℕ). IsFrom (8192 / l) (div_ceil 1376 l) c.args.block) (sym size) from)) in
-    c.in_ok-keep.ensures.stands (c.outcome.ensures.known is) v (h, h.was.geometry ∙ ap accepted (super_off c.args.self.now.l c.args.self.now.n v c.args.block c.args.new.now out))
-
-pub returns-then-not-is_in_superblock-clause-pending : goal.returns-then-not-is_in_superblock-clause-pending
-returns-then-not-is_in_superblock-clause-pending g c = λ is v.
-    let size = c.fragment_bytes.ensures.value ∙ c.requires.levels ∙ sym c.requires.size in
-    let out : IsFrom (8192 / c.args.self.now.l) (div_ceil 1376 c.args.self.now.l) c.args.block → ⊥ = λ from.
-    false≢true (sym c.if-not-is_in_superblock.true ∙ c.is_in_superblock.ensures.1 (subst (λ (l : ℕ). IsFrom (8192 / l) (div_ceil 1376 l) c.args.block) (sym size) from)) in
-    left_along (IsKnownWrite g.V.View c.args.view.now c.keep.new.view c.args.self.now c.args.block c.args.new.now v)
-    (IsWriteTo g.V.View c.args.view.now c.keep.new.view c.args.self.now c.args.self.now.geometry c.args.block c.args.new.now v)
-    c.args.self.now.l c.args.self.now.n (slice_set v c.args.block c.args.new.now) (with_mark c.args.self.now.pending c.args.block) c.keep.new.self.pending
-    (λ h. (h, h.was.geometry ∙ ap accepted (super_off c.args.self.now.l c.args.self.now.n v c.args.block c.args.new.now out)))
-    (c.in_ok-keep.ensures.pending (c.outcome.ensures.known is) v)
+    (rw (c.outcome.ensures.known moved is) at c.in_ok-keep.ensures.stands) v (h, h.was.geometry ∙ ap accepted (super_off c.args.self.now.l c.args.self.now.n v c.args.block c.args.new.now out))
 
 pub returns-then-not-is_in_superblock-clause-gone : goal.returns-then-not-is_in_superblock-clause-gone
 returns-then-not-is_in_superblock-clause-gone g c = λ is.
     let size = c.fragment_bytes.ensures.value ∙ c.requires.levels ∙ sym c.requires.size in
     let out : IsFrom (8192 / c.args.self.now.l) (div_ceil 1376 c.args.self.now.l) c.args.block → ⊥ = λ from.
     false≢true (sym c.if-not-is_in_superblock.true ∙ c.is_in_superblock.ensures.1 (subst (λ (l : ℕ). IsFrom (8192 / l) (div_ceil 1376 l) c.args.block) (sym size) from)) in
-    loses_off g.V.View c.args.view.now c.keep.new.view c.args.self.now c.args.block c.args.new.now out (c.in_ok-keep.ensures.lost (c.outcome.ensures.gone is))
+    loses_off g.V.View c.args.view.now c.keep.new.view c.args.self.now c.args.block c.args.new.now out (rw (c.outcome.ensures.gone is) at c.in_ok-keep.ensures.lost)
 
 pub returns-then-not-is_in_superblock-clause-fetched : goal.returns-then-not-is_in_superblock-clause-fetched
-returns-then-not-is_in_superblock-clause-fetched g c = λ is v.
+returns-then-not-is_in_superblock-clause-fetched g c = λ moved is v.
     let size = c.fragment_bytes.ensures.value ∙ c.requires.levels ∙ sym c.requires.size in
     let out : IsFrom (8192 / c.args.self.now.l) (div_ceil 1376 c.args.self.now.l) c.args.block → ⊥ = λ from.
     false≢true (sym c.if-not-is_in_superblock.true ∙ c.is_in_superblock.ensures.1 (subst (λ (l : ℕ). IsFrom (8192 / l) (div_ceil 1376 l) c.args.block) (sym size) from)) in
     bound_off g.V.View (IsKnownWrite g.V.View c.args.view.now c.keep.new.view c.args.self.now c.args.block c.args.new.now v) c.args.self.now.l c.args.self.now.n v
     (slice_set v c.args.block c.args.new.now) c.args.block c.args.self.now.geometry (table_of c.args.self.now.claims) (table_of c.keep.new.self.claims) c.args.view.now c.keep.new.view
-    g.met.V.View.fetched_both g.met.V.View.fetched_none (c.in_ok-keep.ensures.fetched (c.outcome.ensures.known is))
+    g.met.V.View.fetched_both g.met.V.View.fetched_none (rw (c.outcome.ensures.known moved is) at c.in_ok-keep.ensures.fetched)
     (λ h.
     let same = h.was.geometry ∙ ap accepted (super_off c.args.self.now.l c.args.self.now.n v c.args.block c.args.new.now out) in
-    let after = c.in_ok-keep.ensures.stands (c.outcome.ensures.known is) v (h, same) in
+    let after = (rw (c.outcome.ensures.known moved is) at c.in_ok-keep.ensures.stands) v (h, same) in
     record {
       first = h.was.geometry;
       second = same;
       were = h.was.claims;
       are = subst (λ (n : ℕ). IsTableOf c.args.self.now.l n (slice_set v c.args.block c.args.new.now) (table_of c.keep.new.self.claims)) (c.in_ok-keep.ensures.size.1)
-          (subst (λ (l : ℕ). IsTableOf l c.keep.new.self.n (slice_set v c.args.block c.args.new.now) (table_of c.keep.new.self.claims)) (c.in_ok-keep.ensures.size.0) after.claims);
+          (subst (λ (l : ℕ). IsTableOf l c.keep.new.self.n (slice_set v c.args.block c.args.new.now) (table_of c.keep.new.self.claims)) (c.in_ok-keep.ensures.size.0) (followed_by c.keep.new.self moved (slice_set v c.args.block c.args.new.now) after).claims);
     })
-
-pub returns-then-not-is_in_superblock-clause-marks : goal.returns-then-not-is_in_superblock-clause-marks
-returns-then-not-is_in_superblock-clause-marks g c = λ is. c.in_ok-keep.ensures.marks (c.outcome.ensures.gone is)
-
-pub returns-in_ok-got-in-Some-clause-marks : goal.returns-in_ok-got-in-Some-clause-marks
-returns-in_ok-got-in-Some-clause-marks g c = λ is. c.in_ok-got-in-Some.ensures.marks (c.outcome-in-Some.ensures.gone is)
 
 pub returns-in-None-clause-gone : goal.returns-in-None-clause-gone
 returns-in-None-clause-gone g c = λ is.
@@ -81,7 +63,7 @@ returns-in-None-clause-gone g c = λ is.
     )) (rw c.in-None.is at c.in_ok-found.ensures.lost)
 
 pub returns-in_ok-got-in-Some-clause-stands : goal.returns-in_ok-got-in-Some-clause-stands
-returns-in_ok-got-in-Some-clause-stands g c = λ is v h.
+returns-in_ok-got-in-Some-clause-stands g c = λ moved is v h.
     let l = c.args.self.now.l in
     let n = c.args.self.now.n in
     let first = c.read_superblock.ensures.keeps in
@@ -95,27 +77,7 @@ returns-in_ok-got-in-Some-clause-stands g c = λ is v h.
       record { tells = h.tells; inside = h.inside; stands = first.stands (slice_set v c.args.block c.args.new.now) h.stands; was = h.was },
       next (slice_set v c.args.block c.args.new.now) h.tells h.stands (this_block (g.V.View.size c.args.view.now) v c.args.block c.args.new.now h.inside),
     ) in
-    c.in_ok-got-in-Some.ensures.stands (c.outcome-in-Some.ensures.known is) v (later v h)
-
-pub returns-in_ok-got-in-Some-clause-pending : goal.returns-in_ok-got-in-Some-clause-pending
-returns-in_ok-got-in-Some-clause-pending g c = λ is v.
-    let l = c.args.self.now.l in
-    let n = c.args.self.now.n in
-    let first = c.read_superblock.ensures.keeps in
-    let next : (w : Volume) → g.V.View.tells c.follow.new.view → g.V.View.stands_for c.args.view.now w → c.args.new.now ≡ block_at (g.V.View.size c.args.view.now) w c.args.block
-    → c.accepted.result ≡ accepted (geometry_on l n w) = λ w told holds has.
-    c.accepted.ensures.value
-    ∙ ap accepted ((rw c.in-Some.is at c.in_ok-found.ensures.geometry) (c.follow.ensures.keeps.told told) w holds has)
-    ∙ ap (λ (x : ℕ). accepted (geometry_on x (g.V.View.count c.args.view.now) w)) (sym c.requires.size) ∙ ap (λ (x : ℕ). accepted (geometry_on l x w)) (sym c.requires.count) in
-    let later : (v : Volume) → IsKnownWrite g.V.View c.args.view.now c.follow.new.view c.args.self.now c.args.block c.args.new.now v
-    → IsWriteTo g.V.View c.read_superblock.new.view c.follow.new.view c.args.self.now c.accepted.result c.args.block c.args.new.now v = λ v h. (
-      record { tells = h.tells; inside = h.inside; stands = first.stands (slice_set v c.args.block c.args.new.now) h.stands; was = h.was },
-      next (slice_set v c.args.block c.args.new.now) h.tells h.stands (this_block (g.V.View.size c.args.view.now) v c.args.block c.args.new.now h.inside),
-    ) in
-    left_along (IsKnownWrite g.V.View c.args.view.now c.follow.new.view c.args.self.now c.args.block c.args.new.now v)
-    (IsWriteTo g.V.View c.read_superblock.new.view c.follow.new.view c.args.self.now c.accepted.result c.args.block c.args.new.now v)
-    l n (slice_set v c.args.block c.args.new.now) (with_mark c.args.self.now.pending c.args.block) c.follow.new.self.pending (later v)
-    (c.in_ok-got-in-Some.ensures.pending (c.outcome-in-Some.ensures.known is) v)
+    (rw (c.outcome-in-Some.ensures.known moved is) at c.in_ok-got-in-Some.ensures.stands) v (later v h)
 
 pub returns-in_ok-got-in-Some-clause-gone : goal.returns-in_ok-got-in-Some-clause-gone
 returns-in_ok-got-in-Some-clause-gone g c = λ is.
@@ -133,10 +95,10 @@ returns-in_ok-got-in-Some-clause-gone g c = λ is.
     (this_block (g.V.View.size c.args.view.now) made.before c.args.block c.args.new.now made.inside) in (
       ((first.stands w (h.0), made), next w told (h.0) has),
       λ b at. at,
-    )) (c.in_ok-got-in-Some.ensures.lost (c.outcome-in-Some.ensures.gone is))
+    )) (rw (c.outcome-in-Some.ensures.gone is) at c.in_ok-got-in-Some.ensures.lost)
 
 pub returns-in_ok-got-in-Some-clause-fetched : goal.returns-in_ok-got-in-Some-clause-fetched
-returns-in_ok-got-in-Some-clause-fetched g c = λ is v.
+returns-in_ok-got-in-Some-clause-fetched g c = λ moved is v.
     let l = c.args.self.now.l in
     let n = c.args.self.now.n in
     let first = c.read_superblock.ensures.keeps in
@@ -162,13 +124,13 @@ returns-in_ok-got-in-Some-clause-fetched g c = λ is v.
     (sym c.requires.size) c.read_superblock.ensures.fetched) in
     bound_on g.V.View (IsKnownWrite g.V.View c.args.view.now c.follow.new.view c.args.self.now c.args.block c.args.new.now v) l n v w c.args.block c.args.self.now.geometry c.accepted.result
     (table_of c.args.self.now.claims) (table_of c.follow.new.self.claims) c.args.view.now c.read_superblock.new.view c.follow.new.view
-    g.met.V.View.fetched_both g.met.V.View.fetched_none from c.requires.inside on super (c.in_ok-got-in-Some.ensures.fetched (c.outcome-in-Some.ensures.known is))
+    g.met.V.View.fetched_both g.met.V.View.fetched_none from c.requires.inside on super (rw (c.outcome-in-Some.ensures.known moved is) at c.in_ok-got-in-Some.ensures.fetched)
     (λ h.
-    let after = c.in_ok-got-in-Some.ensures.stands (c.outcome-in-Some.ensures.known is) v (later v h) in
+    let after = (rw (c.outcome-in-Some.ensures.known moved is) at c.in_ok-got-in-Some.ensures.stands) v (later v h) in
     record {
       first = h.was.geometry;
       second = (later v h).1;
       were = h.was.claims;
       are = subst (λ (x : ℕ). IsTableOf l x w (table_of c.follow.new.self.claims)) (c.in_ok-got-in-Some.ensures.size.1)
-          (subst (λ (x : ℕ). IsTableOf x c.follow.new.self.n w (table_of c.follow.new.self.claims)) (c.in_ok-got-in-Some.ensures.size.0) after.claims);
+          (subst (λ (x : ℕ). IsTableOf x c.follow.new.self.n w (table_of c.follow.new.self.claims)) (c.in_ok-got-in-Some.ensures.size.0) (followed_by c.follow.new.self moved w after).claims);
     })

@@ -1,0 +1,105 @@
+-- An array beside the model's states.
+use Rattle.std.specs.Prelude.{◌≡◌, ◌⊎◌, ◌≤◌, ℕ, List, Option, length}
+use Rattle.dg_io.specs.declared.outside.Rack.{Ghosts}
+use Rattle.dg_io.specs.Told.{StillTold, Told, Took, TookPart}
+use Rattle.dg_model.specs.Runs.{Run}
+use Rattle.dg_model.specs.States.{IsBlank, State}
+use Rattle.dg_model.specs.Steps.{Step}
+use Rattle.dg_model.specs.declared.events.Event.{Event}
+use Rattle.dg_model.specs.declared.replies.Reply.{Reply}
+use Rattle.dg_model.specs.declared.shapes.Shape.{Shape}
+use Rattle.dg_run.specs.declared.arrays.Array.{Array}
+use Rattle.dg_text.specs.Replies.{reply_line}
+use Rattle.dg_volume.specs.Volumes.{IsWell, Leaves, any_phase}
+use Rattle.dg_volume.specs.Volumes as volumes
+
+-- ---- parts
+
+-- the numbers of the array
+abbrev pub shape_of : {R : Type 0} → Array R → Shape
+shape_of array = volumes.shape_of array.volume
+
+-- the rack that it holds
+abbrev pub rack_of : {R : Type 0} → Array R → R
+rack_of array = volumes.rack_of array.volume
+
+-- each member of the array tells its bytes
+abbrev pub Tells : {R : Type 0} → Ghosts R → Array R → Type 0
+Tells rack array = volumes.Tells rack array.volume
+
+-- all is well with its volume
+abbrev pub IsSound : {R : Type 0} → Ghosts R → Array R → Type 0
+IsSound rack array = IsWell any_phase rack array.volume
+
+-- what stays of an array, whatever was done
+abbrev pub GoesOn : {R : Type 0} → Ghosts R → Array R → Array R → Type 0
+GoesOn rack old new = Leaves any_phase any_phase rack old.volume new.volume
+
+-- ---- states
+
+-- The array is in this state: its volume is, the inodes that it read last are those of the state, and that has a block for each of the array's.
+pub record StandsIn {R : Type 0} (rack : Ghosts R) (array : Array R) (state : State) : Type 0 where
+  pub volume : volumes.StandsIn any_phase rack array.volume state
+  pub recent : state.recent ≡ array.hot
+  pub sized : length state.blocks ≡ state.table.shape.n
+
+-- whichever state the array was in, it made a step from it, to a state that it is in now
+abbrev pub StepsTo : {R : Type 0} → Ghosts R → Array R → Event → Reply → Array R → Type 0
+StepsTo rack old event reply new = (state : State) → StandsIn rack old state →
+    (next : State) × StandsIn rack new next × Step (Tells rack new) state event reply next
+
+-- the same, but nothing is said of the inodes that it read last
+abbrev pub VolumeStepsTo : {R : Type 0} → Ghosts R → Array R → Event → Reply → Array R → Type 0
+VolumeStepsTo rack old event reply new = (state : State) → StandsIn rack old state →
+    (next : State) × volumes.StandsIn any_phase rack new.volume next × Step (Tells rack new) state event reply next
+
+-- a run of steps
+abbrev pub RunsTo : {R : Type 0} → Ghosts R → Array R → List Event → List Reply → Array R → Type 0
+RunsTo rack old events replies new = (state : State) → StandsIn rack old state →
+    (next : State) × StandsIn rack new next × Run (Tells rack new) state events replies next
+
+-- the same, but nothing is said of the inodes that it read last
+abbrev pub VolumeRunsTo : {R : Type 0} → Ghosts R → Array R → List Event → List Reply → Array R → Type 0
+VolumeRunsTo rack old events replies new = (state : State) → StandsIn rack old state →
+    (next : State) × volumes.StandsIn any_phase rack new.volume next × Run (Tells rack new) state events replies next
+
+-- the same, but nothing is said of what the array stands for now
+abbrev pub RunsBefore : {R : Type 0} → Ghosts R → Array R → List Event → List Reply → Array R → Type 0
+RunsBefore rack old events replies now = (state : State) → StandsIn rack old state →
+    (next : State) × (next.table.shape ≡ shape_of now) × Run (Tells rack now) state events replies next
+
+-- ---- answers
+
+-- the event was done, and its reply was written
+pub record Answered {R : Type 0} (rack : Ghosts R) (event : Event) (taken given : Option (List ℕ)) (old new : Array R) : Type 0 where
+  pub reply : Reply
+  pub steps : StepsTo rack old event reply new
+  pub output : Told (Took (reply_line reply)) taken given
+
+-- the event was done, and a part of its reply was written
+pub record AnsweredPart {R : Type 0} (rack : Ghosts R) (event : Event) (taken given : Option (List ℕ)) (old new : Array R) : Type 0 where
+  pub reply : Reply
+  pub steps : VolumeStepsTo rack old event reply new
+  pub output : Told (TookPart (reply_line reply)) taken given
+
+-- the event was done and its reply was written, and behind it memory was wanting
+pub record AnsweredBefore {R : Type 0} (rack : Ghosts R) (event : Event) (taken given : Option (List ℕ)) (old now : Array R) : Type 0 where
+  pub reply : Reply
+  pub steps : VolumeStepsTo rack old event reply now
+  pub output : Told (Took (reply_line reply)) taken given
+
+-- memory was wanting for an event: before its reply, of which nothing was written, or behind it
+abbrev pub WantedFor : {R : Type 0} → Ghosts R → Event → Option (List ℕ) → Option (List ℕ) → Array R → Array R → Type 0
+WantedFor rack event taken given old now = (given ≡ taken) ⊎ AnsweredBefore rack event taken given old now
+
+-- ---- a blank array
+
+-- An array of this shape, over a rack that was so before: it is in the state of the blank array.
+pub record IsBlankArray {R : Type 0} (rack : Ghosts R) (shape : Shape) (before : R) (array : Array R) : Type 0 where
+  pub sound : IsSound rack array
+  pub shape_is : shape_of array ≡ shape
+  pub tells : StillTold (rack.bytes before) (rack.bytes (rack_of array))
+  pub same_rack : rack.name (rack_of array) ≡ rack.name before
+  pub state : State
+  pub blank : IsBlank shape (rack.counts before) state
+  pub stands : StandsIn rack array state

@@ -1,0 +1,299 @@
+-- A settled volume makes a step by a spreading of copies.
+use Rattle.std.proofs.Common.{◌≡◌, ◌∙◌, ◌<◌, ◌≤◌, ◌+◌, ◌*◌, ◌/◌, ◌^◌, ◌⊎◌, ◌==◌, ◌||◌, ℕ, zero, suc, Bool, true, false, List, [], ◌∷◌, length, inl, inr, refl, sym, ap, subst, arith}
+use Rattle.std.specs.Prelude.{◌↔◌, ◌++◌, All, Err, IfOk, IfSome, IsSome, None, OnErr, Ok, Option, Result, Some, filter, if◌then◌else◌, is_some, option_to_list, take}
+use Rattle.std.specs.List.{list_any, range_with_len}
+use Rattle.std.proofs.lemmas.Bool.{cases_lt, eq-eqb, eqb-true, false≢true, or_left, or_right}
+use Rattle.std.proofs.lemmas.List.Elements.{filter_agree}
+use Rattle.dg_hot.specs.Spreads.{HasSpread, HasSpreadSome, IsLost, Moved, spread_of}
+use Rattle.dg_hot.specs.declared.spreads.DiffuseAnswer.{DiffuseAnswer}
+use Rattle.dg_hot.specs.declared.spreads.DiffuseAnswer.TheVariants.{Diffused, Lost}
+use Rattle.dg_infer.specs.Meanings.{KeptInference}
+use Rattle.dg_infer.specs.Meanings as inferences
+use Rattle.dg_infer.specs.Wants.{IsWantBy}
+use Rattle.dg_io.specs.declared.outside.Rack.{Ghosts}
+use Rattle.dg_model.proofs.SealLaws.{goes_plain}
+use Rattle.dg_model.specs.Changes.{SeesWants, Spreads}
+use Rattle.dg_model.specs.Copies.{spread_over}
+use Rattle.dg_model.specs.Homes.{home_of}
+use Rattle.dg_model.specs.Placed.{IsPlaced, boundaries_with}
+use Rattle.dg_model.specs.Plans.{count_of, is_file}
+use Rattle.dg_model.specs.Saves.{AreHomes}
+use Rattle.dg_model.specs.States.{IsLeastLost, State, after_calls, has_lost}
+use Rattle.dg_model.specs.Steps.{Step}
+use Rattle.dg_model.specs.Tables.{IsTable, Table, is_on}
+use Rattle.dg_model.specs.Wants.{AreWants, FitWants, want_of}
+use Rattle.dg_model.specs.declared.events.Event.{Event}
+use Rattle.dg_model.specs.declared.events.Event.TheVariants.{Diffuse}
+use Rattle.dg_model.specs.declared.homes.Home.{Home}
+use Rattle.dg_model.specs.declared.phases.Phase.{Phase}
+use Rattle.dg_model.specs.declared.phases.Phase.TheVariants.{Loose as LoosePhase, Settled as SettledPhase, Worn as WornPhase}
+use Rattle.dg_model.specs.declared.replies.Reply.{Reply}
+use Rattle.dg_model.specs.declared.replies.Reply.TheVariants.{Diffused as DiffusedReply, Lost as LostReply, NotSettled as NotSettledReply}
+use Rattle.dg_model.specs.declared.shapes.Shape.{Shape}
+use Rattle.dg_model.specs.declared.wants.Want.{Want}
+use Rattle.dg_model.specs.declared.wants.Want.TheVariants.{File, Kept, Stray}
+use Rattle.dg_store.specs.Stores.{IsSound}
+use Rattle.dg_store.specs.Stores as stores
+use Rattle.dg_volume.proofs.HomeLaws.{are_homes}
+use Rattle.dg_volume.proofs.PlacedLaws.{off_table}
+use Rattle.dg_volume.proofs.VolumeLaws.{StepsAt}
+use Rattle.dg_volume.proofs.WantedLaws.{one_want}
+use Rattle.dg_volume.specs.Copies.{StepsHot, diffuse_reply}
+use Rattle.dg_volume.specs.Planned.{AreWanted}
+use Rattle.dg_volume.specs.Settles.{KeepsArray}
+use Rattle.dg_volume.specs.Volumes.{AreWantsBy, FitsArray, IsInPlace, IsWell, Leaves, StandsFor, StandsIn, Tells, marks_by, marks_of, members_of, rack_of, shape_of, state_of, table_of}
+use Rattle.dg_volume.specs.declared.phases.InPhase as phases
+use Rattle.dg_volume.specs.declared.volumes.Volume.{Volume}
+
+-- ---- wants that are made anew
+
+-- one block is one thing, by what is kept
+module _ (table : Table) (kept : KeptInference) (one two : List (Option Want)) (fit : FitWants table one) (fits : FitWants table two) (by : AreWantsBy kept one) (bys : AreWantsBy kept two) where
+  same_at : (b : ℕ) (x y : Option Want) → want_of one b ≡ x → want_of two b ≡ y → is_some x ≡ is_some y → x ≡ y
+  same_at b None None e f is = refl
+  same_at b None (Some want) e f is = absurd (false≢true is)
+  same_at b (Some want) None e f is = absurd (false≢true (sym is))
+  same_at b (Some x) (Some y) e f is = ap Some (one_want kept b x y (by b x e) (bys b y f))
+
+  same_want : (b : ℕ) → want_of one b ≡ want_of two b
+  same_want b = same_at b (want_of one b) (want_of two b) refl refl (fit.written b ∙ sym (fits.written b))
+
+  same_count : (i : ℕ) → count_of one i ≡ count_of two i
+  same_count i =
+      ap (λ (n : ℕ). length (filter (λ b. is_file i (want_of one b)) (range_with_len 0 n))) (fit.size ∙ sym fits.size)
+      ∙ ap length (filter_agree (λ b. is_file i (want_of one b)) (λ b. is_file i (want_of two b)) (λ b. ap (is_file i) (same_want b)) (range_with_len 0 (length two)))
+
+  placed_anew : (homes copies : List Home) → IsPlaced one table homes copies → IsPlaced two table homes copies
+  placed_anew homes copies placed = record {
+    kept = λ b found. placed.kept b (same_want b ∙ found);
+    file = λ b i found. placed.file b i (same_want b ∙ found);
+    homes_are = λ i.
+        let both = placed.homes_are i in
+        (λ h. subst (λ (n : ℕ). 0 < n) (same_count i) (both.0 h), λ h. both.1 (subst (λ (n : ℕ). 0 < n) (sym (same_count i)) h));
+    copies_are = placed.copies_are;
+    homes_ascend = placed.homes_ascend;
+    copies_ascend = placed.copies_ascend;
+  }
+
+-- ---- copies stand on boundaries of the array
+
+some_kept : (test : ℕ → Bool) (xs : List ℕ) → 0 < length (filter test xs) → (x : ℕ) × (test x ≡ true)
+some_kept test [] h = absurd (omega (arith, h))
+some_kept test (x ∷ xs) h = by_test (test x) refl h (λ low. some_kept test xs low)
+  where
+    by_test : (b : Bool) → test x ≡ b → 0 < length (filter test (x ∷ xs)) → (0 < length (filter test xs) → (x : ℕ) × (test x ≡ true)) → (x : ℕ) × (test x ≡ true)
+    by_test true is low rest = (x, is)
+    by_test false is low rest = rest (subst (λ (b : Bool). 0 < length (if b then x ∷ filter test xs else filter test xs)) is low)
+
+file_want : (i : ℕ) (want : Option Want) → is_file i want ≡ true → want ≡ Some (File i)
+file_want i None h = absurd (false≢true h)
+file_want i (Some Kept) h = absurd (false≢true h)
+file_want i (Some (File j)) h = ap (λ (k : ℕ). Some (File k)) (eqb-true j i h)
+file_want i (Some Stray) h = absurd (false≢true h)
+
+copies_within : (table : Table) (wants : List (Option Want)) (homes copies : List Home) → IsTable table → IsPlaced wants table homes copies
+    → (i t : ℕ) → home_of copies i ≡ Some t → t < table.shape.b
+copies_within table wants homes copies is placed i t copied = elim (cases_lt t table.shape.b) [
+  | inl within ↦ within
+  | inr past ↦
+      let home = placed.copies_are i t copied in
+      let some : IsSome (home_of homes i) = subst (λ (h : Option ℕ). IsSome h) (sym home.1) refl in
+      let homed = placed.homes_are i in
+      let found = some_kept (λ b. is_file i (want_of wants b)) (range_with_len 0 (length wants)) (homed.0 some) in
+      let on = placed.file (found.0) i (file_want i (want_of wants (found.0)) found.1) t in
+      absurd (false≢true (sym (off_table table (found.0) t is past) ∙ on ∙ both (home.0) home.1))
+]
+  where
+    both : (s : ℕ) → home_of homes i ≡ Some s → list_any (λ u. u == t) (boundaries_with homes copies i) ≡ true
+    both s at =
+        ap (λ (h : Option ℕ). list_any (λ u. u == t) (option_to_list h ++ option_to_list (home_of copies i))) at
+        ∙ ap (λ (h : Option ℕ). list_any (λ u. u == t) (option_to_list (Some s) ++ option_to_list h)) copied
+        ∙ or_right (s == t) ((t == t) || false) (or_left (t == t) false (eq-eqb t t refl))
+
+settled_not_loose : SettledPhase ≡ LoosePhase → ⊥
+settled_not_loose e = absurd (cc e)
+
+settled_not_worn : SettledPhase ≡ WornPhase → ⊥
+settled_not_worn e = absurd (cc e)
+
+module _ {S R : Type 0} (phase : phases.Ghosts S) (rack : Ghosts R) where
+  -- what the array's call left
+  pub record HasDiffused {E : Type 0} (a : Volume S R) (kept : KeptInference) (wants : List (Option Want)) (hot : List ℕ) (result : Result DiffuseAnswer E) (b : Volume S R) : Type 0 where
+    pub well : IsWell phase rack a
+    pub settled : phase.phase a.phase ≡ SettledPhase
+    pub kept_is : phase.kept a.phase ≡ Some kept
+    pub whole : has_lost (shape_of a) (members_of a) ≡ false
+    pub wanted : AreWanted (table_of a) kept wants
+    pub phase_is : b.phase ≡ a.phase
+    pub pending : b.pending ≡ a.pending
+    pub homes : b.homes ≡ a.homes
+    pub levels : b.levels.fragment ≡ a.levels.fragment
+    pub small : All (λ (home : Home). home.inode < 2 ^ 32) b.copies
+    pub moved : Moved rack a.store b.store
+    pub placed : IsPlaced wants (table_of b) a.homes b.copies
+    pub live : IfOk result (λ answer. (n : ℕ) → answer ≡ Diffused n → has_lost (shape_of b) (members_of b) ≡ false)
+    pub diffused : IfOk result (λ answer. (n : ℕ) → answer ≡ Diffused n → HasSpread wants a.homes hot (length hot) n a.copies b.copies a.store b.store)
+    pub lost : IfOk result (λ answer. (s : ℕ) → answer ≡ Lost s → IsLost b.store s)
+    pub cut : IfOk result (λ answer. (s : ℕ) → answer ≡ Lost s → HasSpreadSome wants a.homes hot a.copies b.copies a.store b.store)
+
+  -- the wants that are made anew are those by which each block is in its place
+  pub placed_by : (a : Volume S R) (kept : KeptInference) (wants : List (Option Want)) → IsWell phase rack a → phase.phase a.phase ≡ SettledPhase → phase.kept a.phase ≡ Some kept
+      → AreWanted (table_of a) kept wants → IsPlaced wants (table_of a) a.homes a.copies
+  placed_by a kept wants well settled is wanted =
+      let place = well.settled settled in
+      let by : AreWantsBy kept place.wants = subst (λ (k : Option KeptInference). IfSome k (λ inference. AreWantsBy inference place.wants)) is place.by in
+      placed_anew (table_of a) kept place.wants wants place.fit wanted.fit by wanted.by a.homes a.copies place.placed
+
+  module _ {E : Type 0} (a : Volume S R) (kept : KeptInference) (wants : List (Option Want)) (hot : List ℕ) (result : Result DiffuseAnswer E) (b : Volume S R) (h : HasDiffused a kept wants hot result b) where
+    same_shape : shape_of b ≡ shape_of a
+    same_shape = h.moved.leaves.keeps.shape
+
+    fitted : FitsArray (shape_of a) kept
+    fitted = subst (λ (k : Option KeptInference). IfSome k (FitsArray (shape_of a))) h.kept_is h.well.inferred
+
+    wants_on : (V : List (List ℕ)) → inferences.StandsFor kept V → AreWants (shape_of a).l (shape_of a).n V wants
+    wants_on V held =
+        subst (λ (l : ℕ). AreWants l (shape_of a).n V wants) fitted.bytes (subst (λ (n : ℕ). AreWants kept.l n V wants) fitted.number (h.wanted.are V held))
+
+    fit_on : FitWants (table_of b) wants
+    fit_on = record {
+      size = h.wanted.fit.size ∙ sym (ap (λ (x : Shape). x.n) same_shape);
+      written = λ c. h.wanted.fit.written c ∙ sym (h.moved.written c);
+    }
+
+    in_place : IsInPlace (table_of b) (phase.kept b.phase) b.homes b.copies
+    in_place =
+        let now : IsInPlace (table_of b) (Some kept) a.homes b.copies = record {
+          wants = wants;
+          fit = fit_on;
+          placed = h.placed;
+          are = λ V held. subst (λ (x : Shape). AreWants x.l x.n V wants) (sym same_shape) (wants_on V held);
+          by = h.wanted.by;
+        } in
+        subst (λ (p : S). IsInPlace (table_of b) (phase.kept p) b.homes b.copies) (sym h.phase_is)
+        (subst (λ (k : Option KeptInference). IsInPlace (table_of b) k b.homes b.copies) (sym h.kept_is)
+        (subst (λ (x : List Home). IsInPlace (table_of b) (Some kept) x b.copies) (sym h.homes) now))
+
+    same_marks : marks_of phase b ≡ marks_of phase a
+    same_marks i = marks_by (phase.kept (h.phase_is i)) ((h.pending i).items)
+
+    still : phase.phase b.phase ≡ SettledPhase
+    still = ap phase.phase h.phase_is ∙ h.settled
+
+    pub diffuse_leaves : Leaves phase phase rack a b
+    diffuse_leaves =
+        let well = h.well in
+        let fits = subst (λ (x : Shape). IfSome (phase.kept a.phase) (FitsArray x)) (sym same_shape) well.inferred in
+        let homes = subst (λ (x : Shape). AreHomes x a.homes) (sym same_shape) well.homes_are in
+        record {
+          well = record {
+            array = h.moved.leaves.sound;
+            levels = h.levels ∙ well.levels ∙ sym (ap (λ (x : Shape). x.l) same_shape);
+            marks = ap length same_marks ∙ well.marks ∙ sym (ap (λ (x : Shape). x.n) same_shape);
+            inferred = subst (λ (p : S). IfSome (phase.kept p) (FitsArray (shape_of b))) (sym h.phase_is) fits;
+            homes_are = subst (λ (x : List Home). AreHomes (shape_of b) x) (sym h.homes) homes;
+            copies_are = are_homes (shape_of b) b.copies h.placed.copies_ascend (copies_within (table_of b) wants a.homes b.copies h.moved.leaves.sound.table h.placed) h.small;
+            loose = λ loose. absurd (settled_not_loose (sym still ∙ loose));
+            worn = λ worn. absurd (settled_not_worn (sym still ∙ worn));
+            settled = λ settled. in_place;
+          };
+          shape = same_shape;
+          tells = h.moved.leaves.keeps.stays.tells;
+          same_rack = h.moved.leaves.keeps.stays.same_rack;
+        }
+
+    pub diffuse_keeps : KeepsArray rack a b
+    diffuse_keeps told = h.moved.stands told
+
+    told_before : Tells rack b → Tells rack a
+    told_before told q below = h.moved.leaves.keeps.stays.tells q (told q (subst (λ (x : Shape). q / 2 < x.b) (sym same_shape) below))
+
+    next_in : (rest : State) (V : List (List ℕ)) → rest.label ≡ None → (Tells rack a → StandsFor phase rack a V) → StandsIn phase rack b (state_of phase rack b rest V)
+    next_in rest V label holds = record {
+      is = refl;
+      label = label;
+      holds = λ told.
+          let held = holds (told_before told) in
+          record {
+            array = h.moved.stands told V held.array;
+            inferred = subst (λ (p : S). IfSome (phase.kept p) (λ inference. inferences.StandsFor inference V)) (sym h.phase_is) held.inferred;
+          };
+    }
+
+    -- so many of the files may have got copies
+    spreads : (count gained : ℕ) → HasSpread wants a.homes hot count gained a.copies b.copies a.store b.store → (rest : State) (V : List (List ℕ)) → rest.label ≡ None → rest.recent ≡ hot
+        → (Tells rack a → StandsFor phase rack a V) → Spreads (Tells rack b) (state_of phase rack a rest V) count gained (state_of phase rack b rest V)
+    spreads count gained has rest V label recent holds = record {
+      wants = wants;
+      seen = record {
+        fit = h.wanted.fit;
+        are = λ told.
+            let held = holds (told_before told) in
+            wants_on V (subst (λ (k : Option KeptInference). IfSome k (λ inference. inferences.StandsFor inference V)) h.kept_is held.inferred);
+      };
+      goes = goes_plain (state_of phase rack a rest V) (state_of phase rack b rest V) label label h.moved.leaves.keeps.stays.rise h.moved.leaves.keeps.falls h.moved.leaves.sound.paired;
+      spread = has.spread ∙ ap (λ (files : List ℕ). spread_over wants a.homes (take count files) (spread_of a.store a.copies)) (sym recent);
+      gained_is = has.gained_is;
+      rest = λ i. record rest {
+        table = table_of b;
+        blocks = V;
+        pending = same_marks i;
+        homes = h.homes i;
+        copies = b.copies;
+        phase = phase.phase (h.phase_is i);
+        members = members_of b;
+        counts = rack.counts (rack_of b);
+      };
+    }
+
+  hot_steps : (a b : Volume S R) (hot : List ℕ) (event : Event) (reply : Reply)
+      → ((rest : State) (V : List (List ℕ)) → rest.label ≡ None → rest.recent ≡ hot → (Tells rack a → StandsFor phase rack a V) → StepsAt phase rack (λ recent. recent) a rest V event reply b)
+      → StepsHot phase phase rack hot a event reply b
+  hot_steps a b hot event reply go state st recent =
+      subst (λ (s : State). (next : State) × StandsIn phase rack b next × Step (Tells rack b) s event reply next × (next.recent ≡ s.recent)) (sym st.is)
+      (go state state.blocks st.label recent st.holds)
+
+  pub diffuse_steps : {E : Type 0} (a : Volume S R) (kept : KeptInference) (wants : List (Option Want)) (hot : List ℕ) (result : Result DiffuseAnswer E) (b : Volume S R)
+      → HasDiffused a kept wants hot result b → IfOk result (λ answer. StepsHot phase phase rack hot a Diffuse (diffuse_reply answer) b)
+  diffuse_steps a kept wants hot (Ok (Diffused n)) b h = hot_steps a b hot Diffuse (DiffusedReply n) (λ rest V label recent holds. (
+    state_of phase rack b rest V,
+    next_in a kept wants hot (Ok (Diffused n)) b h rest V label holds,
+    (
+      h.settled,
+      h.whole,
+      h.live n refl,
+      subst (λ (count : ℕ). Spreads (Tells rack b) (state_of phase rack a rest V) count n (state_of phase rack b rest V)) (ap length (sym recent))
+          (spreads a kept wants hot (Ok (Diffused n)) b h (length hot) n (h.diffused n refl) rest V label recent holds),
+    ),
+    refl,
+  ))
+  diffuse_steps a kept wants hot (Ok (Lost s)) b h =
+      let some = h.cut s refl in
+      hot_steps a b hot Diffuse (LostReply s) (λ rest V label recent holds. (
+        state_of phase rack b rest V,
+        next_in a kept wants hot (Ok (Lost s)) b h rest V label holds,
+        (
+          h.settled,
+          inr ((h.whole, h.lost s refl), (some.count, some.gained, spreads a kept wants hot (Ok (Lost s)) b h some.count some.gained some.has rest V label recent holds)),
+        ),
+        refl,
+      ))
+  diffuse_steps a kept wants hot (Err e) b h = tt
+
+  -- ---- nothing is done
+
+  pub diffuse_lost : (a : Volume S R) (hot : List ℕ) (s : ℕ) → phase.phase a.phase ≡ SettledPhase → IsLeastLost (shape_of a) (members_of a) s → StepsHot phase phase rack hot a Diffuse (LostReply s) a
+  diffuse_lost a hot s settled lost = hot_steps a a hot Diffuse (LostReply s) (λ rest V label recent holds. (
+    state_of phase rack a rest V,
+    record { is = refl; label = label; holds = holds },
+    (settled, inl (lost, refl)),
+    refl,
+  ))
+
+  pub diffuse_refused : (a : Volume S R) (hot : List ℕ) → (phase.phase a.phase ≡ SettledPhase → ⊥) → StepsHot phase phase rack hot a Diffuse NotSettledReply a
+  diffuse_refused a hot unsettled = hot_steps a a hot Diffuse NotSettledReply (λ rest V label recent holds. (
+    state_of phase rack a rest V,
+    record { is = refl; label = label; holds = holds },
+    (unsettled, refl),
+    refl,
+  ))

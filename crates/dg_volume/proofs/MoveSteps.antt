@@ -1,0 +1,439 @@
+-- A volume makes a step by moves of its blocks: what is left of it, and each answer of `tend` and of `settle`.
+use Rattle.std.proofs.Common.{◌≡◌, ◌≢◌, ◌∙◌, ℕ, Bool, false, List, length, refl, sym, ap, subst, inl, inr}
+use Rattle.std.specs.Prelude.{Option, Some, None, Err, IfSome}
+use Rattle.dg_infer.specs.Meanings.{KeptInference}
+use Rattle.dg_infer.specs.Meanings as inferences
+use Rattle.dg_io.specs.declared.outside.Rack.{Ghosts}
+use Rattle.dg_model.proofs.SealLaws.{goes_plain}
+use Rattle.dg_model.specs.Changes.{Goes, IsCramped, IsCut, IsPlan, SeesParents, SeesWants}
+use Rattle.dg_model.specs.Moves.{IsCutOff, moved}
+use Rattle.dg_model.specs.Plans.{targets_of}
+use Rattle.dg_model.specs.Saves.{AreHomes}
+use Rattle.dg_model.specs.States.{IsLeastLost, State, has_lost}
+use Rattle.dg_model.specs.Steps.{Step}
+use Rattle.dg_model.specs.Tables.{Table}
+use Rattle.dg_model.specs.Wants.{AreWants}
+use Rattle.dg_model.specs.declared.events.Event.TheVariants.{Settle, Tend}
+use Rattle.dg_model.specs.declared.homes.Home.{Home}
+use Rattle.dg_model.specs.declared.parents.Parent.{Parent}
+use Rattle.dg_model.specs.declared.phases.Phase.TheVariants.{Loose as LoosePhase, Settled as SettledPhase, Worn as WornPhase}
+use Rattle.dg_model.specs.declared.replies.Reply.TheVariants.{Lost as LostReply, Malformed as MalformedReply, NoSpace as NoSpaceReply, Settled as SettledReply, Tended as TendedReply}
+use Rattle.dg_model.specs.declared.shapes.Shape.{Shape}
+use Rattle.dg_model.specs.declared.wants.NoRoom.{NoRoom}
+use Rattle.dg_model.specs.declared.wants.Want.{Want}
+use Rattle.dg_move.specs.Answers.{IsTended}
+use Rattle.dg_plan.specs.Targets.{wants_of}
+use Rattle.dg_plan.specs.declared.target_lists.Targets.{Targets}
+use Rattle.dg_store.specs.Stores.{TellsAll}
+use Rattle.dg_store.specs.Stores as stores
+use Rattle.dg_store.specs.declared.store.Store.{Store}
+use Rattle.dg_volume.proofs.ArrayLaws.{told_by}
+use Rattle.dg_volume.proofs.VolumeLaws.{HasRead, IsBeside, reads_in, reads_stay, steps_from}
+use Rattle.dg_volume.specs.Planned.{AnswersCheck, AreKnown, AreWanted, FindsOn, HasMovedArray, HasNoPlan, HasPlan, HasReadArray}
+use Rattle.dg_volume.specs.Settles.{unsettled_reply}
+use Rattle.dg_volume.specs.Volumes.{FitsArray, IsWell, Leaves, StandsFor, StandsIn, StepsTo, Tells, marks_by, marks_of, members_of, rack_of, shape_of, state_of, table_of}
+use Rattle.dg_volume.specs.declared.phases.InPhase as phases
+use Rattle.dg_volume.specs.declared.settles.Unsettled.{Unsettled}
+use Rattle.dg_volume.specs.declared.settles.Unsettled.TheVariants.{Lost, Malformed, NoSpace}
+use Rattle.dg_volume.specs.declared.volumes.Volume.{Volume}
+use Rattle.ufs_model.specs.Malformations.{IsFirstMalformation, IsSoundVolume}
+use Rattle.ufs_model.specs.declared.malformations.BadKind.{BadKind}
+
+pub loose_not_worn : LoosePhase ≡ WornPhase → ⊥
+loose_not_worn e = absurd (cc e)
+
+pub loose_not_settled : LoosePhase ≡ SettledPhase → ⊥
+loose_not_settled e = absurd (cc e)
+
+module _ {S R : Type 0} (phase : phases.Ghosts S) (rack : Ghosts R) where
+  -- all but the array, the buffers and the homes is as it was
+  pub record HasMoved (a b : Volume S R) : Type 0 where
+    pub phase_is : b.phase ≡ a.phase
+    pub pending : b.pending ≡ a.pending
+    pub copies : b.copies ≡ a.copies
+    pub levels : b.levels.fragment ≡ a.levels.fragment
+    pub array : HasMovedArray rack a.store b.store
+    pub homes_are : AreHomes (shape_of b) b.homes
+
+  marks_moved : (a b : Volume S R) → HasMoved a b → marks_of phase b ≡ marks_of phase a
+  marks_moved a b h = λ i. marks_by (phase.kept (h.phase_is i)) ((h.pending i).items)
+
+  -- what moves leave of a loose volume
+  pub moved_leaves : (a b : Volume S R) → IsWell phase rack a → phase.phase a.phase ≡ LoosePhase → HasMoved a b → Leaves phase phase rack a b
+  moved_leaves a b well loose h =
+      let shape : shape_of b ≡ shape_of a = h.array.leaves.keeps.shape in
+      let fits = subst (λ (x : Shape). IfSome (phase.kept a.phase) (FitsArray x)) (sym shape) well.inferred in
+      let copies = subst (λ (x : Shape). AreHomes x a.copies) (sym shape) well.copies_are in
+      let still : phase.phase b.phase ≡ LoosePhase = ap phase.phase h.phase_is ∙ loose in
+      record {
+        well = record {
+          array = h.array.leaves.sound;
+          levels = h.levels ∙ well.levels ∙ sym (ap (λ (x : Shape). x.l) shape);
+          marks = ap length (marks_moved a b h) ∙ well.marks ∙ sym (ap (λ (x : Shape). x.n) shape);
+          inferred = subst (λ (p : S). IfSome (phase.kept p) (FitsArray (shape_of b))) (sym h.phase_is) fits;
+          homes_are = h.homes_are;
+          copies_are = subst (λ (x : List Home). AreHomes (shape_of b) x) (sym h.copies) copies;
+          loose = λ is. h.copies ∙ well.loose loose;
+          worn = λ worn. absurd (loose_not_worn (sym still ∙ worn));
+          settled = λ settled. absurd (loose_not_settled (sym still ∙ settled));
+        };
+        shape = shape;
+        tells = h.array.leaves.keeps.stays.tells;
+        same_rack = h.array.leaves.keeps.stays.same_rack;
+      }
+
+  told_moved : (a b : Volume S R) → HasMoved a b → Tells rack b → Tells rack a
+  told_moved a b h told = told_by rack a.store b.store h.array.leaves.keeps told
+
+  pub stands_moved : (a b : Volume S R) (V : List (List ℕ)) → HasMoved a b → Tells rack b → StandsFor phase rack a V → StandsFor phase rack b V
+  stands_moved a b V h told held = record {
+    array = h.array.stands told V held.array;
+    inferred = subst (λ (p : S). IfSome (phase.kept p) (λ kept. inferences.StandsFor kept V)) (sym h.phase_is) held.inferred;
+  }
+
+  moved_in : (a b : Volume S R) (rest : State) (V : List (List ℕ)) → rest.label ≡ None → HasMoved a b → (Tells rack a → StandsFor phase rack a V)
+      → StandsIn phase rack b (state_of phase rack b rest V)
+  moved_in a b rest V label h holds = record { is = refl; label = label; holds = λ told. stands_moved a b V h told (holds (told_moved a b h told)) }
+
+  moved_goes : (a b : Volume S R) (rest : State) (V : List (List ℕ)) → rest.label ≡ None → HasMoved a b → Goes (state_of phase rack a rest V) (state_of phase rack b rest V)
+  moved_goes a b rest V label h =
+      goes_plain (state_of phase rack a rest V) (state_of phase rack b rest V) label label h.array.leaves.keeps.stays.rise h.array.leaves.keeps.falls h.array.leaves.sound.paired
+
+  -- what reads left of a volume, by what they left of its array
+  pub has_read : (a b : Volume S R) → IsBeside phase rack a b → b.levels.fragment ≡ a.levels.fragment → HasReadArray rack a.store b.store → HasRead phase rack a b
+  has_read a b beside levels h = record { beside = beside; levels = levels; sound = h.sound; reads = h.reads; stands = h.stands }
+
+  -- what moves left of it, where the homes stay
+  pub has_moved : (a b : Volume S R) → IsBeside phase rack a b → b.levels.fragment ≡ a.levels.fragment → IsWell phase rack a → HasMovedArray rack a.store b.store → HasMoved a b
+  has_moved a b beside levels well h = record {
+    phase_is = beside.phase_is;
+    pending = beside.pending;
+    copies = beside.copies;
+    levels = levels;
+    array = h;
+    homes_are =
+        subst (λ (x : Shape). AreHomes x b.homes) (sym h.leaves.keeps.shape)
+        (subst (λ (x : List Home). AreHomes (shape_of a) x) (sym beside.homes) well.homes_are);
+  }
+
+  -- ---- what is inferred
+
+  -- it is kept, and is of this array
+  pub record Keeps (a : Volume S R) (kept : KeptInference) : Type 0 where
+    pub is : phase.kept a.phase ≡ Some kept
+    pub fits : FitsArray (shape_of a) kept
+
+  pub keeps_of : (a : Volume S R) (kept : KeptInference) → IsWell phase rack a → phase.kept a.phase ≡ Some kept → Keeps a kept
+  keeps_of a kept well is = record { is = is; fits = subst (λ (k : Option KeptInference). IfSome k (FitsArray (shape_of a))) is well.inferred }
+
+  inferred_of : (a : Volume S R) (kept : KeptInference) (V : List (List ℕ)) → Keeps a kept → StandsFor phase rack a V → inferences.StandsFor kept V
+  inferred_of a kept V keeps held = subst (λ (k : Option KeptInference). IfSome k (λ x. inferences.StandsFor x V)) keeps.is held.inferred
+
+  -- the wants are right of each volume for which the inference stands
+  pub wants_right : (a : Volume S R) (kept : KeptInference) (wants : List (Option Want)) (V : List (List ℕ)) → Keeps a kept → AreWanted (table_of a) kept wants
+      → inferences.StandsFor kept V → AreWants (shape_of a).l (shape_of a).n V wants
+  wants_right a kept wants V keeps wanted held =
+      let by_bytes = subst (λ (l : ℕ). AreWants l kept.n V wants) keeps.fits.bytes (wanted.are V held) in
+      subst (λ (n : ℕ). AreWants (shape_of a).l n V wants) keeps.fits.number by_bytes
+
+  -- ---- the plan, in a state
+
+  module _ (Known : Type 0) (a : Volume S R) (mid : Store R) (kept : KeptInference) (rest : State) (V : List (List ℕ)) where
+    module _ (keeps : Keeps a kept) (middle : Known → TellsAll rack mid) (held : Known → StandsFor phase rack a V) where
+      sees_wants : (wants : List (Option Want)) → AreWanted (table_of a) kept wants → SeesWants Known (state_of phase rack a rest V) wants
+      sees_wants wants wanted = record { fit = wanted.fit; are = λ known. wants_right a kept wants V keeps wanted (inferred_of a kept V keeps (held known)) }
+
+      sees_parents : (parents : List Parent) → AreKnown rack a.store mid parents → SeesParents Known (state_of phase rack a rest V) parents
+      sees_parents parents are known = let array = held known in are (middle known) V array.array
+
+      is_plan : (targets : Targets) (found : HasPlan rack a.store mid kept a.homes targets) → IsPlan Known (state_of phase rack a rest V) found.wants found.planned.found
+      is_plan targets found = record {
+        parents = found.parents;
+        sees_wants = sees_wants found.wants found.wanted;
+        sees_parents = sees_parents found.parents found.known;
+        is = found.planned.by_plan;
+      }
+
+      is_cramped : (bad : NoRoom) → HasNoPlan rack a.store mid kept a.homes bad → IsCramped Known (state_of phase rack a rest V) bad
+      is_cramped bad found = record {
+        wants = found.wants;
+        parents = found.parents;
+        sees_wants = sees_wants found.wants found.wanted;
+        sees_parents = sees_parents found.parents found.known;
+        is = found.is;
+      }
+
+  -- ---- answers before any move
+
+  -- it is loose, and no boundary is lost
+  pub record IsReady (a : Volume S R) : Type 0 where
+    pub loose : phase.phase a.phase ≡ LoosePhase
+    pub whole : has_lost (shape_of a) (members_of a) ≡ false
+
+  not_settled : (a : Volume S R) → IsReady a → phase.phase a.phase ≢ SettledPhase
+  not_settled a ready settled = loose_not_settled (sym ready.loose ∙ settled)
+
+  same_in : (a : Volume S R) (rest : State) (V : List (List ℕ)) → rest.label ≡ None → (Tells rack a → StandsFor phase rack a V) → StandsIn phase rack a (state_of phase rack a rest V)
+  same_in a rest V label holds = record { is = refl; label = label; holds = holds }
+
+  pub tend_lost_first : (a : Volume S R) (limit s : ℕ) → IsLeastLost (shape_of a) (members_of a) s → StepsTo phase phase rack a (Tend limit) (LostReply s) a
+  tend_lost_first a limit s least = steps_from phase rack a a (Tend limit) (LostReply s) (λ rest V label holds. (
+    state_of phase rack a rest V,
+    same_in a rest V label holds,
+    inl (least, refl),
+    refl,
+  ))
+
+  pub settle_lost_first : (a : Volume S R) (s : ℕ) → IsLeastLost (shape_of a) (members_of a) s → StepsTo phase phase rack a Settle (LostReply s) a
+  settle_lost_first a s least = steps_from phase rack a a Settle (LostReply s) (λ rest V label holds. (
+    state_of phase rack a rest V,
+    same_in a rest V label holds,
+    inl (least, refl),
+    refl,
+  ))
+
+  -- in a settled volume nothing is done
+  pub tend_settled : (a : Volume S R) (limit : ℕ) → phase.phase a.phase ≡ SettledPhase → has_lost (shape_of a) (members_of a) ≡ false
+      → StepsTo phase phase rack a (Tend limit) (TendedReply 0 0) a
+  tend_settled a limit settled whole = steps_from phase rack a a (Tend limit) (TendedReply 0 0) (λ rest V label holds. (
+    state_of phase rack a rest V,
+    same_in a rest V label holds,
+    (whole, inl (settled, refl, refl, refl)),
+    refl,
+  ))
+
+  pub settle_settled : (a : Volume S R) → phase.phase a.phase ≡ SettledPhase → has_lost (shape_of a) (members_of a) ≡ false → StepsTo phase phase rack a Settle SettledReply a
+  settle_settled a settled whole = steps_from phase rack a a Settle SettledReply (λ rest V label holds. (
+    state_of phase rack a rest V,
+    same_in a rest V label holds,
+    (whole, inl (settled, refl)),
+    refl,
+  ))
+
+  -- a boundary was lost by reads
+  pub tend_lost_reading : (a b : Volume S R) (limit s : ℕ) → IsReady a → HasRead phase rack a b → IsLeastLost (shape_of b) (members_of b) s
+      → StepsTo phase phase rack a (Tend limit) (LostReply s) b
+  tend_lost_reading a b limit s ready h least = steps_from phase rack a b (Tend limit) (LostReply s) (λ rest V label holds. (
+    state_of phase rack b rest V,
+    reads_in phase rack a b rest V label h holds,
+    inr ((ready.whole, least), not_settled a ready, inl (reads_stay phase rack a b rest V label h)),
+    refl,
+  ))
+
+  pub settle_lost_reading : (a b : Volume S R) (s : ℕ) → IsReady a → HasRead phase rack a b → IsLeastLost (shape_of b) (members_of b) s
+      → StepsTo phase phase rack a Settle (LostReply s) b
+  settle_lost_reading a b s ready h least = steps_from phase rack a b Settle (LostReply s) (λ rest V label holds. (
+    state_of phase rack b rest V,
+    reads_in phase rack a b rest V label h holds,
+    inr ((ready.whole, least), not_settled a ready, inl (reads_stay phase rack a b rest V label h)),
+    refl,
+  ))
+
+  -- where each member tells its bytes in the end, the blocks are those for which the volume stood
+  held_before : (a b : Volume S R) (V : List (List ℕ)) → HasRead phase rack a b → (Tells rack a → StandsFor phase rack a V) → Tells rack b → StandsFor phase rack a V
+  held_before a b V h holds told = holds (told_by rack a.store b.store h.reads.keeps told)
+
+  -- there is no room
+  pub tend_cramped : (a b : Volume S R) (kept : KeptInference) (limit : ℕ) (bad : NoRoom) → IsReady a → Keeps a kept → HasRead phase rack a b
+      → HasNoPlan rack a.store b.store kept a.homes bad → StepsTo phase phase rack a (Tend limit) (NoSpaceReply bad) b
+  tend_cramped a b kept limit bad ready keeps h found = steps_from phase rack a b (Tend limit) (NoSpaceReply bad) (λ rest V label holds. (
+    state_of phase rack b rest V,
+    reads_in phase rack a b rest V label h holds,
+    (
+      ready.whole,
+      not_settled a ready,
+      is_cramped (Tells rack b) a b.store kept rest V keeps (λ told. told) (held_before a b V h holds) bad found,
+      reads_stay phase rack a b rest V label h,
+    ),
+    refl,
+  ))
+
+  -- what is found of the blocks of a state, where each member tells its bytes in the end
+  found_in : (a b : Volume S R) (mid : Store R) (kept : KeptInference) (V : List (List ℕ)) (finds : List (List ℕ) → Type 0) → Keeps a kept
+      → (Tells rack b → TellsAll rack mid) → (Tells rack b → StandsFor phase rack a V) → FindsOn rack a.store mid kept finds → Tells rack b → finds V
+  found_in a b mid kept V finds keeps middle held found told = let array = held told in found (middle told) V array.array (inferred_of a kept V keeps array)
+
+  pub settle_malformed : (a b : Volume S R) (kept : KeptInference) (kind : BadKind) (n : ℕ) → IsReady a → Keeps a kept → HasRead phase rack a b
+      → FindsOn rack a.store b.store kept (λ V. IsFirstMalformation (shape_of a).l (shape_of a).n V kind n) → StepsTo phase phase rack a Settle (MalformedReply kind n) b
+  settle_malformed a b kept kind n ready keeps h found = steps_from phase rack a b Settle (MalformedReply kind n) (λ rest V label holds. (
+    state_of phase rack b rest V,
+    reads_in phase rack a b rest V label h holds,
+    (
+      ready.whole,
+      not_settled a ready,
+      found_in a b b.store kept V (λ v. IsFirstMalformation (shape_of a).l (shape_of a).n v kind n) keeps (λ told. told) (held_before a b V h holds) found,
+      reads_stay phase rack a b rest V label h,
+    ),
+    refl,
+  ))
+
+  -- a check found the volume sound, over an array that still told its bytes
+  pub record IsChecked (a : Volume S R) (kept : KeptInference) (b : Volume S R) : Type 0 where
+    pub mid : Store R
+    pub told : Tells rack b → TellsAll rack mid
+    pub sound : FindsOn rack a.store mid kept (λ V. IsSoundVolume (shape_of a).l (shape_of a).n V)
+
+  sound_in : (a b : Volume S R) (kept : KeptInference) (V : List (List ℕ)) → Keeps a kept → IsChecked a kept b → (Tells rack b → StandsFor phase rack a V)
+      → Tells rack b → IsSoundVolume (shape_of a).l (shape_of a).n V
+  sound_in a b kept V keeps check held = found_in a b check.mid kept V (λ v. IsSoundVolume (shape_of a).l (shape_of a).n v) keeps check.told held check.sound
+
+  pub settle_cramped : (a b : Volume S R) (kept : KeptInference) (bad : NoRoom) → IsReady a → Keeps a kept → IsChecked a kept b → HasRead phase rack a b
+      → HasNoPlan rack a.store b.store kept a.homes bad → StepsTo phase phase rack a Settle (NoSpaceReply bad) b
+  settle_cramped a b kept bad ready keeps check h found = steps_from phase rack a b Settle (NoSpaceReply bad) (λ rest V label holds. (
+    state_of phase rack b rest V,
+    reads_in phase rack a b rest V label h holds,
+    (
+      ready.whole,
+      not_settled a ready,
+      sound_in a b kept V keeps check (held_before a b V h holds),
+      is_cramped (Tells rack b) a b.store kept rest V keeps (λ told. told) (held_before a b V h holds) bad found,
+      reads_stay phase rack a b rest V label h,
+    ),
+    refl,
+  ))
+
+  -- each refusal of a check
+  pub check_refused : (a b : Volume S R) (kept : KeptInference) (unsettled : Unsettled) → IsReady a → Keeps a kept → HasRead phase rack a b
+      → AnswersCheck rack a.store b.store kept (Err unsettled) → StepsTo phase phase rack a Settle (unsettled_reply unsettled) b
+  check_refused a b kept (Lost s) ready keeps h answer = settle_lost_reading a b s ready h answer
+  check_refused a b kept (Malformed kind n) ready keeps h answer = settle_malformed a b kept kind n ready keeps h answer
+  check_refused a b kept (NoSpace bad) ready keeps h answer = absurd answer
+
+  -- ---- moves by the plan
+
+  -- a plan was made, and blocks were moved
+  pub record HasRun (a : Volume S R) (kept : KeptInference) (targets : Targets) (mid : Store R) (b : Volume S R) : Type 0 where
+    pub keeps : Keeps a kept
+    pub read : HasReadArray rack a.store mid
+    pub plan : HasPlan rack a.store mid kept a.homes targets
+    pub told : Tells rack b → TellsAll rack mid
+    pub moves : HasMoved a b
+
+  module _ (a : Volume S R) (kept : KeptInference) (targets : Targets) (mid : Store R) (b : Volume S R) (run : HasRun a kept targets mid b) where
+    -- the targets as the plan has them
+    abbrev goals : ℕ → ℕ → Bool
+    goals = targets_of (shape_of a) run.plan.wants run.plan.planned.found
+
+    same_goals : wants_of targets ≡ goals
+    same_goals = λ i b s. run.plan.planned.same_targets b s i
+
+    -- what holds of the targets and the table between holds of the plan's and of the first
+    on_plan : (P : (ℕ → ℕ → Bool) → Table → Type 0) → P (wants_of targets) (stores.table_of mid) → P goals (table_of a)
+    on_plan P is = subst (λ (t : Table). P goals t) run.read.reads.table (subst (λ (f : ℕ → ℕ → Bool). P f (stores.table_of mid)) same_goals is)
+
+    held_at : (V : List (List ℕ)) → (Tells rack a → StandsFor phase rack a V) → Tells rack b → StandsFor phase rack a V
+    held_at V holds told = holds (told_moved a b run.moves told)
+
+    plan_at : (rest : State) (V : List (List ℕ)) → (Tells rack a → StandsFor phase rack a V)
+        → IsPlan (Tells rack b) (state_of phase rack a rest V) run.plan.wants run.plan.planned.found
+    plan_at rest V holds = is_plan (Tells rack b) a mid kept rest V run.keeps run.told (held_at V holds) targets run.plan
+
+    cut_at : (rest : State) (V : List (List ℕ)) (limit : Option ℕ) → rest.label ≡ None → b.homes ≡ a.homes → (Tells rack a → StandsFor phase rack a V)
+        → IsCutOff (wants_of targets) limit (stores.table_of mid) (table_of b) → IsCut (Tells rack b) (state_of phase rack a rest V) limit (state_of phase rack b rest V)
+    cut_at rest V limit label homes holds cut = record {
+      wants = run.plan.wants;
+      found = run.plan.planned.found;
+      planned = plan_at rest V holds;
+      goes = moved_goes a b rest V label run.moves;
+      cut = on_plan (λ f t. IsCutOff f limit t (table_of b)) cut;
+      rest = λ i. record rest {
+        table = table_of b;
+        blocks = V;
+        pending = marks_moved a b run.moves i;
+        homes = homes i;
+        copies = run.moves.copies i;
+        phase = phase.phase (run.moves.phase_is i);
+        members = members_of b;
+        counts = rack.counts (rack_of b);
+      };
+    }
+
+    pub tend_lost_moving : (limit s : ℕ) → IsReady a → b.homes ≡ a.homes → IsLeastLost (shape_of b) (members_of b) s
+        → IsCutOff (wants_of targets) (Some limit) (stores.table_of mid) (table_of b) → StepsTo phase phase rack a (Tend limit) (LostReply s) b
+    tend_lost_moving limit s ready homes least cut = steps_from phase rack a b (Tend limit) (LostReply s) (λ rest V label holds. (
+      state_of phase rack b rest V,
+      moved_in a b rest V label run.moves holds,
+      inr ((ready.whole, least), not_settled a ready, inr (cut_at rest V (Some limit) label homes holds cut)),
+      refl,
+    ))
+
+    pub settle_lost_moving : (s : ℕ) → IsReady a → IsChecked a kept b → b.homes ≡ a.homes → IsLeastLost (shape_of b) (members_of b) s
+        → IsCutOff (wants_of targets) None (stores.table_of mid) (table_of b) → StepsTo phase phase rack a Settle (LostReply s) b
+    settle_lost_moving s ready check homes least cut = steps_from phase rack a b Settle (LostReply s) (λ rest V label holds. (
+      state_of phase rack b rest V,
+      moved_in a b rest V label run.moves holds,
+      inr (
+        (ready.whole, least),
+        not_settled a ready,
+        inr (sound_in a b kept V run.keeps check (held_at V holds), cut_at rest V None label homes holds cut),
+      ),
+      refl,
+    ))
+
+    pub tend_done : (limit m l : ℕ) → IsReady a → b.homes ≡ a.homes → has_lost (shape_of b) (members_of b) ≡ false
+        → IsTended (wants_of targets) limit (stores.table_of mid) (table_of b) m l → StepsTo phase phase rack a (Tend limit) (TendedReply m l) b
+    tend_done limit m l ready homes live is = steps_from phase rack a b (Tend limit) (TendedReply m l) (λ rest V label holds.
+        let done = on_plan (λ f t. IsTended f limit t (table_of b) m l) is in (
+          state_of phase rack b rest V,
+          moved_in a b rest V label run.moves holds,
+          (
+            ready.whole,
+            inr (
+              not_settled a ready,
+              live,
+              record {
+                wants = run.plan.wants;
+                found = run.plan.planned.found;
+                planned = plan_at rest V holds;
+                goes = moved_goes a b rest V label run.moves;
+                rest = λ i. record rest {
+                  table = done.table i;
+                  blocks = V;
+                  pending = marks_moved a b run.moves i;
+                  homes = homes i;
+                  copies = run.moves.copies i;
+                  phase = phase.phase (run.moves.phase_is i);
+                  members = members_of b;
+                  counts = rack.counts (rack_of b);
+                };
+                met = done.met;
+                left = done.left;
+              },
+            ),
+          ),
+          refl,
+        ))
+
+    -- the step of settling, to a state of a settled volume
+    pub settle_step : IsReady a → IsChecked a kept b → b.homes ≡ run.plan.planned.found.homes → has_lost (shape_of b) (members_of b) ≡ false
+        → table_of b ≡ moved (wants_of targets) None (stores.table_of mid)
+        → (rest : State) (V : List (List ℕ)) → rest.label ≡ None → (Tells rack a → StandsFor phase rack a V)
+        → Step (Tells rack b) (state_of phase rack a rest V) Settle SettledReply (record (state_of phase rack b rest V) { phase = SettledPhase })
+    settle_step ready check homes live is rest V label holds =
+        let done = on_plan (λ f t. table_of b ≡ moved f None t) is in
+        let next = record (state_of phase rack b rest V) { phase = SettledPhase } in (
+          ready.whole,
+          inr (
+            not_settled a ready,
+            live,
+            record {
+              wants = run.plan.wants;
+              found = run.plan.planned.found;
+              planned = plan_at rest V holds;
+              goes =
+                  goes_plain (state_of phase rack a rest V) next label label run.moves.array.leaves.keeps.stays.rise run.moves.array.leaves.keeps.falls
+                  run.moves.array.leaves.sound.paired;
+              sound = sound_in a b kept V run.keeps check (held_at V holds);
+              rest = λ i. record rest {
+                table = done i;
+                blocks = V;
+                pending = marks_moved a b run.moves i;
+                homes = homes i;
+                copies = run.moves.copies i;
+                phase = SettledPhase;
+                members = members_of b;
+                counts = rack.counts (rack_of b);
+              };
+            },
+          ),
+        )

@@ -1,0 +1,172 @@
+-- A volume whose blocks are put in their places, and which is settled by that.
+use Rattle.std.proofs.Common.{◌≡◌, ◌∙◌, ◌<◌, ◌≤◌, ◌/◌, ◌+◌, ◌^◌, min, ℕ, false, List, [], length, refl, sym, ap, subst, arith}
+use Rattle.std.specs.Prelude.{Option, Some, None, All, IfSome}
+use Rattle.dg_infer.specs.Meanings.{KeptInference}
+use Rattle.dg_infer.specs.Meanings as inferences
+use Rattle.dg_io.specs.declared.outside.Rack.{Ghosts}
+use Rattle.dg_model.specs.Moves.{IsAtTargets, all_done, missing_in, moves}
+use Rattle.dg_model.specs.Placed.{IsPlaced}
+use Rattle.dg_model.specs.Saves.{AreHomes}
+use Rattle.dg_model.specs.States.{State, has_lost}
+use Rattle.dg_model.specs.Steps.{Step}
+use Rattle.dg_model.specs.Wants.{AreWants, FitWants}
+use Rattle.dg_model.specs.declared.events.Event.TheVariants.{Settle}
+use Rattle.dg_model.specs.declared.homes.Home.{Home}
+use Rattle.dg_model.specs.declared.phases.Phase.TheVariants.{Loose as LoosePhase, Settled as SettledPhase, Worn as WornPhase}
+use Rattle.dg_model.specs.declared.replies.Reply.TheVariants.{Settled as SettledReply}
+use Rattle.dg_model.specs.declared.shapes.Shape.{Shape}
+use Rattle.dg_move.specs.Answers.{IsTended}
+use Rattle.dg_plan.specs.Targets.{homes_of, wants_of}
+use Rattle.dg_plan.specs.declared.target_lists.Targets.{Targets}
+use Rattle.dg_store.specs.Answers.{SameWritten}
+use Rattle.dg_store.specs.Stores as stores
+use Rattle.dg_store.specs.declared.store.Store.{Store}
+use Rattle.dg_volume.proofs.HomeLaws.{are_homes}
+use Rattle.dg_volume.proofs.MoveSteps.{HasRun, IsChecked, IsReady, settle_step, stands_moved, wants_right}
+use Rattle.dg_volume.proofs.PlacedLaws.{are_placed}
+use Rattle.dg_volume.specs.Planned.{HasPlan, IsPutInPlace}
+use Rattle.dg_volume.specs.Settles.{GoesBy}
+use Rattle.dg_volume.specs.Volumes.{AreWantsBy, FitsArray, IsInPlace, IsWell, Leaves, StandsFor, StepsTo, Tells, marks_by, marks_of, members_of, rack_of, shape_of, state_of, table_of}
+use Rattle.dg_volume.specs.declared.phases.InPhase as phases
+use Rattle.dg_volume.specs.declared.volumes.Volume.{Volume}
+
+-- where a limit allows all missing placements, none is left
+none_left : (limit missing m l : ℕ) → missing ≤ limit → m ≡ min limit missing → m + l ≡ missing → l ≡ 0
+none_left limit missing m l few met whole = omega (arith, few, met, whole)
+
+module _ {S R : Type 0} (phase : phases.Ghosts S) (rack : Ghosts R) where
+  -- the plan's homes are on boundaries of the array
+  pub plan_homes : (a : Volume S R) (mid new : Store R) (kept : KeptInference) (targets : Targets) (homes : List Home) → HasPlan rack a.store mid kept a.homes targets
+      → homes ≡ homes_of targets → stores.shape_of new ≡ shape_of a → All (λ (home : Home). home.inode < 2 ^ 32) homes → AreHomes (stores.shape_of new) homes
+  plan_homes a mid new kept targets homes found same shape small =
+      let fits : All (λ (home : Home). home.inode < 2 ^ 32) (homes_of targets) = subst (λ (x : List Home). All (λ (home : Home). home.inode < 2 ^ 32) x) same small in
+      let old : AreHomes (shape_of a) (homes_of targets) = are_homes (shape_of a) (homes_of targets) found.rules.ascend found.rules.homes_within fits in
+      subst (λ (x : List Home). AreHomes (stores.shape_of new) x) (sym same) (subst (λ (x : Shape). AreHomes x (homes_of targets)) (sym shape) old)
+
+  -- ---- places
+
+  module _ (a : Volume S R) (kept : KeptInference) (targets : Targets) (mid : Store R) (b : Volume S R) (run : HasRun phase rack a kept targets mid b) where
+    shape_on : shape_of b ≡ shape_of a
+    shape_on = run.moves.array.leaves.keeps.shape
+
+    written_on : SameWritten (table_of a) (table_of b) → FitWants (table_of b) run.plan.wants
+    written_on written = record {
+      size = run.plan.wanted.fit.size ∙ sym (ap (λ (x : Shape). x.n) shape_on);
+      written = λ c. run.plan.wanted.fit.written c ∙ sym (written c);
+    }
+
+    right_on : (V : List (List ℕ)) → IfSome (phase.kept a.phase) (λ inference. inferences.StandsFor inference V → AreWants (shape_of b).l (shape_of b).n V run.plan.wants)
+    right_on V =
+        let right : inferences.StandsFor kept V → AreWants (shape_of b).l (shape_of b).n V run.plan.wants =
+        λ held. subst (λ (x : Shape). AreWants x.l x.n V run.plan.wants) (sym shape_on) (wants_right phase rack a kept run.plan.wants V run.keeps run.plan.wanted held) in
+        subst (λ (k : Option KeptInference). IfSome k (λ inference. inferences.StandsFor inference V → AreWants (shape_of b).l (shape_of b).n V run.plan.wants))
+        (sym run.keeps.is) right
+
+    by_on : IfSome (phase.kept a.phase) (λ inference. AreWantsBy inference run.plan.wants)
+    by_on = subst (λ (k : Option KeptInference). IfSome k (λ inference. AreWantsBy inference run.plan.wants)) (sym run.keeps.is) run.plan.wanted.by
+
+    placed_on : b.homes ≡ homes_of targets → b.copies ≡ [] → IsAtTargets (wants_of targets) (table_of b) → IsPlaced run.plan.wants (table_of b) b.homes b.copies
+    placed_on homes copies at =
+        let placed =
+        are_placed (shape_of a) run.plan.wants targets run.plan.rules (table_of b) run.moves.array.leaves.sound.table shape_on run.plan.wanted.fit.size at in
+        subst (λ (x : List Home). IsPlaced run.plan.wants (table_of b) b.homes x) (sym copies)
+        (subst (λ (x : List Home). IsPlaced run.plan.wants (table_of b) x []) (sym homes) placed)
+
+    in_place : b.homes ≡ homes_of targets → b.copies ≡ [] → SameWritten (table_of a) (table_of b) → IsAtTargets (wants_of targets) (table_of b)
+        → IsInPlace (table_of b) (phase.kept a.phase) b.homes b.copies
+    in_place homes copies written at = record { wants = run.plan.wants; fit = written_on written; placed = placed_on homes copies at; are = right_on; by = by_on }
+
+    -- moves without a limit put each block in its place
+    pub put_in_place : (m l limit : ℕ) → IsReady phase rack a → IsChecked phase rack a kept b → b.homes ≡ homes_of targets → b.copies ≡ []
+        → SameWritten (table_of a) (table_of b) → has_lost (shape_of b) (members_of b) ≡ false → missing_in (wants_of targets) (stores.table_of mid) ≤ limit
+        → moves (wants_of targets) (Some limit) (stores.table_of mid) ≡ moves (wants_of targets) None (stores.table_of mid)
+        → IsTended (wants_of targets) limit (stores.table_of mid) (table_of b) m l → IsPutInPlace phase rack a b
+    put_in_place m l limit ready check homes copies written live few all is = record {
+      phase_is = run.moves.phase_is;
+      pending_is = run.moves.pending;
+      placed = in_place homes copies written (is.placed (none_left limit (missing_in (wants_of targets) (stores.table_of mid)) m l few is.met is.whole));
+      stands = λ V told held. stands_moved phase rack a b V run.moves told held;
+      steps =
+          settle_step phase rack a kept targets mid b run ready check (homes ∙ run.plan.planned.same_homes) live
+          (is.table ∙ ap (all_done (stores.table_of mid)) all);
+    }
+
+-- ---- the settled volume
+
+settled_not_loose : SettledPhase ≡ LoosePhase → ⊥
+settled_not_loose e = absurd (cc e)
+
+settled_not_worn : SettledPhase ≡ WornPhase → ⊥
+settled_not_worn e = absurd (cc e)
+
+module _ {S T R : Type 0} (from : phases.Ghosts S) (to : phases.Ghosts T) (rack : Ghosts R) where
+  -- the volume in another phase
+  abbrev pub in_phase : Volume S R → T → Volume T R
+  in_phase volume phase = record {
+    store = volume.store;
+    phase = phase;
+    pending = volume.pending;
+    homes = volume.homes;
+    copies = volume.copies;
+    levels = volume.levels;
+    given = volume.given;
+  }
+
+  -- that is Settled, and what is inferred is kept
+  pub record IsSettledPhase (volume : Volume S R) (phase : T) : Type 0 where
+    pub phase_is : to.phase phase ≡ SettledPhase
+    pub kept_is : to.kept phase ≡ from.kept volume.phase
+
+  module _ (a b : Volume S R) (phase : T) (is : IsSettledPhase b phase) (left : Leaves from from rack a b) (put : IsPutInPlace from rack a b) where
+    settled_well : IsWell to rack (in_phase b phase)
+    settled_well = record {
+      array = left.well.array;
+      levels = left.well.levels;
+      marks = subst (λ (k : Option KeptInference). length (marks_by k b.pending.items) ≡ (shape_of b).n) (sym is.kept_is) left.well.marks;
+      inferred = subst (λ (k : Option KeptInference). IfSome k (FitsArray (shape_of b))) (sym is.kept_is) left.well.inferred;
+      homes_are = left.well.homes_are;
+      copies_are = left.well.copies_are;
+      loose = λ loose. absurd (settled_not_loose (sym is.phase_is ∙ loose));
+      worn = λ worn. absurd (settled_not_worn (sym is.phase_is ∙ worn));
+      settled = λ settled.
+          subst (λ (k : Option KeptInference). IsInPlace (table_of b) k b.homes b.copies) (sym (ap from.kept put.phase_is) ∙ sym is.kept_is) put.placed;
+    }
+
+    told_first : Tells rack b → Tells rack a
+    told_first told q below = left.tells q (told q (subst (λ (s : Shape). q / 2 < s.b) (sym left.shape) below))
+
+    settled_stands : (V : List (List ℕ)) → (Tells rack a → StandsFor from rack a V) → Tells rack b → StandsFor to rack (in_phase b phase) V
+    settled_stands V holds told =
+        let held = put.stands V told (holds (told_first told)) in
+        record { array = held.array; inferred = subst (λ (k : Option KeptInference). IfSome k (λ kept. inferences.StandsFor kept V)) (sym is.kept_is) held.inferred }
+
+    settled_state : (rest : State) (V : List (List ℕ)) → record (state_of from rack b rest V) { phase = SettledPhase } ≡ state_of to rack (in_phase b phase) rest V
+    settled_state rest V = λ i. record rest {
+      table = table_of b;
+      blocks = V;
+      pending = marks_by (sym is.kept_is i) b.pending.items;
+      homes = b.homes;
+      copies = b.copies;
+      phase = sym is.phase_is i;
+      members = members_of b;
+      counts = rack.counts (rack_of b);
+    }
+
+    settled_steps : StepsTo from to rack a Settle SettledReply (in_phase b phase)
+    settled_steps state st =
+        let next = state_of to rack (in_phase b phase) state state.blocks in
+        let step =
+        subst (λ (x : State). Step (Tells rack b) (state_of from rack a state state.blocks) Settle SettledReply x) (settled_state state state.blocks)
+        (put.steps state state.blocks st.label st.holds) in (
+          next,
+          record { is = refl; label = st.label; holds = settled_stands state.blocks st.holds },
+          subst (λ (x : State). Step (Tells rack b) x Settle SettledReply next) (sym st.is) step,
+          refl,
+        )
+
+    -- the volume is settled by that
+    pub goes_settled : GoesBy from to rack a Settle SettledReply (in_phase b phase)
+    goes_settled = record {
+      leaves = record { well = settled_well; shape = left.shape; tells = left.tells; same_rack = left.same_rack };
+      steps = settled_steps;
+    }

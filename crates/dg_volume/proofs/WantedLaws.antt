@@ -1,0 +1,60 @@
+-- By what is kept one block is one thing to the plan.
+use Rattle.std.proofs.Common.{◌≡◌, ◌∙◌, ◌⊎◌, ℕ, true, false, List, inl, inr, refl, sym, ap, subst}
+use Rattle.std.proofs.lemmas.Bool.{false≢true}
+use Rattle.dg_claims.specs.Kept.{table_of}
+use Rattle.dg_claims.specs.Tables.{TableClaims}
+use Rattle.dg_infer.specs.Known.{is_system_by}
+use Rattle.dg_infer.specs.Meanings.{KeptInference}
+use Rattle.dg_infer.specs.Wants.{IsOfBy, IsRegularBy, IsWantBy}
+use Rattle.dg_model.specs.declared.wants.Want.{Want}
+use Rattle.dg_model.specs.declared.wants.Want.TheVariants.{File, Kept, Stray}
+use Rattle.ufs_model.specs.Owners.{IsOwner}
+use Rattle.ufs_model.specs.Owners.IsOwner.{by_own_slot, by_upper}
+use Rattle.ufs_model.specs.declared.claims.ClaimSource.{ClaimSource}
+use Rattle.ufs_model.specs.declared.claims.ClaimSource.TheVariants.{Pointer, Slot}
+
+slots_apart : (i s u a t : ℕ) → Pointer u a t ≡ Slot i s → ⊥
+slots_apart i s u a t e = cc e
+
+slot_inode : (i s j t : ℕ) → Slot j t ≡ Slot i s → i ≡ j
+slot_inode i s j t e = sym (cc e)
+
+pointer_upper : (u a t v b k : ℕ) → Pointer v b k ≡ Pointer u a t → v ≡ u
+pointer_upper u a t v b k e = cc e
+
+-- a fragment has one owner
+one_owner : (claims : ℕ → ClaimSource → Type 0) (f i level j other : ℕ) → IsOwner claims f i level → IsOwner claims f j other → i ≡ j
+one_owner claims f i level j other (by_own_slot {slot = s} only is) (by_own_slot {slot = t} single at) = slot_inode i s j t (only.only (Slot j t) single.claim)
+one_owner claims f i level j other (by_own_slot {slot = s} only is) (by_upper {upper = u} {at = t} {above = a} single at up) =
+    absurd (slots_apart i s u a t (only.only (Pointer u a t) single.claim))
+one_owner claims f i level j other (by_upper {upper = u} {at = t} {above = a} only is up) (by_own_slot {slot = s} single at) =
+    absurd (slots_apart j s u a t (single.only (Pointer u a t) only.claim))
+one_owner claims f i level j other (by_upper {upper = u} {at = t} {above = a} only is up) (by_upper {upper = v} {at = k} {above = b} single at high) =
+    one_owner claims u i a j b up (subst (λ (x : ℕ). IsOwner claims x j b) (pointer_upper u a t v b k (only.only (Pointer v b k) single.claim)) high)
+
+module _ (kept : KeptInference) (b : ℕ) where
+  one_of : (i j : ℕ) → IsOfBy kept b i → IsOfBy kept b j → i ≡ j
+  one_of i j one other = one_owner (TableClaims (table_of kept.claims)) b i (one.0) j (other.0) (one.1) (other.1)
+
+  kept_file : (i : ℕ) → IsWantBy kept b Kept → IsWantBy kept b (File i) → ⊥
+  kept_file i one other = elim one [
+    | inl system ↦ false≢true (sym other.0 ∙ system)
+    | inr own ↦ own.1.2 (subst (λ (x : ℕ). IsRegularBy kept x) (one_of i (own.1.0) other.1 own.1.1) other.2)
+  ]
+
+  kept_stray : IsWantBy kept b Kept → IsWantBy kept b Stray → ⊥
+  kept_stray one other = elim one [
+    | inl system ↦ false≢true (sym other.0 ∙ system)
+    | inr own ↦ other.1 (own.1.0) own.1.1
+  ]
+
+  pub one_want : (x y : Want) → IsWantBy kept b x → IsWantBy kept b y → x ≡ y
+  one_want Kept Kept one other = refl
+  one_want Kept (File i) one other = absurd (kept_file i one other)
+  one_want Kept Stray one other = absurd (kept_stray one other)
+  one_want (File i) Kept one other = absurd (kept_file i other one)
+  one_want (File i) (File j) one other = ap File (one_of i j one.1 other.1)
+  one_want (File i) Stray one other = absurd (other.1 i one.1)
+  one_want Stray Kept one other = absurd (kept_stray other one)
+  one_want Stray (File i) one other = absurd (one.1 i other.1)
+  one_want Stray Stray one other = refl

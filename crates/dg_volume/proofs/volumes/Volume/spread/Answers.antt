@@ -1,0 +1,59 @@
+use Rattle.std.proofs.Common.{◌<◌, ◌^◌, List, refl, subst}
+use Rattle.std.specs.Prelude.{All}
+use Rattle.dg_model.specs.declared.homes.Home.{Home}
+use Rattle.dg_volume.proofs.CopySteps.{diffuse_leaves, diffuse_steps, placed_by}
+use Rattle.dg_volume.proofs.volumes.Volume.spread.Goals as goal
+
+pub diffuse-answer-requires-clause-placed : goal.diffuse-answer-requires-clause-placed
+diffuse-answer-requires-clause-placed g c =
+    placed_by g.S.InPhase g.R.Rack c.args.self.now c.in-Some-inference.inference.now c.in_ok-wants.wants c.requires.well c.requires.settled c.in-Some-inference.ensures.kept c.in_ok-wants.ensures
+
+pub returns-clause-leaves : goal.returns-clause-leaves
+returns-clause-leaves g c =
+    let a = c.args.self.now in
+    let k = c.diffuse-answer.ensures in
+    diffuse_leaves g.S.InPhase g.R.Rack a c.in-Some-inference.inference.now c.in_ok-wants.wants c.args.hot.now c.diffuse-answer.result
+    (record a { store = c.diffuse-answer.new.store; copies = c.diffuse-answer.new.copies })
+    (record {
+      well = c.requires.well;
+      settled = c.requires.settled;
+      kept_is = c.in-Some-inference.ensures.kept;
+      whole = c.in_default.ensures;
+      wanted = c.in_ok-wants.ensures;
+      phase_is = refl;
+      pending = refl;
+      homes = refl;
+      levels = refl;
+      small = subst (λ (x : List Home). All (λ (home : Home). home.inode < 2 ^ 32) x) c.as_slice.ensures c.inodes_fit.ensures;
+      moved = k.moved;
+      placed = k.placed;
+      live = k.whole;
+      diffused = k.diffused;
+      lost = k.lost;
+      cut = k.cut;
+    })
+
+pub returns-clause-steps : goal.returns-clause-steps
+returns-clause-steps g c =
+    let a = c.args.self.now in
+    let k = c.diffuse-answer.ensures in
+    diffuse_steps g.S.InPhase g.R.Rack a c.in-Some-inference.inference.now c.in_ok-wants.wants c.args.hot.now c.diffuse-answer.result
+    (record a { store = c.diffuse-answer.new.store; copies = c.diffuse-answer.new.copies })
+    (record {
+      well = c.requires.well;
+      settled = c.requires.settled;
+      kept_is = c.in-Some-inference.ensures.kept;
+      whole = c.in_default.ensures;
+      wanted = c.in_ok-wants.ensures;
+      phase_is = refl;
+      pending = refl;
+      homes = refl;
+      levels = refl;
+      small = subst (λ (x : List Home). All (λ (home : Home). home.inode < 2 ^ 32) x) c.as_slice.ensures c.inodes_fit.ensures;
+      moved = k.moved;
+      placed = k.placed;
+      live = k.whole;
+      diffused = k.diffused;
+      lost = k.lost;
+      cut = k.cut;
+    })

@@ -1,0 +1,93 @@
+use Rattle.std.proofs.Common.{◌≡◌, ◌∙◌, ◌<◌, false, refl, sym, ap, arith}
+use Rattle.dg_model.specs.Marks.{with_mark}
+use Rattle.dg_model.specs.States.{has_lost}
+use Rattle.dg_model.specs.declared.shapes.Shape.{Shape}
+use Rattle.dg_volume.proofs.WriteSteps.{HasFollowed, HasStored, lost_now, written_broken, written_to, written_whole}
+use Rattle.dg_volume.specs.Volumes.{any_phase, members_of, shape_of}
+use Rattle.dg_volume.specs.declared.phases.AnyPhase.{AnyPhase}
+use Rattle.dg_volume.specs.declared.phases.AnyPhase.TheVariants.{Loose}
+use Rattle.dg_volume.specs.declared.volumes.Volume.{Volume}
+use Rattle.dg_volume.proofs.writes.Volume+AnyPhase+R.write_block.Goals as goal
+
+pub returns-in-AllLost-clause-steps : goal.returns-in-AllLost-clause-steps
+returns-in-AllLost-clause-steps g c =
+    let a = c.args.self.now in
+    let k = c.in-Ok.ensures in
+    let n : c.shape.result.now.n ≡ (shape_of a).n = ap (λ (x : Shape). x.n) c.shape.ensures in
+    let within : c.args.block < (shape_of a).n = omega arith in
+    let whole : has_lost (shape_of a) (members_of a) ≡ false = sym c.is_degraded.ensures ∙ c.if-is_degraded.false in
+    lost_now any_phase g.R.Rack a c.args.block c.args.buf.now (record a { store = c.write.new.self }) c.requires.well
+    (record {
+      within = within;
+      whole = whole;
+      first = k.leaves;
+      lost = k.lost c.in-AllLost.is;
+      most = k.most;
+      beside = record { phase_is = refl; pending = refl; homes = refl; copies = refl };
+      levels = refl;
+    })
+
+pub returns-then-whole-clause-steps : goal.returns-then-whole-clause-steps
+returns-then-whole-clause-steps g c =
+    let a = c.args.self.now in
+    let k = c.in-Ok.ensures in
+    let f = c.in-Ok-followed.ensures in
+    let n : c.shape.result.now.n ≡ (shape_of a).n = ap (λ (x : Shape). x.n) c.shape.ensures in
+    let within : c.args.block < (shape_of a).n = omega arith in
+    let whole : has_lost (shape_of a) (members_of a) ≡ false = sym c.is_degraded.ensures ∙ c.if-is_degraded.false in
+    let stored : HasStored any_phase any_phase g.R.Rack a c.args.block c.args.buf.now c.write.new.self c.follow-followed.new.store = record {
+      within = within;
+      whole = whole;
+      first = k.leaves;
+      stored = k.stored c.in_default-written.is;
+      most = k.most;
+      sound = f.sound;
+      reads = f.reads;
+      stands = f.stands;
+    } in
+    let followed : HasFollowed any_phase any_phase g.R.Rack a c.args.block c.args.buf.now c.write.new.self c.follow-followed.new.store c.in-Some.inference c.follow-followed.new.inference = record {
+      size = f.size;
+      whole = f.whole c.if-whole.true;
+      inferred = f.inferred c.if-whole.true;
+      marks = f.marks c.if-whole.true;
+      few = f.few c.if-whole.true;
+    } in
+    let b : Volume AnyPhase g.row.R.Denot = record a {
+      store = c.follow-followed.new.store;
+      phase = Loose (record { inference = c.follow-followed.new.inference });
+      copies = c.new-3.result;
+      levels = c.follow-followed.new.levels;
+    } in
+    written_to any_phase any_phase g.R.Rack a c.args.block c.args.buf.now c.write.new.self b c.requires.well
+    (written_whole any_phase any_phase g.R.Rack a c.args.block c.args.buf.now c.write.new.self c.in-Some.inference c.follow-followed.new.inference b c.requires.well stored
+    f.levels refl (c.new-3.ensures ∙ c.new-2.ensures.items) (rw c.in-Some.is at c.take_inference.ensures.kept) refl refl followed)
+
+pub returns-clause-steps : goal.returns-clause-steps
+returns-clause-steps g c =
+    let a = c.args.self.now in
+    let k = c.in-Ok.ensures in
+    let f = c.in-Ok-followed.ensures in
+    let n : c.shape.result.now.n ≡ (shape_of a).n = ap (λ (x : Shape). x.n) c.shape.ensures in
+    let within : c.args.block < (shape_of a).n = omega arith in
+    let whole : has_lost (shape_of a) (members_of a) ≡ false = sym c.is_degraded.ensures ∙ c.if-is_degraded.false in
+    let stored : HasStored any_phase any_phase g.R.Rack a c.args.block c.args.buf.now c.write.new.self c.follow-followed.new.store = record {
+      within = within;
+      whole = whole;
+      first = k.leaves;
+      stored = k.stored c.in_default-written.is;
+      most = k.most;
+      sound = f.sound;
+      reads = f.reads;
+      stands = f.stands;
+    } in
+    let b : Volume AnyPhase g.row.R.Denot = record a {
+      store = c.follow-followed.new.store;
+      phase = c.take_inference.new.phase;
+      pending = c.worn_marks.result;
+      copies = c.new-3.result;
+      levels = c.follow-followed.new.levels;
+    } in
+    written_to any_phase any_phase g.R.Rack a c.args.block c.args.buf.now c.write.new.self b c.requires.well
+    (written_broken any_phase any_phase g.R.Rack a c.args.block c.args.buf.now c.write.new.self c.in-Some.inference b c.requires.well stored
+    f.levels refl (c.new-3.ensures ∙ c.new-2.ensures.items) (rw c.in-Some.is at c.take_inference.ensures.kept) c.take_inference.ensures.left c.take_inference.ensures.left_phase
+    (c.worn_marks.ensures ∙ ap (λ xs. with_mark xs c.args.block) (f.kept c.if-whole.false)) (f.lost c.if-whole.false))

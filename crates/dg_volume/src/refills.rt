@@ -1,0 +1,172 @@
+// Members that are replaced and refilled.
+ghost use Rattle.std.specs.Prelude.{◌≡◌, ◌<◌, ℕ, IfOk, IfSome, false, length, List};
+ghost use Rattle.dg_model.specs.Marks.{is_marked};
+ghost use Rattle.dg_model.specs.declared.events.Event.{Event};
+ghost use Rattle.dg_store.specs.Stores.{IsSound, table_of};
+ghost use Rattle.dg_store.specs.Stores as stores;
+ghost use Rattle.dg_volume.specs.Refills.{AreDeadMarks, AreReapMarks, IsDeadMark, SparesFiles, rebuild_reply, replace_reply, told_of};
+ghost use Rattle.dg_volume.specs.Volumes.{FitsArray, IsWell, Leaves, StepsSized, StepsTo};
+
+use crate::phases::InPhase;
+use crate::volumes::Volume;
+use dg_infer::Inference;
+use dg_io::{NoMemory, Rack};
+use dg_rebuild::{RebuildAnswer as Refilled, rebuild};
+use dg_store::{ReplaceAnswer as MemberAnswer, Store, member_length};
+use std::alloc::Global;
+use ufs_frames::change_of_loose_blocks;
+
+/// What became of a replacement of a member.
+#[derive(Clone, Copy, Debug, PartialEq, Eq)]
+pub enum ReplaceAnswer {
+    /// The member is blank, and refilled from now on.
+    Replaced,
+    /// There is no such member.
+    Range,
+    /// Its boundary is lost.
+    Lost,
+    /// The member isn't out.
+    NotOut,
+    /// The member couldn't be made anew, and stays out.
+    Failed,
+}
+
+/// What became of a refill of a member.
+#[derive(Clone, Copy, Debug, PartialEq, Eq)]
+pub enum RebuildAnswer {
+    /// So many slots were copied, and so many used ones are left.
+    Copied { done: u32, left: u32 },
+    /// There is no such boundary.
+    Range,
+    /// The boundary of this number, the refilled one, is lost.
+    Lost(u8),
+    /// No member of the boundary is being refilled.
+    NotFilling,
+    /// The member that was refilled is out, by a fault of its own.
+    Failed,
+}
+
+/// What is told of a refill.
+fn told(refilled: Result<Refilled, NoMemory>) -> Result<RebuildAnswer, NoMemory>
+    ensures { result ≡ told_of refilled }
+{
+    match refilled {
+        Ok(Refilled::Copied { done, left }) => Ok(RebuildAnswer::Copied { done, left }),
+        Ok(Refilled::Lost(boundary)) => Ok(RebuildAnswer::Lost(boundary)),
+        Ok(Refilled::NotFilling) => Ok(RebuildAnswer::NotFilling),
+        Ok(Refilled::Failed) => Ok(RebuildAnswer::Failed),
+        Err(NoMemory) => Err(NoMemory),
+    }
+}
+
+/// No marks for so many blocks.
+fn no_marks(alloc: Global, n: u32) -> Result<Vec<bool>, NoMemory>
+    ensures room { IfOk result (λ marks. length marks.items ≡ n) }
+    ensures none { IfOk result (λ marks. (b : ℕ) → is_marked marks.items b ≡ false) }
+{
+    match vec![in alloc; false; n as usize] {
+        Ok(marks) => Ok(marks),
+        Err(_) => Err(NoMemory),
+    }
+}
+
+/// Whether a block is dead.
+fn dead_mark<R: Rack>(store: &Store<R>, inference: &Inference, block: u32) -> bool
+    requires sound { IsSound R.Rack store.now }
+    requires fits { FitsArray (stores.shape_of store.now) inference.now }
+    requires block { block < (stores.shape_of store.now).n }
+    ensures { IsDeadMark (table_of store.now) inference.now block result }
+{
+    inference.dead(store.written(block), block)
+}
+
+/// A mark for each block that is dead.
+fn dead_marks<R: Rack>(
+    alloc: Global,
+    store: &Store<R>,
+    inference: &Inference,
+) -> Result<Vec<bool>, NoMemory>
+    requires sound { IsSound R.Rack store.now }
+    requires fits { FitsArray (stores.shape_of store.now) inference.now }
+    ensures { IfOk result (λ marks. AreDeadMarks (table_of store.now) inference.now marks.items) }
+{
+    let mut marks = Vec::new(alloc);
+    for block in 0..store.shape().n {
+        if marks.push(dead_mark(store, inference, block)).is_err() {
+            return Err(NoMemory);
+        }
+    }
+    Ok(marks)
+}
+
+/// A mark for each block that may be reaped: each dead one, or none where a boundary is lost or the volume is worn.
+fn reap_marks<S: InPhase, R: Rack>(
+    alloc: Global,
+    store: &Store<R>,
+    phase: &S,
+) -> Result<Vec<bool>, NoMemory>
+    requires sound { IsSound R.Rack store.now }
+    requires fits { IfSome (S.kept phase.now) (FitsArray (stores.shape_of store.now)) }
+    ensures { IfOk result (λ marks. AreReapMarks store.now (S.phase phase.now) (S.kept phase.now) marks.items) }
+{
+    if store.is_degraded() {
+        return no_marks(alloc, store.shape().n);
+    }
+    match phase.inference() {
+        Some(inference) => dead_marks(alloc, store, inference),
+        None => no_marks(alloc, store.shape().n),
+    }
+}
+
+impl<S: InPhase, R: Rack> Volume<S, R> {
+    /// Makes a member anew that is out, given by its boundary and its side. It is refilled then.
+    pub fn replace(&mut self, boundary: u32, side: u32) -> ReplaceAnswer
+        requires well { IsWell S.InPhase R.Rack self.old }
+        ensures leaves { Leaves S.InPhase S.InPhase R.Rack self.old self.new }
+        ensures steps { StepsTo S.InPhase S.InPhase R.Rack self.old (Event.Replace boundary side) (replace_reply boundary result) self.new }
+    {
+        if boundary >= self.store.shape().b as u32 || side >= 2 {
+            return ReplaceAnswer::Range;
+        }
+        let size = member_length(self.store.shape());
+        match self.store.replace(boundary as u8, side as u8, size) {
+            MemberAnswer::Replaced => ReplaceAnswer::Replaced,
+            MemberAnswer::Lost => ReplaceAnswer::Lost,
+            MemberAnswer::NotOut => ReplaceAnswer::NotOut,
+            MemberAnswer::Failed => ReplaceAnswer::Failed,
+        }
+    }
+
+    /// Refills the member of a boundary that was replaced, with at most `limit` copies of slots. Dead blocks that it passes are reaped, where
+    /// no boundary is lost and the volume isn't worn: they have no site any more, and read as zeros. After want of memory the refill stands at
+    /// the slot that it came to.
+    pub fn rebuild(
+        &mut self,
+        alloc: Global,
+        boundary: u32,
+        limit: u32,
+    ) -> Result<RebuildAnswer, NoMemory>
+        requires well { IsWell S.InPhase R.Rack self.old }
+        ensures leaves { Leaves S.InPhase S.InPhase R.Rack self.old self.new }
+        ensures steps { IfOk result (λ answer.
+            StepsSized S.InPhase S.InPhase R.Rack self.old (Event.Rebuild boundary limit) (rebuild_reply answer) self.new) }
+        ensures spares { SparesFiles S.InPhase R.Rack self.old self.new }
+    {
+        change_of_loose_blocks();
+        if boundary >= self.store.shape().b as u32 {
+            return Ok(RebuildAnswer::Range);
+        }
+        let dead = reap_marks(alloc, &self.store, &self.phase)?;
+        let mut reaped = Vec::new(alloc);
+        let refilled = rebuild(
+            alloc,
+            &mut self.store,
+            boundary as u8,
+            limit,
+            &dead,
+            &mut reaped,
+        );
+        self.phase.reaped(&reaped);
+        told(refilled)
+    }
+}
