@@ -1,0 +1,8 @@
+use Rattle.ufs_build.proofs.PartLaws.{given_parts}
+use Rattle.ufs_build.specs.Images.{data_parts, group_parts, indirect_parts, pointer_parts, slot_parts}
+use Rattle.ufs_build.specs.Placings.{file_of}
+use Rattle.ufs_build.proofs.images.put_groups.Goals as goal
+
+pub loop-c-preserved : goal.loop-c-preserved
+loop-c-preserved c =
+    given_parts (group_parts c.args.g.now c.args.inodes c.args.used.now) c.loop-c.c _ _ _ c.loop-c.invariant c.in_ok-put_group.ensures

@@ -1,0 +1,7 @@
+use Rattle.std.proofs.Common.{◌≡◌, ◌&&◌, not}
+use Rattle.ufs_build.specs.Traces.{is_data, is_written, numbers_where}
+use Rattle.ufs_model.specs.Roles.{role}
+use Rattle.ufs_build.proofs.traces.written_system.Given as goal
+
+abbrev pub invariant-loop-b : goal.invariant-loop-b
+invariant-loop-b l = l.blocks.items ≡ numbers_where (λ b. not (is_data (role l.g b)) && is_written l.g.fsize l.image b) l.b

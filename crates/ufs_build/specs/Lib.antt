@@ -1,0 +1,12 @@
+pub mod Builds
+pub mod Directories
+pub mod Entries
+pub mod Images
+pub mod Items
+pub mod Nodes
+pub mod Parts
+pub mod Placements
+pub mod Placings
+pub mod Spaces
+pub mod Traces
+pub mod Volumes
