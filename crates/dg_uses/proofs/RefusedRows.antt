@@ -28,7 +28,6 @@ use Rattle.dg_text.specs.declared.kinds.EventKind.{EventKind}
 use Rattle.dg_text.specs.declared.kinds.EventKind.TheVariants as event_kind
 use Rattle.dg_text.specs.declared.lines.BadLine.{BadLine}
 use Rattle.dg_text.specs.declared.lines.BadLine.TheVariants.{Word}
-use Rattle.dg_uses.proofs.Ran.{trace_none}
 use Rattle.dg_uses.proofs.Rows.{shape_here, shape_is}
 use Rattle.dg_uses.specs.Replays.{HasBeenCut, HasStopped, IsFront}
 use Rattle.dg_uses.specs.declared.replays.Replay.{Replay}
@@ -41,6 +40,10 @@ OneLine = (shape : Option Shape) (event other : Event) (rest more : List ℕ) �
 line_short : length (line_of (Array shape_here)) ≡ 21
 unfolding digits
 line_short = refl
+
+trace_none : (Known : Type 0) (before : Counts) (replies : List Reply) (final : State) → Trace Known before [] replies final → replies ≡ []
+trace_none Known before [] final trace = refl
+trace_none Known before (reply ∷ replies) final trace = absurd trace
 
 array_alone : (Known : Type 0) (before : Counts) (shape : Shape) (replies : List Reply) (final : State) → Trace Known before (Array shape ∷ []) replies final → replies ≡ Done ∷ []
 array_alone Known before shape replies final trace =
