@@ -1,11 +1,11 @@
 use crate::volumes::{bytes_of, contents_of, item, large_spec, small_spec, verdict_of};
+use dg_model::Bytes;
 use std::alloc::Global;
 use std::test::Fail;
 use ufs_build::{Item, ItemKind, Items, build};
 use ufs_check::Verdict;
 use ufs_model::Endian;
 use ufs_path::CatAnswer;
-use dg_model::Bytes;
 
 /// Byte o of file k of the realistic volume, which has `(97*k) mod 9000` bytes.
 fn file_bytes(alloc: Global, k: usize) -> Result<Bytes, Fail> {
@@ -67,10 +67,20 @@ fn the_realistic_volume(rt: HostRuntime) -> Result<(), Fail> {
         assert_eq!(rt; image.len(), 8192 * 1024);
         let told = verdict_of(rt.alloc(), &image, 8192)?;
         assert_eq!(rt; told, Verdict::Sound);
-        for item in [items.as_slice().first(), items.as_slice().get(92), items.as_slice().last()] {
+        for item in [
+            items.as_slice().first(),
+            items.as_slice().get(92),
+            items.as_slice().last(),
+        ] {
             let item = item.ok_or("item")?;
             let wanted = item.bytes.as_slice();
-            let (answer, bytes) = contents_of(rt.alloc(), &image, 8192, item.path.as_slice(), 16_883_712)?;
+            let (answer, bytes) = contents_of(
+                rt.alloc(),
+                &image,
+                8192,
+                item.path.as_slice(),
+                16_883_712,
+            )?;
             let count = u32::try_from(wanted.len()).unwrap_or(0);
             assert_eq!(rt; answer, CatAnswer::Given(count));
             assert!(rt; &*bytes == wanted);
@@ -90,7 +100,11 @@ fn a_volume_of_many_kinds(rt: HostRuntime) -> Result<(), Fail> {
         for _letter in 0..k.wrapping_mul(12).wrapping_add(1) {
             path.push(b'a'.wrapping_add(k))?;
         }
-        let kind = if k % 3 == 0 { ItemKind::Link } else { ItemKind::File };
+        let kind = if k % 3 == 0 {
+            ItemKind::Link
+        } else {
+            ItemKind::File
+        };
         let bytes = bytes_of(alloc, &path)?;
         items.push(Item {
             path: Bytes::new(path),

@@ -14,7 +14,9 @@ fn orders_of_blocks(rt: HostRuntime) -> Result<(), Fail> {
     items.push(item(alloc, b"/a", ItemKind::File, b"hello")?)?;
     let image = build(alloc, &small_spec(Endian::Little), &Items::new(items))?;
     assert_eq!(rt; image.len(), 131_072);
-    let g = read_super(&image[8192..], 1024, 128).ok().ok_or("superblock")?;
+    let g = read_super(&image[8192..], 1024, 128)
+        .ok()
+        .ok_or("superblock")?;
     assert_eq!(rt; g.size, 128);
     for (order, wanted) in [
         (Order::Up, [8, 9, 24, 28, 33, 34]),

@@ -13,7 +13,12 @@ fn end_of(alloc: Global, spec: &Spec, items: Vec<Item>) -> Result<(), BuildRefus
 }
 
 /// How the building of one item ends.
-fn end_of_one(alloc: Global, path: &[u8], kind: ItemKind, bytes: &[u8]) -> Result<Result<(), BuildRefused>, Fail> {
+fn end_of_one(
+    alloc: Global,
+    path: &[u8],
+    kind: ItemKind,
+    bytes: &[u8],
+) -> Result<Result<(), BuildRefused>, Fail> {
     let mut items = Vec::new(alloc);
     items.push(item(alloc, path, kind, bytes)?)?;
     Ok(end_of(alloc, &small_spec(Endian::Little), items))
@@ -57,7 +62,10 @@ fn refusals_in_their_order(rt: HostRuntime) -> Result<(), Fail> {
     let spec = small_spec(Endian::Little);
     let mut items = Vec::new(alloc);
     items.push(item(alloc, b"/long", ItemKind::File, &long)?)?;
-    assert_eq!(rt; end_of(alloc, &spec, items), Err(BuildRefused::TooMany(What::Fragments)));
+    assert_eq!(rt;
+        end_of(alloc, &spec, items),
+        Err(BuildRefused::TooMany(What::Fragments))
+    );
     let mut items = Vec::new(alloc);
     items.push(item(alloc, b"/long", ItemKind::File, &long)?)?;
     items.push(item(alloc, b"/long", ItemKind::File, b"")?)?;
@@ -66,13 +74,19 @@ fn refusals_in_their_order(rt: HostRuntime) -> Result<(), Fail> {
     for _turn in 0..30 {
         items.push(item(alloc, b"/long", ItemKind::File, &long)?)?;
     }
-    assert_eq!(rt; end_of(alloc, &spec, items), Err(BuildRefused::TooMany(What::Inodes)));
+    assert_eq!(rt;
+        end_of(alloc, &spec, items),
+        Err(BuildRefused::TooMany(What::Inodes))
+    );
     let mut spec = spec;
     spec.frag = 3;
     let mut items = Vec::new(alloc);
     for _turn in 0..30 {
         items.push(item(alloc, b"/long", ItemKind::File, b"")?)?;
     }
-    assert_eq!(rt; end_of(alloc, &spec, items), Err(BuildRefused::TooMany(What::Spec)));
+    assert_eq!(rt;
+        end_of(alloc, &spec, items),
+        Err(BuildRefused::TooMany(What::Spec))
+    );
     Ok(())
 }

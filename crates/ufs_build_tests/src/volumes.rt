@@ -76,26 +76,22 @@ pub fn verdict_of(alloc: Global, image: &[u8], count: u32) -> Result<Verdict, Fa
 {
     let mut levels = Levels::new(alloc, 1024)?;
     let claims = claims_of(alloc, Vec::from_slice(alloc, image)?, count, &mut levels)?;
-    let mut view = MemView::new(
-        Vec::from_slice(alloc, image)?,
-        1024,
-        count,
-        Vec::new(alloc),
-    );
+    let mut view = MemView::new(Vec::from_slice(alloc, image)?, 1024, count, Vec::new(alloc));
     Ok(check(alloc, &mut view, &mut levels, &claims)?)
 }
 
 /// What `cat` answers for a path of a volume, and the bytes that it gives, of which there is room for so many.
-pub fn contents_of(alloc: Global, image: &[u8], count: u32, path: &[u8], room: usize) -> Result<(CatAnswer, Vec<u8>), Fail>
+pub fn contents_of(
+    alloc: Global,
+    image: &[u8],
+    count: u32,
+    path: &[u8],
+    room: usize,
+) -> Result<(CatAnswer, Vec<u8>), Fail>
     requires size { length image.now ≡ count * 1024 }
     requires count { count < 2 ^ 20 }
 {
-    let mut view = MemView::new(
-        Vec::from_slice(alloc, image)?,
-        1024,
-        count,
-        Vec::new(alloc),
-    );
+    let mut view = MemView::new(Vec::from_slice(alloc, image)?, 1024, count, Vec::new(alloc));
     let mut levels = Levels::new(alloc, 1024)?;
     let mut out = MemSink::new(alloc, room, Vec::new(alloc))?;
     if !is_path(path) {
