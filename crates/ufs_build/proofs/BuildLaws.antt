@@ -49,7 +49,7 @@ parents_each : (before items : List Item) (inodes : List ℕ) → parents_after 
 parents_each before [] inodes e = let none : [] ≡ inodes = cc in ap length (sym none)
 parents_each before (item ∷ items) inodes e =
     placed_each (length before) (parent_inode before item) (parents_after (before ++ item ∷ []) items) inodes (length items)
-        (parents_each (before ++ item ∷ []) items) e
+    (parents_each (before ++ item ∷ []) items) e
 
 pub parents_length : (items : List Item) (inodes : List ℕ) → parents_of items ≡ Ok inodes → length inodes ≡ length items
 unfolding parents_of

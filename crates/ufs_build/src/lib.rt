@@ -22,8 +22,8 @@ mod traces;
 mod volumes;
 
 pub use builds::build;
-pub use items::{Item, ItemKind, Items};
 pub use dg_words::Order;
+pub use items::{Item, ItemKind, Items};
 pub use refusals::{BuildRefused, What};
 pub use traces::trace_order;
 pub use volumes::Spec;

@@ -1,3 +1,5 @@
+ghost use Rattle.std.specs.Prelude.{◌<◌};
+
 use crate::{Item, ItemKind, Items, Spec, build};
 use dg_model::Bytes;
 use std::alloc::Global;

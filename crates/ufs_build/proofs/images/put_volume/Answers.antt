@@ -14,7 +14,7 @@ returns c =
     let same : length (files_of c.args.nodes.now) ≡ length c.args.nodes.now = length-map c.args.nodes.now file_of in
     rw same
     (three_put (field_parts c.args.g.now.endian 8192 (superblock_fields c.args.g.now))
-        (flat_map (group_parts c.args.g.now (length c.args.nodes.now + 2) c.args.used.now) (range_with_len 0 c.args.g.now.ncg))
-        (file_parts c.args.g.now 2 (files_of c.args.nodes.now) c.args.files.now)
-        c.args.image.now c.put_superblock.new.image c.put_groups.new.image c.put_files.new.image
-        c.put_superblock.ensures c.in_ok-put_groups.ensures c.in_ok-put_files.ensures)
+    (flat_map (group_parts c.args.g.now (length c.args.nodes.now + 2) c.args.used.now) (range_with_len 0 c.args.g.now.ncg))
+    (file_parts c.args.g.now 2 (files_of c.args.nodes.now) c.args.files.now)
+    c.args.image.now c.put_superblock.new.image c.put_groups.new.image c.put_files.new.image
+    c.put_superblock.ensures c.in_ok-put_groups.ensures c.in_ok-put_files.ensures)
