@@ -160,14 +160,8 @@ fn answer_of(
     let rack = SureRack::new(alloc, 8, room)?;
     let mut store = Store::new(alloc, rack, shape)?;
     write_all(&mut store, &[7; BLOCK as usize])?;
-    let Ok(targets) = plan(
-        alloc,
-        &wants,
-        &Homes::new(Vec::new(alloc)),
-        &parents,
-        &shape,
-    )?
-    else {
+    let homes = Homes::new(Vec::new(alloc));
+    let Ok(targets) = plan(alloc, &wants, &homes, &parents, &shape)? else {
         return Ok(None);
     };
     match task {
