@@ -201,7 +201,8 @@ fn put_level(
 /// Puts the bytes of a file.
 fn put_bytes(image: &mut [u8], g: &Geometry, node: &Node<'_>, addresses: &FileAddresses)
     requires { IsGeometry g.now }
-    ensures { image.new ≡ put_parts (flat_map (data_parts g.now (file_of node.now) addresses.now) (range_with_len 0 (blocks_of g.now (file_of node.now)))) image.old }
+    ensures { image.new ≡ put_parts (flat_map (data_parts g.now (file_of node.now) addresses.now)
+        (range_with_len 0 (blocks_of g.now (file_of node.now)))) image.old }
 {
     for n in 0..blocks_of(g, node) {
         put_block(image, g, node, addresses, n);
