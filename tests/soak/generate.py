@@ -186,7 +186,7 @@ class Trace:
         breaks = [
             self.break_inode, self.break_inode, self.break_inode, self.break_pointer, self.break_pointer, self.break_entry,
             self.break_entry, self.break_group, self.break_super, self.break_block, self.move_block, self.break_directory,
-            self.break_directory, self.break_directory,
+            self.break_directory, self.break_directory, self.break_shape,
         ]
         self.rng.choice(breaks)()
 
@@ -245,6 +245,20 @@ class Trace:
             self.patch(address, at + 6, bytes([rng.choice([0, 4, 8, 10, 3])]))
         else:
             self.patch(address, at + 7, rng.choice([b"\0", b"\1.", b"\2..", b"\1a", b"\1b", b"\1/", b"\2a\0", b"\xff"]))
+
+    def break_shape(self):
+        """A directory with a hole, a short last block across two blocks, or a pointer behind its file's end."""
+        rng, volume = self.rng, self.array.volume
+        above = [f for f, on in volume.claims.items() if any(level for level, _ in on)]
+        if above and rng.random() < 0.4:
+            return self.patch(rng.choice(above), self.array.l - 4, self.number(self.free_place()))
+        i, inode = rng.choice([*volume.inodes.items()] or [(0, None)])
+        if i and i in volume.directories:
+            block, at = inode_places(volume.geometry)[i]
+            return self.patch(block, at + 8, self.number(inode.size + self.g.bsize, 8))
+        if i and 0 < inode.size < self.g.bsize and inode.slots[0]:
+            block, at = inode_places(volume.geometry)[i]
+            self.patch(block, at + 40, self.number(inode.slots[0] // self.g.frag * self.g.frag + self.g.frag - 1))
 
     def break_directory(self):
         """A directory whose chunk is whole, but whose entries say something else."""
