@@ -1,6 +1,6 @@
 -- A settled volume makes a step by a spreading of copies.
-use Rattle.std.proofs.Common.{◌≡◌, ◌∙◌, ◌<◌, ◌≤◌, ◌+◌, ◌*◌, ◌/◌, ◌^◌, ◌⊎◌, ◌==◌, ◌||◌, ℕ, zero, suc, Bool, true, false, List, [], ◌∷◌, length, inl, inr, refl, sym, ap, subst, arith}
-use Rattle.std.specs.Prelude.{◌↔◌, ◌++◌, All, Err, IfOk, IfSome, IsSome, None, OnErr, Ok, Option, Result, Some, filter, if◌then◌else◌, is_some, option_to_list, take}
+use Rattle.std.proofs.Common.{◌≡◌, ◌∙◌, ◌<◌, ◌/◌, ◌^◌, ◌==◌, ◌||◌, ℕ, Bool, true, false, List, [], ◌∷◌, length, inl, inr, refl, sym, ap, subst, arith}
+use Rattle.std.specs.Prelude.{◌++◌, All, Err, IfOk, IfSome, IsSome, None, Ok, Option, Result, Some, filter, if◌then◌else◌, is_some, option_to_list, take}
 use Rattle.std.specs.List.{list_any, range_with_len}
 use Rattle.std.proofs.lemmas.Bool.{cases_lt, eq-eqb, eqb-true, false≢true, or_left, or_right}
 use Rattle.std.proofs.lemmas.List.Elements.{filter_agree}
@@ -9,31 +9,27 @@ use Rattle.dg_hot.specs.declared.spreads.DiffuseAnswer.{DiffuseAnswer}
 use Rattle.dg_hot.specs.declared.spreads.DiffuseAnswer.TheVariants.{Diffused, Lost}
 use Rattle.dg_infer.specs.Meanings.{KeptInference}
 use Rattle.dg_infer.specs.Meanings as inferences
-use Rattle.dg_infer.specs.Wants.{IsWantBy}
 use Rattle.dg_io.specs.declared.outside.Rack.{Ghosts}
 use Rattle.dg_model.proofs.SealLaws.{goes_plain}
-use Rattle.dg_model.specs.Changes.{SeesWants, Spreads}
+use Rattle.dg_model.specs.Changes.{Spreads}
 use Rattle.dg_model.specs.Copies.{spread_over}
 use Rattle.dg_model.specs.Homes.{home_of}
 use Rattle.dg_model.specs.Placed.{IsPlaced, boundaries_with}
 use Rattle.dg_model.specs.Plans.{count_of, is_file}
 use Rattle.dg_model.specs.Saves.{AreHomes}
-use Rattle.dg_model.specs.States.{IsLeastLost, State, after_calls, has_lost}
+use Rattle.dg_model.specs.States.{IsLeastLost, State, has_lost}
 use Rattle.dg_model.specs.Steps.{Step}
-use Rattle.dg_model.specs.Tables.{IsTable, Table, is_on}
+use Rattle.dg_model.specs.Tables.{IsTable, Table}
 use Rattle.dg_model.specs.Wants.{AreWants, FitWants, want_of}
 use Rattle.dg_model.specs.declared.events.Event.{Event}
 use Rattle.dg_model.specs.declared.events.Event.TheVariants.{Diffuse}
 use Rattle.dg_model.specs.declared.homes.Home.{Home}
-use Rattle.dg_model.specs.declared.phases.Phase.{Phase}
 use Rattle.dg_model.specs.declared.phases.Phase.TheVariants.{Loose as LoosePhase, Settled as SettledPhase, Worn as WornPhase}
 use Rattle.dg_model.specs.declared.replies.Reply.{Reply}
 use Rattle.dg_model.specs.declared.replies.Reply.TheVariants.{Diffused as DiffusedReply, Lost as LostReply, NotSettled as NotSettledReply}
 use Rattle.dg_model.specs.declared.shapes.Shape.{Shape}
 use Rattle.dg_model.specs.declared.wants.Want.{Want}
 use Rattle.dg_model.specs.declared.wants.Want.TheVariants.{File, Kept, Stray}
-use Rattle.dg_store.specs.Stores.{IsSound}
-use Rattle.dg_store.specs.Stores as stores
 use Rattle.dg_volume.proofs.HomeLaws.{are_homes}
 use Rattle.dg_volume.proofs.PlacedLaws.{off_table}
 use Rattle.dg_volume.proofs.VolumeLaws.{StepsAt}

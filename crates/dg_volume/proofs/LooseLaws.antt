@@ -1,5 +1,5 @@
 -- Dead blocks that become blocks of zeros change neither the structure of a volume, nor what is read of it by a path.
-use Rattle.std.proofs.Common.{◌≡◌, ◌∙◌, ◌<◌, ◌≤◌, ◌⊎◌, ℕ, Bool, true, List, [], length, inl, inr, sym, ap, subst, arith}
+use Rattle.std.proofs.Common.{◌≡◌, ◌∙◌, ◌⊎◌, ℕ, Bool, true, List, [], length, inl, inr, sym, ap, subst, arith}
 use Rattle.std.specs.Prelude.{IsOkAnd, Ok, Result, replicate}
 use Rattle.std.proofs.lemmas.Bool.{cases_lt, false≢true}
 use Rattle.std.proofs.lemmas.List.{get_or_default, get_or_past}

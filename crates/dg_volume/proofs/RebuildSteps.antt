@@ -1,5 +1,5 @@
 -- A volume makes a step by a refill of a member.
-use Rattle.std.proofs.Common.{◌≡◌, ◌≢◌, ◌∙◌, ◌<◌, ◌≤◌, ◌+◌, ◌*◌, ◌/◌, ◌++◌, ◌⊎◌, ℕ, Bool, true, false, List, [], ◌∷◌, length, inl, inr, refl, sym, ap, subst, arith}
+use Rattle.std.proofs.Common.{◌≡◌, ◌∙◌, ◌<◌, ◌+◌, ◌/◌, ◌++◌, ◌⊎◌, ℕ, Bool, true, false, List, [], ◌∷◌, length, inl, inr, refl, sym, ap, subst, arith}
 use Rattle.std.specs.Prelude.{◌↔◌, Err, IfOk, IfSome, IsSome, None, OnErr, Ok, Option, Result, Some, if◌then◌else◌, is_some, replicate}
 use Rattle.std.proofs.lemmas.Bool.{false≢true}
 use Rattle.std.proofs.lemmas.List.{length-replicate}
@@ -12,13 +12,13 @@ use Rattle.dg_io.specs.Told.{StillTold}
 use Rattle.dg_model.proofs.MemberLaws.{NoneRecovers, good_was}
 use Rattle.dg_model.proofs.SealLaws.{passes_plain}
 use Rattle.dg_model.specs.Blocks.{block_in, zeros}
-use Rattle.dg_model.specs.Changes.{BreaksOff, FillingFell, MayReap, PassesSlots, refilled_to}
+use Rattle.dg_model.specs.Changes.{BreaksOff, MayReap, PassesSlots, refilled_to}
 use Rattle.dg_model.specs.Marks.{IsDead, is_marked}
-use Rattle.dg_model.specs.Members.{IsRefilled, MembersFall, is_lost}
-use Rattle.dg_model.specs.Refills.{Reaps, StandsBetween}
+use Rattle.dg_model.specs.Members.{is_lost}
+use Rattle.dg_model.specs.Refills.{Reaps}
 use Rattle.dg_model.specs.Saves.{AreHomes}
 use Rattle.dg_model.specs.Sites.{has_site}
-use Rattle.dg_model.specs.States.{State, after_calls, has_lost}
+use Rattle.dg_model.specs.States.{State, has_lost}
 use Rattle.dg_model.specs.Steps.{Step}
 use Rattle.dg_model.specs.Tables.{Table, sites_in}
 use Rattle.dg_model.specs.Wants.{AreWants, FitWants, want_of}

@@ -1,16 +1,12 @@
 -- Members that are refilled, and marks of blocks that may be reaped.
-use Rattle.std.proofs.Common.{◌≡◌, ◌≢◌, ◌∙◌, ◌<◌, ◌≤◌, ◌+◌, ◌*◌, ◌/◌, ◌-◌, ◌⊎◌, ℕ, Bool, true, false, not, List, [], ◌∷◌, ◌++◌, length, inl, inr, refl, sym, ap, subst, arith}
-use Rattle.std.specs.Prelude.{◌&&◌, ◌↔◌, Err, IfOk, IfSome, IsSome, None, Ok, Option, Result, Some, if◌then◌else◌, slice_index_or}
-use Rattle.std.specs.Bool.{Decides}
-use Rattle.std.specs.List.{Contains}
+use Rattle.std.proofs.Common.{◌≡◌, ◌≢◌, ◌∙◌, ◌<◌, ◌≤◌, ◌+◌, ◌*◌, ◌/◌, ◌⊎◌, ℕ, Bool, true, false, not, List, [], ◌∷◌, ◌++◌, length, inl, inr, refl, sym, ap, subst, arith}
+use Rattle.std.specs.Prelude.{◌&&◌, Err, IfOk, IfSome, IsSome, None, Ok, Option, Result, Some, if◌then◌else◌}
 use Rattle.std.specs.Result.{is_err, is_ok}
 use Rattle.std.proofs.lemmas.Bool.{and_parts, cases_lt, cases_order, false≢true, not-true}
 use Rattle.std.proofs.lemmas.List.{get_or_append_left, get_or_past, get_or_push, length-append}
 use Rattle.dg_infer.specs.Meanings.{KeptInference}
-use Rattle.dg_infer.specs.Meanings as inferences
-use Rattle.dg_infer.specs.Wants.{IsWantBy}
 use Rattle.dg_model.proofs.MemberLaws.{has_lost_at, has_lost_from}
-use Rattle.dg_model.specs.Marks.{IsDead, is_marked}
+use Rattle.dg_model.specs.Marks.{is_marked}
 use Rattle.dg_model.specs.Members.{ArePaired, IsRefilled, is_filling, is_good, is_lost, partner_of}
 use Rattle.dg_model.specs.Sites.{has_site}
 use Rattle.dg_model.specs.States.{has_lost}
@@ -19,7 +15,6 @@ use Rattle.dg_model.specs.declared.members.MemberState.{MemberState}
 use Rattle.dg_model.specs.declared.phases.Phase.{Phase}
 use Rattle.dg_model.specs.declared.phases.Phase.TheVariants.{Worn}
 use Rattle.dg_model.specs.declared.shapes.Shape.{Shape}
-use Rattle.dg_model.specs.declared.sites.Site.{Site}
 use Rattle.dg_rebuild.specs.Passed.{IsLeftAt}
 use Rattle.dg_store.specs.Stores.{members_of, shape_of, table_of}
 use Rattle.dg_store.specs.declared.store.Store.{Store}

@@ -1,12 +1,12 @@
 -- A volume makes a step by a replacement of a member.
-use Rattle.std.proofs.Common.{◌≡◌, ◌≢◌, ◌∙◌, ◌<◌, ◌+◌, ◌*◌, ◌==◌, ℕ, Bool, true, false, List, inl, inr, refl, sym, ap, subst}
-use Rattle.std.specs.Prelude.{◌↔◌, ◌⊎◌, None, if◌then◌else◌}
+use Rattle.std.proofs.Common.{◌≡◌, ◌≢◌, ◌∙◌, ◌<◌, ◌+◌, ◌*◌, ◌==◌, ℕ, Bool, true, false, List, inl, refl, sym, ap}
+use Rattle.std.specs.Prelude.{if◌then◌else◌}
 use Rattle.std.proofs.lemmas.Bool.{eq-eqb, false≢true, ne_eqb}
 use Rattle.dg_io.specs.declared.outside.Rack.{Ghosts}
 use Rattle.dg_model.proofs.MemberLaws.{NoneRecovers}
 use Rattle.dg_model.proofs.SealLaws.{passes_plain}
 use Rattle.dg_model.specs.Changes.{IsMember}
-use Rattle.dg_model.specs.Members.{HasFallen, is_good, is_lost}
+use Rattle.dg_model.specs.Members.{is_good, is_lost}
 use Rattle.dg_model.specs.States.{State, after_calls}
 use Rattle.dg_model.specs.declared.events.Event.TheVariants.{Replace}
 use Rattle.dg_model.specs.declared.members.MemberState.{MemberState}
@@ -19,7 +19,7 @@ use Rattle.dg_store.specs.Leaves.{FaultRose}
 use Rattle.dg_store.specs.Leaves as arrays
 use Rattle.dg_store.specs.Stores.{IsSound, KeepsBlocks}
 use Rattle.dg_volume.proofs.VolumeLaws.{IsBeside, Keeps, leaves, stays, steps_from, still_in}
-use Rattle.dg_volume.specs.Volumes.{IsWell, Leaves, StandsFor, StepsTo, Tells, marks_by, members_of, rack_of, shape_of, state_of, table_of}
+use Rattle.dg_volume.specs.Volumes.{IsWell, Leaves, StepsTo, marks_by, members_of, rack_of, shape_of, state_of, table_of}
 use Rattle.dg_volume.specs.declared.phases.InPhase as phases
 use Rattle.dg_volume.specs.declared.volumes.Volume.{Volume}
 

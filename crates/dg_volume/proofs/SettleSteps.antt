@@ -26,7 +26,7 @@ use Rattle.dg_volume.proofs.MoveSteps.{HasRun, IsChecked, IsReady, settle_step, 
 use Rattle.dg_volume.proofs.PlacedLaws.{are_placed}
 use Rattle.dg_volume.specs.Planned.{HasPlan, IsPutInPlace}
 use Rattle.dg_volume.specs.Settles.{GoesBy}
-use Rattle.dg_volume.specs.Volumes.{AreWantsBy, FitsArray, IsInPlace, IsWell, Leaves, StandsFor, StepsTo, Tells, marks_by, marks_of, members_of, rack_of, shape_of, state_of, table_of}
+use Rattle.dg_volume.specs.Volumes.{AreWantsBy, FitsArray, IsInPlace, IsWell, Leaves, StandsFor, StepsTo, Tells, marks_by, members_of, rack_of, shape_of, state_of, table_of}
 use Rattle.dg_volume.specs.declared.phases.InPhase as phases
 use Rattle.dg_volume.specs.declared.volumes.Volume.{Volume}
 

@@ -1,6 +1,6 @@
 -- A settled volume makes a step by a listing of all directories, and by what is told of the home of a file.
-use Rattle.std.proofs.Common.{◌≡◌, ℕ, List, ◌++◌, Bool, true, false, refl, subst}
-use Rattle.std.specs.Prelude.{IfErr, IfOk, None, Ok, Option, Err, Result, Some, if◌then◌else◌}
+use Rattle.std.proofs.Common.{◌≡◌, ℕ, List, ◌++◌, Bool, refl, subst}
+use Rattle.std.specs.Prelude.{IfOk, None, Ok, Option, Err, Result, Some, if◌then◌else◌}
 use Rattle.std.specs.Option.{option_map}
 use Rattle.dg_io.specs.declared.outside.Rack.{Ghosts}
 use Rattle.dg_model.specs.Homes.{home_of}

@@ -1,9 +1,8 @@
 -- By what is kept one block is one thing to the plan.
-use Rattle.std.proofs.Common.{◌≡◌, ◌∙◌, ◌⊎◌, ℕ, true, false, List, inl, inr, refl, sym, ap, subst}
+use Rattle.std.proofs.Common.{◌≡◌, ◌∙◌, ℕ, inl, inr, refl, sym, ap, subst}
 use Rattle.std.proofs.lemmas.Bool.{false≢true}
 use Rattle.dg_claims.specs.Kept.{table_of}
 use Rattle.dg_claims.specs.Tables.{TableClaims}
-use Rattle.dg_infer.specs.Known.{is_system_by}
 use Rattle.dg_infer.specs.Meanings.{KeptInference}
 use Rattle.dg_infer.specs.Wants.{IsOfBy, IsRegularBy, IsWantBy}
 use Rattle.dg_model.specs.declared.wants.Want.{Want}

@@ -1,5 +1,5 @@
 -- What was handed on of a listing for which memory was wanting.
-use Rattle.std.specs.Prelude.{ℕ, List}
+use Rattle.std.specs.Prelude.{List}
 use Rattle.dg_io.specs.declared.outside.Rack.{Ghosts}
 use Rattle.dg_store.specs.Stores as stores
 use Rattle.dg_volume.specs.Volumes.{Tells, shape_of}

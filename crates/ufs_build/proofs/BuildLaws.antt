@@ -5,7 +5,7 @@ use Rattle.ufs_model.specs.declared.geometries.Geometry.{Geometry}
 use Rattle.ufs_model.specs.declared.numbers.Endian.{Endian}
 use Rattle.ufs_build.specs.Builds.{Answers, with_parents}
 use Rattle.ufs_build.specs.Directories.{directories_from, directories_of}
-use Rattle.ufs_build.specs.Items.{if_placed, inode_before, parent_inode, parents_after, parents_of}
+use Rattle.ufs_build.specs.Items.{if_placed, parent_inode, parents_after, parents_of}
 use Rattle.ufs_build.specs.Nodes.{item_nodes, nodes_of}
 use Rattle.ufs_build.specs.declared.items.Item.{Item}
 use Rattle.ufs_build.specs.declared.refusals.BuildRefused.{BuildRefused}

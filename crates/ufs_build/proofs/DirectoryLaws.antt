@@ -1,13 +1,12 @@
 -- The entries and the bytes of directories, one after the other.
-use Rattle.std.proofs.Common.{◌≡◌, ◌∙◌, ℕ, suc, ◌+◌, ◌<◌, ◌≤◌, List, [], ◌∷◌, ◌++◌, length, drop, get_or, refl, sym, ap, append_assoc, arith, lit≤}
+use Rattle.std.proofs.Common.{◌≡◌, ◌∙◌, ℕ, suc, ◌+◌, ◌<◌, List, [], ◌∷◌, ◌++◌, length, drop, get_or, refl, sym, ap, append_assoc, arith, lit≤}
 use Rattle.std.specs.Prelude.{if◌then◌else◌}
 use Rattle.std.proofs.lemmas.List.{drop_more}
 use Rattle.ufs_model.specs.Chunks.{DirEntry}
 use Rattle.ufs_model.specs.declared.numbers.Endian.{Endian}
 use Rattle.ufs_build.specs.Directories.{directories_from, directory_bytes, directory_entries, entries_from, entry_if, item_entry}
-use Rattle.ufs_build.specs.Entries.{HasRoom, entries_in}
+use Rattle.ufs_build.specs.Entries.{HasRoom}
 use Rattle.ufs_build.specs.Items.{is_dir}
-use Rattle.ufs_build.specs.declared.entries.Entry.{Entry}
 use Rattle.ufs_build.specs.declared.items.Item.{Item}
 
 pub five : (o n1 n2 n3 n4 n5 a b c d e : List ℕ) → n1 ≡ o ++ a → n2 ≡ n1 ++ b → n3 ≡ n2 ++ c → n4 ≡ n3 ++ d → n5 ≡ n4 ++ e

@@ -1,6 +1,6 @@
 -- The directories of items, one after the other.
-use Rattle.std.proofs.Common.{◌≡◌, ◌∙◌, ℕ, ◌+◌, ◌<◌, ◌≤◌, List, [], ◌∷◌, ◌++◌, Option, Some, None, Result, Ok, Err, length, take, drop, get_or, refl, ap, sym, append_assoc, arith}
-use Rattle.std.proofs.lemmas.List.{append-nil, drop_all, drop_more, get_or-drop, get_or_read, length-take-le, take_all, take_more}
+use Rattle.std.proofs.Common.{◌≡◌, ◌∙◌, ℕ, ◌+◌, ◌<◌, ◌≤◌, List, [], ◌∷◌, ◌++◌, Some, None, Result, Ok, Err, length, take, drop, get_or, refl, ap, sym, append_assoc, arith}
+use Rattle.std.proofs.lemmas.List.{append-nil, drop_all, drop_more, get_or-drop, length-take-le, take_more}
 use Rattle.ufs_build.specs.Items.{if_placed, inode_before, parent_inode, parents_after}
 use Rattle.ufs_build.specs.declared.items.Item.{Item}
 

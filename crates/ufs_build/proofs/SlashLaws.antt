@@ -1,6 +1,6 @@
 -- The last slash of a path.
-use Rattle.std.proofs.Common.{◌≡◌, ◌≢◌, ◌∙◌, ℕ, zero, suc, ◌+◌, ◌-◌, ◌<◌, ◌≤◌, ◌==◌, ◌&&◌, nat_lt, Bool, true, false, not, List, [], ◌∷◌, Option, Some, None, length, take, drop, get_or, cond, refl, sym, ap, arith}
-use Rattle.std.specs.Prelude.{nat_le, slice_get, if◌then◌else◌, ◌||◌, nat_eq}
+use Rattle.std.proofs.Common.{◌≡◌, ◌≢◌, ℕ, zero, suc, ◌+◌, ◌-◌, ◌<◌, ◌≤◌, ◌==◌, ◌&&◌, Bool, true, false, List, [], ◌∷◌, Some, length, take, drop, get_or, refl, sym, ap, arith}
+use Rattle.std.specs.Prelude.{nat_le, slice_get, if◌then◌else◌, ◌||◌}
 use Rattle.std.specs.List.{list_all, list_any}
 use Rattle.std.proofs.lemmas.List.{drop_more, length-take-le, take-take}
 use Rattle.std.proofs.lemmas.Bool.Decides.{nat_tests}

@@ -1,10 +1,9 @@
 -- Free fragments, and how far was searched for them.
-use Rattle.std.proofs.Common.{◌≡◌, ◌≢◌, ◌∙◌, ℕ, zero, suc, ◌+◌, ◌-◌, ◌<◌, ◌≤◌, ◌&&◌, ◌%◌, Bool, true, false, not, List, [], ◌∷◌, Option, Some, None, length, get_or, set, cond, refl, sym, ap, subst, arith, inl, inr}
+use Rattle.std.proofs.Common.{◌≡◌, ◌∙◌, ℕ, zero, suc, ◌+◌, ◌<◌, ◌≤◌, ◌&&◌, ◌%◌, Bool, true, false, not, List, [], ◌∷◌, Some, None, length, get_or, set, cond, refl, sym, ap, arith, inl, inr}
 use Rattle.std.specs.Prelude.{nat_le, find}
 use Rattle.std.specs.List.{range_with_len}
 use Rattle.std.proofs.lemmas.List.{get_or-set_other, get_or-set_same, length-set}
 use Rattle.std.proofs.lemmas.Bool.{cases_eq, false≢true}
-use Rattle.ufs_model.specs.Numbers.{all_below}
 use Rattle.ufs_model.specs.Pointers.{is_data_run}
 use Rattle.ufs_model.specs.declared.geometries.Geometry.{Geometry}
 use Rattle.ufs_build.specs.Placements.{fits, is_used, lowest, marked}

@@ -1,6 +1,6 @@
 -- Which fragments the blocks of files take. The pointers of a file are those of `dinode.h` (`NDADDR`, `NIADDR`), and a block that
 -- has no address yet gets one as in `ffs_balloc.c`; which fragments it gets is this project's choice.
-use Rattle.std.specs.Prelude.{ℕ, zero, suc, ◌+◌, ◌-◌, ◌*◌, ◌/◌, ◌%◌, ◌^◌, ◌==◌, ◌&&◌, ◌||◌, nat_le, nat_lt, not, Bool, true, false, List, [], ◌∷◌, ◌++◌, Option, Some, None, if◌then◌else◌, find, length, replicate, slice_index, slice_index_or, slice_set, take, drop}
+use Rattle.std.specs.Prelude.{ℕ, zero, suc, ◌+◌, ◌-◌, ◌*◌, ◌/◌, ◌%◌, ◌==◌, ◌&&◌, ◌||◌, nat_le, nat_lt, not, Bool, true, false, List, [], ◌∷◌, ◌++◌, Option, Some, None, if◌then◌else◌, find, length, replicate, slice_index, slice_index_or, slice_set, take, drop}
 use Rattle.std.specs.Int.{div_ceil}
 use Rattle.std.specs.List.{list_all, range_with_len}
 use Rattle.ufs_model.specs.Numbers.{all_below}

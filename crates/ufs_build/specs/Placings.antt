@@ -1,6 +1,5 @@
 -- What placing blocks tells.
 use Rattle.std.specs.Prelude.{◌≡◌, Bool, true, false, List, map, Option, Some, None}
-use Rattle.ufs_model.specs.declared.geometries.Geometry.{Geometry}
 use Rattle.ufs_build.specs.Nodes.{Node as File}
 use Rattle.ufs_build.specs.Placements.{Addresses, AllPlaced, Placed}
 use Rattle.ufs_build.specs.declared.files.Node.{Node}

@@ -1,6 +1,6 @@
 -- The geometry of a volume that is to be built, and its superblock and group blocks without their maps (`struct fs`, `struct cg`
 -- in `fs.h`). Where the parts of a group stand is this project's choice.
-use Rattle.std.specs.Prelude.{ℕ, ◌+◌, ◌-◌, ◌*◌, ◌/◌, ◌^◌, ◌&&◌, nat_le, nat_lt, Bool, List, [], ◌∷◌, Option, Some, None, Result, Ok, Err, replicate, if◌then◌else◌}
+use Rattle.std.specs.Prelude.{ℕ, ◌+◌, ◌*◌, ◌/◌, ◌^◌, ◌&&◌, nat_le, nat_lt, Bool, List, [], ◌∷◌, Option, Some, None, Result, Ok, Err, replicate, if◌then◌else◌}
 use Rattle.std.specs.Int.{div_ceil}
 use Rattle.ufs_model.specs.Superblocks.{geometry_in}
 use Rattle.ufs_model.specs.declared.geometries.BadSuper.{BadSuper}

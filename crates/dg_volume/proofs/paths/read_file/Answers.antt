@@ -1,6 +1,6 @@
 use Rattle.ufs_model.specs.Paths.{cat_of, look_of}
 use Rattle.ufs_model.specs.Readings.{ReadsAs}
-use Rattle.dg_volume.proofs.FileAnswers.{at_fault, fault_stays, fault_tells, fault_unanswered, file_told, map_answer}
+use Rattle.dg_volume.proofs.FileAnswers.{at_fault, file_told, map_answer}
 use Rattle.dg_volume.proofs.FileLaws.{cat_follows, cat_last, reads_first}
 use Rattle.ufs_path.specs.Answers.{refusal_of}
 use Rattle.dg_volume.proofs.paths.read_file.Goals as goal

@@ -1,4 +1,4 @@
-use Rattle.std.proofs.Common.{◌≡◌, ◌++◌, ◌≤◌, replicate}
+use Rattle.std.proofs.Common.{◌≡◌, ◌++◌, replicate}
 use Rattle.ufs_build.proofs.directories.append_zeros.Given as goal
 
 abbrev pub invariant-loop-left : goal.invariant-loop-left

@@ -1,5 +1,5 @@
-use Rattle.std.proofs.Common.{◌≡◌, ◌<◌, ◌∙◌, ◌+◌, ◌++◌, ◌∷◌, [], List, ℕ, length, refl, ap, sym, arith}
-use Rattle.ufs_build.specs.Directories.{directories_from, directories_of}
+use Rattle.std.proofs.Common.{◌<◌, ◌∙◌, ◌+◌, ◌++◌, length, refl, ap, sym}
+use Rattle.ufs_build.specs.Directories.{directories_of}
 use Rattle.ufs_build.proofs.DirectoryLaws.{directories_begun, one_begun}
 use Rattle.ufs_build.proofs.ListSteps.{moved_as}
 use Rattle.ufs_build.proofs.directories.directories_of.Goals as goal

@@ -1,4 +1,4 @@
-use Rattle.std.proofs.Common.{◌≡◌, ◌∙◌, ap}
+use Rattle.std.proofs.Common.{◌∙◌, ap}
 use Rattle.ufs_build.specs.Directories.{directory_bytes, packed}
 use Rattle.ufs_build.specs.Entries.{entries_in}
 use Rattle.ufs_build.proofs.DirectoryLaws.{has_room}

@@ -1,5 +1,5 @@
-use Rattle.std.proofs.Common.{◌≡◌, ◌<◌, ◌∙◌, ◌+◌, ◌++◌, length, refl, ap, sym, arith}
-use Rattle.ufs_build.specs.Directories.{directory_entries, entries_from}
+use Rattle.std.proofs.Common.{◌<◌, ◌∙◌, ◌+◌, ◌++◌, length, refl, ap, sym}
+use Rattle.ufs_build.specs.Directories.{directory_entries}
 use Rattle.ufs_build.specs.Entries.{entries_in}
 use Rattle.ufs_build.proofs.DirectoryLaws.{entries_begun, two_begun}
 use Rattle.ufs_build.proofs.directories.directory_entries.Goals as goal

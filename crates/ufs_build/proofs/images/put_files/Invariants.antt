@@ -1,8 +1,7 @@
 use Rattle.std.proofs.Common.{◌≡◌, ◌+◌, drop}
-use Rattle.std.specs.List.{flat_map, range_with_len}
 use Rattle.ufs_build.specs.Images.{file_parts}
 use Rattle.ufs_build.specs.Parts.{put_parts}
-use Rattle.ufs_build.specs.Placings.{file_of, files_of}
+use Rattle.ufs_build.specs.Placings.{files_of}
 use Rattle.ufs_build.proofs.images.put_files.Given as goal
 
 abbrev pub invariant-loop-k : goal.invariant-loop-k

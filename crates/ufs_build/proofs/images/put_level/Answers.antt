@@ -1,6 +1,5 @@
 use Rattle.ufs_build.proofs.PartLaws.{given_parts}
-use Rattle.ufs_build.specs.Images.{data_parts, group_parts, indirect_parts, pointer_parts, slot_parts}
-use Rattle.ufs_build.specs.Placings.{file_of}
+use Rattle.ufs_build.specs.Images.{indirect_parts}
 use Rattle.ufs_build.proofs.images.put_level.Goals as goal
 
 pub loop-index-preserved : goal.loop-index-preserved

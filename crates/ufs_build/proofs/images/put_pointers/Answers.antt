@@ -1,6 +1,5 @@
 use Rattle.ufs_build.proofs.PartLaws.{given_parts, pointer_put}
-use Rattle.ufs_build.specs.Images.{data_parts, group_parts, indirect_parts, pointer_parts, slot_parts}
-use Rattle.ufs_build.specs.Placings.{file_of}
+use Rattle.ufs_build.specs.Images.{pointer_parts}
 use Rattle.ufs_build.proofs.images.put_pointers.Goals as goal
 
 pub loop-i-preserved : goal.loop-i-preserved

@@ -1,8 +1,7 @@
-use Rattle.std.proofs.Common.{◌≡◌, ◌+◌, drop}
+use Rattle.std.proofs.Common.{◌≡◌}
 use Rattle.std.specs.List.{flat_map, range_with_len}
 use Rattle.ufs_build.specs.Images.{pointer_parts}
 use Rattle.ufs_build.specs.Parts.{put_parts}
-use Rattle.ufs_build.specs.Placings.{file_of, files_of}
 use Rattle.ufs_build.proofs.images.put_pointers.Given as goal
 
 abbrev pub invariant-loop-i : goal.invariant-loop-i

@@ -1,4 +1,4 @@
-use Rattle.std.proofs.Common.{◌≡◌, ◌<◌, ◌*◌, ◌+◌, ◌&&◌, ◌^◌, not, arith}
+use Rattle.std.proofs.Common.{◌+◌, ◌&&◌, not}
 use Rattle.ufs_model.specs.Geometries.{cgbase}
 use Rattle.ufs_model.specs.Roles.{is_data_of, role}
 use Rattle.ufs_build.specs.Placements.{is_used}

@@ -1,4 +1,4 @@
-use Rattle.std.proofs.Common.{◌≡◌, ◌*◌, ◌+◌, ◌&&◌, not, map}
+use Rattle.std.proofs.Common.{◌≡◌, ◌+◌, ◌&&◌, not, map}
 use Rattle.std.specs.List.{range_with_len}
 use Rattle.ufs_build.specs.Placements.{is_used}
 use Rattle.ufs_model.specs.Geometries.{cgbase}

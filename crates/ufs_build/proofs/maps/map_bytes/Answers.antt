@@ -1,4 +1,4 @@
-use Rattle.std.proofs.Common.{◌*◌, refl}
+use Rattle.std.proofs.Common.{◌*◌}
 use Rattle.ufs_build.specs.Images.{bit_sum}
 use Rattle.ufs_build.proofs.ListSteps.{given_more}
 use Rattle.ufs_build.proofs.maps.map_bytes.Goals as goal

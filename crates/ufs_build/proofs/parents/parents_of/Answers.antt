@@ -1,8 +1,8 @@
-use Rattle.std.proofs.Common.{◌≡◌, ◌∙◌, ◌++◌, ◌∷◌, [], ℕ, ◌<◌, List, Ok, Err, length, get_or, refl, ap, sym, arith, rules}
+use Rattle.std.proofs.Common.{◌≡◌, ◌∙◌, ◌++◌, ◌∷◌, [], ℕ, List, Err, get_or, ap, arith, rules}
 use Rattle.std.specs.List.{All}
 use Rattle.std.proofs.lemmas.List.{take_all}
 use Rattle.std.proofs.lemmas.List.Elements.{All-more}
-use Rattle.ufs_build.specs.Items.{HasShortName, HasSlash, parents_after, parents_of}
+use Rattle.ufs_build.specs.Items.{HasShortName, HasSlash, parents_of}
 use Rattle.ufs_build.specs.declared.items.Item.{Item}
 use Rattle.ufs_build.proofs.ParentLaws.{IsAt, ends, goes_on, is_at, starts, stops}
 use Rattle.ufs_build.proofs.parents.parents_of.Goals as goal

@@ -1,7 +1,5 @@
-use Rattle.std.proofs.Common.{◌≡◌, ◌≤◌, ◌∙◌, Bool, true, false, length, refl, sym, arith}
-use Rattle.std.specs.Prelude.{not}
+use Rattle.std.proofs.Common.{Bool, true, false, sym, arith}
 use Rattle.std.specs.Bool.{OnTrue}
-use Rattle.std.proofs.lemmas.Bool.{false≢true}
 use Rattle.ufs_build.proofs.SlashLaws.{first_slash, short_name}
 use Rattle.ufs_build.proofs.paths.has_place.Goals as goal
 

@@ -1,5 +1,5 @@
-use Rattle.std.proofs.Common.{◌≡◌, ◌∙◌, ◌<◌, ◌*◌, None, length, sym, arith}
-use Rattle.ufs_build.specs.Placements.{blocks_of, no_addresses, placed_file, with_block_or_hole, with_blocks_below}
+use Rattle.std.proofs.Common.{◌≡◌, ◌<◌, ◌*◌, None, length, arith}
+use Rattle.ufs_build.specs.Placements.{blocks_of, no_addresses, placed_file, with_block_or_hole}
 use Rattle.ufs_build.specs.Placings.{file_of, placed_in}
 use Rattle.ufs_build.proofs.PlacingLaws.{block_start, no_room}
 use Rattle.ufs_build.proofs.placings.place_file.Goals as goal

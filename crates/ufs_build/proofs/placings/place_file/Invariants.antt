@@ -1,5 +1,5 @@
 use Rattle.std.proofs.Common.{◌≡◌, Some}
-use Rattle.ufs_build.specs.Placements.{blocks_of, no_addresses, with_blocks_below}
+use Rattle.ufs_build.specs.Placements.{with_blocks_below}
 use Rattle.ufs_build.specs.Placings.{file_of, placed_in}
 use Rattle.ufs_build.specs.Spaces.{IsSearched}
 use Rattle.ufs_build.proofs.placings.place_file.Given as goal

@@ -1,6 +1,6 @@
-use Rattle.std.proofs.Common.{◌≡◌, ◌≢◌, ◌<◌, arith}
+use Rattle.std.proofs.Common.{◌<◌, arith}
 use Rattle.ufs_build.specs.Spaces.{NoneBelow}
-use Rattle.ufs_build.proofs.SpaceLaws.{lowest_is, lowest_none, none_below_marked, searched_marked, searched_set}
+use Rattle.ufs_build.proofs.SpaceLaws.{lowest_is, lowest_none, searched_marked, searched_set}
 use Rattle.ufs_build.proofs.spaces.take_run.Goals as goal
 
 pub returns-then-a-g-clause-place : goal.returns-then-a-g-clause-place

@@ -1,6 +1,5 @@
-use Rattle.std.proofs.Common.{◌≡◌, ◌&&◌, not}
-use Rattle.ufs_build.specs.Traces.{is_data, is_written, numbers_where}
-use Rattle.ufs_model.specs.Roles.{role}
+use Rattle.std.proofs.Common.{◌≡◌}
+use Rattle.ufs_build.specs.Traces.{is_written, numbers_where}
 use Rattle.ufs_build.proofs.traces.written_blocks.Given as goal
 
 abbrev pub invariant-loop-b : goal.invariant-loop-b

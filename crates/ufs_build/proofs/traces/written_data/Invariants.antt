@@ -1,4 +1,4 @@
-use Rattle.std.proofs.Common.{◌≡◌, ◌&&◌, not}
+use Rattle.std.proofs.Common.{◌≡◌, ◌&&◌}
 use Rattle.ufs_build.specs.Traces.{is_data, is_written, numbers_where}
 use Rattle.ufs_model.specs.Roles.{role}
 use Rattle.ufs_build.proofs.traces.written_data.Given as goal

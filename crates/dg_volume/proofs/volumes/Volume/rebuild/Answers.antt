@@ -1,7 +1,7 @@
-use Rattle.std.proofs.Common.{◌≡◌, ◌<◌, ℕ, Bool, List, refl, sym, ap, subst, arith}
+use Rattle.std.proofs.Common.{◌≡◌, ℕ, Bool, List, refl, sym, ap, subst, arith}
 use Rattle.std.specs.Prelude.{IfSome}
 use Rattle.dg_model.specs.declared.shapes.Shape.{Shape}
-use Rattle.dg_volume.proofs.RebuildSteps.{HasRebuilt, rebuild_leaves, rebuild_spares, rebuild_steps}
+use Rattle.dg_volume.proofs.RebuildSteps.{rebuild_leaves, rebuild_spares, rebuild_steps}
 use Rattle.dg_volume.specs.Phases.{CanReapAll}
 use Rattle.dg_volume.specs.Refills.{AreReapMarks}
 use Rattle.dg_volume.specs.Volumes.{shape_of}
