@@ -1,6 +1,7 @@
 // The bytes of a volume.
 ghost use Rattle.std.specs.Prelude.{◌≡◌, ◌≤◌, ◌<◌, ◌+◌, ◌*◌, ◌^◌, IfOk, OnOk, length};
-ghost use Rattle.ufs_build.specs.Images.{block_parts, data_parts, file_parts, first_below, group_fields, group_parts, indirect_parts, inode_parts, inode_place, level_parts, pointer_parts, slot_address, slot_parts, volume_bytes, volume_parts};
+ghost use Rattle.ufs_build.specs.Images.{block_parts, data_parts, file_parts, first_below, group_fields, group_parts, indirect_parts, inode_parts};
+ghost use Rattle.ufs_build.specs.Images.{inode_place, level_parts, pointer_parts, slot_address, slot_parts, volume_bytes, volume_parts};
 ghost use Rattle.std.specs.List.{flat_map, range_with_len};
 ghost use Rattle.ufs_build.specs.Placements.{address_at, blocks_of};
 ghost use Rattle.ufs_build.specs.Parts.{put_parts};

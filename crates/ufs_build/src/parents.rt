@@ -1,9 +1,11 @@
 // The directories of items.
-ghost use Rattle.std.specs.Prelude.{◌≡◌, ◌+◌, ◌<◌, ◌≤◌, ◌^◌, ◌==◌, ◌++◌, ◌∷◌, [], ℕ, MatchOption, IfSome, IfOk, OnOk, MatchResult, Some, None, Ok, Err, length, slice_get, take, drop};
+ghost use Rattle.std.specs.Prelude.{◌≡◌, ◌+◌, ◌<◌, ◌≤◌, ◌^◌, ◌==◌, ◌++◌, ◌∷◌, [], ℕ, MatchOption, IfSome};
+ghost use Rattle.std.specs.Prelude.{IfOk, OnOk, MatchResult, Some, None, Ok, Err, length, slice_get, take, drop};
 ghost use Rattle.std.specs.List.{All};
 ghost use Rattle.std.specs.Bool.{OnTrue};
 ghost use Rattle.std.specs.Cmp.Lexicographic.{pointwise};
-ghost use Rattle.ufs_build.specs.Items.{HasShortName, HasSlash, directory_at, has_contents, is_dir, name_of, parent_inode, parent_of, parents_of, place_of_path};
+ghost use Rattle.ufs_build.specs.Items.{HasShortName, HasSlash, directory_at, has_contents, is_dir};
+ghost use Rattle.ufs_build.specs.Items.{name_of, parent_inode, parent_of, parents_of, place_of_path};
 ghost use Rattle.ufs_build.specs.declared.items.Item.{Item};
 ghost use Rattle.ufs_build.specs.declared.refusals.BuildRefused.TheVariants.{BadItem, TooMany};
 ghost use Rattle.ufs_build.specs.declared.refusals.What.{What};
