@@ -3,7 +3,8 @@ ghost use Rattle.std.specs.Prelude.{◌≡◌, ◌∷◌, []};
 ghost use Rattle.ufs_model.specs.Blocks.{Volume};
 ghost use Rattle.ufs_model.specs.Geometries.{IsGeometry};
 ghost use Rattle.ufs_model.specs.declared.geometries.Geometry.{Geometry};
-ghost use Rattle.ufs_model.specs.declared.malformations.BadKind.TheVariants.{GroupMagic, GroupMap, WrongType, Filesize, Past, Wild, WildIn, Align, AlignIn, Run, Twice, PastIn, Free, Unused, Hole, Chunk, Entry, EntryType, Dots, Names, DirTwice, RootNamed};
+ghost use Rattle.ufs_model.specs.declared.malformations.BadKind.TheVariants.{GroupMagic, GroupMap, WrongType, Filesize, Past, Wild, WildIn, Align, AlignIn, Run, Twice};
+ghost use Rattle.ufs_model.specs.declared.malformations.BadKind.TheVariants.{PastIn, Free, Unused, Hole, Chunk, Entry, EntryType, Dots, Names, DirTwice, RootNamed};
 ghost use Rattle.ufs_check.specs.Verdicts.{AreFaults, Judges, first_by, found_in, later, no_metadata_fault};
 
 use crate::links::LinkFaults;

@@ -1,5 +1,6 @@
 // Which directory names an inode.
-ghost use Rattle.std.specs.Prelude.{◌≡◌, ◌==◌, ◌+◌, ◌*◌, ◌^◌, ◌<◌, ◌≤◌, ◌∷◌, [], ℕ, List, Option, None, Some, Ok, true, false, length, map, OnOk, IfOk, IfSome, IfNone};
+ghost use Rattle.std.specs.Prelude.{◌≡◌, ◌==◌, ◌+◌, ◌*◌, ◌^◌, ◌<◌, ◌≤◌, ◌∷◌, [], ℕ, List, Option};
+ghost use Rattle.std.specs.Prelude.{None, Some, Ok, true, false, length, map, OnOk, IfOk, IfSome, IfNone};
 ghost use Rattle.std.specs.BTreeMap.{get};
 ghost use Rattle.std.specs.Cmp.Lexicographic.{pointwise};
 ghost use Rattle.std.specs.Ordering.{nat_cmp};
@@ -13,7 +14,8 @@ ghost use Rattle.ufs_model.specs.Inodes.{block_count};
 ghost use Rattle.ufs_model.specs.Paths.{chunks_in, entries_before};
 ghost use Rattle.ufs_model.specs.Trees.{is_plain};
 ghost use Rattle.ufs_path.specs.Consults.{ConsultsKind};
-ghost use Rattle.ufs_path.specs.Parents.{AddsEntries, AddsEntry, AreParentsBy, Enters, EntersWhole, FitsTable, IsBlockRead, IsFileRead, IsParentRead, IsParentsRead, IsRunOf, KeptAre, directory_kept, kept_in};
+ghost use Rattle.ufs_path.specs.Parents.{AddsEntries, AddsEntry, AreParentsBy, Enters, EntersWhole, FitsTable, IsBlockRead};
+ghost use Rattle.ufs_path.specs.Parents.{IsFileRead, IsParentRead, IsParentsRead, IsRunOf, KeptAre, directory_kept, kept_in};
 ghost use Rattle.ufs_path.specs.Walks.{block_entries, entries_among};
 
 use crate::blocks::directory_fault;
