@@ -1,10 +1,13 @@
 // Racks in memory. Their calls are counted from 0.
-ghost use Rattle.std.specs.Prelude.{◌≡◌, ◌≢◌, ◌⊎◌, ◌↔◌, ◌+◌, ◌≤◌, ◌<◌, [], ℕ, Option, None, true, false, length, slice_index, OnOk, OnErr, IfOk, IfSome, IsSome, IsErr, IsTrue, All, Some};
+ghost use Rattle.std.specs.Prelude.{◌≡◌, ◌≢◌, ◌⊎◌, ◌↔◌, ◌+◌, ◌≤◌, ◌<◌, [], ℕ, Option, None, true};
+ghost use Rattle.std.specs.Prelude.{false, length, slice_index, OnOk, OnErr, IfOk, IfSome, IsSome, IsErr, IsTrue, All, Some};
 ghost use Rattle.dg_model.specs.Causes.{Rose, RoseByOne};
 ghost use Rattle.dg_io.specs.Calls.{LeavesRack};
 ghost use Rattle.dg_io.specs.Faults.{HasCause};
 ghost use Rattle.dg_io.specs.Told.{Told, IsSame, IsZeros, Measures, IsEmpty, Reads, Patched, Torn, FitsIn, Extended, KeepsFront, IsHeader, OldOrNew};
-ghost use Rattle.dg_io.specs.Racks.{name_in, counts_in, member_in, stands_in, steady_in, there_in, members_in, room_in, rack_fails, IsListed, IsAbsent, IsPast, StaysMade, sure_name, sure_counts, sure_room_in, sure_member, sure_members_in, sure_there_in, sure_stands, sure_steady, tells_in, SureStays};
+ghost use Rattle.dg_io.specs.Racks.{name_in, counts_in, member_in, stands_in, steady_in, there_in, members_in, room_in};
+ghost use Rattle.dg_io.specs.Racks.{rack_fails, IsListed, IsAbsent, IsPast, StaysMade, sure_name, sure_counts, sure_room_in};
+ghost use Rattle.dg_io.specs.Racks.{sure_member, sure_members_in, sure_there_in, sure_stands, sure_steady, tells_in, SureStays};
 
 use crate::calls::is_listed;
 use crate::members::MemMember;
