@@ -1,4 +1,5 @@
-ghost use Rattle.std.specs.Prelude.{◌≡◌, ◌≤◌, [], length, IfOk, OnErr, OnOk, slice_get};
+ghost use Rattle.std.specs.Prelude.{◌≡◌, ◌≢◌, ◌≤◌, ◌<◌, ◌^◌, [], length, IfOk, OnErr, OnOk, slice_get};
+ghost use Rattle.std.specs.List.{All, AllPairs};
 ghost use Rattle.std.specs.Map.{keys_of};
 ghost use Rattle.dg_model.specs.Copies.{touched};
 
@@ -55,6 +56,8 @@ impl Hot {
     pub fn inodes(&self, alloc: Global) -> Result<Vec<u32>, NoMemory>
         ensures inodes { IfOk result (λ inodes. inodes.items ≡ self.now) }
         ensures few { IfOk result (λ inodes. length inodes.items ≤ 16) }
+        ensures once { IfOk result (λ inodes. AllPairs (λ i j. i ≢ j) inodes.items) }
+        ensures fit { IfOk result (λ inodes. All (λ i. i < 2 ^ 32) inodes.items) }
     {
         keys(alloc, &self.cache)
     }
@@ -92,6 +95,8 @@ fn key_at(cache: &LruCache<u32, ()>, place: u32) -> Option<u32>
 fn keys(alloc: Global, cache: &LruCache<u32, ()>) -> Result<Vec<u32>, NoMemory>
     ensures keys { IfOk result (λ keys. keys.items ≡ keys_of cache.now.entries) }
     ensures few { IfOk result (λ keys. length keys.items ≤ cache.now.cap) }
+    ensures once { IfOk result (λ keys. AllPairs (λ i j. i ≢ j) keys.items) }
+    ensures fit { IfOk result (λ keys. All (λ i. i < 2 ^ 32) keys.items) }
 {
     let Ok(mut keys) = Vec::with_capacity(alloc, cache.len()) else {
         return Err(NoMemory);

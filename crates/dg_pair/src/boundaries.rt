@@ -376,6 +376,7 @@ impl Boundary {
         ensures other_members { OthersSame (2 * number_of self.old + side) (R.bytes rack.old) (R.bytes rack.new) }
         ensures only_faults { OnlyMember (2 * number_of self.old + side) (R.counts rack.old).faults (R.counts rack.new).faults }
         ensures called { result ≡ NoteAnswer.Noted → Rose (R.counts rack.old).writes (R.counts rack.new).writes }
+        ensures tried { result ≡ NoteAnswer.Fell → Rose (R.counts rack.old).writes (R.counts rack.new).writes }
         ensures most { (R.counts rack.new).calls ≤ (R.counts rack.old).calls + 1 }
         ensures most_writes { (R.counts rack.new).writes ≤ (R.counts rack.old).writes + 1 }
         ensures quiet { result ≡ NoteAnswer.NotGood → rack.new ≡ rack.old }

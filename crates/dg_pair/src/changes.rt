@@ -73,6 +73,7 @@ pub fn note_any<R: Rack>(
     ensures other_bytes { OthersSame (2 * number_of boundary + side) (R.bytes rack.old) (R.bytes rack.new) }
     ensures other_faults { OnlyMember (2 * number_of boundary + side) (R.counts rack.old).faults (R.counts rack.new).faults }
     ensures called { result.1 ≡ NoteAnswer.Noted → Rose (R.counts rack.old).writes (R.counts rack.new).writes }
+    ensures tried { result.1 ≡ NoteAnswer.Fell → Rose (R.counts rack.old).writes (R.counts rack.new).writes }
     ensures most { (R.counts rack.new).calls ≤ (R.counts rack.old).calls + 1 }
     ensures most_writes { (R.counts rack.new).writes ≤ (R.counts rack.old).writes + 1 }
     ensures quiet { result.1 ≡ NoteAnswer.NotGood → rack.new ≡ rack.old }

@@ -4,7 +4,7 @@ ghost use Rattle.dg_model.specs.Members.{is_lost};
 ghost use Rattle.dg_rebuild.specs.Answers.{FillingFell, HasBrokenOff, HasCopied, HasNoFilling, HasPaused};
 ghost use Rattle.dg_rebuild.specs.Passed.{HasMemberAt};
 ghost use Rattle.dg_store.specs.Leaves.{Stays};
-ghost use Rattle.dg_store.specs.Stores.{IsSound, members_of, shape_of};
+ghost use Rattle.dg_store.specs.Stores.{IsSound, members_of, rack_of, shape_of};
 
 use crate::slots::{SlotAnswer, filled_slots, is_lost, refill_slot, used_from};
 use dg_io::{NoMemory, Rack};
@@ -31,7 +31,7 @@ pub enum RebuildAnswer {
 ///
 /// `dead` has a mark for each block: none at all where nothing may be reaped.
 ///
-/// One pass over the slots, and one look-up for each slot that is left.
+/// One pass over the slots, and one look-up for each slot that is left. Within a limit of 0 no call is made on the rack.
 pub fn rebuild<R: Rack>(
     alloc: Global,
     store: &mut Store<R>,
@@ -57,6 +57,7 @@ pub fn rebuild<R: Rack>(
     ensures broken { IfOk result (λ answer. (answer ≡ RebuildAnswer.Failed) ⊎ (answer ≡ RebuildAnswer.Lost boundary)
         → is_lost (members_of store.old) boundary ≡ false
         → HasBrokenOff R.Rack dead.now boundary reaped.old.items reaped.new.items store.old store.new) }
+    ensures still { limit ≡ 0 → rack_of store.new ≡ rack_of store.old }
     ensures err { OnErr result (HasPaused R.Rack dead.now boundary reaped.old.items reaped.new.items store.old store.new) }
 {
     match filled_slots(store, boundary) {
@@ -97,6 +98,7 @@ fn refill<R: Rack>(
     ensures failed { IfOk result (λ answer. answer ≡ RebuildAnswer.Failed → FillingFell R.Rack boundary store.old store.new) }
     ensures broken { IfOk result (λ answer. (answer ≡ RebuildAnswer.Failed) ⊎ (answer ≡ RebuildAnswer.Lost boundary)
         → HasBrokenOff R.Rack dead.now boundary reaped.old.items reaped.new.items store.old store.new) }
+    ensures still { limit ≡ 0 → rack_of store.new ≡ rack_of store.old }
     ensures err { OnErr result (HasPaused R.Rack dead.now boundary reaped.old.items reaped.new.items store.old store.new) }
 {
     let mut done = 0;

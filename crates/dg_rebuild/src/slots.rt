@@ -138,6 +138,7 @@ pub fn refill_slot<R: Rack>(
     ensures done { IfOk result (λ answer. (n : ℕ) → answer ≡ SlotAnswer.Done n
         → WentOn R.Rack dead.now boundary slot (slot + 1) n reaped.old.items reaped.new.items store.old store.new) }
     ensures most { IfOk result (λ answer. (n : ℕ) → answer ≡ SlotAnswer.Done n → n ≤ (if more then 1 else 0)) }
+    ensures still { more ≡ false → rack_of store.new ≡ rack_of store.old }
     ensures kept { IfOk result (λ answer. answer ≡ SlotAnswer.Kept
         → (more ≡ false) × IsTaken (table_of store.old) boundary slot × (store.new ≡ store.old)) }
     ensures stood { IfOk result (λ answer. (answer ≡ SlotAnswer.Lost) ⊎ (answer ≡ SlotAnswer.Fell) → CouldNot R.Rack boundary store.old store.new) }

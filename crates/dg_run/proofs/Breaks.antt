@@ -1,6 +1,6 @@
 -- Lines that are served break off.
-use Rattle.std.proofs.Common.{◌≡◌, ◌≤◌, ◌-◌, ◌^◌, ℕ, List, [], ◌∷◌, ◌++◌, length, take, true, sym, ◌∙◌, ap, subst, arith, append_assoc, length-append, inl, inr}
-use Rattle.std.specs.Prelude.{Option, Some, None}
+use Rattle.std.proofs.Common.{◌≡◌, ◌≤◌, ◌-◌, ◌^◌, ℕ, List, [], ◌∷◌, ◌++◌, length, take, true, refl, sym, ◌∙◌, ap, subst, arith, append_assoc, length-append, inl, inr}
+use Rattle.std.specs.Prelude.{◌⊎◌, Option, Some, None}
 use Rattle.std.specs.Option.{option_map}
 use Rattle.std.proofs.lemmas.List.{append-nil}
 use Rattle.std.proofs.lemmas.List.Concat.{flat_map-append}
@@ -11,11 +11,14 @@ use Rattle.dg_model.proofs.KnownLaws.{run_less}
 use Rattle.dg_model.specs.States.{State}
 use Rattle.dg_model.specs.declared.shapes.Shape.{Shape}
 use Rattle.dg_model.specs.declared.events.Event.{Event}
+use Rattle.dg_model.specs.declared.events.Event.TheVariants.{Tree}
+use Rattle.dg_model.specs.declared.replies.Reply.TheVariants.{Nodes}
 use Rattle.dg_run.specs.declared.arrays.Array.{Array}
-use Rattle.dg_run.specs.Steps.{WantedFor, rack_of, shape_of}
+use Rattle.dg_run.specs.Steps.{AnsweredBefore, ListedBefore, VolumeStepsTo, WantedFor, rack_of, shape_of}
 use Rattle.dg_text.specs.Lines.{line_of, input_of, IsInPlace}
-use Rattle.dg_text.specs.Replies.{reply_line, output_of}
-use Rattle.dg_run.specs.Endings.{GaveLines, StartsWith, TookUpTo, LinesBrokeOff, LinesCut, LinesRanOut, RanOutAt, ServedLinePart, WantedLine}
+use Rattle.dg_text.specs.Replies.{nodes_text, output_of, reply_line}
+use Rattle.dg_text.specs.ToldSteps.{took_both}
+use Rattle.dg_run.specs.Endings.{GaveLines, StartsWith, TookUpTo, LinesBrokeOff, LinesCut, LinesListed, LinesRanOut, LinesWanted, RanOutAt, ServedLinePart, WantedLine}
 use Rattle.dg_run.specs.Events.{Begins}
 use Rattle.dg_run.specs.Lines.{BeginsAll}
 use Rattle.dg_run.specs.Served.{is_served}
@@ -44,9 +47,9 @@ starts_more shape es e x y z first second = Told-then (BeginsAll shape es) (Star
     }) x y z first second
 
 module _ {R : Type 0} (rack : Ghosts R) where
-  broke_off : (shape : Shape) (first passed number : ℕ) (x y z t u : Option (List ℕ)) (a b : Array R) → passed ≤ 2 ^ 40 → SoFar rack shape first passed number x y t u a b
+  broke_off : (shape : Shape) (first from passed number : ℕ) (x y z t u : Option (List ℕ)) (a b : Array R) → passed ≤ 2 ^ 40 → SoFar rack shape first from passed number x y t u a b
       → Told (GaveLines []) y z → LinesBrokeOff rack [] shape first x z t u a b
-  broke_off shape first passed number x y z t u a b budget was told = record {
+  broke_off shape first from passed number x y z t u a b budget was told = record {
     events = was.events;
     replies = was.served.replies;
     in_place = was.served.in_place;
@@ -58,15 +61,15 @@ module _ {R : Type 0} (rack : Ghosts R) where
     output = was.served.output;
   }
 
-  pub lines_broke_off : (shape : Shape) (first passed number : ℕ) (x y z t u v : Option (List ℕ)) (a b c : Array R) → passed ≤ 2 ^ 40 → SoFar rack shape first passed number x y t u a b
+  pub lines_broke_off : (shape : Shape) (first from passed number : ℕ) (x y z t u v : Option (List ℕ)) (a b c : Array R) → passed ≤ 2 ^ 40 → SoFar rack shape first from passed number x y t u a b
       → Told (GaveLines []) y z → v ≡ u → c ≡ b → LinesBrokeOff rack [] shape first x z t v a c
-  lines_broke_off shape first passed number x y z t u v a b c budget was told same kept =
+  lines_broke_off shape first from passed number x y z t u v a b c budget was told same kept =
       subst (λ (o : Option (List ℕ)). LinesBrokeOff rack [] shape first x z t o a c) (sym same)
-      (subst (λ (s : Array R). LinesBrokeOff rack [] shape first x z t u a s) (sym kept) (broke_off shape first passed number x y z t u a b budget was told))
+      (subst (λ (s : Array R). LinesBrokeOff rack [] shape first x z t u a s) (sym kept) (broke_off shape first from passed number x y z t u a b budget was told))
 
-  pub lines_cut : (shape : Shape) (first passed number : ℕ) (x y z t u v : Option (List ℕ)) (a b c : Array R) → passed ≤ 2 ^ 40 → SoFar rack shape first passed number x y t u a b
+  pub lines_cut : (shape : Shape) (first from passed number : ℕ) (x y z t u v : Option (List ℕ)) (a b c : Array R) → passed ≤ 2 ^ 40 → SoFar rack shape first from passed number x y t u a b
       → ServedLinePart rack shape (2 ^ 40 - passed) y z u v b c → shape_of c ≡ shape_of b → StillTold (rack.bytes (rack_of b)) (rack.bytes (rack_of c)) → LinesCut rack [] shape first x z t v a c
-  lines_cut shape first passed number x y z t u v a b c budget was line same tells =
+  lines_cut shape first from passed number x y z t u v a b c budget was line same tells =
       let es = was.events in
       let e = line.event in
       let rs = was.served.replies in
@@ -86,14 +89,14 @@ module _ {R : Type 0} (rack : Ghosts R) where
             t u v was.served.output line.answered.output;
       }
 
-  pub lines_cut_at : (shape here : Shape) (first passed number : ℕ) (x y z t u v : Option (List ℕ)) (a b c : Array R) → passed ≤ 2 ^ 40 → SoFar rack shape first passed number x y t u a b → here ≡ shape
+  pub lines_cut_at : (shape here : Shape) (first from passed number : ℕ) (x y z t u v : Option (List ℕ)) (a b c : Array R) → passed ≤ 2 ^ 40 → SoFar rack shape first from passed number x y t u a b → here ≡ shape
       → ServedLinePart rack here (2 ^ 40 - passed) y z u v b c → shape_of c ≡ shape_of b → StillTold (rack.bytes (rack_of b)) (rack.bytes (rack_of c)) → LinesCut rack [] shape first x z t v a c
-  lines_cut_at shape here first passed number x y z t u v a b c budget was is line same tells =
-      lines_cut shape first passed number x y z t u v a b c budget was (subst (λ (s : Shape). ServedLinePart rack s (2 ^ 40 - passed) y z u v b c) is line) same tells
+  lines_cut_at shape here first from passed number x y z t u v a b c budget was is line same tells =
+      lines_cut shape first from passed number x y z t u v a b c budget was (subst (λ (s : Shape). ServedLinePart rack s (2 ^ 40 - passed) y z u v b c) is line) same tells
 
-  lines_ran_out : (shape : Shape) (first passed number : ℕ) (x y z t u v : Option (List ℕ)) (a b c : Array R) → passed ≤ 2 ^ 40 → SoFar rack shape first passed number x y t u a b
-      → Told AreAny y z → v ≡ u → shape_of c ≡ shape_of b → StillTold (rack.bytes (rack_of b)) (rack.bytes (rack_of c)) → LinesRanOut rack [] shape first x z t v a c
-  lines_ran_out shape first passed number x y z t u v a b c budget was told kept same tells = record {
+  lines_ran_out : (shape : Shape) (first from passed number : ℕ) (x y z t u v : Option (List ℕ)) (a b c : Array R) → passed ≤ 2 ^ 40 → SoFar rack shape first from passed number x y t u a b
+      → Told AreAny y z → v ≡ u → shape_of c ≡ shape_of b → StillTold (rack.bytes (rack_of b)) (rack.bytes (rack_of c)) → LinesWanted rack [] shape first x z t v a c
+  lines_ran_out shape first from passed number x y z t u v a b c budget was told kept same tells = record {
     events = was.events;
     replies = was.served.replies;
     in_place = was.served.in_place;
@@ -110,14 +113,15 @@ module _ {R : Type 0} (rack : Ghosts R) where
   }
 
   -- the reply of the last line was written whole
-  ran_out_behind_reply : (shape : Shape) (first passed number : ℕ) (x y z t u v : Option (List ℕ)) (a b c : Array R) → passed ≤ 2 ^ 40 → SoFar rack shape first passed number x y t u a b
-      → WantedLine rack shape (2 ^ 40 - passed) y z u v b c → shape_of c ≡ shape_of b → StillTold (rack.bytes (rack_of b)) (rack.bytes (rack_of c)) → LinesRanOut rack [] shape first x z t v a c
-  ran_out_behind_reply shape first passed number x y z t u v a b c budget was line same tells =
+  ran_out_behind_reply : (shape : Shape) (first from passed number : ℕ) (x y z t u v : Option (List ℕ)) (a b c : Array R) → passed ≤ 2 ^ 40 → SoFar rack shape first from passed number x y t u a b
+      → (line : WantedLine rack shape (2 ^ 40 - passed) y z u v b c) → AnsweredBefore rack line.event u v b c → shape_of c ≡ shape_of b → StillTold (rack.bytes (rack_of b)) (rack.bytes (rack_of c))
+      → LinesWanted rack [] shape first x z t v a c
+  ran_out_behind_reply shape first from passed number x y z t u v a b c budget was line answered same tells =
       let es = was.events in
       let e = line.event in
       let rs = was.served.replies in
-      let r = line.answered.reply in
-      let runs = volume_runs_more rack a b c es rs e r was.served.runs line.answered.steps same tells in
+      let r = answered.reply in
+      let runs = volume_runs_more rack a b c es rs e r was.served.runs answered.steps same tells in
       let size = ap length (more_lines es e) in
       record {
         events = es ++ e ∷ [];
@@ -129,15 +133,52 @@ module _ {R : Type 0} (rack : Ghosts R) where
             let one = runs state st in
             (one.0, ap (λ (s : State). s.table.shape) one.1.is, one.2);
         input = starts_more (Some shape) es e x y z was.served.input line.input;
-        output = output_more rack rs r t u v was.served.output line.answered.output;
+        output = output_more rack rs r t u v was.served.output answered.output;
       }
 
-  pub lines_ran_out_at : (shape here : Shape) (first passed number : ℕ) (x y z t u v : Option (List ℕ)) (a b c : Array R) → passed ≤ 2 ^ 40 → SoFar rack shape first passed number x y t u a b → here ≡ shape
+  -- of the listing that the last line asks for the first entries were written
+  ran_out_in_listing : (shape : Shape) (first from passed number : ℕ) (x y z t u v : Option (List ℕ)) (a b c : Array R) → passed ≤ 2 ^ 40 → SoFar rack shape first from passed number x y t u a b
+      → (line : WantedLine rack shape (2 ^ 40 - passed) y z u v b c) → ListedBefore rack line.event u v b c → shape_of c ≡ shape_of b → StillTold (rack.bytes (rack_of b)) (rack.bytes (rack_of c))
+      → LinesListed rack [] shape first x z t v a c
+  ran_out_in_listing shape first from passed number x y z t u v a b c budget was line listed same tells =
+      let es = was.events in
+      let rs = was.served.replies in
+      let r = Nodes (listed.entries ++ listed.others) in
+      let steps = subst (λ (e : Event). VolumeStepsTo rack b e r c) listed.is listed.steps in
+      let within = subst (λ (e : Event). length (line_of e) ≤ 2 ^ 40 - passed) listed.is line.within in
+      let input = subst (λ (e : Event). Told (StartsWith (line_of e)) y z) listed.is line.input in
+      let runs = volume_runs_more rack a b c es rs Tree r was.served.runs steps same tells in
+      let size = ap length (more_lines es Tree) in
+      record {
+        events = es;
+        replies = rs;
+        entries = listed.entries;
+        others = listed.others;
+        in_place = All-append (IsInPlace (Some shape)) es (Tree ∷ []) was.served.in_place (All-one (IsInPlace (Some shape)) Tree tt);
+        done = All-append (λ (event : Event). is_served event ≡ true) es (Tree ∷ []) was.served.done (All-one (λ (event : Event). is_served event ≡ true) Tree refl);
+        budget = omega (arith, size, length-append (input_of es) (line_of Tree), was.passed_is, within);
+        runs = λ state st.
+            let one = runs state st in
+            (one.0, ap (λ (s : State). s.table.shape) one.1.is, one.2);
+        input = starts_more (Some shape) es Tree x y z was.served.input input;
+        output = took_both (output_of rs) (nodes_text listed.entries) t u v was.served.output listed.output;
+      }
+
+  ran_out_by : (shape : Shape) (first from passed number : ℕ) (x y z t u v : Option (List ℕ)) (a b c : Array R) → passed ≤ 2 ^ 40 → SoFar rack shape first from passed number x y t u a b
+      → (line : WantedLine rack shape (2 ^ 40 - passed) y z u v b c) → AnsweredBefore rack line.event u v b c ⊎ ListedBefore rack line.event u v b c
+      → shape_of c ≡ shape_of b → StillTold (rack.bytes (rack_of b)) (rack.bytes (rack_of c)) → LinesRanOut rack [] shape first x z t v a c
+  ran_out_by shape first from passed number x y z t u v a b c budget was line (inl answered) same tells =
+      inl (ran_out_behind_reply shape first from passed number x y z t u v a b c budget was line answered same tells)
+  ran_out_by shape first from passed number x y z t u v a b c budget was line (inr listed) same tells =
+      inr (ran_out_in_listing shape first from passed number x y z t u v a b c budget was line listed same tells)
+
+  pub lines_ran_out_at : (shape here : Shape) (first from passed number : ℕ) (x y z t u v : Option (List ℕ)) (a b c : Array R) → passed ≤ 2 ^ 40 → SoFar rack shape first from passed number x y t u a b → here ≡ shape
       → RanOutAt rack here (2 ^ 40 - passed) y z u v b c → shape_of c ≡ shape_of b → StillTold (rack.bytes (rack_of b)) (rack.bytes (rack_of c)) → LinesRanOut rack [] shape first x z t v a c
-  lines_ran_out_at shape here first passed number x y z t u v a b c budget was is (inl none) same tells =
-      lines_ran_out shape first passed number x y z t u v a b c budget was none.0 none.1 same tells
-  lines_ran_out_at shape here first passed number x y z t u v a b c budget was is (inr line) same tells =
-      ran_out_behind_reply shape first passed number x y z t u v a b c budget was (subst (λ (s : Shape). WantedLine rack s (2 ^ 40 - passed) y z u v b c) is line) same tells
+  lines_ran_out_at shape here first from passed number x y z t u v a b c budget was is (inl none) same tells =
+      inl (lines_ran_out shape first from passed number x y z t u v a b c budget was none.0 none.1 same tells)
+  lines_ran_out_at shape here first from passed number x y z t u v a b c budget was is (inr line) same tells =
+      let wanted = subst (λ (s : Shape). WantedLine rack s (2 ^ 40 - passed) y z u v b c) is line in
+      ran_out_by shape first from passed number x y z t u v a b c budget was wanted wanted.answered same tells
 
   -- memory was wanting for the event of a line that was taken
   pub ran_out_of : (shape : Shape) (room : ℕ) (event : Event) (unread : List ℕ) (left rest taken given : Option (List ℕ)) (old now : Array R) → IsInPlace (Some shape) event → is_served event ≡ true
@@ -188,8 +229,8 @@ module _ {R : Type 0} (rack : Ghosts R) where
             }) t m v wrote lines.output;
       }
 
-  pub ran_out_behind : (front : List ℕ) (shape : Shape) (first : ℕ) (x z t m v : Option (List ℕ)) (a b : Array R) → Told (Took front) t m → LinesRanOut rack [] shape first x z m v a b → LinesRanOut rack front shape first x z t v a b
-  ran_out_behind front shape first x z t m v a b wrote lines = record {
+  wanted_behind : (front : List ℕ) (shape : Shape) (first : ℕ) (x z t m v : Option (List ℕ)) (a b : Array R) → Told (Took front) t m → LinesWanted rack [] shape first x z m v a b → LinesWanted rack front shape first x z t v a b
+  wanted_behind front shape first x z t m v a b wrote lines = record {
     events = lines.events;
     replies = lines.replies;
     in_place = lines.in_place;
@@ -197,6 +238,23 @@ module _ {R : Type 0} (rack : Ghosts R) where
     budget = lines.budget;
     runs = lines.runs;
     input = lines.input;
-    output = Told-then (Took front) (Took (output_of lines.replies)) (Took (front ++ output_of lines.replies))
-        (λ p q o f s. s ∙ ap (λ (l : List ℕ). l ++ output_of lines.replies) f ∙ append_assoc p front (output_of lines.replies)) t m v wrote lines.output;
+    output = took_both front (output_of lines.replies) t m v wrote lines.output;
   }
+
+  listed_behind : (front : List ℕ) (shape : Shape) (first : ℕ) (x z t m v : Option (List ℕ)) (a b : Array R) → Told (Took front) t m → LinesListed rack [] shape first x z m v a b → LinesListed rack front shape first x z t v a b
+  listed_behind front shape first x z t m v a b wrote lines = record {
+    events = lines.events;
+    replies = lines.replies;
+    entries = lines.entries;
+    others = lines.others;
+    in_place = lines.in_place;
+    done = lines.done;
+    budget = lines.budget;
+    runs = lines.runs;
+    input = lines.input;
+    output = took_both front (output_of lines.replies ++ nodes_text lines.entries) t m v wrote lines.output;
+  }
+
+  pub ran_out_behind : (front : List ℕ) (shape : Shape) (first : ℕ) (x z t m v : Option (List ℕ)) (a b : Array R) → Told (Took front) t m → LinesRanOut rack [] shape first x z m v a b → LinesRanOut rack front shape first x z t v a b
+  ran_out_behind front shape first x z t m v a b wrote (inl lines) = inl (wanted_behind front shape first x z t m v a b wrote lines)
+  ran_out_behind front shape first x z t m v a b wrote (inr lines) = inr (listed_behind front shape first x z t m v a b wrote lines)

@@ -7,23 +7,18 @@ use Rattle.dg_io.specs.Told.{AreAny, Told, Took, TookPart}
 use Rattle.dg_io.specs.declared.outside.Rack.{Ghosts}
 use Rattle.dg_model.proofs.KnownLaws.{run_less}
 use Rattle.dg_model.specs.Shapes.{IsShape}
-use Rattle.dg_model.specs.States.{Counts}
+use Rattle.dg_model.specs.States.{Counts, State}
 use Rattle.dg_model.specs.declared.shapes.Shape.{Shape}
 use Rattle.dg_model.specs.declared.events.Event.{Event}
-use Rattle.dg_model.specs.declared.events.Event.TheVariants.{Array as MakeArray}
-use Rattle.dg_model.specs.declared.replies.Reply.TheVariants.{Done}
+use Rattle.dg_model.specs.declared.events.Event.TheVariants.{Array as MakeArray, Tree}
+use Rattle.dg_model.specs.declared.replies.Reply.TheVariants.{Done, Nodes}
 use Rattle.dg_run.specs.declared.arrays.Array.{Array}
 use Rattle.dg_text.specs.Lines.{line_of, input_of, IsInPlace}
-use Rattle.dg_text.specs.Replies.{reply_line, output_of, refusal}
-use Rattle.dg_words.specs.Commands.{Gives, IsCommand}
-use Rattle.dg_words.specs.declared.commands.Command.{Command}
-use Rattle.dg_words.specs.declared.commands.Command.TheVariants.{Replay}
-use Rattle.dg_words.specs.declared.commands.WordsRefused.{WordsRefused}
-use Rattle.dg_words.specs.declared.commands.WordsRefused.TheVariants.{Usage, NoMemory}
+use Rattle.dg_text.specs.Replies.{nodes_text, output_of, refusal, reply_line}
 use Rattle.dg_run.specs.Arrays.{AnsweredToPart, ArrayCut, ArrayRanOut}
-use Rattle.dg_run.specs.Endings.{GaveLines, LinesBrokeOff, LinesCut, StartsWith, TookUpTo}
+use Rattle.dg_run.specs.Endings.{GaveLines, LinesBrokeOff, LinesCut, LinesListed, LinesWanted, StartsWith, TookUpTo}
 use Rattle.dg_run.specs.Events.{Begins}
-use Rattle.dg_run.specs.Replays.{BrokeOff, CutRefusal, CutReply, IsCut, IsReplay, RanOut, StopsAt, TellsBoundaries}
+use Rattle.dg_run.specs.Replays.{BrokeOff, CutRefusal, CutReply, IsCut, RanOut, RanOutBetween, RanOutWithin, StopsAt, TellsBoundaries}
 use Rattle.dg_run.specs.Steps.{IsBlankArray, Tells, VolumeRunsTo, rack_of, shape_of}
 use Rattle.dg_run.proofs.Runs.{volume_runs}
 use Rattle.dg_run.proofs.ToldSteps.{Told-each, Told-refl, Told-then}
@@ -40,18 +35,22 @@ starts_more shape events text left rest line told = Told-then (Begins None (Make
 }) text left rest line told
 
 -- a text was written, and then a part of another
-up_to : (text part : List ℕ) (x m z : Option (List ℕ)) → Told (Took text) x m → Told (TookPart part) m z → Told (TookUpTo text part) x z
+pub up_to : (text part : List ℕ) (x m z : Option (List ℕ)) → Told (Took text) x m → Told (TookPart part) m z → Told (TookUpTo text part) x z
 up_to text part x m z wrote cut = Told-then (Took text) (TookPart part) (TookUpTo text part) (λ p q o f s. record {
   n = s.0;
   is = s.1 ∙ ap (λ (l : List ℕ). l ++ take s.0 part) f ∙ append_assoc p text (take s.0 part);
 }) x m z wrote cut
+
+-- the answer to the first line, and then others and a listing
+took_again : (out text : List ℕ) (x y : Option (List ℕ)) → Told (Took (reply_line Done ++ (out ++ text))) x y → Told (Took ((reply_line Done ++ out) ++ text)) x y
+took_again out text x y told = subst (λ (l : List ℕ). Told (Took l) x y) (sym (append_assoc (reply_line Done) out text)) told
 
 -- ---- nothing was done
 
 pub ran_out_first : (before : Counts) (bytes : ℕ → Option (List ℕ)) (x z t v : Option (List ℕ)) → Told AreAny x z → v ≡ t → RanOut before bytes x z t v
 ran_out_first before bytes x z t v told same =
     let none = ran_nothing before bytes in
-    record {
+    inl (record {
       events = [];
       replies = [];
       in_place = none.in_place;
@@ -61,7 +60,7 @@ ran_out_first before bytes x z t v told same =
       trace = none.trace;
       input = any_starts x z told;
       output = subst (λ (o : Option (List ℕ)). Told (Took []) t o) (sym same) (Told-refl (Took []) (λ b. sym (append-nil b)) t);
-    }
+    })
 
 pub broke_off_first : (now : Counts) (bytes : ℕ → Option (List ℕ)) (x z t v : Option (List ℕ)) → Told (GaveLines []) x z → v ≡ t → BrokeOff now now bytes x z t v
 broke_off_first now bytes x z t v told same = record {
@@ -142,14 +141,15 @@ module _ {R : Type 0} (ghosts : Ghosts R) (shape : Shape) (first : ℕ) (rack : 
   array_cut unread text left rest taken given small line (inr (inl lines)) = inl (last_cut text left rest taken given line lines)
   array_cut unread text left rest taken given small line (inr (inr to)) = inr (refusal_cut unread text left rest taken given line to)
 
-  pub array_ran_out : (text left rest taken given : Option (List ℕ)) → Told (Begins None (MakeArray shape)) text left → ArrayRanOut ghosts first left rest taken given a b
-      → RanOut (ghosts.counts rack) (ghosts.bytes (rack_of b)) text rest taken given
-  array_ran_out text left rest taken given line (inl none) =
-      ran_out_first (ghosts.counts rack) (ghosts.bytes (rack_of b)) text rest taken given (Told-then (Begins None (MakeArray shape)) AreAny AreAny (λ p q r f s. tt) text left rest line none.1) none.0
-  array_ran_out text left rest taken given line (inr lines) =
+  -- what is known of the final state
+  told_in : (final : State) → final.table.shape ≡ shape_of b → TellsBoundaries (ghosts.bytes (rack_of b)) final → Tells ghosts b
+  told_in final is told q below = told q (subst (λ (n : ℕ). q / 2 < n) (sym (ap (λ (s : Shape). s.b) is)) below)
+
+  lines_wanted : (text left rest taken given : Option (List ℕ)) → Told (Begins None (MakeArray shape)) text left → LinesWanted ghosts (reply_line Done) (shape_of a) first left rest taken given a b
+      → RanOutBetween (ghosts.counts rack) (ghosts.bytes (rack_of b)) text rest taken given
+  lines_wanted text left rest taken given line lines =
       let W = lines.runs blank.state blank.stands in
       let final = W.0 in
-      let known : TellsBoundaries (ghosts.bytes (rack_of b)) final → Tells ghosts b = λ told q below. told q (subst (λ (n : ℕ). q / 2 < n) (sym (ap (λ (s : Shape). s.b) W.1)) below) in
       record {
         events = MakeArray shape ∷ lines.events;
         replies = Done ∷ lines.replies;
@@ -157,20 +157,40 @@ module _ {R : Type 0} (ghosts : Ghosts R) (shape : Shape) (first : ℕ) (rack : 
         done = array_served shape lines.events lines.done;
         budget = omega (arith, length-append (line_of (MakeArray shape)) (input_of lines.events), lines.budget, is);
         final = final;
-        trace = (blank.state, blank.blank, run_less known blank.state lines.events lines.replies final W.2);
+        trace = (blank.state, blank.blank, run_less (told_in final W.1) blank.state lines.events lines.replies final W.2);
         input = starts_more shape lines.events text left rest line lines.input;
         output = lines.output;
       }
+
+  lines_listed : (text left rest taken given : Option (List ℕ)) → Told (Begins None (MakeArray shape)) text left → LinesListed ghosts (reply_line Done) (shape_of a) first left rest taken given a b
+      → RanOutWithin (ghosts.counts rack) (ghosts.bytes (rack_of b)) text rest taken given
+  lines_listed text left rest taken given line lines =
+      let events = lines.events ++ Tree ∷ [] in
+      let replies = lines.replies ++ Nodes (lines.entries ++ lines.others) ∷ [] in
+      let W = lines.runs blank.state blank.stands in
+      let final = W.0 in
+      record {
+        events = MakeArray shape ∷ lines.events;
+        replies = Done ∷ lines.replies;
+        entries = lines.entries;
+        others = lines.others;
+        in_place = (well, subst (λ (s : Shape). All (IsInPlace (Some s)) events) (same_shape ghosts shape first rack a b is well blank) lines.in_place);
+        done = array_served shape events lines.done;
+        budget = omega (arith, length-append (line_of (MakeArray shape)) (input_of events), lines.budget, is);
+        final = final;
+        trace = (blank.state, blank.blank, run_less (told_in final W.1) blank.state events replies final W.2);
+        input = starts_more shape events text left rest line lines.input;
+        output = took_again (output_of lines.replies) (nodes_text lines.entries) taken given lines.output;
+      }
+
+  pub array_ran_out : (text left rest taken given : Option (List ℕ)) → Told (Begins None (MakeArray shape)) text left → ArrayRanOut ghosts first left rest taken given a b
+      → RanOut (ghosts.counts rack) (ghosts.bytes (rack_of b)) text rest taken given
+  array_ran_out text left rest taken given line (inl none) =
+      ran_out_first (ghosts.counts rack) (ghosts.bytes (rack_of b)) text rest taken given (Told-then (Begins None (MakeArray shape)) AreAny AreAny (λ p q r f s. tt) text left rest line none.1) none.0
+  array_ran_out text left rest taken given line (inr (inl lines)) = inl (lines_wanted text left rest taken given line lines)
+  array_ran_out text left rest taken given line (inr (inr lines)) = inr (lines_listed text left rest taken given line lines)
 
 -- a fresh buffer has nothing ahead of its source
 pub fresh_is : (unread : List ℕ) (left : Option (List ℕ)) → unread ≡ [] → option_map (λ more. unread ++ more) left ≡ left
 fresh_is unread None fresh = refl
 fresh_is unread (Some a) fresh = ap (λ (l : List ℕ). Some (l ++ a)) fresh
-
-refused_not : (result : Result Command WordsRefused) → result ≡ Err Usage → Gives result Replay → ⊥
-refused_not result refused (inl given) = let e : Err Usage ≡ Ok Replay = sym refused ∙ given in absurd (cc e)
-refused_not result refused (inr memory) = let e : Err Usage ≡ Err NoMemory = sym refused ∙ memory in absurd (cc e)
-
--- the words of a replay aren't refused
-pub replay_is_built : (words : List (List ℕ)) (result : Result Command WordsRefused) → ((c : Command) → IsCommand words c → Gives result c) → result ≡ Err Usage → IsReplay words → ⊥
-replay_is_built words result exact refused is = refused_not result refused (exact Replay (record { written = is; values = tt }))

@@ -2,9 +2,11 @@
 use Rattle.std.proofs.Common.{◌≡◌, ℕ, List, refl, subst}
 use Rattle.std.specs.Prelude.{Some}
 use Rattle.dg_model.specs.declared.replies.Reply.{Reply}
-use Rattle.dg_model.specs.declared.replies.Reply.TheVariants.{Refused, Unavailable as ReplyUnavailable}
+use Rattle.dg_model.specs.declared.replies.Reply.TheVariants.{NotSettled, Refused, Unavailable as ReplyUnavailable}
 use Rattle.dg_run.specs.Paths.{reply_at}
-use Rattle.dg_volume.specs.Replies.{AnswersCat, AnswersLs}
+use Rattle.dg_volume.specs.Replies.{AnswersCat, AnswersLs, AnswersTree, AnswersTreeAny}
+use Rattle.dg_volume.specs.declared.settled_paths.TreeAnswer.{TreeAnswer}
+use Rattle.dg_volume.specs.declared.settled_paths.TreeAnswer.TheVariants.{Is as TreeIs, NotSettled as TreeNotSettled}
 use Rattle.ufs_model.specs.Listings.{Listed}
 use Rattle.ufs_model.specs.declared.reads.PathRefusal.TheVariants.{NotFound as RefusedNotFound, NotDirectory as RefusedNotDirectory, NotRegular as RefusedNotRegular, Bad as RefusedBad}
 use Rattle.ufs_path.specs.declared.faults.CatAnswer.{CatAnswer}
@@ -79,3 +81,36 @@ ls_nothing took took_part faults old new holds NotRegular has rule =
     (rule.0, subst holds same rule.1)
 ls_nothing took took_part faults old new holds (AnswerCut n) has rule = let is = has.is in absurd (cc is)
 ls_nothing took took_part faults old new holds SinkFault has rule = let is = has.is in absurd (cc is)
+
+-- and of all directories
+pub tree_nothing : {S : Type 0} (took took_part : S → List Listed → S → Type 0) (faults : S → ℕ) (old new : S) (holds : Reply → Type 0) (answer : CatAnswer)
+    → (has : HasReply answer) → AnswersTree took took_part faults old new holds answer → (new ≡ old) × holds has.reply
+tree_nothing took took_part faults old new holds (AnswerGiven n) has rule = let is = has.is in absurd (cc is)
+tree_nothing took took_part faults old new holds NotFound has rule =
+    let is = has.is in
+    let same : Refused RefusedNotFound ≡ has.reply = cc is in
+    (rule.0, subst holds same rule.1)
+tree_nothing took took_part faults old new holds NotDirectory has rule =
+    let is = has.is in
+    let same : Refused RefusedNotDirectory ≡ has.reply = cc is in
+    (rule.0, subst holds same rule.1)
+tree_nothing took took_part faults old new holds (Bad bad) has rule =
+    let is = has.is in
+    let same : Refused (RefusedBad bad) ≡ has.reply = cc is in
+    (rule.0, subst holds same rule.1)
+tree_nothing took took_part faults old new holds Unavailable has rule =
+    let is = has.is in
+    let same : ReplyUnavailable ≡ has.reply = cc is in
+    (rule.0, subst holds same rule.1)
+tree_nothing took took_part faults old new holds NotRegular has rule =
+    let is = has.is in
+    let same : Refused RefusedNotRegular ≡ has.reply = cc is in
+    (rule.0, subst holds same rule.1)
+tree_nothing took took_part faults old new holds (AnswerCut n) has rule = let is = has.is in absurd (cc is)
+tree_nothing took took_part faults old new holds SinkFault has rule = let is = has.is in absurd (cc is)
+
+-- a volume that isn't settled
+pub loose_tree : {S : Type 0} (took took_part : S → List Listed → S → Type 0) (faults : S → ℕ) (old new : S) (holds : Reply → Type 0) (told : TreeAnswer)
+    → ((answer : CatAnswer) → told ≡ TreeIs answer → ⊥) → AnswersTreeAny took took_part faults old new holds told → (new ≡ old) × holds NotSettled
+loose_tree took took_part faults old new holds (TreeIs answer) other rule = absurd (other answer refl)
+loose_tree took took_part faults old new holds TreeNotSettled other rule = rule

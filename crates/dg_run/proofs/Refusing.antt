@@ -1,14 +1,13 @@
 -- By which kind a text is refused where it stands.
 use Rattle.std.proofs.Common.{◌≡◌, ◌≢◌, ◌≤◌, ◌<◌, ◌+◌, ◌++◌, ◌∷◌, [], ℕ, zero, suc, List, length, take, refl, sym, ◌∙◌, ap, ap₂, subst, arith, append_assoc, length-append, inl, inr, false}
 use Rattle.std.specs.Prelude.{◌⊎◌, Option, None, Result, Ok, Err, IfErr, IfOk, Contains}
-use Rattle.std.proofs.lemmas.Bool.{false≢true}
 use Rattle.std.proofs.lemmas.List.Elements.{All-contains, All-take}
 use Rattle.dg_model.specs.declared.shapes.Shape.{Shape}
 use Rattle.dg_model.specs.declared.events.Event.{Event}
 use Rattle.dg_text.specs.Lines.{IsInPlace, line_of, longest, spelling}
-use Rattle.dg_text.specs.Refusals.{Fits, IsFirst, IsRefused as IsRefusedLine, Reads}
+use Rattle.dg_text.specs.Refusals.{Fits, IsFirst, IsRefused as IsRefusedLine}
 use Rattle.dg_text.specs.declared.lines.BadLine.{BadLine}
-use Rattle.dg_text.specs.declared.lines.BadLine.TheVariants.{Long, Size, Cut, Word, Order, Form, Number, Limits, Hex, Path, Later}
+use Rattle.dg_text.specs.declared.lines.BadLine.TheVariants.{Long, Size, Cut, Word, Order, Form, Number, Limits, Hex, Path}
 use Rattle.dg_run.specs.Bytes.{HasNoLineFeed}
 use Rattle.dg_run.specs.Events.{IsRefused}
 use Rattle.dg_run.specs.Inputs.{IsCutOff, IsFull}
@@ -24,20 +23,9 @@ abbrev NoneOf : (BadLine → Type 0) → List BadLine → Type 0
 NoneOf fits [] = Unit {0}
 NoneOf fits (kind ∷ more) = (fits kind → ⊥) × NoneOf fits more
 
-none_of : (fits : BadLine → Type 0) (list : List BadLine) → ((kind : BadLine) → IsFirst fits list kind → ⊥) → NoneOf fits list
-none_of fits [] none = tt
-none_of fits (x ∷ more) none =
-    let first : fits x → ⊥ = λ fit. none x (inl (refl, fit)) in
-    (first, none_of fits more (λ kind rest. none kind (inr (first, rest))))
-
 first_behind : (fits : BadLine → Type 0) (front back : List BadLine) (kind : BadLine) → NoneOf fits front → IsFirst fits back kind → IsFirst fits (front ++ back) kind
 first_behind fits [] back kind none first = first
 first_behind fits (x ∷ more) back kind none first = inr (none.0, first_behind fits more back kind none.1 first)
-
-first_in_front : (fits : BadLine → Type 0) (front back : List BadLine) (kind : BadLine) → IsFirst fits front kind → IsFirst fits (front ++ back) kind
-first_in_front fits [] back kind first = absurd first
-first_in_front fits (x ∷ more) back kind (inl here) = inl here
-first_in_front fits (x ∷ more) back kind (inr rest) = inr (rest.0, first_in_front fits more back kind rest.1)
 
 -- two tests agree on these kinds
 abbrev Agree : (BadLine → Type 0) → (BadLine → Type 0) → List BadLine → Type 0
@@ -48,10 +36,6 @@ first_by : (f g : BadLine → Type 0) (list : List BadLine) (kind : BadLine) →
 first_by f g [] kind same first = absurd first
 first_by f g (x ∷ more) kind same (inl here) = inl (here.0, same.0.0 here.1)
 first_by f g (x ∷ more) kind same (inr rest) = inr (λ fit. rest.0 (same.0.1 fit), first_by f g more kind same.1 rest.1)
-
-none_by : (f g : BadLine → Type 0) (list : List BadLine) → Agree f g list → NoneOf f list → NoneOf g list
-none_by f g [] same none = tt
-none_by f g (x ∷ more) same none = (λ fit. none.0 (same.0.1 fit), none_by f g more same.1 none.1)
 
 -- ---- the line that a text begins with
 
@@ -139,19 +123,8 @@ module _ (shape : Option Shape) (room : ℕ) (line after : List ℕ) (none : Has
 
   by_words : length line + 1 ≤ longest shape → length line + 1 ≤ room → (kind : BadLine) → IsRefusedLine shape line kind → IsRefusedBy shape room (line ++ 10 ∷ after) kind
   by_words short within kind refused =
-      first_behind (FitsAt shape room (line ++ 10 ∷ after)) (Long ∷ Size ∷ Cut ∷ []) (kinds_of_words ++ Later ∷ []) kind (none_before short within)
-      (first_in_front (FitsAt shape room (line ++ 10 ∷ after)) kinds_of_words (Later ∷ []) kind (first_by (Fits shape line) (FitsAt shape room (line ++ 10 ∷ after)) kinds_of_words kind agree refused))
-
-  abbrev OneReading : Type 0
-  OneReading = (one other : Result Event BadLine) → Reads shape line one → Reads shape line other → one ≡ other
-
-  by_later : length line + 1 ≤ longest shape → length line + 1 ≤ room → OneReading → (event : Event) → IsInPlace shape event → line ≡ spelling event → is_served event ≡ false
-      → IsRefusedBy shape room (line ++ 10 ∷ after) Later
-  by_later short within law event placed spelled later =
-      let none_fits : NoneOf (Fits shape line) kinds_of_words = none_of (Fits shape line) kinds_of_words (λ kind first. let e : Ok event ≡ Err kind = law (Ok event) (Err kind) (placed, spelled) first in absurd (cc e)) in
-      first_behind (FitsAt shape room (line ++ 10 ∷ after)) (Long ∷ Size ∷ Cut ∷ []) (kinds_of_words ++ Later ∷ []) Later (none_before short within)
-      (first_behind (FitsAt shape room (line ++ 10 ∷ after)) kinds_of_words (Later ∷ []) Later (none_by (Fits shape line) (FitsAt shape room (line ++ 10 ∷ after)) kinds_of_words agree none_fits)
-      (inl (refl, (line, here, record { event = event; in_place = placed; spelled = spelled; later = later }))))
+      first_behind (FitsAt shape room (line ++ 10 ∷ after)) (Long ∷ Size ∷ Cut ∷ []) kinds_of_words kind (none_before short within)
+      (first_by (Fits shape line) (FitsAt shape room (line ++ 10 ∷ after)) kinds_of_words kind agree refused)
 
   by_size : length line + 1 ≤ longest shape → room < length line + 1 → IsRefusedBy shape room (line ++ 10 ∷ after) Size
   by_size short past =
@@ -193,18 +166,6 @@ module _ (shape : Option Shape) (room : ℕ) (line after : List ℕ) (none : Has
     some = text_some;
     by_kind = by_words short within kind refused;
     none = λ event tail placed served same. let e : Err kind ≡ Ok event = sym is ∙ exact event after tail placed lacks same in absurd (cc e);
-  }
-
-  pub refused_later : length line + 1 ≤ longest shape → length line + 1 ≤ room → OneReading → (event : Event) (result : Result Event BadLine) → result ≡ Ok event → IsInPlace shape event → line ≡ spelling event → is_served event ≡ false
-      → ((other : Event) (more tail : List ℕ) → IsInPlace shape other → (Contains line 10 → ⊥) → line ++ 10 ∷ more ≡ line_of other ++ tail → result ≡ Ok other)
-      → IsRefused shape room (line ++ 10 ∷ after) Later
-  refused_later short within law event result is placed spelled later exact = record {
-    some = text_some;
-    by_kind = by_later short within law event placed spelled later;
-    none = λ other tail here served same.
-        let e : Ok event ≡ Ok other = sym is ∙ exact other after tail here lacks same in
-        let events : event ≡ other = cc e in
-        absurd (false≢true (sym later ∙ ap is_served events ∙ served));
   }
 
 -- ---- bytes without a line feed

@@ -75,20 +75,20 @@ module _ {R : Type 0} (rack : Ghosts R) where
     runs = runs_more a b c es was.replies line.event line.answered.reply was.runs line.answered.steps same tells;
   }
 
--- lines so far: of so many bytes behind a first line, the next one with this number
-pub record SoFar {R : Type 0} (rack : Ghosts R) (shape : Shape) (first passed number : ℕ) (left rest taken given : Option (List ℕ)) (old new : Array R) : Type 0 where
+-- lines so far, the first of them with the number `from`: of so many bytes behind a line, the next one with this number
+pub record SoFar {R : Type 0} (rack : Ghosts R) (shape : Shape) (first from passed number : ℕ) (left rest taken given : Option (List ℕ)) (old new : Array R) : Type 0 where
   pub events : List Event
   pub served : Served rack shape events left rest taken given old new
   pub passed_is : passed ≡ first + length (input_of events)
-  pub number_is : number ≡ length events + 2
+  pub number_is : number ≡ length events + from
 
 module _ {R : Type 0} (rack : Ghosts R) where
-  pub so_far_none : (shape : Shape) (first : ℕ) (left taken : Option (List ℕ)) (store : Array R) → SoFar rack shape first first 2 left left taken taken store store
-  so_far_none shape first left taken store = record { events = []; served = served_none rack shape left taken store; passed_is = omega arith; number_is = refl }
+  pub so_far_none : (shape : Shape) (first from : ℕ) (left taken : Option (List ℕ)) (store : Array R) → SoFar rack shape first from first from left left taken taken store store
+  so_far_none shape first from left taken store = record { events = []; served = served_none rack shape left taken store; passed_is = omega arith; number_is = omega arith }
 
-  pub so_far_more : (shape : Shape) (first passed number room n : ℕ) (x y z t u v : Option (List ℕ)) (a b c : Array R) → SoFar rack shape first passed number x y t u a b → ServedLine rack shape room n y z u v b c → shape_of c ≡ shape_of b → StillTold (rack.bytes (rack_of b)) (rack.bytes (rack_of c))
-      → SoFar rack shape first (passed + n) (number + 1) x z t v a c
-  so_far_more shape first passed number room n x y z t u v a b c was line same tells =
+  pub so_far_more : (shape : Shape) (first from passed number room n : ℕ) (x y z t u v : Option (List ℕ)) (a b c : Array R) → SoFar rack shape first from passed number x y t u a b → ServedLine rack shape room n y z u v b c → shape_of c ≡ shape_of b → StillTold (rack.bytes (rack_of b)) (rack.bytes (rack_of c))
+      → SoFar rack shape first from (passed + n) (number + 1) x z t v a c
+  so_far_more shape first from passed number room n x y z t u v a b c was line same tells =
       let text : input_of (was.events ++ line.event ∷ []) ≡ input_of was.events ++ line_of line.event = flat_map-append line_of was.events (line.event ∷ []) ∙ ap (λ (l : List ℕ). input_of was.events ++ l) (append-nil (line_of line.event)) in
       let size = ap length text in
       record {
@@ -98,14 +98,14 @@ module _ {R : Type 0} (rack : Ghosts R) where
         number_is = omega (arith, length-append was.events (line.event ∷ []), was.number_is);
       }
 
-  pub so_far_next : (shape here : Shape) (first passed number room n : ℕ) (x y z t u v : Option (List ℕ)) (a b c : Array R) → here ≡ shape → SoFar rack shape first passed number x y t u a b → ServedLine rack here room n y z u v b c → shape_of c ≡ shape_of b → StillTold (rack.bytes (rack_of b)) (rack.bytes (rack_of c))
-      → SoFar rack shape first (passed + n) (number + 1) x z t v a c
-  so_far_next shape here first passed number room n x y z t u v a b c is was line same tells =
-      so_far_more shape first passed number room n x y z t u v a b c was (subst (λ (s : Shape). ServedLine rack s room n y z u v b c) is line) same tells
+  pub so_far_next : (shape here : Shape) (first from passed number room n : ℕ) (x y z t u v : Option (List ℕ)) (a b c : Array R) → here ≡ shape → SoFar rack shape first from passed number x y t u a b → ServedLine rack here room n y z u v b c → shape_of c ≡ shape_of b → StillTold (rack.bytes (rack_of b)) (rack.bytes (rack_of c))
+      → SoFar rack shape first from (passed + n) (number + 1) x z t v a c
+  so_far_next shape here first from passed number room n x y z t u v a b c is was line same tells =
+      so_far_more shape first from passed number room n x y z t u v a b c was (subst (λ (s : Shape). ServedLine rack s room n y z u v b c) is line) same tells
 
   -- the input is at its end
-  pub all_served : (shape : Shape) (first passed number : ℕ) (x y z t u : Option (List ℕ)) (a b : Array R) → passed ≤ 2 ^ 40 → SoFar rack shape first passed number x y t u a b → Told (λ before after. (before ≡ []) × (after ≡ [])) y z → AllServed rack shape first x z t u a b
-  all_served shape first passed number x y z t u a b budget was end = record {
+  pub all_served : (shape : Shape) (first from passed number : ℕ) (x y z t u : Option (List ℕ)) (a b : Array R) → passed ≤ 2 ^ 40 → SoFar rack shape first from passed number x y t u a b → Told (λ before after. (before ≡ []) × (after ≡ [])) y z → AllServed rack shape first x z t u a b
+  all_served shape first from passed number x y z t u a b budget was end = record {
     events = was.events;
     served = record {
       replies = was.served.replies;
@@ -120,8 +120,8 @@ module _ {R : Type 0} (rack : Ghosts R) where
   }
 
   -- the next line is refused
-  pub served_to : (shape : Shape) (first passed number : ℕ) (kind : BadLine) (x y z t u : Option (List ℕ)) (a b : Array R) → passed ≤ 2 ^ 40 → SoFar rack shape first passed number x y t u a b → Told (λ before after. IsRefused (Some shape) (2 ^ 40 - passed) before kind) y z → ServedTo rack shape first number kind x z t u a b
-  served_to shape first passed number kind x y z t u a b budget was refused = record {
+  pub served_to : (shape : Shape) (first from passed number : ℕ) (kind : BadLine) (x y z t u : Option (List ℕ)) (a b : Array R) → passed ≤ 2 ^ 40 → SoFar rack shape first from passed number x y t u a b → Told (λ before after. IsRefused (Some shape) (2 ^ 40 - passed) before kind) y z → ServedTo rack shape first from number kind x z t u a b
+  served_to shape first from passed number kind x y z t u a b budget was refused = record {
     events = was.events;
     middle = y;
     served = was.served;
@@ -142,11 +142,11 @@ module _ {R : Type 0} (rack : Ghosts R) where
   turned_served room n y z u v b c turn_end is turned = absurd (cc is)
   turned_served room n y z u v b c (turn_refused kind) is turned = absurd (cc is)
 
-  pub lines_end : (shape : Shape) (first passed number room : ℕ) (x y z t u v : Option (List ℕ)) (a b c : Array R) (turn : Turn) → turn ≡ turn_end → Turned rack room y z u v b c turn → passed ≤ 2 ^ 40 → SoFar rack shape first passed number x y t u a b → AllServed rack shape first x z t v a c
-  lines_end shape first passed number room x y z t u v a b c turn is turned budget was =
+  pub lines_end : (shape : Shape) (first from passed number room : ℕ) (x y z t u v : Option (List ℕ)) (a b c : Array R) (turn : Turn) → turn ≡ turn_end → Turned rack room y z u v b c turn → passed ≤ 2 ^ 40 → SoFar rack shape first from passed number x y t u a b → AllServed rack shape first x z t v a c
+  lines_end shape first from passed number room x y z t u v a b c turn is turned budget was =
       let end = turned_end room y z u v b c turn is turned in
       subst (λ (o : Option (List ℕ)). AllServed rack shape first x z t o a c) (sym end.1)
-      (subst (λ (s : Array R). AllServed rack shape first x z t u a s) (sym end.2) (all_served rack shape first passed number x y z t u a b budget was end.0))
+      (subst (λ (s : Array R). AllServed rack shape first x z t u a s) (sym end.2) (all_served rack shape first from passed number x y z t u a b budget was end.0))
 
   pub goes_none : (a : Array R) → IsSound rack a → GoesOn rack a a
   goes_none a sound = record { well = sound; shape = refl; tells = λ q h. h; same_rack = refl }
@@ -162,21 +162,21 @@ module _ {R : Type 0} (rack : Ghosts R) where
       let same : other ≡ kind = cc is in
       subst (λ (k : BadLine). Told (λ before after. IsRefused (Some (shape_of b)) room before k) y z × (v ≡ u) × (c ≡ b)) same turned
 
-  pub lines_refused : (shape : Shape) (first passed number : ℕ) (kind : BadLine) (x y z t u v : Option (List ℕ)) (a b c : Array R) (turn : Turn) → turn ≡ turn_refused kind → Turned rack (2 ^ 40 - passed) y z u v b c turn
-      → shape_of b ≡ shape → passed ≤ 2 ^ 40 → SoFar rack shape first passed number x y t u a b → ServedTo rack shape first number kind x z t v a c
-  lines_refused shape first passed number kind x y z t u v a b c turn is turned same budget was =
+  pub lines_refused : (shape : Shape) (first from passed number : ℕ) (kind : BadLine) (x y z t u v : Option (List ℕ)) (a b c : Array R) (turn : Turn) → turn ≡ turn_refused kind → Turned rack (2 ^ 40 - passed) y z u v b c turn
+      → shape_of b ≡ shape → passed ≤ 2 ^ 40 → SoFar rack shape first from passed number x y t u a b → ServedTo rack shape first from number kind x z t v a c
+  lines_refused shape first from passed number kind x y z t u v a b c turn is turned same budget was =
       let stop = turned_refused (2 ^ 40 - passed) kind y z u v b c turn is turned in
       let refused = subst (λ (s : Shape). Told (λ before after. IsRefused (Some s) (2 ^ 40 - passed) before kind) y z) same stop.0 in
-      subst (λ (o : Option (List ℕ)). ServedTo rack shape first number kind x z t o a c) (sym stop.1)
-      (subst (λ (s : Array R). ServedTo rack shape first number kind x z t u a s) (sym stop.2) (served_to rack shape first passed number kind x y z t u a b budget was refused))
+      subst (λ (o : Option (List ℕ)). ServedTo rack shape first from number kind x z t o a c) (sym stop.1)
+      (subst (λ (s : Array R). ServedTo rack shape first from number kind x z t u a s) (sym stop.2) (served_to rack shape first from passed number kind x y z t u a b budget was refused))
 
-  pub ended_input : (first : ℕ) (x z t u : Option (List ℕ)) (a b : Array R) (end : LinesEnd) → end ≡ input_end → LinesEndAt rack first x z t u a b end → AllServed rack (shape_of a) first x z t u a b
-  ended_input first x z t u a b input_end is ended = ended
-  ended_input first x z t u a b (line_refused n kind) is ended = absurd (cc is)
+  pub ended_input : (first from : ℕ) (x z t u : Option (List ℕ)) (a b : Array R) (end : LinesEnd) → end ≡ input_end → LinesEndAt rack first from x z t u a b end → AllServed rack (shape_of a) first x z t u a b
+  ended_input first from x z t u a b input_end is ended = ended
+  ended_input first from x z t u a b (line_refused n kind) is ended = absurd (cc is)
 
-  pub ended_line : (first number : ℕ) (kind : BadLine) (x z t u : Option (List ℕ)) (a b : Array R) (end : LinesEnd) → end ≡ line_refused number kind → LinesEndAt rack first x z t u a b end → ServedTo rack (shape_of a) first number kind x z t u a b
-  ended_line first number kind x z t u a b input_end is ended = absurd (cc is)
-  ended_line first number kind x z t u a b (line_refused n other) is ended =
+  pub ended_line : (first from number : ℕ) (kind : BadLine) (x z t u : Option (List ℕ)) (a b : Array R) (end : LinesEnd) → end ≡ line_refused number kind → LinesEndAt rack first from x z t u a b end → ServedTo rack (shape_of a) first from number kind x z t u a b
+  ended_line first from number kind x z t u a b input_end is ended = absurd (cc is)
+  ended_line first from number kind x z t u a b (line_refused n other) is ended =
       let numbers : n ≡ number = cc is in
       let kinds : other ≡ kind = cc is in
-      subst (λ (k : BadLine). ServedTo rack (shape_of a) first number k x z t u a b) kinds (subst (λ (m : ℕ). ServedTo rack (shape_of a) first m other x z t u a b) numbers ended)
+      subst (λ (k : BadLine). ServedTo rack (shape_of a) first from number k x z t u a b) kinds (subst (λ (m : ℕ). ServedTo rack (shape_of a) first from m other x z t u a b) numbers ended)

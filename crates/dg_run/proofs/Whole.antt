@@ -1,10 +1,11 @@
 -- A whole replay.
 use Rattle.std.proofs.Common.{◌≡◌, ◌≤◌, ◌<◌, ◌+◌, ◌-◌, ◌/◌, ◌^◌, ℕ, List, [], ◌∷◌, ◌++◌, length, true, refl, sym, ◌∙◌, ap, subst, arith, append_assoc, inl, inr, length-append}
-use Rattle.std.specs.Prelude.{◌⊎◌, Option, Some, None, All, Result, Ok, Err, IfOk, IsSome}
+use Rattle.std.specs.Prelude.{◌⊎◌, Option, Some, None, All, Result, Ok, Err, IfOk, IfSome, IsSome}
 use Rattle.std.proofs.lemmas.List.{append_cancel_left}
 use Rattle.std.proofs.lemmas.List.Concat.{flat_map-append}
 use Rattle.std.proofs.lemmas.List.Elements.{All-cons}
 use Rattle.dg_model.specs.Shapes.{IsShape}
+use Rattle.dg_model.specs.Seals.{HoldsLabel}
 use Rattle.dg_model.specs.States.{Counts, Holds, State, plain_state}
 use Rattle.dg_model.proofs.KnownLaws.{run_less}
 use Rattle.dg_io.specs.declared.outside.Rack.{Ghosts}
@@ -23,13 +24,11 @@ use Rattle.dg_text.specs.declared.lines.BadLine.{BadLine as Kind}
 use Rattle.dg_text.specs.declared.lines.BadLine.TheVariants.{Cut}
 use Rattle.dg_run.specs.Events.{Begins, IsRefused}
 use Rattle.dg_run.specs.Lines.{Served, ServedTo}
-use Rattle.dg_run.specs.declared.top.Status.{Status}
-use Rattle.dg_run.specs.declared.top.Status.TheVariants.{Done as status_done, Usage, BadLine, ReadFault, WriteFault, NoMemory, NoState, Unclean, Refused}
 use Rattle.dg_run.specs.Endings.{TookUpTo}
 use Rattle.dg_run.specs.Refusals.{IsRefusedBy}
 use Rattle.dg_run.specs.Replays.{CutRefusal, IsCut, IsInput, IsNoInput, Ran, Replayed, Stopped, StopsAt, TellsBoundaries}
 use Rattle.dg_run.specs.Served.{AreServed, is_served}
-use Rattle.dg_run.specs.Arrays.{AllAnswered, AnsweredTo, ArrayReplayed, ArrayStopped, IsCutAt, IsOfReplay}
+use Rattle.dg_run.specs.Arrays.{AllAnswered, AnsweredTo, ArrayReplayed, ArrayStopped, IsCutAt}
 use Rattle.dg_run.proofs.Inputs.{All-head, All-right, All-tail, no_line}
 use Rattle.dg_run.proofs.Runs.{volume_runs}
 use Rattle.dg_volume.specs.Volumes.{any_phase}
@@ -42,8 +41,14 @@ use Rattle.dg_run.proofs.ToldSteps.{Told-each, Told-then}
 pub took_first : (rs : List Reply) (t m v : Option (List ℕ)) → Told (Took (reply_line Done)) t m → Told (Took (output_of rs)) m v → Told (Took (output_of (Done ∷ rs))) t v
 took_first rs t m v p q = Told-then _ _ (Took (output_of (Done ∷ rs))) (λ a b c f s. s ∙ ap (λ (l : List ℕ). l ++ output_of rs) f ∙ append_assoc a (reply_line Done) (output_of rs)) t m v p q
 
-took_last : (text last : List ℕ) (t m v : Option (List ℕ)) → Told (Took text) t m → Told (Took last) m v → Told (Took (text ++ last)) t v
+pub took_last : (text last : List ℕ) (t m v : Option (List ℕ)) → Told (Took text) t m → Told (Took last) m v → Told (Took (text ++ last)) t v
 took_last text last t m v p q = Told-then _ _ (Took (text ++ last)) (λ a b c f s. s ∙ ap (λ (l : List ℕ). l ++ last) f ∙ append_assoc a text last) t m v p q
+
+-- the members that keep the last label of a state have it
+pub label_held : {R : Type 0} (ghosts : Ghosts R) (b : Array R) (final : State) → volumes.StandsIn any_phase ghosts b.volume final
+    → IfSome final.label (λ last. HoldsLabel final.table.shape last (ghosts.bytes (rack_of b)))
+label_held ghosts b final stands =
+    subst (λ (shape : Shape). IfSome final.label (λ last. HoldsLabel shape last (ghosts.bytes (rack_of b)))) (sym (ap (λ (s : State). s.table.shape) stands.is)) stands.label.holds
 
 pub array_served : (shape : Shape) (events : List Event) → AreServed events → AreServed (MakeArray shape ∷ events)
 array_served shape events served = All-cons (λ (event : Event). is_served event ≡ true) (MakeArray shape) events refl served
@@ -66,7 +71,11 @@ module _ {R : Type 0} (ghosts : Ghosts R) (shape : Shape) (first : ℕ) (rack : 
         budget = omega (arith, length-append (line_of (MakeArray shape)) (input_of events));
         final = final;
         trace = (blank.state, blank.blank, run_less known blank.state events replies final W.2);
-        holds = λ told. let all = stands.holds (known told) in subst (λ (s : State). Holds (ghosts.bytes (rack_of b)) s) (sym stands.is) all.array;
+        holds = λ told.
+            let all = stands.holds (known told) in (
+              subst (λ (s : State). Holds (ghosts.bytes (rack_of b)) s) (sym stands.is) all.array,
+              label_held ghosts b final stands,
+            );
         counts = ap (λ (s : State). s.counts) stands.is;
       }
 
@@ -83,7 +92,7 @@ module _ {R : Type 0} (ghosts : Ghosts R) (shape : Shape) (first : ℕ) (rack : 
     output = took_first all.served.served.replies t all.middle v all.ok all.served.served.output;
   }
 
-  pub cut_input : (number : ℕ) (kind : Kind) (x z t m : Option (List ℕ)) → (s : ServedTo ghosts (shape_of a) first number kind x z t m a b) → Told (λ p q. (text : List ℕ) × IsCutAt shape s.events kind p text) x z
+  pub cut_input : (number : ℕ) (kind : Kind) (x z t m : Option (List ℕ)) → (s : ServedTo ghosts (shape_of a) first 2 number kind x z t m a b) → Told (λ p q. (text : List ℕ) × IsCutAt shape s.events kind p text) x z
   cut_input number kind x z t m s =
       let room : 2 ^ 40 - (first + length (input_of s.events)) ≡ 2 ^ 40 - length (input_of (MakeArray shape ∷ s.events)) = ap (λ (n : ℕ). 2 ^ 40 - n) (omega (arith, length-append (line_of (MakeArray shape)) (input_of s.events))) in
       Told-then _ _ (λ p q. (text : List ℕ) × IsCutAt shape s.events kind p text) (λ p q r f refused. (
@@ -192,7 +201,7 @@ ran_nothing now bytes = record {
   budget = omega arith;
   final = unmade now;
   trace = record { is = refl; boundaries = refl; size = refl; rows = refl };
-  holds = λ told. record { size = refl; blank = λ b h e. absurd (omega arith); held = λ b h. absurd (omega arith) };
+  holds = λ told. (record { size = refl; blank = λ b h e. absurd (omega arith); held = λ b h. absurd (omega arith) }, tt);
   counts = refl;
 }
 
@@ -244,7 +253,7 @@ none_left : (xs ys : List ℕ) → xs ++ ys ≡ [] → ys ≡ []
 none_left [] ys is = is
 none_left (x ∷ xs) ys is = absurd (cc is)
 
-rest_ended : (P : List ℕ → Type 0) (unread : List ℕ) (x y : Option (List ℕ)) → Told (λ before after. P before × (after ≡ [])) x (option_map (λ more. unread ++ more) y) → Told (λ before after. P before × (after ≡ [])) x y
+pub rest_ended : (P : List ℕ → Type 0) (unread : List ℕ) (x y : Option (List ℕ)) → Told (λ before after. P before × (after ≡ [])) x (option_map (λ more. unread ++ more) y) → Told (λ before after. P before × (after ≡ [])) x y
 rest_ended P unread x None told = tt
 rest_ended P unread None (Some b) told = absurd told
 rest_ended P unread (Some a) (Some b) told = (told.0, none_left unread b told.1)
@@ -299,24 +308,7 @@ IfOk-map (Ok x) P Q h p = h x p
 IfOk-map (Err e) P Q h p = tt
 
 -- what is said of a text that is told
-told_front : (f : List ℕ → List ℕ → Type 0) (left rest : Option (List ℕ)) (x : List ℕ) → left ≡ Some x → IsSome rest → Told f left rest → (a : List ℕ) × f x a
+pub told_front : (f : List ℕ → List ℕ → Type 0) (left rest : Option (List ℕ)) (x : List ℕ) → left ≡ Some x → IsSome rest → Told f left rest → (a : List ℕ) × f x a
 told_front f (Some b) (Some a) x e some t = let same : b ≡ x = cc e in (a, subst (λ (z : List ℕ). f z a) same t)
 told_front f None rest x e some t = absurd (cc e)
 told_front f left None x e some t = absurd (cc some)
-
--- where the input is acceptable and no count of faults rose, a replay is done, but for want of memory
-pub completes : (before now : Counts) (bytes : ℕ → Option (List ℕ)) (left rest taken given : Option (List ℕ)) (events : List Event) (status : Status) → IsInput events
-    → left ≡ Some (input_of events) → IsSome rest → (status ≡ BadLine → Stopped before now bytes left rest taken given) → (status ≡ ReadFault → ⊥) → (status ≡ WriteFault → ⊥)
-    → IsOfReplay status → (status ≡ status_done) ⊎ (status ≡ NoMemory)
-completes before now bytes left rest taken given events status_done input is some stopped read write never = inl refl
-completes before now bytes left rest taken given events BadLine input is some stopped read write never =
-    let stop = stopped refl in
-    let front = told_front _ left rest (input_of events) is some stop.input in
-    absurd (front.1.3 events input refl)
-completes before now bytes left rest taken given events ReadFault input is some stopped read write never = absurd (read refl)
-completes before now bytes left rest taken given events WriteFault input is some stopped read write never = absurd (write refl)
-completes before now bytes left rest taken given events NoMemory input is some stopped read write never = inr refl
-completes before now bytes left rest taken given events Usage input is some stopped read write never = absurd never
-completes before now bytes left rest taken given events NoState input is some stopped read write never = absurd never
-completes before now bytes left rest taken given events Unclean input is some stopped read write never = absurd never
-completes before now bytes left rest taken given events Refused input is some stopped read write never = absurd never

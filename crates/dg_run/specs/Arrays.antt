@@ -34,7 +34,7 @@ pub record AnsweredTo {R : Type 0} (rack : Ghosts R) (first : ℕ) (left rest ta
   pub number : ℕ
   pub kind : Kind
   pub ok : Told (Took (reply_line Done)) taken middle
-  pub served : ServedTo rack (shape_of old) first number kind left rest middle before old new
+  pub served : ServedTo rack (shape_of old) first 2 number kind left rest middle before old new
   pub refused : Told (Took (refusal number kind)) before given
 
 -- the same, but the refusal was written in part
@@ -44,7 +44,7 @@ pub record AnsweredToPart {R : Type 0} (rack : Ghosts R) (first : ℕ) (left res
   pub number : ℕ
   pub kind : Kind
   pub ok : Told (Took (reply_line Done)) taken middle
-  pub served : ServedTo rack (shape_of old) first number kind left rest middle before old new
+  pub served : ServedTo rack (shape_of old) first 2 number kind left rest middle before old new
   pub refused : Told (TookPart (refusal number kind)) before given
 
 -- The sink failed behind a first line that made the array: at its answer, at the reply to a later line, or at the refusal of one.

@@ -4,10 +4,10 @@ use Rattle.dg_io.specs.declared.outside.Rack.{Ghosts}
 use Rattle.dg_model.specs.declared.shapes.Shape.{Shape}
 use Rattle.dg_model.specs.declared.events.Event.{Event}
 use Rattle.dg_model.specs.declared.replies.Reply.{Reply}
-use Rattle.dg_io.specs.Told.{Told, Took}
+use Rattle.dg_io.specs.Told.{Told, Took, TookPart}
 use Rattle.dg_run.specs.declared.arrays.Array.{Array}
 use Rattle.dg_text.specs.Lines.{line_of, input_of, IsInPlace}
-use Rattle.dg_text.specs.Replies.{output_of}
+use Rattle.dg_text.specs.Replies.{output_of, refusal}
 use Rattle.dg_run.specs.Steps.{shape_of}
 use Rattle.dg_text.specs.declared.lines.BadLine.{BadLine}
 use Rattle.dg_run.specs.Events.{Begins, IsRefused}
@@ -55,16 +55,32 @@ pub record AllServed {R : Type 0} (rack : Ghosts R) (shape : Shape) (first : ℕ
   pub budget : first + length (input_of events) ≤ 2 ^ 40
   pub end : Told (λ before after. (before ≡ input_of events) × (after ≡ [])) left rest
 
--- some lines were served, and the next one, of this number, is refused by this kind
-pub record ServedTo {R : Type 0} (rack : Ghosts R) (shape : Shape) (first number : ℕ) (kind : BadLine) (left rest taken given : Option (List ℕ)) (old new : Array R) : Type 0 where
+-- Some lines were served, the first of them with the number `from`, and the next one, of this number, is refused by this kind.
+pub record ServedTo {R : Type 0} (rack : Ghosts R) (shape : Shape) (first from number : ℕ) (kind : BadLine) (left rest taken given : Option (List ℕ)) (old new : Array R) : Type 0 where
   pub events : List Event
   pub middle : Option (List ℕ)
   pub served : Served rack shape events left middle taken given old new
   pub budget : first + length (input_of events) ≤ 2 ^ 40
-  pub count : number ≡ length events + 2
+  pub count : number ≡ length events + from
   pub refused : Told (λ before after. IsRefused (Some shape) (2 ^ 40 - (first + length (input_of events))) before kind) middle rest
 
--- how the lines behind the first one ended
-abbrev pub LinesEndAt : {R : Type 0} → Ghosts R → ℕ → Option (List ℕ) → Option (List ℕ) → Option (List ℕ) → Option (List ℕ) → Array R → Array R → LinesEnd → Type 0
-LinesEndAt rack first left rest taken given old new input_end = AllServed rack (shape_of old) first left rest taken given old new
-LinesEndAt rack first left rest taken given old new (line_refused number kind) = ServedTo rack (shape_of old) first number kind left rest taken given old new
+-- how lines ended, behind one of so many bytes
+abbrev pub LinesEndAt : {R : Type 0} → Ghosts R → ℕ → ℕ → Option (List ℕ) → Option (List ℕ) → Option (List ℕ) → Option (List ℕ) → Array R → Array R → LinesEnd → Type 0
+LinesEndAt rack first from left rest taken given old new input_end = AllServed rack (shape_of old) first left rest taken given old new
+LinesEndAt rack first from left rest taken given old new (line_refused number kind) = ServedTo rack (shape_of old) first from number kind left rest taken given old new
+
+-- some lines were served, and the next one was refused
+pub record RefusedBehind {R : Type 0} (rack : Ghosts R) (first from : ℕ) (left rest taken given : Option (List ℕ)) (old new : Array R) : Type 0 where
+  pub before : Option (List ℕ)
+  pub number : ℕ
+  pub kind : BadLine
+  pub served : ServedTo rack (shape_of old) first from number kind left rest taken before old new
+  pub refused : Told (Took (refusal number kind)) before given
+
+-- the same, but the refusal was written in part
+pub record RefusedInPart {R : Type 0} (rack : Ghosts R) (first from : ℕ) (left rest taken given : Option (List ℕ)) (old new : Array R) : Type 0 where
+  pub before : Option (List ℕ)
+  pub number : ℕ
+  pub kind : BadLine
+  pub served : ServedTo rack (shape_of old) first from number kind left rest taken before old new
+  pub refused : Told (TookPart (refusal number kind)) before given

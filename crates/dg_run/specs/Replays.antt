@@ -1,21 +1,20 @@
 -- What a whole replay means: the events of its input, their replies, and what the rack holds at the end.
-use Rattle.std.specs.Prelude.{◌≡◌, ◌⊎◌, ◌≤◌, ◌<◌, ◌+◌, ◌-◌, ◌/◌, ◌^◌, ◌++◌, [], ◌∷◌, true, false, Bool, ℕ, List, length, Option, Some, None, IsSome, codes}
-use Rattle.dg_model.specs.States.{Counts, State, Holds}
+use Rattle.std.specs.Prelude.{◌≡◌, ◌⊎◌, ◌≤◌, ◌<◌, ◌+◌, ◌-◌, ◌/◌, ◌^◌, ◌++◌, [], ◌∷◌, true, ℕ, List, length, Option, Some, None, IsSome}
+use Rattle.dg_model.specs.States.{Counts, HoldsAll, State}
 use Rattle.dg_model.specs.Runs.{Trace}
 use Rattle.dg_model.specs.declared.shapes.Shape.{Shape}
 use Rattle.dg_model.specs.declared.events.Event.{Event}
-use Rattle.dg_model.specs.declared.events.Event.TheVariants.{Array}
+use Rattle.dg_model.specs.declared.events.Event.TheVariants.{Array, Tree}
 use Rattle.dg_model.specs.declared.replies.Reply.{Reply}
+use Rattle.dg_model.specs.declared.replies.Reply.TheVariants.{Nodes}
 use Rattle.dg_io.specs.Told.{Told, Took}
 use Rattle.dg_text.specs.Lines.{line_of, input_of, IsInPlace, AreInPlace}
-use Rattle.dg_text.specs.Replies.{reply_line, output_of, refusal}
+use Rattle.dg_text.specs.Replies.{nodes_text, output_of, refusal, reply_line}
 use Rattle.dg_text.specs.declared.lines.BadLine.{BadLine}
-use Rattle.dg_words.specs.Commands.{IsCommand}
-use Rattle.dg_words.specs.declared.commands.Command.{Command}
-use Rattle.dg_words.specs.declared.commands.Command.TheVariants.{Replay}
 use Rattle.dg_run.specs.Endings.{GaveLines, StartsWith, TookUpTo}
 use Rattle.dg_run.specs.Refusals.{IsRefusedBy}
 use Rattle.dg_run.specs.Served.{AreServed, is_served}
+use Rattle.ufs_model.specs.Listings.{Listed}
 
 -- the shape of the array that the first event made
 abbrev pub shape_after : List Event → Option Shape
@@ -29,14 +28,14 @@ TellsBoundaries bytes state = (q : ℕ) → q / 2 < state.table.shape.b → IsSo
 
 -- The events are in their places and served, and their lines keep to the budget of 2^40 bytes. They had these replies, in steps of the array
 -- from nothing to a final state, which has the counts of the rack. Where each member of the array tells its bytes at the end, the
--- steps are known in their bytes too, and the members hold the blocks of the final state.
+-- steps are known in their bytes too, and the members hold the blocks of the final state, and the last label where they keep it.
 pub record Ran (before now : Counts) (bytes : ℕ → Option (List ℕ)) (events : List Event) (replies : List Reply) : Type 0 where
   pub in_place : AreInPlace events
   pub done : AreServed events
   pub budget : length (input_of events) ≤ 2 ^ 40
   pub final : State
   pub trace : Trace (TellsBoundaries bytes final) before events replies final
-  pub holds : TellsBoundaries bytes final → Holds bytes final
+  pub holds : TellsBoundaries bytes final → HoldsAll bytes final
   pub counts : final.counts ≡ now
 
 -- the input was read to its end, and is the lines of these events; the output is the text of their replies
@@ -109,9 +108,9 @@ pub record CutRefusal (before now : Counts) (bytes : ℕ → Option (List ℕ)) 
 abbrev pub IsCut : Counts → Counts → (ℕ → Option (List ℕ)) → Option (List ℕ) → Option (List ℕ) → Option (List ℕ) → Option (List ℕ) → Type 0
 IsCut before now bytes left rest taken given = CutReply before now bytes left rest taken given ⊎ CutRefusal before now bytes left rest taken given
 
--- Memory was wanting: the input begins with the lines of these events, and the output is the text of their replies. Nothing is said of
--- what the rack holds, nor of the counts that it has.
-pub record RanOut (before : Counts) (bytes : ℕ → Option (List ℕ)) (left rest taken given : Option (List ℕ)) : Type 0 where
+-- Memory was wanting before a reply, or behind one: the input begins with the lines of these events, and the output is the text of their
+-- replies. Nothing is said of what the rack holds, nor of the counts that it has.
+pub record RanOutBetween (before : Counts) (bytes : ℕ → Option (List ℕ)) (left rest taken given : Option (List ℕ)) : Type 0 where
   pub events : List Event
   pub replies : List Reply
   pub in_place : AreInPlace events
@@ -122,15 +121,21 @@ pub record RanOut (before : Counts) (bytes : ℕ → Option (List ℕ)) (left re
   pub input : Told (StartsWith (input_of events)) left rest
   pub output : Told (Took (output_of replies)) taken given
 
--- the commands that are built
-abbrev pub is_built : Command → Bool
-is_built Replay = true
-is_built command = false
+-- Memory was wanting within a listing of all directories: the input begins with the lines of these events and then a `tree`. The output is
+-- the text of their replies, and then the lines of the first entries of a listing with which the `tree` may be answered in the next step.
+pub record RanOutWithin (before : Counts) (bytes : ℕ → Option (List ℕ)) (left rest taken given : Option (List ℕ)) : Type 0 where
+  pub events : List Event
+  pub replies : List Reply
+  pub entries : List Listed
+  pub others : List Listed
+  pub in_place : AreInPlace (events ++ Tree ∷ [])
+  pub done : AreServed (events ++ Tree ∷ [])
+  pub budget : length (input_of (events ++ Tree ∷ [])) ≤ 2 ^ 40
+  pub final : State
+  pub trace : Trace (TellsBoundaries bytes final) before (events ++ Tree ∷ []) (replies ++ Nodes (entries ++ others) ∷ []) final
+  pub input : Told (StartsWith (input_of (events ++ Tree ∷ []))) left rest
+  pub output : Told (Took (output_of replies ++ nodes_text entries)) taken given
 
--- the words are no command, or one that isn't built yet
-abbrev pub AreUnbuilt : List (List ℕ) → Type 0
-AreUnbuilt words = (command : Command) → IsCommand words command → is_built command ≡ false
-
--- the words are those of a replay
-abbrev pub IsReplay : List (List ℕ) → Type 0
-IsReplay words = words ≡ codes "replay" ∷ []
+-- memory was wanting: no reply was written in part, or a listing was, to the end of an entry
+abbrev pub RanOut : Counts → (ℕ → Option (List ℕ)) → Option (List ℕ) → Option (List ℕ) → Option (List ℕ) → Option (List ℕ) → Type 0
+RanOut before bytes left rest taken given = RanOutBetween before bytes left rest taken given ⊎ RanOutWithin before bytes left rest taken given

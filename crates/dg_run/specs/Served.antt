@@ -1,25 +1,11 @@
 -- Which events are served.
 use Rattle.std.specs.Prelude.{◌≡◌, Bool, true, false, List, All}
 use Rattle.dg_model.specs.declared.events.Event.{Event}
-use Rattle.dg_model.specs.declared.events.Event.TheVariants.{Array, Write, Read, Fail, Replace, Rebuild, Settle, Tend, Diffuse, Who, Pending, Cat, Ls, Home}
+use Rattle.dg_model.specs.declared.events.Event.TheVariants.{Write, Fail, Replace, Rebuild, Settle, Tend, Diffuse, Who, Home, Save}
 
--- a line of any other event is refused, though it is spelled right
+-- all events of the language are served
 abbrev pub is_served : Event → Bool
-is_served (Array shape) = true
-is_served (Write b bytes) = true
-is_served (Read b) = true
-is_served (Fail s j) = true
-is_served (Replace s j) = true
-is_served (Rebuild s n) = true
-is_served Settle = true
-is_served (Tend n) = true
-is_served Diffuse = true
-is_served (Who b) = true
-is_served Pending = true
-is_served (Cat path) = true
-is_served (Ls path) = true
-is_served (Home path) = true
-is_served event = false
+is_served event = true
 
 abbrev pub AreServed : List Event → Type 0
 AreServed events = All (λ event. is_served event ≡ true) events
@@ -35,4 +21,5 @@ is_plain (Tend n) = true
 is_plain Diffuse = true
 is_plain (Who b) = true
 is_plain (Home path) = true
+is_plain Save = true
 is_plain event = false

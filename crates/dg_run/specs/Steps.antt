@@ -1,17 +1,20 @@
 -- An array beside the model's states.
-use Rattle.std.specs.Prelude.{◌≡◌, ◌⊎◌, ◌≤◌, ℕ, List, Option, length}
+use Rattle.std.specs.Prelude.{◌≡◌, ◌⊎◌, ◌≤◌, ◌++◌, ℕ, List, Option, length}
 use Rattle.dg_io.specs.declared.outside.Rack.{Ghosts}
 use Rattle.dg_io.specs.Told.{StillTold, Told, Took, TookPart}
 use Rattle.dg_model.specs.Runs.{Run}
 use Rattle.dg_model.specs.States.{IsBlank, State}
 use Rattle.dg_model.specs.Steps.{Step}
 use Rattle.dg_model.specs.declared.events.Event.{Event}
+use Rattle.dg_model.specs.declared.events.Event.TheVariants.{Tree}
 use Rattle.dg_model.specs.declared.replies.Reply.{Reply}
+use Rattle.dg_model.specs.declared.replies.Reply.TheVariants.{Nodes}
 use Rattle.dg_model.specs.declared.shapes.Shape.{Shape}
 use Rattle.dg_run.specs.declared.arrays.Array.{Array}
-use Rattle.dg_text.specs.Replies.{reply_line}
+use Rattle.dg_text.specs.Replies.{nodes_text, reply_line}
 use Rattle.dg_volume.specs.Volumes.{IsWell, Leaves, any_phase}
 use Rattle.dg_volume.specs.Volumes as volumes
+use Rattle.ufs_model.specs.Listings.{Listed}
 
 -- ---- parts
 
@@ -88,9 +91,17 @@ pub record AnsweredBefore {R : Type 0} (rack : Ghosts R) (event : Event) (taken 
   pub steps : VolumeStepsTo rack old event reply now
   pub output : Told (Took (reply_line reply)) taken given
 
--- memory was wanting for an event: before its reply, of which nothing was written, or behind it
+-- the event lists all directories, and of a listing that may answer it the first entries were written; behind them memory was wanting
+pub record ListedBefore {R : Type 0} (rack : Ghosts R) (event : Event) (taken given : Option (List ℕ)) (old now : Array R) : Type 0 where
+  pub is : event ≡ Tree
+  pub entries : List Listed
+  pub others : List Listed
+  pub steps : VolumeStepsTo rack old event (Nodes (entries ++ others)) now
+  pub output : Told (Took (nodes_text entries)) taken given
+
+-- memory was wanting for an event: before its reply, of which nothing was written, behind it, or between two lines of it
 abbrev pub WantedFor : {R : Type 0} → Ghosts R → Event → Option (List ℕ) → Option (List ℕ) → Array R → Array R → Type 0
-WantedFor rack event taken given old now = (given ≡ taken) ⊎ AnsweredBefore rack event taken given old now
+WantedFor rack event taken given old now = (given ≡ taken) ⊎ (AnsweredBefore rack event taken given old now ⊎ ListedBefore rack event taken given old now)
 
 -- ---- a blank array
 

@@ -32,7 +32,7 @@ pub fn push_write(text: &mut Vec<u8>, number: usize, block: &[u8]) -> Result<(),
 }
 
 // The lines that make the array, and write the blocks of an image that aren't zero, ascending.
-fn lines_of(alloc: Global, image: &[u8]) -> Result<Vec<u8>, Fail> {
+pub fn lines_of(alloc: Global, image: &[u8]) -> Result<Vec<u8>, Fail> {
     let mut text = Vec::from_slice(alloc, b"array 1024 128 4 64 2\n")?;
     for (number, block) in image.chunks(1024).enumerate() {
         if block.iter().any(|byte| *byte != 0) {

@@ -10,13 +10,12 @@ ghost use Rattle.dg_run.specs.Bytes.{HasNoLineFeed};
 ghost use Rattle.dg_run.specs.Endings.{GaveLines};
 ghost use Rattle.dg_run.specs.Inputs.{ahead, IsCutOff, IsFull};
 ghost use Rattle.dg_run.specs.Refusals.{IsRefusedBy};
-ghost use Rattle.dg_run.specs.Served.{is_served};
 ghost use Rattle.dg_run.specs.Events.{IsTaken, TookEvent};
 
 use crate::input::{Input, LineStep};
 use dg_io::Source;
 use dg_model::{Event as Spelled, NoMemory, Shape};
-use dg_text::{BadLine, longest_line, read_line, reading_is_unique};
+use dg_text::{BadLine, longest_line, read_line};
 use std::alloc::Global;
 
 /// What was taken of the input.
@@ -40,29 +39,6 @@ pub enum Fault {
     NoMemory,
 }
 
-/// Whether the event is served.
-fn is_served(event: &Spelled) -> bool
-    ensures { result ≡ is_served event.now }
-{
-    match event {
-        Spelled::Array(_)
-        | Spelled::Write(_, _)
-        | Spelled::Read(_)
-        | Spelled::Fail(_, _)
-        | Spelled::Replace(_, _)
-        | Spelled::Rebuild(_, _)
-        | Spelled::Settle
-        | Spelled::Tend(_)
-        | Spelled::Diffuse
-        | Spelled::Who(_)
-        | Spelled::Pending
-        | Spelled::Cat(_)
-        | Spelled::Ls(_)
-        | Spelled::Home(_) => true,
-        Spelled::Tree | Spelled::Save => false,
-    }
-}
-
 /// The event that a line spells, given without its line feed, or why it is refused.
 fn judge(alloc: Global, line: &[u8], shape: Option<&Shape>, room: u64) -> Result<Taken, NoMemory>
     requires none { HasNoLineFeed line.now }
@@ -74,14 +50,8 @@ fn judge(alloc: Global, line: &[u8], shape: Option<&Shape>, room: u64) -> Result
     if bytes > room {
         return Ok(Taken::Refused(BadLine::Size));
     }
-    reading_is_unique();
     match read_line(alloc, line, shape)? {
-        Ok(event) => {
-            if is_served(&event) {
-                return Ok(Taken::Event(event, bytes));
-            }
-            Ok(Taken::Refused(BadLine::Later))
-        }
+        Ok(event) => Ok(Taken::Event(event, bytes)),
         Err(kind) => Ok(Taken::Refused(kind)),
     }
 }

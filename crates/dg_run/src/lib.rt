@@ -19,11 +19,15 @@ mod listings;
 mod paths;
 mod pendings;
 mod pieces;
+mod replays;
 mod replies;
+mod resumes;
+mod saved;
 mod serve;
 #[cfg(test)]
 mod tests;
 mod top;
+mod trees;
 #[cfg(test)]
 mod volume_tests;
 

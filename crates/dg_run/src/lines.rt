@@ -76,8 +76,8 @@ fn serve_next<S: Source, K: Sink, R: Rack>(
     }
 }
 
-/// Serves the lines behind the first one, to the end of the input or the first line that is refused. The first line had
-/// so many bytes.
+/// Serves lines to the end of the input or the first line that is refused. The next one has the number `from`, and before it stood so
+/// many bytes.
 pub fn serve_lines<S: Source, K: Sink, R: Rack>(
     alloc: Global,
     input: &mut Input,
@@ -86,12 +86,14 @@ pub fn serve_lines<S: Source, K: Sink, R: Rack>(
     array: &mut Array<R>,
     block: &mut [u8],
     first: u64,
+    from: u64,
 ) -> Result<LinesEnd, Fault>
     requires sound { IsSound R.Rack array.old }
     requires size { length block.old ≡ (shape_of array.old).l }
     requires first { first ≤ 2 ^ 40 }
+    requires from { from ≤ 2 }
     ensures goes { GoesOn R.Rack array.old array.new }
-    ensures end { IfOk result (LinesEndAt R.Rack first (ahead input.old (S.left source.old)) (ahead input.new (S.left source.new))
+    ensures end { IfOk result (LinesEndAt R.Rack first from (ahead input.old (S.left source.old)) (ahead input.new (S.left source.new))
         (K.taken sink.old) (K.taken sink.new) array.old array.new) }
     ensures broken { result ≡ Err Fault.Read → LinesBrokeOff R.Rack [] (shape_of array.old) first (ahead input.old (S.left source.old)) (S.left source.new)
         (K.taken sink.old) (K.taken sink.new) array.old array.new }
@@ -108,7 +110,7 @@ pub fn serve_lines<S: Source, K: Sink, R: Rack>(
     ensures write { result ≡ Err Fault.Write → Rose (K.faults sink.old) (K.faults sink.new) }
 {
     let mut passed = first;
-    let mut number = 2;
+    let mut number = from;
     while passed <= BUDGET {
         match serve_next(alloc, input, source, sink, array, block, BUDGET - passed)? {
             Turn::Served(bytes) => {

@@ -1,4 +1,4 @@
-// The event `ls`, on the volumes of the tests of `cat`.
+// The events `ls` and `tree`, on the volumes of the tests of `cat`.
 ghost use Rattle.std.specs.Prelude.{◌≡◌, IfOk, length};
 
 use crate::cat_tests::{call_behind, calls_from, cut_after, first_call, image, replies};
@@ -119,5 +119,30 @@ fn a_rack_that_fails_from_a_call_on_cuts_a_listing(rt: HostRuntime) -> Result<()
     let fails = calls_from(alloc, call_behind(first, 18))?;
     let answer = replies(alloc, &volume, "ls /\n", &fails)?;
     assert!(rt; answer.as_slice() == ROOT.as_bytes());
+    Ok(())
+}
+
+// Inodes and directories of a settled volume stand on two boundaries, so the loss of one takes none of them.
+#[test]
+fn all_directories_of_a_settled_volume_are_listed(rt: HostRuntime) -> Result<(), Fail> {
+    let alloc = rt.alloc();
+    let volume = image(alloc, Which::F)?;
+    for (lines, wanted) in [
+        (
+            "tree\nsettle\ntree\n",
+            "not settled\nsettled\nnode 1 3 r 5 a\nnode 1 4 d 512 d\nnode 2 5 r 53248 b\nnode 1 6 r 0 z\nnode 1 7 r 5596 h\nend 5\n",
+        ),
+        (
+            "settle\nfail 2 0\nfail 2 1\ncat /d/b\ntree\n",
+            "settled\nok\nok\nunavailable\nnode 1 3 r 5 a\nnode 1 4 d 512 d\nnode 2 5 r 53248 b\nnode 1 6 r 0 z\nnode 1 7 r 5596 h\nend 5\n",
+        ),
+        (
+            "settle\nfail 0 0\nfail 0 1\nfail 1 0\nfail 1 1\nfail 2 0\nfail 2 1\ntree\n",
+            "settled\nok\nok\nok\nok\nok\nok\nunavailable\n",
+        ),
+    ] {
+        let answer = replies(alloc, &volume, lines, &[])?;
+        assert!(rt; answer.as_slice() == wanted.as_bytes(), "{lines}");
+    }
     Ok(())
 }

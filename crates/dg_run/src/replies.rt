@@ -3,13 +3,14 @@ ghost use Rattle.std.specs.Prelude.{◌≡◌};
 ghost use Rattle.dg_volume.specs.Copies.{any_diffuse_reply};
 ghost use Rattle.dg_volume.specs.Refills.{rebuild_reply, replace_reply};
 ghost use Rattle.dg_volume.specs.Replies.{any_home_reply, fail_reply, fault_reply, home_reply as settled_home_reply, who_reply};
+ghost use Rattle.dg_volume.specs.Saves.{save_reply};
 ghost use Rattle.dg_volume.specs.Settles.{settle_reply, tend_reply};
 ghost use Rattle.dg_volume.specs.Writes.{write_reply};
 
 use dg_model::Reply;
 use dg_volume::{
     AnyDiffuse, AnyHome, DiffuseAnswer, FailAnswer, HomeAnswer, LookFault, RebuildAnswer,
-    ReplaceAnswer, TendRun, Unsettled, WhoAnswer, WriteAnswer,
+    ReplaceAnswer, SaveAnswer, TendRun, Unsettled, WhoAnswer, WriteAnswer,
 };
 use ufs_model::PathRefusal;
 
@@ -103,6 +104,16 @@ pub fn tend_reply(answer: TendRun) -> Reply
         TendRun::Tended { moved, left } => Reply::Tended(moved, left),
         TendRun::Lost(s) => Reply::Lost(s as u32),
         TendRun::NoSpace(room) => Reply::NoSpace(room),
+    }
+}
+
+/// The state was saved, or no member is good.
+pub fn save_reply(answer: SaveAnswer) -> Reply
+    ensures { result ≡ save_reply answer }
+{
+    match answer {
+        SaveAnswer::Saved(sequence) => Reply::Saved(sequence),
+        SaveAnswer::Lost(s) => Reply::Lost(s as u32),
     }
 }
 

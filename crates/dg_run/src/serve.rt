@@ -14,9 +14,10 @@ use crate::events::Fault;
 use crate::listings::serve_ls;
 use crate::pendings::serve_pending;
 use crate::replies::{
-    diffuse_reply, fail_reply, home_reply, rebuild_reply, replace_reply, settle_reply, tend_reply,
-    who_reply, write_reply,
+    diffuse_reply, fail_reply, home_reply, rebuild_reply, replace_reply, save_reply, settle_reply,
+    tend_reply, who_reply, write_reply,
 };
+use crate::trees::serve_tree;
 use dg_io::{Rack, Sink};
 use dg_model::{Event, NoMemory, Reply};
 use dg_text::{write_data, write_reply as write_line};
@@ -105,13 +106,13 @@ fn reply_to<R: Rack>(
         Event::Diffuse => Ok(diffuse_reply(array.volume.diffuse(alloc, &array.hot)?)),
         Event::Who(b) => Ok(who_reply(array.volume.who(*b))),
         Event::Home(path) => Ok(home_reply(array.volume.home(path.as_slice()))),
+        Event::Save => Ok(save_reply(array.volume.save(alloc, &array.hot)?)),
         Event::Array(_)
         | Event::Read(_)
         | Event::Pending
         | Event::Cat(_)
         | Event::Ls(_)
-        | Event::Tree
-        | Event::Save => unreachable!(),
+        | Event::Tree => unreachable!(),
     }
 }
 
@@ -168,6 +169,7 @@ pub fn serve<R: Rack, K: Sink>(
         Event::Pending => serve_pending(array, sink),
         Event::Cat(path) => serve_cat(array, sink, path),
         Event::Ls(path) => serve_ls(array, sink, path),
+        Event::Tree => serve_tree(alloc, array, sink),
         plain => serve_plain(alloc, array, sink, plain, block),
     }
 }

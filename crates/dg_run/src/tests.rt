@@ -23,7 +23,7 @@ impl<S: Source> Source for Pieces<S> {
     }
 }
 
-fn words_of(alloc: Global, texts: &[&str]) -> Result<Vec<String>, Fail> {
+pub fn words_of(alloc: Global, texts: &[&str]) -> Result<Vec<String>, Fail> {
     let mut words = Vec::new(alloc);
     for text in texts {
         words.push(String::from_str(alloc, text)?)?;
@@ -31,7 +31,7 @@ fn words_of(alloc: Global, texts: &[&str]) -> Result<Vec<String>, Fail> {
     Ok(words)
 }
 
-fn source_of(alloc: Global, input: &[u8], fails: &[u64]) -> Result<MemSource, Fail> {
+pub fn source_of(alloc: Global, input: &[u8], fails: &[u64]) -> Result<MemSource, Fail> {
     let bytes = Vec::from_slice(alloc, input)?;
     Ok(MemSource::new(bytes, Vec::from_slice(alloc, fails)?))
 }
@@ -40,7 +40,7 @@ fn sink_of(alloc: Global, fails: &[u64]) -> Result<MemSink, Fail> {
     Ok(MemSink::new(alloc, OUTPUT, Vec::from_slice(alloc, fails)?)?)
 }
 
-fn rack_of(alloc: Global, fails: &[u64]) -> Result<MemRack, Fail> {
+pub fn rack_of(alloc: Global, fails: &[u64]) -> Result<MemRack, Fail> {
     Ok(MemRack::new(alloc, 8, LENGTH, Vec::from_slice(alloc, fails)?)?)
 }
 
@@ -125,11 +125,6 @@ fn lines_are_refused(rt: HostRuntime) -> Result<(), Fail> {
         ),
         ("array 1024 64 4 32 2\nwrite 3 abc\n", "ok\nline 2 hex\n"),
         ("array 1024 64 4 32 2\ncat a\n", "ok\nline 2 path\n"),
-        ("array 1024 64 4 32 2\nsave\n", "ok\nline 2 later\n"),
-        (
-            "array 1024 64 4 32 2\nread 3\ntree\nread 3\n",
-            "ok\ndata -\nline 3 later\n",
-        ),
     ];
     for (input, output) in rows {
         let mut sink = sink_of(alloc, &[])?;

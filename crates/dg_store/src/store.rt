@@ -435,6 +435,7 @@ impl<R: Rack> Store<R> {
         ensures other_bytes { OnlyBytesOf R.Rack self.old self.new (2 * boundary + side) }
         ensures other_faults { OnlyFaultsOf R.Rack self.old self.new (2 * boundary + side) }
         ensures written { result ≡ NoteAnswer.Noted → HasWritten R.Rack self.old self.new }
+        ensures tried { result ≡ NoteAnswer.Fell → HasWritten R.Rack self.old self.new }
         ensures quiet { result ≡ NoteAnswer.NotGood → rack_of self.new ≡ rack_of self.old }
         ensures most { CallsAtMost R.Rack self.old self.new 1 }
         ensures stands { KeepsBlocks R.Rack self.old self.new }

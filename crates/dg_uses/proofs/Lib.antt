@@ -1,11 +1,12 @@
-mod Promised
+mod Ended
 mod Flat
 mod Lines
 mod LossRows
+mod Promised
 mod Ran
+mod RefusedRows
 mod Results
 mod Rows
-mod RefusedRows
 pub mod Chains
 pub mod Cores
 pub mod OneView

@@ -1,7 +1,11 @@
 // Replays between objects in memory.
-ghost use Rattle.std.specs.Prelude.{◌≡◌, IfOk, codes, map, string_bytes};
+ghost use Rattle.std.specs.Prelude.{◌≡◌, IfOk, Some, codes, map, string_bytes};
+ghost use Rattle.dg_io.specs.Racks.{counts_in, member_in};
 ghost use Rattle.dg_io.specs.Sinks.{taken_in};
-ghost use Rattle.dg_run.specs.Replays.{IsReplay};
+ghost use Rattle.dg_io.specs.Sources.{left_in};
+ghost use Rattle.dg_run.specs.Replays.{IsCut, Replayed, Stopped};
+ghost use Rattle.dg_words.specs.Commands.{IsCommand};
+ghost use Rattle.dg_words.specs.declared.commands.Command.{Command};
 ghost use Rattle.dg_uses.specs.Replays.{HasBeenCut, HasReplayed, HasStopped, IsFront, NeverFailed};
 
 use dg_io::{MemRack, MemSink, MemSource, NoMemory};
@@ -25,7 +29,7 @@ pub struct Replay {
 
 // The words of a replay.
 fn replay_words(alloc: Global) -> Result<Vec<String>, NoMemory>
-    ensures { IfOk result (λ words. IsReplay (map string_bytes words.items)) }
+    ensures { IfOk result (λ words. IsCommand (map string_bytes words.items) Command.Replay) }
 {
     let mut words = Vec::new(alloc);
     let Ok(word) = String::from_str(alloc, "replay") else {
@@ -35,6 +39,25 @@ fn replay_words(alloc: Global) -> Result<Vec<String>, NoMemory>
         return Err(NoMemory);
     };
     Ok(words)
+}
+
+/// Runs a replay.
+fn run_replay(
+    alloc: Global,
+    words: &Vec<String>,
+    source: &mut MemSource,
+    sink: &mut MemSink,
+    rack: &mut MemRack,
+) -> Status
+    requires { IsCommand (map string_bytes words.now.items) Command.Replay }
+    ensures done { result ≡ Status.Done → Replayed (counts_in rack.old) (counts_in rack.new) (member_in rack.new) (Some (left_in source.old))
+        (Some (left_in source.new)) (Some (taken_in sink.old)) (Some (taken_in sink.new)) }
+    ensures bad_line { result ≡ Status.BadLine → Stopped (counts_in rack.old) (counts_in rack.new) (member_in rack.new) (Some (left_in source.old))
+        (Some (left_in source.new)) (Some (taken_in sink.old)) (Some (taken_in sink.new)) }
+    ensures part { result ≡ Status.WriteFault → IsCut (counts_in rack.old) (counts_in rack.new) (member_in rack.new) (Some (left_in source.old))
+        (Some (left_in source.new)) (Some (taken_in sink.old)) (Some (taken_in sink.new)) }
+{
+    run(alloc, words, source, sink, rack)
 }
 
 /// Replays a text over a rack of eight members, each of them there, to a sink that fails at these of its calls.
@@ -50,7 +73,7 @@ pub fn replay_text(alloc: Global, text: &[u8], fails: Vec<u64>) -> Result<Replay
     let mut source = MemSource::new(bytes, Vec::new(alloc));
     let mut sink = MemSink::new(alloc, OUTPUT, fails)?;
     let mut rack = MemRack::new(alloc, 8, LENGTH, Vec::new(alloc))?;
-    let status = run(alloc, &words, &mut source, &mut sink, &mut rack);
+    let status = run_replay(alloc, &words, &mut source, &mut sink, &mut rack);
     Ok(Replay {
         status,
         source,

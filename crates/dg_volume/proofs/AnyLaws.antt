@@ -22,6 +22,7 @@ module _ {S R : Type 0} (phase : phases.Ghosts S) (rack : Ghosts R) where
     copies = volume.copies;
     levels = volume.levels;
     given = volume.given;
+    label = volume.label;
   }
 
   -- that is the same phase
@@ -35,9 +36,11 @@ module _ {S R : Type 0} (phase : phases.Ghosts S) (rack : Ghosts R) where
     levels = well.levels;
     marks = subst (λ (k : Option KeptInference). length (marks_by k volume.pending.items) ≡ (shape_of volume).n) (sym h.kept_is) well.marks;
     inferred = subst (λ (k : Option KeptInference). IfSome k (FitsArray (shape_of volume))) (sym h.kept_is) well.inferred;
+    labeled = well.labeled;
     homes_are = well.homes_are;
+    few_homes = well.few_homes;
     copies_are = well.copies_are;
-    loose = λ loose. well.loose (sym h.phase_is ∙ loose);
+    uncopied = λ unsettled. well.uncopied (λ settled. unsettled (h.phase_is ∙ settled));
     worn = λ worn. well.worn (sym h.phase_is ∙ worn);
     settled = λ settled.
         subst (λ (k : Option KeptInference). IsInPlace (table_of volume) k volume.homes volume.copies) (sym h.kept_is) (well.settled (sym h.phase_is ∙ settled));

@@ -1,11 +1,13 @@
 -- What reads and moves leave of an array, one after another, and what was planned over it before and after reads.
-use Rattle.std.proofs.Common.{◌≡◌, ◌<◌, ◌/◌, ℕ, Bool, List, sym, subst}
+use Rattle.std.proofs.Common.{◌≡◌, ◌∙◌, ◌<◌, ◌/◌, ℕ, Bool, List, sym, subst}
 use Rattle.std.specs.Prelude.{Result, Ok, Err, OnErr}
 use Rattle.dg_claims.specs.Kept.{KeptClaims, table_of}
 use Rattle.dg_claims.specs.Tables.{IsTableOf}
 use Rattle.dg_infer.specs.Meanings.{KeptInference}
 use Rattle.dg_infer.specs.Meanings as inferences
 use Rattle.dg_io.specs.declared.outside.Rack.{Ghosts}
+use Rattle.dg_label.specs.Seals.{KeepsArray}
+use Rattle.dg_model.proofs.MemberLaws.{falls_both}
 use Rattle.dg_model.specs.Plans.{plan}
 use Rattle.dg_model.specs.Tables.{Table}
 use Rattle.dg_model.specs.Wants.{AreParents}
@@ -17,8 +19,8 @@ use Rattle.dg_move.specs.Stores.{MovesOn}
 use Rattle.dg_plan.specs.Planned.{IsPlanned, KeepsRules}
 use Rattle.dg_plan.specs.declared.target_lists.Targets.{Targets}
 use Rattle.dg_store.specs.Leaves.{Keeps}
-use Rattle.dg_store.specs.ReadLaws.{keeps_both, reads_both}
-use Rattle.dg_store.specs.Stores.{TellsAll}
+use Rattle.dg_store.specs.ReadLaws.{rack_both, reads_both}
+use Rattle.dg_store.specs.Stores.{TellsAll, members_of, rack_of}
 use Rattle.dg_store.specs.declared.store.Store.{Store}
 use Rattle.dg_volume.specs.Planned.{AreKnown, AreWanted, HasMovedArray, HasNoPlan, HasPlan, HasReadArray}
 use Rattle.dg_volume.specs.Volumes.{FitsArray}
@@ -40,6 +42,9 @@ module _ {R : Type 0} (rack : Ghosts R) where
   pub told_by : (a b : Store R) → Keeps rack a b → TellsAll rack b → TellsAll rack a
   told_by a b keeps told q below = keeps.stays.tells q (told q (subst (λ (s : Shape). q / 2 < s.b) (sym keeps.shape) below))
 
+  pub told_moved : (a b : Store R) → HasMovedArray rack a b → TellsAll rack b → TellsAll rack a
+  told_moved a b h told q below = h.stays.stays.tells q (told q (subst (λ (s : Shape). q / 2 < s.b) (sym h.stays.shape) below))
+
   pub read_both : (a b c : Store R) → HasReadArray rack a b → HasReadArray rack b c → HasReadArray rack a c
   read_both a b c first second = record {
     sound = second.sound;
@@ -48,16 +53,39 @@ module _ {R : Type 0} (rack : Ghosts R) where
   }
 
   pub read_moved : (a b : Store R) → HasReadArray rack a b → HasMovedArray rack a b
-  read_moved a b h = record { leaves = record { sound = h.sound; keeps = h.reads.keeps }; stands = λ told. h.stands }
+  read_moved a b h = record {
+    sound = h.sound;
+    stays = record { shape = h.reads.keeps.shape; stays = h.reads.keeps.stays };
+    falls = h.reads.keeps.falls;
+    stands = λ told. h.stands;
+  }
 
   pub moved_by : (targets : ℕ → ℕ → Bool) (a b : Store R) → MovesOn rack targets a b → HasMovedArray rack a b
-  moved_by targets a b h = record { leaves = h.leaves; stands = h.stands }
+  moved_by targets a b h = record {
+    sound = h.leaves.sound;
+    stays = record { shape = h.leaves.keeps.shape; stays = h.leaves.keeps.stays };
+    falls = h.leaves.keeps.falls;
+    stands = h.stands;
+  }
+
+  pub opened_array : (a b : Store R) → KeepsArray rack a b → HasMovedArray rack a b
+  opened_array a b h = record { sound = h.sound; stays = h.stays; falls = h.falls; stands = λ told. h.stands }
+
+  pub moved_then : (a b c : Store R) → HasMovedArray rack a b → HasMovedArray rack b c → HasMovedArray rack a c
+  moved_then a b c first second = record {
+    sound = second.sound;
+    stays = record {
+      shape = second.stays.shape ∙ first.stays.shape;
+      stays = rack_both rack (rack_of a) (rack_of b) (rack_of c) first.stays.stays second.stays.stays;
+    };
+    falls =
+        falls_both (rack.counts (rack_of a)).faults (rack.counts (rack_of b)).faults (rack.counts (rack_of c)).faults (members_of a) (members_of b) (members_of c)
+        first.stays.stays.rise.faults second.stays.stays.rise.faults first.falls second.falls;
+    stands = λ told V held. second.stands told V (first.stands (told_moved b c second told) V held);
+  }
 
   pub moved_both : (a b c : Store R) → HasReadArray rack a b → HasMovedArray rack b c → HasMovedArray rack a c
-  moved_both a b c first second = record {
-    leaves = record { sound = second.leaves.sound; keeps = keeps_both rack a b c first.reads.keeps second.leaves.keeps };
-    stands = λ told V held. second.stands told V (first.stands V held);
-  }
+  moved_both a b c first second = moved_then a b c (read_moved a b first) second
 
   known_before : (a b c : Store R) (parents : List Parent) → HasReadArray rack a b → AreKnown rack b c parents → AreKnown rack a c parents
   known_before a b c parents read known told V held =

@@ -1,23 +1,58 @@
 -- The volume of a blank array is in the state of the blank array.
-use Rattle.std.proofs.Common.{◌≡◌, ◌∙◌, false, List, [], length, refl, sym, ap, subst, rules}
-use Rattle.std.specs.Prelude.{replicate}
+use Rattle.std.proofs.Common.{◌≡◌, ◌≢◌, ◌∙◌, ◌≤◌, ◌/◌, ℕ, true, false, List, [], length, inl, inr, refl, sym, ap, subst, arith, rules}
+use Rattle.std.specs.Prelude.{IfSome, None, Option, Some, replicate}
+use Rattle.std.proofs.lemmas.Bool.{cases_lt, false≢true}
 use Rattle.std.proofs.lemmas.List.{length-replicate}
 use Rattle.dg_infer.specs.Meanings.{KeptInference}
 use Rattle.dg_infer.specs.Meanings as inferences
 use Rattle.dg_io.specs.declared.outside.Rack.{Ghosts}
+use Rattle.dg_label.specs.Labels.{HasLength, IsLabeled, StandsLabeled}
+use Rattle.dg_label.specs.declared.labels.KeptLabel.{KeptLabel}
 use Rattle.dg_model.specs.Blocks.{zeros}
-use Rattle.dg_model.specs.Saves.{AreHomes}
+use Rattle.dg_model.specs.Members.{is_filling}
+use Rattle.dg_model.specs.Saves.{AreHomes, member_length}
 use Rattle.dg_model.specs.States.{IsBlank, State, plain_state}
 use Rattle.dg_model.specs.Tables.{Table, empty_table}
 use Rattle.dg_model.specs.declared.homes.Home.{Home}
+use Rattle.dg_model.specs.declared.members.MemberState.TheVariants.{Out}
 use Rattle.dg_model.specs.declared.shapes.Shape.{Shape}
-use Rattle.dg_store.specs.Answers.{IsBlankStore}
+use Rattle.dg_store.specs.Answers.{IsBlankStore, IsZeroed}
+use Rattle.dg_store.specs.Stores as stores
+use Rattle.dg_store.specs.declared.store.Store.{Store}
 use Rattle.dg_volume.specs.Volumes.{IsBlankVolume, StandsIn, loose_phase, members_of, rack_of, shape_of}
 use Rattle.dg_volume.specs.declared.phases.Loose.{Loose}
 use Rattle.dg_volume.specs.declared.volumes.Volume.{Volume}
 
 pub no_homes : (shape : Shape) → AreHomes shape []
 no_homes shape = search rules
+
+-- No label was written on a blank array: a member that isn't out is good, and as long as it was blanked.
+module _ {R : Type 0} (rack : Ghosts R) (shape : Shape) (before : R) (store : Store R) (blank : IsBlankStore rack shape before store) where
+  lengths : (q : ℕ) → stores.members_of store q ≢ Out → IfSome (rack.bytes (stores.rack_of store) q) (λ all. HasLength (stores.shape_of store) None (length all))
+  lengths q here = elim (cases_lt (q / 2) shape.b) [
+    | inl within ↦ elim (blank.members.begins q within) [
+      | inl good ↦ long (rack.bytes (stores.rack_of store) q) (blank.blanked q good)
+      | inr fell ↦ absurd (here fell.0)
+    ]
+    | inr past ↦ absurd (here (blank.members.others q (omega (arith, past))))
+  ]
+    where
+      long : (told : Option (List ℕ)) → IsZeroed (member_length 2 shape) told → IfSome told (λ all. HasLength (stores.shape_of store) None (length all))
+      long None zeroed = tt
+      long (Some all) zeroed = inl (ap length zeroed ∙ length-replicate (member_length 2 shape) 0 ∙ sym (ap (λ (t : Table). member_length 2 t.shape) blank.table))
+
+  -- none is refilled
+  none_filling : (q : ℕ) → is_filling (stores.members_of store q) ≡ true → IfSome (rack.bytes (stores.rack_of store) q) (λ all. length all ≡ member_length 2 (stores.shape_of store))
+  none_filling q fills = elim (cases_lt (q / 2) shape.b) [
+    | inl within ↦ elim (blank.members.begins q within) [
+      | inl good ↦ absurd (false≢true (sym (ap is_filling good) ∙ fills))
+      | inr fell ↦ absurd (false≢true (sym (ap is_filling fell.0) ∙ fills))
+    ]
+    | inr past ↦ absurd (false≢true (sym (ap is_filling (blank.members.others q (omega (arith, past)))) ∙ fills))
+  ]
+
+  pub blank_labeled : IsLabeled rack store None
+  blank_labeled = record { numbers = tt; lengths = lengths; filling = none_filling }
 
 -- What is inferred of a blank volume, and that it has no homes.
 pub record IsPlain {R : Type 0} (shape : Shape) (volume : Volume Loose R) : Type 0 where
@@ -28,6 +63,7 @@ pub record IsPlain {R : Type 0} (shape : Shape) (volume : Volume Loose R) : Type
   pub levels : volume.levels.fragment ≡ shape.l
   pub homes : volume.homes ≡ []
   pub copies : volume.copies ≡ []
+  pub label : volume.label ≡ None
 
 module _ {R : Type 0} (rack : Ghosts R) (shape : Shape) (before : R) (volume : Volume Loose R) (blank : IsBlankStore rack shape before volume.store) (plain : IsPlain shape volume) where
   same_shape : shape_of volume ≡ shape
@@ -41,7 +77,7 @@ module _ {R : Type 0} (rack : Ghosts R) (shape : Shape) (before : R) (volume : V
   unfolding start
   start_in = record {
     is = λ i. record start { table = sym blank.table i; pending = sym plain.pending i; homes = sym plain.homes i; copies = sym plain.copies i };
-    label = refl;
+    label = subst (λ (k : Option KeptLabel). StandsLabeled rack volume.store k None) (sym plain.label) (record { kept = tt; holds = tt });
     holds = λ told. record { array = blank.stands; inferred = plain.inferred };
   }
 
@@ -56,9 +92,11 @@ module _ {R : Type 0} (rack : Ghosts R) (shape : Shape) (before : R) (volume : V
       levels = plain.levels ∙ sym (ap (λ (s : Shape). s.l) same_shape);
       marks = ap length plain.pending ∙ length-replicate shape.n false ∙ sym (ap (λ (s : Shape). s.n) same_shape);
       inferred = record { bytes = plain.bytes ∙ sym (ap (λ (s : Shape). s.l) same_shape); number = plain.number ∙ sym (ap (λ (s : Shape). s.n) same_shape) };
+      labeled = subst (λ (k : Option KeptLabel). IsLabeled rack volume.store k) (sym plain.label) (blank_labeled rack shape before volume.store blank);
       homes_are = subst (λ (x : List Home). AreHomes (shape_of volume) x) (sym plain.homes) (no_homes (shape_of volume));
+      few_homes = subst (λ (x : List Home). length x ≤ (shape_of volume).n) (sym plain.homes) (omega arith);
       copies_are = subst (λ (x : List Home). AreHomes (shape_of volume) x) (sym plain.copies) (no_homes (shape_of volume));
-      loose = λ loose. plain.copies;
+      uncopied = λ unsettled. plain.copies;
       worn = λ worn. absurd (cc worn);
       settled = λ settled. absurd (cc settled);
     };

@@ -1,16 +1,16 @@
 -- A settled volume makes a step by a spreading of copies.
-use Rattle.std.proofs.Common.{◌≡◌, ◌∙◌, ◌<◌, ◌/◌, ◌^◌, ◌==◌, ◌||◌, ℕ, Bool, true, false, List, [], ◌∷◌, length, inl, inr, refl, sym, ap, subst, arith}
+use Rattle.std.proofs.Common.{◌≡◌, ◌∙◌, ◌<◌, ◌≤◌, ◌/◌, ◌^◌, ◌==◌, ◌||◌, ℕ, Bool, true, false, List, [], ◌∷◌, length, inl, inr, refl, sym, ap, subst, arith}
 use Rattle.std.specs.Prelude.{◌++◌, All, Err, IfOk, IfSome, IsSome, None, Ok, Option, Result, Some, filter, if◌then◌else◌, is_some, option_to_list, take}
 use Rattle.std.specs.List.{list_any, range_with_len}
 use Rattle.std.proofs.lemmas.Bool.{cases_lt, eq-eqb, eqb-true, false≢true, or_left, or_right}
 use Rattle.std.proofs.lemmas.List.Elements.{filter_agree}
-use Rattle.dg_hot.specs.Spreads.{HasSpread, HasSpreadSome, IsLost, Moved, spread_of}
+use Rattle.dg_hot.specs.Spreads.{HasSpread, HasSpreadSome, IsLost, spread_of}
 use Rattle.dg_hot.specs.declared.spreads.DiffuseAnswer.{DiffuseAnswer}
 use Rattle.dg_hot.specs.declared.spreads.DiffuseAnswer.TheVariants.{Diffused, Lost}
 use Rattle.dg_infer.specs.Meanings.{KeptInference}
 use Rattle.dg_infer.specs.Meanings as inferences
 use Rattle.dg_io.specs.declared.outside.Rack.{Ghosts}
-use Rattle.dg_model.proofs.SealLaws.{goes_plain}
+use Rattle.dg_label.specs.Labels.{StandsLabeled}
 use Rattle.dg_model.specs.Changes.{Spreads}
 use Rattle.dg_model.specs.Copies.{spread_over}
 use Rattle.dg_model.specs.Homes.{home_of}
@@ -24,7 +24,7 @@ use Rattle.dg_model.specs.Wants.{AreWants, FitWants, want_of}
 use Rattle.dg_model.specs.declared.events.Event.{Event}
 use Rattle.dg_model.specs.declared.events.Event.TheVariants.{Diffuse}
 use Rattle.dg_model.specs.declared.homes.Home.{Home}
-use Rattle.dg_model.specs.declared.phases.Phase.TheVariants.{Loose as LoosePhase, Settled as SettledPhase, Worn as WornPhase}
+use Rattle.dg_model.specs.declared.phases.Phase.TheVariants.{Settled as SettledPhase, Worn as WornPhase}
 use Rattle.dg_model.specs.declared.replies.Reply.{Reply}
 use Rattle.dg_model.specs.declared.replies.Reply.TheVariants.{Diffused as DiffusedReply, Lost as LostReply, NotSettled as NotSettledReply}
 use Rattle.dg_model.specs.declared.shapes.Shape.{Shape}
@@ -32,10 +32,11 @@ use Rattle.dg_model.specs.declared.wants.Want.{Want}
 use Rattle.dg_model.specs.declared.wants.Want.TheVariants.{File, Kept, Stray}
 use Rattle.dg_volume.proofs.HomeLaws.{are_homes}
 use Rattle.dg_volume.proofs.PlacedLaws.{off_table}
-use Rattle.dg_volume.proofs.VolumeLaws.{StepsAt}
+use Rattle.dg_store.specs.Answers.{SameWritten}
+use Rattle.dg_volume.proofs.VolumeLaws.{Labels, StepsAt, label_by, on_label}
 use Rattle.dg_volume.proofs.WantedLaws.{one_want}
 use Rattle.dg_volume.specs.Copies.{StepsHot, diffuse_reply}
-use Rattle.dg_volume.specs.Planned.{AreWanted}
+use Rattle.dg_volume.specs.Planned.{AreWanted, HasMovedArray}
 use Rattle.dg_volume.specs.Settles.{KeepsArray}
 use Rattle.dg_volume.specs.Volumes.{AreWantsBy, FitsArray, IsInPlace, IsWell, Leaves, StandsFor, StandsIn, Tells, marks_by, marks_of, members_of, rack_of, shape_of, state_of, table_of}
 use Rattle.dg_volume.specs.declared.phases.InPhase as phases
@@ -106,9 +107,6 @@ copies_within table wants homes copies is placed i t copied = elim (cases_lt t t
         ∙ ap (λ (h : Option ℕ). list_any (λ u. u == t) (option_to_list (Some s) ++ option_to_list h)) copied
         ∙ or_right (s == t) ((t == t) || false) (or_left (t == t) false (eq-eqb t t refl))
 
-settled_not_loose : SettledPhase ≡ LoosePhase → ⊥
-settled_not_loose e = absurd (cc e)
-
 settled_not_worn : SettledPhase ≡ WornPhase → ⊥
 settled_not_worn e = absurd (cc e)
 
@@ -125,7 +123,9 @@ module _ {S R : Type 0} (phase : phases.Ghosts S) (rack : Ghosts R) where
     pub homes : b.homes ≡ a.homes
     pub levels : b.levels.fragment ≡ a.levels.fragment
     pub small : All (λ (home : Home). home.inode < 2 ^ 32) b.copies
-    pub moved : Moved rack a.store b.store
+    pub moved : HasMovedArray rack a.store b.store
+    pub written : SameWritten (table_of a) (table_of b)
+    pub labels : Labels rack a b
     pub placed : IsPlaced wants (table_of b) a.homes b.copies
     pub live : IfOk result (λ answer. (n : ℕ) → answer ≡ Diffused n → has_lost (shape_of b) (members_of b) ≡ false)
     pub diffused : IfOk result (λ answer. (n : ℕ) → answer ≡ Diffused n → HasSpread wants a.homes hot (length hot) n a.copies b.copies a.store b.store)
@@ -142,7 +142,7 @@ module _ {S R : Type 0} (phase : phases.Ghosts S) (rack : Ghosts R) where
 
   module _ {E : Type 0} (a : Volume S R) (kept : KeptInference) (wants : List (Option Want)) (hot : List ℕ) (result : Result DiffuseAnswer E) (b : Volume S R) (h : HasDiffused a kept wants hot result b) where
     same_shape : shape_of b ≡ shape_of a
-    same_shape = h.moved.leaves.keeps.shape
+    same_shape = h.moved.stays.shape
 
     fitted : FitsArray (shape_of a) kept
     fitted = subst (λ (k : Option KeptInference). IfSome k (FitsArray (shape_of a))) h.kept_is h.well.inferred
@@ -154,7 +154,7 @@ module _ {S R : Type 0} (phase : phases.Ghosts S) (rack : Ghosts R) where
     fit_on : FitWants (table_of b) wants
     fit_on = record {
       size = h.wanted.fit.size ∙ sym (ap (λ (x : Shape). x.n) same_shape);
-      written = λ c. h.wanted.fit.written c ∙ sym (h.moved.written c);
+      written = λ c. h.wanted.fit.written c ∙ sym (h.written c);
     }
 
     in_place : IsInPlace (table_of b) (phase.kept b.phase) b.homes b.copies
@@ -183,31 +183,39 @@ module _ {S R : Type 0} (phase : phases.Ghosts S) (rack : Ghosts R) where
         let homes = subst (λ (x : Shape). AreHomes x a.homes) (sym same_shape) well.homes_are in
         record {
           well = record {
-            array = h.moved.leaves.sound;
+            array = h.moved.sound;
             levels = h.levels ∙ well.levels ∙ sym (ap (λ (x : Shape). x.l) same_shape);
             marks = ap length same_marks ∙ well.marks ∙ sym (ap (λ (x : Shape). x.n) same_shape);
             inferred = subst (λ (p : S). IfSome (phase.kept p) (FitsArray (shape_of b))) (sym h.phase_is) fits;
+            labeled = h.labels.labeled;
             homes_are = subst (λ (x : List Home). AreHomes (shape_of b) x) (sym h.homes) homes;
-            copies_are = are_homes (shape_of b) b.copies h.placed.copies_ascend (copies_within (table_of b) wants a.homes b.copies h.moved.leaves.sound.table h.placed) h.small;
-            loose = λ loose. absurd (settled_not_loose (sym still ∙ loose));
+            few_homes =
+                subst (λ (x : List Home). length x ≤ (shape_of b).n) (sym h.homes)
+                (subst (λ (x : Shape). length a.homes ≤ x.n) (sym same_shape) well.few_homes);
+            copies_are = are_homes (shape_of b) b.copies h.placed.copies_ascend (copies_within (table_of b) wants a.homes b.copies h.moved.sound.table h.placed) h.small;
+            uncopied = λ unsettled. absurd (unsettled still);
             worn = λ worn. absurd (settled_not_worn (sym still ∙ worn));
             settled = λ settled. in_place;
           };
           shape = same_shape;
-          tells = h.moved.leaves.keeps.stays.tells;
-          same_rack = h.moved.leaves.keeps.stays.same_rack;
+          tells = h.moved.stays.stays.tells;
+          same_rack = h.moved.stays.stays.same_rack;
         }
 
     pub diffuse_keeps : KeepsArray rack a b
     diffuse_keeps told = h.moved.stands told
 
     told_before : Tells rack b → Tells rack a
-    told_before told q below = h.moved.leaves.keeps.stays.tells q (told q (subst (λ (x : Shape). q / 2 < x.b) (sym same_shape) below))
+    told_before told q below = h.moved.stays.stays.tells q (told q (subst (λ (x : Shape). q / 2 < x.b) (sym same_shape) below))
 
-    next_in : (rest : State) (V : List (List ℕ)) → rest.label ≡ None → (Tells rack a → StandsFor phase rack a V) → StandsIn phase rack b (state_of phase rack b rest V)
+    -- the state that it is in then
+    abbrev next_state : State → List (List ℕ) → State
+    next_state rest V = state_of phase rack b (on_label a b h.labels.opens rest) V
+
+    next_in : (rest : State) (V : List (List ℕ)) → StandsLabeled rack a.store a.label rest.label → (Tells rack a → StandsFor phase rack a V) → StandsIn phase rack b (next_state rest V)
     next_in rest V label holds = record {
       is = refl;
-      label = label;
+      label = h.labels.stands rest.label label;
       holds = λ told.
           let held = holds (told_before told) in
           record {
@@ -217,8 +225,9 @@ module _ {S R : Type 0} (phase : phases.Ghosts S) (rack : Ghosts R) where
     }
 
     -- so many of the files may have got copies
-    spreads : (count gained : ℕ) → HasSpread wants a.homes hot count gained a.copies b.copies a.store b.store → (rest : State) (V : List (List ℕ)) → rest.label ≡ None → rest.recent ≡ hot
-        → (Tells rack a → StandsFor phase rack a V) → Spreads (Tells rack b) (state_of phase rack a rest V) count gained (state_of phase rack b rest V)
+    spreads : (count gained : ℕ) → HasSpread wants a.homes hot count gained a.copies b.copies a.store b.store → (rest : State) (V : List (List ℕ))
+        → StandsLabeled rack a.store a.label rest.label → rest.recent ≡ hot → (Tells rack a → StandsFor phase rack a V)
+        → Spreads (Tells rack b) (state_of phase rack a rest V) count gained (next_state rest V)
     spreads count gained has rest V label recent holds = record {
       wants = wants;
       seen = record {
@@ -227,10 +236,13 @@ module _ {S R : Type 0} (phase : phases.Ghosts S) (rack : Ghosts R) where
             let held = holds (told_before told) in
             wants_on V (subst (λ (k : Option KeptInference). IfSome k (λ inference. inferences.StandsFor inference V)) h.kept_is held.inferred);
       };
-      goes = goes_plain (state_of phase rack a rest V) (state_of phase rack b rest V) label label h.moved.leaves.keeps.stays.rise h.moved.leaves.keeps.falls h.moved.leaves.sound.paired;
+      goes = record {
+        passes = record { counts = h.moved.stays.stays.rise; label = label_by rack a b h.labels rest.label label; paired = h.moved.sound.paired };
+        members = h.moved.falls;
+      };
       spread = has.spread ∙ ap (λ (files : List ℕ). spread_over wants a.homes (take count files) (spread_of a.store a.copies)) (sym recent);
       gained_is = has.gained_is;
-      rest = λ i. record rest {
+      rest = λ i. record (on_label a b h.labels.opens rest) {
         table = table_of b;
         blocks = V;
         pending = same_marks i;
@@ -243,7 +255,7 @@ module _ {S R : Type 0} (phase : phases.Ghosts S) (rack : Ghosts R) where
     }
 
   hot_steps : (a b : Volume S R) (hot : List ℕ) (event : Event) (reply : Reply)
-      → ((rest : State) (V : List (List ℕ)) → rest.label ≡ None → rest.recent ≡ hot → (Tells rack a → StandsFor phase rack a V) → StepsAt phase rack (λ recent. recent) a rest V event reply b)
+      → ((rest : State) (V : List (List ℕ)) → StandsLabeled rack a.store a.label rest.label → rest.recent ≡ hot → (Tells rack a → StandsFor phase rack a V) → StepsAt phase rack (λ recent. recent) a rest V event reply b)
       → StepsHot phase phase rack hot a event reply b
   hot_steps a b hot event reply go state st recent =
       subst (λ (s : State). (next : State) × StandsIn phase rack b next × Step (Tells rack b) s event reply next × (next.recent ≡ s.recent)) (sym st.is)
@@ -252,13 +264,13 @@ module _ {S R : Type 0} (phase : phases.Ghosts S) (rack : Ghosts R) where
   pub diffuse_steps : {E : Type 0} (a : Volume S R) (kept : KeptInference) (wants : List (Option Want)) (hot : List ℕ) (result : Result DiffuseAnswer E) (b : Volume S R)
       → HasDiffused a kept wants hot result b → IfOk result (λ answer. StepsHot phase phase rack hot a Diffuse (diffuse_reply answer) b)
   diffuse_steps a kept wants hot (Ok (Diffused n)) b h = hot_steps a b hot Diffuse (DiffusedReply n) (λ rest V label recent holds. (
-    state_of phase rack b rest V,
+    next_state a kept wants hot (Ok (Diffused n)) b h rest V,
     next_in a kept wants hot (Ok (Diffused n)) b h rest V label holds,
     (
       h.settled,
       h.whole,
       h.live n refl,
-      subst (λ (count : ℕ). Spreads (Tells rack b) (state_of phase rack a rest V) count n (state_of phase rack b rest V)) (ap length (sym recent))
+      subst (λ (count : ℕ). Spreads (Tells rack b) (state_of phase rack a rest V) count n (next_state a kept wants hot (Ok (Diffused n)) b h rest V)) (ap length (sym recent))
           (spreads a kept wants hot (Ok (Diffused n)) b h (length hot) n (h.diffused n refl) rest V label recent holds),
     ),
     refl,
@@ -266,7 +278,7 @@ module _ {S R : Type 0} (phase : phases.Ghosts S) (rack : Ghosts R) where
   diffuse_steps a kept wants hot (Ok (Lost s)) b h =
       let some = h.cut s refl in
       hot_steps a b hot Diffuse (LostReply s) (λ rest V label recent holds. (
-        state_of phase rack b rest V,
+        next_state a kept wants hot (Ok (Lost s)) b h rest V,
         next_in a kept wants hot (Ok (Lost s)) b h rest V label holds,
         (
           h.settled,

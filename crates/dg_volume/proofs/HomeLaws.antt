@@ -7,17 +7,17 @@ use Rattle.dg_model.specs.Saves.{AreHomes}
 use Rattle.dg_model.specs.declared.homes.Home.{Home}
 use Rattle.dg_model.specs.declared.shapes.Shape.{Shape}
 
-abbrev inodes : List Home → List ℕ
+abbrev pub inodes : List Home → List ℕ
 inodes homes = map (λ (home : Home). home.inode) homes
 
-tail_ascends : (home : Home) (homes : List Home) → Ascend (home ∷ homes) → Ascend homes
+pub tail_ascends : (home : Home) (homes : List Home) → Ascend (home ∷ homes) → Ascend homes
 tail_ascends home homes ascend k within =
     let next : suc k + 1 ≡ suc (k + 1) = omega arith in
     let later = ascend (suc k) (omega (arith, within)) in
     subst (λ (n : ℕ). get_or (inodes homes) k 0 < get_or (inodes (home ∷ homes)) n 0) next later
 
 -- inodes behind one are above it
-above : (home : Home) (homes : List Home) (k : ℕ) (d : Home) → Ascend (home ∷ homes) → k < length homes → home.inode < (get_or homes k d).inode
+pub above : (home : Home) (homes : List Home) (k : ℕ) (d : Home) → Ascend (home ∷ homes) → k < length homes → home.inode < (get_or homes k d).inode
 above home [] k d ascend within = absurd (omega (arith, within))
 above home (next ∷ homes) zero d ascend within = ascend 0 (omega arith)
 above home (next ∷ homes) (suc k) d ascend within =
@@ -26,7 +26,7 @@ above home (next ∷ homes) (suc k) d ascend within =
     omega (arith, first, far)
 
 -- the home at a place is the one that is found by its inode
-found_at : (homes : List Home) (k : ℕ) (d : Home) → Ascend homes → k < length homes → home_of homes (get_or homes k d).inode ≡ Some (get_or homes k d).boundary
+pub found_at : (homes : List Home) (k : ℕ) (d : Home) → Ascend homes → k < length homes → home_of homes (get_or homes k d).inode ≡ Some (get_or homes k d).boundary
 found_at [] k d ascend within = absurd (omega (arith, within))
 found_at (home ∷ homes) zero d ascend within = ap (λ (b : Bool). cond b (Some home.boundary) (home_of homes home.inode)) (same_test home.inode home.inode refl)
 found_at (home ∷ homes) (suc k) d ascend within =

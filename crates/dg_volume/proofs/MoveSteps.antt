@@ -1,14 +1,16 @@
 -- A volume makes a step by moves of its blocks: what is left of it, and each answer of `tend` and of `settle`.
-use Rattle.std.proofs.Common.{◌≡◌, ◌≢◌, ◌∙◌, ℕ, Bool, false, List, length, refl, sym, ap, subst, inl, inr}
+use Rattle.std.proofs.Common.{◌≡◌, ◌≢◌, ◌∙◌, ◌≤◌, ℕ, Bool, false, List, length, refl, sym, ap, subst, inl, inr}
 use Rattle.std.specs.Prelude.{Option, Some, None, Err, IfSome}
+use Rattle.dg_label.specs.Labels.{StandsLabeled}
+use Rattle.dg_label.specs.declared.labels.KeptLabel.{KeptLabel}
 use Rattle.dg_infer.specs.Meanings.{KeptInference}
 use Rattle.dg_infer.specs.Meanings as inferences
 use Rattle.dg_io.specs.declared.outside.Rack.{Ghosts}
-use Rattle.dg_model.proofs.SealLaws.{goes_plain}
 use Rattle.dg_model.specs.Changes.{Goes, IsCramped, IsCut, IsPlan, SeesParents, SeesWants}
 use Rattle.dg_model.specs.Moves.{IsCutOff, moved}
 use Rattle.dg_model.specs.Plans.{targets_of}
 use Rattle.dg_model.specs.Saves.{AreHomes}
+use Rattle.dg_model.specs.Seals.{KeepsLabel, LastLabel}
 use Rattle.dg_model.specs.States.{IsLeastLost, State, has_lost}
 use Rattle.dg_model.specs.Steps.{Step}
 use Rattle.dg_model.specs.Tables.{Table}
@@ -27,9 +29,11 @@ use Rattle.dg_plan.specs.declared.target_lists.Targets.{Targets}
 use Rattle.dg_store.specs.Stores.{TellsAll}
 use Rattle.dg_store.specs.Stores as stores
 use Rattle.dg_store.specs.declared.store.Store.{Store}
-use Rattle.dg_volume.proofs.ArrayLaws.{told_by}
-use Rattle.dg_volume.proofs.VolumeLaws.{HasRead, IsBeside, reads_in, reads_stay, steps_from}
+use Rattle.dg_volume.proofs.ArrayLaws.{told_by, told_moved}
+use Rattle.dg_volume.proofs.LabelLaws.{good_falls, relabels_behind}
+use Rattle.dg_volume.proofs.VolumeLaws.{HasRead, IsBeside, Labels, label_by, on_label, read_state, reads_in, reads_stay, same_in, steps_from}
 use Rattle.dg_volume.specs.Planned.{AnswersCheck, AreKnown, AreWanted, FindsOn, HasMovedArray, HasNoPlan, HasPlan, HasReadArray}
+use Rattle.dg_volume.specs.Seals.{Relabels}
 use Rattle.dg_volume.specs.Settles.{unsettled_reply}
 use Rattle.dg_volume.specs.Volumes.{FitsArray, IsWell, Leaves, StandsFor, StandsIn, StepsTo, Tells, marks_by, marks_of, members_of, rack_of, shape_of, state_of, table_of}
 use Rattle.dg_volume.specs.declared.phases.InPhase as phases
@@ -53,7 +57,9 @@ module _ {S R : Type 0} (phase : phases.Ghosts S) (rack : Ghosts R) where
     pub copies : b.copies ≡ a.copies
     pub levels : b.levels.fragment ≡ a.levels.fragment
     pub array : HasMovedArray rack a.store b.store
+    pub labels : Labels rack a b
     pub homes_are : AreHomes (shape_of b) b.homes
+    pub few_homes : length b.homes ≤ (shape_of b).n
 
   marks_moved : (a b : Volume S R) → HasMoved a b → marks_of phase b ≡ marks_of phase a
   marks_moved a b h = λ i. marks_by (phase.kept (h.phase_is i)) ((h.pending i).items)
@@ -61,29 +67,31 @@ module _ {S R : Type 0} (phase : phases.Ghosts S) (rack : Ghosts R) where
   -- what moves leave of a loose volume
   pub moved_leaves : (a b : Volume S R) → IsWell phase rack a → phase.phase a.phase ≡ LoosePhase → HasMoved a b → Leaves phase phase rack a b
   moved_leaves a b well loose h =
-      let shape : shape_of b ≡ shape_of a = h.array.leaves.keeps.shape in
+      let shape : shape_of b ≡ shape_of a = h.array.stays.shape in
       let fits = subst (λ (x : Shape). IfSome (phase.kept a.phase) (FitsArray x)) (sym shape) well.inferred in
       let copies = subst (λ (x : Shape). AreHomes x a.copies) (sym shape) well.copies_are in
       let still : phase.phase b.phase ≡ LoosePhase = ap phase.phase h.phase_is ∙ loose in
       record {
         well = record {
-          array = h.array.leaves.sound;
+          array = h.array.sound;
           levels = h.levels ∙ well.levels ∙ sym (ap (λ (x : Shape). x.l) shape);
           marks = ap length (marks_moved a b h) ∙ well.marks ∙ sym (ap (λ (x : Shape). x.n) shape);
           inferred = subst (λ (p : S). IfSome (phase.kept p) (FitsArray (shape_of b))) (sym h.phase_is) fits;
+          labeled = h.labels.labeled;
           homes_are = h.homes_are;
+          few_homes = h.few_homes;
           copies_are = subst (λ (x : List Home). AreHomes (shape_of b) x) (sym h.copies) copies;
-          loose = λ is. h.copies ∙ well.loose loose;
+          uncopied = λ unsettled. h.copies ∙ well.uncopied (λ settled. loose_not_settled (sym loose ∙ settled));
           worn = λ worn. absurd (loose_not_worn (sym still ∙ worn));
           settled = λ settled. absurd (loose_not_settled (sym still ∙ settled));
         };
         shape = shape;
-        tells = h.array.leaves.keeps.stays.tells;
-        same_rack = h.array.leaves.keeps.stays.same_rack;
+        tells = h.array.stays.stays.tells;
+        same_rack = h.array.stays.stays.same_rack;
       }
 
-  told_moved : (a b : Volume S R) → HasMoved a b → Tells rack b → Tells rack a
-  told_moved a b h told = told_by rack a.store b.store h.array.leaves.keeps told
+  told_before : (a b : Volume S R) → HasMoved a b → Tells rack b → Tells rack a
+  told_before a b h told = told_moved rack a.store b.store h.array told
 
   pub stands_moved : (a b : Volume S R) (V : List (List ℕ)) → HasMoved a b → Tells rack b → StandsFor phase rack a V → StandsFor phase rack b V
   stands_moved a b V h told held = record {
@@ -91,30 +99,65 @@ module _ {S R : Type 0} (phase : phases.Ghosts S) (rack : Ghosts R) where
     inferred = subst (λ (p : S). IfSome (phase.kept p) (λ kept. inferences.StandsFor kept V)) (sym h.phase_is) held.inferred;
   }
 
-  moved_in : (a b : Volume S R) (rest : State) (V : List (List ℕ)) → rest.label ≡ None → HasMoved a b → (Tells rack a → StandsFor phase rack a V)
-      → StandsIn phase rack b (state_of phase rack b rest V)
-  moved_in a b rest V label h holds = record { is = refl; label = label; holds = λ told. stands_moved a b V h told (holds (told_moved a b h told)) }
+  -- the state that it is in then
+  abbrev moved_state : (a b : Volume S R) → HasMoved a b → State → List (List ℕ) → State
+  moved_state a b h rest V = state_of phase rack b (on_label a b h.labels.opens rest) V
 
-  moved_goes : (a b : Volume S R) (rest : State) (V : List (List ℕ)) → rest.label ≡ None → HasMoved a b → Goes (state_of phase rack a rest V) (state_of phase rack b rest V)
-  moved_goes a b rest V label h =
-      goes_plain (state_of phase rack a rest V) (state_of phase rack b rest V) label label h.array.leaves.keeps.stays.rise h.array.leaves.keeps.falls h.array.leaves.sound.paired
+  moved_in : (a b : Volume S R) (rest : State) (V : List (List ℕ)) → StandsLabeled rack a.store a.label rest.label → (h : HasMoved a b) → (Tells rack a → StandsFor phase rack a V)
+      → StandsIn phase rack b (moved_state a b h rest V)
+  moved_in a b rest V label h holds = record {
+    is = refl;
+    label = h.labels.stands rest.label label;
+    holds = λ told. stands_moved a b V h told (holds (told_before a b h told));
+  }
+
+  moved_passes : (a b : Volume S R) (rest : State) → StandsLabeled rack a.store a.label rest.label → (h : HasMoved a b)
+      → KeepsLabel (rack.counts (rack_of a)).writes (rack.counts (rack_of b)).writes (members_of a) (members_of b) rest.label (on_label a b h.labels.opens rest).label
+  moved_passes a b rest label h = label_by rack a b h.labels rest.label label
+
+  moved_goes : (a b : Volume S R) (rest : State) (V : List (List ℕ)) → StandsLabeled rack a.store a.label rest.label → (h : HasMoved a b)
+      → Goes (state_of phase rack a rest V) (moved_state a b h rest V)
+  moved_goes a b rest V label h = record {
+    passes = record { counts = h.array.stays.stays.rise; label = moved_passes a b rest label h; paired = h.array.sound.paired };
+    members = h.array.falls;
+  }
 
   -- what reads left of a volume, by what they left of its array
-  pub has_read : (a b : Volume S R) → IsBeside phase rack a b → b.levels.fragment ≡ a.levels.fragment → HasReadArray rack a.store b.store → HasRead phase rack a b
-  has_read a b beside levels h = record { beside = beside; levels = levels; sound = h.sound; reads = h.reads; stands = h.stands }
+  pub has_read : (a b : Volume S R) → IsWell phase rack a → IsBeside phase rack a b → b.levels.fragment ≡ a.levels.fragment → b.label ≡ a.label → HasReadArray rack a.store b.store
+      → HasRead phase rack a b
+  has_read a b well beside levels label h = record {
+    beside = beside;
+    levels = levels;
+    sound = h.sound;
+    reads = h.reads;
+    stands = h.stands;
+    labeled = well.labeled;
+    label_is = label;
+  }
 
   -- what moves left of it, where the homes stay
-  pub has_moved : (a b : Volume S R) → IsBeside phase rack a b → b.levels.fragment ≡ a.levels.fragment → IsWell phase rack a → HasMovedArray rack a.store b.store → HasMoved a b
-  has_moved a b beside levels well h = record {
+  pub has_moved : (a b : Volume S R) → IsBeside phase rack a b → b.levels.fragment ≡ a.levels.fragment → IsWell phase rack a → Labels rack a b → HasMovedArray rack a.store b.store → HasMoved a b
+  has_moved a b beside levels well labels h = record {
     phase_is = beside.phase_is;
     pending = beside.pending;
     copies = beside.copies;
     levels = levels;
     array = h;
+    labels = labels;
     homes_are =
-        subst (λ (x : Shape). AreHomes x b.homes) (sym h.leaves.keeps.shape)
+        subst (λ (x : Shape). AreHomes x b.homes) (sym h.stays.shape)
         (subst (λ (x : List Home). AreHomes (shape_of a) x) (sym beside.homes) well.homes_are);
+    few_homes =
+        subst (λ (x : Shape). length b.homes ≤ x.n) (sym h.stays.shape)
+        (subst (λ (x : List Home). length x ≤ (shape_of a).n) (sym beside.homes) well.few_homes);
   }
+
+  -- the label, where reads were followed by moves
+  pub labels_run : (a : Volume S R) (mid last : Store R) (label : Option KeptLabel) → HasReadArray rack a.store mid → HasMovedArray rack mid last → Relabels rack mid last a.label label
+      → Relabels rack a.store last a.label label
+  labels_run a mid last label read moved second =
+      relabels_behind rack a.store mid last a.label label read.reads second (λ q was good.
+      good_falls rack (rack.counts (stores.rack_of mid)).faults (rack.counts (stores.rack_of last)).faults (stores.members_of mid) (stores.members_of last) moved.falls q good)
 
   -- ---- what is inferred
 
@@ -173,13 +216,10 @@ module _ {S R : Type 0} (phase : phases.Ghosts S) (rack : Ghosts R) where
   not_settled : (a : Volume S R) → IsReady a → phase.phase a.phase ≢ SettledPhase
   not_settled a ready settled = loose_not_settled (sym ready.loose ∙ settled)
 
-  same_in : (a : Volume S R) (rest : State) (V : List (List ℕ)) → rest.label ≡ None → (Tells rack a → StandsFor phase rack a V) → StandsIn phase rack a (state_of phase rack a rest V)
-  same_in a rest V label holds = record { is = refl; label = label; holds = holds }
-
   pub tend_lost_first : (a : Volume S R) (limit s : ℕ) → IsLeastLost (shape_of a) (members_of a) s → StepsTo phase phase rack a (Tend limit) (LostReply s) a
   tend_lost_first a limit s least = steps_from phase rack a a (Tend limit) (LostReply s) (λ rest V label holds. (
     state_of phase rack a rest V,
-    same_in a rest V label holds,
+    same_in phase rack a rest V label holds,
     inl (least, refl),
     refl,
   ))
@@ -187,7 +227,7 @@ module _ {S R : Type 0} (phase : phases.Ghosts S) (rack : Ghosts R) where
   pub settle_lost_first : (a : Volume S R) (s : ℕ) → IsLeastLost (shape_of a) (members_of a) s → StepsTo phase phase rack a Settle (LostReply s) a
   settle_lost_first a s least = steps_from phase rack a a Settle (LostReply s) (λ rest V label holds. (
     state_of phase rack a rest V,
-    same_in a rest V label holds,
+    same_in phase rack a rest V label holds,
     inl (least, refl),
     refl,
   ))
@@ -197,7 +237,7 @@ module _ {S R : Type 0} (phase : phases.Ghosts S) (rack : Ghosts R) where
       → StepsTo phase phase rack a (Tend limit) (TendedReply 0 0) a
   tend_settled a limit settled whole = steps_from phase rack a a (Tend limit) (TendedReply 0 0) (λ rest V label holds. (
     state_of phase rack a rest V,
-    same_in a rest V label holds,
+    same_in phase rack a rest V label holds,
     (whole, inl (settled, refl, refl, refl)),
     refl,
   ))
@@ -205,7 +245,7 @@ module _ {S R : Type 0} (phase : phases.Ghosts S) (rack : Ghosts R) where
   pub settle_settled : (a : Volume S R) → phase.phase a.phase ≡ SettledPhase → has_lost (shape_of a) (members_of a) ≡ false → StepsTo phase phase rack a Settle SettledReply a
   settle_settled a settled whole = steps_from phase rack a a Settle SettledReply (λ rest V label holds. (
     state_of phase rack a rest V,
-    same_in a rest V label holds,
+    same_in phase rack a rest V label holds,
     (whole, inl (settled, refl)),
     refl,
   ))
@@ -214,7 +254,7 @@ module _ {S R : Type 0} (phase : phases.Ghosts S) (rack : Ghosts R) where
   pub tend_lost_reading : (a b : Volume S R) (limit s : ℕ) → IsReady a → HasRead phase rack a b → IsLeastLost (shape_of b) (members_of b) s
       → StepsTo phase phase rack a (Tend limit) (LostReply s) b
   tend_lost_reading a b limit s ready h least = steps_from phase rack a b (Tend limit) (LostReply s) (λ rest V label holds. (
-    state_of phase rack b rest V,
+    read_state phase rack a b h rest V,
     reads_in phase rack a b rest V label h holds,
     inr ((ready.whole, least), not_settled a ready, inl (reads_stay phase rack a b rest V label h)),
     refl,
@@ -223,7 +263,7 @@ module _ {S R : Type 0} (phase : phases.Ghosts S) (rack : Ghosts R) where
   pub settle_lost_reading : (a b : Volume S R) (s : ℕ) → IsReady a → HasRead phase rack a b → IsLeastLost (shape_of b) (members_of b) s
       → StepsTo phase phase rack a Settle (LostReply s) b
   settle_lost_reading a b s ready h least = steps_from phase rack a b Settle (LostReply s) (λ rest V label holds. (
-    state_of phase rack b rest V,
+    read_state phase rack a b h rest V,
     reads_in phase rack a b rest V label h holds,
     inr ((ready.whole, least), not_settled a ready, inl (reads_stay phase rack a b rest V label h)),
     refl,
@@ -237,7 +277,7 @@ module _ {S R : Type 0} (phase : phases.Ghosts S) (rack : Ghosts R) where
   pub tend_cramped : (a b : Volume S R) (kept : KeptInference) (limit : ℕ) (bad : NoRoom) → IsReady a → Keeps a kept → HasRead phase rack a b
       → HasNoPlan rack a.store b.store kept a.homes bad → StepsTo phase phase rack a (Tend limit) (NoSpaceReply bad) b
   tend_cramped a b kept limit bad ready keeps h found = steps_from phase rack a b (Tend limit) (NoSpaceReply bad) (λ rest V label holds. (
-    state_of phase rack b rest V,
+    read_state phase rack a b h rest V,
     reads_in phase rack a b rest V label h holds,
     (
       ready.whole,
@@ -256,7 +296,7 @@ module _ {S R : Type 0} (phase : phases.Ghosts S) (rack : Ghosts R) where
   pub settle_malformed : (a b : Volume S R) (kept : KeptInference) (kind : BadKind) (n : ℕ) → IsReady a → Keeps a kept → HasRead phase rack a b
       → FindsOn rack a.store b.store kept (λ V. IsFirstMalformation (shape_of a).l (shape_of a).n V kind n) → StepsTo phase phase rack a Settle (MalformedReply kind n) b
   settle_malformed a b kept kind n ready keeps h found = steps_from phase rack a b Settle (MalformedReply kind n) (λ rest V label holds. (
-    state_of phase rack b rest V,
+    read_state phase rack a b h rest V,
     reads_in phase rack a b rest V label h holds,
     (
       ready.whole,
@@ -280,7 +320,7 @@ module _ {S R : Type 0} (phase : phases.Ghosts S) (rack : Ghosts R) where
   pub settle_cramped : (a b : Volume S R) (kept : KeptInference) (bad : NoRoom) → IsReady a → Keeps a kept → IsChecked a kept b → HasRead phase rack a b
       → HasNoPlan rack a.store b.store kept a.homes bad → StepsTo phase phase rack a Settle (NoSpaceReply bad) b
   settle_cramped a b kept bad ready keeps check h found = steps_from phase rack a b Settle (NoSpaceReply bad) (λ rest V label holds. (
-    state_of phase rack b rest V,
+    read_state phase rack a b h rest V,
     reads_in phase rack a b rest V label h holds,
     (
       ready.whole,
@@ -322,21 +362,21 @@ module _ {S R : Type 0} (phase : phases.Ghosts S) (rack : Ghosts R) where
     on_plan P is = subst (λ (t : Table). P goals t) run.read.reads.table (subst (λ (f : ℕ → ℕ → Bool). P f (stores.table_of mid)) same_goals is)
 
     held_at : (V : List (List ℕ)) → (Tells rack a → StandsFor phase rack a V) → Tells rack b → StandsFor phase rack a V
-    held_at V holds told = holds (told_moved a b run.moves told)
+    held_at V holds told = holds (told_before a b run.moves told)
 
     plan_at : (rest : State) (V : List (List ℕ)) → (Tells rack a → StandsFor phase rack a V)
         → IsPlan (Tells rack b) (state_of phase rack a rest V) run.plan.wants run.plan.planned.found
     plan_at rest V holds = is_plan (Tells rack b) a mid kept rest V run.keeps run.told (held_at V holds) targets run.plan
 
-    cut_at : (rest : State) (V : List (List ℕ)) (limit : Option ℕ) → rest.label ≡ None → b.homes ≡ a.homes → (Tells rack a → StandsFor phase rack a V)
-        → IsCutOff (wants_of targets) limit (stores.table_of mid) (table_of b) → IsCut (Tells rack b) (state_of phase rack a rest V) limit (state_of phase rack b rest V)
+    cut_at : (rest : State) (V : List (List ℕ)) (limit : Option ℕ) → StandsLabeled rack a.store a.label rest.label → b.homes ≡ a.homes → (Tells rack a → StandsFor phase rack a V)
+        → IsCutOff (wants_of targets) limit (stores.table_of mid) (table_of b) → IsCut (Tells rack b) (state_of phase rack a rest V) limit (moved_state a b run.moves rest V)
     cut_at rest V limit label homes holds cut = record {
       wants = run.plan.wants;
       found = run.plan.planned.found;
       planned = plan_at rest V holds;
       goes = moved_goes a b rest V label run.moves;
       cut = on_plan (λ f t. IsCutOff f limit t (table_of b)) cut;
-      rest = λ i. record rest {
+      rest = λ i. record (on_label a b run.moves.labels.opens rest) {
         table = table_of b;
         blocks = V;
         pending = marks_moved a b run.moves i;
@@ -351,7 +391,7 @@ module _ {S R : Type 0} (phase : phases.Ghosts S) (rack : Ghosts R) where
     pub tend_lost_moving : (limit s : ℕ) → IsReady a → b.homes ≡ a.homes → IsLeastLost (shape_of b) (members_of b) s
         → IsCutOff (wants_of targets) (Some limit) (stores.table_of mid) (table_of b) → StepsTo phase phase rack a (Tend limit) (LostReply s) b
     tend_lost_moving limit s ready homes least cut = steps_from phase rack a b (Tend limit) (LostReply s) (λ rest V label holds. (
-      state_of phase rack b rest V,
+      moved_state a b run.moves rest V,
       moved_in a b rest V label run.moves holds,
       inr ((ready.whole, least), not_settled a ready, inr (cut_at rest V (Some limit) label homes holds cut)),
       refl,
@@ -360,7 +400,7 @@ module _ {S R : Type 0} (phase : phases.Ghosts S) (rack : Ghosts R) where
     pub settle_lost_moving : (s : ℕ) → IsReady a → IsChecked a kept b → b.homes ≡ a.homes → IsLeastLost (shape_of b) (members_of b) s
         → IsCutOff (wants_of targets) None (stores.table_of mid) (table_of b) → StepsTo phase phase rack a Settle (LostReply s) b
     settle_lost_moving s ready check homes least cut = steps_from phase rack a b Settle (LostReply s) (λ rest V label holds. (
-      state_of phase rack b rest V,
+      moved_state a b run.moves rest V,
       moved_in a b rest V label run.moves holds,
       inr (
         (ready.whole, least),
@@ -374,7 +414,7 @@ module _ {S R : Type 0} (phase : phases.Ghosts S) (rack : Ghosts R) where
         → IsTended (wants_of targets) limit (stores.table_of mid) (table_of b) m l → StepsTo phase phase rack a (Tend limit) (TendedReply m l) b
     tend_done limit m l ready homes live is = steps_from phase rack a b (Tend limit) (TendedReply m l) (λ rest V label holds.
         let done = on_plan (λ f t. IsTended f limit t (table_of b) m l) is in (
-          state_of phase rack b rest V,
+          moved_state a b run.moves rest V,
           moved_in a b rest V label run.moves holds,
           (
             ready.whole,
@@ -386,7 +426,7 @@ module _ {S R : Type 0} (phase : phases.Ghosts S) (rack : Ghosts R) where
                 found = run.plan.planned.found;
                 planned = plan_at rest V holds;
                 goes = moved_goes a b rest V label run.moves;
-                rest = λ i. record rest {
+                rest = λ i. record (on_label a b run.moves.labels.opens rest) {
                   table = done.table i;
                   blocks = V;
                   pending = marks_moved a b run.moves i;
@@ -407,33 +447,38 @@ module _ {S R : Type 0} (phase : phases.Ghosts S) (rack : Ghosts R) where
     -- the step of settling, to a state of a settled volume
     pub settle_step : IsReady a → IsChecked a kept b → b.homes ≡ run.plan.planned.found.homes → has_lost (shape_of b) (members_of b) ≡ false
         → table_of b ≡ moved (wants_of targets) None (stores.table_of mid)
-        → (rest : State) (V : List (List ℕ)) → rest.label ≡ None → (Tells rack a → StandsFor phase rack a V)
-        → Step (Tells rack b) (state_of phase rack a rest V) Settle SettledReply (record (state_of phase rack b rest V) { phase = SettledPhase })
+        → (rest : State) (V : List (List ℕ)) → StandsLabeled rack a.store a.label rest.label → (Tells rack a → StandsFor phase rack a V)
+        → (last : Option LastLabel) × StandsLabeled rack b.store b.label last
+        × Step (Tells rack b) (state_of phase rack a rest V) Settle SettledReply (record (state_of phase rack b rest V) { phase = SettledPhase; label = last })
     settle_step ready check homes live is rest V label holds =
-        let done = on_plan (λ f t. table_of b ≡ moved f None t) is in
-        let next = record (state_of phase rack b rest V) { phase = SettledPhase } in (
-          ready.whole,
-          inr (
-            not_settled a ready,
-            live,
-            record {
-              wants = run.plan.wants;
-              found = run.plan.planned.found;
-              planned = plan_at rest V holds;
-              goes =
-                  goes_plain (state_of phase rack a rest V) next label label run.moves.array.leaves.keeps.stays.rise run.moves.array.leaves.keeps.falls
-                  run.moves.array.leaves.sound.paired;
-              sound = sound_in a b kept V run.keeps check (held_at V holds);
-              rest = λ i. record rest {
-                table = done i;
-                blocks = V;
-                pending = marks_moved a b run.moves i;
-                homes = homes i;
-                copies = run.moves.copies i;
-                phase = SettledPhase;
-                members = members_of b;
-                counts = rack.counts (rack_of b);
-              };
-            },
+        let done = on_plan (λ f t. table_of b ≡ moved f None t) is in (
+          (on_label a b run.moves.labels.opens rest).label,
+          run.moves.labels.stands rest.label label,
+          (
+            ready.whole,
+            inr (
+              not_settled a ready,
+              live,
+              record {
+                wants = run.plan.wants;
+                found = run.plan.planned.found;
+                planned = plan_at rest V holds;
+                goes = record {
+                  passes = record { counts = run.moves.array.stays.stays.rise; label = moved_passes a b rest label run.moves; paired = run.moves.array.sound.paired };
+                  members = run.moves.array.falls;
+                };
+                sound = sound_in a b kept V run.keeps check (held_at V holds);
+                rest = λ i. record (on_label a b run.moves.labels.opens rest) {
+                  table = done i;
+                  blocks = V;
+                  pending = marks_moved a b run.moves i;
+                  homes = homes i;
+                  copies = run.moves.copies i;
+                  phase = SettledPhase;
+                  members = members_of b;
+                  counts = rack.counts (rack_of b);
+                };
+              },
+            ),
           ),
         )

@@ -3,7 +3,6 @@ use Rattle.std.proofs.Common.{◌≡◌, ℕ, List, ◌++◌, refl, sym, subst, 
 use Rattle.std.specs.Prelude.{Option, Some, None, Result, Ok, Err, IfNone}
 use Rattle.std.specs.List.{concat}
 use Rattle.dg_io.specs.declared.outside.Rack.{Ghosts}
-use Rattle.dg_model.proofs.SealLaws.{goes_plain}
 use Rattle.dg_model.specs.Changes.{IsCutShort, MayRead}
 use Rattle.dg_model.specs.Lists.{AreLines}
 use Rattle.dg_model.specs.Sites.{is_gone}
@@ -12,7 +11,7 @@ use Rattle.dg_model.specs.Steps.{recent_after}
 use Rattle.dg_model.specs.declared.events.Event.TheVariants.{Cat, Ls}
 use Rattle.dg_model.specs.declared.replies.Reply.TheVariants.{Cut, Given, Listed as ListedReply, ListedCut, Refused, Unavailable as ReplyUnavailable}
 use Rattle.dg_store.specs.Stores as stores
-use Rattle.dg_volume.proofs.VolumeLaws.{HasRead, read_keeps, reads_in, reads_stay, steps_by, steps_from, told_before}
+use Rattle.dg_volume.proofs.VolumeLaws.{HasRead, label_by, on_label, read_keeps, read_state, reads_in, reads_stay, steps_by, steps_from, told_before}
 use Rattle.dg_volume.specs.Replies.{AnswersCat, AnswersLs, HasFileAt, TellsInode}
 use Rattle.dg_volume.specs.Volumes.{StandsFor, StepsBy, StepsTo, Tells, marks_by, members_of, rack_of, shape_of, state_of, table_of, touched_by}
 use Rattle.dg_volume.specs.declared.phases.InPhase as phases
@@ -51,9 +50,9 @@ module _ {S R : Type 0} (phase : phases.Ghosts S) (rack : Ghosts R) where
   held a b V h holds told = let all = holds (told_before phase rack a b (read_keeps phase rack a b h) told) in all.array
 
   -- what may be answered of a state by what was read of the volume
-  pub may_read : {A : Type 0} (reading : Reading A) (a b : Volume S R) (rest : State) (V : List (List ℕ)) (answer : Option A) → HasRead phase rack a b
+  pub may_read : {A : Type 0} (reading : Reading A) (a b : Volume S R) (rest : State) (V : List (List ℕ)) (answer : Option A) → (h : HasRead phase rack a b)
       → (Tells rack a → StandsFor phase rack a V) → ReadsBy reading a b answer → IfNone answer (LosesBlock b)
-      → MayRead (Tells rack b) (state_of phase rack a rest V) (state_of phase rack b rest V) reading answer
+      → MayRead (Tells rack b) (state_of phase rack a rest V) (read_state phase rack a b h rest V) reading answer
   may_read reading a b rest V answer h holds reads gone = record {
     rule = λ told. reads.rule told V (held a b V h holds told);
     cause = gone;
@@ -61,8 +60,8 @@ module _ {S R : Type 0} (phase : phases.Ghosts S) (rack : Ghosts R) where
   }
 
   -- what was cut short
-  pub cut_short : {A : Type 0} (reading : Reading A) (a b : Volume S R) (rest : State) (V : List (List ℕ)) → HasRead phase rack a b
-      → (Tells rack a → StandsFor phase rack a V) → ReadsBy reading a b None → IsCutShort (Tells rack b) (state_of phase rack a rest V) (state_of phase rack b rest V) reading
+  pub cut_short : {A : Type 0} (reading : Reading A) (a b : Volume S R) (rest : State) (V : List (List ℕ)) → (h : HasRead phase rack a b)
+      → (Tells rack a → StandsFor phase rack a V) → ReadsBy reading a b None → IsCutShort (Tells rack b) (state_of phase rack a rest V) (read_state phase rack a b h rest V) reading
   cut_short reading a b rest V h holds lost told =
       let rule = lost.rule told V (held a b V h holds told) in
       rule.only
@@ -72,7 +71,7 @@ module _ {S R : Type 0} (phase : phases.Ghosts S) (rack : Ghosts R) where
   cat_refused : (path : List ℕ) (refusal : PathRefusal) (a b : Volume S R) → HasRead phase rack a b → Reads path a b (Some (Err refusal))
       → StepsTo phase phase rack a (Cat path) (Refused refusal) b
   cat_refused path refusal a b h reads = steps_from phase rack a b (Cat path) (Refused refusal) (λ rest V label holds. (
-    state_of phase rack b rest V,
+    read_state phase rack a b h rest V,
     reads_in phase rack a b rest V label h holds,
     (
       may_read (cat_of (shape_of a).l (shape_of a).n path) a b rest V (Some (Err refusal)) h holds reads tt,
@@ -83,7 +82,7 @@ module _ {S R : Type 0} (phase : phases.Ghosts S) (rack : Ghosts R) where
 
   cat_lost : (path : List ℕ) (a b : Volume S R) → HasRead phase rack a b → Reads path a b None → LosesBlock b → StepsTo phase phase rack a (Cat path) ReplyUnavailable b
   cat_lost path a b h reads gone = steps_from phase rack a b (Cat path) ReplyUnavailable (λ rest V label holds. (
-    state_of phase rack b rest V,
+    read_state phase rack a b h rest V,
     reads_in phase rack a b rest V label h holds,
     (
       may_read (cat_of (shape_of a).l (shape_of a).n path) a b rest V None h holds reads gone,
@@ -104,7 +103,7 @@ module _ {S R : Type 0} (phase : phases.Ghosts S) (rack : Ghosts R) where
   touches : (path : List ℕ) (lines : List (List ℕ)) (i : ℕ) (a b : Volume S R) → HasRead phase rack a b → AreLines (shape_of a).l lines → Reads path a b (Some (Ok (concat lines)))
       → HasFileAt phase rack a path b i → StepsBy phase phase rack (recent_after (phase.phase a.phase) i) a (Cat path) (Given lines) b
   touches path lines i a b h are reads file = steps_by phase rack (recent_after (phase.phase a.phase) i) a b (Cat path) (Given lines) (λ rest V label holds.
-      let next = state_of phase rack b (touched_rest a i rest) V in (
+      let next = read_state phase rack a b h (touched_rest a i rest) V in (
         next,
         reads_in phase rack a b (touched_rest a i rest) V label h holds,
         (
@@ -115,10 +114,17 @@ module _ {S R : Type 0} (phase : phases.Ghosts S) (rack : Ghosts R) where
             unwritten = h.reads.writes;
           },
           record {
-            goes = goes_plain (state_of phase rack a rest V) next label label h.reads.keeps.stays.rise h.reads.keeps.falls h.sound.paired;
+            goes = record {
+              passes = record {
+                counts = h.reads.keeps.stays.rise;
+                label = label_by rack a b (read_keeps phase rack a b h).labels rest.label label;
+                paired = h.sound.paired;
+              };
+              members = h.reads.keeps.falls;
+            };
             i = i;
             is = λ told. file (state_of phase rack a rest V) (record { is = refl; label = label; holds = holds }) told;
-            rest = λ j. record rest {
+            rest = λ j. record (on_label a b (read_keeps phase rack a b h).labels.opens (touched_rest a i rest)) {
               table = h.reads.table j;
               blocks = V;
               pending = marks_by (phase.kept (h.beside.phase_is j)) ((h.beside.pending j).items);
@@ -127,7 +133,6 @@ module _ {S R : Type 0} (phase : phases.Ghosts S) (rack : Ghosts R) where
               phase = phase.phase (h.beside.phase_is j);
               members = members_of b;
               counts = rack.counts (rack_of b);
-              recent = recent_after (phase.phase a.phase) i rest.recent;
             };
           },
         ),
@@ -143,7 +148,7 @@ module _ {S R : Type 0} (phase : phases.Ghosts S) (rack : Ghosts R) where
   cut_steps : (path : List ℕ) (lines : List (List ℕ)) (more : List ℕ) (a b : Volume S R) → HasRead phase rack a b → AreLines (shape_of a).l lines
       → Reads path a b (Some (Ok (concat lines ++ more))) → Reads path a b None → StepsTo phase phase rack a (Cat path) (Cut lines) b
   cut_steps path lines more a b h are reads lost = steps_from phase rack a b (Cat path) (Cut lines) (λ rest V label holds. (
-    state_of phase rack b rest V,
+    read_state phase rack a b h rest V,
     reads_in phase rack a b rest V label h holds,
     (
       are,
@@ -176,7 +181,7 @@ module _ {S R : Type 0} (phase : phases.Ghosts S) (rack : Ghosts R) where
   ls_refused : (path : List ℕ) (refusal : PathRefusal) (a b : Volume S R) → HasRead phase rack a b → Lists path a b (Some (Err refusal))
       → StepsTo phase phase rack a (Ls path) (Refused refusal) b
   ls_refused path refusal a b h reads = steps_from phase rack a b (Ls path) (Refused refusal) (λ rest V label holds. (
-    state_of phase rack b rest V,
+    read_state phase rack a b h rest V,
     reads_in phase rack a b rest V label h holds,
     (
       may_read (ls_of (shape_of a).l (shape_of a).n path) a b rest V (Some (Err refusal)) h holds reads tt,
@@ -187,7 +192,7 @@ module _ {S R : Type 0} (phase : phases.Ghosts S) (rack : Ghosts R) where
 
   ls_lost : (path : List ℕ) (a b : Volume S R) → HasRead phase rack a b → Lists path a b None → LosesBlock b → StepsTo phase phase rack a (Ls path) ReplyUnavailable b
   ls_lost path a b h reads gone = steps_from phase rack a b (Ls path) ReplyUnavailable (λ rest V label holds. (
-    state_of phase rack b rest V,
+    read_state phase rack a b h rest V,
     reads_in phase rack a b rest V label h holds,
     (
       may_read (ls_of (shape_of a).l (shape_of a).n path) a b rest V None h holds reads gone,
@@ -199,7 +204,7 @@ module _ {S R : Type 0} (phase : phases.Ghosts S) (rack : Ghosts R) where
   listed_steps : (path : List ℕ) (entries : List Listed) (a b : Volume S R) → HasRead phase rack a b → Lists path a b (Some (Ok entries))
       → StepsTo phase phase rack a (Ls path) (ListedReply entries) b
   listed_steps path entries a b h reads = steps_from phase rack a b (Ls path) (ListedReply entries) (λ rest V label holds. (
-    state_of phase rack b rest V,
+    read_state phase rack a b h rest V,
     reads_in phase rack a b rest V label h holds,
     (
       may_read (ls_of (shape_of a).l (shape_of a).n path) a b rest V (Some (Ok entries)) h holds reads tt,
@@ -211,7 +216,7 @@ module _ {S R : Type 0} (phase : phases.Ghosts S) (rack : Ghosts R) where
   listed_cut_steps : (path : List ℕ) (entries more : List Listed) (a b : Volume S R) → HasRead phase rack a b → Lists path a b (Some (Ok (entries ++ more))) → Lists path a b None
       → StepsTo phase phase rack a (Ls path) (ListedCut entries) b
   listed_cut_steps path entries more a b h reads lost = steps_from phase rack a b (Ls path) (ListedCut entries) (λ rest V label holds. (
-    state_of phase rack b rest V,
+    read_state phase rack a b h rest V,
     reads_in phase rack a b rest V label h holds,
     (
       (more, may_read (ls_of (shape_of a).l (shape_of a).n path) a b rest V (Some (Ok (entries ++ more))) h holds reads tt),

@@ -1,20 +1,22 @@
 -- A volume makes a step by a refill of a member.
-use Rattle.std.proofs.Common.{◌≡◌, ◌∙◌, ◌<◌, ◌+◌, ◌/◌, ◌++◌, ◌⊎◌, ℕ, Bool, true, false, List, [], ◌∷◌, length, inl, inr, refl, sym, ap, subst, arith}
-use Rattle.std.specs.Prelude.{◌↔◌, Err, IfOk, IfSome, IsSome, None, OnErr, Ok, Option, Result, Some, if◌then◌else◌, is_some, replicate}
-use Rattle.std.proofs.lemmas.Bool.{false≢true}
+use Rattle.std.proofs.Common.{◌≡◌, ◌∙◌, ◌<◌, ◌≤◌, ◌+◌, ◌*◌, ◌/◌, ◌++◌, ◌⊎◌, ◌&&◌, ℕ, Bool, true, false, List, [], ◌∷◌, length, inl, inr, refl, sym, ap, subst, arith}
+use Rattle.std.specs.Prelude.{◌↔◌, Err, IfOk, IfSome, IsSome, None, OnErr, Ok, Option, Result, Some, if◌then◌else◌, is_some, not, replicate}
+use Rattle.std.proofs.lemmas.Bool.{cases_eq, false≢true}
 use Rattle.std.proofs.lemmas.List.{length-replicate}
 use Rattle.std.specs.List.{Contains}
 use Rattle.dg_infer.specs.Meanings.{KeptInference}
 use Rattle.dg_infer.specs.Meanings as inferences
 use Rattle.dg_infer.specs.Wants.{IsWantBy}
 use Rattle.dg_io.specs.declared.outside.Rack.{Ghosts}
-use Rattle.dg_io.specs.Told.{StillTold}
-use Rattle.dg_model.proofs.MemberLaws.{NoneRecovers, good_was}
-use Rattle.dg_model.proofs.SealLaws.{passes_plain}
+use Rattle.dg_label.specs.Labels.{StandsLabeled}
+use Rattle.dg_label.specs.Seals.{KeepsArray}
+use Rattle.dg_label.specs.declared.labels.KeptLabel.{KeptLabel}
+use Rattle.dg_model.proofs.MemberLaws.{falls_both, good_was, lost_stays, rose_after, rose_before}
+use Rattle.dg_model.specs.Causes.{Rose}
 use Rattle.dg_model.specs.Blocks.{block_in, zeros}
 use Rattle.dg_model.specs.Changes.{BreaksOff, MayReap, PassesSlots, refilled_to}
 use Rattle.dg_model.specs.Marks.{IsDead, is_marked}
-use Rattle.dg_model.specs.Members.{is_lost}
+use Rattle.dg_model.specs.Members.{ArePaired, HasFallen, IsRefilled, MembersFall, OthersFall, is_filling, is_good, is_lost, partner_of}
 use Rattle.dg_model.specs.Refills.{Reaps}
 use Rattle.dg_model.specs.Saves.{AreHomes}
 use Rattle.dg_model.specs.Sites.{has_site}
@@ -25,6 +27,8 @@ use Rattle.dg_model.specs.Wants.{AreWants, FitWants, want_of}
 use Rattle.dg_model.specs.declared.events.Event.{Event}
 use Rattle.dg_model.specs.declared.events.Event.TheVariants.{Rebuild}
 use Rattle.dg_model.specs.declared.homes.Home.{Home}
+use Rattle.dg_model.specs.declared.members.MemberState.{MemberState}
+use Rattle.dg_model.specs.declared.members.MemberState.TheVariants.{Filling, Out}
 use Rattle.dg_model.specs.declared.phases.Phase.TheVariants.{Worn as WornPhase}
 use Rattle.dg_model.specs.declared.replies.Reply.{Reply}
 use Rattle.dg_model.specs.declared.replies.Reply.TheVariants.{Copied as CopiedReply, Failed as FailedReply, Lost as LostReply, NotFilling as NotFillingReply, Range as RangeReply}
@@ -33,24 +37,29 @@ use Rattle.dg_model.specs.declared.sites.Site.{Site}
 use Rattle.dg_model.specs.declared.wants.Want.{Want}
 use Rattle.dg_model.specs.declared.wants.Want.TheVariants.{Stray}
 use Rattle.dg_rebuild.specs.Answers as answers
-use Rattle.dg_rebuild.specs.Passed.{Passed}
+use Rattle.dg_rebuild.specs.Passed.{IsLeftAt, Passed}
 use Rattle.dg_rebuild.specs.Reaped.{AreMarkedBetween, is_among, zeroed}
 use Rattle.dg_rebuild.specs.declared.rebuilds.RebuildAnswer.{RebuildAnswer}
 use Rattle.dg_rebuild.specs.declared.rebuilds.RebuildAnswer.TheVariants.{Copied, Failed, Lost, NotFilling}
 use Rattle.dg_store.specs.Leaves as arrays
+use Rattle.dg_store.specs.ReadLaws.{rack_both}
 use Rattle.dg_store.specs.Stores.{IsSound}
 use Rattle.dg_store.specs.Stores as stores
 use Rattle.dg_store.specs.declared.store.Store.{Store}
+use Rattle.dg_volume.proofs.LabelLaws.{CallsOnSlots, relabels_then, slots_kept}
 use Rattle.dg_volume.proofs.LooseLaws.{LooseBlocksChange, reaped_differ}
 use Rattle.dg_volume.proofs.ReapLaws.{are_without, by_without, fit_without, placed_without, without, zeroed_stands}
 use Rattle.dg_volume.proofs.RefillLaws.{filling_live, lost_none_filling, lost_where_left}
-use Rattle.dg_volume.proofs.VolumeLaws.{IsBeside, Keeps, StepsAt, holds_on, leaves, lost_on, still_in}
+use Rattle.dg_volume.proofs.VolumeLaws.{IsBeside, Keeps, Labels, StepsAt, holds_on, kept_state, label_by, leaves, lost_on, on_label, quiet_in, still_in}
 use Rattle.dg_volume.proofs.VolumeSteps.{false_of}
 use Rattle.dg_volume.proofs.WantedLaws.{one_want}
 use Rattle.dg_volume.specs.Phases.{CanReapAll}
-use Rattle.dg_volume.specs.Refills.{AreReapMarks, AreReaped, IsDeadMark, SparesFiles, rebuild_reply, told_of}
+use Rattle.dg_volume.specs.Seals.{Relabels}
+use Rattle.dg_volume.specs.Refills.{AreReapMarks, AreReaped, HasFilling, IsDeadMark, SparesFiles, rebuild_reply, told_of}
 use Rattle.dg_volume.specs.Volumes.{AreWantsBy, FitsArray, IsInPlace, IsWell, Leaves, StandsFor, StandsIn, StepsSized, Tells, marks_by, marks_of, members_of, rack_of, shape_of, state_of, table_of}
 use Rattle.dg_volume.specs.declared.phases.InPhase as phases
+use Rattle.dg_volume.specs.declared.refills.RebuildAnswer as rebuilds
+use Rattle.dg_volume.specs.declared.refills.RebuildAnswer.TheVariants.{Failed as RebuildFailed, Lost as RebuildLost}
 use Rattle.dg_volume.specs.declared.volumes.Volume.{Volume}
 
 -- a block that stands somewhere has a site
@@ -115,101 +124,292 @@ reaped_stands (Some inference) table shape same marks blocks fits safe can marke
     (zeroed_stands inference table marks (ap (λ (x : Shape). x.l) same ∙ sym fits.bytes) (ap (λ (x : Shape). x.n) same ∙ sym fits.number)
     (λ b m W stands. let is = safe b m in (is.is W stands).0 refl) blocks can marked V held)
 
+-- a boundary of which both members are out is lost
+both_out : (members : ℕ → MemberState) (s q : ℕ) → q / 2 ≡ s → members q ≡ Out → members (partner_of q) ≡ Out → is_lost members s ≡ false → ⊥
+both_out members s q at out other live = elim (cases_eq q (2 * s)) [
+  | inl here ↦
+      let next : partner_of q ≡ 2 * s + 1 = omega (arith, here, at) in
+      false≢true (sym live ∙ lost_by (subst (λ (p : ℕ). members p ≡ Out) here out) (subst (λ (p : ℕ). members p ≡ Out) next other))
+  | inr apart ↦
+      let here : q ≡ 2 * s + 1 = omega (arith, apart, at) in
+      let first : partner_of q ≡ 2 * s = omega (arith, here) in
+      false≢true (sym live ∙ lost_by (subst (λ (p : ℕ). members p ≡ Out) first other) (subst (λ (p : ℕ). members p ≡ Out) here out))
+]
+  where
+    lost_by : members (2 * s) ≡ Out → members (2 * s + 1) ≡ Out → is_lost members s ≡ true
+    lost_by one two =
+        ap (λ (x : MemberState). not (is_good x) && not (is_good (members (2 * s + 1)))) one ∙ ap (λ (x : MemberState). true && not (is_good x)) two
+
 module _ {S R : Type 0} (phase : phases.Ghosts S) (rack : Ghosts R) where
+  -- ---- behind the opening of the seal
+
+  -- The slots of boundary s from one to before another were passed, and just the marked blocks in them reaped, by what stood before the opening.
+  pub record HasSlots (marks : List Bool) (s low high : ℕ) (before after : List ℕ) (old new : Store R) : Type 0 where
+    pub sound : IsSound rack new
+    pub stays : arrays.Stays rack old new
+    pub reaped : List ℕ
+    pub joined : after ≡ before ++ reaped
+    pub marked : AreMarkedBetween (stores.table_of old) marks s low high reaped
+    pub reaps : (V : List (List ℕ)) → length V ≡ (stores.shape_of old).n
+        → Reaps (stores.table_of old) V s low high (is_among reaped) (stores.table_of new) (zeroed (stores.shape_of old).l reaped V)
+    pub stands : stores.TellsAll rack new → (V : List (List ℕ)) → stores.StandsFor rack old V → stores.StandsFor rack new (zeroed (stores.shape_of old).l reaped V)
+
+  stays_both : (a m b : Store R) → arrays.Stays rack a m → arrays.Stays rack m b → arrays.Stays rack a b
+  stays_both a m b first second = record {
+    shape = second.shape ∙ first.shape;
+    stays = rack_both rack (stores.rack_of a) (stores.rack_of m) (stores.rack_of b) first.stays second.stays;
+  }
+
+  slots_behind : (marks : List Bool) (s low high : ℕ) (before after : List ℕ) (a m b : Store R) → KeepsArray rack a m → Passed rack marks s low high before after m b
+      → HasSlots marks s low high before after a b
+  slots_behind marks s low high before after a m b opening p = record {
+    sound = p.sound;
+    stays = stays_both a m b opening.stays p.stays;
+    reaped = p.reaped;
+    joined = p.joined;
+    marked = subst (λ (t : Table). AreMarkedBetween t marks s low high p.reaped) opening.table p.marked;
+    reaps = subst (λ (t : Table). (V : List (List ℕ)) → length V ≡ t.shape.n → Reaps t V s low high (is_among p.reaped) (stores.table_of b) (zeroed t.shape.l p.reaped V)) opening.table p.reaps;
+    stands = λ told V held. subst (λ (t : Table). stores.StandsFor rack b (zeroed t.shape.l p.reaped V)) opening.table (p.stands told V (opening.stands V held));
+  }
+
+  -- the marks of blocks that may be reaped, by the table that stood before the opening
+  pub record HasMarks (a : Volume S R) (m : Store R) (marks : List Bool) : Type 0 where
+    pub none : (has_lost (stores.shape_of m) (stores.members_of m) ≡ true) ⊎ (phase.phase a.phase ≡ WornPhase) → (b : ℕ) → is_marked marks b ≡ false
+    pub some : ((has_lost (stores.shape_of m) (stores.members_of m) ≡ true) ⊎ (phase.phase a.phase ≡ WornPhase) → ⊥) → IsSome (phase.kept a.phase)
+    pub known : (b : ℕ) → is_marked marks b ≡ true → IsSome (phase.kept a.phase)
+    pub each : IfSome (phase.kept a.phase) (λ inference. ((has_lost (stores.shape_of m) (stores.members_of m) ≡ true) ⊎ (phase.phase a.phase ≡ WornPhase) → ⊥)
+        → (b : ℕ) → IsDeadMark (table_of a) inference b (is_marked marks b))
+    pub safe : IfSome (phase.kept a.phase) (λ inference. (b : ℕ) → is_marked marks b ≡ true → IsDeadMark (table_of a) inference b true)
+
+  marks_behind : (a : Volume S R) (m : Store R) (marks : List Bool) → KeepsArray rack a.store m → AreReapMarks m (phase.phase a.phase) (phase.kept a.phase) marks → HasMarks a m marks
+  marks_behind a m marks opening h = record {
+    none = h.none;
+    some = h.some;
+    known = h.known;
+    each = if_some (phase.kept a.phase) (λ inference each live b. subst (λ (t : Table). IsDeadMark t inference b (is_marked marks b)) opening.table (let all = each live in all.each b)) h.each;
+    safe = if_some (phase.kept a.phase) (λ inference safe b marked. subst (λ (t : Table). IsDeadMark t inference b true) opening.table (safe b marked)) h.safe;
+  }
+
+  -- a member that is refilled behind the opening was so before
+  filling_was : (a m : Store R) (s q have : ℕ) → KeepsArray rack a m → IsRefilled (stores.members_of m) s q have → IsRefilled (stores.members_of a) s q have
+  filling_was a m s q have opening filling = elim (opening.falls q) [
+    | inl same ↦ (filling.0, sym same ∙ filling.1)
+    | inr fell ↦ absurd (not_out (sym filling.1 ∙ fell.out))
+  ]
+    where
+      not_out : Filling have ≡ Out → ⊥
+      not_out e = cc e
+
+  -- what is lost before it is lost behind it
+  lost_behind : (a m : Store R) → KeepsArray rack a m → has_lost (stores.shape_of a) (stores.members_of a) ≡ true → has_lost (stores.shape_of a) (stores.members_of m) ≡ true
+  lost_behind a m opening lost =
+      lost_on (stores.shape_of a) (stores.members_of a) (stores.members_of m)
+      (λ q good. good_was (rack.counts (stores.rack_of a)).faults (rack.counts (stores.rack_of m)).faults (stores.members_of a) (stores.members_of m) q opening.falls good) lost
+
+  live_before : (a m : Store R) (s : ℕ) → KeepsArray rack a m → is_lost (stores.members_of m) s ≡ false → is_lost (stores.members_of a) s ≡ true → ⊥
+  live_before a m s opening live lost =
+      false≢true (sym live ∙ lost_stays (stores.members_of a) (stores.members_of m) s
+      (λ q good. good_was (rack.counts (stores.rack_of a)).faults (rack.counts (stores.rack_of m)).faults (stores.members_of a) (stores.members_of m) q opening.falls good) lost)
+
+  -- the other members, where one is refilled behind the opening
+  others_behind : (a m b : Store R) (q have : ℕ) (state : MemberState) → KeepsArray rack a m → arrays.Stays rack m b → stores.members_of m q ≡ Filling have
+      → IsLeftAt (stores.members_of m) (stores.members_of b) q state
+      → OthersFall q (rack.counts (stores.rack_of a)).faults (rack.counts (stores.rack_of b)).faults (stores.members_of a) (stores.members_of b)
+  others_behind a m b q have state opening left filling h p apart = elim (opening.falls p) [
+    | inl same ↦ inl (h.others p apart ∙ same)
+    | inr fell ↦ inr (record {
+      out = h.others p apart ∙ fell.out;
+      caused = elim fell.caused [
+        | inl rose ↦
+            inl (rose_after ((rack.counts (stores.rack_of a)).faults p) ((rack.counts (stores.rack_of m)).faults p) ((rack.counts (stores.rack_of b)).faults p) rose (left.stays.rise.faults p))
+        | inr gone ↦ inr (gone.0, h.others (partner_of p) (λ here. not_out (sym filling ∙ sym (ap (stores.members_of m) here) ∙ gone.1)) ∙ gone.1)
+      ];
+    })
+  ]
+    where
+      not_out : Filling have ≡ Out → ⊥
+      not_out e = cc e
+
+  falls_behind : (a m b : Store R) → KeepsArray rack a m → arrays.Stays rack m b
+      → MembersFall (rack.counts (stores.rack_of m)).faults (rack.counts (stores.rack_of b)).faults (stores.members_of m) (stores.members_of b)
+      → MembersFall (rack.counts (stores.rack_of a)).faults (rack.counts (stores.rack_of b)).faults (stores.members_of a) (stores.members_of b)
+  falls_behind a m b opening left falls =
+      falls_both (rack.counts (stores.rack_of a)).faults (rack.counts (stores.rack_of m)).faults (rack.counts (stores.rack_of b)).faults
+      (stores.members_of a) (stores.members_of m) (stores.members_of b) opening.stays.stays.rise.faults left.stays.rise.faults opening.falls falls
+
   -- ---- what is left
 
   -- slots were passed, and marked blocks in them reaped
-  pub record HasPassed (a : Volume S R) (marks : List Bool) (s : ℕ) (reaped : List ℕ) (b : Volume S R) : Type 0 where
+  pub record HasPassed (a : Volume S R) (m : Store R) (marks : List Bool) (s : ℕ) (reaped : List ℕ) (b : Volume S R) : Type 0 where
     pub low : ℕ
     pub high : ℕ
     pub before : List ℕ
     pub none : before ≡ []
-    pub slots : Passed rack marks s low high before reaped a.store b.store
-    pub lost : has_lost (shape_of a) (members_of a) ≡ true → has_lost (shape_of a) (members_of b) ≡ true
+    pub slots : HasSlots marks s low high before reaped a.store b.store
+    pub lost : has_lost (shape_of a) (stores.members_of m) ≡ true → has_lost (shape_of a) (members_of b) ≡ true
 
   -- what the array's call left
-  pub record HasRebuilt {E : Type 0} (a : Volume S R) (s n : ℕ) (marks : List Bool) (before after : List ℕ) (result : Result RebuildAnswer E) (b : Volume S R) : Type 0 where
+  pub record CallsRebuild {E : Type 0} (m : Store R) (s n : ℕ) (marks : List Bool) (before after : List ℕ) (result : Result RebuildAnswer E) (c : Store R) : Type 0 where
+    pub sound : IsSound rack c
+    pub left : arrays.Stays rack m c
+    pub lost : IfOk result (λ answer. (answer ≡ Lost s) ↔ (is_lost (stores.members_of c) s ≡ true))
+    pub other : IfOk result (λ answer. (t : ℕ) → answer ≡ Lost t → t ≡ s)
+    pub not_filling : IfOk result (λ answer. (answer ≡ NotFilling) ↔ (answers.HasNoFilling (stores.members_of m) s × (is_lost (stores.members_of c) s ≡ false)))
+    pub quiet : IfOk result (λ answer. answers.HasNoFilling (stores.members_of m) s → (c ≡ m) × (after ≡ before))
+    pub copied : IfOk result (λ answer. (d l : ℕ) → answer ≡ Copied d l → answers.HasCopied rack marks s n d l before after m c)
+    pub failed : IfOk result (λ answer. answer ≡ Failed → answers.FillingFell rack s m c)
+    pub broken : IfOk result (λ answer. (answer ≡ Failed) ⊎ (answer ≡ Lost s) → is_lost (stores.members_of m) s ≡ false → answers.HasBrokenOff rack marks s before after m c)
+    pub err : OnErr result (answers.HasPaused rack marks s before after m c)
+
+  -- and what is left of the volume, behind the opening of the seal
+  pub record HasRebuilt {E : Type 0} (a : Volume S R) (m : Store R) (s n : ℕ) (marks : List Bool) (before after : List ℕ) (result : Result RebuildAnswer E) (b : Volume S R) : Type 0 where
     pub boundary : s < (shape_of a).b
     pub none : before ≡ []
     pub beside : IsBeside phase rack a b
     pub levels : b.levels.fragment ≡ a.levels.fragment
+    pub opening : KeepsArray rack a.store m
+    pub same : answers.HasNoFilling (stores.members_of m) s → (m ≡ a.store) × (b.label ≡ a.label)
+    pub labels : Labels rack a b
     pub can : IfSome (phase.kept a.phase) (λ inference. CanReapAll inference after)
-    pub marks_are : AreReapMarks a.store (phase.phase a.phase) (phase.kept a.phase) marks
-    pub sound : IsSound rack b.store
-    pub left : arrays.Stays rack a.store b.store
-    pub lost : IfOk result (λ answer. (answer ≡ Lost s) ↔ (is_lost (members_of b) s ≡ true))
-    pub other : IfOk result (λ answer. (t : ℕ) → answer ≡ Lost t → t ≡ s)
-    pub not_filling : IfOk result (λ answer. (answer ≡ NotFilling) ↔ (answers.HasNoFilling (members_of a) s × (is_lost (members_of b) s ≡ false)))
-    pub quiet : IfOk result (λ answer. answers.HasNoFilling (members_of a) s → (b.store ≡ a.store) × (after ≡ before))
-    pub copied : IfOk result (λ answer. (d l : ℕ) → answer ≡ Copied d l → answers.HasCopied rack marks s n d l before after a.store b.store)
-    pub failed : IfOk result (λ answer. answer ≡ Failed → answers.FillingFell rack s a.store b.store)
-    pub broken : IfOk result (λ answer. (answer ≡ Failed) ⊎ (answer ≡ Lost s) → is_lost (members_of a) s ≡ false → answers.HasBrokenOff rack marks s before after a.store b.store)
-    pub err : OnErr result (answers.HasPaused rack marks s before after a.store b.store)
+    pub marks_are : AreReapMarks m (phase.phase a.phase) (phase.kept a.phase) marks
+    pub call : CallsRebuild m s n marks before after result b.store
 
   -- nothing was done, or slots were passed
-  abbrev Outcome : Volume S R → List Bool → ℕ → List ℕ → Volume S R → Type 0
-  Outcome a marks s after b = (b.store ≡ a.store) ⊎ HasPassed a marks s after b
+  abbrev Outcome : Volume S R → Store R → List Bool → ℕ → List ℕ → Volume S R → Type 0
+  Outcome a m marks s after b = (b.store ≡ m) ⊎ HasPassed a m marks s after b
 
-  abbrev passed_copied : (a : Volume S R) (s n d l : ℕ) (marks : List Bool) (before after : List ℕ) (b : Volume S R) → before ≡ [] → IsSound rack a.store
-      → answers.HasCopied rack marks s n d l before after a.store b.store → HasPassed a marks s after b
-  passed_copied a s n d l marks before after b none sound h = record {
+  abbrev passed_copied : (a : Volume S R) (m : Store R) (s n d l : ℕ) (marks : List Bool) (before after : List ℕ) (b : Volume S R) → before ≡ [] → KeepsArray rack a.store m
+      → answers.HasCopied rack marks s n d l before after m b.store → HasPassed a m marks s after b
+  passed_copied a m s n d l marks before after b none opening h = record {
     before = before;
     none = none;
     low = h.low;
     high = h.high;
-    slots = h.slots;
-    lost = λ lost. lost_where_left (shape_of a) (members_of a) (members_of b) s h.q h.low (refilled_to ((shape_of a).k + 1) h.high) sound.paired h.filling h.members lost;
-  }
-
-  abbrev passed_broken : (a : Volume S R) (s : ℕ) (marks : List Bool) (before after : List ℕ) (b : Volume S R) → before ≡ [] → answers.HasBrokenOff rack marks s before after a.store b.store → HasPassed a marks s after b
-  passed_broken a s marks before after b none h = record {
-    before = before;
-    none = none;
-    low = h.low;
-    high = h.high;
-    slots = h.slots;
+    slots = slots_behind marks s h.low h.high before after a.store m b.store opening h.slots;
     lost = λ lost.
-        lost_on (shape_of a) (members_of a) (members_of b)
-        (λ q good. good_was (rack.counts (rack_of a)).faults (rack.counts (rack_of b)).faults (members_of a) (members_of b) q h.members good) lost;
+        lost_where_left (shape_of a) (stores.members_of m) (members_of b) s h.q h.low (refilled_to ((stores.shape_of m).k + 1) h.high) opening.sound.paired h.filling h.members lost;
   }
 
-  abbrev passed_paused : (a : Volume S R) (s : ℕ) (marks : List Bool) (before after : List ℕ) (b : Volume S R) → before ≡ [] → IsSound rack a.store → answers.HasPaused rack marks s before after a.store b.store → HasPassed a marks s after b
-  passed_paused a s marks before after b none sound h = record {
+  abbrev passed_broken : (a : Volume S R) (m : Store R) (s : ℕ) (marks : List Bool) (before after : List ℕ) (b : Volume S R) → before ≡ [] → KeepsArray rack a.store m
+      → answers.HasBrokenOff rack marks s before after m b.store → HasPassed a m marks s after b
+  passed_broken a m s marks before after b none opening h = record {
     before = before;
     none = none;
     low = h.low;
     high = h.high;
-    slots = h.came.slots;
-    lost = λ lost. lost_where_left (shape_of a) (members_of a) (members_of b) s h.came.members.q h.low _ sound.paired h.came.members.was h.came.members.left lost;
+    slots = slots_behind marks s h.low h.high before after a.store m b.store opening h.slots;
+    lost = λ lost.
+        lost_on (shape_of a) (stores.members_of m) (members_of b)
+        (λ q good. good_was (rack.counts (stores.rack_of m)).faults (rack.counts (rack_of b)).faults (stores.members_of m) (members_of b) q h.members good) lost;
   }
 
-  by_loss : (a : Volume S R) (s : ℕ) (lost : Bool) → is_lost (members_of a) s ≡ lost → IsSound rack a.store → answers.HasNoFilling (members_of a) s ⊎ (is_lost (members_of a) s ≡ false)
-  by_loss a s true is sound = inl (lost_none_filling (members_of a) s sound.paired is)
-  by_loss a s false is sound = inr is
+  abbrev passed_paused : (a : Volume S R) (m : Store R) (s : ℕ) (marks : List Bool) (before after : List ℕ) (b : Volume S R) → before ≡ [] → KeepsArray rack a.store m
+      → answers.HasPaused rack marks s before after m b.store → HasPassed a m marks s after b
+  passed_paused a m s marks before after b none opening h = record {
+    before = before;
+    none = none;
+    low = h.low;
+    high = h.high;
+    slots = slots_behind marks s h.low h.high before after a.store m b.store opening h.came.slots;
+    lost = λ lost.
+        lost_where_left (shape_of a) (stores.members_of m) (members_of b) s h.came.members.q h.low _ opening.sound.paired h.came.members.was h.came.members.left lost;
+  }
 
-  outcome : {E : Type 0} (a : Volume S R) (s n : ℕ) (marks : List Bool) (before after : List ℕ) (result : Result RebuildAnswer E) (b : Volume S R) → IsSound rack a.store
-      → HasRebuilt a s n marks before after result b → Outcome a marks s after b
-  outcome a s n marks before after (Ok (Copied d l)) b sound h = inr (passed_copied a s n d l marks before after b h.none sound (h.copied d l refl))
-  outcome a s n marks before after (Ok (Lost t)) b sound h = elim (by_loss a s (is_lost (members_of a) s) refl sound) [
-    | inl none ↦ inl ((h.quiet none).0)
-    | inr live ↦ inr (passed_broken a s marks before after b h.none (h.broken (inr (ap Lost (h.other t refl))) live))
+  by_loss : (m : Store R) (s : ℕ) (lost : Bool) → is_lost (stores.members_of m) s ≡ lost → IsSound rack m → answers.HasNoFilling (stores.members_of m) s ⊎ (is_lost (stores.members_of m) s ≡ false)
+  by_loss m s true is sound = inl (lost_none_filling (stores.members_of m) s sound.paired is)
+  by_loss m s false is sound = inr is
+
+  outcome : {E : Type 0} (a : Volume S R) (m : Store R) (s n : ℕ) (marks : List Bool) (before after : List ℕ) (result : Result RebuildAnswer E) (b : Volume S R)
+      → HasRebuilt a m s n marks before after result b → Outcome a m marks s after b
+  outcome a m s n marks before after (Ok (Copied d l)) b h = inr (passed_copied a m s n d l marks before after b h.none h.opening (h.call.copied d l refl))
+  outcome a m s n marks before after (Ok (Lost t)) b h = elim (by_loss m s (is_lost (stores.members_of m) s) refl h.opening.sound) [
+    | inl none ↦ inl ((h.call.quiet none).0)
+    | inr live ↦ inr (passed_broken a m s marks before after b h.none h.opening (h.call.broken (inr (ap Lost (h.call.other t refl))) live))
   ]
-  outcome a s n marks before after (Ok NotFilling) b sound h = inl ((h.quiet ((h.not_filling.0 refl).0)).0)
-  outcome a s n marks before after (Ok Failed) b sound h = elim (by_loss a s (is_lost (members_of a) s) refl sound) [
-    | inl none ↦ inl ((h.quiet none).0)
-    | inr live ↦ inr (passed_broken a s marks before after b h.none (h.broken (inl refl) live))
+  outcome a m s n marks before after (Ok NotFilling) b h = inl ((h.call.quiet ((h.call.not_filling.0 refl).0)).0)
+  outcome a m s n marks before after (Ok Failed) b h = elim (by_loss m s (is_lost (stores.members_of m) s) refl h.opening.sound) [
+    | inl none ↦ inl ((h.call.quiet none).0)
+    | inr live ↦ inr (passed_broken a m s marks before after b h.none h.opening (h.call.broken (inl refl) live))
   ]
-  outcome a s n marks before after (Err e) b sound h = inr (passed_paused a s marks before after b h.none sound h.err)
+  outcome a m s n marks before after (Err e) b h = inr (passed_paused a m s marks before after b h.none h.opening h.call.err)
+
+  -- ---- the label
+
+  -- one member was refilled on
+  left_slots : (a : Volume S R) (m c : Store R) (marks : List Bool) (s low high q have : ℕ) (state : MemberState) (before after : List ℕ) → KeepsArray rack a.store m
+      → Passed rack marks s low high before after m c → IsRefilled (stores.members_of m) s q have → IsLeftAt (stores.members_of m) (stores.members_of c) q state → CallsOnSlots rack a.store m c
+  left_slots a m c marks s low high q have state before after opening passed filling left = record {
+    shape = passed.stays.shape;
+    rise = passed.stays.stays.rise.writes;
+    back = λ p was good. elim (cases_eq p q) [
+      | inl here ↦
+          let old = filling_was a.store m s q have opening filling in
+          absurd (false≢true (sym (ap (λ (x : ℕ). is_good (members_of a x)) here ∙ ap is_good old.1) ∙ was))
+      | inr apart ↦ sym (ap is_good (left.others p apart)) ∙ good
+    ];
+    outs = λ p out. elim (cases_eq p q) [
+      | inl here ↦ absurd (not_out (sym filling.1 ∙ sym (ap (stores.members_of m) here) ∙ out))
+      | inr apart ↦ left.others p apart ∙ out
+    ];
+    fills = λ p fills. elim (cases_eq p q) [
+      | inl here ↦ ap (λ (x : ℕ). is_filling (stores.members_of m x)) here ∙ ap is_filling filling.1
+      | inr apart ↦ sym (ap is_filling (left.others p apart)) ∙ fills
+    ];
+    beside = passed.beside;
+  }
+    where
+      not_out : Filling have ≡ Out → ⊥
+      not_out e = cc e
+
+  broken_slots : (a : Volume S R) (m c : Store R) (marks : List Bool) (s : ℕ) (before after : List ℕ) → answers.HasBrokenOff rack marks s before after m c → CallsOnSlots rack a.store m c
+  broken_slots a m c marks s before after h =
+      slots_kept rack a.store m c (record { shape = h.slots.stays.shape; stays = h.slots.stays.stays; falls = h.members; beside = h.slots.beside })
+
+  rebuilt_by : {E : Type 0} (a : Volume S R) (m : Store R) (s n : ℕ) (marks : List Bool) (before after : List ℕ) (result : Result RebuildAnswer E) (c : Store R) → KeepsArray rack a.store m
+      → CallsRebuild m s n marks before after result c → (c ≡ m) ⊎ CallsOnSlots rack a.store m c
+  rebuilt_by a m s n marks before after (Ok (Copied d l)) c opening h =
+      let k = h.copied d l refl in
+      inr (left_slots a m c marks s k.low k.high k.q k.low (refilled_to ((stores.shape_of m).k + 1) k.high) before after opening k.slots k.filling k.members)
+  rebuilt_by a m s n marks before after (Ok (Lost t)) c opening h = elim (by_loss m s (is_lost (stores.members_of m) s) refl opening.sound) [
+    | inl none ↦ inl ((h.quiet none).0)
+    | inr live ↦ inr (broken_slots a m c marks s before after (h.broken (inr (ap Lost (h.other t refl))) live))
+  ]
+  rebuilt_by a m s n marks before after (Ok NotFilling) c opening h = inl ((h.quiet ((h.not_filling.0 refl).0)).0)
+  rebuilt_by a m s n marks before after (Ok Failed) c opening h = elim (by_loss m s (is_lost (stores.members_of m) s) refl opening.sound) [
+    | inl none ↦ inl ((h.quiet none).0)
+    | inr live ↦ inr (broken_slots a m c marks s before after (h.broken (inl refl) live))
+  ]
+  rebuilt_by a m s n marks before after (Err e) c opening h =
+      let k = h.err in
+      inr (left_slots a m c marks s k.low k.high k.came.members.q k.low (Filling k.high) before after opening k.came.slots k.came.members.was k.came.members.left)
+
+  pub rebuilt_labels : {E : Type 0} (a : Volume S R) (m : Store R) (s n : ℕ) (marks : List Bool) (before after : List ℕ) (result : Result RebuildAnswer E) (c : Store R) (label : Option KeptLabel)
+      → KeepsArray rack a.store m → CallsRebuild m s n marks before after result c → (first : Relabels rack a.store m a.label label)
+      → (first.opens ≡ false → stores.rack_of c ≡ stores.rack_of m) → Relabels rack a.store c a.label label
+  rebuilt_labels a m s n marks before after result c label opening h first still = elim (rebuilt_by a m s n marks before after result c opening h) [
+    | inl same ↦ subst (λ (x : Store R). Relabels rack a.store x a.label label) (sym same) first
+    | inr slots ↦ relabels_then rack a.store m c a.label label first slots (λ closed. ap (λ (r : R). (rack.counts r).writes) (still closed))
+  ]
+
+  -- where no member is refilled no call is made
+  pub quiet_rack : {E : Type 0} (m : Store R) (s n : ℕ) (marks : List Bool) (before after : List ℕ) (result : Result RebuildAnswer E) (c : Store R) → CallsRebuild m s n marks before after result c
+      → answers.HasNoFilling (stores.members_of m) s → stores.rack_of c ≡ stores.rack_of m
+  quiet_rack m s n marks before after (Ok answer) c h none = ap (λ (x : Store R). stores.rack_of x) ((h.quiet none).0)
+  quiet_rack m s n marks before after (Err e) c h none =
+      let was = h.err.came.members.was in
+      absurd (false≢true (sym (none h.err.came.members.q was.0) ∙ ap is_filling was.1))
 
   -- all but the array is well as it was
-  pub record IsUsual (a : Volume S R) (marks : List Bool) (after : List ℕ) (b : Volume S R) : Type 0 where
+  pub record IsUsual (a : Volume S R) (m : Store R) (marks : List Bool) (after : List ℕ) (b : Volume S R) : Type 0 where
     pub well : IsWell phase rack a
     pub beside : IsBeside phase rack a b
     pub levels : b.levels.fragment ≡ a.levels.fragment
+    pub opening : KeepsArray rack a.store m
+    pub labels : Labels rack a b
     pub can : IfSome (phase.kept a.phase) (λ inference. CanReapAll inference after)
-    pub marks_are : AreReapMarks a.store (phase.phase a.phase) (phase.kept a.phase) marks
+    pub marks_are : HasMarks a m marks
 
-  module _ (a : Volume S R) (marks : List Bool) (s : ℕ) (reaped : List ℕ) (b : Volume S R) (h : IsUsual a marks reaped b) (passed : HasPassed a marks s reaped b) where
+  module _ (a : Volume S R) (m : Store R) (marks : List Bool) (s : ℕ) (reaped : List ℕ) (b : Volume S R) (h : IsUsual a m marks reaped b) (passed : HasPassed a m marks s reaped b) where
     same_shape : shape_of b ≡ shape_of a
     same_shape = passed.slots.stays.shape
 
@@ -268,11 +468,15 @@ module _ {S R : Type 0} (phase : phases.Ghosts S) (rack : Ghosts R) where
           levels = h.levels ∙ well.levels ∙ sym (ap (λ (x : Shape). x.l) same_shape);
           marks = ap length same_marks ∙ well.marks ∙ sym (ap (λ (x : Shape). x.n) same_shape);
           inferred = subst (λ (p : S). IfSome (phase.kept p) (FitsArray (shape_of b))) (sym h.beside.phase_is) fits;
+          labeled = h.labels.labeled;
           homes_are = subst (λ (x : List Home). AreHomes (shape_of b) x) (sym h.beside.homes) homes;
+          few_homes =
+              subst (λ (x : List Home). length x ≤ (shape_of b).n) (sym h.beside.homes)
+              (subst (λ (x : Shape). length a.homes ≤ x.n) (sym same_shape) well.few_homes);
           copies_are = subst (λ (x : List Home). AreHomes (shape_of b) x) (sym h.beside.copies) copies;
-          loose = λ loose. h.beside.copies ∙ well.loose (ap phase.phase (sym h.beside.phase_is) ∙ loose);
+          uncopied = λ unsettled. h.beside.copies ∙ well.uncopied (λ settled. unsettled (ap phase.phase h.beside.phase_is ∙ settled));
           worn = λ worn.
-              let lost = passed.lost (well.worn (ap phase.phase (sym h.beside.phase_is) ∙ worn)) in
+              let lost = passed.lost (lost_behind a.store m h.opening (well.worn (ap phase.phase (sym h.beside.phase_is) ∙ worn))) in
               ap (λ (x : Shape). has_lost x (members_of b)) same_shape ∙ lost;
           settled = λ settled. in_place (well.settled (ap phase.phase (sym h.beside.phase_is) ∙ settled));
         }
@@ -321,42 +525,54 @@ module _ {S R : Type 0} (phase : phases.Ghosts S) (rack : Ghosts R) where
 
     -- ---- states
 
-    module _ (rest : State) (V : List (List ℕ)) (label : rest.label ≡ None) (size : length V ≡ (shape_of a).n) (holds : Tells rack a → StandsFor phase rack a V) where
+    module _ (rest : State) (V : List (List ℕ)) (label : StandsLabeled rack a.store a.label rest.label) (size : length V ≡ (shape_of a).n) (holds : Tells rack a → StandsFor phase rack a V) where
       abbrev was : State
       was = state_of phase rack a rest V
 
       abbrev next : State
-      next = state_of phase rack b rest (zeroed (shape_of a).l reaped V)
+      next = state_of phase rack b (on_label a b h.labels.opens rest) (zeroed (shape_of a).l reaped V)
 
       next_in : StandsIn phase rack b next
-      next_in = record { is = refl; label = label; holds = λ told. stands_passed V told (holds (told_before told)) }
+      next_in = record { is = refl; label = h.labels.stands rest.label label; holds = λ told. stands_passed V told (holds (told_before told)) }
 
       may_reap : MayReap (Tells rack b) was s passed.low passed.high (is_among reaped) next
       may_reap = record {
-        none = λ spares c. at_test c (is_among reaped c) refl spares;
+        none = λ spares c. at_test c (is_among reaped c) refl (elim spares [ inl lost ↦ inl (broken_mid lost) | inr worn ↦ inr worn ]);
         marks = λ c among. mark_free a.store (phase.kept a.phase) marks a.pending.items h.marks_are.known h.marks_are.safe c (marked c among);
         dead = λ told c among. dead_at V (holds (told_before told)) c among;
         all = λ told live unbroken c dead between.
             let held = holds (told_before told) in
             let each = are.each c in
+            let live_mid : (has_lost (stores.shape_of m) (stores.members_of m) ≡ true) ⊎ (phase.phase a.phase ≡ WornPhase) → ⊥ =
+            λ why. elim why [ inl lost ↦ false≢true (sym unbroken ∙ broken_now lost) | inr worn ↦ live (inr worn) ] in
             each.1 (
-              dead_mark a.store (phase.kept a.phase) marks a.pending.items (h.marks_are.some live)
-                  (if_some (phase.kept a.phase) (λ inference all. let found = all live in found.each) h.marks_are.each) V held.inferred c dead,
+              dead_mark a.store (phase.kept a.phase) marks a.pending.items (h.marks_are.some live_mid)
+                  (if_some (phase.kept a.phase) (λ inference all. all live_mid) h.marks_are.each) V held.inferred c dead,
               between,
             );
       }
         where
-          at_test : (c : ℕ) (x : Bool) → is_among reaped c ≡ x → (has_lost (shape_of a) (members_of a) ≡ true) ⊎ (phase.phase a.phase ≡ WornPhase) → is_among reaped c ≡ false
+          mid_shape : stores.shape_of m ≡ shape_of a
+          mid_shape = h.opening.stays.shape
+
+          broken_mid : has_lost (shape_of a) (members_of a) ≡ true → has_lost (stores.shape_of m) (stores.members_of m) ≡ true
+          broken_mid lost = ap (λ (x : Shape). has_lost x (stores.members_of m)) mid_shape ∙ lost_behind a.store m h.opening lost
+
+          broken_now : has_lost (stores.shape_of m) (stores.members_of m) ≡ true → has_lost (shape_of b) (members_of b) ≡ true
+          broken_now lost =
+              ap (λ (x : Shape). has_lost x (members_of b)) same_shape ∙ passed.lost (sym (ap (λ (x : Shape). has_lost x (stores.members_of m)) mid_shape) ∙ lost)
+
+          at_test : (c : ℕ) (x : Bool) → is_among reaped c ≡ x → (has_lost (stores.shape_of m) (stores.members_of m) ≡ true) ⊎ (phase.phase a.phase ≡ WornPhase) → is_among reaped c ≡ false
           at_test c true is spares = absurd (false≢true (sym (h.marks_are.none spares c) ∙ marked c is))
           at_test c false is spares = is
 
       passes : PassesSlots (Tells rack b) was s passed.low passed.high next
       passes = record {
         reaped = is_among reaped;
-        passes = passes_plain was next label label passed.slots.stays.stays.rise passed.slots.sound.paired;
+        passes = record { counts = passed.slots.stays.stays.rise; label = label_by rack a b h.labels rest.label label; paired = passed.slots.sound.paired };
         reaps = reaps V size;
         may = may_reap;
-        rest = λ i. record rest {
+        rest = λ i. record (on_label a b h.labels.opens rest) {
           table = table_of b;
           blocks = zeroed (shape_of a).l reaped V;
           pending = same_marks i;
@@ -372,7 +588,7 @@ module _ {S R : Type 0} (phase : phases.Ghosts S) (rack : Ghosts R) where
 
   -- a step of each state that has a block for each of the array's
   sized : (a b : Volume S R) (event : Event) (reply : Reply)
-      → ((rest : State) (V : List (List ℕ)) → rest.label ≡ None → length V ≡ (shape_of a).n → (Tells rack a → StandsFor phase rack a V) → StepsAt phase rack (λ recent. recent) a rest V event reply b)
+      → ((rest : State) (V : List (List ℕ)) → StandsLabeled rack a.store a.label rest.label → length V ≡ (shape_of a).n → (Tells rack a → StandsFor phase rack a V) → StepsAt phase rack (λ recent. recent) a rest V event reply b)
       → StepsSized phase phase rack a event reply b
   sized a b event reply go state st size =
       subst (λ (s : State). (next : State) × StandsIn phase rack b next × Step (Tells rack b) s event reply next × (next.recent ≡ s.recent)) (sym st.is)
@@ -391,35 +607,166 @@ module _ {S R : Type 0} (phase : phases.Ghosts S) (rack : Ghosts R) where
     counts = rack.counts (stores.rack_of (same i));
   }
 
-  quiet_keeps : (a b : Volume S R) → IsSound rack a.store → IsBeside phase rack a b → b.levels.fragment ≡ a.levels.fragment → b.store ≡ a.store → Keeps phase rack a b
-  quiet_keeps a b sound beside levels same = record {
-    beside = beside;
-    levels = levels;
-    sound = subst (λ (s : Store R). IsSound rack s) (sym same) sound;
-    table = ap (λ (s : Store R). stores.table_of s) same;
-    tells = subst (λ (s : Store R). StillTold (rack.bytes (rack_of a)) (rack.bytes (stores.rack_of s))) (sym same) (λ q told. told);
-    same_rack = ap (λ (s : Store R). rack.name (stores.rack_of s)) same;
-    back = subst (λ (s : Store R). NoneRecovers (members_of a) (stores.members_of s)) (sym same) (λ q good. good);
-    stands = subst (λ (s : Store R). stores.KeepsBlocks rack a.store s) (sym same) (λ V held. held);
+  -- each block keeps its sites
+  opened_keeps : (a : Volume S R) (m : Store R) (b : Volume S R) → KeepsArray rack a.store m → Labels rack a b → IsBeside phase rack a b → b.levels.fragment ≡ a.levels.fragment → b.store ≡ m
+      → Keeps phase rack a b
+  opened_keeps a m b opening labels beside levels same =
+      let now : KeepsArray rack a.store b.store = subst (λ (x : Store R). KeepsArray rack a.store x) (sym same) opening in
+      record {
+        beside = beside;
+        levels = levels;
+        sound = now.sound;
+        table = now.table;
+        tells = now.stays.stays.tells;
+        same_rack = now.stays.stays.same_rack;
+        back = λ q good. good_was (rack.counts (rack_of a)).faults (rack.counts (rack_of b)).faults (members_of a) (members_of b) q now.falls good;
+        stands = now.stands;
+        labels = labels;
+      }
+
+  usual : {E : Type 0} (a : Volume S R) (m : Store R) (s n : ℕ) (marks : List Bool) (before after : List ℕ) (result : Result RebuildAnswer E) (b : Volume S R) → IsWell phase rack a
+      → HasRebuilt a m s n marks before after result b → IsUsual a m marks after b
+  usual a m s n marks before after result b well h = record {
+    well = well;
+    beside = h.beside;
+    levels = h.levels;
+    opening = h.opening;
+    labels = h.labels;
+    can = h.can;
+    marks_are = marks_behind a m marks h.opening h.marks_are;
   }
 
-  usual : {E : Type 0} (a : Volume S R) (s n : ℕ) (marks : List Bool) (before after : List ℕ) (result : Result RebuildAnswer E) (b : Volume S R) → IsWell phase rack a
-      → HasRebuilt a s n marks before after result b → IsUsual a marks after b
-  usual a s n marks before after result b well h = record { well = well; beside = h.beside; levels = h.levels; can = h.can; marks_are = h.marks_are }
-
-  pub rebuild_leaves : {E : Type 0} (a : Volume S R) (s n : ℕ) (marks : List Bool) (before after : List ℕ) (result : Result RebuildAnswer E) (b : Volume S R) → IsWell phase rack a
-      → HasRebuilt a s n marks before after result b → Leaves phase phase rack a b
-  rebuild_leaves a s n marks before after result b well h = elim (outcome a s n marks before after result b well.array h) [
-    | inl same ↦ leaves phase rack a b well (quiet_keeps a b well.array h.beside h.levels same)
-    | inr passed ↦ leaves_passed a marks s after b (usual a s n marks before after result b well h) passed
+  pub rebuild_leaves : {E : Type 0} (a : Volume S R) (m : Store R) (s n : ℕ) (marks : List Bool) (before after : List ℕ) (result : Result RebuildAnswer E) (b : Volume S R) → IsWell phase rack a
+      → HasRebuilt a m s n marks before after result b → Leaves phase phase rack a b
+  rebuild_leaves a m s n marks before after result b well h = elim (outcome a m s n marks before after result b h) [
+    | inl same ↦ leaves phase rack a b well (opened_keeps a m b h.opening h.labels h.beside h.levels same)
+    | inr passed ↦ leaves_passed a m marks s after b (usual a m s n marks before after result b well h) passed
   ]
 
-  pub rebuild_spares : {E : Type 0} (law : LooseBlocksChange) (a : Volume S R) (s n : ℕ) (marks : List Bool) (before after : List ℕ) (result : Result RebuildAnswer E) (b : Volume S R) → IsWell phase rack a
-      → HasRebuilt a s n marks before after result b → SparesFiles phase rack a b
-  rebuild_spares law a s n marks before after result b well h V told held = elim (outcome a s n marks before after result b well.array h) [
-    | inl same ↦ (V, holds_on phase rack a b V (quiet_keeps a b well.array h.beside h.levels same) held, record { count = refl; each = λ c. inl refl; files = reaped_differ (table_of a) (marks_of phase a) V law V refl (λ c. inl refl) })
-    | inr passed ↦ spares_passed a marks s after b (usual a s n marks before after result b well h) passed law V told held
+  still_spares : (law : LooseBlocksChange) (a b : Volume S R) → Keeps phase rack a b → SparesFiles phase rack a b
+  still_spares law a b keeps V told held =
+      (V, holds_on phase rack a b V keeps held, record { count = refl; each = λ c. inl refl; files = reaped_differ (table_of a) (marks_of phase a) V law V refl (λ c. inl refl) })
+
+  pub rebuild_spares : {E : Type 0} (law : LooseBlocksChange) (a : Volume S R) (m : Store R) (s n : ℕ) (marks : List Bool) (before after : List ℕ) (result : Result RebuildAnswer E) (b : Volume S R) → IsWell phase rack a
+      → HasRebuilt a m s n marks before after result b → SparesFiles phase rack a b
+  rebuild_spares law a m s n marks before after result b well h V told held = elim (outcome a m s n marks before after result b h) [
+    | inl same ↦ still_spares law a b (opened_keeps a m b h.opening h.labels h.beside h.levels same) V told held
+    | inr passed ↦ spares_passed a m marks s after b (usual a m s n marks before after result b well h) passed law V told held
   ]
+
+  -- ---- where the opening of the seal took the member away
+
+  -- the seal was opened, and that is all
+  pub record HasOpened (a : Volume S R) (b : Volume S R) : Type 0 where
+    pub beside : IsBeside phase rack a b
+    pub levels : b.levels.fragment ≡ a.levels.fragment
+    pub opening : KeepsArray rack a.store b.store
+    pub labels : Labels rack a b
+
+  keeps_opened : (a b : Volume S R) → HasOpened a b → Keeps phase rack a b
+  keeps_opened a b h = opened_keeps a b.store b h.opening h.labels h.beside h.levels refl
+
+  pub opened_leaves : (a b : Volume S R) → IsWell phase rack a → HasOpened a b → Leaves phase phase rack a b
+  opened_leaves a b well h = leaves phase rack a b well (keeps_opened a b h)
+
+  pub opened_spares : (law : LooseBlocksChange) (a b : Volume S R) → HasOpened a b → SparesFiles phase rack a b
+  opened_spares law a b h = still_spares law a b (keeps_opened a b h)
+
+  -- no slot was passed
+  none_passed : (table : Table) (V : List (List ℕ)) (s : ℕ) → Reaps table V s 0 0 (λ c. false) table V
+  none_passed table V s = record {
+    run = omega arith;
+    within = omega arith;
+    passed = λ c e. absurd (false≢true e);
+    shape = refl;
+    rows = refl;
+    sites = λ c. refl;
+    count = refl;
+    values = λ c. refl;
+  }
+
+  breaks_at_once : (a b : Volume S R) (s : ℕ) (h : HasOpened a b) (rest : State) (V : List (List ℕ)) (label : StandsLabeled rack a.store a.label rest.label)
+      → BreaksOff (Tells rack b) (state_of phase rack a rest V) s (kept_state phase rack a b (keeps_opened a b h) rest V)
+  breaks_at_once a b s h rest V label =
+      let keeps = keeps_opened a b h in
+      record {
+        low = 0;
+        high = 0;
+        slots = record {
+          reaped = λ c. false;
+          passes = record { counts = h.opening.stays.stays.rise; label = label_by rack a b keeps.labels rest.label label; paired = h.opening.sound.paired };
+          reaps = subst (λ (t : Table). Reaps (table_of a) V s 0 0 (λ c. false) t V) (sym h.opening.table) (none_passed (table_of a) V s);
+          may = record {
+            none = λ spares c. refl;
+            marks = λ c among. absurd (false≢true among);
+            dead = λ told c among. absurd (false≢true among);
+            all = λ told live unbroken c dead between. absurd (let early = between.before in omega (arith, early));
+          };
+          rest = λ i. record (on_label a b keeps.labels.opens rest) {
+            table = table_of b;
+            blocks = V;
+            pending = marks_by (phase.kept (h.beside.phase_is i)) ((h.beside.pending i).items);
+            homes = h.beside.homes i;
+            copies = h.beside.copies i;
+            phase = phase.phase (h.beside.phase_is i);
+            members = members_of b;
+            counts = rack.counts (rack_of b);
+          };
+        };
+        members = h.opening.falls;
+        begun = λ less. absurd (omega (arith, less));
+      }
+
+  -- the member was refilled, and isn't any more
+  pub record HasLostFilling (a b : Volume S R) (s : ℕ) : Type 0 where
+    pub boundary : s < (shape_of a).b
+    pub paired : ArePaired (members_of a)
+    pub was : HasFilling (members_of a) s
+    pub none : answers.HasNoFilling (members_of b) s
+    pub opened : HasOpened a b
+
+  pub steps_gone : (a b : Volume S R) (s n : ℕ) → HasLostFilling a b s → is_lost (members_of b) s ≡ true → StepsSized phase phase rack a (Rebuild s n) (LostReply s) b
+  steps_gone a b s n h lost = sized a b (Rebuild s n) (LostReply s) (λ rest V label size holds. (
+    kept_state phase rack a b (keeps_opened a b h.opened) rest V,
+    still_in phase rack a b rest V label (keeps_opened a b h.opened) holds,
+    (
+      h.boundary,
+      refl,
+      inr (λ was. filling_live (members_of a) s h.was.q h.was.have h.paired h.was.refilled was, lost, breaks_at_once a b s h.opened rest V label),
+    ),
+    refl,
+  ))
+
+  pub steps_fell : (a b : Volume S R) (s n : ℕ) → HasLostFilling a b s → is_lost (members_of b) s ≡ false → StepsSized phase phase rack a (Rebuild s n) FailedReply b
+  steps_fell a b s n h live = sized a b (Rebuild s n) FailedReply (λ rest V label size holds. (
+    kept_state phase rack a b (keeps_opened a b h.opened) rest V,
+    still_in phase rack a b rest V label (keeps_opened a b h.opened) holds,
+    (
+      h.boundary,
+      λ lost. false≢true (sym live ∙ lost),
+      record { q = h.was.q; have = h.was.have; filling = h.was.refilled; out = fell.out; rose = rose },
+      breaks_at_once a b s h.opened rest V label,
+    ),
+    refl,
+  ))
+    where
+      fell : HasFallen (rack.counts (rack_of a)).faults (rack.counts (rack_of b)).faults (members_of a) (members_of b) h.was.q
+      fell = elim (h.opened.opening.falls h.was.q) [
+        | inl same ↦ absurd (false≢true (sym (h.none h.was.q h.was.refilled.0) ∙ ap is_filling (same ∙ h.was.refilled.1)))
+        | inr gone ↦ gone
+      ]
+
+      rose : Rose ((rack.counts (rack_of a)).faults h.was.q) ((rack.counts (rack_of b)).faults h.was.q)
+      rose = elim fell.caused [ inl up ↦ up | inr left ↦ absurd (both_out (members_of b) s h.was.q h.was.refilled.0 fell.out left.1 live) ]
+
+  -- what the refill answers then
+  pub steps_ended : (a b : Volume S R) (s n : ℕ) (answer : rebuilds.RebuildAnswer) → HasLostFilling a b s → (is_lost (members_of b) s ≡ true → answer ≡ RebuildLost s)
+      → (is_lost (members_of b) s ≡ false → answer ≡ RebuildFailed) → StepsSized phase phase rack a (Rebuild s n) (rebuild_reply answer) b
+  steps_ended a b s n answer h lost fell = by_loss_of (is_lost (members_of b) s) refl
+    where
+      by_loss_of : (x : Bool) → is_lost (members_of b) s ≡ x → StepsSized phase phase rack a (Rebuild s n) (rebuild_reply answer) b
+      by_loss_of true is = subst (λ (r : rebuilds.RebuildAnswer). StepsSized phase phase rack a (Rebuild s n) (rebuild_reply r) b) (sym (lost is)) (steps_gone a b s n h is)
+      by_loss_of false is = subst (λ (r : rebuilds.RebuildAnswer). StepsSized phase phase rack a (Rebuild s n) (rebuild_reply r) b) (sym (fell is)) (steps_fell a b s n h is)
 
   copied_not_lost : (d l s : ℕ) → Lost s ≡ Copied d l → ⊥
   copied_not_lost d l s e = cc e
@@ -427,111 +774,123 @@ module _ {S R : Type 0} (phase : phases.Ghosts S) (rack : Ghosts R) where
   failed_not_lost : (s : ℕ) → Lost s ≡ Failed → ⊥
   failed_not_lost s e = cc e
 
-  steps_copied : {E : Type 0} (a : Volume S R) (s n d l : ℕ) (marks : List Bool) (before after : List ℕ) (b : Volume S R) → IsWell phase rack a
-      → HasRebuilt {E = E} a s n marks before after (Ok (Copied d l)) b → StepsSized phase phase rack a (Rebuild s n) (CopiedReply d l) b
-  steps_copied a s n d l marks before after b well h =
-      let k = h.copied d l refl in
-      let passed = passed_copied a s n d l marks before after b h.none well.array k in
-      let all = usual a s n marks before after (Ok (Copied d l)) b well h in
+  steps_copied : {E : Type 0} (a : Volume S R) (m : Store R) (s n d l : ℕ) (marks : List Bool) (before after : List ℕ) (b : Volume S R) → IsWell phase rack a
+      → HasRebuilt {E = E} a m s n marks before after (Ok (Copied d l)) b → StepsSized phase phase rack a (Rebuild s n) (CopiedReply d l) b
+  steps_copied a m s n d l marks before after b well h =
+      let k = h.call.copied d l refl in
+      let passed = passed_copied a m s n d l marks before after b h.none h.opening k in
+      let all = usual a m s n marks before after (Ok (Copied d l)) b well h in
       sized a b (Rebuild s n) (CopiedReply d l) (λ rest V label size holds. (
-        next a marks s after b all passed rest V label size holds,
-        next_in a marks s after b all passed rest V label size holds,
+        next a m marks s after b all passed rest V label size holds,
+        next_in a m marks s after b all passed rest V label size holds,
         (
           h.boundary,
-          λ lost. copied_not_lost d l s (sym (h.lost.1 lost)),
+          λ lost. copied_not_lost d l s (sym (h.call.lost.1 lost)),
           record {
             q = k.q;
             low = k.low;
             high = k.high;
-            filling = k.filling;
+            filling = filling_was a.store m s k.q k.low h.opening k.filling;
             refills = k.refills;
-            slots = passes a marks s after b all passed rest V label size holds;
-            member = k.members.member;
-            others = λ p apart. inl (k.members.others p apart);
+            slots = passes a m marks s after b all passed rest V label size holds;
+            member = k.members.member ∙ ap (λ (x : Shape). refilled_to (x.k + 1) k.high) h.opening.stays.shape;
+            others = others_behind a.store m b.store k.q k.low (refilled_to ((stores.shape_of m).k + 1) k.high) h.opening h.call.left (k.filling.1) k.members;
           },
         ),
         refl,
       ))
 
-  breaks_off : (a : Volume S R) (s : ℕ) (marks : List Bool) (before after : List ℕ) (b : Volume S R) (none : before ≡ []) (all : IsUsual a marks after b) (k : answers.HasBrokenOff rack marks s before after a.store b.store)
-      (rest : State) (V : List (List ℕ)) (label : rest.label ≡ None) (size : length V ≡ (shape_of a).n) (holds : Tells rack a → StandsFor phase rack a V)
-      → BreaksOff (Tells rack b) (state_of phase rack a rest V) s (next a marks s after b all (passed_broken a s marks before after b none k) rest V label size holds)
-  breaks_off a s marks before after b none all k rest V label size holds = record {
+  breaks_off : (a : Volume S R) (m : Store R) (s : ℕ) (marks : List Bool) (before after : List ℕ) (b : Volume S R) (none : before ≡ []) (all : IsUsual a m marks after b)
+      (left : arrays.Stays rack m b.store) (k : answers.HasBrokenOff rack marks s before after m b.store)
+      (rest : State) (V : List (List ℕ)) (label : StandsLabeled rack a.store a.label rest.label) (size : length V ≡ (shape_of a).n) (holds : Tells rack a → StandsFor phase rack a V)
+      → BreaksOff (Tells rack b) (state_of phase rack a rest V) s (next a m marks s after b all (passed_broken a m s marks before after b none all.opening k) rest V label size holds)
+  breaks_off a m s marks before after b none all left k rest V label size holds = record {
     low = k.low;
     high = k.high;
-    slots = passes a marks s after b all (passed_broken a s marks before after b none k) rest V label size holds;
-    members = k.members;
-    begun = λ less. (k.q, k.filling);
+    slots = passes a m marks s after b all (passed_broken a m s marks before after b none all.opening k) rest V label size holds;
+    members = falls_behind a.store m b.store all.opening left k.members;
+    begun = λ less. (k.q, filling_was a.store m s k.q k.low all.opening k.filling);
   }
 
-  steps_lost : {E : Type 0} (a : Volume S R) (s n t : ℕ) (marks : List Bool) (before after : List ℕ) (b : Volume S R) → IsWell phase rack a
-      → HasRebuilt {E = E} a s n marks before after (Ok (Lost t)) b → (lost : Bool) → is_lost (members_of a) s ≡ lost → StepsSized phase phase rack a (Rebuild s n) (LostReply t) b
-  steps_lost a s n t marks before after b well h true is =
-      let same = (h.quiet (lost_none_filling (members_of a) s well.array.paired is)).0 in
+  steps_lost : {E : Type 0} (a : Volume S R) (m : Store R) (s n t : ℕ) (marks : List Bool) (before after : List ℕ) (b : Volume S R) → IsWell phase rack a
+      → HasRebuilt {E = E} a m s n marks before after (Ok (Lost t)) b → (lost : Bool) → is_lost (stores.members_of m) s ≡ lost → StepsSized phase phase rack a (Rebuild s n) (LostReply t) b
+  steps_lost a m s n t marks before after b well h true is =
+      let none = lost_none_filling (stores.members_of m) s h.opening.sound.paired is in
+      let still = h.same none in
+      let same : b.store ≡ a.store = (h.call.quiet none).0 ∙ still.0 in
       sized a b (Rebuild s n) (LostReply t) (λ rest V label size holds. (
         state_of phase rack b rest V,
-        still_in phase rack a b rest V label (quiet_keeps a b well.array h.beside h.levels same) holds,
-        (h.boundary, h.other t refl, inl (is, quiet_state a b h.beside same rest V)),
+        quiet_in phase rack a b rest V label (opened_keeps a m b h.opening h.labels h.beside h.levels (h.call.quiet none).0) (ap (λ (x : Store R). stores.rack_of x) same) still.1 holds,
+        (h.boundary, h.call.other t refl, inl (subst (λ (x : Store R). is_lost (stores.members_of x) s ≡ true) still.0 is, quiet_state a b h.beside same rest V)),
         refl,
       ))
-  steps_lost a s n t marks before after b well h false is =
-      let e = h.other t refl in
-      let k = h.broken (inr (ap Lost e)) is in
-      let all = usual a s n marks before after (Ok (Lost t)) b well h in
+  steps_lost a m s n t marks before after b well h false is =
+      let e = h.call.other t refl in
+      let k = h.call.broken (inr (ap Lost e)) is in
+      let all = usual a m s n marks before after (Ok (Lost t)) b well h in
       sized a b (Rebuild s n) (LostReply t) (λ rest V label size holds. (
-        next a marks s after b all (passed_broken a s marks before after b h.none k) rest V label size holds,
-        next_in a marks s after b all (passed_broken a s marks before after b h.none k) rest V label size holds,
+        next a m marks s after b all (passed_broken a m s marks before after b h.none all.opening k) rest V label size holds,
+        next_in a m marks s after b all (passed_broken a m s marks before after b h.none all.opening k) rest V label size holds,
         (
           h.boundary,
           e,
-          inr (λ lost. false≢true (sym is ∙ lost), h.lost.0 (ap Lost e), breaks_off a s marks before after b h.none all k rest V label size holds),
+          inr (live_before a.store m s h.opening is, h.call.lost.0 (ap Lost e), breaks_off a m s marks before after b h.none all h.call.left k rest V label size holds),
         ),
         refl,
       ))
 
-  steps_not_filling : {E : Type 0} (a : Volume S R) (s n : ℕ) (marks : List Bool) (before after : List ℕ) (b : Volume S R) → IsWell phase rack a
-      → HasRebuilt {E = E} a s n marks before after (Ok NotFilling) b → StepsSized phase phase rack a (Rebuild s n) NotFillingReply b
-  steps_not_filling a s n marks before after b well h =
-      let k = h.not_filling.0 refl in
-      let same = (h.quiet k.0).0 in
+  steps_not_filling : {E : Type 0} (a : Volume S R) (m : Store R) (s n : ℕ) (marks : List Bool) (before after : List ℕ) (b : Volume S R) → IsWell phase rack a
+      → HasRebuilt {E = E} a m s n marks before after (Ok NotFilling) b → StepsSized phase phase rack a (Rebuild s n) NotFillingReply b
+  steps_not_filling a m s n marks before after b well h =
+      let k = h.call.not_filling.0 refl in
+      let still = h.same k.0 in
+      let same : b.store ≡ a.store = (h.call.quiet k.0).0 ∙ still.0 in
       sized a b (Rebuild s n) NotFillingReply (λ rest V label size holds. (
         state_of phase rack b rest V,
-        still_in phase rack a b rest V label (quiet_keeps a b well.array h.beside h.levels same) holds,
+        quiet_in phase rack a b rest V label (opened_keeps a m b h.opening h.labels h.beside h.levels (h.call.quiet k.0).0) (ap (λ (x : Store R). stores.rack_of x) same) still.1 holds,
         (
           h.boundary,
           λ lost. false≢true (sym k.1 ∙ ap (λ (x : Store R). is_lost (stores.members_of x) s) same ∙ lost),
-          k.0,
+          subst (λ (x : Store R). answers.HasNoFilling (stores.members_of x) s) still.0 k.0,
           quiet_state a b h.beside same rest V,
         ),
         refl,
       ))
 
-  steps_failed : {E : Type 0} (a : Volume S R) (s n : ℕ) (marks : List Bool) (before after : List ℕ) (b : Volume S R) → IsWell phase rack a
-      → HasRebuilt {E = E} a s n marks before after (Ok Failed) b → StepsSized phase phase rack a (Rebuild s n) FailedReply b
-  steps_failed a s n marks before after b well h =
-      let fell = h.failed refl in
-      let live : is_lost (members_of a) s ≡ false = false_of (is_lost (members_of a) s) (λ lost. filling_live (members_of a) s fell.q fell.low well.array.paired fell.filling lost) in
-      let k = h.broken (inl refl) live in
-      let all = usual a s n marks before after (Ok Failed) b well h in
+  steps_failed : {E : Type 0} (a : Volume S R) (m : Store R) (s n : ℕ) (marks : List Bool) (before after : List ℕ) (b : Volume S R) → IsWell phase rack a
+      → HasRebuilt {E = E} a m s n marks before after (Ok Failed) b → StepsSized phase phase rack a (Rebuild s n) FailedReply b
+  steps_failed a m s n marks before after b well h =
+      let fell = h.call.failed refl in
+      let live : is_lost (stores.members_of m) s ≡ false =
+      false_of (is_lost (stores.members_of m) s) (λ lost. filling_live (stores.members_of m) s fell.q fell.low h.opening.sound.paired fell.filling lost) in
+      let k = h.call.broken (inl refl) live in
+      let all = usual a m s n marks before after (Ok Failed) b well h in
       sized a b (Rebuild s n) FailedReply (λ rest V label size holds. (
-        next a marks s after b all (passed_broken a s marks before after b h.none k) rest V label size holds,
-        next_in a marks s after b all (passed_broken a s marks before after b h.none k) rest V label size holds,
+        next a m marks s after b all (passed_broken a m s marks before after b h.none all.opening k) rest V label size holds,
+        next_in a m marks s after b all (passed_broken a m s marks before after b h.none all.opening k) rest V label size holds,
         (
           h.boundary,
-          λ lost. failed_not_lost s (sym (h.lost.1 lost)),
-          record { q = fell.q; have = fell.low; filling = fell.filling; out = fell.out; rose = fell.rose },
-          breaks_off a s marks before after b h.none all k rest V label size holds,
+          λ lost. failed_not_lost s (sym (h.call.lost.1 lost)),
+          record {
+            q = fell.q;
+            have = fell.low;
+            filling = filling_was a.store m s fell.q fell.low h.opening fell.filling;
+            out = fell.out;
+            rose = rose_before ((rack.counts (rack_of a)).faults fell.q) ((rack.counts (stores.rack_of m)).faults fell.q) ((rack.counts (rack_of b)).faults fell.q)
+                (h.opening.stays.stays.rise.faults fell.q) fell.rose;
+          },
+          breaks_off a m s marks before after b h.none all h.call.left k rest V label size holds,
         ),
         refl,
       ))
 
-  pub rebuild_steps : {E : Type 0} (a : Volume S R) (s n : ℕ) (marks : List Bool) (before after : List ℕ) (result : Result RebuildAnswer E) (b : Volume S R) → IsWell phase rack a
-      → HasRebuilt a s n marks before after result b → IfOk (told_of result) (λ answer. StepsSized phase phase rack a (Rebuild s n) (rebuild_reply answer) b)
-  rebuild_steps a s n marks before after (Ok (Copied d l)) b well h = steps_copied a s n d l marks before after b well h
-  rebuild_steps a s n marks before after (Ok (Lost t)) b well h = steps_lost a s n t marks before after b well h (is_lost (members_of a) s) refl
-  rebuild_steps a s n marks before after (Ok NotFilling) b well h = steps_not_filling a s n marks before after b well h
-  rebuild_steps a s n marks before after (Ok Failed) b well h = steps_failed a s n marks before after b well h
-  rebuild_steps a s n marks before after (Err e) b well h = tt
+  pub rebuild_steps : {E : Type 0} (a : Volume S R) (m : Store R) (s n : ℕ) (marks : List Bool) (before after : List ℕ) (result : Result RebuildAnswer E) (b : Volume S R) → IsWell phase rack a
+      → HasRebuilt a m s n marks before after result b → IfOk (told_of result) (λ answer. StepsSized phase phase rack a (Rebuild s n) (rebuild_reply answer) b)
+  rebuild_steps a m s n marks before after (Ok (Copied d l)) b well h = steps_copied a m s n d l marks before after b well h
+  rebuild_steps a m s n marks before after (Ok (Lost t)) b well h = steps_lost a m s n t marks before after b well h (is_lost (stores.members_of m) s) refl
+  rebuild_steps a m s n marks before after (Ok NotFilling) b well h = steps_not_filling a m s n marks before after b well h
+  rebuild_steps a m s n marks before after (Ok Failed) b well h = steps_failed a m s n marks before after b well h
+  rebuild_steps a m s n marks before after (Err e) b well h = tt
 
   -- there is no such boundary
   pub steps_range : (a : Volume S R) (s n : ℕ) → IsWell phase rack a → (s < (shape_of a).b → ⊥) → StepsSized phase phase rack a (Rebuild s n) RangeReply a

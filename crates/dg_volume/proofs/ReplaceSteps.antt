@@ -1,25 +1,35 @@
 -- A volume makes a step by a replacement of a member.
-use Rattle.std.proofs.Common.{◌≡◌, ◌≢◌, ◌∙◌, ◌<◌, ◌+◌, ◌*◌, ◌==◌, ℕ, Bool, true, false, List, inl, refl, sym, ap}
-use Rattle.std.specs.Prelude.{if◌then◌else◌}
-use Rattle.std.proofs.lemmas.Bool.{eq-eqb, false≢true, ne_eqb}
+use Rattle.std.proofs.Common.{◌≡◌, ◌≢◌, ◌∙◌, ◌⊎◌, ◌<◌, ◌+◌, ◌*◌, ◌==◌, ℕ, Bool, true, false, List, length, inl, inr, refl, sym, ap, subst}
+use Rattle.std.specs.Prelude.{◌↔◌, IfSome, None, Option, Some, if◌then◌else◌}
+use Rattle.std.proofs.lemmas.Bool.{cases_eq, eq-eqb, false≢true, ne_eqb}
+use Rattle.std.proofs.lemmas.List.{length-replicate}
+use Rattle.dg_io.specs.Told.{IsZeros, Told, Torn}
 use Rattle.dg_io.specs.declared.outside.Rack.{Ghosts}
-use Rattle.dg_model.proofs.MemberLaws.{NoneRecovers}
-use Rattle.dg_model.proofs.SealLaws.{passes_plain}
+use Rattle.dg_label.specs.Labels.{AreNumbers, HasLength, IsLabeled, StandsLabeled}
+use Rattle.dg_model.proofs.MemberLaws.{NoneRecovers, falls_both, rose_after, rose_before}
 use Rattle.dg_model.specs.Changes.{IsMember}
-use Rattle.dg_model.specs.Members.{is_good, is_lost}
-use Rattle.dg_model.specs.States.{State, after_calls}
+use Rattle.dg_model.specs.Members.{MembersFall, OthersFall, is_filling, is_good, is_lost, partner_of}
+use Rattle.dg_model.specs.Saves.{member_length}
+use Rattle.dg_model.specs.States.{CountsRise, State, after_calls}
 use Rattle.dg_model.specs.declared.events.Event.TheVariants.{Replace}
 use Rattle.dg_model.specs.declared.members.MemberState.{MemberState}
 use Rattle.dg_model.specs.declared.members.MemberState.TheVariants.{Filling, Good, Out}
+use Rattle.dg_model.specs.declared.shapes.Shape.{Shape}
 use Rattle.dg_model.specs.declared.replies.Reply.TheVariants.{Done, Failed as FailedReply, Lost as LostReply, NotOut as NotOutReply}
 use Rattle.dg_pair.specs.Calls.{replaced}
 use Rattle.dg_pair.specs.declared.boundaries.ReplaceAnswer.{ReplaceAnswer}
 use Rattle.dg_pair.specs.declared.boundaries.ReplaceAnswer.TheVariants.{Failed, Lost, NotOut, Replaced}
-use Rattle.dg_store.specs.Leaves.{FaultRose}
+use Rattle.dg_store.specs.Leaves.{BytesChange, FaultRose, OnlyBytesOf}
 use Rattle.dg_store.specs.Leaves as arrays
+use Rattle.dg_store.specs.ReadLaws.{rises_both}
 use Rattle.dg_store.specs.Stores.{IsSound, KeepsBlocks}
-use Rattle.dg_volume.proofs.VolumeLaws.{IsBeside, Keeps, leaves, stays, steps_from, still_in}
-use Rattle.dg_volume.specs.Volumes.{IsWell, Leaves, StepsTo, marks_by, members_of, rack_of, shape_of, state_of, table_of}
+use Rattle.dg_store.specs.Stores as stores
+use Rattle.dg_store.specs.declared.store.Store.{Store}
+use Rattle.dg_volume.proofs.LabelLaws.{good_falls, good_live, length_stays, out_falls, relabels_on, relabels_where, same_bytes, torn_none}
+use Rattle.dg_volume.proofs.VolumeLaws.{IsBeside, Keeps, Labels, kept_state, label_by, leaves, on_label, quiet_in, stays, steps_from, still_in}
+use Rattle.dg_volume.proofs.VolumeSteps.{false_of}
+use Rattle.dg_volume.specs.Seals.{OpensWhere, Relabels}
+use Rattle.dg_volume.specs.Volumes.{IsWell, Leaves, StandsFor, StandsIn, StepsTo, Tells, marks_by, members_of, rack_of, shape_of, state_of, table_of}
 use Rattle.dg_volume.specs.declared.phases.InPhase as phases
 use Rattle.dg_volume.specs.declared.volumes.Volume.{Volume}
 
@@ -40,125 +50,392 @@ none_recovers Lost p old new is q good = ap is_good (sym (is q)) ∙ good
 none_recovers NotOut p old new is q good = ap is_good (sym (is q)) ∙ good
 none_recovers Failed p old new is q good = ap is_good (sym (is q)) ∙ good
 
+failed_stood : Failed ≡ NotOut → ⊥
+failed_stood e = cc e
+
+lost_stood : Lost ≡ NotOut → ⊥
+lost_stood e = cc e
+
+lost_same : (s : ℕ) (old new : ℕ → MemberState) → ((q : ℕ) → new q ≡ old q) → is_lost old s ≡ true → is_lost new s ≡ true
+lost_same s old new same lost = subst (λ (x : ℕ → MemberState). is_lost x s ≡ true) (sym (λ i q. same q i)) lost
+
 module _ {S R : Type 0} (phase : phases.Ghosts S) (rack : Ghosts R) where
-  -- what the array's call left
-  pub record HasReplaced (a : Volume S R) (s j : ℕ) (answer : ReplaceAnswer) (b : Volume S R) : Type 0 where
+  -- what the opening of the seal and the array's call left
+  pub record HasReplaced (a : Volume S R) (s j : ℕ) (answer : ReplaceAnswer) (writes : Bool) (m : Store R) (b : Volume S R) : Type 0 where
     pub boundary : s < (shape_of a).b
     pub side : j < 2
     pub beside : IsBeside phase rack a b
     pub levels : b.levels.fragment ≡ a.levels.fragment
+    pub labeled : IsLabeled rack a.store a.label
+    pub opening : OpensWhere rack writes a.store m a.label b.label
+    pub out : writes ≡ true → members_of a (2 * s + j) ≡ Out
+    pub live : writes ≡ true → is_lost (members_of a) s ≡ false
+    pub other : writes ≡ false → (members_of a (2 * s + j) ≢ Out) ⊎ (is_lost (members_of a) s ≡ true)
     pub sound : IsSound rack b.store
-    pub left : arrays.Stays rack a.store b.store
-    pub table : table_of b ≡ table_of a
-    pub members : (q : ℕ) → members_of b q ≡ replaced answer (2 * s + j) (members_of a) q
-    pub stands : KeepsBlocks rack a.store b.store
+    pub left : arrays.Stays rack m b.store
+    pub table : table_of b ≡ stores.table_of m
+    pub lost : (answer ≡ Lost) ↔ (is_lost (stores.members_of m) s ≡ true)
+    pub not_out : (answer ≡ NotOut) ↔ (stores.members_of m (2 * s + j) ≢ Out)
+    pub failed : answer ≡ Failed → FaultRose rack m b.store (2 * s + j)
+    pub members : (q : ℕ) → members_of b q ≡ replaced answer (2 * s + j) (stores.members_of m) q
+    pub blank : answer ≡ Replaced → BytesChange rack m b.store (2 * s + j) (IsZeros (member_length 2 (stores.shape_of m)))
+    pub other_bytes : OnlyBytesOf rack m b.store (2 * s + j)
+    pub quiet : (answer ≡ Lost) ⊎ (answer ≡ NotOut) → rack_of b ≡ stores.rack_of m
+    pub stands : KeepsBlocks rack m b.store
 
-  replace_keeps : (a : Volume S R) (s j : ℕ) (answer : ReplaceAnswer) (b : Volume S R) → HasReplaced a s j answer b → Keeps phase rack a b
-  replace_keeps a s j answer b h = record {
-    beside = h.beside;
-    levels = h.levels;
-    sound = h.sound;
-    table = h.table;
-    tells = h.left.stays.tells;
-    same_rack = h.left.stays.same_rack;
-    back = none_recovers answer (2 * s + j) (members_of a) (members_of b) h.members;
-    stands = h.stands;
-  }
+  module _ (a : Volume S R) (s j : ℕ) (answer : ReplaceAnswer) (writes : Bool) (m : Store R) (b : Volume S R) (h : HasReplaced a s j answer writes m b) where
+    -- ---- the array in between
 
-  pub replace_leaves : (a : Volume S R) (s j : ℕ) (answer : ReplaceAnswer) (b : Volume S R) → IsWell phase rack a → HasReplaced a s j answer b → Leaves phase phase rack a b
-  replace_leaves a s j answer b well h = leaves phase rack a b well (replace_keeps a s j answer b h)
+    mid_falls : MembersFall (rack.counts (rack_of a)).faults (rack.counts (stores.rack_of m)).faults (members_of a) (stores.members_of m)
+    mid_falls = h.opening.array.falls
 
-  member_in : (a : Volume S R) (rest : State) (V : List (List ℕ)) (s j : ℕ) (answer : ReplaceAnswer) (b : Volume S R) → HasReplaced a s j answer b → IsMember (state_of phase rack a rest V) s j
-  member_in a rest V s j answer b h = record { boundary = h.boundary; side = h.side }
+    mid_out : (q : ℕ) → members_of a q ≡ Out → stores.members_of m q ≡ Out
+    mid_out = out_falls rack (rack.counts (rack_of a)).faults (rack.counts (stores.rack_of m)).faults (members_of a) (stores.members_of m) mid_falls
 
-  -- all but what calls change is as it was
-  rest_is : (a : Volume S R) (rest : State) (V : List (List ℕ)) (b : Volume S R) → IsBeside phase rack a b → table_of b ≡ table_of a
-      → state_of phase rack b rest V ≡ after_calls (state_of phase rack a rest V) (state_of phase rack b rest V)
-  rest_is a rest V b beside table i = record rest {
-    table = table i;
-    blocks = V;
-    pending = marks_by (phase.kept (beside.phase_is i)) ((beside.pending i).items);
-    homes = beside.homes i;
-    copies = beside.copies i;
-    phase = phase.phase (beside.phase_is i);
-    members = members_of b;
-    counts = rack.counts (rack_of b);
-  }
+    mid_good : (q : ℕ) → is_good (stores.members_of m q) ≡ true → is_good (members_of a q) ≡ true
+    mid_good = good_falls rack (rack.counts (rack_of a)).faults (rack.counts (stores.rack_of m)).faults (members_of a) (stores.members_of m) mid_falls
 
-  -- nothing was done
-  same_state : (a : Volume S R) (rest : State) (V : List (List ℕ)) (b : Volume S R) → IsBeside phase rack a b → table_of b ≡ table_of a → rack_of b ≡ rack_of a
-      → ((q : ℕ) → members_of b q ≡ members_of a q) → state_of phase rack b rest V ≡ state_of phase rack a rest V
-  same_state a rest V b beside table rack_is members i = record rest {
-    table = table i;
-    blocks = V;
-    pending = marks_by (phase.kept (beside.phase_is i)) ((beside.pending i).items);
-    homes = beside.homes i;
-    copies = beside.copies i;
-    phase = phase.phase (beside.phase_is i);
-    members = λ q. members q i;
-    counts = rack.counts (rack_is i);
-  }
+    -- where nothing was opened, the call found what stops it
+    found : writes ≡ false → (answer ≡ NotOut) ⊎ (answer ≡ Lost)
+    found none =
+        let same = (h.opening.quiet none).0 in
+        elim (h.other none) [
+          | inl stood ↦ inl (h.not_out.1 (subst (λ (x : Store R). stores.members_of x (2 * s + j) ≢ Out) (sym same) stood))
+          | inr lost ↦ inr (h.lost.1 (subst (λ (x : Store R). is_lost (stores.members_of x) s ≡ true) (sym same) lost))
+        ]
 
-  pub steps_replaced : (a : Volume S R) (s j : ℕ) (b : Volume S R) → HasReplaced a s j Replaced b → (members_of a (2 * s + j) ≢ Out → ⊥) → (is_lost (members_of a) s ≡ true → ⊥)
+    quiet_where : writes ≡ false → rack_of b ≡ stores.rack_of m
+    quiet_where none = elim (found none) [ inl stood ↦ h.quiet (inr stood) | inr lost ↦ h.quiet (inl lost) ]
+
+    -- a member that the call didn't make anew does what it did
+    stays_at : (q : ℕ) → q ≢ 2 * s + j → members_of b q ≡ stores.members_of m q
+    stays_at q apart = h.members q ∙ at_other answer
+      where
+        at_other : (x : ReplaceAnswer) → replaced x (2 * s + j) (stores.members_of m) q ≡ stores.members_of m q
+        at_other Replaced = ap (λ (t : Bool). if t then Filling 0 else stores.members_of m q) (ne_eqb q (2 * s + j) apart)
+        at_other Lost = refl
+        at_other NotOut = refl
+        at_other Failed = refl
+
+    -- ---- by the answer
+
+    answer_is : (answer ≡ Replaced) ⊎ (answer ≡ Failed) ⊎ (answer ≡ Lost) ⊎ (answer ≡ NotOut)
+    answer_is = by_answer answer refl
+      where
+        by_answer : (x : ReplaceAnswer) → answer ≡ x → (answer ≡ Replaced) ⊎ (answer ≡ Failed) ⊎ (answer ≡ Lost) ⊎ (answer ≡ NotOut)
+        by_answer Replaced is = inl is
+        by_answer Failed is = inr (inl is)
+        by_answer Lost is = inr (inr (inl is))
+        by_answer NotOut is = inr (inr (inr is))
+
+    -- a member that is made anew
+    made_anew : answer ≡ Replaced → members_of b (2 * s + j) ≡ Filling 0
+    made_anew is =
+        h.members (2 * s + j) ∙ ap (λ (x : ReplaceAnswer). replaced x (2 * s + j) (stores.members_of m) (2 * s + j)) is
+        ∙ ap (λ (t : Bool). if t then Filling 0 else stores.members_of m (2 * s + j)) (eq-eqb (2 * s + j) (2 * s + j) refl)
+
+    -- where none is, each does what it did
+    same_failed : answer ≡ Failed → (q : ℕ) → members_of b q ≡ stores.members_of m q
+    same_failed is q = h.members q ∙ ap (λ (x : ReplaceAnswer). replaced x (2 * s + j) (stores.members_of m) q) is
+
+    same_quiet : (answer ≡ Lost) ⊎ (answer ≡ NotOut) → (q : ℕ) → members_of b q ≡ stores.members_of m q
+    same_quiet (inl is) q = h.members q ∙ ap (λ (x : ReplaceAnswer). replaced x (2 * s + j) (stores.members_of m) q) is
+    same_quiet (inr is) q = h.members q ∙ ap (λ (x : ReplaceAnswer). replaced x (2 * s + j) (stores.members_of m) q) is
+
+    failed_out : answer ≡ Failed → stores.members_of m (2 * s + j) ≡ Out
+    failed_out is = out_by (stores.members_of m (2 * s + j)) (λ stood. failed_stood (sym is ∙ h.not_out.1 stood))
+
+    -- ---- the label
+
+    opened_first : (first : Relabels rack a.store m a.label b.label) × (first.opens ≡ writes)
+    opened_first = relabels_where rack writes a.store m a.label b.label h.labeled (λ is. good_live rack a.store s (h.live is)) h.opening
+
+    abbrev Beside : ℕ → Type 0
+    Beside q = Told (Torn 512 (((stores.shape_of m).k + 1) * (stores.shape_of m).l)) (rack.bytes (stores.rack_of m) q) (rack.bytes (rack_of b) q)
+
+    other_beside : (q : ℕ) → q ≢ 2 * s + j → Beside q
+    other_beside q apart = torn_none 512 (((stores.shape_of m).k + 1) * (stores.shape_of m).l) (rack.bytes (stores.rack_of m) q) (rack.bytes (rack_of b) q) (h.other_bytes q apart)
+
+    not_good : (x : MemberState) → is_good x ≡ true → (x ≡ Out) ⊎ (x ≡ Filling 0) → ⊥
+    not_good x good (inl is) = false≢true (sym (ap is_good is) ∙ good)
+    not_good x good (inr is) = false≢true (sym (ap is_good is) ∙ good)
+
+    -- the bytes of a good member, or of each where no call was made
+    bytes_at : (q : ℕ) → (is_good (members_of b q) ≡ true) ⊎ (writes ≡ false) → Beside q
+    bytes_at q (inr none) = same_bytes rack m b.store (quiet_where none) q
+    bytes_at q (inl good) = elim (cases_eq q (2 * s + j)) [
+      | inl here ↦
+          let at_member : is_good (members_of b (2 * s + j)) ≡ true = subst (λ (p : ℕ). is_good (members_of b p) ≡ true) here good in
+          elim answer_is [
+            | inl is ↦ absurd (not_good (members_of b (2 * s + j)) at_member (inr (made_anew is)))
+            | inr rest ↦ elim rest [
+              | inl is ↦ absurd (not_good (members_of b (2 * s + j)) at_member (inl (same_failed is (2 * s + j) ∙ failed_out is)))
+              | inr still ↦ same_bytes rack m b.store (h.quiet still) q
+            ]
+          ]
+      | inr apart ↦ other_beside q apart
+    ]
+
+    shape_is : shape_of b ≡ stores.shape_of m
+    shape_is = h.left.shape
+
+    abbrev LongEnough : ℕ → Type 0
+    LongEnough q = IfSome (rack.bytes (rack_of b) q) (λ all. HasLength (stores.shape_of m) b.label (length all))
+
+    long_as : (q : ℕ) → stores.members_of m q ≢ Out → Beside q → LongEnough q
+    long_as q stood beside =
+        length_stays (((stores.shape_of m).k + 1) * (stores.shape_of m).l) (λ size. HasLength (stores.shape_of m) b.label size) (rack.bytes (stores.rack_of m) q) (rack.bytes (rack_of b) q) beside
+        (h.opening.labeled.lengths q stood)
+
+    long_anew : (before now : Option (List ℕ)) → Told (IsZeros (member_length 2 (stores.shape_of m))) before now → IfSome now (λ all. HasLength (stores.shape_of m) b.label (length all))
+    long_anew None None told = tt
+    long_anew (Some x) None told = tt
+    long_anew None (Some y) told = absurd told
+    long_anew (Some x) (Some y) told = inl (ap length told ∙ length-replicate (member_length 2 (stores.shape_of m)) 0)
+
+    long_at : (q : ℕ) → members_of b q ≢ Out → LongEnough q
+    long_at q here = elim (cases_eq q (2 * s + j)) [
+      | inl at ↦ elim answer_is [
+        | inl is ↦
+            subst (λ (p : ℕ). LongEnough p) (sym at) (long_anew (rack.bytes (stores.rack_of m) (2 * s + j)) (rack.bytes (rack_of b) (2 * s + j)) (h.blank is))
+        | inr rest ↦ elim rest [
+          | inl is ↦ absurd (here (ap (members_of b) at ∙ same_failed is (2 * s + j) ∙ failed_out is))
+          | inr still ↦ long_as q (λ out. here (same_quiet still q ∙ out)) (same_bytes rack m b.store (h.quiet still) q)
+        ]
+      ]
+      | inr apart ↦ long_as q (λ out. here (stays_at q apart ∙ out)) (other_beside q apart)
+    ]
+
+    abbrev FillsWhole : ℕ → Type 0
+    FillsWhole q = IfSome (rack.bytes (rack_of b) q) (λ all. length all ≡ member_length 2 (stores.shape_of m))
+
+    fills_as : (q : ℕ) → is_filling (stores.members_of m q) ≡ true → Beside q → FillsWhole q
+    fills_as q fills beside =
+        length_stays (((stores.shape_of m).k + 1) * (stores.shape_of m).l) (λ size. size ≡ member_length 2 (stores.shape_of m)) (rack.bytes (stores.rack_of m) q) (rack.bytes (rack_of b) q) beside
+        (h.opening.labeled.filling q fills)
+
+    fills_anew : (before now : Option (List ℕ)) → Told (IsZeros (member_length 2 (stores.shape_of m))) before now → IfSome now (λ all. length all ≡ member_length 2 (stores.shape_of m))
+    fills_anew None None told = tt
+    fills_anew (Some x) None told = tt
+    fills_anew None (Some y) told = absurd told
+    fills_anew (Some x) (Some y) told = ap length told ∙ length-replicate (member_length 2 (stores.shape_of m)) 0
+
+    fills_at : (q : ℕ) → is_filling (members_of b q) ≡ true → FillsWhole q
+    fills_at q fills = elim (cases_eq q (2 * s + j)) [
+      | inl at ↦ elim answer_is [
+        | inl is ↦
+            subst (λ (p : ℕ). FillsWhole p) (sym at) (fills_anew (rack.bytes (stores.rack_of m) (2 * s + j)) (rack.bytes (rack_of b) (2 * s + j)) (h.blank is))
+        | inr rest ↦ elim rest [
+          | inl is ↦ absurd (false≢true (sym (ap is_filling (ap (members_of b) at ∙ same_failed is (2 * s + j) ∙ failed_out is)) ∙ fills))
+          | inr still ↦ fills_as q (sym (ap is_filling (same_quiet still q)) ∙ fills) (same_bytes rack m b.store (h.quiet still) q)
+        ]
+      ]
+      | inr apart ↦ fills_as q (sym (ap is_filling (stays_at q apart)) ∙ fills) (other_beside q apart)
+    ]
+
+    labeled_now : IsLabeled rack b.store b.label
+    labeled_now = record {
+      numbers = subst (λ (x : Shape). IfSome b.label (AreNumbers x)) (sym shape_is) h.opening.labeled.numbers;
+      lengths = λ q here. subst (λ (x : Shape). IfSome (rack.bytes (rack_of b) q) (λ all. HasLength x b.label (length all))) (sym shape_is) (long_at q here);
+      filling = λ q fills. subst (λ (x : Shape). IfSome (rack.bytes (rack_of b) q) (λ all. length all ≡ member_length 2 x)) (sym shape_is) (fills_at q fills);
+    }
+
+    recovers_none : (q : ℕ) → is_good (members_of b q) ≡ true → is_good (stores.members_of m q) ≡ true
+    recovers_none = none_recovers answer (2 * s + j) (stores.members_of m) (members_of b) h.members
+
+    labels_now : Labels rack a b
+    labels_now =
+        let first = opened_first.0 in
+        let opens = opened_first.1 in
+        relabels_on rack a.store m b.store a.label b.label first labeled_now (record {
+          shape = shape_is;
+          rise = h.left.stays.rise.writes;
+          back = λ q was good. recovers_none q good;
+          beside = λ q why. bytes_at q (elim why [ inl good ↦ inl good | inr closed ↦ inr (sym opens ∙ closed) ]);
+        })
+        (λ closed. ap (λ (r : R). (rack.counts r).writes) (quiet_where (sym opens ∙ closed)))
+
+    -- ---- what is left
+
+    replace_keeps : Keeps phase rack a b
+    replace_keeps = record {
+      beside = h.beside;
+      levels = h.levels;
+      sound = h.sound;
+      table = h.table ∙ h.opening.array.table;
+      tells = λ q told. h.opening.array.stays.stays.tells q (h.left.stays.tells q told);
+      same_rack = h.left.stays.same_rack ∙ h.opening.array.stays.stays.same_rack;
+      back = λ q good. mid_good q (recovers_none q good);
+      stands = λ V held. h.stands V (h.opening.array.stands V held);
+      labels = labels_now;
+    }
+
+    rises : CountsRise (rack.counts (rack_of a)) (rack.counts (rack_of b))
+    rises = rises_both (rack.counts (rack_of a)) (rack.counts (stores.rack_of m)) (rack.counts (rack_of b)) h.opening.array.stays.stays.rise h.left.stays.rise
+
+    falls_as : ((q : ℕ) → members_of b q ≡ stores.members_of m q) → MembersFall (rack.counts (rack_of a)).faults (rack.counts (rack_of b)).faults (members_of a) (members_of b)
+    falls_as same =
+        falls_both (rack.counts (rack_of a)).faults (rack.counts (stores.rack_of m)).faults (rack.counts (rack_of b)).faults (members_of a) (stores.members_of m) (members_of b)
+        h.opening.array.stays.stays.rise.faults h.left.stays.rise.faults mid_falls (λ q. inl (same q))
+
+    -- the other members, where one was out before
+    others_fall : IsSound rack a.store → members_of a (2 * s + j) ≡ Out
+        → OthersFall (2 * s + j) (rack.counts (rack_of a)).faults (rack.counts (rack_of b)).faults (members_of a) (members_of b)
+    others_fall sound out q apart = elim (mid_falls q) [
+      | inl same ↦ inl (stays_at q apart ∙ same)
+      | inr fell ↦ inr (record {
+        out = stays_at q apart ∙ fell.out;
+        caused = elim fell.caused [
+          | inl rose ↦ inl (rose_after ((rack.counts (rack_of a)).faults q) ((rack.counts (stores.rack_of m)).faults q) ((rack.counts (rack_of b)).faults q) rose (h.left.stays.rise.faults q))
+          | inr left ↦ inr (left.0, stays_at (partner_of q) (λ here. not_partner q left.0 here) ∙ left.1)
+        ];
+      })
+    ]
+      where
+        not_partner : (q : ℕ) → is_filling (members_of a q) ≡ true → partner_of q ≡ 2 * s + j → ⊥
+        not_partner q filling here =
+            let good = subst (λ (p : ℕ). is_good (members_of a p) ≡ true) here (sound.paired q filling) in
+            false≢true (sym (ap is_good out) ∙ good)
+
+    member_in : (rest : State) (V : List (List ℕ)) → IsMember (state_of phase rack a rest V) s j
+    member_in rest V = record { boundary = h.boundary; side = h.side }
+
+    -- nothing was done
+    same_state : writes ≡ false → (rest : State) (V : List (List ℕ)) → state_of phase rack b rest V ≡ state_of phase rack a rest V
+    same_state none rest V =
+        let mid = (h.opening.quiet none).0 in
+        let still : (answer ≡ Lost) ⊎ (answer ≡ NotOut) = elim (found none) [ inl stood ↦ inr stood | inr lost ↦ inl lost ] in
+        let members : (q : ℕ) → members_of b q ≡ members_of a q = λ q. same_quiet still q ∙ ap (λ (x : Store R). stores.members_of x q) mid in
+        let rack_is : rack_of b ≡ rack_of a = quiet_where none ∙ ap (λ (x : Store R). stores.rack_of x) mid in
+        λ i. record rest {
+          table = (h.table ∙ h.opening.array.table) i;
+          blocks = V;
+          pending = marks_by (phase.kept (h.beside.phase_is i)) ((h.beside.pending i).items);
+          homes = h.beside.homes i;
+          copies = h.beside.copies i;
+          phase = phase.phase (h.beside.phase_is i);
+          members = λ q. members q i;
+          counts = rack.counts (rack_is i);
+        }
+
+    same_next : writes ≡ false → (rest : State) (V : List (List ℕ)) → StandsLabeled rack a.store a.label rest.label → (Tells rack a → StandsFor phase rack a V)
+        → StandsIn phase rack b (state_of phase rack b rest V)
+    same_next none rest V label holds =
+        quiet_in phase rack a b rest V label replace_keeps (quiet_where none ∙ ap (λ (x : Store R). stores.rack_of x) (h.opening.quiet none).0) (h.opening.quiet none).1 holds
+
+  pub replace_leaves : (a : Volume S R) (s j : ℕ) (answer : ReplaceAnswer) (writes : Bool) (m : Store R) (b : Volume S R) → IsWell phase rack a → HasReplaced a s j answer writes m b
+      → Leaves phase phase rack a b
+  replace_leaves a s j answer writes m b well h = leaves phase rack a b well (replace_keeps a s j answer writes m b h)
+
+  opened_where : (x : ReplaceAnswer) (writes : Bool) → (x ≡ NotOut → ⊥) → (x ≡ Lost → ⊥) → (writes ≡ false → (x ≡ NotOut) ⊎ (x ≡ Lost)) → writes ≡ true
+  opened_where x true stood lost found = refl
+  opened_where x false stood lost found = absurd (elim (found refl) [ inl is ↦ stood is | inr is ↦ lost is ])
+
+  pub steps_replaced : (a : Volume S R) (s j : ℕ) (writes : Bool) (m : Store R) (b : Volume S R) → IsWell phase rack a → HasReplaced a s j Replaced writes m b
       → StepsTo phase phase rack a (Replace s j) Done b
-  steps_replaced a s j b h none live = steps_from phase rack a b (Replace s j) Done (λ rest V label holds.
-      let next = state_of phase rack b rest V in (
-        next,
-        still_in phase rack a b rest V label (replace_keeps a s j Replaced b h) holds,
+  steps_replaced a s j writes m b well h =
+      let opens = opened_where Replaced writes (λ e. cc e) (λ e. cc e) (found a s j Replaced writes m b h) in
+      steps_from phase rack a b (Replace s j) Done (λ rest V label holds. (
+        kept_state phase rack a b (replace_keeps a s j Replaced writes m b h) rest V,
+        still_in phase rack a b rest V label (replace_keeps a s j Replaced writes m b h) holds,
         (
-          member_in a rest V s j Replaced b h,
-          out_by (members_of a (2 * s + j)) none,
-          live,
+          member_in a s j Replaced writes m b h rest V,
+          h.out opens,
+          λ lost. false≢true (sym (h.live opens) ∙ lost),
           record {
-            passes = passes_plain (state_of phase rack a rest V) next label label h.left.stays.rise h.sound.paired;
-            blank = h.members (2 * s + j) ∙ at_same (2 * s + j) (members_of a (2 * s + j));
-            others = λ q apart. inl (h.members q ∙ at_other q (2 * s + j) apart (members_of a q));
-            rest = rest_is a rest V b h.beside h.table;
+            passes = record {
+              counts = rises a s j Replaced writes m b h;
+              label = label_by rack a b (replace_keeps a s j Replaced writes m b h).labels rest.label label;
+              paired = h.sound.paired;
+            };
+            blank = made_anew a s j Replaced writes m b h refl;
+            others = others_fall a s j Replaced writes m b h well.array (h.out opens);
+            rest = rest_is a rest V b h (replace_keeps a s j Replaced writes m b h);
           },
         ),
         refl,
       ))
     where
-      at_same : (q : ℕ) (state : MemberState) → (if q == q then Filling 0 else state) ≡ Filling 0
-      at_same q state = ap (λ (b : Bool). if b then Filling 0 else state) (eq-eqb q q refl)
+      rest_is : (a : Volume S R) (rest : State) (V : List (List ℕ)) (b : Volume S R) → HasReplaced a s j Replaced writes m b → (keeps : Keeps phase rack a b)
+          → kept_state phase rack a b keeps rest V ≡ after_calls (state_of phase rack a rest V) (kept_state phase rack a b keeps rest V)
+      rest_is a rest V b h keeps i = record (on_label a b keeps.labels.opens rest) {
+        table = keeps.table i;
+        blocks = V;
+        pending = marks_by (phase.kept (h.beside.phase_is i)) ((h.beside.pending i).items);
+        homes = h.beside.homes i;
+        copies = h.beside.copies i;
+        phase = phase.phase (h.beside.phase_is i);
+        members = members_of b;
+        counts = rack.counts (rack_of b);
+      }
 
-      at_other : (q p : ℕ) → q ≢ p → (state : MemberState) → (if q == p then Filling 0 else state) ≡ state
-      at_other q p apart state = ap (λ (b : Bool). if b then Filling 0 else state) (ne_eqb q p apart)
-
-  pub steps_lost : (a : Volume S R) (s j : ℕ) (b : Volume S R) → HasReplaced a s j Lost b → (members_of a (2 * s + j) ≢ Out → ⊥) → is_lost (members_of a) s ≡ true
-      → rack_of b ≡ rack_of a → StepsTo phase phase rack a (Replace s j) (LostReply s) b
-  steps_lost a s j b h none lost rack_is = steps_from phase rack a b (Replace s j) (LostReply s) (λ rest V label holds. (
-    state_of phase rack b rest V,
-    still_in phase rack a b rest V label (replace_keeps a s j Lost b h) holds,
+  -- its boundary was lost before, or was lost by the opening of the seal
+  steps_lost_by : (a : Volume S R) (s j : ℕ) (writes : Bool) (m : Store R) (b : Volume S R) (x : Bool) → writes ≡ x → HasReplaced a s j Lost writes m b
+      → StepsTo phase phase rack a (Replace s j) (LostReply s) b
+  steps_lost_by a s j writes m b true opens h = steps_from phase rack a b (Replace s j) (LostReply s) (λ rest V label holds. (
+    kept_state phase rack a b (replace_keeps a s j Lost writes m b h) rest V,
+    still_in phase rack a b rest V label (replace_keeps a s j Lost writes m b h) holds,
     (
-      member_in a rest V s j Lost b h,
+      member_in a s j Lost writes m b h rest V,
       refl,
-      out_by (members_of a (2 * s + j)) none,
-      inl (lost, same_state a rest V b h.beside h.table rack_is h.members),
+      h.out opens,
+      inr (
+        λ lost. false≢true (sym (h.live opens) ∙ lost),
+        lost_same s (stores.members_of m) (members_of b) (same_quiet a s j Lost writes m b h (inl refl)) (h.lost.0 refl),
+        stays phase rack a b rest V label (replace_keeps a s j Lost writes m b h) (rises a s j Lost writes m b h)
+            (falls_as a s j Lost writes m b h (same_quiet a s j Lost writes m b h (inl refl))),
+      ),
     ),
     refl,
   ))
+  steps_lost_by a s j writes m b false none h =
+      let mid = (h.opening.quiet none).0 in
+      steps_from phase rack a b (Replace s j) (LostReply s) (λ rest V label holds. (
+        state_of phase rack b rest V,
+        same_next a s j Lost writes m b h none rest V label holds,
+        (
+          member_in a s j Lost writes m b h rest V,
+          refl,
+          out_by (members_of a (2 * s + j)) (λ stood. lost_stood (h.not_out.1 (subst (λ (x : Store R). stores.members_of x (2 * s + j) ≢ Out) (sym mid) stood))),
+          inl (subst (λ (x : Store R). is_lost (stores.members_of x) s ≡ true) mid (h.lost.0 refl), same_state a s j Lost writes m b h none rest V),
+        ),
+        refl,
+      ))
 
-  pub steps_not_out : (a : Volume S R) (s j : ℕ) (b : Volume S R) → HasReplaced a s j NotOut b → members_of a (2 * s + j) ≢ Out
-      → rack_of b ≡ rack_of a → StepsTo phase phase rack a (Replace s j) NotOutReply b
-  steps_not_out a s j b h stood rack_is = steps_from phase rack a b (Replace s j) NotOutReply (λ rest V label holds. (
-    state_of phase rack b rest V,
-    still_in phase rack a b rest V label (replace_keeps a s j NotOut b h) holds,
-    (member_in a rest V s j NotOut b h, stood, same_state a rest V b h.beside h.table rack_is h.members),
-    refl,
-  ))
+  pub steps_lost : (a : Volume S R) (s j : ℕ) (writes : Bool) (m : Store R) (b : Volume S R) → HasReplaced a s j Lost writes m b → StepsTo phase phase rack a (Replace s j) (LostReply s) b
+  steps_lost a s j writes m b h = steps_lost_by a s j writes m b writes refl h
 
-  pub steps_failed : (a : Volume S R) (s j : ℕ) (b : Volume S R) → HasReplaced a s j Failed b → (members_of a (2 * s + j) ≢ Out → ⊥) → (is_lost (members_of a) s ≡ true → ⊥)
-      → FaultRose rack a.store b.store (2 * s + j) → StepsTo phase phase rack a (Replace s j) FailedReply b
-  steps_failed a s j b h none live rose = steps_from phase rack a b (Replace s j) FailedReply (λ rest V label holds. (
-    state_of phase rack b rest V,
-    still_in phase rack a b rest V label (replace_keeps a s j Failed b h) holds,
-    (
-      member_in a rest V s j Failed b h,
-      out_by (members_of a (2 * s + j)) none,
-      live,
-      rose,
-      stays phase rack a b rest V label (replace_keeps a s j Failed b h) h.left.stays.rise (λ q. inl (h.members q)),
-    ),
-    refl,
-  ))
+  -- the member isn't out: nothing was done
+  pub steps_not_out : (a : Volume S R) (s j : ℕ) (writes : Bool) (m : Store R) (b : Volume S R) → HasReplaced a s j NotOut writes m b → StepsTo phase phase rack a (Replace s j) NotOutReply b
+  steps_not_out a s j writes m b h =
+      let stood = h.not_out.0 refl in
+      let none : writes ≡ false = false_of writes (λ opens. stood (mid_out a s j NotOut writes m b h (2 * s + j) (h.out opens))) in
+      let mid = (h.opening.quiet none).0 in
+      steps_from phase rack a b (Replace s j) NotOutReply (λ rest V label holds. (
+        state_of phase rack b rest V,
+        same_next a s j NotOut writes m b h none rest V label holds,
+        (
+          member_in a s j NotOut writes m b h rest V,
+          subst (λ (x : Store R). stores.members_of x (2 * s + j) ≢ Out) mid stood,
+          same_state a s j NotOut writes m b h none rest V,
+        ),
+        refl,
+      ))
+
+  pub steps_failed : (a : Volume S R) (s j : ℕ) (writes : Bool) (m : Store R) (b : Volume S R) → HasReplaced a s j Failed writes m b → StepsTo phase phase rack a (Replace s j) FailedReply b
+  steps_failed a s j writes m b h =
+      let opens = opened_where Failed writes (λ e. cc e) (λ e. cc e) (found a s j Failed writes m b h) in
+      steps_from phase rack a b (Replace s j) FailedReply (λ rest V label holds. (
+        kept_state phase rack a b (replace_keeps a s j Failed writes m b h) rest V,
+        still_in phase rack a b rest V label (replace_keeps a s j Failed writes m b h) holds,
+        (
+          member_in a s j Failed writes m b h rest V,
+          h.out opens,
+          λ lost. false≢true (sym (h.live opens) ∙ lost),
+          rose_before ((rack.counts (rack_of a)).faults (2 * s + j)) ((rack.counts (stores.rack_of m)).faults (2 * s + j)) ((rack.counts (rack_of b)).faults (2 * s + j))
+              (h.opening.array.stays.stays.rise.faults (2 * s + j)) (h.failed refl),
+          stays phase rack a b rest V label (replace_keeps a s j Failed writes m b h) (rises a s j Failed writes m b h)
+              (falls_as a s j Failed writes m b h (same_failed a s j Failed writes m b h refl)),
+        ),
+        refl,
+      ))

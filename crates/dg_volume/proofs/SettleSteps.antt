@@ -7,12 +7,13 @@ use Rattle.dg_io.specs.declared.outside.Rack.{Ghosts}
 use Rattle.dg_model.specs.Moves.{IsAtTargets, all_done, missing_in, moves}
 use Rattle.dg_model.specs.Placed.{IsPlaced}
 use Rattle.dg_model.specs.Saves.{AreHomes}
+use Rattle.dg_model.specs.Seals.{LastLabel}
 use Rattle.dg_model.specs.States.{State, has_lost}
 use Rattle.dg_model.specs.Steps.{Step}
 use Rattle.dg_model.specs.Wants.{AreWants, FitWants}
 use Rattle.dg_model.specs.declared.events.Event.TheVariants.{Settle}
 use Rattle.dg_model.specs.declared.homes.Home.{Home}
-use Rattle.dg_model.specs.declared.phases.Phase.TheVariants.{Loose as LoosePhase, Settled as SettledPhase, Worn as WornPhase}
+use Rattle.dg_model.specs.declared.phases.Phase.TheVariants.{Settled as SettledPhase, Worn as WornPhase}
 use Rattle.dg_model.specs.declared.replies.Reply.TheVariants.{Settled as SettledReply}
 use Rattle.dg_model.specs.declared.shapes.Shape.{Shape}
 use Rattle.dg_move.specs.Answers.{IsTended}
@@ -21,6 +22,7 @@ use Rattle.dg_plan.specs.declared.target_lists.Targets.{Targets}
 use Rattle.dg_store.specs.Answers.{SameWritten}
 use Rattle.dg_store.specs.Stores as stores
 use Rattle.dg_store.specs.declared.store.Store.{Store}
+use Rattle.dg_volume.proofs.FewLaws.{few_homes}
 use Rattle.dg_volume.proofs.HomeLaws.{are_homes}
 use Rattle.dg_volume.proofs.MoveSteps.{HasRun, IsChecked, IsReady, settle_step, stands_moved, wants_right}
 use Rattle.dg_volume.proofs.PlacedLaws.{are_placed}
@@ -43,11 +45,20 @@ module _ {S R : Type 0} (phase : phases.Ghosts S) (rack : Ghosts R) where
       let old : AreHomes (shape_of a) (homes_of targets) = are_homes (shape_of a) (homes_of targets) found.rules.ascend found.rules.homes_within fits in
       subst (λ (x : List Home). AreHomes (stores.shape_of new) x) (sym same) (subst (λ (x : Shape). AreHomes x (homes_of targets)) (sym shape) old)
 
+  -- and no more than its blocks
+  pub plan_few : (a : Volume S R) (mid new : Store R) (kept : KeptInference) (targets : Targets) (homes : List Home) → HasPlan rack a.store mid kept a.homes targets
+      → homes ≡ homes_of targets → stores.shape_of new ≡ shape_of a → length homes ≤ (stores.shape_of new).n
+  plan_few a mid new kept targets homes found same shape =
+      let few : length (homes_of targets) ≤ length found.wants = few_homes found.wants (homes_of targets) found.rules.ascend (λ i some. let both = found.rules.homes_are i in both.0 some) in
+      let size : length found.wants ≡ (shape_of a).n = found.wanted.fit.size in
+      let old : length (homes_of targets) ≤ (shape_of a).n = omega (arith, few, size) in
+      subst (λ (x : List Home). length x ≤ (stores.shape_of new).n) (sym same) (subst (λ (x : Shape). length (homes_of targets) ≤ x.n) (sym shape) old)
+
   -- ---- places
 
   module _ (a : Volume S R) (kept : KeptInference) (targets : Targets) (mid : Store R) (b : Volume S R) (run : HasRun phase rack a kept targets mid b) where
     shape_on : shape_of b ≡ shape_of a
-    shape_on = run.moves.array.leaves.keeps.shape
+    shape_on = run.moves.array.stays.shape
 
     written_on : SameWritten (table_of a) (table_of b) → FitWants (table_of b) run.plan.wants
     written_on written = record {
@@ -68,7 +79,7 @@ module _ {S R : Type 0} (phase : phases.Ghosts S) (rack : Ghosts R) where
     placed_on : b.homes ≡ homes_of targets → b.copies ≡ [] → IsAtTargets (wants_of targets) (table_of b) → IsPlaced run.plan.wants (table_of b) b.homes b.copies
     placed_on homes copies at =
         let placed =
-        are_placed (shape_of a) run.plan.wants targets run.plan.rules (table_of b) run.moves.array.leaves.sound.table shape_on run.plan.wanted.fit.size at in
+        are_placed (shape_of a) run.plan.wants targets run.plan.rules (table_of b) run.moves.array.sound.table shape_on run.plan.wanted.fit.size at in
         subst (λ (x : List Home). IsPlaced run.plan.wants (table_of b) b.homes x) (sym copies)
         (subst (λ (x : List Home). IsPlaced run.plan.wants (table_of b) x []) (sym homes) placed)
 
@@ -93,9 +104,6 @@ module _ {S R : Type 0} (phase : phases.Ghosts S) (rack : Ghosts R) where
 
 -- ---- the settled volume
 
-settled_not_loose : SettledPhase ≡ LoosePhase → ⊥
-settled_not_loose e = absurd (cc e)
-
 settled_not_worn : SettledPhase ≡ WornPhase → ⊥
 settled_not_worn e = absurd (cc e)
 
@@ -110,6 +118,7 @@ module _ {S T R : Type 0} (from : phases.Ghosts S) (to : phases.Ghosts T) (rack 
     copies = volume.copies;
     levels = volume.levels;
     given = volume.given;
+    label = volume.label;
   }
 
   -- that is Settled, and what is inferred is kept
@@ -124,9 +133,11 @@ module _ {S T R : Type 0} (from : phases.Ghosts S) (to : phases.Ghosts T) (rack 
       levels = left.well.levels;
       marks = subst (λ (k : Option KeptInference). length (marks_by k b.pending.items) ≡ (shape_of b).n) (sym is.kept_is) left.well.marks;
       inferred = subst (λ (k : Option KeptInference). IfSome k (FitsArray (shape_of b))) (sym is.kept_is) left.well.inferred;
+      labeled = left.well.labeled;
       homes_are = left.well.homes_are;
+      few_homes = left.well.few_homes;
       copies_are = left.well.copies_are;
-      loose = λ loose. absurd (settled_not_loose (sym is.phase_is ∙ loose));
+      uncopied = λ unsettled. absurd (unsettled is.phase_is);
       worn = λ worn. absurd (settled_not_worn (sym is.phase_is ∙ worn));
       settled = λ settled.
           subst (λ (k : Option KeptInference). IsInPlace (table_of b) k b.homes b.copies) (sym (ap from.kept put.phase_is) ∙ sym is.kept_is) put.placed;
@@ -140,8 +151,13 @@ module _ {S T R : Type 0} (from : phases.Ghosts S) (to : phases.Ghosts T) (rack 
         let held = put.stands V told (holds (told_first told)) in
         record { array = held.array; inferred = subst (λ (k : Option KeptInference). IfSome k (λ kept. inferences.StandsFor kept V)) (sym is.kept_is) held.inferred }
 
-    settled_state : (rest : State) (V : List (List ℕ)) → record (state_of from rack b rest V) { phase = SettledPhase } ≡ state_of to rack (in_phase b phase) rest V
-    settled_state rest V = λ i. record rest {
+    -- the rest of a state, with this label
+    abbrev labeled_so : State → Option LastLabel → State
+    labeled_so rest last = record rest { label = last }
+
+    settled_state : (rest : State) (last : Option LastLabel) (V : List (List ℕ))
+        → record (state_of from rack b rest V) { phase = SettledPhase; label = last } ≡ state_of to rack (in_phase b phase) (labeled_so rest last) V
+    settled_state rest last V = λ i. record (labeled_so rest last) {
       table = table_of b;
       blocks = V;
       pending = marks_by (sym is.kept_is i) b.pending.items;
@@ -154,12 +170,12 @@ module _ {S T R : Type 0} (from : phases.Ghosts S) (to : phases.Ghosts T) (rack 
 
     settled_steps : StepsTo from to rack a Settle SettledReply (in_phase b phase)
     settled_steps state st =
-        let next = state_of to rack (in_phase b phase) state state.blocks in
+        let led = put.steps state state.blocks st.label st.holds in
+        let next = state_of to rack (in_phase b phase) (labeled_so state led.0) state.blocks in
         let step =
-        subst (λ (x : State). Step (Tells rack b) (state_of from rack a state state.blocks) Settle SettledReply x) (settled_state state state.blocks)
-        (put.steps state state.blocks st.label st.holds) in (
+        subst (λ (x : State). Step (Tells rack b) (state_of from rack a state state.blocks) Settle SettledReply x) (settled_state state led.0 state.blocks) led.2 in (
           next,
-          record { is = refl; label = st.label; holds = settled_stands state.blocks st.holds },
+          record { is = refl; label = led.1; holds = settled_stands state.blocks st.holds },
           subst (λ (x : State). Step (Tells rack b) x Settle SettledReply next) (sym st.is) step,
           refl,
         )

@@ -1,6 +1,6 @@
 -- A settled volume makes a step by a listing of all directories, and by what is told of the home of a file.
-use Rattle.std.proofs.Common.{◌≡◌, ℕ, List, ◌++◌, Bool, refl, subst}
-use Rattle.std.specs.Prelude.{IfOk, None, Ok, Option, Err, Result, Some, if◌then◌else◌}
+use Rattle.std.proofs.Common.{◌≡◌, ℕ, List, ◌++◌, Bool, inl, inr, refl, subst}
+use Rattle.std.specs.Prelude.{IfOk, None, Ok, OnErr, Option, Err, Result, Some, if◌then◌else◌}
 use Rattle.std.specs.Option.{option_map}
 use Rattle.dg_io.specs.declared.outside.Rack.{Ghosts}
 use Rattle.dg_model.specs.Homes.{home_of}
@@ -9,9 +9,10 @@ use Rattle.dg_model.specs.declared.phases.Phase.TheVariants.{Settled as SettledP
 use Rattle.dg_model.specs.declared.replies.Reply.TheVariants.{HomeAt, NoHome, Nodes, NodesCut, Refused, Unavailable as ReplyUnavailable}
 use Rattle.dg_volume.proofs.FileLaws.{as_file}
 use Rattle.dg_volume.proofs.PathSteps.{LosesBlock, ReadsBy, cut_short, may_read}
-use Rattle.dg_volume.proofs.VolumeLaws.{HasRead, reads_in, reads_stay, steps_from}
+use Rattle.dg_volume.proofs.VolumeLaws.{HasRead, read_state, reads_in, reads_stay, steps_from}
+use Rattle.dg_volume.specs.Fronts.{HandsLines}
 use Rattle.dg_volume.specs.Replies.{AnswersTree, answer_for, fault_reply, home_reply}
-use Rattle.dg_volume.specs.Volumes.{StepsTo, shape_of, state_of}
+use Rattle.dg_volume.specs.Volumes.{StepsTo, shape_of}
 use Rattle.dg_volume.specs.declared.phases.InPhase as phases
 use Rattle.dg_volume.specs.declared.volumes.Volume.{Volume}
 use Rattle.ufs_model.proofs.ReadingLaws.{reads_known, reads_on, reads_refused}
@@ -26,7 +27,7 @@ use Rattle.ufs_model.specs.declared.reads.PathRefusal.{PathRefusal}
 use Rattle.ufs_model.specs.declared.reads.PathRefusal.TheVariants.{Bad as RefusedBad, NotDirectory as RefusedNotDirectory, NotFound as RefusedNotFound, NotRegular as RefusedNotRegular}
 use Rattle.ufs_path.specs.Answers.{IsAnswer, refusal_of}
 use Rattle.ufs_path.specs.Consults.{IsUnanswered, IsUnavailable}
-use Rattle.ufs_path.specs.Trees.{IsUnansweredIn}
+use Rattle.ufs_path.specs.Trees.{HandsSome, IsUnansweredIn}
 use Rattle.ufs_path.specs.declared.faults.CatAnswer.{CatAnswer}
 use Rattle.ufs_path.specs.declared.faults.CatAnswer.TheVariants.{Bad, Cut as AnswerCut, Given as AnswerGiven, NotDirectory, NotFound, NotRegular, SinkFault, Unavailable}
 use Rattle.ufs_path.specs.declared.faults.LookFault.{LookFault}
@@ -62,7 +63,7 @@ module _ {S R : Type 0} (phase : phases.Ghosts S) (rack : Ghosts R) where
   tree_refused : (refusal : PathRefusal) (a b : Volume S R) → phase.phase a.phase ≡ SettledPhase → HasRead phase rack a b → Walks a b (Some (Err refusal))
       → StepsTo phase phase rack a Tree (Refused refusal) b
   tree_refused refusal a b settled h reads = steps_from phase rack a b Tree (Refused refusal) (λ rest V label holds. (
-    state_of phase rack b rest V,
+    read_state phase rack a b h rest V,
     reads_in phase rack a b rest V label h holds,
     (
       settled,
@@ -75,7 +76,7 @@ module _ {S R : Type 0} (phase : phases.Ghosts S) (rack : Ghosts R) where
   tree_lost : (a b : Volume S R) → phase.phase a.phase ≡ SettledPhase → HasRead phase rack a b → Walks a b None → LosesBlock phase rack b
       → StepsTo phase phase rack a Tree ReplyUnavailable b
   tree_lost a b settled h reads gone = steps_from phase rack a b Tree ReplyUnavailable (λ rest V label holds. (
-    state_of phase rack b rest V,
+    read_state phase rack a b h rest V,
     reads_in phase rack a b rest V label h holds,
     (
       settled,
@@ -88,7 +89,7 @@ module _ {S R : Type 0} (phase : phases.Ghosts S) (rack : Ghosts R) where
   tree_steps : (entries : List Listed) (a b : Volume S R) → phase.phase a.phase ≡ SettledPhase → HasRead phase rack a b → Walks a b (Some (Ok entries))
       → StepsTo phase phase rack a Tree (Nodes entries) b
   tree_steps entries a b settled h reads = steps_from phase rack a b Tree (Nodes entries) (λ rest V label holds. (
-    state_of phase rack b rest V,
+    read_state phase rack a b h rest V,
     reads_in phase rack a b rest V label h holds,
     (
       settled,
@@ -101,7 +102,7 @@ module _ {S R : Type 0} (phase : phases.Ghosts S) (rack : Ghosts R) where
   tree_cut : (entries more : List Listed) (a b : Volume S R) → phase.phase a.phase ≡ SettledPhase → HasRead phase rack a b → Walks a b (Some (Ok (entries ++ more)))
       → Walks a b None → StepsTo phase phase rack a Tree (NodesCut entries) b
   tree_cut entries more a b settled h reads lost = steps_from phase rack a b Tree (NodesCut entries) (λ rest V label holds. (
-    state_of phase rack b rest V,
+    read_state phase rack a b h rest V,
     reads_in phase rack a b rest V label h holds,
     (
       settled,
@@ -131,12 +132,24 @@ module _ {S R : Type 0} (phase : phases.Ghosts S) (rack : Ghosts R) where
   tree_runs took took_part faults old new a b (Ok answer) settled h cause rule = tree_answers took took_part faults old new a b answer settled h cause rule
   tree_runs took took_part faults old new a b (Err e) settled h cause rule = tt
 
+  first_lines : {C : Type 0} (took : C → List Listed → C → Type 0) (old new : C) (a b : Volume S R) → phase.phase a.phase ≡ SettledPhase → HasRead phase rack a b
+      → HandsSome took old new (Walks a b) → HandsLines took old new (λ reply. StepsTo phase phase rack a Tree reply b)
+  first_lines took old new a b settled h (inl same) = inl same
+  first_lines took old new a b settled h (inr some) = inr (some.0, some.1, some.2, tree_steps (some.0 ++ some.1) a b settled h some.3)
+
+  -- where there is none
+  pub tree_wanting : {C E : Type 0} (took : C → List Listed → C → Type 0) (old new : C) (a b : Volume S R) (result : Result CatAnswer E)
+      → phase.phase a.phase ≡ SettledPhase → HasRead phase rack a b → OnErr result (HandsSome took old new (Walks a b))
+      → OnErr result (HandsLines took old new (λ reply. StepsTo phase phase rack a Tree reply b))
+  tree_wanting took old new a b (Ok answer) settled h some = tt
+  tree_wanting took old new a b (Err e) settled h some = first_lines took old new a b settled h some
+
   -- ---- homes
 
   home_refused : (path : List ℕ) (refusal : PathRefusal) (a b : Volume S R) → phase.phase a.phase ≡ SettledPhase → HasRead phase rack a b → Finds path a b (Some (Err refusal))
       → StepsTo phase phase rack a (Home path) (Refused refusal) b
   home_refused path refusal a b settled h reads = steps_from phase rack a b (Home path) (Refused refusal) (λ rest V label holds. (
-    state_of phase rack b rest V,
+    read_state phase rack a b h rest V,
     reads_in phase rack a b rest V label h holds,
     (
       settled,
@@ -149,7 +162,7 @@ module _ {S R : Type 0} (phase : phases.Ghosts S) (rack : Ghosts R) where
   home_lost : (path : List ℕ) (a b : Volume S R) → phase.phase a.phase ≡ SettledPhase → HasRead phase rack a b → Finds path a b None → LosesBlock phase rack b
       → StepsTo phase phase rack a (Home path) ReplyUnavailable b
   home_lost path a b settled h reads gone = steps_from phase rack a b (Home path) ReplyUnavailable (λ rest V label holds. (
-    state_of phase rack b rest V,
+    read_state phase rack a b h rest V,
     reads_in phase rack a b rest V label h holds,
     (
       settled,
@@ -173,7 +186,7 @@ module _ {S R : Type 0} (phase : phases.Ghosts S) (rack : Ghosts R) where
   home_by : (path : List ℕ) (i : ℕ) (home : Option ℕ) (a b : Volume S R) → phase.phase a.phase ≡ SettledPhase → HasRead phase rack a b → Finds path a b (Some (Ok i))
       → home_of a.homes i ≡ home → StepsTo phase phase rack a (Home path) (home_reply (answer_for home (home_of a.copies i))) b
   home_by path i (Some s) a b settled h reads is = steps_from phase rack a b (Home path) (HomeAt s (home_of a.copies i)) (λ rest V label holds. (
-    state_of phase rack b rest V,
+    read_state phase rack a b h rest V,
     reads_in phase rack a b rest V label h holds,
     (
       settled,
@@ -183,7 +196,7 @@ module _ {S R : Type 0} (phase : phases.Ghosts S) (rack : Ghosts R) where
     refl,
   ))
   home_by path i None a b settled h reads is = steps_from phase rack a b (Home path) NoHome (λ rest V label holds. (
-    state_of phase rack b rest V,
+    read_state phase rack a b h rest V,
     reads_in phase rack a b rest V label h holds,
     (
       settled,

@@ -1,15 +1,17 @@
 -- What calls that keep all of a volume but its array leave of it.
-use Rattle.std.proofs.Common.{◌≡◌, ◌∙◌, ◌<◌, ◌/◌, ℕ, true, List, length, refl, sym, ap, subst}
-use Rattle.std.specs.Prelude.{None, IfSome}
+use Rattle.std.proofs.Common.{◌≡◌, ◌∙◌, ◌<◌, ◌≤◌, ◌/◌, ℕ, Bool, true, List, length, refl, sym, ap, subst}
+use Rattle.std.specs.Prelude.{IfSome, Option}
 use Rattle.dg_infer.specs.Meanings.{KeptInference}
 use Rattle.dg_infer.specs.Meanings as inferences
 use Rattle.dg_io.specs.Told.{StillTold}
 use Rattle.dg_io.specs.declared.outside.Rack.{Ghosts}
 use Rattle.dg_model.proofs.MemberLaws.{NoneRecovers, good_was, has_lost_at, has_lost_from, lost_stays}
-use Rattle.dg_model.proofs.SealLaws.{stays_plain}
+use Rattle.dg_label.specs.Labels.{IsLabeled, StandsLabeled}
+use Rattle.dg_label.specs.declared.labels.KeptLabel.{KeptLabel}
 use Rattle.dg_model.specs.Changes.{Stays}
 use Rattle.dg_model.specs.Members.{MembersFall}
 use Rattle.dg_model.specs.Saves.{AreHomes}
+use Rattle.dg_model.specs.Seals.{KeepsLabel, LastLabel, label_after}
 use Rattle.dg_model.specs.States.{CountsRise, State, has_lost}
 use Rattle.dg_model.specs.Steps.{Step}
 use Rattle.dg_model.specs.Tables.{Table}
@@ -20,6 +22,8 @@ use Rattle.dg_model.specs.declared.replies.Reply.{Reply}
 use Rattle.dg_model.specs.declared.shapes.Shape.{Shape}
 use Rattle.dg_store.specs.Stores.{IsSound, KeepsBlocks}
 use Rattle.dg_store.specs.Views.{ReadsOn}
+use Rattle.dg_volume.proofs.LabelLaws.{keeps_label, relabels_read, stands_same}
+use Rattle.dg_volume.specs.Seals.{Relabels}
 use Rattle.dg_volume.specs.Volumes.{FitsArray, IsInPlace, IsWell, Leaves, StandsFor, StandsIn, StepsBy, StepsTo, Tells, marks_by, marks_of, members_of, rack_of, shape_of, state_of, table_of}
 use Rattle.dg_volume.specs.declared.phases.InPhase as phases
 use Rattle.dg_volume.specs.declared.volumes.Volume.{Volume}
@@ -29,8 +33,23 @@ lost_on shape old new back lost =
     let found = has_lost_from shape old lost in
     has_lost_at shape new found.0 found.1 (lost_stays old new found.0 back found.2)
 
+-- ---- the label
+
+-- the rest of a state, with the label that calls left
+abbrev pub on_label : {S T R : Type 0} → Volume S R → Volume T R → Bool → State → State
+on_label a b opens rest = record rest { label = label_after opens (members_of a) (members_of b) rest.label }
+
+-- what calls left of the label of a volume
+abbrev pub Labels : {S T R : Type 0} → Ghosts R → Volume S R → Volume T R → Type 0
+Labels rack a b = Relabels rack a.store b.store a.label b.label
+
+-- the label that they left is one that a step leaves
+pub label_by : {S T R : Type 0} (rack : Ghosts R) (a : Volume S R) (b : Volume T R) (h : Labels rack a b) (last : Option LastLabel) → StandsLabeled rack a.store a.label last
+    → KeepsLabel (rack.counts (rack_of a)).writes (rack.counts (rack_of b)).writes (members_of a) (members_of b) last (label_after h.opens (members_of a) (members_of b) last)
+label_by rack a b h last stands = keeps_label rack a.store b.store a.label b.label h last stands.kept
+
 module _ {S R : Type 0} (phase : phases.Ghosts S) (rack : Ghosts R) where
-  -- all but the array and the buffers is as it was
+  -- all but the array, the label and the buffers is as it was
   pub record IsBeside (a b : Volume S R) : Type 0 where
     pub phase_is : b.phase ≡ a.phase
     pub pending : b.pending ≡ a.pending
@@ -47,6 +66,7 @@ module _ {S R : Type 0} (phase : phases.Ghosts S) (rack : Ghosts R) where
     pub same_rack : rack.name (rack_of b) ≡ rack.name (rack_of a)
     pub back : NoneRecovers (members_of a) (members_of b)
     pub stands : KeepsBlocks rack a.store b.store
+    pub labels : Labels rack a b
 
   pub shape_kept : (a b : Volume S R) → Keeps a b → shape_of b ≡ shape_of a
   shape_kept a b keeps = ap (λ (t : Table). t.shape) keeps.table
@@ -73,9 +93,13 @@ module _ {S R : Type 0} (phase : phases.Ghosts S) (rack : Ghosts R) where
         levels = keeps.levels ∙ well.levels ∙ sym (ap (λ (x : Shape). x.l) shape);
         marks = ap length (marks_kept a b keeps.beside) ∙ well.marks ∙ sym (ap (λ (x : Shape). x.n) shape);
         inferred = subst (λ (p : S). IfSome (phase.kept p) (FitsArray (shape_of b))) (sym keeps.beside.phase_is) fits;
+        labeled = keeps.labels.labeled;
         homes_are = subst (λ (x : List Home). AreHomes (shape_of b) x) (sym keeps.beside.homes) homes;
+        few_homes =
+            subst (λ (x : List Home). length x ≤ (shape_of b).n) (sym keeps.beside.homes)
+            (subst (λ (x : Shape). length a.homes ≤ x.n) (sym shape) well.few_homes);
         copies_are = subst (λ (x : List Home). AreHomes (shape_of b) x) (sym keeps.beside.copies) copies;
-        loose = λ loose. keeps.beside.copies ∙ well.loose (ap phase.phase (sym keeps.beside.phase_is) ∙ loose);
+        uncopied = λ unsettled. keeps.beside.copies ∙ well.uncopied (λ settled. unsettled (ap phase.phase keeps.beside.phase_is ∙ settled));
         worn = λ worn.
             let lost = lost_on (shape_of a) (members_of a) (members_of b) keeps.back (well.worn (ap phase.phase (sym keeps.beside.phase_is) ∙ worn)) in
             ap (λ (x : Shape). has_lost x (members_of b)) shape ∙ lost;
@@ -94,10 +118,10 @@ module _ {S R : Type 0} (phase : phases.Ghosts S) (rack : Ghosts R) where
 
   -- the same of all such states
   abbrev pub StepsFrom : Volume S R → Event → Reply → Volume S R → Type 0
-  StepsFrom a event reply b = (rest : State) (V : List (List ℕ)) → rest.label ≡ None → (Tells rack a → StandsFor phase rack a V) → StepsAt (λ recent. recent) a rest V event reply b
+  StepsFrom a event reply b = (rest : State) (V : List (List ℕ)) → StandsLabeled rack a.store a.label rest.label → (Tells rack a → StandsFor phase rack a V) → StepsAt (λ recent. recent) a rest V event reply b
 
   pub steps_by : (touch : List ℕ → List ℕ) (a b : Volume S R) (event : Event) (reply : Reply)
-      → ((rest : State) (V : List (List ℕ)) → rest.label ≡ None → (Tells rack a → StandsFor phase rack a V) → StepsAt touch a rest V event reply b)
+      → ((rest : State) (V : List (List ℕ)) → StandsLabeled rack a.store a.label rest.label → (Tells rack a → StandsFor phase rack a V) → StepsAt touch a rest V event reply b)
       → StepsBy phase phase rack touch a event reply b
   steps_by touch a b event reply h state st =
       subst (λ (s : State). (next : State) × StandsIn phase rack b next × Step (Tells rack b) s event reply next × (next.recent ≡ touch s.recent)) (sym st.is)
@@ -116,24 +140,55 @@ module _ {S R : Type 0} (phase : phases.Ghosts S) (rack : Ghosts R) where
     inferred = subst (λ (p : S). IfSome (phase.kept p) (λ kept. inferences.StandsFor kept V)) (sym keeps.beside.phase_is) holds.inferred;
   }
 
-  -- it is in the state with the same rest and blocks
-  pub still_in : (a b : Volume S R) (rest : State) (V : List (List ℕ)) → rest.label ≡ None → Keeps a b → (Tells rack a → StandsFor phase rack a V) → StandsIn phase rack b (state_of phase rack b rest V)
-  still_in a b rest V label keeps holds = record { is = refl; label = label; holds = λ told. holds_on a b V keeps (holds (told_before a b keeps told)) }
+  -- the state that it is in then, with this rest and these blocks
+  abbrev pub kept_state : (a b : Volume S R) → Keeps a b → State → List (List ℕ) → State
+  kept_state a b keeps rest V = state_of phase rack b (on_label a b keeps.labels.opens rest) V
+
+  pub still_in : (a b : Volume S R) (rest : State) (V : List (List ℕ)) → StandsLabeled rack a.store a.label rest.label → (keeps : Keeps a b)
+      → (Tells rack a → StandsFor phase rack a V) → StandsIn phase rack b (kept_state a b keeps rest V)
+  still_in a b rest V label keeps holds = record {
+    is = refl;
+    label = keeps.labels.stands rest.label label;
+    holds = λ told. holds_on a b V keeps (holds (told_before a b keeps told));
+  }
+
+  -- nothing was done: it is in the state that it was in
+  pub same_in : (a : Volume S R) (rest : State) (V : List (List ℕ)) → StandsLabeled rack a.store a.label rest.label → (Tells rack a → StandsFor phase rack a V)
+      → StandsIn phase rack a (state_of phase rack a rest V)
+  same_in a rest V label holds = record { is = refl; label = label; holds = holds }
+
+  -- no call was made on its rack: it is in the state with the same label
+  pub quiet_in : (a b : Volume S R) (rest : State) (V : List (List ℕ)) → StandsLabeled rack a.store a.label rest.label → Keeps a b → rack_of b ≡ rack_of a → b.label ≡ a.label
+      → (Tells rack a → StandsFor phase rack a V) → StandsIn phase rack b (state_of phase rack b rest V)
+  quiet_in a b rest V label keeps same label_is holds = record {
+    is = refl;
+    label =
+        subst (λ (k : Option KeptLabel). StandsLabeled rack b.store k rest.label) (sym label_is)
+        (stands_same rack a.store b.store a.label rest.label (shape_kept a b keeps) same label);
+    holds = λ told. holds_on a b V keeps (holds (told_before a b keeps told));
+  }
 
   -- and it stays in it where its members fall
-  pub stays : (a b : Volume S R) (rest : State) (V : List (List ℕ)) → rest.label ≡ None → Keeps a b → CountsRise (rack.counts (rack_of a)) (rack.counts (rack_of b))
+  pub stays : (a b : Volume S R) (rest : State) (V : List (List ℕ)) → StandsLabeled rack a.store a.label rest.label → (keeps : Keeps a b)
+      → CountsRise (rack.counts (rack_of a)) (rack.counts (rack_of b))
       → MembersFall (rack.counts (rack_of a)).faults (rack.counts (rack_of b)).faults (members_of a) (members_of b)
-      → Stays (state_of phase rack a rest V) (state_of phase rack b rest V)
-  stays a b rest V label keeps rises falls = stays_plain (state_of phase rack a rest V) (state_of phase rack b rest V) label label rises falls keeps.sound.paired (λ i. record rest {
-    table = keeps.table i;
-    blocks = V;
-    pending = marks_kept a b keeps.beside i;
-    homes = keeps.beside.homes i;
-    copies = keeps.beside.copies i;
-    phase = phase.phase (keeps.beside.phase_is i);
-    members = members_of b;
-    counts = rack.counts (rack_of b);
-  })
+      → Stays (state_of phase rack a rest V) (kept_state a b keeps rest V)
+  stays a b rest V label keeps rises falls = record {
+    goes = record {
+      passes = record { counts = rises; label = label_by rack a b keeps.labels rest.label label; paired = keeps.sound.paired };
+      members = falls;
+    };
+    rest = λ i. record (on_label a b keeps.labels.opens rest) {
+      table = keeps.table i;
+      blocks = V;
+      pending = marks_kept a b keeps.beside i;
+      homes = keeps.beside.homes i;
+      copies = keeps.beside.copies i;
+      phase = phase.phase (keeps.beside.phase_is i);
+      members = members_of b;
+      counts = rack.counts (rack_of b);
+    };
+  }
 
   -- ---- reads
 
@@ -144,6 +199,8 @@ module _ {S R : Type 0} (phase : phases.Ghosts S) (rack : Ghosts R) where
     pub sound : IsSound rack b.store
     pub reads : ReadsOn rack a.store b.store
     pub stands : KeepsBlocks rack a.store b.store
+    pub labeled : IsLabeled rack a.store a.label
+    pub label_is : b.label ≡ a.label
 
   pub read_keeps : (a b : Volume S R) → HasRead a b → Keeps a b
   read_keeps a b h = record {
@@ -155,12 +212,21 @@ module _ {S R : Type 0} (phase : phases.Ghosts S) (rack : Ghosts R) where
     same_rack = h.reads.keeps.stays.same_rack;
     back = λ q. good_was (rack.counts (rack_of a)).faults (rack.counts (rack_of b)).faults (members_of a) (members_of b) q h.reads.keeps.falls;
     stands = h.stands;
+    labels =
+        subst (λ (k : Option KeptLabel). Relabels rack a.store b.store a.label k) (sym h.label_is)
+        (relabels_read rack a.store b.store a.label h.labeled h.reads);
   }
 
-  pub reads_stay : (a b : Volume S R) (rest : State) (V : List (List ℕ)) → rest.label ≡ None → HasRead a b → Stays (state_of phase rack a rest V) (state_of phase rack b rest V)
+  -- the state that it is in then
+  abbrev pub read_state : (a b : Volume S R) → HasRead a b → State → List (List ℕ) → State
+  read_state a b h rest V = kept_state a b (read_keeps a b h) rest V
+
+  pub reads_stay : (a b : Volume S R) (rest : State) (V : List (List ℕ)) → StandsLabeled rack a.store a.label rest.label → (h : HasRead a b)
+      → Stays (state_of phase rack a rest V) (read_state a b h rest V)
   reads_stay a b rest V label h = stays a b rest V label (read_keeps a b h) h.reads.keeps.stays.rise h.reads.keeps.falls
 
-  pub reads_in : (a b : Volume S R) (rest : State) (V : List (List ℕ)) → rest.label ≡ None → HasRead a b → (Tells rack a → StandsFor phase rack a V) → StandsIn phase rack b (state_of phase rack b rest V)
+  pub reads_in : (a b : Volume S R) (rest : State) (V : List (List ℕ)) → StandsLabeled rack a.store a.label rest.label → (h : HasRead a b)
+      → (Tells rack a → StandsFor phase rack a V) → StandsIn phase rack b (read_state a b h rest V)
   reads_in a b rest V label h holds = still_in a b rest V label (read_keeps a b h) holds
 
   pub reads_leave : (a b : Volume S R) → IsWell phase rack a → HasRead a b → Leaves phase phase rack a b

@@ -4,14 +4,16 @@ use Rattle.std.specs.Prelude.{Option}
 use Rattle.std.proofs.lemmas.Bool.{cases_eq, cases_lt, false≢true}
 use Rattle.dg_io.specs.Told.{StillTold}
 use Rattle.dg_io.specs.declared.outside.Rack.{Ghosts}
+use Rattle.dg_label.specs.Labels.{IsLabeled}
+use Rattle.dg_label.specs.declared.labels.KeptLabel.{KeptLabel}
 use Rattle.dg_model.proofs.MemberLaws.{struck_good_was}
 use Rattle.dg_model.specs.Blocks.{IsTrimmed}
 use Rattle.dg_model.specs.Changes.{IsMember, ReadsFew}
-use Rattle.dg_model.specs.Members.{ArePaired, IsStruck, is_good}
-use Rattle.dg_model.specs.Seals.{LastLabel, label_after}
+use Rattle.dg_model.specs.Members.{ArePaired, IsStruck, is_filling, is_good}
+use Rattle.dg_model.specs.Seals.{label_after}
 use Rattle.dg_model.specs.Sites.{is_gone}
 use Rattle.dg_model.specs.States.{State}
-use Rattle.dg_model.specs.Tables.{sites_in}
+use Rattle.dg_model.specs.Tables.{Table, sites_in}
 use Rattle.dg_model.specs.declared.events.Event.TheVariants.{Fail, Read}
 use Rattle.dg_model.specs.declared.members.MemberState.{MemberState}
 use Rattle.dg_model.specs.declared.members.MemberState.TheVariants.{Out}
@@ -19,7 +21,9 @@ use Rattle.dg_model.specs.declared.replies.Reply.TheVariants.{Already, Data, Don
 use Rattle.dg_store.specs.Leaves.{CallsAtMost, NoFault}
 use Rattle.dg_store.specs.Stores.{HasBlock, IsSound, KeepsBlocks}
 use Rattle.dg_store.specs.Stores as stores
-use Rattle.dg_volume.proofs.VolumeLaws.{HasRead, IsBeside, Keeps, leaves, read_keeps, reads_in, reads_stay, steps_from, still_in, told_before}
+use Rattle.dg_volume.proofs.LabelLaws.{none_opens, quiet_opens, relabels_none, relabels_quiet}
+use Rattle.dg_volume.proofs.VolumeLaws.{HasRead, IsBeside, Keeps, Labels, kept_state, leaves, quiet_in, read_keeps, read_state, reads_in, reads_stay, steps_from, still_in, told_before}
+use Rattle.dg_volume.specs.Seals.{Relabels}
 use Rattle.dg_volume.specs.Volumes.{IsWell, Leaves, StepsTo, Tells, marks_by, members_of, rack_of, shape_of, state_of, table_of}
 use Rattle.dg_volume.specs.declared.phases.InPhase as phases
 use Rattle.dg_volume.specs.declared.volumes.Volume.{Volume}
@@ -40,6 +44,20 @@ struck_same q old new paired out struck p = elim (cases_eq p q) [
   ]
 ]
 
+-- a member that was out stays so
+struck_out : (q : ℕ) (old new : ℕ → MemberState) → IsStruck q old new → (p : ℕ) → old p ≡ Out → new p ≡ Out
+struck_out q old new struck p out = elim (cases_eq p q) [
+  | inl here ↦ ap new here ∙ struck.out
+  | inr other ↦ elim (struck.others p other) [ inl same ↦ same ∙ out | inr gone ↦ gone.1 ]
+]
+
+-- one that is refilled was so before
+struck_fills : (q : ℕ) (old new : ℕ → MemberState) → IsStruck q old new → (p : ℕ) → is_filling (new p) ≡ true → is_filling (old p) ≡ true
+struck_fills q old new struck p fills = elim (cases_eq p q) [
+  | inl here ↦ absurd (false≢true (sym (ap is_filling (ap new here ∙ struck.out)) ∙ fills))
+  | inr other ↦ elim (struck.others p other) [ inl same ↦ sym (ap is_filling same) ∙ fills | inr gone ↦ gone.0 ]
+]
+
 module _ {S R : Type 0} (phase : phases.Ghosts S) (rack : Ghosts R) where
   -- good members are among those of the array
   tells_good : (volume : Volume S R) → IsSound rack volume.store → Tells rack volume → stores.Tells rack volume.store
@@ -56,14 +74,14 @@ module _ {S R : Type 0} (phase : phases.Ghosts S) (rack : Ghosts R) where
     pub most : CallsAtMost rack a.store b.store (2 * length (sites_in (table_of a) block))
     pub once : NoFault rack a.store b.store → CallsAtMost rack a.store b.store 1
 
-  few : (a : Volume S R) (block : ℕ) (b : Volume S R) (rest : State) (V : List (List ℕ)) → HasReadBlock a block b
-      → ReadsFew (state_of phase rack a rest V) block (state_of phase rack b rest V)
+  few : (a : Volume S R) (block : ℕ) (b : Volume S R) (rest : State) (V : List (List ℕ)) → (h : HasReadBlock a block b)
+      → ReadsFew (state_of phase rack a rest V) block (read_state phase rack a b h.read rest V)
   few a block b rest V h = record { unwritten = h.read.reads.writes; most = h.most; one = h.once }
 
   pub steps_data : (a : Volume S R) (block : ℕ) (bytes value : List ℕ) (b : Volume S R) → HasReadBlock a block b → is_gone (table_of b) (members_of b) block ≡ false
       → IsTrimmed bytes value → (stores.Tells rack b.store → HasBlock rack a.store block value) → StepsTo phase phase rack a (Read block) (Data bytes) b
   steps_data a block bytes value b h here trimmed got = steps_from phase rack a b (Read block) (Data bytes) (λ rest V label holds. (
-    state_of phase rack b rest V,
+    read_state phase rack a b h.read rest V,
     reads_in phase rack a b rest V label h.read holds,
     (
       h.within,
@@ -80,7 +98,7 @@ module _ {S R : Type 0} (phase : phases.Ghosts S) (rack : Ghosts R) where
   pub steps_gone : (a : Volume S R) (block : ℕ) (b : Volume S R) → HasReadBlock a block b → is_gone (table_of b) (members_of b) block ≡ true
       → StepsTo phase phase rack a (Read block) Unavailable b
   steps_gone a block b h gone = steps_from phase rack a b (Read block) Unavailable (λ rest V label holds. (
-    state_of phase rack b rest V,
+    read_state phase rack a b h.read rest V,
     reads_in phase rack a b rest V label h.read holds,
     (
       h.within,
@@ -100,6 +118,8 @@ module _ {S R : Type 0} (phase : phases.Ghosts S) (rack : Ghosts R) where
     pub levels : b.levels.fragment ≡ a.levels.fragment
     pub sound : IsSound rack b.store
     pub rack_is : rack_of b ≡ rack_of a
+    pub label_is : b.label ≡ a.label
+    pub labeled : IsLabeled rack a.store a.label
     pub table : table_of b ≡ table_of a
     pub struck : IsStruck (2 * s + j) (members_of a) (members_of b)
     pub stands : KeepsBlocks rack a.store b.store
@@ -107,7 +127,19 @@ module _ {S R : Type 0} (phase : phases.Ghosts S) (rack : Ghosts R) where
   is_member : (a : Volume S R) (rest : State) (V : List (List ℕ)) (s j : ℕ) (b : Volume S R) → HasFailed a s j b → IsMember (state_of phase rack a rest V) s j
   is_member a rest V s j b h = record { boundary = h.boundary; side = h.side }
 
-  fail_keeps : (a : Volume S R) (s j : ℕ) (b : Volume S R) → HasFailed a s j b → Keeps phase rack a b
+  -- no seal was opened
+  fail_labels : (a : Volume S R) (s j : ℕ) (b : Volume S R) → HasFailed a s j b → (labels : Labels rack a b) × (labels.opens ≡ false)
+  fail_labels a s j b h =
+      let shape : shape_of b ≡ shape_of a = ap (λ (t : Table). t.shape) h.table in
+      let outs = struck_out (2 * s + j) (members_of a) (members_of b) h.struck in
+      let fills = struck_fills (2 * s + j) (members_of a) (members_of b) h.struck in
+      let none = relabels_none rack a.store a.label h.labeled in
+      subst (λ (k : Option KeptLabel). (labels : Relabels rack a.store b.store a.label k) × (labels.opens ≡ false)) (sym h.label_is) (
+        relabels_quiet rack a.store a.store b.store a.label a.label none shape h.rack_is (λ q was good. was) outs fills,
+        quiet_opens rack a.store a.store b.store a.label a.label none shape h.rack_is (λ q was good. was) outs fills ∙ none_opens rack a.store a.label h.labeled,
+      )
+
+  abbrev fail_keeps : (a : Volume S R) (s j : ℕ) (b : Volume S R) → HasFailed a s j b → Keeps phase rack a b
   fail_keeps a s j b h = record {
     beside = h.beside;
     levels = h.levels;
@@ -117,6 +149,7 @@ module _ {S R : Type 0} (phase : phases.Ghosts S) (rack : Ghosts R) where
     same_rack = ap rack.name h.rack_is;
     back = λ q good. struck_good_was (2 * s + j) (members_of a) (members_of b) q h.struck good;
     stands = h.stands;
+    labels = (fail_labels a s j b h).0;
   }
 
   pub fail_leaves : (a : Volume S R) (s j : ℕ) (b : Volume S R) → IsWell phase rack a → HasFailed a s j b → Leaves phase phase rack a b
@@ -124,7 +157,7 @@ module _ {S R : Type 0} (phase : phases.Ghosts S) (rack : Ghosts R) where
 
   pub steps_struck : (a : Volume S R) (s j : ℕ) (b : Volume S R) → HasFailed a s j b → members_of a (2 * s + j) ≢ Out → StepsTo phase phase rack a (Fail s j) Done b
   steps_struck a s j b h stood = steps_from phase rack a b (Fail s j) Done (λ rest V label holds. (
-    state_of phase rack b rest V,
+    kept_state phase rack a b (fail_keeps a s j b h) rest V,
     still_in phase rack a b rest V label (fail_keeps a s j b h) holds,
     (
       is_member a rest V s j b h,
@@ -140,7 +173,7 @@ module _ {S R : Type 0} (phase : phases.Ghosts S) (rack : Ghosts R) where
           copies = h.beside.copies i;
           phase = phase.phase (h.beside.phase_is i);
           members = members_of b;
-          label = (label ∙ sym (ap (λ (l : Option LastLabel). label_after false (members_of a) (members_of b) l) label)) i;
+          label = label_after ((fail_labels a s j b h).1 i) (members_of a) (members_of b) rest.label;
           counts = rack.counts (h.rack_is i);
         };
       },
@@ -155,7 +188,7 @@ module _ {S R : Type 0} (phase : phases.Ghosts S) (rack : Ghosts R) where
       let same = struck_same (2 * s + j) (members_of a) (members_of b) sound.paired out h.struck in
       steps_from phase rack a b (Fail s j) Already (λ rest V label holds. (
         state_of phase rack b rest V,
-        still_in phase rack a b rest V label (fail_keeps a s j b h) holds,
+        quiet_in phase rack a b rest V label (fail_keeps a s j b h) h.rack_is h.label_is holds,
         (
           is_member a rest V s j b h,
           out,

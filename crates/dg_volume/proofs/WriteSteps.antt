@@ -1,6 +1,6 @@
 -- A volume makes a step by a write of a block.
 use Rattle.std.proofs.Common.{◌≡◌, ◌∙◌, ◌<◌, ◌≤◌, ◌+◌, ◌*◌, ◌/◌, ℕ, Bool, true, false, List, [], ◌∷◌, length, refl, sym, ap, subst, arith, inl, inr, rules}
-use Rattle.std.specs.Prelude.{Option, Some, None, IfSome, max, slice_set}
+use Rattle.std.specs.Prelude.{Option, Some, None, IfSome, if◌then◌else◌, max, slice_set}
 use Rattle.std.specs.List.{All, Contains}
 use Rattle.std.proofs.lemmas.List.{length-set}
 use Rattle.std.proofs.lemmas.List.Sums.{count_by-le-length}
@@ -9,8 +9,9 @@ use Rattle.dg_infer.specs.Meanings.{KeptInference}
 use Rattle.dg_infer.specs.Meanings as inferences
 use Rattle.dg_io.specs.Told.{StillTold}
 use Rattle.dg_io.specs.declared.outside.Rack.{Ghosts}
+use Rattle.dg_label.specs.Labels.{IsKeptOf, IsLabeled, StandsLabeled}
+use Rattle.dg_label.specs.declared.labels.KeptLabel.{KeptLabel}
 use Rattle.dg_model.proofs.MemberLaws.{NoneRecovers, falls_both, good_was, has_lost_at, none_back}
-use Rattle.dg_model.proofs.SealLaws.{goes_plain}
 use Rattle.dg_model.specs.Blocks.{padded}
 use Rattle.dg_model.specs.Causes.{NoneRose}
 use Rattle.dg_model.specs.Changes.{WritesFew, phase_after, seal_calls}
@@ -32,15 +33,17 @@ use Rattle.dg_model.specs.declared.phases.Phase.TheVariants.{Loose as LoosePhase
 use Rattle.dg_model.specs.declared.replies.Reply.TheVariants.{Degraded, Done, Range}
 use Rattle.dg_model.specs.declared.shapes.Shape.{Shape}
 use Rattle.dg_model.specs.declared.sites.Site.{Site}
-use Rattle.dg_store.specs.Answers.{IsAllLost, IsStored}
+use Rattle.dg_store.specs.Answers.{IsAllLost}
 use Rattle.dg_store.specs.Leaves.{CallsAtMost, NoFault}
-use Rattle.dg_store.specs.Leaves as stores_leave
 use Rattle.dg_store.specs.Stores.{IsSound, KeepsBlocks}
 use Rattle.dg_store.specs.Stores as stores
 use Rattle.dg_store.specs.Views.{Fetches, ReadsOn, is_written}
 use Rattle.dg_store.specs.declared.store.Store.{Store}
 use Rattle.dg_volume.proofs.BlankLaws.{no_homes}
-use Rattle.dg_volume.proofs.VolumeLaws.{IsBeside, Keeps, leaves, lost_on, stays, steps_from, still_in}
+use Rattle.dg_volume.proofs.LabelLaws.{relabels_none, relabels_then, slots_kept}
+use Rattle.dg_volume.proofs.MoveSteps.{loose_not_settled, loose_not_worn}
+use Rattle.dg_volume.proofs.VolumeLaws.{IsBeside, Keeps, Labels, kept_state, label_by, leaves, lost_on, on_label, same_in, stays, steps_from, still_in}
+use Rattle.dg_volume.specs.Seals.{FallsOn, HasStoredBlock, Relabels, opening_calls}
 use Rattle.dg_volume.specs.Volumes.{FitsArray, IsWell, Leaves, StandsFor, StandsIn, Tells, marks_by, marks_of, members_of, rack_of, shape_of, state_of, table_of}
 use Rattle.dg_volume.specs.Writes.{IsFollowed, RereadsFew, WritesTo}
 use Rattle.dg_volume.specs.declared.phases.InPhase as phases
@@ -93,15 +96,26 @@ next_size false K l n V old new next = next.size
 
 -- ---- calls
 
-calls_under : (label : Option LastLabel) → label ≡ None → (now was members own read : ℕ) → now ≤ was + (own + read) → now ≤ was + (seal_calls label members + own) + read
-calls_under label none now was members own read few =
-    let zero : seal_calls label members ≡ 0 = ap (λ (l : Option LastLabel). seal_calls l members) none in
-    omega (arith, zero, few)
+-- those that open a seal, by what is kept of the label
+opening_is : (last : Option LastLabel) (kept : Option KeptLabel) (members : ℕ) → IsKeptOf last kept → opening_calls kept members ≡ seal_calls last members
+opening_is None None members is = refl
+opening_is None (Some kept) members is = absurd is
+opening_is (Some last) None members is = absurd is
+opening_is (Some last) (Some kept) members is = ap (λ (s : Bool). if s then members else 0) (sym is.sealed)
 
-refused_under : (label : Option LastLabel) → label ≡ None → (now was members own : ℕ) → now ≤ was + own → now ≤ was + (seal_calls label members + own)
-refused_under label none now was members own few =
-    let zero : seal_calls label members ≡ 0 = ap (λ (l : Option LastLabel). seal_calls l members) none in
-    omega (arith, zero, few)
+calls_under : (last : Option LastLabel) (kept : Option KeptLabel) → IsKeptOf last kept → (now was members own read : ℕ) → now ≤ was + (opening_calls kept members + own + read)
+    → now ≤ was + (seal_calls last members + own) + read
+calls_under last kept is now was members own read few = let same = opening_is last kept members is in omega (arith, same, few)
+
+refused_under : (last : Option LastLabel) (kept : Option KeptLabel) → IsKeptOf last kept → (now was members own : ℕ) → now ≤ was + (opening_calls kept members + own)
+    → now ≤ was + (seal_calls last members + own)
+refused_under last kept is now was members own few = let same = opening_is last kept members is in omega (arith, same, few)
+
+-- ---- the label
+
+-- a write was followed by reads
+pub labels_followed : {R : Type 0} (rack : Ghosts R) (a m c : Store R) (before after : Option KeptLabel) → Relabels rack a m before after → ReadsOn rack m c → Relabels rack a c before after
+labels_followed rack a m c before after first reads = relabels_then rack a m c before after first (slots_kept rack a m c reads.keeps) (λ closed. reads.writes)
 
 -- ---- phases
 
@@ -151,7 +165,8 @@ module _ {S T R : Type 0} (from : phases.Ghosts S) (to : phases.Ghosts T) (rack 
     pub copies : AreHomes (shape_of a) c.copies
     pub marks : length (marks_of to c) ≡ length (marks_of from a)
     pub fits : IfSome (to.kept c.phase) (FitsArray (shape_of a))
-    pub loose : to.phase c.phase ≡ LoosePhase → c.copies ≡ []
+    pub labeled : IsLabeled rack c.store c.label
+    pub uncopied : c.copies ≡ []
     pub worn : to.phase c.phase ≡ WornPhase → has_lost (shape_of c) (members_of c) ≡ true
     pub settled : to.phase c.phase ≡ SettledPhase → ⊥
 
@@ -162,9 +177,11 @@ module _ {S T R : Type 0} (from : phases.Ghosts S) (to : phases.Ghosts T) (rack 
       levels = h.levels ∙ well.levels ∙ sym (ap (λ (x : Shape). x.l) h.shape);
       marks = h.marks ∙ well.marks ∙ sym (ap (λ (x : Shape). x.n) h.shape);
       inferred = subst (λ (x : Shape). IfSome (to.kept c.phase) (FitsArray x)) (sym h.shape) h.fits;
+      labeled = h.labeled;
       homes_are = subst (λ (x : Shape). AreHomes x c.homes) (sym h.shape) (subst (λ (x : List Home). AreHomes (shape_of a) x) (sym h.homes) well.homes_are);
+      few_homes = subst (λ (x : Shape). length c.homes ≤ x.n) (sym h.shape) (subst (λ (x : List Home). length x ≤ (shape_of a).n) (sym h.homes) well.few_homes);
       copies_are = subst (λ (x : Shape). AreHomes x c.copies) (sym h.shape) h.copies;
-      loose = h.loose;
+      uncopied = λ unsettled. h.uncopied;
       worn = h.worn;
       settled = λ settled. absurd (h.settled settled);
     };
@@ -179,9 +196,9 @@ module _ {S T R : Type 0} (from : phases.Ghosts S) (to : phases.Ghosts T) (rack 
   pub record HasStored (a : Volume S R) (b : ℕ) (block : List ℕ) (m new : Store R) : Type 0 where
     pub within : b < (shape_of a).n
     pub whole : has_lost (shape_of a) (members_of a) ≡ false
-    pub first : stores_leave.Leaves rack a.store m
-    pub stored : IsStored rack b block a.store m
-    pub most : CallsAtMost rack a.store m (2 * max 1 (length (sites_in (table_of a) b)))
+    pub first : FallsOn rack a.store m
+    pub stored : HasStoredBlock rack b block a.store m
+    pub most : CallsAtMost rack a.store m (opening_calls a.label (2 * (shape_of a).b) + 2 * max 1 (length (sites_in (table_of a) b)))
     pub sound : IsSound rack new
     pub reads : ReadsOn rack m new
     pub stands : KeepsBlocks rack m new
@@ -194,7 +211,8 @@ module _ {S T R : Type 0} (from : phases.Ghosts S) (to : phases.Ghosts T) (rack 
   -- where no fault came, the write made no more calls than these, and one for each block that it gave reason to read
   pub record CallsFew (a : Volume S R) (b : ℕ) (c : Volume T R) (V W : List (List ℕ)) : Type 0 where
     pub rereads : Rereads (IsOver a c V) (shape_of a).l (shape_of a).n V W b
-    pub most : NoFault rack a.store c.store → CallsAtMost rack a.store c.store (2 * max 1 (length (sites_in (table_of a) b)) + count_read rereads)
+    pub most : NoFault rack a.store c.store
+        → CallsAtMost rack a.store c.store (opening_calls a.label (2 * (shape_of a).b) + 2 * max 1 (length (sites_in (table_of a) b)) + count_read rereads)
 
   -- a volume after a write
   pub record HasWritten (a : Volume S R) (b : ℕ) (block : List ℕ) (m : Store R) (c : Volume T R) : Type 0 where
@@ -207,16 +225,17 @@ module _ {S T R : Type 0} (from : phases.Ghosts S) (to : phases.Ghosts T) (rack 
     pub inferred : (V : List (List ℕ)) → IsOver a c V → IfSome (to.kept c.phase) (λ kept. inferences.StandsFor kept (slice_set V b block))
     pub marks : (V : List (List ℕ)) → AreNext (has_lost (shape_of c) (members_of c)) (IsOver a c V) (shape_of a).l (shape_of a).n (slice_set V b block) (with_mark (marks_of from a) b) (marks_of to c)
     pub few : (V : List (List ℕ)) → CallsFew a b c V (slice_set V b block)
+    pub labels : Labels rack a c
 
   falls_on : (a : Volume S R) (b : ℕ) (block : List ℕ) (m new : Store R) → HasStored a b block m new
       → MembersFall (rack.counts (rack_of a)).faults (rack.counts (stores.rack_of new)).faults (members_of a) (stores.members_of new)
   falls_on a b block m new h =
       falls_both (rack.counts (rack_of a)).faults (rack.counts (stores.rack_of m)).faults (rack.counts (stores.rack_of new)).faults (members_of a) (stores.members_of m) (stores.members_of new)
-      h.first.keeps.stays.rise.faults h.reads.keeps.stays.rise.faults h.first.keeps.falls h.reads.keeps.falls
+      h.first.stays.stays.rise.faults h.reads.keeps.stays.rise.faults h.first.falls h.reads.keeps.falls
 
   rises_on : (a : Volume S R) (b : ℕ) (block : List ℕ) (m new : Store R) → HasStored a b block m new → CountsRise (rack.counts (rack_of a)) (rack.counts (stores.rack_of new))
   rises_on a b block m new h =
-      let one = h.first.keeps.stays.rise in
+      let one = h.first.stays.stays.rise in
       let other = h.reads.keeps.stays.rise in
       record {
         faults = λ q. let x = one.faults q in let y = other.faults q in omega (arith, x, y);
@@ -225,10 +244,10 @@ module _ {S T R : Type 0} (from : phases.Ghosts S) (to : phases.Ghosts T) (rack 
       }
 
   shape_on : (a : Volume S R) (b : ℕ) (block : List ℕ) (m new : Store R) → HasStored a b block m new → stores.shape_of new ≡ shape_of a
-  shape_on a b block m new h = h.reads.keeps.shape ∙ h.first.keeps.shape
+  shape_on a b block m new h = h.reads.keeps.shape ∙ h.first.stays.shape
 
   tells_on : (a : Volume S R) (b : ℕ) (block : List ℕ) (m new : Store R) → HasStored a b block m new → StillTold (rack.bytes (rack_of a)) (rack.bytes (stores.rack_of new))
-  tells_on a b block m new h q told = h.first.keeps.stays.tells q (h.reads.keeps.stays.tells q told)
+  tells_on a b block m new h q told = h.first.stays.stays.tells q (h.reads.keeps.stays.tells q told)
 
   told_first : (a : Volume S R) (b : ℕ) (block : List ℕ) (m new : Store R) → HasStored a b block m new → stores.TellsAll rack new → Tells rack a
   told_first a b block m new h told q below = tells_on a b block m new h q (told q (subst (λ (s : Shape). q / 2 < s.b) (sym (shape_on a b block m new h)) below))
@@ -240,19 +259,24 @@ module _ {S T R : Type 0} (from : phases.Ghosts S) (to : phases.Ghosts T) (rack 
         sound = h.array.sound;
         shape = shape_on a b block m c.store h.array;
         tells = tells_on a b block m c.store h.array;
-        same_rack = h.array.reads.keeps.stays.same_rack ∙ h.array.first.keeps.stays.same_rack;
+        same_rack = h.array.reads.keeps.stays.same_rack ∙ h.array.first.stays.stays.same_rack;
         levels = h.levels;
         homes = h.homes;
         copies = subst (λ (x : List Home). AreHomes (shape_of a) x) (sym h.copies) (no_homes (shape_of a));
         marks = next_size lost (IsOver a c []) (shape_of a).l (shape_of a).n (slice_set [] b block) (with_mark (marks_of from a) b) (marks_of to c) (h.marks []) ∙ length-set (marks_of from a) b true;
         fits = h.fits;
-        loose = λ loose. h.copies;
+        labeled = h.labels.labeled;
+        uncopied = h.copies;
         worn = after_worn lost (to.phase c.phase) h.phase_is;
         settled = after_settled lost (to.phase c.phase) h.phase_is;
       })
 
-  writes_few : (a : Volume S R) (b : ℕ) (block : List ℕ) (m : Store R) (c : Volume T R) (rest : State) (V : List (List ℕ)) → rest.label ≡ None → HasWritten a b block m c
-      → (Tells rack a → StandsFor from rack a V) → WritesFew (Tells rack c) (state_of from rack a rest V) b (state_of to rack c rest (slice_set V b block))
+  -- the state that it is in then
+  abbrev written_state : (a : Volume S R) (b : ℕ) (block : List ℕ) (m : Store R) (c : Volume T R) → HasWritten a b block m c → State → List (List ℕ) → State
+  written_state a b block m c h rest W = state_of to rack c (on_label a c h.labels.opens rest) W
+
+  writes_few : (a : Volume S R) (b : ℕ) (block : List ℕ) (m : Store R) (c : Volume T R) (rest : State) (V : List (List ℕ)) → StandsLabeled rack a.store a.label rest.label → (h : HasWritten a b block m c)
+      → (Tells rack a → StandsFor from rack a V) → WritesFew (Tells rack c) (state_of from rack a rest V) b (written_state a b block m c h rest (slice_set V b block))
   writes_few a b block m c rest V label h holds =
       let over : Tells rack c → IsOver a c V = λ told. record { tells = told; held = holds (told_first a b block m c.store h.array told) } in
       let few = h.few V in
@@ -265,23 +289,23 @@ module _ {S T R : Type 0} (from : phases.Ghosts S) (to : phases.Ghosts T) (rack 
           beside_once = few.rereads.beside_once;
           are_beside = λ told. few.rereads.are_beside (over told);
         };
-        most = λ none. calls_under rest.label label (rack.counts (rack_of c)).calls (rack.counts (rack_of a)).calls (2 * (shape_of a).b)
+        most = λ none. calls_under rest.label a.label label.kept (rack.counts (rack_of c)).calls (rack.counts (rack_of a)).calls (2 * (shape_of a).b)
             (2 * max 1 (length (sites_in (table_of a) b))) (count_read few.rereads) (few.most none);
       }
 
-  stands_after : (a : Volume S R) (b : ℕ) (block : List ℕ) (m : Store R) (c : Volume T R) (rest : State) (V : List (List ℕ)) → rest.label ≡ None → HasWritten a b block m c
-      → (Tells rack a → StandsFor from rack a V) → StandsIn to rack c (state_of to rack c rest (slice_set V b block))
+  stands_after : (a : Volume S R) (b : ℕ) (block : List ℕ) (m : Store R) (c : Volume T R) (rest : State) (V : List (List ℕ)) → StandsLabeled rack a.store a.label rest.label → (h : HasWritten a b block m c)
+      → (Tells rack a → StandsFor from rack a V) → StandsIn to rack c (written_state a b block m c h rest (slice_set V b block))
   stands_after a b block m c rest V label h holds = record {
     is = refl;
-    label = label;
+    label = h.labels.stands rest.label label;
     holds = λ told.
         let held = holds (told_first a b block m c.store h.array told) in
         record { array = h.array.stands (slice_set V b block) (h.array.stored.sets V held.array); inferred = h.inferred V (record { tells = told; held = held }) };
   }
 
-  written_step : (a : Volume S R) (b : ℕ) (bytes : List ℕ) (m : Store R) (c : Volume T R) (rest : State) (V : List (List ℕ)) → rest.label ≡ None
-      → HasWritten a b (padded (shape_of a).l bytes) m c → (Tells rack a → StandsFor from rack a V)
-      → Step (Tells rack c) (state_of from rack a rest V) (Write b bytes) Done (state_of to rack c rest (slice_set V b (padded (shape_of a).l bytes)))
+  written_step : (a : Volume S R) (b : ℕ) (bytes : List ℕ) (m : Store R) (c : Volume T R) (rest : State) (V : List (List ℕ)) → StandsLabeled rack a.store a.label rest.label
+      → (h : HasWritten a b (padded (shape_of a).l bytes) m c) → (Tells rack a → StandsFor from rack a V)
+      → Step (Tells rack c) (state_of from rack a rest V) (Write b bytes) Done (written_state a b (padded (shape_of a).l bytes) m c h rest (slice_set V b (padded (shape_of a).l bytes)))
   written_step a b bytes m c rest V label h holds =
       let block = padded (shape_of a).l bytes in
       let W = slice_set V b block in
@@ -289,12 +313,15 @@ module _ {S T R : Type 0} (from : phases.Ghosts S) (to : phases.Ghosts T) (rack 
         array.within,
         array.whole,
         record {
-          goes = goes_plain (state_of from rack a rest V) (state_of to rack c rest W) label label (rises_on a b block m c.store array) (falls_on a b block m c.store array) array.sound.paired;
+          goes = record {
+            passes = record { counts = rises_on a b block m c.store array; label = label_by rack a c h.labels rest.label label; paired = array.sound.paired };
+            members = falls_on a b block m c.store array;
+          };
           sited = subst (λ (t : Table). IsSited (table_of a) b t) (sym array.reads.table) array.stored.sited;
           few = writes_few a b block m c rest V label h holds;
           marks = next_along (has_lost (shape_of c) (members_of c)) (Tells rack c) (IsOver a c V) (shape_of a).l (shape_of a).n W (with_mark (marks_of from a) b) (marks_of to c)
               (λ told. record { tells = told; held = holds (told_first a b block m c.store array told) }) (h.marks V);
-          rest = λ i. record rest {
+          rest = λ i. record (on_label a c h.labels.opens rest) {
             table = table_of c;
             blocks = W;
             pending = marks_of to c;
@@ -314,7 +341,7 @@ module _ {S T R : Type 0} (from : phases.Ghosts S) (to : phases.Ghosts T) (rack 
         let wrote : HasWritten a b (padded (shape_of a).l bytes) m c = subst (λ (x : List ℕ). HasWritten a b x m c) is h in
         let W = slice_set state.blocks b (padded (shape_of a).l bytes) in
         subst (λ (s : State). (next : State) × StandsIn to rack c next × Step (Tells rack c) s (Write b bytes) Done next × (next.recent ≡ s.recent)) (sym st.is) (
-          state_of to rack c state W,
+          written_state a b (padded (shape_of a).l bytes) m c wrote state W,
           stands_after a b (padded (shape_of a).l bytes) m c state state.blocks st.label wrote st.holds,
           written_step a b bytes m c state state.blocks st.label wrote st.holds,
           refl,
@@ -341,8 +368,8 @@ module _ {S T R : Type 0} (from : phases.Ghosts S) (to : phases.Ghosts T) (rack 
 
   pub written_whole : (a : Volume S R) (b : ℕ) (block : List ℕ) (m : Store R) (kept now : KeptInference) (c : Volume T R) → IsWell from rack a → HasStored a b block m c.store
       → c.levels.fragment ≡ a.levels.fragment → c.homes ≡ a.homes → c.copies ≡ [] → from.kept a.phase ≡ Some kept → to.kept c.phase ≡ Some now → to.phase c.phase ≡ LoosePhase
-      → HasFollowed a b block m c.store kept now → HasWritten a b block m c
-  written_whole a b block m kept now c well array levels homes copies had has loose h =
+      → HasFollowed a b block m c.store kept now → Labels rack a c → HasWritten a b block m c
+  written_whole a b block m kept now c well array levels homes copies had has loose h labels =
       let fitted : FitsArray (shape_of a) kept = subst (λ (o : Option KeptInference). IfSome o (FitsArray (shape_of a))) had well.inferred in
       let Left : ℕ → ℕ → Bool → List Bool → List Bool → List (List ℕ) → Type 0 = λ l n lost old new V. AreNext lost (IsOver a c V) l n (slice_set V b block) (with_mark old b) new in
       record {
@@ -350,6 +377,7 @@ module _ {S T R : Type 0} (from : phases.Ghosts S) (to : phases.Ghosts T) (rack 
         levels = levels;
         homes = homes;
         copies = copies;
+        labels = labels;
         phase_is = loose ∙ sym (ap phase_after h.whole);
         fits = subst (λ (o : Option KeptInference). IfSome o (FitsArray (shape_of a))) (sym has) (record { bytes = h.size.0 ∙ fitted.bytes; number = h.size.1 ∙ fitted.number });
         inferred = λ V over. subst (λ (o : Option KeptInference). IfSome o (λ k. inferences.StandsFor k (slice_set V b block))) (sym has) (h.inferred V (followed a b block m kept c V had array over));
@@ -362,7 +390,7 @@ module _ {S T R : Type 0} (from : phases.Ghosts S) (to : phases.Ghosts T) (rack 
             (subst (λ (x : ℕ). Left x (shape_of a).n false kept.pending now.pending V) fitted.bytes (subst (λ (x : ℕ). Left kept.l x false kept.pending now.pending V) fitted.number next))));
         few = λ V.
             let few = h.few V in
-            let shape : stores.shape_of m ≡ shape_of a = array.first.keeps.shape in
+            let shape : stores.shape_of m ≡ shape_of a = array.first.stays.shape in
             let W = slice_set V b block in
             record {
               rereads = record {
@@ -374,7 +402,7 @@ module _ {S T R : Type 0} (from : phases.Ghosts S) (to : phases.Ghosts T) (rack 
                 are_beside = λ over. subst (λ (x : Shape). All (IsBesideBlock x.l x.n V W b) few.rereads.beside) shape (few.rereads.are_beside (followed a b block m kept c V had array over));
               };
               most = λ none.
-                  let rest = few.few (none_back (rack.counts (rack_of a)).faults (rack.counts (stores.rack_of m)).faults (rack.counts (rack_of c)).faults array.first.keeps.stays.rise.faults none) in
+                  let rest = few.few (none_back (rack.counts (rack_of a)).faults (rack.counts (stores.rack_of m)).faults (rack.counts (rack_of c)).faults array.first.stays.stays.rise.faults none) in
                   omega (arith, array.most, rest);
             };
       }
@@ -382,9 +410,10 @@ module _ {S T R : Type 0} (from : phases.Ghosts S) (to : phases.Ghosts T) (rack 
   -- where a boundary is lost, a fault came
   pub written_broken : (a : Volume S R) (b : ℕ) (block : List ℕ) (m : Store R) (kept : KeptInference) (c : Volume T R) → IsWell from rack a → HasStored a b block m c.store
       → c.levels.fragment ≡ a.levels.fragment → c.homes ≡ a.homes → c.copies ≡ [] → from.kept a.phase ≡ Some kept → to.kept c.phase ≡ None → to.phase c.phase ≡ WornPhase
-      → c.pending.items ≡ with_mark kept.pending b → has_lost (shape_of c) (members_of c) ≡ true → HasWritten a b block m c
-  written_broken a b block m kept c well array levels homes copies had has worn marks lost = record {
+      → c.pending.items ≡ with_mark kept.pending b → has_lost (shape_of c) (members_of c) ≡ true → Labels rack a c → HasWritten a b block m c
+  written_broken a b block m kept c well array levels homes copies had has worn marks lost labels = record {
     array = array;
+    labels = labels;
     levels = levels;
     homes = homes;
     copies = copies;
@@ -401,11 +430,38 @@ module _ {S T R : Type 0} (from : phases.Ghosts S) (to : phases.Ghosts T) (rack 
     };
   }
 
+-- ---- want of memory behind a write
+
+module _ {S T R : Type 0} (from : phases.Ghosts S) (to : phases.Ghosts T) (rack : Ghosts R) where
+  -- a loose volume is left
+  pub loosened_leaves : (a : Volume S R) (m : Store R) (kept now : KeptInference) (c : Volume T R) → IsWell from rack a → FallsOn rack a.store m → IsSound rack c.store → ReadsOn rack m c.store
+      → c.levels.fragment ≡ a.levels.fragment → c.homes ≡ a.homes → c.copies ≡ [] → from.kept a.phase ≡ Some kept → to.kept c.phase ≡ Some now → to.phase c.phase ≡ LoosePhase
+      → (now.l ≡ kept.l) × (now.n ≡ kept.n) → length now.pending ≡ length kept.pending → Labels rack a c → Leaves from to rack a c
+  loosened_leaves a m kept now c well first sound reads levels homes copies had has loose size room labels =
+      let fitted : FitsArray (shape_of a) kept = subst (λ (o : Option KeptInference). IfSome o (FitsArray (shape_of a))) had well.inferred in
+      left_leaves from to rack a c well (record {
+        sound = sound;
+        shape = reads.keeps.shape ∙ first.stays.shape;
+        tells = λ q told. first.stays.stays.tells q (reads.keeps.stays.tells q told);
+        same_rack = reads.keeps.stays.same_rack ∙ first.stays.stays.same_rack;
+        levels = levels;
+        homes = homes;
+        copies = subst (λ (x : List Home). AreHomes (shape_of a) x) (sym copies) (no_homes (shape_of a));
+        marks =
+            ap (λ (o : Option KeptInference). length (marks_by o c.pending.items)) has ∙ room
+            ∙ sym (ap (λ (o : Option KeptInference). length (marks_by o a.pending.items)) had);
+        fits = subst (λ (o : Option KeptInference). IfSome o (FitsArray (shape_of a))) (sym has) (record { bytes = size.0 ∙ fitted.bytes; number = size.1 ∙ fitted.number });
+        labeled = labels.labeled;
+        uncopied = copies;
+        worn = λ worn. absurd (loose_not_worn (sym loose ∙ worn));
+        settled = λ settled. loose_not_settled (sym loose ∙ settled);
+      })
+
 -- ---- writes that are refused
 
 module _ {S R : Type 0} (phase : phases.Ghosts S) (rack : Ghosts R) where
-  unmoved : (a : Volume S R) → IsSound rack a.store → Keeps phase rack a a
-  unmoved a sound = record {
+  unmoved : (a : Volume S R) → IsSound rack a.store → IsLabeled rack a.store a.label → Keeps phase rack a a
+  unmoved a sound labeled = record {
     beside = record { phase_is = refl; pending = refl; homes = refl; copies = refl };
     levels = refl;
     sound = sound;
@@ -414,15 +470,16 @@ module _ {S R : Type 0} (phase : phases.Ghosts S) (rack : Ghosts R) where
     same_rack = refl;
     back = λ q good. good;
     stands = λ V stands. stands;
+    labels = relabels_none rack a.store a.label labeled;
   }
 
   -- there is no such block
   pub past_end : (a : Volume S R) (b : ℕ) (block : List ℕ) → IsWell phase rack a → (shape_of a).n ≤ b → WritesTo phase phase rack a b block Range a
   past_end a b block well past = record {
-    leaves = leaves phase rack a a well (unmoved a well.array);
+    leaves = leaves phase rack a a well (unmoved a well.array well.labeled);
     steps = λ bytes is. steps_from phase rack a a (Write b bytes) Range (λ rest V label holds. (
       state_of phase rack a rest V,
-      still_in phase rack a a rest V label (unmoved a well.array) holds,
+      same_in phase rack a rest V label holds,
       (past, refl),
       refl,
     ));
@@ -432,10 +489,10 @@ module _ {S R : Type 0} (phase : phases.Ghosts S) (rack : Ghosts R) where
   pub lost_before : (a : Volume S R) (b : ℕ) (block : List ℕ) → IsWell phase rack a → b < (shape_of a).n → has_lost (shape_of a) (members_of a) ≡ true
       → WritesTo phase phase rack a b block Degraded a
   lost_before a b block well within lost = record {
-    leaves = leaves phase rack a a well (unmoved a well.array);
+    leaves = leaves phase rack a a well (unmoved a well.array well.labeled);
     steps = λ bytes is. steps_from phase rack a a (Write b bytes) Degraded (λ rest V label holds. (
       state_of phase rack a rest V,
-      still_in phase rack a a rest V label (unmoved a well.array) holds,
+      same_in phase rack a rest V label holds,
       (within, inl (lost, refl)),
       refl,
     ));
@@ -445,11 +502,12 @@ module _ {S R : Type 0} (phase : phases.Ghosts S) (rack : Ghosts R) where
   pub record HasMissed (a : Volume S R) (b : ℕ) (c : Volume S R) : Type 0 where
     pub within : b < (shape_of a).n
     pub whole : has_lost (shape_of a) (members_of a) ≡ false
-    pub first : stores_leave.Leaves rack a.store c.store
+    pub first : FallsOn rack a.store c.store
     pub lost : IsAllLost rack b a.store c.store
-    pub most : CallsAtMost rack a.store c.store (2 * max 1 (length (sites_in (table_of a) b)))
+    pub most : CallsAtMost rack a.store c.store (opening_calls a.label (2 * (shape_of a).b) + 2 * max 1 (length (sites_in (table_of a) b)))
     pub beside : IsBeside phase rack a c
     pub levels : c.levels.fragment ≡ a.levels.fragment
+    pub labels : Labels rack a c
 
   missed_keeps : (a : Volume S R) (b : ℕ) (c : Volume S R) → HasMissed a b c → Keeps phase rack a c
   missed_keeps a b c h = record {
@@ -457,25 +515,26 @@ module _ {S R : Type 0} (phase : phases.Ghosts S) (rack : Ghosts R) where
     levels = h.levels;
     sound = h.first.sound;
     table = h.lost.table;
-    tells = h.first.keeps.stays.tells;
-    same_rack = h.first.keeps.stays.same_rack;
-    back = λ q. good_was (rack.counts (rack_of a)).faults (rack.counts (rack_of c)).faults (members_of a) (members_of c) q h.first.keeps.falls;
+    tells = h.first.stays.stays.tells;
+    same_rack = h.first.stays.stays.same_rack;
+    back = λ q. good_was (rack.counts (rack_of a)).faults (rack.counts (rack_of c)).faults (members_of a) (members_of c) q h.first.falls;
     stands = h.lost.stands;
+    labels = h.labels;
   }
 
   pub lost_now : (a : Volume S R) (b : ℕ) (block : List ℕ) (c : Volume S R) → IsWell phase rack a → HasMissed a b c → WritesTo phase phase rack a b block Degraded c
   lost_now a b block c well h = record {
     leaves = leaves phase rack a c well (missed_keeps a b c h);
     steps = λ bytes is. steps_from phase rack a c (Write b bytes) Degraded (λ rest V label holds. (
-      state_of phase rack c rest V,
+      kept_state phase rack a c (missed_keeps a b c h) rest V,
       still_in phase rack a c rest V label (missed_keeps a b c h) holds,
       (
         h.within,
         inr (
           h.whole,
           h.lost.lost,
-          refused_under rest.label label (rack.counts (rack_of c)).calls (rack.counts (rack_of a)).calls (2 * (shape_of a).b) (2 * max 1 (length (sites_in (table_of a) b))) h.most,
-          stays phase rack a c rest V label (missed_keeps a b c h) h.first.keeps.stays.rise h.first.keeps.falls,
+          refused_under rest.label a.label label.kept (rack.counts (rack_of c)).calls (rack.counts (rack_of a)).calls (2 * (shape_of a).b) (2 * max 1 (length (sites_in (table_of a) b))) h.most,
+          stays phase rack a c rest V label (missed_keeps a b c h) h.first.stays.stays.rise h.first.falls,
         ),
       ),
       refl,

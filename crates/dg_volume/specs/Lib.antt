@@ -1,9 +1,12 @@
 pub mod Copies
 pub mod Fronts
+pub mod Opens
 pub mod Phases
 pub mod Planned
 pub mod Refills
 pub mod Replies
+pub mod Saves
+pub mod Seals
 pub mod Settles
 pub mod Volumes
 pub mod Writes

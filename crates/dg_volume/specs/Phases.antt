@@ -1,5 +1,5 @@
 -- What is kept of a volume in each of its phases.
-use Rattle.std.specs.Prelude.{◌<◌, ℕ, true, List, length, Option, Some, None, slice_index_or, slice_set}
+use Rattle.std.specs.Prelude.{◌<◌, ℕ, Bool, true, false, List, length, Option, Some, None, slice_index_or, slice_set}
 use Rattle.dg_infer.specs.Fits.{FitsTable}
 use Rattle.dg_infer.specs.Meanings.{KeptInference}
 use Rattle.dg_infer.specs.Meanings as inferences
@@ -21,6 +21,11 @@ abbrev pub kept_in : AnyPhase → Option KeptInference
 kept_in (AnyLoose loose) = Some loose.inference
 kept_in (AnySettled settled) = Some settled.inference
 kept_in (AnyWorn worn) = None
+
+-- the phase of a volume of which this is inferred, by whether it is settled
+abbrev pub phase_with : KeptInference → Bool → AnyPhase
+phase_with kept true = AnySettled (record { inference = kept })
+phase_with kept false = AnyLoose (record { inference = kept })
 
 -- Block b may become one of zeros: where it is dead, what is inferred of a volume stands for it afterwards too.
 abbrev pub CanReap : KeptInference → ℕ → Type 0

@@ -1,10 +1,13 @@
 -- What is planned and checked over an array, and what reads and moves leave of it.
-use Rattle.std.specs.Prelude.{◌≡◌, ℕ, List, Option, None, Result, Ok, Err, false, IfSome, is_some}
+use Rattle.std.specs.Prelude.{◌≡◌, ℕ, List, Option, Result, Ok, Err, false, IfSome, is_some}
 use Rattle.dg_infer.specs.Meanings.{KeptInference}
 use Rattle.dg_infer.specs.Meanings as inferences
 use Rattle.dg_infer.specs.Wants.{IsWantBy}
 use Rattle.dg_io.specs.declared.outside.Rack.{Ghosts}
+use Rattle.dg_label.specs.Labels.{StandsLabeled}
+use Rattle.dg_model.specs.Members.{MembersFall}
 use Rattle.dg_model.specs.Plans.{plan}
+use Rattle.dg_model.specs.Seals.{LastLabel}
 use Rattle.dg_model.specs.States.{IsLeastLost, State, has_lost}
 use Rattle.dg_model.specs.Steps.{Step}
 use Rattle.dg_model.specs.Sites.{has_site}
@@ -20,7 +23,7 @@ use Rattle.dg_model.specs.declared.wants.Want.{Want}
 use Rattle.dg_plan.specs.Planned.{IsPlanned, KeepsRules}
 use Rattle.dg_plan.specs.declared.target_lists.Targets.{Targets}
 use Rattle.dg_store.specs.Leaves as arrays
-use Rattle.dg_store.specs.Stores.{IsSound, KeepsBlocks, TellsAll, members_of, shape_of, table_of}
+use Rattle.dg_store.specs.Stores.{IsSound, KeepsBlocks, TellsAll, members_of, rack_of, shape_of, table_of}
 use Rattle.dg_store.specs.Stores as stores
 use Rattle.dg_store.specs.Views.{ReadsOn}
 use Rattle.dg_store.specs.declared.store.Store.{Store}
@@ -42,9 +45,12 @@ pub record HasReadArray {R : Type 0} (rack : Ghosts R) (old new : Store R) : Typ
   pub reads : ReadsOn rack old new
   pub stands : KeepsBlocks rack old new
 
--- what reads and moves left of it: each block keeps its value, where the members tell their bytes in the end
+-- What reads and moves left of it, where a seal may have been opened: members only fell, and each block keeps its value, where the members
+-- tell their bytes in the end.
 pub record HasMovedArray {R : Type 0} (rack : Ghosts R) (old new : Store R) : Type 0 where
-  pub leaves : arrays.Leaves rack old new
+  pub sound : IsSound rack new
+  pub stays : arrays.Stays rack old new
+  pub falls : MembersFall (rack.counts (rack_of old)).faults (rack.counts (rack_of new)).faults (members_of old) (members_of new)
   pub stands : TellsAll rack new → KeepsBlocks rack old new
 
 -- ---- the plan
@@ -115,5 +121,7 @@ pub record IsPutInPlace {S R : Type 0} (phase : phases.Ghosts S) (rack : Ghosts 
   pub pending_is : new.pending ≡ old.pending
   pub placed : IsInPlace (volumes.table_of new) (phase.kept old.phase) new.homes new.copies
   pub stands : (V : List (List ℕ)) → Tells rack new → StandsFor phase rack old V → StandsFor phase rack new V
-  pub steps : (rest : State) (V : List (List ℕ)) → rest.label ≡ None → (Tells rack old → StandsFor phase rack old V)
-      → Step (Tells rack new) (state_of phase rack old rest V) Settle SettledReply (record (state_of phase rack new rest V) { phase = SettledPhase })
+  pub steps : (rest : State) (V : List (List ℕ)) → StandsLabeled rack old.store old.label rest.label → (Tells rack old → StandsFor phase rack old V)
+      → (last : Option LastLabel) × StandsLabeled rack new.store new.label last
+      × Step (Tells rack new) (state_of phase rack old rest V) Settle SettledReply
+      (record (state_of phase rack new rest V) { phase = SettledPhase; label = last })

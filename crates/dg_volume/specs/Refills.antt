@@ -1,23 +1,29 @@
 -- The replies that the answers of replacements and refills stand for, and what is reaped.
-use Rattle.std.specs.Prelude.{◌≡◌, ◌⊎◌, ℕ, Bool, true, false, List, length, Option, Result, Ok, Err, IfSome, IsSome}
+use Rattle.std.specs.Prelude.{◌≡◌, ◌⊎◌, ℕ, Bool, true, false, List, length, None, Option, Result, Ok, Err, IfSome, IsSome}
 use Rattle.std.specs.Bool.{Decides}
 use Rattle.dg_infer.specs.Meanings.{KeptInference}
 use Rattle.dg_infer.specs.Meanings as inferences
 use Rattle.dg_infer.specs.Wants.{IsWantBy}
 use Rattle.dg_io.specs.declared.outside.Rack.{Ghosts}
+use Rattle.dg_label.specs.Seals.{KeepsArray}
+use Rattle.dg_label.specs.declared.labels.KeptLabel.{KeptLabel}
 use Rattle.dg_model.specs.Blocks.{block_in, zeros}
 use Rattle.dg_model.specs.Marks.{IsDead, is_marked}
+use Rattle.dg_model.specs.Members.{IsRefilled, is_lost}
 use Rattle.dg_model.specs.States.{has_lost}
 use Rattle.dg_model.specs.Tables.{Table}
+use Rattle.dg_model.specs.declared.members.MemberState.{MemberState}
 use Rattle.dg_model.specs.declared.phases.Phase.{Phase}
 use Rattle.dg_model.specs.declared.phases.Phase.TheVariants.{Worn}
 use Rattle.dg_model.specs.declared.replies.Reply.{Reply}
 use Rattle.dg_model.specs.declared.replies.Reply.TheVariants.{Copied as CopiedReply, Done, Failed as FailedReply, Lost as LostReply, NotFilling as NotFillingReply, NotOut as NotOutReply, Range as RangeReply}
 use Rattle.dg_model.specs.declared.wants.Want.TheVariants.{Stray}
+use Rattle.dg_rebuild.specs.Answers.{HasNoFilling}
 use Rattle.dg_rebuild.specs.declared.rebuilds.RebuildAnswer as refilled
 use Rattle.dg_rebuild.specs.declared.rebuilds.RebuildAnswer.TheVariants.{Copied as RefilledCopied, Failed as RefilledFailed, Lost as RefilledLost, NotFilling as RefilledNotFilling}
 use Rattle.dg_store.specs.Stores.{members_of, shape_of, table_of}
 use Rattle.dg_store.specs.declared.store.Store.{Store}
+use Rattle.dg_volume.specs.Seals.{Relabels}
 use Rattle.dg_volume.specs.Volumes.{StandsFor, Tells, marks_of}
 use Rattle.dg_volume.specs.Volumes as volumes
 use Rattle.dg_volume.specs.declared.phases.InPhase as phases
@@ -54,6 +60,26 @@ told_of (Ok (RefilledLost s)) = Ok (RebuildLost s)
 told_of (Ok RefilledNotFilling) = Ok NotFilling
 told_of (Ok RefilledFailed) = Ok RebuildFailed
 told_of (Err e) = Err e
+
+-- ---- members
+
+-- some member of boundary s is refilled
+pub record HasFilling (members : ℕ → MemberState) (s : ℕ) : Type 0 where
+  pub q : ℕ
+  pub have : ℕ
+  pub refilled : IsRefilled members s q have
+
+-- What the opening of the seal before a refill left, and what the refill answers where its member went out by that: there is an answer just
+-- then.
+pub record OpensRefill {R : Type 0} (rack : Ghosts R) (s limit : ℕ) (old new : Store R) (before after : Option KeptLabel) (ended : Option RebuildAnswer) : Type 0 where
+  pub array : KeepsArray rack old new
+  pub labels : Relabels rack old new before after
+  pub quiet : labels.opens ≡ false → (limit ≡ 0) ⊎ HasNoFilling (members_of new) s
+  pub same : ended ≡ None → HasNoFilling (members_of new) s → (new ≡ old) × (after ≡ before)
+  pub was : IfSome ended (λ answer. HasFilling (members_of old) s)
+  pub none : IfSome ended (λ answer. HasNoFilling (members_of new) s)
+  pub lost : IfSome ended (λ answer. is_lost (members_of new) s ≡ true → answer ≡ RebuildLost s)
+  pub fell : IfSome ended (λ answer. is_lost (members_of new) s ≡ false → answer ≡ RebuildFailed)
 
 -- ---- marks of dead blocks
 

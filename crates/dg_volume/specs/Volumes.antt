@@ -1,10 +1,11 @@
 -- A volume beside the states of the model.
-use Rattle.std.specs.Prelude.{◌≡◌, ◌+◌, ◌*◌, ◌≤◌, ℕ, Bool, true, List, [], length, Option, Some, None, IfSome}
+use Rattle.std.specs.Prelude.{◌≡◌, ◌≢◌, ◌+◌, ◌*◌, ◌≤◌, ℕ, Bool, true, List, [], length, Option, Some, None, IfSome}
 use Rattle.dg_infer.specs.Meanings.{KeptInference}
 use Rattle.dg_infer.specs.Meanings as inferences
 use Rattle.dg_infer.specs.Wants.{IsWantBy}
 use Rattle.dg_io.specs.declared.outside.Rack.{Ghosts}
 use Rattle.dg_io.specs.Told.{StillTold}
+use Rattle.dg_label.specs.Labels.{IsLabeled, StandsLabeled}
 use Rattle.dg_model.specs.Saves.{AreHomes}
 use Rattle.dg_model.specs.States.{IsBlank, State, has_lost}
 use Rattle.dg_model.specs.Placed.{IsPlaced}
@@ -87,10 +88,11 @@ pub record StandsFor {S R : Type 0} (phase : phases.Ghosts S) (rack : Ghosts R) 
   pub array : stores.StandsFor rack volume.store blocks
   pub inferred : IfSome (phase.kept volume.phase) (λ kept. inferences.StandsFor kept blocks)
 
--- The volume is in this state. No label was written yet. Where each member tells its bytes, it stands for the blocks of the state.
+-- The volume is in this state: it keeps the numbers of the state's label, which stands on the members that keep it. Where each member tells
+-- its bytes, it stands for the blocks of the state.
 pub record StandsIn {S R : Type 0} (phase : phases.Ghosts S) (rack : Ghosts R) (volume : Volume S R) (state : State) : Type 0 where
   pub is : state ≡ state_of phase rack volume state state.blocks
-  pub label : state.label ≡ None
+  pub label : StandsLabeled rack volume.store volume.label state.label
   pub holds : Tells rack volume → StandsFor phase rack volume state.blocks
 
 -- Whichever state the volume was in, it made a step from it, to a state that it is in now, in which so changed inodes were read last.
@@ -132,16 +134,18 @@ pub record IsInPlace (table : Table) (kept : Option KeptInference) (homes copies
   pub by : IfSome kept (λ inference. AreWantsBy inference wants)
 
 -- What holds of a volume between calls: its array is sound; its buffers are for blocks of its size; it has a mark for each block; what is
--- inferred is of this array; homes are on its boundaries; a loose one has no copies; a worn one has a lost boundary; and of a settled one
--- each block is in its place.
+-- inferred is of this array; the label that is kept fits the array; homes are on its boundaries, and no more than its blocks; only a settled
+-- one has copies; a worn one has a lost boundary; and of a settled one each block is in its place.
 pub record IsWell {S R : Type 0} (phase : phases.Ghosts S) (rack : Ghosts R) (volume : Volume S R) : Type 0 where
   pub array : IsSound rack volume.store
   pub levels : volume.levels.fragment ≡ (shape_of volume).l
   pub marks : length (marks_of phase volume) ≡ (shape_of volume).n
   pub inferred : IfSome (phase.kept volume.phase) (FitsArray (shape_of volume))
+  pub labeled : IsLabeled rack volume.store volume.label
   pub homes_are : AreHomes (shape_of volume) volume.homes
+  pub few_homes : length volume.homes ≤ (shape_of volume).n
   pub copies_are : AreHomes (shape_of volume) volume.copies
-  pub loose : phase.phase volume.phase ≡ LoosePhase → volume.copies ≡ []
+  pub uncopied : phase.phase volume.phase ≢ SettledPhase → volume.copies ≡ []
   pub worn : phase.phase volume.phase ≡ WornPhase → has_lost (shape_of volume) (members_of volume) ≡ true
   pub settled : phase.phase volume.phase ≡ SettledPhase → IsInPlace (table_of volume) (phase.kept volume.phase) volume.homes volume.copies
 

@@ -25,6 +25,7 @@ impl<S: InPhase + Drop, R: Rack> Volume<S, R> {
             copies,
             levels,
             given,
+            label,
         } = self;
         Volume {
             store,
@@ -34,6 +35,7 @@ impl<S: InPhase + Drop, R: Rack> Volume<S, R> {
             copies,
             levels,
             given,
+            label,
         }
     }
 }

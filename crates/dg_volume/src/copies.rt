@@ -8,8 +8,9 @@ ghost use Rattle.dg_volume.specs.Volumes.{IsWell, Leaves, any_phase, phase_of, s
 
 use crate::phases::{AnyPhase, InPhase, Settled};
 use crate::plans::{all_wants, inodes_fit};
+use crate::seals::spread_recent;
 use crate::volumes::Volume;
-use dg_hot::{DiffuseAnswer, Hot, diffuse};
+use dg_hot::{DiffuseAnswer, Hot};
 use dg_io::{NoMemory, Rack};
 use dg_model::Phase;
 use std::alloc::Global;
@@ -39,9 +40,10 @@ impl<S: InPhase, R: Rack> Volume<S, R> {
             unreachable!();
         };
         let wants = all_wants(alloc, &self.store, inference)?;
-        let answer = diffuse(
+        let answer = spread_recent(
             alloc,
             &mut self.store,
+            &mut self.label,
             hot,
             &wants,
             &self.homes,

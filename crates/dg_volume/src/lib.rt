@@ -1,15 +1,24 @@
 //! The typed volume: the flat array, what its blocks belong to, and what is known of it in its phase.
 //!
 //! A volume is loose as long as it is known what its blocks belong to. It is worn once a block was written while a boundary is lost.
+//!
+//! The label of the last save is kept. Where it is sealed, each call opens it on the good members before it writes the first of them.
 #![tactic(auto)]
 
 mod any;
 mod copies;
+#[cfg(test)]
+mod open_tests;
+mod opens;
 mod paths;
 mod phases;
 mod plans;
 mod queries;
 mod refills;
+#[cfg(test)]
+mod save_tests;
+mod saves;
+mod seals;
 #[cfg(test)]
 mod settle_tests;
 mod settled_paths;
@@ -25,8 +34,10 @@ mod writes;
 
 pub use copies::AnyDiffuse;
 pub use dg_hot::{DiffuseAnswer, Hot};
+pub use dg_label::SaveAnswer;
 pub use dg_model::{NoMemory, Phase, Who};
 pub use dg_store::{Boundary, Shape};
+pub use opens::{OpenAnswer, open};
 pub use phases::{AnyPhase, InPhase, Loose, Settled, Worn};
 pub use queries::WhoAnswer;
 pub use refills::{RebuildAnswer, ReplaceAnswer};

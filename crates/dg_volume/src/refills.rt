@@ -1,16 +1,22 @@
 // Members that are replaced and refilled.
-ghost use Rattle.std.specs.Prelude.{◌≡◌, ◌<◌, ℕ, IfOk, IfSome, false, length, List};
+ghost use Rattle.std.specs.Prelude.{◌≡◌, ◌≢◌, ◌⊎◌, ◌+◌, ◌*◌, ◌<◌, ℕ, IfOk, IfSome, false, true, length, List};
+ghost use Rattle.dg_label.specs.Labels.{IsLabeled};
 ghost use Rattle.dg_model.specs.Marks.{is_marked};
+ghost use Rattle.dg_model.specs.Members.{is_lost};
 ghost use Rattle.dg_model.specs.declared.events.Event.{Event};
-ghost use Rattle.dg_store.specs.Stores.{IsSound, table_of};
+ghost use Rattle.dg_rebuild.specs.Answers.{HasNoFilling};
+ghost use Rattle.dg_store.specs.Stores.{IsSound, members_of, table_of};
 ghost use Rattle.dg_store.specs.Stores as stores;
-ghost use Rattle.dg_volume.specs.Refills.{AreDeadMarks, AreReapMarks, IsDeadMark, SparesFiles, rebuild_reply, replace_reply, told_of};
+ghost use Rattle.dg_volume.specs.Refills.{AreDeadMarks, AreReapMarks, HasFilling, IsDeadMark, OpensRefill, SparesFiles, rebuild_reply, replace_reply, told_of};
 ghost use Rattle.dg_volume.specs.Volumes.{FitsArray, IsWell, Leaves, StepsSized, StepsTo};
 
 use crate::phases::InPhase;
+use crate::seals::open_where;
 use crate::volumes::Volume;
 use dg_infer::Inference;
 use dg_io::{NoMemory, Rack};
+use dg_label::KeptLabel;
+use dg_model::MemberState;
 use dg_rebuild::{RebuildAnswer as Refilled, rebuild};
 use dg_store::{ReplaceAnswer as MemberAnswer, Store, member_length};
 use std::alloc::Global;
@@ -118,6 +124,76 @@ fn reap_marks<S: InPhase, R: Rack>(
     }
 }
 
+/// Whether a member is out while its boundary isn't lost.
+fn can_replace<R: Rack>(store: &Store<R>, boundary: u8, side: u8) -> bool
+    requires sound { IsSound R.Rack store.now }
+    requires boundary { boundary < (stores.shape_of store.now).b }
+    requires side { side < 2 }
+    ensures out { result ≡ true → members_of store.now (2 * boundary + side) ≡ MemberState.Out }
+    ensures live { result ≡ true → is_lost (members_of store.now) boundary ≡ false }
+    ensures other { result ≡ false → (members_of store.now (2 * boundary + side) ≢ MemberState.Out) ⊎ (is_lost (members_of store.now) boundary ≡ true) }
+{
+    let pair = store.boundary(boundary);
+    match pair.member(side) {
+        MemberState::Out => !pair.is_lost(),
+        MemberState::Good => false,
+        MemberState::Filling(_) => false,
+    }
+}
+
+/// Whether a member of a boundary is refilled.
+fn is_filling<R: Rack>(store: &Store<R>, boundary: u8) -> bool
+    requires sound { IsSound R.Rack store.now }
+    requires boundary { boundary < (stores.shape_of store.now).b }
+    ensures some { result ≡ true → HasFilling (members_of store.now) boundary }
+    ensures none { result ≡ false → HasNoFilling (members_of store.now) boundary }
+{
+    let pair = store.boundary(boundary);
+    if let MemberState::Filling(_) = pair.member(0) {
+        return true;
+    }
+    match pair.member(1) {
+        MemberState::Filling(_) => true,
+        _ => false,
+    }
+}
+
+/// What is told where the member that was refilled is out.
+fn fell<R: Rack>(store: &Store<R>, boundary: u8) -> RebuildAnswer
+    requires sound { IsSound R.Rack store.now }
+    requires boundary { boundary < (stores.shape_of store.now).b }
+    ensures lost { is_lost (members_of store.now) boundary ≡ true → result ≡ RebuildAnswer.Lost boundary }
+    ensures live { is_lost (members_of store.now) boundary ≡ false → result ≡ RebuildAnswer.Failed }
+{
+    if store.boundary(boundary).is_lost() {
+        RebuildAnswer::Lost(boundary)
+    } else {
+        RebuildAnswer::Failed
+    }
+}
+
+/// Opens the seal where slots of a member may be copied. Where this takes the member away, it is told what the refill answers.
+fn open_refill<R: Rack>(
+    store: &mut Store<R>,
+    label: &mut Option<KeptLabel>,
+    boundary: u8,
+    limit: u32,
+) -> Option<RebuildAnswer>
+    requires sound { IsSound R.Rack store.old }
+    requires labeled { IsLabeled R.Rack store.old label.old }
+    requires boundary { boundary < (stores.shape_of store.old).b }
+    ensures { OpensRefill R.Rack boundary limit store.old store.new label.old label.new result }
+{
+    if !is_filling(store, boundary) {
+        return None;
+    }
+    open_where(store, label, limit > 0);
+    if is_filling(store, boundary) {
+        return None;
+    }
+    Some(fell(store, boundary))
+}
+
 impl<S: InPhase, R: Rack> Volume<S, R> {
     /// Makes a member anew that is out, given by its boundary and its side. It is refilled then.
     pub fn replace(&mut self, boundary: u32, side: u32) -> ReplaceAnswer
@@ -128,6 +204,8 @@ impl<S: InPhase, R: Rack> Volume<S, R> {
         if boundary >= self.store.shape().b as u32 || side >= 2 {
             return ReplaceAnswer::Range;
         }
+        let opens = can_replace(&self.store, boundary as u8, side as u8);
+        open_where(&mut self.store, &mut self.label, opens);
         let size = member_length(self.store.shape());
         match self.store.replace(boundary as u8, side as u8, size) {
             MemberAnswer::Replaced => ReplaceAnswer::Replaced,
@@ -155,6 +233,10 @@ impl<S: InPhase, R: Rack> Volume<S, R> {
         change_of_loose_blocks();
         if boundary >= self.store.shape().b as u32 {
             return Ok(RebuildAnswer::Range);
+        }
+        let ended = open_refill(&mut self.store, &mut self.label, boundary as u8, limit);
+        if let Some(answer) = ended {
+            return Ok(answer);
         }
         let dead = reap_marks(alloc, &self.store, &self.phase)?;
         let mut reaped = Vec::new(alloc);

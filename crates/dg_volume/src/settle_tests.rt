@@ -1,5 +1,6 @@
 // Settling and moving, on volumes of 128 fragments of 1024 bytes that were written block by block.
-ghost use Rattle.std.specs.Prelude.{◌≡◌, IfOk, length};
+ghost use Rattle.std.specs.Prelude.{◌≡◌, IfOk, None, length};
+ghost use Rattle.dg_label.specs.Labels.{IsLabeled};
 ghost use Rattle.dg_model.specs.Shapes.{IsShape};
 ghost use Rattle.dg_store.specs.Stores.{IsSound};
 ghost use Rattle.dg_volume.specs.Volumes.{IsWell, any_phase, loose_phase};
@@ -62,8 +63,10 @@ fn put(image: &mut Vec<u8>, place: usize, byte: u8) {
 
 /// Writes a block.
 fn write_block<R: Rack>(store: &mut Store<R>, block: usize, bytes: &[u8]) -> Result<(), Fail>
-    requires { IsSound R.Rack store.old }
-    ensures { IsSound R.Rack store.new }
+    requires sound { IsSound R.Rack store.old }
+    requires labeled { IsLabeled R.Rack store.old None }
+    ensures sound { IsSound R.Rack store.new }
+    ensures labeled { IsLabeled R.Rack store.new None }
 {
     let shape = *store.shape();
     if block >= shape.n as usize || bytes.len() != shape.l as usize {
@@ -77,8 +80,10 @@ fn write_block<R: Rack>(store: &mut Store<R>, block: usize, bytes: &[u8]) -> Res
 
 /// Writes the blocks of an image that aren't zero or have a number below a bound, ascending.
 fn write_image<R: Rack>(store: &mut Store<R>, image: &[u8], bound: usize) -> Result<(), Fail>
-    requires { IsSound R.Rack store.old }
-    ensures { IsSound R.Rack store.new }
+    requires sound { IsSound R.Rack store.old }
+    requires labeled { IsLabeled R.Rack store.old None }
+    ensures sound { IsSound R.Rack store.new }
+    ensures labeled { IsLabeled R.Rack store.new None }
 {
     for (block, bytes) in image.chunks(1024).enumerate() {
         if block < bound || bytes.iter().any(|byte| *byte != 0) {
@@ -116,6 +121,7 @@ fn up<R: Rack + Drop>(
         copies: Homes::new(Vec::new(alloc)),
         levels,
         given: None,
+        label: None,
     })
 }
 

@@ -91,7 +91,9 @@ impl<S: InPhase, R: Rack> Volume<S, R> {
         ensures steps { IfOk result (AnswersTree O.took O.took_part O.faults out.old out.new
             (λ reply. StepsTo S.InPhase S.InPhase R.Rack self.old Event.Tree reply self.new)) }
         ensures err { OnErr result (KeepsArray R.Rack self.old self.new) }
-        ensures part { OnErr result (HandsLines O.took R.Rack out.old out.new self.old self.new) }
+        ensures part { OnErr result (HandsLines O.took out.old out.new
+            (λ reply. StepsTo S.InPhase S.InPhase R.Rack self.old Event.Tree reply self.new)) }
+        ensures err_faults { OnErr result (O.faults out.new ≡ O.faults out.old) }
     {
         tree(alloc, &mut self.store, &mut self.levels, out)
     }
@@ -119,7 +121,7 @@ impl<S: InPhase, R: Rack> Volume<S, R> {
 
 impl<R: Rack> Volume<Settled, R> {
     /// Hands on all entries of the volume but `.` and `..`, depth first, each directory's in its order. All are consulted before the first
-    /// is handed on. Where there is no memory some entries may have been handed on.
+    /// is handed on. Where there is no memory some first entries may have been handed on.
     pub fn tree<O: Listing>(&mut self, alloc: Global, out: &mut O) -> Result<CatAnswer, NoMemory>
         requires well { IsWell settled_phase R.Rack self.old }
         ensures leaves { Leaves settled_phase settled_phase R.Rack self.old self.new }
@@ -128,7 +130,9 @@ impl<R: Rack> Volume<Settled, R> {
         ensures steps { IfOk result (AnswersTree O.took O.took_part O.faults out.old out.new
             (λ reply. StepsTo settled_phase settled_phase R.Rack self.old Event.Tree reply self.new)) }
         ensures err { OnErr result (KeepsArray R.Rack self.old self.new) }
-        ensures part { OnErr result (HandsLines O.took R.Rack out.old out.new self.old self.new) }
+        ensures part { OnErr result (HandsLines O.took out.old out.new
+            (λ reply. StepsTo settled_phase settled_phase R.Rack self.old Event.Tree reply self.new)) }
+        ensures err_faults { OnErr result (O.faults out.new ≡ O.faults out.old) }
     {
         self.list_all(alloc, out)
     }
@@ -154,7 +158,9 @@ impl<R: Rack> Volume<AnyPhase, R> {
         ensures steps { IfOk result (AnswersTreeAny O.took O.took_part O.faults out.old out.new
             (λ reply. StepsTo any_phase any_phase R.Rack self.old Event.Tree reply self.new)) }
         ensures err { OnErr result (KeepsArray R.Rack self.old self.new) }
-        ensures part { OnErr result (HandsLines O.took R.Rack out.old out.new self.old self.new) }
+        ensures part { OnErr result (HandsLines O.took out.old out.new
+            (λ reply. StepsTo any_phase any_phase R.Rack self.old Event.Tree reply self.new)) }
+        ensures err_faults { OnErr result (O.faults out.new ≡ O.faults out.old) }
     {
         match self.phase() {
             Phase::Settled => {

@@ -9,10 +9,11 @@ ghost use Rattle.dg_volume.specs.Volumes.{IsWell, Leaves, StepsTo, loose_phase, 
 
 use crate::phases::{InPhase, Loose, Settled};
 use crate::plans::{PlanAnswer, checked, inodes_fit, planned};
+use crate::seals::move_within;
 use crate::volumes::Volume;
 use dg_io::{NoMemory, Rack};
 use dg_model::NoRoom;
-use dg_move::{TendAnswer, limit_of_all, tend};
+use dg_move::{TendAnswer, limit_of_all};
 use dg_plan::targets_of_plans;
 use std::alloc::Global;
 use ufs_model::BadKind;
@@ -65,10 +66,12 @@ impl<S: InPhase, R: Rack> Volume<S, R> {
         )? {
             PlanAnswer::Lost(lost) => Ok(TendRun::Lost(lost)),
             PlanAnswer::NoSpace(bad) => Ok(TendRun::NoSpace(bad)),
-            PlanAnswer::Found(targets) => match tend(&mut self.store, &targets, limit)? {
-                TendAnswer::Tended { moved, left } => Ok(TendRun::Tended { moved, left }),
-                TendAnswer::Lost(lost) => Ok(TendRun::Lost(lost)),
-            },
+            PlanAnswer::Found(targets) => {
+                match move_within(&mut self.store, &mut self.label, &targets, limit)? {
+                    TendAnswer::Tended { moved, left } => Ok(TendRun::Tended { moved, left }),
+                    TendAnswer::Lost(lost) => Ok(TendRun::Lost(lost)),
+                }
+            }
         }
     }
 
@@ -102,14 +105,16 @@ impl<S: InPhase, R: Rack> Volume<S, R> {
         )? {
             PlanAnswer::Lost(lost) => Ok(Err(Unsettled::Lost(lost))),
             PlanAnswer::NoSpace(bad) => Ok(Err(Unsettled::NoSpace(bad))),
-            PlanAnswer::Found(targets) => match tend(&mut self.store, &targets, u32::MAX)? {
-                TendAnswer::Tended { .. } => {
-                    self.homes = targets.into_homes();
-                    inodes_fit(self.homes.as_slice());
-                    Ok(Ok(()))
+            PlanAnswer::Found(targets) => {
+                match move_within(&mut self.store, &mut self.label, &targets, u32::MAX)? {
+                    TendAnswer::Tended { .. } => {
+                        self.homes = targets.into_homes();
+                        inodes_fit(self.homes.as_slice());
+                        Ok(Ok(()))
+                    }
+                    TendAnswer::Lost(lost) => Ok(Err(Unsettled::Lost(lost))),
                 }
-                TendAnswer::Lost(lost) => Ok(Err(Unsettled::Lost(lost))),
-            },
+            }
         }
     }
 }
@@ -136,6 +141,7 @@ impl<R: Rack + Drop> Volume<Loose, R> {
             copies,
             levels,
             given,
+            label,
         } = self;
         Ok(Ok(Volume {
             store,
@@ -145,6 +151,7 @@ impl<R: Rack + Drop> Volume<Loose, R> {
             copies,
             levels,
             given,
+            label,
         }))
     }
 

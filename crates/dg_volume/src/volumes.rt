@@ -9,6 +9,7 @@ ghost use Rattle.dg_volume.specs.Volumes.{IsBlankVolume, IsWell, Leaves, StepsTo
 use crate::phases::{InPhase, Loose};
 use dg_infer::Inference;
 use dg_io::{NoMemory, Rack};
+use dg_label::KeptLabel;
 use dg_model::{Phase, Shape};
 use dg_plan::Homes;
 use dg_store::{FailAnswer as MemberAnswer, Fetched, Store};
@@ -27,6 +28,8 @@ pub struct Volume<S, R> {
     pub(crate) levels: Levels,
     /// The inode of the file that was given last.
     pub(crate) given: Option<u32>,
+    /// The label that is kept of the last save, or opening.
+    pub(crate) label: Option<KeptLabel>,
 }
 
 /// What became of a read of a block.
@@ -70,6 +73,7 @@ impl<R: Rack> Volume<Loose, R> {
             copies: Homes::new(Vec::new(alloc)),
             levels,
             given: None,
+            label: None,
         })
     }
 }

@@ -12,6 +12,7 @@ ghost use Rattle.dg_volume.specs.Volumes.{FitsArray, IsWell, Leaves, any_phase, 
 ghost use Rattle.dg_volume.specs.Writes.{AnswersWrite, IsFollowed, RereadsFew, WritesTo, write_reply};
 
 use crate::phases::{AnyPhase, InPhase, Loose, Worn};
+use crate::seals::write_opened;
 use crate::volumes::Volume;
 use dg_infer::{Inference, Inferred};
 use dg_io::{NoMemory, Rack};
@@ -30,7 +31,7 @@ pub enum Wrote<S, R> {
     Worn(Volume<Worn, R>),
     /// There is no such block. Nothing has changed.
     Range(Volume<S, R>),
-    /// A boundary was lost before, or all sites of the block were lost in this call. Nothing was written.
+    /// A boundary was lost before, or all sites of the block were lost in this call. The block wasn't written.
     Degraded(Volume<S, R>),
 }
 
@@ -41,7 +42,7 @@ pub enum WriteAnswer {
     Written,
     /// There is no such block. Nothing has changed.
     Range,
-    /// A boundary was lost before, or all sites of the block were lost in this call. Nothing was written.
+    /// A boundary was lost before, or all sites of the block were lost in this call. The block wasn't written.
     Degraded,
 }
 
@@ -120,7 +121,7 @@ fn loosen(phase: &mut AnyPhase)
 }
 
 impl<S: InPhase + Drop, R: Rack + Drop> Volume<S, R> {
-    /// Writes a block of L bytes to its sites, and follows what blocks belong to.
+    /// Writes a block of L bytes to its sites, behind the opening of a seal, and follows what blocks belong to.
     pub fn write(self, alloc: Global, block: u32, buf: &[u8]) -> Result<Wrote<S, R>, NoMemory>
         requires well { IsWell S.InPhase R.Rack self }
         requires size { length buf.now ≡ (shape_of self).l }
@@ -140,8 +141,9 @@ impl<S: InPhase + Drop, R: Rack + Drop> Volume<S, R> {
             copies,
             mut levels,
             given,
+            mut label,
         } = self;
-        if let StoreWrite::AllLost = store.write(block, buf)? {
+        if let StoreWrite::AllLost = write_opened(&mut store, &mut label, block, buf)? {
             return Ok(Wrote::Degraded(Volume {
                 store,
                 phase,
@@ -150,6 +152,7 @@ impl<S: InPhase + Drop, R: Rack + Drop> Volume<S, R> {
                 copies,
                 levels,
                 given,
+                label,
             }));
         }
         let Some(mut inference) = phase.into_inference() else {
@@ -165,6 +168,7 @@ impl<S: InPhase + Drop, R: Rack + Drop> Volume<S, R> {
                 copies,
                 levels,
                 given,
+                label,
             }));
         }
         Ok(Wrote::Worn(Volume {
@@ -175,13 +179,14 @@ impl<S: InPhase + Drop, R: Rack + Drop> Volume<S, R> {
             copies,
             levels,
             given,
+            label,
         }))
     }
 }
 
 impl<R: Rack> Volume<AnyPhase, R> {
-    /// Writes a block of L bytes to its sites, and follows what blocks belong to. After want of memory the volume is loose, and it isn't
-    /// known what its blocks belong to.
+    /// Writes a block of L bytes to its sites, behind the opening of a seal, and follows what blocks belong to. After want of memory the volume
+    /// is loose, and it isn't known what its blocks belong to.
     pub fn write_block(
         &mut self,
         alloc: Global,
@@ -199,7 +204,7 @@ impl<R: Rack> Volume<AnyPhase, R> {
         if self.store.is_degraded() {
             return Ok(WriteAnswer::Degraded);
         }
-        let Ok(written) = self.store.write(block, buf) else {
+        let Ok(written) = write_opened(&mut self.store, &mut self.label, block, buf) else {
             loosen(&mut self.phase);
             self.copies = Homes::new(Vec::new(alloc));
             return Err(NoMemory);

@@ -1,10 +1,12 @@
 //! The program `dgraid`: the trace comes from standard input, the replies go to standard output, and the members are
-//! image files in the current folder. It ends with the status of the run.
+//! image files in the current folder. It ends with the status of the run. Where a call on one of these fails, the adapter tells on
+//! standard error what the system said.
 #![tactic(auto)]
 
 mod images;
 mod inputs;
 mod outputs;
+mod reports;
 #[cfg(test)]
 mod tests;
 
@@ -13,6 +15,7 @@ use images::ImageRack;
 use inputs::StandardInput;
 use outputs::StandardOutput;
 use std::env;
+use std::fs::File;
 use std::io::{self, ErrorKind};
 use std::process::ExitCode;
 
@@ -33,8 +36,19 @@ fn words_or_none(rt: HostRuntime) -> io::Result<Vec<String>> {
     }
 }
 
+/// Opens a folder three times. A standard stream that is closed has one of these numbers then, and fails where it is used; else an image
+/// file would get the number, and the stream's bytes.
+fn hold_streams(rt: HostRuntime) -> [Option<File>; 3] {
+    [
+        File::open(&rt, "/").ok(),
+        File::open(&rt, "/").ok(),
+        File::open(&rt, "/").ok(),
+    ]
+}
+
 /// Does what the words say.
 fn serve(rt: HostRuntime) -> Status {
+    let _held = hold_streams(rt);
     let Ok(words) = words_or_none(rt) else {
         return Status::NoMemory;
     };

@@ -26,4 +26,4 @@ pub use dg_words::Order;
 pub use items::{Item, ItemKind, Items};
 pub use refusals::{BuildRefused, What};
 pub use traces::trace_order;
-pub use volumes::Spec;
+pub use volumes::{Spec, volume_of_spec};

@@ -1,5 +1,5 @@
 -- Entries that are still to be listed, and what is read of them.
-use Rattle.std.proofs.Common.{◌≡◌, ◌∙◌, ℕ, ◌+◌, ◌-◌, ◌*◌, Bool, true, false, List, [], ◌∷◌, ◌++◌, Option, Some, None, Result, Ok, Err, refl, sym, ap, subst, arith}
+use Rattle.std.proofs.Common.{◌≡◌, ◌∙◌, ℕ, ◌+◌, ◌-◌, ◌*◌, Bool, true, false, List, [], ◌∷◌, ◌++◌, Option, Some, None, Result, Ok, Err, refl, sym, ap, subst, arith, inl, inr}
 use Rattle.std.specs.Prelude.{◌&&◌, Contains, IsErr, IfOk, OnErr, filter, if◌then◌else◌, map, nat_lt}
 use Rattle.std.specs.Option.{option_map}
 use Rattle.std.proofs.lemmas.Bool.{false≢true}
@@ -25,7 +25,7 @@ use Rattle.ufs_path.proofs.GrowLaws.{value_on}
 use Rattle.ufs_path.proofs.TreeLaws.{below_lines}
 use Rattle.ufs_path.proofs.AnswerLaws.{map_answer}
 use Rattle.ufs_path.specs.Answers.{IsAnswer, refusal_of}
-use Rattle.ufs_path.specs.Trees.{AddsBranches, Begins, Branch, HandsFront, IsGrown, IsUnansweredIn, IsUnreadIn, IsUnreadWalkIn, Opens, OpensBlocks, all_lines, branch_at, branch_of, branches_at, branches_below, branches_in, left_on, lines_below, lines_in, opened, root_lines}
+use Rattle.ufs_path.specs.Trees.{AddsBranches, Begins, Branch, HandsFront, HandsSome, IsGrown, IsUnansweredIn, IsUnreadIn, IsUnreadWalkIn, Opens, OpensBlocks, all_lines, branch_at, branch_of, branches_at, branches_below, branches_in, left_on, lines_below, lines_in, opened, root_lines}
 use Rattle.ufs_path.specs.declared.branches.Pending.{Pending}
 use Rattle.ufs_path.specs.declared.faults.CatAnswer.{CatAnswer}
 use Rattle.ufs_path.specs.declared.faults.LookFault.{LookFault}
@@ -260,25 +260,7 @@ root_refused {stands} {tells} {before} {now} g root is = subst (λ d. ReadsAs st
 pub root_needed : (g : Geometry) (root : Inode) (v : Volume) (b : ℕ) → is_directory (kind_of root.mode) ≡ true → IsNeeded (lines_below g 0 root) v b → IsNeeded (root_lines g root) v b
 root_needed g root v b is h = subst (λ d. IsNeeded d v b) (root_is g root is) h
 
-pub root_begins : {stands : Volume → Type 0} {tells : Type 0} (g : Geometry) (root : Inode) (front : List Listed) → is_directory (kind_of root.mode) ≡ true
-    → Begins stands tells (lines_below g 0 root) front → Begins stands tells (root_lines g root) front
-root_begins {stands} {tells} g root front is begins = subst (λ d. Begins stands tells d front) (root_is g root is) begins
-
 -- ---- the volume
-
-pub volume_begins : {stands still : Volume → Type 0} {tells told : Type 0} {before now : ℕ → Bool} (g : Geometry) (root : Inode) (front : List Listed)
-    → ((v : Volume) → stands v → still v) → (told → tells) → ReadsAs stands before tells now (named_inode g 2) (Some (Ok root))
-    → Begins still told (root_lines g root) front → Begins stands told (lines_in g) front
-unfolding lines_in
-volume_begins g root front keeps tell one is = λ are v holds lines e.
-    is are v (keeps v holds) lines (e ∙ value_on (named_inode g 2) (root_lines g) root v ((one.rule (tell are) v holds).answer))
-
-pub tree_begins : {stands still : Volume → Type 0} {tells told : Type 0} {before now : ℕ → Bool} (l n : ℕ) (g : Geometry) (front : List Listed)
-    → ((v : Volume) → stands v → still v) → (told → tells) → ReadsAs stands before tells now (volume_geometry l n) (Some (Ok g))
-    → Begins still told (lines_in g) front → Begins stands told (tree_of l n) front
-unfolding tree_of lines_in root_lines
-tree_begins l n g front keeps tell one is = λ are v holds lines e.
-    is are v (keeps v holds) lines (e ∙ value_on (volume_geometry l n) _ g v ((one.rule (tell are) v holds).answer))
 
 -- what holds at an error, if it is one
 pub on_err : {T E : Type 0} {P : Type 0} (r : Result T E) → P → OnErr r P
@@ -290,6 +272,17 @@ pub err_front : {T E S : Type 0} (took : S → List Listed → S → Type 0) (ol
     → ((front : List Listed) → P front → Q front) → OnErr r (HandsFront took old new P) → OnErr r (HandsFront took old new Q)
 err_front took old new P Q (Ok answer) f h = tt
 err_front took old new P Q (Err e) f h = (h.0, h.1, f h.0 h.2)
+
+some_map : {S : Type 0} (took : S → List Listed → S → Type 0) (old new : S) (P Q : Option (Result (List Listed) PathRefusal) → Type 0)
+    → ((r : Option (Result (List Listed) PathRefusal)) → P r → Q r) → HandsSome took old new P → HandsSome took old new Q
+some_map took old new P Q f (inl same) = inl same
+some_map took old new P Q f (inr some) = inr (some.0, some.1, some.2, f (Some (Ok (some.0 ++ some.1))) some.3)
+
+-- the same of lines that are read
+pub err_some : {T E S : Type 0} (took : S → List Listed → S → Type 0) (old new : S) (P Q : Option (Result (List Listed) PathRefusal) → Type 0) (r : Result T E)
+    → ((r : Option (Result (List Listed) PathRefusal)) → P r → Q r) → OnErr r (HandsSome took old new P) → OnErr r (HandsSome took old new Q)
+err_some took old new P Q (Ok answer) f h = tt
+err_some took old new P Q (Err e) f h = some_map took old new P Q f h
 
 pub volume_read : {stands still : Volume → Type 0} {tells told : Type 0} {before now after : ℕ → Bool} (g : Geometry) (root : Inode) (answer : Option (Result (List Listed) PathRefusal))
     → Grows before now → ((v : Volume) → stands v → still v) → (told → tells)

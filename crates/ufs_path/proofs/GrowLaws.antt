@@ -1,5 +1,5 @@
 -- What was handed on of the lines of a whole volume.
-use Rattle.std.proofs.Common.{◌≡◌, ◌∙◌, ℕ, ◌+◌, Bool, List, [], ◌∷◌, ◌++◌, Some, Result, Ok, Err, length, drop, refl, sym, ap, subst}
+use Rattle.std.proofs.Common.{◌≡◌, ◌∙◌, ℕ, ◌+◌, Bool, List, [], ◌∷◌, ◌++◌, Some, Result, Ok, Err, length, drop, refl, sym, ap, subst, inr}
 use Rattle.std.specs.Prelude.{Contains}
 use Rattle.std.specs.Option.{option_map}
 use Rattle.std.proofs.lemmas.List.{length-append}
@@ -17,7 +17,7 @@ use Rattle.ufs_path.proofs.ReadsLaws.{answer_where, none_now, wider}
 use Rattle.ufs_path.proofs.TreeLaws.{after, after_all, after_line, after_none, next_line}
 use Rattle.ufs_path.specs.Answers.{IsAnswer, refusal_of}
 use Rattle.ufs_path.specs.Consults.{Leads}
-use Rattle.ufs_path.specs.Trees.{Begins, Branch, IsGrown, all_lines, line_of, opened}
+use Rattle.ufs_path.specs.Trees.{Begins, Branch, HandsFront, HandsSome, IsGrown, all_lines, line_of, opened}
 use Rattle.ufs_path.specs.declared.faults.LookFault.{LookFault}
 use Rattle.ufs_path.specs.declared.faults.CatAnswer.TheVariants.{Given, Cut, SinkFault}
 use Rattle.ufs_path.specs.declared.walks.Walked.{Walked}
@@ -189,6 +189,13 @@ grown_cut took took_part faults {still = still} {told = told} {now = now} {later
       whole_lines whole lines (is.0) further keeps tell first (is.3),
       none_now lines (refusal_of fault) (wider _ (λ b h. h) further (λ v h. h) tell first) (wider _ grows (λ b h. h) keeps (λ h. h) (is.4)),
     )
+
+-- memory was wanting in the second pass
+pub grown_wanting : {S : Type 0} (took : S → List Listed → S → Type 0) {stands still : Volume → Type 0} {tells told : Type 0} {before now later : ℕ → Bool} (whole : Reading (Result (List Listed) PathRefusal)) (lines : List Listed) (old new : S)
+    → Grows now later → ((v : Volume) → stands v → still v) → (told → tells) → ReadsAs stands before tells now whole (Some (Ok lines))
+    → HandsFront took old new (Begins still told whole) → HandsSome took old new (ReadsAs stands before told later whole)
+grown_wanting took whole lines old new further keeps tell first h =
+    inr (h.0, drop (length (h.0)) lines, h.1, whole_lines whole lines (h.0) further keeps tell first (h.2))
 
 pub grown_failed : {S : Type 0} (took took_part : S → List Listed → S → Type 0) (faults : S → ℕ) {stands still : Volume → Type 0} {tells told : Type 0} {before now later : ℕ → Bool} (whole : Reading (Result (List Listed) PathRefusal)) (lines : List Listed) (walked : Walked) (old new : S)
     → walked ≡ Failed → ((a b : S) (x y : List Listed) → took_part a x b → took_part a (x ++ y) b) → Grows now later → ((v : Volume) → stands v → still v) → (told → tells)

@@ -1,5 +1,5 @@
 -- What the private functions say, which list the whole volume.
-use Rattle.std.specs.Prelude.{◌≡◌, ◌+◌, ◌-◌, ◌*◌, ◌++◌, ℕ, List, [], ◌∷◌, drop, filter, if◌then◌else◌, length, map, nat_lt, reverse, take, Option, Some, Result, Ok, Err, ◌&&◌}
+use Rattle.std.specs.Prelude.{◌≡◌, ◌⊎◌, ◌+◌, ◌-◌, ◌*◌, ◌++◌, ℕ, List, [], ◌∷◌, drop, filter, if◌then◌else◌, length, map, nat_lt, reverse, take, Option, Some, Result, Ok, Err, ◌&&◌}
 use Rattle.std.specs.Global.{Vec}
 use Rattle.std.specs.Option.{option_map}
 use Rattle.dg_model.specs.Causes.{Rose}
@@ -134,6 +134,10 @@ IsGrown took took_part faults old new reads begins Failed = (front : List Listed
 -- the first of the lines were handed on
 abbrev pub HandsFront : {S : Type 0} → (S → List Listed → S → Type 0) → S → S → (List Listed → Type 0) → Type 0
 HandsFront took old new begins = (front : List Listed) × took old front new × begins front
+
+-- nothing was handed on, or the first of the lines that are read
+abbrev pub HandsSome : {S : Type 0} → (S → List Listed → S → Type 0) → S → S → (Option (Result (List Listed) PathRefusal) → Type 0) → Type 0
+HandsSome took old new reads = (new ≡ old) ⊎ ((front : List Listed) × (rest : List Listed) × took old front new × reads (Some (Ok (front ++ rest))))
 
 -- ---- want of a block, where there is memory
 

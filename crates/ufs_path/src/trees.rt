@@ -7,7 +7,7 @@ ghost use Rattle.ufs_model.specs.Paths.{is_directory};
 ghost use Rattle.ufs_model.specs.Trees.{tree_of};
 ghost use Rattle.ufs_path.specs.Answers.{IsAnswer};
 ghost use Rattle.ufs_path.specs.Consults.{Consults, StaysAtWalk, StaysUnlessFailed};
-ghost use Rattle.ufs_path.specs.Trees.{Begins, HandsFront, IsGrown, IsUnansweredIn, IsUnreadWalkIn, all_lines, left_on, lines_below, lines_in, root_lines};
+ghost use Rattle.ufs_path.specs.Trees.{Begins, HandsFront, HandsSome, IsGrown, IsUnansweredIn, IsUnreadWalkIn, all_lines, left_on, lines_below, lines_in, root_lines};
 
 use crate::branches::{Pending, is_directory, open_entry, open_inode};
 use crate::faults::CatAnswer;
@@ -41,6 +41,7 @@ fn walk_stack<V: View, O: Listing>(
         (Begins (V.stands_for view.old) (V.tells view.new) (all_lines g.now (left_on entries.items)))) }
     ensures part { OnErr result (HandsFront O.took out.old out.new
         (Begins (V.stands_for view.old) (V.tells view.new) (all_lines g.now (left_on entries.items)))) }
+    ensures err_faults { OnErr result (O.faults out.new ≡ O.faults out.old) }
     ensures consults { Consults V.View view.old view.new (all_lines g.now (left_on entries.items)) (IsUnreadWalkIn result) }
     ensures stays { IfOk result (λ walked. StaysAtWalk walked (O.faults out.old) (O.faults out.new)) }
 {
@@ -92,6 +93,7 @@ fn walk_below<V: View, O: Listing>(
         (Begins (V.stands_for view.old) (V.tells view.new) (lines_below g.now depth inode.now))) }
     ensures part { OnErr result (HandsFront O.took out.old out.new
         (Begins (V.stands_for view.old) (V.tells view.new) (lines_below g.now depth inode.now))) }
+    ensures err_faults { OnErr result (O.faults out.new ≡ O.faults out.old) }
     ensures consults { Consults V.View view.old view.new (lines_below g.now depth inode.now) (IsUnreadWalkIn result) }
     ensures stays { IfOk result (λ walked. StaysAtWalk walked (O.faults out.old) (O.faults out.new)) }
 {
@@ -120,8 +122,8 @@ fn list_below<V: View, O: Listing>(
     ensures later { O.faults out.old ≤ O.faults out.new }
     ensures rule { IfOk result (IsAnswer O.took O.took_part O.faults out.old out.new
         (Reads V.View view.old view.new (lines_below g.now 0 inode.now))) }
-    ensures part { OnErr result (HandsFront O.took out.old out.new
-        (Begins (V.stands_for view.old) (V.tells view.new) (lines_below g.now 0 inode.now))) }
+    ensures part { OnErr result (HandsSome O.took out.old out.new (Reads V.View view.old view.new (lines_below g.now 0 inode.now))) }
+    ensures err_faults { OnErr result (O.faults out.new ≡ O.faults out.old) }
     ensures consults { Consults V.View view.old view.new (lines_below g.now 0 inode.now) (IsUnansweredIn result) }
     ensures stays { IfOk result (λ answer. StaysUnlessFailed answer (O.faults out.old) (O.faults out.new)) }
 {
@@ -158,8 +160,8 @@ fn list_root<V: View, O: Listing>(
     ensures later { O.faults out.old ≤ O.faults out.new }
     ensures rule { IfOk result (IsAnswer O.took O.took_part O.faults out.old out.new
         (Reads V.View view.old view.new (root_lines g.now root.now))) }
-    ensures part { OnErr result (HandsFront O.took out.old out.new
-        (Begins (V.stands_for view.old) (V.tells view.new) (root_lines g.now root.now))) }
+    ensures part { OnErr result (HandsSome O.took out.old out.new (Reads V.View view.old view.new (root_lines g.now root.now))) }
+    ensures err_faults { OnErr result (O.faults out.new ≡ O.faults out.old) }
     ensures consults { Consults V.View view.old view.new (root_lines g.now root.now) (IsUnansweredIn result) }
     ensures stays { IfOk result (λ answer. StaysUnlessFailed answer (O.faults out.old) (O.faults out.new)) }
 {
@@ -186,8 +188,8 @@ fn list_volume<V: View, O: Listing>(
     ensures later { O.faults out.old ≤ O.faults out.new }
     ensures rule { IfOk result (IsAnswer O.took O.took_part O.faults out.old out.new
         (Reads V.View view.old view.new (lines_in g.now))) }
-    ensures part { OnErr result (HandsFront O.took out.old out.new
-        (Begins (V.stands_for view.old) (V.tells view.new) (lines_in g.now))) }
+    ensures part { OnErr result (HandsSome O.took out.old out.new (Reads V.View view.old view.new (lines_in g.now))) }
+    ensures err_faults { OnErr result (O.faults out.new ≡ O.faults out.old) }
     ensures consults { Consults V.View view.old view.new (lines_in g.now) (IsUnansweredIn result) }
     ensures stays { IfOk result (λ answer. StaysUnlessFailed answer (O.faults out.old) (O.faults out.new)) }
 {
@@ -213,8 +215,8 @@ pub fn tree<V: View, O: Listing>(
     ensures later { O.faults out.old ≤ O.faults out.new }
     ensures rule { IfOk result (IsAnswer O.took O.took_part O.faults out.old out.new
         (Reads V.View view.old view.new (tree_of (V.size view.old) (V.count view.old)))) }
-    ensures part { OnErr result (HandsFront O.took out.old out.new
-        (Begins (V.stands_for view.old) (V.tells view.new) (tree_of (V.size view.old) (V.count view.old)))) }
+    ensures part { OnErr result (HandsSome O.took out.old out.new (Reads V.View view.old view.new (tree_of (V.size view.old) (V.count view.old)))) }
+    ensures err_faults { OnErr result (O.faults out.new ≡ O.faults out.old) }
     ensures consults { Consults V.View view.old view.new (tree_of (V.size view.old) (V.count view.old)) (IsUnansweredIn result) }
     ensures stays { IfOk result (λ answer. StaysUnlessFailed answer (O.faults out.old) (O.faults out.new)) }
 {

@@ -1,4 +1,6 @@
-use Rattle.std.proofs.Common.{◌≡◌, ◌+◌, ◌≤◌, ℕ, inl, inr, refl, ◌∙◌, ap, subst, arith}
+use Rattle.std.proofs.Common.{◌≡◌, ◌+◌, ◌≤◌, ℕ, false, inl, inr, refl, ◌∙◌, ap, subst, arith}
+use Rattle.std.specs.Prelude.{nat_lt}
+use Rattle.std.proofs.lemmas.Bool.{le-ltb}
 use Rattle.dg_model.specs.declared.shapes.Shape.{Shape}
 use Rattle.dg_model.specs.declared.members.MemberState.TheVariants.{Filling}
 use Rattle.dg_store.specs.ReadLaws.{rack_none}
@@ -7,12 +9,17 @@ use Rattle.dg_rebuild.proofs.Answers.{breaks, copied_stands, fell_off, few_copie
 use Rattle.dg_rebuild.proofs.Steps.{stays_both, went_both, went_none}
 use Rattle.dg_rebuild.proofs.rebuilds.refill.Goals as goal
 
+-- within a limit of 0 no more copies are to be made
+no_more : (done limit : ℕ) → limit ≡ 0 → nat_lt done limit ≡ false
+no_more done limit none = le-ltb done limit (omega (arith, none))
+
 pub loop-slot-init : goal.loop-slot-init
 loop-slot-init g c = record {
   went = went_none g.R.Rack c.args.dead.now c.args.boundary c.args.store.now c.args.have c.args.reaped.now.items c.requires.have c.requires.sound
       (record { shape = refl; stays = rack_none g.R.Rack _ }) c.requires.filled;
   few = omega arith;
   size = c.requires.size;
+  still = λ none. refl;
 }
 
 pub overflow_add-done : goal.overflow_add-done
@@ -32,6 +39,7 @@ loop-slot-preserved g c =
           c.refill_slot.new.reaped.items refl old.went (arm.ensures.done arm.copies arm.field-0-is);
       few = few_copies c.loop-slot.done c.args.limit arm.copies old.few (arm.ensures.most arm.copies arm.field-0-is);
       size = c.refill_slot.ensures.size ∙ old.size;
+      still = λ none. c.refill_slot.ensures.still (no_more c.loop-slot.done c.args.limit none) ∙ old.still none;
     }
 
 pub returns-in-Ok-Kept-clause-copied : goal.returns-in-Ok-Kept-clause-copied

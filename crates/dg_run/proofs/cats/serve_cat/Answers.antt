@@ -1,4 +1,4 @@
-use Rattle.std.proofs.Common.{◌≡◌, ◌∙◌, ◌<◌, ◌++◌, ℕ, List, ap, arith, inr, length, refl, rules, subst, sym}
+use Rattle.std.proofs.Common.{◌≡◌, ◌∙◌, ◌<◌, ◌++◌, ℕ, List, ap, arith, inl, inr, length, refl, rules, subst, sym}
 use Rattle.std.specs.Prelude.{OnErr, OnOk, Option, codes}
 use Rattle.std.specs.List.{concat}
 use Rattle.dg_io.specs.Told.{Told, Took, TookPart}
@@ -49,11 +49,11 @@ returns-in-Err-clause-wanting g c = λ is.
     let are = subst (λ (l : ℕ). AreLines l file.lines) size file.are in
     let step = subst (λ (p : List ℕ). StepsBy any_phase any_phase g.R.Rack touch a.volume (Cat p) (Given file.lines) c.cat.new.self) c.as_slice.ensures (rule.3 file.lines are file.whole) in
     let told = subst (λ k. Told (Took (file_text file.lines ++ last_line (codes "end ") c.in-Given.n)) (g.K.Sink.taken k) (g.K.Sink.taken c.end.new.self.sink.now)) c.new-lines.ensures.sink file.told in
-    inr (record {
+    inr (inl (record {
       reply = Given file.lines;
       steps = volume_steps g.R.Rack touch a b (Cat c.args.path.now) (Given file.lines) step;
       output = subst (λ k. Told (Took (reply_line (Given file.lines))) (g.K.Sink.taken c.args.sink.now) (g.K.Sink.taken k)) (search rules) (told_lines (file_text file.lines) (codes "end ") (concat file.lines) c.in-Given.n _ _ (ap length file.whole ∙ rule.1) told);
-    })
+    }))
 
 pub returns-in_default-end-clause-part : goal.returns-in_default-end-clause-part
 returns-in_default-end-clause-part g c = λ is.

@@ -10,7 +10,7 @@ loop-passed-init g c = record {
   size = c.requires.size;
   budget = c.requires.first;
   number = omega arith;
-  so_far = so_far_none g.R.Rack _ c.args.first _ _ _;
+  so_far = so_far_none g.R.Rack _ c.args.first c.args.from _ _ _;
   source_kept = refl;
   sink_kept = refl;
 }
@@ -26,7 +26,7 @@ loop-passed-preserved g c =
       size = search (rules, inv.size);
       budget = omega (arith, line.within, inv.budget);
       number = omega (arith, line.size, inv.number);
-      so_far = so_far_next g.R.Rack _ _ c.args.first _ _ _ c.in-Served.bytes _ _ _ _ _ _ _ _ _ inv.goes.shape inv.so_far line e.goes.shape e.goes.tells;
+      so_far = so_far_next g.R.Rack _ _ c.args.first c.args.from _ _ _ c.in-Served.bytes _ _ _ _ _ _ _ _ _ inv.goes.shape inv.so_far line e.goes.shape e.goes.tells;
       source_kept = e.source_kept (λ is. cc is) ∙ inv.source_kept;
       sink_kept = e.sink_kept (λ is. cc is) ∙ inv.sink_kept;
     }
@@ -40,29 +40,29 @@ loop-passed-smaller g c =
 pub returns-in-End-clause-end : goal.returns-in-End-clause-end
 returns-in-End-clause-end g c =
     let inv = c.loop-passed.invariant in
-    lines_end g.R.Rack _ c.args.first _ _ _ _ _ _ _ _ _ _ _ _ _ c.in-End.is c.in_ok-bytes.ensures.turned inv.budget inv.so_far
+    lines_end g.R.Rack _ c.args.first c.args.from _ _ _ _ _ _ _ _ _ _ _ _ _ c.in-End.is c.in_ok-bytes.ensures.turned inv.budget inv.so_far
 
 pub returns-in-Refused-clause-end : goal.returns-in-Refused-clause-end
 returns-in-Refused-clause-end g c =
     let inv = c.loop-passed.invariant in
-    lines_refused g.R.Rack _ c.args.first _ _ c.in-Refused.kind _ _ _ _ _ _ _ _ _ _ c.in-Refused.is c.in_ok-bytes.ensures.turned inv.goes.shape inv.budget inv.so_far
+    lines_refused g.R.Rack _ c.args.first c.args.from _ _ c.in-Refused.kind _ _ _ _ _ _ _ _ _ _ c.in-Refused.is c.in_ok-bytes.ensures.turned inv.goes.shape inv.budget inv.so_far
 
 pub returns-in_err-bytes-clause-broken : goal.returns-in_err-bytes-clause-broken
 returns-in_err-bytes-clause-broken g c = λ is.
     let inv = c.loop-passed.invariant in
     let broken = c.in_err-bytes.ensures.broken (search rules) in
-    lines_broke_off g.R.Rack _ c.args.first _ _ _ _ _ _ _ _ _ _ _ inv.budget inv.so_far broken.0 broken.1 broken.2
+    lines_broke_off g.R.Rack _ c.args.first c.args.from _ _ _ _ _ _ _ _ _ _ _ inv.budget inv.so_far broken.0 broken.1 broken.2
 
 pub returns-in_err-bytes-clause-part : goal.returns-in_err-bytes-clause-part
 returns-in_err-bytes-clause-part g c = λ is.
     let inv = c.loop-passed.invariant in
     let e = c.in_err-bytes.ensures in
     let part = e.part (search rules) in
-    lines_cut_at g.R.Rack _ _ c.args.first _ _ _ _ _ _ _ _ _ _ _ inv.budget inv.so_far inv.goes.shape part e.goes.shape e.goes.tells
+    lines_cut_at g.R.Rack _ _ c.args.first c.args.from _ _ _ _ _ _ _ _ _ _ _ inv.budget inv.so_far inv.goes.shape part e.goes.shape e.goes.tells
 
 pub returns-in_err-bytes-clause-wanting : goal.returns-in_err-bytes-clause-wanting
 returns-in_err-bytes-clause-wanting g c = λ is.
     let inv = c.loop-passed.invariant in
     let e = c.in_err-bytes.ensures in
     let wanting = e.wanting (search rules) in
-    lines_ran_out_at g.R.Rack _ _ c.args.first _ _ _ _ _ _ _ _ _ _ _ inv.budget inv.so_far inv.goes.shape wanting e.goes.shape e.goes.tells
+    lines_ran_out_at g.R.Rack _ _ c.args.first c.args.from _ _ _ _ _ _ _ _ _ _ _ inv.budget inv.so_far inv.goes.shape wanting e.goes.shape e.goes.tells

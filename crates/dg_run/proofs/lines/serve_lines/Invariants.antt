@@ -10,7 +10,7 @@ invariant-loop-passed g l = record {
   size : length l.block ≡ (shape_of l.fn.array).l;
   budget : l.passed ≤ 2 ^ 40;
   number : l.number ≤ l.passed + 2;
-  so_far : SoFar g.R.Rack (shape_of l.fn.array) l.first l.passed l.number (ahead l.fn.input (g.S.Source.left l.fn.source)) (ahead l.input (g.S.Source.left l.source)) (g.K.Sink.taken l.fn.sink) (g.K.Sink.taken l.sink) l.fn.array l.array;
+  so_far : SoFar g.R.Rack (shape_of l.fn.array) l.first l.from l.passed l.number (ahead l.fn.input (g.S.Source.left l.fn.source)) (ahead l.input (g.S.Source.left l.source)) (g.K.Sink.taken l.fn.sink) (g.K.Sink.taken l.sink) l.fn.array l.array;
   source_kept : g.S.Source.faults l.source ≡ g.S.Source.faults l.fn.source;
   sink_kept : g.K.Sink.faults l.sink ≡ g.K.Sink.faults l.fn.sink;
 }

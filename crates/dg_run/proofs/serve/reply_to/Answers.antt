@@ -1,7 +1,7 @@
 use Rattle.std.proofs.Common.{◌≡◌, ◌∙◌, ℕ, List, ap, refl, subst, sym}
 use Rattle.dg_model.specs.Blocks.{padded}
 use Rattle.dg_model.specs.declared.events.Event.{Event}
-use Rattle.dg_model.specs.declared.events.Event.TheVariants.{Diffuse, Fail, Home, Rebuild, Replace, Settle, Tend, Who, Write}
+use Rattle.dg_model.specs.declared.events.Event.TheVariants.{Diffuse, Save, Fail, Home, Rebuild, Replace, Settle, Tend, Who, Write}
 use Rattle.dg_model.specs.declared.replies.Reply.{Reply}
 use Rattle.dg_run.proofs.ArraySteps.{steps_hot, steps_of, steps_sized}
 use Rattle.dg_run.specs.Steps.{StepsTo, shape_of}
@@ -77,3 +77,10 @@ returns-in_ok-diffuse-in-Diffuse-clause-steps g c =
     let b = record a { volume = c.diffuse.new.self } in
     let step = subst (λ (r : Reply). StepsHot any_phase any_phase g.R.Rack a.hot a.volume Diffuse r b.volume) (sym c.diffuse_reply.ensures) c.in_ok-diffuse-in-Diffuse.ensures.steps in
     subst (λ (e : Event). StepsTo g.R.Rack a e c.diffuse_reply.result b) (sym c.in-Diffuse.is) (steps_hot g.R.Rack a b Diffuse c.diffuse_reply.result refl step)
+
+pub returns-in_ok-save-in-Save-clause-steps : goal.returns-in_ok-save-in-Save-clause-steps
+returns-in_ok-save-in-Save-clause-steps g c =
+    let a = c.args.array.now in
+    let b = record a { volume = c.save.new.self } in
+    let step = subst (λ (r : Reply). StepsHot any_phase any_phase g.R.Rack a.hot a.volume Save r b.volume) (sym c.save_reply.ensures) c.in_ok-save-in-Save.ensures.steps in
+    subst (λ (e : Event). StepsTo g.R.Rack a e c.save_reply.result b) (sym c.in-Save.is) (steps_hot g.R.Rack a b Save c.save_reply.result refl step)

@@ -1,3 +1,5 @@
+use Rattle.std.specs.Prelude.{None}
+use Rattle.dg_label.specs.Labels.{IsLabeled}
 use Rattle.dg_store.specs.Stores.{IsSound}
 use Rattle.dg_volume.proofs.settle_tests.write_image.Given as goal
 
@@ -6,3 +8,4 @@ invariant-loop-block g l =
     (goal.iterator-loop-block g).can_next l.block-iterator
     × (goal.iterator-loop-block g).is_finite l.block-iterator
     × IsSound g.R.Rack l.store
+    × IsLabeled g.R.Rack l.store None

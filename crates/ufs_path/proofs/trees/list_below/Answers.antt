@@ -1,7 +1,7 @@
-use Rattle.std.proofs.Common.{[], refl}
+use Rattle.std.proofs.Common.{inl, refl}
 use Rattle.ufs_path.proofs.BranchLaws.{err_unanswered, on_err}
 use Rattle.ufs_path.proofs.ConsultLaws.{consults_both}
-use Rattle.ufs_path.proofs.GrowLaws.{grown_cut, grown_failed, grown_given}
+use Rattle.ufs_path.proofs.GrowLaws.{grown_cut, grown_failed, grown_given, grown_wanting}
 use Rattle.ufs_path.specs.Trees.{lines_below}
 use Rattle.ufs_path.proofs.trees.list_below.Goals as goal
 
@@ -49,10 +49,12 @@ returns-in-Failed-listed-clause-consults g c =
     consults_both g.V.View g.met.V.View.fetched_both first c.walk_below-in-All.ensures.keeps (λ is v holds. (first.stands v holds, λ b h. h)) (λ h. absurd h) c.walk_below.ensures.consults c.walk_below-in-All.ensures.consults
 
 pub returns-in_err-consulted-clause-part : goal.returns-in_err-consulted-clause-part
-returns-in_err-consulted-clause-part g c = on_err c.from_residual.result ([], g.met.O.Listing.nothing c.args.out.now, λ is v holds lines e. refl)
+returns-in_err-consulted-clause-part g c = on_err c.from_residual.result (inl refl)
 
 pub returns-in_err-listed-in-All-clause-part : goal.returns-in_err-listed-in-All-clause-part
 returns-in_err-listed-in-All-clause-part g c =
     let first = c.walk_below.ensures.keeps in
-    let part = c.in_err-listed-in-All.ensures.part in
-    on_err c.from_residual-in_err-listed-in-All.result (part.0, part.1, λ is v holds lines e. part.2 is v (first.stands v holds) lines e)
+    let second = c.walk_below-in-All.ensures.keeps in
+    let walked = rw c.in-All.is at c.in_ok-consulted.ensures.rule in
+    on_err c.from_residual-in_err-listed-in-All.result (grown_wanting g.O.Listing.took (lines_below c.args.g.now 0 c.args.inode.now) (walked.0) c.args.out.now c.walk_below-in-All.new.out
+    second.stays first.stands second.told (walked.3) c.in_err-listed-in-All.ensures.part)

@@ -1,9 +1,9 @@
 use Rattle.std.proofs.Common.{refl}
 use Rattle.ufs_model.specs.Readings.{ReadsAs}
 use Rattle.ufs_path.proofs.AnswerLaws.{at_fault, refused_stays, refused_unanswered}
-use Rattle.ufs_path.proofs.BranchLaws.{answer_map, err_front, volume_begins, volume_first, volume_read, volume_second, volume_unread}
+use Rattle.ufs_path.proofs.BranchLaws.{answer_map, err_some, volume_first, volume_read, volume_second, volume_unread}
 use Rattle.ufs_path.proofs.ConsultLaws.{consults_along, consults_both}
-use Rattle.ufs_path.specs.Trees.{Begins, lines_in, root_lines}
+use Rattle.ufs_path.specs.Trees.{lines_in, root_lines}
 use Rattle.ufs_path.proofs.trees.list_volume.Goals as goal
 
 pub returns-in-Ok-clause-rule : goal.returns-in-Ok-clause-rule
@@ -40,8 +40,9 @@ returns-in-Err-clause-stays g c = rw c.refused_answer.ensures (refused_stays c.i
 pub returns-in-Ok-clause-part : goal.returns-in-Ok-clause-part
 returns-in-Ok-clause-part g c =
     let first = c.read_named.ensures.keeps in
-    err_front g.O.Listing.took c.args.out.now c.list_root.new.out
-    (Begins (g.V.View.stands_for c.read_named.new.view) (g.V.View.tells c.list_root.new.view) (root_lines c.args.g.now c.in-Ok.root))
-    (Begins (g.V.View.stands_for c.args.view.now) (g.V.View.tells c.list_root.new.view) (lines_in c.args.g.now))
-    c.list_root.result (λ front begins. volume_begins c.args.g.now c.in-Ok.root front first.stands c.list_root.ensures.keeps.told c.in-Ok.ensures.rule begins)
+    err_some g.O.Listing.took c.args.out.now c.list_root.new.out
+    (ReadsAs (g.V.View.stands_for c.read_named.new.view) (g.V.View.is_gone c.read_named.new.view) (g.V.View.tells c.list_root.new.view) (g.V.View.is_gone c.list_root.new.view) (root_lines c.args.g.now c.in-Ok.root))
+    (ReadsAs (g.V.View.stands_for c.args.view.now) (g.V.View.is_gone c.args.view.now) (g.V.View.tells c.list_root.new.view) (g.V.View.is_gone c.list_root.new.view) (lines_in c.args.g.now))
+    c.list_root.result
+    (λ r reads. volume_read c.args.g.now c.in-Ok.root r first.stays first.stands c.list_root.ensures.keeps.told c.in-Ok.ensures.rule reads)
     c.list_root.ensures.part

@@ -2,9 +2,9 @@ use Rattle.std.proofs.Common.{refl}
 use Rattle.ufs_model.specs.Readings.{ReadsAs}
 use Rattle.ufs_model.specs.Trees.{tree_of}
 use Rattle.ufs_path.proofs.AnswerLaws.{at_fault, refused_stays, refused_unanswered}
-use Rattle.ufs_path.proofs.BranchLaws.{answer_map, err_front, tree_begins, tree_first, tree_read, tree_second, tree_unread}
+use Rattle.ufs_path.proofs.BranchLaws.{answer_map, err_some, tree_first, tree_read, tree_second, tree_unread}
 use Rattle.ufs_path.proofs.ConsultLaws.{consults_along, consults_both}
-use Rattle.ufs_path.specs.Trees.{Begins, lines_in}
+use Rattle.ufs_path.specs.Trees.{lines_in}
 use Rattle.ufs_path.proofs.trees.tree.Goals as goal
 
 pub returns-in-Ok-clause-rule : goal.returns-in-Ok-clause-rule
@@ -42,8 +42,9 @@ returns-in-Err-clause-stays g c = rw c.refused_answer.ensures (refused_stays c.i
 pub returns-in-Ok-clause-part : goal.returns-in-Ok-clause-part
 returns-in-Ok-clause-part g c =
     let first = c.geometry.ensures.keeps in
-    err_front g.O.Listing.took c.args.out.now c.list_volume.new.out
-    (Begins (g.V.View.stands_for c.geometry.new.view) (g.V.View.tells c.list_volume.new.view) (lines_in c.in-Ok.g))
-    (Begins (g.V.View.stands_for c.args.view.now) (g.V.View.tells c.list_volume.new.view) (tree_of (g.V.View.size c.args.view.now) (g.V.View.count c.args.view.now)))
-    c.list_volume.result (λ front begins. tree_begins _ _ c.in-Ok.g front first.stands c.list_volume.ensures.keeps.told c.in-Ok.ensures.rule begins)
+    err_some g.O.Listing.took c.args.out.now c.list_volume.new.out
+    (ReadsAs (g.V.View.stands_for c.geometry.new.view) (g.V.View.is_gone c.geometry.new.view) (g.V.View.tells c.list_volume.new.view) (g.V.View.is_gone c.list_volume.new.view) (lines_in c.in-Ok.g))
+    (ReadsAs (g.V.View.stands_for c.args.view.now) (g.V.View.is_gone c.args.view.now) (g.V.View.tells c.list_volume.new.view) (g.V.View.is_gone c.list_volume.new.view) (tree_of (g.V.View.size c.args.view.now) (g.V.View.count c.args.view.now)))
+    c.list_volume.result
+    (λ r reads. tree_read _ _ c.in-Ok.g r first.stays first.stands c.list_volume.ensures.keeps.told c.in-Ok.ensures.rule reads)
     c.list_volume.ensures.part

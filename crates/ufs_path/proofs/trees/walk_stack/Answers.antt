@@ -140,3 +140,9 @@ returns-clause-part g c =
       grew.taken,
       λ is v holds lines e. front_begins (all_lines c.args.g.now (left_on c.loop-given.stack.items)) grew.done grew.remains is v holds lines e,
     )
+
+pub returns-in_err-opened-in-Some-clause-err_faults : goal.returns-in_err-opened-in-Some-clause-err_faults
+returns-in_err-opened-in-Some-clause-err_faults g c = on_err c.from_residual.result c.loop-given.invariant.grew.stays
+
+pub returns-clause-err_faults : goal.returns-clause-err_faults
+returns-clause-err_faults g c = c.loop-given.invariant.grew.stays

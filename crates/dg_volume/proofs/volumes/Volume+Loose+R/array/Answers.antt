@@ -1,4 +1,4 @@
-use Rattle.std.proofs.Common.{◌∙◌}
+use Rattle.std.proofs.Common.{◌∙◌, refl}
 use Rattle.dg_volume.proofs.BlankLaws.{is_blank}
 use Rattle.dg_volume.proofs.volumes.Volume+Loose+R.array.Goals as goal
 
@@ -13,4 +13,5 @@ returns g c =
       levels = c.in_ok-levels.ensures.fragment;
       homes = c.new-6.ensures ∙ c.new-5.ensures.items;
       copies = c.new-8.ensures ∙ c.new-7.ensures.items;
+      label = refl;
     })

@@ -10,7 +10,7 @@ returns-clause-leaves g c =
     let read = c.read_file-answer in
     let keeps = read.ensures.keeps in
     reads_leave g.S.InPhase g.R.Rack a (record a { store = read.new.view; levels = read.new.levels; given = read.result.1 }) c.requires.well
-    (record { beside = record { phase_is = refl; pending = refl; homes = refl; copies = refl }; levels = read.ensures.levels; sound = keeps.sound; reads = keeps.goes; stands = keeps.stands })
+    (record { beside = record { phase_is = refl; pending = refl; homes = refl; copies = refl }; levels = read.ensures.levels; sound = keeps.sound; reads = keeps.goes; stands = keeps.stands; labeled = c.requires.well.labeled; label_is = refl })
 
 pub returns-clause-inode : goal.returns-clause-inode
 returns-clause-inode g c =
@@ -27,5 +27,5 @@ returns-clause-steps g c =
     let keeps = read.ensures.keeps in
     cat_answers g.S.InPhase g.R.Rack {C = g.row.O.Denot} g.O.Pieces.took g.O.Pieces.took_part g.O.Pieces.faults c.args.out.now read.new.out c.args.path.now a
     (record a { store = read.new.view; levels = read.new.levels; given = read.result.1 }) read.result.0
-    (record { beside = record { phase_is = refl; pending = refl; homes = refl; copies = refl }; levels = read.ensures.levels; sound = keeps.sound; reads = keeps.goes; stands = keeps.stands })
+    (record { beside = record { phase_is = refl; pending = refl; homes = refl; copies = refl }; levels = read.ensures.levels; sound = keeps.sound; reads = keeps.goes; stands = keeps.stands; labeled = c.requires.well.labeled; label_is = refl })
     read.ensures.cause read.ensures.rule (returns-clause-inode g c)

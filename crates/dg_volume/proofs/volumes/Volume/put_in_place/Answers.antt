@@ -1,14 +1,16 @@
-use Rattle.std.proofs.Common.{◌∙◌, ◌<◌, ◌^◌, ◌-◌, List, refl, subst}
+use Rattle.std.proofs.Common.{◌∙◌, ◌<◌, ◌^◌, ◌-◌, List, refl, sym, subst}
 use Rattle.std.specs.Prelude.{All}
 use Rattle.dg_model.specs.Tables.{Table}
 use Rattle.dg_model.specs.declared.homes.Home.{Home}
 use Rattle.dg_plan.specs.Targets.{wants_of}
 use Rattle.dg_store.specs.Answers.{SameWritten}
 use Rattle.dg_store.specs.Stores.{KeepsBlocks, TellsAll, table_of}
-use Rattle.dg_volume.proofs.ArrayLaws.{moved_both, moved_by, no_plan_before, on_err, plan_before, read_both, told_by}
-use Rattle.dg_volume.proofs.MoveSteps.{check_refused, has_moved, has_read, keeps_of, moved_leaves, settle_cramped, settle_lost_moving, settle_lost_reading}
+use Rattle.dg_volume.proofs.ArrayLaws.{moved_both, no_plan_before, on_err, plan_before, read_both, told_by, told_moved}
+use Rattle.dg_volume.proofs.MoveSteps.{check_refused, has_moved, has_read, keeps_of, labels_run, loose_not_settled, moved_leaves, settle_cramped, settle_lost_moving, settle_lost_reading}
 use Rattle.dg_volume.proofs.PlacedLaws.{few_missing}
-use Rattle.dg_volume.proofs.SettleSteps.{plan_homes, put_in_place}
+use Rattle.dg_volume.proofs.SettleSteps.{plan_few, plan_homes, put_in_place}
+use Rattle.dg_volume.proofs.LabelLaws.{relabels_read}
+use Rattle.dg_volume.proofs.VolumeLaws.{reads_leave}
 use Rattle.dg_volume.proofs.volumes.Volume.put_in_place.Goals as goal
 
 pub returns-in-Err-clause-refused : goal.returns-in-Err-clause-refused
@@ -19,7 +21,7 @@ returns-in-Err-clause-refused g c =
     let kept = c.in-Some-inference.inference.now in
     check_refused g.S.InPhase g.R.Rack a b kept c.in-Err.unsettled (record { loose = c.requires.loose; whole = c.in_default.ensures })
     (keeps_of g.S.InPhase g.R.Rack a kept c.requires.well c.in-Some-inference.ensures.kept)
-    (has_read g.S.InPhase g.R.Rack a b (record { phase_is = refl; pending = refl; homes = refl; copies = refl }) e.levels e.reads) (rw c.in-Err.is at e.answer)
+    (has_read g.S.InPhase g.R.Rack a b c.requires.well (record { phase_is = refl; pending = refl; homes = refl; copies = refl }) e.levels refl e.reads) (rw c.in-Err.is at e.answer)
 
 pub returns-in-Lost-clause-refused : goal.returns-in-Lost-clause-refused
 returns-in-Lost-clause-refused g c =
@@ -30,7 +32,7 @@ returns-in-Lost-clause-refused g c =
     let d = c.in_ok-unsettled.ensures in
     let e = c.in_ok-lost.ensures in
     settle_lost_reading g.S.InPhase g.R.Rack a b c.in-Lost.lost (record { loose = c.requires.loose; whole = c.in_default.ensures })
-    (has_read g.S.InPhase g.R.Rack a b (record { phase_is = refl; pending = refl; homes = refl; copies = refl }) (e.levels ∙ d.levels) (read_both g.R.Rack a.store first mid d.reads e.reads)) (rw c.in-Lost.is at e.answer)
+    (has_read g.S.InPhase g.R.Rack a b c.requires.well (record { phase_is = refl; pending = refl; homes = refl; copies = refl }) (e.levels ∙ d.levels) refl (read_both g.R.Rack a.store first mid d.reads e.reads)) (rw c.in-Lost.is at e.answer)
 
 pub returns-in-NoSpace-clause-refused : goal.returns-in-NoSpace-clause-refused
 returns-in-NoSpace-clause-refused g c =
@@ -44,67 +46,70 @@ returns-in-NoSpace-clause-refused g c =
     settle_cramped g.S.InPhase g.R.Rack a b kept c.in-NoSpace.bad (record { loose = c.requires.loose; whole = c.in_default.ensures })
     (keeps_of g.S.InPhase g.R.Rack a kept c.requires.well c.in-Some-inference.ensures.kept)
     (record { mid = first; told = λ told. told_by g.R.Rack first mid e.reads.reads.keeps told; sound = rw c.in_default-2.is at d.answer })
-    (has_read g.S.InPhase g.R.Rack a b (record { phase_is = refl; pending = refl; homes = refl; copies = refl }) (e.levels ∙ d.levels) (read_both g.R.Rack a.store first mid d.reads e.reads))
+    (has_read g.S.InPhase g.R.Rack a b c.requires.well (record { phase_is = refl; pending = refl; homes = refl; copies = refl }) (e.levels ∙ d.levels) refl (read_both g.R.Rack a.store first mid d.reads e.reads))
     (no_plan_before g.R.Rack a.store first mid kept a.homes c.in-NoSpace.bad d.reads (rw c.in-NoSpace.is at e.answer))
 
-pub returns-in_err-tend-in-Found-clause-leaves : goal.returns-in_err-tend-in-Found-clause-leaves
-returns-in_err-tend-in-Found-clause-leaves g c =
+pub returns-in_err-move_within-in-Found-clause-leaves : goal.returns-in_err-move_within-in-Found-clause-leaves
+returns-in_err-move_within-in-Found-clause-leaves g c =
     let a = c.args.self.now in
     let first = c.checked.new.store in
     let mid = c.planned.new.store in
-    let last = c.tend.new.store in
-    let b = record a { store = last; levels = c.planned.new.levels } in
+    let last = c.move_within.new.store in
+    let b = record a { store = last; label = c.move_within.new.label; levels = c.planned.new.levels } in
     let d = c.in_ok-unsettled.ensures in
     let e = c.in_ok-lost.ensures in
-    let t = c.in_err-tend-in-Found.ensures in
+    let t = c.in_err-move_within-in-Found.ensures in
     let targets = c.in-Found.targets in
     let read = read_both g.R.Rack a.store first mid d.reads e.reads in
-    let moved = moved_both g.R.Rack a.store mid last read (moved_by g.R.Rack (wants_of targets) mid last t.on) in
-    moved_leaves g.S.InPhase g.R.Rack a b c.requires.well c.requires.loose (has_moved g.S.InPhase g.R.Rack a b (record { phase_is = refl; pending = refl; homes = refl; copies = refl }) (e.levels ∙ d.levels) c.requires.well moved)
+    let moved = moved_both g.R.Rack a.store mid last read t.array in
+    let labels = labels_run g.S.InPhase g.R.Rack a mid last c.move_within.new.label read t.array t.label in
+    moved_leaves g.S.InPhase g.R.Rack a b c.requires.well c.requires.loose (has_moved g.S.InPhase g.R.Rack a b (record { phase_is = refl; pending = refl; homes = refl; copies = refl }) (e.levels ∙ d.levels) c.requires.well labels moved)
 
-pub returns-in_err-tend-in-Found-clause-err : goal.returns-in_err-tend-in-Found-clause-err
-returns-in_err-tend-in-Found-clause-err g c =
+pub returns-in_err-move_within-in-Found-clause-err : goal.returns-in_err-move_within-in-Found-clause-err
+returns-in_err-move_within-in-Found-clause-err g c =
     let a = c.args.self.now in
     let first = c.checked.new.store in
     let mid = c.planned.new.store in
-    let last = c.tend.new.store in
-    let b = record a { store = last; levels = c.planned.new.levels } in
+    let last = c.move_within.new.store in
+    let b = record a { store = last; label = c.move_within.new.label; levels = c.planned.new.levels } in
     let d = c.in_ok-unsettled.ensures in
     let e = c.in_ok-lost.ensures in
-    let t = c.in_err-tend-in-Found.ensures in
+    let t = c.in_err-move_within-in-Found.ensures in
     let targets = c.in-Found.targets in
     let read = read_both g.R.Rack a.store first mid d.reads e.reads in
-    let moved = moved_both g.R.Rack a.store mid last read (moved_by g.R.Rack (wants_of targets) mid last t.on) in
-    on_err c.from_residual-in_err-tend-in-Found.result (TellsAll g.R.Rack last → KeepsBlocks g.R.Rack a.store last) moved.stands
+    let moved = moved_both g.R.Rack a.store mid last read t.array in
+    on_err c.from_residual-in_err-move_within-in-Found.result (TellsAll g.R.Rack last → KeepsBlocks g.R.Rack a.store last) moved.stands
 
 pub returns-in-Lost-2-clause-leaves : goal.returns-in-Lost-2-clause-leaves
 returns-in-Lost-2-clause-leaves g c =
     let a = c.args.self.now in
     let first = c.checked.new.store in
     let mid = c.planned.new.store in
-    let last = c.tend.new.store in
-    let b = record a { store = last; levels = c.planned.new.levels } in
+    let last = c.move_within.new.store in
+    let b = record a { store = last; label = c.move_within.new.label; levels = c.planned.new.levels } in
     let d = c.in_ok-unsettled.ensures in
     let e = c.in_ok-lost.ensures in
-    let t = c.in_ok-tend-in-Found.ensures in
+    let t = c.in_ok-move_within-in-Found.ensures in
     let targets = c.in-Found.targets in
     let read = read_both g.R.Rack a.store first mid d.reads e.reads in
-    let moved = moved_both g.R.Rack a.store mid last read (moved_by g.R.Rack (wants_of targets) mid last t.on) in
-    moved_leaves g.S.InPhase g.R.Rack a b c.requires.well c.requires.loose (has_moved g.S.InPhase g.R.Rack a b (record { phase_is = refl; pending = refl; homes = refl; copies = refl }) (e.levels ∙ d.levels) c.requires.well moved)
+    let moved = moved_both g.R.Rack a.store mid last read t.array in
+    let labels = labels_run g.S.InPhase g.R.Rack a mid last c.move_within.new.label read t.array t.label in
+    moved_leaves g.S.InPhase g.R.Rack a b c.requires.well c.requires.loose (has_moved g.S.InPhase g.R.Rack a b (record { phase_is = refl; pending = refl; homes = refl; copies = refl }) (e.levels ∙ d.levels) c.requires.well labels moved)
 
 pub returns-in-Lost-2-clause-refused : goal.returns-in-Lost-2-clause-refused
 returns-in-Lost-2-clause-refused g c =
     let a = c.args.self.now in
     let first = c.checked.new.store in
     let mid = c.planned.new.store in
-    let last = c.tend.new.store in
-    let b = record a { store = last; levels = c.planned.new.levels } in
+    let last = c.move_within.new.store in
+    let b = record a { store = last; label = c.move_within.new.label; levels = c.planned.new.levels } in
     let d = c.in_ok-unsettled.ensures in
     let e = c.in_ok-lost.ensures in
-    let t = c.in_ok-tend-in-Found.ensures in
+    let t = c.in_ok-move_within-in-Found.ensures in
     let targets = c.in-Found.targets in
     let read = read_both g.R.Rack a.store first mid d.reads e.reads in
-    let moved = moved_both g.R.Rack a.store mid last read (moved_by g.R.Rack (wants_of targets) mid last t.on) in
+    let moved = moved_both g.R.Rack a.store mid last read t.array in
+    let labels = labels_run g.S.InPhase g.R.Rack a mid last c.move_within.new.label read t.array t.label in
     let kept = c.in-Some-inference.inference.now in
     let plan = plan_before g.R.Rack a.store first mid kept a.homes targets d.reads (rw c.in-Found.is at e.answer) in
     let few = few_missing (wants_of targets) (table_of mid) e.reads.sound.table.shape in
@@ -114,30 +119,31 @@ returns-in-Lost-2-clause-refused g c =
       keeps = keeps_of g.S.InPhase g.R.Rack a kept c.requires.well c.in-Some-inference.ensures.kept;
       read = read;
       plan = plan;
-      told = λ told. told_by g.R.Rack mid last t.on.leaves.keeps told;
-      moves = has_moved g.S.InPhase g.R.Rack a b (record { phase_is = refl; pending = refl; homes = refl; copies = refl }) (e.levels ∙ d.levels) c.requires.well moved;
+      told = λ told. told_moved g.R.Rack mid last t.array told;
+      moves = has_moved g.S.InPhase g.R.Rack a b (record { phase_is = refl; pending = refl; homes = refl; copies = refl }) (e.levels ∙ d.levels) c.requires.well labels moved;
     })
     c.in-Lost-2.lost (record { loose = c.requires.loose; whole = c.in_default.ensures })
     (record {
       mid = first;
-      told = λ told. told_by g.R.Rack first mid e.reads.reads.keeps (told_by g.R.Rack mid last t.on.leaves.keeps told);
+      told = λ told. told_by g.R.Rack first mid e.reads.reads.keeps (told_moved g.R.Rack mid last t.array told);
       sound = rw c.in_default-2.is at d.answer;
     })
-    refl (rw c.in-Lost-2.is at t.lost) (c.limit_of_all.ensures.cut (wants_of targets) (2 ^ 32 - 1) (table_of mid) (table_of last) few cut.cut)
+    refl (rw c.in-Lost-2.is at t.lost) (c.limit_of_all.ensures.cut (wants_of targets) (2 ^ 32 - 1) (table_of mid) (table_of last) few cut)
 
 pub returns-in-Tended-clause-leaves : goal.returns-in-Tended-clause-leaves
 returns-in-Tended-clause-leaves g c =
     let a = c.args.self.now in
     let first = c.checked.new.store in
     let mid = c.planned.new.store in
-    let last = c.tend.new.store in
-    let b = record a { store = last; homes = c.into_homes.result; levels = c.planned.new.levels } in
+    let last = c.move_within.new.store in
+    let b = record a { store = last; label = c.move_within.new.label; homes = c.into_homes.result; levels = c.planned.new.levels } in
     let d = c.in_ok-unsettled.ensures in
     let e = c.in_ok-lost.ensures in
-    let t = c.in_ok-tend-in-Found.ensures in
+    let t = c.in_ok-move_within-in-Found.ensures in
     let targets = c.in-Found.targets in
     let read = read_both g.R.Rack a.store first mid d.reads e.reads in
-    let moved = moved_both g.R.Rack a.store mid last read (moved_by g.R.Rack (wants_of targets) mid last t.on) in
+    let moved = moved_both g.R.Rack a.store mid last read t.array in
+    let labels = labels_run g.S.InPhase g.R.Rack a mid last c.move_within.new.label read t.array t.label in
     let kept = c.in-Some-inference.inference.now in
     let plan = plan_before g.R.Rack a.store first mid kept a.homes targets d.reads (rw c.in-Found.is at e.answer) in
     let small = subst (λ (x : List Home). All (λ (home : Home). home.inode < 2 ^ 32) x) c.as_slice.ensures c.inodes_fit.ensures in
@@ -148,7 +154,9 @@ returns-in-Tended-clause-leaves g c =
       copies = refl;
       levels = e.levels ∙ d.levels;
       array = moved;
-      homes_are = plan_homes g.S.InPhase g.R.Rack a mid last kept targets c.into_homes.result plan c.into_homes.ensures moved.leaves.keeps.shape small;
+      labels = labels;
+      homes_are = plan_homes g.S.InPhase g.R.Rack a mid last kept targets c.into_homes.result plan c.into_homes.ensures moved.stays.shape small;
+      few_homes = plan_few g.S.InPhase g.R.Rack a mid last kept targets c.into_homes.result plan c.into_homes.ensures moved.stays.shape;
     })
 
 pub returns-in-Tended-clause-put : goal.returns-in-Tended-clause-put
@@ -156,14 +164,15 @@ returns-in-Tended-clause-put g c done =
     let a = c.args.self.now in
     let first = c.checked.new.store in
     let mid = c.planned.new.store in
-    let last = c.tend.new.store in
-    let b = record a { store = last; homes = c.into_homes.result; levels = c.planned.new.levels } in
+    let last = c.move_within.new.store in
+    let b = record a { store = last; label = c.move_within.new.label; homes = c.into_homes.result; levels = c.planned.new.levels } in
     let d = c.in_ok-unsettled.ensures in
     let e = c.in_ok-lost.ensures in
-    let t = c.in_ok-tend-in-Found.ensures in
+    let t = c.in_ok-move_within-in-Found.ensures in
     let targets = c.in-Found.targets in
     let read = read_both g.R.Rack a.store first mid d.reads e.reads in
-    let moved = moved_both g.R.Rack a.store mid last read (moved_by g.R.Rack (wants_of targets) mid last t.on) in
+    let moved = moved_both g.R.Rack a.store mid last read t.array in
+    let labels = labels_run g.S.InPhase g.R.Rack a mid last c.move_within.new.label read t.array t.label in
     let kept = c.in-Some-inference.inference.now in
     let plan = plan_before g.R.Rack a.store first mid kept a.homes targets d.reads (rw c.in-Found.is at e.answer) in
     let few = few_missing (wants_of targets) (table_of mid) e.reads.sound.table.shape in
@@ -173,22 +182,77 @@ returns-in-Tended-clause-put g c done =
       keeps = keeps_of g.S.InPhase g.R.Rack a kept c.requires.well c.in-Some-inference.ensures.kept;
       read = read;
       plan = plan;
-      told = λ told. told_by g.R.Rack mid last t.on.leaves.keeps told;
+      told = λ told. told_moved g.R.Rack mid last t.array told;
       moves = record {
         phase_is = refl;
         pending = refl;
         copies = refl;
         levels = e.levels ∙ d.levels;
         array = moved;
-        homes_are = plan_homes g.S.InPhase g.R.Rack a mid last kept targets c.into_homes.result plan c.into_homes.ensures moved.leaves.keeps.shape small;
+        labels = labels;
+        homes_are = plan_homes g.S.InPhase g.R.Rack a mid last kept targets c.into_homes.result plan c.into_homes.ensures moved.stays.shape small;
+        few_homes = plan_few g.S.InPhase g.R.Rack a mid last kept targets c.into_homes.result plan c.into_homes.ensures moved.stays.shape;
       };
     })
     c.in-Tended.moved c.in-Tended.left (2 ^ 32 - 1) (record { loose = c.requires.loose; whole = c.in_default.ensures })
     (record {
       mid = first;
-      told = λ told. told_by g.R.Rack first mid e.reads.reads.keeps (told_by g.R.Rack mid last t.on.leaves.keeps told);
+      told = λ told. told_by g.R.Rack first mid e.reads.reads.keeps (told_moved g.R.Rack mid last t.array told);
       sound = rw c.in_default-2.is at d.answer;
     })
-    c.into_homes.ensures (c.requires.well.loose c.requires.loose)
-    (subst (λ (x : Table). SameWritten x (table_of last)) read.reads.table t.on.written)
+    c.into_homes.ensures (c.requires.well.uncopied (λ settled. loose_not_settled (sym c.requires.loose ∙ settled)))
+    (subst (λ (x : Table). SameWritten x (table_of last)) read.reads.table t.written)
     (rw c.in-Tended.is at t.lost) few (c.limit_of_all.ensures.moves (wants_of targets) (2 ^ 32 - 1) (table_of mid) few) (rw c.in-Tended.is at t.moves)
+
+pub move_within-requires-clause-labeled : goal.move_within-requires-clause-labeled
+move_within-requires-clause-labeled g c =
+    let a = c.args.self.now in
+    let read = read_both g.R.Rack a.store c.checked.new.store c.planned.new.store c.in_ok-unsettled.ensures.reads c.in_ok-lost.ensures.reads in
+    let first = relabels_read g.R.Rack a.store c.planned.new.store a.label c.requires.well.labeled read.reads in
+    first.labeled
+
+pub returns-in_err-unsettled-clause-leaves : goal.returns-in_err-unsettled-clause-leaves
+returns-in_err-unsettled-clause-leaves g c =
+    let a = c.args.self.now in
+    let b = record a { store = c.checked.new.store; levels = c.checked.new.levels } in
+    let e = c.in_err-unsettled.ensures in
+    reads_leave g.S.InPhase g.R.Rack a b c.requires.well
+    (has_read g.S.InPhase g.R.Rack a b c.requires.well (record { phase_is = refl; pending = refl; homes = refl; copies = refl }) e.levels refl e.reads)
+
+pub returns-in-Err-clause-leaves : goal.returns-in-Err-clause-leaves
+returns-in-Err-clause-leaves g c =
+    let a = c.args.self.now in
+    let b = record a { store = c.checked.new.store; levels = c.checked.new.levels } in
+    let e = c.in_ok-unsettled.ensures in
+    reads_leave g.S.InPhase g.R.Rack a b c.requires.well
+    (has_read g.S.InPhase g.R.Rack a b c.requires.well (record { phase_is = refl; pending = refl; homes = refl; copies = refl }) e.levels refl e.reads)
+
+pub returns-in_err-lost-clause-leaves : goal.returns-in_err-lost-clause-leaves
+returns-in_err-lost-clause-leaves g c =
+    let a = c.args.self.now in
+    let b = record a { store = c.planned.new.store; levels = c.planned.new.levels } in
+    let d = c.in_ok-unsettled.ensures in
+    let e = c.in_err-lost.ensures in
+    reads_leave g.S.InPhase g.R.Rack a b c.requires.well
+    (has_read g.S.InPhase g.R.Rack a b c.requires.well (record { phase_is = refl; pending = refl; homes = refl; copies = refl }) (e.levels ∙ d.levels) refl
+    (read_both g.R.Rack a.store c.checked.new.store c.planned.new.store d.reads e.reads))
+
+pub returns-in-Lost-clause-leaves : goal.returns-in-Lost-clause-leaves
+returns-in-Lost-clause-leaves g c =
+    let a = c.args.self.now in
+    let b = record a { store = c.planned.new.store; levels = c.planned.new.levels } in
+    let d = c.in_ok-unsettled.ensures in
+    let e = c.in_ok-lost.ensures in
+    reads_leave g.S.InPhase g.R.Rack a b c.requires.well
+    (has_read g.S.InPhase g.R.Rack a b c.requires.well (record { phase_is = refl; pending = refl; homes = refl; copies = refl }) (e.levels ∙ d.levels) refl
+    (read_both g.R.Rack a.store c.checked.new.store c.planned.new.store d.reads e.reads))
+
+pub returns-in-NoSpace-clause-leaves : goal.returns-in-NoSpace-clause-leaves
+returns-in-NoSpace-clause-leaves g c =
+    let a = c.args.self.now in
+    let b = record a { store = c.planned.new.store; levels = c.planned.new.levels } in
+    let d = c.in_ok-unsettled.ensures in
+    let e = c.in_ok-lost.ensures in
+    reads_leave g.S.InPhase g.R.Rack a b c.requires.well
+    (has_read g.S.InPhase g.R.Rack a b c.requires.well (record { phase_is = refl; pending = refl; homes = refl; copies = refl }) (e.levels ∙ d.levels) refl
+    (read_both g.R.Rack a.store c.checked.new.store c.planned.new.store d.reads e.reads))

@@ -12,14 +12,14 @@ returns-in-Got-clause-leaves g c =
     let a = c.args.self.now in
     let k = c.in-Got.ensures in
     reads_leave g.S.InPhase g.R.Rack a (record a { store = c.read.new.self }) c.requires.well
-    (record { beside = record { phase_is = refl; pending = refl; homes = refl; copies = refl }; levels = refl; sound = k.sound; reads = k.reads; stands = k.stands })
+    (record { beside = record { phase_is = refl; pending = refl; homes = refl; copies = refl }; levels = refl; sound = k.sound; reads = k.reads; stands = k.stands; labeled = c.requires.well.labeled; label_is = refl })
 
 pub returns-in-Gone-clause-leaves : goal.returns-in-Gone-clause-leaves
 returns-in-Gone-clause-leaves g c =
     let a = c.args.self.now in
     let k = c.in-Gone.ensures in
     reads_leave g.S.InPhase g.R.Rack a (record a { store = c.read.new.self }) c.requires.well
-    (record { beside = record { phase_is = refl; pending = refl; homes = refl; copies = refl }; levels = refl; sound = k.sound; reads = k.reads; stands = k.stands })
+    (record { beside = record { phase_is = refl; pending = refl; homes = refl; copies = refl }; levels = refl; sound = k.sound; reads = k.reads; stands = k.stands; labeled = c.requires.well.labeled; label_is = refl })
 
 pub returns-in-Got-clause-steps : goal.returns-in-Got-clause-steps
 returns-in-Got-clause-steps g c reply is =
@@ -32,7 +32,7 @@ returns-in-Got-clause-steps g c reply is =
     (steps_data g.S.InPhase g.R.Rack a c.args.block is.0 c.read.new.buf b
     (record {
       within = within;
-      read = record { beside = record { phase_is = refl; pending = refl; homes = refl; copies = refl }; levels = refl; sound = k.sound; reads = k.reads; stands = k.stands };
+      read = record { beside = record { phase_is = refl; pending = refl; homes = refl; copies = refl }; levels = refl; sound = k.sound; reads = k.reads; stands = k.stands; labeled = c.requires.well.labeled; label_is = refl };
       most = k.most;
       once = k.once;
     })
@@ -49,7 +49,7 @@ returns-in-Gone-clause-steps g c reply is =
     (steps_gone g.S.InPhase g.R.Rack a c.args.block b
     (record {
       within = within;
-      read = record { beside = record { phase_is = refl; pending = refl; homes = refl; copies = refl }; levels = refl; sound = k.sound; reads = k.reads; stands = k.stands };
+      read = record { beside = record { phase_is = refl; pending = refl; homes = refl; copies = refl }; levels = refl; sound = k.sound; reads = k.reads; stands = k.stands; labeled = c.requires.well.labeled; label_is = refl };
       most = k.most;
       once = k.once;
     })

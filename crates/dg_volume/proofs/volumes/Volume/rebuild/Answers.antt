@@ -1,7 +1,7 @@
-use Rattle.std.proofs.Common.{◌≡◌, ℕ, Bool, List, refl, sym, ap, subst, arith}
+use Rattle.std.proofs.Common.{◌≡◌, ℕ, Bool, List, inl, inr, refl, sym, ap, subst, arith}
 use Rattle.std.specs.Prelude.{IfSome}
 use Rattle.dg_model.specs.declared.shapes.Shape.{Shape}
-use Rattle.dg_volume.proofs.RebuildSteps.{rebuild_leaves, rebuild_spares, rebuild_steps}
+use Rattle.dg_volume.proofs.RebuildSteps.{CallsRebuild, opened_leaves, opened_spares, quiet_rack, rebuild_leaves, rebuild_spares, rebuild_steps, rebuilt_labels, steps_ended}
 use Rattle.dg_volume.specs.Phases.{CanReapAll}
 use Rattle.dg_volume.specs.Refills.{AreReapMarks}
 use Rattle.dg_volume.specs.Volumes.{shape_of}
@@ -10,17 +10,11 @@ use Rattle.dg_volume.proofs.volumes.Volume.rebuild.Goals as goal
 pub returns-clause-leaves : goal.returns-clause-leaves
 returns-clause-leaves g c =
     let a = c.args.self.now in
+    let o = c.open_refill-ended.ensures in
     let k = c.rebuild-refilled.ensures in
     let b : c.shape.result.now.b ≡ (shape_of a).b = ap (λ (x : Shape). x.b) c.shape.ensures in
-    rebuild_leaves g.S.InPhase g.R.Rack a c.args.boundary c.args.limit c.deref.result.now c.new-reaped.result.items c.rebuild-refilled.new.reaped.items c.rebuild-refilled.result
-    (record a { store = c.rebuild-refilled.new.store; phase = c.reaped.new.self }) c.requires.well
-    (record {
-      boundary = omega arith;
-      beside = record { phase_is = c.reaped.ensures.same; pending = refl; homes = refl; copies = refl };
-      levels = refl;
-      none = c.new-reaped.ensures.items;
-      can = subst (λ (xs : List ℕ). IfSome (g.S.InPhase.kept a.phase) (λ inference. CanReapAll inference xs)) c.deref-2.ensures.value c.reaped.ensures.stands;
-      marks_are = subst (λ (xs : List Bool). AreReapMarks a.store (g.S.InPhase.phase a.phase) (g.S.InPhase.kept a.phase) xs) (sym c.deref.ensures.value) c.in_ok-dead.ensures;
+    let call : CallsRebuild g.S.InPhase g.R.Rack c.open_refill-ended.new.store c.args.boundary c.args.limit c.deref.result.now c.new-reaped.result.items c.rebuild-refilled.new.reaped.items
+    c.rebuild-refilled.result c.rebuild-refilled.new.store = record {
       sound = k.sound;
       left = k.stays;
       lost = k.lost;
@@ -31,23 +25,36 @@ returns-clause-leaves g c =
       failed = k.failed;
       broken = k.broken;
       err = k.err;
+    } in
+    rebuild_leaves g.S.InPhase g.R.Rack a c.open_refill-ended.new.store c.args.boundary c.args.limit c.deref.result.now c.new-reaped.result.items c.rebuild-refilled.new.reaped.items c.rebuild-refilled.result
+    (record a { store = c.rebuild-refilled.new.store; label = c.open_refill-ended.new.label; phase = c.reaped.new.self }) c.requires.well
+    (record {
+      boundary = omega arith;
+      beside = record { phase_is = c.reaped.ensures.same; pending = refl; homes = refl; copies = refl };
+      levels = refl;
+      none = c.new-reaped.ensures.items;
+      opening = o.array;
+      same = λ none. o.same c.in_default.is none;
+      labels = rebuilt_labels g.S.InPhase g.R.Rack a c.open_refill-ended.new.store c.args.boundary c.args.limit c.deref.result.now c.new-reaped.result.items c.rebuild-refilled.new.reaped.items
+          c.rebuild-refilled.result c.rebuild-refilled.new.store c.open_refill-ended.new.label o.array call o.labels
+          (λ closed. elim (o.quiet closed) [
+            | inl zero ↦ k.still zero
+            | inr none ↦ quiet_rack g.S.InPhase g.R.Rack c.open_refill-ended.new.store c.args.boundary c.args.limit c.deref.result.now c.new-reaped.result.items
+                c.rebuild-refilled.new.reaped.items c.rebuild-refilled.result c.rebuild-refilled.new.store call none
+          ]);
+      can = subst (λ (xs : List ℕ). IfSome (g.S.InPhase.kept a.phase) (λ inference. CanReapAll inference xs)) c.deref-2.ensures.value c.reaped.ensures.stands;
+      marks_are = subst (λ (xs : List Bool). AreReapMarks c.open_refill-ended.new.store (g.S.InPhase.phase a.phase) (g.S.InPhase.kept a.phase) xs) (sym c.deref.ensures.value) c.in_ok-dead.ensures;
+      call = call;
     })
 
 pub returns-clause-steps : goal.returns-clause-steps
 returns-clause-steps g c =
     let a = c.args.self.now in
+    let o = c.open_refill-ended.ensures in
     let k = c.rebuild-refilled.ensures in
     let b : c.shape.result.now.b ≡ (shape_of a).b = ap (λ (x : Shape). x.b) c.shape.ensures in
-    rw c.told.ensures
-    (rebuild_steps g.S.InPhase g.R.Rack a c.args.boundary c.args.limit c.deref.result.now c.new-reaped.result.items c.rebuild-refilled.new.reaped.items c.rebuild-refilled.result
-    (record a { store = c.rebuild-refilled.new.store; phase = c.reaped.new.self }) c.requires.well
-    (record {
-      boundary = omega arith;
-      beside = record { phase_is = c.reaped.ensures.same; pending = refl; homes = refl; copies = refl };
-      levels = refl;
-      none = c.new-reaped.ensures.items;
-      can = subst (λ (xs : List ℕ). IfSome (g.S.InPhase.kept a.phase) (λ inference. CanReapAll inference xs)) c.deref-2.ensures.value c.reaped.ensures.stands;
-      marks_are = subst (λ (xs : List Bool). AreReapMarks a.store (g.S.InPhase.phase a.phase) (g.S.InPhase.kept a.phase) xs) (sym c.deref.ensures.value) c.in_ok-dead.ensures;
+    let call : CallsRebuild g.S.InPhase g.R.Rack c.open_refill-ended.new.store c.args.boundary c.args.limit c.deref.result.now c.new-reaped.result.items c.rebuild-refilled.new.reaped.items
+    c.rebuild-refilled.result c.rebuild-refilled.new.store = record {
       sound = k.sound;
       left = k.stays;
       lost = k.lost;
@@ -58,22 +65,37 @@ returns-clause-steps g c =
       failed = k.failed;
       broken = k.broken;
       err = k.err;
+    } in
+    rw c.told.ensures
+    (rebuild_steps g.S.InPhase g.R.Rack a c.open_refill-ended.new.store c.args.boundary c.args.limit c.deref.result.now c.new-reaped.result.items c.rebuild-refilled.new.reaped.items c.rebuild-refilled.result
+    (record a { store = c.rebuild-refilled.new.store; label = c.open_refill-ended.new.label; phase = c.reaped.new.self }) c.requires.well
+    (record {
+      boundary = omega arith;
+      beside = record { phase_is = c.reaped.ensures.same; pending = refl; homes = refl; copies = refl };
+      levels = refl;
+      none = c.new-reaped.ensures.items;
+      opening = o.array;
+      same = λ none. o.same c.in_default.is none;
+      labels = rebuilt_labels g.S.InPhase g.R.Rack a c.open_refill-ended.new.store c.args.boundary c.args.limit c.deref.result.now c.new-reaped.result.items c.rebuild-refilled.new.reaped.items
+          c.rebuild-refilled.result c.rebuild-refilled.new.store c.open_refill-ended.new.label o.array call o.labels
+          (λ closed. elim (o.quiet closed) [
+            | inl zero ↦ k.still zero
+            | inr none ↦ quiet_rack g.S.InPhase g.R.Rack c.open_refill-ended.new.store c.args.boundary c.args.limit c.deref.result.now c.new-reaped.result.items
+                c.rebuild-refilled.new.reaped.items c.rebuild-refilled.result c.rebuild-refilled.new.store call none
+          ]);
+      can = subst (λ (xs : List ℕ). IfSome (g.S.InPhase.kept a.phase) (λ inference. CanReapAll inference xs)) c.deref-2.ensures.value c.reaped.ensures.stands;
+      marks_are = subst (λ (xs : List Bool). AreReapMarks c.open_refill-ended.new.store (g.S.InPhase.phase a.phase) (g.S.InPhase.kept a.phase) xs) (sym c.deref.ensures.value) c.in_ok-dead.ensures;
+      call = call;
     }))
 
 pub returns-clause-spares : goal.returns-clause-spares
 returns-clause-spares g c =
     let a = c.args.self.now in
+    let o = c.open_refill-ended.ensures in
     let k = c.rebuild-refilled.ensures in
     let b : c.shape.result.now.b ≡ (shape_of a).b = ap (λ (x : Shape). x.b) c.shape.ensures in
-    rebuild_spares g.S.InPhase g.R.Rack c.change_of_loose_blocks.ensures a c.args.boundary c.args.limit c.deref.result.now c.new-reaped.result.items c.rebuild-refilled.new.reaped.items c.rebuild-refilled.result
-    (record a { store = c.rebuild-refilled.new.store; phase = c.reaped.new.self }) c.requires.well
-    (record {
-      boundary = omega arith;
-      beside = record { phase_is = c.reaped.ensures.same; pending = refl; homes = refl; copies = refl };
-      levels = refl;
-      none = c.new-reaped.ensures.items;
-      can = subst (λ (xs : List ℕ). IfSome (g.S.InPhase.kept a.phase) (λ inference. CanReapAll inference xs)) c.deref-2.ensures.value c.reaped.ensures.stands;
-      marks_are = subst (λ (xs : List Bool). AreReapMarks a.store (g.S.InPhase.phase a.phase) (g.S.InPhase.kept a.phase) xs) (sym c.deref.ensures.value) c.in_ok-dead.ensures;
+    let call : CallsRebuild g.S.InPhase g.R.Rack c.open_refill-ended.new.store c.args.boundary c.args.limit c.deref.result.now c.new-reaped.result.items c.rebuild-refilled.new.reaped.items
+    c.rebuild-refilled.result c.rebuild-refilled.new.store = record {
       sound = k.sound;
       left = k.stays;
       lost = k.lost;
@@ -84,4 +106,68 @@ returns-clause-spares g c =
       failed = k.failed;
       broken = k.broken;
       err = k.err;
+    } in
+    rebuild_spares g.S.InPhase g.R.Rack c.change_of_loose_blocks.ensures a c.open_refill-ended.new.store c.args.boundary c.args.limit c.deref.result.now c.new-reaped.result.items c.rebuild-refilled.new.reaped.items c.rebuild-refilled.result
+    (record a { store = c.rebuild-refilled.new.store; label = c.open_refill-ended.new.label; phase = c.reaped.new.self }) c.requires.well
+    (record {
+      boundary = omega arith;
+      beside = record { phase_is = c.reaped.ensures.same; pending = refl; homes = refl; copies = refl };
+      levels = refl;
+      none = c.new-reaped.ensures.items;
+      opening = o.array;
+      same = λ none. o.same c.in_default.is none;
+      labels = rebuilt_labels g.S.InPhase g.R.Rack a c.open_refill-ended.new.store c.args.boundary c.args.limit c.deref.result.now c.new-reaped.result.items c.rebuild-refilled.new.reaped.items
+          c.rebuild-refilled.result c.rebuild-refilled.new.store c.open_refill-ended.new.label o.array call o.labels
+          (λ closed. elim (o.quiet closed) [
+            | inl zero ↦ k.still zero
+            | inr none ↦ quiet_rack g.S.InPhase g.R.Rack c.open_refill-ended.new.store c.args.boundary c.args.limit c.deref.result.now c.new-reaped.result.items
+                c.rebuild-refilled.new.reaped.items c.rebuild-refilled.result c.rebuild-refilled.new.store call none
+          ]);
+      can = subst (λ (xs : List ℕ). IfSome (g.S.InPhase.kept a.phase) (λ inference. CanReapAll inference xs)) c.deref-2.ensures.value c.reaped.ensures.stands;
+      marks_are = subst (λ (xs : List Bool). AreReapMarks c.open_refill-ended.new.store (g.S.InPhase.phase a.phase) (g.S.InPhase.kept a.phase) xs) (sym c.deref.ensures.value) c.in_ok-dead.ensures;
+      call = call;
     })
+
+pub returns-in-Some-clause-leaves : goal.returns-in-Some-clause-leaves
+returns-in-Some-clause-leaves g c =
+    let a = c.args.self.now in
+    let o = c.open_refill-ended.ensures in
+    opened_leaves g.S.InPhase g.R.Rack a (record a { store = c.open_refill-ended.new.store; label = c.open_refill-ended.new.label }) c.requires.well
+    (record { beside = record { phase_is = refl; pending = refl; homes = refl; copies = refl }; levels = refl; opening = o.array; labels = o.labels })
+
+pub returns-in-Some-clause-spares : goal.returns-in-Some-clause-spares
+returns-in-Some-clause-spares g c =
+    let a = c.args.self.now in
+    let o = c.open_refill-ended.ensures in
+    opened_spares g.S.InPhase g.R.Rack c.change_of_loose_blocks.ensures a (record a { store = c.open_refill-ended.new.store; label = c.open_refill-ended.new.label })
+    (record { beside = record { phase_is = refl; pending = refl; homes = refl; copies = refl }; levels = refl; opening = o.array; labels = o.labels })
+
+pub returns-in-Some-clause-steps : goal.returns-in-Some-clause-steps
+returns-in-Some-clause-steps g c =
+    let a = c.args.self.now in
+    let e = c.in-Some.ensures in
+    let o = c.open_refill-ended.ensures in
+    let b : c.shape.result.now.b ≡ (shape_of a).b = ap (λ (x : Shape). x.b) c.shape.ensures in
+    steps_ended g.S.InPhase g.R.Rack a (record a { store = c.open_refill-ended.new.store; label = c.open_refill-ended.new.label }) c.args.boundary c.args.limit c.in-Some.answer
+    (record {
+      boundary = omega arith;
+      paired = c.requires.well.array.paired;
+      was = e.was;
+      none = e.none;
+      opened = record { beside = record { phase_is = refl; pending = refl; homes = refl; copies = refl }; levels = refl; opening = o.array; labels = o.labels };
+    })
+    e.lost e.fell
+
+pub returns-in_err-dead-clause-leaves : goal.returns-in_err-dead-clause-leaves
+returns-in_err-dead-clause-leaves g c =
+    let a = c.args.self.now in
+    let o = c.open_refill-ended.ensures in
+    opened_leaves g.S.InPhase g.R.Rack a (record a { store = c.open_refill-ended.new.store; label = c.open_refill-ended.new.label }) c.requires.well
+    (record { beside = record { phase_is = refl; pending = refl; homes = refl; copies = refl }; levels = refl; opening = o.array; labels = o.labels })
+
+pub returns-in_err-dead-clause-spares : goal.returns-in_err-dead-clause-spares
+returns-in_err-dead-clause-spares g c =
+    let a = c.args.self.now in
+    let o = c.open_refill-ended.ensures in
+    opened_spares g.S.InPhase g.R.Rack c.change_of_loose_blocks.ensures a (record a { store = c.open_refill-ended.new.store; label = c.open_refill-ended.new.label })
+    (record { beside = record { phase_is = refl; pending = refl; homes = refl; copies = refl }; levels = refl; opening = o.array; labels = o.labels })

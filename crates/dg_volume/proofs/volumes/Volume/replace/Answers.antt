@@ -1,5 +1,8 @@
-use Rattle.std.proofs.Common.{◌≡◌, refl, ap, arith, inl, inr}
+use Rattle.std.proofs.Common.{◌≡◌, ◌∙◌, ◌+◌, ◌*◌, ℕ, refl, ap, subst, arith}
+use Rattle.dg_io.specs.Told.{IsZeros}
+use Rattle.dg_model.specs.Saves.{member_length}
 use Rattle.dg_model.specs.declared.shapes.Shape.{Shape}
+use Rattle.dg_store.specs.Leaves.{BytesChange}
 use Rattle.dg_volume.proofs.ReplaceSteps.{replace_leaves, steps_failed, steps_lost, steps_not_out, steps_replaced}
 use Rattle.dg_pair.specs.declared.boundaries.ReplaceAnswer.TheVariants.{Failed, Lost, NotOut, Replaced}
 use Rattle.dg_volume.specs.Volumes.{shape_of}
@@ -10,16 +13,29 @@ returns-in-Replaced-clause-leaves g c =
     let a = c.args.self.now in
     let k = c.in-Replaced.ensures in
     let b : c.shape.result.now.b ≡ (shape_of a).b = ap (λ (x : Shape). x.b) c.shape.ensures in
-    replace_leaves g.S.InPhase g.R.Rack a c.args.boundary c.args.side Replaced (record a { store = c.replace.new.self }) c.requires.well
+    replace_leaves g.S.InPhase g.R.Rack a c.args.boundary c.args.side Replaced c.can_replace-opens.result c.open_where.new.store (record a { store = c.replace.new.self; label = c.open_where.new.label }) c.requires.well
     (record {
       boundary = omega arith;
       side = omega arith;
       beside = record { phase_is = refl; pending = refl; homes = refl; copies = refl };
       levels = refl;
       sound = k.sound;
+      labeled = c.requires.well.labeled;
+      opening = c.open_where.ensures;
+      out = c.can_replace-opens.ensures.out;
+      live = c.can_replace-opens.ensures.live;
+      other = c.can_replace-opens.ensures.other;
       left = k.stays;
       table = k.table;
+      lost = k.lost;
+      not_out = k.not_out;
+      failed = k.failed;
       members = k.members;
+      blank = λ is.
+          subst (λ (n : ℕ). BytesChange g.R.Rack c.open_where.new.store c.replace.new.self (2 * c.args.boundary + c.args.side) (IsZeros n))
+          (c.member_length-size.ensures ∙ ap (member_length 2) c.shape-2.ensures) (k.blank is);
+      other_bytes = k.other_bytes;
+      quiet = k.quiet;
       stands = k.stands;
     })
 
@@ -28,35 +44,60 @@ returns-in-Replaced-clause-steps g c =
     let a = c.args.self.now in
     let k = c.in-Replaced.ensures in
     let b : c.shape.result.now.b ≡ (shape_of a).b = ap (λ (x : Shape). x.b) c.shape.ensures in
-    steps_replaced g.S.InPhase g.R.Rack a c.args.boundary c.args.side (record a { store = c.replace.new.self })
+    steps_replaced g.S.InPhase g.R.Rack a c.args.boundary c.args.side c.can_replace-opens.result c.open_where.new.store (record a { store = c.replace.new.self; label = c.open_where.new.label }) c.requires.well
     (record {
       boundary = omega arith;
       side = omega arith;
       beside = record { phase_is = refl; pending = refl; homes = refl; copies = refl };
       levels = refl;
       sound = k.sound;
+      labeled = c.requires.well.labeled;
+      opening = c.open_where.ensures;
+      out = c.can_replace-opens.ensures.out;
+      live = c.can_replace-opens.ensures.live;
+      other = c.can_replace-opens.ensures.other;
       left = k.stays;
       table = k.table;
+      lost = k.lost;
+      not_out = k.not_out;
+      failed = k.failed;
       members = k.members;
+      blank = λ is.
+          subst (λ (n : ℕ). BytesChange g.R.Rack c.open_where.new.store c.replace.new.self (2 * c.args.boundary + c.args.side) (IsZeros n))
+          (c.member_length-size.ensures ∙ ap (member_length 2) c.shape-2.ensures) (k.blank is);
+      other_bytes = k.other_bytes;
+      quiet = k.quiet;
       stands = k.stands;
     })
-    (λ stood. cc (k.not_out.1 stood)) (λ lost. cc (k.lost.1 lost))
 
 pub returns-in-Lost-clause-leaves : goal.returns-in-Lost-clause-leaves
 returns-in-Lost-clause-leaves g c =
     let a = c.args.self.now in
     let k = c.in-Lost.ensures in
     let b : c.shape.result.now.b ≡ (shape_of a).b = ap (λ (x : Shape). x.b) c.shape.ensures in
-    replace_leaves g.S.InPhase g.R.Rack a c.args.boundary c.args.side Lost (record a { store = c.replace.new.self }) c.requires.well
+    replace_leaves g.S.InPhase g.R.Rack a c.args.boundary c.args.side Lost c.can_replace-opens.result c.open_where.new.store (record a { store = c.replace.new.self; label = c.open_where.new.label }) c.requires.well
     (record {
       boundary = omega arith;
       side = omega arith;
       beside = record { phase_is = refl; pending = refl; homes = refl; copies = refl };
       levels = refl;
       sound = k.sound;
+      labeled = c.requires.well.labeled;
+      opening = c.open_where.ensures;
+      out = c.can_replace-opens.ensures.out;
+      live = c.can_replace-opens.ensures.live;
+      other = c.can_replace-opens.ensures.other;
       left = k.stays;
       table = k.table;
+      lost = k.lost;
+      not_out = k.not_out;
+      failed = k.failed;
       members = k.members;
+      blank = λ is.
+          subst (λ (n : ℕ). BytesChange g.R.Rack c.open_where.new.store c.replace.new.self (2 * c.args.boundary + c.args.side) (IsZeros n))
+          (c.member_length-size.ensures ∙ ap (member_length 2) c.shape-2.ensures) (k.blank is);
+      other_bytes = k.other_bytes;
+      quiet = k.quiet;
       stands = k.stands;
     })
 
@@ -65,35 +106,60 @@ returns-in-Lost-clause-steps g c =
     let a = c.args.self.now in
     let k = c.in-Lost.ensures in
     let b : c.shape.result.now.b ≡ (shape_of a).b = ap (λ (x : Shape). x.b) c.shape.ensures in
-    steps_lost g.S.InPhase g.R.Rack a c.args.boundary c.args.side (record a { store = c.replace.new.self })
+    steps_lost g.S.InPhase g.R.Rack a c.args.boundary c.args.side c.can_replace-opens.result c.open_where.new.store (record a { store = c.replace.new.self; label = c.open_where.new.label })
     (record {
       boundary = omega arith;
       side = omega arith;
       beside = record { phase_is = refl; pending = refl; homes = refl; copies = refl };
       levels = refl;
       sound = k.sound;
+      labeled = c.requires.well.labeled;
+      opening = c.open_where.ensures;
+      out = c.can_replace-opens.ensures.out;
+      live = c.can_replace-opens.ensures.live;
+      other = c.can_replace-opens.ensures.other;
       left = k.stays;
       table = k.table;
+      lost = k.lost;
+      not_out = k.not_out;
+      failed = k.failed;
       members = k.members;
+      blank = λ is.
+          subst (λ (n : ℕ). BytesChange g.R.Rack c.open_where.new.store c.replace.new.self (2 * c.args.boundary + c.args.side) (IsZeros n))
+          (c.member_length-size.ensures ∙ ap (member_length 2) c.shape-2.ensures) (k.blank is);
+      other_bytes = k.other_bytes;
+      quiet = k.quiet;
       stands = k.stands;
     })
-    (λ stood. cc (k.not_out.1 stood)) (k.lost.0 refl) (k.quiet (inl refl))
 
 pub returns-in-NotOut-clause-leaves : goal.returns-in-NotOut-clause-leaves
 returns-in-NotOut-clause-leaves g c =
     let a = c.args.self.now in
     let k = c.in-NotOut.ensures in
     let b : c.shape.result.now.b ≡ (shape_of a).b = ap (λ (x : Shape). x.b) c.shape.ensures in
-    replace_leaves g.S.InPhase g.R.Rack a c.args.boundary c.args.side NotOut (record a { store = c.replace.new.self }) c.requires.well
+    replace_leaves g.S.InPhase g.R.Rack a c.args.boundary c.args.side NotOut c.can_replace-opens.result c.open_where.new.store (record a { store = c.replace.new.self; label = c.open_where.new.label }) c.requires.well
     (record {
       boundary = omega arith;
       side = omega arith;
       beside = record { phase_is = refl; pending = refl; homes = refl; copies = refl };
       levels = refl;
       sound = k.sound;
+      labeled = c.requires.well.labeled;
+      opening = c.open_where.ensures;
+      out = c.can_replace-opens.ensures.out;
+      live = c.can_replace-opens.ensures.live;
+      other = c.can_replace-opens.ensures.other;
       left = k.stays;
       table = k.table;
+      lost = k.lost;
+      not_out = k.not_out;
+      failed = k.failed;
       members = k.members;
+      blank = λ is.
+          subst (λ (n : ℕ). BytesChange g.R.Rack c.open_where.new.store c.replace.new.self (2 * c.args.boundary + c.args.side) (IsZeros n))
+          (c.member_length-size.ensures ∙ ap (member_length 2) c.shape-2.ensures) (k.blank is);
+      other_bytes = k.other_bytes;
+      quiet = k.quiet;
       stands = k.stands;
     })
 
@@ -102,35 +168,60 @@ returns-in-NotOut-clause-steps g c =
     let a = c.args.self.now in
     let k = c.in-NotOut.ensures in
     let b : c.shape.result.now.b ≡ (shape_of a).b = ap (λ (x : Shape). x.b) c.shape.ensures in
-    steps_not_out g.S.InPhase g.R.Rack a c.args.boundary c.args.side (record a { store = c.replace.new.self })
+    steps_not_out g.S.InPhase g.R.Rack a c.args.boundary c.args.side c.can_replace-opens.result c.open_where.new.store (record a { store = c.replace.new.self; label = c.open_where.new.label })
     (record {
       boundary = omega arith;
       side = omega arith;
       beside = record { phase_is = refl; pending = refl; homes = refl; copies = refl };
       levels = refl;
       sound = k.sound;
+      labeled = c.requires.well.labeled;
+      opening = c.open_where.ensures;
+      out = c.can_replace-opens.ensures.out;
+      live = c.can_replace-opens.ensures.live;
+      other = c.can_replace-opens.ensures.other;
       left = k.stays;
       table = k.table;
+      lost = k.lost;
+      not_out = k.not_out;
+      failed = k.failed;
       members = k.members;
+      blank = λ is.
+          subst (λ (n : ℕ). BytesChange g.R.Rack c.open_where.new.store c.replace.new.self (2 * c.args.boundary + c.args.side) (IsZeros n))
+          (c.member_length-size.ensures ∙ ap (member_length 2) c.shape-2.ensures) (k.blank is);
+      other_bytes = k.other_bytes;
+      quiet = k.quiet;
       stands = k.stands;
     })
-    (k.not_out.0 refl) (k.quiet (inr refl))
 
 pub returns-in-Failed-clause-leaves : goal.returns-in-Failed-clause-leaves
 returns-in-Failed-clause-leaves g c =
     let a = c.args.self.now in
     let k = c.in-Failed.ensures in
     let b : c.shape.result.now.b ≡ (shape_of a).b = ap (λ (x : Shape). x.b) c.shape.ensures in
-    replace_leaves g.S.InPhase g.R.Rack a c.args.boundary c.args.side Failed (record a { store = c.replace.new.self }) c.requires.well
+    replace_leaves g.S.InPhase g.R.Rack a c.args.boundary c.args.side Failed c.can_replace-opens.result c.open_where.new.store (record a { store = c.replace.new.self; label = c.open_where.new.label }) c.requires.well
     (record {
       boundary = omega arith;
       side = omega arith;
       beside = record { phase_is = refl; pending = refl; homes = refl; copies = refl };
       levels = refl;
       sound = k.sound;
+      labeled = c.requires.well.labeled;
+      opening = c.open_where.ensures;
+      out = c.can_replace-opens.ensures.out;
+      live = c.can_replace-opens.ensures.live;
+      other = c.can_replace-opens.ensures.other;
       left = k.stays;
       table = k.table;
+      lost = k.lost;
+      not_out = k.not_out;
+      failed = k.failed;
       members = k.members;
+      blank = λ is.
+          subst (λ (n : ℕ). BytesChange g.R.Rack c.open_where.new.store c.replace.new.self (2 * c.args.boundary + c.args.side) (IsZeros n))
+          (c.member_length-size.ensures ∙ ap (member_length 2) c.shape-2.ensures) (k.blank is);
+      other_bytes = k.other_bytes;
+      quiet = k.quiet;
       stands = k.stands;
     })
 
@@ -139,16 +230,28 @@ returns-in-Failed-clause-steps g c =
     let a = c.args.self.now in
     let k = c.in-Failed.ensures in
     let b : c.shape.result.now.b ≡ (shape_of a).b = ap (λ (x : Shape). x.b) c.shape.ensures in
-    steps_failed g.S.InPhase g.R.Rack a c.args.boundary c.args.side (record a { store = c.replace.new.self })
+    steps_failed g.S.InPhase g.R.Rack a c.args.boundary c.args.side c.can_replace-opens.result c.open_where.new.store (record a { store = c.replace.new.self; label = c.open_where.new.label })
     (record {
       boundary = omega arith;
       side = omega arith;
       beside = record { phase_is = refl; pending = refl; homes = refl; copies = refl };
       levels = refl;
       sound = k.sound;
+      labeled = c.requires.well.labeled;
+      opening = c.open_where.ensures;
+      out = c.can_replace-opens.ensures.out;
+      live = c.can_replace-opens.ensures.live;
+      other = c.can_replace-opens.ensures.other;
       left = k.stays;
       table = k.table;
+      lost = k.lost;
+      not_out = k.not_out;
+      failed = k.failed;
       members = k.members;
+      blank = λ is.
+          subst (λ (n : ℕ). BytesChange g.R.Rack c.open_where.new.store c.replace.new.self (2 * c.args.boundary + c.args.side) (IsZeros n))
+          (c.member_length-size.ensures ∙ ap (member_length 2) c.shape-2.ensures) (k.blank is);
+      other_bytes = k.other_bytes;
+      quiet = k.quiet;
       stands = k.stands;
     })
-    (λ stood. cc (k.not_out.1 stood)) (λ lost. cc (k.lost.1 lost)) (k.failed refl)

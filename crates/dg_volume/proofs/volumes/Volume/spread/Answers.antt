@@ -4,16 +4,16 @@ use Rattle.dg_model.specs.declared.homes.Home.{Home}
 use Rattle.dg_volume.proofs.CopySteps.{diffuse_leaves, diffuse_steps, placed_by}
 use Rattle.dg_volume.proofs.volumes.Volume.spread.Goals as goal
 
-pub diffuse-answer-requires-clause-placed : goal.diffuse-answer-requires-clause-placed
-diffuse-answer-requires-clause-placed g c =
+pub spread_recent-answer-requires-clause-placed : goal.spread_recent-answer-requires-clause-placed
+spread_recent-answer-requires-clause-placed g c =
     placed_by g.S.InPhase g.R.Rack c.args.self.now c.in-Some-inference.inference.now c.in_ok-wants.wants c.requires.well c.requires.settled c.in-Some-inference.ensures.kept c.in_ok-wants.ensures
 
 pub returns-clause-leaves : goal.returns-clause-leaves
 returns-clause-leaves g c =
     let a = c.args.self.now in
-    let k = c.diffuse-answer.ensures in
-    diffuse_leaves g.S.InPhase g.R.Rack a c.in-Some-inference.inference.now c.in_ok-wants.wants c.args.hot.now c.diffuse-answer.result
-    (record a { store = c.diffuse-answer.new.store; copies = c.diffuse-answer.new.copies })
+    let k = c.spread_recent-answer.ensures in
+    diffuse_leaves g.S.InPhase g.R.Rack a c.in-Some-inference.inference.now c.in_ok-wants.wants c.args.hot.now c.spread_recent-answer.result
+    (record a { store = c.spread_recent-answer.new.store; label = c.spread_recent-answer.new.label; copies = c.spread_recent-answer.new.copies })
     (record {
       well = c.requires.well;
       settled = c.requires.settled;
@@ -25,7 +25,9 @@ returns-clause-leaves g c =
       homes = refl;
       levels = refl;
       small = subst (λ (x : List Home). All (λ (home : Home). home.inode < 2 ^ 32) x) c.as_slice.ensures c.inodes_fit.ensures;
-      moved = k.moved;
+      moved = k.array;
+      written = k.written;
+      labels = k.label;
       placed = k.placed;
       live = k.whole;
       diffused = k.diffused;
@@ -36,9 +38,9 @@ returns-clause-leaves g c =
 pub returns-clause-steps : goal.returns-clause-steps
 returns-clause-steps g c =
     let a = c.args.self.now in
-    let k = c.diffuse-answer.ensures in
-    diffuse_steps g.S.InPhase g.R.Rack a c.in-Some-inference.inference.now c.in_ok-wants.wants c.args.hot.now c.diffuse-answer.result
-    (record a { store = c.diffuse-answer.new.store; copies = c.diffuse-answer.new.copies })
+    let k = c.spread_recent-answer.ensures in
+    diffuse_steps g.S.InPhase g.R.Rack a c.in-Some-inference.inference.now c.in_ok-wants.wants c.args.hot.now c.spread_recent-answer.result
+    (record a { store = c.spread_recent-answer.new.store; label = c.spread_recent-answer.new.label; copies = c.spread_recent-answer.new.copies })
     (record {
       well = c.requires.well;
       settled = c.requires.settled;
@@ -50,7 +52,9 @@ returns-clause-steps g c =
       homes = refl;
       levels = refl;
       small = subst (λ (x : List Home). All (λ (home : Home). home.inode < 2 ^ 32) x) c.as_slice.ensures c.inodes_fit.ensures;
-      moved = k.moved;
+      moved = k.array;
+      written = k.written;
+      labels = k.label;
       placed = k.placed;
       live = k.whole;
       diffused = k.diffused;

@@ -1,8 +1,9 @@
 use Rattle.std.proofs.Common.{refl}
-use Rattle.dg_plan.specs.Targets.{wants_of}
 use Rattle.dg_store.specs.Stores.{KeepsBlocks, TellsAll}
-use Rattle.dg_volume.proofs.ArrayLaws.{moved_both, moved_by, on_err, told_by}
-use Rattle.dg_volume.proofs.MoveSteps.{has_moved, has_read, keeps_of, moved_leaves, tend_cramped, tend_done, tend_lost_moving, tend_lost_reading}
+use Rattle.dg_volume.proofs.ArrayLaws.{moved_both, on_err, told_moved}
+use Rattle.dg_volume.proofs.MoveSteps.{has_moved, has_read, keeps_of, labels_run, moved_leaves, tend_cramped, tend_done, tend_lost_moving, tend_lost_reading}
+use Rattle.dg_volume.proofs.LabelLaws.{relabels_read}
+use Rattle.dg_volume.proofs.VolumeLaws.{reads_leave}
 use Rattle.dg_volume.proofs.volumes.Volume.tend_loose.Goals as goal
 
 pub returns-in-Lost-clause-steps : goal.returns-in-Lost-clause-steps
@@ -11,7 +12,7 @@ returns-in-Lost-clause-steps g c =
     let b = record a { store = c.planned.new.store; levels = c.planned.new.levels } in
     let e = c.in_ok-lost.ensures in
     tend_lost_reading g.S.InPhase g.R.Rack a b c.args.limit c.in-Lost.lost (record { loose = c.requires.loose; whole = c.in_default.ensures })
-    (has_read g.S.InPhase g.R.Rack a b (record { phase_is = refl; pending = refl; homes = refl; copies = refl }) e.levels e.reads) (rw c.in-Lost.is at e.answer)
+    (has_read g.S.InPhase g.R.Rack a b c.requires.well (record { phase_is = refl; pending = refl; homes = refl; copies = refl }) e.levels refl e.reads) (rw c.in-Lost.is at e.answer)
 
 pub returns-in-NoSpace-clause-steps : goal.returns-in-NoSpace-clause-steps
 returns-in-NoSpace-clause-steps g c =
@@ -21,35 +22,36 @@ returns-in-NoSpace-clause-steps g c =
     let kept = c.in-Some-inference.inference.now in
     tend_cramped g.S.InPhase g.R.Rack a b kept c.args.limit c.in-NoSpace.bad (record { loose = c.requires.loose; whole = c.in_default.ensures })
     (keeps_of g.S.InPhase g.R.Rack a kept c.requires.well c.in-Some-inference.ensures.kept)
-    (has_read g.S.InPhase g.R.Rack a b (record { phase_is = refl; pending = refl; homes = refl; copies = refl }) e.levels e.reads) (rw c.in-NoSpace.is at e.answer)
+    (has_read g.S.InPhase g.R.Rack a b c.requires.well (record { phase_is = refl; pending = refl; homes = refl; copies = refl }) e.levels refl e.reads) (rw c.in-NoSpace.is at e.answer)
 
 pub returns-in_err-moved-in-Found-clause-err : goal.returns-in_err-moved-in-Found-clause-err
 returns-in_err-moved-in-Found-clause-err g c =
     let a = c.args.self.now in
     let mid = c.planned.new.store in
     let e = c.in_ok-lost.ensures in
-    let moved = moved_by g.R.Rack (wants_of c.in-Found.targets) mid c.tend.new.store c.in_err-moved-in-Found.ensures.on in
-    on_err c.from_residual-in_err-moved-in-Found.result (TellsAll g.R.Rack c.tend.new.store → KeepsBlocks g.R.Rack a.store c.tend.new.store)
-    (moved_both g.R.Rack a.store mid c.tend.new.store e.reads moved).stands
+    let moved = c.in_err-moved-in-Found.ensures.array in
+    on_err c.from_residual-in_err-moved-in-Found.result (TellsAll g.R.Rack c.move_within.new.store → KeepsBlocks g.R.Rack a.store c.move_within.new.store)
+    (moved_both g.R.Rack a.store mid c.move_within.new.store e.reads moved).stands
 
 pub returns-in-Tended-clause-steps : goal.returns-in-Tended-clause-steps
 returns-in-Tended-clause-steps g c =
     let a = c.args.self.now in
     let mid = c.planned.new.store in
-    let b = record a { store = c.tend.new.store; levels = c.planned.new.levels } in
+    let b = record a { store = c.move_within.new.store; label = c.move_within.new.label; levels = c.planned.new.levels } in
     let e = c.in_ok-lost.ensures in
     let t = c.in_ok-moved-in-Found.ensures in
     let kept = c.in-Some-inference.inference.now in
-    let moved = moved_by g.R.Rack (wants_of c.in-Found.targets) mid c.tend.new.store t.on in
+    let moved = t.array in
+    let labels = labels_run g.S.InPhase g.R.Rack a mid c.move_within.new.store c.move_within.new.label e.reads t.array t.label in
     tend_done g.S.InPhase g.R.Rack a kept c.in-Found.targets mid b
     (record {
       keeps = keeps_of g.S.InPhase g.R.Rack a kept c.requires.well c.in-Some-inference.ensures.kept;
       read = e.reads;
       plan = rw c.in-Found.is at e.answer;
-      told = λ told. told_by g.R.Rack mid c.tend.new.store t.on.leaves.keeps told;
+      told = λ told. told_moved g.R.Rack mid c.move_within.new.store t.array told;
       moves =
-          has_moved g.S.InPhase g.R.Rack a b (record { phase_is = refl; pending = refl; homes = refl; copies = refl }) e.levels c.requires.well
-          (moved_both g.R.Rack a.store mid c.tend.new.store e.reads moved);
+          has_moved g.S.InPhase g.R.Rack a b (record { phase_is = refl; pending = refl; homes = refl; copies = refl }) e.levels c.requires.well labels
+          (moved_both g.R.Rack a.store mid c.move_within.new.store e.reads moved);
     })
     c.args.limit c.in-Tended.moved c.in-Tended.left (record { loose = c.requires.loose; whole = c.in_default.ensures }) refl
     (rw c.in-Tended.is at t.lost) (rw c.in-Tended.is at t.moves)
@@ -58,31 +60,62 @@ pub returns-clause-leaves : goal.returns-clause-leaves
 returns-clause-leaves g c =
     let a = c.args.self.now in
     let mid = c.planned.new.store in
-    let b = record a { store = c.tend.new.store; levels = c.planned.new.levels } in
+    let b = record a { store = c.move_within.new.store; label = c.move_within.new.label; levels = c.planned.new.levels } in
     let e = c.in_ok-lost.ensures in
     let t = c.in_ok-moved-in-Found.ensures in
     moved_leaves g.S.InPhase g.R.Rack a b c.requires.well c.requires.loose
     (has_moved g.S.InPhase g.R.Rack a b (record { phase_is = refl; pending = refl; homes = refl; copies = refl }) e.levels c.requires.well
-    (moved_both g.R.Rack a.store mid c.tend.new.store e.reads (moved_by g.R.Rack (wants_of c.in-Found.targets) mid c.tend.new.store t.on)))
+    (labels_run g.S.InPhase g.R.Rack a mid c.move_within.new.store c.move_within.new.label e.reads t.array t.label)
+    (moved_both g.R.Rack a.store mid c.move_within.new.store e.reads t.array))
 
 pub returns-clause-steps : goal.returns-clause-steps
 returns-clause-steps g c =
     let a = c.args.self.now in
     let mid = c.planned.new.store in
-    let b = record a { store = c.tend.new.store; levels = c.planned.new.levels } in
+    let b = record a { store = c.move_within.new.store; label = c.move_within.new.label; levels = c.planned.new.levels } in
     let e = c.in_ok-lost.ensures in
     let t = c.in_ok-moved-in-Found.ensures in
     let kept = c.in-Some-inference.inference.now in
-    let moved = moved_by g.R.Rack (wants_of c.in-Found.targets) mid c.tend.new.store t.on in
+    let moved = t.array in
+    let labels = labels_run g.S.InPhase g.R.Rack a mid c.move_within.new.store c.move_within.new.label e.reads t.array t.label in
     let cut = rw c.in-Lost-2.is at t.moves in
     tend_lost_moving g.S.InPhase g.R.Rack a kept c.in-Found.targets mid b
     (record {
       keeps = keeps_of g.S.InPhase g.R.Rack a kept c.requires.well c.in-Some-inference.ensures.kept;
       read = e.reads;
       plan = rw c.in-Found.is at e.answer;
-      told = λ told. told_by g.R.Rack mid c.tend.new.store t.on.leaves.keeps told;
+      told = λ told. told_moved g.R.Rack mid c.move_within.new.store t.array told;
       moves =
-          has_moved g.S.InPhase g.R.Rack a b (record { phase_is = refl; pending = refl; homes = refl; copies = refl }) e.levels c.requires.well
-          (moved_both g.R.Rack a.store mid c.tend.new.store e.reads moved);
+          has_moved g.S.InPhase g.R.Rack a b (record { phase_is = refl; pending = refl; homes = refl; copies = refl }) e.levels c.requires.well labels
+          (moved_both g.R.Rack a.store mid c.move_within.new.store e.reads moved);
     })
-    c.args.limit c.in-Lost-2.lost (record { loose = c.requires.loose; whole = c.in_default.ensures }) refl (rw c.in-Lost-2.is at t.lost) cut.cut
+    c.args.limit c.in-Lost-2.lost (record { loose = c.requires.loose; whole = c.in_default.ensures }) refl (rw c.in-Lost-2.is at t.lost) cut
+
+pub move_within-requires-clause-labeled : goal.move_within-requires-clause-labeled
+move_within-requires-clause-labeled g c =
+    let first = relabels_read g.R.Rack c.args.self.now.store c.planned.new.store c.args.self.now.label c.requires.well.labeled c.in_ok-lost.ensures.reads.reads in
+    first.labeled
+
+pub returns-in_err-lost-clause-leaves : goal.returns-in_err-lost-clause-leaves
+returns-in_err-lost-clause-leaves g c =
+    let a = c.args.self.now in
+    let b = record a { store = c.planned.new.store; levels = c.planned.new.levels } in
+    let e = c.in_err-lost.ensures in
+    reads_leave g.S.InPhase g.R.Rack a b c.requires.well
+    (has_read g.S.InPhase g.R.Rack a b c.requires.well (record { phase_is = refl; pending = refl; homes = refl; copies = refl }) e.levels refl e.reads)
+
+pub returns-in-Lost-clause-leaves : goal.returns-in-Lost-clause-leaves
+returns-in-Lost-clause-leaves g c =
+    let a = c.args.self.now in
+    let b = record a { store = c.planned.new.store; levels = c.planned.new.levels } in
+    let e = c.in_ok-lost.ensures in
+    reads_leave g.S.InPhase g.R.Rack a b c.requires.well
+    (has_read g.S.InPhase g.R.Rack a b c.requires.well (record { phase_is = refl; pending = refl; homes = refl; copies = refl }) e.levels refl e.reads)
+
+pub returns-in-NoSpace-clause-leaves : goal.returns-in-NoSpace-clause-leaves
+returns-in-NoSpace-clause-leaves g c =
+    let a = c.args.self.now in
+    let b = record a { store = c.planned.new.store; levels = c.planned.new.levels } in
+    let e = c.in_ok-lost.ensures in
+    reads_leave g.S.InPhase g.R.Rack a b c.requires.well
+    (has_read g.S.InPhase g.R.Rack a b c.requires.well (record { phase_is = refl; pending = refl; homes = refl; copies = refl }) e.levels refl e.reads)

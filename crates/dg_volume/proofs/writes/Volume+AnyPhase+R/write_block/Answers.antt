@@ -2,7 +2,7 @@ use Rattle.std.proofs.Common.{◌≡◌, ◌∙◌, ◌<◌, false, refl, sym, a
 use Rattle.dg_model.specs.Marks.{with_mark}
 use Rattle.dg_model.specs.States.{has_lost}
 use Rattle.dg_model.specs.declared.shapes.Shape.{Shape}
-use Rattle.dg_volume.proofs.WriteSteps.{HasFollowed, HasStored, lost_now, written_broken, written_to, written_whole}
+use Rattle.dg_volume.proofs.WriteSteps.{HasFollowed, HasStored, labels_followed, loosened_leaves, lost_now, written_broken, written_to, written_whole}
 use Rattle.dg_volume.specs.Volumes.{any_phase, members_of, shape_of}
 use Rattle.dg_volume.specs.declared.phases.AnyPhase.{AnyPhase}
 use Rattle.dg_volume.specs.declared.phases.AnyPhase.TheVariants.{Loose}
@@ -16,15 +16,16 @@ returns-in-AllLost-clause-steps g c =
     let n : c.shape.result.now.n ≡ (shape_of a).n = ap (λ (x : Shape). x.n) c.shape.ensures in
     let within : c.args.block < (shape_of a).n = omega arith in
     let whole : has_lost (shape_of a) (members_of a) ≡ false = sym c.is_degraded.ensures ∙ c.if-is_degraded.false in
-    lost_now any_phase g.R.Rack a c.args.block c.args.buf.now (record a { store = c.write.new.self }) c.requires.well
+    lost_now any_phase g.R.Rack a c.args.block c.args.buf.now (record a { store = c.write_opened.new.store; label = c.write_opened.new.label }) c.requires.well
     (record {
       within = within;
       whole = whole;
-      first = k.leaves;
+      first = k.falls;
       lost = k.lost c.in-AllLost.is;
       most = k.most;
       beside = record { phase_is = refl; pending = refl; homes = refl; copies = refl };
       levels = refl;
+      labels = k.label;
     })
 
 pub returns-then-whole-clause-steps : goal.returns-then-whole-clause-steps
@@ -35,17 +36,17 @@ returns-then-whole-clause-steps g c =
     let n : c.shape.result.now.n ≡ (shape_of a).n = ap (λ (x : Shape). x.n) c.shape.ensures in
     let within : c.args.block < (shape_of a).n = omega arith in
     let whole : has_lost (shape_of a) (members_of a) ≡ false = sym c.is_degraded.ensures ∙ c.if-is_degraded.false in
-    let stored : HasStored any_phase any_phase g.R.Rack a c.args.block c.args.buf.now c.write.new.self c.follow-followed.new.store = record {
+    let stored : HasStored any_phase any_phase g.R.Rack a c.args.block c.args.buf.now c.write_opened.new.store c.follow-followed.new.store = record {
       within = within;
       whole = whole;
-      first = k.leaves;
+      first = k.falls;
       stored = k.stored c.in_default-written.is;
       most = k.most;
       sound = f.sound;
       reads = f.reads;
       stands = f.stands;
     } in
-    let followed : HasFollowed any_phase any_phase g.R.Rack a c.args.block c.args.buf.now c.write.new.self c.follow-followed.new.store c.in-Some.inference c.follow-followed.new.inference = record {
+    let followed : HasFollowed any_phase any_phase g.R.Rack a c.args.block c.args.buf.now c.write_opened.new.store c.follow-followed.new.store c.in-Some.inference c.follow-followed.new.inference = record {
       size = f.size;
       whole = f.whole c.if-whole.true;
       inferred = f.inferred c.if-whole.true;
@@ -54,13 +55,14 @@ returns-then-whole-clause-steps g c =
     } in
     let b : Volume AnyPhase g.row.R.Denot = record a {
       store = c.follow-followed.new.store;
+      label = c.write_opened.new.label;
       phase = Loose (record { inference = c.follow-followed.new.inference });
       copies = c.new-3.result;
       levels = c.follow-followed.new.levels;
     } in
-    written_to any_phase any_phase g.R.Rack a c.args.block c.args.buf.now c.write.new.self b c.requires.well
-    (written_whole any_phase any_phase g.R.Rack a c.args.block c.args.buf.now c.write.new.self c.in-Some.inference c.follow-followed.new.inference b c.requires.well stored
-    f.levels refl (c.new-3.ensures ∙ c.new-2.ensures.items) (rw c.in-Some.is at c.take_inference.ensures.kept) refl refl followed)
+    written_to any_phase any_phase g.R.Rack a c.args.block c.args.buf.now c.write_opened.new.store b c.requires.well
+    (written_whole any_phase any_phase g.R.Rack a c.args.block c.args.buf.now c.write_opened.new.store c.in-Some.inference c.follow-followed.new.inference b c.requires.well stored
+    f.levels refl (c.new-3.ensures ∙ c.new-2.ensures.items) (rw c.in-Some.is at c.take_inference.ensures.kept) refl refl followed (labels_followed g.R.Rack a.store c.write_opened.new.store b.store a.label c.write_opened.new.label k.label f.reads))
 
 pub returns-clause-steps : goal.returns-clause-steps
 returns-clause-steps g c =
@@ -70,10 +72,10 @@ returns-clause-steps g c =
     let n : c.shape.result.now.n ≡ (shape_of a).n = ap (λ (x : Shape). x.n) c.shape.ensures in
     let within : c.args.block < (shape_of a).n = omega arith in
     let whole : has_lost (shape_of a) (members_of a) ≡ false = sym c.is_degraded.ensures ∙ c.if-is_degraded.false in
-    let stored : HasStored any_phase any_phase g.R.Rack a c.args.block c.args.buf.now c.write.new.self c.follow-followed.new.store = record {
+    let stored : HasStored any_phase any_phase g.R.Rack a c.args.block c.args.buf.now c.write_opened.new.store c.follow-followed.new.store = record {
       within = within;
       whole = whole;
-      first = k.leaves;
+      first = k.falls;
       stored = k.stored c.in_default-written.is;
       most = k.most;
       sound = f.sound;
@@ -82,12 +84,35 @@ returns-clause-steps g c =
     } in
     let b : Volume AnyPhase g.row.R.Denot = record a {
       store = c.follow-followed.new.store;
+      label = c.write_opened.new.label;
       phase = c.take_inference.new.phase;
       pending = c.worn_marks.result;
       copies = c.new-3.result;
       levels = c.follow-followed.new.levels;
     } in
-    written_to any_phase any_phase g.R.Rack a c.args.block c.args.buf.now c.write.new.self b c.requires.well
-    (written_broken any_phase any_phase g.R.Rack a c.args.block c.args.buf.now c.write.new.self c.in-Some.inference b c.requires.well stored
+    written_to any_phase any_phase g.R.Rack a c.args.block c.args.buf.now c.write_opened.new.store b c.requires.well
+    (written_broken any_phase any_phase g.R.Rack a c.args.block c.args.buf.now c.write_opened.new.store c.in-Some.inference b c.requires.well stored
     f.levels refl (c.new-3.ensures ∙ c.new-2.ensures.items) (rw c.in-Some.is at c.take_inference.ensures.kept) c.take_inference.ensures.left c.take_inference.ensures.left_phase
-    (c.worn_marks.ensures ∙ ap (λ xs. with_mark xs c.args.block) (f.kept c.if-whole.false)) (f.lost c.if-whole.false))
+    (c.worn_marks.ensures ∙ ap (λ xs. with_mark xs c.args.block) (f.kept c.if-whole.false)) (f.lost c.if-whole.false) (labels_followed g.R.Rack a.store c.write_opened.new.store b.store a.label c.write_opened.new.label k.label f.reads))
+
+pub returns-then-whole-clause-leaves : goal.returns-then-whole-clause-leaves
+returns-then-whole-clause-leaves g c = let steps = returns-then-whole-clause-steps g c in steps.leaves
+
+pub returns-clause-leaves : goal.returns-clause-leaves
+returns-clause-leaves g c = let steps = returns-clause-steps g c in steps.leaves
+
+pub returns-in_default-followed-clause-leaves : goal.returns-in_default-followed-clause-leaves
+returns-in_default-followed-clause-leaves g c =
+    let a = c.args.self.now in
+    let k = c.in-Ok.ensures in
+    let f = c.in_default-followed.ensures in
+    let b : Volume AnyPhase g.row.R.Denot = record a {
+      store = c.follow-followed.new.store;
+      label = c.write_opened.new.label;
+      phase = Loose (record { inference = c.follow-followed.new.inference });
+      copies = c.new-3.result;
+      levels = c.follow-followed.new.levels;
+    } in
+    loosened_leaves any_phase any_phase g.R.Rack a c.write_opened.new.store c.in-Some.inference c.follow-followed.new.inference b c.requires.well k.falls f.sound f.reads f.levels refl
+    (c.new-3.ensures ∙ c.new-2.ensures.items) (rw c.in-Some.is at c.take_inference.ensures.kept) refl refl f.size f.room
+    (labels_followed g.R.Rack a.store c.write_opened.new.store b.store a.label c.write_opened.new.label k.label f.reads)

@@ -1,0 +1,409 @@
+-- What passes over the members leave of a label and a body.
+use Rattle.std.proofs.Common.{◌≡◌, ◌≢◌, ◌∙◌, ◌<◌, ◌≤◌, ◌+◌, ◌*◌, ◌/◌, ◌%◌, ◌^◌, ◌&&◌, ◌||◌, ℕ, Bool, true, false, not, List, length, inl, inr, refl, sym, ap, subst, take, arith}
+use Rattle.std.specs.Prelude.{Err, IfOk, IfSome, IsSomeAnd, None, Ok, Option, Result, Some, replicate, if◌then◌else◌}
+use Rattle.std.proofs.lemmas.Bool.{and_from, and_parts, both_ways, cases_lt, false≢true}
+use Rattle.dg_io.specs.Told.{Extended, FitsIn, IsSame, Patched, Told}
+use Rattle.dg_io.specs.declared.outside.Rack.{Ghosts}
+use Rattle.dg_label.specs.Labels.{AreNumbers, AreNumbersOf, HasLength, IsLabeled, StandsLabeled, next_number}
+use Rattle.dg_label.specs.Passes.{AreWhole, Passes, numbered}
+use Rattle.dg_label.specs.Seals.{HasGood, HasNoGood, KeepsArray, OpensSeal, saved_label}
+use Rattle.dg_label.specs.declared.labels.KeptLabel.{KeptLabel}
+use Rattle.dg_label.proofs.ByteLaws.{body_stays, body_there, extended_long, front_there, label_long, patched_long}
+use Rattle.dg_label.proofs.PassLaws.{filling_kept, good_kept, good_or_filling, stood_kept}
+use Rattle.dg_model.specs.Members.{is_filling, is_good, partner_of}
+use Rattle.dg_model.specs.Saves.{BeginsWith, HasBody, IsLabel, Label, body_place, label_bytes, member_length, room_of}
+use Rattle.dg_model.specs.Seals.{LastLabel, label_after, label_on}
+use Rattle.dg_model.specs.Shapes.{IsShape}
+use Rattle.dg_model.specs.States.{IsLeastLost}
+use Rattle.dg_model.specs.declared.members.MemberState.TheVariants.{Good, Out}
+use Rattle.dg_model.specs.declared.shapes.Shape.{Shape}
+use Rattle.std.proofs.lemmas.List.{length-replicate}
+use Rattle.dg_model.specs.Tables.{Table}
+use Rattle.dg_model.specs.declared.failures.NoMemory.{NoMemory}
+use Rattle.dg_store.specs.Answers.{IsBlankStore}
+use Rattle.dg_store.specs.Leaves.{HasWritten}
+use Rattle.dg_store.specs.Stores.{IsSound, members_of, rack_of, shape_of}
+use Rattle.dg_store.specs.declared.store.Store.{Store}
+
+-- ---- bytes that may be told
+
+told_with : (P : List ℕ → Type 0) (Q : List ℕ → Type 0) (change : List ℕ → List ℕ → Type 0) (a b : Option (List ℕ))
+    → ((x y : List ℕ) → change x y → P x → Q y) → Told change a b → IfSome a P → IfSome b Q
+told_with P Q change a None step changed had = tt
+told_with P Q change None (Some y) step changed had = absurd changed
+told_with P Q change (Some x) (Some y) step changed had = step x y changed had
+
+both : (P Q : List ℕ → Type 0) (a : Option (List ℕ)) → IfSome a P → IfSome a Q → IfSome a (λ x. P x × Q x)
+both P Q None p q = tt
+both P Q (Some x) p q = (p, q)
+
+weaker : (P Q : List ℕ → Type 0) (a : Option (List ℕ)) → ((x : List ℕ) → P x → Q x) → IfSome a P → IfSome a Q
+weaker P Q None step p = tt
+weaker P Q (Some x) step p = step x p
+
+pub flipped : (b : Bool) → not b ≡ false → b ≡ true
+flipped true e = refl
+flipped false e = sym e
+
+-- ---- numbers
+
+pub next_first : (label : Option KeptLabel) → 1 ≤ next_number label
+next_first None = omega arith
+next_first (Some kept) = omega arith
+
+is_label : (shape : Shape) (kept : KeptLabel) (q : ℕ) → IsShape shape → AreNumbers shape kept → q / 2 < shape.b → IsLabel (numbered shape kept q)
+is_label shape kept q is numbers within = record {
+  formats = numbers.formats;
+  first = numbers.first;
+  last = numbers.last;
+  shape = is;
+  boundary = within;
+  side = omega arith;
+  body = numbers.body;
+}
+
+label_same : (shape : Shape) (last : LastLabel) (kept : KeptLabel) (q : ℕ) → AreNumbersOf last kept → numbered shape kept q ≡ label_on shape last q
+label_same shape last kept q same = λ i. record {
+  format = sym same.format i;
+  sequence = sym same.sequence i;
+  sealed = sym same.sealed i;
+  boundary = q / 2;
+  side = q % 2;
+  shape = shape;
+  body = sym same.body i;
+}
+
+module _ {R : Type 0} (rack : Ghosts R) where
+  -- ---- which members there are
+
+  good_within : (a : Store R) (q : ℕ) → IsSound rack a → is_good (members_of a q) ≡ true → q / 2 < (shape_of a).b
+  good_within a q sound good = elim (cases_lt (q / 2) (shape_of a).b) [
+    | inl low ↦ low
+    | inr high ↦ absurd (false≢true (sym (ap is_good (sound.others q high)) ∙ good))
+  ]
+
+  -- a good member stands
+  good_stands : (a : Store R) (q : ℕ) → is_good (members_of a q) ≡ true → members_of a q ≢ Out
+  good_stands a q good out = false≢true (sym (ap is_good out) ∙ good)
+
+  filling_stands : (a : Store R) (q : ℕ) → is_filling (members_of a q) ≡ true → members_of a q ≢ Out
+  filling_stands a q filling out = false≢true (sym (ap is_filling out) ∙ filling)
+
+  -- where none is good, none stands
+  none_stands : (a : Store R) → IsSound rack a → HasNoGood a → (q : ℕ) → members_of a q ≢ Out → ⊥
+  none_stands a sound none q stands = elim (good_or_filling (members_of a q) stands) [
+    | inl good ↦ both_ways (is_good (members_of a q)) (none q) good
+    | inr filling ↦ both_ways (is_good (members_of a (partner_of q))) (none (partner_of q)) (sound.paired q filling)
+  ]
+
+  -- where each good member below the last was called so, one that is good was
+  pub some_wrote : (P : Type 0) (a : Store R) (n : ℕ) → IsSound rack a → 2 * (shape_of a).b ≤ n → ((q : ℕ) → q < n → is_good (members_of a q) ≡ true → P)
+      → HasGood a → P
+  some_wrote P a n sound past each has = each has.0 (let low = good_within a has.0 sound has.1 in omega (arith, low, past)) has.1
+
+  pub none_past : (a : Store R) (n : ℕ) → IsSound rack a → 2 * (shape_of a).b ≤ n → ((q : ℕ) → q < n → is_good (members_of a q) ≡ false) → HasNoGood a
+  none_past a n sound past none q = elim (cases_lt q n) [
+    | inl low ↦ none q low
+    | inr high ↦ ap is_good (sound.others q (omega (arith, past, high)))
+  ]
+
+  -- ---- how long members are
+
+  -- each member that is good, and tells its bytes, has this body
+  abbrev HaveBody : Store R → List ℕ → Type 0
+  HaveBody store body = (q : ℕ) → is_good (members_of store q) ≡ true → IfSome (rack.bytes (rack_of store) q) (λ all. HasBody all (shape_of store) body)
+
+  -- a label has room on each good member
+  pub has_front : (a : Store R) (q : ℕ) → IsSound rack a → is_good (members_of a q) ≡ true → IfSome (rack.bytes (rack_of a) q) (λ all. 512 ≤ length all)
+  has_front a q sound good =
+      weaker (λ all. member_length 1 (shape_of a) ≤ length all) (λ all. 512 ≤ length all) (rack.bytes (rack_of a) q) (λ all long. omega (arith, long))
+      (sound.long q (good_stands a q good))
+
+  -- so has a body, where members are whole
+  pub has_place : (a : Store R) (body : List ℕ) (q : ℕ) → AreWhole rack a → length body ≤ room_of 2 (shape_of a) → is_good (members_of a q) ≡ true
+      → IfSome (rack.bytes (rack_of a) q) (λ all. body_place (shape_of a) + length body ≤ length all)
+  has_place a body q whole room good =
+      weaker (λ all. length all ≡ member_length 2 (shape_of a)) (λ all. body_place (shape_of a) + length body ≤ length all) (rack.bytes (rack_of a) q)
+      (λ all long. omega (arith, long, room))
+      (whole q (good_stands a q good))
+
+  -- what holds of the length of each member that stands, holds after such a pass that keeps lengths
+  lengths_stay : (P : ℕ → Type 0) (change : ℕ → List ℕ → List ℕ → Type 0) (Fits : ℕ → List ℕ → Type 0) (a b : Store R) → IsSound rack a
+      → Passes rack (2 * (shape_of a).b) change a b
+      → ((q : ℕ) (x y : List ℕ) → change q x y → Fits q x → length y ≡ length x)
+      → ((q : ℕ) → is_good (members_of a q) ≡ true → IfSome (rack.bytes (rack_of a) q) (Fits q))
+      → (q : ℕ) → members_of b q ≢ Out → IfSome (rack.bytes (rack_of a) q) (λ all. P (length all)) → IfSome (rack.bytes (rack_of b) q) (λ all. P (length all))
+  lengths_stay P change Fits a b sound passes keeps fits q stands had = elim (good_or_filling (members_of b q) stands) [
+    | inl good ↦
+        let was = good_kept rack a b q passes.array good in
+        let within = good_within a q sound was in
+        told_with (λ all. P (length all) × Fits q all) (λ all. P (length all)) (change q) (rack.bytes (rack_of a) q) (rack.bytes (rack_of b) q)
+        (λ x y changed h. subst P (sym (keeps q x y changed h.1)) h.0) (passes.done q (omega (arith, within)) good)
+        (both (λ all. P (length all)) (Fits q) (rack.bytes (rack_of a) q) had (fits q was))
+    | inr filling ↦
+        told_with (λ all. P (length all)) (λ all. P (length all)) IsSame (rack.bytes (rack_of a) q) (rack.bytes (rack_of b) q)
+        (λ x y same h. subst (λ (xs : List ℕ). P (length xs)) (sym same) h) (passes.filling q filling) had
+  ]
+
+  -- no good member is longer than format 2 says
+  pub fits_whole : (a : Store R) (kept : Option KeptLabel) → IsLabeled rack a kept → (q : ℕ) → is_good (members_of a q) ≡ true
+      → IfSome (rack.bytes (rack_of a) q) (FitsIn (member_length 2 (shape_of a)))
+  fits_whole a kept labeled q good =
+      weaker (λ all. HasLength (shape_of a) kept (length all)) (FitsIn (member_length 2 (shape_of a))) (rack.bytes (rack_of a) q)
+      (λ all long. elim long [ inl same ↦ omega (arith, same) | inr old ↦ let size = old.1 in omega (arith, size) ])
+      (labeled.lengths q (good_stands a q good))
+
+  -- members are whole beneath a label that isn't of format 1
+  pub whole_by : (a : Store R) (kept : Option KeptLabel) → IsLabeled rack a kept → (IsSomeAnd kept (λ k. k.format ≡ 1) → ⊥) → AreWhole rack a
+  whole_by a kept labeled other q stands =
+      weaker (λ all. HasLength (shape_of a) kept (length all)) (λ all. length all ≡ member_length 2 (shape_of a)) (rack.bytes (rack_of a) q)
+      (λ all long. elim long [ inl same ↦ same | inr old ↦ absurd (other old.0) ])
+      (labeled.lengths q stands)
+
+  module _ (a b : Store R) (sound : IsSound rack a) where
+    abbrev Labels : KeptLabel → Type 0
+    Labels kept = Passes rack (2 * (shape_of a).b) (λ (q : ℕ). Patched 0 (label_bytes (numbered (shape_of a) kept q))) a b
+
+    label_lengths : (P : ℕ → Type 0) (kept : KeptLabel) → Labels kept → (q : ℕ) → members_of b q ≢ Out
+        → IfSome (rack.bytes (rack_of a) q) (λ all. P (length all)) → IfSome (rack.bytes (rack_of b) q) (λ all. P (length all))
+    label_lengths P kept passes =
+        lengths_stay P (λ (q : ℕ). Patched 0 (label_bytes (numbered (shape_of a) kept q))) (λ q all. 512 ≤ length all) a b sound passes
+        (λ q x y changed fits. patched_long 0 (label_bytes (numbered (shape_of a) kept q)) x y changed (omega (arith, fits, label_long (numbered (shape_of a) kept q))))
+        (λ q good. has_front a q sound good)
+
+    -- each good member has the label
+    have_labels : (kept : KeptLabel) → AreNumbers (shape_of a) kept → Labels kept → (q : ℕ) → is_good (members_of b q) ≡ true
+        → IfSome (rack.bytes (rack_of b) q) (λ all. BeginsWith all (numbered (shape_of b) kept q))
+    have_labels kept numbers passes q good =
+        let within = good_within a q sound (good_kept rack a b q passes.array good) in
+        subst (λ (sh : Shape). IfSome (rack.bytes (rack_of b) q) (λ all. BeginsWith all (numbered sh kept q))) (sym passes.array.stays.shape)
+        (told_with (λ all. 512 ≤ length all) (λ all. BeginsWith all (numbered (shape_of a) kept q)) (Patched 0 (label_bytes (numbered (shape_of a) kept q)))
+        (rack.bytes (rack_of a) q) (rack.bytes (rack_of b) q)
+        (λ x y changed fits. record {
+          is = is_label (shape_of a) kept q sound.table.shape numbers within;
+          bytes = ap (λ (xs : List ℕ). take 512 xs) changed ∙ front_there (label_bytes (numbered (shape_of a) kept q)) x (label_long (numbered (shape_of a) kept q));
+        })
+        (passes.done q (omega (arith, within)) good) (has_front a q sound (good_kept rack a b q passes.array good)))
+
+    -- and the body that it had
+    have_body : (kept : KeptLabel) (body : List ℕ) → Labels kept → HaveBody a body → HaveBody b body
+    have_body kept body passes had q good =
+        let was = good_kept rack a b q passes.array good in
+        let within = good_within a q sound was in
+        subst (λ (sh : Shape). IfSome (rack.bytes (rack_of b) q) (λ all. HasBody all sh body)) (sym passes.array.stays.shape)
+        (told_with (λ all. HasBody all (shape_of a) body) (λ all. HasBody all (shape_of a) body) (Patched 0 (label_bytes (numbered (shape_of a) kept q)))
+        (rack.bytes (rack_of a) q) (rack.bytes (rack_of b) q)
+        (λ x y changed h. body_stays (shape_of a) body (label_bytes (numbered (shape_of a) kept q)) x y (label_long (numbered (shape_of a) kept q)) changed h)
+        (passes.done q (omega (arith, within)) good) (had q was))
+
+    labeled_after : (kept : KeptLabel) (next : KeptLabel) → next.format ≡ kept.format → AreNumbers (shape_of a) next → IsLabeled rack a (Some kept) → Labels next
+        → IsLabeled rack b (Some next)
+    labeled_after kept next format numbers labeled passes = record {
+      numbers = subst (λ (sh : Shape). AreNumbers sh next) (sym passes.array.stays.shape) numbers;
+      lengths = λ q stands.
+          subst (λ (sh : Shape). IfSome (rack.bytes (rack_of b) q) (λ all. HasLength sh (Some next) (length all))) (sym passes.array.stays.shape)
+          (label_lengths (HasLength (shape_of a) (Some next)) next passes q stands
+          (subst (λ (f : ℕ). IfSome (rack.bytes (rack_of a) q) (λ all. HasLength (shape_of a) (Some (record kept { format = f })) (length all))) (sym format)
+          (labeled.lengths q (stood_kept rack a b q passes.array stands))));
+      filling = λ q filling.
+          subst (λ (sh : Shape). IfSome (rack.bytes (rack_of b) q) (λ all. length all ≡ member_length 2 sh)) (sym passes.array.stays.shape)
+          (label_lengths (λ size. size ≡ member_length 2 (shape_of a)) next passes q (filling_stands b q filling)
+          (labeled.filling q (filling_kept rack a b q passes.array filling)));
+    }
+
+    -- ---- opening a seal
+
+    -- the last label once its seal is opened
+    abbrev opened : LastLabel → LastLabel
+    opened last = record last { sealed = false; keepers = λ q. (last.sealed || last.keepers q) && (is_good (members_of a q) && is_good (members_of b q)) }
+
+    opens_all : (last : LastLabel) (s : Bool) → (if s && not true then last else opened last) ≡ opened last
+    opens_all last true = refl
+    opens_all last false = refl
+
+    opened_stands : (kept : KeptLabel) (last : LastLabel) → AreNumbers (shape_of a) kept → Labels (record kept { sealed = false }) → AreNumbersOf last kept
+        → StandsLabeled rack b (Some (record kept { sealed = false })) (Some (opened last))
+    opened_stands kept last numbers passes same =
+        let next : KeptLabel = record kept { sealed = false } in
+        let next_numbers : AreNumbers (shape_of a) next = record { formats = numbers.formats; first = numbers.first; last = numbers.last; body = numbers.body } in
+        let of_next : AreNumbersOf (opened last) next = record { format = same.format; sequence = same.sequence; sealed = refl; body = same.body } in
+        record {
+          kept = of_next;
+          holds = record {
+            label = λ q keeps.
+                let parts = and_parts (last.sealed || last.keepers q) (is_good (members_of a q) && is_good (members_of b q)) keeps in
+                let good = (and_parts (is_good (members_of a q)) (is_good (members_of b q)) parts.1).1 in
+                subst (λ (l : Label). IfSome (rack.bytes (rack_of b) q) (λ all. BeginsWith all l)) (label_same (shape_of b) (opened last) next q of_next)
+                (have_labels next next_numbers passes q good);
+            body = λ q keeps sealed. absurd (false≢true sealed);
+          };
+        }
+
+    pub opens_seal : (kept : KeptLabel) → kept.sealed ≡ true → IsLabeled rack a (Some kept) → Labels (record kept { sealed = false })
+        → (HasGood a → HasWritten rack a b) → OpensSeal rack a b (Some kept) (Some (record kept { sealed = false }))
+    opens_seal kept is labeled passes wrote =
+        let n = labeled.numbers in
+        let next : KeptLabel = record kept { sealed = false } in
+        let next_numbers : AreNumbers (shape_of a) next = record { formats = n.formats; first = n.first; last = n.last; body = n.body } in
+        record {
+          array = passes.array;
+          labeled = labeled_after kept next refl next_numbers labeled passes;
+          after_is = refl;
+          quiet = λ other. absurd (false≢true (sym other ∙ is));
+          stands = λ last sealed stands. at_last last stands;
+          wrote = λ sealed has. wrote has;
+          most = passes.most;
+        }
+      where
+        at_last : (last : Option LastLabel) → StandsLabeled rack a (Some kept) last
+            → StandsLabeled rack b (Some (record kept { sealed = false })) (label_after true (members_of a) (members_of b) last)
+        at_last None stands = absurd stands.kept
+        at_last (Some last) stands =
+            subst (λ (l : LastLabel). StandsLabeled rack b (Some (record kept { sealed = false })) (Some l)) (sym (opens_all last last.sealed))
+            (opened_stands kept last labeled.numbers passes stands.kept)
+
+    -- ---- saving
+
+    -- the body, behind the slots of each good member
+    pub have_bodies : (body : List ℕ) → AreWhole rack a → length body ≤ room_of 2 (shape_of a)
+        → Passes rack (2 * (shape_of a).b) (λ (q : ℕ). Patched (body_place (shape_of a)) body) a b → HaveBody b body
+    have_bodies body whole room passes q good =
+        let was = good_kept rack a b q passes.array good in
+        let within = good_within a q sound was in
+        subst (λ (sh : Shape). IfSome (rack.bytes (rack_of b) q) (λ all. HasBody all sh body)) (sym passes.array.stays.shape)
+        (told_with (λ all. body_place (shape_of a) + length body ≤ length all) (λ all. HasBody all (shape_of a) body) (Patched (body_place (shape_of a)) body)
+        (rack.bytes (rack_of a) q) (rack.bytes (rack_of b) q) (λ x y changed fits. body_there (shape_of a) body x y changed fits)
+        (passes.done q (omega (arith, within)) good) (has_place a body q whole room was))
+
+    whole_moves : ((q : ℕ) → members_of b q ≢ Out → IfSome (rack.bytes (rack_of b) q) (λ all. length all ≡ member_length 2 (shape_of a)))
+        → shape_of b ≡ shape_of a → AreWhole rack b
+    whole_moves long same q stands =
+        subst (λ (sh : Shape). IfSome (rack.bytes (rack_of b) q) (λ all. length all ≡ member_length 2 sh)) (sym same) (long q stands)
+
+    -- members that are whole stay so where bodies are written
+    pub whole_bodies : (body : List ℕ) → AreWhole rack a → length body ≤ room_of 2 (shape_of a)
+        → Passes rack (2 * (shape_of a).b) (λ (q : ℕ). Patched (body_place (shape_of a)) body) a b → AreWhole rack b
+    whole_bodies body whole room passes =
+        whole_moves
+        (λ q stands. lengths_stay (λ size. size ≡ member_length 2 (shape_of a)) (λ (q : ℕ). Patched (body_place (shape_of a)) body)
+        (λ q all. body_place (shape_of a) + length body ≤ length all) a b sound passes (λ q x y changed fits. patched_long (body_place (shape_of a)) body x y changed fits)
+        (λ q good. has_place a body q whole room good) q stands (whole q (stood_kept rack a b q passes.array stands)))
+        passes.array.stays.shape
+
+    -- and where labels are
+    whole_labels : (kept : KeptLabel) → AreWhole rack a → Labels kept → AreWhole rack b
+    whole_labels kept whole passes =
+        whole_moves
+        (λ q stands. label_lengths (λ size. size ≡ member_length 2 (shape_of a)) kept passes q stands (whole q (stood_kept rack a b q passes.array stands)))
+        passes.array.stays.shape
+
+    -- beneath a label of format 1 members are made whole
+    pub whole_extended : (kept : Option KeptLabel) → IsLabeled rack a kept
+        → Passes rack (2 * (shape_of a).b) (λ (q : ℕ). Extended (member_length 2 (shape_of a))) a b → AreWhole rack b
+    whole_extended kept labeled passes = whole_moves long passes.array.stays.shape
+      where
+        long : (q : ℕ) → members_of b q ≢ Out → IfSome (rack.bytes (rack_of b) q) (λ all. length all ≡ member_length 2 (shape_of a))
+        long q stands = elim (good_or_filling (members_of b q) stands) [
+          | inl good ↦
+              let was = good_kept rack a b q passes.array good in
+              let within = good_within a q sound was in
+              told_with (FitsIn (member_length 2 (shape_of a))) (λ all. length all ≡ member_length 2 (shape_of a)) (Extended (member_length 2 (shape_of a)))
+              (rack.bytes (rack_of a) q) (rack.bytes (rack_of b) q) (λ x y changed fits. extended_long (member_length 2 (shape_of a)) x y changed fits)
+              (passes.done q (omega (arith, within)) good) (fits_whole a kept labeled q was)
+          | inr filling ↦
+              told_with (λ all. length all ≡ member_length 2 (shape_of a)) (λ all. length all ≡ member_length 2 (shape_of a)) IsSame
+              (rack.bytes (rack_of a) q) (rack.bytes (rack_of b) q) (λ x y same h. ap length same ∙ h) (passes.filling q filling)
+              (labeled.filling q (filling_kept rack a b q passes.array filling))
+        ]
+
+    -- what a save leaves on members that have the body already
+    pub saved : (body : List ℕ) (kept : KeptLabel) → kept.format ≡ 2 → kept.sealed ≡ true → kept.body ≡ length body → 1 ≤ kept.sequence → kept.sequence < 2 ^ 63
+        → length body ≤ room_of 2 (shape_of a) → AreWhole rack a → HaveBody a body → Labels kept
+        → IsLabeled rack b (Some kept) × StandsLabeled rack b (Some kept) (Some (saved_label b kept.sequence body))
+    saved body kept format sealed size first last room whole had passes =
+        let numbers : AreNumbers (shape_of a) kept = record {
+          formats = inr format;
+          first = first;
+          last = last;
+          body = subst (λ (f : ℕ). kept.body ≤ room_of f (shape_of a)) (sym format) (omega (arith, size, room));
+        } in
+        let is_whole = whole_labels kept whole passes in
+        let of_kept : AreNumbersOf (saved_label b kept.sequence body) kept = record { format = sym format; sequence = refl; sealed = sym sealed; body = sym size } in (
+          record {
+            numbers = subst (λ (sh : Shape). AreNumbers sh kept) (sym passes.array.stays.shape) numbers;
+            lengths = λ q stands.
+                weaker (λ all. length all ≡ member_length 2 (shape_of b)) (λ all. HasLength (shape_of b) (Some kept) (length all)) (rack.bytes (rack_of b) q)
+                (λ all long. inl long) (is_whole q stands);
+            filling = λ q filling. is_whole q (filling_stands b q filling);
+          },
+          record {
+            kept = of_kept;
+            holds = record {
+              label = λ q good.
+                  subst (λ (l : Label). IfSome (rack.bytes (rack_of b) q) (λ all. BeginsWith all l)) (label_same (shape_of b) (saved_label b kept.sequence body) kept q of_kept)
+                  (have_labels kept numbers passes q good);
+              body = λ q good is. have_body kept body passes had q good;
+            };
+          },
+        )
+
+  -- what a save leaves once members are whole: bodies are written, and then labels
+  pub save_stands : (a b c : Store R) (body : List ℕ) (kept : KeptLabel) → IsSound rack a → AreWhole rack a → length body ≤ room_of 2 (shape_of a)
+      → Passes rack (2 * (shape_of a).b) (λ (q : ℕ). Patched (body_place (shape_of a)) body) a b
+      → Passes rack (2 * (shape_of b).b) (λ (q : ℕ). Patched 0 (label_bytes (numbered (shape_of b) kept q))) b c
+      → kept.format ≡ 2 → kept.sealed ≡ true → kept.body ≡ length body → 1 ≤ kept.sequence → kept.sequence < 2 ^ 63
+      → IsLabeled rack c (Some kept) × StandsLabeled rack c (Some kept) (Some (saved_label c kept.sequence body))
+  save_stands a b c body kept sound whole room bodies labels format sealed size first last =
+      saved b c bodies.array.sound body kept format sealed size first last (subst (λ (sh : Shape). length body ≤ room_of 2 sh) (sym bodies.array.stays.shape) room)
+      (whole_bodies a b sound body whole room bodies) (have_bodies a b sound body whole room bodies) labels
+
+  -- a label stays that of an array none of whose members stands
+  pub none_labeled : (a b : Store R) (kept : Option KeptLabel) → IsLabeled rack a kept → KeepsArray rack a b → HasNoGood b → IsLabeled rack b kept
+  none_labeled a b kept labeled keeps none = record {
+    numbers = subst (λ (sh : Shape). IfSome kept (AreNumbers sh)) (sym keeps.stays.shape) labeled.numbers;
+    lengths = λ q stands. absurd (none_stands b keeps.sound none q stands);
+    filling = λ q filling. absurd (none_stands b keeps.sound none q (filling_stands b q filling));
+  }
+
+  pub all_lost : (b : Store R) → IsSound rack b → HasNoGood b → IsLeastLost (shape_of b) (members_of b) 0
+  all_lost b sound none = record {
+    within = omega (arith, sound.table.shape.least_boundaries);
+    lost = and_from (not (is_good (members_of b (2 * 0)))) (not (is_good (members_of b (2 * 0 + 1)))) (ap not (none (2 * 0))) (ap not (none (2 * 0 + 1)));
+    least = λ t low. absurd (omega (arith, low));
+  }
+
+-- ---- a blank array
+
+module _ {R : Type 0} (rack : Ghosts R) where
+  blank_good : (shape : Shape) (before : R) (store : Store R) → IsBlankStore rack shape before store → (q : ℕ) → members_of store q ≢ Out
+      → members_of store q ≡ Good
+  blank_good shape before store blank q stands = elim (cases_lt (q / 2) shape.b) [
+    | inl low ↦ elim (blank.members.begins q low) [ inl good ↦ good | inr out ↦ absurd (stands out.0) ]
+    | inr high ↦ absurd (stands (blank.members.others q high))
+  ]
+
+  blank_long : (shape : Shape) (before : R) (store : Store R) → IsBlankStore rack shape before store → (q : ℕ) → members_of store q ≢ Out
+      → IfSome (rack.bytes (rack_of store) q) (λ all. length all ≡ member_length 2 (shape_of store))
+  blank_long shape before store blank q stands =
+      subst (λ (sh : Shape). IfSome (rack.bytes (rack_of store) q) (λ all. length all ≡ member_length 2 sh)) (sym (ap (λ (t : Table). t.shape) blank.table))
+      (weaker (λ all. all ≡ replicate (member_length 2 shape) 0) (λ all. length all ≡ member_length 2 shape) (rack.bytes (rack_of store) q)
+      (λ all zeros. ap length zeros ∙ length-replicate {A = ℕ} (member_length 2 shape) 0)
+      (blank.blanked q (blank_good shape before store blank q stands)))
+
+  blank_labeled : (shape : Shape) (before : R) (store : Store R) → IsBlankStore rack shape before store → IsLabeled rack store None
+  blank_labeled shape before store blank = record {
+    numbers = tt;
+    lengths = λ q stands.
+        weaker (λ all. length all ≡ member_length 2 (shape_of store)) (λ all. HasLength (shape_of store) None (length all)) (rack.bytes (rack_of store) q)
+        (λ all long. inl long) (blank_long shape before store blank q stands);
+    filling = λ q filling. blank_long shape before store blank q (filling_stands rack store q filling);
+  }
+
+  pub made_sound : (shape : Shape) (before : R) (r : Result (Store R) NoMemory) → IfOk r (λ store. IsBlankStore rack shape before store) → IfOk r (λ store. IsSound rack store)
+  made_sound shape before (Ok store) blank = blank.sound
+  made_sound shape before (Err e) blank = tt
+
+  pub made_labeled : (shape : Shape) (before : R) (r : Result (Store R) NoMemory) → IfOk r (λ store. IsBlankStore rack shape before store)
+      → IfOk r (λ store. IsLabeled rack store None)
+  made_labeled shape before (Ok store) blank = blank_labeled shape before store blank
+  made_labeled shape before (Err e) blank = tt

@@ -1,0 +1,3 @@
+mod ByteLaws
+mod LabelLaws
+mod PassLaws

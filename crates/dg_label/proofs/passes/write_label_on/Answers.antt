@@ -1,0 +1,43 @@
+use Rattle.std.proofs.Common.{◌≡◌, ◌+◌, ◌*◌, ◌/◌, ◌%◌, List, ℕ, arith, subst}
+use Rattle.dg_io.specs.Told.{Patched}
+use Rattle.dg_model.specs.Saves.{label_bytes}
+use Rattle.dg_store.specs.Leaves.{BytesChange}
+use Rattle.dg_store.specs.Stores.{shape_of}
+use Rattle.dg_label.specs.Passes.{numbered}
+use Rattle.dg_label.specs.Seals.{KeepsArray}
+use Rattle.dg_label.proofs.PassLaws.{bad_by_note, good_by_note, touched_by_note, wrote_by_note}
+use Rattle.dg_label.proofs.passes.write_label_on.Goals as goal
+
+pub returns-in_default : goal.returns-in_default
+returns-in_default g c =
+    let q = c.args.member in
+    let a = c.args.store.now in
+    let b = c.note.new.self in
+    let at : 2 * (q / 2) + q % 2 ≡ q = omega arith in
+    let e = rw at at c.note.ensures in
+    let page : c.write_label.new.buf ≡ label_bytes (numbered (shape_of a) c.args.kept.now q) = rw c.shape.ensures at c.write_label.ensures in
+    let change : List ℕ → List ℕ → Type 0 = Patched 0 (label_bytes (numbered (shape_of a) c.args.kept.now q)) in
+    let array : KeepsArray g.R.Rack a b = record { sound = e.sound; stays = e.stays; table = e.table; falls = e.falls; stands = e.stands } in
+    record {
+      touches = touched_by_note g.R.Rack q change a b array e.other_bytes e.most c.note.result e.not_good e.kept e.fell
+          (λ is. subst (λ (xs : List ℕ). BytesChange g.R.Rack a b q (Patched 0 xs)) page (e.patched is)) e.quiet;
+      good = bad_by_note g.R.Rack q change a b array e.other_bytes e.most c.note.result c.in_default.not-Noted e.not_good e.kept e.fell;
+      wrote = wrote_by_note g.R.Rack q change a b array e.other_bytes e.most c.note.result e.not_good e.written e.tried;
+    }
+
+pub returns-in-Noted : goal.returns-in-Noted
+returns-in-Noted g c =
+    let q = c.args.member in
+    let a = c.args.store.now in
+    let b = c.note.new.self in
+    let at : 2 * (q / 2) + q % 2 ≡ q = omega arith in
+    let e = rw at at c.note.ensures in
+    let page : c.write_label.new.buf ≡ label_bytes (numbered (shape_of a) c.args.kept.now q) = rw c.shape.ensures at c.write_label.ensures in
+    let change : List ℕ → List ℕ → Type 0 = Patched 0 (label_bytes (numbered (shape_of a) c.args.kept.now q)) in
+    let array : KeepsArray g.R.Rack a b = record { sound = e.sound; stays = e.stays; table = e.table; falls = e.falls; stands = e.stands } in
+    record {
+      touches = touched_by_note g.R.Rack q change a b array e.other_bytes e.most c.note.result e.not_good e.kept e.fell
+          (λ is. subst (λ (xs : List ℕ). BytesChange g.R.Rack a b q (Patched 0 xs)) page (e.patched is)) e.quiet;
+      good = good_by_note g.R.Rack q change a b array e.other_bytes e.most c.note.result c.in-Noted.is e.not_good e.kept;
+      wrote = wrote_by_note g.R.Rack q change a b array e.other_bytes e.most c.note.result e.not_good e.written e.tried;
+    }

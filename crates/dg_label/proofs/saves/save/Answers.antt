@@ -1,0 +1,54 @@
+use Rattle.std.proofs.Common.{◌≡◌, ◌∙◌, ◌≤◌, length, refl, subst, sym, true, arith}
+use Rattle.dg_label.specs.declared.labels.KeptLabel.{KeptLabel}
+use Rattle.dg_label.proofs.LabelLaws.{all_lost, next_first, none_labeled, save_stands}
+use Rattle.dg_label.proofs.PassLaws.{keeps_both}
+use Rattle.dg_model.specs.Saves.{room_of}
+use Rattle.dg_model.specs.declared.shapes.Shape.{Shape}
+use Rattle.dg_store.specs.Stores.{shape_of}
+use Rattle.dg_label.proofs.saves.save.Goals as goal
+
+pub returns-then-not-write_labels-clause-array : goal.returns-then-not-write_labels-clause-array
+returns-then-not-write_labels-clause-array g c =
+    keeps_both g.R.Rack _ _ _ c.open_seal.ensures.array
+    (keeps_both g.R.Rack _ _ _ c.lengthen.ensures.array (keeps_both g.R.Rack _ _ _ c.write_bodies.ensures.array c.write_labels.ensures.passes.array))
+
+pub returns-then-not-write_labels-clause-labeled : goal.returns-then-not-write_labels-clause-labeled
+returns-then-not-write_labels-clause-labeled g c =
+    let keeps =
+    keeps_both g.R.Rack c.args.store.now c.open_seal.new.store c.write_labels.new.store c.open_seal.ensures.array
+    (keeps_both g.R.Rack _ c.lengthen.new.store _ c.lengthen.ensures.array
+    (keeps_both g.R.Rack _ c.write_bodies.new.store _ c.write_bodies.ensures.array c.write_labels.ensures.passes.array)) in
+    none_labeled g.R.Rack c.args.store.now c.write_labels.new.store c.args.label.now c.requires.labeled keeps (c.write_labels.ensures.none c.if-not-write_labels.true)
+
+pub returns-then-not-write_labels-clause-answer : goal.returns-then-not-write_labels-clause-answer
+returns-then-not-write_labels-clause-answer g c =
+    let none = c.write_labels.ensures.none c.if-not-write_labels.true in
+    (none, all_lost g.R.Rack c.write_labels.new.store c.write_labels.ensures.passes.array.sound none, refl)
+
+pub returns-clause-array : goal.returns-clause-array
+returns-clause-array g c =
+    keeps_both g.R.Rack _ _ _ c.open_seal.ensures.array
+    (keeps_both g.R.Rack _ _ _ c.lengthen.ensures.array (keeps_both g.R.Rack _ _ _ c.write_bodies.ensures.array c.write_labels.ensures.passes.array))
+
+pub returns-clause-labeled : goal.returns-clause-labeled
+returns-clause-labeled g c =
+    let body = c.args.body.now in
+    let kept : KeptLabel = record { format = 2; sequence = c.number_after-sequence.result; sealed = true; body = length body } in
+    let same : shape_of c.lengthen.new.store ≡ shape_of c.args.store.now = c.lengthen.ensures.array.stays.shape ∙ c.open_seal.ensures.array.stays.shape in
+    let room : length body ≤ room_of 2 (shape_of c.lengthen.new.store) = subst (λ (sh : Shape). length body ≤ room_of 2 sh) (sym same) c.requires.body in
+    let first : 1 ≤ c.number_after-sequence.result = subst (λ n. 1 ≤ n) (sym c.number_after-sequence.ensures) (next_first c.args.label.now) in
+    (save_stands g.R.Rack c.lengthen.new.store c.write_bodies.new.store c.write_labels.new.store body kept c.lengthen.ensures.array.sound c.lengthen.ensures.whole room
+    c.write_bodies.ensures c.write_labels.ensures.passes refl refl refl first (omega arith)).0
+
+pub returns-clause-answer : goal.returns-clause-answer
+returns-clause-answer g c =
+    let body = c.args.body.now in
+    let kept : KeptLabel = record { format = 2; sequence = c.number_after-sequence.result; sealed = true; body = length body } in
+    let same : shape_of c.lengthen.new.store ≡ shape_of c.args.store.now = c.lengthen.ensures.array.stays.shape ∙ c.open_seal.ensures.array.stays.shape in
+    let room : length body ≤ room_of 2 (shape_of c.lengthen.new.store) = subst (λ (sh : Shape). length body ≤ room_of 2 sh) (sym same) c.requires.body in
+    let first : 1 ≤ c.number_after-sequence.result = subst (λ n. 1 ≤ n) (sym c.number_after-sequence.ensures) (next_first c.args.label.now) in (
+      c.write_labels.ensures.some c.if-not-write_labels.false,
+      c.number_after-sequence.ensures,
+      (save_stands g.R.Rack c.lengthen.new.store c.write_bodies.new.store c.write_labels.new.store body kept c.lengthen.ensures.array.sound c.lengthen.ensures.whole room
+          c.write_bodies.ensures c.write_labels.ensures.passes refl refl refl first (omega arith)).1,
+    )

@@ -1,0 +1,69 @@
+-- What is kept of the last label of an array, beside the label of the model and the bytes of the members.
+use Rattle.std.specs.Prelude.{◌≡◌, ◌≢◌, ◌⊎◌, ◌+◌, ◌^◌, ◌<◌, ◌≤◌, ℕ, Bool, true, false, Option, Some, None, IfSome, IsSomeAnd, length}
+use Rattle.dg_io.specs.declared.outside.Rack.{Ghosts}
+use Rattle.dg_label.specs.declared.labels.KeptLabel.{KeptLabel}
+use Rattle.dg_model.specs.Members.{is_filling}
+use Rattle.dg_model.specs.Saves.{member_length, room_of}
+use Rattle.dg_model.specs.Seals.{HoldsLabel, LastLabel}
+use Rattle.dg_model.specs.declared.members.MemberState.TheVariants.{Out}
+use Rattle.dg_model.specs.declared.shapes.Shape.{Shape}
+use Rattle.dg_store.specs.Stores.{members_of, rack_of, shape_of}
+use Rattle.dg_store.specs.declared.store.Store.{Store}
+
+-- ---- numbers
+
+-- the numbers of a label on an array of this shape
+pub record AreNumbers (shape : Shape) (kept : KeptLabel) : Type 0 where
+  pub formats : (kept.format ≡ 1) ⊎ (kept.format ≡ 2)
+  pub first : 1 ≤ kept.sequence
+  pub last : kept.sequence < 2 ^ 63
+  pub body : kept.body ≤ room_of kept.format shape
+
+-- they are those of the last label of the model
+pub record AreNumbersOf (last : LastLabel) (kept : KeptLabel) : Type 0 where
+  pub format : last.format ≡ kept.format
+  pub sequence : last.sequence ≡ kept.sequence
+  pub sealed : last.sealed ≡ kept.sealed
+  pub body : length last.body ≡ kept.body
+
+-- there is no label, or these are its numbers
+abbrev pub IsKeptOf : Option LastLabel → Option KeptLabel → Type 0
+IsKeptOf None None = Unit {0}
+IsKeptOf None (Some kept) = ⊥
+IsKeptOf (Some last) None = ⊥
+IsKeptOf (Some last) (Some kept) = AreNumbersOf last kept
+
+-- there is a label, and it is sealed
+abbrev pub is_sealed : Option KeptLabel → Bool
+is_sealed None = false
+is_sealed (Some kept) = kept.sealed
+
+-- the label with its seal opened
+abbrev pub unsealed : Option KeptLabel → Option KeptLabel
+unsealed None = None
+unsealed (Some kept) = Some (record kept { sealed = false })
+
+-- the number of the next save
+abbrev pub next_number : Option KeptLabel → ℕ
+next_number None = 1
+next_number (Some kept) = kept.sequence + 1
+
+-- ---- members
+
+-- how long a member is that isn't out: as a label of format 2 says, or, beneath one of format 1, also as that says
+abbrev pub HasLength : Shape → Option KeptLabel → ℕ → Type 0
+HasLength shape label size =
+    (size ≡ member_length 2 shape) ⊎ (IsSomeAnd label (λ kept. kept.format ≡ 1) × (size ≡ member_length 1 shape))
+
+-- What holds between calls of a label beside an array: its numbers are in range, and each member that isn't out, and tells its bytes, is as
+-- long as they say. One that is refilled was blanked by this array, so it is as long as format 2 says.
+pub record IsLabeled {R : Type 0} (rack : Ghosts R) (store : Store R) (label : Option KeptLabel) : Type 0 where
+  pub numbers : IfSome label (AreNumbers (shape_of store))
+  pub lengths : (q : ℕ) → members_of store q ≢ Out → IfSome (rack.bytes (rack_of store) q) (λ all. HasLength (shape_of store) label (length all))
+  pub filling : (q : ℕ) → is_filling (members_of store q) ≡ true
+      → IfSome (rack.bytes (rack_of store) q) (λ all. length all ≡ member_length 2 (shape_of store))
+
+-- The label is the last one of the model, and the members that keep it, and tell their bytes, have it.
+pub record StandsLabeled {R : Type 0} (rack : Ghosts R) (store : Store R) (label : Option KeptLabel) (last : Option LastLabel) : Type 0 where
+  pub kept : IsKeptOf last label
+  pub holds : IfSome last (λ label. HoldsLabel (shape_of store) label (rack.bytes (rack_of store)))

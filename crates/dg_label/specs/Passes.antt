@@ -1,0 +1,48 @@
+-- What calls beside the slots leave of an array: one on a member, and one on each good member in turn.
+use Rattle.std.specs.Prelude.{◌≡◌, ◌≢◌, ◌≤◌, ◌<◌, ◌/◌, ◌%◌, ℕ, true, List, IfSome, length}
+use Rattle.dg_io.specs.Told.{IsSame}
+use Rattle.dg_io.specs.declared.outside.Rack.{Ghosts}
+use Rattle.dg_label.specs.Seals.{KeepsArray}
+use Rattle.dg_label.specs.declared.labels.KeptLabel.{KeptLabel}
+use Rattle.dg_model.specs.Members.{is_filling, is_good}
+use Rattle.dg_model.specs.Saves.{Label, member_length}
+use Rattle.dg_model.specs.declared.members.MemberState.TheVariants.{Out}
+use Rattle.dg_model.specs.declared.shapes.Shape.{Shape}
+use Rattle.dg_store.specs.Leaves.{BytesChange, CallsAtMost, OnlyBytesOf}
+use Rattle.dg_store.specs.Stores.{members_of, rack_of, shape_of}
+use Rattle.dg_store.specs.declared.store.Store.{Store}
+
+-- the label of these numbers, as it stands on member q
+abbrev pub numbered : Shape → KeptLabel → ℕ → Label
+numbered shape kept q = record {
+  format = kept.format;
+  sequence = kept.sequence;
+  sealed = kept.sealed;
+  boundary = q / 2;
+  side = q % 2;
+  shape = shape;
+  body = kept.body;
+}
+
+-- One call was made on member q, if it was good, and none else. Where it is good still, its bytes changed so.
+pub record Touches {R : Type 0} (rack : Ghosts R) (q : ℕ) (change : List ℕ → List ℕ → Type 0) (old new : Store R) : Type 0 where
+  pub array : KeepsArray rack old new
+  pub here : is_good (members_of new q) ≡ true → BytesChange rack old new q change
+  pub filling : is_filling (members_of new q) ≡ true → BytesChange rack old new q IsSame
+  pub others : OnlyBytesOf rack old new q
+  pub stay_good : (p : ℕ) → p ≢ q → is_good (members_of old p) ≡ true → is_good (members_of new p) ≡ true
+  pub most : CallsAtMost rack old new 1
+
+-- So was one on each good member below this one. The bytes of those that are good still changed so, and of no others that aren't out.
+pub record Passes {R : Type 0} (rack : Ghosts R) (first : ℕ) (change : ℕ → List ℕ → List ℕ → Type 0) (old new : Store R) : Type 0 where
+  pub array : KeepsArray rack old new
+  pub done : (q : ℕ) → q < first → is_good (members_of new q) ≡ true → BytesChange rack old new q (change q)
+  pub rest : (q : ℕ) → first ≤ q → BytesChange rack old new q IsSame
+  pub filling : (q : ℕ) → is_filling (members_of new q) ≡ true → BytesChange rack old new q IsSame
+  pub stay_good : (q : ℕ) → first ≤ q → is_good (members_of old q) ≡ true → is_good (members_of new q) ≡ true
+  pub most : CallsAtMost rack old new first
+
+-- each member that isn't out, and tells its bytes, is as long as format 2 says
+abbrev pub AreWhole : {R : Type 0} → Ghosts R → Store R → Type 0
+AreWhole rack store =
+    (q : ℕ) → members_of store q ≢ Out → IfSome (rack.bytes (rack_of store) q) (λ all. length all ≡ member_length 2 (shape_of store))

@@ -1,0 +1,57 @@
+-- What opening a seal, and saving, leave of an array and its label.
+use Rattle.std.specs.Prelude.{◌≡◌, ◌*◌, ℕ, true, false, List, Option, Some}
+use Rattle.dg_io.specs.declared.outside.Rack.{Ghosts}
+use Rattle.dg_label.specs.Labels.{IsLabeled, StandsLabeled, is_sealed, next_number, unsealed}
+use Rattle.dg_label.specs.declared.labels.KeptLabel.{KeptLabel}
+use Rattle.dg_label.specs.declared.saves.SaveAnswer.{SaveAnswer}
+use Rattle.dg_label.specs.declared.saves.SaveAnswer.TheVariants.{Lost, Saved}
+use Rattle.dg_model.specs.Members.{MembersFall, is_good}
+use Rattle.dg_model.specs.Seals.{LastLabel, label_after}
+use Rattle.dg_model.specs.States.{IsLeastLost}
+use Rattle.dg_store.specs.Leaves.{CallsAtMost, HasWritten, Stays}
+use Rattle.dg_store.specs.Stores.{IsSound, KeepsBlocks, members_of, rack_of, shape_of, table_of}
+use Rattle.dg_store.specs.declared.store.Store.{Store}
+
+-- some member is good; none is
+abbrev pub HasGood : {R : Type 0} → Store R → Type 0
+HasGood store = (q : ℕ) × (is_good (members_of store q) ≡ true)
+
+abbrev pub HasNoGood : {R : Type 0} → Store R → Type 0
+HasNoGood store = (q : ℕ) → is_good (members_of store q) ≡ false
+
+-- what writing beside the slots leaves of an array: no site moves, members only fall, and each block keeps its value
+pub record KeepsArray {R : Type 0} (rack : Ghosts R) (old new : Store R) : Type 0 where
+  pub sound : IsSound rack new
+  pub stays : Stays rack old new
+  pub table : table_of new ≡ table_of old
+  pub falls : MembersFall (rack.counts (rack_of old)).faults (rack.counts (rack_of new)).faults (members_of old) (members_of new)
+  pub stands : KeepsBlocks rack old new
+
+-- The seal was opened: on each member that was good and still is, the label stands with its seal opened. Where it wasn't sealed, nothing
+-- was done. Where some member was good, a call that writes was made, also where it failed.
+pub record OpensSeal {R : Type 0} (rack : Ghosts R) (old new : Store R) (before after : Option KeptLabel) : Type 0 where
+  pub array : KeepsArray rack old new
+  pub labeled : IsLabeled rack new after
+  pub after_is : after ≡ unsealed before
+  pub quiet : is_sealed before ≡ false → new ≡ old
+  pub stands : (last : Option LastLabel) → is_sealed before ≡ true → StandsLabeled rack old before last
+      → StandsLabeled rack new after (label_after true (members_of old) (members_of new) last)
+  pub wrote : is_sealed before ≡ true → HasGood old → HasWritten rack old new
+  pub most : CallsAtMost rack old new (2 * (shape_of old).b)
+
+-- the label that a save leaves: on each good member, sealed, under this number, beside this body
+abbrev pub saved_label : {R : Type 0} → Store R → ℕ → List ℕ → LastLabel
+saved_label store sequence body = record {
+  format = 2;
+  sequence = sequence;
+  sealed = true;
+  body = body;
+  keepers = λ q. is_good (members_of store q);
+}
+
+-- By the answer: each good member has the body and the label, sealed, under the next number; or none is good, and of the label the
+-- numbers stay.
+abbrev pub AnswersSave : {R : Type 0} → Ghosts R → List ℕ → Store R → Store R → Option KeptLabel → Option KeptLabel → SaveAnswer → Type 0
+AnswersSave rack body old new before after (Saved sequence) =
+    HasGood new × (sequence ≡ next_number before) × StandsLabeled rack new after (Some (saved_label new sequence body))
+AnswersSave rack body old new before after (Lost s) = HasNoGood new × IsLeastLost (shape_of new) (members_of new) s × (after ≡ before)

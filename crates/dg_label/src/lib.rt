@@ -1,0 +1,15 @@
+//! The label of an array: it is written on each member by a save, beside a body that says the array's state, and its seal is opened before
+//! the members are written again.
+#![tactic(auto)]
+
+mod labels;
+mod passes;
+mod saves;
+mod seals;
+#[cfg(test)]
+mod tests;
+
+pub use dg_io::NoMemory;
+pub use labels::KeptLabel;
+pub use saves::{SaveAnswer, save};
+pub use seals::open_seal;

@@ -1,0 +1,121 @@
+// Calls beside the slots on each good member, in ascending order.
+ghost use Rattle.std.specs.Prelude.{◌≡◌, ◌+◌, ◌*◌, ◌<◌, ◌≤◌, ℕ, IfSome, length, false, true};
+ghost use Rattle.dg_io.specs.Told.{Extended, FitsIn, Patched};
+ghost use Rattle.dg_label.specs.Labels.{AreNumbers, IsLabeled};
+ghost use Rattle.dg_label.specs.Passes.{AreWhole, Passes, Touches, numbered};
+ghost use Rattle.dg_label.specs.Seals.{HasGood, HasNoGood, KeepsArray};
+ghost use Rattle.dg_model.specs.Members.{is_good};
+ghost use Rattle.dg_model.specs.Saves.{body_place as place_of_body, label_bytes, member_length as length_of, room_of};
+ghost use Rattle.dg_store.specs.Leaves.{HasWritten};
+ghost use Rattle.dg_store.specs.Stores.{IsSound, members_of, rack_of, shape_of};
+
+use crate::labels::KeptLabel;
+use dg_io::Rack;
+use dg_save::{LABEL_BYTES, Label, body_place, member_length, write_label};
+use dg_store::{NoteAnswer, Store};
+
+/// Writes the label of these numbers on a member, where it is good. Whether it has it.
+fn write_label_on<R: Rack>(store: &mut Store<R>, member: u8, kept: &KeptLabel) -> bool
+    requires sound { IsSound R.Rack store.old }
+    requires member { member < 2 * (shape_of store.old).b }
+    requires numbers { AreNumbers (shape_of store.old) kept.now }
+    ensures touches { Touches R.Rack member (Patched 0 (label_bytes (numbered (shape_of store.old) kept.now member))) store.old store.new }
+    ensures good { is_good (members_of store.new member) ≡ result }
+    ensures wrote { is_good (members_of store.old member) ≡ true → HasWritten R.Rack store.old store.new }
+{
+    let label = Label {
+        format: kept.format,
+        sequence: kept.sequence,
+        sealed: kept.sealed,
+        boundary: member / 2,
+        side: member % 2,
+        shape: *store.shape(),
+        body: kept.body,
+    };
+    let mut page = [0; LABEL_BYTES];
+    write_label(&label, &mut page);
+    matches!(
+        store.note(member / 2, member % 2, 0, &page),
+        NoteAnswer::Noted
+    )
+}
+
+/// Writes the label of these numbers on each good member. Whether some member has it.
+pub fn write_labels<R: Rack>(store: &mut Store<R>, kept: &KeptLabel) -> bool
+    requires sound { IsSound R.Rack store.old }
+    requires numbers { AreNumbers (shape_of store.old) kept.now }
+    ensures passes { Passes R.Rack (2 * (shape_of store.old).b) (λ q. Patched 0 (label_bytes (numbered (shape_of store.old) kept.now q)))
+        store.old store.new }
+    ensures some { result ≡ true → HasGood store.new }
+    ensures none { result ≡ false → HasNoGood store.new }
+    ensures wrote { HasGood store.old → HasWritten R.Rack store.old store.new }
+{
+    let mut some = false;
+    for member in 0..2 * store.shape().b {
+        if write_label_on(store, member, kept) {
+            some = true;
+        }
+    }
+    some
+}
+
+/// Writes the body on a member, where it is good.
+fn write_body_on<R: Rack>(store: &mut Store<R>, member: u8, body: &[u8])
+    requires sound { IsSound R.Rack store.old }
+    requires member { member < 2 * (shape_of store.old).b }
+    requires fits { is_good (members_of store.old member) ≡ true
+        → IfSome (R.bytes (rack_of store.old) member) (λ all. place_of_body (shape_of store.old) + length body.now ≤ length all) }
+    ensures { Touches R.Rack member (Patched (place_of_body (shape_of store.old)) body.now) store.old store.new }
+{
+    let place = body_place(store.shape());
+    let _ = store.note(member / 2, member % 2, place, body);
+}
+
+/// Writes the body behind the slots of each good member.
+pub fn write_bodies<R: Rack>(store: &mut Store<R>, body: &[u8])
+    requires sound { IsSound R.Rack store.old }
+    requires whole { AreWhole R.Rack store.old }
+    requires room { length body.now ≤ room_of 2 (shape_of store.old) }
+    ensures { Passes R.Rack (2 * (shape_of store.old).b) (λ q. Patched (place_of_body (shape_of store.old)) body.now) store.old store.new }
+{
+    for member in 0..2 * store.shape().b {
+        write_body_on(store, member, body);
+    }
+}
+
+/// Makes a member so many bytes long, where it is good.
+fn extend_one<R: Rack>(store: &mut Store<R>, member: u8, size: u64)
+    requires sound { IsSound R.Rack store.old }
+    requires member { member < 2 * (shape_of store.old).b }
+    requires longer { is_good (members_of store.old member) ≡ true → IfSome (R.bytes (rack_of store.old) member) (FitsIn size) }
+    ensures { Touches R.Rack member (Extended size) store.old store.new }
+{
+    let _ = store.extend(member / 2, member % 2, size);
+}
+
+/// Makes each good member so many bytes long.
+fn extend_each<R: Rack>(store: &mut Store<R>, size: u64)
+    requires sound { IsSound R.Rack store.old }
+    requires longer { (q : ℕ) → is_good (members_of store.old q) ≡ true → IfSome (R.bytes (rack_of store.old) q) (FitsIn size) }
+    ensures { Passes R.Rack (2 * (shape_of store.old).b) (λ q. Extended size) store.old store.new }
+{
+    for member in 0..2 * store.shape().b {
+        extend_one(store, member, size);
+    }
+}
+
+/// Makes each good member as long as a member with a label of format 2, beneath a label of format 1.
+pub fn lengthen<R: Rack>(store: &mut Store<R>, label: &Option<KeptLabel>)
+    requires sound { IsSound R.Rack store.old }
+    requires labeled { IsLabeled R.Rack store.old label.now }
+    ensures array { KeepsArray R.Rack store.old store.new }
+    ensures whole { AreWhole R.Rack store.new }
+{
+    let Some(kept) = label else {
+        return;
+    };
+    if kept.format == 1 {
+        let size = member_length(store.shape(), 2);
+        extend_each(store, size);
+    }
+}

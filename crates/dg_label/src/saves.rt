@@ -1,0 +1,62 @@
+// Saving a body.
+ghost use Rattle.std.specs.Prelude.{◌≡◌, ◌≤◌, length, IfOk, OnErr};
+ghost use Rattle.dg_label.specs.Labels.{IsLabeled};
+ghost use Rattle.dg_label.specs.Seals.{AnswersSave, KeepsArray};
+ghost use Rattle.dg_model.specs.Saves.{room_of};
+ghost use Rattle.dg_store.specs.Stores.{IsSound, shape_of};
+
+use crate::labels::{KeptLabel, number_after};
+use crate::passes::{lengthen, write_bodies, write_labels};
+use crate::seals::open_seal;
+use dg_io::{NoMemory, Rack};
+use dg_store::Store;
+
+/// What became of a save.
+#[derive(Clone, Copy, Debug, PartialEq, Eq)]
+pub enum SaveAnswer {
+    /// Each good member has the body, and the label under this number, sealed.
+    Saved(u64),
+    /// No member is good; this is the least boundary.
+    Lost(u8),
+}
+
+/// A number past the last one that a label can have.
+const PAST_NUMBERS: u64 = 1 << 63;
+
+/// Writes a body of format 2 to each good member, and then the label, sealed, with the next number. The seal is opened first where it is
+/// sealed, and a member that is too short is made longer. A number that is no label's (2^63) is answered as want of memory, and nothing is done.
+pub fn save<R: Rack>(
+    store: &mut Store<R>,
+    label: &mut Option<KeptLabel>,
+    body: &[u8],
+) -> Result<SaveAnswer, NoMemory>
+    requires sound { IsSound R.Rack store.old }
+    requires labeled { IsLabeled R.Rack store.old label.old }
+    requires body { length body.now ≤ room_of 2 (shape_of store.old) }
+    ensures array { KeepsArray R.Rack store.old store.new }
+    ensures labeled { IsLabeled R.Rack store.new label.new }
+    ensures answer { IfOk result (AnswersSave R.Rack body.now store.old store.new label.old label.new) }
+    ensures err { OnErr result (store.new ≡ store.old) × OnErr result (label.new ≡ label.old) }
+{
+    let sequence = number_after(label);
+    if sequence >= PAST_NUMBERS {
+        return Err(NoMemory);
+    }
+    let kept = KeptLabel {
+        format: 2,
+        sequence,
+        sealed: true,
+        body: body.len() as u32,
+    };
+    let mut opened = *label;
+    open_seal(store, &mut opened);
+    lengthen(store, &opened);
+    // Each member has the body before the first label says so.
+    write_bodies(store, body);
+    if !write_labels(store, &kept) {
+        // Each boundary is lost then.
+        return Ok(SaveAnswer::Lost(0));
+    }
+    *label = Some(kept);
+    Ok(SaveAnswer::Saved(sequence))
+}

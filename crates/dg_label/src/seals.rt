@@ -1,0 +1,29 @@
+// Opening a seal.
+ghost use Rattle.dg_label.specs.Labels.{IsLabeled};
+ghost use Rattle.dg_label.specs.Seals.{OpensSeal};
+ghost use Rattle.dg_store.specs.Stores.{IsSound};
+
+use crate::labels::KeptLabel;
+use crate::passes::write_labels;
+use dg_io::Rack;
+use dg_store::Store;
+
+/// Opens the seal of the label on each good member, where it is sealed. A member whose call fails goes out.
+pub fn open_seal<R: Rack>(store: &mut Store<R>, label: &mut Option<KeptLabel>)
+    requires sound { IsSound R.Rack store.old }
+    requires labeled { IsLabeled R.Rack store.old label.old }
+    ensures { OpensSeal R.Rack store.old store.new label.old label.new }
+{
+    let Some(kept) = *label else {
+        return;
+    };
+    if !kept.sealed {
+        return;
+    }
+    let opened = KeptLabel {
+        sealed: false,
+        ..kept
+    };
+    write_labels(store, &opened);
+    *label = Some(opened);
+}

@@ -1,0 +1,192 @@
+-- The label of an array that was opened, and the whole of what an opening gives.
+use Rattle.std.proofs.Common.{◌≡◌, ◌≢◌, ◌⊎◌, inl, inr, ℕ, ◌*◌, ◌/◌, ◌%◌, ◌<◌, Bool, true, List, length, refl, sym, ◌∙◌, ap, subst}
+use Rattle.std.specs.Prelude.{Option, Some, IfSome}
+use Rattle.std.proofs.lemmas.Bool.{cases_Bool, false≢true}
+use Rattle.dg_io.specs.declared.outside.Rack.{Ghosts}
+use Rattle.dg_label.specs.Labels.{AreNumbers, AreNumbersOf, HasLength, IsLabeled, StandsLabeled}
+use Rattle.dg_label.specs.declared.labels.KeptLabel.{KeptLabel}
+use Rattle.dg_model.specs.Members.{is_filling, is_good}
+use Rattle.dg_model.specs.Openings.{Found, HasOwnLabel, MayBeGood}
+use Rattle.dg_model.specs.Openings as openings
+use Rattle.dg_model.specs.Saves.{BeginsWith, IsLabel, Label as LabelValue, body_of, member_length}
+use Rattle.dg_model.specs.Seals.{LastLabel, label_on}
+use Rattle.dg_model.specs.Tables.{Table}
+use Rattle.dg_model.specs.declared.members.MemberState.{MemberState}
+use Rattle.dg_model.specs.declared.members.MemberState.TheVariants.{Good, Filling, Out}
+use Rattle.dg_model.specs.declared.shapes.Shape.{Shape}
+use Rattle.dg_model.specs.Marks.{is_marked}
+use Rattle.dg_open.proofs.OpenLemmas.{counted_may, may_counted, seen_after, seen_labeled, source_is, source_read, state_from}
+use Rattle.dg_open.proofs.ReadLemmas.{failed_before, if_some, reads_both}
+use Rattle.dg_open.proofs.RowLemmas.{counted_labeled, counted_low}
+use Rattle.dg_open.specs.Reopenings.{HasReopened, HaveBody, HaveLabel, LeavesRead, opened_label}
+use Rattle.dg_open.specs.Seen.{AreCounted, AreFailed, AreLabeled, AreSealed, AreSeen, HasFailed, IsCounted, IsFirst, IsGreatest, IsLabeledBy, OpensFrom, kept_of, taken_in}
+use Rattle.dg_open.specs.declared.bodies.Source.{Source}
+use Rattle.dg_open.specs.declared.reopens.Reopened.{Reopened}
+use Rattle.dg_save.specs.Labels.{label_of}
+use Rattle.dg_save.specs.States.{state_of}
+use Rattle.dg_save.specs.declared.labels.Label.{Label}
+use Rattle.dg_save.specs.declared.states.SavedState.{SavedState}
+use Rattle.dg_store.specs.Stores.{IsSound, members_of, rack_of, shape_of, table_of}
+
+good_not_out : Good ≡ Out → ⊥
+good_not_out e = cc
+
+-- what a member that is good counts as
+when_good : (P : Type 0) (member : MemberState) → ((member ≡ Good) × P) ⊎ ((member ≡ Out) × (P → ⊥)) → member ≡ Good → P
+when_good P member is good = elim is [ inl here ↦ here.1 | inr out ↦ absurd (good_not_out (sym good ∙ out.0)) ]
+
+-- one that isn't out
+when_in : (P : Type 0) (member : MemberState) → ((member ≡ Good) × P) ⊎ ((member ≡ Out) × (P → ⊥)) → member ≢ Out → P
+when_in P member is not = elim is [ inl here ↦ here.1 | inr out ↦ absurd (not out.0) ]
+
+good_is : (member : MemberState) → is_good member ≡ true → member ≡ Good
+good_is Good e = refl
+good_is (Filling have) e = absurd (false≢true e)
+good_is Out e = absurd (false≢true e)
+
+never_filling : (P : Type 0) (member : MemberState) → ((member ≡ Good) × P) ⊎ ((member ≡ Out) × (P → ⊥)) → is_filling member ≡ true → ⊥
+never_filling P member is filling = elim is [
+  | inl here ↦ false≢true (sym (ap is_filling here.0) ∙ filling)
+  | inr out ↦ false≢true (sym (ap is_filling out.0) ∙ filling)
+]
+
+same_value : (l : LabelValue) (shape : Shape) (body : ℕ) → l.sealed ≡ true → l.shape ≡ shape → l.body ≡ body → l ≡ record l { sealed = true; shape = shape; body = body }
+same_value l shape body sealed shaped size =
+    ap (λ (b : Bool). record l { sealed = b }) sealed
+    ∙ ap (λ (s : Shape). record l { sealed = true; shape = s }) shaped
+    ∙ ap (λ (n : ℕ). record l { sealed = true; shape = shape; body = n }) size
+
+length_is : (label : LabelValue) (kept : KeptLabel) (shape : Shape) (size : ℕ) → IsLabel label → kept.format ≡ label.format → shape ≡ label.shape
+    → openings.HasLength label size → HasLength shape (Some kept) size
+length_is label kept shape size is format shaped has = subst (λ (s : Shape). HasLength s (Some kept) size) (sym shaped) (elim has [
+  | inl same ↦ elim is.formats [
+    | inl one ↦ inr (format ∙ one, same ∙ ap (λ (f : ℕ). member_length f label.shape) one)
+    | inr two ↦ inl (same ∙ ap (λ (f : ℕ). member_length f label.shape) two)
+  ]
+  | inr other ↦ inl other.1
+])
+
+module _ {R : Type 0} (rack : Ghosts R) (before start : R) (table : List (Option Label)) (failed : List Bool) (greatest : ℕ) (label : Label) (reopened : Reopened R)
+    (seen : AreSeen rack before start table 32) (is_greatest : IsGreatest table 32 greatest) (sealed : AreSealed table greatest 32)
+    (leaves : LeavesRead rack start (rack_of reopened.store)) (first : IsFirst rack start (rack_of reopened.store) table greatest (record { label = label; saved = reopened.saved }))
+    (fails : AreFailed rack start (rack_of reopened.store) failed)
+    (table_is : table_of reopened.store ≡ (state_of reopened.saved).table) (members : AreCounted table failed label reopened.saved.good (members_of reopened.store))
+    (label_is : reopened.label ≡ kept_of label) (sound : IsSound rack reopened.store) where
+  abbrev now : R
+  now = rack_of reopened.store
+
+  abbrev source : Source
+  source = record { label = label; saved = reopened.saved }
+
+  abbrev taken : ℕ → Option Found
+  taken = taken_in table (state_from first.q (state_of reopened.saved))
+
+  labeled : AreLabeled rack now table
+  labeled = seen_labeled rack before now table (seen_after rack before start now table seen leaves)
+
+  is_label : IsLabel (label_of label)
+  is_label = (subst (λ (o : Option Label). IfSome o (IsLabeledBy rack now first.q)) first.number.there (labeled first.q first.within)).is
+
+  is_sealed : label.sealed ≡ true
+  is_sealed = sealed first.q label first.within first.number
+
+  shape_is : shape_of reopened.store ≡ label.shape
+  shape_is = ap (λ (t : Table). t.shape) table_is ∙ first.says.numbers
+
+  abbrev last : LastLabel
+  last = opened_label (label_of label) (state_of reopened.saved) reopened.store
+
+  size_of_marks : length reopened.saved.good ≡ 2 * label.shape.b
+  size_of_marks = first.says.form.members ∙ ap (λ (s : Shape). 2 * s.b) first.says.numbers
+
+  low : (q : ℕ) → IsCounted table failed label reopened.saved.good q → q < 32
+  low q counted = counted_low table failed label reopened.saved.good label.shape.b q size_of_marks is_label.shape.most_boundaries counted
+
+  own : (q : ℕ) → IsCounted table failed label reopened.saved.good q → IsLabeledBy rack now q (record label { boundary = q / 2; side = q % 2 })
+  own q counted = counted_labeled rack now table failed label reopened.saved.good q labeled (low q counted) counted
+
+  begins : HaveLabel rack reopened.store last
+  begins q good =
+      let counted = when_good _ (members_of reopened.store q) (members q) (good_is (members_of reopened.store q) good) in
+      let value : label_of (record label { boundary = q / 2; side = q % 2 }) ≡ label_on (shape_of reopened.store) last q =
+      same_value (label_of (record label { boundary = q / 2; side = q % 2 })) (shape_of reopened.store) (length (body_of label.format (state_of reopened.saved))) is_sealed (sym shape_is) (sym first.says.size) in
+      if_some (λ all. HasOwnLabel q all (label_of (record label { boundary = q / 2; side = q % 2 }))) (λ all. BeginsWith all (label_on (shape_of reopened.store) last q)) (rack.bytes now q) (own q counted).own
+      (λ all h. subst (λ (l : LabelValue). BeginsWith all l) value h.begins)
+
+  numbers_of : AreNumbersOf last (kept_of label)
+  numbers_of = record { format = refl; sequence = refl; sealed = sym is_sealed; body = first.says.size }
+
+  kept : AreNumbersOf last reopened.label
+  kept = subst (λ (k : KeptLabel). AreNumbersOf last k) (sym label_is) numbers_of
+
+  numbers : AreNumbers (shape_of reopened.store) reopened.label
+  numbers = subst (λ (k : KeptLabel). AreNumbers (shape_of reopened.store) k) (sym label_is)
+      (subst (λ (s : Shape). AreNumbers s (kept_of label)) (sym shape_is)
+      (record { formats = is_label.formats; first = is_label.first; last = is_label.last; body = is_label.body }))
+
+  is_labeled : IsLabeled rack reopened.store (Some reopened.label)
+  is_labeled = record {
+    numbers = numbers;
+    lengths = λ q not.
+        let counted = when_in _ (members_of reopened.store q) (members q) not in
+        if_some (λ all. HasOwnLabel q all (label_of (record label { boundary = q / 2; side = q % 2 }))) (λ all. HasLength (shape_of reopened.store) (Some reopened.label) (length all)) (rack.bytes now q) (own q counted).own
+        (λ all h. length_is (label_of (record label { boundary = q / 2; side = q % 2 })) reopened.label (shape_of reopened.store) (length all) (own q counted).is (ap (λ (k : KeptLabel). k.format) label_is) shape_is h.size);
+    filling = λ q filling. absurd (never_filling _ (members_of reopened.store q) (members q) filling);
+  }
+
+  stands : HaveBody rack reopened.store (body_of label.format (state_of reopened.saved)) → StandsLabeled rack reopened.store (Some reopened.label) (Some last)
+  stands have = record {
+    kept = kept;
+    holds = record {
+      label = begins;
+      body = λ q keeps sealed_last. have q keeps;
+    };
+  }
+
+  out : (q : ℕ) → (members_of reopened.store q ≡ Good)
+      ⊎ ((members_of reopened.store q ≡ Out) × (MayBeGood taken (label_of label) (state_of reopened.saved) q → HasFailed rack before now q))
+  out q = elim (members q) [
+    | inl good ↦ inl good.0
+    | inr gone ↦ inr (
+      gone.0,
+      λ may. elim (cases_Bool (is_marked failed q)) [
+        | inl marked ↦ failed_before rack before start now q seen.leaves (fails q marked)
+        | inr stood ↦ absurd (gone.1 (may_counted rack before start now table greatest source seen is_greatest sealed leaves first failed q may stood))
+      ],
+    )
+  ]
+
+  pub has_reopened : HasReopened rack before reopened
+  has_reopened = record {
+    taken = taken;
+    source = first.q;
+    label = label_of label;
+    read = source_read rack before start now table greatest source seen is_greatest sealed leaves first;
+    is_source = source_is rack before start now table greatest source seen is_greatest sealed leaves first;
+    form = first.says.form;
+    table = table_is;
+    good = λ q good. counted_may rack before start now table greatest source seen is_greatest sealed leaves first failed q
+        (when_good _ (members_of reopened.store q) (members q) good);
+    out = out;
+    body = first.says.size;
+    sound = sound;
+    labeled = is_labeled;
+    kept = kept;
+    begins = begins;
+    stands = stands;
+    leaves = reads_both rack before start now seen.leaves leaves;
+  }
+
+pub opens : {R : Type 0} (rack : Ghosts R) (before start now : R) (table : List (Option Label)) (failed : List Bool) (greatest : ℕ) (source : Source) (reopened : Reopened R)
+    → AreSeen rack before start table 32 → IsGreatest table 32 greatest → AreSealed table greatest 32 → LeavesRead rack start now → IsFirst rack start now table greatest source
+    → AreFailed rack start now failed → OpensFrom rack now table failed source reopened → HasReopened rack before reopened
+opens rack before start now table failed greatest source reopened seen is_greatest sealed leaves first fails opened =
+    has_reopened rack before start table failed greatest source.label reopened seen is_greatest sealed
+    (subst (λ s. LeavesRead rack start s) (sym opened.rack_is) leaves)
+    (subst (λ s. IsFirst rack start s table greatest (record source { saved = reopened.saved })) (sym opened.rack_is)
+    (subst (λ (v : SavedState). IsFirst rack start now table greatest (record source { saved = v })) (sym opened.saved_is) first))
+    (subst (λ s. AreFailed rack start s failed) (sym opened.rack_is) fails)
+    (opened.table_is ∙ ap (λ (v : SavedState). (state_of v).table) (sym opened.saved_is))
+    (subst (λ (v : SavedState). AreCounted table failed source.label v.good (members_of reopened.store)) (sym opened.saved_is) opened.members)
+    opened.label_is
+    opened.sound

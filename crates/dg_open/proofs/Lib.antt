@@ -1,0 +1,6 @@
+mod FoundLemmas
+mod LabelLemmas
+mod OpenLemmas
+mod ReadLemmas
+mod RowLemmas
+mod TableLemmas

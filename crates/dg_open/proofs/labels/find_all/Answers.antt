@@ -1,0 +1,11 @@
+use Rattle.dg_open.proofs.TableLemmas.{one_seen, one_stands}
+use Rattle.dg_open.proofs.labels.find_all.Goals as goal
+
+pub loop-member-preserved : goal.loop-member-preserved
+loop-member-preserved g c =
+    let inv = c.loop-member.invariant in
+    let found = c.find_member.ensures in
+    record {
+      seen = one_seen g.R.Rack _ c.loop-member.rack c.find_member.new.rack c.loop-member.labels c.loop-member.member c.find_member.result c.loop-member-test.true inv.seen found.reads found.seen;
+      stand = one_stands g.R.Rack c.loop-member.rack c.find_member.new.rack c.loop-member.labels c.loop-member.member c.find_member.result inv.seen.size c.loop-member-test.true inv.stand found.reads found.stands;
+    }

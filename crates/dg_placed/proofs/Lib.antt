@@ -1,0 +1,3 @@
+mod HomeLaws
+mod StandLaws
+mod UseLaws

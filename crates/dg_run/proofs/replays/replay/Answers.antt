@@ -1,0 +1,92 @@
+use Rattle.std.proofs.Common.{◌≡◌, ◌∙◌, ℕ, List, ap, refl, subst}
+use Rattle.std.specs.Prelude.{Err, None, Option}
+use Rattle.dg_model.specs.declared.events.Event.{Event}
+use Rattle.dg_io.specs.Told.{Told}
+use Rattle.dg_text.specs.Lines.{IsInPlace}
+use Rattle.dg_run.specs.Events.{Begins}
+use Rattle.dg_run.specs.declared.events.Fault.TheVariants.{Read as FaultRead, NoMemory as FaultNoMemory}
+use Rattle.dg_run.specs.Inputs.{unread, ahead}
+use Rattle.dg_run.specs.Replays.{BrokeOff, IsCut, RanOut}
+use Rattle.dg_run.proofs.Broken.{broke_off_first, fresh_is, ran_out_first}
+use Rattle.dg_run.proofs.Whole.{IfOk-map, empty_part, refused_part, replay_done, replay_empty, replay_refused, replay_stopped}
+use Rattle.dg_run.proofs.replays.replay.Goals as goal
+
+pub returns-in-Ok-Event-Array-default-clause-done : goal.returns-in-Ok-Event-Array-default-clause-done
+returns-in-Ok-Event-Array-default-clause-done g c =
+    let arm = c.in-Ok-Event-Array-default in
+    let e = rw arm.field-0-is at arm.ensures in
+    let well = subst (λ (event : Event). IsInPlace None event) arm.field-0-0-is e.is.0 in
+    let line = subst (λ (event : Event). Told (Begins None event) (ahead c.in_ok-input.input (g.S.Source.left c.args.source.now)) (ahead c.take_event.new.input (g.S.Source.left c.take_event.new.source))) arm.field-0-0-is e.took in
+    IfOk-map c.replay_array.result _ _ (λ end h is. replay_done (g.R.Rack.counts c.args.rack) (g.R.Rack.counts end.rack) (g.R.Rack.bytes end.rack) (unread c.in_ok-input.input) (unread c.replay_array.new.input) c.in_ok-input.ensures
+    (g.S.Source.left c.args.source.now) (g.S.Source.left c.replay_array.new.source) (g.K.Sink.taken c.args.sink.now) (g.K.Sink.taken c.replay_array.new.sink) arm.shape _ well line (h is)) c.replay_array.ensures.done
+
+pub returns-in-Ok-Event-Array-default-clause-bad_line : goal.returns-in-Ok-Event-Array-default-clause-bad_line
+returns-in-Ok-Event-Array-default-clause-bad_line g c =
+    let arm = c.in-Ok-Event-Array-default in
+    let e = rw arm.field-0-is at arm.ensures in
+    let well = subst (λ (event : Event). IsInPlace None event) arm.field-0-0-is e.is.0 in
+    let line = subst (λ (event : Event). Told (Begins None event) (ahead c.in_ok-input.input (g.S.Source.left c.args.source.now)) (ahead c.take_event.new.input (g.S.Source.left c.take_event.new.source))) arm.field-0-0-is e.took in
+    IfOk-map c.replay_array.result _ _ (λ end h is. replay_stopped (g.R.Rack.counts c.args.rack) (g.R.Rack.counts end.rack) (g.R.Rack.bytes end.rack) (unread c.in_ok-input.input) (unread c.replay_array.new.input) c.in_ok-input.ensures
+    (g.S.Source.left c.args.source.now) (g.S.Source.left c.replay_array.new.source) (g.K.Sink.taken c.args.sink.now) (g.K.Sink.taken c.replay_array.new.sink) arm.shape _ well line (h is)) c.replay_array.ensures.bad_line
+
+pub returns-in-Ok-End-clause-bad_line : goal.returns-in-Ok-End-clause-bad_line
+returns-in-Ok-End-clause-bad_line g c is =
+    let took = rw c.in-Ok-End.field-0-is at c.in-Ok-End.ensures.took in
+    replay_empty (g.R.Rack.counts c.args.rack) (g.R.Rack.counts c.args.rack) (g.R.Rack.bytes c.args.rack) (unread c.in_ok-input.input) (unread c.take_event.new.input) c.in_ok-input.ensures
+    (g.S.Source.left c.args.source.now) (g.S.Source.left c.take_event.new.source) (g.K.Sink.taken c.args.sink.now) (g.K.Sink.taken c.refuse.new.sink) took (c.refuse.ensures.bad is)
+
+pub returns-in-Ok-Refused-clause-bad_line : goal.returns-in-Ok-Refused-clause-bad_line
+returns-in-Ok-Refused-clause-bad_line g c is =
+    let took = rw c.in-Ok-Refused.field-0-is at c.in-Ok-Refused.ensures.took in
+    replay_refused (g.R.Rack.counts c.args.rack) (g.R.Rack.counts c.args.rack) (g.R.Rack.bytes c.args.rack) (unread c.in_ok-input.input) (unread c.take_event.new.input) c.in_ok-input.ensures
+    (g.S.Source.left c.args.source.now) (g.S.Source.left c.take_event.new.source) (g.K.Sink.taken c.args.sink.now) (g.K.Sink.taken c.refuse-in-Ok-Refused.new.sink) c.in-Ok-Refused.kind took (c.refuse-in-Ok-Refused.ensures.bad is)
+
+pub returns-in-Ok-Event-Array-default-clause-broken : goal.returns-in-Ok-Event-Array-default-clause-broken
+returns-in-Ok-Event-Array-default-clause-broken g c =
+    let arm = c.in-Ok-Event-Array-default in
+    let e = rw arm.field-0-is at arm.ensures in
+    let line = subst (λ (event : Event). Told (Begins None event) (ahead c.in_ok-input.input (g.S.Source.left c.args.source.now)) (ahead c.take_event.new.input (g.S.Source.left c.take_event.new.source))) arm.field-0-0-is e.took in
+    IfOk-map c.replay_array.result _ _ (λ end h is. subst (λ (x : Option (List ℕ)). BrokeOff (g.R.Rack.counts c.args.rack) (g.R.Rack.counts end.rack) (g.R.Rack.bytes end.rack) x (g.S.Source.left c.replay_array.new.source) (g.K.Sink.taken c.args.sink.now) (g.K.Sink.taken c.replay_array.new.sink))
+    (fresh_is (unread c.in_ok-input.input) (g.S.Source.left c.args.source.now) c.in_ok-input.ensures) (h is (ahead c.in_ok-input.input (g.S.Source.left c.args.source.now)) line)) c.replay_array.ensures.broken
+
+pub returns-in-Ok-Event-Array-default-clause-part : goal.returns-in-Ok-Event-Array-default-clause-part
+returns-in-Ok-Event-Array-default-clause-part g c =
+    let arm = c.in-Ok-Event-Array-default in
+    let e = rw arm.field-0-is at arm.ensures in
+    let line = subst (λ (event : Event). Told (Begins None event) (ahead c.in_ok-input.input (g.S.Source.left c.args.source.now)) (ahead c.take_event.new.input (g.S.Source.left c.take_event.new.source))) arm.field-0-0-is e.took in
+    IfOk-map c.replay_array.result _ _ (λ end h is. subst (λ (x : Option (List ℕ)). IsCut (g.R.Rack.counts c.args.rack) (g.R.Rack.counts end.rack) (g.R.Rack.bytes end.rack) x (g.S.Source.left c.replay_array.new.source) (g.K.Sink.taken c.args.sink.now) (g.K.Sink.taken c.replay_array.new.sink))
+    (fresh_is (unread c.in_ok-input.input) (g.S.Source.left c.args.source.now) c.in_ok-input.ensures) (h is (ahead c.in_ok-input.input (g.S.Source.left c.args.source.now)) line)) c.replay_array.ensures.part
+
+pub returns-in-Ok-Event-Array-default-clause-wanting : goal.returns-in-Ok-Event-Array-default-clause-wanting
+returns-in-Ok-Event-Array-default-clause-wanting g c =
+    let arm = c.in-Ok-Event-Array-default in
+    let e = rw arm.field-0-is at arm.ensures in
+    let line = subst (λ (event : Event). Told (Begins None event) (ahead c.in_ok-input.input (g.S.Source.left c.args.source.now)) (ahead c.take_event.new.input (g.S.Source.left c.take_event.new.source))) arm.field-0-0-is e.took in
+    IfOk-map c.replay_array.result _ _ (λ end h is. subst (λ (x : Option (List ℕ)). RanOut (g.R.Rack.counts c.args.rack) (g.R.Rack.bytes end.rack) x (g.S.Source.left c.replay_array.new.source) (g.K.Sink.taken c.args.sink.now) (g.K.Sink.taken c.replay_array.new.sink))
+    (fresh_is (unread c.in_ok-input.input) (g.S.Source.left c.args.source.now) c.in_ok-input.ensures) (h is (ahead c.in_ok-input.input (g.S.Source.left c.args.source.now)) line)) c.replay_array.ensures.wanting
+
+pub returns-in-Ok-End-clause-part : goal.returns-in-Ok-End-clause-part
+returns-in-Ok-End-clause-part g c is =
+    let took = rw c.in-Ok-End.field-0-is at c.in-Ok-End.ensures.took in
+    empty_part (g.R.Rack.counts c.args.rack) (g.R.Rack.counts c.args.rack) (g.R.Rack.bytes c.args.rack) (unread c.in_ok-input.input) (unread c.take_event.new.input) c.in_ok-input.ensures
+    (g.S.Source.left c.args.source.now) (g.S.Source.left c.take_event.new.source) (g.K.Sink.taken c.args.sink.now) (g.K.Sink.taken c.refuse.new.sink) took (c.refuse.ensures.part is)
+
+pub returns-in-Ok-Refused-clause-part : goal.returns-in-Ok-Refused-clause-part
+returns-in-Ok-Refused-clause-part g c is =
+    let took = rw c.in-Ok-Refused.field-0-is at c.in-Ok-Refused.ensures.took in
+    refused_part (g.R.Rack.counts c.args.rack) (g.R.Rack.counts c.args.rack) (g.R.Rack.bytes c.args.rack) (unread c.in_ok-input.input) (unread c.take_event.new.input) c.in_ok-input.ensures
+    (g.S.Source.left c.args.source.now) (g.S.Source.left c.take_event.new.source) (g.K.Sink.taken c.args.sink.now) (g.K.Sink.taken c.refuse-in-Ok-Refused.new.sink) c.in-Ok-Refused.kind took (c.refuse-in-Ok-Refused.ensures.part is)
+
+pub returns-clause-broken : goal.returns-clause-broken
+returns-clause-broken g c = λ is.
+    let fault : c.in-Err.fault ≡ FaultRead = c.status_of.ensures.read.0 is in
+    let told = c.take_event.ensures.broken (c.in-Err.is ∙ ap Err fault) in
+    subst (λ (x : Option (List ℕ)). BrokeOff (g.R.Rack.counts c.args.rack) (g.R.Rack.counts c.args.rack) (g.R.Rack.bytes c.args.rack) x (g.S.Source.left c.take_event.new.source) (g.K.Sink.taken c.args.sink.now) (g.K.Sink.taken c.args.sink.now))
+    (fresh_is (unread c.in_ok-input.input) (g.S.Source.left c.args.source.now) c.in_ok-input.ensures) (broke_off_first _ _ _ _ _ _ told refl)
+
+pub returns-clause-wanting : goal.returns-clause-wanting
+returns-clause-wanting g c = λ is.
+    let fault : c.in-Err.fault ≡ FaultNoMemory = c.status_of.ensures.memory.0 is in
+    let told = c.take_event.ensures.wanting (c.in-Err.is ∙ ap Err fault) in
+    subst (λ (x : Option (List ℕ)). RanOut (g.R.Rack.counts c.args.rack) (g.R.Rack.bytes c.args.rack) x (g.S.Source.left c.take_event.new.source) (g.K.Sink.taken c.args.sink.now) (g.K.Sink.taken c.args.sink.now))
+    (fresh_is (unread c.in_ok-input.input) (g.S.Source.left c.args.source.now) c.in_ok-input.ensures) (ran_out_first _ _ _ _ _ _ told refl)

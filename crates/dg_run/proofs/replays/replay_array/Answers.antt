@@ -1,0 +1,42 @@
+use Rattle.std.proofs.Common.{subst, sym}
+use Rattle.dg_run.specs.Inputs.{ahead, unread}
+use Rattle.dg_run.specs.Arrays.{ArrayReplayed, ArrayStopped}
+use Rattle.dg_run.specs.Replays.{BrokeOff, IsCut, RanOut}
+use Rattle.dg_run.proofs.Broken.{array_broke_off, array_cut, array_ran_out}
+use Rattle.dg_run.proofs.Whole.{array_replayed, array_stopped}
+use Rattle.dg_run.proofs.replays.replay_array.Goals as goal
+
+pub returns-clause-done : goal.returns-clause-done
+returns-clause-done g c is =
+    let n = c.in_ok-array.ensures in
+    let s = c.serve_array-status in
+    let all = array_replayed g.R.Rack c.args.shape c.args.first c.args.rack c.in_ok-array.array s.new.array c.requires.first c.requires.shape n _ _ _ _ (s.ensures.done is) in
+    subst (λ r. ArrayReplayed (g.R.Rack.counts c.args.rack) (g.R.Rack.counts r) (g.R.Rack.bytes r) c.args.shape (ahead c.args.input.now (g.S.Source.left c.args.source.now)) (ahead s.new.input (g.S.Source.left s.new.source)) (g.K.Sink.taken c.args.sink.now) (g.K.Sink.taken s.new.sink)) (sym c.into_rack.ensures) all
+
+pub returns-clause-bad_line : goal.returns-clause-bad_line
+returns-clause-bad_line g c is =
+    let n = c.in_ok-array.ensures in
+    let s = c.serve_array-status in
+    let all = array_stopped g.R.Rack c.args.shape c.args.first c.args.rack c.in_ok-array.array s.new.array c.requires.first c.requires.shape n _ _ _ _ (s.ensures.bad_line is) in
+    subst (λ r. ArrayStopped (g.R.Rack.counts c.args.rack) (g.R.Rack.counts r) (g.R.Rack.bytes r) c.args.shape (ahead c.args.input.now (g.S.Source.left c.args.source.now)) (ahead s.new.input (g.S.Source.left s.new.source)) (g.K.Sink.taken c.args.sink.now) (g.K.Sink.taken s.new.sink)) (sym c.into_rack.ensures) all
+
+pub returns-clause-broken : goal.returns-clause-broken
+returns-clause-broken g c is text line =
+    let n = c.in_ok-array.ensures in
+    let s = c.serve_array-status in
+    let all = array_broke_off g.R.Rack c.args.shape c.args.first c.args.rack c.in_ok-array.array s.new.array c.requires.first c.requires.shape n text _ _ _ _ line (s.ensures.broken is) in
+    subst (λ r. BrokeOff (g.R.Rack.counts c.args.rack) (g.R.Rack.counts r) (g.R.Rack.bytes r) text (g.S.Source.left s.new.source) (g.K.Sink.taken c.args.sink.now) (g.K.Sink.taken s.new.sink)) (sym c.into_rack.ensures) all
+
+pub returns-clause-part : goal.returns-clause-part
+returns-clause-part g c is text line =
+    let n = c.in_ok-array.ensures in
+    let s = c.serve_array-status in
+    let all = array_cut g.R.Rack c.args.shape c.args.first c.args.rack c.in_ok-array.array s.new.array c.requires.first c.requires.shape n (unread s.new.input) text _ _ _ _ c.requires.budget line (s.ensures.part is) in
+    subst (λ r. IsCut (g.R.Rack.counts c.args.rack) (g.R.Rack.counts r) (g.R.Rack.bytes r) text (g.S.Source.left s.new.source) (g.K.Sink.taken c.args.sink.now) (g.K.Sink.taken s.new.sink)) (sym c.into_rack.ensures) all
+
+pub returns-clause-wanting : goal.returns-clause-wanting
+returns-clause-wanting g c is text line =
+    let n = c.in_ok-array.ensures in
+    let s = c.serve_array-status in
+    let all = array_ran_out g.R.Rack c.args.shape c.args.first c.args.rack c.in_ok-array.array s.new.array c.requires.first c.requires.shape n text _ _ _ _ line (s.ensures.wanting is) in
+    subst (λ r. RanOut (g.R.Rack.counts c.args.rack) (g.R.Rack.bytes r) text (g.S.Source.left s.new.source) (g.K.Sink.taken c.args.sink.now) (g.K.Sink.taken s.new.sink)) (sym c.into_rack.ensures) all

@@ -1,0 +1,21 @@
+use Rattle.std.proofs.Common.{◌≡◌, ap, inl, rules, subst, sym}
+use Rattle.dg_io.specs.Told.{AreAny, Told}
+use Rattle.dg_run.proofs.ToldSteps.{Told-refl}
+use Rattle.dg_run.specs.Calls.{facts_of}
+use Rattle.dg_run.specs.Resumes.{EndsResume}
+use Rattle.dg_run.proofs.resumes.serve_resume.Goals as goal
+
+pub returns-in-Err-clause-ends : goal.returns-in-Err-clause-ends
+returns-in-Err-clause-ends g c =
+    let none = c.in-Err.ensures.none in
+    let left = g.S.Source.left in
+    inl (
+      subst (λ (s : g.row.S.Denot). Told AreAny (left c.args.source.now) (left s)) (sym none.0) (Told-refl AreAny (λ b. tt) (left c.args.source.now)),
+      ap g.K.Sink.taken none.1,
+    )
+
+pub returns-in-Ok-clause-ends : goal.returns-in-Ok-clause-ends
+returns-in-Ok-clause-ends g c =
+    let end = c.in-Ok.end in
+    let same : end.rack.now ≡ c.rack-1.given.0 = search rules in
+    subst (λ (r : g.row.R.Denot). EndsResume (facts_of g.S.Source g.K.Sink g.R.Rack c.args.source.now c.resume.new.source c.args.sink.now c.resume.new.sink c.args.rack.now r) end.status) same c.in-Ok.ensures.ends

@@ -1,0 +1,55 @@
+use Rattle.std.proofs.Common.{ℕ, List, refl, subst, sym}
+use Rattle.dg_run.proofs.Ended.{ends_unbuilt, ends_usage, left_unbuilt}
+use Rattle.dg_run.specs.Calls.{facts_of}
+use Rattle.dg_run.specs.Ends.{Ends, EndsReplay}
+use Rattle.dg_run.specs.Resumes.{EndsResume}
+use Rattle.dg_run.specs.declared.top.Status.{Status}
+use Rattle.dg_words.specs.declared.commands.Command.{Command}
+use Rattle.dg_words.specs.declared.commands.Command.TheVariants.{Cat, Ls}
+use Rattle.dg_run.proofs.top.serve_command.Goals as goal
+
+pub returns-in-Replay-clause-ends : goal.returns-in-Replay-clause-ends
+returns-in-Replay-clause-ends g c =
+    let s = c.serve_replay in
+    subst (λ (d : Command). Ends (facts_of g.S.Source g.K.Sink g.R.Rack c.args.source.now s.new.source c.args.sink.now s.new.sink c.args.rack.now s.new.rack) d s.result) (sym c.in-Replay.is) s.ensures.ends
+
+pub returns-in-Resume-clause-ends : goal.returns-in-Resume-clause-ends
+returns-in-Resume-clause-ends g c =
+    let s = c.serve_resume in
+    subst (λ (d : Command). Ends (facts_of g.S.Source g.K.Sink g.R.Rack c.args.source.now s.new.source c.args.sink.now s.new.sink c.args.rack.now s.new.rack) d s.result) (sym c.in-Resume.is) s.ensures.ends
+
+pub returns-in-Cat-clause-ends : goal.returns-in-Cat-clause-ends
+returns-in-Cat-clause-ends g c =
+    let s = c.serve_file in
+    let met = facts_of g.S.Source g.K.Sink g.R.Rack c.args.source.now c.args.source.now c.args.sink.now s.new.sink c.args.rack.now s.new.rack in
+    let at = subst (λ (p : List ℕ). Ends met (Cat p) s.result) c.as_slice.ensures s.ensures.ends in
+    subst (λ (d : Command). Ends met d s.result) (sym c.in-Cat.is) at
+
+pub returns-in-Ls-clause-ends : goal.returns-in-Ls-clause-ends
+returns-in-Ls-clause-ends g c =
+    let s = c.serve_directory in
+    let met = facts_of g.S.Source g.K.Sink g.R.Rack c.args.source.now c.args.source.now c.args.sink.now s.new.sink c.args.rack.now s.new.rack in
+    let at = subst (λ (p : List ℕ). Ends met (Ls p) s.result) c.as_slice-in-Ls.ensures s.ensures.ends in
+    subst (λ (d : Command). Ends met d s.result) (sym c.in-Ls.is) at
+
+pub returns-in-Status-clause-ends : goal.returns-in-Status-clause-ends
+returns-in-Status-clause-ends g c =
+    let s = c.serve_status in
+    subst (λ (d : Command). Ends (facts_of g.S.Source g.K.Sink g.R.Rack c.args.source.now c.args.source.now c.args.sink.now s.new.sink c.args.rack.now s.new.rack) d s.result) (sym c.in-Status.is) s.ensures.ends
+
+pub returns-in_default-clause-ends : goal.returns-in_default-clause-ends
+returns-in_default-clause-ends g c =
+    let e = c.refuse_words.ensures in
+    let met = facts_of g.S.Source g.K.Sink g.R.Rack c.args.source.now c.args.source.now c.args.sink.now c.refuse_words.new.sink c.args.rack.now c.args.rack.now in
+    ends_unbuilt met c.args.asked.now c.refuse_words.result
+    (left_unbuilt c.args.asked.now c.in_default.not-Replay c.in_default.not-Resume c.in_default.not-Cat c.in_default.not-Ls c.in_default.not-Status) (ends_usage met c.refuse_words.result e.is e.usage e.part)
+
+pub returns-in-Replay-clause-usage : goal.returns-in-Replay-clause-usage
+returns-in-Replay-clause-usage g c = λ is.
+    let s = c.serve_replay in
+    absurd (subst (λ (status : Status). EndsReplay (facts_of g.S.Source g.K.Sink g.R.Rack c.args.source.now s.new.source c.args.sink.now s.new.sink c.args.rack.now s.new.rack) status) is s.ensures.ends)
+
+pub returns-in-Resume-clause-usage : goal.returns-in-Resume-clause-usage
+returns-in-Resume-clause-usage g c = λ is.
+    let s = c.serve_resume in
+    absurd (subst (λ (status : Status). EndsResume (facts_of g.S.Source g.K.Sink g.R.Rack c.args.source.now s.new.source c.args.sink.now s.new.sink c.args.rack.now s.new.rack) status) is s.ensures.ends)

@@ -1,0 +1,30 @@
+-- What a call of the program met outside.
+use Rattle.std.specs.Prelude.{ℕ, List, Option}
+use Rattle.dg_io.specs.declared.outside.Rack as racks
+use Rattle.dg_io.specs.declared.outside.Sink as sinks
+use Rattle.dg_io.specs.declared.outside.Source as sources
+use Rattle.dg_model.specs.States.{Counts}
+
+-- The counts of the rack and the bytes of its members, before the call and now; what the source had left, and the rest of it; and what the
+-- sink had taken, and has been given by now.
+pub record Facts : Type 0 where
+  pub before : Counts
+  pub now : Counts
+  pub images : ℕ → Option (List ℕ)
+  pub bytes : ℕ → Option (List ℕ)
+  pub left : Option (List ℕ)
+  pub rest : Option (List ℕ)
+  pub taken : Option (List ℕ)
+  pub given : Option (List ℕ)
+
+abbrev pub facts_of : {S K R : Type 0} → sources.Ghosts S → sinks.Ghosts K → racks.Ghosts R → S → S → K → K → R → R → Facts
+facts_of in_ghosts out_ghosts rack source source_now sink sink_now old new = record {
+  before = rack.counts old;
+  now = rack.counts new;
+  images = rack.bytes old;
+  bytes = rack.bytes new;
+  left = in_ghosts.left source;
+  rest = in_ghosts.left source_now;
+  taken = out_ghosts.taken sink;
+  given = out_ghosts.taken sink_now;
+}

@@ -1,0 +1,116 @@
+-- What a trace on a saved array means: the events of its input, their replies, and what the rack holds at the end.
+use Rattle.std.specs.Prelude.{◌≡◌, ◌⊎◌, ◌≤◌, ◌<◌, ◌+◌, ◌-◌, ◌^◌, ◌++◌, [], ◌∷◌, ℕ, List, length, Option, Some, All}
+use Rattle.dg_io.specs.Told.{AreAny, Told, Took}
+use Rattle.dg_model.specs.declared.events.Event.{Event}
+use Rattle.dg_model.specs.declared.events.Event.TheVariants.{Tree}
+use Rattle.dg_model.specs.declared.replies.Reply.{Reply}
+use Rattle.dg_model.specs.declared.replies.Reply.TheVariants.{Nodes}
+use Rattle.dg_model.specs.declared.shapes.Shape.{Shape}
+use Rattle.dg_run.specs.Calls.{Facts}
+use Rattle.dg_run.specs.Endings.{GaveLines, StartsWith, TookUpTo}
+use Rattle.dg_run.specs.Events.{IsRefused}
+use Rattle.dg_run.specs.Opened.{Agreed, CutAnswer, FoundNone, FoundUnclean, Opening, Reached, Resumed}
+use Rattle.dg_run.specs.Texts.{nostate, unclean}
+use Rattle.dg_run.specs.declared.top.Status.{Status}
+use Rattle.dg_run.specs.declared.top.Status.TheVariants.{Done, BadLine, ReadFault, WriteFault, NoMemory, NoState, Unclean}
+use Rattle.dg_text.specs.Lines.{IsInPlace, input_of}
+use Rattle.dg_text.specs.Replies.{nodes_text, output_of, refusal, reply_line}
+use Rattle.dg_text.specs.declared.lines.BadLine.{BadLine as Kind}
+use Rattle.ufs_model.specs.Listings.{Listed}
+
+-- lines of these events, on an array of this shape
+pub record AreLines (shape : Shape) (events : List Event) : Type 0 where
+  pub in_place : All (IsInPlace (Some shape)) events
+  pub budget : length (input_of events) ≤ 2 ^ 40
+
+-- The array was opened. These events are in their places, and had these replies: of each list of blocks that the members agree on, in steps
+-- from an opened state to one that the rack holds.
+pub record RanOn (facts : Facts) (events : List Event) (replies : List Reply) : Type 0 where
+  pub opening : Opening facts
+  pub lines : AreLines opening.table.shape events
+  pub states : (blocks : List (List ℕ)) → Agreed facts opening blocks → Reached facts opening blocks events replies
+
+-- the same, but nothing is said of what the rack holds
+pub record WantedOn (facts : Facts) (events : List Event) (replies : List Reply) : Type 0 where
+  pub opening : Opening facts
+  pub lines : AreLines opening.table.shape events
+  pub states : (blocks : List (List ℕ)) → Agreed facts opening blocks → Resumed facts opening blocks events replies
+
+-- the input was read to its end, and is the lines of these events, of which there may be none; the output is the text of their replies
+pub record AllResumed (facts : Facts) : Type 0 where
+  pub events : List Event
+  pub replies : List Reply
+  pub ran : RanOn facts events replies
+  pub input : Told (λ b a. (b ≡ input_of events) × (a ≡ [])) facts.left facts.rest
+  pub output : Told (Took (output_of replies)) facts.taken facts.given
+
+-- the text is the lines of these events, and then one that is refused by this kind; and no lines of events in their places make it up
+pub record StopsOn (shape : Shape) (events : List Event) (kind : Kind) (whole text : List ℕ) : Type 0 where
+  pub lines : whole ≡ input_of events ++ text
+  pub refused : IsRefused (Some shape) (2 ^ 40 - length (input_of events)) text kind
+  pub none : (others : List Event) → AreLines shape others → whole ≡ input_of others → ⊥
+
+-- the input is the lines of these events and then a line that is refused; the output is the text of their replies and then the refusal, with
+-- that line's number, counted from 1, and kind
+pub record ResumeStopped (facts : Facts) : Type 0 where
+  pub events : List Event
+  pub replies : List Reply
+  pub kind : Kind
+  pub ran : RanOn facts events replies
+  pub input : Told (λ b a. (text : List ℕ) × StopsOn ran.opening.table.shape events kind b text) facts.left facts.rest
+  pub output : Told (Took (output_of replies ++ refusal (length events + 1) kind)) facts.taken facts.given
+
+-- the source failed: the lines that it gave whole are those of these events
+pub record ResumeBrokeOff (facts : Facts) : Type 0 where
+  pub events : List Event
+  pub replies : List Reply
+  pub ran : RanOn facts events replies
+  pub input : Told (GaveLines (input_of events)) facts.left facts.rest
+  pub output : Told (Took (output_of replies)) facts.taken facts.given
+
+-- the sink failed at the last reply
+pub record ResumeCut (facts : Facts) : Type 0 where
+  pub events : List Event
+  pub replies : List Reply
+  pub last : Reply
+  pub ran : RanOn facts events (replies ++ last ∷ [])
+  pub input : Told (StartsWith (input_of events)) facts.left facts.rest
+  pub output : Told (TookUpTo (output_of replies) (reply_line last)) facts.taken facts.given
+
+-- the sink failed at the refusal of a line
+pub record ResumeCutRefusal (facts : Facts) : Type 0 where
+  pub events : List Event
+  pub replies : List Reply
+  pub kind : Kind
+  pub ran : RanOn facts events replies
+  pub input : Told (λ b a. (text : List ℕ) × StopsOn ran.opening.table.shape events kind b text) facts.left facts.rest
+  pub output : Told (TookUpTo (output_of replies) (refusal (length events + 1) kind)) facts.taken facts.given
+
+-- memory was wanting before a reply, or behind one
+pub record ResumeWanted (facts : Facts) : Type 0 where
+  pub events : List Event
+  pub replies : List Reply
+  pub ran : WantedOn facts events replies
+  pub input : Told (StartsWith (input_of events)) facts.left facts.rest
+  pub output : Told (Took (output_of replies)) facts.taken facts.given
+
+-- memory was wanting within a listing of all directories, of which the first entries were written
+pub record ResumeListed (facts : Facts) : Type 0 where
+  pub events : List Event
+  pub replies : List Reply
+  pub entries : List Listed
+  pub others : List Listed
+  pub ran : WantedOn facts (events ++ Tree ∷ []) (replies ++ Nodes (entries ++ others) ∷ [])
+  pub input : Told (StartsWith (input_of (events ++ Tree ∷ []))) facts.left facts.rest
+  pub output : Told (Took (output_of replies ++ nodes_text entries)) facts.taken facts.given
+
+-- By the status: all lines were done, or those before one that is refused, or before a fault; or no array was opened, and no input was read.
+abbrev pub EndsResume : Facts → Status → Type 0
+EndsResume facts Done = AllResumed facts
+EndsResume facts BadLine = ResumeStopped facts
+EndsResume facts ReadFault = ResumeBrokeOff facts
+EndsResume facts WriteFault = CutAnswer facts ⊎ (ResumeCut facts ⊎ ResumeCutRefusal facts)
+EndsResume facts NoMemory = (Told AreAny facts.left facts.rest × (facts.given ≡ facts.taken)) ⊎ (ResumeWanted facts ⊎ ResumeListed facts)
+EndsResume facts NoState = FoundNone facts × Told (Took nostate) facts.taken facts.given
+EndsResume facts Unclean = FoundUnclean facts × Told (Took unclean) facts.taken facts.given
+EndsResume facts status = ⊥

@@ -1,0 +1,230 @@
+// A replay: the trace of the input on blank members.
+ghost use Rattle.std.specs.Prelude.{◌≡◌, ◌≤◌, ◌↔◌, ◌^◌, ℕ, List, Option, length, IfOk, OnErr, None};
+ghost use Rattle.dg_io.specs.Told.{Told, Took, TookPart, AreAny};
+ghost use Rattle.dg_model.specs.Causes.{Rose};
+ghost use Rattle.dg_model.specs.Shapes.{IsShape};
+ghost use Rattle.dg_model.specs.declared.events.Event.{Event};
+ghost use Rattle.dg_model.specs.declared.replies.Reply.{Reply};
+ghost use Rattle.dg_run.specs.Arrays.{AllAnswered, AnsweredTo, ArrayCut, ArrayRanOut, ArrayReplayed, ArrayStopped, IsOfReplay};
+ghost use Rattle.dg_run.specs.Calls.{facts_of};
+ghost use Rattle.dg_run.specs.Endings.{LinesBrokeOff};
+ghost use Rattle.dg_run.specs.Ends.{EndsReplay};
+ghost use Rattle.dg_run.specs.Events.{Begins};
+ghost use Rattle.dg_run.specs.Inputs.{ahead};
+ghost use Rattle.dg_run.specs.Replays.{BrokeOff, IsCut, RanOut, Replayed, Stopped};
+ghost use Rattle.dg_run.specs.Steps.{GoesOn, IsSound, shape_of};
+ghost use Rattle.dg_text.specs.Lines.{line_of};
+ghost use Rattle.dg_text.specs.Replies.{reply_line, refusal};
+
+use crate::arrays::Array;
+use crate::events::{Fault, Taken, take_event};
+use crate::input::Input;
+use crate::lines::{BUDGET, LinesEnd, serve_lines};
+use crate::serve::send;
+use crate::top::Status;
+use dg_io::{Rack, Sink, Source};
+use dg_model::{Event, NoMemory, Reply, Shape};
+use dg_text::{BadLine, write_refusal};
+use std::alloc::Global;
+
+/// How a trace ended, and its rack.
+#[derive(Drop)]
+pub struct Ended<R> {
+    pub rack: R,
+    pub status: Status,
+}
+
+/// The status of a trace that stops in the middle.
+pub fn status_of(fault: Fault) -> Status
+    ensures read { (result ≡ Status.ReadFault) ↔ (fault ≡ Fault.Read) }
+    ensures write { (result ≡ Status.WriteFault) ↔ (fault ≡ Fault.Write) }
+    ensures memory { (result ≡ Status.NoMemory) ↔ (fault ≡ Fault.NoMemory) }
+    ensures done { result ≡ Status.Done → ⊥ }
+    ensures bad_line { result ≡ Status.BadLine → ⊥ }
+    ensures never { IsOfReplay result }
+{
+    match fault {
+        Fault::Read => Status::ReadFault,
+        Fault::Write => Status::WriteFault,
+        Fault::NoMemory => Status::NoMemory,
+    }
+}
+
+/// Refuses the line of this number, counted from 1.
+pub fn refuse<K: Sink>(sink: &mut K, number: u64, kind: BadLine) -> Status
+    ensures bad { result ≡ Status.BadLine → Told (Took (refusal number kind)) (K.taken sink.old) (K.taken sink.new) }
+    ensures part { result ≡ Status.WriteFault → Told (TookPart (refusal number kind)) (K.taken sink.old) (K.taken sink.new) }
+    ensures write { result ≡ Status.WriteFault → Rose (K.faults sink.old) (K.faults sink.new) }
+    ensures done { result ≡ Status.Done → ⊥ }
+    ensures read { result ≡ Status.ReadFault → ⊥ }
+    ensures memory { result ≡ Status.NoMemory → ⊥ }
+    ensures never { IsOfReplay result }
+    ensures later { K.faults sink.old ≤ K.faults sink.new }
+    ensures kept { (result ≡ Status.WriteFault → ⊥) → K.faults sink.new ≡ K.faults sink.old }
+{
+    match write_refusal(sink, number, kind) {
+        Ok(()) => Status::BadLine,
+        Err(_) => Status::WriteFault,
+    }
+}
+
+/// Answers the first line, which had so many bytes and made the array, and serves the lines behind it.
+fn serve_array<S: Source, K: Sink, R: Rack>(
+    alloc: Global,
+    input: &mut Input,
+    source: &mut S,
+    sink: &mut K,
+    array: &mut Array<R>,
+    first: u64,
+) -> Status
+    requires sound { IsSound R.Rack array.old }
+    requires first { first ≤ 2 ^ 40 }
+    ensures goes { GoesOn R.Rack array.old array.new }
+    ensures done { result ≡ Status.Done → AllAnswered R.Rack first (ahead input.old (S.left source.old)) (ahead input.new (S.left source.new))
+        (K.taken sink.old) (K.taken sink.new) array.old array.new }
+    ensures bad_line { result ≡ Status.BadLine
+        → AnsweredTo R.Rack first (ahead input.old (S.left source.old)) (ahead input.new (S.left source.new)) (K.taken sink.old)
+        (K.taken sink.new) array.old array.new }
+    ensures broken { result ≡ Status.ReadFault
+        → LinesBrokeOff R.Rack (reply_line Reply.Done) (shape_of array.old) first (ahead input.old (S.left source.old))
+        (S.left source.new) (K.taken sink.old) (K.taken sink.new) array.old array.new }
+    ensures part { result ≡ Status.WriteFault → ArrayCut R.Rack first (ahead input.old (S.left source.old)) (ahead input.new (S.left source.new))
+        (S.left source.new) (K.taken sink.old) (K.taken sink.new) array.old array.new }
+    ensures wanting { result ≡ Status.NoMemory → ArrayRanOut R.Rack first (ahead input.old (S.left source.old)) (S.left source.new)
+        (K.taken sink.old) (K.taken sink.new) array.old array.new }
+    ensures read { result ≡ Status.ReadFault → Rose (S.faults source.old) (S.faults source.new) }
+    ensures write { result ≡ Status.WriteFault → Rose (K.faults sink.old) (K.faults sink.new) }
+    ensures source_later { S.faults source.old ≤ S.faults source.new }
+    ensures sink_later { K.faults sink.old ≤ K.faults sink.new }
+    ensures source_kept { (result ≡ Status.ReadFault → ⊥) → S.faults source.new ≡ S.faults source.old }
+    ensures sink_kept { (result ≡ Status.WriteFault → ⊥) → K.faults sink.new ≡ K.faults sink.old }
+    ensures never { IsOfReplay result }
+{
+    let Ok(mut block) = vec![in alloc; 0u8; array.volume.shape().l as usize] else {
+        return Status::NoMemory;
+    };
+    let Ok(()) = send(sink, &Reply::Done) else {
+        return Status::WriteFault;
+    };
+    match serve_lines(alloc, input, source, sink, array, &mut block, first, 2) {
+        Ok(LinesEnd::Input) => Status::Done,
+        Ok(LinesEnd::Refused(number, kind)) => refuse(sink, number, kind),
+        Err(fault) => status_of(fault),
+    }
+}
+
+/// Makes the array of the first line, which had so many bytes, and serves the lines behind it.
+fn replay_array<S: Source, K: Sink, R: Rack + Drop>(
+    alloc: Global,
+    input: &mut Input,
+    source: &mut S,
+    sink: &mut K,
+    rack: R,
+    shape: Shape,
+    first: u64,
+) -> Result<Ended<R>, NoMemory>
+    requires shape { IsShape shape }
+    requires first { first ≡ length (line_of (Event.Array shape)) }
+    requires budget { first ≤ 2 ^ 40 }
+    ensures name { IfOk result (λ end. R.name end.rack ≡ R.name rack) }
+    ensures done { IfOk result (λ end. end.status ≡ Status.Done
+        → ArrayReplayed (R.counts rack) (R.counts end.rack) (R.bytes end.rack) shape (ahead input.old (S.left source.old)) (ahead input.new
+        (S.left source.new)) (K.taken sink.old) (K.taken sink.new)) }
+    ensures bad_line { IfOk result (λ end. end.status ≡ Status.BadLine
+        → ArrayStopped (R.counts rack) (R.counts end.rack) (R.bytes end.rack) shape (ahead input.old (S.left source.old)) (ahead input.new
+        (S.left source.new)) (K.taken sink.old) (K.taken sink.new)) }
+    ensures broken { IfOk result (λ end. end.status ≡ Status.ReadFault → (text : Option (List ℕ))
+        → Told (Begins None (Event.Array shape)) text (ahead input.old (S.left source.old))
+        → BrokeOff (R.counts rack) (R.counts end.rack) (R.bytes end.rack) text (S.left source.new) (K.taken sink.old) (K.taken sink.new)) }
+    ensures part { IfOk result (λ end. end.status ≡ Status.WriteFault → (text : Option (List ℕ))
+        → Told (Begins None (Event.Array shape)) text (ahead input.old (S.left source.old))
+        → IsCut (R.counts rack) (R.counts end.rack) (R.bytes end.rack) text (S.left source.new) (K.taken sink.old) (K.taken sink.new)) }
+    ensures wanting { IfOk result (λ end. end.status ≡ Status.NoMemory → (text : Option (List ℕ))
+        → Told (Begins None (Event.Array shape)) text (ahead input.old (S.left source.old))
+        → RanOut (R.counts rack) (R.bytes end.rack) text (S.left source.new) (K.taken sink.old) (K.taken sink.new)) }
+    ensures none { OnErr result (Told AreAny (ahead input.old (S.left source.old)) (S.left source.new) × (K.taken sink.new ≡ K.taken sink.old)) }
+    ensures read { IfOk result (λ end. end.status ≡ Status.ReadFault → Rose (S.faults source.old) (S.faults source.new)) }
+    ensures write { IfOk result (λ end. end.status ≡ Status.WriteFault → Rose (K.faults sink.old) (K.faults sink.new)) }
+    ensures source_later { S.faults source.old ≤ S.faults source.new }
+    ensures sink_later { K.faults sink.old ≤ K.faults sink.new }
+    ensures source_kept { IfOk result (λ end. (end.status ≡ Status.ReadFault → ⊥) → S.faults source.new ≡ S.faults source.old) }
+    ensures sink_kept { IfOk result (λ end. (end.status ≡ Status.WriteFault → ⊥) → K.faults sink.new ≡ K.faults sink.old) }
+    ensures err_source { OnErr result (S.faults source.new ≡ S.faults source.old) }
+    ensures err_sink { OnErr result (K.faults sink.new ≡ K.faults sink.old) }
+    ensures never { IfOk result (λ end. IsOfReplay end.status) }
+{
+    let mut array = Array::new(alloc, rack, shape)?;
+    let status = serve_array(alloc, input, source, sink, &mut array, first);
+    let Array { volume, .. } = array;
+    Ok(Ended {
+        rack: volume.into_rack(),
+        status,
+    })
+}
+
+/// A replay over a rack that is handed in, and given back but for want of memory.
+fn replay<S: Source, K: Sink, R: Rack + Drop>(
+    alloc: Global,
+    source: &mut S,
+    sink: &mut K,
+    rack: R,
+) -> Result<Ended<R>, NoMemory>
+    ensures name { IfOk result (λ end. R.name end.rack ≡ R.name rack) }
+    ensures done { IfOk result (λ end. end.status ≡ Status.Done
+        → Replayed (R.counts rack) (R.counts end.rack) (R.bytes end.rack) (S.left source.old) (S.left source.new) (K.taken sink.old) (K.taken sink.new)) }
+    ensures bad_line { IfOk result (λ end. end.status ≡ Status.BadLine
+        → Stopped (R.counts rack) (R.counts end.rack) (R.bytes end.rack) (S.left source.old) (S.left source.new) (K.taken sink.old) (K.taken sink.new)) }
+    ensures broken { IfOk result (λ end. end.status ≡ Status.ReadFault
+        → BrokeOff (R.counts rack) (R.counts end.rack) (R.bytes end.rack) (S.left source.old) (S.left source.new) (K.taken sink.old) (K.taken sink.new)) }
+    ensures part { IfOk result (λ end. end.status ≡ Status.WriteFault
+        → IsCut (R.counts rack) (R.counts end.rack) (R.bytes end.rack) (S.left source.old) (S.left source.new) (K.taken sink.old) (K.taken sink.new)) }
+    ensures wanting { IfOk result (λ end. end.status ≡ Status.NoMemory
+        → RanOut (R.counts rack) (R.bytes end.rack) (S.left source.old) (S.left source.new) (K.taken sink.old) (K.taken sink.new)) }
+    ensures none { OnErr result (Told AreAny (S.left source.old) (S.left source.new) × (K.taken sink.new ≡ K.taken sink.old)) }
+    ensures read { IfOk result (λ end. end.status ≡ Status.ReadFault → Rose (S.faults source.old) (S.faults source.new)) }
+    ensures write { IfOk result (λ end. end.status ≡ Status.WriteFault → Rose (K.faults sink.old) (K.faults sink.new)) }
+    ensures source_kept { IfOk result (λ end. (end.status ≡ Status.ReadFault → ⊥) → S.faults source.new ≡ S.faults source.old) }
+    ensures sink_kept { IfOk result (λ end. (end.status ≡ Status.WriteFault → ⊥) → K.faults sink.new ≡ K.faults sink.old) }
+    ensures err_source { OnErr result (S.faults source.new ≡ S.faults source.old) }
+    ensures err_sink { OnErr result (K.faults sink.new ≡ K.faults sink.old) }
+    ensures never { IfOk result (λ end. IsOfReplay end.status) }
+{
+    let mut input = Input::new(alloc)?;
+    match take_event(alloc, &mut input, source, None, BUDGET) {
+        Ok(Taken::Event(Event::Array(shape), bytes)) => {
+            replay_array(alloc, &mut input, source, sink, rack, shape, bytes)
+        }
+        Ok(Taken::Event(_, _)) => unreachable!(),
+        Ok(Taken::End) => Ok(Ended {
+            rack,
+            status: refuse(sink, 1, BadLine::Cut),
+        }),
+        Ok(Taken::Refused(kind)) => Ok(Ended {
+            rack,
+            status: refuse(sink, 1, kind),
+        }),
+        Err(fault) => Ok(Ended {
+            rack,
+            status: status_of(fault),
+        }),
+    }
+}
+
+/// Replays the trace in the source on the members of the rack, which are made blank.
+pub fn serve_replay<S: Source, K: Sink, R: Rack>(
+    alloc: Global,
+    source: &mut S,
+    sink: &mut K,
+    rack: &mut R,
+) -> Status
+    ensures ends { EndsReplay (facts_of S.Source K.Sink R.Rack source.old source.new sink.old sink.new rack.old rack.new) result }
+    ensures read { result ≡ Status.ReadFault → Rose (S.faults source.old) (S.faults source.new) }
+    ensures write { result ≡ Status.WriteFault → Rose (K.faults sink.old) (K.faults sink.new) }
+    ensures source_kept { (result ≡ Status.ReadFault → ⊥) → S.faults source.new ≡ S.faults source.old }
+    ensures sink_kept { (result ≡ Status.WriteFault → ⊥) → K.faults sink.new ≡ K.faults sink.old }
+{
+    match replay(alloc, source, sink, &mut *rack) {
+        Ok(end) => end.status,
+        Err(_) => Status::NoMemory,
+    }
+}

@@ -1,0 +1,7 @@
+mod KnownOpenings
+mod Lined
+mod Opened
+mod PathReplies
+mod Served
+mod TextLines
+mod Unopened

@@ -1,0 +1,49 @@
+-- A command that opened no array.
+use Rattle.std.proofs.Common.{◌≡◌, ◌≢◌, ◌⊎◌, ℕ, List, refl, inl, inr}
+use Rattle.std.specs.Prelude.{Bool}
+use Rattle.dg_model.specs.declared.events.Event.{Event}
+use Rattle.dg_model.specs.declared.replies.Reply.{Reply}
+use Rattle.dg_saved.specs.Calls.{Facts}
+use Rattle.dg_saved.specs.Ends.{CutUnopened, EndsEvent, EndsStatus, Printed, PrintedPart}
+use Rattle.dg_saved.specs.Saved.{FoundNoState, FoundUnclean}
+use Rattle.dg_saved.specs.Texts.{nostate_text, unclean_text}
+use Rattle.dg_saved.specs.declared.ends.SavedEnd.{SavedEnd}
+use Rattle.dg_saved.specs.declared.ends.SavedEnd.TheVariants.{Done, NoState, Refused, Unclean, WriteFault}
+
+-- by its end
+abbrev pub EndsUnopened : Facts → SavedEnd → Type 0
+EndsUnopened facts Done = ⊥
+EndsUnopened facts Refused = ⊥
+EndsUnopened facts NoState = FoundNoState facts × Printed facts nostate_text
+EndsUnopened facts Unclean = FoundUnclean facts × Printed facts unclean_text
+EndsUnopened facts WriteFault = CutUnopened facts
+
+pub no_state_ends : (facts : Facts) (end : SavedEnd) → (end ≡ NoState) ⊎ (end ≡ WriteFault) → (end ≢ WriteFault → Printed facts nostate_text)
+    → (end ≡ WriteFault → PrintedPart facts nostate_text) → FoundNoState facts → EndsUnopened facts end
+no_state_ends facts Done is told part found = elim is [ inl e ↦ absurd (cc e) | inr e ↦ absurd (cc e) ]
+no_state_ends facts Refused is told part found = elim is [ inl e ↦ absurd (cc e) | inr e ↦ absurd (cc e) ]
+no_state_ends facts NoState is told part found = (found, told (λ e. cc e))
+no_state_ends facts Unclean is told part found = elim is [ inl e ↦ absurd (cc e) | inr e ↦ absurd (cc e) ]
+no_state_ends facts WriteFault is told part found = inl (found, part refl)
+
+pub unclean_ends : (facts : Facts) (end : SavedEnd) → (end ≡ Unclean) ⊎ (end ≡ WriteFault) → (end ≢ WriteFault → Printed facts unclean_text)
+    → (end ≡ WriteFault → PrintedPart facts unclean_text) → FoundUnclean facts → EndsUnopened facts end
+unclean_ends facts Done is told part found = elim is [ inl e ↦ absurd (cc e) | inr e ↦ absurd (cc e) ]
+unclean_ends facts Refused is told part found = elim is [ inl e ↦ absurd (cc e) | inr e ↦ absurd (cc e) ]
+unclean_ends facts NoState is told part found = elim is [ inl e ↦ absurd (cc e) | inr e ↦ absurd (cc e) ]
+unclean_ends facts Unclean is told part found = (found, told (λ e. cc e))
+unclean_ends facts WriteFault is told part found = inr (found, part refl)
+
+pub event_unopened : (facts : Facts) (event : Event) (text : Reply → List ℕ) (gives : Reply → Bool) (end : SavedEnd) → EndsUnopened facts end → EndsEvent facts event text gives end
+event_unopened facts event text gives Done h = absurd h
+event_unopened facts event text gives Refused h = absurd h
+event_unopened facts event text gives NoState h = h
+event_unopened facts event text gives Unclean h = h
+event_unopened facts event text gives WriteFault h = inl h
+
+pub status_unopened : (facts : Facts) (end : SavedEnd) → EndsUnopened facts end → EndsStatus facts end
+status_unopened facts Done h = absurd h
+status_unopened facts Refused h = absurd h
+status_unopened facts NoState h = h
+status_unopened facts Unclean h = h
+status_unopened facts WriteFault h = inl h

@@ -1,0 +1,66 @@
+use Rattle.std.proofs.Common.{ℕ, List, rules, subst}
+use Rattle.dg_io.specs.Told.{Told, Took, TookPart}
+use Rattle.dg_model.specs.declared.events.Event.TheVariants.{Cat}
+use Rattle.dg_saved.proofs.PathReplies.{cat_nothing, has_reply}
+use Rattle.dg_saved.proofs.Served.{file_cut, file_given, file_part, file_refused, file_refused_part, some_bytes}
+use Rattle.dg_text.specs.RawBytes.{TookRaw, TookRawPart}
+use Rattle.dg_text.specs.Replies.{reply_line}
+use Rattle.dg_text.specs.declared.raw.Raw.{Raw}
+use Rattle.dg_volume.specs.Volumes.{StepsBy, StepsTo, any_phase, given_of, phase_of, shape_of, touched_by}
+use Rattle.dg_saved.proofs.files.serve_cat.Goals as goal
+
+pub returns-in-Given-clause-ends : goal.returns-in-Given-clause-ends
+returns-in-Given-clause-ends g c =
+    let old = c.args.volume.now in
+    let rule = c.in-Given.ensures.steps in
+    let told = subst (λ k. Told (Took rule.0) (g.K.Sink.taken k) (g.K.Sink.taken c.cat.new.out.sink.now)) c.new-bytes.ensures.sink rule.2.told in
+    file_given g.R.Rack old c.cat.new.self (touched_by (phase_of any_phase old) (given_of c.cat.new.self)) (shape_of old).l c.args.path.now rule.0 _ _
+    (some_bytes (shape_of old) c.requires.well.array.table.shape) rule.3
+    (subst (λ k. Told (Took rule.0) (g.K.Sink.taken c.args.sink.now) (g.K.Sink.taken k)) (search rules) told)
+
+pub returns-in-Cut-clause-ends : goal.returns-in-Cut-clause-ends
+returns-in-Cut-clause-ends g c =
+    let old = c.args.volume.now in
+    let rule = c.in-Cut.ensures.steps in
+    let told = subst (λ k. Told (Took rule.0) (g.K.Sink.taken k) (g.K.Sink.taken c.cat.new.out.sink.now)) c.new-bytes.ensures.sink rule.2.told in
+    file_cut g.R.Rack old c.cat.new.self (shape_of old).l c.args.path.now rule.0 _ _ (some_bytes (shape_of old) c.requires.well.array.table.shape) rule.3
+    (subst (λ k. Told (Took rule.0) (g.K.Sink.taken c.args.sink.now) (g.K.Sink.taken k)) (search rules) told)
+
+pub returns-in-SinkFault-clause-ends : goal.returns-in-SinkFault-clause-ends
+returns-in-SinkFault-clause-ends g c =
+    let old = c.args.volume.now in
+    let rule = c.in-SinkFault.ensures.steps in
+    let told = subst (λ k. Told (TookPart rule.0) (g.K.Sink.taken k) (g.K.Sink.taken c.cat.new.out.sink.now)) c.new-bytes.ensures.sink rule.1.told in
+    file_part g.R.Rack old c.cat.new.self (touched_by (phase_of any_phase old) (given_of c.cat.new.self)) (shape_of old).l c.args.path.now rule.0 _ _
+    (some_bytes (shape_of old) c.requires.well.array.table.shape) rule.3
+    (subst (λ k. Told (TookPart rule.0) (g.K.Sink.taken c.args.sink.now) (g.K.Sink.taken k)) (search rules) told)
+
+pub returns-in-Ok : goal.returns-in-Ok
+returns-in-Ok g c =
+    let old = c.args.volume.now in
+    let has = has_reply c.cat.result c.in_default.not-Given c.in_default.not-Cut c.in_default.not-SinkFault in
+    let rule = cat_nothing (TookRaw g.K.Sink.taken) (TookRawPart g.K.Sink.taken) (λ (s : Raw g.row.K.Denot). g.K.Sink.faults s.sink.now) c.new-bytes.result c.cat.new.out
+    (shape_of old).l (λ reply. StepsBy any_phase any_phase g.R.Rack (touched_by (phase_of any_phase old) (given_of c.cat.new.self)) old (Cat c.args.path.now) reply c.cat.new.self)
+    (λ reply. StepsTo any_phase any_phase g.R.Rack old (Cat c.args.path.now) reply c.cat.new.self) c.cat.result has c.cat.ensures.steps in
+    record {
+      leaves = search rules;
+      ends = file_refused g.R.Rack old c.cat.new.self c.args.path.now has.reply _ _ has.plain rule.1
+          (subst (λ k. Told (Took (reply_line has.reply)) (g.K.Sink.taken k) (g.K.Sink.taken c.write_nothing.new.sink)) (search (rules, rule.0)) (c.in-Ok.ensures.ok has.reply has.is));
+      write = search rules;
+      kept = search rules;
+    }
+
+pub returns-in-Err : goal.returns-in-Err
+returns-in-Err g c =
+    let old = c.args.volume.now in
+    let has = has_reply c.cat.result c.in_default.not-Given c.in_default.not-Cut c.in_default.not-SinkFault in
+    let rule = cat_nothing (TookRaw g.K.Sink.taken) (TookRawPart g.K.Sink.taken) (λ (s : Raw g.row.K.Denot). g.K.Sink.faults s.sink.now) c.new-bytes.result c.cat.new.out
+    (shape_of old).l (λ reply. StepsBy any_phase any_phase g.R.Rack (touched_by (phase_of any_phase old) (given_of c.cat.new.self)) old (Cat c.args.path.now) reply c.cat.new.self)
+    (λ reply. StepsTo any_phase any_phase g.R.Rack old (Cat c.args.path.now) reply c.cat.new.self) c.cat.result has c.cat.ensures.steps in
+    record {
+      leaves = search rules;
+      ends = file_refused_part g.R.Rack old c.cat.new.self c.args.path.now has.reply _ _ has.plain rule.1
+          (subst (λ k. Told (TookPart (reply_line has.reply)) (g.K.Sink.taken k) (g.K.Sink.taken c.write_nothing.new.sink)) (search (rules, rule.0)) (c.in-Err.ensures.err has.reply has.is));
+      write = search rules;
+      kept = search rules;
+    }

@@ -1,0 +1,5 @@
+pub mod Calls
+pub mod Ends
+pub mod Saved
+pub mod Serves
+pub mod Texts

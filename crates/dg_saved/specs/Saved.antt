@@ -1,0 +1,108 @@
+-- What a command on a saved array found, and what it did, told by the members and the counts of the rack.
+use Rattle.std.specs.Prelude.{◌≡◌, ◌⊎◌, ◌<◌, ◌/◌, ℕ, true, List, Option, Some, None, IfSome, IsSome}
+use Rattle.dg_io.specs.Told.{IsSame, Told}
+use Rattle.dg_model.specs.Members.{MembersFall, is_good}
+use Rattle.dg_model.specs.Openings.{Found, HasNoState, IsSource, IsUnclean, MayBeGood, Opens}
+use Rattle.dg_model.specs.Saves.{HasBody, Label, SavedState, body_of}
+use Rattle.dg_model.specs.States.{Counts, CountsRise, HoldsAll, StandsFor, State}
+use Rattle.dg_model.specs.Steps.{Step}
+use Rattle.dg_model.specs.Tables.{Table}
+use Rattle.dg_model.specs.declared.events.Event.{Event}
+use Rattle.dg_model.specs.declared.members.MemberState.{MemberState}
+use Rattle.dg_model.specs.declared.members.MemberState.TheVariants.{Good, Out}
+use Rattle.dg_model.specs.declared.phases.Phase.{Phase}
+use Rattle.dg_model.specs.declared.replies.Reply.{Reply}
+use Rattle.dg_open.specs.Founds.{AreRead}
+use Rattle.dg_saved.specs.Calls.{Facts}
+use Rattle.dg_saved.specs.Texts.{array_text, status_text}
+
+-- ---- nothing to open
+
+-- What was taken of the members of the rack, as they stood and stand. Nothing was written, each member that tells its bytes has those that
+-- it had, and no count fell.
+pub record HasLooked (facts : Facts) : Type 0 where
+  pub taken : ℕ → Option Found
+  pub read : AreRead facts.bytes facts.before.faults facts.now.faults taken
+  pub same : (q : ℕ) → Told IsSame (facts.images q) (facts.bytes q)
+  pub rise : CountsRise facts.before facts.now
+  pub writes : facts.now.writes ≡ facts.before.writes
+
+-- there is no saved array
+pub record FoundNoState (facts : Facts) : Type 0 where
+  pub looked : HasLooked facts
+  pub none : HasNoState looked.taken
+
+-- the array was written after its last save
+pub record FoundUnclean (facts : Facts) : Type 0 where
+  pub looked : HasLooked facts
+  pub unclean : IsUnclean looked.taken
+
+-- ---- a saved array
+
+-- the bytes that a member had before, where they are told now
+abbrev pub had : Option (List ℕ) → Option (List ℕ) → Option (List ℕ)
+had before None = None
+had before (Some now) = before
+
+-- each member of an array with these sites tells its bytes
+abbrev pub TellsArray : (ℕ → Option (List ℕ)) → Table → Type 0
+TellsArray bytes table = (q : ℕ) → q / 2 < table.shape.b → IsSome (bytes q)
+
+-- What an array was opened from, when the rack had these counts: what was taken of the members, as they stood before; the first of the newest
+-- that says a state; and what each member did before blocks were read, and when it had been opened. It was good at first only where it may be.
+pub record HasSource (facts : Facts) (opened : Counts) : Type 0 where
+  pub taken : ℕ → Option Found
+  pub read : AreRead (λ q. had (facts.images q) (facts.bytes q)) facts.before.faults opened.faults taken
+  pub writes : opened.writes ≡ facts.before.writes
+  pub source : ℕ
+  pub label : Label
+  pub saved : SavedState
+  pub is_source : IsSource taken source label saved
+  pub first : ℕ → MemberState
+  pub first_are : (q : ℕ) → ((first q ≡ Good) × MayBeGood taken label saved q) ⊎ (first q ≡ Out)
+  pub members : ℕ → MemberState
+  pub falls : MembersFall facts.before.faults opened.faults first members
+
+-- The members held these blocks before; and on each one that was good when the array had been opened stood the body of the source.
+pub record IsHeld (facts : Facts) (opened : Counts) (source : HasSource facts opened) (V : List (List ℕ)) : Type 0 where
+  pub blocks : StandsFor source.saved.table source.first facts.images V
+  pub body : (q : ℕ) → is_good (source.members q) ≡ true
+      → IfSome (facts.images q) (λ all. HasBody all source.saved.table.shape (body_of source.label.format source.saved))
+
+-- The array was opened in this state, with these blocks.
+pub record IsOpenedAs (facts : Facts) (opened : Counts) (source : HasSource facts opened) (V : List (List ℕ)) (state : State) : Type 0 where
+  pub blocks : state.blocks ≡ V
+  pub opens : Opens (TellsArray facts.bytes source.saved.table) source.taken facts.before state
+  pub members : state.members ≡ source.members
+  pub counts : state.counts ≡ opened
+
+-- With these blocks, the event was one step from the opened state, to one that has the counts of the rack; and where each member of the array
+-- tells its bytes in the end, the members hold it.
+pub record RunsFrom (facts : Facts) (opened : Counts) (source : HasSource facts opened) (event : Event) (reply : Reply) (V : List (List ℕ)) : Type 0 where
+  pub state : State
+  pub is : IsOpenedAs facts opened source V state
+  pub next : State
+  pub step : Step (TellsArray facts.bytes source.saved.table) state event reply next
+  pub counts : next.counts ≡ facts.now
+  pub holds : TellsArray facts.bytes source.saved.table → HoldsAll facts.bytes next
+
+-- A saved array was opened, and the event was answered by this reply, whichever blocks the members held.
+pub record HasRun (facts : Facts) (event : Event) (reply : Reply) : Type 0 where
+  pub opened : Counts
+  pub source : HasSource facts opened
+  pub runs : (V : List (List ℕ)) → IsHeld facts opened source V → RunsFrom facts opened source event reply V
+
+-- With these blocks, the array was opened in a state of which this text tells, and the members hold it where they tell their bytes in the end.
+pub record ShowsFrom (facts : Facts) (source : HasSource facts facts.now) (text : List ℕ) (V : List (List ℕ)) : Type 0 where
+  pub state : State
+  pub is : IsOpenedAs facts facts.now source V state
+  pub text_is : text ≡ status_text state
+  pub holds : TellsArray facts.bytes source.saved.table → HoldsAll facts.bytes state
+
+-- A saved array was opened, and this text tells of its state, whichever blocks the members held. It has the sites that its source says, and
+-- its members.
+pub record HasShown (facts : Facts) (text : List ℕ) : Type 0 where
+  pub source : HasSource facts facts.now
+  pub phase : Phase
+  pub text_is : text ≡ array_text source.saved.table source.members phase
+  pub shows : (V : List (List ℕ)) → IsHeld facts facts.now source V → ShowsFrom facts source text V

@@ -1,0 +1,76 @@
+// Files of a saved array.
+ghost use Rattle.std.specs.Prelude.{◌≡◌, ◌≢◌, true, IfOk, OnErr};
+ghost use Rattle.dg_model.specs.Causes.{Rose};
+ghost use Rattle.dg_model.specs.declared.events.Event.{Event};
+ghost use Rattle.dg_saved.specs.Calls.{facts_of};
+ghost use Rattle.dg_saved.specs.Ends.{EndsCat};
+ghost use Rattle.dg_saved.specs.Serves.{EndsServed};
+ghost use Rattle.dg_saved.specs.Texts.{cat_text, gives_file};
+ghost use Rattle.dg_volume.specs.Volumes.{IsWell, Leaves, any_phase};
+ghost use Rattle.ufs_model.specs.Paths.{is_path};
+
+use crate::ends::{Ended, SavedEnd, tell};
+use crate::replies::write_nothing;
+use dg_io::{NoMemory, Rack, Sink};
+use dg_text::Raw;
+use dg_volume::{AnyPhase, CatAnswer, OpenAnswer, Volume, open};
+use std::alloc::Global;
+
+/// Prints the bytes of the file at a path as they are, or the reply that says why there are none.
+fn serve_cat<K: Sink, R: Rack>(
+    path: &[u8],
+    sink: &mut K,
+    volume: &mut Volume<AnyPhase, R>,
+) -> SavedEnd
+    requires well { IsWell any_phase R.Rack volume.old }
+    requires path { is_path path.now ≡ true }
+    ensures leaves { Leaves any_phase any_phase R.Rack volume.old volume.new }
+    ensures ends { EndsServed R.Rack volume.old (Event.Cat path.now) cat_text gives_file (K.taken sink.old) (K.taken sink.new) volume.new result }
+    ensures write { result ≡ SavedEnd.WriteFault → Rose (K.faults sink.old) (K.faults sink.new) }
+    ensures kept { result ≢ SavedEnd.WriteFault → K.faults sink.new ≡ K.faults sink.old }
+{
+    let mut bytes = Raw::new(&mut *sink);
+    match volume.cat(path, &mut bytes) {
+        CatAnswer::Given(_) => SavedEnd::Done,
+        CatAnswer::Cut(_) => SavedEnd::Refused,
+        CatAnswer::SinkFault => SavedEnd::WriteFault,
+        nothing => match write_nothing(sink, nothing) {
+            Ok(()) => SavedEnd::Refused,
+            Err(_) => SavedEnd::WriteFault,
+        },
+    }
+}
+
+/// Opens the saved array, and prints the bytes of the file at a path as they are. Another reply is printed as a line; after a cut nothing
+/// more is printed than the bytes that were read.
+pub fn cat_saved<K: Sink, R: Rack + Drop>(
+    alloc: Global,
+    path: &[u8],
+    sink: &mut K,
+    rack: R,
+) -> Result<Ended<R>, NoMemory>
+    requires path { is_path path.now ≡ true }
+    ensures name { IfOk result (λ ended. R.name ended.rack ≡ R.name rack) }
+    ensures ends { IfOk result (λ ended. EndsCat (facts_of K.Sink R.Rack sink.old sink.new rack ended.rack) path.now ended.end) }
+    ensures none { OnErr result (sink.new ≡ sink.old) }
+    ensures write { IfOk result (λ ended. ended.end ≡ SavedEnd.WriteFault → Rose (K.faults sink.old) (K.faults sink.new)) }
+    ensures kept { IfOk result (λ ended. ended.end ≢ SavedEnd.WriteFault → K.faults sink.new ≡ K.faults sink.old) }
+{
+    match open(alloc, rack)? {
+        OpenAnswer::NoState(rack) => Ok(Ended {
+            rack,
+            end: tell(sink, b"nostate\n", SavedEnd::NoState),
+        }),
+        OpenAnswer::Unclean(rack) => Ok(Ended {
+            rack,
+            end: tell(sink, b"unclean\n", SavedEnd::Unclean),
+        }),
+        OpenAnswer::Opened(mut volume, _) => {
+            let end = serve_cat(path, sink, &mut volume);
+            Ok(Ended {
+                rack: volume.into_rack(),
+                end,
+            })
+        }
+    }
+}

@@ -1,0 +1,80 @@
+// Directories of a saved array.
+ghost use Rattle.std.specs.Prelude.{◌≡◌, ◌≢◌, true, IfOk, OnErr};
+ghost use Rattle.dg_model.specs.Causes.{Rose};
+ghost use Rattle.dg_model.specs.declared.events.Event.{Event};
+ghost use Rattle.dg_saved.specs.Calls.{facts_of};
+ghost use Rattle.dg_saved.specs.Ends.{EndsLs};
+ghost use Rattle.dg_saved.specs.Serves.{EndsServed};
+ghost use Rattle.dg_saved.specs.Texts.{gives_listing, ls_text};
+ghost use Rattle.dg_volume.specs.Volumes.{IsWell, Leaves, any_phase};
+ghost use Rattle.ufs_model.specs.Paths.{is_path};
+
+use crate::ends::{Ended, SavedEnd, tell};
+use crate::replies::write_nothing;
+use dg_io::{NoMemory, Rack, Sink};
+use dg_text::{Form, Lines};
+use dg_volume::{AnyPhase, CatAnswer, OpenAnswer, Volume, open};
+use std::alloc::Global;
+
+/// Prints the entries of the directory at a path as lines, and their number; of a listing that was cut its entries alone; or the reply that says
+/// why there are none.
+fn serve_ls<K: Sink, R: Rack>(
+    path: &[u8],
+    sink: &mut K,
+    volume: &mut Volume<AnyPhase, R>,
+) -> SavedEnd
+    requires well { IsWell any_phase R.Rack volume.old }
+    requires path { is_path path.now ≡ true }
+    ensures leaves { Leaves any_phase any_phase R.Rack volume.old volume.new }
+    ensures ends { EndsServed R.Rack volume.old (Event.Ls path.now) ls_text gives_listing (K.taken sink.old) (K.taken sink.new) volume.new result }
+    ensures write { result ≡ SavedEnd.WriteFault → Rose (K.faults sink.old) (K.faults sink.new) }
+    ensures kept { result ≢ SavedEnd.WriteFault → K.faults sink.new ≡ K.faults sink.old }
+{
+    let mut entries = Lines::new(&mut *sink, Form::Directory);
+    match volume.ls(path, &mut entries) {
+        CatAnswer::Given(n) => match entries.end(n) {
+            Ok(()) => SavedEnd::Done,
+            Err(_) => SavedEnd::WriteFault,
+        },
+        CatAnswer::Cut(_) => SavedEnd::Refused,
+        CatAnswer::SinkFault => SavedEnd::WriteFault,
+        nothing => match write_nothing(sink, nothing) {
+            Ok(()) => SavedEnd::Refused,
+            Err(_) => SavedEnd::WriteFault,
+        },
+    }
+}
+
+/// Opens the saved array, and prints the entries of the directory at a path, one a line, and their number. Another reply is printed as a line;
+/// after a cut nothing more is printed than the entries that were read.
+pub fn ls_saved<K: Sink, R: Rack + Drop>(
+    alloc: Global,
+    path: &[u8],
+    sink: &mut K,
+    rack: R,
+) -> Result<Ended<R>, NoMemory>
+    requires path { is_path path.now ≡ true }
+    ensures name { IfOk result (λ ended. R.name ended.rack ≡ R.name rack) }
+    ensures ends { IfOk result (λ ended. EndsLs (facts_of K.Sink R.Rack sink.old sink.new rack ended.rack) path.now ended.end) }
+    ensures none { OnErr result (sink.new ≡ sink.old) }
+    ensures write { IfOk result (λ ended. ended.end ≡ SavedEnd.WriteFault → Rose (K.faults sink.old) (K.faults sink.new)) }
+    ensures kept { IfOk result (λ ended. ended.end ≢ SavedEnd.WriteFault → K.faults sink.new ≡ K.faults sink.old) }
+{
+    match open(alloc, rack)? {
+        OpenAnswer::NoState(rack) => Ok(Ended {
+            rack,
+            end: tell(sink, b"nostate\n", SavedEnd::NoState),
+        }),
+        OpenAnswer::Unclean(rack) => Ok(Ended {
+            rack,
+            end: tell(sink, b"unclean\n", SavedEnd::Unclean),
+        }),
+        OpenAnswer::Opened(mut volume, _) => {
+            let end = serve_ls(path, sink, &mut volume);
+            Ok(Ended {
+                rack: volume.into_rack(),
+                end,
+            })
+        }
+    }
+}

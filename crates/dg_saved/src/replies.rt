@@ -1,0 +1,40 @@
+// The reply at a path that gave nothing.
+ghost use Rattle.std.specs.Prelude.{◌≡◌, IsSome, Some, OnOk, OnErr};
+ghost use Rattle.dg_io.specs.Faults.{HasCause};
+ghost use Rattle.dg_io.specs.Told.{Told, Took, TookPart};
+ghost use Rattle.dg_model.specs.declared.replies.Reply.{Reply};
+ghost use Rattle.dg_saved.specs.Serves.{reply_at};
+ghost use Rattle.dg_text.specs.Replies.{reply_line};
+
+use dg_io::Sink;
+use dg_model::{Failed, Reply};
+use dg_text::write_reply;
+use dg_volume::CatAnswer;
+use ufs_model::PathRefusal;
+
+/// The reply to a path that gave nothing.
+fn reply_at(answer: CatAnswer) -> Reply
+    requires { IsSome (reply_at answer) }
+    ensures is { reply_at answer ≡ Some result }
+{
+    match answer {
+        CatAnswer::NotFound => Reply::Refused(PathRefusal::NotFound),
+        CatAnswer::NotDirectory => Reply::Refused(PathRefusal::NotDirectory),
+        CatAnswer::NotRegular => Reply::Refused(PathRefusal::NotRegular),
+        CatAnswer::Bad(bad) => Reply::Refused(PathRefusal::Bad(bad)),
+        CatAnswer::Unavailable => Reply::Unavailable,
+        CatAnswer::Given(_) | CatAnswer::Cut(_) | CatAnswer::SinkFault => unreachable!(),
+    }
+}
+
+/// Writes the reply to a path that gave nothing.
+pub fn write_nothing<K: Sink>(sink: &mut K, answer: CatAnswer) -> Result<(), Failed>
+    requires { IsSome (reply_at answer) }
+    ensures ok { (reply : Reply) → reply_at answer ≡ Some reply → OnOk result (Told (Took (reply_line reply)) (K.taken sink.old) (K.taken sink.new)) }
+    ensures err { (reply : Reply) → reply_at answer ≡ Some reply
+        → OnErr result (Told (TookPart (reply_line reply)) (K.taken sink.old) (K.taken sink.new)) }
+    ensures cause { HasCause (K.faults sink.old) (K.faults sink.new) result }
+{
+    let reply = reply_at(answer);
+    write_reply(sink, &reply)
+}

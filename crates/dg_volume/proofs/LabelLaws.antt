@@ -1,0 +1,468 @@
+-- What calls leave of a label: each law is one on the array and what is kept of the label.
+use Rattle.std.proofs.Common.{◌≡◌, ◌⊎◌, ◌∙◌, ◌<◌, ◌≤◌, ◌+◌, ◌*◌, ◌^◌, ◌-◌, ◌&&◌, ◌||◌, ℕ, Bool, true, false, List, length, inl, inr, refl, sym, ap, subst, arith}
+use Rattle.std.specs.Prelude.{IfSome, None, Option, Some, drop, if◌then◌else◌, nat_lt, not, take}
+use Rattle.std.proofs.lemmas.Bool.{and_parts, false≢true, le-ltb, lt-ltb}
+use Rattle.dg_io.specs.Told.{IsSame, Told, Torn}
+use Rattle.dg_io.specs.declared.outside.Rack.{Ghosts}
+use Rattle.dg_label.specs.Labels.{AreNumbers, HasLength, IsKeptOf, IsLabeled, StandsLabeled, is_sealed, unsealed}
+use Rattle.dg_label.specs.Seals.{HasGood, OpensSeal}
+use Rattle.dg_label.specs.declared.labels.KeptLabel.{KeptLabel}
+use Rattle.dg_model.proofs.MemberLaws.{none_lost}
+use Rattle.dg_model.specs.Causes.{Rose}
+use Rattle.dg_model.specs.Members.{MembersFall, is_filling, is_good, is_lost}
+use Rattle.dg_model.specs.Saves.{BeginsWith, HasBody, Label, body_place, member_length}
+use Rattle.dg_model.specs.Seals.{HoldsLabel, KeepsLabel, LastLabel, label_after, label_on, next_label}
+use Rattle.dg_model.specs.States.{has_lost}
+use Rattle.dg_model.specs.declared.members.MemberState.{MemberState}
+use Rattle.dg_model.specs.declared.members.MemberState.TheVariants.{Out}
+use Rattle.dg_model.specs.declared.shapes.Shape.{Shape}
+use Rattle.dg_pair.specs.Calls.{KeepsBeside}
+use Rattle.dg_store.specs.Leaves.{Keeps}
+use Rattle.dg_store.specs.ReadLaws.{beside_none}
+use Rattle.dg_store.specs.Stores.{members_of, rack_of, shape_of}
+use Rattle.dg_store.specs.Views.{ReadsOn}
+use Rattle.dg_store.specs.declared.store.Store.{Store}
+use Rattle.dg_volume.specs.Seals.{OpensWhere, Relabels}
+
+-- ---- the bytes of a member
+
+-- a label before the slots stays where only bytes of slots changed
+front_stays : (n : ℕ) (label : Label) (before now : Option (List ℕ)) → Told (Torn 512 n) before now → IfSome before (λ all. BeginsWith all label)
+    → IfSome now (λ all. BeginsWith all label)
+front_stays n label None None told had = tt
+front_stays n label (Some b) None told had = tt
+front_stays n label None (Some a) told had = absurd told
+front_stays n label (Some b) (Some a) told had = record { is = had.is; bytes = told.front ∙ had.bytes }
+
+-- so does a body behind them
+body_stays : (shape : Shape) (body : List ℕ) (before now : Option (List ℕ)) → Told (Torn 512 ((shape.k + 1) * shape.l)) before now
+    → IfSome before (λ all. HasBody all shape body) → IfSome now (λ all. HasBody all shape body)
+body_stays shape body None None told had = tt
+body_stays shape body (Some b) None told had = tt
+body_stays shape body None (Some a) told had = absurd told
+body_stays shape body (Some b) (Some a) told had =
+    ap (λ (xs : List ℕ). take ((body_place shape + length body) - body_place shape) xs) told.back ∙ had
+
+-- so does what is said of the length
+pub length_stays : (n : ℕ) (P : ℕ → Type 0) (before now : Option (List ℕ)) → Told (Torn 512 n) before now → IfSome before (λ all. P (length all)) → IfSome now (λ all. P (length all))
+length_stays n P None None told had = tt
+length_stays n P (Some b) None told had = tt
+length_stays n P None (Some a) told had = absurd told
+length_stays n P (Some b) (Some a) told had = subst P (sym told.size) had
+
+-- bytes that are as they were
+pub torn_none : (place n : ℕ) (before now : Option (List ℕ)) → Told IsSame before now → Told (Torn place n) before now
+torn_none place n None None told = tt
+torn_none place n (Some b) None told = tt
+torn_none place n None (Some a) told = absurd told
+torn_none place n (Some b) (Some a) told = record {
+  size = ap length told;
+  front = ap (λ (xs : List ℕ). take place xs) told;
+  back = ap (λ (xs : List ℕ). drop (place + n) xs) told;
+}
+
+-- ---- the label of the next state
+
+-- the label with its seal opened, on the members that were good and still are
+abbrev pub opened : (ℕ → MemberState) → (ℕ → MemberState) → LastLabel → LastLabel
+opened old new last = record last { sealed = false; keepers = λ q. (last.sealed || last.keepers q) && (is_good (old q) && is_good (new q)) }
+
+still_test : (opens : Bool) → (true && not opens) ≡ not opens
+still_test true = refl
+still_test false = refl
+
+-- ---- whose label
+
+sealed_of : (last : LastLabel) (kept : Option KeptLabel) (s : Bool) → last.sealed ≡ s → IsKeptOf (Some last) kept → is_sealed kept ≡ s
+sealed_of last None s is kept = absurd kept
+sealed_of last (Some k) s is kept = sym kept.sealed ∙ is
+
+kept_opened : (old new : ℕ → MemberState) (last : LastLabel) (kept : Option KeptLabel) → is_sealed kept ≡ false → IsKeptOf (Some last) kept → IsKeptOf (Some (opened old new last)) kept
+kept_opened old new last None is kept = absurd kept
+kept_opened old new last (Some k) is kept = record { format = kept.format; sequence = kept.sequence; sealed = sym is; body = kept.body }
+
+-- one that isn't sealed is the same where it is opened
+unsealed_same : (kept : Option KeptLabel) → is_sealed kept ≡ false → unsealed kept ≡ kept
+unsealed_same None is = refl
+unsealed_same (Some k) is = λ i. Some (record k { sealed = sym is i })
+
+module _ {R : Type 0} (rack : Ghosts R) where
+  abbrev writes_of : Store R → ℕ
+  writes_of store = (rack.counts (rack_of store)).writes
+
+  -- ---- steps of the model
+
+  rose_not : (before now : ℕ) → Rose before now → now ≡ before → now < 2 ^ 64 - 1 → ⊥
+  rose_not before now rose same low = omega (arith, rose, same, low)
+
+  sealed_rose : (opens : Bool) (before now : ℕ) → (opens ≡ false → now ≡ before) → before < now → opens ≡ true
+  sealed_rose true before now stood less = refl
+  sealed_rose false before now stood less = absurd (let same = stood refl in omega (arith, same, less))
+
+  sealed_stood : (opens : Bool) (before now : ℕ) → (opens ≡ true → Rose before now) → now ≡ before → now < 2 ^ 64 - 1 → opens ≡ false
+  sealed_stood true before now wrote same low = absurd (rose_not before now (wrote refl) same low)
+  sealed_stood false before now wrote same low = refl
+
+  after_unsealed : (one two : Bool) (old new : ℕ → MemberState) (last : LastLabel) → last.sealed ≡ false → next_label one old new last ≡ next_label two old new last
+  after_unsealed one two old new last is =
+      ap (λ (s : Bool). if s && not one then last else opened old new last) is ∙ sym (ap (λ (s : Bool). if s && not two then last else opened old new last) is)
+
+  -- the label that is left is one that a step may leave
+  pub keeps_label : (a b : Store R) (before after : Option KeptLabel) (h : Relabels rack a b before after) (last : Option LastLabel) → IsKeptOf last before
+      → KeepsLabel (writes_of a) (writes_of b) (members_of a) (members_of b) last (label_after h.opens (members_of a) (members_of b) last)
+  keeps_label a b before after h None kept = record {
+    opens = nat_lt (writes_of a) (writes_of b);
+    rose = λ less low. lt-ltb (writes_of a) (writes_of b) less;
+    stood = λ same low. le-ltb (writes_of a) (writes_of b) (omega (arith, same));
+    is = refl;
+  }
+  keeps_label a b before after h (Some last) kept = by_seal last.sealed refl
+    where
+      by_seal : (s : Bool) → last.sealed ≡ s
+          → KeepsLabel (writes_of a) (writes_of b) (members_of a) (members_of b) (Some last) (label_after h.opens (members_of a) (members_of b) (Some last))
+      by_seal true is =
+          let sealed = sealed_of last before true is kept in
+          record {
+            opens = h.opens;
+            rose = λ less low. sealed_rose h.opens (writes_of a) (writes_of b) (h.stood sealed) less;
+            stood = λ same low. sealed_stood h.opens (writes_of a) (writes_of b) (h.wrote sealed) same low;
+            is = refl;
+          }
+      by_seal false is = record {
+        opens = nat_lt (writes_of a) (writes_of b);
+        rose = λ less low. lt-ltb (writes_of a) (writes_of b) less;
+        stood = λ same low. le-ltb (writes_of a) (writes_of b) (omega (arith, same));
+        is = ap Some (after_unsealed h.opens (nat_lt (writes_of a) (writes_of b)) (members_of a) (members_of b) last is);
+      }
+
+  -- ---- no call
+
+  still_label : (a : Store R) (kept : Option KeptLabel) (last : LastLabel) (s : Bool) → last.sealed ≡ s → StandsLabeled rack a kept (Some last)
+      → StandsLabeled rack a kept (Some (next_label false (members_of a) (members_of a) last))
+  still_label a kept last true is stands =
+      subst (λ (s : Bool). StandsLabeled rack a kept (Some (if s && not false then last else opened (members_of a) (members_of a) last))) (sym is) stands
+  still_label a kept last false is stands =
+      let open_now : StandsLabeled rack a kept (Some (opened (members_of a) (members_of a) last)) = record {
+        kept = kept_opened (members_of a) (members_of a) last kept (sealed_of last kept false is stands.kept) stands.kept;
+        holds = record {
+          label = λ q keeps.
+              let parts = and_parts (last.sealed || last.keepers q) (is_good (members_of a q) && is_good (members_of a q)) keeps in
+              let had : last.keepers q ≡ true = subst (λ (s : Bool). (s || last.keepers q) ≡ true) is parts.0 in
+              subst (λ (s : Bool). IfSome (rack.bytes (rack_of a) q) (λ all. BeginsWith all (record (label_on (shape_of a) last q) { sealed = s }))) is
+              (stands.holds.label q had);
+          body = λ q keeps sealed. absurd (false≢true sealed);
+        };
+      } in
+      subst (λ (s : Bool). StandsLabeled rack a kept (Some (if s && not false then last else opened (members_of a) (members_of a) last))) (sym is) open_now
+
+  pub relabels_none : (a : Store R) (kept : Option KeptLabel) → IsLabeled rack a kept → Relabels rack a a kept kept
+  relabels_none a kept labeled = record {
+    labeled = labeled;
+    opens = false;
+    stands = λ last stands. at_last last stands;
+    wrote = λ sealed opens. absurd (false≢true opens);
+    stood = λ sealed opens. refl;
+  }
+    where
+      at_last : (last : Option LastLabel) → StandsLabeled rack a kept last → StandsLabeled rack a kept (label_after false (members_of a) (members_of a) last)
+      at_last None stands = record { kept = stands.kept; holds = tt }
+      at_last (Some last) stands = still_label a kept last last.sealed refl stands
+
+  -- ---- an opening
+
+  pub relabels_opened : (a m : Store R) (before after : Option KeptLabel) → HasGood a → OpensSeal rack a m before after → Relabels rack a m before after
+  relabels_opened a m before after good h = record {
+    labeled = h.labeled;
+    opens = true;
+    stands = λ last stands. at_last last stands;
+    wrote = λ sealed opens. h.wrote sealed good;
+    stood = λ sealed opens. absurd (false≢true (sym opens));
+  }
+    where
+      at_open : (last : LastLabel) → is_sealed before ≡ false → StandsLabeled rack a before (Some last)
+          → StandsLabeled rack a before (Some (next_label true (members_of a) (members_of a) last))
+      at_open last is stands =
+          subst (λ (x : LastLabel). StandsLabeled rack a before (Some x))
+          (after_unsealed false true (members_of a) (members_of a) last (unsealed_last before is stands.kept))
+          (still_label a before last last.sealed refl stands)
+        where
+          unsealed_last : (kept : Option KeptLabel) → is_sealed kept ≡ false → IsKeptOf (Some last) kept → last.sealed ≡ false
+          unsealed_last None is kept = absurd kept
+          unsealed_last (Some k) is kept = kept.sealed ∙ is
+
+      by_seal : (s : Bool) → is_sealed before ≡ s → (last : Option LastLabel) → StandsLabeled rack a before last
+          → StandsLabeled rack m after (label_after true (members_of a) (members_of m) last)
+      by_seal true is last stands = h.stands last is stands
+      by_seal false is None stands =
+          subst (λ (k : Option KeptLabel). StandsLabeled rack m k None) (sym (h.after_is ∙ unsealed_same before is))
+          (subst (λ (x : Store R). StandsLabeled rack x before None) (sym (h.quiet is)) stands)
+      by_seal false is (Some last) stands =
+          subst (λ (k : Option KeptLabel). StandsLabeled rack m k (Some (next_label true (members_of a) (members_of m) last))) (sym (h.after_is ∙ unsealed_same before is))
+          (subst (λ (x : Store R). StandsLabeled rack x before (Some (next_label true (members_of a) (members_of x) last))) (sym (h.quiet is)) (at_open last is stands))
+
+      at_last : (last : Option LastLabel) → StandsLabeled rack a before last → StandsLabeled rack m after (label_after true (members_of a) (members_of m) last)
+      at_last last stands = by_seal (is_sealed before) refl last stands
+
+  -- ---- a call behind that
+
+  -- What a call left that doesn't touch the label: of the members that keep it, the bytes beside the slots are as they were.
+  pub record LeavesLabel (a m c : Store R) (opens : Bool) : Type 0 where
+    pub shape : shape_of c ≡ shape_of m
+    pub rise : writes_of m ≤ writes_of c
+    pub back : (q : ℕ) → is_good (members_of a q) ≡ true → is_good (members_of c q) ≡ true → is_good (members_of m q) ≡ true
+    pub beside : (q : ℕ) → (is_good (members_of c q) ≡ true) ⊎ (opens ≡ false)
+        → Told (Torn 512 (((shape_of m).k + 1) * (shape_of m).l)) (rack.bytes (rack_of m) q) (rack.bytes (rack_of c) q)
+
+  same_shape : (m c : Store R) (last : LastLabel) → shape_of c ≡ shape_of m → HoldsLabel (shape_of m) last (rack.bytes (rack_of c)) → HoldsLabel (shape_of c) last (rack.bytes (rack_of c))
+  same_shape m c last same holds = subst (λ (s : Shape). HoldsLabel s last (rack.bytes (rack_of c))) (sym same) holds
+
+  still_or_opened : (a m c : Store R) (opens : Bool) (kept : Option KeptLabel) (last : LastLabel) (test : Bool) → (last.sealed && not opens) ≡ test → LeavesLabel a m c opens
+      → StandsLabeled rack m kept (Some (if test then last else opened (members_of a) (members_of m) last))
+      → StandsLabeled rack c kept (Some (if test then last else opened (members_of a) (members_of c) last))
+  still_or_opened a m c opens kept last true is h stands =
+      let closed : opens ≡ false = closed_of opens (and_parts last.sealed (not opens) is).1 in
+      record {
+        kept = stands.kept;
+        holds = same_shape m c last h.shape (record {
+          label = λ q keeps. front_stays (((shape_of m).k + 1) * (shape_of m).l) (label_on (shape_of m) last q) (rack.bytes (rack_of m) q) (rack.bytes (rack_of c) q)
+              (h.beside q (inr closed)) (stands.holds.label q keeps);
+          body = λ q keeps sealed. body_stays (shape_of m) last.body (rack.bytes (rack_of m) q) (rack.bytes (rack_of c) q) (h.beside q (inr closed)) (stands.holds.body q keeps sealed);
+        });
+      }
+    where
+      closed_of : (b : Bool) → not b ≡ true → b ≡ false
+      closed_of true e = sym e
+      closed_of false e = refl
+  still_or_opened a m c opens kept last false is h stands = record {
+    kept = again kept stands.kept;
+    holds = same_shape m c (opened (members_of a) (members_of c) last) h.shape (record {
+      label = λ q keeps.
+          let parts = and_parts (last.sealed || last.keepers q) (is_good (members_of a q) && is_good (members_of c q)) keeps in
+          let both = and_parts (is_good (members_of a q)) (is_good (members_of c q)) parts.1 in
+          let mid = h.back q both.0 both.1 in
+          front_stays (((shape_of m).k + 1) * (shape_of m).l) (label_on (shape_of m) (opened (members_of a) (members_of c) last) q) (rack.bytes (rack_of m) q) (rack.bytes (rack_of c) q)
+          (h.beside q (inl both.1)) (stands.holds.label q (joined (last.sealed || last.keepers q) (is_good (members_of a q)) (is_good (members_of m q)) parts.0 both.0 mid));
+      body = λ q keeps sealed. absurd (false≢true sealed);
+    });
+  }
+    where
+      joined : (x y z : Bool) → x ≡ true → y ≡ true → z ≡ true → (x && (y && z)) ≡ true
+      joined x y z e f g = ap (λ (b : Bool). b && (y && z)) e ∙ ap (λ (b : Bool). true && (b && z)) f ∙ ap (λ (b : Bool). true && (true && b)) g
+
+      again : (k : Option KeptLabel) → IsKeptOf (Some (opened (members_of a) (members_of m) last)) k → IsKeptOf (Some (opened (members_of a) (members_of c) last)) k
+      again None is = absurd is
+      again (Some k) is = record { format = is.format; sequence = is.sequence; sealed = is.sealed; body = is.body }
+
+  pub relabels_on : (a m c : Store R) (before after : Option KeptLabel) (first : Relabels rack a m before after) → IsLabeled rack c after → LeavesLabel a m c first.opens
+      → (first.opens ≡ false → writes_of c ≡ writes_of m) → Relabels rack a c before after
+  relabels_on a m c before after first labeled h stood = record {
+    labeled = labeled;
+    opens = first.opens;
+    stands = λ last stands. at_last last (first.stands last stands);
+    wrote = λ sealed opens. rose_on (writes_of a) (writes_of m) (writes_of c) (first.wrote sealed opens) h.rise;
+    stood = λ sealed opens. stood opens ∙ first.stood sealed opens;
+  }
+    where
+      rose_on : (x y z : ℕ) → Rose x y → y ≤ z → Rose x z
+      rose_on x y z rose up = omega (arith, rose, up)
+
+      at_last : (last : Option LastLabel) → StandsLabeled rack m after (label_after first.opens (members_of a) (members_of m) last)
+          → StandsLabeled rack c after (label_after first.opens (members_of a) (members_of c) last)
+      at_last None stands = record { kept = stands.kept; holds = tt }
+      at_last (Some last) stands = still_or_opened a m c first.opens after last (last.sealed && not first.opens) refl h stands
+
+  -- ---- calls on slots
+
+  -- members that aren't out were not out before, and their bytes beside the slots and lengths are as they were
+  pub record CallsOnSlots (a m c : Store R) : Type 0 where
+    pub shape : shape_of c ≡ shape_of m
+    pub rise : writes_of m ≤ writes_of c
+    pub back : (q : ℕ) → is_good (members_of a q) ≡ true → is_good (members_of c q) ≡ true → is_good (members_of m q) ≡ true
+    pub outs : (q : ℕ) → members_of m q ≡ Out → members_of c q ≡ Out
+    pub fills : (q : ℕ) → is_filling (members_of c q) ≡ true → is_filling (members_of m q) ≡ true
+    pub beside : (q : ℕ) → Told (Torn 512 (((shape_of m).k + 1) * (shape_of m).l)) (rack.bytes (rack_of m) q) (rack.bytes (rack_of c) q)
+
+  labeled_on : (a m c : Store R) (kept : Option KeptLabel) → IsLabeled rack m kept → CallsOnSlots a m c → IsLabeled rack c kept
+  labeled_on a m c kept labeled h = record {
+    numbers = subst (λ (s : Shape). IfSome kept (AreNumbers s)) (sym h.shape) labeled.numbers;
+    lengths = λ q here.
+        subst (λ (s : Shape). IfSome (rack.bytes (rack_of c) q) (λ all. HasLength s kept (length all))) (sym h.shape)
+        (length_stays (((shape_of m).k + 1) * (shape_of m).l) (λ size. HasLength (shape_of m) kept size) (rack.bytes (rack_of m) q) (rack.bytes (rack_of c) q) (h.beside q)
+        (labeled.lengths q (λ out. here (h.outs q out))));
+    filling = λ q fills.
+        subst (λ (s : Shape). IfSome (rack.bytes (rack_of c) q) (λ all. length all ≡ member_length 2 s)) (sym h.shape)
+        (length_stays (((shape_of m).k + 1) * (shape_of m).l) (λ size. size ≡ member_length 2 (shape_of m)) (rack.bytes (rack_of m) q) (rack.bytes (rack_of c) q) (h.beside q)
+        (labeled.filling q (h.fills q fills)));
+  }
+
+  pub relabels_then : (a m c : Store R) (before after : Option KeptLabel) (first : Relabels rack a m before after) → CallsOnSlots a m c
+      → (first.opens ≡ false → writes_of c ≡ writes_of m) → Relabels rack a c before after
+  relabels_then a m c before after first h stood =
+      relabels_on a m c before after first (labeled_on a m c after first.labeled h) (record { shape = h.shape; rise = h.rise; back = h.back; beside = λ q why. h.beside q }) stood
+
+  pub out_falls : (before now : ℕ → ℕ) (old new : ℕ → MemberState) → MembersFall before now old new → (q : ℕ) → old q ≡ Out → new q ≡ Out
+  out_falls before now old new falls q out = elim (falls q) [ inl same ↦ same ∙ out | inr fell ↦ fell.out ]
+
+  pub good_falls : (before now : ℕ → ℕ) (old new : ℕ → MemberState) → MembersFall before now old new → (q : ℕ) → is_good (new q) ≡ true → is_good (old q) ≡ true
+  good_falls before now old new falls q good = elim (falls q) [
+    | inl same ↦ sym (ap is_good same) ∙ good
+    | inr fell ↦ absurd (false≢true (sym (ap is_good fell.out) ∙ good))
+  ]
+
+  fills_falls : (before now : ℕ → ℕ) (old new : ℕ → MemberState) → MembersFall before now old new → (q : ℕ) → is_filling (new q) ≡ true → is_filling (old q) ≡ true
+  fills_falls before now old new falls q fills = elim (falls q) [
+    | inl same ↦ sym (ap is_filling same) ∙ fills
+    | inr fell ↦ absurd (false≢true (sym (ap is_filling fell.out) ∙ fills))
+  ]
+
+  -- calls of which the array tells so
+  pub slots_kept : (a m c : Store R) → Keeps rack m c → CallsOnSlots a m c
+  slots_kept a m c h = record {
+    shape = h.shape;
+    rise = h.stays.rise.writes;
+    back = λ q was good. good_falls (rack.counts (rack_of m)).faults (rack.counts (rack_of c)).faults (members_of m) (members_of c) h.falls q good;
+    outs = out_falls (rack.counts (rack_of m)).faults (rack.counts (rack_of c)).faults (members_of m) (members_of c) h.falls;
+    fills = fills_falls (rack.counts (rack_of m)).faults (rack.counts (rack_of c)).faults (members_of m) (members_of c) h.falls;
+    beside = h.beside;
+  }
+
+  -- ---- some member is good
+
+  good_of : (members : ℕ → MemberState) (s : ℕ) → is_lost members s ≡ false → (q : ℕ) × (is_good (members q) ≡ true)
+  good_of members s live = by_first (is_good (members (2 * s))) refl
+    where
+      by_second : (second : Bool) → is_good (members (2 * s + 1)) ≡ second → is_good (members (2 * s)) ≡ false → (q : ℕ) × (is_good (members q) ≡ true)
+      by_second true e first = (2 * s + 1, e)
+      by_second false e first =
+          absurd (false≢true (sym live ∙ ap (λ (b : Bool). not b && not (is_good (members (2 * s + 1)))) first ∙ ap (λ (b : Bool). true && not b) e))
+
+      by_first : (first : Bool) → is_good (members (2 * s)) ≡ first → (q : ℕ) × (is_good (members q) ≡ true)
+      by_first true e = (2 * s, e)
+      by_first false e = by_second (is_good (members (2 * s + 1))) refl e
+
+  pub good_live : (a : Store R) (s : ℕ) → is_lost (members_of a) s ≡ false → HasGood a
+  good_live a s live = good_of (members_of a) s live
+
+  pub good_whole : (a : Store R) → 0 < (shape_of a).b → has_lost (shape_of a) (members_of a) ≡ false → HasGood a
+  good_whole a some whole = good_of (members_of a) 0 (none_lost (shape_of a) (members_of a) 0 whole some)
+
+  -- where the seal was opened or not
+  pub relabels_where : (writes : Bool) (a m : Store R) (before after : Option KeptLabel) → IsLabeled rack a before → (writes ≡ true → HasGood a) → OpensWhere rack writes a m before after
+      → (h : Relabels rack a m before after) × (h.opens ≡ writes)
+  unfolding relabels_none relabels_opened
+  relabels_where true a m before after labeled good h = (relabels_opened a m before after (good refl) (h.opens refl), refl)
+  relabels_where false a m before after labeled good h =
+      let quiet = h.quiet refl in
+      subst (λ (k : Option KeptLabel). (r : Relabels rack a m before k) × (r.opens ≡ false)) (sym quiet.1)
+      (subst (λ (x : Store R). (r : Relabels rack a x before before) × (r.opens ≡ false)) (sym quiet.0) (relabels_none a before labeled, refl))
+
+  -- ---- reads
+
+  stands_through : (a r : Store R) (kept : Option KeptLabel) (last : LastLabel) → Keeps rack a r → StandsLabeled rack a kept (Some last) → StandsLabeled rack r kept (Some last)
+  stands_through a r kept last h stands = record {
+    kept = stands.kept;
+    holds = same_shape a r last h.shape (record {
+      label = λ q keeps. front_stays (((shape_of a).k + 1) * (shape_of a).l) (label_on (shape_of a) last q) (rack.bytes (rack_of a) q) (rack.bytes (rack_of r) q)
+          (h.beside q) (stands.holds.label q keeps);
+      body = λ q keeps sealed. body_stays (shape_of a) last.body (rack.bytes (rack_of a) q) (rack.bytes (rack_of r) q) (h.beside q) (stands.holds.body q keeps sealed);
+    });
+  }
+
+  -- fewer members keep it where more were good before
+  narrowed : (a r c : Store R) (kept : Option KeptLabel) (last : LastLabel) (test : Bool)
+      → ((q : ℕ) → is_good (members_of a q) ≡ true → is_good (members_of c q) ≡ true → is_good (members_of r q) ≡ true)
+      → StandsLabeled rack c kept (Some (if test then last else opened (members_of r) (members_of c) last))
+      → StandsLabeled rack c kept (Some (if test then last else opened (members_of a) (members_of c) last))
+  narrowed a r c kept last true back stands = stands
+  narrowed a r c kept last false back stands = record {
+    kept = again kept stands.kept;
+    holds = record {
+      label = λ q keeps.
+          let parts = and_parts (last.sealed || last.keepers q) (is_good (members_of a q) && is_good (members_of c q)) keeps in
+          let both = and_parts (is_good (members_of a q)) (is_good (members_of c q)) parts.1 in
+          let mid = back q both.0 both.1 in
+          stands.holds.label q (joined (last.sealed || last.keepers q) (is_good (members_of r q)) (is_good (members_of c q)) parts.0 mid both.1);
+      body = λ q keeps sealed. absurd (false≢true sealed);
+    };
+  }
+    where
+      joined : (x y z : Bool) → x ≡ true → y ≡ true → z ≡ true → (x && (y && z)) ≡ true
+      joined x y z e f g = ap (λ (b : Bool). b && (y && z)) e ∙ ap (λ (b : Bool). true && (b && z)) f ∙ ap (λ (b : Bool). true && (true && b)) g
+
+      again : (k : Option KeptLabel) → IsKeptOf (Some (opened (members_of r) (members_of c) last)) k → IsKeptOf (Some (opened (members_of a) (members_of c) last)) k
+      again None is = absurd is
+      again (Some k) is = record { format = is.format; sequence = is.sequence; sealed = is.sealed; body = is.body }
+
+  -- reads, and then other calls
+  pub relabels_behind : (a r c : Store R) (before after : Option KeptLabel) → ReadsOn rack a r → (second : Relabels rack r c before after)
+      → ((q : ℕ) → is_good (members_of a q) ≡ true → is_good (members_of c q) ≡ true → is_good (members_of r q) ≡ true) → Relabels rack a c before after
+  relabels_behind a r c before after reads second back = record {
+    labeled = second.labeled;
+    opens = second.opens;
+    stands = λ last stands. at_last last stands;
+    wrote = λ sealed opens. rose_from (writes_of a) (writes_of r) (writes_of c) reads.writes (second.wrote sealed opens);
+    stood = λ sealed opens. second.stood sealed opens ∙ reads.writes;
+  }
+    where
+      rose_from : (x y z : ℕ) → y ≡ x → Rose y z → Rose x z
+      rose_from x y z same rose = subst (λ (n : ℕ). Rose n z) same rose
+
+      at_last : (last : Option LastLabel) → StandsLabeled rack a before last → StandsLabeled rack c after (label_after second.opens (members_of a) (members_of c) last)
+      at_last None stands =
+          let on = second.stands None (record { kept = stands.kept; holds = tt }) in
+          record { kept = on.kept; holds = tt }
+      at_last (Some last) stands =
+          narrowed a r c after last (last.sealed && not second.opens) back (second.stands (Some last) (stands_through a r before last reads.keeps stands))
+
+  pub relabels_read : (a c : Store R) (kept : Option KeptLabel) → IsLabeled rack a kept → ReadsOn rack a c → Relabels rack a c kept kept
+  relabels_read a c kept labeled reads = relabels_then a a c kept kept (relabels_none a kept labeled) (slots_kept a a c reads.keeps) (λ opens. reads.writes)
+
+  -- ---- no call on the rack
+
+  pub same_bytes : (a c : Store R) → rack_of c ≡ rack_of a → (q : ℕ) → Told (Torn 512 (((shape_of a).k + 1) * (shape_of a).l)) (rack.bytes (rack_of a) q) (rack.bytes (rack_of c) q)
+  same_bytes a c same =
+      subst (λ (r : R). KeepsBeside (shape_of a).l ((shape_of a).k + 1) (rack.bytes (rack_of a)) (rack.bytes r)) (sym same)
+      (beside_none (shape_of a).l ((shape_of a).k + 1) (rack.bytes (rack_of a)))
+
+  -- what the members do may change
+  pub relabels_quiet : (a m c : Store R) (before after : Option KeptLabel) → Relabels rack a m before after → shape_of c ≡ shape_of m → rack_of c ≡ rack_of m
+      → ((q : ℕ) → is_good (members_of a q) ≡ true → is_good (members_of c q) ≡ true → is_good (members_of m q) ≡ true) → ((q : ℕ) → members_of m q ≡ Out → members_of c q ≡ Out)
+      → ((q : ℕ) → is_filling (members_of c q) ≡ true → is_filling (members_of m q) ≡ true) → Relabels rack a c before after
+  relabels_quiet a m c before after first shape same back outs fills =
+      let writes : writes_of c ≡ writes_of m = ap (λ (r : R). (rack.counts r).writes) same in
+      relabels_then a m c before after first
+      (record { shape = shape; rise = omega (arith, writes); back = back; outs = outs; fills = fills; beside = same_bytes m c same }) (λ opens. writes)
+
+  -- the label stands as it stood
+  pub stands_same : (a c : Store R) (kept : Option KeptLabel) (last : Option LastLabel) → shape_of c ≡ shape_of a → rack_of c ≡ rack_of a → StandsLabeled rack a kept last
+      → StandsLabeled rack c kept last
+  stands_same a c kept last shape same stands = record {
+    kept = stands.kept;
+    holds =
+        subst (λ (r : R). IfSome last (λ label. HoldsLabel (shape_of c) label (rack.bytes r))) (sym same)
+        (subst (λ (s : Shape). IfSome last (λ label. HoldsLabel s label (rack.bytes (rack_of a)))) (sym shape) stands.holds);
+  }
+
+  -- whether the seal was opened
+  pub none_opens : (a : Store R) (kept : Option KeptLabel) (labeled : IsLabeled rack a kept) → (relabels_none a kept labeled).opens ≡ false
+  unfolding relabels_none
+  none_opens a kept labeled = refl
+
+  pub then_opens : (a m c : Store R) (before after : Option KeptLabel) (first : Relabels rack a m before after) (h : CallsOnSlots a m c) (stood : first.opens ≡ false → writes_of c ≡ writes_of m)
+      → (relabels_then a m c before after first h stood).opens ≡ first.opens
+  unfolding relabels_then relabels_on
+  then_opens a m c before after first h stood = refl
+
+  pub quiet_opens : (a m c : Store R) (before after : Option KeptLabel) (first : Relabels rack a m before after) (shape : shape_of c ≡ shape_of m) (same : rack_of c ≡ rack_of m)
+      (back : (q : ℕ) → is_good (members_of a q) ≡ true → is_good (members_of c q) ≡ true → is_good (members_of m q) ≡ true) (outs : (q : ℕ) → members_of m q ≡ Out → members_of c q ≡ Out)
+      (fills : (q : ℕ) → is_filling (members_of c q) ≡ true → is_filling (members_of m q) ≡ true) → (relabels_quiet a m c before after first shape same back outs fills).opens ≡ first.opens
+  unfolding relabels_quiet relabels_then relabels_on
+  quiet_opens a m c before after first shape same back outs fills = refl
+
+  pub opened_opens : (a m : Store R) (before after : Option KeptLabel) (good : HasGood a) (h : OpensSeal rack a m before after) → (relabels_opened a m before after good h).opens ≡ true
+  unfolding relabels_opened
+  opened_opens a m before after good h = refl
+
+  -- calls on slots keep the label that fits
+  pub labeled_kept : (m c : Store R) (kept : Option KeptLabel) → IsLabeled rack m kept → Keeps rack m c → IsLabeled rack c kept
+  labeled_kept m c kept labeled h = labeled_on m m c kept labeled (slots_kept m m c h)

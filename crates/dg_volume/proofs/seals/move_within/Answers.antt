@@ -1,0 +1,29 @@
+use Rattle.std.proofs.Common.{◌≡◌, ◌∙◌, ℕ, false, sym, ap, subst, arith}
+use Rattle.std.specs.Prelude.{min, nat_lt}
+use Rattle.std.proofs.lemmas.Bool.Decides.{nat_tests}
+use Rattle.dg_model.specs.Moves.{missing_in}
+use Rattle.dg_model.specs.Tables.{Table}
+use Rattle.dg_plan.specs.Targets.{wants_of}
+use Rattle.dg_store.specs.Stores.{table_of}
+use Rattle.dg_volume.proofs.SealSteps.{labels_lost, labels_moved, moved_behind}
+use Rattle.dg_volume.proofs.seals.move_within.Goals as goal
+
+no_copies : (copies limit missing : ℕ) → nat_lt 0 copies ≡ false → copies ≡ min limit missing → min limit missing ≡ 0
+no_copies copies limit missing none is = grind (arith, nat_tests)
+
+pub returns-in-Some-clause-label : goal.returns-in-Some-clause-label
+returns-in-Some-clause-label g c =
+    labels_lost g.R.Rack _ c.args.store.now c.open_where.new.store c.args.label.now c.open_where.new.label c.requires.sound c.requires.labeled c.requires.live c.open_where.ensures
+
+pub returns-clause-array : goal.returns-clause-array
+returns-clause-array g c =
+    moved_behind g.R.Rack (wants_of c.args.targets.now) c.args.store.now c.open_where.new.store c.tend.new.store c.open_where.ensures.array c.tend.ensures.on
+
+pub returns-clause-label : goal.returns-clause-label
+returns-clause-label g c =
+    labels_moved g.R.Rack (wants_of c.args.targets.now) c.args.limit _ c.args.store.now c.open_where.new.store c.tend.new.store c.args.label.now c.open_where.new.label c.requires.sound
+    c.requires.labeled c.requires.live c.open_where.ensures
+    (λ none. subst (λ (t : Table). min c.args.limit (missing_in (wants_of c.args.targets.now) t) ≡ 0) (sym c.open_where.ensures.array.table)
+    (no_copies c.min-copies.result c.args.limit (missing_in (wants_of c.args.targets.now) (table_of c.args.store.now)) none
+    (c.min-copies.ensures ∙ ap (λ (n : ℕ). min c.args.limit n) c.missing.ensures)))
+    c.tend.ensures.on.leaves c.tend.ensures.still

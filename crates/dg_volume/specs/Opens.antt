@@ -1,0 +1,139 @@
+-- What opening a saved array gives, by its answer.
+use Rattle.std.specs.Prelude.{◌≡◌, ◌⊎◌, ◌+◌, ℕ, Bool, true, false, List, Option, Some, None, IfSome}
+use Rattle.dg_infer.specs.Meanings.{KeptInference}
+use Rattle.dg_infer.specs.Meanings as inferences
+use Rattle.dg_io.specs.declared.outside.Rack.{Ghosts}
+use Rattle.dg_model.specs.Marks.{AreLeft}
+use Rattle.dg_model.specs.Members.{MembersFall, is_good}
+use Rattle.dg_model.specs.Openings.{Found, IsSource, MayBeGood, Opens, copies_after}
+use Rattle.dg_model.specs.Placed.{IsPlaced}
+use Rattle.dg_model.specs.Saves.{HasBody, Label, SavedState, body_of}
+use Rattle.dg_model.specs.States.{State, has_lost}
+use Rattle.dg_model.specs.States as states
+use Rattle.dg_model.specs.declared.homes.Home.{Home}
+use Rattle.dg_model.specs.declared.members.MemberState.{MemberState}
+use Rattle.dg_model.specs.declared.members.MemberState.TheVariants.{Good, Out}
+use Rattle.dg_model.specs.declared.phases.Phase.TheVariants.{Settled as SettledPhase}
+use Rattle.dg_model.specs.declared.wants.Want.{Want}
+use Rattle.dg_open.specs.Founds.{AreRead}
+use Rattle.dg_open.specs.Reopenings.{FindsNoState, FindsUnclean}
+use Rattle.dg_open.specs.declared.reopens.Reopened.{Reopened}
+use Rattle.dg_pair.specs.Calls.{KeepsBeside}
+use Rattle.dg_save.specs.States as saves
+use Rattle.dg_store.specs.Leaves.{RackStays}
+use Rattle.dg_store.specs.Stores.{TellsAll}
+use Rattle.dg_store.specs.Stores as stores
+use Rattle.dg_store.specs.declared.store.Store.{Store}
+use Rattle.dg_volume.specs.Phases.{phase_in}
+use Rattle.dg_volume.specs.Planned.{AreWanted, FindsOn, HasReadArray}
+use Rattle.dg_volume.specs.Volumes.{FitsArray, IsWell, StandsIn, Tells, any_phase, members_of, rack_of, shape_of, table_of}
+use Rattle.dg_volume.specs.declared.opens.OpenAnswer.{OpenAnswer}
+use Rattle.dg_volume.specs.declared.opens.OpenAnswer.TheVariants.{NoState, Opened, Unclean}
+use Rattle.dg_volume.specs.declared.phases.AnyPhase.{AnyPhase}
+use Rattle.dg_volume.specs.declared.phases.AnyPhase.TheVariants.{Loose, Settled, Worn}
+use Rattle.dg_volume.specs.declared.volumes.Volume.{Volume}
+use Rattle.ufs_model.specs.Malformations.{IsFirstMalformation, IsSoundVolume}
+use Rattle.ufs_model.specs.declared.malformations.BadKind.{BadKind}
+
+-- ---- the phase
+
+-- What is inferred of the volume of an array, by what it told before and tells now, and the pending blocks that are left of these.
+pub record IsRestored {R : Type 0} (rack : Ghosts R) (old new : Store R) (pending : List Bool) (kept : KeptInference) : Type 0 where
+  pub live : has_lost (stores.shape_of new) (stores.members_of new) ≡ false
+  pub fits : FitsArray (stores.shape_of old) kept
+  pub stands : TellsAll rack new → (V : List (List ℕ)) → stores.StandsFor rack old V → inferences.StandsFor kept V
+  pub pending_are : (V : List (List ℕ))
+      → AreLeft (TellsAll rack new × stores.StandsFor rack old V) (stores.shape_of old).l (stores.shape_of old).n V pending kept.pending
+
+-- each block of a sound volume is in its place
+pub record IsOrdered {R : Type 0} (rack : Ghosts R) (old new : Store R) (kept : KeptInference) (homes copies : List Home) : Type 0 where
+  pub wants : List (Option Want)
+  pub wanted : AreWanted (stores.table_of old) kept wants
+  pub placed : IsPlaced wants (stores.table_of old) homes copies
+  pub sound : FindsOn rack old new kept (λ V. IsSoundVolume (stores.shape_of old).l (stores.shape_of old).n V)
+
+-- some block isn't in its place
+pub record IsDisplaced {R : Type 0} (old : Store R) (kept : KeptInference) (homes copies : List Home) : Type 0 where
+  pub wants : List (Option Want)
+  pub wanted : AreWanted (stores.table_of old) kept wants
+  pub displaced : IsPlaced wants (stores.table_of old) homes copies → ⊥
+
+-- the volume isn't sound
+pub record IsUnsound {R : Type 0} (rack : Ghosts R) (old new : Store R) (kept : KeptInference) : Type 0 where
+  pub kind : BadKind
+  pub number : ℕ
+  pub first : FindsOn rack old new kept (λ V. IsFirstMalformation (stores.shape_of old).l (stores.shape_of old).n V kind number)
+
+-- one of these; or a boundary was lost meanwhile
+abbrev pub IsDisordered : {R : Type 0} → Ghosts R → Store R → Store R → KeptInference → List Home → List Home → Type 0
+IsDisordered rack old new kept homes copies =
+    IsDisplaced old kept homes copies ⊎ (IsUnsound rack old new kept ⊎ (has_lost (stores.shape_of new) (stores.members_of new) ≡ true))
+
+abbrev pub AnswersOrder : {R : Type 0} → Ghosts R → Store R → Store R → KeptInference → List Home → List Home → Bool → Type 0
+AnswersOrder rack old new kept homes copies true = IsOrdered rack old new kept homes copies
+AnswersOrder rack old new kept homes copies false = IsDisordered rack old new kept homes copies
+
+-- it was saved as settled, and still is in order; or it isn't in order, where it was saved as settled
+abbrev pub AnswersStill : {R : Type 0} → Ghosts R → Store R → Store R → KeptInference → SavedState → Bool → Type 0
+AnswersStill rack old new kept saved true = (saved.phase ≡ SettledPhase) × IsOrdered rack old new kept saved.homes saved.copies
+AnswersStill rack old new kept saved false = saved.phase ≡ SettledPhase → IsDisordered rack old new kept saved.homes saved.copies
+
+-- The phase of an array that was opened: worn where a boundary is lost; else settled just where the saved one was and is in order.
+abbrev pub IsPhaseOf : {R : Type 0} → Ghosts R → Store R → Store R → SavedState → AnyPhase → Type 0
+IsPhaseOf rack old new saved (Worn worn) = has_lost (stores.shape_of new) (stores.members_of new) ≡ true
+IsPhaseOf rack old new saved (Loose loose) =
+    IsRestored rack old new saved.pending loose.inference × AnswersStill rack old new loose.inference saved false
+IsPhaseOf rack old new saved (Settled settled) =
+    IsRestored rack old new saved.pending settled.inference × AnswersStill rack old new settled.inference saved true
+
+-- ---- the volume
+
+-- the volume that was made of what was found, and the files that were read last
+pub record IsMadeOf {R : Type 0} (rack : Ghosts R) (reopened : Reopened R) (volume : Volume AnyPhase R) (hot : List ℕ) : Type 0 where
+  pub reads : HasReadArray rack reopened.store volume.store
+  pub levels : volume.levels.fragment ≡ (shape_of volume).l
+  pub phase : IsPhaseOf rack reopened.store volume.store (saves.state_of reopened.saved) volume.phase
+  pub pending : volume.pending.items ≡ reopened.saved.pending
+  pub homes : volume.homes ≡ reopened.saved.homes
+  pub copies : volume.copies ≡ copies_after (phase_in volume.phase) reopened.saved.copies
+  pub label : volume.label ≡ Some reopened.label
+  pub recent : hot ≡ reopened.saved.recent
+
+-- the bytes that a member had before, where they are told now
+abbrev pub had : Option (List ℕ) → Option (List ℕ) → Option (List ℕ)
+had before None = None
+had before (Some now) = before
+
+-- each member that is good now had this body behind its slots before, where it told its bytes
+abbrev pub HadBody : {R : Type 0} → Ghosts R → R → Volume AnyPhase R → List ℕ → Type 0
+HadBody rack before volume body = (q : ℕ) → is_good (members_of volume q) ≡ true → IfSome (rack.bytes before q) (λ all. HasBody all (shape_of volume) body)
+
+-- What was opened of a rack: its members were read as they stood before; nothing was written, and the bytes beside the slots stay; and
+-- this is the volume. `first` says what members did before blocks were read: one was good only where it may be. Of each list of blocks that
+-- these held before, and where the body of the source stood on each member that is good now, the volume is in a state that the model
+-- opens. (Two members that were good at first may hold other blocks, or other bodies under one label: of those nothing is said.)
+pub record HasOpened {R : Type 0} (rack : Ghosts R) (before : R) (volume : Volume AnyPhase R) (hot : List ℕ) : Type 0 where
+  pub well : IsWell any_phase rack volume
+  pub stays : RackStays rack before (rack_of volume)
+  pub writes : (rack.counts (rack_of volume)).writes ≡ (rack.counts before).writes
+  pub beside : KeepsBeside (shape_of volume).l ((shape_of volume).k + 1) (rack.bytes before) (rack.bytes (rack_of volume))
+  pub taken : ℕ → Option Found
+  pub read : AreRead (λ q. had (rack.bytes before q) (rack.bytes (rack_of volume) q)) (rack.counts before).faults (rack.counts (rack_of volume)).faults taken
+  pub source : ℕ
+  pub label : Label
+  pub saved : SavedState
+  pub is_source : IsSource taken source label saved
+  pub table : table_of volume ≡ saved.table
+  pub first : ℕ → MemberState
+  pub first_are : (q : ℕ) → ((first q ≡ Good) × MayBeGood taken label saved q) ⊎ (first q ≡ Out)
+  pub falls : MembersFall (rack.counts before).faults (rack.counts (rack_of volume)).faults first (members_of volume)
+  pub states_are : (V : List (List ℕ)) → (Tells rack volume → states.StandsFor (table_of volume) first (rack.bytes before) V)
+      → HadBody rack before volume (body_of label.format saved)
+      → (state : State) × (state.blocks ≡ V) × Opens (Tells rack volume) taken (rack.counts before) state
+      × StandsIn any_phase rack volume state × (state.recent ≡ hot)
+
+-- by each answer
+abbrev pub AnswersOpen : {R : Type 0} → Ghosts R → R → OpenAnswer R → Type 0
+AnswersOpen rack before (Opened volume hot) = HasOpened rack before volume hot
+AnswersOpen rack before (NoState now) = FindsNoState rack before now
+AnswersOpen rack before (Unclean now) = FindsUnclean rack before now

@@ -1,0 +1,151 @@
+// Opening the seal of the label, and what is written behind that.
+ghost use Rattle.std.specs.Prelude.{◌≡◌, ◌+◌, ◌*◌, ◌<◌, ℕ, All, false, true, length, max, IfOk, OnErr};
+ghost use Rattle.dg_hot.specs.Spreads.{HasSpread, HasSpreadSome, IsLost};
+ghost use Rattle.dg_label.specs.Labels.{IsLabeled};
+ghost use Rattle.dg_model.specs.Homes.{Ascend};
+ghost use Rattle.dg_model.specs.Moves.{AreTargets};
+ghost use Rattle.dg_model.specs.Placed.{IsPlaced};
+ghost use Rattle.dg_model.specs.States.{has_lost};
+ghost use Rattle.dg_model.specs.Tables.{sites_in};
+ghost use Rattle.dg_model.specs.Wants.{FitWants};
+ghost use Rattle.dg_move.specs.Answers.{NamesLoss};
+ghost use Rattle.dg_plan.specs.Targets.{blocks_in, wants_of};
+ghost use Rattle.dg_store.specs.Answers.{IsAllLost, IsUnchanged, SameWritten};
+ghost use Rattle.dg_store.specs.Leaves.{CallsAtMost};
+ghost use Rattle.dg_store.specs.Stores.{IsSound, members_of, shape_of, table_of};
+ghost use Rattle.dg_volume.specs.Planned.{HasMovedArray};
+ghost use Rattle.dg_volume.specs.Seals.{EndsMoves, FallsOn, HasStoredBlock, OpensWhere, Relabels, lacks_copy, opening_calls};
+
+use dg_hot::{DiffuseAnswer, Hot, diffuse};
+use dg_io::{NoMemory, Rack};
+use dg_label::{KeptLabel, open_seal};
+use dg_move::{TendAnswer, missing, tend};
+use dg_plan::{Homes, Targets, Wants};
+use dg_store::{Store, StoreWrite};
+use std::alloc::Global;
+
+/// Opens the seal where members are to be written.
+pub fn open_where<R: Rack>(store: &mut Store<R>, label: &mut Option<KeptLabel>, writes: bool)
+    requires sound { IsSound R.Rack store.old }
+    requires labeled { IsLabeled R.Rack store.old label.old }
+    ensures { OpensWhere R.Rack writes store.old store.new label.old label.new }
+{
+    if !writes {
+        return;
+    }
+    open_seal(store, label);
+}
+
+/// Writes a block to its sites, behind the opening of the seal. A boundary that the opening loses doesn't refuse the write.
+pub fn write_opened<R: Rack>(
+    store: &mut Store<R>,
+    label: &mut Option<KeptLabel>,
+    block: u32,
+    buf: &[u8],
+) -> Result<StoreWrite, NoMemory>
+    requires sound { IsSound R.Rack store.old }
+    requires labeled { IsLabeled R.Rack store.old label.old }
+    requires whole { has_lost (shape_of store.old) (members_of store.old) ≡ false }
+    requires range { block < (shape_of store.old).n }
+    requires size { length buf.now ≡ (shape_of store.old).l }
+    ensures falls { FallsOn R.Rack store.old store.new }
+    ensures stored { IfOk result (λ answer. answer ≡ StoreWrite.Stored → HasStoredBlock R.Rack block buf.now store.old store.new) }
+    ensures lost { IfOk result (λ answer. answer ≡ StoreWrite.AllLost → IsAllLost R.Rack block store.old store.new) }
+    ensures err { OnErr result (IsUnchanged R.Rack store.old store.new) }
+    ensures most { CallsAtMost R.Rack store.old store.new
+        (opening_calls label.old (2 * (shape_of store.old).b) + 2 * max 1 (length (sites_in (table_of store.old) block))) }
+    ensures label { Relabels R.Rack store.old store.new label.old label.new }
+{
+    open_where(store, label, true);
+    store.write(block, buf)
+}
+
+/// Moves blocks to their targets, with at most `limit` copies. The seal is opened before the first of them.
+pub fn move_within<R: Rack>(
+    store: &mut Store<R>,
+    label: &mut Option<KeptLabel>,
+    targets: &Targets,
+    limit: u32,
+) -> Result<TendAnswer, NoMemory>
+    requires sound { IsSound R.Rack store.old }
+    requires labeled { IsLabeled R.Rack store.old label.old }
+    requires size { blocks_in targets.now ≡ (shape_of store.old).n }
+    requires targets { AreTargets (wants_of targets.now) (table_of store.old) }
+    requires live { has_lost (shape_of store.old) (members_of store.old) ≡ false }
+    ensures array { HasMovedArray R.Rack store.old store.new }
+    ensures written { SameWritten (table_of store.old) (table_of store.new) }
+    ensures label { Relabels R.Rack store.old store.new label.old label.new }
+    ensures moves { IfOk result (λ answer. EndsMoves (wants_of targets.now) limit (table_of store.old) (table_of store.new) answer) }
+    ensures lost { IfOk result (λ answer. NamesLoss (shape_of store.new) (members_of store.new) answer) }
+{
+    let copies = limit.min(missing(store, targets));
+    open_where(store, label, copies > 0);
+    if let Some(lost) = store.least_lost() {
+        return Ok(TendAnswer::Lost(lost));
+    }
+    tend(store, targets, limit)
+}
+
+/// Whether a file has a home and no copy.
+fn lacks_copy(homes: &Homes, copies: &Homes, inode: u32) -> bool
+    requires homes { Ascend homes.now }
+    requires copies { Ascend copies.now }
+    ensures { result ≡ lacks_copy homes.now copies.now inode }
+{
+    match homes.home_of(inode) {
+        Some(_) => copies.home_of(inode).is_none(),
+        None => false,
+    }
+}
+
+/// Whether some of these files has a home and no copy.
+fn any_lacks_copy(homes: &Homes, copies: &Homes, inodes: &[u32]) -> bool
+    requires homes { Ascend homes.now }
+    requires copies { Ascend copies.now }
+    ensures { result ≡ false → All (λ i. lacks_copy homes.now copies.now i ≡ false) inodes.now }
+{
+    for inode in inodes {
+        if lacks_copy(homes, copies, *inode) {
+            return true;
+        }
+    }
+    false
+}
+
+/// Copies the files that were read last, where one of them has a home and no copy. The seal is opened before that.
+pub fn spread_recent<R: Rack>(
+    alloc: Global,
+    store: &mut Store<R>,
+    label: &mut Option<KeptLabel>,
+    hot: &Hot,
+    wants: &Wants,
+    homes: &Homes,
+    copies: &mut Homes,
+) -> Result<DiffuseAnswer, NoMemory>
+    requires sound { IsSound R.Rack store.old }
+    requires labeled { IsLabeled R.Rack store.old label.old }
+    requires whole { has_lost (shape_of store.old) (members_of store.old) ≡ false }
+    requires fit { FitWants (table_of store.old) wants.now }
+    requires placed { IsPlaced wants.now (table_of store.old) homes.now copies.old }
+    ensures array { HasMovedArray R.Rack store.old store.new }
+    ensures written { SameWritten (table_of store.old) (table_of store.new) }
+    ensures label { Relabels R.Rack store.old store.new label.old label.new }
+    ensures placed { IsPlaced wants.now (table_of store.new) homes.now copies.new }
+    ensures whole { IfOk result (λ answer. (n : ℕ) → answer ≡ DiffuseAnswer.Diffused n
+        → has_lost (shape_of store.new) (members_of store.new) ≡ false) }
+    ensures diffused { IfOk result (λ answer. (n : ℕ) → answer ≡ DiffuseAnswer.Diffused n
+        → HasSpread wants.now homes.now hot.now (length hot.now) n copies.old copies.new store.old store.new) }
+    ensures lost { IfOk result (λ answer. (s : ℕ) → answer ≡ DiffuseAnswer.Lost s → IsLost store.new s) }
+    ensures cut { IfOk result (λ answer. (s : ℕ) → answer ≡ DiffuseAnswer.Lost s
+        → HasSpreadSome wants.now homes.now hot.now copies.old copies.new store.old store.new) }
+{
+    let recent = hot.inodes(alloc)?;
+    if !any_lacks_copy(homes, copies, &recent) {
+        return Ok(DiffuseAnswer::Diffused(0));
+    }
+    open_seal(store, label);
+    if let Some(lost) = store.least_lost() {
+        return Ok(DiffuseAnswer::Lost(lost));
+    }
+    diffuse(alloc, store, hot, wants, homes, copies)
+}
