@@ -49,14 +49,13 @@ fn a_refusal_tells_its_line_and_its_kind(rt: HostRuntime) -> Result<(), Fail> {
         BadLine::Limits,
         BadLine::Hex,
         BadLine::Path,
-        BadLine::Later,
     ];
     for kind in kinds {
         write_refusal(&mut sink, 2, kind)?;
     }
     write_refusal(&mut sink, u64::MAX, BadLine::Word)?;
     let text =
-        b"line 2 long\nline 2 size\nline 2 cut\nline 2 word\nline 2 order\nline 2 form\nline 2 number\nline 2 limits\nline 2 hex\nline 2 path\nline 2 later\nline 18446744073709551615 word\n";
+        b"line 2 long\nline 2 size\nline 2 cut\nline 2 word\nline 2 order\nline 2 form\nline 2 number\nline 2 limits\nline 2 hex\nline 2 path\nline 18446744073709551615 word\n";
     assert!(rt; sink.taken() == text.as_slice());
     Ok(())
 }

@@ -1,14 +1,7 @@
--- Which events are served.
-use Rattle.std.specs.Prelude.{◌≡◌, Bool, true, false, List, All}
+-- Which events have the plainest answer.
+use Rattle.std.specs.Prelude.{Bool, true, false}
 use Rattle.dg_model.specs.declared.events.Event.{Event}
 use Rattle.dg_model.specs.declared.events.Event.TheVariants.{Write, Fail, Replace, Rebuild, Settle, Tend, Diffuse, Who, Home, Save}
-
--- all events of the language are served
-abbrev pub is_served : Event → Bool
-is_served event = true
-
-abbrev pub AreServed : List Event → Type 0
-AreServed events = All (λ event. is_served event ≡ true) events
 
 -- whether an event is answered by one line that tells no bytes of a block
 abbrev pub is_plain : Event → Bool
