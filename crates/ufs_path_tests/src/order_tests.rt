@@ -2,7 +2,7 @@ ghost use Rattle.std.specs.Prelude.{◌≡◌, ◌≤◌, IfOk, length};
 
 use crate::list_tests::list;
 use crate::tests::{NOTHING, image, put, read};
-use crate::{BadRead, BadSuper, CatAnswer};
+use ufs_path::{BadRead, BadSuper, CatAnswer};
 use std::alloc::Global;
 use std::test::Fail;
 use ufs_rows::Which;

@@ -3,7 +3,7 @@ ghost use Rattle.std.specs.Prelude.{◌≡◌, length};
 
 use crate::list_tests::MemListing;
 use crate::tests::{NOTHING, image, put};
-use crate::{BadRead, CatAnswer, Levels, tree};
+use ufs_path::{BadRead, CatAnswer, Levels, tree};
 use dg_io::{Loss, MemView};
 use std::alloc::Global;
 use std::test::Fail;

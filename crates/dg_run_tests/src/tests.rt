@@ -1,4 +1,4 @@
-use crate::{Status, run};
+use dg_run::{Status, run};
 use dg_io::{Failed, MemRack, MemSink, MemSource, Source, SureRack, SureSink, SureSource};
 use std::alloc::Global;
 use std::test::Fail;

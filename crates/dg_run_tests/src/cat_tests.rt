@@ -2,7 +2,7 @@
 // with 64 slots. Block b stands on boundary b mod 4.
 ghost use Rattle.std.specs.Prelude.{◌≡◌, IfOk, length};
 
-use crate::Status;
+use dg_run::Status;
 use crate::tests::replay;
 use dg_io::MemSink;
 use itoa::Buffer;

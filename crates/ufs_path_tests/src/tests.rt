@@ -1,6 +1,6 @@
 ghost use Rattle.std.specs.Prelude.{◌≡◌, ◌+◌, ◌≤◌, IfOk, length};
 
-use crate::{BadRead, BadSuper, CatAnswer, Inode, Levels, LookFault, cat, geometry, is_path, look};
+use ufs_path::{BadRead, BadSuper, CatAnswer, Inode, Levels, LookFault, cat, geometry, is_path, look};
 use dg_io::{Loss, MemSink, MemView};
 use std::alloc::Global;
 use std::test::Fail;

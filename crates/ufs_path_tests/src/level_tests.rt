@@ -3,7 +3,7 @@
 // no file of fewer than 2^32 bytes goes so far.
 ghost use Rattle.std.specs.Prelude.{◌≡◌, IfOk, length};
 
-use crate::CatAnswer;
+use ufs_path::CatAnswer;
 use crate::tests::{NOTHING, image, put, read};
 use dg_io::Loss;
 use std::alloc::Global;

@@ -5,7 +5,7 @@ ghost use Rattle.dg_model.specs.Lists.{AreLines};
 ghost use Rattle.dg_text.specs.Replies.{file_text};
 ghost use Rattle.dg_text.specs.HexLines.{last_line};
 
-use crate::{
+use dg_text::{
     BadLine, Form, HexLines, Lines, Raw, write_data, write_refusal, write_reply, write_usage,
 };
 use dg_io::{MemSink, Pieces, Sink};

@@ -2,7 +2,7 @@
 ghost use Rattle.std.specs.Prelude.{◌≡◌, length};
 
 use crate::tests::{NOTHING, image, put};
-use crate::{Levels, parents};
+use ufs_path::{Levels, parents};
 use dg_io::{Loss, MemView};
 use std::alloc::Global;
 use std::process::Abort;

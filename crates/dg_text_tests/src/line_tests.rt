@@ -1,4 +1,4 @@
-use crate::{BadLine, longest_line, read_line, write_event};
+use dg_text::{BadLine, longest_line, read_line, write_event};
 use dg_model::{Event, NoMemory, Shape};
 use std::alloc::{AllocError, Global};
 use std::test::Fail;

@@ -1,7 +1,7 @@
 ghost use Rattle.std.specs.Prelude.{◌≡◌, length};
 
 use crate::tests::{NOTHING, image, put, read};
-use crate::{BadRead, CatAnswer, Levels, Listing, is_path, ls};
+use ufs_path::{BadRead, CatAnswer, Levels, Listing, is_path, ls};
 use dg_io::{Failed, Loss, MemView};
 use std::alloc::Global;
 use std::test::Fail;

@@ -8,7 +8,7 @@ use Rattle.dg_text.specs.Replies.{file_text}
 use Rattle.dg_text.specs.HexLines.{waiting, last_line, TookBytes, Ends}
 use Rattle.dg_text.specs.HexLineLaws.{took_then}
 use Rattle.dg_text.specs.declared.hex_lines.HexLines.{HexLines}
-use Rattle.dg_text.proofs.tests.write_pieces.Goals as goal
+use Rattle.dg_text_tests.proofs.tests.write_pieces.Goals as goal
 
 -- what stands behind the sink in the end is what the receiver left there
 written : {K : Type 0} (taken : K → Option (List ℕ)) (start old new : HexLines K) (bytes last : List ℕ) (before after : K)
