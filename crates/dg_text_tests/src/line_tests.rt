@@ -1,5 +1,5 @@
-use dg_text::{BadLine, longest_line, read_line, write_event};
 use dg_model::{Event, NoMemory, Shape};
+use dg_text::{BadLine, longest_line, read_line, write_event};
 use std::alloc::{AllocError, Global};
 use std::test::Fail;
 

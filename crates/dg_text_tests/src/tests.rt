@@ -5,11 +5,11 @@ ghost use Rattle.dg_model.specs.Lists.{AreLines};
 ghost use Rattle.dg_text.specs.Replies.{file_text};
 ghost use Rattle.dg_text.specs.HexLines.{last_line};
 
+use dg_io::{MemSink, Pieces, Sink};
+use dg_model::{Bytes, Failed, ListedEntries, ListedEntry, NoRoom, Numbers, Reply, Who};
 use dg_text::{
     BadLine, Form, HexLines, Lines, Raw, write_data, write_refusal, write_reply, write_usage,
 };
-use dg_io::{MemSink, Pieces, Sink};
-use dg_model::{Bytes, Failed, ListedEntries, ListedEntry, NoRoom, Numbers, Reply, Who};
 use std::alloc::{AllocError, Global};
 use std::test::Fail;
 use ufs_model::{BadKind, BadRead, BadSuper, Kind, PathRefusal, SystemKind};
