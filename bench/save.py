@@ -83,8 +83,8 @@ class Array:
         for word, seconds, size in (("save", self.least(self.saves), 2 * BOUNDARIES * self.body), ("opening", opened, self.body)):
             clock, processor = (one / (1 << self.bits) for one in seconds)
             print(
-                f"2^{self.bits} blocks, {self.phase}, {word} of {size / 1e6:,.2f} MB: {clock * 1e9:.0f} ns a block by the clock, {processor * 1e9:.0f} ns of the "
-                f"processor, {size / seconds[0] / 1e6:,.0f} MB/s by the clock; {load()}"
+                f"2^{self.bits} blocks, {self.phase}, {word} of {size / 1e6:,.2f} MB: {clock * 1e9:.0f} ns a block by the clock, "
+                f"{processor * 1e9:.0f} ns of the processor, {size / seconds[0] / 1e6:,.0f} MB/s by the clock; {load()}"
             )
             found.append(processor)
         return found

@@ -10,6 +10,7 @@ SPECIAL = [0, 1, 2, 3, 127, 128, 255, 256, 511, 512, 1024, 4095, 4096, 65535, 65
 SEQUENCES = [0, 1, 2, 2**32, 2**63 - 1, 2**63, 2**64 - 1]
 NUMBERS_AT, LENGTH_AT, SEAL_AT, SEQUENCE_AT = 20, 40, 16, 8
 MEMBERS = 32
+TRIES = 5
 
 
 class Images:
@@ -264,9 +265,10 @@ def copy_as_own(rng, images):
 
 
 def remove_image(rng, images):
+    if len(images.now) == 1:
+        return None
     one = rng.choice(sorted(images.now))
-    if len(images.now) > 1:
-        del images.now[one]
+    del images.now[one]
     return f"member {one} is removed"
 
 
@@ -277,8 +279,8 @@ OF_A_MEMBER = [
 OF_IMAGES = [swap_images, copy_image, copy_as_own, remove_image]
 
 
-def change(rng, images):
-    """One change, of one member or alike of several or all; what was done, in words."""
+def change_once(rng, images):
+    """One change, of one member or alike of several or all; what was done, in words, or None where nothing was."""
     if rng.random() < 0.12:
         return rng.choice(OF_IMAGES)(rng, images)
     do, seed = rng.choice(OF_A_MEMBER), rng.random()
@@ -291,4 +293,13 @@ def change(rng, images):
         if len(images.now[member]) >= 512 and images.label(member).own:
             told.append((member, do(alike, images, member)))
     words = {word for _, word in told if word}
-    return f"members {[member for member, word in told if word]}: {', or '.join(sorted(words))}" if words else "nothing"
+    return f"members {[member for member, word in told if word]}: {', or '.join(sorted(words))}" if words else None
+
+
+def change(rng, images):
+    """A change that does something, if a few tries find one."""
+    for _ in range(TRIES):
+        told = change_once(rng, images)
+        if told:
+            return told
+    return "nothing"

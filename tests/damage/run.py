@@ -2,13 +2,14 @@
 
     run.py PROGRAM [--cases N] [--seed S] [--first I] [--keep FOLDER]
 
-Arrays are made and saved twice by the program; each then has so many cases. A case changes a byte, a bit, a run, a number, the length, the
-seal, the format or what the body says; or it puts an older body, label or image there, or swaps, copies or removes images. The format has no
-checksum; a body that says something else is made anew, with its length in the label, so that the reader gets past it. Then `status`, `cat` of two paths, and `resume` with
-an empty trace are run. Each must end with just what the rules of an opening give for these bytes, read by `opened.py` and the
-model of the soak: an array, `nostate` and status 6, or `unclean` and status 7; within 20 seconds, with nothing on standard error, and with no byte of an
-image changed. Only where the good members disagree on a block is a reply of any right form taken. Case I is decided by the seed, and
-`--first I --cases 1` runs it alone; `--keep` leaves the images of the first wrong case. The status is 1 where a case went wrong.
+Arrays are made and saved twice by the program; each then has so many cases. A case changes a byte, a bit, a run, a number, the length,
+the seal, the format or what the body says; or it puts an older body, label or image there, or swaps, copies or removes images. The format
+has no checksum; a body that says something else is made anew, with its length in the label, so that the reader gets past it. Then
+`status`, `cat` of two paths, and `resume` with an empty trace are run. Each must end with just what the rules of an opening give for these
+bytes, read by `opened.py` and the model of the soak: an array, `nostate` and status 6, or `unclean` and status 7; within 20 seconds, with
+nothing on standard error, and with no byte of an image changed. Only where the good members disagree on a block is a reply of any right
+form taken. Case I is decided by the seed, and `--first I --cases 1` runs it alone; `--keep` leaves the images of the first wrong case. The
+status is 1 where a case went wrong.
 """
 import argparse
 import collections

@@ -27,9 +27,9 @@ CHANGED = f"write 34 {hexed(b'jello')}"
 # the files are removed and a member is refilled, which reaps their blocks; then they are written again
 REMOVED = [*writes(E, [24, 28, 33]), "who 34", "fail 3 0", "replace 3 0", "rebuild 3 99", "who 34", *writes(F)]
 SCRIPT = [
-    "array 1024 128 4 64 2", *writes(F), "who 34", "pending", "tend 2", "settle", *REMOVED, "settle", "tree", "home /d/b", "ls /d", "cat /a", "cat /h", "diffuse",
-    "home /a", "fail 2 0", "replace 2 0", "rebuild 2 10", "rebuild 2 99", "save", "cat /d/b", "read 34", CHANGED, "write 120 -", "settle", "cat /d/b", "diffuse",
-    "save",
+    "array 1024 128 4 64 2", *writes(F), "who 34", "pending", "tend 2", "settle", *REMOVED, "settle", "tree", "home /d/b", "ls /d", "cat /a",
+    "cat /h", "diffuse", "home /a", "fail 2 0", "replace 2 0", "rebuild 2 10", "rebuild 2 99", "save", "cat /d/b", "read 34", CHANGED,
+    "write 120 -", "settle", "cat /d/b", "diffuse", "save",
 ]
 RESUMED = [
     "cat /a", "tree", CHANGED, "tend 3", "settle", "cat /h", "diffuse", "fail 1 1", "replace 1 1", "rebuild 1 99", "save", "fail 0 0", "fail 0 1", "cat /d/b",
