@@ -20,6 +20,7 @@ SIZES = (12, 16, 20)
 LEAST = 6
 BOUNDARIES = 4
 ROUNDS = 5
+OPENINGS = 25
 LABEL_LENGTH_AT = 40
 
 
@@ -93,7 +94,7 @@ class Array:
 def measure(program, folder, is_volume):
     """Whether the time per block of a save or of an opening grows by more than it may."""
     least, *arrays = [Array(program, folder, bits, is_volume and bits != LEAST) for bits in (LEAST, *SIZES)]
-    for _ in range(ROUNDS):
+    for _ in range(OPENINGS):
         for array in (least, *arrays):
             array.open()
     (small_save, small_open), *others = [array.each(least.least(least.openings)) for array in arrays]
