@@ -30,7 +30,7 @@ from rows import F, writes  # noqa: E402
 from saved import Difference, Label, Round, image_name  # noqa: E402
 
 SECONDS = 20
-CASES_OF_AN_ARRAY = 50
+CASES_OF_AN_ARRAY = 100
 MOST_WRONG = 10
 REFUSED = {"nostate": 6, "unclean": 7}
 F_PATHS = ["/", "/a", "/d", "/d/b", "/h", "/z", "/d/x"]
@@ -63,8 +63,8 @@ def trace_of(rng, seed):
     return lines, [path for path in paths if not path.startswith("-")]
 
 
-def as_first_form(images):
-    """The same array in the format that keeps no copies, or None where there are some."""
+def as_first_form(images, is_short):
+    """The same array in the format that keeps no copies, or None where there are some; its images have either format's length."""
     found = {}
     for member, image in images.items():
         label = Label(member, image)
@@ -73,7 +73,7 @@ def as_first_form(images):
             return None
         _, n, b, k, _ = label.shape
         body = encode(state, b"1")
-        one = bytearray(image[:label.place + 8 + 2 * b + 7 * n + 5 * b * (k + 1)])
+        one = bytearray(image[:label.place + 8 + 2 * b + 7 * n + 5 * b * (k + 1)] if is_short else image)
         one[7:8], one[40:44] = b"1", len(body).to_bytes(4, "little")
         one[label.place:] = body.ljust(len(one) - label.place, b"\0")
         found[member] = bytes(one)
@@ -97,7 +97,7 @@ class Saved:
         self.now = images_in(folder)
         shutil.rmtree(folder)
         if rng.random() < 0.2:
-            older = as_first_form(self.now)
+            older = as_first_form(self.now, rng.random() < 0.7)
             self.now = older or self.now
 
 
