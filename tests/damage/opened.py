@@ -3,9 +3,9 @@
 Labels are read by tests/soak/saved.py, and an opened array is its model. Nothing here is taken from the program.
 """
 import os
-import struct
 import sys
 from collections import namedtuple
+from functools import lru_cache
 
 sys.path.insert(0, os.path.join(os.path.dirname(os.path.abspath(__file__)), "..", "soak"))
 from model import GOOD, OUT  # noqa: E402
@@ -71,8 +71,9 @@ def sites_in(reader, shape):
     return sites, pending
 
 
+@lru_cache(maxsize=64)
 def decode(body, shape, form):
-    """The state that a body of this format says, or None."""
+    """The state that a body of this format says, or None. Who changes its lists copies them first."""
     _, n, b, _, _ = shape
     reader = Reader(body)
     try:
