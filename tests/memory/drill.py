@@ -18,6 +18,7 @@ import tempfile
 
 HERE = os.path.dirname(os.path.abspath(__file__))
 sys.path.insert(0, os.path.join(HERE, "..", "soak"))
+from model import Array  # noqa: E402
 from rows import E, F, hexed, writes  # noqa: E402
 
 SECONDS = 20
@@ -38,12 +39,20 @@ RESUMED = [
 RUNS = [(["replay"], SCRIPT), (["resume"], RESUMED), (["cat", "/d/b"], []), (["ls", "/"], []), (["status"], [])]
 
 
+def replies():
+    """What the model answers to the replay and to the trace that is resumed after it."""
+    array = Array(*map(int, SCRIPT[0].split(" ")[1:]))
+    told = [["ok"], *(array.do(line) for line in SCRIPT[1:])], [array.do(line) for line in RESUMED]
+    return ["".join(line + "\n" for reply in some for line in reply).encode() for some in told]
+
+
 class Drill:
     """The program with the shim, in folders of its own."""
 
     def __init__(self, program, shim, base):
         self.program, self.shim, self.base = program, shim, base
         self.counter = os.path.join(base, "count")
+        self.wanted = replies()
 
     def run(self, words, lines, start, refused):
         """One run on a copy of a folder: its output, what it told, its status, and how many allocations it made."""
@@ -77,8 +86,8 @@ def try_run(drill, words, lines, start, first, last):
     """Refuses the allocations of one run in turn; how many were refused, and how many of these runs ended otherwise than they must."""
     whole, told, status, count = drill.run(words, lines, start, 0)
     print(f"{' '.join(words)}: {count} allocations, {len(whole.splitlines())} lines, status {status}", flush=True)
-    if status != 0 or told or count == 0:
-        sys.exit(f"the undisturbed run ended with status {status}, {count} allocations, and told {told!r}")
+    if status != 0 or told or count == 0 or lines and whole not in drill.wanted:
+        sys.exit(f"the undisturbed run ended with status {status}, {count} allocations, and told {told!r}; or its replies aren't the model's")
     wrong, places = 0, collections.Counter()
     tried = range(max(1, first), min(count, last) + 1)
     for number in tried:
