@@ -174,7 +174,7 @@ class Reader:
         """Files that are given byte for byte."""
         image = self.image(name)
         for path in paths:
-            data, l = next(item.data for item in image.items if item.path == path), image.spec.l
+            data, l = self.data(name, path), image.spec.l
             lines = [b"bytes " + data[at:at + l].hex().encode() + b"\n" for at in range(0, len(data), l)]
             run.add(number, f"cat {path}", f"cat {path}\n".encode(), b"".join(lines) + b"end %d\n" % len(data))
 
@@ -184,9 +184,22 @@ class Reader:
         for block in map(int, blocks):
             run.add(number, f"read {block}", b"read %d\n" % block, b"data " + hexed(image.block(block)) + b"\n")
 
+    def do_lines(self, run, _, name, path, count):
+        """The first lines of a file, as further output."""
+        data, l = self.data(name, path), self.image(name).spec.l
+        for at in range(0, int(count) * l, l):
+            run.add_wanted(b"bytes " + data[at:at + l].hex().encode() + b"\n")
+
+    def do_repeat(self, run, _, count, *text):
+        """The same line of output so many times."""
+        run.add_wanted(replies(" ".join(text)) * int(count))
+
     def do_unavailable(self, run, number, *paths):
         for path in paths:
             run.add(number, f"cat {path}", f"cat {path}\n".encode(), b"unavailable\n")
+
+    def data(self, name, path):
+        return next(item.data for item in self.image(name).items if item.path == path)
 
     def files(self, name):
         image = self.image(name)
@@ -206,7 +219,7 @@ class Reader:
 
     def do_raw(self, run, number, name, path):
         """The bytes of a file as the command `cat` writes them."""
-        run.add_wanted(next(item.data for item in self.image(name).items if item.path == path))
+        run.add_wanted(self.data(name, path))
 
 
 def hexed(data):
