@@ -16,9 +16,9 @@ class Run:
     """A command of the program: its words, its input and output part by part, and the status that is wanted."""
 
     def __init__(self, number, text):
-        words, _, status = text.partition(" -> ")
-        self.number, self.what = number, "run " + words
-        self.words = [spelled(word) for word in words.split(" ")] if words else []
+        words, _, status = (" " + text).partition(" -> ")
+        self.number, self.what = number, "run" + words.rstrip(" ")
+        self.words = [spelled(word) for word in re.findall("(?:<[^<>]*>|[^ <])+", words)]
         self.status, self.parts = int(status or 0), [Part(number, self.what, b"", b"")]
 
     def add(self, number, what, given, wanted):
