@@ -217,6 +217,35 @@ class Reader:
         for path, is_owner in self.files(name):
             run.add(number, f"home {path}", f"home {path}\n".encode(), f"home {home if is_owner else 'none'}\n".encode())
 
+    def nodes(self, name, path):
+        """The items of a directory in order, each with its inode, letter and size as a line of a listing has them."""
+        image = self.image(name)
+        for item in image.items:
+            above, _, last = item.path.rpartition("/")
+            if (above or "/") == path:
+                size = len(image.directory(item.path)) if item.kind == "dir" else len(item.data)
+                yield item, f"{image.inodes[item.path]} {item.kind[0] if item.kind != 'file' else 'r'} {size} {last}"
+
+    def do_listed(self, run, number, name, path):
+        """The `ls` of a directory."""
+        image, parent = self.image(name), path.rpartition("/")[0] or "/"
+        lines = [f"entry {image.inodes[at]} d {len(image.directory(at))} {dots}" for at, dots in ((path, "."), (parent, ".."))]
+        lines += [f"entry {node}" for _, node in self.nodes(name, path)]
+        run.add(number, f"ls {path}", f"ls {path}\n".encode(), "".join(line + "\n" for line in [*lines, f"end {len(lines)}"]).encode())
+
+    def do_tree(self, run, number, name):
+        """The `tree` of a volume, depth first."""
+        lines = []
+
+        def go(path, depth):
+            for item, node in self.nodes(name, path):
+                lines.append(f"node {depth} {node}")
+                if item.kind == "dir":
+                    go(item.path, depth + 1)
+
+        go("/", 1)
+        run.add(number, "tree", b"tree\n", "".join(line + "\n" for line in [*lines, f"end {len(lines)}"]).encode())
+
     def do_raw(self, run, number, name, path):
         """The bytes of a file as the command `cat` writes them."""
         run.add_wanted(self.data(name, path))
