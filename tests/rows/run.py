@@ -9,6 +9,8 @@ folder says how a row is written.
 import argparse
 import glob
 import os
+import resource
+import signal
 import subprocess
 import sys
 import tempfile
@@ -44,9 +46,18 @@ def difference(run, output, status):
     return None
 
 
+def limited(limit):
+    """What a command does first whose files may not be written at that byte or behind it: such a write fails, and sends no signal."""
+    def limit_files():
+        signal.signal(signal.SIGXFSZ, signal.SIG_IGN)
+        resource.setrlimit(resource.RLIMIT_FSIZE, (limit, limit))
+    return None if limit is None else limit_files
+
+
 def do_run(program, run, folder):
     try:
-        done = subprocess.run([program, *run.words], input=run.input(), capture_output=True, cwd=folder, timeout=SECONDS)
+        done = subprocess.run(
+            [program, *run.words], input=run.input(), capture_output=True, cwd=folder, timeout=SECONDS, preexec_fn=limited(run.limit))
     except subprocess.TimeoutExpired:
         return run.number, f"{run.what}: no end in {SECONDS} seconds"
     return difference(run, done.stdout, done.returncode)

@@ -19,7 +19,7 @@ class Run:
         words, _, status = (" " + text).partition(" -> ")
         self.number, self.what = number, "run" + words.rstrip(" ")
         self.words = [spelled(word) for word in re.findall("(?:<[^<>]*>|[^ <])+", words)]
-        self.status, self.parts = int(status or 0), [Part(number, self.what, b"", b"")]
+        self.status, self.parts, self.limit = int(status or 0), [Part(number, self.what, b"", b"")], None
 
     def add(self, number, what, given, wanted):
         self.parts.append(Part(number, what, given, wanted))
@@ -109,6 +109,8 @@ class Reader:
             self.steps.append(Members(number, rest))
         elif run is None:
             raise Mistake(f"line {number}: no command yet")
+        elif word == "limit":
+            run.limit = int(rest)
         elif word == "=>":
             run.add_wanted(replies(rest))
         elif word == "=":
