@@ -2,9 +2,9 @@
 // with 64 slots. Block b stands on boundary b mod 4.
 ghost use Rattle.std.specs.Prelude.{◌≡◌, IfOk, length};
 
-use dg_run::Status;
 use crate::tests::replay;
 use dg_io::MemSink;
+use dg_run::Status;
 use itoa::Buffer;
 use std::alloc::Global;
 use std::test::Fail;

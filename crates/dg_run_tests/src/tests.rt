@@ -1,5 +1,5 @@
-use dg_run::{Status, run};
 use dg_io::{Failed, MemRack, MemSink, MemSource, Source, SureRack, SureSink, SureSource};
+use dg_run::{Status, run};
 use std::alloc::Global;
 use std::test::Fail;
 

@@ -2,10 +2,10 @@
 // size at byte 8 of it, and its first slot at byte 40.
 ghost use Rattle.std.specs.Prelude.{◌≡◌, IfOk, length};
 
-use dg_run::Status;
 use crate::cat_tests::{image, push_write, replies};
 use crate::tests::replay;
 use dg_io::MemSink;
+use dg_run::Status;
 use std::alloc::Global;
 use std::test::Fail;
 use ufs_rows::Which;

@@ -3,11 +3,11 @@
 // no file of fewer than 2^32 bytes goes so far.
 ghost use Rattle.std.specs.Prelude.{◌≡◌, IfOk, length};
 
-use ufs_path::CatAnswer;
 use crate::tests::{NOTHING, image, put, read};
 use dg_io::Loss;
 use std::alloc::Global;
 use std::test::Fail;
+use ufs_path::CatAnswer;
 use ufs_rows::Which;
 
 // Bytes of the file.

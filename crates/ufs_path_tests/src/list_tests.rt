@@ -1,11 +1,11 @@
 ghost use Rattle.std.specs.Prelude.{◌≡◌, length};
 
 use crate::tests::{NOTHING, image, put, read};
-use ufs_path::{BadRead, CatAnswer, Levels, Listing, is_path, ls};
 use dg_io::{Failed, Loss, MemView};
 use std::alloc::Global;
 use std::test::Fail;
 use ufs_model::Kind;
+use ufs_path::{BadRead, CatAnswer, Levels, Listing, is_path, ls};
 use ufs_rows::Which;
 
 /// A listing in memory: the text of its entries, of which it takes so many.

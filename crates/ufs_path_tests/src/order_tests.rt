@@ -2,9 +2,9 @@ ghost use Rattle.std.specs.Prelude.{◌≡◌, ◌≤◌, IfOk, length};
 
 use crate::list_tests::list;
 use crate::tests::{NOTHING, image, put, read};
-use ufs_path::{BadRead, BadSuper, CatAnswer};
 use std::alloc::Global;
 use std::test::Fail;
+use ufs_path::{BadRead, BadSuper, CatAnswer};
 use ufs_rows::Which;
 
 /// The volume with files, of which some blocks are those of its image in the other order of bytes.

@@ -2,11 +2,11 @@
 ghost use Rattle.std.specs.Prelude.{◌≡◌, length};
 
 use crate::tests::{NOTHING, image, put};
-use ufs_path::{Levels, parents};
 use dg_io::{Loss, MemView};
 use std::alloc::Global;
 use std::process::Abort;
 use std::test::Fail;
+use ufs_path::{Levels, parents};
 use ufs_rows::Which;
 
 /// An inode and a directory.

@@ -1,9 +1,11 @@
 ghost use Rattle.std.specs.Prelude.{◌≡◌, ◌+◌, ◌≤◌, IfOk, length};
 
-use ufs_path::{BadRead, BadSuper, CatAnswer, Inode, Levels, LookFault, cat, geometry, is_path, look};
 use dg_io::{Loss, MemSink, MemView};
 use std::alloc::Global;
 use std::test::Fail;
+use ufs_path::{
+    BadRead, BadSuper, CatAnswer, Inode, Levels, LookFault, cat, geometry, is_path, look,
+};
 use ufs_rows::{Which, rows_image};
 
 /// The 128 blocks of a volume.

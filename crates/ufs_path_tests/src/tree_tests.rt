@@ -3,10 +3,10 @@ ghost use Rattle.std.specs.Prelude.{◌≡◌, length};
 
 use crate::list_tests::MemListing;
 use crate::tests::{NOTHING, image, put};
-use ufs_path::{BadRead, CatAnswer, Levels, tree};
 use dg_io::{Loss, MemView};
 use std::alloc::Global;
 use std::test::Fail;
+use ufs_path::{BadRead, CatAnswer, Levels, tree};
 use ufs_rows::Which;
 
 /// What `tree` answers on a volume that loses a block, and what a listing with so much room takes.
