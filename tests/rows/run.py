@@ -111,7 +111,7 @@ def write_cases(folder, rows):
     count = 0
     for number, (_, row) in enumerate(rows):
         steps = steps_of(row).steps
-        if len(steps) == 1 and isinstance(steps[0], Run) and steps[0].words == [b"replay"]:
+        if len(steps) == 1 and isinstance(steps[0], Run) and steps[0].words == [b"replay"] and not steps[0].limits:
             output = b"".join(part.wanted for part in steps[0].parts)
             for name, data in ((f"r{number:03}", steps[0].input()), (f"r{number:03}.stdout", output)):
                 with open(os.path.join(folder, name), "wb") as file:
