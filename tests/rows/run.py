@@ -10,6 +10,7 @@ import argparse
 import glob
 import os
 import resource
+import select
 import signal
 import subprocess
 import sys
@@ -46,20 +47,46 @@ def difference(run, output, status):
     return None
 
 
-def limited(limit):
-    """What a command does first whose files may not be written at that byte or behind it: such a write fails, and sends no signal."""
-    def limit_files():
-        signal.signal(signal.SIGXFSZ, signal.SIG_IGN)
-        resource.setrlimit(resource.RLIMIT_FSIZE, (limit, limit))
-    return None if limit is None else limit_files
+def do_stages(program, run, folder):
+    """Runs a command stage by stage: its files get another limit once all replies that are wanted before it are there."""
+    process = subprocess.Popen(
+        [program, *run.words], stdin=subprocess.PIPE, stdout=subprocess.PIPE, stderr=subprocess.DEVNULL, cwd=folder,
+        preexec_fn=lambda: signal.signal(signal.SIGXFSZ, signal.SIG_IGN))
+    try:
+        output = feed(process, run)
+        rest, _ = process.communicate(timeout=SECONDS)
+    finally:
+        process.kill()
+        process.wait()
+    return output + rest, process.returncode
+
+
+def feed(process, run):
+    """Gives a command its input, and takes the output that is wanted before the last limit."""
+    output, wanted = b"", 0
+    for limit, parts in run.stages():
+        if limit is not None:
+            resource.prlimit(process.pid, resource.RLIMIT_FSIZE, (limit, resource.RLIM_INFINITY))
+        process.stdin.write(b"".join(part.input for part in parts))
+        process.stdin.flush()
+        wanted += sum(len(part.wanted) for part in parts)
+        while len(output) < wanted and select.select([process.stdout], [], [], SECONDS)[0]:
+            piece = os.read(process.stdout.fileno(), 1 << 16)
+            if not piece:
+                break
+            output += piece
+    return output
 
 
 def do_run(program, run, folder):
     try:
-        done = subprocess.run(
-            [program, *run.words], input=run.input(), capture_output=True, cwd=folder, timeout=SECONDS, preexec_fn=limited(run.limit))
+        if run.limits:
+            return difference(run, *do_stages(program, run, folder))
+        done = subprocess.run([program, *run.words], input=run.input(), capture_output=True, cwd=folder, timeout=SECONDS)
     except subprocess.TimeoutExpired:
         return run.number, f"{run.what}: no end in {SECONDS} seconds"
+    except BrokenPipeError:
+        return run.number, f"{run.what}: an end before that of its input"
     return difference(run, done.stdout, done.returncode)
 
 
@@ -84,7 +111,7 @@ def write_cases(folder, rows):
     count = 0
     for number, (_, row) in enumerate(rows):
         steps = steps_of(row).steps
-        if len(steps) == 1 and isinstance(steps[0], Run) and steps[0].words == [b"replay"]:
+        if len(steps) == 1 and isinstance(steps[0], Run) and steps[0].words == [b"replay"] and not steps[0].limits:
             output = b"".join(part.wanted for part in steps[0].parts)
             for name, data in ((f"r{number:03}", steps[0].input()), (f"r{number:03}.stdout", output)):
                 with open(os.path.join(folder, name), "wb") as file:

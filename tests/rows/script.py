@@ -19,7 +19,7 @@ class Run:
         words, _, status = (" " + text).partition(" -> ")
         self.number, self.what = number, "run" + words.rstrip(" ")
         self.words = [spelled(word) for word in re.findall("(?:<[^<>]*>|[^ <])+", words)]
-        self.status, self.parts, self.limit = int(status or 0), [Part(number, self.what, b"", b"")], None
+        self.status, self.parts, self.limits = int(status or 0), [Part(number, self.what, b"", b"")], {}
 
     def add(self, number, what, given, wanted):
         self.parts.append(Part(number, what, given, wanted))
@@ -30,6 +30,11 @@ class Run:
 
     def input(self):
         return b"".join(part.input for part in self.parts)
+
+    def stages(self):
+        """The parts between two limits on the length of files, each with the limit before it."""
+        bounds = [0, *sorted(self.limits), len(self.parts)]
+        return [(self.limits.get(at), self.parts[at:end]) for at, end in zip(bounds, bounds[1:])]
 
 
 class Members:
@@ -110,7 +115,7 @@ class Reader:
         elif run is None:
             raise Mistake(f"line {number}: no command yet")
         elif word == "limit":
-            run.limit = int(rest)
+            run.limits[len(run.parts)] = int(rest)
         elif word == "=>":
             run.add_wanted(replies(rest))
         elif word == "=":
@@ -123,7 +128,7 @@ class Reader:
 
     def read_event(self, run, number, text):
         event, _, reply = text.partition(" => ")
-        given = spelled(event.removesuffix("<end>")) + (b"" if event.endswith("<end>") else b"\n")
+        given = spelled(event.replace("<end>", "")) + (b"" if event.endswith("<end>") else b"\n")
         run.add(number, event, given, replies(reply) if reply else b"")
 
     def make_image(self, text):

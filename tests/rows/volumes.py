@@ -88,6 +88,6 @@ MAKERS = {
 }
 
 
-@functools.cache
+@functools.lru_cache(None)
 def volume(name):
     return MAKERS[name]()
