@@ -1,4 +1,4 @@
--- Which events have a plain answer.
+-- Which events have the plainest answer.
 use Rattle.std.specs.Prelude.{Bool, true, false}
 use Rattle.dg_model.specs.declared.events.Event.{Event}
 use Rattle.dg_model.specs.declared.events.Event.TheVariants.{Write, Fail, Replace, Rebuild, Settle, Tend, Diffuse, Who, Home, Save}
