@@ -11,6 +11,8 @@ mod blocks;
 mod cat_tests;
 mod cats;
 mod events;
+#[cfg(test)]
+mod fault_tests;
 mod input;
 mod lines;
 #[cfg(test)]
@@ -23,6 +25,8 @@ mod replays;
 mod replies;
 mod resumes;
 mod saved;
+#[cfg(test)]
+mod saved_tests;
 mod serve;
 #[cfg(test)]
 mod tests;
