@@ -1,17 +1,19 @@
 // Runs in which calls of the rack, of the source or of the sink fail: the volume F is written and settled, gets a copy, loses
 // a member and gets it back, and is saved and read. Then the commands open what was saved.
 use crate::cat_tests::{call_behind, cut_after, image, lines_of, long_file};
-use crate::saved_tests::{bytes_of_b, run_over};
+use crate::saved_tests::{bytes_of_b, front_of, put, run_over};
 use crate::tests::{Pieces, rack_of, source_of, words_of};
 use crate::{Status, run};
-use dg_io::{Failed, MemSink, Rack};
+use dg_io::{Failed, MemRack, MemSink, Rack};
 use std::alloc::Global;
 use std::process::Abort;
 use std::test::Fail;
 use ufs_rows::Which;
 
-// Bytes of all that a run prints.
+// Bytes of all that a run prints, and of a member.
 const OUTPUT: usize = 131072;
+
+const LENGTH: usize = 69_993;
 
 // The lines of the array and of the blocks of F that aren't zero.
 const WRITES: usize = 63;
@@ -217,11 +219,10 @@ fn tells_saved(alloc: Global, text: &[u8], lost: bool) -> Result<bool, Fail> {
     Ok(false)
 }
 
-// Opens what was saved, and reads both files. Where boundary 2 is lost, `/d/b` isn't given.
-fn try_opening<R: Rack>(
+// Opens what was saved, and tells what it is like.
+fn try_status<R: Rack>(
     rt: &impl Abort,
     alloc: Global,
-    script: &Script,
     rack: &mut R,
     lost: bool,
     call: u64,
@@ -229,13 +230,18 @@ fn try_opening<R: Rack>(
     let (status, text) = run_over(alloc, "status", b"", rack)?;
     assert_eq!(rt; status, Status::Done, "call {call}");
     assert!(rt; tells_saved(alloc, &text, lost)?, "call {call}");
-    let (status, printed) = run_over(alloc, "cat /a", b"", rack)?;
-    assert_eq!(rt; status, Status::Done, "call {call}");
-    assert!(rt;
-        printed.as_slice() == b"hello".as_slice(),
-        "call {call}"
-    );
-    let (status, printed) = run_over(alloc, "cat /d/b", b"", rack)?;
+    Ok(())
+}
+
+// Opens it and reads a file, which is given unless it is lost.
+fn try_file<R: Rack>(
+    rt: &impl Abort,
+    alloc: Global,
+    rack: &mut R,
+    (line, bytes, lost): (&str, &[u8], bool),
+    call: u64,
+) -> Result<(), Fail> {
+    let (status, printed) = run_over(alloc, line, b"", rack)?;
     if lost {
         assert_eq!(rt; status, Status::Refused, "call {call}");
         assert!(rt;
@@ -244,7 +250,7 @@ fn try_opening<R: Rack>(
         );
     } else {
         assert_eq!(rt; status, Status::Done, "call {call}");
-        assert!(rt; printed == script.bytes, "call {call}");
+        assert!(rt; printed.as_slice() == bytes, "call {call}");
     }
     Ok(())
 }
@@ -257,18 +263,11 @@ fn try_call(rt: &impl Abort, alloc: Global, script: &Script, call: u64) -> Resul
     assert!(rt; keeps_front(script, call, &printed), "call {call}");
     let lost = loses_file(script, &printed);
     assert!(rt; lost.is_some(), "call {call}");
-    try_opening(rt, alloc, script, &mut rack, lost == Some(true), call)
-}
-
-// The calls of the script and of the opening, where none fails.
-fn all_calls(rt: &impl Abort, alloc: Global, script: &Script) -> Result<u64, Fail> {
-    let rack = rack_of(alloc, &[])?;
-    let mut rack = Counted { rack, calls: 0 };
-    let (status, printed) = run_over(alloc, "replay", &script.input, &mut rack)?;
-    assert_eq!(rt; status, Status::Done);
-    assert!(rt; printed == script.whole);
-    try_opening(rt, alloc, script, &mut rack, false, 0)?;
-    Ok(rack.calls)
+    let lost = lost == Some(true);
+    try_status(rt, alloc, &mut rack, lost, call)?;
+    try_file(rt, alloc, &mut rack, ("cat /a", b"hello", false), call)?;
+    let file = ("cat /d/b", script.bytes.as_slice(), lost);
+    try_file(rt, alloc, &mut rack, file, call)
 }
 
 #[test]
@@ -292,11 +291,54 @@ fn one_failed_call_while_the_volume_is_settled(rt: HostRuntime) -> Result<(), Fa
 }
 
 #[test]
-fn one_failed_call_in_the_refill_or_in_the_save_or_behind_it(rt: HostRuntime) -> Result<(), Fail> {
+fn one_failed_call_in_the_refill_or_behind_it(rt: HostRuntime) -> Result<(), Fail> {
     let alloc = rt.alloc();
     let script = script(alloc)?;
-    for call in calls_before(&script, 3)?..all_calls(&rt, alloc, &script)? {
+    for call in calls_before(&script, 3)?..calls_before(&script, 8)? {
         try_call(&rt, alloc, &script, call)?;
+    }
+    Ok(())
+}
+
+// The rack in the end of the script, where no call fails.
+fn saved(rt: &impl Abort, alloc: Global, script: &Script) -> Result<MemRack, Fail> {
+    let mut rack = rack_of(alloc, &[])?;
+    let (status, printed) = run_over(alloc, "replay", &script.input, &mut rack)?;
+    assert_eq!(rt; status, Status::Done);
+    assert!(rt; printed == script.whole);
+    Ok(rack)
+}
+
+// A rack with the same members. It is made by 16 calls, and then one fails.
+fn copy_of(alloc: Global, rack: &mut MemRack, call: u64) -> Result<MemRack, Fail> {
+    let mut copy = rack_of(alloc, &[call_behind(16, call)])?;
+    for member in 0..8 {
+        let bytes = front_of(alloc, rack, member, LENGTH)?;
+        put(&mut copy, member, &bytes)?;
+    }
+    Ok(copy)
+}
+
+#[test]
+fn one_failed_call_in_an_opening(rt: HostRuntime) -> Result<(), Fail> {
+    let alloc = rt.alloc();
+    let script = script(alloc)?;
+    let mut rack = saved(&rt, alloc, &script)?;
+    let mut counted = Counted { rack, calls: 0 };
+    try_status(&rt, alloc, &mut counted, false, 0)?;
+    let opening = counted.calls;
+    let file = ("cat /d/b", script.bytes.as_slice(), false);
+    try_file(&rt, alloc, &mut counted, file, 0)?;
+    let both = counted.calls;
+    rack = counted.rack;
+    for call in 0..opening {
+        let mut copy = copy_of(alloc, &mut rack, call)?;
+        try_status(&rt, alloc, &mut copy, false, call)?;
+    }
+    for call in opening..both {
+        let call = call.saturating_sub(opening);
+        let mut copy = copy_of(alloc, &mut rack, call)?;
+        try_file(&rt, alloc, &mut copy, file, call)?;
     }
     Ok(())
 }
@@ -375,9 +417,7 @@ fn two_failed_calls_while_the_volume_is_settled(rt: HostRuntime) -> Result<(), F
 }
 
 #[test]
-fn two_failed_calls_in_the_refill_or_in_the_save_or_behind_it(
-    rt: HostRuntime,
-) -> Result<(), Fail> {
+fn two_failed_calls_in_the_refill_or_behind_it(rt: HostRuntime) -> Result<(), Fail> {
     let alloc = rt.alloc();
     let script = script(alloc)?;
     for call in calls_before(&script, 3)?..calls_before(&script, 8)? {

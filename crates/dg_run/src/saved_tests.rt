@@ -261,7 +261,7 @@ fn files_that_were_read_are_saved(rt: HostRuntime) -> Result<(), Fail> {
 }
 
 // The first bytes of a member.
-fn front_of<R: Rack>(
+pub fn front_of<R: Rack>(
     alloc: Global,
     rack: &mut R,
     member: u8,
@@ -282,7 +282,8 @@ fn front_of<R: Rack>(
     Ok(bytes)
 }
 
-fn put<R: Rack>(rack: &mut R, member: u8, bytes: &[u8]) -> Result<(), Failed> {
+// Makes a member of these bytes, by two calls.
+pub fn put<R: Rack>(rack: &mut R, member: u8, bytes: &[u8]) -> Result<(), Failed> {
     rack.blank(member, bytes.len() as u64)?;
     rack.write(member, 0, bytes)
 }
