@@ -110,7 +110,7 @@ fn mark_of(alloc: Global, input: &[u8]) -> Result<(u64, usize), Fail> {
     Ok((rack.calls, printed.len()))
 }
 
-fn script(alloc: Global) -> Result<Script, Fail> {
+fn make_script(alloc: Global) -> Result<Script, Fail> {
     let mut input = lines_of(alloc, &image(alloc, Which::F)?)?;
     let mut marks = Vec::new(alloc);
     for line in EVENTS {
@@ -273,7 +273,7 @@ fn try_call(rt: &impl Abort, alloc: Global, script: &Script, call: u64) -> Resul
 #[test]
 fn one_failed_call_while_the_blocks_are_written(rt: HostRuntime) -> Result<(), Fail> {
     let alloc = rt.alloc();
-    let script = script(alloc)?;
+    let script = make_script(alloc)?;
     for call in 0..calls_before(&script, 0)? {
         try_call(&rt, alloc, &script, call)?;
     }
@@ -283,7 +283,7 @@ fn one_failed_call_while_the_blocks_are_written(rt: HostRuntime) -> Result<(), F
 #[test]
 fn one_failed_call_while_the_volume_is_settled(rt: HostRuntime) -> Result<(), Fail> {
     let alloc = rt.alloc();
-    let script = script(alloc)?;
+    let script = make_script(alloc)?;
     for call in calls_before(&script, 0)?..calls_before(&script, 3)? {
         try_call(&rt, alloc, &script, call)?;
     }
@@ -293,7 +293,7 @@ fn one_failed_call_while_the_volume_is_settled(rt: HostRuntime) -> Result<(), Fa
 #[test]
 fn one_failed_call_in_the_refill_or_behind_it(rt: HostRuntime) -> Result<(), Fail> {
     let alloc = rt.alloc();
-    let script = script(alloc)?;
+    let script = make_script(alloc)?;
     for call in calls_before(&script, 3)?..calls_before(&script, 8)? {
         try_call(&rt, alloc, &script, call)?;
     }
@@ -322,7 +322,7 @@ fn copy_of(alloc: Global, rack: &mut MemRack, call: u64) -> Result<MemRack, Fail
 #[test]
 fn one_failed_call_in_an_opening(rt: HostRuntime) -> Result<(), Fail> {
     let alloc = rt.alloc();
-    let script = script(alloc)?;
+    let script = make_script(alloc)?;
     let mut rack = saved(&rt, alloc, &script)?;
     let mut counted = Counted { rack, calls: 0 };
     try_status(&rt, alloc, &mut counted, false, 0)?;
@@ -409,7 +409,7 @@ fn try_two_calls(rt: &impl Abort, alloc: Global, script: &Script, call: u64) -> 
 #[test]
 fn two_failed_calls_while_the_volume_is_settled(rt: HostRuntime) -> Result<(), Fail> {
     let alloc = rt.alloc();
-    let script = script(alloc)?;
+    let script = make_script(alloc)?;
     for call in calls_before(&script, 0)?..calls_before(&script, 3)? {
         try_two_calls(&rt, alloc, &script, call)?;
     }
@@ -419,7 +419,7 @@ fn two_failed_calls_while_the_volume_is_settled(rt: HostRuntime) -> Result<(), F
 #[test]
 fn two_failed_calls_in_the_refill_or_behind_it(rt: HostRuntime) -> Result<(), Fail> {
     let alloc = rt.alloc();
-    let script = script(alloc)?;
+    let script = make_script(alloc)?;
     for call in calls_before(&script, 3)?..calls_before(&script, 8)? {
         try_two_calls(&rt, alloc, &script, call)?;
     }
@@ -457,7 +457,7 @@ fn a_failed_call_of_the_source_ends_the_writes(rt: HostRuntime) -> Result<(), Fa
 fn a_failed_call_of_the_sink_ends_the_script(rt: HostRuntime) -> Result<(), Fail> {
     let alloc = rt.alloc();
     let words = words_of(alloc, &["replay"])?;
-    let script = script(alloc)?;
+    let script = make_script(alloc)?;
     for call in [0, 1, 2, 3, 4, 5, 6, 7, 8, 9, 62, 63, 66, 69, 70, 71, 80] {
         let mut source = source_of(alloc, &script.input, &[])?;
         let mut sink = MemSink::new(alloc, OUTPUT, Vec::from_slice(alloc, &[call])?)?;
