@@ -96,7 +96,7 @@ struct Script {
     front: Vec<u8>,
     file: Vec<u8>,
     whole: Vec<u8>,
-    // Before each event and behind the last one: the calls made, and the bytes printed.
+    // At first, behind the writes, and behind each event: the calls made, and the bytes printed.
     marks: Vec<(u64, usize)>,
     // The bytes of `/d/b`.
     bytes: Vec<u8>,
@@ -113,11 +113,12 @@ fn mark_of(alloc: Global, input: &[u8]) -> Result<(u64, usize), Fail> {
 fn make_script(alloc: Global) -> Result<Script, Fail> {
     let mut input = lines_of(alloc, &image(alloc, Which::F)?)?;
     let mut marks = Vec::new(alloc);
-    for line in EVENTS {
-        marks.push(mark_of(alloc, &input)?)?;
-        input.extend_from_slice(line.as_bytes())?;
-    }
+    marks.push((0, 0))?;
     marks.push(mark_of(alloc, &input)?)?;
+    for line in EVENTS {
+        input.extend_from_slice(line.as_bytes())?;
+        marks.push(mark_of(alloc, &input)?)?;
+    }
     let mut front = Vec::new(alloc);
     for _ in 0..WRITES {
         front.extend_from_slice(b"ok\n")?;
@@ -137,11 +138,11 @@ fn make_script(alloc: Global) -> Result<Script, Fail> {
     })
 }
 
-// The calls before one of the events, or before the end.
-fn calls_before(script: &Script, event: usize) -> Result<u64, Fail> {
-    match script.marks.get(event) {
+// The calls made at one of the marks.
+fn calls_at(script: &Script, mark: usize) -> Result<u64, Fail> {
+    match script.marks.get(mark) {
         Some(mark) => Ok(mark.0),
-        None => Err("event".into()),
+        None => Err("mark".into()),
     }
 }
 
@@ -270,34 +271,33 @@ fn try_call(rt: &impl Abort, alloc: Global, script: &Script, call: u64) -> Resul
     try_file(rt, alloc, &mut rack, file, call)
 }
 
-#[test]
-fn one_failed_call_while_the_blocks_are_written(rt: HostRuntime) -> Result<(), Fail> {
-    let alloc = rt.alloc();
+// Each call between two of the marks in turn.
+fn try_calls(rt: &impl Abort, alloc: Global, from: usize, to: usize) -> Result<(), Fail> {
     let script = make_script(alloc)?;
-    for call in 0..calls_before(&script, 0)? {
-        try_call(&rt, alloc, &script, call)?;
+    for call in calls_at(&script, from)?..calls_at(&script, to)? {
+        try_call(rt, alloc, &script, call)?;
     }
     Ok(())
+}
+
+#[test]
+fn one_failed_call_while_the_blocks_are_written(rt: HostRuntime) -> Result<(), Fail> {
+    try_calls(&rt, rt.alloc(), 0, 1)
 }
 
 #[test]
 fn one_failed_call_while_the_volume_is_settled(rt: HostRuntime) -> Result<(), Fail> {
-    let alloc = rt.alloc();
-    let script = make_script(alloc)?;
-    for call in calls_before(&script, 0)?..calls_before(&script, 3)? {
-        try_call(&rt, alloc, &script, call)?;
-    }
-    Ok(())
+    try_calls(&rt, rt.alloc(), 1, 4)
 }
 
 #[test]
-fn one_failed_call_in_the_refill_or_behind_it(rt: HostRuntime) -> Result<(), Fail> {
-    let alloc = rt.alloc();
-    let script = make_script(alloc)?;
-    for call in calls_before(&script, 3)?..calls_before(&script, 8)? {
-        try_call(&rt, alloc, &script, call)?;
-    }
-    Ok(())
+fn one_failed_call_in_the_refill_or_in_the_save(rt: HostRuntime) -> Result<(), Fail> {
+    try_calls(&rt, rt.alloc(), 4, 8)
+}
+
+#[test]
+fn one_failed_call_behind_the_save(rt: HostRuntime) -> Result<(), Fail> {
+    try_calls(&rt, rt.alloc(), 8, 9)
 }
 
 // The rack in the end of the script, where no call fails.
@@ -399,31 +399,31 @@ fn try_two_calls(rt: &impl Abort, alloc: Global, script: &Script, call: u64) -> 
     let (status, printed) = run_over(alloc, "cat /a", b"", &mut rack)?;
     assert!(rt; is_given(status, &printed, b"hello"), "call {call}");
     let (status, printed) = run_over(alloc, "cat /d/b", b"", &mut rack)?;
-    assert!(rt;
-        is_given(status, &printed, &script.bytes),
-        "call {call}"
-    );
+    assert!(rt; is_given(status, &printed, &script.bytes), "call {call}");
+    Ok(())
+}
+
+fn try_calls_by_two(rt: &impl Abort, alloc: Global, from: usize, to: usize) -> Result<(), Fail> {
+    let script = make_script(alloc)?;
+    for call in calls_at(&script, from)?..calls_at(&script, to)? {
+        try_two_calls(rt, alloc, &script, call)?;
+    }
     Ok(())
 }
 
 #[test]
 fn two_failed_calls_while_the_volume_is_settled(rt: HostRuntime) -> Result<(), Fail> {
-    let alloc = rt.alloc();
-    let script = make_script(alloc)?;
-    for call in calls_before(&script, 0)?..calls_before(&script, 3)? {
-        try_two_calls(&rt, alloc, &script, call)?;
-    }
-    Ok(())
+    try_calls_by_two(&rt, rt.alloc(), 1, 4)
 }
 
 #[test]
-fn two_failed_calls_in_the_refill_or_behind_it(rt: HostRuntime) -> Result<(), Fail> {
-    let alloc = rt.alloc();
-    let script = make_script(alloc)?;
-    for call in calls_before(&script, 3)?..calls_before(&script, 8)? {
-        try_two_calls(&rt, alloc, &script, call)?;
-    }
-    Ok(())
+fn two_failed_calls_in_the_refill_or_in_the_save(rt: HostRuntime) -> Result<(), Fail> {
+    try_calls_by_two(&rt, rt.alloc(), 4, 8)
+}
+
+#[test]
+fn two_failed_calls_behind_the_save(rt: HostRuntime) -> Result<(), Fail> {
+    try_calls_by_two(&rt, rt.alloc(), 8, 9)
 }
 
 // Call i of the source fails after 8192 * i bytes. The lines that are whole in these are done, and nothing is saved.

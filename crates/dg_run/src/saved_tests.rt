@@ -84,10 +84,7 @@ fn try_row(rt: &impl Abort, alloc: Global, rack: &mut MemRack, row: Row) -> Resu
     let (words, input, wanted, output) = row;
     let (status, printed) = run_over(alloc, words, input.as_bytes(), rack)?;
     assert_eq!(rt; status, wanted, "{words} {input}");
-    assert!(rt;
-        printed.as_slice() == output.as_bytes(),
-        "{words} {input}"
-    );
+    assert!(rt; printed.as_slice() == output.as_bytes(), "{words} {input}");
     Ok(())
 }
 
