@@ -8,7 +8,7 @@ const LENGTH: u64 = 69993;
 
 const OUTPUT: usize = 4096;
 
-// A source that gives at most so many bytes in a call.
+// A source that gives at most so many bytes in a call, and at least one.
 #[derive(Drop)]
 pub struct Pieces<S>(pub S, pub usize);
 
@@ -18,7 +18,7 @@ impl<S: Source> Source for Pieces<S> {
     ghost faults = { λ s. S.faults s.0 };
 
     fn read(&mut self, buf: &mut [u8]) -> Result<usize, Failed> {
-        let most = buf.len().min(self.1);
+        let most = buf.len().min(self.1.max(1));
         self.0.read(&mut buf[..most])
     }
 }
