@@ -9,6 +9,8 @@ mod arrays;
 mod blocks;
 mod cats;
 mod events;
+#[cfg(test)]
+mod fault_tests;
 mod input;
 mod lines;
 mod listings;
@@ -19,6 +21,8 @@ mod replays;
 mod replies;
 mod resumes;
 mod saved;
+#[cfg(test)]
+mod saved_tests;
 mod serve;
 mod top;
 mod trees;

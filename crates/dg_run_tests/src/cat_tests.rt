@@ -142,7 +142,7 @@ fn push_bytes(text: &mut Vec<u8>, byte: u8, count: usize) -> Result<(), Fail> {
 }
 
 // The answer to `cat /d/b`: fragment i of the file has the bytes i + 1.
-fn long_file(alloc: Global) -> Result<Vec<u8>, Fail> {
+pub fn long_file(alloc: Global) -> Result<Vec<u8>, Fail> {
     let mut text = Vec::new(alloc);
     for byte in 1..53 {
         push_bytes(&mut text, byte, 1024)?;

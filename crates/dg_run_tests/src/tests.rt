@@ -8,9 +8,9 @@ const LENGTH: u64 = 69993;
 
 const OUTPUT: usize = 4096;
 
-// A source that gives at most 16 bytes in a call.
+// A source that gives at most so many bytes in a call, and at least one.
 #[derive(Drop)]
-struct Pieces<S>(S);
+pub struct Pieces<S>(pub S, pub usize);
 
 impl<S: Source> Source for Pieces<S> {
     ghost left = { λ s. S.left s.0 };
@@ -18,7 +18,7 @@ impl<S: Source> Source for Pieces<S> {
     ghost faults = { λ s. S.faults s.0 };
 
     fn read(&mut self, buf: &mut [u8]) -> Result<usize, Failed> {
-        let most = buf.len().min(16);
+        let most = buf.len().min(self.1.max(1));
         self.0.read(&mut buf[..most])
     }
 }
@@ -173,8 +173,8 @@ fn words_of_no_command_that_is_built_are_refused(rt: HostRuntime) -> Result<(), 
         &[],
         &["reply"],
         &["replay", "x"],
-        &["status"],
-        &["cat", "/a"],
+        &["trace", "up", "4", "64", "2"],
+        &["drill", "1", "20"],
     ];
     for texts in rows {
         let words = words_of(alloc, texts)?;
@@ -321,7 +321,7 @@ fn a_failed_call_of_the_source_ends_the_replies(rt: HostRuntime) -> Result<(), F
         (9, 14),
     ];
     for (call, count) in rows {
-        let mut source = Pieces(source_of(alloc, SCRIPT, &[call])?);
+        let mut source = Pieces(source_of(alloc, SCRIPT, &[call])?, 16);
         let mut sink = sink_of(alloc, &[])?;
         let mut rack = rack_of(alloc, &[])?;
         let status = run(alloc, &words, &mut source, &mut sink, &mut rack);
