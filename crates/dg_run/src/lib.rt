@@ -9,8 +9,6 @@ mod arrays;
 mod blocks;
 mod cats;
 mod events;
-#[cfg(test)]
-mod fault_tests;
 mod input;
 mod lines;
 mod listings;
@@ -21,8 +19,6 @@ mod replays;
 mod replies;
 mod resumes;
 mod saved;
-#[cfg(test)]
-mod saved_tests;
 mod serve;
 mod top;
 mod trees;

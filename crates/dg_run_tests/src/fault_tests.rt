@@ -3,8 +3,8 @@
 use crate::cat_tests::{call_behind, cut_after, image, lines_of, long_file};
 use crate::saved_tests::{bytes_of_b, front_of, put, run_over};
 use crate::tests::{Pieces, rack_of, source_of, words_of};
-use crate::{Status, run};
 use dg_io::{Failed, MemRack, MemSink, Rack};
+use dg_run::{Status, run};
 use std::alloc::Global;
 use std::process::Abort;
 use std::test::Fail;

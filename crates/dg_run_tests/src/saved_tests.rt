@@ -4,8 +4,8 @@ ghost use Rattle.std.specs.Prelude.{◌≡◌, IfOk, length};
 
 use crate::cat_tests::{image, lines_of};
 use crate::tests::{rack_of, source_of};
-use crate::{Status, run};
 use dg_io::{Failed, MemRack, MemSink, Rack};
+use dg_run::{Status, run};
 use std::alloc::Global;
 use std::process::Abort;
 use std::test::Fail;
