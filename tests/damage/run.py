@@ -24,7 +24,7 @@ import tempfile
 HERE = os.path.dirname(os.path.abspath(__file__))
 sys.path[:0] = [HERE, os.path.join(HERE, "..", "soak")]
 from changes import MEMBERS, Images, change  # noqa: E402
-from generate import EVENTS, make  # noqa: E402
+from generate import make  # noqa: E402
 from opened import decode, encode, opened  # noqa: E402
 from rows import F, writes  # noqa: E402
 from saved import Difference, Label, Round, image_name  # noqa: E402
@@ -54,7 +54,7 @@ def trace_of(rng, seed):
         lines = [f"array 1024 128 4 64 {rng.choice([1, 2, 3])}", *writes(F)]
         paths = F_PATHS
     else:
-        lines = make(seed, rng.choice([40, 80, 120]), EVENTS).lines
+        lines = make(seed, rng.choice([40, 80, 120])).lines
         lines = [line for line in lines if not line.startswith("fail") or rng.random() < 0.2]
         lines = lines[:rng.randrange(len(lines) + 1)] or ["array 512 64 2 64 1"]
         paths = sorted({line.split(" ")[1] for line in lines if line.split(" ")[0] in ("cat", "ls", "home")} | {"/"})
