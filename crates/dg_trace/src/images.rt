@@ -1,0 +1,57 @@
+// The image, read from a source.
+ghost use Rattle.std.specs.Prelude.{◌≡◌, ◌<◌, ◌≤◌, [], length, take, IfOk, OnErr};
+ghost use Rattle.dg_io.specs.Faults.{HasCause};
+ghost use Rattle.dg_io.specs.Told.{Gave, IsSame, Told};
+ghost use Rattle.dg_model.specs.Causes.{Rose};
+ghost use Rattle.dg_trace.specs.Images.{GaveImage, GavePart};
+
+use crate::asked::TraceFault;
+use dg_io::{Failed, Source};
+use std::alloc::Global;
+
+/// The most bytes of an image.
+pub const MOST_BYTES: usize = 1 << 28;
+
+/// Bytes that are asked of the source at once.
+const PIECE: usize = 65536;
+
+/// Reads at most so many bytes to the front of a piece, and answers how many. None is the end.
+fn read_piece<S: Source>(source: &mut S, piece: &mut [u8], room: usize) -> Result<usize, Failed>
+    requires some { 0 < room }
+    requires fits { room ≤ length piece.old }
+    ensures size { length piece.new ≡ length piece.old }
+    ensures within { IfOk result (λ n. n ≤ room) }
+    ensures gave { IfOk result (λ n. Told (Gave (take n piece.new)) (S.left source.old) (S.left source.new)) }
+    ensures end { IfOk result (λ n. n ≡ 0 → Told (λ before after. before ≡ []) (S.left source.old) (S.left source.new)) }
+    ensures err { OnErr result (Told IsSame (S.left source.old) (S.left source.new)) }
+    ensures cause { HasCause (S.faults source.old) (S.faults source.new) result }
+{
+    source.read(&mut piece[..room])
+}
+
+/// Reads an image to the end of the source. Of one with more than the most bytes it reads one byte past them, and no more.
+pub fn read_image<S: Source>(alloc: Global, source: &mut S) -> Result<Vec<u8>, TraceFault>
+    ensures image { IfOk result (λ image. Told (GaveImage image.items) (S.left source.old) (S.left source.new)) }
+    ensures part { OnErr result (Told GavePart (S.left source.old) (S.left source.new)) }
+    ensures write { result ≡ Err TraceFault.Write → ⊥ }
+    ensures read { result ≡ Err TraceFault.Read → Rose (S.faults source.old) (S.faults source.new) }
+    ensures kept { (result ≡ Err TraceFault.Read → ⊥) → S.faults source.new ≡ S.faults source.old }
+{
+    let Ok(mut piece) = vec![in alloc; 0u8; PIECE] else {
+        return Err(TraceFault::NoMemory);
+    };
+    let mut image = Vec::new(alloc);
+    while image.len() <= MOST_BYTES {
+        let room = PIECE.min(MOST_BYTES + 1 - image.len());
+        let Ok(n) = read_piece(source, &mut piece, room) else {
+            return Err(TraceFault::Read);
+        };
+        if n == 0 {
+            return Ok(image);
+        }
+        let Ok(()) = image.extend_from_slice(&piece[..n]) else {
+            return Err(TraceFault::NoMemory);
+        };
+    }
+    Ok(image)
+}
