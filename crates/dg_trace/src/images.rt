@@ -16,12 +16,12 @@ pub const MOST_BYTES: usize = 1 << 28;
 const PIECE: usize = 65536;
 
 /// Reads at most so many bytes to the front of a piece, and answers how many. None is the end.
-fn read_piece<S: Source>(source: &mut S, piece: &mut [u8], room: usize) -> Result<usize, Failed>
+fn read_piece<S: Source>(source: &mut S, piece: &mut Vec<u8>, room: usize) -> Result<usize, Failed>
     requires some { 0 < room }
-    requires fits { room ≤ length piece.old }
-    ensures size { length piece.new ≡ length piece.old }
+    requires fits { room ≤ length piece.old.items }
+    ensures size { length piece.new.items ≡ length piece.old.items }
     ensures within { IfOk result (λ n. n ≤ room) }
-    ensures gave { IfOk result (λ n. Told (Gave (take n piece.new)) (S.left source.old) (S.left source.new)) }
+    ensures gave { IfOk result (λ n. Told (Gave (take n piece.new.items)) (S.left source.old) (S.left source.new)) }
     ensures end { IfOk result (λ n. n ≡ 0 → Told (λ before after. before ≡ []) (S.left source.old) (S.left source.new)) }
     ensures err { OnErr result (Told IsSame (S.left source.old) (S.left source.new)) }
     ensures cause { HasCause (S.faults source.old) (S.faults source.new) result }
@@ -41,8 +41,9 @@ pub fn read_image<S: Source>(alloc: Global, source: &mut S) -> Result<Vec<u8>, T
         return Err(TraceFault::NoMemory);
     };
     let mut image = Vec::new(alloc);
-    while image.len() <= MOST_BYTES {
-        let room = PIECE.min(MOST_BYTES + 1 - image.len());
+    let mut count = 0;
+    while count <= MOST_BYTES {
+        let room = PIECE.min(MOST_BYTES + 1 - count);
         let Ok(n) = read_piece(source, &mut piece, room) else {
             return Err(TraceFault::Read);
         };
@@ -52,6 +53,7 @@ pub fn read_image<S: Source>(alloc: Global, source: &mut S) -> Result<Vec<u8>, T
         let Ok(()) = image.extend_from_slice(&piece[..n]) else {
             return Err(TraceFault::NoMemory);
         };
+        count += n;
     }
     Ok(image)
 }

@@ -30,15 +30,18 @@ fn stripped_len(block: &[u8]) -> usize
     n
 }
 
-/// The write of a block of an image, in blocks of `l` bytes, without the zeros at its end.
-fn write_of(alloc: Global, l: u32, image: &[u8], b: u32) -> Result<Event, NoMemory>
-    requires { (b + 1) * l ≤ length image.now }
-    ensures { IfOk result (λ event. event ≡ write_of l image.now b) }
+/// The write of a block of a volume, without the zeros at its end.
+fn write_of(alloc: Global, g: &Geometry, volume: &[u8], b: u32) -> Result<Event, NoMemory>
+    requires bytes { length volume.now ≡ g.now.size * g.now.fsize }
+    requires block { b < g.now.size }
+    ensures { IfOk result (λ event. event ≡ write_of g.now.fsize volume.now b) }
 {
-    let start = b as usize * l as usize;
-    let (_, rest) = image.split_at(start);
-    let (block, _) = rest.split_at(l as usize);
-    let Ok(bytes) = Vec::from_slice(alloc, &block[..stripped_len(block)]) else {
+    let l = g.fsize as usize;
+    let start = b as usize * l;
+    let (_, rest) = volume.split_at(start);
+    let (block, _) = rest.split_at(l);
+    let (bytes, _) = block.split_at(stripped_len(block));
+    let Ok(bytes) = Vec::from_slice(alloc, bytes) else {
         return Err(NoMemory);
     };
     Ok(Event::Write(b, Bytes::new(bytes)))
@@ -67,19 +70,20 @@ fn write_line<K: Sink>(alloc: Global, event: &Event, sink: &mut K) -> Result<(),
 /// Writes the line of a block.
 fn write_block<K: Sink>(
     alloc: Global,
-    l: u32,
-    image: &[u8],
+    g: &Geometry,
+    volume: &[u8],
     b: u32,
     sink: &mut K,
 ) -> Result<(), TraceFault>
-    requires { (b + 1) * l ≤ length image.now }
-    ensures ok { OnOk result (Told (Took (line_of (write_of l image.now b))) (K.taken sink.old) (K.taken sink.new)) }
-    ensures part { OnErr result (Told (TookPart (line_of (write_of l image.now b))) (K.taken sink.old) (K.taken sink.new)) }
+    requires bytes { length volume.now ≡ g.now.size * g.now.fsize }
+    requires block { b < g.now.size }
+    ensures ok { OnOk result (Told (Took (line_of (write_of g.now.fsize volume.now b))) (K.taken sink.old) (K.taken sink.new)) }
+    ensures part { OnErr result (Told (TookPart (line_of (write_of g.now.fsize volume.now b))) (K.taken sink.old) (K.taken sink.new)) }
     ensures read { result ≡ Err TraceFault.Read → ⊥ }
     ensures write { result ≡ Err TraceFault.Write → Rose (K.faults sink.old) (K.faults sink.new) }
     ensures kept { (result ≡ Err TraceFault.Write → ⊥) → K.faults sink.new ≡ K.faults sink.old }
 {
-    let Ok(event) = write_of(alloc, l, image, b) else {
+    let Ok(event) = write_of(alloc, g, volume, b) else {
         return Err(TraceFault::NoMemory);
     };
     write_line(alloc, &event, sink)
@@ -88,20 +92,21 @@ fn write_block<K: Sink>(
 /// Writes the lines of blocks.
 fn write_blocks<K: Sink>(
     alloc: Global,
-    l: u32,
-    image: &[u8],
+    g: &Geometry,
+    volume: &[u8],
     blocks: &[u32],
     sink: &mut K,
 ) -> Result<(), TraceFault>
-    requires { All (λ b. (b + 1) * l ≤ length image.now) blocks.now }
-    ensures ok { OnOk result (Told (Took (input_of (writes_of l image.now blocks.now))) (K.taken sink.old) (K.taken sink.new)) }
-    ensures part { OnErr result (Told (TookPart (input_of (writes_of l image.now blocks.now))) (K.taken sink.old) (K.taken sink.new)) }
+    requires bytes { length volume.now ≡ g.now.size * g.now.fsize }
+    requires blocks { All (λ b. b < g.now.size) blocks.now }
+    ensures ok { OnOk result (Told (Took (input_of (writes_of g.now.fsize volume.now blocks.now))) (K.taken sink.old) (K.taken sink.new)) }
+    ensures part { OnErr result (Told (TookPart (input_of (writes_of g.now.fsize volume.now blocks.now))) (K.taken sink.old) (K.taken sink.new)) }
     ensures read { result ≡ Err TraceFault.Read → ⊥ }
     ensures write { result ≡ Err TraceFault.Write → Rose (K.faults sink.old) (K.faults sink.new) }
     ensures kept { (result ≡ Err TraceFault.Write → ⊥) → K.faults sink.new ≡ K.faults sink.old }
 {
     for b in blocks {
-        write_block(alloc, l, image, *b, sink)?;
+        write_block(alloc, g, volume, *b, sink)?;
     }
     Ok(())
 }
@@ -127,5 +132,5 @@ pub fn write_lines<K: Sink>(
         return Err(TraceFault::NoMemory);
     };
     write_line(alloc, &Event::Array(shape), sink)?;
-    write_blocks(alloc, g.fsize, volume, &blocks, sink)
+    write_blocks(alloc, g, volume, &blocks, sink)
 }

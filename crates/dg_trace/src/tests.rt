@@ -6,6 +6,7 @@ use dg_model::{Bytes, Event, Shape};
 use dg_text::read_line;
 use dg_words::Order;
 use std::alloc::Global;
+use std::process::Abort;
 use std::test::Fail;
 use ufs_build::{Item, ItemKind, Items, Spec, build};
 use ufs_model::{BadSuper, Endian};
@@ -249,6 +250,7 @@ fn check_refusal(
 }
 
 /// A change of a superblock: where, and its bytes; and the test that fails.
+#[derive(Clone, Copy)]
 struct Change {
     at: usize,
     bytes: &'static [u8],

@@ -1,0 +1,7 @@
+mod AnswerLaws
+mod BlockLaws
+mod ImageSteps
+mod InputLaws
+mod LineSteps
+mod OrderLaws
+mod ReplayLaws
