@@ -374,20 +374,19 @@ fn a_broken_limit_is_told(rt: HostRuntime) -> Result<(), Fail> {
     Ok(())
 }
 
-/// A source of so many zero bytes, which tells none of them.
+/// A source of so many bytes, which tells none of them: those that stand in the buffer.
 #[derive(Drop)]
-struct Zeros {
+struct Untold {
     left: usize,
 }
 
-impl Source for Zeros {
+impl Source for Untold {
     ghost left = { λ _. None };
 
     ghost faults = { λ _. 0 };
 
     fn read(&mut self, buf: &mut [u8]) -> Result<usize, Failed> {
         let n = self.left.min(buf.len());
-        buf[..n].fill(0);
         self.left -= n;
         Ok(n)
     }
@@ -396,7 +395,7 @@ impl Source for Zeros {
 #[test]
 fn an_image_that_is_too_long_is_read_one_byte_too_far(rt: HostRuntime) -> Result<(), Fail> {
     let alloc = rt.alloc();
-    let mut source = Zeros {
+    let mut source = Untold {
         left: (1 << 28) + 10,
     };
     let mut sink = sink_of(alloc, &[])?;
