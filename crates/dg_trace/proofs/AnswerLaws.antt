@@ -22,7 +22,7 @@ not_both r x y p q = cc
 -- an image that has its whole volume isn't refused for its length
 whole_length : (asked : Asked) (image : List ℕ) (g : Geometry) → HasWhole image g → IsRefused asked image Length → ⊥
 whole_length asked image g has (inl none) = none has.has.size
-whole_length asked image g has (inr (h, (other, short))) =
+whole_length asked image g has (inr (h, other, short)) =
     let same : h ≡ g = ok_same (volume_on image) h g other.volume has.has.volume in
     let short' : length image < g.size * g.fsize = subst (λ (x : Geometry). length image < x.size * x.fsize) same short in
     omega (arith, has.whole, short')
@@ -38,7 +38,7 @@ accepted_refused asked image g Limits a r =
 
 length_super : (asked : Asked) (image : List ℕ) (bad : BadSuper) → IsRefused asked image Length → IsRefused asked image (Super bad) → ⊥
 length_super asked image bad (inl none) s = none s.0
-length_super asked image bad (inr (g, (has, short))) s = not_both (volume_on image) g bad has.volume s.1
+length_super asked image bad (inr (g, has, short)) s = not_both (volume_on image) g bad has.volume s.1
 
 refused_same : (asked : Asked) (image : List ℕ) (one other : TraceRefusal) → IsRefused asked image one → IsRefused asked image other → one ≡ other
 refused_same asked image Length Length p q = refl

@@ -69,7 +69,7 @@ either false b e = (refl, e)
 zero_byte : (x : ℕ) → not (x == 0) ≡ false → x ≡ 0
 zero_byte x e = elim (cases_eq x 0) [
   | inl same ↦ same
-  | inr other ↦ absurd (let ne = ne_eqb x 0 other in cc (ap not ne))
+  | inr other ↦ absurd (let ne = ne_eqb x 0 other in cc)
 ]
 
 -- bytes of which none isn't zero

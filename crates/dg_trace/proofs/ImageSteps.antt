@@ -1,7 +1,7 @@
 -- How an image is read piece by piece.
-use Rattle.std.proofs.Common.{◌≡◌, ◌≤◌, ◌<◌, ◌+◌, ◌^◌, ℕ, List, [], ◌++◌, length, take, refl, sym, ◌∙◌, ap, subst, arith, append_assoc, length-append}
-use Rattle.std.specs.Prelude.{Option, Some, None}
-use Rattle.std.proofs.lemmas.List.{append-nil}
+use Rattle.std.proofs.Common.{◌≡◌, ◌≤◌, ◌<◌, ◌+◌, ◌-◌, ◌^◌, ℕ, List, [], ◌∷◌, ◌++◌, length, refl, sym, ◌∙◌, ap, arith, append_assoc, length-append}
+use Rattle.std.specs.Prelude.{Option, Some, None, slice_range}
+use Rattle.std.proofs.Math.Seq.{length-slice}
 use Rattle.dg_io.specs.Told.{Gave, IsSame, Told}
 use Rattle.dg_trace.specs.Images.{GaveImage, GavePart}
 
@@ -36,12 +36,26 @@ image_past image x None past most p = tt
 image_past image (Some a) (Some b) past most p = record { split = p; most = most; whole = λ low. absurd (omega (arith, past, low)) }
 image_past image None (Some b) past most p = absurd p
 
+nothing_left : (piece rest : List ℕ) → piece ++ rest ≡ [] → rest ≡ []
+nothing_left [] rest e = e
+nothing_left (x ∷ piece) rest e = cc
+
 -- the source is at its end
-pub image_end : (image piece : List ℕ) (n : ℕ) (x y z : Option (List ℕ)) → n ≡ 0 → length image ≤ 2 ^ 28 + 1 → Told (Gave image) x y → Told (Gave (take n piece)) y z
+pub image_end : (image piece : List ℕ) (x y z : Option (List ℕ)) → length image ≤ 2 ^ 28 + 1 → Told (Gave image) x y → Told (Gave piece) y z
     → Told (λ before after. before ≡ []) y z → Told (GaveImage image) x z
-image_end image piece n x y None none most p q e = tt
-image_end image piece n (Some a) (Some b) (Some c) none most p q e =
-    let same : b ≡ c = q ∙ ap (λ (k : ℕ). take k piece ++ c) none in
-    record { split = p ∙ ap (λ (l : List ℕ). image ++ l) same; most = most; whole = λ low. sym same ∙ e }
-image_end image piece n None (Some b) (Some c) none most p q e = absurd p
-image_end image piece n x None (Some c) none most p q e = absurd q
+image_end image piece x y None most p q e = tt
+image_end image piece (Some a) (Some b) (Some c) most p q e =
+    let none : c ≡ [] = nothing_left piece c (sym q ∙ e) in
+    record { split = p ∙ ap (λ (l : List ℕ). image ++ l) (e ∙ sym none); most = most; whole = λ low. none }
+image_end image piece None (Some b) (Some c) most p q e = absurd p
+image_end image piece x None (Some c) most p q e = absurd q
+
+-- a slice of so many bytes
+pub slice_size : (xs : List ℕ) (at n : ℕ) → at + n ≤ length xs → length (slice_range xs at (at + n)) ≡ n
+slice_size xs at n within =
+    let size : length (slice_range xs at (at + n)) ≡ at + n - at = length-slice at (at + n) xs within in
+    omega (arith, size)
+
+-- bytes and a slice, as they were read
+pub size_both : (image xs : List ℕ) (at n : ℕ) → at + n ≤ length xs → length (image ++ slice_range xs at (at + n)) ≡ length image + n
+size_both image xs at n within = length-append image (slice_range xs at (at + n)) ∙ ap (λ (k : ℕ). length image + k) (slice_size xs at n within)

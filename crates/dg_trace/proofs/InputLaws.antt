@@ -40,9 +40,9 @@ write_in_place asked image g all is b low =
 
 pub in_place : (asked : Asked) (image : List ℕ) (g : Geometry) → AreBytes image → IsAccepted asked image g → AreInPlace (events_of asked image g)
 in_place asked image g all is = (
-    is.limits,
-    All-map (IsInPlace (Some (shape_for asked g))) (write_of g.fsize (volume_bytes g image)) (trace_of asked.order g (volume_bytes g image))
-        (All-weaker (λ (b : ℕ). b < g.size) (λ (b : ℕ). IsInPlace (Some (shape_for asked g)) (write_of g.fsize (volume_bytes g image) b))
-        (λ b low. write_in_place asked image g all is b low) (trace_of asked.order g (volume_bytes g image))
-        (trace_below asked.order g (volume_bytes g image))),
-  )
+  is.limits,
+  All-map (IsInPlace (Some (shape_for asked g))) (write_of g.fsize (volume_bytes g image)) (trace_of asked.order g (volume_bytes g image))
+      (All-weaker (λ (b : ℕ). b < g.size) (λ (b : ℕ). IsInPlace (Some (shape_for asked g)) (write_of g.fsize (volume_bytes g image) b))
+      (λ b low. write_in_place asked image g all is b low) (trace_of asked.order g (volume_bytes g image))
+      (trace_below asked.order g (volume_bytes g image))),
+)

@@ -1,5 +1,6 @@
 mod AnswerLaws
 mod BlockLaws
+mod EndSteps
 mod ImageSteps
 mod InputLaws
 mod LineSteps

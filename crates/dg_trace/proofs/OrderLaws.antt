@@ -42,7 +42,7 @@ trace_below Late g volume =
 -- ---- each that isn't all zero is one of them
 
 -- c is one of the numbers
-pub abbrev IsIn : ℕ → List ℕ → Type 0
+abbrev pub IsIn : ℕ → List ℕ → Type 0
 IsIn c [] = ⊥
 IsIn c (x ∷ xs) = (c ≡ x) ⊎ IsIn c xs
 
@@ -76,7 +76,7 @@ range_has test c zero a is low high = absurd (omega (arith, low, high))
 range_has test c (suc n) a is low high = elim (cases_eq c a) [
   | inl same ↦ passes_here (test a) c a (filter test (range_with_len (a + 1) n)) (filter test (range_with_len (a + 1) n)) (ap test (sym same) ∙ is) same
   | inr other ↦ passes_later (test a) c a (filter test (range_with_len (a + 1) n))
-    (range_has test c n (a + 1) is (omega (arith, low, other)) (omega (arith, high)))
+      (range_has test c n (a + 1) is (omega (arith, low, other)) (omega (arith, high)))
 ]
 
 where_has : (test : ℕ → Bool) (c n : ℕ) → test c ≡ true → c < n → IsIn c (numbers_where test n)
@@ -96,9 +96,9 @@ trace_has Up g volume c low is = where_has (is_written g.fsize volume) c g.size 
 trace_has Down g volume c low is = in_reverse c (written_blocks g volume) (where_has (is_written g.fsize volume) c g.size is low)
 trace_has Late g volume c low is = elim (cases_Bool (is_data (role g c))) [
   | inl file ↦ in_left c (written_data g volume) (reverse (written_system g volume))
-    (where_has (λ b. is_data (role g b) && is_written g.fsize volume b) c g.size (and_true (is_data (role g c)) (is_written g.fsize volume c) file is) low)
+      (where_has (λ b. is_data (role g b) && is_written g.fsize volume b) c g.size (and_true (is_data (role g c)) (is_written g.fsize volume c) file is) low)
   | inr own ↦ in_right c (written_data g volume) (reverse (written_system g volume))
-    (in_reverse c (written_system g volume)
-    (where_has (λ b. not (is_data (role g b)) && is_written g.fsize volume b) c g.size
-    (and_true (not (is_data (role g c))) (is_written g.fsize volume c) (not_true (is_data (role g c)) own) is) low))
+      (in_reverse c (written_system g volume)
+      (where_has (λ b. not (is_data (role g b)) && is_written g.fsize volume b) c g.size
+      (and_true (not (is_data (role g c))) (is_written g.fsize volume c) (not_true (is_data (role g c)) own) is) low))
 ]

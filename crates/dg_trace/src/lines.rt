@@ -1,11 +1,10 @@
 // The lines of a trace.
-ghost use Rattle.std.specs.Prelude.{◌≡◌, ◌≢◌, ◌+◌, ◌*◌, ◌-◌, ◌<◌, ◌≤◌, ◌++◌, All, Err, IfOk, OnErr, OnOk, length, map, replicate, slice_index, take};
+ghost use Rattle.std.specs.Prelude.{◌≡◌, ◌≢◌, ◌*◌, ◌-◌, ◌<◌, ◌≤◌, ◌++◌, All, Err, IfOk, OnErr, OnOk, length, replicate, slice_index, take};
 ghost use Rattle.dg_io.specs.Told.{Told, Took, TookPart};
-ghost use Rattle.dg_model.specs.Blocks.{stripped};
+ghost use Rattle.dg_model.specs.Blocks.{IsTrimmed};
 ghost use Rattle.dg_model.specs.Causes.{Rose};
 ghost use Rattle.dg_text.specs.Lines.{input_of, line_of};
 ghost use Rattle.dg_trace.specs.Traces.{trace_events, write_of, writes_of};
-ghost use Rattle.ufs_build.specs.Traces.{block_in};
 ghost use Rattle.ufs_model.specs.Geometries.{IsGeometry};
 
 use crate::asked::TraceFault;
@@ -30,6 +29,13 @@ fn stripped_len(block: &[u8]) -> usize
     n
 }
 
+/// A block without the zeros at its end.
+fn trimmed(block: &[u8]) -> &[u8]
+    ensures { IsTrimmed result.now block.now }
+{
+    &block[..stripped_len(block)]
+}
+
 /// The write of a block of a volume, without the zeros at its end.
 fn write_of(alloc: Global, g: &Geometry, volume: &[u8], b: u32) -> Result<Event, NoMemory>
     requires bytes { length volume.now ≡ g.now.size * g.now.fsize }
@@ -40,8 +46,7 @@ fn write_of(alloc: Global, g: &Geometry, volume: &[u8], b: u32) -> Result<Event,
     let start = b as usize * l;
     let (_, rest) = volume.split_at(start);
     let (block, _) = rest.split_at(l);
-    let (bytes, _) = block.split_at(stripped_len(block));
-    let Ok(bytes) = Vec::from_slice(alloc, bytes) else {
+    let Ok(bytes) = Vec::from_slice(alloc, trimmed(block)) else {
         return Err(NoMemory);
     };
     Ok(Event::Write(b, Bytes::new(bytes)))

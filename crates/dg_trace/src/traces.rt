@@ -4,7 +4,8 @@ ghost use Rattle.dg_io.specs.Faults.{HasCause};
 ghost use Rattle.dg_io.specs.Told.{Told, Took, TookPart};
 ghost use Rattle.dg_model.specs.Causes.{Rose};
 ghost use Rattle.dg_trace.specs.Answers.{refusal_text};
-ghost use Rattle.dg_trace.specs.Ends.{Ends};
+ghost use Rattle.dg_text.specs.Lines.{AreBytes};
+ghost use Rattle.dg_trace.specs.Ends.{Ends, EndsImage};
 ghost use Rattle.dg_trace.specs.Calls.{facts_of};
 
 use crate::asked::{Asked, TraceEnd, TraceFault, TraceRefusal};
@@ -33,6 +34,35 @@ fn write_refusal<K: Sink>(sink: &mut K, refusal: TraceRefusal) -> Result<(), Fai
     }
 }
 
+/// Writes the trace of an image, or why there is none.
+fn write_answer<K: Sink>(
+    alloc: Global,
+    asked: &Asked,
+    image: &[u8],
+    sink: &mut K,
+) -> Result<TraceEnd, TraceFault>
+    ensures ends { EndsImage asked.now image.now (K.taken sink.old) (K.taken sink.new) result }
+    ensures bytes { AreBytes image.now }
+    ensures write { result ≡ Err TraceFault.Write → Rose (K.faults sink.old) (K.faults sink.new) }
+    ensures kept { (result ≡ Err TraceFault.Write → ⊥) → K.faults sink.new ≡ K.faults sink.old }
+    ensures read { result ≡ Err TraceFault.Read → ⊥ }
+{
+    match check_image(asked, image) {
+        Ok(accepted) => {
+            let g = accepted.geometry;
+            let (volume, _) = image.split_at(g.size as usize * g.fsize as usize);
+            match write_lines(alloc, asked.order, &g, accepted.shape, volume, sink) {
+                Ok(()) => Ok(TraceEnd::Written),
+                Err(fault) => Err(fault),
+            }
+        }
+        Err(refusal) => match write_refusal(sink, refusal) {
+            Ok(()) => Ok(TraceEnd::Refused(refusal)),
+            Err(_) => Err(TraceFault::Write),
+        },
+    }
+}
+
 /// Makes the trace of the image in a source, and writes it to a sink: a line that makes an array for the volume, and a `write` line, without the zeros at its end,
 /// for each block that isn't all zero, in the order that is asked for. Replayed, it gives the volume.
 ///
@@ -52,16 +82,5 @@ pub fn write_trace<S: Source, K: Sink>(
     ensures sink_kept { (result ≡ Err TraceFault.Write → ⊥) → K.faults sink.new ≡ K.faults sink.old }
 {
     let image = read_image(alloc, source)?;
-    match check_image(asked, &image) {
-        Ok(accepted) => {
-            let g = accepted.geometry;
-            let (volume, _) = image.split_at(g.size as usize * g.fsize as usize);
-            write_lines(alloc, asked.order, &g, accepted.shape, volume, sink)?;
-            Ok(TraceEnd::Written)
-        }
-        Err(refusal) => match write_refusal(sink, refusal) {
-            Ok(()) => Ok(TraceEnd::Refused(refusal)),
-            Err(_) => Err(TraceFault::Write),
-        },
-    }
+    write_answer(alloc, asked, &image, sink)
 }
