@@ -1,7 +1,7 @@
 -- How an image is read piece by piece.
-use Rattle.std.proofs.Common.{◌≡◌, ◌≤◌, ◌<◌, ◌+◌, ◌-◌, ◌^◌, ℕ, List, [], ◌∷◌, ◌++◌, length, refl, sym, ◌∙◌, ap, arith, append_assoc, length-append}
+use Rattle.std.proofs.Common.{◌≡◌, ◌≤◌, ◌<◌, ◌+◌, ◌-◌, ◌^◌, ℕ, List, [], ◌∷◌, ◌++◌, length, drop, refl, sym, ◌∙◌, ap, arith, append_assoc, length-append, length-drop}
 use Rattle.std.specs.Prelude.{Option, Some, None, slice_range}
-use Rattle.std.proofs.Math.Seq.{length-slice}
+use Rattle.std.proofs.lemmas.List.{length-take-le}
 use Rattle.dg_io.specs.Told.{Gave, IsSame, Told}
 use Rattle.dg_trace.specs.Images.{GaveImage, GavePart}
 
@@ -53,7 +53,7 @@ image_end image piece x None (Some c) most p q e = absurd q
 -- a slice of so many bytes
 pub slice_size : (xs : List ℕ) (at n : ℕ) → at + n ≤ length xs → length (slice_range xs at (at + n)) ≡ n
 slice_size xs at n within =
-    let size : length (slice_range xs at (at + n)) ≡ at + n - at = length-slice at (at + n) xs within in
+    let size : length (slice_range xs at (at + n)) ≡ at + n - at = length-take-le (at + n - at) (drop at xs) (omega (arith, within, length-drop at xs)) in
     omega (arith, size)
 
 -- bytes and a slice, as they were read

@@ -137,13 +137,16 @@ pub record AreDone (shape : Shape) (value : ℕ → List ℕ) (written : List �
   pub has : (c : ℕ) → IsIn c written → block_in new.blocks c ≡ value c
 
 -- the block of a write has its value, and others are as they were
-set_value : (l : ℕ) (value : ℕ → List ℕ) (blocks new : List (List ℕ)) (b : ℕ) (bytes : List ℕ) → b < length blocks → new ≡ slice_set blocks b (padded l bytes)
-    → padded l bytes ≡ value b → (c : ℕ) → (c ≡ b) ⊎ (block_in blocks c ≡ value c) → block_in new c ≡ value c
-set_value l value blocks new b bytes low is right c (inl same) =
+set_here : (l : ℕ) (value : ℕ → List ℕ) (blocks new : List (List ℕ)) (b : ℕ) (bytes : List ℕ) → b < length blocks → new ≡ slice_set blocks b (padded l bytes)
+    → padded l bytes ≡ value b → (c : ℕ) → c ≡ b → block_in new c ≡ value c
+set_here l value blocks new b bytes low is right c same =
     ap (λ (x : List (List ℕ)). block_in x c) is ∙ ap (λ (k : ℕ). block_in (slice_set blocks b (padded l bytes)) k) same
     ∙ get_or-set_same blocks b (padded l bytes) [] low ∙ right ∙ ap value (sym same)
-set_value l value blocks new b bytes low is right c (inr had) = elim (cases_eq c b) [
-  | inl same ↦ set_value l value blocks new b bytes low is right c (inl same)
+
+set_value : (l : ℕ) (value : ℕ → List ℕ) (blocks new : List (List ℕ)) (b : ℕ) (bytes : List ℕ) → b < length blocks → new ≡ slice_set blocks b (padded l bytes)
+    → padded l bytes ≡ value b → (c : ℕ) → block_in blocks c ≡ value c → block_in new c ≡ value c
+set_value l value blocks new b bytes low is right c had = elim (cases_eq c b) [
+  | inl same ↦ set_here l value blocks new b bytes low is right c same
   | inr other ↦ ap (λ (x : List (List ℕ)). block_in x c) is ∙ get_or-set_other blocks b c (padded l bytes) [] other ∙ had
 ]
 
@@ -167,13 +170,13 @@ writes_done shape value bytes (b ∷ bs) old final replies some below right fine
     let low : b < shape.n = All-head (λ (x : ℕ). x < shape.n) b bs below in
     let one = write_done shape old m.mid b (bytes b) m.reply some low fine here m.step in
     let rest = writes_done shape value bytes bs m.mid final m.rest some (All-tail (λ (x : ℕ). x < shape.n) b bs below) right one.fine later m.run in
-    let set = set_value shape.l value old.blocks m.mid.blocks b (bytes b) (omega (arith, low, fine.size)) one.blocks (right b low) in
+    let there : b < length old.blocks = omega (arith, low, fine.size) in
     record {
       done = subst (λ (l : List Reply). All (λ reply. reply ≡ Done) l) (sym m.is) (All-cons (λ (reply : Reply). reply ≡ Done) m.reply m.rest one.reply_is rest.done);
       fine = rest.fine;
-      kept = λ c had. rest.kept c (set c (inr had));
+      kept = λ c had. rest.kept c (set_value shape.l value old.blocks m.mid.blocks b (bytes b) there one.blocks (right b low) c had);
       has = λ c h. elim h [
-        | inl first ↦ rest.kept c (set c (inl first))
+        | inl first ↦ rest.kept c (set_here shape.l value old.blocks m.mid.blocks b (bytes b) there one.blocks (right b low) c first)
         | inr more ↦ rest.has c more
       ];
     }
@@ -222,8 +225,8 @@ replayed asked image g before replies final is trace none =
       holds = record {
         count = all.fine.size;
         each = λ b low. elim (cases_Bool (is_written g.fsize (volume_bytes g image) b)) [
-          | inl yes ↦ all.has b (trace_has asked.order g (volume_bytes g image) b low yes)
-          | inr none' ↦ all.kept b (blank_zeros (shape_for asked g) before t.blank b t.is_blank low ∙ unwritten_zeros g.fsize g.size b (volume_bytes g image) size low none')
+          | inl held ↦ all.has b (trace_has asked.order g (volume_bytes g image) b low held)
+          | inr bare ↦ all.kept b (blank_zeros (shape_for asked g) before t.blank b t.is_blank low ∙ unwritten_zeros g.fsize g.size b (volume_bytes g image) size low bare)
         ];
       };
     }
