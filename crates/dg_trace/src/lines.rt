@@ -1,5 +1,6 @@
 // The lines of a trace.
-ghost use Rattle.std.specs.Prelude.{◌≡◌, ◌≢◌, ◌*◌, ◌-◌, ◌<◌, ◌≤◌, ◌++◌, All, Err, IfOk, OnErr, OnOk, length, replicate, slice_index, take};
+ghost use Rattle.std.specs.Prelude.{◌≡◌, ◌≢◌, ◌*◌, ◌-◌, ◌<◌, ◌≤◌, ◌++◌};
+ghost use Rattle.std.specs.Prelude.{All, Err, IfOk, OnErr, OnOk, length, replicate, slice_index, take};
 ghost use Rattle.dg_io.specs.Told.{Told, Took, TookPart};
 ghost use Rattle.dg_model.specs.Blocks.{IsTrimmed};
 ghost use Rattle.dg_model.specs.Causes.{Rose};

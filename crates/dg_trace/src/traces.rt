@@ -63,10 +63,10 @@ fn write_answer<K: Sink>(
     }
 }
 
-/// Makes the trace of the image in a source, and writes it to a sink: a line that makes an array for the volume, and a `write` line, without the zeros at its end,
-/// for each block that isn't all zero, in the order that is asked for. Replayed, it gives the volume.
+/// Makes the trace of the image in a source, and writes it to a sink: a line that makes an array for the volume, and a `write` line for each block that
+/// isn't all zero, without the zeros at its end, in the order that is asked for. Replayed, it gives the volume.
 ///
-/// The source is read to its end; of more than 2^28 bytes the first 2^28 + 1 are read. Of an image that is refused the reason is written, and no line of a trace.
+/// The source is read to its end; of more than 2^28 bytes the first 2^28 + 1 are read. Where the image is refused, the reason is written, and no trace.
 pub fn write_trace<S: Source, K: Sink>(
     alloc: Global,
     asked: &Asked,
