@@ -1,4 +1,4 @@
-use Rattle.std.proofs.Common.{◌≡◌, ◌≤◌, ◌+◌, ◌-◌, ◌^◌, ◌++◌, ◌∙◌, ℕ, List, [], length, ap, arith, refl, rules, subst, sym}
+use Rattle.std.proofs.Common.{◌≡◌, ◌≤◌, ◌+◌, ◌-◌, ◌++◌, ◌∙◌, ℕ, List, [], length, ap, arith, refl, rules, subst, sym}
 use Rattle.std.specs.Prelude.{slice_range}
 use Rattle.dg_io.specs.Told.{Gave, Told}
 use Rattle.dg_trace.proofs.ImageSteps.{gave_both, gave_none, image_end, image_past, part_of, part_then, size_both}
