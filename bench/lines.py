@@ -3,7 +3,7 @@
 Each line stands behind the line of an array of blocks of 4096 bytes, so that a line may have 12,393 bytes. The instructions are those of a replay of
 the two lines, by valgrind; those of a byte are the difference of two lengths, divided by that of the lengths. A byte of the
 second half may take 1.3 times what one of the first takes, and 4 instructions more; else the exit status is 1. Not here are `size`, whose
-line stands behind 2^40 bytes, `limits`, whose line has at most 55, and `later`, since the events that aren't served have one word.
+line stands behind 2^40 bytes, and `limits`, whose line has at most 55.
 """
 import os
 import subprocess

@@ -10,7 +10,6 @@ from lines import damaged, refusal
 from model import GOOD, OUT, Array, Filling, spelled, unspelled
 from volume import FIELDS, ROOT, SUPER_AT, Refused, group_start, inode_places, read_chunk, roles, up
 
-EVENTS = "write read fail cat ls who pending settle tend tree home replace rebuild diffuse".split()
 LONGEST_FILE = 40_000
 NAMES = [b"a", b"b", b"c", b"file", b"sub", b"x y", b"\\", b"\x01\xff", b"N" * 255, b"...", b"-", b"e\xcc\x81"]
 
@@ -109,9 +108,8 @@ def paths_of(items):
 class Trace:
     """A trace that is being made, with the replies so far."""
 
-    def __init__(self, seed, served=EVENTS):
+    def __init__(self, seed):
         self.rng = rng = random.Random(seed)
-        self.served = set(served)
         self.lines, self.replies, self.tail = [], [], ""
         l, n = rng.choice([512, 1024]), rng.randrange(64, 257)
         b = rng.choice([2, 2, 3, 3, 4, 4, 5, 8, 16])
@@ -148,9 +146,8 @@ class Trace:
             self.queue.reverse()
 
     def do(self, line):
-        if line.split(" ")[0] in self.served:
-            self.lines.append(line)
-            self.replies.append(self.array.do(line))
+        self.lines.append(line)
+        self.replies.append(self.array.do(line))
 
     def write(self, block, data):
         digits = data.hex() if self.rng.random() < 0.1 else data.rstrip(b"\0").hex()
@@ -474,7 +471,7 @@ class Trace:
         """A last line that is damaged; an event where it is still one."""
         word = self.rng.choice(self.lines).split(" ")[0]
         line = damaged(self.rng, self.rng.choice([line for line in self.lines if line.startswith(word)]), self.array.l)
-        kind = refusal(line, len(self.lines) + 1, self.array.l, self.served)
+        kind = refusal(line, len(self.lines) + 1, self.array.l)
         if kind:
             self.tail = line
             self.replies.append([f"line {len(self.lines) + 1} {kind}"])
@@ -496,17 +493,17 @@ class Case:
         return len(self.lines) + bool(self.tail)
 
 
-def make(seed, events, served=EVENTS):
+def make(seed, events):
     """A trace of about so many events."""
     rng = random.Random(-seed - 1)
     if rng.random() < 0.002:
         return Case([], "", [["line 1 cut"]])
     if rng.random() < 0.02:
         tail = damaged(rng, rng.choice(["array 512 64 2 64 2", "read 1"]), 512)
-        kind = refusal(tail, 1, 512, served)
+        kind = refusal(tail, 1, 512)
         if kind:
             return Case([], tail, [[f"line 1 {kind}"]])
-    trace = Trace(seed, served)
+    trace = Trace(seed)
     while len(trace.lines) < events * 0.8:
         trace.step()
     trace.lose()
@@ -515,13 +512,13 @@ def make(seed, events, served=EVENTS):
     return Case(trace.lines, trace.tail, trace.replies)
 
 
-def read_case(text, served):
+def read_case(text):
     """The trace in a text."""
     lines = text.split("\n")
     tail = lines.pop()
     lines, l = list(lines), int(lines[0].split(" ")[1]) if lines and lines[0].startswith("array ") else 512
     for place, line in enumerate([line + "\n" for line in lines] + [tail] * bool(tail), 1):
-        kind = refusal(line, place, l, served)
+        kind = refusal(line, place, l)
         if kind:
             return Case(lines[:place - 1], line, replay(lines[:place - 1]) + [[f"line {place} {kind}"]])
     return Case(lines, "", replay(lines))

@@ -39,7 +39,7 @@ def keeps_limits(l, n, b, k, m):
     )
 
 
-def refusal(line, place, l, served):
+def refusal(line, place, l):
     """The kind by which a line in that place is refused, with its line feed or without; None where it is an event."""
     longest = 2 * l + 4201
     if "\n" not in line[:longest] and len(line) >= longest:
@@ -63,7 +63,7 @@ def refusal(line, place, l, served):
         return "hex"
     if TAILS.get(word) == "path" and not is_path(rest[-1]):
         return "path"
-    return None if word in served or word == "array" else "later"
+    return None
 
 
 def damaged(rng, line, l):

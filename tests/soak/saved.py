@@ -18,7 +18,7 @@ import sys
 import tempfile
 import time
 
-from generate import EVENTS, make
+from generate import make
 from model import GOOD, OUT, Array, Filling, unspelled
 
 SECONDS = 120
@@ -268,7 +268,7 @@ class Round:
                 self.see(f"{word} {path}", want, self.run([word, path]))
 
     def go(self):
-        case = make(self.seed, self.length, EVENTS)
+        case = make(self.seed, self.length)
         lines = case.lines
         if not lines:
             return

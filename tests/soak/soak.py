@@ -1,12 +1,11 @@
 """Replays random traces with the program and with the model, and compares each line of the replies.
 
-    soak.py PROGRAM [--events N] [--seed S] [--length M] [--without WORDS] [--minutes T]
+    soak.py PROGRAM [--events N] [--seed S] [--length M] [--minutes T]
     soak.py --cases FOLDER ...       writes the traces and the model's replies, for `rt try --cases FOLDER -- replay`
     soak.py PROGRAM --trace FILE     replays one trace, and makes it shorter as long as a reply differs
 
-At the first difference the trace is made shorter and printed with both replies; the status is 1. `--without who,tree` says
-which events the program doesn't serve yet: a trace has them at most as its last line, which is refused. A trace is decided by
-its seed and the length.
+At the first difference the trace is made shorter and printed with both replies; the status is 1. A trace is decided by its
+seed and the length.
 """
 import argparse
 import collections
@@ -16,7 +15,7 @@ import sys
 import tempfile
 import time
 
-from generate import EVENTS, make, read_case
+from generate import make, read_case
 
 SECONDS = 120
 
@@ -106,23 +105,21 @@ def words():
     parser.add_argument("--seed", type=int, default=1)
     parser.add_argument("--length", type=int, default=400)
     parser.add_argument("--minutes", type=float, default=1e9)
-    parser.add_argument("--without", default="")
     return parser.parse_args()
 
 
 def main():
     args = words()
     program = args.program and os.path.abspath(args.program)
-    served = set(EVENTS) - set(args.without.split(","))
     if args.trace:
         with open(args.trace, encoding="latin-1", newline="\n") as trace:
-            case = read_case(trace.read(), served)
+            case = read_case(trace.read())
         if difference(program, case):
             tell(program, case)
         return
     counts, answers, start, seed, done = collections.Counter(), collections.Counter(), time.monotonic(), args.seed, 0
     while done < args.events and time.monotonic() - start < 60 * args.minutes:
-        case = make(seed, args.length, served)
+        case = make(seed, args.length)
         if args.cases:
             write_case(args.cases, seed, case)
         elif difference(program, case):

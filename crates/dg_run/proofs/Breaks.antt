@@ -1,5 +1,5 @@
 -- Lines that are served break off.
-use Rattle.std.proofs.Common.{◌≡◌, ◌≤◌, ◌-◌, ◌^◌, ℕ, List, [], ◌∷◌, ◌++◌, length, take, true, refl, sym, ◌∙◌, ap, subst, arith, append_assoc, length-append, inl, inr}
+use Rattle.std.proofs.Common.{◌≡◌, ◌≤◌, ◌-◌, ◌^◌, ℕ, List, [], ◌∷◌, ◌++◌, length, take, refl, sym, ◌∙◌, ap, subst, arith, append_assoc, length-append, inl, inr}
 use Rattle.std.specs.Prelude.{◌⊎◌, Option, Some, None}
 use Rattle.std.specs.Option.{option_map}
 use Rattle.std.proofs.lemmas.List.{append-nil}
@@ -21,7 +21,6 @@ use Rattle.dg_text.specs.ToldSteps.{took_both}
 use Rattle.dg_run.specs.Endings.{GaveLines, StartsWith, TookUpTo, LinesBrokeOff, LinesCut, LinesListed, LinesRanOut, LinesWanted, RanOutAt, ServedLinePart, WantedLine}
 use Rattle.dg_run.specs.Events.{Begins}
 use Rattle.dg_run.specs.Lines.{BeginsAll}
-use Rattle.dg_run.specs.Served.{is_served}
 use Rattle.dg_run.proofs.Inputs.{All-one}
 use Rattle.dg_run.proofs.Runs.{SoFar, output_more, volume_runs_more}
 use Rattle.dg_run.proofs.ArraySteps.{told_before}
@@ -53,7 +52,6 @@ module _ {R : Type 0} (rack : Ghosts R) where
     events = was.events;
     replies = was.served.replies;
     in_place = was.served.in_place;
-    done = was.served.done;
     budget = omega (arith, was.passed_is);
     runs = was.served.runs;
     input = Told-then (BeginsAll (Some shape) was.events) (GaveLines []) (GaveLines (input_of was.events))
@@ -80,7 +78,6 @@ module _ {R : Type 0} (rack : Ghosts R) where
         replies = rs;
         last = r;
         in_place = All-append (IsInPlace (Some shape)) es (e ∷ []) was.served.in_place (All-one (IsInPlace (Some shape)) e line.in_place);
-        done = All-append (λ (event : Event). is_served event ≡ true) es (e ∷ []) was.served.done (All-one (λ (event : Event). is_served event ≡ true) e line.done);
         budget = omega (arith, size, length-append (input_of es) (line_of e), was.passed_is, line.within);
         runs = volume_runs_more rack a b c es rs e r was.served.runs line.answered.steps same tells;
         input = starts_more (Some shape) es e x y z was.served.input line.input;
@@ -100,7 +97,6 @@ module _ {R : Type 0} (rack : Ghosts R) where
     events = was.events;
     replies = was.served.replies;
     in_place = was.served.in_place;
-    done = was.served.done;
     budget = omega (arith, was.passed_is);
     runs = λ state st.
         let one = was.served.runs state st in (
@@ -127,7 +123,6 @@ module _ {R : Type 0} (rack : Ghosts R) where
         events = es ++ e ∷ [];
         replies = rs ++ r ∷ [];
         in_place = All-append (IsInPlace (Some shape)) es (e ∷ []) was.served.in_place (All-one (IsInPlace (Some shape)) e line.in_place);
-        done = All-append (λ (event : Event). is_served event ≡ true) es (e ∷ []) was.served.done (All-one (λ (event : Event). is_served event ≡ true) e line.done);
         budget = omega (arith, size, length-append (input_of es) (line_of e), was.passed_is, line.within);
         runs = λ state st.
             let one = runs state st in
@@ -155,7 +150,6 @@ module _ {R : Type 0} (rack : Ghosts R) where
         entries = listed.entries;
         others = listed.others;
         in_place = All-append (IsInPlace (Some shape)) es (Tree ∷ []) was.served.in_place (All-one (IsInPlace (Some shape)) Tree tt);
-        done = All-append (λ (event : Event). is_served event ≡ true) es (Tree ∷ []) was.served.done (All-one (λ (event : Event). is_served event ≡ true) Tree refl);
         budget = omega (arith, size, length-append (input_of es) (line_of Tree), was.passed_is, within);
         runs = λ state st.
             let one = runs state st in
@@ -181,14 +175,13 @@ module _ {R : Type 0} (rack : Ghosts R) where
       ran_out_by shape first from passed number x y z t u v a b c budget was wanted wanted.answered same tells
 
   -- memory was wanting for the event of a line that was taken
-  pub ran_out_of : (shape : Shape) (room : ℕ) (event : Event) (unread : List ℕ) (left rest taken given : Option (List ℕ)) (old now : Array R) → IsInPlace (Some shape) event → is_served event ≡ true
+  pub ran_out_of : (shape : Shape) (room : ℕ) (event : Event) (unread : List ℕ) (left rest taken given : Option (List ℕ)) (old now : Array R) → IsInPlace (Some shape) event
       → length (line_of event) ≤ room → Told (Begins (Some shape) event) left (option_map (λ more. unread ++ more) rest) → WantedFor rack event taken given old now
       → RanOutAt rack shape room left rest taken given old now
-  ran_out_of shape room event unread left rest taken given old now place served within told (inl same) = inl (any_left (Begins (Some shape) event) unread left rest told, same)
-  ran_out_of shape room event unread left rest taken given old now place served within told (inr answered) = inr (record {
+  ran_out_of shape room event unread left rest taken given old now place within told (inl same) = inl (any_left (Begins (Some shape) event) unread left rest told, same)
+  ran_out_of shape room event unread left rest taken given old now place within told (inr answered) = inr (record {
     event = event;
     in_place = place;
-    done = served;
     within = within;
     input = starts_left (Some shape) event unread left rest told;
     answered = answered;
@@ -201,7 +194,6 @@ module _ {R : Type 0} (rack : Ghosts R) where
     events = lines.events;
     replies = lines.replies;
     in_place = lines.in_place;
-    done = lines.done;
     budget = lines.budget;
     runs = lines.runs;
     input = lines.input;
@@ -217,7 +209,6 @@ module _ {R : Type 0} (rack : Ghosts R) where
         replies = lines.replies;
         last = lines.last;
         in_place = lines.in_place;
-        done = lines.done;
         budget = lines.budget;
         runs = lines.runs;
         input = lines.input;
@@ -234,7 +225,6 @@ module _ {R : Type 0} (rack : Ghosts R) where
     events = lines.events;
     replies = lines.replies;
     in_place = lines.in_place;
-    done = lines.done;
     budget = lines.budget;
     runs = lines.runs;
     input = lines.input;
@@ -248,7 +238,6 @@ module _ {R : Type 0} (rack : Ghosts R) where
     entries = lines.entries;
     others = lines.others;
     in_place = lines.in_place;
-    done = lines.done;
     budget = lines.budget;
     runs = lines.runs;
     input = lines.input;

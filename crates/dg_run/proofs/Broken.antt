@@ -22,7 +22,7 @@ use Rattle.dg_run.specs.Replays.{BrokeOff, CutRefusal, CutReply, IsCut, RanOut, 
 use Rattle.dg_run.specs.Steps.{IsBlankArray, Tells, VolumeRunsTo, rack_of, shape_of}
 use Rattle.dg_run.proofs.Runs.{volume_runs}
 use Rattle.dg_run.proofs.ToldSteps.{Told-each, Told-refl, Told-then}
-use Rattle.dg_run.proofs.Whole.{array_served, cut_input, ran_nothing, ran_of, rest_told, same_shape, stops_text, took_first}
+use Rattle.dg_run.proofs.Whole.{cut_input, ran_nothing, ran_of, rest_told, same_shape, stops_text, took_first}
 
 any_starts : (left rest : Option (List ℕ)) → Told AreAny left rest → Told (StartsWith []) left rest
 any_starts left rest told = Told-each AreAny (StartsWith []) (λ p q any. record { more = p; split = refl }) left rest told
@@ -54,7 +54,6 @@ ran_out_first before bytes x z t v told same =
       events = [];
       replies = [];
       in_place = none.in_place;
-      done = none.done;
       budget = none.budget;
       final = none.final;
       trace = none.trace;
@@ -80,7 +79,7 @@ module _ {R : Type 0} (ghosts : Ghosts R) (shape : Shape) (first : ℕ) (rack : 
   array_broke_off text left rest taken given line lines = record {
     events = MakeArray shape ∷ lines.events;
     replies = Done ∷ lines.replies;
-    ran = ran_of ghosts shape first rack a b is well blank lines.events lines.replies (volume_runs ghosts a b lines.events lines.replies lines.runs) lines.in_place lines.done lines.budget;
+    ran = ran_of ghosts shape first rack a b is well blank lines.events lines.replies (volume_runs ghosts a b lines.events lines.replies lines.runs) lines.in_place lines.budget;
     input = Told-then (Begins None (MakeArray shape)) (GaveLines (input_of lines.events)) (GaveLines (input_of (MakeArray shape ∷ lines.events))) (λ p q r f s. record {
       part = s.part;
       split = f.line ∙ ap (λ (l : List ℕ). line_of (MakeArray shape) ++ l) s.split ∙ sym (append_assoc (line_of (MakeArray shape)) (input_of lines.events) (s.part ++ r));
@@ -98,7 +97,7 @@ module _ {R : Type 0} (ghosts : Ghosts R) (shape : Shape) (first : ℕ) (rack : 
     events = MakeArray shape ∷ [];
     replies = [];
     last = Done;
-    ran = ran_of ghosts shape first rack a b is well blank [] [] (no_runs same) (λ k d h. absurd (omega arith)) (λ k d h. absurd (omega arith)) (omega arith);
+    ran = ran_of ghosts shape first rack a b is well blank [] [] (no_runs same) (λ k d h. absurd (omega arith)) (omega arith);
     input = starts_more shape [] text left rest line (any_starts left rest any);
     output = Told-each (TookPart (reply_line Done)) (TookUpTo [] (reply_line Done)) (λ p q s. record { n = s.0; is = s.1 }) taken given part;
   }
@@ -109,7 +108,7 @@ module _ {R : Type 0} (ghosts : Ghosts R) (shape : Shape) (first : ℕ) (rack : 
     events = MakeArray shape ∷ lines.events;
     replies = Done ∷ lines.replies;
     last = lines.last;
-    ran = ran_of ghosts shape first rack a b is well blank lines.events (lines.replies ++ lines.last ∷ []) lines.runs lines.in_place lines.done lines.budget;
+    ran = ran_of ghosts shape first rack a b is well blank lines.events (lines.replies ++ lines.last ∷ []) lines.runs lines.in_place lines.budget;
     input = starts_more shape lines.events text left rest line lines.input;
     output = lines.output;
   }
@@ -130,7 +129,7 @@ module _ {R : Type 0} (ghosts : Ghosts R) (shape : Shape) (first : ℕ) (rack : 
         events = events;
         replies = Done ∷ s.served.replies;
         kind = to.kind;
-        ran = ran_of ghosts shape first rack a b is well blank s.events s.served.replies (volume_runs ghosts a b s.events s.served.replies s.served.runs) s.served.in_place s.served.done s.budget;
+        ran = ran_of ghosts shape first rack a b is well blank s.events s.served.replies (volume_runs ghosts a b s.events s.served.replies s.served.runs) s.served.in_place s.budget;
         input = rest_told (λ p. (more : List ℕ) × (p ≡ input_of events ++ more) × StopsAt events to.kind more) unread text rest input;
         output = up_to (output_of (Done ∷ s.served.replies)) (refusal (length events + 1) to.kind) taken to.before given wrote part;
       }
@@ -154,7 +153,6 @@ module _ {R : Type 0} (ghosts : Ghosts R) (shape : Shape) (first : ℕ) (rack : 
         events = MakeArray shape ∷ lines.events;
         replies = Done ∷ lines.replies;
         in_place = (well, subst (λ (s : Shape). All (IsInPlace (Some s)) lines.events) (same_shape ghosts shape first rack a b is well blank) lines.in_place);
-        done = array_served shape lines.events lines.done;
         budget = omega (arith, length-append (line_of (MakeArray shape)) (input_of lines.events), lines.budget, is);
         final = final;
         trace = (blank.state, blank.blank, run_less (told_in final W.1) blank.state lines.events lines.replies final W.2);
@@ -175,7 +173,6 @@ module _ {R : Type 0} (ghosts : Ghosts R) (shape : Shape) (first : ℕ) (rack : 
         entries = lines.entries;
         others = lines.others;
         in_place = (well, subst (λ (s : Shape). All (IsInPlace (Some s)) events) (same_shape ghosts shape first rack a b is well blank) lines.in_place);
-        done = array_served shape events lines.done;
         budget = omega (arith, length-append (line_of (MakeArray shape)) (input_of events), lines.budget, is);
         final = final;
         trace = (blank.state, blank.blank, run_less (told_in final W.1) blank.state events replies final W.2);

@@ -14,6 +14,5 @@ mod Ranges
 mod Refusing
 mod Resuming
 mod Runs
-mod ServedKinds
 mod ToldSteps
 mod Whole

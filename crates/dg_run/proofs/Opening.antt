@@ -118,6 +118,7 @@ module _ {R : Type 0} (rack : Ghosts R) (before : R) (a b : Array R) (opened : H
       others = opened.read.others;
     };
     is_source = opened.is_source;
+    table_is = opened.table;
     first_are = opened.first_are;
     falls = opened.falls;
     writes = opened.writes;

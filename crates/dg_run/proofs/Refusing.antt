@@ -12,7 +12,6 @@ use Rattle.dg_run.specs.Bytes.{HasNoLineFeed}
 use Rattle.dg_run.specs.Events.{IsRefused}
 use Rattle.dg_run.specs.Inputs.{IsCutOff, IsFull}
 use Rattle.dg_run.specs.Refusals.{EndsEarly, FitsAt, GoesPast, HasLine, IsLong, IsRefusedBy, kinds_of_words}
-use Rattle.dg_run.specs.Served.{is_served}
 use Rattle.dg_run.proofs.Inputs.{All-head, All-tail}
 use Rattle.dg_run.proofs.LineFeeds.{no_short_line, none_in_front, none_shorter}
 
@@ -153,7 +152,7 @@ module _ (shape : Option Shape) (room : ℕ) (line after : List ℕ) (none : Has
   refused_size short past = record {
     some = text_some;
     by_kind = by_size short past;
-    none = λ event tail placed served is. let longer = line_is_longer event tail is in omega arith;
+    none = λ event tail placed is. let longer = line_is_longer event tail is in omega arith;
   }
 
   lacks : Contains line 10 → ⊥
@@ -165,7 +164,7 @@ module _ (shape : Option Shape) (room : ℕ) (line after : List ℕ) (none : Has
   refused_words short within kind result is refused exact = record {
     some = text_some;
     by_kind = by_words short within kind refused;
-    none = λ event tail placed served same. let e : Err kind ≡ Ok event = sym is ∙ exact event after tail placed lacks same in absurd (cc e);
+    none = λ event tail placed same. let e : Err kind ≡ Ok event = sym is ∙ exact event after tail placed lacks same in absurd (cc e);
   }
 
 -- ---- bytes without a line feed
@@ -204,14 +203,14 @@ pub refused_full : (shape : Option Shape) (most room : ℕ) (text : List ℕ) (k
 refused_full shape most room text kind some fits by full = record {
   some = λ e. let n : length text ≡ 0 = ap length e in let there = full.there in absurd (omega arith);
   by_kind = by;
-  none = λ event tail placed served is. absurd (no_short_line text (spelling event) tail most is (fits event placed) full.none);
+  none = λ event tail placed is. absurd (no_short_line text (spelling event) tail most is (fits event placed) full.none);
 }
 
 pub refused_cut : (shape : Option Shape) (n room : ℕ) (text : List ℕ) (kind : BadLine) → IsRefusedBy shape room text kind → IsCutOff n text → IsRefused shape room text kind
 refused_cut shape n room text kind by cut = record {
   some = cut.some;
   by_kind = by;
-  none = λ event tail placed served is.
+  none = λ event tail placed is.
       let m = ap length is in
       let k = length-append (line_of event) tail in
       absurd (no_short_line text (spelling event) tail (length text) is (omega arith) (All-take (λ (x : ℕ). x ≢ 10) (length text) text cut.none));

@@ -38,7 +38,7 @@ module _ (shape : Shape) where
   past events kind text refused others (m ∷ ms) lines split made =
       let here : IsInPlace (Some shape) m = All-head (IsInPlace (Some shape)) m ms
       (All-right (IsInPlace (Some shape)) events (m ∷ ms) (subst (λ (l : List Event). All (IsInPlace (Some shape)) l) split lines.in_place)) in
-      let over = refused.none m (input_of ms) here refl made in
+      let over = refused.none m (input_of ms) here made in
       let size : length (input_of others) ≡ length (input_of events ++ input_of (m ∷ ms)) = ap (λ (l : List Event). length (input_of l)) split ∙ ap length (flat_map-append line_of events (m ∷ ms)) in
       let budget = lines.budget in
       absurd (omega (arith, size, over, budget, length-append (input_of events) (input_of (m ∷ ms)), length-append (line_of m) (input_of ms)))

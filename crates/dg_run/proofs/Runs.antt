@@ -1,5 +1,5 @@
 -- Lines are served one after another.
-use Rattle.std.proofs.Common.{◌≡◌, ◌≤◌, ◌+◌, ◌-◌, ◌^◌, ℕ, List, [], ◌∷◌, ◌++◌, length, refl, sym, ◌∙◌, ap, subst, arith, append_assoc, length-append, true}
+use Rattle.std.proofs.Common.{◌≡◌, ◌≤◌, ◌+◌, ◌-◌, ◌^◌, ℕ, List, [], ◌∷◌, ◌++◌, length, refl, sym, ◌∙◌, ap, subst, arith, append_assoc, length-append}
 use Rattle.std.specs.Prelude.{Option, Some}
 use Rattle.std.proofs.lemmas.List.{append-nil}
 use Rattle.std.proofs.lemmas.List.Concat.{flat_map-append}
@@ -17,7 +17,6 @@ use Rattle.dg_text.specs.Replies.{reply_line, output_of}
 use Rattle.dg_text.specs.declared.lines.BadLine.{BadLine}
 use Rattle.dg_run.specs.Events.{IsRefused}
 use Rattle.dg_run.specs.Lines.{BeginsAll, Served, ServedLine, AllServed, ServedTo, Turned, LinesEndAt}
-use Rattle.dg_run.specs.Served.{is_served}
 use Rattle.dg_run.specs.Steps.{GoesOn, IsSound, RunsTo, StepsTo, Tells, VolumeRunsTo, VolumeStepsTo, rack_of, shape_of}
 use Rattle.dg_run.specs.declared.lines.Turn.{Turn}
 use Rattle.dg_run.specs.declared.lines.Turn.TheVariants.{Served as turn_served, End as turn_end, Refused as turn_refused}
@@ -59,7 +58,6 @@ module _ {R : Type 0} (rack : Ghosts R) where
   served_none shape left taken store = record {
     replies = [];
     in_place = λ k d h. absurd (omega arith);
-    done = λ k d h. absurd (omega arith);
     input = Told-refl _ (begins_none (Some shape)) left;
     output = Told-refl _ (λ b. sym (append-nil b)) taken;
     runs = λ state st. (state, st, refl);
@@ -69,7 +67,6 @@ module _ {R : Type 0} (rack : Ghosts R) where
   served_more shape room n es x y z t u v a b c was line same tells = record {
     replies = was.replies ++ line.answered.reply ∷ [];
     in_place = All-append (IsInPlace (Some shape)) es (line.event ∷ []) was.in_place (All-one (IsInPlace (Some shape)) line.event line.in_place);
-    done = All-append (λ (event : Event). is_served event ≡ true) es (line.event ∷ []) was.done (All-one (λ (event : Event). is_served event ≡ true) line.event line.done);
     input = Told-then _ _ _ (begins_more (Some shape) es line.event) x y z was.input line.input;
     output = output_more was.replies line.answered.reply t u v was.output line.answered.output;
     runs = runs_more a b c es was.replies line.event line.answered.reply was.runs line.answered.steps same tells;
@@ -110,7 +107,6 @@ module _ {R : Type 0} (rack : Ghosts R) where
     served = record {
       replies = was.served.replies;
       in_place = was.served.in_place;
-      done = was.served.done;
       input = Told-then _ _ (BeginsAll (Some shape) was.events) (λ p q r f s. subst (λ (l : List ℕ). BeginsAll (Some shape) was.events p l) (s.0 ∙ sym s.1) f) x y z was.served.input end;
       output = was.served.output;
       runs = was.served.runs;

@@ -1,9 +1,8 @@
 -- A whole replay.
-use Rattle.std.proofs.Common.{◌≡◌, ◌≤◌, ◌<◌, ◌+◌, ◌-◌, ◌/◌, ◌^◌, ℕ, List, [], ◌∷◌, ◌++◌, length, true, refl, sym, ◌∙◌, ap, subst, arith, append_assoc, inl, inr, length-append}
+use Rattle.std.proofs.Common.{◌≡◌, ◌≤◌, ◌<◌, ◌+◌, ◌-◌, ◌/◌, ◌^◌, ℕ, List, [], ◌∷◌, ◌++◌, length, refl, sym, ◌∙◌, ap, subst, arith, append_assoc, inl, inr, length-append}
 use Rattle.std.specs.Prelude.{◌⊎◌, Option, Some, None, All, Result, Ok, Err, IfOk, IfSome, IsSome}
 use Rattle.std.proofs.lemmas.List.{append_cancel_left}
 use Rattle.std.proofs.lemmas.List.Concat.{flat_map-append}
-use Rattle.std.proofs.lemmas.List.Elements.{All-cons}
 use Rattle.dg_model.specs.Shapes.{IsShape}
 use Rattle.dg_model.specs.Seals.{HoldsLabel}
 use Rattle.dg_model.specs.States.{Counts, Holds, State, plain_state}
@@ -27,9 +26,8 @@ use Rattle.dg_run.specs.Lines.{Served, ServedTo}
 use Rattle.dg_run.specs.Endings.{TookUpTo}
 use Rattle.dg_run.specs.Refusals.{IsRefusedBy}
 use Rattle.dg_run.specs.Replays.{CutRefusal, IsCut, IsInput, IsNoInput, Ran, Replayed, Stopped, StopsAt, TellsBoundaries}
-use Rattle.dg_run.specs.Served.{AreServed, is_served}
 use Rattle.dg_run.specs.Arrays.{AllAnswered, AnsweredTo, ArrayReplayed, ArrayStopped, IsCutAt}
-use Rattle.dg_run.proofs.Inputs.{All-head, All-right, All-tail, no_line}
+use Rattle.dg_run.proofs.Inputs.{All-head, All-right, no_line}
 use Rattle.dg_run.proofs.Runs.{volume_runs}
 use Rattle.dg_volume.specs.Volumes.{any_phase}
 use Rattle.dg_volume.specs.Volumes as volumes
@@ -50,24 +48,20 @@ pub label_held : {R : Type 0} (ghosts : Ghosts R) (b : Array R) (final : State) 
 label_held ghosts b final stands =
     subst (λ (shape : Shape). IfSome final.label (λ last. HoldsLabel shape last (ghosts.bytes (rack_of b)))) (sym (ap (λ (s : State). s.table.shape) stands.is)) stands.label.holds
 
-pub array_served : (shape : Shape) (events : List Event) → AreServed events → AreServed (MakeArray shape ∷ events)
-array_served shape events served = All-cons (λ (event : Event). is_served event ≡ true) (MakeArray shape) events refl served
-
 module _ {R : Type 0} (ghosts : Ghosts R) (shape : Shape) (first : ℕ) (rack : R) (a b : Array R) (is : first ≡ length (line_of (MakeArray shape))) (well : IsShape shape)
     (blank : IsBlankArray ghosts shape rack a) where
   pub same_shape : shape_of a ≡ shape
   same_shape = blank.shape_is
 
-  pub ran_of : (events : List Event) (replies : List Reply) → VolumeRunsTo ghosts a events replies b → All (IsInPlace (Some (shape_of a))) events → AreServed events → first + length (input_of events) ≤ 2 ^ 40
+  pub ran_of : (events : List Event) (replies : List Reply) → VolumeRunsTo ghosts a events replies b → All (IsInPlace (Some (shape_of a))) events → first + length (input_of events) ≤ 2 ^ 40
       → Ran (ghosts.counts rack) (ghosts.counts (rack_of b)) (ghosts.bytes (rack_of b)) (MakeArray shape ∷ events) (Done ∷ replies)
-  ran_of events replies runs placed served budget =
+  ran_of events replies runs placed budget =
       let W = runs blank.state blank.stands in
       let final = W.0 in
       let stands : volumes.StandsIn any_phase ghosts b.volume final = W.1 in
       let known : TellsBoundaries (ghosts.bytes (rack_of b)) final → Tells ghosts b = λ told q below. told q (subst (λ (n : ℕ). q / 2 < n) (sym (ap (λ (s : State). s.table.shape.b) stands.is)) below) in
       record {
         in_place = (well, subst (λ (s : Shape). All (IsInPlace (Some s)) events) same_shape placed);
-        done = array_served shape events served;
         budget = omega (arith, length-append (line_of (MakeArray shape)) (input_of events));
         final = final;
         trace = (blank.state, blank.blank, run_less known blank.state events replies final W.2);
@@ -81,7 +75,7 @@ module _ {R : Type 0} (ghosts : Ghosts R) (shape : Shape) (first : ℕ) (rack : 
 
   ran : (events : List Event) (x z t v : Option (List ℕ)) → (served : Served ghosts (shape_of a) events x z t v a b) → first + length (input_of events) ≤ 2 ^ 40
       → Ran (ghosts.counts rack) (ghosts.counts (rack_of b)) (ghosts.bytes (rack_of b)) (MakeArray shape ∷ events) (Done ∷ served.replies)
-  ran events x z t v served budget = ran_of events served.replies (volume_runs ghosts a b events served.replies served.runs) served.in_place served.done budget
+  ran events x z t v served budget = ran_of events served.replies (volume_runs ghosts a b events served.replies served.runs) served.in_place budget
 
   pub array_replayed : (x z t v : Option (List ℕ)) → AllAnswered ghosts first x z t v a b → ArrayReplayed (ghosts.counts rack) (ghosts.counts (rack_of b)) (ghosts.bytes (rack_of b)) shape x z t v
   array_replayed x z t v all = record {
@@ -130,13 +124,12 @@ module _ (before now : Counts) (bytes : ℕ → Option (List ℕ)) (shape : Shap
   }
 
   -- no event of an input stands where it is cut
-  past : (events : List Event) (kind : Kind) (text b : List ℕ) → IsCutAt shape events kind b text → (es more : List Event) → All (IsInPlace (Some shape)) es → AreServed es → es ≡ events ++ more → text ≡ input_of more
+  past : (events : List Event) (kind : Kind) (text b : List ℕ) → IsCutAt shape events kind b text → (es more : List Event) → All (IsInPlace (Some shape)) es → es ≡ events ++ more → text ≡ input_of more
       → length (line_of (MakeArray shape)) + length (input_of es) ≤ 2 ^ 40 → ⊥
-  past events kind text b cut es [] placed served split made budget = cut.refused.some made
-  past events kind text b cut es (m ∷ ms) placed served split made budget =
+  past events kind text b cut es [] placed split made budget = cut.refused.some made
+  past events kind text b cut es (m ∷ ms) placed split made budget =
       let here : IsInPlace (Some shape) m = All-head (IsInPlace (Some shape)) m ms (All-right (IsInPlace (Some shape)) events (m ∷ ms) (subst (λ (l : List Event). All (IsInPlace (Some shape)) l) split placed)) in
-      let done : is_served m ≡ true = All-head (λ (event : Event). is_served event ≡ true) m ms (All-right (λ (event : Event). is_served event ≡ true) events (m ∷ ms) (subst (λ (l : List Event). All (λ event. is_served event ≡ true) l) split served)) in
-      let over = cut.refused.none m (input_of ms) here done made in
+      let over = cut.refused.none m (input_of ms) here made in
       let size : length (input_of es) ≡ length (input_of events ++ input_of (m ∷ ms)) = ap (λ (l : List Event). length (input_of l)) split ∙ ap length (flat_map-append line_of events (m ∷ ms)) in
       absurd (omega (arith, size, over, budget, length-append (input_of events) (input_of (m ∷ ms)), length-append (line_of m) (input_of ms), length-append (line_of (MakeArray shape)) (input_of events)))
 
@@ -150,7 +143,7 @@ module _ (before now : Counts) (bytes : ℕ → Option (List ℕ)) (shape : Shap
       let placed : All (IsInPlace (Some shape)) es = subst (λ (h : Shape). All (IsInPlace (Some h)) es) shapes input.in_place.1 in
       let had = cut.only es placed rest in
       let budget : length (line_of (MakeArray shape)) + length (input_of es) ≤ 2 ^ 40 = subst (λ (h : Shape). length (line_of (MakeArray h)) + length (input_of es) ≤ 2 ^ 40) shapes (let e = length-append (line_of (MakeArray s)) (input_of es) in let h = input.budget in omega arith) in
-      past events kind text b cut es had.0 placed (All-tail (λ (event : Event). is_served event ≡ true) (MakeArray s) es input.served) had.1 had.2 budget
+      past events kind text b cut es had.0 placed had.1 had.2 budget
   no_input events kind a b text line cut (event ∷ es) input is = absurd input.in_place
 
   -- where the text behind the first line is cut, the whole is
@@ -179,12 +172,12 @@ unmade now = plain_state (record { shape = record { l = 0; n = 0; b = 0; k = 0; 
 -- the text is refused by this kind where the first line should stand
 pub record IsNoFirst (kind : Kind) (text : List ℕ) : Type 0 where
   pub by_kind : IsRefusedBy None (2 ^ 40) text kind
-  pub none : (event : Event) (tail : List ℕ) → IsInPlace None event → is_served event ≡ true → text ≡ line_of event ++ tail → 2 ^ 40 < length (line_of event)
+  pub none : (event : Event) (tail : List ℕ) → IsInPlace None event → text ≡ line_of event ++ tail → 2 ^ 40 < length (line_of event)
 
 first_no_input : (kind : Kind) (text : List ℕ) → IsNoFirst kind text → IsNoInput text
 first_no_input kind text first [] input is = input.some refl
 first_no_input kind text first (MakeArray s ∷ es) input is =
-    let over = first.none (MakeArray s) (input_of es) input.in_place.0 (All-head (λ (event : Event). is_served event ≡ true) (MakeArray s) es input.served) is in
+    let over = first.none (MakeArray s) (input_of es) input.in_place.0 is in
     let budget = input.budget in
     absurd (omega (arith, over, budget, length-append (line_of (MakeArray s)) (input_of es)))
 first_no_input kind text first (event ∷ es) input is = input.in_place
@@ -197,7 +190,6 @@ pub ran_nothing : (now : Counts) (bytes : ℕ → Option (List ℕ)) → Ran now
 unfolding unmade
 ran_nothing now bytes = record {
   in_place = tt;
-  done = λ k d h. absurd (omega arith);
   budget = omega arith;
   final = unmade now;
   trace = record { is = refl; boundaries = refl; size = refl; rows = refl };
@@ -235,7 +227,7 @@ none_first kind x z told = Told-each _ (λ before after. IsNoFirst kind before) 
 pub none_at_all : (x z : Option (List ℕ)) → Told (λ before after. (before ≡ []) × (after ≡ [])) x z → Told (λ before after. IsNoFirst Cut before) x z
 none_at_all x z told = Told-each _ (λ before after. IsNoFirst Cut before) (λ a b empty. record {
   by_kind = subst (λ (l : List ℕ). IsRefusedBy None (2 ^ 40) l Cut) (sym empty.0) (empty_cut (2 ^ 40));
-  none = λ event tail placed served is. absurd (no_line event tail (sym is ∙ empty.0));
+  none = λ event tail placed is. absurd (no_line event tail (sym is ∙ empty.0));
 }) x z told
 
 -- a fresh buffer has nothing, and what a buffer still has at the end doesn't matter

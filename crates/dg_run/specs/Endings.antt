@@ -1,5 +1,5 @@
 -- How lines that are served one after another break off: by a fault of the source, by a fault of the sink, or for want of memory.
-use Rattle.std.specs.Prelude.{◌≡◌, ◌⊎◌, ◌≤◌, ◌++◌, ◌+◌, ◌∷◌, ◌^◌, [], true, ℕ, List, length, take, Option, Some, All}
+use Rattle.std.specs.Prelude.{◌≡◌, ◌⊎◌, ◌≤◌, ◌++◌, ◌+◌, ◌∷◌, ◌^◌, [], ℕ, List, length, take, Option, Some, All}
 use Rattle.dg_io.specs.declared.outside.Rack.{Ghosts}
 use Rattle.dg_io.specs.Told.{AreAny, Told, Took}
 use Rattle.dg_model.specs.declared.shapes.Shape.{Shape}
@@ -11,7 +11,6 @@ use Rattle.dg_run.specs.declared.arrays.Array.{Array}
 use Rattle.dg_text.specs.Lines.{line_of, input_of, IsInPlace}
 use Rattle.dg_text.specs.Replies.{nodes_text, output_of, reply_line}
 use Rattle.dg_run.specs.Bytes.{HasNoLineFeed}
-use Rattle.dg_run.specs.Served.{AreServed, is_served}
 use Rattle.dg_run.specs.Steps.{AnsweredBefore, AnsweredPart, ListedBefore, RunsBefore, RunsTo, VolumeRunsTo}
 use Rattle.ufs_model.specs.Listings.{Listed}
 
@@ -35,7 +34,6 @@ pub record TookUpTo (whole part before after : List ℕ) : Type 0 where
 pub record ServedLinePart {R : Type 0} (rack : Ghosts R) (shape : Shape) (room : ℕ) (left rest taken given : Option (List ℕ)) (old new : Array R) : Type 0 where
   pub event : Event
   pub in_place : IsInPlace (Some shape) event
-  pub done : is_served event ≡ true
   pub within : length (line_of event) ≤ room
   pub input : Told (StartsWith (line_of event)) left rest
   pub answered : AnsweredPart rack event taken given old new
@@ -44,7 +42,6 @@ pub record ServedLinePart {R : Type 0} (rack : Ghosts R) (shape : Shape) (room :
 pub record WantedLine {R : Type 0} (rack : Ghosts R) (shape : Shape) (room : ℕ) (left rest taken given : Option (List ℕ)) (old now : Array R) : Type 0 where
   pub event : Event
   pub in_place : IsInPlace (Some shape) event
-  pub done : is_served event ≡ true
   pub within : length (line_of event) ≤ room
   pub input : Told (StartsWith (line_of event)) left rest
   pub answered : AnsweredBefore rack event taken given old now ⊎ ListedBefore rack event taken given old now
@@ -59,7 +56,6 @@ pub record LinesBrokeOff {R : Type 0} (rack : Ghosts R) (front : List ℕ) (shap
   pub events : List Event
   pub replies : List Reply
   pub in_place : All (IsInPlace (Some shape)) events
-  pub done : AreServed events
   pub budget : first + length (input_of events) ≤ 2 ^ 40
   pub runs : RunsTo rack old events replies new
   pub input : Told (GaveLines (input_of events)) left rest
@@ -71,7 +67,6 @@ pub record LinesCut {R : Type 0} (rack : Ghosts R) (front : List ℕ) (shape : S
   pub replies : List Reply
   pub last : Reply
   pub in_place : All (IsInPlace (Some shape)) events
-  pub done : AreServed events
   pub budget : first + length (input_of events) ≤ 2 ^ 40
   pub runs : VolumeRunsTo rack old events (replies ++ last ∷ []) new
   pub input : Told (StartsWith (input_of events)) left rest
@@ -82,7 +77,6 @@ pub record LinesWanted {R : Type 0} (rack : Ghosts R) (front : List ℕ) (shape 
   pub events : List Event
   pub replies : List Reply
   pub in_place : All (IsInPlace (Some shape)) events
-  pub done : AreServed events
   pub budget : first + length (input_of events) ≤ 2 ^ 40
   pub runs : RunsBefore rack old events replies new
   pub input : Told (StartsWith (input_of events)) left rest
@@ -95,7 +89,6 @@ pub record LinesListed {R : Type 0} (rack : Ghosts R) (front : List ℕ) (shape 
   pub entries : List Listed
   pub others : List Listed
   pub in_place : All (IsInPlace (Some shape)) (events ++ Tree ∷ [])
-  pub done : AreServed (events ++ Tree ∷ [])
   pub budget : first + length (input_of (events ++ Tree ∷ [])) ≤ 2 ^ 40
   pub runs : RunsBefore rack old (events ++ Tree ∷ []) (replies ++ Nodes (entries ++ others) ∷ []) new
   pub input : Told (StartsWith (input_of (events ++ Tree ∷ []))) left rest

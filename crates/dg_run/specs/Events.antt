@@ -1,17 +1,16 @@
 -- What is taken of the input: an event in its place, the end, or a line that is refused.
-use Rattle.std.specs.Prelude.{◌≡◌, ◌≤◌, ◌<◌, ◌++◌, [], true, ℕ, List, length, Option}
+use Rattle.std.specs.Prelude.{◌≡◌, ◌≤◌, ◌<◌, ◌++◌, [], ℕ, List, length, Option}
 use Rattle.dg_model.specs.declared.shapes.Shape.{Shape}
 use Rattle.dg_model.specs.declared.events.Event.{Event as Spelled}
 use Rattle.dg_text.specs.Lines.{line_of, IsInPlace}
 use Rattle.dg_text.specs.declared.lines.BadLine.{BadLine}
 use Rattle.dg_run.specs.Refusals.{IsRefusedBy}
-use Rattle.dg_run.specs.Served.{is_served}
 use Rattle.dg_run.specs.declared.events.Taken.{Taken}
 use Rattle.dg_run.specs.declared.events.Taken.TheVariants.{Event, End, Refused}
 
--- the event is in its place and served, and its line has so many bytes, no more than the room
+-- the event is in its place, and its line has so many bytes, no more than the room
 abbrev pub IsTaken : Option Shape → ℕ → Taken → Type 0
-IsTaken shape room (Event event n) = IsInPlace shape event × (is_served event ≡ true) × (n ≡ length (line_of event)) × (n ≤ room)
+IsTaken shape room (Event event n) = IsInPlace shape event × (n ≡ length (line_of event)) × (n ≤ room)
 IsTaken shape room End = Unit {0}
 IsTaken shape room (Refused kind) = Unit {0}
 
@@ -20,11 +19,11 @@ pub record Begins (shape : Option Shape) (event : Spelled) (before after : List 
   pub line : before ≡ line_of event ++ after
   pub only : (other : Spelled) (tail : List ℕ) → IsInPlace shape other → before ≡ line_of other ++ tail → other ≡ event
 
--- There is a text, and it is refused by this kind. So it begins with no line of an event that is served in its place and keeps to the room.
+-- There is a text, and it is refused by this kind. So it begins with no line of an event that is in its place and keeps to the room.
 pub record IsRefused (shape : Option Shape) (room : ℕ) (text : List ℕ) (kind : BadLine) : Type 0 where
   pub some : text ≡ [] → ⊥
   pub by_kind : IsRefusedBy shape room text kind
-  pub none : (event : Spelled) (tail : List ℕ) → IsInPlace shape event → is_served event ≡ true → text ≡ line_of event ++ tail → room < length (line_of event)
+  pub none : (event : Spelled) (tail : List ℕ) → IsInPlace shape event → text ≡ line_of event ++ tail → room < length (line_of event)
 
 abbrev pub TookEvent : Option Shape → ℕ → Taken → List ℕ → List ℕ → Type 0
 TookEvent shape room (Event event n) before after = Begins shape event before after

@@ -8,11 +8,11 @@ pub mod Inputs
 pub mod Lines
 pub mod Opened
 pub mod Paths
+pub mod Plain
 pub mod Refusals
 pub mod Replays
 pub mod Resumes
 pub mod Scans
-pub mod Served
 pub mod Statuses
 pub mod Steps
 pub mod Texts

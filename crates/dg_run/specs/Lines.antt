@@ -1,5 +1,5 @@
 -- Lines served one after another.
-use Rattle.std.specs.Prelude.{◌≡◌, ◌≤◌, ◌++◌, ◌+◌, ◌-◌, ◌^◌, [], true, ℕ, List, length, Option, Some, All}
+use Rattle.std.specs.Prelude.{◌≡◌, ◌≤◌, ◌++◌, ◌+◌, ◌-◌, ◌^◌, [], ℕ, List, length, Option, Some, All}
 use Rattle.dg_io.specs.declared.outside.Rack.{Ghosts}
 use Rattle.dg_model.specs.declared.shapes.Shape.{Shape}
 use Rattle.dg_model.specs.declared.events.Event.{Event}
@@ -11,7 +11,6 @@ use Rattle.dg_text.specs.Replies.{output_of, refusal}
 use Rattle.dg_run.specs.Steps.{shape_of}
 use Rattle.dg_text.specs.declared.lines.BadLine.{BadLine}
 use Rattle.dg_run.specs.Events.{Begins, IsRefused}
-use Rattle.dg_run.specs.Served.{AreServed, is_served}
 use Rattle.dg_run.specs.Steps.{Answered, RunsTo}
 use Rattle.dg_run.specs.declared.lines.Turn.{Turn}
 use Rattle.dg_run.specs.declared.lines.Turn.TheVariants.{Served as turn_served, End as turn_end, Refused as turn_refused}
@@ -22,7 +21,6 @@ use Rattle.dg_run.specs.declared.lines.LinesEnd.TheVariants.{Input as input_end,
 pub record ServedLine {R : Type 0} (rack : Ghosts R) (shape : Shape) (room n : ℕ) (left rest taken given : Option (List ℕ)) (old new : Array R) : Type 0 where
   pub event : Event
   pub in_place : IsInPlace (Some shape) event
-  pub done : is_served event ≡ true
   pub size : n ≡ length (line_of event)
   pub within : n ≤ room
   pub input : Told (Begins (Some shape) event) left rest
@@ -43,7 +41,6 @@ Turned rack room left rest taken given old new (turn_refused kind) = Told (λ be
 pub record Served {R : Type 0} (rack : Ghosts R) (shape : Shape) (events : List Event) (left rest taken given : Option (List ℕ)) (old new : Array R) : Type 0 where
   pub replies : List Reply
   pub in_place : All (IsInPlace (Some shape)) events
-  pub done : AreServed events
   pub input : Told (BeginsAll (Some shape) events) left rest
   pub output : Told (Took (output_of replies)) taken given
   pub runs : RunsTo rack old events replies new

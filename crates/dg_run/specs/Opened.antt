@@ -22,8 +22,8 @@ use Rattle.dg_volume.specs.Opens.{had}
 abbrev pub AreTakenIn : Facts → Counts → (ℕ → Option Found) → Type 0
 AreTakenIn facts counts taken = AreRead (λ q. had (facts.images q) (facts.bytes q)) facts.before.faults counts.faults taken
 
--- The array was opened from what was taken: `first` says what members did before blocks were read, and `members` once it had been opened; the
--- rack had these counts then. Nothing was written.
+-- The array was opened from what was taken, with the sites that its source says: `first` says what members did before blocks were read, and
+-- `members` once it had been opened; the rack had these counts then. Nothing was written.
 pub record Opening (facts : Facts) : Type 0 where
   pub taken : ℕ → Option Found
   pub source : ℕ
@@ -35,6 +35,7 @@ pub record Opening (facts : Facts) : Type 0 where
   pub counts : Counts
   pub read : AreTakenIn facts counts taken
   pub is_source : IsSource taken source label saved
+  pub table_is : table ≡ saved.table
   pub first_are : (q : ℕ) → ((first q ≡ Good) × MayBeGood taken label saved q) ⊎ (first q ≡ Out)
   pub falls : MembersFall facts.before.faults counts.faults first members
   pub writes : counts.writes ≡ facts.before.writes

@@ -1,5 +1,5 @@
 -- What a whole replay means: the events of its input, their replies, and what the rack holds at the end.
-use Rattle.std.specs.Prelude.{◌≡◌, ◌⊎◌, ◌≤◌, ◌<◌, ◌+◌, ◌-◌, ◌/◌, ◌^◌, ◌++◌, [], ◌∷◌, true, ℕ, List, length, Option, Some, None, IsSome}
+use Rattle.std.specs.Prelude.{◌≡◌, ◌⊎◌, ◌≤◌, ◌<◌, ◌+◌, ◌-◌, ◌/◌, ◌^◌, ◌++◌, [], ◌∷◌, ℕ, List, length, Option, Some, None, IsSome}
 use Rattle.dg_model.specs.States.{Counts, HoldsAll, State}
 use Rattle.dg_model.specs.Runs.{Trace}
 use Rattle.dg_model.specs.declared.shapes.Shape.{Shape}
@@ -13,7 +13,6 @@ use Rattle.dg_text.specs.Replies.{nodes_text, output_of, refusal, reply_line}
 use Rattle.dg_text.specs.declared.lines.BadLine.{BadLine}
 use Rattle.dg_run.specs.Endings.{GaveLines, StartsWith, TookUpTo}
 use Rattle.dg_run.specs.Refusals.{IsRefusedBy}
-use Rattle.dg_run.specs.Served.{AreServed, is_served}
 use Rattle.ufs_model.specs.Listings.{Listed}
 
 -- the shape of the array that the first event made
@@ -26,12 +25,11 @@ shape_after (event ∷ events) = None
 abbrev pub TellsBoundaries : (ℕ → Option (List ℕ)) → State → Type 0
 TellsBoundaries bytes state = (q : ℕ) → q / 2 < state.table.shape.b → IsSome (bytes q)
 
--- The events are in their places and served, and their lines keep to the budget of 2^40 bytes. They had these replies, in steps of the array
+-- The events are in their places, and their lines keep to the budget of 2^40 bytes. They had these replies, in steps of the array
 -- from nothing to a final state, which has the counts of the rack. Where each member of the array tells its bytes at the end, the
 -- steps are known in their bytes too, and the members hold the blocks of the final state, and the last label where they keep it.
 pub record Ran (before now : Counts) (bytes : ℕ → Option (List ℕ)) (events : List Event) (replies : List Reply) : Type 0 where
   pub in_place : AreInPlace events
-  pub done : AreServed events
   pub budget : length (input_of events) ≤ 2 ^ 40
   pub final : State
   pub trace : Trace (TellsBoundaries bytes final) before events replies final
@@ -48,18 +46,17 @@ pub record Replayed (before now : Counts) (bytes : ℕ → Option (List ℕ)) (l
   pub output : Told (Took (output_of replies)) taken given
 
 -- The text behind the lines of these events is refused by this kind, the first that fits there. So it begins with no line of an event
--- that is served in its place and keeps to the budget; and it is empty only where the whole input is.
+-- that is in its place and keeps to the budget; and it is empty only where the whole input is.
 pub record StopsAt (events : List Event) (kind : BadLine) (text : List ℕ) : Type 0 where
   pub by_kind : IsRefusedBy (shape_after events) (2 ^ 40 - length (input_of events)) text kind
   pub some : text ≡ [] → events ≡ []
-  pub none : (event : Event) (tail : List ℕ) → IsInPlace (shape_after events) event → is_served event ≡ true → text ≡ line_of event ++ tail
+  pub none : (event : Event) (tail : List ℕ) → IsInPlace (shape_after events) event → text ≡ line_of event ++ tail
       → 2 ^ 40 - length (input_of events) < length (line_of event)
 
--- an input of acceptable lines: its events are in their places and served, and it keeps to the budget
+-- an input of acceptable lines: its events are in their places, and it keeps to the budget
 pub record IsInput (events : List Event) : Type 0 where
   pub some : events ≡ [] → ⊥
   pub in_place : AreInPlace events
-  pub served : AreServed events
   pub budget : length (input_of events) ≤ 2 ^ 40
 
 -- no events make up the text as an input of acceptable lines
@@ -114,7 +111,6 @@ pub record RanOutBetween (before : Counts) (bytes : ℕ → Option (List ℕ)) (
   pub events : List Event
   pub replies : List Reply
   pub in_place : AreInPlace events
-  pub done : AreServed events
   pub budget : length (input_of events) ≤ 2 ^ 40
   pub final : State
   pub trace : Trace (TellsBoundaries bytes final) before events replies final
@@ -129,7 +125,6 @@ pub record RanOutWithin (before : Counts) (bytes : ℕ → Option (List ℕ)) (l
   pub entries : List Listed
   pub others : List Listed
   pub in_place : AreInPlace (events ++ Tree ∷ [])
-  pub done : AreServed (events ++ Tree ∷ [])
   pub budget : length (input_of (events ++ Tree ∷ [])) ≤ 2 ^ 40
   pub final : State
   pub trace : Trace (TellsBoundaries bytes final) before (events ++ Tree ∷ []) (replies ++ Nodes (entries ++ others) ∷ []) final

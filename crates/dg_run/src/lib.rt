@@ -7,14 +7,10 @@
 
 mod arrays;
 mod blocks;
-#[cfg(test)]
-mod cat_tests;
 mod cats;
 mod events;
 mod input;
 mod lines;
-#[cfg(test)]
-mod list_tests;
 mod listings;
 mod paths;
 mod pendings;
@@ -24,11 +20,7 @@ mod replies;
 mod resumes;
 mod saved;
 mod serve;
-#[cfg(test)]
-mod tests;
 mod top;
 mod trees;
-#[cfg(test)]
-mod volume_tests;
 
 pub use top::{Status, run};

@@ -4,7 +4,7 @@ ghost use Rattle.dg_model.specs.Causes.{Rose};
 ghost use Rattle.dg_text.specs.Lines.{IsInPlace};
 ghost use Rattle.dg_text.specs.Replies.{reply_line};
 ghost use Rattle.dg_io.specs.Told.{Told, Took, TookPart};
-ghost use Rattle.dg_run.specs.Served.{is_plain, is_served};
+ghost use Rattle.dg_run.specs.Plain.{is_plain};
 ghost use Rattle.dg_run.specs.Steps.{Answered, AnsweredPart, GoesOn, IsSound, StepsTo, WantedFor, shape_of};
 
 use crate::arrays::Array;
@@ -154,7 +154,6 @@ pub fn serve<R: Rack, K: Sink>(
     requires sound { IsSound R.Rack array.old }
     requires size { length block.old ≡ (shape_of array.old).l }
     requires in_place { IsInPlace (Some (shape_of array.old)) event.now }
-    requires served { is_served event.now ≡ true }
     ensures goes { GoesOn R.Rack array.old array.new }
     ensures answered { OnOk result (Answered R.Rack event.now (K.taken sink.old) (K.taken sink.new) array.old array.new) }
     ensures part { result ≡ Err Fault.Write → AnsweredPart R.Rack event.now (K.taken sink.old) (K.taken sink.new) array.old array.new }

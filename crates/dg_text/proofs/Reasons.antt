@@ -12,7 +12,7 @@ use Rattle.dg_text.specs.declared.kinds.EventKind.{EventKind}
 use Rattle.dg_text.specs.declared.kinds.EventKind.TheVariants.{Array}
 use Rattle.dg_text.specs.declared.kinds.Tail.TheVariants.{Nothing, Bytes, Path as PathTail}
 use Rattle.dg_text.specs.declared.lines.BadLine.{BadLine}
-use Rattle.dg_text.specs.declared.lines.BadLine.TheVariants.{Long, Size, Cut, Word, Order, Form, Number, Limits, Hex, Path, Later}
+use Rattle.dg_text.specs.declared.lines.BadLine.TheVariants.{Long, Size, Cut, Word, Order, Form, Number, Limits, Hex, Path}
 use Rattle.dg_text.proofs.EventWords.{AreShapeWords, IsRight, array_numbers, begins_of, line_spelled, right_line}
 use Rattle.dg_text.proofs.KindWords.{begins_once}
 use Rattle.dg_text.proofs.Lengths.{block_small}
@@ -135,7 +135,6 @@ fits_none shape line b right Path h = not_path shape line b right.path h
 fits_none shape line b right Long h = h
 fits_none shape line b right Size h = h
 fits_none shape line b right Cut h = h
-fits_none shape line b right Later h = h
 
 -- the first kind that fits is one that fits
 first_fits : (fits : BadLine → Type 0) (kinds : List BadLine) (kind : BadLine) → IsFirst fits kinds kind → fits kind

@@ -24,7 +24,7 @@ use Rattle.ufs_model.specs.declared.reads.PathRefusal.{PathRefusal}
 use Rattle.ufs_model.specs.declared.reads.PathRefusal.TheVariants.{NotFound, NotDirectory, NotRegular, Bad}
 use Rattle.dg_text.specs.Lines.{hex_word, path_word}
 use Rattle.dg_text.specs.declared.lines.BadLine.{BadLine}
-use Rattle.dg_text.specs.declared.lines.BadLine.TheVariants.{Long as BadLong, Size as BadSize, Cut as BadCut, Word as BadWord, Order as BadOrder, Form as BadForm, Number as BadNumber, Limits as BadLimits, Hex as BadHex, Path as BadPath, Later as BadLater}
+use Rattle.dg_text.specs.declared.lines.BadLine.TheVariants.{Long as BadLong, Size as BadSize, Cut as BadCut, Word as BadWord, Order as BadOrder, Form as BadForm, Number as BadNumber, Limits as BadLimits, Hex as BadHex, Path as BadPath}
 
 -- the line of some bytes of a file
 abbrev pub bytes_line : List ℕ → List ℕ
@@ -213,7 +213,6 @@ kind_of BadNumber = codes "number"
 kind_of BadLimits = codes "limits"
 kind_of BadHex = codes "hex"
 kind_of BadPath = codes "path"
-kind_of BadLater = codes "later"
 
 -- the answer to a refused line. The first line has the number 1
 abbrev pub refusal : ℕ → BadLine → List ℕ

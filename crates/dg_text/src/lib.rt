@@ -7,16 +7,12 @@ mod hex_lines;
 mod hex_words;
 mod kinds;
 mod laws;
-#[cfg(test)]
-mod line_tests;
 mod lines;
 mod listing_lines;
 mod listings;
 mod path_words;
 mod raw;
 mod replies;
-#[cfg(test)]
-mod tests;
 mod verdicts;
 mod words;
 mod written;

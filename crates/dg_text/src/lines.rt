@@ -39,8 +39,6 @@ pub enum BadLine {
     Hex,
     /// The path isn't one, or isn't spelled in the one way.
     Path,
-    /// It spells an event in its place that isn't served yet. Which events are, the run decides, and it answers so.
-    Later,
 }
 
 /// The event that a line spells in its place, or the kind by which the line is refused. The line is given without its LF, and

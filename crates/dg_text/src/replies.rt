@@ -300,7 +300,6 @@ fn behind_number(kind: BadLine) -> &'static [u8]
         BadLine::Limits => b" limits\n",
         BadLine::Hex => b" hex\n",
         BadLine::Path => b" path\n",
-        BadLine::Later => b" later\n",
     }
 }
 

@@ -147,7 +147,7 @@ reed_kind shape room kind wide (inr (n1, inr (n2, inr (n3, inr rest)))) = absurd
 stops : OneLine → (before now : Counts) (bytes : ℕ → Option (List ℕ)) (events : List Event) (replies : List Reply) (kind : BadLine) (text taken : List ℕ) → Ran before now bytes events replies
     → refused ≡ input_of events ++ text → StopsAt events kind text → taken ≡ output_of replies ++ refusal (length events + 1) kind → taken ≡ codes "ok\nline 2 word\n"
 stops one before now bytes [] replies kind text taken ran is stop took =
-    let over = stop.none (Array shape_here) (codes "reed 3\n") shape_is refl (sym is ∙ refused_text) in
+    let over = stop.none (Array shape_here) (codes "reed 3\n") shape_is (sym is ∙ refused_text) in
     absurd (omega (arith, over, line_short))
 stops one before now bytes (Array s ∷ []) replies kind text taken ran is stop took =
     let split = one None (Array shape_here) (Array s) (codes "reed 3\n") text shape_is ran.in_place.0
@@ -222,7 +222,7 @@ reply_cut one before now bytes (event ∷ es) replies last more taken n ran is t
 no_refusal : OneLine → (before now : Counts) (bytes : ℕ → Option (List ℕ)) (events : List Event) (replies : List Reply) (kind : BadLine) (text : List ℕ) → Ran before now bytes events replies
     → alone ≡ input_of events ++ text → StopsAt events kind text → ⊥
 no_refusal one before now bytes [] replies kind text ran is stop =
-    let over = stop.none (Array shape_here) [] shape_is refl (sym is ∙ alone_text) in
+    let over = stop.none (Array shape_here) [] shape_is (sym is ∙ alone_text) in
     absurd (omega (arith, over, line_short))
 no_refusal one before now bytes (Array s ∷ es) replies kind text ran is stop =
     let empty = stop.some (none_behind (input_of es) text (behind one s es text ran.in_place.0 is)) in

@@ -13,23 +13,11 @@ mod directories;
 mod entries;
 mod faults;
 mod files;
-#[cfg(test)]
-mod level_tests;
-#[cfg(test)]
-mod list_tests;
 mod listings;
 mod lists;
 mod looks;
 mod naming;
-#[cfg(test)]
-mod order_tests;
-#[cfg(test)]
-mod parent_tests;
 mod superblocks;
-#[cfg(test)]
-mod tests;
-#[cfg(test)]
-mod tree_tests;
 mod trees;
 mod walks;
 

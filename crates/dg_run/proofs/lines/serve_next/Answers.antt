@@ -15,9 +15,8 @@ returns-in_ok-serve-in-Event-clause-turned g c =
     record {
       event = c.in-Event.event;
       in_place = subst (λ (s : Shape). IsInPlace (Some s) c.in-Event.event) c.shape.ensures e.is.0;
-      done = e.is.1;
-      size = e.is.2;
-      within = e.is.3;
+      size = e.is.1;
+      within = e.is.2;
       input = subst (λ (s : Shape). Told (Begins (Some s) c.in-Event.event) (ahead c.args.input.now (g.S.Source.left c.args.source.now))
           (ahead c.take_event.new.input (g.S.Source.left c.take_event.new.source))) c.shape.ensures e.took;
       answered = c.in_ok-serve-in-Event.ensures.answered;
@@ -27,8 +26,8 @@ pub returns-in_err-serve-in-Event-clause-wanting : goal.returns-in_err-serve-in-
 returns-in_err-serve-in-Event-clause-wanting g c = λ is.
     let e = rw c.in-Event.is at c.in_ok-event.ensures in
     let place = subst (λ (s : Shape). IsInPlace (Some s) c.in-Event.event) c.shape.ensures e.is.0 in
-    let within = subst (λ (n : ℕ). n ≤ c.args.room) e.is.2 e.is.3 in
+    let within = subst (λ (n : ℕ). n ≤ c.args.room) e.is.1 e.is.2 in
     let told = subst (λ (s : Shape). Told (Begins (Some s) c.in-Event.event) (ahead c.args.input.now (g.S.Source.left c.args.source.now))
     (ahead c.take_event.new.input (g.S.Source.left c.take_event.new.source))) c.shape.ensures e.took in
     ran_out_of g.R.Rack (shape_of c.args.array.now) c.args.room c.in-Event.event (unread c.take_event.new.input) _ _ _ _ c.args.array.now c.serve.new.array
-    place e.is.1 within told (c.in_err-serve-in-Event.ensures.wanting (search rules))
+    place within told (c.in_err-serve-in-Event.ensures.wanting (search rules))

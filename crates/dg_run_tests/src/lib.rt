@@ -1,0 +1,11 @@
+//! Tests of the top call over racks in memory. They stand apart from the crate, so that both are proved side by side, and it only once.
+#![tactic(auto)]
+
+#[cfg(test)]
+mod cat_tests;
+#[cfg(test)]
+mod list_tests;
+#[cfg(test)]
+mod tests;
+#[cfg(test)]
+mod volume_tests;

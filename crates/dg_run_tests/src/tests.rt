@@ -1,0 +1,384 @@
+use dg_io::{Failed, MemRack, MemSink, MemSource, Source, SureRack, SureSink, SureSource};
+use dg_run::{Status, run};
+use std::alloc::Global;
+use std::test::Fail;
+
+// Bytes of a member of the array 1024 128 4 64 2, which is the largest one here, and of all replies.
+const LENGTH: u64 = 69993;
+
+const OUTPUT: usize = 4096;
+
+// A source that gives at most 16 bytes in a call.
+#[derive(Drop)]
+struct Pieces<S>(S);
+
+impl<S: Source> Source for Pieces<S> {
+    ghost left = { λ s. S.left s.0 };
+
+    ghost faults = { λ s. S.faults s.0 };
+
+    fn read(&mut self, buf: &mut [u8]) -> Result<usize, Failed> {
+        let most = buf.len().min(16);
+        self.0.read(&mut buf[..most])
+    }
+}
+
+pub fn words_of(alloc: Global, texts: &[&str]) -> Result<Vec<String>, Fail> {
+    let mut words = Vec::new(alloc);
+    for text in texts {
+        words.push(String::from_str(alloc, text)?)?;
+    }
+    Ok(words)
+}
+
+pub fn source_of(alloc: Global, input: &[u8], fails: &[u64]) -> Result<MemSource, Fail> {
+    let bytes = Vec::from_slice(alloc, input)?;
+    Ok(MemSource::new(bytes, Vec::from_slice(alloc, fails)?))
+}
+
+fn sink_of(alloc: Global, fails: &[u64]) -> Result<MemSink, Fail> {
+    Ok(MemSink::new(alloc, OUTPUT, Vec::from_slice(alloc, fails)?)?)
+}
+
+pub fn rack_of(alloc: Global, fails: &[u64]) -> Result<MemRack, Fail> {
+    Ok(MemRack::new(alloc, 8, LENGTH, Vec::from_slice(alloc, fails)?)?)
+}
+
+// A replay whose source and sink don't fail, and whose rack fails at the listed calls.
+pub fn replay(
+    alloc: Global,
+    input: &[u8],
+    sink: &mut MemSink,
+    fails: &[u64],
+) -> Result<Status, Fail> {
+    let words = words_of(alloc, &["replay"])?;
+    let mut source = source_of(alloc, input, &[])?;
+    let mut rack = rack_of(alloc, fails)?;
+    Ok(run(alloc, &words, &mut source, sink, &mut rack))
+}
+
+#[test]
+fn lines_are_answered(rt: HostRuntime) -> Result<(), Fail> {
+    let alloc = rt.alloc();
+    let rows = [
+        (
+            "array 1024 64 4 32 2\nwrite 3 6869\nread 3\n",
+            "ok\nok\ndata 6869\n",
+        ),
+        (
+            "array 1024 128 4 64 2\nread 5\nwrite 5 -\nread 5\n",
+            "ok\ndata -\nok\ndata -\n",
+        ),
+        (
+            "array 1024 64 4 32 2\nwrite 64 00\nwrite 63 00\nread 64\nfail 4 0\nfail 0 2\n",
+            "ok\nrange\nok\nrange\nrange\nrange\n",
+        ),
+        (
+            "array 1024 128 4 64 2\nwrite 3 aa\nfail 3 0\nwrite 3 bb\nread 3\nfail 3 0\nfail 3 1\nread 3\n",
+            "ok\nok\nok\nok\ndata bb\nalready\nok\nunavailable\n",
+        ),
+        (
+            "array 1024 128 4 64 2\nwrite 3 aa\nfail 3 0\nfail 3 1\nread 3\nread 2\nwrite 2 00\nsettle\ntend 1\n",
+            "ok\nok\nok\nok\nunavailable\ndata -\ndegraded\nlost 3\nlost 3\n",
+        ),
+        (
+            "array 1024 128 4 64 2\nwho 3\nwho 128\npending\nfail 3 0\nfail 3 1\nwho 3\npending\n",
+            "ok\nidle\nrange\nend 0\nok\nok\nidle\nend 0\n",
+        ),
+    ];
+    for (input, output) in rows {
+        let mut sink = sink_of(alloc, &[])?;
+        let status = replay(alloc, input.as_bytes(), &mut sink, &[])?;
+        assert_eq!(rt; status, Status::Done);
+        assert!(rt; sink.taken() == output.as_bytes(), "{input}");
+    }
+    Ok(())
+}
+
+#[test]
+fn lines_are_refused(rt: HostRuntime) -> Result<(), Fail> {
+    let alloc = rt.alloc();
+    let rows = [
+        ("", "line 1 cut\n"),
+        ("read 3\n", "line 1 order\n"),
+        ("array 1024 64 2 16 2\n", "line 1 limits\n"),
+        ("array 1024 64 4 32\n", "line 1 form\n"),
+        ("array 1024 64 4 32 2", "line 1 cut\n"),
+        ("array 1024 64 4 32 2\nreed 3\n", "ok\nline 2 word\n"),
+        ("array 1024 64 4 32 2\nread 3", "ok\nline 2 cut\n"),
+        ("array 1024 64 4 32 2\n\n", "ok\nline 2 word\n"),
+        (
+            "array 1024 64 4 32 2\narray 1024 64 4 32 2\n",
+            "ok\nline 2 order\n",
+        ),
+        (
+            "array 1024 64 4 32 2\nwrite 3 aa\nread 03\n",
+            "ok\nok\nline 3 number\n",
+        ),
+        (
+            "array 1024 64 4 32 2\nwrite 3 aa\nread  3\n",
+            "ok\nok\nline 3 form\n",
+        ),
+        (
+            "array 1024 64 4 32 2\nread 3\nwrite 3 AA\nread 3\n",
+            "ok\ndata -\nline 3 hex\n",
+        ),
+        ("array 1024 64 4 32 2\nwrite 3 abc\n", "ok\nline 2 hex\n"),
+        ("array 1024 64 4 32 2\ncat a\n", "ok\nline 2 path\n"),
+    ];
+    for (input, output) in rows {
+        let mut sink = sink_of(alloc, &[])?;
+        let status = replay(alloc, input.as_bytes(), &mut sink, &[])?;
+        assert_eq!(rt; status, Status::BadLine);
+        assert!(rt; sink.taken() == output.as_bytes(), "{input}");
+    }
+    Ok(())
+}
+
+// An array, and then a line of so many characters behind these words.
+fn long_input(alloc: Global, words: &[u8], count: usize) -> Result<Vec<u8>, Fail> {
+    let mut input = Vec::from_slice(alloc, b"array 1024 64 4 32 2\n")?;
+    input.extend_from_slice(words)?;
+    for _ in 0..count {
+        input.push(b'0')?;
+    }
+    input.push(b'\n')?;
+    Ok(input)
+}
+
+#[test]
+fn long_lines_are_refused(rt: HostRuntime) -> Result<(), Fail> {
+    let alloc = rt.alloc();
+    let rows = [
+        ("write 3 ", 2048, Status::Done, "ok\nok\n"),
+        ("write 3 ", 2050, Status::BadLine, "ok\nline 2 hex\n"),
+        ("", 6248, Status::BadLine, "ok\nline 2 word\n"),
+        ("", 6249, Status::BadLine, "ok\nline 2 long\n"),
+        ("", 70000, Status::BadLine, "ok\nline 2 long\n"),
+    ];
+    for (words, count, want, output) in rows {
+        let input = long_input(alloc, words.as_bytes(), count)?;
+        let mut sink = sink_of(alloc, &[])?;
+        let status = replay(alloc, &input, &mut sink, &[])?;
+        assert_eq!(rt; status, want);
+        assert!(rt; sink.taken() == output.as_bytes(), "{count}");
+    }
+    Ok(())
+}
+
+#[test]
+fn words_of_no_command_that_is_built_are_refused(rt: HostRuntime) -> Result<(), Fail> {
+    let alloc = rt.alloc();
+    let rows: [&[&str]; 5] = [
+        &[],
+        &["reply"],
+        &["replay", "x"],
+        &["status"],
+        &["cat", "/a"],
+    ];
+    for texts in rows {
+        let words = words_of(alloc, texts)?;
+        let mut source = source_of(alloc, b"", &[0])?;
+        let mut sink = sink_of(alloc, &[1])?;
+        let mut rack = rack_of(alloc, &[])?;
+        let status = run(alloc, &words, &mut source, &mut sink, &mut rack);
+        assert_eq!(rt; status, Status::Usage);
+        assert!(rt;
+            sink.taken()
+                .starts_with(b"usage: dgraid replay | resume | ")
+        );
+        let status = run(alloc, &words, &mut source, &mut sink, &mut rack);
+        assert_eq!(rt; status, Status::WriteFault);
+    }
+    Ok(())
+}
+
+#[test]
+fn members_that_fail_are_out(rt: HostRuntime) -> Result<(), Fail> {
+    let alloc = rt.alloc();
+    let mut from_eight = Vec::new(alloc);
+    for call in 8..100 {
+        from_eight.push(call)?;
+    }
+    let mut sink = sink_of(alloc, &[])?;
+    let input = b"array 1024 64 4 32 2\nwrite 3 aa\nread 3\nwrite 2 aa\n";
+    let status = replay(alloc, input, &mut sink, &from_eight)?;
+    assert_eq!(rt; status, Status::Done);
+    assert!(rt; sink.taken() == b"ok\ndegraded\ndata -\ndegraded\n".as_slice());
+
+    let mut sink = sink_of(alloc, &[])?;
+    let input = b"array 1024 64 4 32 2\nwrite 0 aa\nread 0\n";
+    let status = replay(alloc, input, &mut sink, &[0])?;
+    assert_eq!(rt; status, Status::Done);
+    assert!(rt; sink.taken() == b"ok\nok\ndata aa\n".as_slice());
+    Ok(())
+}
+
+// Twenty lines, and their replies where nothing fails.
+const SCRIPT: &[u8] = b"array 1024 64 4 32 2
+write 0 11
+write 1 2222
+read 0
+read 1
+write 2 -
+read 2
+write 5 a0b0
+write 0 33
+read 0
+read 5
+read 63
+write 63 ff00
+read 63
+write 64 aa
+read 64
+write 1 -
+read 1
+read 4
+read 5
+";
+
+const REPLIES: &[u8] = b"ok
+ok
+ok
+data 11
+data 2222
+ok
+data -
+ok
+ok
+data 33
+data a0b0
+data -
+ok
+data ff
+range
+range
+ok
+data -
+data -
+data a0b0
+";
+
+// Whether a text is these many of the first replies.
+fn is_first_replies(text: &[u8], count: usize) -> bool {
+    REPLIES.starts_with(text) && text.iter().filter(|x| **x == b'\n').count() == count
+}
+
+// The script makes 30 calls on the rack. Where one of them fails, one member is out, and its partner serves on.
+#[test]
+fn one_failed_call_of_the_rack_shows_in_no_reply(rt: HostRuntime) -> Result<(), Fail> {
+    let alloc = rt.alloc();
+    for call in 0..31 {
+        let mut sink = sink_of(alloc, &[])?;
+        let status = replay(alloc, SCRIPT, &mut sink, &[call])?;
+        assert_eq!(rt; status, Status::Done);
+        assert!(rt; is_first_replies(sink.taken(), 20), "call {call}");
+    }
+    Ok(())
+}
+
+// Members are blanked one after another, ascending by number.
+#[test]
+fn a_member_whose_blanking_fails_is_out(rt: HostRuntime) -> Result<(), Fail> {
+    let alloc = rt.alloc();
+    let rows = [
+        (0, "fail 0 0"),
+        (1, "fail 0 1"),
+        (2, "fail 1 0"),
+        (7, "fail 3 1"),
+    ];
+    for (call, line) in rows {
+        let mut input = Vec::new(alloc);
+        input.extend_from_slice(b"array 1024 64 4 32 2\n")?;
+        input.extend_from_slice(line.as_bytes())?;
+        input.extend_from_slice(b"\nwrite 0 aa\nread 0\n")?;
+        let mut sink = sink_of(alloc, &[])?;
+        let status = replay(alloc, &input, &mut sink, &[call])?;
+        assert_eq!(rt; status, Status::Done);
+        assert!(rt;
+            sink.taken() == b"ok\nalready\nok\ndata aa\n".as_slice(),
+            "call {call}"
+        );
+    }
+    Ok(())
+}
+
+// Call i of the source fails after 16 * i bytes, which have so many whole lines.
+#[test]
+fn a_failed_call_of_the_source_ends_the_replies(rt: HostRuntime) -> Result<(), Fail> {
+    let alloc = rt.alloc();
+    let words = words_of(alloc, &["replay"])?;
+    let rows = [
+        (0, 0),
+        (1, 0),
+        (2, 2),
+        (3, 3),
+        (4, 5),
+        (5, 7),
+        (6, 8),
+        (7, 10),
+        (8, 12),
+        (9, 14),
+    ];
+    for (call, count) in rows {
+        let mut source = Pieces(source_of(alloc, SCRIPT, &[call])?);
+        let mut sink = sink_of(alloc, &[])?;
+        let mut rack = rack_of(alloc, &[])?;
+        let status = run(alloc, &words, &mut source, &mut sink, &mut rack);
+        assert_eq!(rt; status, Status::ReadFault);
+        assert!(rt; is_first_replies(sink.taken(), count), "call {call}");
+    }
+    Ok(())
+}
+
+// Each reply is one call of the sink.
+#[test]
+fn a_failed_call_of_the_sink_ends_the_replies(rt: HostRuntime) -> Result<(), Fail> {
+    let alloc = rt.alloc();
+    for call in 0..10 {
+        let mut sink = sink_of(alloc, &[call])?;
+        let status = replay(alloc, SCRIPT, &mut sink, &[])?;
+        assert_eq!(rt; status, Status::WriteFault);
+        assert!(rt;
+            is_first_replies(sink.taken(), call as usize),
+            "call {call}"
+        );
+    }
+    let mut sink = sink_of(alloc, &[1])?;
+    let status = replay(alloc, b"array 1024 64 4 32 2\nreed 3\n", &mut sink, &[])?;
+    assert_eq!(rt; status, Status::WriteFault);
+    assert!(rt; sink.taken() == b"ok\n".as_slice());
+    Ok(())
+}
+
+#[test]
+fn objects_that_never_fail_serve(rt: HostRuntime) -> Result<(), Fail> {
+    let alloc = rt.alloc();
+    let words = words_of(alloc, &["replay"])?;
+    let mut source = SureSource::new(Vec::from_slice(alloc, SCRIPT)?);
+    let mut sink = SureSink::new(alloc, OUTPUT)?;
+    let mut rack = SureRack::new(alloc, 8, LENGTH)?;
+    let status = run(alloc, &words, &mut source, &mut sink, &mut rack);
+    assert_eq!(rt; status, Status::Done);
+    assert!(rt; sink.taken().is_some_and(|taken| taken == REPLIES));
+    Ok(())
+}
+
+#[test]
+fn lent_objects_serve(rt: HostRuntime) -> Result<(), Fail> {
+    let alloc = rt.alloc();
+    let words = words_of(alloc, &["replay"])?;
+    let mut source = source_of(alloc, SCRIPT, &[])?;
+    let mut sink = sink_of(alloc, &[])?;
+    let mut rack = rack_of(alloc, &[])?;
+    let status = run(
+        alloc,
+        &words,
+        &mut &mut source,
+        &mut &mut sink,
+        &mut &mut rack,
+    );
+    assert_eq!(rt; status, Status::Done);
+    assert!(rt; sink.taken() == REPLIES);
+    Ok(())
+}

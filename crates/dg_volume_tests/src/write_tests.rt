@@ -1,0 +1,233 @@
+// Writes of the volume F, whose inode 5 has an indirect block: its block 28 has the inodes, 84 is the indirect block and 88 is data.
+ghost use Rattle.std.specs.Prelude.{IfOk};
+ghost use Rattle.dg_volume.specs.Volumes.{IsWell, any_phase, loose_phase};
+
+use dg_io::{MemRack, Rack};
+use dg_model::Shape;
+use dg_volume::{AnyPhase, InPhase, Loose, Phase, Volume, Who, WhoAnswer, WriteAnswer, Wrote};
+use std::alloc::Global;
+use std::process::Abort;
+use std::test::Fail;
+use ufs_rows::{Which, rows_image};
+
+// Bytes of a member of the array 1024 128 3 43 1, and some more.
+const LENGTH: u64 = 60_000;
+
+/// The orders of the inodes, the indirect block and a block of data, after the two blocks of the superblock.
+const ORDERS: [[u32; 5]; 6] = [
+    [8, 9, 28, 84, 88],
+    [8, 9, 28, 88, 84],
+    [8, 9, 84, 28, 88],
+    [8, 9, 84, 88, 28],
+    [9, 8, 88, 28, 84],
+    [84, 88, 28, 9, 8],
+];
+
+/// The 128 blocks of the volume F.
+fn image_of_f(alloc: Global) -> Result<Vec<u8>, Fail> {
+    match rows_image(alloc, Which::F) {
+        Ok(image) => Ok(image),
+        Err(_) => Err("memory".into()),
+    }
+}
+
+/// The volume of a blank array of 128 blocks on three boundaries. Its members are blanked by six calls on the rack.
+fn blank<R: Rack + Drop>(alloc: Global, rack: R) -> Result<Volume<Loose, R>, Fail>
+    ensures { IfOk result (λ volume. IsWell loose_phase R.Rack volume) }
+{
+    let shape = Shape::check(1024, 128, 3, 43, 1).ok_or("shape")?;
+    match Volume::array(alloc, rack, shape) {
+        Ok(volume) => Ok(volume),
+        Err(_) => Err("memory".into()),
+    }
+}
+
+/// A rack in memory of six members, of which these calls fail.
+fn rack_of(alloc: Global, fails: &[u64]) -> Result<MemRack, Fail> {
+    Ok(MemRack::new(alloc, 6, LENGTH, fails.to_vec(alloc)?)?)
+}
+
+/// Writes a block as it is in an image.
+fn put<R: Rack>(
+    alloc: Global,
+    volume: &mut Volume<AnyPhase, R>,
+    image: &[u8],
+    block: u32,
+) -> Result<WriteAnswer, Fail>
+    requires { IsWell any_phase R.Rack volume.old }
+    ensures { IsWell any_phase R.Rack volume.new }
+{
+    let size = volume.shape().l;
+    if size != 1024 || image.len() != 131072 || block >= 128 {
+        return Err("block".into());
+    }
+    let start = block as usize * 1024;
+    match volume.write_block(alloc, block, &image[start..start + 1024]) {
+        Ok(answer) => Ok(answer),
+        Err(_) => Err("memory".into()),
+    }
+}
+
+/// Writes some blocks in their order.
+fn put_all<R: Rack>(
+    rt: &impl Abort,
+    alloc: Global,
+    volume: &mut Volume<AnyPhase, R>,
+    image: &[u8],
+    blocks: &[u32],
+) -> Result<(), Fail>
+    requires { IsWell any_phase R.Rack volume.old }
+    ensures { IfOk result (λ done. IsWell any_phase R.Rack volume.new) }
+{
+    for block in blocks {
+        assert_eq!(rt; put(alloc, volume, image, *block)?, WriteAnswer::Written);
+    }
+    Ok(())
+}
+
+/// What the blocks of F belong to, and that no boundary is lost.
+fn check_f<S: InPhase, R: Rack>(rt: &impl Abort, volume: &Volume<S, R>)
+    requires { IsWell S.InPhase R.Rack volume.now }
+{
+    assert_eq!(rt; volume.phase(), Phase::Loose);
+    assert_eq!(rt; volume.who(84), WhoAnswer::Is(Who::Inode(5, 1)));
+    assert_eq!(rt; volume.who(88), WhoAnswer::Is(Who::Inode(5, 0)));
+    assert_eq!(rt; volume.next_pending(0), None);
+    assert_eq!(rt; volume.lost(), 0);
+}
+
+/// Writes blocks over a rack in place, and checks what they belong to.
+fn write_in_place<R: Rack + Drop>(
+    rt: &impl Abort,
+    alloc: Global,
+    rack: R,
+    image: &[u8],
+    blocks: &[u32],
+) -> Result<(), Fail> {
+    let mut volume = blank(alloc, rack)?.into_any();
+    put_all(rt, alloc, &mut volume, image, blocks)?;
+    check_f(rt, &volume);
+    Ok(())
+}
+
+#[test]
+fn each_order_ends_the_same(rt: HostRuntime) -> Result<(), Fail> {
+    let alloc = rt.alloc();
+    let image = image_of_f(alloc)?;
+    for order in &ORDERS {
+        write_in_place(&rt, alloc, rack_of(alloc, &[])?, &image, order)?;
+    }
+    Ok(())
+}
+
+// The calls from 6 on: block 8 is written by 6 and 7, block 9 by 8 and 9, block 8 is read by 10, block 84 is written by 11 and 12, block
+// 28 by 13 and 14, block 84 is read by 15, and block 88 is written by 16 and 17.
+#[test]
+fn each_call_may_fail(rt: HostRuntime) -> Result<(), Fail> {
+    let alloc = rt.alloc();
+    let image = image_of_f(alloc)?;
+    for call in 6..18u64 {
+        let rack = rack_of(alloc, &[call])?;
+        write_in_place(&rt, alloc, rack, &image, &ORDERS[2])?;
+    }
+    Ok(())
+}
+
+/// Writes blocks until a boundary is lost while an indirect block is read.
+fn wear<R: Rack + Drop>(rt: &impl Abort, alloc: Global, rack: R, image: &[u8]) -> Result<(), Fail> {
+    let mut volume = blank(alloc, rack)?.into_any();
+    put_all(rt, alloc, &mut volume, image, &[8, 9, 84])?;
+    assert_eq!(rt; volume.phase(), Phase::Loose);
+    assert_eq!(rt; volume.who(84), WhoAnswer::Is(Who::Pending));
+    assert_eq!(rt; put(alloc, &mut volume, image, 28)?, WriteAnswer::Written);
+    assert_eq!(rt; volume.phase(), Phase::Worn);
+    assert_eq!(rt; volume.lost(), 1);
+    assert_eq!(rt; volume.who(84), WhoAnswer::Unavailable);
+    assert_eq!(rt; volume.next_pending(0), Some(28));
+    assert_eq!(rt; volume.next_pending(29), Some(84));
+    assert_eq!(rt; volume.next_pending(85), None);
+    assert_eq!(rt; put(alloc, &mut volume, image, 88)?, WriteAnswer::Degraded);
+    assert_eq!(rt; volume.next_pending(85), None);
+    Ok(())
+}
+
+#[test]
+fn a_boundary_is_lost_by_a_fetch(rt: HostRuntime) -> Result<(), Fail> {
+    let alloc = rt.alloc();
+    let image = image_of_f(alloc)?;
+    wear(&rt, alloc, rack_of(alloc, &[15, 16])?, &image)
+}
+
+/// Writes a block whose members fail both.
+fn miss<R: Rack + Drop>(rt: &impl Abort, alloc: Global, rack: R, image: &[u8]) -> Result<(), Fail> {
+    let mut volume = blank(alloc, rack)?.into_any();
+    put_all(rt, alloc, &mut volume, image, &[8])?;
+    assert_eq!(rt; put(alloc, &mut volume, image, 9)?, WriteAnswer::Degraded);
+    assert_eq!(rt; volume.phase(), Phase::Loose);
+    assert_eq!(rt; volume.lost(), 1);
+    assert_eq!(rt; volume.who(8), WhoAnswer::Is(Who::Pending));
+    assert_eq!(rt; volume.who(9), WhoAnswer::Is(Who::Idle));
+    assert_eq!(rt; put(alloc, &mut volume, image, 28)?, WriteAnswer::Degraded);
+    assert_eq!(rt; volume.next_pending(9), None);
+    Ok(())
+}
+
+#[test]
+fn all_sites_are_lost(rt: HostRuntime) -> Result<(), Fail> {
+    let alloc = rt.alloc();
+    let image = image_of_f(alloc)?;
+    miss(&rt, alloc, rack_of(alloc, &[8, 9])?, &image)
+}
+
+/// Writes a block as it is in an image, to a volume in one phase.
+fn write<S: InPhase + Drop, R: Rack + Drop>(
+    alloc: Global,
+    volume: Volume<S, R>,
+    image: &[u8],
+    block: u32,
+) -> Result<Volume<Loose, R>, Fail>
+    requires { IsWell S.InPhase R.Rack volume }
+    ensures { IfOk result (λ new. IsWell loose_phase R.Rack new) }
+{
+    let size = volume.shape().l;
+    if size != 1024 || image.len() != 131072 || block >= 128 {
+        return Err("block".into());
+    }
+    let start = block as usize * 1024;
+    match volume.write(alloc, block, &image[start..start + 1024]) {
+        Ok(Wrote::Loose(new)) => Ok(new),
+        Ok(_) => Err("refused".into()),
+        Err(_) => Err("memory".into()),
+    }
+}
+
+/// Writes F, and a block that there isn't.
+fn write_typed<R: Rack + Drop>(
+    rt: &impl Abort,
+    alloc: Global,
+    rack: R,
+    image: &[u8],
+) -> Result<(), Fail> {
+    let volume = write(alloc, blank(alloc, rack)?, image, 9)?;
+    let volume = write(alloc, volume, image, 84)?;
+    let volume = write(alloc, volume, image, 8)?;
+    let volume = write(alloc, volume, image, 28)?;
+    let volume = write(alloc, volume, image, 88)?;
+    check_f(rt, &volume);
+    let size = volume.shape().l;
+    if size != 1024 || image.len() != 131072 {
+        return Err("size".into());
+    }
+    let Ok(Wrote::Range(volume)) = volume.write(alloc, 128, &image[0..1024]) else {
+        return Err("range".into());
+    };
+    check_f(rt, &volume);
+    Ok(())
+}
+
+#[test]
+fn writes_of_a_loose_volume(rt: HostRuntime) -> Result<(), Fail> {
+    let alloc = rt.alloc();
+    let image = image_of_f(alloc)?;
+    write_typed(&rt, alloc, rack_of(alloc, &[])?, &image)
+}
