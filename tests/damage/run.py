@@ -1,6 +1,6 @@
 """Damages the labels and bodies of saved members at random, and sees how the program takes it.
 
-    run.py PROGRAM [--cases N] [--seed S] [--first I] [--keep FOLDER]
+    run.py PROGRAM [--cases N] [--seed S] [--first I] [--minutes T] [--keep FOLDER]
 
 Arrays are made and saved twice by the program; each then has so many cases. A case changes a byte, a bit, a run, a number, the length,
 the seal, the format or what the body says; or it puts an older body, label or image there, or swaps, copies or removes images. The format
@@ -20,6 +20,7 @@ import shutil
 import subprocess
 import sys
 import tempfile
+import time
 
 HERE = os.path.dirname(os.path.abspath(__file__))
 sys.path[:0] = [HERE, os.path.join(HERE, "..", "soak")]
@@ -184,13 +185,14 @@ def words():
     parser.add_argument("--cases", type=int, default=10_000)
     parser.add_argument("--seed", type=int, default=1)
     parser.add_argument("--first", type=int, default=0)
+    parser.add_argument("--minutes", type=float, default=1e9)
     parser.add_argument("--keep")
     return parser.parse_args()
 
 
 def main():
     args = words()
-    program, counts, wrong, saved = os.path.abspath(args.program), collections.Counter(), 0, None
+    program, counts, wrong, saved, start = os.path.abspath(args.program), collections.Counter(), 0, None, time.monotonic()
     with tempfile.TemporaryDirectory() as base:
         folder = Folder(os.path.join(base, "case"))
         for number in range(args.first, args.first + args.cases):
@@ -207,7 +209,7 @@ def main():
                     shutil.copytree(folder.path, args.keep)
                 wrong += 1
             counts.update(case.counts)
-            if wrong == MOST_WRONG:
+            if wrong == MOST_WRONG or time.monotonic() - start > 60 * args.minutes:
                 break
     told = ", ".join(f"{count} {word}" for word, count in counts.most_common())
     print(f"{number + 1 - args.first} cases from {args.first} on of seed {args.seed}, {wrong} wrong: {told}")
