@@ -327,13 +327,18 @@ fn the_first_test_that_fails_is_told(rt: HostRuntime) -> Result<(), Fail> {
     Ok(())
 }
 
+/// The first bytes of an image, so many or all.
+fn front(alloc: Global, image: &[u8], count: usize) -> Result<Vec<u8>, Fail> {
+    let (front, _) = image.split_at(count.min(image.len()));
+    Ok(Vec::from_slice(alloc, front)?)
+}
+
 #[test]
 fn a_wrong_length_is_told(rt: HostRuntime) -> Result<(), Fail> {
     let alloc = rt.alloc();
     let image = volume(alloc, Endian::Little)?;
     let length = TraceRefusal::Length;
-    let (short, _) = image.split_at(9567.min(image.len()));
-    let short = Vec::from_slice(alloc, short)?;
+    let short = front(alloc, &image, 9567)?;
     check_refusal(&rt, alloc, &ASKED, short, length, b"bad length\n")?;
     // Bytes as many as there have to be, and no superblock in them.
     let zeros = vec![in alloc; 0u8; 9568]?;
@@ -341,8 +346,7 @@ fn a_wrong_length_is_told(rt: HostRuntime) -> Result<(), Fail> {
     check_refusal(&rt, alloc, &ASKED, zeros, magic, b"bad magic\n")?;
     // The last byte of the volume is missing. That is told before a limit of the array.
     for asked in [ASKED, Asked { k: 31, ..ASKED }] {
-        let (cut, _) = image.split_at(131_071.min(image.len()));
-        let cut = Vec::from_slice(alloc, cut)?;
+        let cut = front(alloc, &image, 131_071)?;
         check_refusal(&rt, alloc, &asked, cut, length, b"bad length\n")?;
     }
     Ok(())
