@@ -1,0 +1,7 @@
+pub mod Answers
+pub mod Calls
+pub mod Ends
+pub mod Images
+pub mod Replays
+pub mod Traces
+pub mod Volumes

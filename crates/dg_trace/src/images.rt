@@ -1,0 +1,69 @@
+// The image, read from a source.
+ghost use Rattle.std.specs.Prelude.{◌≡◌, ◌+◌, ◌<◌, ◌≤◌, [], length, slice_range, IfOk, OnErr};
+ghost use Rattle.dg_io.specs.Faults.{HasCause};
+ghost use Rattle.dg_io.specs.Told.{Gave, IsSame, Told};
+ghost use Rattle.dg_model.specs.Causes.{Rose};
+ghost use Rattle.dg_trace.specs.Images.{GaveImage, GavePart};
+
+use crate::asked::TraceFault;
+use dg_io::{Failed, NoMemory, Source};
+use std::alloc::Global;
+
+/// The most bytes of an image.
+pub const MOST_BYTES: usize = 1 << 28;
+
+/// Bytes that are asked of the source at once.
+const PIECE: usize = 65536;
+
+/// A buffer for what is read at once.
+fn new_piece(alloc: Global) -> Result<Vec<u8>, NoMemory>
+    ensures { IfOk result (λ piece. length piece.items ≡ 65536) }
+{
+    match vec![in alloc; 0u8; PIECE] {
+        Ok(piece) => Ok(piece),
+        Err(_) => Err(NoMemory),
+    }
+}
+
+/// Reads bytes to a buffer from a place on, at most to its end, and answers how many. None is the end of the source.
+fn read_behind<S: Source>(source: &mut S, piece: &mut Vec<u8>, at: usize) -> Result<usize, Failed>
+    requires { at < length piece.old.items }
+    ensures size { length piece.new.items ≡ length piece.old.items }
+    ensures within { IfOk result (λ n. at + n ≤ length piece.new.items) }
+    ensures gave { IfOk result (λ n. Told (Gave (slice_range piece.new.items at (at + n))) (S.left source.old) (S.left source.new)) }
+    ensures end { IfOk result (λ n. n ≡ 0 → Told (λ before after. before ≡ []) (S.left source.old) (S.left source.new)) }
+    ensures err { OnErr result (Told IsSame (S.left source.old) (S.left source.new)) }
+    ensures cause { HasCause (S.faults source.old) (S.faults source.new) result }
+{
+    source.read(&mut piece[at..])
+}
+
+/// Reads an image to the end of the source. Of one with more than the most bytes it reads one byte past them, and no more.
+pub fn read_image<S: Source>(alloc: Global, source: &mut S) -> Result<Vec<u8>, TraceFault>
+    ensures image { IfOk result (λ image. Told (GaveImage image.items) (S.left source.old) (S.left source.new)) }
+    ensures part { OnErr result (Told GavePart (S.left source.old) (S.left source.new)) }
+    ensures write { result ≡ Err TraceFault.Write → ⊥ }
+    ensures read { result ≡ Err TraceFault.Read → Rose (S.faults source.old) (S.faults source.new) }
+    ensures kept { (result ≡ Err TraceFault.Read → ⊥) → S.faults source.new ≡ S.faults source.old }
+{
+    let Ok(mut piece) = new_piece(alloc) else {
+        return Err(TraceFault::NoMemory);
+    };
+    let mut image = Vec::new(alloc);
+    let mut count = 0;
+    while count <= MOST_BYTES {
+        let room = PIECE.min(MOST_BYTES + 1 - count);
+        let at = PIECE - room;
+        let Ok(n) = read_behind(source, &mut piece, at) else {
+            return Err(TraceFault::Read);
+        };
+        if n == 0 {
+            return Ok(image);
+        }
+        let Ok(()) = image.extend_from_slice(&piece[at..at + n]) else {
+            return Err(TraceFault::NoMemory);
+        };
+        count += n;
+    }
+    Ok(image)
+}
