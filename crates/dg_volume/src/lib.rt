@@ -7,29 +7,17 @@
 
 mod any;
 mod copies;
-#[cfg(test)]
-mod open_tests;
 mod opens;
 mod paths;
 mod phases;
 mod plans;
 mod queries;
 mod refills;
-#[cfg(test)]
-mod save_tests;
 mod saves;
 mod seals;
-#[cfg(test)]
-mod settle_tests;
 mod settled_paths;
-#[cfg(test)]
-mod settled_tests;
 mod settles;
-#[cfg(test)]
-mod tests;
 mod volumes;
-#[cfg(test)]
-mod write_tests;
 mod writes;
 
 pub use copies::AnyDiffuse;

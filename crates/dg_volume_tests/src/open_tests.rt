@@ -1,8 +1,8 @@
 ghost use Rattle.std.specs.Prelude.{◌+◌, ◌≤◌, length};
 ghost use Rattle.dg_volume.specs.Volumes.{IsWell, any_phase};
 
-use crate::{AnyPhase, NoMemory, OpenAnswer, Phase, Volume, open};
 use dg_io::{Failed, MemRack, Rack};
+use dg_volume::{AnyPhase, NoMemory, OpenAnswer, Phase, Volume, open};
 use std::alloc::Global;
 use std::test::Fail;
 

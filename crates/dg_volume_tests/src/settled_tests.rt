@@ -3,27 +3,19 @@ ghost use Rattle.std.specs.Prelude.{IfOk};
 ghost use Rattle.dg_volume.specs.Volumes.{IsWell, any_phase};
 
 use crate::tests::Counted;
-use crate::{
+use crate::written::{image, rack, shape_of, up as up_loose};
+use dg_io::{MemSink, Rack};
+use dg_volume::{
     AnyDiffuse, AnyHome, AnyPhase, CatAnswer, DiffuseAnswer, FailAnswer, HomeAnswer, Hot,
     LookFault, RebuildAnswer, ReplaceAnswer, TreeAnswer, Volume, Who, WhoAnswer, WriteAnswer,
 };
-use dg_io::{MemRack, MemSink, Rack};
-use dg_model::Shape;
 use std::alloc::Global;
 use std::process::Abort;
 use std::test::Fail;
 use ufs_model::is_path;
-use ufs_rows::{Which, rows_image};
-
-// Bytes of a member with 64 slots, and some more.
-const LENGTH: u64 = 120_000;
+use ufs_rows::Which;
 
 const HELLO: &[u8] = b"hello";
-
-/// A rack in memory of eight members.
-fn rack(alloc: Global) -> Result<MemRack, Fail> {
-    Ok(MemRack::new(alloc, 8, LENGTH, Vec::new(alloc))?)
-}
 
 /// Writes a block.
 fn put<R: Rack>(
@@ -47,43 +39,13 @@ fn put<R: Rack>(
     Ok(())
 }
 
-/// Writes the blocks of an image that aren't zero, ascending.
-fn put_all<R: Rack>(
-    rt: &impl Abort,
-    alloc: Global,
-    volume: &mut Volume<AnyPhase, R>,
-    image: &[u8],
-) -> Result<(), Fail>
-    requires { IsWell any_phase R.Rack volume.old }
-    ensures { IfOk result (λ done. IsWell any_phase R.Rack volume.new) }
-{
-    for (block, bytes) in image.chunks(1024).enumerate() {
-        if bytes.iter().any(|byte| *byte != 0) {
-            put(rt, alloc, volume, block, bytes)?;
-        }
-    }
-    Ok(())
-}
-
 /// The volume of an image that was written.
-fn up<R: Rack + Drop>(
-    rt: &impl Abort,
-    alloc: Global,
-    rack: R,
-    which: Which,
-) -> Result<Volume<AnyPhase, R>, Fail>
+fn up<R: Rack + Drop>(alloc: Global, rack: R, which: Which) -> Result<Volume<AnyPhase, R>, Fail>
     ensures { IfOk result (λ volume. IsWell any_phase R.Rack volume) }
 {
-    let Ok(image) = rows_image(alloc, which) else {
-        return Err("memory".into());
-    };
-    let shape = Shape::check(1024, 128, 4, 64, 2).ok_or("shape")?;
-    let Ok(blank) = Volume::array(alloc, rack, shape) else {
-        return Err("memory".into());
-    };
-    let mut volume = blank.into_any();
-    put_all(rt, alloc, &mut volume, &image)?;
-    Ok(volume)
+    let image = image(alloc, which)?;
+    let volume = up_loose(alloc, rack, shape_of(4, 64, 2)?, &image, 0)?;
+    Ok(volume.into_any())
 }
 
 /// What `cat` answers of a path.
@@ -120,7 +82,7 @@ fn at(home: u8, copy: Option<u8>) -> AnyHome {
 
 /// The homes of files, and the loss of one.
 fn tell_homes<R: Rack + Drop>(rt: &impl Abort, alloc: Global, rack: R) -> Result<(), Fail> {
-    let mut volume = up(rt, alloc, rack, Which::F)?;
+    let mut volume = up(alloc, rack, Which::F)?;
     assert_eq!(rt; home(&mut volume, b"/a")?, AnyHome::NotSettled);
     assert_eq!(rt; volume.settle(alloc)?, Ok(()));
     assert_eq!(rt; home(&mut volume, b"/a")?, at(3, None));
@@ -152,7 +114,7 @@ fn tell_homes<R: Rack + Drop>(rt: &impl Abort, alloc: Global, rack: R) -> Result
 
 /// A copy of the file that was read last.
 fn copy_one<R: Rack + Drop>(rt: &impl Abort, alloc: Global, rack: R) -> Result<(), Fail> {
-    let mut volume = up(rt, alloc, rack, Which::F)?;
+    let mut volume = up(alloc, rack, Which::F)?;
     let mut hot = Hot::new(alloc)?;
     assert_eq!(rt; volume.diffuse(alloc, &hot)?, AnyDiffuse::NotSettled);
     assert_eq!(rt; volume.settle(alloc)?, Ok(()));
@@ -189,7 +151,7 @@ fn refill<R: Rack + Drop>(
     refilled: RebuildAnswer,
     file: CatAnswer,
 ) -> Result<(), Fail> {
-    let mut volume = up(rt, alloc, rack, Which::F)?;
+    let mut volume = up(alloc, rack, Which::F)?;
     assert_eq!(rt; volume.settle(alloc)?, Ok(()));
     assert_eq!(rt; volume.rebuild(alloc, 4, 9)?, RebuildAnswer::Range);
     assert_eq!(rt; volume.rebuild(alloc, 1, 9)?, RebuildAnswer::NotFilling);
@@ -204,7 +166,7 @@ fn refill<R: Rack + Drop>(
 
 /// A pending block isn't reaped.
 fn refill_pending<R: Rack + Drop>(rt: &impl Abort, alloc: Global, rack: R) -> Result<(), Fail> {
-    let mut volume = up(rt, alloc, rack, Which::E)?;
+    let mut volume = up(alloc, rack, Which::E)?;
     let mut block = [0; 1024];
     block[..5].copy_from_slice(HELLO);
     put(rt, alloc, &mut volume, 34, &block)?;
@@ -222,21 +184,35 @@ fn refill_pending<R: Rack + Drop>(rt: &impl Abort, alloc: Global, rack: R) -> Re
 #[test]
 fn homes_of_files(rt: HostRuntime) -> Result<(), Fail> {
     let alloc = rt.alloc();
-    tell_homes(&rt, alloc, rack(alloc)?)
+    tell_homes(&rt, alloc, rack(alloc, None)?)
 }
 
 #[test]
 fn copies_of_files(rt: HostRuntime) -> Result<(), Fail> {
     let alloc = rt.alloc();
-    copy_one(&rt, alloc, rack(alloc)?)
+    copy_one(&rt, alloc, rack(alloc, None)?)
 }
 
 #[test]
 fn refills_of_a_boundary(rt: HostRuntime) -> Result<(), Fail> {
     let alloc = rt.alloc();
     let some = RebuildAnswer::Copied { done: 10, left: 45 };
-    refill(&rt, alloc, rack(alloc)?, 10, some, CatAnswer::Unavailable)?;
+    refill(
+        &rt,
+        alloc,
+        rack(alloc, None)?,
+        10,
+        some,
+        CatAnswer::Unavailable,
+    )?;
     let all = RebuildAnswer::Copied { done: 55, left: 0 };
-    refill(&rt, alloc, rack(alloc)?, 99, all, CatAnswer::Given(53248))?;
-    refill_pending(&rt, alloc, rack(alloc)?)
+    refill(
+        &rt,
+        alloc,
+        rack(alloc, None)?,
+        99,
+        all,
+        CatAnswer::Given(53248),
+    )?;
+    refill_pending(&rt, alloc, rack(alloc, None)?)
 }

@@ -2,9 +2,9 @@
 ghost use Rattle.std.specs.Prelude.{IfOk};
 ghost use Rattle.dg_volume.specs.Volumes.{IsWell, any_phase};
 
-use crate::{AnyPhase, Hot, ReplaceAnswer, SaveAnswer, Volume};
 use dg_io::{MemRack, Rack};
 use dg_model::Shape;
+use dg_volume::{AnyPhase, Hot, ReplaceAnswer, SaveAnswer, Volume};
 use std::alloc::Global;
 use std::process::Abort;
 use std::test::Fail;

@@ -1,12 +1,12 @@
 ghost use Rattle.std.specs.Prelude.{◌≡◌};
 ghost use Rattle.dg_volume.specs.Volumes.{IsWell, any_phase, shape_of};
 
-use crate::{
+use dg_io::{Failed, MemRack, MemSink, Rack};
+use dg_model::Shape;
+use dg_volume::{
     AnyHome, AnyPhase, CatAnswer, FailAnswer, InPhase, Listing, ReadAnswer, ReplaceAnswer,
     TreeAnswer, Volume, Who, WhoAnswer,
 };
-use dg_io::{Failed, MemRack, MemSink, Rack};
-use dg_model::Shape;
 use std::alloc::Global;
 use std::process::Abort;
 use std::test::Fail;

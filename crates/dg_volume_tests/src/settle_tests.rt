@@ -1,58 +1,21 @@
 // Settling and moving, on volumes of 128 fragments of 1024 bytes that were written block by block.
-ghost use Rattle.std.specs.Prelude.{◌≡◌, IfOk, None, length};
-ghost use Rattle.dg_label.specs.Labels.{IsLabeled};
-ghost use Rattle.dg_model.specs.Shapes.{IsShape};
-ghost use Rattle.dg_store.specs.Stores.{IsSound};
-ghost use Rattle.dg_volume.specs.Volumes.{IsWell, any_phase, loose_phase};
+ghost use Rattle.std.specs.Prelude.{IfOk};
+ghost use Rattle.dg_volume.specs.Volumes.{IsWell, any_phase, loose_phase, settled_phase};
 
-use crate::phases::{AnyPhase, Loose};
-use crate::{FailAnswer, TendRun, Unsettled, Volume};
-use dg_infer::Inference;
-use dg_io::{MemRack, Rack};
-use dg_model::{Home, NoRoom, Shape};
-use dg_plan::Homes;
-use dg_store::{Store, StoreWrite};
+use crate::written::{image, rack, shape_of, up};
+use dg_io::{MemSink, Rack};
+use dg_model::NoRoom;
+use dg_volume::{AnyPhase, FailAnswer, HomeAnswer, Loose, Settled, TendRun, Unsettled, Volume};
 use std::alloc::Global;
 use std::process::Abort;
 use std::test::Fail;
-use ufs_model::BadKind;
-use ufs_pointer::Levels;
-use ufs_rows::{Which, rows_image};
-
-// Bytes of a member with 64 slots, and some more.
-const LENGTH: u64 = 120_000;
+use ufs_model::{BadKind, is_path};
+use ufs_rows::Which;
 
 // Where the second pointer of inode 3 stands, and the first pointer of the indirect block.
 const SLOT: usize = 29_100;
 
 const POINTER: usize = 86_016;
-
-/// An array of 128 blocks over so many boundaries, of so many slots each, with so many places of a naming block.
-fn shape_of(boundaries: u32, slots: u32, places: u32) -> Result<Shape, Fail>
-    ensures { IfOk result IsShape }
-{
-    match Shape::check(1024, 128, boundaries, slots, places) {
-        Some(shape) => Ok(shape),
-        None => Err("shape".into()),
-    }
-}
-
-/// A rack of whose calls one fails, if one is given.
-fn rack(alloc: Global, fails: Option<u64>) -> Result<MemRack, Fail> {
-    let mut calls = Vec::new(alloc);
-    if let Some(call) = fails {
-        calls.push(call)?;
-    }
-    Ok(MemRack::new(alloc, 8, LENGTH, calls)?)
-}
-
-/// The 128 blocks of a volume.
-fn image(alloc: Global, which: Which) -> Result<Vec<u8>, Fail> {
-    match rows_image(alloc, which) {
-        Ok(image) => Ok(image),
-        Err(_) => Err("memory".into()),
-    }
-}
 
 /// Puts a byte into an image.
 fn put(image: &mut Vec<u8>, place: usize, byte: u8) {
@@ -61,75 +24,46 @@ fn put(image: &mut Vec<u8>, place: usize, byte: u8) {
     }
 }
 
-/// Writes a block.
-fn write_block<R: Rack>(store: &mut Store<R>, block: usize, bytes: &[u8]) -> Result<(), Fail>
-    requires sound { IsSound R.Rack store.old }
-    requires labeled { IsLabeled R.Rack store.old None }
-    ensures sound { IsSound R.Rack store.new }
-    ensures labeled { IsLabeled R.Rack store.new None }
-{
-    let shape = *store.shape();
-    if block >= shape.n as usize || bytes.len() != shape.l as usize {
-        return Err("block".into());
-    }
-    match store.write(block as u32, bytes)? {
-        StoreWrite::Stored => Ok(()),
-        StoreWrite::AllLost => Err("lost".into()),
-    }
-}
-
-/// Writes the blocks of an image that aren't zero or have a number below a bound, ascending.
-fn write_image<R: Rack>(store: &mut Store<R>, image: &[u8], bound: usize) -> Result<(), Fail>
-    requires sound { IsSound R.Rack store.old }
-    requires labeled { IsLabeled R.Rack store.old None }
-    ensures sound { IsSound R.Rack store.new }
-    ensures labeled { IsLabeled R.Rack store.new None }
-{
-    for (block, bytes) in image.chunks(1024).enumerate() {
-        if block < bound || bytes.iter().any(|byte| *byte != 0) {
-            write_block(store, block, bytes)?;
-        }
-    }
-    Ok(())
-}
-
-/// The loose volume of an image that was written.
-fn up<R: Rack + Drop>(
+/// The inode of the file at a path, which is given whole, and what is told of its home.
+fn tell<R: Rack>(
     alloc: Global,
-    rack: R,
-    shape: Shape,
-    image: &[u8],
-    bound: usize,
-) -> Result<Volume<Loose, R>, Fail>
-    requires { IsShape shape }
-    ensures { IfOk result (IsWell loose_phase R.Rack) }
+    volume: &mut Volume<Settled, R>,
+    path: &[u8],
+) -> Result<(Option<u32>, HomeAnswer), Fail>
+    requires { IsWell settled_phase R.Rack volume.old }
+    ensures { IfOk result (λ told. IsWell settled_phase R.Rack volume.new) }
 {
-    let mut store = Store::new(alloc, rack, shape)?;
-    write_image(&mut store, image, bound)?;
-    let shape = *store.shape();
-    let mut levels = Levels::new(alloc, shape.l)?;
-    let marks = vec![in alloc; false; shape.n as usize]?;
-    let found = Inference::restored(alloc, &mut store, &mut levels, &marks)?;
-    let Some(inference) = found else {
-        return Err("gone".into());
-    };
-    Ok(Volume {
-        store,
-        phase: Loose { inference },
-        pending: Vec::new(alloc),
-        homes: Homes::new(Vec::new(alloc)),
-        copies: Homes::new(Vec::new(alloc)),
-        levels,
-        given: None,
-        label: None,
-    })
+    if !is_path(path) {
+        return Err("path".into());
+    }
+    let mut out = MemSink::new(alloc, 60_000, Vec::new(alloc))?;
+    let _ = volume.cat(path, &mut out);
+    Ok((volume.given(), volume.home(path)))
 }
 
-/// Whether these are the homes: inodes with their boundaries.
-fn are_homes(homes: &[Home], wanted: &[(u32, u8)]) -> bool {
-    homes.len() == wanted.len()
-        && homes.iter().zip(wanted).all(|(home, (inode, boundary))| home.inode == *inode
-            && home.boundary == *boundary)
+/// What is told of a file of this inode, all of whose blocks stand on this boundary. It has no copy.
+fn at(inode: u32, home: u8) -> (Option<u32>, HomeAnswer) {
+    (Some(inode), HomeAnswer::At { home, copy: None })
+}
+
+/// Settles the volume F, and checks the homes of its files: inodes with their boundaries. The empty file 6 has none.
+fn check_homes<R: Rack + Drop>(
+    rt: &impl Abort,
+    alloc: Global,
+    volume: Volume<Loose, R>,
+    wanted: [(u32, u8); 3],
+) -> Result<(), Fail>
+    requires { IsWell loose_phase R.Rack volume }
+{
+    let Ok(mut settled) = volume.settle(alloc)? else {
+        return Err("refused".into());
+    };
+    let [a, b, h] = wanted;
+    assert!(rt; tell(alloc, &mut settled, b"/a")? == at(a.0, a.1));
+    assert!(rt; tell(alloc, &mut settled, b"/d/b")? == at(b.0, b.1));
+    assert!(rt; tell(alloc, &mut settled, b"/h")? == at(h.0, h.1));
+    assert!(rt; tell(alloc, &mut settled, b"/z")? == (Some(6), HomeAnswer::NoHome));
+    Ok(())
 }
 
 #[test]
@@ -137,16 +71,9 @@ fn homes_of_settled_volumes(rt: HostRuntime) -> Result<(), Fail> {
     let alloc = rt.alloc();
     let image = image(alloc, Which::F)?;
     let volume = up(alloc, rack(alloc, None)?, shape_of(4, 64, 2)?, &image, 0)?;
-    let Ok(settled) = volume.settle(alloc)? else {
-        return Err("refused".into());
-    };
-    assert!(rt; are_homes(settled.homes.as_slice(), &[(3, 3), (5, 2), (7, 3)]));
+    check_homes(&rt, alloc, volume, [(3, 3), (5, 2), (7, 3)])?;
     let volume = up(alloc, rack(alloc, None)?, shape_of(4, 64, 3)?, &image, 0)?;
-    let Ok(settled) = volume.settle(alloc)? else {
-        return Err("refused".into());
-    };
-    assert!(rt; are_homes(settled.homes.as_slice(), &[(3, 3), (5, 0), (7, 3)]));
-    Ok(())
+    check_homes(&rt, alloc, volume, [(3, 3), (5, 0), (7, 3)])
 }
 
 #[test]
@@ -243,15 +170,18 @@ fn malformed_volumes(rt: HostRuntime) -> Result<(), Fail> {
     Ok(())
 }
 
-/// Makes one member of each boundary fail.
-fn fail_sides<R: Rack>(volume: &mut Volume<AnyPhase, R>)
+/// Makes one member of each boundary fail. It answers whether no member was out before.
+fn fail_sides<R: Rack>(volume: &mut Volume<AnyPhase, R>) -> bool
     requires { IsWell any_phase R.Rack volume.old }
     ensures { IsWell any_phase R.Rack volume.new }
 {
-    let _ = volume.fail(0, 0);
-    let _ = volume.fail(1, 0);
-    let _ = volume.fail(2, 0);
-    let _ = volume.fail(3, 0);
+    let answers = [
+        volume.fail(0, 0),
+        volume.fail(1, 0),
+        volume.fail(2, 0),
+        volume.fail(3, 0),
+    ];
+    answers == [FailAnswer::Failed; 4] && volume.lost() == 0
 }
 
 /// Moves, and settles after that. Each answer is that of a volume without a failing call, or names the least lost boundary.
@@ -261,6 +191,7 @@ fn run<R: Rack>(
     volume: &mut Volume<AnyPhase, R>,
 ) -> Result<bool, Fail>
     requires { IsWell any_phase R.Rack volume.old }
+    ensures { IfOk result (λ kept. IsWell any_phase R.Rack volume.new) }
 {
     match volume.tend(alloc, 20)? {
         TendRun::Tended { moved, left } => assert!(rt; moved == 20 && left == 29),
@@ -278,31 +209,29 @@ fn run<R: Rack>(
     Ok(volume.lost() == 0)
 }
 
-/// Each call of the rack fails once, where boundaries have one member.
+/// Calls of the rack fail, each in a run of its own, where boundaries have one member: the calls from the first on, up to one that doesn't
+/// come any more.
 #[test]
 fn losses_in_the_middle(rt: HostRuntime) -> Result<(), Fail> {
     let alloc = rt.alloc();
     let files = image(alloc, Which::F)?;
-    let mut kept = 0u32;
+    let shape = shape_of(4, 64, 2)?;
+    let mut kept = false;
     let mut lost = 0u32;
-    for step in 0..40u64 {
-        let call = 150 + 13 * step;
-        let volume = up(
-            alloc,
-            rack(alloc, Some(call))?,
-            shape_of(4, 64, 2)?,
-            &files,
-            0,
-        )?;
-        let mut volume = volume.into_any();
-        fail_sides(&mut volume);
-        if run(&rt, alloc, &mut volume)? {
-            kept = kept.saturating_add(1);
-        } else {
+    for step in 0..100u64 {
+        let rack = rack(alloc, Some(13 * step))?;
+        let mut volume = up(alloc, rack, shape, &files, 0)?.into_any();
+        let whole = fail_sides(&mut volume);
+        let same = run(&rt, alloc, &mut volume)?;
+        if whole && same {
+            kept = true;
+            break;
+        }
+        if whole {
             lost = lost.saturating_add(1);
         }
     }
-    assert!(rt; lost > 10 && kept > 0);
+    assert!(rt; lost > 10 && kept);
     Ok(())
 }
 
@@ -311,17 +240,17 @@ fn losses_in_the_middle(rt: HostRuntime) -> Result<(), Fail> {
 fn failing_calls_without_a_loss(rt: HostRuntime) -> Result<(), Fail> {
     let alloc = rt.alloc();
     let files = image(alloc, Which::F)?;
-    for step in 0..10u64 {
-        let call = 150 + 31 * step;
-        let volume = up(
-            alloc,
-            rack(alloc, Some(call))?,
-            shape_of(4, 64, 2)?,
-            &files,
-            0,
-        )?;
-        let mut volume = volume.into_any();
+    let shape = shape_of(4, 64, 2)?;
+    let mut ended = false;
+    for step in 0..100u64 {
+        let rack = rack(alloc, Some(31 * step))?;
+        let mut volume = up(alloc, rack, shape, &files, 0)?.into_any();
         assert!(rt; run(&rt, alloc, &mut volume)?);
+        if fail_sides(&mut volume) {
+            ended = true;
+            break;
+        }
     }
+    assert!(rt; ended);
     Ok(())
 }

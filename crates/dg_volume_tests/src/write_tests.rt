@@ -2,9 +2,9 @@
 ghost use Rattle.std.specs.Prelude.{IfOk};
 ghost use Rattle.dg_volume.specs.Volumes.{IsWell, any_phase, loose_phase};
 
-use crate::{AnyPhase, InPhase, Loose, Phase, Volume, Who, WhoAnswer, WriteAnswer, Wrote};
 use dg_io::{MemRack, Rack};
 use dg_model::Shape;
+use dg_volume::{AnyPhase, InPhase, Loose, Phase, Volume, Who, WhoAnswer, WriteAnswer, Wrote};
 use std::alloc::Global;
 use std::process::Abort;
 use std::test::Fail;

@@ -1,0 +1,17 @@
+//! Tests of the volume over racks in memory. They stand apart from the crate, so that both are proved side by side, and it only once.
+#![tactic(auto)]
+
+#[cfg(test)]
+mod open_tests;
+#[cfg(test)]
+mod save_tests;
+#[cfg(test)]
+mod settle_tests;
+#[cfg(test)]
+mod settled_tests;
+#[cfg(test)]
+mod tests;
+#[cfg(test)]
+mod write_tests;
+#[cfg(test)]
+mod written;
