@@ -209,8 +209,8 @@ fn run<R: Rack>(
     Ok(volume.lost() == 0)
 }
 
-/// Calls of the rack fail, each in a run of its own, where boundaries have one member: the calls from the first on, up to one that doesn't
-/// come any more.
+/// One call of the rack fails, where boundaries have one member from the moves on. Each run has another such call, up to a run in which it
+/// isn't made any more.
 #[test]
 fn losses_in_the_middle(rt: HostRuntime) -> Result<(), Fail> {
     let alloc = rt.alloc();
@@ -235,7 +235,8 @@ fn losses_in_the_middle(rt: HostRuntime) -> Result<(), Fail> {
     Ok(())
 }
 
-/// Where both members of each boundary are good, no failing call changes an answer.
+/// Where both members of each boundary are good, no failing call changes an answer: each run has another such call, up to a run in which it
+/// isn't made any more.
 #[test]
 fn failing_calls_without_a_loss(rt: HostRuntime) -> Result<(), Fail> {
     let alloc = rt.alloc();
