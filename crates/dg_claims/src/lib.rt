@@ -14,8 +14,6 @@ mod places;
 mod runs;
 mod scans;
 mod spans;
-#[cfg(test)]
-mod tests;
 
 pub use crate::claims::Claims;
 pub use crate::inodes::read_fragment;

@@ -14,8 +14,6 @@ mod racks;
 mod sinks;
 mod sources;
 mod stored;
-#[cfg(test)]
-mod tests;
 mod views;
 
 pub use dg_model::{Failed, NoMemory};

@@ -284,19 +284,21 @@ impl Rack for SureRack {
         Ok(())
     }
 
+    /// It finds exactly the members that are there.
     fn attach(&mut self, member: u8) -> Result<Option<u64>, Failed>
         ensures found { IfOk result (λ found. IfSome found (λ n. Told (Measures n) (sure_member self.old member) (sure_member self.new member))) }
         ensures absent { IfOk result (λ found. found ≡ None → Told IsEmpty (sure_member self.old member) (sure_member self.new member)) }
         ensures same { Told IsSame (sure_member self.old member) (sure_member self.new member) }
         ensures leaves { LeavesRack sure_name sure_member sure_counts sure_stands sure_steady member result self.old self.new }
         ensures writes { (sure_counts self.new).writes ≡ (sure_counts self.old).writes }
+        ensures finds { IfOk result (λ found. IsSome found ↔ (sure_there_in self.old member ≡ true)) }
         ensures tells { tells_in self.new ≡ tells_in self.old }
         ensures stays { SureStays self.old self.new }
     {
         self.calls = self.calls.saturating_add(1);
         match self.members.get(member as usize) {
-            Some(found) => Ok(Some(found.bytes.len() as u64)),
-            None => Ok(None),
+            Some(found) if found.there => Ok(Some(found.bytes.len() as u64)),
+            _ => Ok(None),
         }
     }
 

@@ -7,8 +7,6 @@ mod changes;
 mod members;
 mod reads;
 mod refills;
-#[cfg(test)]
-mod tests;
 mod writes;
 
 pub use boundaries::{

@@ -17,8 +17,6 @@ mod readers;
 mod site_lists;
 mod sites;
 mod states;
-#[cfg(test)]
-mod tests;
 
 pub use decodes::decode;
 pub use dg_model::{Home, NoMemory, Numbers, Phase, Shape, Site};

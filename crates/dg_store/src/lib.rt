@@ -4,14 +4,8 @@
 mod boundaries;
 mod lengths;
 mod places;
-#[cfg(test)]
-mod refill_tests;
-#[cfg(test)]
-mod site_tests;
 mod sites;
 mod store;
-#[cfg(test)]
-mod tests;
 mod views;
 
 pub use dg_io::Fetched;

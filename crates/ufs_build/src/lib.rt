@@ -16,8 +16,6 @@ mod paths;
 mod placings;
 mod refusals;
 mod spaces;
-#[cfg(test)]
-mod tests;
 mod traces;
 mod volumes;
 

@@ -8,14 +8,10 @@ mod checks;
 mod directories;
 mod entries;
 mod faults;
-#[cfg(test)]
-mod fragment_tests;
 mod fragments;
 mod groups;
 mod inodes;
 mod limits;
-#[cfg(test)]
-mod link_tests;
 mod links;
 mod names;
 mod notes;
@@ -24,8 +20,6 @@ mod parents;
 mod pointers;
 mod reaches;
 mod slots;
-#[cfg(test)]
-mod tests;
 mod verdicts;
 
 pub use crate::checks::check;

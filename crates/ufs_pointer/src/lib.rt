@@ -14,8 +14,6 @@ mod indirect_blocks;
 mod levels;
 mod pointers;
 mod superblocks;
-#[cfg(test)]
-mod tests;
 
 pub use crate::answers::BlockAnswer;
 pub use crate::areas::read_area;

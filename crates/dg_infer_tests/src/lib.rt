@@ -1,0 +1,5 @@
+//! Tests of the inference, over images of volumes. They stand apart from the crate, so that both are proved side by side, and it only once.
+#![tactic(auto)]
+
+#[cfg(test)]
+mod tests;
