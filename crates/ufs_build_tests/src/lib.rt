@@ -9,4 +9,6 @@ mod order_tests;
 #[cfg(test)]
 mod refusal_tests;
 #[cfg(test)]
+mod row_tests;
+#[cfg(test)]
 mod volumes;
