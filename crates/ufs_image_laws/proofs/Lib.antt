@@ -1,0 +1,13 @@
+pub mod AreaLaws
+pub mod BuiltLaws
+pub mod InodeReads
+pub mod ItemLaws
+pub mod ListLaws
+pub mod NumberLaws
+pub mod PartLaws
+pub mod PlacingLaws
+pub mod PutLaws
+pub mod SuperLaws
+pub mod SuperReads
+pub mod VolumeLaws
+pub mod ZoneLaws

@@ -1,0 +1,3 @@
+pub mod Reads
+pub mod Built
+pub mod Inodes

@@ -1,0 +1,14 @@
+//! What stands in the volumes that `ufs_build` builds, as they are read by the definitions of UFS1.
+//!
+//! Each law is a public function that does nothing, whose contract is the law.
+#![tactic(auto)]
+
+mod inodes;
+mod parts;
+mod superblocks;
+#[cfg(test)]
+mod tests;
+
+pub use crate::inodes::{built_inodes_are_read, files_of_items, other_inodes_are_unallocated};
+pub use crate::parts::{built_volumes_are_made_of_parts, parts_are_apart};
+pub use crate::superblocks::{built_volumes_have_their_geometry, geometries_are_of_specs};
