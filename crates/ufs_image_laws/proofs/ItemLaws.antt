@@ -31,7 +31,7 @@ pub record AreGood (items : List Item) (parents : List ℕ) : Type 0 where
   pub each : Each IsGoodItem items
   pub count : length parents ≡ length items
 
-same_inodes : (x y : List ℕ) → ◌≡◌ {A = Result (List ℕ) ℕ} (Ok x) (Ok y) → x ≡ y
+pub same_inodes : (x y : List ℕ) → ◌≡◌ {A = Result (List ℕ) ℕ} (Ok x) (Ok y) → x ≡ y
 same_inodes x y e = cc e
 
 good_by : (item : Item) (test : Bool) (found : Option ℕ) (inode : ℕ) → (if test then found else None) ≡ Some inode → test ≡ true
@@ -95,7 +95,7 @@ name_short item is =
     let two = name_length item.path in
     omega arith
 
-contents_small : (item : Item) → IsGoodItem item → length item.bytes < 2 ^ 32
+pub contents_small : (item : Item) → IsGoodItem item → length item.bytes < 2 ^ 32
 unfolding has_contents
 contents_small item is =
     let parts = and_parts (not (is_dir item.kind && nat_lt 0 (length item.bytes))) _ is.contents in

@@ -44,11 +44,11 @@ map_size : (bits : List Bool) → length (map_bytes bits) ≡ div_ceil (length b
 unfolding map_bytes
 map_size bits = length-map-range_with_len _ 0 (div_ceil (length bits) 8)
 
-used_size : (g : Geometry) (c inodes : ℕ) → length (map_bytes (inode_bits g c inodes)) ≡ map_length g.ipg
+pub used_size : (g : Geometry) (c inodes : ℕ) → length (map_bytes (inode_bits g c inodes)) ≡ map_length g.ipg
 unfolding inode_bits
 used_size g c inodes = map_size (inode_bits g c inodes) ∙ ap (λ (n : ℕ). div_ceil n 8) (length-map-range_with_len (λ i. nat_lt (c * g.ipg + i) inodes) 0 g.ipg)
 
-free_size : (g : Geometry) (c : ℕ) (used : List Bool) → length (map_bytes (fragment_bits g c used)) ≡ map_length g.fpg
+pub free_size : (g : Geometry) (c : ℕ) (used : List Bool) → length (map_bytes (fragment_bits g c used)) ≡ map_length g.fpg
 unfolding fragment_bits
 free_size g c used = map_size (fragment_bits g c used) ∙ ap (λ (n : ℕ). div_ceil n 8) (length-map-range_with_len _ 0 g.fpg)
 

@@ -50,7 +50,7 @@ pub record IsPlace (g : Geometry) (used : List Bool) (k a : ℕ) : Type 0 where
   pub run : is_data_run g a k ≡ true
   pub free : (i : ℕ) → i < k → is_used used (a + i) ≡ false
 
-lowest_place : (g : Geometry) (used : List Bool) (k a : ℕ) → lowest g used k ≡ Some a → IsPlace g used k a
+pub lowest_place : (g : Geometry) (used : List Bool) (k a : ℕ) → lowest g used k ≡ Some a → IsPlace g used k a
 unfolding lowest fits
 lowest_place g used k a e =
     let found = found_at (fits g used k) 0 g.size a e in
@@ -65,7 +65,7 @@ lowest_place g used k a e =
 
 -- ---- data is inside the volume
 
-role_by : (past super boot : Bool) (c : ℕ) (rest : Role) → is_data_of c (if past then Outside else if super then System Super else if boot then System Boot else rest) ≡ true
+pub role_by : (past super boot : Bool) (c : ℕ) (rest : Role) → is_data_of c (if past then Outside else if super then System Super else if boot then System Boot else rest) ≡ true
     → (past ≡ false) × (super ≡ false) × (boot ≡ false)
 role_by true super boot c rest h = absurd (false≢true h)
 role_by false true boot c rest h = absurd (false≢true h)
@@ -117,7 +117,7 @@ marked_inside used a (suc k) f fits low high =
     ]
 
 -- only these are marked
-marked_only : (used : List Bool) (a k f : ℕ) → is_used (marked used a k) f ≡ true → (is_used used f ≡ true) ⊎ ((a ≤ f) × (f < a + k))
+pub marked_only : (used : List Bool) (a k f : ℕ) → is_used (marked used a k) f ≡ true → (is_used used f ≡ true) ⊎ ((a ≤ f) × (f < a + k))
 marked_only used a zero f h = inl h
 marked_only used a (suc k) f h =
     elim (cases_eq f (a + k)) as (λ _. (is_used used f ≡ true) ⊎ ((a ≤ f) × (f < a + suc k))) [
@@ -131,7 +131,7 @@ marked_only used a (suc k) f h =
 -- ---- addresses
 
 -- the addresses at a level, once one was set
-at_level : (addresses : Addresses) (level index a other : ℕ) → level < 4 → other < 4
+pub at_level : (addresses : Addresses) (level index a other : ℕ) → level < 4 → other < 4
     → addresses_at (with_address addresses level index a) other ≡ (if other == level then set (addresses_at addresses level) index a else addresses_at addresses other)
 unfolding with_address
 at_level addresses zero index a zero h k = refl
@@ -178,7 +178,7 @@ either_by true addresses level index a other i found is e =
     ]
 
 -- an address is as it was, or it is the one that was set
-address_either : (addresses : Addresses) (level index a other i : ℕ) → level < 4 → other < 4
+pub address_either : (addresses : Addresses) (level index a other i : ℕ) → level < 4 → other < 4
     → (address_at (with_address addresses level index a) other i ≡ address_at addresses other i)
     ⊎ ((other ≡ level) × (i ≡ index) × (address_at (with_address addresses level index a) other i ≡ a))
 address_either addresses level index a other i h k =
@@ -226,7 +226,7 @@ old_run g before used a k b m is = record {
   used = λ f low high. marked_kept used a k f (is.used f low high);
 }
 
-not_before : (one other : Bool) → (one ≡ true → other ≡ true) → other ≡ false → one ≡ false
+pub not_before : (one other : Bool) → (one ≡ true → other ≡ true) → other ≡ false → one ≡ false
 not_before true other h e = absurd (both_ways other (h refl) e)
 not_before false other h e = refl
 
@@ -329,7 +329,7 @@ above_step g size before placed next level n h same is e =
     above_by g size before placed next level ((n - first_through g level) / count_through g level) (nat_lt n (first_through g level)) h
     (same ((n - first_through g level) / count_through g level)) is e
 
-some_then : {A B : Type 0} (o : Option A) (f : A → Option B) (y : B) → and_then o f ≡ Some y → (x : A) × (o ≡ Some x) × (f x ≡ Some y)
+pub some_then : {A B : Type 0} (o : Option A) (f : A → Option B) (y : B) → and_then o f ≡ Some y → (x : A) × (o ≡ Some x) × (f x ≡ Some y)
 some_then None f y e = absurd (cc e)
 some_then (Some x) f y e = (x, refl, e)
 
@@ -362,7 +362,7 @@ get_none z zero i = refl
 get_none z (suc n) zero = refl
 get_none z (suc n) (suc i) = get_none z n i
 
-none_at : (g : Geometry) (blocks level index : ℕ) → level < 4 → address_at (no_addresses g blocks) level index ≡ 0
+pub none_at : (g : Geometry) (blocks level index : ℕ) → level < 4 → address_at (no_addresses g blocks) level index ≡ 0
 unfolding no_addresses
 none_at g blocks zero index h = get_none 0 blocks index
 none_at g blocks (suc zero) index h = get_none 0 (indirect_count g 1 blocks) index

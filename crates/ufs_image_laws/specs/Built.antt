@@ -4,6 +4,7 @@ use Rattle.std.specs.List.{range_with_len}
 use Rattle.ufs_model.specs.Blocks.{Volume}
 use Rattle.ufs_model.specs.Geometries.{IsGeometryOn}
 use Rattle.ufs_model.specs.declared.geometries.Geometry.{Geometry}
+use Rattle.ufs_model.specs.declared.group_maps.Group.{Group}
 use Rattle.ufs_model.specs.declared.numbers.Endian.{Endian}
 use Rattle.ufs_build.specs.Builds.{volume_nodes}
 use Rattle.ufs_build.specs.Directories.{directory_bytes}
@@ -13,7 +14,7 @@ use Rattle.ufs_build.specs.Nodes.{Node}
 use Rattle.ufs_build.specs.Parts.{Part}
 use Rattle.ufs_build.specs.Placements.{AllPlaced, placed_files}
 use Rattle.ufs_build.specs.Traces.{block_in}
-use Rattle.ufs_build.specs.Volumes.{volume_of_spec}
+use Rattle.ufs_build.specs.Volumes.{freeoff_of, iusedoff, volume_of_spec}
 use Rattle.ufs_build.specs.declared.items.Item.{Item}
 use Rattle.ufs_build.specs.declared.volumes.Spec.{Spec}
 
@@ -55,3 +56,7 @@ pub record IsOfSpec (spec : Spec) (g : Geometry) : Type 0 where
   pub ipg : g.ipg ≡ spec.ipg
   pub fpg : g.fpg ≡ spec.fpg
   pub size : g.size ≡ spec.ncg * spec.fpg
+
+-- where the maps of group c stand in its block
+abbrev pub group_of : Geometry → ℕ → Group
+group_of g c = record { c = c; iusedoff = iusedoff; freeoff = freeoff_of g.ipg; count = g.fpg }

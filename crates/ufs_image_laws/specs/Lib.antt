@@ -1,3 +1,4 @@
 pub mod Reads
 pub mod Built
 pub mod Inodes
+pub mod Addresses
