@@ -171,7 +171,7 @@ block_is g count n is low =
     record { before = omega arith; place = omega arith; next = omega arith; whole = omega arith; some = omega arith; inside = omega arith }
 
 -- the chunks in block n are whole, and stand behind those before it
-block_whole : (g : Geometry) (node : Node) (entries : List DirEntry) (n : ℕ) (is : IsDirectory g node entries) → IsGeometry g → n * g.bsize < length node.bytes
+pub block_whole : (g : Geometry) (node : Node) (entries : List DirEntry) (n : ℕ) (is : IsDirectory g node entries) → IsGeometry g → n * g.bsize < length node.bytes
     → Each (IsWholeChunk g.endian) (chunks_in (in_block g is.chunks.count n) (drop (n * g.bsize) node.bytes))
 block_whole g node entries n is tests low =
     let chunks = is.chunks in
@@ -191,7 +191,7 @@ first_whole endian zero xs some each = absurd (omega arith)
 first_whole endian (suc m) xs some each = let first = each.0 in first.fault
 
 -- no block of a directory is a hole
-never_hole : (g : Geometry) (nodes : List Node) (all : AllPlaced) (k : ℕ) (node : Node) (addresses : Addresses) (entries : List DirEntry) (n : ℕ) → FileOf g nodes all k node addresses
+pub never_hole : (g : Geometry) (nodes : List Node) (all : AllPlaced) (k : ℕ) (node : Node) (addresses : Addresses) (entries : List DirEntry) (n : ℕ) → FileOf g nodes all k node addresses
     → IsDirectory g node entries → n < blocks_of g node → (address_at addresses 0 n == 0) ≡ false
 never_hole g nodes all k node addresses entries n is dir low =
     let tests = tests_of g nodes all k node addresses is in
@@ -216,7 +216,7 @@ never_hole g nodes all k node addresses entries n is dir low =
           absurd (let clash : Some Reclen ≡ None = sym (zero_chunk g.endian) ∙ ap (fault_in g.endian 0) (sym zeros) ∙ fault in cc clash)
     ]
 
-chunks_read : (g : Geometry) (nodes : List Node) (all : AllPlaced) (k : ℕ) (node : Node) (addresses : Addresses) (inode : Inode) (entries : List DirEntry) (n : ℕ) → FileOf g nodes all k node addresses
+pub chunks_read : (g : Geometry) (nodes : List Node) (all : AllPlaced) (k : ℕ) (node : Node) (addresses : Addresses) (inode : Inode) (entries : List DirEntry) (n : ℕ) → FileOf g nodes all k node addresses
     → SlotsLead g node addresses inode → (dir : IsDirectory g node entries) → n < blocks_of g node
     → (chunks_of g inode n (blocks_in g.fsize g.size (volume_bytes g nodes all))).value ≡ Ok (chunks_in (in_block g dir.chunks.count n) (drop (n * g.bsize) node.bytes))
 unfolding chunks_of

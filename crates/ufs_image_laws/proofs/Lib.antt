@@ -1,8 +1,11 @@
 pub mod AddressReads
 pub mod AreaLaws
+pub mod BuiltFiles
 pub mod BuiltLaws
+pub mod BuiltReads
 pub mod ChainLaws
 pub mod ChunkLaws
+pub mod ClaimReads
 pub mod ContentReads
 pub mod DirectoryLaws
 pub mod DirectoryReads
@@ -19,6 +22,7 @@ pub mod ParentLaws
 pub mod PartLaws
 pub mod PlacingLaws
 pub mod PutLaws
+pub mod StructureLaws
 pub mod SuperLaws
 pub mod SuperReads
 pub mod VolumeLaws

@@ -2,3 +2,5 @@ pub mod Reads
 pub mod Built
 pub mod Inodes
 pub mod Addresses
+pub mod Structures
+pub mod Claims
