@@ -117,6 +117,7 @@ pub record IsFiles (g : Geometry) (nodes : List Node) (all : AllPlaced) (f : ℕ
   pub has : HasFragment g (length node.bytes) addresses level index f
   pub of_level : level_of source ≡ level
   pub via : Via g k addresses level index source
+  pub fragments : source_fragments g (blocks_in g.fsize g.size (volume_bytes g nodes all)) source ≡ fragments_at (spot g (length node.bytes) addresses level index)
 
 -- ---- by a slot
 
@@ -165,8 +166,10 @@ slot_spot g nodes all k node addresses inode slot is slots low =
     ]
 
 slot_is : (g : Geometry) (nodes : List Node) (all : AllPlaced) (k : ℕ) (node : Node) (addresses : Addresses) (inode : Inode) (slot f : ℕ) → FileOf g nodes all k node addresses
-    → SlotsLead g node addresses inode → slot < 15 → Contains (fragments_at (slot_address g inode slot)) f → IsFiles g nodes all f (Slot (2 + k) slot)
-slot_is g nodes all k node addresses inode slot f is slots low h =
+    → SlotsLead g node addresses inode → slot < 15
+    → source_fragments g (blocks_in g.fsize g.size (volume_bytes g nodes all)) (Slot (2 + k) slot) ≡ fragments_at (slot_address g inode slot)
+    → Contains (fragments_at (slot_address g inode slot)) f → IsFiles g nodes all f (Slot (2 + k) slot)
+slot_is g nodes all k node addresses inode slot f is slots low own h =
     let size = length node.bytes in
     elim (cases_lt slot 12) as (λ _. IsFiles g nodes all f (Slot (2 + k) slot)) [
       | inr upper ↦
@@ -188,6 +191,7 @@ slot_is g nodes all k node addresses inode slot f is slots low h =
             has = at_spot g size addresses (slot - 11) 0 f (subst (λ (a : Address). Contains (fragments_at a) f) there h);
             of_level = refl;
             via = inl (slot, refl, inr (upper, low, refl, refl));
+            fragments = own ∙ ap fragments_at there;
           }
       | inl near ↦
           let level : slot - 11 ≡ 0 = omega arith in
@@ -207,6 +211,7 @@ slot_is g nodes all k node addresses inode slot f is slots low h =
                   has = at_spot g size addresses 0 slot f (subst (λ (a : Address). Contains (fragments_at a) f) there h);
                   of_level = level;
                   via = inl (slot, refl, inl (near, refl, refl));
+                  fragments = own ∙ ap fragments_at there;
                 }
             | inr behind ↦
                 let found = full_of g nodes all k node addresses is in
@@ -219,10 +224,12 @@ slot_is g nodes all k node addresses inode slot f is slots low h =
 
 -- the inode of a source is that of a file
 slot_claim_by : (g : Geometry) (nodes : List Node) (all : AllPlaced) (k : ℕ) (node : Node) (addresses : Addresses) (slot f : ℕ) (found : Option Inode) → FileOf g nodes all k node addresses → HasKind g node
-    → IsInodeOf node addresses found → Contains (slot_fragments_in g slot found) f → IsFiles g nodes all f (Slot (2 + k) slot)
+    → IsInodeOf node addresses found
+    → source_fragments g (blocks_in g.fsize g.size (volume_bytes g nodes all)) (Slot (2 + k) slot) ≡ slot_fragments_in g slot found
+    → Contains (slot_fragments_in g slot found) f → IsFiles g nodes all f (Slot (2 + k) slot)
 unfolding slot_fragments
-slot_claim_by g nodes all k node addresses slot f None is kind own h = absurd (in_none f h)
-slot_claim_by g nodes all k node addresses slot f (Some inode) is kind own h =
+slot_claim_by g nodes all k node addresses slot f None is kind own outer h = absurd (in_none f h)
+slot_claim_by g nodes all k node addresses slot f (Some inode) is kind own outer h =
     let same : inode ≡ own.inode = same_Some inode own.inode own.is in
     let tests = if_contains (has_pointers g inode && nat_lt slot 15) (fragments_at (slot_address g inode slot)) f h in
     let both = and_parts (has_pointers g inode) (nat_lt slot 15) (tests.0) in
@@ -230,7 +237,8 @@ slot_claim_by g nodes all k node addresses slot f (Some inode) is kind own h =
     let size : inode.size ≡ length node.bytes = ap (λ (i : Inode). i.size) same ∙ own.size in
     let outside = outside_by g node inode kind mode size (both.0) in
     let slots : SlotsLead g node addresses inode = record { size = size; slots = λ s low. ap (λ (i : Inode). slot_of i s) same ∙ own.slots outside s low } in
-    slot_is g nodes all k node addresses inode slot f is slots (ltb-true slot 15 (both.1)) (tests.1)
+    slot_is g nodes all k node addresses inode slot f is slots (ltb-true slot 15 (both.1))
+    (outer ∙ ap (λ (b : Bool). if b then fragments_at (slot_address g inode slot) else []) (tests.0)) (tests.1)
 
 -- What is known of a volume and its files.
 pub record AreFiles (g : Geometry) (nodes : List Node) (all : AllPlaced) : Type 0 where
@@ -253,8 +261,10 @@ file_of_inode g nodes all k is low =
     record { volume = is.volume; numbers = is.numbers; node_is = slice_get-get_or nodes k no_node low; addresses_are = slice_get-get_or all.files k no_addresses (omega (arith, count, low)) }
 
 by_inode : (g : Geometry) (nodes : List Node) (all : AllPlaced) (i slot f : ℕ) → AreFiles g nodes all → 2 ≤ i → i < g.ncg * g.ipg
+    → source_fragments g (blocks_in g.fsize g.size (volume_bytes g nodes all)) (Slot i slot)
+    ≡ slot_fragments_in g slot ((inode_of g i (blocks_in g.fsize g.size (volume_bytes g nodes all))).value)
     → Contains (slot_fragments_in g slot ((inode_of g i (blocks_in g.fsize g.size (volume_bytes g nodes all))).value)) f → IsFiles g nodes all f (Slot i slot)
-by_inode g nodes all i slot f is low high h =
+by_inode g nodes all i slot f is low high outer h =
     let v = blocks_in g.fsize g.size (volume_bytes g nodes all) in
     elim (cases_lt i (2 + length nodes)) as (λ _. IsFiles g nodes all f (Slot i slot)) [
       | inr past ↦
@@ -270,6 +280,7 @@ by_inode g nodes all i slot f is low high h =
           let read = inode_read g nodes all k node addresses is.numbers is.volume file.node_is file.addresses_are numbers.some numbers.mode numbers.size in
           subst (λ (n : ℕ). IsFiles g nodes all f (Slot n slot)) (sym number)
           (slot_claim_by g nodes all k node addresses slot f ((inode_of g (2 + k) v).value) file kind read
+          (subst (λ (n : ℕ). source_fragments g v (Slot n slot) ≡ slot_fragments_in g slot ((inode_of g n v).value)) number outer)
           (subst (λ (n : ℕ). Contains (slot_fragments_in g slot ((inode_of g n v).value)) f) number h))
     ]
 
@@ -279,7 +290,8 @@ unfolding source_fragments
 by_slot_claim g nodes all i slot f is h =
     let tests = if_contains (is_inode_number g i) (slot_fragments_in g slot ((inode_of g i (blocks_in g.fsize g.size (volume_bytes g nodes all))).value)) f h in
     let both = and_parts (nat_le 2 i) (nat_lt i (g.ncg * g.ipg)) (tests.0) in
-    by_inode g nodes all i slot f is (leb-true 2 i (both.0)) (ltb-true i (g.ncg * g.ipg) (both.1)) (tests.1)
+    by_inode g nodes all i slot f is (leb-true 2 i (both.0)) (ltb-true i (g.ncg * g.ipg) (both.1))
+    (ap (λ (b : Bool). if b then slot_fragments_in g slot ((inode_of g i (blocks_in g.fsize g.size (volume_bytes g nodes all))).value) else []) (tests.0)) (tests.1)
 
 -- ---- by a pointer
 
@@ -382,7 +394,16 @@ by_pointer_claim g nodes all f upper level at source is above same some h =
             let e : upper ≡ address_at addresses level above.index + i / (g.fsize / 4) = omega arith in e ∙ ap (λ (l : ℕ). address_at addresses l above.index + i / (g.fsize / 4)) (sym next));
         rest = sym (mod-mul-add (upper - address_at addresses level above.index) (g.fsize / 4) at less);
       });
+      fragments = ap (λ (b : Bool). if b then fragments_at (address g (pointer_in g.endian (block_at g.fsize v upper) at) g.frag) else []) (tests.0) ∙ ap fragments_at there;
     }
+
+-- the same, and which block it is
+pub pointer_files : (g : Geometry) (nodes : List Node) (all : AllPlaced) (f upper level at : ℕ) (source : ClaimSource) → AreFiles g nodes all → (above : IsFiles g nodes all upper source)
+    → level_of source ≡ level → 0 < level → Contains (source_fragments g (blocks_in g.fsize g.size (volume_bytes g nodes all)) (Pointer upper level at)) f
+    → (is : IsFiles g nodes all f (Pointer upper level at)) × (is.k ≡ above.k) × (is.level ≡ level - 1)
+    × (is.index ≡ below g level above.index ((upper - address_at above.addresses level above.index) * (g.fsize / 4) + at))
+unfolding by_pointer_claim
+pointer_files g nodes all f upper level at source is above same some h = (by_pointer_claim g nodes all f upper level at source is above same some h, refl, refl, refl)
 
 -- Each claim is that of a block of a file.
 pub claim_of_file : (g : Geometry) (nodes : List Node) (all : AllPlaced) (f : ℕ) (source : ClaimSource) → AreFiles g nodes all

@@ -83,6 +83,7 @@ through_whole endian (chunk ∷ chunks) each =
 pub record AreChunks (endian : Endian) (entries : List DirEntry) (bytes : List ℕ) : Type 0 where
   pub count : ℕ
   pub size : length bytes ≡ 512 * count
+  pub few : count ≤ length entries
   pub whole : Each (IsWholeChunk endian) (chunks_in count bytes)
   pub are : flat_map (found_in endian) (chunks_in count bytes) ≡ entries
 
@@ -95,7 +96,7 @@ used_all (entry ∷ entries) good =
     rw (used, rest) refl
 
 pub are_chunks : (endian : Endian) (fuel : ℕ) (entries : List DirEntry) → length entries ≤ fuel → Each IsGoodEntry entries → AreChunks endian entries (packed endian 512 entries)
-are_chunks endian fuel [] few good = record { count = 0; size = refl; whole = tt; are = refl }
+are_chunks endian fuel [] few good = record { count = 0; size = refl; few = omega arith; whole = tt; are = refl }
 are_chunks endian zero (entry ∷ further) few good = absurd (omega arith)
 are_chunks endian (suc fuel) (entry ∷ further) few good =
     let is = rest_is endian 512 entry further (good.0) (good.1) (omega arith) (omega arith)
@@ -113,6 +114,7 @@ are_chunks endian (suc fuel) (entry ∷ further) few good =
     let out : AreChunks endian (entry ∷ further) (is.chunk ++ packed endian 512 is.later) = record {
       count = suc later.count;
       size = omega (arith, sum, size, rest_size);
+      few = let h = later.few in omega (arith, h, less);
       whole = subst (Each (IsWholeChunk endian)) (sym chunks) (record { fault = is.fault }, later.whole);
       are = ap (flat_map (found_in endian)) chunks ∙ ap (λ (es : List DirEntry). es ++ flat_map (found_in endian) (chunks_in later.count (packed endian 512 is.later))) here
           ∙ ap (λ (es : List DirEntry). is.here ++ es) later.are ∙ sym is.all;

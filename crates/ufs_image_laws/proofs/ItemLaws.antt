@@ -188,7 +188,7 @@ mode_small Dir = omega arith
 mode_small File = omega arith
 mode_small Link = omega arith
 
-either_small : (here : Bool) (one other : List ℕ) (n : ℕ) → length one < n → length other < n → length (if here then one else other) < n
+pub either_small : (here : Bool) (one other : List ℕ) (n : ℕ) → length one < n → length other < n → length (if here then one else other) < n
 either_small true one other n h k = h
 either_small false one other n h k = k
 

@@ -9,6 +9,7 @@ pub mod ClaimReads
 pub mod ContentReads
 pub mod DirectoryLaws
 pub mod DirectoryReads
+pub mod EntryLaws
 pub mod FileLaws
 pub mod FullLaws
 pub mod GroupReads
@@ -20,10 +21,13 @@ pub mod NameLaws
 pub mod NumberLaws
 pub mod ParentLaws
 pub mod PartLaws
+pub mod PastLaws
 pub mod PlacingLaws
 pub mod PutLaws
+pub mod SoundLaws
 pub mod StructureLaws
 pub mod SuperLaws
 pub mod SuperReads
+pub mod TreeLaws
 pub mod VolumeLaws
 pub mod ZoneLaws

@@ -34,7 +34,6 @@ use Rattle.ufs_build.specs.Nodes.{Node}
 use Rattle.ufs_build.specs.Placements.{Addresses, AllPlaced, address_at, addresses_at, blocks_of, count_through, first_through, fragments_of, indirect_count, is_used}
 use Rattle.ufs_image_laws.specs.Built.{blocks_in, group_of}
 use Rattle.ufs_image_laws.specs.Inodes.{IsInodeOf}
-use Rattle.ufs_image_laws.specs.Structures.{is_structural}
 use Rattle.ufs_image_laws.proofs.AddressReads.{FileOf, SlotsLead, address_spot, below, block_found, full_of, placed_of, spot, tests_of}
 use Rattle.ufs_image_laws.proofs.ChainLaws.{two_powers}
 use Rattle.ufs_image_laws.proofs.ClaimReads.{AreFiles, HasKind, IsFiles, claim_of_file, claimed_used, file_of_inode, lower_count, no_addresses, no_node, not_inside, one_claim, pointer_at, slot_spot}
@@ -360,7 +359,7 @@ pub record IsFoundDirectory (g : Geometry) (nodes : List Node) (all : AllPlaced)
   pub chunks : AreChunks g.endian entries found.node.bytes
   pub outside : found.node.inside ≡ false
 
-outside_by_kind : (g : Geometry) (node : Node) → HasKind g node → kind_of node.mode ≡ Directory → node.inside ≡ false
+pub outside_by_kind : (g : Geometry) (node : Node) → HasKind g node → kind_of node.mode ≡ Directory → node.inside ≡ false
 outside_by_kind g node kind e =
     not_inside node.inside (sym kind.pointers ∙ ap (λ k. kind_has_pointers g (length node.bytes) k) e)
 
@@ -432,6 +431,32 @@ no_bad_chunk g nodes all i is h =
     ]
 
 -- ---- all of these kinds
+
+-- those of the superblock, group blocks, inodes, pointers, fragments and chunks of directories
+abbrev pub is_structural : BadKind → Bool
+is_structural (Super kind) = true
+is_structural GroupMagic = true
+is_structural GroupMap = true
+is_structural WrongType = true
+is_structural Filesize = false
+is_structural Past = true
+is_structural WildSlot = true
+is_structural WildIn = true
+is_structural Align = true
+is_structural AlignIn = true
+is_structural Run = true
+is_structural Twice = true
+is_structural PastIn = false
+is_structural Free = true
+is_structural Unused = true
+is_structural HoleIn = true
+is_structural Chunk = true
+is_structural Entry = false
+is_structural EntryType = false
+is_structural Dots = false
+is_structural Names = false
+is_structural DirTwice = false
+is_structural RootNamed = false
 
 pub no_malformation : (g : Geometry) (nodes : List Node) (all : AllPlaced) (kind : BadKind) (n : ℕ) → AreWhole g nodes all → is_structural kind ≡ true → IsBad g (volume_of g nodes all) kind n → ⊥
 no_malformation g nodes all (Super kind) n is e bad = bad

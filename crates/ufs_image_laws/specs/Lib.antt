@@ -2,5 +2,4 @@ pub mod Reads
 pub mod Built
 pub mod Inodes
 pub mod Addresses
-pub mod Structures
 pub mod Claims
