@@ -355,7 +355,7 @@ far_by g nodes all k node addresses inode n m false false is slots far e f =
     let far_past : g.nindir ^ 2 ≤ m - g.nindir = grind (arith, nat_tests) in
     three_read g nodes all k node addresses inode n m (m - g.nindir - g.nindir ^ 2) is slots far (omega arith)
 
-blocks_few : (g : Geometry) (node : Node) → length node.bytes < 2 ^ 32 → Sizes g → blocks_of g node ≤ 2 ^ 20
+pub blocks_few : (g : Geometry) (node : Node) → length node.bytes < 2 ^ 32 → Sizes g → blocks_of g node ≤ 2 ^ 20
 unfolding blocks_of
 blocks_few g node small size = few_by node.inside (length node.bytes) g.bsize size.least small
   where

@@ -128,38 +128,40 @@ outside_by g node inode kind mode size e =
     not_inside node.inside both
 
 -- what a slot leads to
+pub slot_far : (g : Geometry) (nodes : List Node) (all : AllPlaced) (k : ℕ) (node : Node) (addresses : Addresses) (inode : Inode) (slot : ℕ) → FileOf g nodes all k node addresses
+    → SlotsLead g node addresses inode → 12 ≤ slot → slot < 15 → slot_address g inode slot ≡ spot g (length node.bytes) addresses (slot - 11) 0
+slot_far g nodes all k node addresses inode slot is slots upper low =
+    let size = length node.bytes in
+    let test : nat_le 12 slot ≡ true = grind (arith, nat_tests) in
+    let direct : nat_lt slot 12 ≡ false = grind (arith, nat_tests) in
+    let value : slot_value addresses slot ≡ address_at addresses (slot - 11) 0 = rw direct refl in
+    let count : g.frag ≡ count_of g size (slot - 11) 0 = let e : (slot - 11 == 0) ≡ false = ne_eqb (slot - 11) 0 (λ z. omega arith) in rw e refl in
+    upper_slot g node addresses inode slot slots test low ∙ ap (λ (a : ℕ). address g a g.frag) value ∙ ap (address g (address_at addresses (slot - 11) 0)) count
+    ∙ address_spot g node addresses (slot - 11) 0 (placed_of g nodes all k node addresses is) (omega arith)
+
+pub slot_near : (g : Geometry) (nodes : List Node) (all : AllPlaced) (k : ℕ) (node : Node) (addresses : Addresses) (inode : Inode) (slot : ℕ) → FileOf g nodes all k node addresses
+    → SlotsLead g node addresses inode → slot < 12 → slot_address g inode slot ≡ spot g (length node.bytes) addresses 0 slot
+slot_near g nodes all k node addresses inode slot is slots near =
+    let size = length node.bytes in
+    elim (cases_lt slot (blocks_of g node)) as (λ _. slot_address g inode slot ≡ spot g size addresses 0 slot) [
+      | inl block ↦ direct_read g nodes all k node addresses inode slot is slots near block
+      | inr behind ↦
+          let direct : nat_lt slot 12 ≡ true = grind (arith, nat_tests) in
+          let value : slot_value addresses slot ≡ address_at addresses 0 slot = rw direct refl in
+          let found = full_of g nodes all k node addresses is in
+          let full = found.2 in
+          let none : address_at addresses 0 slot ≡ 0 = full.behind slot behind in
+          let empty : (address_at addresses 0 slot == 0) ≡ true = eq-eqb (address_at addresses 0 slot) 0 none in
+          nothing_at g (slot_of inode slot) (span g inode slot) (slots.slots slot (omega arith) ∙ value ∙ none)
+          ∙ ap (λ (b : Bool). if b then Hole else At (address_at addresses 0 slot) (count_of g size 0 slot)) (sym empty)
+    ]
+
 pub slot_spot : (g : Geometry) (nodes : List Node) (all : AllPlaced) (k : ℕ) (node : Node) (addresses : Addresses) (inode : Inode) (slot : ℕ) → FileOf g nodes all k node addresses
     → SlotsLead g node addresses inode → slot < 15 → (level : ℕ) × (index : ℕ) × (level < 4) × (slot_address g inode slot ≡ spot g (length node.bytes) addresses level index)
 slot_spot g nodes all k node addresses inode slot is slots low =
-    let size = length node.bytes in
-    elim (cases_lt slot 12) as (λ _. (level : ℕ) × (index : ℕ) × (level < 4) × (slot_address g inode slot ≡ spot g size addresses level index)) [
-      | inr upper ↦
-          let test : nat_le 12 slot ≡ true = grind (arith, nat_tests) in
-          let direct : nat_lt slot 12 ≡ false = grind (arith, nat_tests) in
-          let value : slot_value addresses slot ≡ address_at addresses (slot - 11) 0 = rw direct refl in
-          let count : g.frag ≡ count_of g size (slot - 11) 0 = let e : (slot - 11 == 0) ≡ false = ne_eqb (slot - 11) 0 (λ z. omega arith) in rw e refl in (
-            slot - 11,
-            0,
-            omega arith,
-            upper_slot g node addresses inode slot slots test low ∙ ap (λ (a : ℕ). address g a g.frag) value ∙ ap (address g (address_at addresses (slot - 11) 0)) count
-                ∙ address_spot g node addresses (slot - 11) 0 (placed_of g nodes all k node addresses is) (omega arith),
-          )
-      | inl near ↦ elim (cases_lt slot (blocks_of g node)) as (λ _. (level : ℕ) × (index : ℕ) × (level < 4) × (slot_address g inode slot ≡ spot g size addresses level index)) [
-        | inl block ↦ (0, slot, omega arith, direct_read g nodes all k node addresses inode slot is slots near block)
-        | inr behind ↦
-            let direct : nat_lt slot 12 ≡ true = grind (arith, nat_tests) in
-            let value : slot_value addresses slot ≡ address_at addresses 0 slot = rw direct refl in
-            let found = full_of g nodes all k node addresses is in
-            let full = found.2 in
-            let none : address_at addresses 0 slot ≡ 0 = full.behind slot behind in
-            let empty : (address_at addresses 0 slot == 0) ≡ true = eq-eqb (address_at addresses 0 slot) 0 none in (
-              0,
-              slot,
-              omega arith,
-              nothing_at g (slot_of inode slot) (span g inode slot) (slots.slots slot low ∙ value ∙ none)
-                  ∙ ap (λ (b : Bool). if b then Hole else At (address_at addresses 0 slot) (count_of g size 0 slot)) (sym empty),
-            )
-      ]
+    elim (cases_lt slot 12) as (λ _. (level : ℕ) × (index : ℕ) × (level < 4) × (slot_address g inode slot ≡ spot g (length node.bytes) addresses level index)) [
+      | inr upper ↦ (slot - 11, 0, omega arith, slot_far g nodes all k node addresses inode slot is slots upper low)
+      | inl near ↦ (0, slot, omega arith, slot_near g nodes all k node addresses inode slot is slots near)
     ]
 
 slot_is : (g : Geometry) (nodes : List Node) (all : AllPlaced) (k : ℕ) (node : Node) (addresses : Addresses) (inode : Inode) (slot f : ℕ) → FileOf g nodes all k node addresses
@@ -170,13 +172,7 @@ slot_is g nodes all k node addresses inode slot f is slots low own h =
     let size = length node.bytes in
     elim (cases_lt slot 12) as (λ _. IsFiles g nodes all f (Slot (2 + k) slot)) [
       | inr upper ↦
-          let test : nat_le 12 slot ≡ true = grind (arith, nat_tests) in
-          let direct : nat_lt slot 12 ≡ false = grind (arith, nat_tests) in
-          let value : slot_value addresses slot ≡ address_at addresses (slot - 11) 0 = rw direct refl in
-          let count : g.frag ≡ count_of g size (slot - 11) 0 = let e : (slot - 11 == 0) ≡ false = ne_eqb (slot - 11) 0 (λ z. omega arith) in rw e refl in
-          let there : slot_address g inode slot ≡ spot g size addresses (slot - 11) 0 =
-          upper_slot g node addresses inode slot slots test low ∙ ap (λ (a : ℕ). address g a g.frag) value ∙ ap (address g (address_at addresses (slot - 11) 0)) count
-          ∙ address_spot g node addresses (slot - 11) 0 (placed_of g nodes all k node addresses is) (omega arith) in
+          let there = slot_far g nodes all k node addresses inode slot is slots upper low in
           record {
             k = k;
             node = node;
@@ -192,31 +188,20 @@ slot_is g nodes all k node addresses inode slot f is slots low own h =
           }
       | inl near ↦
           let level : slot - 11 ≡ 0 = omega arith in
-          let direct : nat_lt slot 12 ≡ true = grind (arith, nat_tests) in
-          let value : slot_value addresses slot ≡ address_at addresses 0 slot = rw direct refl in
-          elim (cases_lt slot (blocks_of g node)) as (λ _. IsFiles g nodes all f (Slot (2 + k) slot)) [
-            | inl block ↦
-                let there = direct_read g nodes all k node addresses inode slot is slots near block in
-                record {
-                  k = k;
-                  node = node;
-                  addresses = addresses;
-                  level = 0;
-                  index = slot;
-                  file = is;
-                  below_four = omega arith;
-                  has = at_spot g size addresses 0 slot f (subst (λ (a : Address). Contains (fragments_at a) f) there h);
-                  of_level = level;
-                  via = inl (slot, refl, inl (near, refl, refl));
-                  fragments = own ∙ ap fragments_at there;
-                }
-            | inr behind ↦
-                let found = full_of g nodes all k node addresses is in
-                let full = found.2 in
-                let none = slots.slots slot low ∙ value ∙ full.behind slot behind in
-                let hole = nothing_at g (slot_of inode slot) (span g inode slot) none in
-                absurd (in_none f (subst (λ (a : Address). Contains (fragments_at a) f) hole h))
-          ]
+          let there = slot_near g nodes all k node addresses inode slot is slots near in
+          record {
+            k = k;
+            node = node;
+            addresses = addresses;
+            level = 0;
+            index = slot;
+            file = is;
+            below_four = omega arith;
+            has = at_spot g size addresses 0 slot f (subst (λ (a : Address). Contains (fragments_at a) f) there h);
+            of_level = level;
+            via = inl (slot, refl, inl (near, refl, refl));
+            fragments = own ∙ ap fragments_at there;
+          }
     ]
 
 -- the inode of a source is that of a file

@@ -280,7 +280,7 @@ own_target spec items image is k up (inr item) =
     (subst (λ (t : ℕ). IsOfType is.g (volume_of is.g (nodes_in is) is.all) (3 + item.0) t) (ap entry_type (item.4)) (item_target spec items image is (item.0) (item.1) (item.3)))
 
 -- what an entry names is a file of its type
-target_by : (spec : Spec) (items : List Item) (image : List ℕ) (is : IsBuilt spec items image) (i k : ℕ) (entry : DirEntry) (entries : List DirEntry)
+pub target_by : (spec : Spec) (items : List Item) (image : List ℕ) (is : IsBuilt spec items image) (i k : ℕ) (entry : DirEntry) (entries : List DirEntry)
     (dir : DirIs items is.parents (length (nodes_in is)) i entries) → EntryOf items is.parents i dir.up k entry → IsOfType is.g (volume_of is.g (nodes_in is) is.all) entry.inode entry.kind
 target_by spec items image is i k entry entries dir (own_entry e same) =
     subst (λ (x : DirEntry). IsOfType is.g (volume_of is.g (nodes_in is) is.all) x.inode x.kind) (sym same)

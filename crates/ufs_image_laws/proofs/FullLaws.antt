@@ -170,6 +170,20 @@ record PlacesAbove (g : Geometry) (size level n : ℕ) (placed next : Placed) : 
   grown : Grown g size placed next
   here : first_through g level ≤ n → address_at next.addresses level (index_above g level n) ≢ 0
   data_same : (i : ℕ) → address_at next.addresses 0 i ≡ address_at placed.addresses 0 i
+  upper : (l i : ℕ) → l < 4 → address_at next.addresses l i ≢ 0
+      → (address_at placed.addresses l i ≢ 0) ⊎ ((l ≡ level) × (first_through g level ≤ n) × (i ≡ index_above g level n))
+
+-- a block that was there, or the one that was placed
+either_block : (g : Geometry) (size level index l i : ℕ) (placed next : Placed) → PlacesBlock g size level index placed next → l < 4 → address_at next.addresses l i ≢ 0
+    → (address_at placed.addresses l i ≢ 0) ⊎ ((l ≡ level) × (i ≡ index))
+either_block g size level index l i placed next is low some =
+    elim (cases_eq l level) as (λ _. (address_at placed.addresses l i ≢ 0) ⊎ ((l ≡ level) × (i ≡ index))) [
+      | inr differ ↦ inl (λ none. some (is.other l i low (λ same e. differ same) ∙ none))
+      | inl same ↦ elim (cases_eq i index) as (λ _. (address_at placed.addresses l i ≢ 0) ⊎ ((l ≡ level) × (i ≡ index))) [
+        | inr differ ↦ inl (λ none. some (is.other l i low (λ e equal. differ equal) ∙ none))
+        | inl equal ↦ inr (same, equal)
+      ]
+    ]
 
 above_by : (g : Geometry) (size level n : ℕ) (placed next : Placed) (none : Bool) → IsGeometry g → level < 4 → (0 ≡ level → ⊥) → nat_lt n (first_through g level) ≡ none
     → (first_through g level ≤ n → index_above g level n < length (addresses_at placed.addresses level)) → g.frag ≡ count_of g size level (index_above g level n) → 0 < g.frag
@@ -180,11 +194,21 @@ above_by g size level n placed next true is h upper test low same some e =
       grown = same_grown g size placed;
       here = λ from. absurd (let less : n < first_through g level = grind (arith, nat_tests) in omega arith);
       data_same = λ i. refl;
+      upper = λ l i low' some'. inl some';
     })
 above_by g size level n placed next false is h upper test low same some e =
     let from : first_through g level ≤ n = grind (arith, nat_tests) in
     let block = places_block g size level (index_above g level n) g.frag placed next is h (low from) same some e in
-    record { grown = block.grown; here = λ _. block.here; data_same = λ i. block.other 0 i (omega arith) (λ e' f. upper e') }
+    record {
+      grown = block.grown;
+      here = λ _. block.here;
+      data_same = λ i. block.other 0 i (omega arith) (λ e' f. upper e');
+      upper = λ l i low' some'. elim (either_block g size level (index_above g level n) l i placed next block low' some')
+          as (λ _. (address_at placed.addresses l i ≢ 0) ⊎ ((l ≡ level) × (first_through g level ≤ n) × (i ≡ index_above g level n))) [
+            | inl old ↦ inl old
+            | inr new ↦ inr (new.0, from, new.1)
+          ];
+    }
 
 index_low : (blocks first through n : ℕ) → 0 < through → first ≤ n → n < blocks → (n - first) / through < div_ceil (blocks - first) through
 index_low blocks first through n some from low =
@@ -215,6 +239,17 @@ record PlacesFileBlock (g : Geometry) (size n : ℕ) (placed next : Placed) : Ty
   grown : Grown g size placed next
   chain : HasChain g next.addresses n
   other : (i : ℕ) → (i ≡ n → ⊥) → address_at next.addresses 0 i ≡ address_at placed.addresses 0 i
+  upper : (l i : ℕ) → 0 < l → l < 4 → address_at next.addresses l i ≢ 0 → (address_at placed.addresses l i ≢ 0) ⊎ ((first_through g l ≤ n) × (i ≡ index_above g l n))
+
+-- through a call for one level
+through_above : (g : Geometry) (size level n l i : ℕ) (start placed next : Placed) → PlacesAbove g size level n placed next → l < 4 → address_at next.addresses l i ≢ 0
+    → (address_at placed.addresses l i ≢ 0 → (address_at start.addresses l i ≢ 0) ⊎ ((first_through g l ≤ n) × (i ≡ index_above g l n)))
+    → (address_at start.addresses l i ≢ 0) ⊎ ((first_through g l ≤ n) × (i ≡ index_above g l n))
+through_above g size level n l i start placed next is low some before =
+    elim (is.upper l i low some) as (λ _. (address_at start.addresses l i ≢ 0) ⊎ ((first_through g l ≤ n) × (i ≡ index_above g l n))) [
+      | inl old ↦ before old
+      | inr new ↦ inr (subst (λ (m : ℕ). first_through g m ≤ n) (sym (new.0)) (new.1), new.2 ∙ ap (λ (m : ℕ). index_above g m n) (sym (new.0)))
+    ]
 
 room_kept : (g : Geometry) (size blocks : ℕ) (placed next : Placed) → Grown g size placed next → HasRoom g blocks placed.addresses → HasRoom g blocks next.addresses
 room_kept g size blocks placed next grown room level low = grown.sizes level low ∙ room level low
@@ -273,9 +308,24 @@ places_file_block g size blocks n placed next is low bytes room e =
         three = λ from. still g size 3 (index_above g 3 n) (a.0) next later (omega arith) (three.here from);
       };
       other = λ i differ. block.other 0 i (omega arith) (λ z same. differ same) ∙ one.data_same i ∙ two.data_same i ∙ three.data_same i;
+      upper = λ l i level low' some.
+          through_above g size 1 n l i placed (b.0) (c.0) one low' (λ none. some (block.other l i low' (λ z same. omega arith) ∙ none))
+          (λ some1. through_above g size 2 n l i placed (a.0) (b.0) two low' some1
+          (λ some2. through_above g size 3 n l i placed placed (a.0) three low' some2 (λ some3. inl some3)));
     }
 
 -- ---- all blocks of a file
+
+-- a block that is no hole is reached through the one at a level
+pub record IsBelow (g : Geometry) (node : Node) (n level index : ℕ) : Type 0 where
+  pub m : ℕ
+  pub low : m < n
+  pub whole : is_hole g node m ≡ false
+  pub first : first_through g level ≤ m
+  pub is : index ≡ index_above g level m
+
+later_below : (g : Geometry) (node : Node) (n level index : ℕ) → IsBelow g node n level index → IsBelow g node (suc n) level index
+later_below g node n level index is = record { m = is.m; low = let h = is.low in omega arith; whole = is.whole; first = is.first; is = is.is }
 
 pub record IsFull (g : Geometry) (node : Node) (before : List Bool) (n : ℕ) (placed : Placed) : Type 0 where
   pub room : HasRoom g (blocks_of g node) placed.addresses
@@ -283,6 +333,7 @@ pub record IsFull (g : Geometry) (node : Node) (before : List Bool) (n : ℕ) (p
   pub hole : (m : ℕ) → is_hole g node m ≡ true → address_at placed.addresses 0 m ≡ 0
   pub behind : (m : ℕ) → n ≤ m → address_at placed.addresses 0 m ≡ 0
   pub marks : (f : ℕ) → is_used placed.used f ≡ true → (is_used before f ≡ true) ⊎ Fragment g (length node.bytes) placed.addresses f
+  pub because : (level index : ℕ) → 0 < level → level < 4 → address_at placed.addresses level index ≢ 0 → IsBelow g node n level index
 
 chain_kept : (g : Geometry) (size n : ℕ) (placed next : Placed) → Grown g size placed next → HasChain g placed.addresses n → HasChain g next.addresses n
 chain_kept g size n placed next grown is = record {
@@ -306,6 +357,7 @@ full_by g node before n placed next true is test low bytes full e =
       hole = full.hole;
       behind = λ m from. full.behind m (omega arith);
       marks = full.marks;
+      because = λ level index some high there. later_below g node n level index (full.because level index some high there);
     })
 full_by g node before n placed next false is test low bytes full e =
     let block = places_file_block g (length node.bytes) (blocks_of g node) n placed next is low bytes full.room e in
@@ -324,6 +376,10 @@ full_by g node before n placed next false is test low bytes full e =
           | inl first ↦ inl first
           | inr own ↦ inr (fragment_kept g (length node.bytes) placed.addresses next.addresses f (λ level index k some. grown.kept level index k some) own)
         ]
+      ];
+      because = λ level index some high there. elim (block.upper level index some high there) as (λ _. IsBelow g node (suc n) level index) [
+        | inl old ↦ later_below g node n level index (full.because level index some high old)
+        | inr new ↦ record { m = n; low = omega arith; whole = test; first = new.0; is = new.1 }
       ];
     }
 
@@ -349,6 +405,7 @@ full_first g node before = record {
   hole = λ m h. none_at g (blocks_of g node) 0 m (omega arith);
   behind = λ m from. none_at g (blocks_of g node) 0 m (omega arith);
   marks = λ f used. inl used;
+  because = λ level index some high there. absurd (there (none_at g (blocks_of g node) level index high));
 }
 
 -- a file block has bytes of the file

@@ -5,6 +5,7 @@ pub mod BuiltLaws
 pub mod BuiltReads
 pub mod ChainLaws
 pub mod ChunkLaws
+pub mod ClaimBack
 pub mod ClaimReads
 pub mod ContentReads
 pub mod DirectoryLaws
@@ -17,6 +18,7 @@ pub mod GroupReads
 pub mod InodeReads
 pub mod ItemLaws
 pub mod ListLaws
+pub mod ListingReads
 pub mod LookLaws
 pub mod MapLaws
 pub mod NameLaws

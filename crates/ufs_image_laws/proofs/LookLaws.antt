@@ -86,12 +86,12 @@ names_are path parent name e good =
 
 -- ---- one name more
 
-named_by : (g : Geometry) (i : ℕ) (v : Volume) (inode : Inode) → is_inode_number g i ≡ true → (inode_of g i v).value ≡ Some inode → (named_inode g i v).value ≡ Ok inode
+pub named_by : (g : Geometry) (i : ℕ) (v : Volume) (inode : Inode) → is_inode_number g i ≡ true → (inode_of g i v).value ≡ Some inode → (named_inode g i v).value ≡ Ok inode
 unfolding named_inode bind
 named_by g i v inode number e =
     ap (λ (b : Bool). ((if b then allocated g i else known (Err (Bad Entry))) v).value) number ∙ ap (λ (found : Option Inode). ok_or found (Bad Entry)) e
 
-number_is : (g : Geometry) (i : ℕ) → 2 ≤ i → i < g.ncg * g.ipg → is_inode_number g i ≡ true
+pub number_is : (g : Geometry) (i : ℕ) → 2 ≤ i → i < g.ncg * g.ipg → is_inode_number g i ≡ true
 number_is g i low high = and_from (nat_le 2 i) (nat_lt i (g.ncg * g.ipg)) (le-leb 2 i low) (lt-ltb i (g.ncg * g.ipg) high)
 
 -- ---- the directory that is file k
@@ -198,7 +198,7 @@ no_names : (path : List ℕ) → length path ≡ 0 → names_of path ≡ []
 no_names path e = ap names_of (nil_from_length path e)
 
 -- the file that an item is
-item_node : (spec : Spec) (items : List Item) (image : List ℕ) (is : IsBuilt spec items image) (j : ℕ) (item : Item) → slice_get items j ≡ Some item
+pub item_node : (spec : Spec) (items : List Item) (image : List ℕ) (is : IsBuilt spec items image) (j : ℕ) (item : Item) → slice_get items j ≡ Some item
     → (node : Node) × (slice_get (nodes_in is) (suc j) ≡ Some node) × (node.mode ≡ mode_of item.kind)
 item_node spec items image is j item e =
     let good = good_items items is.parents is.stand in
@@ -207,7 +207,7 @@ item_node spec items image is j item e =
     let up = some_at is.parents j (omega (arith, count, low)) in
     (node_of item (directory_bytes is.g.endian items is.parents (3 + j) (up.0)), file_of_item is.g.endian items is.parents j item (up.0) e (up.1), refl)
 
-directory_mode : (mode : ℕ) → mode ≡ 0x41ed → kind_of mode ≡ Directory
+pub directory_mode : (mode : ℕ) → mode ≡ 0x41ed → kind_of mode ≡ Directory
 unfolding kind_of
 directory_mode mode e = subst (λ (m : ℕ). kind_of m ≡ Directory) (sym e) refl
 
@@ -265,7 +265,7 @@ look_item spec items image is j item inode few e here =
     ∙ leads spec items image is (suc j) j item [] (omega arith) few e
     ∙ ok_then (named_inode is.g (3 + j)) _ v inode (named_by is.g (3 + j) v inode number here)
 
-geometry_named : (l n : ℕ) (v : Volume) (g : Geometry) → (geometry_of l n v).value ≡ Ok g → (volume_geometry l n v).value ≡ Ok g
+pub geometry_named : (l n : ℕ) (v : Volume) (g : Geometry) → (geometry_of l n v).value ≡ Ok g → (volume_geometry l n v).value ≡ Ok g
 unfolding volume_geometry bind
 geometry_named l n v g e = ap or_bad_super e
 
@@ -282,21 +282,27 @@ cat_read l n v g path i inode bytes e f h =
 
 -- ---- by the image
 
--- each item has an inode
-inode_of_item : (spec : Spec) (items : List Item) (image : List ℕ) (is : IsBuilt spec items image) (j : ℕ) (item : Item) → slice_get items j ≡ Some item
-    → (inode : Inode) × ((inode_of is.g (3 + j) (volume_of is.g (nodes_in is) is.all)).value ≡ Some inode)
-inode_of_item spec items image is j item e =
+-- each file has an inode
+pub inode_of_file : (spec : Spec) (items : List Item) (image : List ℕ) (is : IsBuilt spec items image) (k : ℕ) (node : Node) → slice_get (nodes_in is) k ≡ Some node
+    → (inode : Inode) × ((inode_of is.g (2 + k) (volume_of is.g (nodes_in is) is.all)).value ≡ Some inode)
+inode_of_file spec items image is k node e =
     let whole = built_whole spec items image is in
     let files = whole.files in
-    let node = item_node spec items image is j item e in
-    let addresses = addresses_at spec items image is (suc j) (node.0) (node.1) in
-    let kind = files.kinds (suc j) (node.0) (node.1) in
+    let addresses = addresses_at spec items image is k node e in
+    let kind = files.kinds k node e in
     let numbers = kind.numbers in
-    let read = inode_read is.g (nodes_in is) is.all (suc j) (node.0) (addresses.0) files.numbers files.volume (node.1) (addresses.1) numbers.some numbers.mode numbers.size in
-    (read.inode, ap (λ (i : ℕ). (inode_of is.g i (volume_of is.g (nodes_in is) is.all)).value) (let z : 3 + j ≡ 2 + suc j = omega arith in z) ∙ read.is)
+    let read = inode_read is.g (nodes_in is) is.all k node (addresses.0) files.numbers files.volume e (addresses.1) numbers.some numbers.mode numbers.size in
+    (read.inode, read.is)
+
+pub inode_of_item : (spec : Spec) (items : List Item) (image : List ℕ) (is : IsBuilt spec items image) (j : ℕ) (item : Item) → slice_get items j ≡ Some item
+    → (inode : Inode) × ((inode_of is.g (3 + j) (volume_of is.g (nodes_in is) is.all)).value ≡ Some inode)
+inode_of_item spec items image is j item e =
+    let node = item_node spec items image is j item e in
+    let own = inode_of_file spec items image is (suc j) (node.0) (node.1) in
+    (own.0, ap (λ (i : ℕ). (inode_of is.g i (volume_of is.g (nodes_in is) is.all)).value) (let z : 3 + j ≡ 2 + suc j = omega arith in z) ∙ own.1)
 
 -- the geometry that is read of the image's bytes
-geometry_is : (spec : Spec) (items : List Item) (image : List ℕ) (is : IsBuilt spec items image) → 8192 % spec.l ≡ 0
+pub geometry_is : (spec : Spec) (items : List Item) (image : List ℕ) (is : IsBuilt spec items image) → 8192 % spec.l ≡ 0
     → (geometry_of is.g.fsize is.g.size (volume_of is.g (nodes_in is) is.all)).value ≡ Ok is.g
 geometry_is spec items image is divides =
     let geometry = geometry_of_built spec is.g is.geometry in

@@ -39,7 +39,7 @@ directory_count : (items : List Item) (parents : List ℕ) (directory up : ℕ) 
 unfolding directory_entries
 directory_count items parents directory up = let h = entries_count directory 3 items parents in omega arith
 
-small_directory : (spec : Spec) (items : List Item) (image : List ℕ) (is : IsBuilt spec items image) (directory up : ℕ) → length items + 2 < 2 ^ 23 → 1 ≤ directory → directory < 2 ^ 32
+pub small_directory : (spec : Spec) (items : List Item) (image : List ℕ) (is : IsBuilt spec items image) (directory up : ℕ) → length items + 2 < 2 ^ 23 → 1 ≤ directory → directory < 2 ^ 32
     → 1 ≤ up → up < 2 ^ 32 → length (directory_bytes is.g.endian items is.parents directory up) < 2 ^ 32
 small_directory spec items image is directory up few one low two low' =
     let good = good_items items is.parents is.stand in

@@ -3,3 +3,4 @@ pub mod Built
 pub mod Inodes
 pub mod Addresses
 pub mod Claims
+pub mod Lines

@@ -15,8 +15,8 @@ ghost use Rattle.ufs_model.specs.declared.inodes.Inode.{Inode};
 /// Each block of a file is found at the address that the file got, directly or through indirect blocks, and it has none exactly where it
 /// is a hole.
 pub fn built_blocks_are_found()
-    ensures found { (spec : Spec) (items : List Item) (image : List ℕ) (is : IsBuilt spec items image) (k : ℕ) (node : Node) (addresses : Addresses) (inode : Inode) (n : ℕ)
-        → slice_get (nodes_in is) k ≡ Some node → slice_get is.all.files k ≡ Some addresses → node.inside ≡ false → length node.bytes < 2 ^ 32
+    ensures found { (spec : Spec) (items : List Item) (image : List ℕ) (is : IsBuilt spec items image) (k : ℕ) (node : Node) (addresses : Addresses)
+        (inode : Inode) (n : ℕ) → slice_get (nodes_in is) k ≡ Some node → slice_get is.all.files k ≡ Some addresses → node.inside ≡ false → length node.bytes < 2 ^ 32
         → (inode_of is.g (2 + k) (blocks_in is.g.fsize is.g.size image)).value ≡ Some inode → n < blocks_of is.g node
         → (file_block_of is.g inode n (blocks_in is.g.fsize is.g.size image)).value ≡ place_of is.g (length node.bytes) addresses n }
     ensures holes { (spec : Spec) (items : List Item) (image : List ℕ) (is : IsBuilt spec items image) (k : ℕ) (node : Node) (addresses : Addresses) (n : ℕ)

@@ -1,11 +1,14 @@
 // What is read of a built volume by a path.
-ghost use Rattle.std.specs.Prelude.{◌≡◌, ◌+◌, ◌*◌, ◌%◌, ◌^◌, ◌<◌, ℕ, List, Ok, Some, length, slice_get};
+ghost use Rattle.std.specs.Prelude.{◌≡◌, ◌+◌, ◌*◌, ◌%◌, ◌^◌, ◌<◌, ℕ, List, [], ◌∷◌, Ok, Some, length, slice_get};
 ghost use Rattle.ufs_build.specs.Builds.{built};
+ghost use Rattle.ufs_build.specs.Directories.{directory_entries};
 ghost use Rattle.ufs_build.specs.declared.items.Item.{Item};
-ghost use Rattle.ufs_build.specs.declared.items.ItemKind.TheVariants.{File};
+ghost use Rattle.ufs_build.specs.declared.items.ItemKind.TheVariants.{Dir, File};
 ghost use Rattle.ufs_build.specs.declared.volumes.Spec.{Spec};
-ghost use Rattle.ufs_image_laws.specs.Built.{IsBuilt, blocks_in};
+ghost use Rattle.ufs_image_laws.specs.Built.{IsBuilt, blocks_in, nodes_in};
+ghost use Rattle.ufs_image_laws.specs.Lines.{lines_of};
 ghost use Rattle.ufs_model.specs.Inodes.{inode_of};
+ghost use Rattle.ufs_model.specs.Listings.{ls_of};
 ghost use Rattle.ufs_model.specs.Paths.{cat_of, look_of};
 ghost use Rattle.ufs_model.specs.declared.inodes.Inode.{Inode};
 
@@ -16,9 +19,19 @@ pub fn built_paths_lead_to_their_items()
         → (look_of spec.l is.g.size item.path (blocks_in spec.l is.g.size image)).value ≡ Ok (k + 3, inode) }
 {}
 
+/// The listing of the root, and that of each item that is a directory, are its entries, with the kinds and sizes of the files that they name.
+pub fn built_directories_are_listed()
+    ensures root { (spec : Spec) (items : List Item) (image : List ℕ) (is : IsBuilt spec items image) → 8192 % spec.l ≡ 0 → length items + 2 < 2 ^ 23
+        → (ls_of spec.l is.g.size (47 ∷ []) (blocks_in spec.l is.g.size image)).value ≡ Ok (lines_of (nodes_in is) (directory_entries items is.parents 2 2)) }
+    ensures items { (spec : Spec) (items : List Item) (image : List ℕ) (is : IsBuilt spec items image) (k : ℕ) (item : Item) (parent : ℕ) → 8192 % spec.l ≡ 0
+        → length items + 2 < 2 ^ 23 → slice_get items k ≡ Some item → item.kind ≡ Dir → slice_get is.parents k ≡ Some parent
+        → (ls_of spec.l is.g.size item.path (blocks_in spec.l is.g.size image)).value
+        ≡ Ok (lines_of (nodes_in is) (directory_entries items is.parents (k + 3) parent)) }
+{}
+
 /// By the path of each item that is a regular file its bytes are read.
 pub fn built_files_are_read()
-    ensures { (spec : Spec) (items : List Item) (image : List ℕ) (k : ℕ) (item : Item) → built spec items ≡ Ok image → 8192 % spec.l ≡ 0 → length items + 2 < 2 ^ 23
-        → slice_get items k ≡ Some item → item.kind ≡ File
+    ensures { (spec : Spec) (items : List Item) (image : List ℕ) (k : ℕ) (item : Item) → built spec items ≡ Ok image → 8192 % spec.l ≡ 0
+        → length items + 2 < 2 ^ 23 → slice_get items k ≡ Some item → item.kind ≡ File
         → (cat_of spec.l (spec.ncg * spec.fpg) item.path (blocks_in spec.l (spec.ncg * spec.fpg) image)).value ≡ Ok item.bytes }
 {}

@@ -1,6 +1,8 @@
-use Rattle.std.proofs.Common.{ℕ, List, subst}
+use Rattle.std.proofs.Common.{ℕ, List, subst, sym}
 use Rattle.ufs_model.specs.Claims.{IsClaim, source_fragments}
 use Rattle.ufs_image_laws.specs.Built.{blocks_in, nodes_in}
+use Rattle.ufs_image_laws.proofs.ClaimBack.{block_claimed}
+use Rattle.ufs_image_laws.proofs.FileLaws.{file_of}
 use Rattle.ufs_image_laws.proofs.BuiltFiles.{built_whole}
 use Rattle.ufs_image_laws.proofs.ClaimReads.{claim_of_file, claimed_used, file_claim, one_claim}
 use Rattle.ufs_image_laws.proofs.claims.built_claims_are_of_files.Goals as goal
@@ -17,4 +19,12 @@ returns c = record {
       one_claim is.g (nodes_in is) is.all f source other whole.files
       (subst (λ (bytes : List ℕ). IsClaim (source_fragments is.g (blocks_in is.g.fsize is.g.size bytes)) f source) is.bytes first)
       (subst (λ (bytes : List ℕ). IsClaim (source_fragments is.g (blocks_in is.g.fsize is.g.size bytes)) f other) is.bytes second);
+  claimed = λ spec items image is k node addresses level index f e there outside small low has. let whole = built_whole spec items image is in
+      let made = block_claimed is.g (nodes_in is) is.all k node addresses level index f whole.files (file_of spec items image is k node addresses e there) outside small low
+      (record { some = has.some; low = has.low; high = has.high }) in
+      record {
+        source = made.0;
+        claim = subst (λ (bytes : List ℕ). IsClaim (source_fragments is.g (blocks_in is.g.fsize is.g.size bytes)) f (made.0)) (sym is.bytes) (made.1);
+        is = made.2;
+      };
 }
