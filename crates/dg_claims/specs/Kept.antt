@@ -1,5 +1,5 @@
 -- How a table of claims is kept.
-use Rattle.std.specs.Prelude.{◌≡◌, ◌↔◌, ℕ, ◌+◌, ◌^◌, ◌<◌, ◌≤◌, List, Option, Some, None, zero, suc, length, IfSome}
+use Rattle.std.specs.Prelude.{◌≡◌, ◌↔◌, ℕ, ◌+◌, ◌^◌, ◌<◌, ◌≤◌, List, Option, Some, None, length, IfSome}
 use Rattle.std.specs.List.{Contains}
 use Rattle.ufs_model.specs.Geometries.{IsGeometry}
 use Rattle.ufs_model.specs.declared.claims.ClaimSource.{ClaimSource}
@@ -52,11 +52,6 @@ pub record IsKept (inside : Inside) : Type 0 where
   pub marks : IsMarks inside.marks
   pub runs : (place : Place) → IfSome (run_at inside.runs place) (λ run. IsPlace inside.geometry place × IsRun (size_in inside.geometry) run)
   pub marked : (fragment : ℕ) (place : Place) → Contains (marked_on inside.marks fragment) place ↔ Contains (run_fragments (run_at inside.runs place)) fragment
-
--- the first so many fragments of a run, if they are any
-abbrev pub run_so_far : ℕ → ℕ → Option Run
-run_so_far first zero = None
-run_so_far first (suc done) = Some (record { first = first; count = suc done })
 
 -- The first n of some places claim these fragments now, and each other place claims what it claimed.
 pub record SetsFirst (old new : List (ClaimSource × Run)) (place_at : ℕ → Place) (fragments : ℕ → List ℕ) (n : ℕ) : Type 0 where
