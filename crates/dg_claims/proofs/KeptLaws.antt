@@ -1,5 +1,5 @@
 -- What a change of the run of one source does to a kept table.
-use Rattle.std.proofs.Common.{◌≡◌, ℕ, suc, ◌+◌, ◌^◌, ◌<◌, ◌≤◌, ◌⊎◌, ◌↔◌, ◌∙◌, inl, inr, List, [], Contains, Option, Some, None, IfSome, length, refl, sym, ap, subst, arith}
+use Rattle.std.proofs.Common.{◌≡◌, ℕ, ◌+◌, ◌^◌, ◌<◌, ◌≤◌, ◌⊎◌, ◌↔◌, ◌∙◌, inl, inr, List, [], Contains, Option, Some, None, IfSome, length, refl, sym, ap, subst, arith}
 use Rattle.std.proofs.lemmas.Bool.{cases_eq}
 use Rattle.ufs_model.specs.Geometries.{IsGeometry}
 use Rattle.ufs_model.specs.declared.claims.ClaimSource.{ClaimSource}
@@ -265,9 +265,3 @@ cleared old runs marks place run is was sound drops none others =
             λ has. absurd (contains_none fragment (subst (λ r. Contains (run_fragments r) fragment) none has)),
           );
     })
-
--- the run of a source is inside the volume
-pub run_inside : (old : Inside) (place : Place) (run : Run) → IsKept old → run_at old.runs place ≡ Some run → IsRun (length old.marks.first.items) run
-run_inside old place run is was =
-    let both : IsPlace old.geometry place × IsRun (size_in old.geometry) run = subst (λ r. IfSome r (λ run. IsPlace old.geometry place × IsRun (size_in old.geometry) run)) was (is.runs place) in
-    subst (λ n. IsRun n run) (sym is.room) (both.1)
