@@ -7,7 +7,7 @@ use dg_io::Loss;
 use std::alloc::Global;
 use std::test::Fail;
 use ufs_check::{BadKind, BadSuper, Verdict};
-use ufs_rows::{Which, rows_image};
+use ufs_samples::{Which, sample_image};
 
 #[test]
 fn the_rows_are_sound(rt: HostRuntime) -> Result<(), Fail> {
@@ -205,7 +205,7 @@ fn faults_with_a_block_gone(rt: HostRuntime) -> Result<(), Fail> {
 fn a_superblock_in_both_orders(rt: HostRuntime) -> Result<(), Fail> {
     let bad = Verdict::Malformed(BadKind::Super(BadSuper::Bsize), 0);
     for (which, other) in [(Which::F, Which::Fb), (Which::Fb, Which::F)] {
-        let rows = rows_image(rt.alloc(), other)?;
+        let rows = sample_image(rt.alloc(), other)?;
         if rows.len() < 10 * 1024 {
             return Err("image".into());
         }

@@ -3,7 +3,7 @@ use crate::volumes::{D, ENTRY_B, ENTRY_Z, Edit, INDIRECT, INODE_4, INODE_5, INOD
 use std::alloc::Global;
 use std::test::Fail;
 use ufs_check::{BadKind, Verdict};
-use ufs_rows::Which;
+use ufs_samples::Which;
 
 /// The chunk of inode 3, where that is a directory.
 const C: usize = 34 * 1024;

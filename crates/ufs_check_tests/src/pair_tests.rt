@@ -5,7 +5,7 @@ use crate::volumes::{D, ENTRY_B, Edit, FRAGMENT_MAP, GROUP, INODE_2, INODE_3, IN
 use std::alloc::Global;
 use std::test::Fail;
 use ufs_check::{BadKind, Verdict};
-use ufs_rows::Which;
+use ufs_samples::Which;
 
 /// The volume E with four groups of 64 fragments, whose group blocks are at 24, 88, 152 and 216.
 const FOUR_GROUPS: [Edit; 11] = [
