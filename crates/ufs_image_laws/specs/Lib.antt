@@ -1,0 +1,5 @@
+pub mod Reads
+pub mod Built
+pub mod Inodes
+pub mod Addresses
+pub mod Claims

@@ -1,0 +1,26 @@
+//! What stands in the volumes that `ufs_build` builds, as they are read by the definitions of UFS1.
+//!
+//! Each law is a public function that does nothing, whose contract is the law.
+#![tactic(auto)]
+
+mod claims;
+mod directories;
+mod files;
+mod groups;
+mod inodes;
+mod parts;
+mod structures;
+mod superblocks;
+#[cfg(test)]
+mod tests;
+
+pub use crate::claims::built_claims_are_of_files;
+pub use crate::directories::built_directories_have_their_entries;
+pub use crate::files::{built_blocks_are_found, built_files_have_their_contents};
+pub use crate::groups::built_groups_are_read;
+pub use crate::inodes::{built_inodes_are_read, files_of_items, other_inodes_are_unallocated};
+pub use crate::parts::{built_volumes_are_made_of_parts, parts_are_apart};
+pub use crate::structures::{
+    built_volumes_are_sound, built_volumes_have_no_malformation_but_sizes,
+};
+pub use crate::superblocks::{built_volumes_have_their_geometry, geometries_are_of_specs};
