@@ -1,6 +1,6 @@
 -- The file blocks of a built volume are found.
-use Rattle.std.proofs.Common.{◌≡◌, ◌≢◌, ◌∙◌, ℕ, zero, suc, ◌+◌, ◌-◌, ◌*◌, ◌/◌, ◌%◌, ◌^◌, ◌<◌, ◌≤◌, ◌⊎◌, ◌&&◌, ◌||◌, ◌==◌, Bool, true, false, List, [], ◌∷◌, ◌++◌, length, take, drop, get_or, refl, sym, ap, subst, arith, inl, inr, Some, None}
-use Rattle.std.specs.Prelude.{Option, if◌then◌else◌, nat_le, nat_lt, replicate, slice_get, slice_index}
+use Rattle.std.proofs.Common.{◌≡◌, ◌≢◌, ◌∙◌, ℕ, zero, suc, ◌+◌, ◌-◌, ◌*◌, ◌/◌, ◌%◌, ◌^◌, ◌<◌, ◌≤◌, ◌||◌, ◌==◌, Bool, true, false, List, ◌++◌, length, get_or, refl, sym, ap, subst, arith, inl, inr, Some}
+use Rattle.std.specs.Prelude.{if◌then◌else◌, nat_le, nat_lt, replicate, slice_get}
 use Rattle.std.specs.Int.{div_ceil}
 use Rattle.std.specs.List.{flat_map, range_with_len}
 use Rattle.std.proofs.Math.Nat.{div-lt_iff_lt-mul}
@@ -8,7 +8,7 @@ use Rattle.std.proofs.lemmas.Bool.{cases_eq, cases_lt, eq-eqb, false_from_ne_tru
 use Rattle.std.proofs.lemmas.Bool.Decides.{nat_tests}
 use Rattle.std.proofs.lemmas.List.{get_or_past, length-replicate}
 use Rattle.std.proofs.lemmas.Nat.{mod-mul-add, mod_below, mul-lt}
-use Rattle.ufs_model.specs.Blocks.{Volume, area_of, bind}
+use Rattle.ufs_model.specs.Blocks.{Volume, bind}
 use Rattle.ufs_model.specs.Geometries.{IsGeometry}
 use Rattle.ufs_model.specs.Inodes.{slot_of, span}
 use Rattle.ufs_model.specs.Pointers.{address, chain_address, file_block_of, indirect_of, is_data_run, locate_of, pointer_in, slot_address, through}
@@ -16,21 +16,20 @@ use Rattle.ufs_model.specs.declared.geometries.Geometry.{Geometry}
 use Rattle.ufs_model.specs.declared.inodes.Inode.{Inode}
 use Rattle.ufs_model.specs.declared.pointers.Address.{Address}
 use Rattle.ufs_model.specs.declared.pointers.Address.TheVariants.{At, Hole, Wild}
-use Rattle.ufs_model.specs.declared.pointers.Chain.{Chain}
 use Rattle.ufs_model.specs.declared.pointers.Chain.TheVariants.{Direct, One, Two, Three}
 use Rattle.ufs_build.specs.Images.{block_parts, data_parts, first_below, indirect_parts, inode_parts, inode_place, level_parts, pointer_parts, slot_address as slot_value, volume_bytes}
 use Rattle.ufs_build.specs.Nodes.{Node}
 use Rattle.ufs_build.specs.Parts.{Part, number_bytes}
-use Rattle.ufs_build.specs.Placements.{Addresses, AllPlaced, Placed, address_at, addresses_at, blocks_of, count_through, first_through, fragments_of, is_hole}
+use Rattle.ufs_build.specs.Placements.{Addresses, AllPlaced, address_at, addresses_at, blocks_of, fragments_of, is_hole}
 use Rattle.ufs_image_laws.specs.Built.{blocks_in}
 use Rattle.ufs_image_laws.specs.Reads.{Stands}
 use Rattle.ufs_image_laws.proofs.AreaLaws.{area_is}
-use Rattle.ufs_image_laws.proofs.ChainLaws.{AreThree, count_few, one_place, three_first, three_one, three_parts, three_place, three_two, two_index, two_place, two_powers}
-use Rattle.ufs_image_laws.proofs.FullLaws.{HasChain, IsFull, block_bytes_low, file_full, index_above}
+use Rattle.ufs_image_laws.proofs.ChainLaws.{count_few, one_place, three_first, three_one, three_parts, three_place, three_two, two_index, two_place, two_powers}
+use Rattle.ufs_image_laws.proofs.FullLaws.{HasChain, IsFull, block_bytes_low, file_full}
 use Rattle.ufs_image_laws.proofs.InodeReads.{FilePlaced, file_at, has_file, small_address, volume_has}
 use Rattle.ufs_image_laws.proofs.ListLaws.{Has, has_flat, has_left, has_right}
 use Rattle.ufs_image_laws.proofs.NumberLaws.{number_back, number_in_area}
-use Rattle.ufs_image_laws.proofs.PlacingLaws.{IsPlaced, IsRun, count_of}
+use Rattle.ufs_image_laws.proofs.PlacingLaws.{count_of}
 use Rattle.ufs_image_laws.proofs.SuperLaws.{NumbersFit}
 use Rattle.ufs_image_laws.proofs.VolumeLaws.{AreVolume, volume_stands}
 use Rattle.ufs_image_laws.proofs.ZoneLaws.{Sizes, sizes}

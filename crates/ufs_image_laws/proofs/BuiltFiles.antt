@@ -1,22 +1,20 @@
 -- The kinds of the files of a built volume.
-use Rattle.std.proofs.Common.{◌≡◌, ◌∙◌, ℕ, zero, suc, ◌+◌, ◌*◌, ◌^◌, ◌<◌, ◌≤◌, ◌&&◌, not, Bool, true, false, List, [], ◌∷◌, length, refl, sym, ap, subst, arith, inl, inr, Some}
-use Rattle.std.specs.Prelude.{Ok, if◌then◌else◌, nat_le, nat_lt, replicate, slice_get}
+use Rattle.std.proofs.Common.{◌≡◌, ◌∙◌, ℕ, suc, ◌+◌, ◌^◌, ◌<◌, ◌≤◌, ◌&&◌, not, Bool, false, List, [], ◌∷◌, length, refl, sym, ap, arith, inl, inr}
+use Rattle.std.specs.Prelude.{if◌then◌else◌, nat_le, nat_lt, replicate}
 use Rattle.std.proofs.lemmas.Bool.{cases_lt, le-leb, le-ltb, lt-leb, lt-ltb}
 use Rattle.ufs_model.specs.Chunks.{DirEntry}
 use Rattle.ufs_model.specs.Inodes.{kind_has_pointers, kind_of}
 use Rattle.ufs_model.specs.declared.geometries.Geometry.{Geometry}
-use Rattle.ufs_model.specs.declared.inodes.Kind.{Kind}
-use Rattle.ufs_model.specs.declared.inodes.Kind.TheVariants.{Directory, Link as LinkKind, Regular, Unknown}
+use Rattle.ufs_model.specs.declared.inodes.Kind.TheVariants.{Directory, Unknown}
 use Rattle.ufs_build.specs.Directories.{directories_from, directories_of, directory_bytes, directory_entries}
-use Rattle.ufs_build.specs.Items.{is_dir, parents_of}
-use Rattle.ufs_build.specs.Nodes.{Node, is_link, item_nodes, mode_of, node_of, nodes_of}
+use Rattle.ufs_build.specs.Items.{is_dir}
+use Rattle.ufs_build.specs.Nodes.{Node, is_link, item_nodes, mode_of, nodes_of}
 use Rattle.ufs_build.specs.declared.items.Item.{Item}
 use Rattle.ufs_build.specs.declared.items.ItemKind.{ItemKind}
 use Rattle.ufs_build.specs.declared.items.ItemKind.TheVariants.{Dir, File, Link}
 use Rattle.ufs_build.specs.declared.volumes.Spec.{Spec}
 use Rattle.ufs_image_laws.specs.Built.{IsBuilt, nodes_in, root_of}
 use Rattle.ufs_image_laws.proofs.BuiltLaws.{are_volume, at_place, built_numbers}
-use Rattle.ufs_image_laws.proofs.ClaimReads.{AreFiles, HasKind}
 use Rattle.ufs_image_laws.proofs.DirectoryLaws.{few_inodes}
 use Rattle.ufs_image_laws.proofs.DirectoryReads.{AreChunks}
 use Rattle.ufs_image_laws.proofs.ItemLaws.{HasNumbers, IsGoodItem, good_items}

@@ -1,14 +1,14 @@
 -- What a built volume is made of.
-use Rattle.std.proofs.Common.{◌≡◌, ◌∙◌, ℕ, zero, suc, ◌+◌, ◌-◌, ◌*◌, ◌<◌, ◌≤◌, ◌&&◌, Bool, true, false, List, [], ◌∷◌, ◌++◌, length, refl, sym, ap, subst, arith, Some, None}
+use Rattle.std.proofs.Common.{◌≡◌, ◌∙◌, ℕ, zero, suc, ◌+◌, ◌*◌, ◌<◌, ◌≤◌, ◌&&◌, Bool, true, false, List, [], ◌∷◌, length, refl, sym, subst, arith, Some, None}
 use Rattle.std.specs.Prelude.{Err, Ok, Option, Result, if◌then◌else◌, nat_le, nat_lt, slice_get}
-use Rattle.std.proofs.lemmas.Bool.{and_parts, false≢true, leb-true, ltb-true}
+use Rattle.std.proofs.lemmas.Bool.{false≢true, leb-true, ltb-true}
 use Rattle.std.proofs.lemmas.Option.{same_Some}
 use Rattle.ufs_model.specs.declared.geometries.Geometry.{Geometry}
 use Rattle.ufs_build.specs.Builds.{built, volume_nodes, with_geometry, with_parents, with_placed}
 use Rattle.ufs_build.specs.Directories.{directories_of}
 use Rattle.ufs_build.specs.Images.{volume_bytes}
 use Rattle.ufs_build.specs.Items.{is_dir, parents_of}
-use Rattle.ufs_build.specs.Nodes.{Node, is_link, item_nodes, node_of, nodes_of}
+use Rattle.ufs_build.specs.Nodes.{is_link, item_nodes, node_of, nodes_of}
 use Rattle.ufs_build.specs.Placements.{AllPlaced, placed_files}
 use Rattle.ufs_build.specs.Volumes.{volume_of_spec}
 use Rattle.ufs_build.specs.declared.items.Item.{Item}
@@ -16,12 +16,12 @@ use Rattle.ufs_build.specs.declared.items.ItemKind.{ItemKind}
 use Rattle.ufs_build.specs.declared.items.ItemKind.TheVariants.{Dir, File, Link}
 use Rattle.ufs_build.specs.declared.refusals.BuildRefused.{BuildRefused}
 use Rattle.ufs_build.specs.declared.volumes.Spec.{Spec}
-use Rattle.ufs_image_laws.specs.Built.{IsBuilt, nodes_in}
+use Rattle.ufs_image_laws.specs.Built.{IsBuilt}
 use Rattle.ufs_image_laws.proofs.ItemLaws.{HasNumbers, files_numbers, good_items}
 use Rattle.ufs_image_laws.proofs.ListLaws.{Each}
 use Rattle.ufs_image_laws.proofs.PartLaws.{FitsInode, IsWhole}
 use Rattle.ufs_image_laws.proofs.PlacingLaws.{all_placed}
-use Rattle.ufs_image_laws.proofs.SuperLaws.{IsGeometryOf, geometry_of_built}
+use Rattle.ufs_image_laws.proofs.SuperLaws.{geometry_of_built}
 use Rattle.ufs_image_laws.proofs.VolumeLaws.{AreVolume}
 
 same_Ok : (x y : List ℕ) → ◌≡◌ {A = Result (List ℕ) BuildRefused} (Ok x) (Ok y) → x ≡ y

@@ -1,7 +1,6 @@
 -- A malformation of a built volume is one by its geometry.
-use Rattle.std.proofs.Common.{◌≡◌, ◌∙◌, ℕ, ◌%◌, List, ap, sym, subst}
-use Rattle.std.specs.Prelude.{Ok, Result}
-use Rattle.ufs_model.specs.Blocks.{Volume}
+use Rattle.std.proofs.Common.{◌≡◌, ℕ, ◌%◌, List, sym, subst}
+use Rattle.std.specs.Prelude.{Result}
 use Rattle.ufs_model.specs.Malformations.{IsBad, IsBadBy, IsMalformed}
 use Rattle.ufs_model.specs.Superblocks.{geometry_of}
 use Rattle.ufs_model.specs.declared.geometries.BadSuper.{BadSuper}

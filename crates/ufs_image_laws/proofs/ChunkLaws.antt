@@ -1,20 +1,14 @@
 -- Entries that were put one behind the other are read, chunk by chunk.
-use Rattle.std.proofs.Common.{◌≡◌, ◌≢◌, ◌∙◌, ℕ, zero, suc, ◌+◌, ◌-◌, ◌*◌, ◌/◌, ◌%◌, ◌^◌, ◌<◌, ◌≤◌, ◌⊎◌, ◌&&◌, ◌||◌, ◌==◌, not, Bool, true, false, List, [], ◌∷◌, ◌++◌, length, take, drop, get_or, refl, sym, ap, subst, arith, inl, inr, Some, None, append_assoc, length-append}
-use Rattle.std.specs.Prelude.{Err, Ok, Option, Result, filter, if◌then◌else◌, nat_le, nat_lt, replicate, slice_index}
+use Rattle.std.proofs.Common.{◌≡◌, ◌≢◌, ◌∙◌, ℕ, ◌+◌, ◌-◌, ◌*◌, ◌%◌, ◌^◌, ◌<◌, ◌≤◌, ◌&&◌, ◌==◌, not, Bool, true, false, List, [], ◌∷◌, ◌++◌, length, take, drop, get_or, refl, sym, ap, subst, arith, Some, None, append_assoc, length-append}
+use Rattle.std.specs.Prelude.{if◌then◌else◌, nat_le, nat_lt, replicate}
 use Rattle.std.specs.Int.{div_ceil}
-use Rattle.std.specs.List.{flat_map}
-use Rattle.std.proofs.Math.Nat.{mod-eq_of_lt}
-use Rattle.std.proofs.lemmas.Bool.{and_from, eq-eqb, false≢true, le-leb, le-ltb, leb-true, ne_eqb, not_from_true, or_right}
-use Rattle.std.proofs.lemmas.Bool.Decides.{nat_tests}
+use Rattle.std.proofs.lemmas.Bool.{and_from, eq-eqb, false≢true, le-leb, le-ltb, leb-true, ne_eqb, or_right}
 use Rattle.std.proofs.lemmas.Grind.{div_ceil_times}
 use Rattle.std.proofs.lemmas.List.{append-nil, drop-drop, drop_at, get_or-append_right, length-replicate, take_at}
-use Rattle.ufs_model.specs.Chunks.{DirEntry, chunk_in, entries_in, entry_before, entry_in, fault_at, fault_in, fault_or, has_inode, inode_field, is_name, is_used_entry, name_field, namlen_field, reclen_field, reclen_holds, type_field, used_entries}
-use Rattle.ufs_model.specs.Numbers.{number_at}
-use Rattle.ufs_model.specs.Superblocks.{unless_bad}
-use Rattle.ufs_model.specs.declared.chunks.BadEntry.{BadEntry}
+use Rattle.ufs_model.specs.Chunks.{DirEntry, entries_in, entry_before, entry_in, fault_at, fault_in, fault_or, has_inode, inode_field, is_name, name_field, namlen_field, reclen_field, reclen_holds, type_field}
 use Rattle.ufs_model.specs.declared.chunks.BadEntry.TheVariants.{Cut, Reclen, Name}
 use Rattle.ufs_model.specs.declared.numbers.Endian.{Endian}
-use Rattle.ufs_build.specs.Directories.{entry_bytes, entry_length, packed, reclen_in, room_after}
+use Rattle.ufs_build.specs.Directories.{entry_bytes, entry_length, packed, room_after}
 use Rattle.ufs_build.specs.Parts.{number_bytes}
 use Rattle.ufs_image_laws.specs.Reads.{Stands}
 use Rattle.ufs_image_laws.proofs.ListLaws.{Each}

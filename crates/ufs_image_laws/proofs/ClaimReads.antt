@@ -1,17 +1,16 @@
 -- The claims of a built volume are those of its files.
-use Rattle.std.proofs.Common.{◌≡◌, ◌≢◌, ◌∙◌, ℕ, zero, suc, ◌+◌, ◌-◌, ◌*◌, ◌/◌, ◌%◌, ◌^◌, ◌<◌, ◌≤◌, ◌⊎◌, ◌&&◌, ◌||◌, ◌==◌, not, Bool, true, false, List, [], ◌∷◌, ◌++◌, length, take, drop, get_or, refl, sym, ap, subst, arith, inl, inr, Some, None}
+use Rattle.std.proofs.Common.{◌≡◌, ◌≢◌, ◌∙◌, ℕ, zero, suc, ◌+◌, ◌-◌, ◌*◌, ◌/◌, ◌%◌, ◌<◌, ◌≤◌, ◌⊎◌, ◌&&◌, ◌==◌, not, Bool, true, false, List, [], ◌∷◌, length, get_or, refl, sym, ap, subst, arith, inl, inr, Some, None}
 use Rattle.std.specs.Prelude.{Contains, Option, if◌then◌else◌, nat_le, nat_lt, replicate, slice_get}
-use Rattle.std.proofs.Math.Nat.{add-mul, div-add-mod'}
-use Rattle.std.proofs.lemmas.Bool.{and_parts, cases_Bool, cases_eq, cases_lt, cases_order, eq-eqb, false≢true, leb-true, ltb-true, ne_eqb}
+use Rattle.std.proofs.Math.Nat.{add-mul}
+use Rattle.std.proofs.lemmas.Bool.{and_parts, cases_eq, cases_lt, eq-eqb, false≢true, leb-true, ltb-true, ne_eqb}
 use Rattle.std.proofs.lemmas.Bool.Decides.{nat_tests}
-use Rattle.std.proofs.lemmas.List.{get_or_past, length-replicate}
+use Rattle.std.proofs.lemmas.List.{length-replicate}
 use Rattle.std.proofs.lemmas.List.Elements.{Contains-append_cases}
 use Rattle.std.proofs.lemmas.Nat.{div-mul-add, mod-mul-add, mul-add-lt, same_from_place}
 use Rattle.std.proofs.lemmas.Option.{same_Some, slice_get-get_or}
-use Rattle.ufs_model.specs.Blocks.{Volume, block_at}
+use Rattle.ufs_model.specs.Blocks.{block_at}
 use Rattle.ufs_model.specs.Claims.{IsClaim, fragments_at, fragments_from, level_of, pointer_fragments, slot_fragments, slot_fragments_in, source_fragments}
 use Rattle.ufs_model.specs.Claims.IsClaim.{by_pointer, by_slot}
-use Rattle.ufs_model.specs.Geometries.{IsGeometry}
 use Rattle.ufs_model.specs.Inodes.{has_pointers, inode_of, is_inode_number, kind_has_pointers, kind_of, slot_of, span}
 use Rattle.ufs_model.specs.Numbers.{number_at}
 use Rattle.ufs_model.specs.Pointers.{address, pointer_in, slot_address}
@@ -21,25 +20,23 @@ use Rattle.ufs_model.specs.declared.geometries.Geometry.{Geometry}
 use Rattle.ufs_model.specs.declared.inodes.Inode.{Inode}
 use Rattle.ufs_model.specs.declared.inodes.Kind.TheVariants.{Unknown}
 use Rattle.ufs_model.specs.declared.pointers.Address.{Address}
-use Rattle.ufs_model.specs.declared.pointers.Address.TheVariants.{At, Hole, Wild}
+use Rattle.ufs_model.specs.declared.pointers.Address.TheVariants.{At, Hole}
 use Rattle.ufs_build.specs.Images.{first_below, slot_address as slot_value, volume_bytes}
 use Rattle.ufs_build.specs.Nodes.{Node}
 use Rattle.ufs_build.specs.Parts.{Part, number_bytes}
-use Rattle.ufs_build.specs.Placements.{Addresses, AllPlaced, Placed, address_at, blocks_of, is_used}
+use Rattle.ufs_build.specs.Placements.{Addresses, AllPlaced, address_at, blocks_of, is_used}
 use Rattle.ufs_image_laws.specs.Built.{blocks_in}
 use Rattle.ufs_image_laws.specs.Claims.{IsOfFile}
 use Rattle.ufs_image_laws.specs.Inodes.{IsInodeOf}
 use Rattle.ufs_image_laws.proofs.AddressReads.{FileOf, SlotsLead, address_spot, below, block_stands, direct_read, far_count, full_of, in_blocks, in_level, placed_of, spot, tests_of, upper_slot}
 use Rattle.ufs_image_laws.proofs.AreaLaws.{block_is}
-use Rattle.ufs_image_laws.proofs.FullLaws.{IsFull}
 use Rattle.ufs_image_laws.proofs.InodeReads.{inode_none, inode_read, small_address}
 use Rattle.ufs_image_laws.proofs.ItemLaws.{HasNumbers}
-use Rattle.ufs_image_laws.proofs.ListLaws.{Each}
 use Rattle.ufs_image_laws.proofs.NumberLaws.{number_back, number_in_area}
 use Rattle.ufs_image_laws.proofs.PlacingLaws.{ArePlaced, HasFragment, IsPlaced, both_ways, count_of, not_before}
 use Rattle.ufs_image_laws.proofs.SuperLaws.{NumbersFit}
 use Rattle.ufs_image_laws.proofs.VolumeLaws.{AreVolume, first_placed}
-use Rattle.ufs_image_laws.proofs.ZoneLaws.{Sizes, sizes}
+use Rattle.ufs_image_laws.proofs.ZoneLaws.{sizes}
 
 -- ---- fragments at an address
 

@@ -1,25 +1,19 @@
 -- The contents of the files of a built volume are read.
-use Rattle.std.proofs.Common.{◌≡◌, ◌≢◌, ◌∙◌, ℕ, zero, suc, ◌+◌, ◌-◌, ◌*◌, ◌/◌, ◌%◌, ◌^◌, ◌<◌, ◌≤◌, ◌⊎◌, ◌&&◌, ◌==◌, min, Bool, true, false, List, [], ◌∷◌, ◌++◌, length, take, drop, get_or, refl, sym, ap, subst, arith, inl, inr, Some, None, length-drop}
-use Rattle.std.specs.Prelude.{Err, Ok, Option, Result, if◌then◌else◌, nat_le, nat_lt, replicate}
+use Rattle.std.proofs.Common.{◌≡◌, ◌∙◌, ℕ, zero, suc, ◌+◌, ◌-◌, ◌*◌, ◌^◌, ◌<◌, ◌≤◌, ◌==◌, min, Bool, true, false, List, [], ◌∷◌, ◌++◌, length, take, drop, refl, sym, ap, arith, inl, inr, Some, None, length-drop}
+use Rattle.std.specs.Prelude.{Ok, Option, Result, if◌then◌else◌, nat_le, replicate}
 use Rattle.std.specs.Int.{div_ceil}
 use Rattle.std.specs.List.{flat_map, list_all, range_with_len}
 use Rattle.std.proofs.Math.Seq.{take-add}
-use Rattle.std.proofs.lemmas.Bool.{and_parts, cases_Bool, cases_eq, cases_lt, eqb-true, false≢true, ne_eqb}
+use Rattle.std.proofs.lemmas.Bool.{and_parts, cases_Bool, eqb-true}
 use Rattle.std.proofs.lemmas.Bool.Decides.{nat_tests}
 use Rattle.std.proofs.lemmas.Grind.{div_ceil_times}
 use Rattle.std.proofs.lemmas.List.{length-take, take-take, take_all}
-use Rattle.ufs_model.specs.Blocks.{Reading, Volume, area_of, bind}
-use Rattle.ufs_model.specs.Geometries.{IsGeometry}
+use Rattle.ufs_model.specs.Blocks.{Reading, Volume, bind}
 use Rattle.ufs_model.specs.Inodes.{block_count, kind_of}
-use Rattle.ufs_model.specs.Paths.{block_of, bytes_at, bytes_in_block, contents_of, file_refusal, front_in, front_of, is_regular, part_of, size_refusal, unless_refused}
-use Rattle.ufs_model.specs.Pointers.{file_block_of}
+use Rattle.ufs_model.specs.Paths.{block_of, bytes_at, bytes_in_block, contents_of, file_refusal, front_in, front_of, is_regular, part_of, unless_refused}
 use Rattle.ufs_model.specs.Readings.{and_then, on_ok}
 use Rattle.ufs_model.specs.declared.geometries.Geometry.{Geometry}
 use Rattle.ufs_model.specs.declared.inodes.Inode.{Inode}
-use Rattle.ufs_model.specs.declared.inodes.Kind.TheVariants.{Regular}
-use Rattle.ufs_model.specs.declared.reads.BadRead.TheVariants.{Filesize}
-use Rattle.ufs_model.specs.declared.reads.PathRefusal.{PathRefusal}
-use Rattle.ufs_model.specs.declared.reads.PathRefusal.TheVariants.{Bad, NotRegular}
 use Rattle.ufs_model.specs.declared.pointers.Address.{Address}
 use Rattle.ufs_model.specs.declared.pointers.Address.TheVariants.{At, Hole}
 use Rattle.ufs_build.specs.Images.{block_parts, data_parts, level_parts, volume_bytes}
@@ -27,14 +21,11 @@ use Rattle.ufs_build.specs.Nodes.{Node}
 use Rattle.ufs_build.specs.Parts.{Part}
 use Rattle.ufs_build.specs.Placements.{Addresses, AllPlaced, address_at, block_bytes, blocks_of, fragments_of, is_hole}
 use Rattle.ufs_image_laws.specs.Built.{blocks_in}
-use Rattle.ufs_image_laws.specs.Reads.{Stands}
-use Rattle.ufs_image_laws.proofs.AddressReads.{FileOf, SlotsLead, block_found, block_stands, full_of, placed_of, some_of, spot, tests_of}
+use Rattle.ufs_image_laws.proofs.AddressReads.{FileOf, SlotsLead, block_found, block_stands, full_of, placed_of, some_of, tests_of}
 use Rattle.ufs_image_laws.proofs.AreaLaws.{area_is}
-use Rattle.ufs_image_laws.proofs.FullLaws.{HasChain, IsFull}
 use Rattle.ufs_image_laws.proofs.ListLaws.{Has, has_flat, has_left}
 use Rattle.ufs_image_laws.proofs.PartLaws.{block_room}
-use Rattle.ufs_image_laws.proofs.PlacingLaws.{IsRun}
-use Rattle.ufs_image_laws.proofs.ZoneLaws.{Sizes, sizes}
+use Rattle.ufs_image_laws.proofs.ZoneLaws.{sizes}
 
 -- ---- which blocks are holes
 

@@ -1,8 +1,7 @@
 -- The directories of a built volume, by their items.
-use Rattle.std.proofs.Common.{◌≡◌, ◌∙◌, ℕ, zero, suc, ◌+◌, ◌*◌, ◌^◌, ◌<◌, ◌≤◌, ◌&&◌, Bool, true, false, List, [], ◌∷◌, length, get_or, refl, sym, ap, subst, arith, Some}
-use Rattle.std.specs.Prelude.{Ok, Option, if◌then◌else◌, nat_lt, replicate, slice_get}
+use Rattle.std.proofs.Common.{◌≡◌, ◌∙◌, ℕ, suc, ◌+◌, ◌^◌, ◌<◌, ◌≤◌, ◌&&◌, Bool, true, false, List, [], length, get_or, refl, sym, ap, subst, arith, Some}
+use Rattle.std.specs.Prelude.{Ok, if◌then◌else◌, nat_lt, replicate, slice_get}
 use Rattle.std.proofs.lemmas.Option.{slice_get-get_or, slice_get_within}
-use Rattle.ufs_model.specs.Chunks.{DirEntry}
 use Rattle.ufs_model.specs.Inodes.{inode_of, kind_of}
 use Rattle.ufs_model.specs.Paths.{entries_of, is_directory}
 use Rattle.ufs_model.specs.declared.inodes.Inode.{Inode}
@@ -16,11 +15,9 @@ use Rattle.ufs_build.specs.declared.items.ItemKind.TheVariants.{Dir}
 use Rattle.ufs_build.specs.declared.volumes.Spec.{Spec}
 use Rattle.ufs_image_laws.specs.Built.{IsBuilt, blocks_in, nodes_in, root_of}
 use Rattle.ufs_image_laws.proofs.BuiltLaws.{are_volume, at_place, whole_geometry}
-use Rattle.ufs_image_laws.proofs.ChunkLaws.{IsGoodEntry}
 use Rattle.ufs_image_laws.proofs.DirectoryReads.{AreChunks, IsDirectory, entries_read}
-use Rattle.ufs_image_laws.proofs.FileLaws.{HasInode, file_of, inode_is}
-use Rattle.ufs_image_laws.proofs.ItemLaws.{count_of_files, file_of_item, file_of_root, good_items}
-use Rattle.ufs_image_laws.proofs.ListLaws.{Each}
+use Rattle.ufs_image_laws.proofs.FileLaws.{file_of, inode_is}
+use Rattle.ufs_image_laws.proofs.ItemLaws.{file_of_item, file_of_root, good_items}
 use Rattle.ufs_image_laws.proofs.NameLaws.{directory_chunks, directory_good}
 use Rattle.ufs_image_laws.proofs.ParentLaws.{IsLow, parents_low}
 use Rattle.ufs_image_laws.proofs.PlacingLaws.{count_placed}

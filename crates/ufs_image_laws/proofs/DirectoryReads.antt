@@ -1,42 +1,38 @@
 -- The entries of the directories of a built volume are read.
-use Rattle.std.proofs.Common.{◌≡◌, ◌≢◌, ◌∙◌, ℕ, zero, suc, ◌+◌, ◌-◌, ◌*◌, ◌/◌, ◌%◌, ◌^◌, ◌<◌, ◌≤◌, ◌⊎◌, ◌&&◌, ◌||◌, ◌==◌, min, not, Bool, true, false, List, [], ◌∷◌, ◌++◌, length, take, drop, get_or, refl, sym, ap, subst, arith, inl, inr, Some, None, append_assoc, length-append, length-drop}
-use Rattle.std.specs.Prelude.{Err, Ok, Option, Result, filter, if◌then◌else◌, nat_le, nat_lt, replicate}
+use Rattle.std.proofs.Common.{◌≡◌, ◌∙◌, ℕ, zero, suc, ◌+◌, ◌-◌, ◌*◌, ◌/◌, ◌%◌, ◌^◌, ◌<◌, ◌≤◌, ◌==◌, min, Bool, true, false, List, [], ◌∷◌, ◌++◌, length, take, drop, refl, sym, ap, subst, arith, inl, inr, Some, None, length-append, length-drop}
+use Rattle.std.specs.Prelude.{Ok, if◌then◌else◌, nat_le, replicate}
 use Rattle.std.specs.Int.{div_ceil}
 use Rattle.std.specs.List.{flat_map}
 use Rattle.std.specs.Option.{ok_or}
-use Rattle.std.proofs.Math.Nat.{div-add-mod', mul-le-mul_right}
-use Rattle.std.proofs.lemmas.Bool.{cases_Bool, cases_eq, cases_lt, eq-eqb, eqb-true, false≢true, ne_eqb}
+use Rattle.std.proofs.lemmas.Bool.{cases_Bool, eq-eqb, eqb-true, ne_eqb}
 use Rattle.std.proofs.lemmas.Bool.Decides.{nat_tests}
 use Rattle.std.proofs.lemmas.Grind.{div_ceil_times}
-use Rattle.std.proofs.lemmas.List.{append-nil, drop-drop, drop-take, drop_at, length-take, take-replicate, take-take, take_at}
+use Rattle.std.proofs.lemmas.List.{drop-drop, drop-take, drop_at, length-take, take-replicate, take-take, take_at}
 use Rattle.std.proofs.lemmas.List.Concat.{flat_map-append}
-use Rattle.ufs_model.specs.Blocks.{Reading, Volume, bind, known}
-use Rattle.ufs_model.specs.Chunks.{DirEntry, chunk_in, entries_in, fault_at, fault_in, is_used_entry, reclen_holds, used_entries}
+use Rattle.ufs_model.specs.Blocks.{known}
+use Rattle.ufs_model.specs.Chunks.{DirEntry, chunk_in, entries_in, fault_at, fault_in, reclen_holds, used_entries}
 use Rattle.ufs_model.specs.Geometries.{IsGeometry, is_block_size}
 use Rattle.ufs_model.specs.Inodes.{block_count, kind_of}
 use Rattle.ufs_model.specs.Numbers.{number_at}
-use Rattle.ufs_model.specs.Paths.{block_of, bytes_in_block, chunks_in, chunks_of, directory_refusal, entries_before, entries_of, entries_then, entries_through, is_directory, unless_refused}
-use Rattle.ufs_model.specs.Readings.{and_then, on_ok}
-use Rattle.ufs_model.specs.declared.chunks.BadEntry.{BadEntry}
+use Rattle.ufs_model.specs.Paths.{block_of, bytes_in_block, chunks_in, chunks_of, directory_refusal, entries_before, entries_of, entries_through, is_directory, unless_refused}
 use Rattle.ufs_model.specs.declared.chunks.BadEntry.TheVariants.{Reclen}
 use Rattle.ufs_model.specs.declared.geometries.Geometry.{Geometry}
 use Rattle.ufs_model.specs.declared.inodes.Inode.{Inode}
 use Rattle.ufs_model.specs.declared.numbers.Endian.{Endian}
 use Rattle.ufs_model.specs.declared.numbers.Endian.TheVariants.{Big, Little}
 use Rattle.ufs_model.specs.declared.reads.BadRead.TheVariants.{Hole}
-use Rattle.ufs_model.specs.declared.reads.PathRefusal.{PathRefusal}
 use Rattle.ufs_model.specs.declared.reads.PathRefusal.TheVariants.{Bad}
 use Rattle.ufs_build.specs.Directories.{packed}
 use Rattle.ufs_build.specs.Images.{volume_bytes}
 use Rattle.ufs_build.specs.Nodes.{Node}
-use Rattle.ufs_build.specs.Placements.{Addresses, AllPlaced, address_at, block_bytes, blocks_of, fragments_of, is_hole}
+use Rattle.ufs_build.specs.Placements.{Addresses, AllPlaced, address_at, block_bytes, blocks_of, fragments_of}
 use Rattle.ufs_image_laws.specs.Built.{blocks_in}
 use Rattle.ufs_image_laws.proofs.AddressReads.{FileOf, SlotsLead, tests_of}
-use Rattle.ufs_image_laws.proofs.ChunkLaws.{IsGoodEntry, IsRest, entry_room, rest_is}
+use Rattle.ufs_image_laws.proofs.ChunkLaws.{IsGoodEntry, entry_room, rest_is}
 use Rattle.ufs_image_laws.proofs.ContentReads.{block_read, blocks_outside, hole_bytes, hole_is, ok_then, part_by}
 use Rattle.ufs_image_laws.proofs.FullLaws.{block_bytes_low}
 use Rattle.ufs_image_laws.proofs.ListLaws.{Each}
-use Rattle.ufs_image_laws.proofs.ZoneLaws.{Sizes, sizes}
+use Rattle.ufs_image_laws.proofs.ZoneLaws.{sizes}
 
 -- ---- chunks of bytes
 
@@ -48,7 +44,7 @@ each_right : {X : Type 0} (P : X → Type 0) (xs ys : List X) → Each P (xs ++ 
 each_right P [] ys h = h
 each_right P (x ∷ xs) ys h = each_right P xs ys (h.1)
 
-chunks_split : (m k : ℕ) (xs : List ℕ) → chunks_in (m + k) xs ≡ chunks_in m xs ++ chunks_in k (drop (512 * m) xs)
+pub chunks_split : (m k : ℕ) (xs : List ℕ) → chunks_in (m + k) xs ≡ chunks_in m xs ++ chunks_in k (drop (512 * m) xs)
 chunks_split zero k xs = ap (λ (n : ℕ). chunks_in n xs) (let z : 0 + k ≡ k = omega arith in z) ∙ ap (λ (n : ℕ). chunks_in k (drop n xs)) (let z : 0 ≡ 512 * 0 = omega arith in z)
 chunks_split (suc m) k xs =
     ap (λ (n : ℕ). chunks_in n xs) (let z : suc m + k ≡ suc (m + k) = omega arith in z)
@@ -123,7 +119,7 @@ are_chunks endian (suc fuel) (entry ∷ further) few good =
 
 -- ---- a block of a directory
 
-block_unit : (n : ℕ) → is_block_size n ≡ true → n ≡ 512 * (n / 512)
+pub block_unit : (n : ℕ) → is_block_size n ≡ true → n ≡ 512 * (n / 512)
 unfolding is_block_size
 block_unit n h = grind (arith, nat_tests)
 
@@ -145,13 +141,13 @@ before_block g count n = min (n * (g.bsize / 512)) count
 abbrev pub in_block : Geometry → ℕ → ℕ → ℕ
 in_block g count n = min g.bsize (512 * count - n * g.bsize) / 512
 
-record BlockIs (g : Geometry) (count n : ℕ) : Type 0 where
-  before : before_block g count n ≡ n * (g.bsize / 512)
-  place : 512 * before_block g count n ≡ n * g.bsize
-  next : before_block g count (suc n) ≡ before_block g count n + in_block g count n
-  whole : 512 * in_block g count n ≡ min g.bsize (512 * count - n * g.bsize)
-  some : 1 ≤ in_block g count n
-  inside : before_block g count n + in_block g count n ≤ count
+pub record BlockIs (g : Geometry) (count n : ℕ) : Type 0 where
+  pub before : before_block g count n ≡ n * (g.bsize / 512)
+  pub place : 512 * before_block g count n ≡ n * g.bsize
+  pub next : before_block g count (suc n) ≡ before_block g count n + in_block g count n
+  pub whole : 512 * in_block g count n ≡ min g.bsize (512 * count - n * g.bsize)
+  pub some : 1 ≤ in_block g count n
+  pub inside : before_block g count n + in_block g count n ≤ count
 
 block_numbers : (bsize unit count n : ℕ) → bsize ≡ 512 * unit → 1 ≤ unit → n * bsize < 512 * count
     → (512 * (n * unit) ≡ n * bsize) × (n * unit < count) × (min bsize (512 * count - n * bsize) / 512 ≡ min unit (count - n * unit)) × (suc n * unit ≡ n * unit + unit)
@@ -160,7 +156,7 @@ block_numbers bsize unit count n e some low =
     let same : n * bsize ≡ 512 * (n * unit) = ap (λ (b : ℕ). n * b) e ∙ turn in
     (omega arith, omega arith, omega arith, omega arith)
 
-block_is : (g : Geometry) (count n : ℕ) → IsGeometry g → n * g.bsize < 512 * count → BlockIs g count n
+pub block_is : (g : Geometry) (count n : ℕ) → IsGeometry g → n * g.bsize < 512 * count → BlockIs g count n
 block_is g count n is low =
     let block = is.bsize in
     let unit = block_unit g.bsize (block.0) in
@@ -275,7 +271,7 @@ entries_front g nodes all k node addresses inode entries (suc n) is slots dir lo
     ∙ ok_then (known (entries_through g.endian own)) _ v (flat_map (found_in g.endian) own) (through_whole g.endian own (block_whole g node entries n dir tests bytes))
     ∙ ap Ok (sym (flat_map-append (found_in g.endian) (chunks_in d node.bytes) own) ∙ ap (flat_map (found_in g.endian)) (sym more))
 
-no_refusal : (inode : Inode) (count : ℕ) → is_directory (kind_of inode.mode) ≡ true → inode.size < 2 ^ 32 → inode.size ≡ 512 * count → directory_refusal inode ≡ None
+pub no_refusal : (inode : Inode) (count : ℕ) → is_directory (kind_of inode.mode) ≡ true → inode.size < 2 ^ 32 → inode.size ≡ 512 * count → directory_refusal inode ≡ None
 unfolding directory_refusal
 no_refusal inode count directory small whole =
     let few : nat_le (2 ^ 32) inode.size ≡ false = grind (arith, nat_tests) in

@@ -1,14 +1,13 @@
 -- The entries of the directories of a built volume name its files.
-use Rattle.std.proofs.Common.{◌≡◌, ◌≢◌, ◌∙◌, ℕ, zero, suc, ◌+◌, ◌-◌, ◌*◌, ◌^◌, ◌<◌, ◌≤◌, ◌⊎◌, ◌&&◌, ◌==◌, Bool, true, false, List, [], ◌∷◌, length, get_or, refl, sym, ap, subst, arith, inl, inr, Some, None}
-use Rattle.std.specs.Prelude.{Err, MatchOption, Ok, Option, Result, if◌then◌else◌, nat_le, nat_lt, slice_get}
-use Rattle.std.proofs.lemmas.Bool.{and_from, cases_Bool, cases_eq, cases_order, false≢true, le-leb, leb-false, lt-ltb}
-use Rattle.std.proofs.lemmas.Bool.Decides.{nat_tests}
+use Rattle.std.proofs.Common.{◌≡◌, ◌≢◌, ◌∙◌, ℕ, zero, suc, ◌+◌, ◌*◌, ◌^◌, ◌<◌, ◌⊎◌, Bool, true, List, [], ◌∷◌, length, get_or, refl, sym, ap, subst, arith, inl, inr, Some, None}
+use Rattle.std.specs.Prelude.{MatchOption, Ok, Option, Result, if◌then◌else◌, nat_le, nat_lt, slice_get}
+use Rattle.std.proofs.lemmas.Bool.{and_from, cases_Bool, cases_order, le-leb, leb-false, lt-ltb}
 use Rattle.std.proofs.lemmas.Option.{same_Some, slice_get_within}
-use Rattle.ufs_model.specs.Blocks.{Volume, known}
+use Rattle.ufs_model.specs.Blocks.{Volume}
 use Rattle.ufs_model.specs.Chunks.{DirEntry}
 use Rattle.ufs_model.specs.Inodes.{block_count, entry_type_of, inode_of, is_inode_number, kind_of}
-use Rattle.ufs_model.specs.Malformations.{EntryAt, HasBadEntry, HasBadType, HasDots, HasEntries, HasSameNames, IsInode, IsNamed, IsNamedTwice, IsParent, IsPlain, IsUp, PlainAt, inode_at}
-use Rattle.ufs_model.specs.Paths.{directory_refusal, entries_before, entries_of, is_directory, refused_first, size_refusal, chunk_refusal, unless_refused}
+use Rattle.ufs_model.specs.Malformations.{EntryAt, HasBadEntry, HasBadType, HasDots, HasEntries, HasSameNames, IsNamedTwice, PlainAt, inode_at}
+use Rattle.ufs_model.specs.Paths.{directory_refusal, entries_before, entries_of, is_directory, refused_first, chunk_refusal, unless_refused}
 use Rattle.ufs_model.specs.declared.geometries.Geometry.{Geometry}
 use Rattle.ufs_model.specs.declared.inodes.Inode.{Inode}
 use Rattle.ufs_model.specs.declared.inodes.Kind.{Kind}
@@ -16,31 +15,30 @@ use Rattle.ufs_model.specs.declared.inodes.Kind.TheVariants.{Directory}
 use Rattle.ufs_model.specs.declared.reads.BadRead.TheVariants.{Filesize}
 use Rattle.ufs_model.specs.declared.reads.PathRefusal.{PathRefusal}
 use Rattle.ufs_model.specs.declared.reads.PathRefusal.TheVariants.{Bad, NotDirectory}
-use Rattle.ufs_build.specs.Directories.{directory_bytes, directory_entries, entries_from, entry_type, item_entry}
-use Rattle.ufs_build.specs.Items.{dot, dot_dot, is_dir, name_of, parent_of}
-use Rattle.ufs_build.specs.Nodes.{Node, is_link, mode_of, node_of}
+use Rattle.ufs_build.specs.Directories.{directory_bytes, directory_entries, entries_from, entry_type}
+use Rattle.ufs_build.specs.Items.{dot, dot_dot, is_dir, parent_of}
+use Rattle.ufs_build.specs.Nodes.{Node, mode_of, node_of}
 use Rattle.ufs_build.specs.declared.items.Item.{Item}
 use Rattle.ufs_build.specs.declared.items.ItemKind.{ItemKind}
 use Rattle.ufs_build.specs.declared.items.ItemKind.TheVariants.{Dir, File, Link}
 use Rattle.ufs_build.specs.declared.volumes.Spec.{Spec}
 use Rattle.ufs_image_laws.specs.Built.{IsBuilt, nodes_in, root_of}
-use Rattle.ufs_image_laws.proofs.AddressReads.{FileOf, SlotsLead}
 use Rattle.ufs_image_laws.proofs.BuiltFiles.{built_whole}
 use Rattle.ufs_image_laws.proofs.BuiltLaws.{at_place}
-use Rattle.ufs_image_laws.proofs.ClaimReads.{AreFiles, HasKind, file_of_inode, no_addresses, no_node}
+use Rattle.ufs_image_laws.proofs.ClaimReads.{file_of_inode, no_addresses}
 use Rattle.ufs_image_laws.proofs.DirectoryLaws.{few_inodes}
-use Rattle.ufs_image_laws.proofs.DirectoryReads.{AreChunks, IsDirectory, entries_read}
+use Rattle.ufs_image_laws.proofs.DirectoryReads.{AreChunks, entries_read}
 use Rattle.ufs_image_laws.proofs.InodeReads.{inode_read}
-use Rattle.ufs_image_laws.proofs.ItemLaws.{HasNumbers, count_of_files, file_of_item, file_of_root, good_items}
+use Rattle.ufs_image_laws.proofs.ItemLaws.{count_of_files, file_of_item, file_of_root, good_items}
 use Rattle.ufs_image_laws.proofs.NameLaws.{directory_chunks, directory_good}
 use Rattle.ufs_image_laws.proofs.ParentLaws.{IsLow, parents_low}
-use Rattle.ufs_image_laws.proofs.StructureLaws.{AreWhole, IsFound, found_inode, outside_by_kind, volume_of}
+use Rattle.ufs_image_laws.proofs.StructureLaws.{found_inode, outside_by_kind, volume_of}
 use Rattle.ufs_image_laws.proofs.TreeLaws.{IsItemEntry, ParentIs, entries_order, entry_is, not_dots, one_name, parent_is, standing}
 use Rattle.ufs_image_laws.proofs.TreeLaws.ParentIs.{in_item, in_root}
 
 -- ---- the files of items
 
-some_at : {X : Type 0} (xs : List X) (j : ℕ) → j < length xs → (x : X) × (slice_get xs j ≡ Some x)
+pub some_at : {X : Type 0} (xs : List X) (j : ℕ) → j < length xs → (x : X) × (slice_get xs j ≡ Some x)
 some_at [] j low = absurd (omega arith)
 some_at (x ∷ xs) zero low = (x, refl)
 some_at (x ∷ xs) (suc j) low = some_at xs j (omega arith)
@@ -77,7 +75,7 @@ directory_kind : (mode : ℕ) → mode ≡ 0x41ed → kind_of mode ≡ Directory
 unfolding kind_of
 directory_kind mode e = subst (λ (m : ℕ). kind_of m ≡ Directory) (sym e) refl
 
-is_directory_kind : (kind : Kind) → kind ≡ Directory → is_directory kind ≡ true
+pub is_directory_kind : (kind : Kind) → kind ≡ Directory → is_directory kind ≡ true
 is_directory_kind kind e = subst (λ (k : Kind). is_directory k ≡ true) (sym e) refl
 
 directory_bytes_is : (kind : ItemKind) (directory own : List ℕ) → kind ≡ Dir → (if is_dir kind then directory else own) ≡ directory
@@ -89,7 +87,7 @@ UpIs items parents k up =
     ((k ≡ 0) × (up ≡ 2)) ⊎ ((j : ℕ) × (item : Item) × (k ≡ suc j) × (slice_get items j ≡ Some item) × (item.kind ≡ Dir) × (slice_get parents j ≡ Some up))
 
 -- a directory among the files, with its entries
-dir_file : (spec : Spec) (items : List Item) (image : List ℕ) (is : IsBuilt spec items image) (k : ℕ) (node : Node) → slice_get (nodes_in is) k ≡ Some node → kind_of node.mode ≡ Directory
+pub dir_file : (spec : Spec) (items : List Item) (image : List ℕ) (is : IsBuilt spec items image) (k : ℕ) (node : Node) → slice_get (nodes_in is) k ≡ Some node → kind_of node.mode ≡ Directory
     → (up : ℕ) × UpIs items is.parents k up × AreChunks is.g.endian (directory_entries items is.parents (2 + k) up) node.bytes
 dir_file spec items image is zero node e kind =
     let good = good_items items is.parents is.stand in
@@ -183,7 +181,7 @@ pub data EntryOf (items : List Item) (parents : List ℕ) (i up k : ℕ) (entry 
   up_entry : k ≡ 1 → entry ≡ record { inode = up; kind = 4; name = dot_dot } → EntryOf items parents i up k entry
   of_item : (m : ℕ) → k ≡ suc (suc m) → slice_get (entries_from i 3 items parents) m ≡ Some entry → IsItemEntry items parents i 3 entry → EntryOf items parents i up k entry
 
-entry_of : (items : List Item) (parents : List ℕ) (i up k : ℕ) (entry : DirEntry) → slice_get (directory_entries items parents i up) k ≡ Some entry → EntryOf items parents i up k entry
+pub entry_of : (items : List Item) (parents : List ℕ) (i up k : ℕ) (entry : DirEntry) → slice_get (directory_entries items parents i up) k ≡ Some entry → EntryOf items parents i up k entry
 unfolding directory_entries
 entry_of items parents i up zero entry e = own_entry refl (sym (same_Some (record { inode = i; kind = 4; name = dot }) entry e))
 entry_of items parents i up (suc zero) entry e = up_entry refl (sym (same_Some (record { inode = up; kind = 4; name = dot_dot }) entry e))
@@ -371,7 +369,7 @@ no_twice_named spec items image is d bad =
 dots_differ : dot ≡ dot_dot → ⊥
 dots_differ e = let clash : length dot ≡ length dot_dot = ap (λ (xs : List ℕ). length xs) e in omega arith
 
-names_by : (spec : Spec) (items : List Item) (image : List ℕ) (is : IsBuilt spec items image) (i up down j k : ℕ) (one other : DirEntry) → EntryOf items is.parents i up j one
+pub names_by : (spec : Spec) (items : List Item) (image : List ℕ) (is : IsBuilt spec items image) (i up down j k : ℕ) (one other : DirEntry) → EntryOf items is.parents i up j one
     → EntryOf items is.parents i down k other → (j ≢ k) → one.name ≡ other.name → ⊥
 names_by spec items image is i up down j k one other (own_entry e same) (own_entry f equal) differ names = differ (e ∙ sym f)
 names_by spec items image is i up down j k one other (own_entry e same) (up_entry f equal) differ names =

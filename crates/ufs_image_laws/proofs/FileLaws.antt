@@ -1,31 +1,27 @@
 -- A file of a built volume, by its item.
-use Rattle.std.proofs.Common.{◌≡◌, ◌∙◌, ℕ, zero, suc, ◌+◌, ◌*◌, ◌^◌, ◌<◌, ◌≤◌, ◌&&◌, Bool, true, false, List, [], length, get_or, refl, sym, ap, subst, arith, Some}
-use Rattle.std.specs.Prelude.{Ok, Option, if◌then◌else◌, nat_lt, replicate, slice_get}
-use Rattle.std.proofs.lemmas.List.{length-replicate}
+use Rattle.std.proofs.Common.{◌≡◌, ◌∙◌, ℕ, suc, ◌+◌, ◌&&◌, Bool, true, false, List, [], length, get_or, refl, sym, ap, subst, arith, Some}
+use Rattle.std.specs.Prelude.{Ok, if◌then◌else◌, nat_lt, replicate, slice_get}
 use Rattle.std.proofs.lemmas.Option.{same_Some, slice_get-get_or, slice_get_within}
-use Rattle.ufs_model.specs.Inodes.{inode_of, kind_of, slot_of}
+use Rattle.ufs_model.specs.Inodes.{inode_of, kind_of}
 use Rattle.ufs_model.specs.Paths.{contents_of, is_regular}
 use Rattle.ufs_model.specs.declared.geometries.Geometry.{Geometry}
 use Rattle.ufs_model.specs.declared.inodes.Inode.{Inode}
 use Rattle.ufs_build.specs.Directories.{directory_bytes}
-use Rattle.ufs_build.specs.Images.{volume_bytes}
 use Rattle.ufs_build.specs.Nodes.{Node, is_link, mode_of, node_of}
 use Rattle.ufs_build.specs.Items.{is_dir}
 use Rattle.ufs_build.specs.Placements.{Addresses}
 use Rattle.ufs_build.specs.declared.items.Item.{Item}
 use Rattle.ufs_build.specs.declared.items.ItemKind.{ItemKind}
-use Rattle.ufs_build.specs.declared.items.ItemKind.TheVariants.{Dir, File, Link}
+use Rattle.ufs_build.specs.declared.items.ItemKind.TheVariants.{File}
 use Rattle.ufs_build.specs.declared.volumes.Spec.{Spec}
 use Rattle.ufs_image_laws.specs.Built.{IsBuilt, blocks_in, nodes_in}
-use Rattle.ufs_image_laws.specs.Inodes.{IsInodeOf}
 use Rattle.ufs_image_laws.proofs.AddressReads.{FileOf, SlotsLead}
 use Rattle.ufs_image_laws.proofs.BuiltLaws.{are_volume, at_place, built_numbers}
 use Rattle.ufs_image_laws.proofs.ContentReads.{contents_read}
 use Rattle.ufs_image_laws.proofs.InodeReads.{inode_read}
-use Rattle.ufs_image_laws.proofs.ItemLaws.{HasNumbers, IsGoodItem, contents_small, count_of_files, file_of_item, good_items}
+use Rattle.ufs_image_laws.proofs.ItemLaws.{HasNumbers, IsGoodItem, contents_small, file_of_item, good_items}
 use Rattle.ufs_image_laws.proofs.PlacingLaws.{count_placed}
 use Rattle.ufs_image_laws.proofs.SuperLaws.{geometry_of_built}
-use Rattle.ufs_image_laws.proofs.VolumeLaws.{AreVolume}
 
 pub file_of : (spec : Spec) (items : List Item) (image : List ℕ) (is : IsBuilt spec items image) (k : ℕ) (node : Node) (addresses : Addresses)
     → slice_get (nodes_in is) k ≡ Some node → slice_get is.all.files k ≡ Some addresses → FileOf is.g (nodes_in is) is.all k node addresses

@@ -1,20 +1,19 @@
 -- Each block of a file got an address, and so did the indirect blocks above it; holes got none.
-use Rattle.std.proofs.Common.{◌≡◌, ◌≢◌, ◌∙◌, ℕ, zero, suc, ◌+◌, ◌-◌, ◌*◌, ◌/◌, ◌%◌, ◌<◌, ◌≤◌, ◌⊎◌, ◌&&◌, ◌||◌, ◌==◌, Bool, true, false, List, [], ◌∷◌, ◌++◌, length, get_or, set, cond, refl, sym, ap, subst, arith, inl, inr, Some, None}
-use Rattle.std.specs.Prelude.{Option, if◌then◌else◌, nat_le, nat_lt, replicate}
+use Rattle.std.proofs.Common.{◌≡◌, ◌≢◌, ◌∙◌, ℕ, zero, suc, ◌+◌, ◌-◌, ◌*◌, ◌/◌, ◌<◌, ◌≤◌, ◌⊎◌, ◌||◌, ◌==◌, Bool, true, false, List, length, get_or, set, refl, sym, ap, subst, arith, inl, inr, Some, None}
+use Rattle.std.specs.Prelude.{Option, if◌then◌else◌, nat_le, nat_lt}
 use Rattle.std.specs.Int.{div_ceil}
 use Rattle.std.proofs.Math.Nat.{mul-le-mul_right}
-use Rattle.std.proofs.lemmas.Bool.{cases_Bool, cases_eq, cases_lt, cond-true, eq-eqb, false≢true}
+use Rattle.std.proofs.lemmas.Bool.{cases_eq, cases_lt, cond-true, eq-eqb, false≢true}
 use Rattle.std.proofs.lemmas.Bool.Decides.{nat_tests}
 use Rattle.std.proofs.lemmas.Grind.{div_ceil_times}
 use Rattle.std.proofs.lemmas.List.{get_or-set_same, length-replicate, length-set}
 use Rattle.std.proofs.lemmas.Nat.{div_below, mul-lt}
 use Rattle.std.proofs.lemmas.Option.{same_Some}
 use Rattle.ufs_model.specs.Geometries.{IsGeometry, cgstart}
-use Rattle.ufs_model.specs.Pointers.{is_data_run}
 use Rattle.ufs_model.specs.Roles.{has_super, is_data_of, role, role_in}
 use Rattle.ufs_model.specs.declared.geometries.Geometry.{Geometry}
 use Rattle.ufs_build.specs.Nodes.{Node}
-use Rattle.ufs_build.specs.Placements.{Addresses, Placed, address_at, addresses_at, and_then, blocks_of, count_through, first_through, fragments_of, indirect_count, is_hole, is_used, lowest, marked, no_addresses, placed_at, placed_file, with_address, with_block, with_block_above, with_block_or_hole, with_blocks_below, with_file_block}
+use Rattle.ufs_build.specs.Placements.{Addresses, Placed, address_at, addresses_at, blocks_of, count_through, first_through, fragments_of, indirect_count, is_hole, is_used, lowest, marked, no_addresses, placed_at, placed_file, with_address, with_block, with_block_above, with_block_or_hole, with_blocks_below, with_file_block}
 use Rattle.ufs_image_laws.proofs.PlacingLaws.{HasFragment, IsPlace, address_either, at_level, count_of, data_in_run, lowest_place, marked_only, none_at, role_by, some_then}
 use Rattle.ufs_image_laws.proofs.ZoneLaws.{Sizes, sizes}
 

@@ -1,14 +1,14 @@
 -- The group blocks of a built volume are read.
-use Rattle.std.proofs.Common.{◌≡◌, ◌∙◌, ℕ, zero, suc, ◌+◌, ◌-◌, ◌*◌, ◌/◌, ◌%◌, ◌^◌, ◌<◌, ◌≤◌, ◌==◌, ◌&&◌, not, min, Bool, true, false, List, [], ◌∷◌, ◌++◌, length, take, drop, get_or, refl, sym, ap, subst, arith, inl, inr}
-use Rattle.std.specs.Prelude.{Ok, find, nat_le, nat_lt}
+use Rattle.std.proofs.Common.{◌≡◌, ◌∙◌, ℕ, ◌+◌, ◌-◌, ◌*◌, ◌/◌, ◌%◌, ◌^◌, ◌<◌, ◌≤◌, ◌==◌, ◌&&◌, not, Bool, true, false, List, [], ◌∷◌, ◌++◌, length, take, drop, get_or, refl, sym, ap, arith, inl, inr}
+use Rattle.std.specs.Prelude.{Ok, nat_le, nat_lt}
 use Rattle.std.specs.Int.{div_ceil}
 use Rattle.std.specs.List.{flat_map, range_with_len}
-use Rattle.std.proofs.Math.Nat.{add-mul, div-add-mod', div-lt_iff_lt-mul, mul-le-mul_right}
+use Rattle.std.proofs.Math.Nat.{div-add-mod', div-lt_iff_lt-mul, mul-le-mul_right}
 use Rattle.std.proofs.lemmas.Bool.{and_from, cases_lt, eq-eqb, le-leb}
 use Rattle.std.proofs.lemmas.Grind.{div_ceil_times}
 use Rattle.std.proofs.lemmas.List.FromFn.{get_or-map-range_with_len, length-map-range_with_len}
 use Rattle.std.proofs.lemmas.Nat.{mod_below}
-use Rattle.ufs_model.specs.Blocks.{Volume, area_of, bind}
+use Rattle.ufs_model.specs.Blocks.{bind}
 use Rattle.ufs_model.specs.Geometries.{IsGeometry, cgbase, cgstart, end_of}
 use Rattle.ufs_model.specs.GroupMaps.{by_maps, group_bytes, group_fields as fields_of_group, group_in, group_magic_holds, is_marked_free, is_marked_unused, is_set, maps_hold}
 use Rattle.ufs_model.specs.Numbers.{number_at}
@@ -16,17 +16,15 @@ use Rattle.ufs_model.specs.Roles.{is_data_of, role}
 use Rattle.ufs_model.specs.declared.geometries.Geometry.{Geometry}
 use Rattle.ufs_model.specs.declared.numbers.Endian.{Endian}
 use Rattle.ufs_model.specs.declared.group_maps.Group.{Group}
-use Rattle.ufs_model.specs.declared.group_maps.BadGroup.{BadGroup}
 use Rattle.ufs_build.specs.Images.{file_parts, fragment_bits, group_fields, group_parts, group_place, inode_bits, map_bytes, volume_bytes, volume_parts}
 use Rattle.ufs_build.specs.Nodes.{Node}
 use Rattle.ufs_build.specs.Parts.{Part, field_parts, number_bytes}
 use Rattle.ufs_build.specs.Placements.{AllPlaced, is_used}
 use Rattle.ufs_build.specs.Volumes.{freeoff_of, iusedoff, map_length, superblock_fields}
-use Rattle.ufs_build.specs.declared.parts.Field.{Field}
 use Rattle.ufs_image_laws.specs.Built.{blocks_in, group_of}
 use Rattle.ufs_image_laws.specs.Reads.{Stands}
 use Rattle.ufs_image_laws.proofs.AreaLaws.{area_is}
-use Rattle.ufs_image_laws.proofs.ListLaws.{Each, Has, has_at, has_field, has_flat, has_left, has_right}
+use Rattle.ufs_image_laws.proofs.ListLaws.{Has, has_at, has_field, has_flat, has_left, has_right}
 use Rattle.ufs_image_laws.proofs.MapLaws.{map_read}
 use Rattle.ufs_image_laws.proofs.NumberLaws.{number_back, number_in_area}
 use Rattle.ufs_image_laws.proofs.PartLaws.{IsWhole, free_size, used_size}

@@ -1,18 +1,17 @@
 -- The inodes of a built volume are read.
-use Rattle.std.proofs.Common.{◌≡◌, ◌≢◌, ◌∙◌, ℕ, zero, suc, ◌+◌, ◌-◌, ◌*◌, ◌/◌, ◌%◌, ◌^◌, ◌<◌, ◌≤◌, ◌⊎◌, ◌==◌, Bool, true, false, List, [], ◌∷◌, ◌++◌, length, take, drop, get_or, refl, sym, ap, subst, arith, inl, inr, Some, None}
+use Rattle.std.proofs.Common.{◌≡◌, ◌≢◌, ◌∙◌, ℕ, zero, suc, ◌+◌, ◌-◌, ◌*◌, ◌/◌, ◌^◌, ◌<◌, ◌≤◌, ◌⊎◌, ◌==◌, Bool, true, false, List, [], ◌∷◌, ◌++◌, length, take, drop, get_or, refl, sym, ap, subst, arith, inl, inr, Some, None}
 use Rattle.std.specs.Prelude.{if◌then◌else◌, nat_lt, replicate, slice_get, slice_index}
 use Rattle.std.specs.List.{flat_map, range_with_len}
-use Rattle.std.proofs.lemmas.Bool.{cases_eq, cases_lt, false≢true}
+use Rattle.std.proofs.lemmas.Bool.{cases_eq}
 use Rattle.std.proofs.lemmas.Bool.Decides.{nat_tests}
-use Rattle.std.proofs.lemmas.List.{append-nil, drop-drop, drop-take, get_or-drop, length-replicate, take-take}
+use Rattle.std.proofs.lemmas.List.{drop-drop, drop-take, get_or-drop, length-replicate, take-take}
 use Rattle.std.proofs.lemmas.Option.{same_Some, slice_get_within}
-use Rattle.ufs_model.specs.Blocks.{Volume, bind, block_at}
+use Rattle.ufs_model.specs.Blocks.{bind, block_at}
 use Rattle.ufs_model.specs.Geometries.{IsGeometry}
-use Rattle.ufs_model.specs.Inodes.{inode_block, inode_byte, inode_bytes, inode_in, inode_of, numbers_from, slot_of}
+use Rattle.ufs_model.specs.Inodes.{inode_block, inode_byte, inode_bytes, inode_in, inode_of, numbers_from}
 use Rattle.ufs_model.specs.Numbers.{number_at}
-use Rattle.ufs_model.specs.Roles.{is_data_of, role}
+use Rattle.ufs_model.specs.Roles.{role}
 use Rattle.ufs_model.specs.declared.geometries.Geometry.{Geometry}
-use Rattle.ufs_model.specs.declared.inodes.Inode.{Inode}
 use Rattle.ufs_model.specs.declared.numbers.Endian.{Endian}
 use Rattle.ufs_model.specs.declared.numbers.Endian.TheVariants.{Little, Big}
 use Rattle.ufs_model.specs.declared.roles.Role.TheVariants.{System}
@@ -20,8 +19,7 @@ use Rattle.ufs_model.specs.declared.roles.SystemKind.TheVariants.{Group, Inodes,
 use Rattle.ufs_build.specs.Images.{block_parts, file_parts, group_parts, inode_parts, inode_place, slot_address, slot_parts, volume_bytes, volume_parts}
 use Rattle.ufs_build.specs.Nodes.{Node}
 use Rattle.ufs_build.specs.Parts.{Part, field_parts, number_bytes}
-use Rattle.ufs_build.specs.Placements.{Addresses, AllPlaced, address_at, is_used, placed_file}
-use Rattle.ufs_build.specs.Traces.{block_in}
+use Rattle.ufs_build.specs.Placements.{Addresses, AllPlaced, address_at, placed_file}
 use Rattle.ufs_build.specs.Volumes.{superblock_fields}
 use Rattle.ufs_image_laws.specs.Built.{blocks_in}
 use Rattle.ufs_image_laws.specs.Inodes.{IsInodeOf}
@@ -29,10 +27,10 @@ use Rattle.ufs_image_laws.specs.Reads.{Misses, Stands}
 use Rattle.ufs_image_laws.proofs.AreaLaws.{block_is}
 use Rattle.ufs_image_laws.proofs.ListLaws.{Between, Each, Has, Lies, ascend_lies, each_append, each_flat, each_weaker, has_flat, has_left, has_right}
 use Rattle.ufs_image_laws.proofs.NumberLaws.{number_back, number_in_area}
-use Rattle.ufs_image_laws.proofs.PartLaws.{InLevels, InSystem, group_lies}
-use Rattle.ufs_image_laws.proofs.PlacingLaws.{ArePlaced, IsPlaced, count_of, file_placed}
+use Rattle.ufs_image_laws.proofs.PartLaws.{InSystem, group_lies}
+use Rattle.ufs_image_laws.proofs.PlacingLaws.{ArePlaced, IsPlaced}
 use Rattle.ufs_image_laws.proofs.SuperLaws.{NumbersFit, super_ascends}
-use Rattle.ufs_image_laws.proofs.VolumeLaws.{AreVolume, FilesAreApart, InFiles, block_role, files_apart, first_placed, group_inodes, is_inodes, same_kind, super_inodes, system_data, volume_stands, volume_zeros}
+use Rattle.ufs_image_laws.proofs.VolumeLaws.{AreVolume, InFiles, block_role, files_apart, first_placed, group_inodes, same_kind, super_inodes, system_data, volume_stands, volume_zeros}
 use Rattle.ufs_image_laws.proofs.ZoneLaws.{InodeZone, in_group, in_inodes, inode_fits, inode_group, inode_zone, one_inode, super_zone}
 
 -- ---- the bytes of an inode

@@ -1,24 +1,22 @@
 -- The files of items.
-use Rattle.std.proofs.Common.{◌≡◌, ◌≢◌, ◌∙◌, ℕ, zero, suc, ◌+◌, ◌-◌, ◌*◌, ◌^◌, ◌<◌, ◌≤◌, ◌==◌, ◌&&◌, ◌||◌, not, Bool, true, false, List, [], ◌∷◌, ◌++◌, length, refl, sym, ap, subst, arith, Some, None, length-append}
+use Rattle.std.proofs.Common.{◌≡◌, ◌≢◌, ◌∙◌, ℕ, zero, suc, ◌+◌, ◌-◌, ◌*◌, ◌^◌, ◌<◌, ◌≤◌, ◌==◌, ◌&&◌, not, Bool, true, false, List, [], ◌∷◌, ◌++◌, length, refl, sym, ap, arith, Some, None, length-append}
 use Rattle.std.specs.Prelude.{Err, Ok, Option, Result, if◌then◌else◌, nat_le, nat_lt, replicate, slice_get}
-use Rattle.std.specs.Int.{div_ceil}
-use Rattle.std.specs.List.{list_all, list_any}
+use Rattle.std.specs.List.{list_any}
 use Rattle.std.specs.Option.{is_none}
-use Rattle.std.proofs.lemmas.Bool.{and_parts, cases_lt, false≢true, leb-true, ltb-true}
+use Rattle.std.proofs.lemmas.Bool.{and_parts, false≢true, leb-true, ltb-true}
 use Rattle.std.proofs.lemmas.List.{length-replicate}
 use Rattle.std.proofs.lemmas.Option.{same_Some}
 use Rattle.ufs_model.specs.Chunks.{DirEntry}
-use Rattle.ufs_model.specs.Paths.{is_path, is_path_name, names_after}
+use Rattle.ufs_model.specs.Paths.{is_path}
 use Rattle.ufs_model.specs.declared.numbers.Endian.{Endian}
-use Rattle.ufs_build.specs.Builds.{volume_nodes}
 use Rattle.ufs_build.specs.Directories.{directories_from, directories_of, directory_bytes, directory_entries, entries_from, entry_bytes, entry_if, entry_length, item_entry, packed, reclen_in, room_after}
-use Rattle.ufs_build.specs.Items.{directory_at, dot, dot_dot, has_contents, has_place, if_placed, is_dir, is_dots, is_slash, inode_before, name_of, parent_inode, parent_of, parents_after, parents_of, place_of_path}
+use Rattle.ufs_build.specs.Items.{directory_at, has_contents, has_place, if_placed, is_dir, is_slash, inode_before, name_of, parent_inode, parent_of, parents_after, parents_of, place_of_path}
 use Rattle.ufs_build.specs.Nodes.{Node, is_link, item_nodes, mode_of, node_of, nodes_of}
 use Rattle.ufs_build.specs.Parts.{number_bytes}
 use Rattle.ufs_build.specs.declared.items.Item.{Item}
 use Rattle.ufs_build.specs.declared.items.ItemKind.{ItemKind}
 use Rattle.ufs_build.specs.declared.items.ItemKind.TheVariants.{Dir, File, Link}
-use Rattle.ufs_image_laws.proofs.ListLaws.{Each, each_weaker}
+use Rattle.ufs_image_laws.proofs.ListLaws.{Each}
 use Rattle.ufs_image_laws.proofs.NumberLaws.{number_length}
 
 -- ---- what is known of items that can stand where their paths say

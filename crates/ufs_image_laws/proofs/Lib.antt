@@ -11,11 +11,13 @@ pub mod DirectoryLaws
 pub mod DirectoryReads
 pub mod EntryLaws
 pub mod FileLaws
+pub mod FindReads
 pub mod FullLaws
 pub mod GroupReads
 pub mod InodeReads
 pub mod ItemLaws
 pub mod ListLaws
+pub mod LookLaws
 pub mod MapLaws
 pub mod NameLaws
 pub mod NumberLaws

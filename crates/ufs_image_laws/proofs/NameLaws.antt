@@ -1,14 +1,13 @@
 -- The entries of a directory name its items.
-use Rattle.std.proofs.Common.{◌≡◌, ◌≢◌, ◌∙◌, ℕ, zero, suc, ◌+◌, ◌*◌, ◌^◌, ◌<◌, ◌≤◌, ◌&&◌, ◌||◌, ◌==◌, not, Bool, true, false, List, [], ◌∷◌, ◌++◌, length, refl, sym, ap, subst, arith, Some}
+use Rattle.std.proofs.Common.{◌≡◌, ◌∙◌, ℕ, suc, ◌+◌, ◌^◌, ◌<◌, ◌≤◌, ◌||◌, ◌==◌, Bool, true, false, List, [], ◌∷◌, length, refl, sym, ap, arith}
 use Rattle.std.specs.Prelude.{if◌then◌else◌, nat_le}
 use Rattle.std.specs.List.{list_all, list_any}
-use Rattle.std.proofs.lemmas.Bool.{and_parts, cases_Bool, false≢true, leb-true, or_parts}
-use Rattle.std.proofs.lemmas.Bool.Decides.{nat_tests}
+use Rattle.std.proofs.lemmas.Bool.{and_parts, false≢true, leb-true, or_parts}
 use Rattle.ufs_model.specs.Chunks.{DirEntry, is_name}
-use Rattle.ufs_model.specs.Paths.{in_part, is_path, is_path_name, names_after, parts_of}
+use Rattle.ufs_model.specs.Paths.{in_part, is_path, is_path_name, parts_of}
 use Rattle.ufs_model.specs.declared.numbers.Endian.{Endian}
-use Rattle.ufs_build.specs.Directories.{directory_bytes, directory_entries, entries_from, entry_if, item_entry, packed}
-use Rattle.ufs_build.specs.Items.{dot, dot_dot, has_place, is_dots, is_slash, name_of}
+use Rattle.ufs_build.specs.Directories.{directory_bytes, directory_entries, entries_from, entry_if, item_entry}
+use Rattle.ufs_build.specs.Items.{dot, dot_dot, has_place, is_slash, name_of}
 use Rattle.ufs_build.specs.declared.items.Item.{Item}
 use Rattle.ufs_image_laws.proofs.ChunkLaws.{IsGoodEntry}
 use Rattle.ufs_image_laws.proofs.DirectoryReads.{AreChunks, are_chunks}
@@ -22,10 +21,10 @@ last_of [] = []
 last_of (p ∷ []) = p
 last_of (p ∷ q ∷ rest) = last_of (q ∷ rest)
 
-record AreSome (parts : List (List ℕ)) : Type 0 where
-  first : List ℕ
-  others : List (List ℕ)
-  are : parts ≡ first ∷ others
+pub record AreSome (parts : List (List ℕ)) : Type 0 where
+  pub first : List ℕ
+  pub others : List (List ℕ)
+  pub are : parts ≡ first ∷ others
 
 record AreTwo (parts : List (List ℕ)) : Type 0 where
   first : List ℕ
@@ -38,11 +37,11 @@ some_by true b parts = record { first = []; others = parts; are = refl }
 some_by false b [] = record { first = b ∷ []; others = []; are = refl }
 some_by false b (p ∷ parts) = record { first = b ∷ p; others = parts; are = refl }
 
-some_parts : (xs : List ℕ) → AreSome (parts_of xs)
+pub some_parts : (xs : List ℕ) → AreSome (parts_of xs)
 some_parts [] = record { first = []; others = []; are = refl }
 some_parts (b ∷ xs) = some_by (b == 47) b (parts_of xs)
 
-no_slash : (xs : List ℕ) → list_any is_slash xs ≡ false → parts_of xs ≡ xs ∷ []
+pub no_slash : (xs : List ℕ) → list_any is_slash xs ≡ false → parts_of xs ≡ xs ∷ []
 no_slash [] e = refl
 no_slash (b ∷ xs) e =
     let tests = or_parts (b == 47) (list_any is_slash xs) e in

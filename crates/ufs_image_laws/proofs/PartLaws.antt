@@ -1,31 +1,29 @@
 -- The parts of a volume are apart from one another, and inside it.
-use Rattle.std.proofs.Common.{◌≡◌, ◌≢◌, ◌∙◌, ℕ, zero, suc, ◌+◌, ◌-◌, ◌*◌, ◌/◌, ◌%◌, ◌<◌, ◌≤◌, ◌⊎◌, ◌&&◌, ◌||◌, ◌==◌, min, Bool, true, false, not, List, [], ◌∷◌, ◌++◌, length, take, drop, refl, sym, ap, subst, arith, inl, inr, Some, length-drop}
-use Rattle.std.specs.Prelude.{if◌then◌else◌, nat_le, nat_lt, replicate}
+use Rattle.std.proofs.Common.{◌≡◌, ◌≢◌, ◌∙◌, ℕ, ◌+◌, ◌-◌, ◌*◌, ◌/◌, ◌<◌, ◌≤◌, ◌||◌, ◌==◌, min, Bool, true, false, List, [], ◌∷◌, ◌++◌, length, drop, refl, sym, ap, arith, length-drop}
+use Rattle.std.specs.Prelude.{if◌then◌else◌, nat_le, nat_lt}
 use Rattle.std.specs.Int.{div_ceil}
 use Rattle.std.specs.List.{flat_map, range_with_len}
 use Rattle.std.proofs.Math.Nat.{add-mul, mul-le-mul_right}
 use Rattle.std.proofs.lemmas.Bool.{false≢true}
 use Rattle.std.proofs.lemmas.Bool.Decides.{nat_tests}
 use Rattle.std.proofs.lemmas.Grind.{div_ceil_times}
-use Rattle.std.proofs.lemmas.List.{length-map, length-replicate, length-take}
+use Rattle.std.proofs.lemmas.List.{length-take}
 use Rattle.std.proofs.lemmas.List.FromFn.{length-map-range_with_len}
 use Rattle.ufs_model.specs.Geometries.{IsGeometry, cgbase, cgstart, end_of}
-use Rattle.ufs_model.specs.Inodes.{inode_block, inode_byte}
-use Rattle.ufs_model.specs.Roles.{is_data_of, role}
+use Rattle.ufs_model.specs.Roles.{role}
 use Rattle.ufs_model.specs.declared.geometries.Geometry.{Geometry}
 use Rattle.ufs_model.specs.declared.roles.Role.{Role}
-use Rattle.ufs_model.specs.declared.roles.Role.TheVariants.{Data, Outside, System}
-use Rattle.ufs_model.specs.declared.roles.SystemKind.TheVariants.{Group, Inodes, Super}
-use Rattle.ufs_build.specs.Images.{block_parts, data_parts, file_parts, first_below, fragment_bits, group_fields, group_parts, group_place, indirect_parts, inode_bits, inode_parts, inode_place, level_parts, map_bytes, pointer_parts, slot_address, slot_parts, volume_parts}
+use Rattle.ufs_model.specs.declared.roles.Role.TheVariants.{System}
+use Rattle.ufs_model.specs.declared.roles.SystemKind.TheVariants.{Group}
+use Rattle.ufs_build.specs.Images.{block_parts, data_parts, first_below, fragment_bits, group_fields, group_parts, group_place, indirect_parts, inode_bits, inode_parts, level_parts, map_bytes, pointer_parts, slot_address, slot_parts}
 use Rattle.ufs_build.specs.Nodes.{Node}
 use Rattle.ufs_build.specs.Parts.{Part, field_parts, number_bytes}
-use Rattle.ufs_build.specs.Placements.{Addresses, AllPlaced, Placed, address_at, addresses_at, block_bytes, blocks_of, fragments_of, is_used, placed_file}
-use Rattle.ufs_build.specs.Volumes.{freeoff_of, iusedoff, map_length, superblock_fields}
-use Rattle.ufs_image_laws.proofs.ListLaws.{ApartAll, Ascend, Between, Each, EndsBy, Lies, apart_append, apart_flat, apart_zones, ascend_append, ascend_apart, ascend_flat, ascend_lies, ascend_low, ascend_order, each_append, each_flat, each_weaker, fields_ascend, fields_in_order, lies_weaker}
+use Rattle.ufs_build.specs.Placements.{Addresses, address_at, addresses_at, block_bytes, blocks_of, fragments_of}
+use Rattle.ufs_build.specs.Volumes.{freeoff_of, iusedoff, map_length}
+use Rattle.ufs_image_laws.proofs.ListLaws.{ApartAll, Ascend, Between, Each, Lies, apart_flat, apart_zones, ascend_append, ascend_apart, ascend_flat, ascend_lies, ascend_low, each_append, each_flat, fields_ascend, fields_in_order, lies_weaker}
 use Rattle.ufs_image_laws.proofs.NumberLaws.{number_length}
-use Rattle.ufs_image_laws.proofs.PlacingLaws.{ArePlaced, HasFragment, IsPlaced, IsRun, count_of, data_in_run, file_placed}
-use Rattle.ufs_image_laws.proofs.SuperLaws.{ascend_ends, super_ascends}
-use Rattle.ufs_image_laws.proofs.ZoneLaws.{InodeZone, Sizes, fragment_of_byte, group_zone, in_group, in_inodes, inode_fits, inode_group, inode_zone, one_inode, order, sizes, super_inside, super_zone}
+use Rattle.ufs_image_laws.proofs.PlacingLaws.{HasFragment, IsPlaced, count_of}
+use Rattle.ufs_image_laws.proofs.ZoneLaws.{Sizes, fragment_of_byte, group_zone, order, sizes}
 
 -- What is known of a volume's geometry here.
 pub record IsWhole (g : Geometry) : Type 0 where

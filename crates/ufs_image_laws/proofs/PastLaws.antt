@@ -1,16 +1,16 @@
 -- No pointer of an indirect block leads past the end of its file.
-use Rattle.std.proofs.Common.{◌≡◌, ◌≢◌, ◌∙◌, ℕ, zero, suc, ◌+◌, ◌-◌, ◌*◌, ◌/◌, ◌%◌, ◌^◌, ◌<◌, ◌≤◌, ◌⊎◌, ◌==◌, Bool, true, false, List, [], ◌∷◌, length, get_or, refl, sym, ap, subst, arith, inl, inr, Some, None}
-use Rattle.std.specs.Prelude.{Contains, Option, if◌then◌else◌, nat_lt, slice_get}
+use Rattle.std.proofs.Common.{◌≡◌, ◌≢◌, ◌∙◌, ℕ, zero, suc, ◌+◌, ◌-◌, ◌*◌, ◌/◌, ◌^◌, ◌<◌, ◌≤◌, ◌==◌, Bool, true, false, List, length, get_or, refl, sym, ap, subst, arith, inl, inr, Some, None}
+use Rattle.std.specs.Prelude.{Contains, Option, if◌then◌else◌, slice_get}
 use Rattle.std.specs.Int.{div_ceil}
 use native.Mathlib.Numerals.{unary_clauses}
 use Rattle.std.proofs.Math.Nat.{mul-le-mul_right, one-mul, pow-suc}
-use Rattle.std.proofs.lemmas.Bool.{cases_eq, cases_lt, false≢true, ne_eqb}
+use Rattle.std.proofs.lemmas.Bool.{cases_eq, cases_lt, ne_eqb}
 use Rattle.std.proofs.lemmas.Grind.{div_ceil_times}
 use Rattle.std.proofs.lemmas.List.{get_or_past}
 use Rattle.std.proofs.lemmas.Nat.{mul-lt}
 use Rattle.std.proofs.lemmas.Option.{get_or_from_slice_get, same_Some, slice_get_within}
 use Rattle.ufs_model.specs.Claims.{IsClaim, fragments_at, fragments_from, level_of, source_fragments}
-use Rattle.ufs_model.specs.Claims.IsClaim.{by_pointer, by_slot}
+use Rattle.ufs_model.specs.Claims.IsClaim.{by_slot}
 use Rattle.ufs_model.specs.Inodes.{block_count, inode_of, is_inode_number}
 use Rattle.ufs_model.specs.Malformations.{FirstBlock, HasPastIn, first_block, inode_at, pointer_at as pointer_value}
 use Rattle.ufs_model.specs.Malformations.FirstBlock.{of_pointer, of_slot}
@@ -18,22 +18,18 @@ use Rattle.ufs_model.specs.declared.claims.ClaimSource.{ClaimSource}
 use Rattle.ufs_model.specs.declared.claims.ClaimSource.TheVariants.{Pointer, Slot}
 use Rattle.ufs_model.specs.declared.geometries.Geometry.{Geometry}
 use Rattle.ufs_model.specs.declared.inodes.Inode.{Inode}
-use Rattle.ufs_model.specs.declared.pointers.Address.{Address}
-use Rattle.ufs_model.specs.declared.pointers.Address.TheVariants.{At, Hole, Wild}
-use Rattle.ufs_build.specs.Images.{first_below, volume_bytes}
+use Rattle.ufs_model.specs.declared.pointers.Address.TheVariants.{At, Hole}
 use Rattle.ufs_build.specs.Nodes.{Node}
-use Rattle.ufs_build.specs.Placements.{Addresses, AllPlaced, address_at, addresses_at, blocks_of, count_through, first_through, indirect_count}
-use Rattle.ufs_image_laws.specs.Built.{blocks_in}
-use Rattle.ufs_image_laws.proofs.AddressReads.{FileOf, below, full_of, spot, tests_of}
+use Rattle.ufs_build.specs.Placements.{Addresses, AllPlaced, address_at, addresses_at, blocks_of}
+use Rattle.ufs_image_laws.proofs.AddressReads.{FileOf, below, full_of, tests_of}
 use Rattle.ufs_image_laws.proofs.ChainLaws.{two_powers}
-use Rattle.ufs_image_laws.proofs.ClaimReads.{AreFiles, HasKind, IsFiles, IsPointer, IsSlot, Via, claim_of_file, pointer_at, pointer_files}
+use Rattle.ufs_image_laws.proofs.ClaimReads.{AreFiles, IsFiles, IsSlot, Via, claim_of_file, pointer_at, pointer_files}
 use Rattle.ufs_image_laws.proofs.ContentReads.{blocks_outside}
 use Rattle.ufs_image_laws.proofs.InodeReads.{inode_read}
-use Rattle.ufs_image_laws.proofs.ItemLaws.{HasNumbers}
-use Rattle.ufs_image_laws.proofs.FullLaws.{IsFull, room_at}
+use Rattle.ufs_image_laws.proofs.FullLaws.{room_at}
 use Rattle.ufs_image_laws.proofs.PlacingLaws.{HasFragment, count_of}
-use Rattle.ufs_image_laws.proofs.StructureLaws.{AreWhole, volume_of}
-use Rattle.ufs_image_laws.proofs.ZoneLaws.{Sizes, sizes}
+use Rattle.ufs_image_laws.proofs.StructureLaws.{volume_of}
+use Rattle.ufs_image_laws.proofs.ZoneLaws.{sizes}
 
 -- ---- the first file block behind a block
 

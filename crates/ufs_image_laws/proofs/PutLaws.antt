@@ -1,10 +1,9 @@
 -- What stands at a place once bytes were put at places.
-use Rattle.std.proofs.Common.{◌≡◌, ◌∙◌, ℕ, zero, suc, ◌+◌, ◌-◌, ◌<◌, ◌≤◌, Bool, true, false, List, [], ◌∷◌, ◌++◌, length, take, drop, get_or, min, cond, refl, sym, ap, subst, arith, inl, inr, length-append, length-drop}
-use Rattle.std.specs.Prelude.{nat_le, replicate}
+use Rattle.std.proofs.Common.{◌≡◌, ◌∙◌, ℕ, ◌+◌, ◌-◌, ◌<◌, ◌≤◌, Bool, true, false, List, ◌++◌, length, take, drop, get_or, cond, refl, ap, arith, inl, inr, length-append, length-drop}
+use Rattle.std.specs.Prelude.{nat_le}
 use Rattle.std.proofs.lemmas.Bool.{cases_Bool, cases_lt, leb-true}
-use Rattle.std.proofs.lemmas.List.{ext_get_or, get_or-append_right, get_or-drop, get_or-take, get_or_append_left, length-take-le}
-use Rattle.ufs_build.specs.Parts.{Part, put_at, put_parts}
-use Rattle.ufs_image_laws.specs.Reads.{Stands}
+use Rattle.std.proofs.lemmas.List.{get_or-append_right, get_or-drop, get_or-take, get_or_append_left, length-take-le}
+use Rattle.ufs_build.specs.Parts.{put_at}
 
 -- ---- one piece
 

@@ -1,15 +1,13 @@
 -- A built volume is sound.
-use Rattle.std.proofs.Common.{◌≡◌, ◌≢◌, ◌∙◌, ℕ, zero, suc, ◌+◌, ◌*◌, ◌^◌, ◌<◌, ◌≤◌, ◌⊎◌, ◌==◌, Bool, true, false, List, [], ◌∷◌, length, refl, sym, ap, subst, arith, inl, inr, Some}
+use Rattle.std.proofs.Common.{◌≡◌, ◌∙◌, ℕ, zero, suc, ◌+◌, ◌^◌, ◌<◌, ◌≤◌, ◌⊎◌, ◌==◌, Bool, true, false, List, [], ◌∷◌, length, refl, sym, subst, arith, inl, inr, Some}
 use Rattle.std.specs.Prelude.{if◌then◌else◌, slice_get}
 use Rattle.std.proofs.lemmas.Option.{same_Some, slice_get_within}
 use Rattle.ufs_model.specs.Chunks.{DirEntry}
 use Rattle.ufs_model.specs.Inodes.{has_pointers}
 use Rattle.ufs_model.specs.Malformations.{IsBad, IsPointed}
-use Rattle.ufs_model.specs.declared.geometries.Geometry.{Geometry}
-use Rattle.ufs_model.specs.declared.inodes.Inode.{Inode}
 use Rattle.ufs_model.specs.declared.malformations.BadKind.{BadKind}
 use Rattle.ufs_model.specs.declared.malformations.BadKind.TheVariants.{Super, GroupMagic, GroupMap, WrongType, Filesize, Past, Wild, WildIn, Align, AlignIn, Run, Twice, PastIn, Free, Unused, Hole, Chunk, Entry, EntryType, Dots, Names, DirTwice, RootNamed}
-use Rattle.ufs_build.specs.Directories.{directory_bytes, directory_entries, entries_from, entry_if, item_entry}
+use Rattle.ufs_build.specs.Directories.{directory_bytes, directory_entries, entries_from, item_entry}
 use Rattle.ufs_build.specs.Items.{is_dir}
 use Rattle.ufs_build.specs.Nodes.{Node, node_of}
 use Rattle.ufs_build.specs.declared.items.Item.{Item}
@@ -18,14 +16,12 @@ use Rattle.ufs_image_laws.specs.Built.{IsBuilt, nodes_in, root_of}
 use Rattle.ufs_image_laws.proofs.BuiltFiles.{built_whole}
 use Rattle.ufs_image_laws.proofs.BuiltLaws.{at_place}
 use Rattle.ufs_image_laws.proofs.DirectoryLaws.{few_inodes}
-use Rattle.ufs_image_laws.proofs.DirectoryReads.{AreChunks}
 use Rattle.ufs_image_laws.proofs.EntryLaws.{has_dots, item_at, no_bad_entry, no_bad_type, no_root_named, no_same_names, no_twice_named}
 use Rattle.ufs_image_laws.proofs.ItemLaws.{IsGoodItem, contents_small, either_small, file_of_item, file_of_root, good_items}
-use Rattle.ufs_image_laws.proofs.ListLaws.{Each}
 use Rattle.ufs_image_laws.proofs.NameLaws.{directory_chunks, directory_good}
 use Rattle.ufs_image_laws.proofs.ParentLaws.{IsLow, parents_low}
 use Rattle.ufs_image_laws.proofs.PastLaws.{no_past_in}
-use Rattle.ufs_image_laws.proofs.StructureLaws.{AreWhole, IsFound, found_inode, no_malformation, volume_of}
+use Rattle.ufs_image_laws.proofs.StructureLaws.{found_inode, no_malformation, volume_of}
 
 -- ---- no directory is too large
 
@@ -54,7 +50,7 @@ small_directory spec items image is directory up few one low two low' =
     let most = directory_count items is.parents directory up in
     omega arith
 
-small_file : (spec : Spec) (items : List Item) (image : List ℕ) (is : IsBuilt spec items image) (k : ℕ) (node : Node) → length items + 2 < 2 ^ 23 → slice_get (nodes_in is) k ≡ Some node
+pub small_file : (spec : Spec) (items : List Item) (image : List ℕ) (is : IsBuilt spec items image) (k : ℕ) (node : Node) → length items + 2 < 2 ^ 23 → slice_get (nodes_in is) k ≡ Some node
     → length node.bytes < 2 ^ 32
 small_file spec items image is zero node few e =
     let root : node ≡ root_of is.g.endian items is.parents = same_Some node (root_of is.g.endian items is.parents) (sym e ∙ file_of_root is.g.endian items is.parents) in

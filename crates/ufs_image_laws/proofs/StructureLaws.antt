@@ -1,24 +1,20 @@
 -- What isn't wrong with a built volume.
-use Rattle.std.proofs.Common.{◌≡◌, ◌≢◌, ◌∙◌, ℕ, zero, suc, ◌+◌, ◌-◌, ◌*◌, ◌/◌, ◌%◌, ◌^◌, ◌<◌, ◌≤◌, ◌⊎◌, ◌&&◌, ◌==◌, not, Bool, true, false, List, [], ◌∷◌, length, drop, get_or, refl, sym, ap, subst, arith, inl, inr, Some, None}
+use Rattle.std.proofs.Common.{◌≡◌, ◌≢◌, ◌∙◌, ℕ, ◌+◌, ◌-◌, ◌*◌, ◌/◌, ◌%◌, ◌^◌, ◌<◌, ◌≤◌, ◌⊎◌, ◌==◌, not, Bool, true, false, List, length, drop, get_or, refl, sym, ap, subst, arith, inl, inr, Some, None}
 use Rattle.std.specs.Prelude.{Contains, Err, MatchOption, Ok, Option, Result, if◌then◌else◌, nat_le, nat_lt, slice_get}
 use Rattle.std.specs.Int.{div_ceil}
 use Rattle.std.proofs.Math.Nat.{mul-le-mul_right}
-use Rattle.std.proofs.lemmas.Bool.{and_parts, cases_Bool, cases_eq, cases_lt, eq-eqb, false≢true, leb-true, ltb-true, lt-ltb, ne_eqb}
+use Rattle.std.proofs.lemmas.Bool.{and_parts, cases_eq, cases_lt, eq-eqb, false≢true, leb-true, ltb-true, lt-ltb, ne_eqb}
 use Rattle.std.proofs.lemmas.Bool.Decides.{nat_tests}
 use Rattle.std.proofs.lemmas.List.{get_or_past}
 use Rattle.std.proofs.lemmas.Grind.{div_ceil_times}
 use Rattle.std.proofs.lemmas.Nat.{mul-lt}
-use Rattle.std.proofs.lemmas.Option.{same_Some}
-use Rattle.ufs_model.specs.Blocks.{Volume, block_at}
-use Rattle.ufs_model.specs.Chunks.{DirEntry, fault_in}
-use Rattle.ufs_model.specs.Claims.{IsClaim, level_of, source_fragments}
-use Rattle.ufs_model.specs.GroupMaps.{group_bytes, group_in, is_marked_free, is_marked_unused}
-use Rattle.ufs_model.specs.Inodes.{block_count, has_pointers, inode_of, is_inode_number, kind_has_pointers, kind_of, slot_of}
-use Rattle.ufs_model.specs.Malformations.{HasBadChunk, HasCrossing, HasHole, HasMisaligned, HasMisalignedIn, HasPast, HasTwoClaims, HasWild, HasWildIn, IsBad, IsDirectory as IsDirectoryInode, IsFree, IsInode, IsPointed, IsUpper, first_block, inode_at, pointer_at as pointer_value}
-use Rattle.ufs_model.specs.Paths.{chunks_in, chunks_of}
-use Rattle.ufs_model.specs.Pointers.{address, file_block_of, pointer_in, slot_address}
-use Rattle.ufs_model.specs.declared.chunks.BadEntry.{BadEntry}
-use Rattle.ufs_model.specs.declared.claims.ClaimSource.{ClaimSource}
+use Rattle.ufs_model.specs.Blocks.{Volume}
+use Rattle.ufs_model.specs.Chunks.{DirEntry}
+use Rattle.ufs_model.specs.GroupMaps.{is_marked_unused}
+use Rattle.ufs_model.specs.Inodes.{block_count, has_pointers, inode_of, is_inode_number, kind_has_pointers, kind_of}
+use Rattle.ufs_model.specs.Malformations.{HasBadChunk, HasCrossing, HasHole, HasMisaligned, HasMisalignedIn, HasPast, HasTwoClaims, HasWild, HasWildIn, IsBad, IsDirectory as IsDirectoryInode, IsFree, IsInode, IsPointed, IsUpper, first_block, pointer_at as pointer_value}
+use Rattle.ufs_model.specs.Paths.{chunks_in}
+use Rattle.ufs_model.specs.Pointers.{address}
 use Rattle.ufs_model.specs.declared.geometries.Geometry.{Geometry}
 use Rattle.ufs_model.specs.declared.group_maps.BadGroup.{BadGroup}
 use Rattle.ufs_model.specs.declared.group_maps.Group.{Group}
@@ -27,25 +23,22 @@ use Rattle.ufs_model.specs.declared.inodes.Kind.TheVariants.{Directory, Unknown}
 use Rattle.ufs_model.specs.declared.malformations.BadKind.{BadKind}
 use Rattle.ufs_model.specs.declared.malformations.BadKind.TheVariants.{Super, GroupMagic, GroupMap, WrongType, Filesize, Past, Wild as WildSlot, WildIn, Align, AlignIn, Run, Twice, PastIn, Free, Unused, Hole as HoleIn, Chunk, Entry, EntryType, Dots, Names, DirTwice, RootNamed}
 use Rattle.ufs_model.specs.declared.reads.PathRefusal.{PathRefusal}
-use Rattle.ufs_model.specs.declared.pointers.Address.{Address}
 use Rattle.ufs_model.specs.declared.pointers.Address.TheVariants.{At, Hole, Wild}
 use Rattle.ufs_build.specs.Images.{slot_address as slot_value, volume_bytes}
 use Rattle.ufs_build.specs.Nodes.{Node}
 use Rattle.ufs_build.specs.Placements.{Addresses, AllPlaced, address_at, addresses_at, blocks_of, count_through, first_through, fragments_of, indirect_count, is_used}
-use Rattle.ufs_image_laws.specs.Built.{blocks_in, group_of}
-use Rattle.ufs_image_laws.specs.Inodes.{IsInodeOf}
+use Rattle.ufs_image_laws.specs.Built.{blocks_in}
 use Rattle.ufs_image_laws.proofs.AddressReads.{FileOf, SlotsLead, address_spot, below, block_found, full_of, placed_of, spot, tests_of}
 use Rattle.ufs_image_laws.proofs.ChainLaws.{two_powers}
 use Rattle.ufs_image_laws.proofs.ClaimReads.{AreFiles, HasKind, IsFiles, claim_of_file, claimed_used, file_of_inode, lower_count, no_addresses, no_node, not_inside, one_claim, pointer_at, slot_spot}
 use Rattle.ufs_image_laws.proofs.ContentReads.{blocks_outside}
 use Rattle.ufs_image_laws.proofs.DirectoryReads.{AreChunks, IsDirectory, IsWholeChunk, block_whole, chunks_read, in_block, never_hole}
-use Rattle.ufs_image_laws.proofs.FullLaws.{IsFull, block_bytes_low, room_at}
+use Rattle.ufs_image_laws.proofs.FullLaws.{block_bytes_low, room_at}
 use Rattle.ufs_image_laws.proofs.GroupReads.{free_read, group_read, unused_read}
 use Rattle.ufs_image_laws.proofs.InodeReads.{inode_none, inode_read}
-use Rattle.ufs_image_laws.proofs.ItemLaws.{HasNumbers}
-use Rattle.ufs_image_laws.proofs.ListLaws.{Each, each_has, has_contained}
-use Rattle.ufs_image_laws.proofs.PlacingLaws.{HasFragment, IsPlaced, IsRun, count_of, data_in_run, data_inside}
-use Rattle.ufs_image_laws.proofs.ZoneLaws.{Sizes, sizes}
+use Rattle.ufs_image_laws.proofs.ListLaws.{each_has, has_contained}
+use Rattle.ufs_image_laws.proofs.PlacingLaws.{HasFragment, count_of, data_in_run, data_inside}
+use Rattle.ufs_image_laws.proofs.ZoneLaws.{sizes}
 
 -- What is known of a built volume here.
 pub record AreWhole (g : Geometry) (nodes : List Node) (all : AllPlaced) : Type 0 where

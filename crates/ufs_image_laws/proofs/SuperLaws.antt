@@ -1,11 +1,10 @@
 -- The superblock of a built volume, as it is read.
-use Rattle.std.proofs.Common.{◌≡◌, ◌∙◌, ℕ, zero, suc, ◌+◌, ◌-◌, ◌*◌, ◌/◌, ◌%◌, ◌^◌, ◌<◌, ◌≤◌, ◌==◌, ◌&&◌, Bool, true, false, List, [], ◌∷◌, ◌++◌, length, take, drop, get_or, cond, refl, sym, ap, subst, arith, inl, inr, Some, None}
+use Rattle.std.proofs.Common.{◌≡◌, ◌∙◌, ℕ, ◌+◌, ◌*◌, ◌%◌, ◌^◌, ◌<◌, ◌≤◌, ◌==◌, Bool, true, false, List, [], ◌∷◌, length, drop, get_or, refl, sym, ap, arith, Some, None}
 use Rattle.std.specs.Prelude.{Ok, Err, Result, Option, nat_le, nat_lt, replicate, if◌then◌else◌}
 use Rattle.std.proofs.Math.Nat.{mod-eq_of_lt}
 use Rattle.std.proofs.lemmas.Grind.{div_ceil_times}
 use Rattle.std.proofs.lemmas.Nat.{mod_below, mul-le}
 use Rattle.std.proofs.lemmas.Bool.{and_parts, leb-true, ltb-true}
-use Rattle.std.proofs.lemmas.Bool.Decides.{nat_tests}
 use Rattle.std.proofs.lemmas.List.{length-replicate}
 use Rattle.std.proofs.lemmas.Option.{same_Some}
 use Rattle.std.specs.Int.{div_ceil}
@@ -13,19 +12,19 @@ use Rattle.byteorder.specs.Endian.{big_number}
 use Rattle.byteorder.specs.Numbers.{big_from-take}
 use Rattle.ufs_model.specs.Geometries.{IsGeometry, IsGeometryOn}
 use Rattle.ufs_model.specs.Numbers.{number_at}
-use Rattle.ufs_model.specs.Superblocks.{IsSuperblock, endian_of, fields, geometry_in}
+use Rattle.ufs_model.specs.Superblocks.{IsSuperblock, endian_of, fields}
 use Rattle.ufs_model.specs.declared.geometries.BadSuper.{BadSuper}
 use Rattle.ufs_model.specs.declared.geometries.Geometry.{Geometry}
 use Rattle.ufs_model.specs.declared.numbers.Endian.{Endian}
 use Rattle.ufs_model.specs.declared.numbers.Endian.TheVariants.{Little, Big}
-use Rattle.ufs_model.proofs.GeometryLaws.{accepted_is, is_accepted}
-use Rattle.ufs_build.specs.Parts.{Part, field_parts, number_bytes, put_parts}
+use Rattle.ufs_model.proofs.GeometryLaws.{accepted_is}
+use Rattle.ufs_build.specs.Parts.{Part, field_parts, number_bytes}
 use Rattle.ufs_build.specs.Volumes.{cblkno_of, dblkno_of, freeoff_of, geometry_of_spec, has_numbers, iblkno_of, if_fits, map_length, maps_fit, read_geometry, superblock_bytes, superblock_fields, volume_of_spec}
 use Rattle.ufs_build.specs.declared.parts.Field.{Field}
 use Rattle.ufs_build.specs.declared.volumes.Spec.{Spec}
 use Rattle.ufs_image_laws.specs.Reads.{Stands}
 use Rattle.ufs_image_laws.proofs.ListLaws.{Ascend, Each, EndsBy, Has, ascend_apart, ascend_order, fields_ascend, fields_in_order, has_at, has_field, part_stands}
-use Rattle.ufs_image_laws.proofs.NumberLaws.{number_in_area, number_read}
+use Rattle.ufs_image_laws.proofs.NumberLaws.{number_read}
 
 -- ---- the fields
 

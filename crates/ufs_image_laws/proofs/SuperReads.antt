@@ -1,14 +1,12 @@
 -- The superblock of a built volume is read.
-use Rattle.std.proofs.Common.{◌≡◌, ◌∙◌, ℕ, ◌+◌, ◌-◌, ◌*◌, ◌/◌, ◌%◌, ◌^◌, ◌<◌, ◌≤◌, ◌&&◌, true, List, [], ◌∷◌, ◌++◌, length, take, drop, refl, sym, ap, subst, arith, inl, inr, Some}
+use Rattle.std.proofs.Common.{◌≡◌, ◌∙◌, ℕ, ◌+◌, ◌*◌, ◌/◌, ◌%◌, ◌<◌, ◌≤◌, true, List, [], ◌∷◌, ◌++◌, length, take, drop, sym, ap, arith}
 use Rattle.std.specs.Prelude.{Ok, nat_le}
 use Rattle.std.specs.Int.{div_ceil}
 use Rattle.std.specs.List.{flat_map, range_with_len}
 use Rattle.std.proofs.Math.Nat.{add-mul, div-add-mod', lt_of_mul-lt-mul_right}
 use Rattle.std.proofs.lemmas.Bool.{and_parts, leb-true}
 use Rattle.std.proofs.lemmas.Grind.{div_ceil_times}
-use Rattle.ufs_model.specs.Blocks.{Volume, area_within, bind}
-use Rattle.ufs_model.specs.Geometries.{IsGeometry, IsGeometryOn}
-use Rattle.ufs_model.specs.Numbers.{number_at}
+use Rattle.ufs_model.specs.Blocks.{bind}
 use Rattle.ufs_model.specs.Superblocks.{geometry_in, geometry_of, superblock_of}
 use Rattle.ufs_model.specs.declared.geometries.Geometry.{Geometry}
 use Rattle.ufs_model.specs.declared.numbers.Endian.TheVariants.{Big}
@@ -22,11 +20,11 @@ use Rattle.ufs_build.specs.declared.parts.Field.{Field}
 use Rattle.ufs_image_laws.specs.Built.{blocks_in}
 use Rattle.ufs_image_laws.specs.Reads.{Stands}
 use Rattle.ufs_image_laws.proofs.AreaLaws.{area_within_is}
-use Rattle.ufs_image_laws.proofs.ListLaws.{Each, Has, each_has, each_weaker, fields_ascend, has_field, has_left}
+use Rattle.ufs_image_laws.proofs.ListLaws.{Each, Has, each_has, fields_ascend, has_field, has_left}
 use Rattle.ufs_image_laws.proofs.NumberLaws.{number_in_area, number_read}
-use Rattle.ufs_image_laws.proofs.SuperLaws.{HasFields, NumbersFit, is_superblock, magic_field, magic_in, magic_read, order_read, ordered}
+use Rattle.ufs_image_laws.proofs.SuperLaws.{HasFields, NumbersFit, is_superblock, magic_field, magic_read, order_read, ordered}
 use Rattle.ufs_image_laws.proofs.VolumeLaws.{AreVolume, volume_stands}
-use Rattle.ufs_image_laws.proofs.ZoneLaws.{few_blocks, sizes, super_inside}
+use Rattle.ufs_image_laws.proofs.ZoneLaws.{sizes, super_inside}
 
 field_stands : (g : Geometry) (nodes : List Node) (all : AllPlaced) (x : Field) → AreVolume g nodes all → Has x (superblock_fields g)
     → Stands (volume_bytes g nodes all) (8192 + x.at) (number_bytes g.endian 4 x.value)

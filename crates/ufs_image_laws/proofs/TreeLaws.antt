@@ -1,20 +1,19 @@
 -- Where items stand: each in one directory, under a name that no other has there.
-use Rattle.std.proofs.Common.{◌≡◌, ◌≢◌, ◌∙◌, ℕ, zero, suc, ◌+◌, ◌-◌, ◌<◌, ◌≤◌, ◌⊎◌, ◌&&◌, ◌||◌, ◌==◌, not, Bool, true, false, List, [], ◌∷◌, ◌++◌, length, take, get_or, refl, sym, ap, subst, arith, inl, inr, Some, None, append_assoc}
+use Rattle.std.proofs.Common.{◌≡◌, ◌≢◌, ◌∙◌, ℕ, zero, suc, ◌+◌, ◌<◌, ◌≤◌, ◌&&◌, ◌||◌, ◌==◌, Bool, true, false, List, [], ◌∷◌, ◌++◌, length, take, get_or, refl, sym, ap, subst, arith, inl, inr, Some, None, append_assoc}
 use Rattle.std.specs.Prelude.{Err, Ok, Option, Result, if◌then◌else◌, nat_le, nat_lt, slice_get}
 use Rattle.std.specs.Cmp.Lexicographic.{pointwise}
-use Rattle.std.specs.List.{list_any, position, position_or_len}
+use Rattle.std.specs.List.{list_any, position_or_len}
 use Rattle.std.specs.Option.{is_none}
-use Rattle.std.proofs.lemmas.Bool.{and_parts, cases_Bool, cases_eq, cases_lt, cases_order, cond-true, eq-eqb, eqb-true, false≢true, lt-ltb, ltb-false, ltb-true, not-true, or_parts}
-use Rattle.std.proofs.lemmas.Bool.Decides.{nat_tests}
+use Rattle.std.proofs.lemmas.Bool.{and_parts, cases_order, eqb-true, false≢true, ltb-false, not-true, or_parts}
 use Rattle.std.proofs.lemmas.List.{append-nil, nil_from_length}
 use Rattle.std.proofs.lemmas.List.Quantifiers.{position-Some}
 use Rattle.std.proofs.lemmas.List.Sums.{fails_before_first}
-use Rattle.std.proofs.lemmas.Option.{get_or_from_slice_get, same_Some, slice_get-get_or, slice_get_within}
+use Rattle.std.proofs.lemmas.Option.{get_or_from_slice_get, same_Some, slice_get_within}
 use Rattle.std.proofs.lemmas.Slice.Eq.{bytes_eq-Decides}
 use Rattle.ufs_model.specs.Chunks.{DirEntry}
 use Rattle.ufs_model.specs.Paths.{is_path}
-use Rattle.ufs_build.specs.Directories.{directory_entries, entries_from, entry_if, entry_type, item_entry}
-use Rattle.ufs_build.specs.Items.{directory_at, dot, dot_dot, has_contents, has_place, if_placed, inode_before, inode_if_dir, inode_if_found, inode_of_item, is_dir, is_dots, is_slash, name_of, parent_inode, parent_of, parents_after, parents_of, place_of_path}
+use Rattle.ufs_build.specs.Directories.{entries_from, item_entry}
+use Rattle.ufs_build.specs.Items.{directory_at, dot, dot_dot, has_contents, has_place, if_placed, inode_if_dir, inode_if_found, inode_of_item, is_dir, is_dots, is_slash, name_of, parent_inode, parent_of, parents_after, parents_of, place_of_path}
 use Rattle.ufs_build.specs.declared.items.Item.{Item}
 use Rattle.ufs_build.specs.declared.items.ItemKind.{ItemKind}
 use Rattle.ufs_build.specs.declared.items.ItemKind.TheVariants.{Dir, File, Link}

@@ -1,29 +1,29 @@
 -- All parts of a volume are apart from one another, and inside it.
-use Rattle.std.proofs.Common.{◌≡◌, ◌≢◌, ◌∙◌, ℕ, zero, suc, ◌+◌, ◌-◌, ◌*◌, ◌/◌, ◌%◌, ◌<◌, ◌≤◌, ◌⊎◌, ◌==◌, Bool, true, false, List, [], ◌∷◌, ◌++◌, length, get_or, refl, sym, ap, subst, arith, inl, inr, Some}
-use Rattle.std.specs.Prelude.{if◌then◌else◌, nat_le, nat_lt, replicate}
+use Rattle.std.proofs.Common.{◌≡◌, ◌∙◌, ℕ, suc, ◌+◌, ◌*◌, ◌/◌, ◌<◌, ◌≤◌, ◌⊎◌, ◌==◌, Bool, true, false, List, [], ◌∷◌, ◌++◌, length, get_or, refl, sym, ap, subst, arith, inl, inr, Some}
+use Rattle.std.specs.Prelude.{if◌then◌else◌, replicate}
 use Rattle.std.specs.List.{flat_map, range_with_len}
 use Rattle.std.proofs.Math.Nat.{add-mul, mul-le-mul_right}
 use Rattle.std.proofs.lemmas.Bool.{false≢true}
 use Rattle.std.proofs.lemmas.List.{length-replicate}
-use Rattle.ufs_model.specs.Geometries.{IsGeometry, cgbase, cgstart, end_of}
-use Rattle.ufs_model.specs.Inodes.{inode_block, inode_byte}
+use Rattle.ufs_model.specs.Geometries.{IsGeometry}
+use Rattle.ufs_model.specs.Inodes.{inode_block}
 use Rattle.ufs_model.specs.Roles.{is_data_of, role}
 use Rattle.ufs_model.specs.declared.geometries.Geometry.{Geometry}
 use Rattle.ufs_model.specs.declared.roles.Role.{Role}
-use Rattle.ufs_model.specs.declared.roles.Role.TheVariants.{Data, Outside, System}
+use Rattle.ufs_model.specs.declared.roles.Role.TheVariants.{System}
 use Rattle.ufs_model.specs.declared.roles.SystemKind.{SystemKind}
 use Rattle.ufs_model.specs.declared.roles.SystemKind.TheVariants.{Group, Inodes, Super}
 use Rattle.ufs_build.specs.Images.{block_parts, data_parts, file_parts, group_parts, indirect_parts, inode_parts, inode_place, level_parts, pointer_parts, volume_bytes, volume_parts}
 use Rattle.ufs_build.specs.Nodes.{Node}
-use Rattle.ufs_build.specs.Parts.{Part, field_parts, put_parts}
-use Rattle.ufs_build.specs.Placements.{Addresses, AllPlaced, Placed, address_at, addresses_at, block_bytes, blocks_of, fragments_of, is_used, placed_file}
+use Rattle.ufs_build.specs.Parts.{Part, field_parts}
+use Rattle.ufs_build.specs.Placements.{Addresses, AllPlaced, address_at, addresses_at, block_bytes, blocks_of, fragments_of, is_used, placed_file}
 use Rattle.ufs_build.specs.Volumes.{superblock_fields}
 use Rattle.ufs_image_laws.specs.Reads.{Misses, Stands}
-use Rattle.ufs_image_laws.proofs.ListLaws.{ApartAll, Between, Each, EndsBy, Has, Lies, apart_zones, ascend_apart, ascend_lies, each_append, each_flat, each_weaker, lies_weaker, part_stands, parts_length, parts_outside}
-use Rattle.ufs_image_laws.proofs.PartLaws.{FitsInode, InBlock, InLevels, InSystem, IsWhole, LevelsAreApart, block_room, blocks_apart, group_lies, groups_ascend, inode_ascends, not_zero, pointers_ascend}
-use Rattle.ufs_image_laws.proofs.PlacingLaws.{ArePlaced, HasFragment, IsPlaced, IsRun, both_ways, count_of, data_in_run, file_placed, get_none}
+use Rattle.ufs_image_laws.proofs.ListLaws.{ApartAll, Between, Each, EndsBy, Has, Lies, apart_zones, ascend_apart, ascend_lies, each_append, each_flat, lies_weaker, part_stands, parts_length, parts_outside}
+use Rattle.ufs_image_laws.proofs.PartLaws.{FitsInode, InLevels, InSystem, IsWhole, block_room, blocks_apart, group_lies, groups_ascend, inode_ascends, not_zero, pointers_ascend}
+use Rattle.ufs_image_laws.proofs.PlacingLaws.{ArePlaced, IsPlaced, both_ways, count_of, data_in_run, file_placed, get_none}
 use Rattle.ufs_image_laws.proofs.SuperLaws.{ascend_ends, super_ascends}
-use Rattle.ufs_image_laws.proofs.ZoneLaws.{InodeZone, Sizes, in_group, in_inodes, inode_fits, inode_group, inode_zone, one_inode, order, sizes, super_inside, super_zone}
+use Rattle.ufs_image_laws.proofs.ZoneLaws.{InodeZone, Sizes, in_group, in_inodes, inode_fits, inode_group, inode_zone, one_inode, sizes, super_inside, super_zone}
 
 -- ---- files
 

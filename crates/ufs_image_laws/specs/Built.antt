@@ -1,5 +1,5 @@
 -- What a built volume is made of, and its blocks.
-use Rattle.std.specs.Prelude.{false, ◌≡◌, ◌+◌, ◌*◌, ◌≤◌, ◌<◌, ℕ, List, Some, Ok, length, map}
+use Rattle.std.specs.Prelude.{false, ◌≡◌, ◌+◌, ◌*◌, ◌≤◌, ℕ, List, Some, Ok, length, map}
 use Rattle.std.specs.List.{range_with_len}
 use Rattle.ufs_model.specs.Blocks.{Volume}
 use Rattle.ufs_model.specs.Geometries.{IsGeometryOn}

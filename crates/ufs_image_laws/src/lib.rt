@@ -9,6 +9,7 @@ mod files;
 mod groups;
 mod inodes;
 mod parts;
+mod paths;
 mod structures;
 mod superblocks;
 #[cfg(test)]
@@ -20,6 +21,7 @@ pub use crate::files::{built_blocks_are_found, built_files_have_their_contents};
 pub use crate::groups::built_groups_are_read;
 pub use crate::inodes::{built_inodes_are_read, files_of_items, other_inodes_are_unallocated};
 pub use crate::parts::{built_volumes_are_made_of_parts, parts_are_apart};
+pub use crate::paths::{built_files_are_read, built_paths_lead_to_their_items};
 pub use crate::structures::{
     built_volumes_are_sound, built_volumes_have_no_malformation_but_sizes,
 };

@@ -1,7 +1,6 @@
-use Rattle.std.proofs.Common.{◌≡◌, ℕ, List, ap, subst}
-use Rattle.ufs_model.specs.Claims.{IsClaim, level_of, source_fragments}
+use Rattle.std.proofs.Common.{ℕ, List, subst}
+use Rattle.ufs_model.specs.Claims.{IsClaim, source_fragments}
 use Rattle.ufs_image_laws.specs.Built.{blocks_in, nodes_in}
-use Rattle.ufs_image_laws.specs.Claims.{IsOfFile}
 use Rattle.ufs_image_laws.proofs.BuiltFiles.{built_whole}
 use Rattle.ufs_image_laws.proofs.ClaimReads.{claim_of_file, claimed_used, file_claim, one_claim}
 use Rattle.ufs_image_laws.proofs.claims.built_claims_are_of_files.Goals as goal

@@ -1,4 +1,4 @@
-use Rattle.std.proofs.Common.{◌≡◌, ◌∙◌, ℕ, List, suc, ◌+◌, ◌<◌, ◌^◌, Some, ap, sym, subst, length, arith}
+use Rattle.std.proofs.Common.{◌≡◌, ◌∙◌, ℕ, suc, ◌+◌, ◌<◌, ◌^◌, Some, ap, sym, subst, length, arith}
 use Rattle.std.specs.Prelude.{Ok}
 use Rattle.ufs_build.specs.Directories.{directory_bytes, directory_entries}
 use Rattle.ufs_model.specs.Inodes.{inode_of}

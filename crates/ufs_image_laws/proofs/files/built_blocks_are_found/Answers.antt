@@ -1,4 +1,4 @@
-use Rattle.std.proofs.Common.{◌≡◌, ◌∙◌, ℕ, List, ap}
+use Rattle.std.proofs.Common.{◌∙◌, ℕ, List, ap}
 use Rattle.ufs_model.specs.Pointers.{file_block_of}
 use Rattle.ufs_image_laws.specs.Built.{blocks_in, nodes_in}
 use Rattle.ufs_image_laws.proofs.AddressReads.{block_found}

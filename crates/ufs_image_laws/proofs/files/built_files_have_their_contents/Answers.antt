@@ -1,4 +1,4 @@
-use Rattle.std.proofs.Common.{◌≡◌, ◌∙◌, ℕ, suc, ◌+◌, Some, ap, subst, arith}
+use Rattle.std.proofs.Common.{◌≡◌, ℕ, suc, ◌+◌, Some, subst, arith}
 use Rattle.ufs_model.specs.Inodes.{inode_of}
 use Rattle.ufs_image_laws.specs.Built.{blocks_in}
 use Rattle.ufs_image_laws.proofs.FileLaws.{item_contents}

@@ -1,4 +1,4 @@
-use Rattle.std.proofs.Common.{◌≡◌, ◌∙◌, ℕ, List, ap}
+use Rattle.std.proofs.Common.{◌∙◌, ℕ, List, ap}
 use Rattle.ufs_model.specs.GroupMaps.{group_bytes, group_in, is_marked_free, is_marked_unused}
 use Rattle.ufs_image_laws.specs.Built.{blocks_in, nodes_in}
 use Rattle.ufs_image_laws.proofs.BuiltLaws.{are_volume}

@@ -1,4 +1,4 @@
-use Rattle.std.proofs.Common.{◌≡◌, ◌∙◌, ℕ, ◌+◌, List, ap, sym, subst}
+use Rattle.std.proofs.Common.{ℕ, ◌+◌, List, sym, subst}
 use Rattle.ufs_model.specs.Inodes.{inode_of}
 use Rattle.ufs_image_laws.specs.Built.{blocks_in, nodes_in}
 use Rattle.ufs_image_laws.specs.Inodes.{IsInodeOf}

@@ -1,4 +1,4 @@
-use Rattle.std.proofs.Common.{◌≡◌, ◌∙◌, ℕ, suc, ◌+◌, List, Some, ap, arith}
+use Rattle.std.proofs.Common.{◌≡◌, ◌∙◌, ℕ, suc, ◌+◌, Some, ap, arith}
 use Rattle.std.specs.Prelude.{replicate, false, slice_get}
 use Rattle.ufs_build.specs.Directories.{directory_bytes}
 use Rattle.ufs_build.specs.Nodes.{node_of}

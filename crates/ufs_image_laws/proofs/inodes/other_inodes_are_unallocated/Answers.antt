@@ -1,4 +1,4 @@
-use Rattle.std.proofs.Common.{◌≡◌, ◌∙◌, ℕ, List, ap, sym}
+use Rattle.std.proofs.Common.{◌∙◌, ℕ, List, ap}
 use Rattle.ufs_model.specs.Inodes.{inode_of}
 use Rattle.ufs_image_laws.specs.Built.{blocks_in, nodes_in}
 use Rattle.ufs_image_laws.proofs.BuiltLaws.{are_volume}

@@ -1,4 +1,4 @@
-use Rattle.std.proofs.Common.{◌≡◌, ◌∙◌, ℕ, List, ap, sym, subst, get_or, length}
+use Rattle.std.proofs.Common.{◌∙◌, ℕ, List, ap, sym, subst, get_or, length}
 use Rattle.ufs_image_laws.specs.Built.{nodes_in, parts_in}
 use Rattle.ufs_image_laws.specs.Reads.{Misses, Stands}
 use Rattle.ufs_image_laws.proofs.BuiltLaws.{are_volume}

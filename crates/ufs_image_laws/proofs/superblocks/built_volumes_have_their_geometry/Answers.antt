@@ -1,5 +1,4 @@
-use Rattle.std.proofs.Common.{◌≡◌, ◌∙◌, ℕ, List, ap, sym, subst}
-use Rattle.std.specs.Prelude.{Ok}
+use Rattle.std.proofs.Common.{◌∙◌, ℕ, List, ap, sym}
 use Rattle.ufs_model.specs.Superblocks.{geometry_of}
 use Rattle.ufs_image_laws.specs.Built.{blocks_in, nodes_in}
 use Rattle.ufs_image_laws.proofs.BuiltLaws.{are_volume}
