@@ -13,12 +13,16 @@ pub record Facts : Type 0 where
   pub taken : Option (List ℕ)
   pub given : Option (List ℕ)
 
-abbrev pub facts_of : {K R : Type 0} → sinks.Ghosts K → racks.Ghosts R → K → K → R → R → Facts
-facts_of out_ghosts rack sink sink_now old new = record {
+-- by what the sink told
+abbrev pub rack_facts : {R : Type 0} → racks.Ghosts R → R → R → Option (List ℕ) → Option (List ℕ) → Facts
+rack_facts rack old new taken given = record {
   before = rack.counts old;
   now = rack.counts new;
   images = rack.bytes old;
   bytes = rack.bytes new;
-  taken = out_ghosts.taken sink;
-  given = out_ghosts.taken sink_now;
+  taken = taken;
+  given = given;
 }
+
+abbrev pub facts_of : {K R : Type 0} → sinks.Ghosts K → racks.Ghosts R → K → K → R → R → Facts
+facts_of out_ghosts rack sink sink_now old new = rack_facts rack old new (out_ghosts.taken sink) (out_ghosts.taken sink_now)

@@ -79,12 +79,16 @@ pub record HasNoVolume (facts : Facts) (seed files : ℕ) (text : List ℕ) : Ty
   pub same : (facts.bytes ≡ facts.images) × (facts.now ≡ facts.before)
   pub text_is : text ≡ refused_text seed files
 
+-- the drill was done, or there is no volume for it
+abbrev pub IsDone : Facts → ℕ → ℕ → List ℕ → Type 0
+IsDone facts seed files text = HasDrilled facts seed files text ⊎ HasNoVolume facts seed files text
+
 -- ---- how it ends
 
 -- it was done, and its text was printed, whole (`Took`) or in part (`TookPart`)
 abbrev pub Prints : Facts → ℕ → ℕ → (List ℕ → List ℕ → List ℕ → Type 0) → Type 0
 Prints facts seed files printed =
-    (text : List ℕ) × (HasDrilled facts seed files text ⊎ HasNoVolume facts seed files text) × Told (printed text) facts.taken facts.given
+    (text : List ℕ) × IsDone facts seed files text × Told (printed text) facts.taken facts.given
 
 -- by the end
 abbrev pub EndsDrill : Facts → ℕ → ℕ → DrillEnd → Type 0
