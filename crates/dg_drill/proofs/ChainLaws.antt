@@ -2,7 +2,7 @@
 use Rattle.std.proofs.Common.{◌≡◌, ◌∙◌, ◌<◌, ◌≤◌, ◌+◌, ◌/◌, ◌++◌, ℕ, suc, List, [], ◌∷◌, get_or, length, take, drop, refl, sym, ap, subst, inl, inr, arith}
 use Rattle.std.specs.Prelude.{map, true, false}
 use Rattle.std.proofs.Math.Seq.{drop-cons}
-use Rattle.std.proofs.lemmas.List.{map_push, take_more}
+use Rattle.std.proofs.lemmas.List.{drop_all, map_push, take_all, take_more}
 use Rattle.dg_drill.proofs.OrderLaws.{apart_drop}
 use Rattle.dg_drill.proofs.WriteCounts.{write_counted}
 use Rattle.dg_drill.specs.Chains.{AreApart, AreUnwritten, HasAnswered, HasWritten, IsIn, LedTo, Steps}
@@ -122,3 +122,10 @@ module _ {R : Type 0} (rack : Ghosts R) where
       let rest = subst (λ (xs : List ℕ). AreApart xs) split (apart_drop i blocks apart) in
       subst (λ (es : List Event). HasWritten rack state es (drop (i + 1) blocks) (more + one) c) (sym events)
       (write_more a c state (writes_of l image (take i blocks)) b (drop (i + 1) blocks) (stripped (block_in l image b)) more one low rest well leaves here answered)
+
+  -- all of them
+  pub writes_all : (v : Volume AnyPhase R) (state : State) (l : ℕ) (image blocks : List ℕ) (i more : ℕ) → length blocks ≤ i
+      → HasWritten rack state (writes_of l image (take i blocks)) (drop i blocks) more v → HasWritten rack state (writes_of l image blocks) [] more v
+  writes_all v state l image blocks i more past was =
+      subst (λ (xs : List ℕ). HasWritten rack state (writes_of l image xs) [] more v) (take_all i blocks past)
+      (subst (λ (xs : List ℕ). HasWritten rack state (writes_of l image (take i blocks)) xs more v) (drop_all i blocks past) was)

@@ -1,14 +1,20 @@
 -- A drill, from the blank array to the last reading.
-use Rattle.std.proofs.Common.{◌≡◌, ◌∙◌, ◌≤◌, ◌+◌, ◌*◌, ◌/◌, ◌<◌, ◌%◌, ◌++◌, ℕ, zero, suc, List, [], ◌∷◌, length, refl, sym, ap, subst, inl, inr, arith}
-use Rattle.std.specs.Prelude.{cond, false, replicate, IfSome, Option}
+use Rattle.std.proofs.Common.{◌≡◌, ◌≢◌, ◌∙◌, ◌≤◌, ◌+◌, ◌*◌, ◌/◌, ◌<◌, ◌%◌, ◌++◌, ℕ, zero, suc, List, [], ◌∷◌, length, refl, sym, ap, subst, inl, inr, arith}
+use Rattle.std.specs.Prelude.{Err, IfSome, Option, cond, false, replicate}
 use Rattle.std.proofs.lemmas.List.Sums.{sum_by-cons}
 use Rattle.dg_drill.proofs.ChainLaws.{run_both, told_before}
-use Rattle.dg_drill.specs.Calls.{rack_facts}
+use Rattle.dg_drill.specs.Calls.{Facts, rack_facts}
 use Rattle.dg_drill.specs.Chains.{AreUnwritten, HasLost, HasReadAll, HasWritten}
-use Rattle.dg_drill.specs.Drills.{HasDrilled, TellsBoundaries, later_events, loss_events, read_events, write_events, written_count}
+use Rattle.dg_drill.specs.Drills.{EndsDrill, HasDrilled, HasNoVolume, IsDone, TellsBoundaries, later_events, loss_events, read_events, write_events, written_count}
 use Rattle.dg_drill.specs.Outcomes.{IsTally}
-use Rattle.dg_drill.specs.Reports.{boundary_of, report_text}
-use Rattle.dg_drill.specs.Volumes.{IsDrillVolume, drill_shape}
+use Rattle.dg_drill.specs.Reports.{boundary_of, refused_text, report_text}
+use Rattle.dg_drill.specs.Volumes.{IsDrillVolume, drill_shape, drill_spec}
+use Rattle.dg_drill.specs.declared.drills.DrillEnd.{DrillEnd}
+use Rattle.dg_drill.specs.declared.drills.DrillEnd.TheVariants.{Done as DrillDone, WriteFault}
+use Rattle.dg_drill.specs.Items.{drill_items}
+use Rattle.dg_io.specs.Told.{Told, Took, TookPart}
+use Rattle.ufs_build.specs.Builds.{built}
+use Rattle.ufs_build.specs.declared.refusals.BuildRefused.{BuildRefused}
 use Rattle.dg_drill.specs.declared.reads.Tally.{Tally}
 use Rattle.dg_io.specs.declared.outside.Rack.{Ghosts}
 use Rattle.dg_model.proofs.FirstSites.{empty_rows}
@@ -37,13 +43,34 @@ use Rattle.ufs_model.specs.declared.geometries.Geometry.{Geometry}
 
 none_written : (n : ℕ) → written_count (record { shape = drill_shape; rows = replicate n [] }) ≡ 0
 none_written zero = refl
-none_written (suc n) = sum_by-cons (λ (sites : List Site). cond (has_site sites) 1 0) [] (replicate n []) ∙ none_written n
+none_written (suc n) =
+    let rest = none_written n in
+    let cons = sum_by-cons (λ (sites : List Site). cond (has_site sites) 1 0) [] (replicate n []) in
+    omega (arith, rest, cons)
 
 blank_count : (state : State) → state.table ≡ empty_table drill_shape → written_count state.table ≡ 0
 blank_count state is = ap written_count is ∙ none_written drill_shape.n
 
 blank_unwritten : (state : State) (blocks : List ℕ) → state.table ≡ empty_table drill_shape → AreUnwritten state.table blocks
 blank_unwritten state blocks is b there = ap (λ (t : Table). has_site (sites_in t b)) is ∙ ap has_site (empty_rows drill_shape.n b)
+
+-- ---- the losses
+
+module _ {R : Type 0} (rack : Ghosts R) where
+  pub lost_both : (a b c : Volume AnyPhase R) (s : ℕ) (one other : Reply) → Leaves any_phase any_phase rack b c → StepsTo any_phase any_phase rack a (Fail s 0) one b
+      → StepsTo any_phase any_phase rack b (Fail s 1) other c → (state : State) → StandsIn any_phase rack a state → HasLost rack state s c
+  lost_both a b c s one other leaves first second state stands =
+      let half = first state stands in
+      let whole = second half.0 half.1 in
+      record {
+        losses = one ∷ other ∷ [];
+        next = whole.0;
+        led = record {
+          stands = whole.1;
+          run = (half.0, step_less (told_before rack b c leaves) state (Fail s 0) one half.0 half.2, (whole.0, whole.2, refl));
+        };
+        number = refl;
+      }
 
 -- ---- the whole chain
 
@@ -127,3 +154,23 @@ module _ {R : Type 0} (rack : Ghosts R) (before : R) (loose : Volume Loose R) (v
         holds = holds_all;
         text_is = text_is read.replies read.tallied ∙ ap (λ (n : ℕ). report_text seed files n settled read.replies) count_is;
       }
+
+-- ---- how it ends
+
+-- there is no volume, and the rack is as it was
+pub has_no_volume : {R : Type 0} (rack : Ghosts R) (before : R) (seed files : ℕ) (text : List ℕ) (taken given : Option (List ℕ)) (refusal : BuildRefused)
+    → built drill_spec (drill_items seed files) ≡ Err refusal → text ≡ refused_text seed files
+    → HasNoVolume (rack_facts rack before before taken given) seed files text
+has_no_volume rack before seed files text taken given refusal refused is = record {
+  refusal = refusal;
+  refused = refused;
+  same = (refl, refl);
+  text_is = is;
+}
+
+-- by whether the text was printed whole
+pub ends_drill : (facts : Facts) (seed files : ℕ) (end : DrillEnd) (text : List ℕ) → IsDone facts seed files text
+    → (end ≢ WriteFault → Told (Took text) facts.taken facts.given) → (end ≡ WriteFault → Told (TookPart text) facts.taken facts.given)
+    → EndsDrill facts seed files end
+ends_drill facts seed files DrillDone text done told part = (text, done, told (λ e. cc e))
+ends_drill facts seed files WriteFault text done told part = (text, done, part refl)

@@ -4,6 +4,7 @@ mod Comparing
 mod Counts
 mod DrillLaws
 mod HomeSteps
+mod ItemLaws
 mod Lined
 mod LossSteps
 mod MadeLaws

@@ -3,12 +3,13 @@ use Rattle.std.proofs.Common.{◌≡◌, ◌≢◌, ◌∙◌, ◌<◌, ◌≤�
 use Rattle.std.specs.Prelude.{if◌then◌else◌, map, ◌==◌}
 use Rattle.std.specs.Cmp.Lexicographic.{pointwise}
 use Rattle.std.specs.List.{concat, range_with_len}
-use Rattle.std.proofs.lemmas.List.{map-id, map_push}
-use Rattle.std.proofs.lemmas.List.FromFn.{length-map-range_with_len, map-range_with_len_more}
+use Rattle.std.proofs.lemmas.List.{map_push}
+use Rattle.std.proofs.lemmas.List.FromFn.{length-map-range_with_len}
 use Rattle.dg_drill.proofs.ChainLaws.{led_more, led_none, steps_of}
 use Rattle.dg_drill.proofs.Comparing.{whole_is}
+use Rattle.dg_drill.proofs.ItemLaws.{range_more}
 use Rattle.dg_drill.proofs.Lined.{in_lines}
-use Rattle.dg_drill.proofs.Counts.{bytes_push, given_push, unavailable_push}
+use Rattle.dg_drill.proofs.Counts.{bytes_more, bytes_push, given_more, given_push, unavailable_push}
 use Rattle.dg_drill.specs.Chains.{HasRead, HasReadAll, LedTo}
 use Rattle.dg_drill.specs.Comparisons.{Compared, ComparedPart, fresh, is_whole}
 use Rattle.dg_drill.specs.Drills.{read_event, read_events}
@@ -21,7 +22,9 @@ use Rattle.dg_drill.specs.declared.reads.Outcome.TheVariants.{Given, Other, Unav
 use Rattle.dg_drill.specs.declared.reads.Tally.{Tally}
 use Rattle.dg_io.specs.declared.outside.Rack.{Ghosts}
 use Rattle.dg_model.specs.Lists.{AreLines}
+use Rattle.dg_model.specs.Shapes.{IsShape}
 use Rattle.dg_model.specs.States.{State}
+use Rattle.dg_model.specs.declared.shapes.Shape.{Shape}
 use Rattle.dg_model.specs.declared.events.Event.{Event}
 use Rattle.dg_model.specs.declared.events.Event.TheVariants.{Cat}
 use Rattle.dg_model.specs.declared.replies.Reply.{Reply}
@@ -36,19 +39,25 @@ use Rattle.ufs_path.specs.declared.faults.CatAnswer.TheVariants.{Bad, Cut, Given
 
 -- ---- tallies
 
+abbrev one_if : Bool → ℕ
+one_if b = if b then 1 else 0
+
+abbrev size_if : Bool → ℕ → ℕ
+size_if b size = if b then size else 0
+
 -- what a reply adds to a tally
 record Adds (wanted : List ℕ) (size : ℕ) (tally : Tally) (reply : Reply) : Type 0 where
-  given : (with_outcome (outcome_of wanted reply) size tally).given ≡ tally.given + (if gives wanted reply then 1 else 0)
-  bytes : (with_outcome (outcome_of wanted reply) size tally).bytes ≡ tally.bytes + (if gives wanted reply then size else 0)
-  unavailable : (with_outcome (outcome_of wanted reply) size tally).unavailable ≡ tally.unavailable + (if is_unavailable reply then 1 else 0)
+  given : (with_outcome (outcome_of wanted reply) size tally).given ≡ tally.given + one_if (gives wanted reply)
+  bytes : (with_outcome (outcome_of wanted reply) size tally).bytes ≡ tally.bytes + size_if (gives wanted reply) size
+  unavailable : (with_outcome (outcome_of wanted reply) size tally).unavailable ≡ tally.unavailable + one_if (is_unavailable reply)
 
 -- by both tests, of which one at most is passed
 adds_by : (wanted : List ℕ) (size : ℕ) (tally : Tally) (reply : Reply) (given none : Bool) → gives wanted reply ≡ given → is_unavailable reply ≡ none
     → (given ≡ true → none ≡ false) → Adds wanted size tally reply
 adds_by wanted size tally reply true true e f apart = absurd (let other = apart refl in cc other)
 adds_by wanted size tally reply true false e f apart = record {
-  given = rw (e, f) refl;
-  bytes = rw (e, f) refl;
+  given = rw e refl;
+  bytes = rw e refl;
   unavailable = rw (e, f) (omega arith);
 }
 adds_by wanted size tally reply false true e f apart = record {
@@ -71,6 +80,20 @@ not_both wanted reply e = absurd (cc e)
 adds : (wanted : List ℕ) (size : ℕ) (tally : Tally) (reply : Reply) → Adds wanted size tally reply
 adds wanted size tally reply = adds_by wanted size tally reply (gives wanted reply) (is_unavailable reply) refl refl (not_both wanted reply)
 
+-- a tally grows by one file at most
+pub record GrowsFew (size : ℕ) (old new : Tally) : Type 0 where
+  pub given : new.given ≤ old.given + 1
+  pub bytes : new.bytes ≤ old.bytes + size
+  pub unavailable : new.unavailable ≤ old.unavailable + 1
+
+pub outcome_few : (outcome : Outcome) (size : ℕ) (old new : Tally) → new ≡ with_outcome outcome size old → GrowsFew size old new
+outcome_few outcome size old new is = subst (λ (t : Tally). GrowsFew size old t) (sym is) (by_outcome outcome)
+  where
+    by_outcome : (o : Outcome) → GrowsFew size old (with_outcome o size old)
+    by_outcome Given = record { given = omega arith; bytes = omega arith; unavailable = omega arith }
+    by_outcome Unavailable = record { given = omega arith; bytes = omega arith; unavailable = omega arith }
+    by_outcome Other = record { given = omega arith; bytes = omega arith; unavailable = omega arith }
+
 -- one file more is read
 tally_more : (seed k : ℕ) (replies : List Reply) (reply : Reply) (tally new : Tally) (size : ℕ) → length replies ≡ k → size ≡ size_of seed k
     → new ≡ with_outcome (outcome_of (bytes_of k size) reply) size tally → IsTally seed replies tally → IsTally seed (replies ++ reply ∷ []) new
@@ -82,12 +105,12 @@ tally_more seed k replies reply tally new size number sized is was =
     let given = given_push seed 0 replies reply in
     let bytes = bytes_push seed 0 replies reply in
     let none = unavailable_push replies reply in
-    let one : (if gives (file_bytes seed (0 + length replies)) reply then 1 else 0) ≡ (if gives (bytes_of k size) reply then 1 else 0) =
-    ap (λ (n : ℕ). if gives (file_bytes seed n) reply then 1 else 0) at ∙ ap (λ (l : List ℕ). if gives l reply then 1 else 0) (sym wanted) in
-    let some : (if gives (file_bytes seed (0 + length replies)) reply then length (file_bytes seed (0 + length replies)) else 0) ≡ (if gives (bytes_of k size) reply then size else 0) =
-    ap (λ (n : ℕ). if gives (file_bytes seed n) reply then length (file_bytes seed n) else 0) at
-    ∙ ap (λ (n : ℕ). if gives (file_bytes seed k) reply then n else 0) long
-    ∙ ap (λ (l : List ℕ). if gives l reply then size else 0) (sym wanted) in
+    let one : given_more seed (0 + length replies) reply ≡ one_if (gives (bytes_of k size) reply) =
+    ap (λ (n : ℕ). given_more seed n reply) at ∙ ap (λ (l : List ℕ). one_if (gives l reply)) (sym wanted) in
+    let some : bytes_more seed (0 + length replies) reply ≡ size_if (gives (bytes_of k size) reply) size =
+    ap (λ (n : ℕ). bytes_more seed n reply) at
+    ∙ ap (λ (n : ℕ). size_if (gives (file_bytes seed k) reply) n) long
+    ∙ ap (λ (l : List ℕ). size_if (gives l reply) size) (sym wanted) in
     record {
       given_is = ap (λ (t : Tally). t.given) is ∙ more.given ∙ omega (arith, given, one, was.given_is);
       bytes_are = ap (λ (t : Tally). t.bytes) is ∙ more.bytes ∙ omega (arith, bytes, some, was.bytes_are);
@@ -96,11 +119,17 @@ tally_more seed k replies reply tally new size number sized is was =
 
 -- ---- readings
 
-range_more : (n : ℕ) → range_with_len 0 (n + 1) ≡ range_with_len 0 n ++ n ∷ []
-range_more n = simp map-id at (map-range_with_len_more (λ (x : ℕ). x) 0 n n (omega arith))
-
 events_more : (k : ℕ) → read_events (k + 1) ≡ read_events k ++ read_event k ∷ []
 events_more k = ap (λ (l : List ℕ). map read_event l) (range_more k) ∙ map_push read_event (range_with_len 0 k) k
+
+-- a block has bytes
+pub some_bytes : (shape : Shape) → IsShape shape → 0 < shape.l
+some_bytes shape h = elim h.block [
+  | inl a ↦ omega (arith, a)
+  | inr (inl b) ↦ omega (arith, b)
+  | inr (inr (inl c)) ↦ omega (arith, c)
+  | inr (inr (inr d)) ↦ omega (arith, d)
+]
 
 module _ {R : Type 0} (rack : Ghosts R) where
   pub reads_none : (seed : ℕ) (v : Volume AnyPhase R) (state : State) (tally : Tally) → tally ≡ record { given = 0; bytes = 0; unavailable = 0 }
@@ -135,10 +164,10 @@ module _ {R : Type 0} (rack : Ghosts R) where
   -- ---- one reading
 
   module _ (old new : Volume AnyPhase R) (touch : List ℕ → List ℕ) (k size : ℕ) where
-    abbrev gives_file : Reply → Type 0
+    abbrev pub gives_file : Reply → Type 0
     gives_file reply = StepsBy any_phase any_phase rack touch old (Cat (file_path k)) reply new
 
-    abbrev holds_file : Reply → Type 0
+    abbrev pub holds_file : Reply → Type 0
     holds_file reply = StepsTo any_phase any_phase rack old (Cat (file_path k)) reply new
 
     read_as : (reply : Reply) (outcome : Outcome) → holds_file reply → outcome ≡ outcome_of (bytes_of k size) reply

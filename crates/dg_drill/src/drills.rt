@@ -89,7 +89,8 @@ fn drill_array<R: Rack + Drop>(
         HasDrilled (rack_facts R.Rack rack untold.rack taken given) seed files untold.text.items) }
 {
     let blocks = trace_order(alloc, Order::Late, &made.geometry, &made.image)?;
-    let mut volume = Volume::array(alloc, rack, drill_shape())?.into_any();
+    let loose = Volume::array(alloc, rack, drill_shape())?;
+    let mut volume = loose.into_any();
     let written = write_blocks(alloc, &made.geometry, &made.image, &blocks, &mut volume)?;
     let settled = settle_reply(volume.settle(alloc)?);
     lose(&mut volume, (seed % 4) as u32);
@@ -115,11 +116,13 @@ fn drill_rack<R: Rack + Drop>(
 {
     match make_volume(alloc, seed, files) {
         Ok(made) => drill_array(alloc, seed, files, &made, rack),
-        Err(BuildRefused::NoMemory) => Err(NoMemory),
-        Err(_) => Ok(Untold {
-            rack,
-            text: refused_text(alloc, seed, files)?,
-        }),
+        Err(refusal) => match refusal {
+            BuildRefused::NoMemory => Err(NoMemory),
+            _ => Ok(Untold {
+                rack,
+                text: refused_text(alloc, seed, files)?,
+            }),
+        },
     }
 }
 

@@ -1,5 +1,5 @@
 // The files of a drill.
-ghost use Rattle.std.specs.Prelude.{◌≡◌, ◌≤◌, ◌<◌, ◌++◌, IfOk, OnOk, map};
+ghost use Rattle.std.specs.Prelude.{◌≡◌, ◌≤◌, ◌<◌, ◌++◌, ◌∷◌, [], IfOk, OnOk, false, map};
 ghost use Rattle.std.specs.List.{range_with_len};
 ghost use Rattle.rand_pcg.specs.Pcg.{pcg32};
 ghost use Rattle.dg_drill.specs.Items.{byte_of, bytes_of, digit_of, directory_item, directory_path, drill_items, file_item, file_path, generator_after, size_by};
@@ -39,15 +39,23 @@ pub fn byte_of(k: u32, o: u32) -> u8
     (sum % 251) as u8
 }
 
+/// Appends a byte.
+fn push_byte(bytes: &mut Vec<u8>, byte: u8) -> Result<(), NoMemory>
+    ensures { OnOk result (bytes.new.items ≡ bytes.old.items ++ byte ∷ []) }
+{
+    match bytes.push(byte) {
+        Ok(()) => Ok(()),
+        Err(_) => Err(NoMemory),
+    }
+}
+
 /// So many bytes of file `k`.
 fn file_bytes(alloc: Global, k: u32, size: u32) -> Result<Vec<u8>, NoMemory>
     ensures { IfOk result (λ bytes. bytes.items ≡ bytes_of k size) }
 {
     let mut bytes = Vec::new(alloc);
     for o in 0..size {
-        let Ok(()) = bytes.push(byte_of(k, o)) else {
-            return Err(NoMemory);
-        };
+        push_byte(&mut bytes, byte_of(k, o))?;
     }
     Ok(bytes)
 }

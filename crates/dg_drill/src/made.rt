@@ -9,8 +9,8 @@ ghost use Rattle.ufs_model.specs.Geometries.{IsGeometry};
 use crate::items::drill;
 use crate::volumes::drill_spec;
 use std::alloc::Global;
-use ufs_build::{BuildRefused, build, volume_of_spec};
-use ufs_model::Geometry;
+use ufs_build::{BuildRefused, What, build, volume_of_spec};
+use ufs_model::{Geometry, accepted_superblocks};
 
 /// A volume, and its bytes.
 #[derive(Drop)]
@@ -29,11 +29,16 @@ pub fn make_volume(alloc: Global, seed: u64, files: u32) -> Result<Made, BuildRe
     ensures inside { IfOk result (λ made. made.geometry.size ≤ drill_shape.n) }
     ensures refused { IfErr result (λ refusal. refusal ≢ BuildRefused.NoMemory → built drill_spec (drill_items seed files) ≡ Err refusal) }
 {
-    let items = drill(alloc, seed, files)?;
+    accepted_superblocks();
     let spec = drill_spec();
-    let image = build(alloc, &spec, &items)?;
     let Some(geometry) = volume_of_spec(&spec) else {
-        unreachable!();
+        return Err(BuildRefused::TooMany(What::Spec));
     };
-    Ok(Made { geometry, image })
+    let Ok(items) = drill(alloc, seed, files) else {
+        return Err(BuildRefused::NoMemory);
+    };
+    match build(alloc, &spec, &items) {
+        Ok(image) => Ok(Made { geometry, image }),
+        Err(refusal) => Err(refusal),
+    }
 }

@@ -1,5 +1,5 @@
 // The files of a drill, read back.
-ghost use Rattle.std.specs.Prelude.{◌≡◌, ◌≤◌, ◌<◌, ◌*◌};
+ghost use Rattle.std.specs.Prelude.{◌≡◌, ◌≤◌, ◌<◌, ◌-◌, ◌^◌};
 ghost use Rattle.dg_drill.specs.Chains.{HasRead, HasReadAll};
 ghost use Rattle.dg_drill.specs.Drills.{read_event};
 ghost use Rattle.dg_drill.specs.Items.{bytes_of};
