@@ -83,7 +83,7 @@ module _ {R : Type 0} (rack : Ghosts R) (before : R) (loose : Volume Loose R) (v
     (blank : IsBlankVolume rack drill_shape before loose) (same : IsSame loose_phase any_phase rack loose v0)
     (l1 : Leaves any_phase any_phase rack v0 v1) (l2 : Leaves any_phase any_phase rack v1 v2) (l3 : Leaves any_phase any_phase rack v2 v3) (l4 : Leaves any_phase any_phase rack v3 v4)
     (writes : (state : State) → StandsIn any_phase rack v0 state → AreUnwritten state.table (trace_of Late g image)
-        → HasWritten rack state (writes_of g.fsize image (trace_of Late g image)) [] more v1)
+    → HasWritten rack state (writes_of g.fsize image (trace_of Late g image)) [] more v1)
     (settles : StepsTo any_phase any_phase rack v1 Settle settled v2)
     (loses : (state : State) → StandsIn any_phase rack v2 state → HasLost rack state s v3)
     (reads : (state : State) → StandsIn any_phase rack v3 state → HasReadAll rack seed state files tally v4)
@@ -131,7 +131,7 @@ module _ {R : Type 0} (rack : Ghosts R) (before : R) (loose : Volume Loose R) (v
       let K : Type 0 = TellsBoundaries (rack.bytes (rack_of v4)) read.next in
       let step = settles written.next written.led.stands in
       let fails = subst (λ (n : ℕ). Run K step.0 (loss_at n) lost.losses lost.next) boundary
-          (run_less known3 step.0 (loss_at s) lost.losses lost.next lost.led.run) in
+      (run_less known3 step.0 (loss_at s) lost.losses lost.next lost.led.run) in
       record {
         image = image;
         geometry = g;

@@ -108,9 +108,9 @@ settles_on : (old new : State) → Step AreTold old Settle Settled new → Settl
 settles_on old new h = elim h.1 [
   | inl was ↦ record { on = advance_same old new was.1; phase = ap (λ (s : State). s.phase) was.1 ∙ was.0 }
   | inr now ↦ record {
-      on = record { members = now.2.goes.members; copies = λ none. ap (λ (s : State). s.copies) now.2.rest ∙ none };
-      phase = ap (λ (s : State). s.phase) now.2.rest;
-    }
+    on = record { members = now.2.goes.members; copies = λ none. ap (λ (s : State). s.copies) now.2.rest ∙ none };
+    phase = ap (λ (s : State). s.phase) now.2.rest;
+  }
 ]
 
 -- ---- what its states keep
@@ -339,9 +339,9 @@ module _ (kept : KeepSteady) (promise : KeepPromise) (stands : LoseNone) where
             ∙ sym (sum_by-cons (λ (j : ℕ). cond (stands_at final s (file_at final (file_path j))) 1 0) k (range_with_len (k + 1) n));
         given = subst (λ (l : List Reply). AreGiven s final k l) (sym first.is) (
           (λ i leads apart.
-          let was : file_at old path ≡ Ok i = sym (file_alike old final path alike) ∙ leads in
-          let home : is_at s (home_of old.homes i) ≡ false = ap (λ (homes : List Home). is_at s (home_of homes i)) (sym alike.homes) ∙ apart in
-          gives_alike old final path first.reply alike ((promised.given i was).0 (kept_file s old i is home))),
+              let was : file_at old path ≡ Ok i = sym (file_alike old final path alike) ∙ leads in
+              let home : is_at s (home_of old.homes i) ≡ false = ap (λ (homes : List Home). is_at s (home_of homes i)) (sym alike.homes) ∙ apart in
+              gives_alike old final path first.reply alike ((promised.given i was).0 (kept_file s old i is home))),
           rest.given,
         );
       }

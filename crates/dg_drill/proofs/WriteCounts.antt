@@ -53,17 +53,17 @@ row_here table b sites low = get_or-set_same table.rows b sites [] low
 row_same : (table : Table) (b : ℕ) (sites : List Site) → has_site sites ≡ has_site (sites_in table b) → HasSame table (with_row table b sites)
 row_same table b sites same = elim (cases_lt b (length table.rows)) [
   | inl low ↦ record {
-      rows = length-set table.rows b sites;
-      sites = λ c. elim (cases_eq c b) [
-        | inl e ↦ ap (λ (k : ℕ). has_site (sites_in (with_row table b sites) k)) e ∙ ap has_site (row_here table b sites low) ∙ same
-            ∙ ap (λ (k : ℕ). has_site (sites_in table k)) (sym e)
-        | inr other ↦ row_other table b c sites other
-      ];
-      count =
-          let sum = sum_by-set weight table.rows b sites [] low in
-          let here : weight sites ≡ weight (sites_in table b) = ap (λ (x : Bool). cond x 1 0) same in
-          omega (arith, sum, here);
-    }
+    rows = length-set table.rows b sites;
+    sites = λ c. elim (cases_eq c b) [
+      | inl e ↦ ap (λ (k : ℕ). has_site (sites_in (with_row table b sites) k)) e ∙ ap has_site (row_here table b sites low) ∙ same
+          ∙ ap (λ (k : ℕ). has_site (sites_in table k)) (sym e)
+      | inr other ↦ row_other table b c sites other
+    ];
+    count =
+        let sum = sum_by-set weight table.rows b sites [] low in
+        let here : weight sites ≡ weight (sites_in table b) = ap (λ (x : Bool). cond x 1 0) same in
+        omega (arith, sum, here);
+  }
   | inr high ↦ same_table table (with_row table b sites) (ap (λ (rows : List (List Site)). record table { rows = rows }) (set_past table.rows b sites high))
 ]
 

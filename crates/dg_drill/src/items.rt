@@ -102,12 +102,7 @@ fn bytes_from(alloc: Global, bytes: &[u8]) -> Result<Bytes, NoMemory>
 }
 
 /// An item of these parts.
-fn item_of(
-    alloc: Global,
-    path: &[u8],
-    kind: ItemKind,
-    bytes: Vec<u8>,
-) -> Result<Item, NoMemory>
+fn item_of(alloc: Global, path: &[u8], kind: ItemKind, bytes: Vec<u8>) -> Result<Item, NoMemory>
     ensures { IfOk result (λ item. item ≡ record { path = path.now; kind = kind; bytes = bytes.items; sparse = false }) }
 {
     let path = bytes_from(alloc, path)?;
@@ -156,12 +151,7 @@ fn directories(alloc: Global) -> Result<Vec<Item>, NoMemory>
 }
 
 /// Appends the files of a drill.
-fn push_files(
-    alloc: Global,
-    items: &mut Vec<Item>,
-    seed: u64,
-    files: u32,
-) -> Result<(), NoMemory>
+fn push_files(alloc: Global, items: &mut Vec<Item>, seed: u64, files: u32) -> Result<(), NoMemory>
     ensures { OnOk result (items.new.items ≡ items.old.items ++ map (file_item seed) (range_with_len 0 files)) }
 {
     let mut sizes = sizes_of(seed);

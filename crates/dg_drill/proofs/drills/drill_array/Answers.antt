@@ -40,9 +40,9 @@ returns-clause-drilled g c = λ taken given.
     c.deref-3.ensures.value ∙ c.in_ok-blocks.ensures ∙ ap (λ (l : List ℕ). trace_of Late c.args.made.now.geometry l) c.deref.ensures.value in
     let blank = subst (λ (s : Shape). IsBlankVolume g.R.Rack s c.args.rack c.in_ok-loose.loose) c.drill_shape.ensures.is c.in_ok-loose.ensures in
     let Writes : List ℕ → List ℕ → Type 0 = λ image blocks. (state : State) → StandsIn any_phase g.R.Rack c.into_any-volume.result state → AreUnwritten state.table blocks
-        → HasWritten g.R.Rack state (writes_of c.args.made.now.geometry.fsize image blocks) [] c.in_ok-written.written c.write_blocks.new.volume in
+    → HasWritten g.R.Rack state (writes_of c.args.made.now.geometry.fsize image blocks) [] c.in_ok-written.written c.write_blocks.new.volume in
     let writes = subst (λ (blocks : List ℕ). Writes c.args.made.now.image.items blocks) same
-        (subst (λ (image : List ℕ). Writes image c.deref-3.result.now) c.deref-2.ensures.value c.in_ok-written.ensures.runs) in
+    (subst (λ (image : List ℕ). Writes image c.deref-3.result.now) c.deref-2.ensures.value c.in_ok-written.ensures.runs) in
     let settles = subst (λ (r : Reply). StepsTo any_phase any_phase g.R.Rack c.write_blocks.new.volume Settle r c.settle.new.self) (sym c.settle_reply-settled.ensures) c.in_ok-settle.ensures.steps in
     subst (λ (r : g.row.R.Denot). HasDrilled (rack_facts g.R.Rack c.args.rack r taken given) c.args.seed c.args.files c.in_ok-text.text.items) (sym c.into_rack.ensures)
     (has_drilled g.R.Rack c.args.rack c.in_ok-loose.loose v0 v1 v2 c.lose.new.volume v4 c.args.seed c.args.files (c.args.seed % 4) more made.image.items made.geometry
