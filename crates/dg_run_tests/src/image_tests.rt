@@ -6,7 +6,7 @@ use dg_io::MemSink;
 use dg_run::{Status, run};
 use std::alloc::Global;
 use std::test::Fail;
-use ufs_rows::Which;
+use ufs_samples::Which;
 
 // Bytes of all that is printed.
 const OUTPUT: usize = 262_144;
