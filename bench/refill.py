@@ -108,17 +108,19 @@ def one_round(program, folder, volume, removal):
     """What one array takes: the seconds of the refill without dead blocks and with them, and of the plain copies of their bytes."""
     used = {block for block, data in volume.image.items() if any(data) and block % 2 == 0}
     dead = removal.dead & used
+    later = used | {block for block in removal.changed if block % 2 == 0}
+    live = len(later - dead)
     session = Session(program, folder, SHAPE)
     session.all_well(lines_of({block: data for block, data in volume.image.items() if any(data)}))
     taken = [refill(session, len(used))]
     session.all_well(lines_of(removal.changed))
     one_dead = min(dead)
     session.expect(f"who {one_dead}", "dead")
-    taken.append(refill(session, len(used) - len(dead)))
+    taken.append(refill(session, live))
     session.expect(f"who {one_dead}", "idle")
     session.end()
-    copies = [plain_copy(folder, count, size) for count in (len(used), len(used) - len(dead)) for size in (FRAGMENT, MIB)]
-    return taken, copies, (len(used), len(used) - len(dead))
+    copies = [plain_copy(folder, count, size) for count in (len(used), live) for size in (FRAGMENT, MIB)]
+    return taken, copies, (len(used), len(later), live)
 
 
 def main():
@@ -130,15 +132,15 @@ def main():
     for _ in range(ROUNDS):
         with tempfile.TemporaryDirectory() as folder:
             rounds.append(one_round(program, folder, volume, removal))
-    used, live = rounds[0][2]
+    used, later, live = rounds[0][2]
     processors = []
-    for which, copied in enumerate((used, live)):
+    for which, (slots, copied) in enumerate(((used, used), (later, live))):
         clock, processor = (min(one[0][which][kind] for one in rounds) for kind in (0, 1))
         by_slot, by_mib = (min(one[1][2 * which + kind] for one in rounds) for kind in (0, 1))
-        passed, bytes_copied = used * FRAGMENT / MIB, copied * FRAGMENT / MIB
+        passed, bytes_copied = slots * FRAGMENT / MIB, copied * FRAGMENT / MIB
         processors.append(processor)
         print(
-            f"{passed:.1f} MiB of used slots, {100 * (used - copied) / used:.0f} of 100 dead: {clock:.3f} s by the clock, {processor:.3f} s of the processor; "
+            f"{passed:.1f} MiB of used slots, {100 * (slots - copied) / slots:.0f} of 100 dead: {clock:.3f} s by the clock, {processor:.3f} s of the processor; "
             f"by the clock {passed / clock:,.0f} MiB/s passed, {bytes_copied / clock:,.0f} MiB/s copied; a plain copy of these {bytes_copied:.1f} MiB "
             f"a slot at a time {bytes_copied / by_slot:,.0f} MiB/s, a MiB at a time {bytes_copied / by_mib:,.0f} MiB/s; {load()}"
         )

@@ -2,7 +2,8 @@
 
 The volumes are those of bench/check.py, on an array of four boundaries with places for a naming block on two, and slots for twice the
 blocks. The blocks that aren't zero are written in the order `late` (those of the data area upwards, then all others downwards), and one volume of 64 MiB
-in the orders `up` and `down` as well. The time of a `settle` is the difference of replays with it and without. The time of a write in the
+in the orders `up` and `down` as well. The time of a `settle` is the difference of replays with it and without. The processor's time of a short run
+comes in ticks, so each trace is replayed as often as makes a million writes, at least three times, and the mean is told. The time of a write in the
 program may grow by a factor of 1.3 from 8 MiB to 512 MiB; else the exit status is 1. Traces and image files stand in a temporary folder (TMPDIR says where).
 """
 import os
@@ -12,7 +13,8 @@ import tempfile
 from check import FRAGMENT, sound_volume
 from replay import replay
 
-ROUNDS = 3
+LEAST_ROUNDS = 3
+MOST_WRITES = 1_000_000
 SIZES = (12, 14, 16, 17, 20)
 TRAFFIC_BITS = 17
 FLAT_BITS = (14, 20)
@@ -43,15 +45,16 @@ def write_trace(path, volume, bits, order, settle):
     return len(blocks)
 
 
-def least(program, folder, trace, writes, settle):
-    """The least seconds in the program of some replays of a trace, and their peak memory in KiB."""
+def mean(program, folder, trace, writes, settle):
+    """The mean seconds in the program of some replays of a trace, and their peak memory in KiB."""
     replies = os.path.join(folder, "replies")
-    taken = [replay(program, folder, trace, replies) for _ in range(ROUNDS)]
+    rounds = max(LEAST_ROUNDS, MOST_WRITES // writes)
+    taken = [replay(program, folder, trace, replies) for _ in range(rounds)]
     with open(replies) as got:
         lines = got.read().split("\n")[:-1]
     if lines != ["ok"] * (writes + 1) + ["settled"] * settle:
         sys.exit(f"the replies end with {lines[-1]!r}")
-    return min(one[1] for one in taken), max(one[3] for one in taken)
+    return sum(one[1] for one in taken) / rounds, max(one[3] for one in taken)
 
 
 def measure(program, folder, bits, order):
@@ -61,7 +64,7 @@ def measure(program, folder, bits, order):
     found = []
     for settle in (False, True):
         writes = write_trace(trace, volume, bits, order, settle)
-        found.append(least(program, folder, trace, writes, settle))
+        found.append(mean(program, folder, trace, writes, settle))
     (alone, kept), (whole, peak) = found
     print(
         f"2^{bits} fragments, {order}: {writes:,} writes, {writes / whole:,.0f} events a second in the program with the settling; "

@@ -2,6 +2,7 @@
 import collections
 import re
 
+from drills import report
 from volumes import volume
 
 Row = collections.namedtuple("Row", "name statements")
@@ -140,22 +141,19 @@ class Reader:
         self.images[name] = made
 
     def write(self, run, number, what, image, blocks):
-        lines = b"".join(b"write %d %s\n" % (block, hexed(image.block(block))) for block in blocks)
-        run.add(number, what, lines, b"ok\n" * len(blocks))
+        run.add(number, what, writes(image, blocks), b"ok\n" * len(blocks))
 
     # short words for many events
 
     def do_up(self, run, number, name):
         """The blocks that aren't all zero, ascending."""
         image = self.image(name)
-        self.write(run, number, f"* up {name}", image, image.written())
+        self.write(run, number, f"* up {name}", image, in_order(image, "up"))
 
     def do_late(self, run, number, name):
         """The data of groups ascending, and then all others descending."""
         image = self.image(name)
-        data = [block for block in image.written() if image.group_of(block) is not None]
-        others = [block for block in reversed(image.written()) if image.group_of(block) is None]
-        self.write(run, number, f"* late {name}", image, data + others)
+        self.write(run, number, f"* late {name}", image, in_order(image, "late"))
 
     def do_blocks(self, run, number, name, *blocks):
         self.write(run, number, f"* blocks {name}", self.image(name), [int(block) for block in blocks])
@@ -253,9 +251,46 @@ class Reader:
         go("/", 1)
         run.add(number, "tree", b"tree\n", "".join(line + "\n" for line in [*lines, f"end {len(lines)}"]).encode())
 
+    # images as input, and their traces
+
+    def do_bytes(self, run, number, name, count=None):
+        """The bytes of an image as input, so many of them or all."""
+        data = bytes(self.image(name).bytes)
+        run.add(number, f"* bytes {name}", data[:int(count)] if count else data, b"")
+
+    def do_zeros(self, run, number, count):
+        """So many zero bytes as input."""
+        run.add(number, f"* zeros {count}", bytes(int(count)), b"")
+
+    def do_writes(self, run, _, name, order, count):
+        """The lines that write the blocks of an image that aren't all zero, so many, as further output."""
+        blocks = in_order(self.image(name), order)
+        if len(blocks) != int(count):
+            raise ValueError(f"{len(blocks)} blocks")
+        run.add_wanted(writes(self.image(name), blocks))
+
+    def do_drill(self, run, _, seed, count):
+        """All that a drill prints."""
+        run.add_wanted(report(int(seed), int(count)))
+
     def do_raw(self, run, number, name, path):
         """The bytes of a file as the command `cat` writes them."""
         run.add_wanted(self.data(name, path))
+
+
+def in_order(image, order):
+    """The blocks that aren't all zero, in the order of a trace."""
+    blocks = image.written()
+    if order == "up":
+        return blocks
+    if order == "down":
+        return blocks[::-1]
+    data = [block for block in blocks if image.group_of(block) is not None]
+    return data + [block for block in reversed(blocks) if image.group_of(block) is None]
+
+
+def writes(image, blocks):
+    return b"".join(b"write %d %s\n" % (block, hexed(image.block(block))) for block in blocks)
 
 
 def hexed(data):

@@ -1,14 +1,13 @@
 -- What a change of the run of one source does to a kept table.
-use Rattle.std.proofs.Common.{◌≡◌, ℕ, suc, ◌+◌, ◌^◌, ◌<◌, ◌≤◌, ◌⊎◌, ◌↔◌, ◌∙◌, inl, inr, List, [], Contains, Option, Some, None, IfSome, length, refl, sym, ap, subst, arith}
+use Rattle.std.proofs.Common.{◌≡◌, ℕ, ◌+◌, ◌^◌, ◌<◌, ◌≤◌, ◌⊎◌, ◌↔◌, ◌∙◌, inl, inr, List, [], Contains, Option, Some, None, IfSome, length, refl, sym, ap, subst, arith}
 use Rattle.std.proofs.lemmas.Bool.{cases_eq}
-use Rattle.ufs_model.specs.Claims.{fragments_from}
 use Rattle.ufs_model.specs.Geometries.{IsGeometry}
 use Rattle.ufs_model.specs.declared.claims.ClaimSource.{ClaimSource}
 use Rattle.ufs_model.specs.declared.geometries.Geometry.{Geometry}
 use Rattle.dg_claims.proofs.ListLaws.{contains_none}
-use Rattle.dg_claims.proofs.RunLaws.{contains_from, contains_run, fragments_so_far}
-use Rattle.dg_claims.specs.Kept.{IsKept, IsRun, IsPlace, KeptClaims, kept_of, run_so_far, size_in}
-use Rattle.dg_claims.specs.Marks.{AddsMark, DropsMark, IsMarks, SameMarks, Unmarks, marked_on}
+use Rattle.dg_claims.proofs.RunLaws.{contains_run}
+use Rattle.dg_claims.specs.Kept.{IsKept, IsRun, IsPlace, KeptClaims, kept_of, size_in}
+use Rattle.dg_claims.specs.Marks.{AddsMark, AddsMarks, DropsMark, IsMarks, SameMarks, SameSources, Unmarks, marked_on}
 use Rattle.dg_claims.specs.Runs.{run_at, run_fragments, run_of}
 use Rattle.dg_claims.specs.Places.{source_of}
 use Rattle.dg_claims.specs.declared.claims.Claims.TheInside.{Inside}
@@ -79,65 +78,96 @@ remade old new place is made = record {
   ];
 }
 
--- ---- a run that grows
+-- ---- a run that is put
 
--- what a source has claimed so far
-here_so_far : (old : Inside) (place : Place) (first done : ℕ) → IsKept old → run_at old.runs place ≡ run_so_far first done
-    → (fragment : ℕ) → Contains (marked_on old.marks fragment) place ↔ ((first ≤ fragment) × (fragment < first + done))
-here_so_far old place first done is so_far fragment =
-    let marks = is.marked fragment place in
-    let from = contains_from done first fragment in
-    let same : run_fragments (run_at old.runs place) ≡ fragments_from first done = ap run_fragments so_far ∙ fragments_so_far first done in (
-      λ has. from.0 (subst (λ xs. Contains xs fragment) same (marks.0 has)),
-      λ both. marks.1 (subst (λ xs. Contains xs fragment) (sym same) (from.1 both)),
+-- a source that claims nothing is on no fragment
+pub none_marked : (old : Inside) (kept : KeptClaims) (place : Place) → kept_of old ≡ kept → IsKept old → run_at kept.runs place ≡ None
+    → (fragment : ℕ) → Contains (marked_on old.marks fragment) place → ⊥
+none_marked old kept place view is none fragment has =
+    let bare : run_at old.runs place ≡ None = ap (λ (k : KeptClaims). run_at k.runs place) view ∙ none in
+    contains_none fragment (subst (λ r. Contains (run_fragments r) fragment) bare ((is.marked fragment place).0 has))
+
+-- one more fragment
+pub adds_more : (old middle new : Marks) (place : Place) (first done count at : ℕ) → AddsMarks old middle place first done → AddsMark middle new at place → at ≡ first + done → count ≡ done + 1
+    → AddsMarks old new place first count
+adds_more old middle new place first done count at part adds next more = record {
+  room = adds.room ∙ part.room;
+  here = λ fragment. let before = part.here fragment in elim (cases_eq fragment at) [
+    | inl same ↦ (
+      λ has. inr (omega (arith, same, next), omega (arith, same, next, more)),
+      λ either. subst (λ f. Contains (marked_on new f) place) (sym same) ((adds.here place).1 (inr refl)),
     )
+    | inr apart ↦
+        let stays = adds.elsewhere fragment apart in (
+          λ has. elim (before.0 (subst (λ xs. Contains xs place) stays has)) [
+            | inl h ↦ inl h
+            | inr both ↦ inr (both.0, omega (arith, both.1, more))
+          ],
+          λ either. subst (λ xs. Contains xs place) (sym stays) (before.1 (elim either [
+            | inl h ↦ inl h
+            | inr both ↦ inr (both.0, omega (arith, both.1, apart, next, more))
+          ])),
+        )
+  ];
+  others = λ fragment other ne. let before = part.others fragment other ne in elim (cases_eq fragment at) [
+    | inl same ↦
+        let here = adds.here other in (
+          λ has. before.0 (elim (here.0 (subst (λ f. Contains (marked_on new f) other) same has)) [
+            | inl h ↦ subst (λ f. Contains (marked_on middle f) other) (sym same) h
+            | inr e ↦ absurd (ne e)
+          ]),
+          λ has. subst (λ f. Contains (marked_on new f) other) (sym same) (here.1 (inl (subst (λ f. Contains (marked_on middle f) other) same (before.1 has)))),
+        )
+    | inr apart ↦
+        let stays = adds.elsewhere fragment apart in (
+          λ has. before.0 (subst (λ xs. Contains xs other) stays has),
+          λ has. subst (λ xs. Contains xs other) (sym stays) (before.1 has),
+        )
+  ];
+}
 
--- the next fragment isn't claimed by it yet
-pub next_fresh : (old : Inside) (kept : KeptClaims) (place : Place) (first done at : ℕ) → kept_of old ≡ kept → IsKept old
-    → run_at kept.runs place ≡ run_so_far first done → at ≡ first + done → Contains (marked_on old.marks at) place → ⊥
-next_fresh old kept place first done at view is so_far next has =
-    let both = (here_so_far old place first done is (ap (λ (k : KeptClaims). run_at k.runs place) view ∙ so_far) at).0 has in
-    omega (arith, both.1)
-
-grown_marks : (old new : Marks) (place : Place) (first done at : ℕ) → AddsMark old new at place → at ≡ first + done
-    → ((fragment : ℕ) → Contains (marked_on old fragment) place ↔ ((first ≤ fragment) × (fragment < first + done)))
-    → (fragment : ℕ) → Contains (marked_on new fragment) place ↔ ((first ≤ fragment) × (fragment < first + suc done))
-grown_marks old new place first done at adds next was fragment = elim (cases_eq fragment at) [
-  | inl same ↦ (
-    λ has. (omega (arith, same, next), omega (arith, same, next)),
-    λ both. subst (λ f. Contains (marked_on new f) place) (sym same) ((adds.here place).1 (inr refl)),
-  )
-  | inr apart ↦
-      let stays = adds.elsewhere fragment apart in (
-        λ has. let both = (was fragment).0 (subst (λ xs. Contains xs place) stays has) in (both.0, omega (arith, both.1)),
-        λ both. subst (λ xs. Contains xs place) (sym stays) ((was fragment).1 (both.0, omega (arith, both.1, apart, next))),
-      )
+-- the next fragment of the run hasn't the source yet
+pub next_fresh : (old middle : Marks) (place : Place) (first done at : ℕ) → AddsMarks old middle place first done → ((fragment : ℕ) → Contains (marked_on old fragment) place → ⊥) → at ≡ first + done
+    → Contains (marked_on middle at) place → ⊥
+next_fresh old middle place first done at part fresh next has = elim ((part.here at).0 has) [
+  | inl h ↦ fresh at h
+  | inr both ↦ omega (arith, both.1, next)
 ]
 
-added_others : (old new : Marks) (place other : Place) (at : ℕ) → AddsMark old new at place → (other ≡ place → ⊥)
-    → (fragment : ℕ) → Contains (marked_on new fragment) other ↔ Contains (marked_on old fragment) other
-added_others old new place other at adds ne fragment = elim (cases_eq fragment at) [
-  | inl same ↦
-      subst (λ f. Contains (marked_on new f) other ↔ Contains (marked_on old f) other) (sym same) (
-        λ has. elim ((adds.here other).0 has) [ inl h ↦ h | inr e ↦ absurd (ne e) ],
-        λ has. (adds.here other).1 (inl has),
-      )
-  | inr apart ↦
-      let stays = adds.elsewhere fragment apart in (
-        λ has. subst (λ xs. Contains xs other) stays has,
-        λ has. subst (λ xs. Contains xs other) (sym stays) has,
-      )
-]
+pub adds_same : (old middle new : Marks) (place : Place) (first count : ℕ) → AddsMarks old middle place first count → SameMarks middle new → AddsMarks old new place first count
+adds_same old middle new place first count part same = record {
+  room = same.room ∙ part.room;
+  here = λ fragment. subst (λ xs. Contains xs place ↔ (Contains (marked_on old fragment) place ⊎ ((first ≤ fragment) × (fragment < first + count)))) (sym (same.all fragment)) (part.here fragment);
+  others = λ fragment other ne. subst (λ xs. Contains xs other ↔ Contains (marked_on old fragment) other) (sym (same.all fragment)) (part.others fragment other ne);
+}
 
-pub extended : (old : Inside) (kept : KeptClaims) (runs : List (ClaimSource × Run)) (marks : Marks) (place : Place) (first done at count : ℕ) → kept_of old ≡ kept → IsKept old
-    → IsPlace kept.geometry place → run_at kept.runs place ≡ run_so_far first done → (run : Run) → IsRun (size_in kept.geometry) run → run.first ≡ first → done < run.count → at ≡ first + done → count ≡ done + 1
-    → IsMarks marks → AddsMark old.marks marks at place
-    → run_at runs place ≡ Some (record { first = first; count = count })
+-- a source that was put on some fragments and taken away again
+pub added_back : (old middle new : Marks) (place : Place) (first count : ℕ) → ((fragment : ℕ) → Contains (marked_on old fragment) place → ⊥)
+    → AddsMarks old middle place first count → Unmarks middle new place first count → SameSources old new
+added_back old middle new place first count fresh adds drops = record {
+  room = drops.room ∙ adds.room;
+  all = λ fragment other. elim (place_cases other place) [
+    | inl same ↦ subst (λ p. Contains (marked_on new fragment) p ↔ Contains (marked_on old fragment) p) (sym same) (
+      λ has. let both = (drops.here fragment).0 has in elim ((adds.here fragment).0 (both.0)) [
+        | inl h ↦ h
+        | inr within ↦ let past = both.1 (within.0) in absurd (omega (arith, within.1, past))
+      ],
+      λ has. absurd (fresh fragment has),
+    )
+    | inr ne ↦ let marked = adds.others fragment other ne in let unmarked = drops.others fragment other ne in (
+      λ has. marked.0 (unmarked.0 has),
+      λ has. unmarked.1 (marked.1 has),
+    )
+  ];
+}
+
+pub run_put : (old : Inside) (kept : KeptClaims) (runs : List (ClaimSource × Run)) (marks : Marks) (place : Place) (run : Run) → kept_of old ≡ kept → IsKept old
+    → IsPlace kept.geometry place → IsRun (size_in kept.geometry) run → run_at kept.runs place ≡ None
+    → IsMarks marks → AddsMarks old.marks marks place run.first run.count → run_at runs place ≡ Some run
     → ((other : Place) → (other ≡ place → ⊥) → run_at runs other ≡ run_at old.runs other)
     → IsKept (record { geometry = old.geometry; runs = runs; marks = marks })
-extended old kept runs marks place first done at count view is source so_far whole whole_run begins few next more sound adds here others =
-    let was = here_so_far old place first done is (ap (λ (k : KeptClaims). run_at k.runs place) view ∙ so_far) in
-    let size : size_in kept.geometry ≡ size_in old.geometry = ap (λ (k : KeptClaims). size_in k.geometry) (sym view) in
+run_put old kept runs marks place run view is source fits none sound adds here others =
+    let fresh = none_marked old kept place view is none in
     remade old (record { geometry = old.geometry; runs = runs; marks = marks }) place is (record {
       geometry = refl;
       marks = sound;
@@ -145,29 +175,28 @@ extended old kept runs marks place first done at count view is source so_far who
       others = others;
       run = subst (λ r. IfSome r (λ run. IsPlace old.geometry place × IsRun (size_in old.geometry) run)) (sym here) (
         subst (λ (k : KeptClaims). IsPlace k.geometry place) (sym view) source,
-        record {
-          some = omega (arith, more);
-          few = omega (arith, more, few, whole_run.few);
-          inside = omega (arith, more, few, begins, whole_run.inside, size);
-          fits = omega (arith, more, few, begins, whole_run.fits);
-        },
+        subst (λ (k : KeptClaims). IsRun (size_in k.geometry) run) (sym view) fits,
       );
-      marked = λ fragment other ne. added_others old.marks marks place other at adds ne fragment;
+      marked = λ fragment other ne. adds.others fragment other ne;
       here = λ fragment.
-          let grown = grown_marks old.marks marks place first done at adds next was fragment in
-          let run = contains_run (record { first = first; count = count }) fragment in (
-            λ has. let both = grown.0 has in subst (λ r. Contains (run_fragments r) fragment) (sym here) (run.1 (both.0, omega (arith, both.1, more))),
-            λ has. let both = run.0 (subst (λ r. Contains (run_fragments r) fragment) here has) in grown.1 (both.0, omega (arith, both.1, more)),
+          let covers = contains_run run fragment in (
+            λ has. elim ((adds.here fragment).0 has) [
+              | inl h ↦ absurd (fresh fragment h)
+              | inr both ↦ subst (λ r. Contains (run_fragments r) fragment) (sym here) (covers.1 both)
+            ],
+            λ has. (adds.here fragment).1 (inr (covers.0 (subst (λ r. Contains (run_fragments r) fragment) here has))),
           );
     })
 
+-- the run of a source is inside the volume
+pub run_within : (old : Inside) (kept : KeptClaims) (run : Run) → kept_of old ≡ kept → IsKept old → IsRun (size_in kept.geometry) run → run.first + run.count ≤ length old.marks.first.items
+run_within old kept run view is fits =
+    let size : size_in kept.geometry ≡ size_in old.geometry = ap (λ (k : KeptClaims). size_in k.geometry) (sym view) in
+    omega (arith, fits.inside, size, is.room)
+
 -- ---- the marks are as they were
 
-pub record SameMarked (old new : Marks) : Type 0 where
-  pub room : length new.first.items ≡ length old.first.items
-  pub marked : (fragment : ℕ) (place : Place) → Contains (marked_on new fragment) place ↔ Contains (marked_on old fragment) place
-
-pub same_kept : (old : Inside) (runs : List (ClaimSource × Run)) (marks : Marks) → IsKept old → runs ≡ old.runs → IsMarks marks → SameMarked old.marks marks
+pub same_kept : (old : Inside) (runs : List (ClaimSource × Run)) (marks : Marks) → IsKept old → runs ≡ old.runs → IsMarks marks → SameSources old.marks marks
     → IsKept (record { geometry = old.geometry; runs = runs; marks = marks })
 same_kept old runs marks is same sound stays = record {
   geometry = is.geometry;
@@ -176,34 +205,11 @@ same_kept old runs marks is same sound stays = record {
   marks = sound;
   runs = λ place. subst (λ es. IfSome (run_at es place) (λ run. IsPlace old.geometry place × IsRun (size_in old.geometry) run)) (sym same) (is.runs place);
   marked = λ fragment place.
-      let marks = stays.marked fragment place in
+      let marks = stays.all fragment place in
       let was = is.marked fragment place in (
         λ has. subst (λ es. Contains (run_fragments (run_at es place)) fragment) (sym same) (was.0 (marks.0 has)),
         λ has. marks.1 (was.1 (subst (λ es. Contains (run_fragments (run_at es place)) fragment) same has)),
       );
-}
-
-pub same_marked : (old new : Marks) → SameMarks old new → SameMarked old new
-same_marked old new same = record {
-  room = same.room;
-  marked = λ fragment place. (λ has. subst (λ xs. Contains xs place) (same.all fragment) has, λ has. subst (λ xs. Contains xs place) (sym (same.all fragment)) has);
-}
-
-pub added_dropped : (old middle new : Marks) (at : ℕ) (place : Place) → (Contains (marked_on old at) place → ⊥) → AddsMark old middle at place → DropsMark middle new at place → SameMarked old new
-added_dropped old middle new at place fresh adds drops = record {
-  room = drops.room ∙ adds.room;
-  marked = λ fragment other. elim (cases_eq fragment at) [
-    | inl same ↦
-        subst (λ f. Contains (marked_on new f) other ↔ Contains (marked_on old f) other) (sym same) (
-          λ has. let both = (drops.here other).0 has in elim ((adds.here other).0 (both.0)) [ inl h ↦ h | inr e ↦ absurd (both.1 e) ],
-          λ has. (drops.here other).1 ((adds.here other).1 (inl has), λ e. fresh (subst (λ p. Contains (marked_on old at) p) e has)),
-        )
-    | inr apart ↦
-        let stays : marked_on new fragment ≡ marked_on old fragment = drops.elsewhere fragment apart ∙ adds.elsewhere fragment apart in (
-          λ has. subst (λ xs. Contains xs other) stays has,
-          λ has. subst (λ xs. Contains xs other) (sym stays) has,
-        )
-  ];
 }
 
 -- ---- a run that is forgotten
@@ -259,9 +265,3 @@ cleared old runs marks place run is was sound drops none others =
             λ has. absurd (contains_none fragment (subst (λ r. Contains (run_fragments r) fragment) none has)),
           );
     })
-
--- the run of a source is inside the volume
-pub run_inside : (old : Inside) (place : Place) (run : Run) → IsKept old → run_at old.runs place ≡ Some run → IsRun (length old.marks.first.items) run
-run_inside old place run is was =
-    let both : IsPlace old.geometry place × IsRun (size_in old.geometry) run = subst (λ r. IfSome r (λ run. IsPlace old.geometry place × IsRun (size_in old.geometry) run)) was (is.runs place) in
-    subst (λ n. IsRun n run) (sym is.room) (both.1)

@@ -7,6 +7,7 @@ pub mod MarkLaws
 pub mod MetadataLaws
 pub mod OrderLaws
 pub mod OwnerLaws
+pub mod RangeLaws
 pub mod RunLaws
 pub mod ScanLaws
 pub mod SourceLaws

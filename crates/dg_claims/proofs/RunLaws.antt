@@ -7,7 +7,6 @@ use Rattle.std.specs.BTreeMap.{is_at}
 use Rattle.ufs_model.specs.Claims.{fragments_from}
 use Rattle.ufs_model.specs.declared.claims.ClaimSource.{ClaimSource}
 use Rattle.dg_claims.proofs.ListLaws.{contains_cons, contains_none}
-use Rattle.dg_claims.specs.Kept.{run_so_far}
 use Rattle.dg_claims.specs.Places.{source_of}
 use Rattle.dg_claims.specs.Runs.{by_source, entry_at, is_same_source, run_at, run_fragments, run_of}
 use Rattle.dg_claims.specs.contracts.places.PlaceOrd.TheImpl as order
@@ -55,10 +54,6 @@ contains_from (suc k) a f =
         | inr ne ↦ inr (rest.1 (omega (arith, ne, both.0), omega (arith, both.1)))
       ]),
     )
-
-pub fragments_so_far : (first done : ℕ) → run_fragments (run_so_far first done) ≡ fragments_from first done
-fragments_so_far first zero = refl
-fragments_so_far first (suc done) = refl
 
 -- the fragments of a run as they are in order
 pub contains_run : (run : Run) (f : ℕ) → Contains (run_fragments (Some run)) f ↔ ((run.first ≤ f) × (f < run.first + run.count))

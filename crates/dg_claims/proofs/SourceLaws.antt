@@ -11,7 +11,7 @@ use Rattle.ufs_model.specs.declared.claims.ClaimSource.TheVariants.{Slot, Pointe
 use Rattle.ufs_model.specs.declared.geometries.Geometry.{Geometry}
 use Rattle.ufs_model.specs.declared.inodes.Inode.{Inode}
 use Rattle.dg_claims.proofs.ListLaws.{below_cases, cond_false, cond_true}
-use Rattle.dg_claims.specs.Kept.{HasSources, IsPlace, KeptClaims, SetsFirst, claimed_by}
+use Rattle.dg_claims.specs.Kept.{HasFragments, HasNone, HasSources, IsPlace, KeptClaims, SetsFirst, claimed_by}
 use Rattle.dg_claims.specs.Places.{index_of, place_of, pointer_place, slot_place, source_of}
 use Rattle.dg_claims.specs.Runs.{run_at, run_fragments, run_of}
 use Rattle.dg_claims.specs.Tables.{fragment_pointers, inode_fragments}
@@ -37,23 +37,37 @@ pointer_apart fragment level i j e = cc
 
 -- ---- the first of some places
 
--- one that wasn't set in the end
-pub sets_cut : (old middle new : List (ClaimSource × Run)) (place_at : ℕ → Place) (fragments : ℕ → List ℕ) (n : ℕ) → SetsFirst old middle place_at fragments n
-    → ((place : Place) → (place ≡ place_at n → ⊥) → run_at new place ≡ run_at middle place)
+-- one that wasn't set in the end, behind what was cleared
+pub sets_cut : (old bare middle new : List (ClaimSource × Run)) (place_at : ℕ → Place) (IsRight : ℕ → Option Run → Type 0) (n all : ℕ) → SetsFirst old bare place_at HasNone all
+    → SetsFirst bare middle place_at IsRight n → ((place : Place) → (place ≡ place_at n → ⊥) → run_at new place ≡ run_at middle place)
     → (place : Place) → ((k : ℕ) → place ≡ place_at k → ⊥) → run_at new place ≡ run_at old place
-sets_cut old middle new place_at fragments n first others place off = others place (off n) ∙ first.others place (λ k lt e. off k e)
+sets_cut old bare middle new place_at IsRight n all cleared first others place off =
+    others place (off n) ∙ first.others place (λ k lt e. off k e) ∙ cleared.others place (λ k lt e. off k e)
 
 -- one more
-pub sets_more : (old middle new : List (ClaimSource × Run)) (place_at : ℕ → Place) (fragments : ℕ → List ℕ) (n count : ℕ) → count ≡ n + 1 → ((i j : ℕ) → place_at i ≡ place_at j → i ≡ j)
-    → SetsFirst old middle place_at fragments n → run_fragments (run_at new (place_at n)) ≡ fragments n → ((place : Place) → (place ≡ place_at n → ⊥) → run_at new place ≡ run_at middle place)
-    → SetsFirst old new place_at fragments count
-sets_more old middle new place_at fragments n count more apart first here others = record {
+pub sets_more : (old middle new : List (ClaimSource × Run)) (place_at : ℕ → Place) (IsRight : ℕ → Option Run → Type 0) (n count : ℕ) → count ≡ n + 1 → ((i j : ℕ) → place_at i ≡ place_at j → i ≡ j)
+    → SetsFirst old middle place_at IsRight n → IsRight n (run_at new (place_at n)) → ((place : Place) → (place ≡ place_at n → ⊥) → run_at new place ≡ run_at middle place)
+    → SetsFirst old new place_at IsRight count
+sets_more old middle new place_at IsRight n count more apart first here others = record {
   done = λ k lt. elim (cases_eq k n) [
-    | inl same ↦ subst (λ i. run_fragments (run_at new (place_at i)) ≡ fragments i) (sym same) here
-    | inr ne ↦ ap run_fragments (others (place_at k) (λ e. ne (apart k n e))) ∙ first.done k (omega (arith, lt, more, ne))
+    | inl same ↦ subst (λ i. IsRight i (run_at new (place_at i))) (sym same) here
+    | inr ne ↦ subst (IsRight k) (sym (others (place_at k) (λ e. ne (apart k n e)))) (first.done k (omega (arith, lt, more, ne)))
   ];
   others = λ place off. others place (off n (omega (arith, more))) ∙ first.others place (λ k lt. off k (omega (arith, lt, more)));
 }
+
+-- what was set where all was cleared first
+pub sets_over : (old bare new : List (ClaimSource × Run)) (place_at : ℕ → Place) (IsRight : ℕ → Option Run → Type 0) (n : ℕ) → SetsFirst old bare place_at HasNone n
+    → SetsFirst bare new place_at IsRight n → SetsFirst old new place_at IsRight n
+sets_over old bare new place_at IsRight n cleared first = record {
+  done = first.done;
+  others = λ place off. first.others place off ∙ cleared.others place off;
+}
+
+-- the next one claims nothing yet
+pub next_bare : (old bare now : List (ClaimSource × Run)) (place_at : ℕ → Place) (IsRight : ℕ → Option Run → Type 0) (n all : ℕ) → ((i j : ℕ) → place_at i ≡ place_at j → i ≡ j)
+    → SetsFirst old bare place_at HasNone all → SetsFirst bare now place_at IsRight n → n < all → run_at now (place_at n) ≡ None
+next_bare old bare now place_at IsRight n all apart cleared first lt = first.others (place_at n) (λ k less e. omega (arith, apart n k e, less)) ∙ cleared.done n lt
 
 none_from : {X : Type 0} (P : X → Type 0) (o : Option X) → IfSome o P → ((x : X) → P x → ⊥) → o ≡ None
 none_from P None h nobody = refl
@@ -80,7 +94,7 @@ no_slot kept g number slot sources is le =
     (λ run h. let source : IsPlace (Some g) (slot_place number slot) = subst (λ o. IsPlace o (slot_place number slot)) is h in omega (arith, source.2, le))
 
 pub all_slots : (kept : KeptClaims) (g : Geometry) (number : ℕ) (inode : Inode) (new : List (ClaimSource × Run)) → HasSources kept → kept.geometry ≡ Some g
-    → is_inode_number g number ≡ true → SetsFirst kept.runs new (slot_place number) (slot_fragments g inode) 15
+    → is_inode_number g number ≡ true → SetsFirst kept.runs new (slot_place number) (HasFragments (slot_fragments g inode)) 15
     → (slot : ℕ) → claimed_by new (Slot number slot) ≡ inode_fragments kept.geometry number inode slot
 unfolding claimed_by inode_fragments
 all_slots kept g number inode new sources is within first slot =
@@ -138,7 +152,7 @@ no_pointer_at kept g fragment level at sources is le =
     (λ run h. let source : IsPlace (Some g) (pointer_place fragment level at) = subst (λ o. IsPlace o (pointer_place fragment level at)) is h in omega (arith, source.2, le))
 
 pub all_pointers : (kept : KeptClaims) (g : Geometry) (fragment level : ℕ) (bytes : List ℕ) (new : List (ClaimSource × Run)) → HasSources kept → kept.geometry ≡ Some g
-    → SetsFirst kept.runs new (pointer_place fragment level) (pointer_fragments g bytes) (g.fsize / 4)
+    → SetsFirst kept.runs new (pointer_place fragment level) (HasFragments (pointer_fragments g bytes)) (g.fsize / 4)
     → (at : ℕ) → claimed_by new (Pointer fragment level at) ≡ fragment_pointers kept.geometry bytes at
 unfolding claimed_by fragment_pointers
 all_pointers kept g fragment level bytes new sources is first at =
@@ -199,21 +213,21 @@ no_slot_place : (o : Option Geometry) (number slot : ℕ) → 15 ≤ slot → Is
 no_slot_place None number slot le is = is
 no_slot_place (Some g) number slot le is = omega (arith, is.2, le)
 
-pub bare_slots : (kept : KeptClaims) (number : ℕ) (new : List (ClaimSource × Run)) → HasSources kept → SetsFirst kept.runs new (slot_place number) (λ k. []) 15
+pub removed_slots : (kept : KeptClaims) (number : ℕ) (new : List (ClaimSource × Run)) → HasSources kept → SetsFirst kept.runs new (slot_place number) HasNone 15
     → (slot : ℕ) → claimed_by new (Slot number slot) ≡ []
 unfolding claimed_by
-bare_slots kept number new sources first slot = elim (below_cases slot 15) [
-  | inl lt ↦ first.done slot lt
+removed_slots kept number new sources first slot = elim (below_cases slot 15) [
+  | inl lt ↦ ap run_fragments (first.done slot lt)
   | inr le ↦
       ap run_fragments (first.others (slot_place number slot) (λ k lt e. omega (arith, slot_apart number slot k e, lt, le))
       ∙ none_from (λ run. IsPlace kept.geometry (slot_place number slot)) (run_at kept.runs (slot_place number slot)) (sources (slot_place number slot)) (λ run h. no_slot_place kept.geometry number slot le h))
 ]
 
-pub bare_pointers : (kept : KeptClaims) (g : Geometry) (fragment level : ℕ) (new : List (ClaimSource × Run)) → HasSources kept → kept.geometry ≡ Some g
-    → SetsFirst kept.runs new (pointer_place fragment level) (λ k. []) (g.fsize / 4) → (at : ℕ) → claimed_by new (Pointer fragment level at) ≡ []
+pub removed_pointers : (kept : KeptClaims) (g : Geometry) (fragment level : ℕ) (new : List (ClaimSource × Run)) → HasSources kept → kept.geometry ≡ Some g
+    → SetsFirst kept.runs new (pointer_place fragment level) HasNone (g.fsize / 4) → (at : ℕ) → claimed_by new (Pointer fragment level at) ≡ []
 unfolding claimed_by
-bare_pointers kept g fragment level new sources is first at = elim (below_cases at (g.fsize / 4)) [
-  | inl lt ↦ first.done at lt
+removed_pointers kept g fragment level new sources is first at = elim (below_cases at (g.fsize / 4)) [
+  | inl lt ↦ ap run_fragments (first.done at lt)
   | inr le ↦ ap run_fragments (first.others (pointer_place fragment level at) (λ k lt e. omega (arith, pointer_apart fragment level at k e, lt, le)) ∙ no_pointer_at kept g fragment level at sources is le)
 ]
 

@@ -1,5 +1,5 @@
 -- How a table of claims is kept.
-use Rattle.std.specs.Prelude.{◌≡◌, ◌↔◌, ℕ, ◌+◌, ◌^◌, ◌<◌, ◌≤◌, List, Option, Some, None, zero, suc, length, IfSome}
+use Rattle.std.specs.Prelude.{◌≡◌, ◌↔◌, ℕ, ◌+◌, ◌^◌, ◌<◌, ◌≤◌, List, Option, Some, None, length, IfSome}
 use Rattle.std.specs.List.{Contains}
 use Rattle.ufs_model.specs.Geometries.{IsGeometry}
 use Rattle.ufs_model.specs.declared.claims.ClaimSource.{ClaimSource}
@@ -53,15 +53,18 @@ pub record IsKept (inside : Inside) : Type 0 where
   pub runs : (place : Place) → IfSome (run_at inside.runs place) (λ run. IsPlace inside.geometry place × IsRun (size_in inside.geometry) run)
   pub marked : (fragment : ℕ) (place : Place) → Contains (marked_on inside.marks fragment) place ↔ Contains (run_fragments (run_at inside.runs place)) fragment
 
--- the first so many fragments of a run, if they are any
-abbrev pub run_so_far : ℕ → ℕ → Option Run
-run_so_far first zero = None
-run_so_far first (suc done) = Some (record { first = first; count = suc done })
-
--- The first n of some places claim these fragments now, and each other place claims what it claimed.
-pub record SetsFirst (old new : List (ClaimSource × Run)) (place_at : ℕ → Place) (fragments : ℕ → List ℕ) (n : ℕ) : Type 0 where
-  pub done : (k : ℕ) → k < n → run_fragments (run_at new (place_at k)) ≡ fragments k
+-- The runs of the first n of some places are the right ones now, and each other place has the run that it had.
+pub record SetsFirst (old new : List (ClaimSource × Run)) (place_at : ℕ → Place) (IsRight : ℕ → Option Run → Type 0) (n : ℕ) : Type 0 where
+  pub done : (k : ℕ) → k < n → IsRight k (run_at new (place_at k))
   pub others : (place : Place) → ((k : ℕ) → k < n → place ≡ place_at k → ⊥) → run_at new place ≡ run_at old place
+
+-- each of some places claims these fragments
+abbrev pub HasFragments : (ℕ → List ℕ) → ℕ → Option Run → Type 0
+HasFragments fragments k run = run_fragments run ≡ fragments k
+
+-- each of some places claims nothing
+abbrev pub HasNone : ℕ → Option Run → Type 0
+HasNone k run = run ≡ None
 
 -- each source that claims anything is one of the volume
 abbrev pub HasSources : KeptClaims → Type 0

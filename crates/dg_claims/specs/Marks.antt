@@ -71,6 +71,11 @@ pub record SameMarks (old new : Marks) : Type 0 where
   pub room : length new.first.items ≡ length old.first.items
   pub all : (fragment : ℕ) → marked_on new fragment ≡ marked_on old fragment
 
+-- there are as many fragments, and a source is on those that it was on
+pub record SameSources (old new : Marks) : Type 0 where
+  pub room : length new.first.items ≡ length old.first.items
+  pub all : (fragment : ℕ) (place : Place) → Contains (marked_on new fragment) place ↔ Contains (marked_on old fragment) place
+
 -- the fragment has this source too, and all else is the same
 pub record AddsMark (old new : Marks) (fragment : ℕ) (place : Place) : Type 0 where
   pub room : length new.first.items ≡ length old.first.items
@@ -82,6 +87,13 @@ pub record DropsMark (old new : Marks) (fragment : ℕ) (place : Place) : Type 0
   pub room : length new.first.items ≡ length old.first.items
   pub here : (other : Place) → Contains (marked_on new fragment) other ↔ (Contains (marked_on old fragment) other × (other ≡ place → ⊥))
   pub elsewhere : (other : ℕ) → (other ≡ fragment → ⊥) → marked_on new other ≡ marked_on old other
+
+-- so many fragments from one on have the source too, and all else is the same
+pub record AddsMarks (old new : Marks) (place : Place) (first count : ℕ) : Type 0 where
+  pub room : length new.first.items ≡ length old.first.items
+  pub here : (fragment : ℕ)
+      → Contains (marked_on new fragment) place ↔ (Contains (marked_on old fragment) place ⊎ ((first ≤ fragment) × (fragment < first + count)))
+  pub others : (fragment : ℕ) (other : Place) → (other ≡ place → ⊥) → Contains (marked_on new fragment) other ↔ Contains (marked_on old fragment) other
 
 -- the source is taken from so many fragments from one on, and all else is the same
 pub record Unmarks (old new : Marks) (place : Place) (first count : ℕ) : Type 0 where

@@ -1,4 +1,4 @@
-ghost use Rattle.std.specs.Prelude.{◌≡◌, ◌+◌, ◌*◌, ◌<◌, ◌≤◌, ◌↔◌, ℕ, Some, None, [], ◌∷◌, ◌++◌, if◌then◌else◌, IfNone, IfOk, IfSome, List, OnOk, length, true, false};
+ghost use Rattle.std.specs.Prelude.{◌≡◌, ◌+◌, ◌*◌, ◌/◌, ◌<◌, ◌≤◌, ◌^◌, ◌↔◌, ℕ, Some, None, [], ◌∷◌, ◌++◌, if◌then◌else◌, IfNone, IfOk, IfSome, List, MatchResult, OnOk, length, true, false};
 ghost use Rattle.std.specs.Bool.{Decides};
 ghost use Rattle.std.specs.List.{Contains};
 ghost use Rattle.ufs_model.specs.Claims.{AreClaimsOn, HasClaimCount, IsClaimedAt, level_of};
@@ -7,10 +7,10 @@ ghost use Rattle.ufs_model.specs.Inodes.{is_inode_number};
 ghost use Rattle.ufs_model.specs.Owners.{IsOnlyClaim};
 ghost use Rattle.ufs_model.specs.declared.claims.ClaimSource.{ClaimSource};
 ghost use Rattle.ufs_model.specs.declared.geometries.Geometry.{Geometry};
-ghost use Rattle.dg_claims.specs.Kept.{HasSources, IsRun, IsPlace, run_so_far, size_in, table_of};
-ghost use Rattle.dg_claims.specs.Marks.{IsMarks, Unmarks};
+ghost use Rattle.dg_claims.specs.Kept.{HasNone, HasSources, IsRun, IsPlace, SetsFirst, size_in, table_of};
+ghost use Rattle.dg_claims.specs.Marks.{AddsMarks, IsMarks, SameSources, Unmarks, marked_on};
 ghost use Rattle.dg_claims.specs.Runs.{run_at, run_fragments};
-ghost use Rattle.dg_claims.specs.Places.{place_of};
+ghost use Rattle.dg_claims.specs.Places.{place_of, pointer_place, slot_place};
 ghost use Rattle.dg_claims.specs.Tables.{IsSource, KeepsOffInode, KeepsOffPointers, TableClaims, claim_at, fragment_pointers, inode_fragments};
 ghost use Rattle.dg_claims.specs.declared.places.Place.{Place};
 
@@ -117,6 +117,7 @@ impl Claims {
         let Some(g) = self.geometry_with(number) else {
             return Ok(());
         };
+        self.clear_slots(number);
         for slot in 0..SLOTS {
             let place = Place::Slot {
                 inode: number,
@@ -142,6 +143,7 @@ impl Claims {
         let Some(g) = self.known() else {
             return Ok(());
         };
+        self.clear_pointers(&g, fragment, level);
         for at in 0..g.fsize / POINTER_BYTES {
             let place = Place::Pointer {
                 fragment,
@@ -176,23 +178,18 @@ impl Claims {
     }
 
     /// The slots of an inode claim nothing from now on.
-    #[tactic(auto, using(crate::proofs::SourceLaws::other_slots, crate::proofs::SourceLaws::bare_slots))]
+    #[tactic(auto, using(crate::proofs::SourceLaws::other_slots, crate::proofs::SourceLaws::removed_slots))]
     pub fn remove_inode(&mut self, number: u32)
         ensures geometry { (table_of self.new).geometry ≡ (table_of self.old).geometry }
         ensures slots { (slot : ℕ) → (table_of self.new).claimed (ClaimSource.Slot number slot) ≡ [] }
         ensures others { KeepsOffInode (table_of self.old) (table_of self.new) number }
     {
         self.known();
-        for slot in 0..SLOTS {
-            self.clear(Place::Slot {
-                inode: number,
-                slot,
-            });
-        }
+        self.clear_slots(number);
     }
 
     /// The pointers of a fragment at a level claim nothing from now on.
-    #[tactic(auto, using(crate::proofs::SourceLaws::bare_pointer, crate::proofs::SourceLaws::other_pointers, crate::proofs::SourceLaws::bare_pointers))]
+    #[tactic(auto, using(crate::proofs::SourceLaws::bare_pointer, crate::proofs::SourceLaws::other_pointers, crate::proofs::SourceLaws::removed_pointers))]
     pub fn remove_pointers(&mut self, fragment: u32, level: u8)
         ensures geometry { (table_of self.new).geometry ≡ (table_of self.old).geometry }
         ensures pointers { (at : ℕ) → (table_of self.new).claimed (ClaimSource.Pointer fragment level at) ≡ [] }
@@ -201,13 +198,7 @@ impl Claims {
         let Some(g) = self.known() else {
             return;
         };
-        for at in 0..g.fsize / POINTER_BYTES {
-            self.clear(Place::Pointer {
-                fragment,
-                level,
-                at: at as u16,
-            });
-        }
+        self.clear_pointers(&g, fragment, level);
     }
 
     /// The fragments that a source claims, if it claims some.
@@ -284,31 +275,6 @@ impl Claims {
         Ok(fragments)
     }
 
-    /// The source claims one more fragment, behind those of its run so far.
-    fn extend(&mut self, place: Place, run: Run, done: u8) -> Result<(), NoMemory>
-        requires place { IsPlace self.old.geometry place }
-        requires run { IsRun (size_in self.old.geometry) run }
-        requires more { done < run.count }
-        requires so_far { run_at self.old.runs place ≡ run_so_far run.first done }
-        ensures geometry { self.new.geometry ≡ self.old.geometry }
-        ensures grown { OnOk result (run_at self.new.runs place ≡ run_so_far run.first (done + 1)) }
-        ensures others { (other : Place) → (other ≡ place → ⊥) → run_at self.new.runs other ≡ run_at self.old.runs other }
-    {
-        let fragment = run.first + u32::from(done);
-        self.marks.add(fragment, place)?;
-        let grown = Run {
-            first: run.first,
-            count: done + 1,
-        };
-        match self.runs.put(place, grown) {
-            Ok(()) => Ok(()),
-            Err(NoMemory) => {
-                self.marks.remove(fragment, place);
-                Err(NoMemory)
-            }
-        }
-    }
-
     /// Makes this run what the source claims, which claimed nothing.
     fn put(&mut self, place: Place, run: Run) -> Result<(), NoMemory>
         requires place { IsPlace self.old.geometry place }
@@ -318,10 +284,14 @@ impl Claims {
         ensures put { OnOk result (run_at self.new.runs place ≡ Some run) }
         ensures others { (other : Place) → (other ≡ place → ⊥) → run_at self.new.runs other ≡ run_at self.old.runs other }
     {
-        for done in 0..run.count {
-            self.extend(place, run, done)?;
+        mark(&mut self.marks, place, run)?;
+        match self.runs.put(place, run) {
+            Ok(()) => Ok(()),
+            Err(NoMemory) => {
+                unmark(&mut self.marks, place, run);
+                Err(NoMemory)
+            }
         }
-        Ok(())
     }
 
     /// The source claims nothing from now on.
@@ -336,15 +306,67 @@ impl Claims {
         }
     }
 
-    /// Makes this run what the source claims, in place of what it claimed.
+    /// The slots of an inode claim nothing from now on. One look-up tells where they claimed nothing.
+    fn clear_slots(&mut self, number: u32)
+        ensures geometry { self.new.geometry ≡ self.old.geometry }
+        ensures cleared { SetsFirst self.old.runs self.new.runs (slot_place number) HasNone 15 }
+    {
+        let first = Place::Slot {
+            inode: number,
+            slot: 0,
+        };
+        let last = Place::Slot {
+            inode: number,
+            slot: SLOTS - 1,
+        };
+        if !self.runs.has_any(first, last) {
+            return;
+        }
+        for slot in 0..SLOTS {
+            self.clear(Place::Slot {
+                inode: number,
+                slot,
+            });
+        }
+    }
+
+    /// The pointers of a fragment at a level claim nothing from now on. One look-up tells where they claimed nothing.
+    fn clear_pointers(&mut self, g: &Geometry, fragment: u32, level: u8)
+        requires { IsGeometry g.now }
+        ensures geometry { self.new.geometry ≡ self.old.geometry }
+        ensures cleared { SetsFirst self.old.runs self.new.runs (pointer_place fragment level) HasNone (g.now.fsize / 4) }
+    {
+        let first = Place::Pointer {
+            fragment,
+            level,
+            at: 0,
+        };
+        let last = Place::Pointer {
+            fragment,
+            level,
+            at: u16::MAX,
+        };
+        if !self.runs.has_any(first, last) {
+            return;
+        }
+        for at in 0..g.fsize / POINTER_BYTES {
+            self.clear(Place::Pointer {
+                fragment,
+                level,
+                at: at as u16,
+            });
+        }
+    }
+
+    /// Makes this run, if there is one, what the source claims, which claimed nothing.
     fn set(&mut self, place: Place, run: Option<Run>) -> Result<(), NoMemory>
         requires place { IsPlace self.old.geometry place }
         requires run { IfSome run (IsRun (size_in self.old.geometry)) }
+        requires none { run_at self.old.runs place ≡ None }
         ensures geometry { self.new.geometry ≡ self.old.geometry }
         ensures set { OnOk result (run_at self.new.runs place ≡ run) }
         ensures others { (other : Place) → (other ≡ place → ⊥) → run_at self.new.runs other ≡ run_at self.old.runs other }
     {
-        self.clear(place);
         match run {
             Some(run) => self.put(place, run),
             None => Ok(()),
@@ -362,10 +384,33 @@ fn push_if(fragments: &mut Vec<u32>, fragment: u32, wanted: bool) -> Result<(), 
     Ok(())
 }
 
+/// Each fragment of the run has the source too, which no fragment had; where memory is wanting, none has it still.
+fn mark(marks: &mut Marks, place: Place, run: Run) -> Result<(), NoMemory>
+    requires sound { IsMarks marks.old }
+    requires fits { run.first + run.count < 2 ^ 32 }
+    requires inside { run.first + run.count ≤ length marks.old.first.items }
+    requires fresh { (fragment : ℕ) → Contains (marked_on marks.old fragment) place → ⊥ }
+    ensures sound { IsMarks marks.new }
+    ensures marked { MatchResult result (λ _. AddsMarks marks.old marks.new place run.first run.count) (λ _. SameSources marks.old marks.new) }
+{
+    for done in 0..run.count {
+        let Ok(()) = marks.add(run.first + u32::from(done), place) else {
+            let marked = Run {
+                first: run.first,
+                count: done,
+            };
+            unmark(marks, place, marked);
+            return Err(NoMemory);
+        };
+    }
+    Ok(())
+}
+
 /// The source is taken from each fragment of the run.
 fn unmark(marks: &mut Marks, place: Place, run: Run)
     requires sound { IsMarks marks.old }
-    requires run { IsRun (length marks.old.first.items) run }
+    requires fits { run.first + run.count < 2 ^ 32 }
+    requires inside { run.first + run.count ≤ length marks.old.first.items }
     ensures sound { IsMarks marks.new }
     ensures unmarked { Unmarks marks.old marks.new place run.first run.count }
 {

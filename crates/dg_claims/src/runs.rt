@@ -1,6 +1,7 @@
 ghost use Rattle.std.specs.Prelude.{◌≡◌, Some, None, OnOk, OnErr};
+ghost use Rattle.std.specs.Bool.{Decides};
 ghost use Rattle.ufs_model.specs.declared.claims.ClaimSource.{ClaimSource};
-ghost use Rattle.dg_claims.specs.Runs.{entry_at, run_at, run_of};
+ghost use Rattle.dg_claims.specs.Runs.{HasAny, HasAnyEntry, IsUpTo, entry_at, run_at, run_of};
 ghost use Rattle.dg_claims.specs.declared.places.Place.{Place};
 
 use crate::places::Place;
@@ -52,6 +53,14 @@ impl Runs {
         get_in(&self.map, place)
     }
 
+    /// Whether a source from the first to the last of these claims something.
+    pub fn has_any(&self, first: Place, last: Place) -> bool
+        requires { IsUpTo first last }
+        ensures { Decides result (HasAny self.now first last) }
+    {
+        has_any_in(&self.map, first, last)
+    }
+
     /// Makes this run what the source claims.
     pub fn put(&mut self, place: Place, run: Run) -> Result<(), NoMemory>
         ensures place { OnOk result (run_at self.new place ≡ Some run) }
@@ -68,6 +77,14 @@ impl Runs {
     {
         remove_in(&mut self.map, place);
     }
+}
+
+/// Whether a source from the first to the last of these is in a map.
+fn has_any_in(map: &BTreeMap<Place, Run>, first: Place, last: Place) -> bool
+    requires { IsUpTo first last }
+    ensures { Decides result (HasAnyEntry map.now.entries first last) }
+{
+    map.range(first..=last).next().is_some()
 }
 
 /// The run of a source in a map.

@@ -7,14 +7,14 @@ use std::alloc::Global;
 use std::test::Fail;
 use ufs_inode::{Inode, read_inode};
 use ufs_pointer::Levels;
-use ufs_rows::{Which, rows_image};
+use ufs_samples::{Which, sample_image};
 use ufs_super::{Geometry, read_super};
 
 /// The 128 blocks of the volume F.
 fn volume_f(alloc: Global) -> Result<Vec<u8>, Fail>
     ensures { IfOk result (λ image. length image.items ≡ 131072) }
 {
-    match rows_image(alloc, Which::F) {
+    match sample_image(alloc, Which::F) {
         Ok(image) => Ok(image),
         Err(_) => Err("memory".into()),
     }
@@ -22,7 +22,7 @@ fn volume_f(alloc: Global) -> Result<Vec<u8>, Fail>
 
 /// The claims of the volume F in the other order of bytes.
 fn of_volume_fb(alloc: Global) -> Result<Claims, Fail> {
-    let Ok(image) = rows_image(alloc, Which::Fb) else {
+    let Ok(image) = sample_image(alloc, Which::Fb) else {
         return Err("memory".into());
     };
     match scanned(alloc, image, Vec::new(alloc))? {

@@ -1,12 +1,15 @@
-use dg_infer::{Inference, Inferred};
+ghost use Rattle.std.specs.Prelude.{◌≡◌};
+
 use dg_claims::{Claims, scan};
+use dg_infer::{Inference, Inferred};
 use dg_io::{Loss, MemView, View};
 use dg_model::{Want, Who};
 use std::alloc::Global;
+use std::marker::Model;
 use std::test::Fail;
 use ufs_model::{Kind, SystemKind};
 use ufs_pointer::Levels;
-use ufs_rows::{Which, rows_image};
+use ufs_samples::{Which, sample_image};
 
 /// Bytes of a block, and the number of blocks.
 const BLOCK: u32 = 1024;
@@ -31,9 +34,19 @@ struct Array {
     inference: Inference,
 }
 
+impl Model for Array {
+    ghost use Rattle.dg_infer.specs.Meanings.{KeptInference};
+
+    ghost Value = { KeptInference };
+
+    ghost view = { λ array. array.inference };
+
+    ghost invariant = { λ array. (array.inference.l ≡ 1024) × (array.inference.n ≡ 128) };
+}
+
 /// The 128 blocks of a volume.
 fn image_of(alloc: Global, which: Which) -> Result<Vec<u8>, Fail> {
-    match rows_image(alloc, which) {
+    match sample_image(alloc, which) {
         Ok(image) => Ok(image),
         Err(_) => Err("memory".into()),
     }
@@ -63,12 +76,12 @@ fn take<V: View>(
     block: u32,
     bytes: &[u8],
 ) -> Result<bool, Fail>
-    requires { V.is_sound view.old }
+    requires sound { V.is_sound view.old }
+    requires size { inference.old.l ≡ V.size view.old }
+    requires count { inference.old.n ≡ V.count view.old }
+    ensures { (inference.new.l ≡ inference.old.l) × (inference.new.n ≡ inference.old.n) }
 {
     let (l, n) = view.shape();
-    if inference.l != l || inference.n != n {
-        return Err("shape".into());
-    }
     if levels.fragment_bytes() != l || block >= n || bytes.len() != l as usize {
         return Err("bytes".into());
     }
@@ -147,7 +160,7 @@ fn array_of_f(alloc: Global) -> Result<Array, Fail> {
 
 /// What a block that is written belongs to.
 fn who(array: &Array, block: u32) -> Result<Who, Fail> {
-    if block >= array.inference.n {
+    if block >= BLOCKS {
         return Err("block".into());
     }
     Ok(array.inference.who(true, block))
@@ -198,8 +211,8 @@ fn is_scanned(alloc: Global, array: &mut Array) -> Result<bool, Fail> {
         return Err("scan".into());
     };
     Ok(
-        have_same_claims(&array.inference.claims, &fresh)
-            && array.inference.geometry == fresh.geometry(),
+        have_same_claims(array.inference.claims(), &fresh)
+            && array.inference.claims().geometry() == fresh.geometry(),
     )
 }
 
@@ -313,10 +326,8 @@ fn blocks_that_are_dead(rt: HostRuntime) -> Result<(), Fail> {
     write_all(alloc, &mut array, &empty, &[24, 28])?;
     assert_eq!(rt; who(&array, 33)?, Who::Inode(2, 0));
     assert_eq!(rt; who(&array, 34)?, Who::Dead);
-    if array.inference.n > 34 {
-        assert_eq!(rt; array.inference.who(false, 34), Who::Idle);
-        assert!(rt; !array.inference.dead(true, 33));
-    }
+    assert_eq!(rt; array.inference.who(false, 34), Who::Idle);
+    assert!(rt; !array.inference.dead(true, 33));
     array.inference.reaped(34);
     assert_eq!(rt; who(&array, 34)?, Who::Dead);
     let zeros = vec![in alloc; 0u8; 131072]?;

@@ -297,7 +297,7 @@ impl Rack for SureRack {
     {
         self.calls = self.calls.saturating_add(1);
         match self.members.get(member as usize) {
-            Some(found) if found.there => Ok(Some(found.bytes.len() as u64)),
+            Some(held) if held.there => Ok(Some(held.bytes.len() as u64)),
             _ => Ok(None),
         }
     }

@@ -1,8 +1,8 @@
+use dg_io::{MemRack, Rack};
+use dg_model::MemberState;
 use dg_pair::{
     Boundary, CopyAnswer, ExtendAnswer, FailAnswer, NoteAnswer, PairRead, PairWrite, ReplaceAnswer,
 };
-use dg_io::{MemRack, Rack};
-use dg_model::MemberState;
 use std::test::Fail;
 
 const L: usize = 512;

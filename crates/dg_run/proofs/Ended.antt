@@ -1,25 +1,33 @@
 -- How commands end.
-use Rattle.std.proofs.Common.{◌≡◌, ◌∙◌, ℕ, List, ap, false, inl, inr, refl, sym, subst, true}
-use Rattle.std.specs.Prelude.{◌⊎◌, Option, Some, IsSome, Result, Ok, Err}
+use Rattle.std.proofs.Common.{◌≡◌, ◌∙◌, ℕ, List, [], ap, arith, false, inl, inr, refl, sym, subst, true}
+use Rattle.std.specs.Prelude.{◌⊎◌, Option, Result, Ok, Err}
 use Rattle.std.proofs.lemmas.Bool.{false≢true}
+use Rattle.dg_drill.specs.declared.drills.DrillEnd.{DrillEnd}
+use Rattle.dg_drill.specs.declared.drills.DrillEnd.TheVariants.{Done as Drilled, WriteFault as DrillCut}
 use Rattle.dg_io.specs.Told.{AreAny, Told, Took, TookPart}
-use Rattle.dg_model.specs.declared.events.Event.{Event}
 use Rattle.dg_run.proofs.Broken.{ran_out_first}
 use Rattle.dg_run.proofs.ToldSteps.{Told-refl}
-use Rattle.dg_run.proofs.Whole.{told_front}
 use Rattle.dg_run.specs.Arrays.{IsOfReplay}
 use Rattle.dg_run.specs.Calls.{Facts}
-use Rattle.dg_run.specs.Ends.{Ends, EndsReplay, EndsSaved, EndsUsage, is_built, status_by}
-use Rattle.dg_run.specs.Replays.{BrokeOff, IsCut, IsInput, RanOut, Replayed, Stopped}
+use Rattle.dg_run.specs.Ends.{Ends, EndsDrilled, EndsReplay, EndsSaved, EndsTrace, EndsUsage, drill_status, status_by, trace_status}
+use Rattle.dg_run.specs.Replays.{BrokeOff, IsCut, RanOut, Replayed, Stopped}
 use Rattle.dg_run.specs.declared.top.Status.{Status}
 use Rattle.dg_run.specs.declared.top.Status.TheVariants.{Done, Usage, BadLine, ReadFault, WriteFault, NoMemory, NoState, Unclean, Refused}
 use Rattle.dg_saved.specs.declared.ends.SavedEnd.{SavedEnd}
 use Rattle.dg_saved.specs.declared.ends.SavedEnd.TheVariants.{Done as SavedDone, NoState as SavedNoState, Refused as SavedRefused, Unclean as SavedUnclean, WriteFault as SavedWriteFault}
-use Rattle.dg_text.specs.Lines.{input_of}
 use Rattle.dg_text.specs.Replies.{usage}
+use Rattle.dg_trace.specs.Calls as traces
+use Rattle.dg_trace.specs.Ends.{Ends as EndsImage}
+use Rattle.dg_trace.specs.Images.{GavePart}
+use Rattle.dg_trace.specs.declared.asked.Asked.{Asked}
+use Rattle.dg_trace.specs.declared.asked.TraceEnd.{TraceEnd}
+use Rattle.dg_trace.specs.declared.asked.TraceEnd.TheVariants.{Refused as ImageRefused, Written}
+use Rattle.dg_trace.specs.declared.asked.TraceFault.{TraceFault}
+use Rattle.dg_trace.specs.declared.asked.TraceFault.TheVariants.{NoMemory as ImageNoMemory, Read, Write}
 use Rattle.dg_words.specs.Commands.{Gives, IsCommand}
 use Rattle.dg_words.specs.declared.commands.Command.{Command}
 use Rattle.dg_words.specs.declared.commands.Command.TheVariants.{Replay, Resume, Cat, Ls, Status as StatusCommand, Trace, Drill}
+use Rattle.dg_words.specs.declared.commands.Order.{Order}
 use Rattle.dg_words.specs.declared.commands.WordsRefused.{WordsRefused}
 use Rattle.dg_words.specs.declared.commands.WordsRefused.TheVariants.{Usage as NotWords, NoMemory as WordsNoMemory}
 
@@ -44,36 +52,6 @@ pub ends_usage : (f : Facts) (status : Status) → (status ≡ Usage) ⊎ (statu
 ends_usage f status (inl is) all part = subst (λ s. EndsUsage f s) (sym is) (all is)
 ends_usage f status (inr is) all part = subst (λ s. EndsUsage f s) (sym is) (part is)
 
--- an unbuilt command ends as words that are none
-pub ends_unbuilt : (f : Facts) (command : Command) (status : Status) → is_built command ≡ false → EndsUsage f status → Ends f command status
-ends_unbuilt f Replay status unbuilt ends = absurd (false≢true (sym unbuilt))
-ends_unbuilt f Resume status unbuilt ends = absurd (false≢true (sym unbuilt))
-ends_unbuilt f (Cat path) status unbuilt ends = absurd (false≢true (sym unbuilt))
-ends_unbuilt f (Ls path) status unbuilt ends = absurd (false≢true (sym unbuilt))
-ends_unbuilt f StatusCommand status unbuilt ends = absurd (false≢true (sym unbuilt))
-ends_unbuilt f (Trace order b k m) status unbuilt ends = ends
-ends_unbuilt f (Drill seed files) status unbuilt ends = ends
-
-pub unbuilt_usage : (f : Facts) (command : Command) (status : Status) → is_built command ≡ false → Ends f command status → EndsUsage f status
-unbuilt_usage f Replay status unbuilt ends = absurd (false≢true (sym unbuilt))
-unbuilt_usage f Resume status unbuilt ends = absurd (false≢true (sym unbuilt))
-unbuilt_usage f (Cat path) status unbuilt ends = absurd (false≢true (sym unbuilt))
-unbuilt_usage f (Ls path) status unbuilt ends = absurd (false≢true (sym unbuilt))
-unbuilt_usage f StatusCommand status unbuilt ends = absurd (false≢true (sym unbuilt))
-unbuilt_usage f (Trace order b k m) status unbuilt ends = ends
-unbuilt_usage f (Drill seed files) status unbuilt ends = ends
-
--- the commands that are left are unbuilt
-pub left_unbuilt : (command : Command) → (command ≡ Replay → ⊥) → (command ≡ Resume → ⊥) → ((path : List ℕ) → command ≡ Cat path → ⊥)
-    → ((path : List ℕ) → command ≡ Ls path → ⊥) → (command ≡ StatusCommand → ⊥) → is_built command ≡ false
-left_unbuilt Replay replay resume cat ls status = absurd (replay refl)
-left_unbuilt Resume replay resume cat ls status = absurd (resume refl)
-left_unbuilt (Cat path) replay resume cat ls status = absurd (cat path refl)
-left_unbuilt (Ls path) replay resume cat ls status = absurd (ls path refl)
-left_unbuilt StatusCommand replay resume cat ls status = absurd (status refl)
-left_unbuilt (Trace order b k m) replay resume cat ls status = refl
-left_unbuilt (Drill seed files) replay resume cat ls status = refl
-
 -- a command on the saved array ends by its status
 pub ends_saved : (ends : SavedEnd → Type 0) (taken given : Option (List ℕ)) (end : SavedEnd) → ends end → EndsSaved ends taken given (status_by end)
 ends_saved ends taken given SavedDone is = is
@@ -82,6 +60,26 @@ ends_saved ends taken given SavedNoState is = is
 ends_saved ends taken given SavedUnclean is = is
 ends_saved ends taken given SavedWriteFault is = is
 
+-- the trace of an image ends by its status
+pub ends_trace : (f : traces.Facts) (asked : Asked) (end : Result TraceEnd TraceFault) → EndsImage f asked end → EndsTrace f asked (trace_status end)
+ends_trace f asked (Ok Written) ends = ends
+ends_trace f asked (Ok (ImageRefused refusal)) ends = (refusal, ends)
+ends_trace f asked (Err Read) ends = ends
+ends_trace f asked (Err Write) ends = ends
+ends_trace f asked (Err ImageNoMemory) ends = ends
+
+-- a drill ends by its status
+pub ends_drill : (ends : DrillEnd → Type 0) (taken given : Option (List ℕ)) (end : DrillEnd) → ends end → EndsDrilled ends taken given (drill_status end)
+ends_drill ends taken given Drilled is = is
+ends_drill ends taken given DrillCut is = is
+
+-- nothing was read of an image
+none_read : (left : List ℕ) → GavePart left left
+none_read left = record { front = []; split = refl; most = omega arith }
+
+unread : (left rest : Option (List ℕ)) → rest ≡ left → Told GavePart left rest
+unread left rest same = subst (λ (o : Option (List ℕ)). Told GavePart left o) (sym same) (Told-refl GavePart none_read left)
+
 -- memory was wanting before anything was done
 pub wanted_first : (f : Facts) (command : Command) → f.rest ≡ f.left → f.given ≡ f.taken → Ends f command NoMemory
 wanted_first f Replay left taken = ran_out_first f.before f.bytes f.left f.rest f.taken f.given (subst (λ (o : Option (List ℕ)). Told AreAny f.left o) (sym left) (Told-refl AreAny (λ b. tt) f.left)) taken
@@ -89,7 +87,7 @@ wanted_first f Resume left taken = inl (subst (λ (o : Option (List ℕ)). Told 
 wanted_first f (Cat path) left taken = taken
 wanted_first f (Ls path) left taken = taken
 wanted_first f StatusCommand left taken = taken
-wanted_first f (Trace order b k m) left taken = taken
+wanted_first f (Trace order b k m) left taken = inl (record { read = unread f.left f.rest left; output = taken })
 wanted_first f (Drill seed files) left taken = taken
 
 -- ---- the words
@@ -109,18 +107,3 @@ module _ (words : List (List ℕ)) (result : Result Command WordsRefused) (exact
 
   pub words_refused : (command : Command) → result ≡ Err NotWords → IsCommand words command → ⊥
   words_refused command refused words = refused_not command result refused (exact command words)
-
--- where the input is acceptable and no count of faults rose, a replay is done, but for want of memory
-pub completes : (f : Facts) (events : List Event) (status : Status) → IsInput events → f.left ≡ Some (input_of events) → IsSome f.rest → EndsReplay f status
-    → (status ≡ ReadFault → ⊥) → (status ≡ WriteFault → ⊥) → (status ≡ Done) ⊎ (status ≡ NoMemory)
-completes f events Done input is some ends read write = inl refl
-completes f events BadLine input is some ends read write =
-    let front = told_front _ f.left f.rest (input_of events) is some ends.input in
-    absurd (front.1.3 events input refl)
-completes f events ReadFault input is some ends read write = absurd (read refl)
-completes f events WriteFault input is some ends read write = absurd (write refl)
-completes f events NoMemory input is some ends read write = inr refl
-completes f events Usage input is some ends read write = absurd ends
-completes f events NoState input is some ends read write = absurd ends
-completes f events Unclean input is some ends read write = absurd ends
-completes f events Refused input is some ends read write = absurd ends

@@ -2,6 +2,7 @@ mod Answers
 mod ArraySteps
 mod Breaks
 mod Broken
+mod Completing
 mod Ended
 mod FileParts
 mod Inputs

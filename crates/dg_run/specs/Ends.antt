@@ -1,6 +1,10 @@
 -- How each command ends, by its status.
-use Rattle.std.specs.Prelude.{◌≡◌, ℕ, List, Option, Bool, true, false}
+use Rattle.std.specs.Prelude.{◌≡◌, ℕ, List, Option, Bool, true, false, Result, Ok, Err}
 use Rattle.dg_io.specs.Told.{Told, Took, TookPart}
+use Rattle.dg_drill.specs.Calls as drills
+use Rattle.dg_drill.specs.Drills.{EndsDrill}
+use Rattle.dg_drill.specs.declared.drills.DrillEnd.{DrillEnd}
+use Rattle.dg_drill.specs.declared.drills.DrillEnd.TheVariants.{Done as Drilled, WriteFault as DrillCut}
 use Rattle.dg_run.specs.Calls.{Facts}
 use Rattle.dg_run.specs.Replays.{BrokeOff, IsCut, RanOut, Replayed, Stopped}
 use Rattle.dg_run.specs.Resumes.{EndsResume}
@@ -11,9 +15,18 @@ use Rattle.dg_saved.specs.Ends.{EndsCat, EndsLs, EndsStatus}
 use Rattle.dg_saved.specs.declared.ends.SavedEnd.{SavedEnd}
 use Rattle.dg_saved.specs.declared.ends.SavedEnd.TheVariants.{Done as SavedDone, NoState as SavedNoState, Refused as SavedRefused, Unclean as SavedUnclean, WriteFault as SavedWriteFault}
 use Rattle.dg_text.specs.Replies.{usage}
+use Rattle.dg_trace.specs.Calls as traces
+use Rattle.dg_trace.specs.Ends.{Ends as EndsImage}
+use Rattle.dg_trace.specs.declared.asked.Asked.{Asked}
+use Rattle.dg_trace.specs.declared.asked.TraceEnd.{TraceEnd}
+use Rattle.dg_trace.specs.declared.asked.TraceEnd.TheVariants.{Refused as ImageRefused, Written}
+use Rattle.dg_trace.specs.declared.asked.TraceFault.{TraceFault}
+use Rattle.dg_trace.specs.declared.asked.TraceFault.TheVariants.{NoMemory as ImageNoMemory, Read as ImageRead, Write as ImageWrite}
+use Rattle.dg_trace.specs.declared.asked.TraceRefusal.{TraceRefusal}
 use Rattle.dg_words.specs.Commands.{IsCommand}
 use Rattle.dg_words.specs.declared.commands.Command.{Command}
-use Rattle.dg_words.specs.declared.commands.Command.TheVariants.{Cat, Ls, Replay, Resume, Status as StatusCommand}
+use Rattle.dg_words.specs.declared.commands.Command.TheVariants.{Cat, Drill, Ls, Replay, Resume, Status as StatusCommand, Trace}
+use Rattle.dg_words.specs.declared.commands.Order.{Order}
 
 -- words that are no command: the usage line is printed, or a part of it
 abbrev pub EndsUsage : Facts → Status → Type 0
@@ -60,30 +73,76 @@ met_by facts = record {
   given = facts.given;
 }
 
--- each command by its own rules; one that isn't built yet as words that are none
+-- the status of a trace that is made of an image
+abbrev pub trace_status : Result TraceEnd TraceFault → Status
+trace_status (Ok Written) = Done
+trace_status (Ok (ImageRefused refusal)) = Refused
+trace_status (Err ImageRead) = ReadFault
+trace_status (Err ImageWrite) = WriteFault
+trace_status (Err ImageNoMemory) = NoMemory
+
+-- such a trace: it was written, or why there is none; or a fault came, or memory was wanting, before that or in the middle
+abbrev pub EndsTrace : traces.Facts → Asked → Status → Type 0
+EndsTrace facts asked Done = EndsImage facts asked (Ok Written)
+EndsTrace facts asked Refused = (refusal : TraceRefusal) × EndsImage facts asked (Ok (ImageRefused refusal))
+EndsTrace facts asked ReadFault = EndsImage facts asked (Err ImageRead)
+EndsTrace facts asked WriteFault = EndsImage facts asked (Err ImageWrite)
+EndsTrace facts asked NoMemory = EndsImage facts asked (Err ImageNoMemory)
+EndsTrace facts asked status = ⊥
+
+-- what is asked for beside the image
+abbrev pub asked_by : Order → ℕ → ℕ → ℕ → Asked
+asked_by order b k m = record { order = order; b = b; k = k; m = m }
+
+-- the source and the sink that it met
+abbrev pub streams_of : Facts → traces.Facts
+streams_of facts = record { left = facts.left; rest = facts.rest; taken = facts.taken; given = facts.given }
+
+-- the status of a drill
+abbrev pub drill_status : DrillEnd → Status
+drill_status Drilled = Done
+drill_status DrillCut = WriteFault
+
+-- a drill; at want of memory nothing was printed
+abbrev pub EndsDrilled : (DrillEnd → Type 0) → Option (List ℕ) → Option (List ℕ) → Status → Type 0
+EndsDrilled ends taken given Done = ends Drilled
+EndsDrilled ends taken given WriteFault = ends DrillCut
+EndsDrilled ends taken given NoMemory = given ≡ taken
+EndsDrilled ends taken given status = ⊥
+
+-- the sink and the rack that it met
+abbrev pub drill_met : Facts → drills.Facts
+drill_met facts = record {
+  before = facts.before;
+  now = facts.now;
+  images = facts.images;
+  bytes = facts.bytes;
+  taken = facts.taken;
+  given = facts.given;
+}
+
+-- each command by its own rules
 abbrev pub Ends : Facts → Command → Status → Type 0
 Ends facts Replay status = EndsReplay facts status
 Ends facts Resume status = EndsResume facts status
 Ends facts (Cat path) status = EndsSaved (EndsCat (met_by facts) path) facts.taken facts.given status
 Ends facts (Ls path) status = EndsSaved (EndsLs (met_by facts) path) facts.taken facts.given status
 Ends facts StatusCommand status = EndsSaved (EndsStatus (met_by facts)) facts.taken facts.given status
-Ends facts command status = EndsUsage facts status
-
--- the commands that are built
-abbrev pub is_built : Command → Bool
-is_built Replay = true
-is_built Resume = true
-is_built (Cat path) = true
-is_built (Ls path) = true
-is_built StatusCommand = true
-is_built command = false
+Ends facts (Trace order b k m) status = EndsTrace (streams_of facts) (asked_by order b k m) status
+Ends facts (Drill seed files) status = EndsDrilled (EndsDrill (drill_met facts) seed files) facts.taken facts.given status
 
 -- the commands that read the input
 abbrev pub reads_input : Command → Bool
 reads_input Replay = true
 reads_input Resume = true
+reads_input (Trace order b k m) = true
 reads_input command = false
 
--- the words are no command, or one that isn't built yet
-abbrev pub AreUnbuilt : List (List ℕ) → Type 0
-AreUnbuilt words = (command : Command) → IsCommand words command → is_built command ≡ false
+-- the commands that use the members of an array
+abbrev pub uses_array : Command → Bool
+uses_array (Trace order b k m) = false
+uses_array command = true
+
+-- the words are no command
+abbrev pub AreNoCommand : List (List ℕ) → Type 0
+AreNoCommand words = (command : Command) → IsCommand words command → ⊥

@@ -1,6 +1,7 @@
 pub mod Arrays
 pub mod Bytes
 pub mod Calls
+pub mod Completes
 pub mod Endings
 pub mod Ends
 pub mod Events

@@ -8,7 +8,9 @@
 mod arrays;
 mod blocks;
 mod cats;
+mod drills;
 mod events;
+mod images;
 mod input;
 mod lines;
 mod listings;

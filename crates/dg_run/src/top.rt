@@ -1,22 +1,23 @@
 // The top call.
-ghost use Rattle.std.specs.Prelude.{◌≡◌, ◌⊎◌, List, map, IsSome, Some, false, string_bytes};
+ghost use Rattle.std.specs.Prelude.{◌≡◌, ◌⊎◌, List, map, false, string_bytes};
 ghost use Rattle.dg_io.specs.Told.{Told, Took, TookPart};
 ghost use Rattle.dg_model.specs.Causes.{Rose};
-ghost use Rattle.dg_model.specs.declared.events.Event.{Event};
 ghost use Rattle.dg_run.specs.Calls.{facts_of};
-ghost use Rattle.dg_run.specs.Ends.{AreUnbuilt, Ends, EndsUsage, is_built, reads_input};
-ghost use Rattle.dg_run.specs.Replays.{IsInput};
+ghost use Rattle.dg_run.specs.Completes.{Completes};
+ghost use Rattle.dg_run.specs.Ends.{AreNoCommand, Ends, EndsUsage, reads_input, uses_array};
 ghost use Rattle.dg_run.specs.Statuses.{code_of};
-ghost use Rattle.dg_text.specs.Lines.{input_of};
 ghost use Rattle.dg_text.specs.Replies.{usage};
 ghost use Rattle.dg_words.specs.Commands.{HasValues, IsCommand};
 ghost use Rattle.dg_words.specs.declared.commands.Command.{Command};
 
+use crate::drills::serve_drill;
+use crate::images::serve_trace;
 use crate::replays::serve_replay;
 use crate::resumes::serve_resume;
 use crate::saved::{serve_directory, serve_file, serve_status};
 use dg_io::{Rack, Sink, Source};
 use dg_text::write_usage;
+use dg_trace::{Asked, image_has_one_answer};
 use dg_words::{Command, WordsRefused, command};
 use std::alloc::Global;
 
@@ -86,9 +87,9 @@ fn serve_command<S: Source, K: Sink, R: Rack>(
 ) -> Status
     requires values { HasValues asked.now }
     ensures ends { Ends (facts_of S.Source K.Sink R.Rack source.old source.new sink.old sink.new rack.old rack.new) asked.now result }
-    ensures usage { result ≡ Status.Usage → is_built asked.now ≡ false }
-    ensures unbuilt { is_built asked.now ≡ false → (source.new ≡ source.old) × (rack.new ≡ rack.old) }
+    ensures usage { result ≡ Status.Usage → ⊥ }
     ensures quiet { reads_input asked.now ≡ false → source.new ≡ source.old }
+    ensures idle { uses_array asked.now ≡ false → rack.new ≡ rack.old }
     ensures read { result ≡ Status.ReadFault → Rose (S.faults source.old) (S.faults source.new) }
     ensures write { result ≡ Status.WriteFault → Rose (K.faults sink.old) (K.faults sink.new) }
     ensures source_kept { (result ≡ Status.ReadFault → ⊥) → S.faults source.new ≡ S.faults source.old }
@@ -100,7 +101,16 @@ fn serve_command<S: Source, K: Sink, R: Rack>(
         Command::Cat(path) => serve_file(alloc, path.as_slice(), sink, rack),
         Command::Ls(path) => serve_directory(alloc, path.as_slice(), sink, rack),
         Command::Status => serve_status(alloc, sink, rack),
-        _ => refuse_words(sink),
+        Command::Trace { order, b, k, m } => {
+            let asked = Asked {
+                order: *order,
+                b: *b,
+                k: *k,
+                m: *m,
+            };
+            serve_trace(alloc, &asked, source, sink)
+        }
+        Command::Drill { seed, files } => serve_drill(alloc, *seed, *files, sink, rack),
     }
 }
 
@@ -116,15 +126,17 @@ pub fn run<S: Source, K: Sink, R: Rack>(
     ensures ends { (command : Command) → IsCommand (map string_bytes words.now.items) command
         → Ends (facts_of S.Source K.Sink R.Rack source.old source.new sink.old sink.new rack.old rack.new) command result }
 
-    // The usage line is printed exactly where the words are no command, or one that isn't built yet, and nothing else is done then.
-    ensures usage { result ≡ Status.Usage → AreUnbuilt (map string_bytes words.now.items) }
-    ensures other { AreUnbuilt (map string_bytes words.now.items)
+    // The usage line is printed exactly where the words are no command, and nothing else is done then.
+    ensures usage { result ≡ Status.Usage → AreNoCommand (map string_bytes words.now.items) }
+    ensures other { AreNoCommand (map string_bytes words.now.items)
         → EndsUsage (facts_of S.Source K.Sink R.Rack source.old source.new sink.old sink.new rack.old rack.new) result
         × (source.new ≡ source.old) × (rack.new ≡ rack.old) }
 
-    // A command that reads no input makes no call on the source.
+    // A command that reads no input makes no call on the source, and one that uses no array none on the rack.
     ensures quiet { (command : Command) → IsCommand (map string_bytes words.now.items) command → reads_input command ≡ false
         → source.new ≡ source.old }
+    ensures idle { (command : Command) → IsCommand (map string_bytes words.now.items) command → uses_array command ≡ false
+        → rack.new ≡ rack.old }
 
     // The causes of the faults. Want of memory is free.
     ensures read { result ≡ Status.ReadFault → Rose (S.faults source.old) (S.faults source.new) }
@@ -132,11 +144,12 @@ pub fn run<S: Source, K: Sink, R: Rack>(
     ensures source_kept { (result ≡ Status.ReadFault → ⊥) → S.faults source.new ≡ S.faults source.old }
     ensures sink_kept { (result ≡ Status.WriteFault → ⊥) → K.faults sink.new ≡ K.faults sink.old }
 
-    // Each input of acceptable lines is replayed, where neither the source nor the sink fails.
-    ensures complete { IsCommand (map string_bytes words.now.items) Command.Replay → (events : List Event) → IsInput events
-        → S.left source.old ≡ Some (input_of events) → IsSome (S.left source.new) → (Rose (S.faults source.old) (S.faults source.new) → ⊥)
-        → (Rose (K.faults sink.old) (K.faults sink.new) → ⊥) → (result ≡ Status.Done) ⊎ (result ≡ Status.NoMemory) }
+    // Where neither the source nor the sink fails, each command does what it is asked for, or says why it can't; or memory is wanting.
+    ensures complete { (command : Command) → IsCommand (map string_bytes words.now.items) command
+        → (Rose (S.faults source.old) (S.faults source.new) → ⊥) → (Rose (K.faults sink.old) (K.faults sink.new) → ⊥)
+        → Completes (facts_of S.Source K.Sink R.Rack source.old source.new sink.old sink.new rack.old rack.new) command result }
 {
+    image_has_one_answer();
     match command(alloc, words) {
         Ok(asked) => serve_command(alloc, &asked, source, sink, rack),
         Err(WordsRefused::Usage) => refuse_words(sink),

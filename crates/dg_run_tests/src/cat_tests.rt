@@ -8,7 +8,7 @@ use dg_run::Status;
 use itoa::Buffer;
 use std::alloc::Global;
 use std::test::Fail;
-use ufs_rows::{Which, rows_image};
+use ufs_samples::{Which, sample_image};
 
 // Bytes of all replies.
 const OUTPUT: usize = 131072;
@@ -46,7 +46,7 @@ pub fn lines_of(alloc: Global, image: &[u8]) -> Result<Vec<u8>, Fail> {
 pub fn image(alloc: Global, which: Which) -> Result<Vec<u8>, Fail>
     ensures { IfOk result (λ image. length image.items ≡ 131072) }
 {
-    match rows_image(alloc, which) {
+    match sample_image(alloc, which) {
         Ok(image) => Ok(image),
         Err(_) => Err("memory".into()),
     }

@@ -8,7 +8,7 @@ use dg_run::{Status, run};
 use std::alloc::Global;
 use std::process::Abort;
 use std::test::Fail;
-use ufs_rows::Which;
+use ufs_samples::Which;
 
 // Bytes of all that a run prints, and of a member.
 const OUTPUT: usize = 131072;

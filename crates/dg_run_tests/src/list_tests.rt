@@ -4,7 +4,7 @@ ghost use Rattle.std.specs.Prelude.{◌≡◌, IfOk, length};
 use crate::cat_tests::{call_behind, calls_from, cut_after, first_call, image, replies};
 use std::alloc::Global;
 use std::test::Fail;
-use ufs_rows::Which;
+use ufs_samples::Which;
 
 // The listing of the root of a volume with a link.
 const ROOT: &str = "entry 2 d 512 .

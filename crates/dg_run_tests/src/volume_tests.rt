@@ -8,7 +8,7 @@ use dg_io::MemSink;
 use dg_run::Status;
 use std::alloc::Global;
 use std::test::Fail;
-use ufs_rows::Which;
+use ufs_samples::Which;
 
 // Bytes of all replies.
 const OUTPUT: usize = 131072;

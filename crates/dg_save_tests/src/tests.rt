@@ -1,10 +1,10 @@
 ghost use Rattle.dg_save.specs.Labels.{IsFormat};
 
+use dg_model::Home;
 use dg_save::{
     LABEL_BYTES, Label, NoMemory, Phase, SavedState, Shape, Site, body_place, decode, encode,
     member_length, read_label, write_label,
 };
-use dg_model::Home;
 use std::alloc::Global;
 use std::test::Fail;
 

@@ -3,9 +3,9 @@
 ghost use Rattle.std.specs.Prelude.{◌≡◌, ◌<◌, IfOk};
 ghost use Rattle.dg_store.specs.Stores.{IsSound, shape_of};
 
-use super::*;
-use dg_io::{MemRack, Rack};
+use dg_io::{MemRack, NoMemory, Rack};
 use dg_model::MemberState;
+use dg_store::{CopyAnswer, Fetched, NoteAnswer, ReplaceAnswer, Shape, Site, Store, member_length};
 use std::alloc::Global;
 use std::process::Abort;
 use std::test::Fail;
@@ -135,7 +135,7 @@ fn live<R: Rack>(store: &mut Store<R>) -> Outcome
 }
 
 // What an opening makes of the parts of a store.
-fn reopened<R: Rack>(alloc: Global, store: Store<R>) -> Result<Store<R>, dg_io::NoMemory>
+fn reopened<R: Rack>(alloc: Global, store: Store<R>) -> Result<Store<R>, NoMemory>
 where
     R: Drop,
     requires { IsSound R.Rack store }

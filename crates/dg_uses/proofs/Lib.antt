@@ -1,3 +1,4 @@
+mod BlankRows
 mod Ended
 mod Flat
 mod Lines

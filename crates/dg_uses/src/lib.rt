@@ -1,13 +1,17 @@
-//! What a client concludes from the clauses of a run alone. The contracts of its functions say what a replay prints, and their proofs
+//! What a client concludes from the clauses of a run alone. The contracts of its functions say what a run prints, and their proofs
 //! execute nothing.
 #![tactic(auto)]
 
+mod answers;
+mod blanks;
 mod laws;
 mod promises;
 mod replays;
 #[cfg(test)]
 mod tests;
 
+pub use answers::{answer_an_image, replay_lines};
+pub use blanks::{Answer, find_no_array, refuse_an_empty_image};
 pub use laws::{answers_are_promised, replies_are_a_function, replies_by_views};
 pub use promises::cats_keep_their_promise;
 pub use replays::{

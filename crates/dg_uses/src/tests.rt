@@ -1,6 +1,6 @@
 use crate::{
-    fail_at_the_first_reply, lose_a_block, read_past_a_failure, read_what_was_written,
-    refuse_the_second_line,
+    fail_at_the_first_reply, find_no_array, lose_a_block, read_past_a_failure,
+    read_what_was_written, refuse_an_empty_image, refuse_the_second_line,
 };
 use dg_run::Status;
 use std::test::Fail;
@@ -42,5 +42,21 @@ fn a_sink_fails_at_the_first_reply(rt: HostRuntime) -> Result<(), Fail> {
     let end = fail_at_the_first_reply(rt.alloc())?;
     assert_eq!(rt; end.status, Status::WriteFault);
     assert!(rt; end.sink.taken().is_empty());
+    Ok(())
+}
+
+#[test]
+fn an_empty_image_is_refused(rt: HostRuntime) -> Result<(), Fail> {
+    let end = refuse_an_empty_image(rt.alloc())?;
+    assert_eq!(rt; end.status, Status::Refused);
+    assert!(rt; end.sink.taken() == Some("bad length\n".as_bytes()));
+    Ok(())
+}
+
+#[test]
+fn there_is_no_array(rt: HostRuntime) -> Result<(), Fail> {
+    let end = find_no_array(rt.alloc())?;
+    assert_eq!(rt; end.status, Status::NoState);
+    assert!(rt; end.sink.taken() == Some("nostate\n".as_bytes()));
     Ok(())
 }

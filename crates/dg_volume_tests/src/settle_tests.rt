@@ -10,7 +10,7 @@ use std::alloc::Global;
 use std::process::Abort;
 use std::test::Fail;
 use ufs_model::{BadKind, is_path};
-use ufs_rows::Which;
+use ufs_samples::Which;
 
 // Where the second pointer of inode 3 stands, and the first pointer of the indirect block.
 const SLOT: usize = 29_100;

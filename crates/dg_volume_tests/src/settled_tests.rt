@@ -13,7 +13,7 @@ use std::alloc::Global;
 use std::process::Abort;
 use std::test::Fail;
 use ufs_model::is_path;
-use ufs_rows::Which;
+use ufs_samples::Which;
 
 const HELLO: &[u8] = b"hello";
 

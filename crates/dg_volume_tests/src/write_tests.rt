@@ -8,7 +8,7 @@ use dg_volume::{AnyPhase, InPhase, Loose, Phase, Volume, Who, WhoAnswer, WriteAn
 use std::alloc::Global;
 use std::process::Abort;
 use std::test::Fail;
-use ufs_rows::{Which, rows_image};
+use ufs_samples::{Which, sample_image};
 
 // Bytes of a member of the array 1024 128 3 43 1, and some more.
 const LENGTH: u64 = 60_000;
@@ -25,7 +25,7 @@ const ORDERS: [[u32; 5]; 6] = [
 
 /// The 128 blocks of the volume F.
 fn image_of_f(alloc: Global) -> Result<Vec<u8>, Fail> {
-    match rows_image(alloc, Which::F) {
+    match sample_image(alloc, Which::F) {
         Ok(image) => Ok(image),
         Err(_) => Err("memory".into()),
     }

@@ -8,7 +8,7 @@ use dg_model::Shape;
 use dg_volume::{Loose, Volume, Wrote};
 use std::alloc::Global;
 use std::test::Fail;
-use ufs_rows::{Which, rows_image};
+use ufs_samples::{Which, sample_image};
 
 // Bytes of a member with 64 slots, and some more.
 const LENGTH: u64 = 120_000;
@@ -34,7 +34,7 @@ pub fn rack(alloc: Global, fails: Option<u64>) -> Result<MemRack, Fail> {
 
 /// The 128 blocks of a volume.
 pub fn image(alloc: Global, which: Which) -> Result<Vec<u8>, Fail> {
-    match rows_image(alloc, which) {
+    match sample_image(alloc, which) {
         Ok(image) => Ok(image),
         Err(_) => Err("memory".into()),
     }

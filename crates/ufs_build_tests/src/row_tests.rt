@@ -1,131 +1,34 @@
-ghost use Rattle.std.specs.Prelude.{◌<◌};
-
-use ufs_build::{Item, ItemKind, Items, Spec, build};
-use dg_model::Bytes;
-use std::alloc::Global;
+use hex::encode;
+use sha2::{Digest, Sha256};
 use std::test::Fail;
-use ufs_model::Endian;
-use ufs_rows::{Which, rows_image};
+use ufs_samples::{Which, sample_image};
 
-/// The spec of the rows.
-fn rows_spec(endian: Endian) -> Spec {
-    Spec {
-        l: 1024,
-        frag: 4,
-        ncg: 1,
-        fpg: 128,
-        ipg: 32,
-        cgoffset: 0,
-        cgmask: 0xffff_ffff,
-        endian,
-    }
-}
-
-/// Bytes of a slice.
-fn bytes_of(alloc: Global, bytes: &[u8]) -> Result<Bytes, Fail> {
-    let mut list = Vec::new(alloc);
-    list.extend_from_slice(bytes)?;
-    Ok(Bytes::new(list))
-}
-
-/// So many bytes, each of which is repeated so often, from one on.
-fn run_of(alloc: Global, first: u8, count: usize, repeated: usize) -> Result<Bytes, Fail>
-    requires { 0 < repeated }
-{
-    let mut list = Vec::new(alloc);
-    for o in 0..count {
-        let part = u8::try_from(o / repeated).unwrap_or(0);
-        list.push(first.wrapping_add(part))?;
-    }
-    Ok(Bytes::new(list))
-}
-
-fn item(
-    alloc: Global,
-    path: &[u8],
-    kind: ItemKind,
-    bytes: Bytes,
-    sparse: bool,
-) -> Result<Item, Fail> {
-    Ok(Item {
-        path: bytes_of(alloc, path)?,
-        kind,
-        bytes,
-        sparse,
-    })
-}
-
-/// The bytes of `/h`.
-fn hole_bytes(alloc: Global) -> Result<Bytes, Fail> {
-    let mut list = Vec::new(alloc);
-    for _turn in 0..4096 {
-        list.push(0)?;
-    }
-    for _turn in 0..1500 {
-        list.push(b'h')?;
-    }
-    Ok(Bytes::new(list))
-}
-
-/// The items of a row.
-fn row_items(alloc: Global, which: Which) -> Result<Items, Fail> {
-    let mut items = Vec::new(alloc);
-    match which {
-        Which::E => {}
-        Which::F | Which::Fb => {
-            items.push(item(
-                alloc,
-                b"/a",
-                ItemKind::File,
-                bytes_of(alloc, b"hello")?,
-                false,
-            )?)?;
-            items.push(item(alloc, b"/d", ItemKind::Dir, bytes_of(alloc, b"")?, false)?)?;
-            items.push(item(
-                alloc,
-                b"/d/b",
-                ItemKind::File,
-                run_of(alloc, 1, 53_248, 1024)?,
-                false,
-            )?)?;
-            items.push(item(alloc, b"/z", ItemKind::File, bytes_of(alloc, b"")?, false)?)?;
-            items.push(item(alloc, b"/h", ItemKind::File, hole_bytes(alloc)?, true)?)?;
-        }
-        Which::X => {
-            items.push(item(
-                alloc,
-                b"/p",
-                ItemKind::File,
-                run_of(alloc, b'p', 16_384, 16_384)?,
-                false,
-            )?)?;
-            items.push(item(
-                alloc,
-                b"/q",
-                ItemKind::File,
-                run_of(alloc, b'q', 16_384, 16_384)?,
-                false,
-            )?)?;
-        }
-    }
-    Ok(Items::new(items))
-}
-
+/// The four small volumes are those of `tests/rows/volumes.py`, whose bytes `images.py` makes by itself, from the formats: the
+/// SHA-256 of each was computed by Python's `hashlib`.
 #[test]
-fn rows_byte_for_byte(rt: HostRuntime) -> Result<(), Fail> {
-    for (which, endian) in [
-        (Which::E, Endian::Little),
-        (Which::F, Endian::Little),
-        (Which::X, Endian::Little),
-        (Which::Fb, Endian::Big),
+fn samples_by_their_digests(rt: HostRuntime) -> Result<(), Fail> {
+    for (which, wanted) in [
+        (
+            Which::E,
+            "345be49e1aafc3695f673ed23d03a40a64503b620e5db145f512c5c5f62447df",
+        ),
+        (
+            Which::F,
+            "2354c7a61fa38adfc352471c5b6e4f70b88fe517248b074c5866cc73c55d37e8",
+        ),
+        (
+            Which::X,
+            "99e12f70b87fd373bbb3c30e48f19ca5e48f4029c40c7a852af4d2f8d980c8e6",
+        ),
+        (
+            Which::Fb,
+            "863523b9d6cfbcc0871545ca244af49d64e6d0277317d90c9bbc01f378f4b019",
+        ),
     ] {
-        let wanted = rows_image(rt.alloc(), which).ok().ok_or("memory")?;
-        let items = row_items(rt.alloc(), which)?;
-        let image = build(rt.alloc(), &rows_spec(endian), &items)?;
-        assert_eq!(rt; image.len(), wanted.len(), "{which:?}");
-        for (k, (one, other)) in image.iter().zip(wanted.iter()).enumerate() {
-            assert_eq!(rt; *one, *other, "{which:?} {k}");
-        }
+        let image = sample_image(rt.alloc(), which)?;
+        let digest = Sha256::digest(&image);
+        let text = encode(rt.alloc(), &digest)?;
+        assert_eq!(rt; text.as_str(), wanted, "{which:?}");
     }
     Ok(())
 }

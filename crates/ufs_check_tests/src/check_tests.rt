@@ -7,7 +7,7 @@ use dg_io::Loss;
 use std::alloc::Global;
 use std::test::Fail;
 use ufs_check::{BadKind, BadSuper, Verdict};
-use ufs_rows::{Which, rows_image};
+use ufs_samples::{Which, sample_image};
 
 #[test]
 fn the_rows_are_sound(rt: HostRuntime) -> Result<(), Fail> {
@@ -112,7 +112,7 @@ fn a_volume_of_each_kind(rt: HostRuntime) -> Result<(), Fail> {
 /// Other ways to some of the kinds.
 #[test]
 fn further_volumes(rt: HostRuntime) -> Result<(), Fail> {
-    let faults: [Fault; 11] = [
+    let faults: [Fault; 13] = [
         // The number of another group.
         (&[(GROUP + 12, &[1])], BadKind::GroupMagic, 0),
         // A directory's size, and its slot.
@@ -121,6 +121,9 @@ fn further_volumes(rt: HostRuntime) -> Result<(), Fail> {
         // The triple indirect slot, and a slot of an empty file.
         (&[(INODE_5 + 96, &[84])], BadKind::Past, 5),
         (&[(INODE_6 + 40, &[96])], BadKind::Past, 6),
+        // A whole file block whose first fragment is the volume's last one, and the last pointer of a fragment.
+        (&[(INODE_5 + 40, &[127])], BadKind::Wild, 5),
+        (&[(INDIRECT + 1020, &[128])], BadKind::WildIn, 84),
         // A pointer to marked free fragments.
         (&[(INDIRECT, &[96])], BadKind::Free, 96),
         // An entry of no length.
@@ -175,6 +178,25 @@ fn volumes_with_a_block_gone(rt: HostRuntime) -> Result<(), Fail> {
     Ok(())
 }
 
+/// A block that is gone from some fetch on is missed only where it is still to be fetched.
+#[test]
+fn volumes_with_a_block_gone_later(rt: HostRuntime) -> Result<(), Fail> {
+    for block in [8, 24, 28, 33, 35, 84] {
+        let mut last = Verdict::Gone;
+        for fetch in [0, 1, 2, 4, 8, 16, 32, 64, 128, 4096] {
+            let loss = Loss { block, fetch };
+            let told = verdict_without(rt.alloc(), Which::F, 128, &[], loss)?;
+            assert!(rt;
+                told == last || told == Verdict::Sound,
+                "without {block} from {fetch} on"
+            );
+            last = told;
+        }
+        assert_eq!(rt; last, Verdict::Sound, "without {block}");
+    }
+    Ok(())
+}
+
 /// A fault isn't told where a block is gone that is read for it: the superblock, then the metadata, then
 /// the directories too.
 #[test]
@@ -205,7 +227,7 @@ fn faults_with_a_block_gone(rt: HostRuntime) -> Result<(), Fail> {
 fn a_superblock_in_both_orders(rt: HostRuntime) -> Result<(), Fail> {
     let bad = Verdict::Malformed(BadKind::Super(BadSuper::Bsize), 0);
     for (which, other) in [(Which::F, Which::Fb), (Which::Fb, Which::F)] {
-        let rows = rows_image(rt.alloc(), other)?;
+        let rows = sample_image(rt.alloc(), other)?;
         if rows.len() < 10 * 1024 {
             return Err("image".into());
         }

@@ -5,7 +5,7 @@ use crate::volumes::{D, ENTRY_B, Edit, FRAGMENT_MAP, GROUP, INODE_2, INODE_3, IN
 use std::alloc::Global;
 use std::test::Fail;
 use ufs_check::{BadKind, Verdict};
-use ufs_rows::Which;
+use ufs_samples::Which;
 
 /// The volume E with four groups of 64 fragments, whose group blocks are at 24, 88, 152 and 216.
 const FOUR_GROUPS: [Edit; 11] = [
@@ -67,6 +67,11 @@ const TWO_GROUPS: [Edit; 15] = [
     (INODE_41, &[0xa4, 0x81]),
     (INODE_41 + 8, &[0, 16]),
 ];
+
+// One data block more than the group has.
+const GROUP_MAP_OF_122: Fault = (&[(160 * 1024 + 20, &[123])], BadKind::GroupMap, 1);
+
+const WRONG_TYPE_41: Fault = (&[(INODE_41, &[0xa4, 1])], BadKind::WrongType, 41);
 
 const WILD_41: Fault = (&[(INODE_41 + 40, &[250])], BadKind::Wild, 41);
 
@@ -212,9 +217,10 @@ fn the_earlier_kind_of_the_lesser_number(rt: HostRuntime) -> Result<(), Fail> {
 /// later kind the lesser number, and then of the earlier one.
 #[test]
 fn the_earlier_kind_with_more_groups(rt: HostRuntime) -> Result<(), Fail> {
-    let pairs: [(&[Edit], Fault, Fault); 9] = [
+    let pairs: [(&[Edit], Fault, Fault); 10] = [
         (&FOUR_GROUPS, GROUP_MAGIC_3, GROUP_MAP_0),
         (&FOUR_GROUPS, GROUP_MAP_3, WRONG_TYPE_2),
+        (&TWO_GROUPS, GROUP_MAP_OF_122, WRONG_TYPE_41),
         (&TWO_GROUPS, WILD_41, WILD_IN_36),
         (&TWO_GROUPS, ALIGN_41, ALIGN_IN_36),
         (&TWO_GROUPS, RUN_41, TWICE_36),

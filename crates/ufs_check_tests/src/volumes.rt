@@ -6,7 +6,7 @@ use dg_io::{Loss, MemView};
 use std::alloc::Global;
 use std::test::Fail;
 use ufs_check::{Levels, Verdict, check};
-use ufs_rows::{Which, rows_image};
+use ufs_samples::{Which, sample_image};
 
 /// Bytes that are put in at a place of an image.
 pub type Edit<'a> = (usize, &'a [u8]);
@@ -74,7 +74,7 @@ pub fn edited(alloc: Global, which: Which, count: u32, edits: &[Edit]) -> Result
     requires { count ≤ 256 }
     ensures { IfOk result (λ image. length image.items ≡ count * 1024) }
 {
-    let rows = rows_image(alloc, which)?;
+    let rows = sample_image(alloc, which)?;
     let mut image = vec![in alloc; 0; count as usize * 1024]?;
     lay_out(&mut image, &rows, edits);
     Ok(image)

@@ -8,7 +8,7 @@ use dg_io::Loss;
 use std::alloc::Global;
 use std::test::Fail;
 use ufs_path::CatAnswer;
-use ufs_rows::Which;
+use ufs_samples::Which;
 
 // Bytes of the file.
 const BYTES: u32 = 4_247_552;

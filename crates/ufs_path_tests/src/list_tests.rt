@@ -6,7 +6,7 @@ use std::alloc::Global;
 use std::test::Fail;
 use ufs_model::Kind;
 use ufs_path::{BadRead, CatAnswer, Levels, Listing, is_path, ls};
-use ufs_rows::Which;
+use ufs_samples::Which;
 
 /// A listing in memory: the text of its entries, of which it takes so many.
 #[derive(Drop)]

@@ -5,7 +5,7 @@ use crate::tests::{NOTHING, image, put, read};
 use std::alloc::Global;
 use std::test::Fail;
 use ufs_path::{BadRead, BadSuper, CatAnswer};
-use ufs_rows::Which;
+use ufs_samples::Which;
 
 /// The volume with files, of which some blocks are those of its image in the other order of bytes.
 fn mixed(alloc: Global, from: usize, to: usize) -> Result<Vec<u8>, Fail>

@@ -7,7 +7,7 @@ use std::alloc::Global;
 use std::process::Abort;
 use std::test::Fail;
 use ufs_path::{Levels, parents};
-use ufs_rows::Which;
+use ufs_samples::Which;
 
 /// An inode and a directory.
 type Pair = (u32, u32);

@@ -6,13 +6,13 @@ use std::test::Fail;
 use ufs_path::{
     BadRead, BadSuper, CatAnswer, Inode, Levels, LookFault, cat, geometry, is_path, look,
 };
-use ufs_rows::{Which, rows_image};
+use ufs_samples::{Which, sample_image};
 
 /// The 128 blocks of a volume.
 pub fn image(alloc: Global, which: Which) -> Result<Vec<u8>, Fail>
     ensures { IfOk result (λ image. length image.items ≡ 131072) }
 {
-    match rows_image(alloc, which) {
+    match sample_image(alloc, which) {
         Ok(image) => Ok(image),
         Err(_) => Err("memory".into()),
     }

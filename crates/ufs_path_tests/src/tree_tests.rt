@@ -7,7 +7,7 @@ use dg_io::{Loss, MemView};
 use std::alloc::Global;
 use std::test::Fail;
 use ufs_path::{BadRead, CatAnswer, Levels, tree};
-use ufs_rows::Which;
+use ufs_samples::Which;
 
 /// What `tree` answers on a volume that loses a block, and what a listing with so much room takes.
 fn grow(

@@ -1,15 +1,15 @@
 ghost use Rattle.std.specs.Prelude.{◌≡◌, ◌+◌, ◌*◌, ◌^◌, ◌<◌, ◌≤◌, IfOk, length};
 ghost use Rattle.ufs_model.specs.Geometries.{IsGeometryOn};
 
-use ufs_pointer::{
-    BlockAnswer, Chain, FileBlock, Levels, file_block, locate, pointer, read_area, read_file_block,
-};
 use dg_io::{Loss, MemView};
 use std::alloc::Global;
 use std::test::Fail;
 use ufs_inode::{Inode, inode_at, read_inode};
 use ufs_model::Endian;
-use ufs_rows::{Which, rows_image};
+use ufs_pointer::{
+    BlockAnswer, Chain, FileBlock, Levels, file_block, locate, pointer, read_area, read_file_block,
+};
+use ufs_samples::{Which, sample_image};
 use ufs_super::{Geometry, read_super};
 
 /// The byte at which each field of a superblock stands, from `sblkno` to `magic`.
@@ -376,7 +376,7 @@ fn short_blocks_at_the_edges_of_groups(rt: HostRuntime) -> Result<(), Fail> {
 fn volume(alloc: Global, which: Which) -> Result<Vec<u8>, Fail>
     ensures { IfOk result (λ image. length image.items ≡ 131072) }
 {
-    match rows_image(alloc, which) {
+    match sample_image(alloc, which) {
         Ok(image) => Ok(image),
         Err(_) => Err("memory".into()),
     }

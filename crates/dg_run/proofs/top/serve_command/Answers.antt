@@ -1,5 +1,4 @@
 use Rattle.std.proofs.Common.{ℕ, List, refl, subst, sym}
-use Rattle.dg_run.proofs.Ended.{ends_unbuilt, ends_usage, left_unbuilt}
 use Rattle.dg_run.specs.Calls.{facts_of}
 use Rattle.dg_run.specs.Ends.{Ends, EndsReplay}
 use Rattle.dg_run.specs.Resumes.{EndsResume}
@@ -37,12 +36,15 @@ returns-in-Status-clause-ends g c =
     let s = c.serve_status in
     subst (λ (d : Command). Ends (facts_of g.S.Source g.K.Sink g.R.Rack c.args.source.now c.args.source.now c.args.sink.now s.new.sink c.args.rack.now s.new.rack) d s.result) (sym c.in-Status.is) s.ensures.ends
 
-pub returns-in_default-clause-ends : goal.returns-in_default-clause-ends
-returns-in_default-clause-ends g c =
-    let e = c.refuse_words.ensures in
-    let met = facts_of g.S.Source g.K.Sink g.R.Rack c.args.source.now c.args.source.now c.args.sink.now c.refuse_words.new.sink c.args.rack.now c.args.rack.now in
-    ends_unbuilt met c.args.asked.now c.refuse_words.result
-    (left_unbuilt c.args.asked.now c.in_default.not-Replay c.in_default.not-Resume c.in_default.not-Cat c.in_default.not-Ls c.in_default.not-Status) (ends_usage met c.refuse_words.result e.is e.usage e.part)
+pub returns-in-Trace-clause-ends : goal.returns-in-Trace-clause-ends
+returns-in-Trace-clause-ends g c =
+    let s = c.serve_trace in
+    subst (λ (d : Command). Ends (facts_of g.S.Source g.K.Sink g.R.Rack c.args.source.now s.new.source c.args.sink.now s.new.sink c.args.rack.now c.args.rack.now) d s.result) (sym c.in-Trace.is) s.ensures.ends
+
+pub returns-in-Drill-clause-ends : goal.returns-in-Drill-clause-ends
+returns-in-Drill-clause-ends g c =
+    let s = c.serve_drill in
+    subst (λ (d : Command). Ends (facts_of g.S.Source g.K.Sink g.R.Rack c.args.source.now c.args.source.now c.args.sink.now s.new.sink c.args.rack.now s.new.rack) d s.result) (sym c.in-Drill.is) s.ensures.ends
 
 pub returns-in-Replay-clause-usage : goal.returns-in-Replay-clause-usage
 returns-in-Replay-clause-usage g c = λ is.

@@ -1,4 +1,4 @@
-use Rattle.dg_store.proofs.Refills.{label_fits}
+use Rattle.dg_store_tests.proofs.Labels.{label_fits}
 use Rattle.dg_store_tests.proofs.refill_tests.label.Goals as goal
 
 pub note-requires-clause-fits : goal.note-requires-clause-fits

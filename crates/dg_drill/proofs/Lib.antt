@@ -1,0 +1,15 @@
+mod BlockLaws
+mod ChainLaws
+mod Comparing
+mod Counts
+mod DrillLaws
+mod HomeSteps
+mod ItemLaws
+mod Lined
+mod LossSteps
+mod MadeLaws
+mod MemberSteps
+mod OrderLaws
+mod PathLaws
+mod ReadLaws
+mod WriteCounts

@@ -1,0 +1,96 @@
+-- What a drill does to an array, and how it ends.
+use Rattle.std.specs.Prelude.{◌≡◌, ◌⊎◌, ◌<◌, ◌/◌, ℕ, List, [], ◌∷◌, ◌++◌, Option, Result, Ok, Err, IsSome, map, length, count_by}
+use Rattle.std.specs.List.{range_with_len}
+use Rattle.dg_drill.specs.Calls.{Facts}
+use Rattle.dg_drill.specs.Items.{drill_items, file_path}
+use Rattle.dg_drill.specs.Reports.{boundary_of, refused_text, report_text}
+use Rattle.dg_drill.specs.Volumes.{IsDrillVolume, drill_shape, drill_spec}
+use Rattle.dg_drill.specs.declared.drills.DrillEnd.{DrillEnd}
+use Rattle.dg_drill.specs.declared.drills.DrillEnd.TheVariants.{Done, WriteFault}
+use Rattle.dg_io.specs.Told.{Told, Took, TookPart}
+use Rattle.dg_model.specs.Runs.{Run, Trace}
+use Rattle.dg_model.specs.Sites.{has_site}
+use Rattle.dg_model.specs.States.{HoldsAll, State}
+use Rattle.dg_model.specs.Tables.{Table}
+use Rattle.dg_model.specs.declared.events.Event.{Event}
+use Rattle.dg_model.specs.declared.events.Event.TheVariants.{Cat, Fail, Settle}
+use Rattle.dg_model.specs.declared.replies.Reply.{Reply}
+use Rattle.dg_trace.specs.Traces.{trace_events}
+use Rattle.dg_words.specs.declared.commands.Order.TheVariants.{Late}
+use Rattle.ufs_build.specs.Builds.{built}
+use Rattle.ufs_build.specs.declared.refusals.BuildRefused.{BuildRefused}
+use Rattle.ufs_model.specs.declared.geometries.Geometry.{Geometry}
+
+-- ---- events
+
+-- the array is made, and each block of the volume that isn't all zero is written, those of files first
+abbrev pub write_events : Geometry → List ℕ → List Event
+write_events g image = trace_events Late g drill_shape image
+
+-- both members of a boundary fail
+abbrev pub loss_events : ℕ → List Event
+loss_events seed = Fail (boundary_of seed) 0 ∷ Fail (boundary_of seed) 1 ∷ []
+
+abbrev pub read_event : ℕ → Event
+read_event k = Cat (file_path k)
+
+-- each file is read
+abbrev pub read_events : ℕ → List Event
+read_events files = map read_event (range_with_len 0 files)
+
+-- what comes behind the writes
+abbrev pub later_events : ℕ → ℕ → List Event
+later_events seed files = Settle ∷ (loss_events seed ++ read_events files)
+
+-- how many blocks are written
+abbrev pub written_count : Table → ℕ
+written_count table = count_by has_site table.rows
+
+-- ---- what was done
+
+-- each member of a state's boundaries tells its bytes
+abbrev pub TellsBoundaries : (ℕ → Option (List ℕ)) → State → Type 0
+TellsBoundaries bytes state = (q : ℕ) → q / 2 < state.table.shape.b → IsSome (bytes q)
+
+-- The volume was made, and the array went by a chain of steps, whatever the replies were: from nothing to where each block was written, and
+-- on to where each file was read. The last state has the counts of the rack, which holds it where each member tells its bytes in the end.
+-- `text` is what is printed of it.
+pub record HasDrilled (facts : Facts) (seed files : ℕ) (text : List ℕ) : Type 0 where
+  pub image : List ℕ
+  pub geometry : Geometry
+  pub volume : IsDrillVolume seed files image geometry
+  pub written : State
+  pub final : State
+  pub writes : List Reply
+  pub settled : Reply
+  pub losses : List Reply
+  pub cats : List Reply
+  pub number : length losses ≡ 2
+  pub led : Trace (TellsBoundaries facts.bytes final) facts.before (write_events geometry image) writes written
+  pub on : Run (TellsBoundaries facts.bytes final) written (later_events seed files) (settled ∷ (losses ++ cats)) final
+  pub counts : final.counts ≡ facts.now
+  pub holds : TellsBoundaries facts.bytes final → HoldsAll facts.bytes final
+  pub text_is : text ≡ report_text seed files (written_count written.table) settled cats
+
+-- There is no volume with these files; so nothing was done.
+pub record HasNoVolume (facts : Facts) (seed files : ℕ) (text : List ℕ) : Type 0 where
+  pub refusal : BuildRefused
+  pub refused : built drill_spec (drill_items seed files) ≡ Err refusal
+  pub same : (facts.bytes ≡ facts.images) × (facts.now ≡ facts.before)
+  pub text_is : text ≡ refused_text seed files
+
+-- the drill was done, or there is no volume for it
+abbrev pub IsDone : Facts → ℕ → ℕ → List ℕ → Type 0
+IsDone facts seed files text = HasDrilled facts seed files text ⊎ HasNoVolume facts seed files text
+
+-- ---- how it ends
+
+-- it was done, and its text was printed, whole (`Took`) or in part (`TookPart`)
+abbrev pub Prints : Facts → ℕ → ℕ → (List ℕ → List ℕ → List ℕ → Type 0) → Type 0
+Prints facts seed files printed =
+    (text : List ℕ) × IsDone facts seed files text × Told (printed text) facts.taken facts.given
+
+-- by the end
+abbrev pub EndsDrill : Facts → ℕ → ℕ → DrillEnd → Type 0
+EndsDrill facts seed files Done = Prints facts seed files Took
+EndsDrill facts seed files WriteFault = Prints facts seed files TookPart

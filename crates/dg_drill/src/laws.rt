@@ -1,0 +1,38 @@
+// What the numbers that a drill prints mean.
+ghost use Rattle.std.specs.Prelude.{◌≡◌, ◌++◌, ◌∷◌, ℕ, List, length};
+ghost use Rattle.dg_drill.specs.Drills.{later_events, write_events};
+ghost use Rattle.dg_drill.specs.Losses.{AreGiven, lost_homes};
+ghost use Rattle.dg_drill.specs.Reports.{boundary_of, unavailable_count};
+ghost use Rattle.dg_drill.specs.Volumes.{IsDrillVolume};
+ghost use Rattle.dg_model.specs.Causes.{NoneRose};
+ghost use Rattle.dg_model.specs.Runs.{Run, Trace};
+ghost use Rattle.dg_model.specs.States.{Counts, State};
+ghost use Rattle.dg_model.specs.declared.replies.Reply.{Reply};
+ghost use Rattle.dg_model.specs.declared.replies.Reply.TheVariants.{Settled};
+ghost use Rattle.dg_promise.specs.Promises.{AreTold};
+ghost use Rattle.ufs_model.specs.declared.geometries.Geometry.{Geometry};
+
+use dg_promise::{
+    blank_arrays_are_steady, cat_keeps_its_promise, cats_without_faults_lose_none,
+    steps_keep_steady,
+};
+use ufs_model::accepted_superblocks;
+
+/// Where no member's count of faults rose in a drill, and its array was settled, the unavailable files are just those whose home is the lost
+/// boundary, and each other one is given.
+pub fn drill_loses_its_homes()
+    ensures unavailable { (before : Counts) (seed files : ℕ) (g : Geometry) (image : List ℕ) (writes losses cats : List Reply) (written final : State)
+        → IsDrillVolume seed files image g → Trace AreTold before (write_events g image) writes written
+        → Run AreTold written (later_events seed files) (Settled ∷ (losses ++ cats)) final → length losses ≡ 2
+        → NoneRose before.faults final.counts.faults → unavailable_count cats ≡ lost_homes final seed files }
+    ensures given { (before : Counts) (seed files : ℕ) (g : Geometry) (image : List ℕ) (writes losses cats : List Reply) (written final : State)
+        → IsDrillVolume seed files image g → Trace AreTold before (write_events g image) writes written
+        → Run AreTold written (later_events seed files) (Settled ∷ (losses ++ cats)) final → length losses ≡ 2
+        → NoneRose before.faults final.counts.faults → AreGiven (boundary_of seed) final 0 cats }
+{
+    accepted_superblocks();
+    blank_arrays_are_steady();
+    steps_keep_steady();
+    cat_keeps_its_promise();
+    cats_without_faults_lose_none();
+}

@@ -1,0 +1,51 @@
+// What each command answers where neither the source nor the sink fails.
+ghost use Rattle.std.specs.Prelude.{◌≡◌, ◌⊎◌, List, ℕ, map, IsSome, Result, Some, string_bytes};
+ghost use Rattle.dg_model.specs.Causes.{Rose};
+ghost use Rattle.dg_model.specs.declared.events.Event.{Event};
+ghost use Rattle.dg_run.specs.Completes.{answer_status};
+ghost use Rattle.dg_run.specs.Ends.{asked_by};
+ghost use Rattle.dg_run.specs.Replays.{IsInput};
+ghost use Rattle.dg_text.specs.Lines.{input_of};
+ghost use Rattle.dg_trace.specs.Answers.{IsAnswer};
+ghost use Rattle.dg_trace.specs.declared.asked.TraceRefusal.{TraceRefusal};
+ghost use Rattle.dg_words.specs.Commands.{IsCommand};
+ghost use Rattle.dg_words.specs.declared.commands.Command.{Command};
+ghost use Rattle.dg_words.specs.declared.commands.Order.{Order};
+ghost use Rattle.ufs_model.specs.declared.geometries.Geometry.{Geometry};
+
+use dg_io::{Rack, Sink, Source};
+use dg_run::{Status, run};
+use std::alloc::Global;
+
+/// Acceptable lines are replayed.
+pub fn replay_lines<S: Source, K: Sink, R: Rack>(
+    alloc: Global,
+    words: &Vec<String>,
+    source: &mut S,
+    sink: &mut K,
+    rack: &mut R,
+) -> Status
+    requires { IsCommand (map string_bytes words.now.items) Command.Replay }
+    ensures { (events : List Event) → IsInput events → S.left source.old ≡ Some (input_of events) → IsSome (S.left source.new)
+        → (Rose (S.faults source.old) (S.faults source.new) → ⊥) → (Rose (K.faults sink.old) (K.faults sink.new) → ⊥)
+        → (result ≡ Status.Done) ⊎ (result ≡ Status.NoMemory) }
+{
+    run(alloc, words, source, sink, rack)
+}
+
+/// An image is answered in the one way that it is to be answered.
+pub fn answer_an_image<S: Source, K: Sink, R: Rack>(
+    alloc: Global,
+    words: &Vec<String>,
+    source: &mut S,
+    sink: &mut K,
+    rack: &mut R,
+) -> Status
+    ensures { (order : Order) (b k m : ℕ) → IsCommand (map string_bytes words.now.items) (Command.Trace order b k m)
+        → (image : List ℕ) (answer : Result Geometry TraceRefusal) → IsAnswer (asked_by order b k m) image answer
+        → S.left source.old ≡ Some image → IsSome (S.left source.new)
+        → (Rose (S.faults source.old) (S.faults source.new) → ⊥) → (Rose (K.faults sink.old) (K.faults sink.new) → ⊥)
+        → (result ≡ answer_status answer) ⊎ (result ≡ Status.NoMemory) }
+{
+    run(alloc, words, source, sink, rack)
+}
