@@ -1,11 +1,13 @@
 """Runs the command `drill 1 2000`, and prints what it takes, how that parts into its steps, and which calls take which part of it.
 
-Three runs are timed, each in a new folder. The steps are told apart by the calls of the system that a run has made while its processor's time
-is looked at every half of a millisecond: before its first write it makes the files and their volume; then it writes each block to two members; the
-settling ends with the last write to a member; the rest is the reading of the files. The parts are instructions, as valgrind counts them, so that they don't depend on the load: from the
-start of the program the way is followed down to the last function of the drill's own that has nearly all instructions, and each call that this
-one makes is printed with what it takes, all that it calls included. The parts are the sums of these calls by their names. There is no bound; the exit
-status is 1 where a drill fails or prints another line than the run before. Image files stand in a temporary folder (TMPDIR says where).
+Three runs are timed, each in a new folder. The steps are told apart by the calls of the system that a run has made, while its processor's time
+is looked at every half of a millisecond: before its first write it makes the files and their volume; then it writes each block to two members;
+the settling ends with the last write to a member; the rest is the reading of the files.
+
+The shares are instructions, as valgrind counts them, so that they don't depend on the load: from the start of the program the way is followed
+down to the last function of the drill's own that has nearly all instructions, and each call that this one makes is printed with what it takes,
+all that it calls included; these are added up by their names, too. There is no bound; the exit status is 1 where a drill fails or prints
+anything else than the run before. Image files stand in a temporary folder (TMPDIR says where).
 """
 import os
 import re
@@ -51,11 +53,11 @@ class Drill:
         self.inside, self.system = usage.ru_utime, usage.ru_stime
 
     def look(self, pid):
-        """Notes the processor's seconds so far, and the calls that wrote."""
+        """Notes the processor's seconds so far, the calls that wrote, and the bytes that they wrote."""
         try:
-            with open(f"/proc/{pid}/io") as counts:
-                written = int(re.search(r"syscw: (\d+)", counts.read()).group(1))
-            self.samples.append((time.clock_gettime(~pid << 3 | 2), written))
+            with open(f"/proc/{pid}/io") as file:
+                counts = dict(line.split(": ") for line in file)
+            self.samples.append((time.clock_gettime(~pid << 3 | 2), int(counts["syscw"]), int(counts["wchar"])))
             self.peak = max(self.peak, peak_of(pid))
         except OSError:
             return
@@ -63,9 +65,10 @@ class Drill:
     def steps(self):
         """The processor's seconds of each step."""
         blocks = int(re.search(r"^blocks (\d+)$", self.printed, re.M).group(1))
-        last = self.samples[-1][1]
-        # The last sample may be of after the line that is printed, which is one write.
-        ends = [min(after for after, written in self.samples if written >= least) for least in (1, 2 * blocks, last - 1)]
+        # The last sample may be of before or after the lines are printed, which are fewer bytes than a block.
+        least = self.samples[-1][2] - len(self.printed)
+        ends = [min(now for now, calls, _ in self.samples if calls >= most) for most in (1, 2 * blocks)]
+        ends.append(min(now for now, _, written in self.samples if written >= least))
         ends.append(self.inside + self.system)
         return [after - before for before, after in zip([0, *ends], ends)]
 

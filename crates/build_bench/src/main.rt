@@ -1,7 +1,8 @@
 //! For the benchmarks of volumes made of items, and of the order of a trace. The words are a task, a size and how many times.
 //! `build MIB TIMES` builds a volume of so many MiB, which its files nearly fill; `order MIB TIMES` builds it once, and puts its
-//! blocks into the order `late` so many times; `tiny FILES TIMES` builds a volume of 16 MiB with so many files of one byte. It prints
-//! how many blocks of the volume aren't zero, by that order. With 0 times `build` and `tiny` make the items alone.
+//! blocks into the order `late` so many times; `zeros MIB TIMES` does the same where all bytes of the files are zero; and
+//! `tiny FILES TIMES` builds a volume of 16 MiB with so many files of one byte. It prints how many blocks of the volume aren't zero,
+//! by that order. With 0 times `build` and `tiny` make the items alone.
 #![tactic(auto)]
 
 ghost use Rattle.std.specs.Prelude.{◌≡◌, ◌*◌, length};
@@ -35,6 +36,7 @@ const MOST_TINY: u32 = 8_000;
 enum Task {
     Build,
     Order,
+    Zeros,
     Tiny,
 }
 
@@ -49,6 +51,8 @@ struct Asked {
 fn task_of(word: &str) -> Task {
     if word == "order" {
         Task::Order
+    } else if word == "zeros" {
+        Task::Zeros
     } else if word == "tiny" {
         Task::Tiny
     } else {
@@ -120,25 +124,28 @@ fn push_directory(alloc: Global, items: &mut Vec<Item>, d: u32) -> Result<(), No
     push_item(alloc, items, path.as_str(), ItemKind::Dir, Vec::new(alloc))
 }
 
-/// The file with a number, of so many bytes.
-fn push_file(alloc: Global, items: &mut Vec<Item>, i: u32, size: u32) -> Result<(), NoMemory> {
+/// How many bytes the file with a number has, and what each of them is.
+fn contents_of(task: Task, i: u32) -> (u32, u8) {
+    let size = SIZES[i as usize % 8];
+    let byte = 1 + (i % 251) as u8;
+    match task {
+        Task::Build | Task::Order => (size, byte),
+        Task::Zeros => (size, 0),
+        Task::Tiny => (1, byte),
+    }
+}
+
+/// The file with a number.
+fn push_file(alloc: Global, items: &mut Vec<Item>, task: Task, i: u32) -> Result<(), NoMemory> {
     let d = i / FILES_IN_DIRECTORY;
     let Ok(path) = format!(in alloc; "/d{d}/f{i}") else {
         return Err(NoMemory);
     };
-    let byte = 1 + (i % 251) as u8;
+    let (size, byte) = contents_of(task, i);
     let Ok(bytes) = vec![in alloc; byte; size as usize] else {
         return Err(NoMemory);
     };
     push_item(alloc, items, path.as_str(), ItemKind::File, bytes)
-}
-
-/// The bytes of the file with a number.
-fn size_of(task: Task, i: u32) -> u32 {
-    match task {
-        Task::Build | Task::Order => SIZES[i as usize % 8],
-        Task::Tiny => 1,
-    }
 }
 
 /// So many files in directories.
@@ -148,7 +155,7 @@ fn items_of(alloc: Global, task: Task, files: u32) -> Result<Items, NoMemory> {
         if i % FILES_IN_DIRECTORY == 0 {
             push_directory(alloc, &mut items, i / FILES_IN_DIRECTORY)?;
         }
-        push_file(alloc, &mut items, i, size_of(task, i))?;
+        push_file(alloc, &mut items, task, i)?;
     }
     Ok(Items::new(items))
 }
@@ -189,12 +196,15 @@ fn written(alloc: Global, spec: &Spec, image: &[u8], times: u32) -> Result<usize
 fn measured(alloc: Global, asked: Asked) -> Result<usize, BuildRefused> {
     let mib = asked.size.min(MOST_MIB);
     let (spec, files) = match asked.task {
-        Task::Build | Task::Order => (spec_of(mib.div_ceil(2), 64), mib * FILES_IN_MIB),
+        Task::Build | Task::Order | Task::Zeros => (
+            spec_of(mib.div_ceil(2), 64),
+            mib * FILES_IN_MIB,
+        ),
         Task::Tiny => (spec_of(8, 1024), asked.size.min(MOST_TINY)),
     };
     let (built, ordered) = match asked.task {
         Task::Build | Task::Tiny => (asked.times, 1),
-        Task::Order => (1, asked.times),
+        Task::Order | Task::Zeros => (1, asked.times),
     };
     let items = items_of(alloc, asked.task, files)?;
     let image = builds(alloc, &spec, &items, built)?;
