@@ -1,4 +1,5 @@
-"""Runs of the program of crates/volume_bench on the images of volumes, and what they take."""
+"""Runs of programs that print one line, and what they take: those of crates/volume_bench on the images of volumes, and others."""
+import collections
 import os
 import re
 import subprocess
@@ -8,6 +9,9 @@ import time
 
 ROUNDS = 3
 SIZES = (12, 16, 20)
+
+# The processor's seconds in a program and in the system for it, its peak memory in bytes, and the match of its line with what is wanted.
+Ran = collections.namedtuple("Ran", "seconds system peak found")
 
 
 def peak_of(pid):
@@ -19,11 +23,11 @@ def peak_of(pid):
     return 0
 
 
-def run(program, image, task, times, wanted):
-    """The processor's seconds in the program, its peak memory in bytes, and the match of what it prints with what is wanted."""
+def run(program, words, wanted, image=os.devnull):
+    """A run with these words, and an image as its input."""
     peak, ended = 0, 0
     with open(image, "rb") as stdin:
-        child = subprocess.Popen([program, task, str(times)], stdin=stdin, stdout=subprocess.PIPE)
+        child = subprocess.Popen([program, *map(str, words)], stdin=stdin, stdout=subprocess.PIPE)
         while not ended:
             peak = max(peak, peak_of(child.pid))
             time.sleep(0.002)
@@ -32,17 +36,17 @@ def run(program, image, task, times, wanted):
     found = re.fullmatch(wanted, line)
     if status != 0 or not found:
         sys.exit(f"the program ended with wait status {status} and printed {line!r}")
-    return usage.ru_utime, peak, found
+    return Ran(usage.ru_utime, usage.ru_stime, peak, found)
 
 
 def measure(program, image, task, fragments, wanted, wanted_without):
     """The seconds of a task, the bytes that it takes beyond a run without it, and a match of what it prints."""
     times = 1 + max(2, (1 << 19) // fragments)
     asked = ((0, wanted_without), (1, wanted), (times, wanted))
-    without, once, often = ([run(program, image, task, count, line) for _ in range(ROUNDS)] for count, line in asked)
-    each = (min(one[0] for one in often) - min(one[0] for one in once)) / (times - 1)
-    memory = max(one[1] for one in often) - max(one[1] for one in without)
-    return each, memory, often[0][2]
+    without, once, often = ([run(program, (task, count), line, image) for _ in range(ROUNDS)] for count, line in asked)
+    each = (min(one.seconds for one in often) - min(one.seconds for one in once)) / (times - 1)
+    memory = max(one.peak for one in often) - max(one.peak for one in without)
+    return each, memory, often[0].found
 
 
 def compare(task, volume_of, wanted, wanted_without):
