@@ -1,43 +1,6 @@
-use crate::{DrillEnd, drill, run_drill};
-use dg_io::{MemRack, MemSink};
-use std::alloc::Global;
+use crate::drill;
 use std::test::Fail;
 use ufs_build::ItemKind;
-
-/// Room for all that is printed.
-const OUTPUT: usize = 256;
-
-/// Does a drill with one file over a rack whose members have no room: each of them is out at once, so that no block is written, and the volume
-/// isn't settled.
-fn end_of(alloc: Global, sink: &mut MemSink) -> Result<DrillEnd, Fail> {
-    let rack = MemRack::new(alloc, 8, 0, Vec::new(alloc))?;
-    let drilled = run_drill(alloc, 7, 1, sink, rack)?;
-    Ok(drilled.end)
-}
-
-/// Where a boundary is lost, no write is taken, and zeros are no volume.
-#[test]
-fn a_drill_without_members_is_told(rt: HostRuntime) -> Result<(), Fail> {
-    let alloc = rt.alloc();
-    let mut sink = MemSink::new(alloc, OUTPUT, Vec::new(alloc))?;
-    let end = end_of(alloc, &mut sink)?;
-    assert_eq!(rt; end, DrillEnd::Done);
-    assert!(rt;
-        sink.taken()
-            == b"drill 7 1\nblocks 0\nlost 0\nlost 3\ngiven 0 bytes 0\nunavailable 0\n".as_slice()
-    );
-    Ok(())
-}
-
-#[test]
-fn a_fault_of_the_sink_is_told(rt: HostRuntime) -> Result<(), Fail> {
-    let alloc = rt.alloc();
-    let mut sink = MemSink::new(alloc, OUTPUT, Vec::from_slice(alloc, &[0])?)?;
-    let end = end_of(alloc, &mut sink)?;
-    assert_eq!(rt; end, DrillEnd::WriteFault);
-    assert!(rt; sink.taken().is_empty());
-    Ok(())
-}
 
 /// The sizes of the files of a seed, by the definitions of PCG32 and of its seeds.
 #[test]
