@@ -26,10 +26,10 @@ NEARLY_ALL = 0.9
 OWN = ("main", "dgraid::", "dg_run::", "dg_drill::drills::")
 LEAST_SHARE = 0.002
 PARTS = {
-    "the files and their volume": ("dg_drill::items", "dg_drill::made", "ufs_build::", "rand_", "ufs_super"),
-    "writes": ("dg_drill::writes", "dg_volume::writes", "dg_infer::"),
-    "settle": ("dg_volume::settle", "dg_volume::plans", "dg_volume::seals", "dg_volume::moves", "dg_move::", "dg_plan::", "dg_placed::", "ufs_check::"),
-    "reads": ("dg_drill::reads", "dg_drill::comparers", "dg_volume::volumes::Volume::cat", "ufs_path::", "ufs_pointer::"),
+    "the files and their volume": ("dg_drill::items", "dg_drill::made", "ufs_build::", "rand_", "ufs_super", "std_alloc::vec::Vec::grow"),
+    "writes": ("write_block", "dg_infer::", "Loose+R::array"),
+    "settle": ("::settle::", "dg_volume::plans", "dg_volume::seals", "dg_move::", "dg_plan::", "dg_placed::", "ufs_check::"),
+    "reads": ("dg_drill::reads", "dg_drill::comparers", "::cat::", "ufs_path::", "ufs_pointer::"),
 }
 
 
