@@ -1,5 +1,5 @@
 // The command `trace`, on the image of the volume F and on parts of it.
-use crate::cat_tests::{image, lines_of};
+use crate::cat_tests::{image, push_write};
 use crate::saved_tests::run_over;
 use crate::tests::{rack_of, source_of};
 use dg_io::MemSink;
@@ -71,6 +71,29 @@ fn words_of(alloc: Global, line: &str) -> Result<Vec<String>, Fail> {
     Ok(words)
 }
 
+// A block without the zeros at its end.
+fn trimmed(block: &[u8]) -> &[u8] {
+    let mut rest = block;
+    for _ in 0..1024 {
+        if let Some(front) = rest.strip_suffix(b"\0") {
+            rest = front;
+        }
+    }
+    rest
+}
+
+// The trace with the blocks ascending.
+fn trace_of(alloc: Global, volume: &[u8]) -> Result<Vec<u8>, Fail> {
+    let mut text = Vec::from_slice(alloc, b"array 1024 128 4 64 2\n")?;
+    for (number, block) in volume.chunks(1024).enumerate() {
+        let block = trimmed(block);
+        if !block.is_empty() {
+            push_write(&mut text, number, block)?;
+        }
+    }
+    Ok(text)
+}
+
 fn is_printed(printed: Printed, trace: &[u8], taken: &[u8]) -> bool {
     match printed {
         Printed::Text(text) => taken == text.as_bytes(),
@@ -101,7 +124,7 @@ fn is_as_wanted(alloc: Global, row: Row, volume: &[u8], trace: &[u8]) -> Result<
 fn images_are_answered(rt: HostRuntime) -> Result<(), Fail> {
     let alloc = rt.alloc();
     let volume = image(alloc, Which::F)?;
-    let trace = lines_of(alloc, &volume)?;
+    let trace = trace_of(alloc, &volume)?;
     let whole = Bytes::Volume(WHOLE);
     let longer = Bytes::Volume(WHOLE + 1);
     let shorter = Bytes::Volume(WHOLE - 1);
