@@ -35,10 +35,13 @@ def items(seed, count):
 
 
 def homes(volume):
-    """The home of each file with a written block: the boundary with the most room, once the naming has its places."""
+    """
+    The home of each file with a written block, once the naming has its places: beside the first placed file of its directory where it fits there, else
+    on the boundary with the most room.
+    """
     kinds = {"/": "dir", **{item.path: item.kind for item in volume.items}}
     owners = {fragment: path for path, fragments in volume.fragments.items() for fragment in fragments}
-    written, room, found = set(volume.written()), [SLOTS] * BOUNDARIES, {}
+    written, room, found, first = set(volume.written()), [SLOTS] * BOUNDARIES, {}, {}
     for block in written:
         if volume.group_of(block) is None or kinds.get(owners.get(block)) == "dir":
             for place in range(PLACES):
@@ -46,8 +49,13 @@ def homes(volume):
     for item in volume.items:
         count = len(written.intersection(volume.fragments[item.path]))
         if item.kind == "file" and count:
-            found[item.path] = room.index(max(room))
-            room[found[item.path]] -= count
+            directory = item.path.rpartition("/")[0]
+            home = first.get(directory)
+            if home is None or room[home] < count:
+                home = room.index(max(room))
+            first.setdefault(directory, home)
+            found[item.path] = home
+            room[home] -= count
     return found
 
 
