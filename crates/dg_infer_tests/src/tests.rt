@@ -35,6 +35,7 @@ struct Array {
 }
 
 impl Model for Array {
+    ghost use Rattle.std.specs.Prelude.{◌≡◌};
     ghost use Rattle.dg_infer.specs.Meanings.{KeptInference};
 
     ghost Value = { KeptInference };
