@@ -12,8 +12,6 @@ mod laws;
 mod made;
 mod reads;
 mod reports;
-#[cfg(test)]
-mod tests;
 mod volumes;
 mod writes;
 

@@ -5,6 +5,8 @@
 #[cfg(test)]
 mod build_tests;
 #[cfg(test)]
+mod law_tests;
+#[cfg(test)]
 mod order_tests;
 #[cfg(test)]
 mod refusal_tests;

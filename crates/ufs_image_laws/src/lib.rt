@@ -12,8 +12,6 @@ mod parts;
 mod paths;
 mod structures;
 mod superblocks;
-#[cfg(test)]
-mod tests;
 
 pub use crate::claims::built_claims_are_of_files;
 pub use crate::directories::built_directories_have_their_entries;

@@ -1,4 +1,4 @@
-use crate::{
+use ufs_image_laws::{
     built_blocks_are_found, built_claims_are_of_files, built_directories_are_listed,
     built_directories_have_their_entries, built_files_are_read, built_files_have_their_contents,
     built_groups_are_read, built_inodes_are_read, built_paths_lead_to_their_items,

@@ -1,4 +1,4 @@
-use crate::drill;
+use dg_drill::drill;
 use std::test::Fail;
 use ufs_build::ItemKind;
 
