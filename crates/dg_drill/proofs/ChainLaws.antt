@@ -1,12 +1,11 @@
 -- Steps of a drill's volume, one after another, and its writes.
 use Rattle.std.proofs.Common.{◌≡◌, ◌∙◌, ◌<◌, ◌≤◌, ◌+◌, ◌/◌, ◌++◌, ℕ, suc, List, [], ◌∷◌, get_or, length, take, drop, refl, sym, ap, subst, inl, inr, arith}
-use Rattle.std.specs.Prelude.{map, true, false}
+use Rattle.std.specs.Prelude.{false}
 use Rattle.std.proofs.Math.Seq.{drop-cons}
 use Rattle.std.proofs.lemmas.List.{drop_all, map_push, take_all, take_more}
 use Rattle.dg_drill.proofs.OrderLaws.{apart_drop}
 use Rattle.dg_drill.proofs.WriteCounts.{write_counted}
 use Rattle.dg_drill.specs.Chains.{AreApart, AreUnwritten, HasAnswered, HasWritten, IsIn, LedTo, Steps}
-use Rattle.dg_drill.specs.Drills.{written_count}
 use Rattle.dg_io.specs.declared.outside.Rack.{Ghosts}
 use Rattle.dg_model.proofs.KnownLaws.{run_less}
 use Rattle.dg_model.proofs.RunLaws.{run_push}
@@ -15,7 +14,7 @@ use Rattle.dg_model.specs.Runs.{Run}
 use Rattle.dg_model.specs.Sites.{has_site}
 use Rattle.dg_model.specs.States.{State}
 use Rattle.dg_model.specs.Steps.{Step}
-use Rattle.dg_model.specs.Tables.{Table, sites_in}
+use Rattle.dg_model.specs.Tables.{sites_in}
 use Rattle.dg_model.specs.declared.events.Event.{Event}
 use Rattle.dg_model.specs.declared.events.Event.TheVariants.{Write}
 use Rattle.dg_model.specs.declared.replies.Reply.{Reply}

@@ -1,5 +1,5 @@
 -- How many files were given, one reply after another.
-use Rattle.std.proofs.Common.{◌≡◌, ◌+◌, ◌++◌, ℕ, suc, List, [], ◌∷◌, length, ap, arith, ◌∙◌, refl}
+use Rattle.std.proofs.Common.{◌≡◌, ◌+◌, ◌++◌, ℕ, suc, List, [], ◌∷◌, length, ap, arith}
 use Rattle.std.specs.Prelude.{if◌then◌else◌}
 use Rattle.dg_model.specs.declared.replies.Reply.{Reply}
 use Rattle.dg_drill.specs.Items.{file_bytes}

@@ -1,13 +1,13 @@
 -- A drill, from the blank array to the last reading.
-use Rattle.std.proofs.Common.{◌≡◌, ◌≢◌, ◌∙◌, ◌≤◌, ◌+◌, ◌*◌, ◌/◌, ◌<◌, ◌%◌, ◌++◌, ℕ, zero, suc, List, [], ◌∷◌, length, refl, sym, ap, subst, inl, inr, arith}
-use Rattle.std.specs.Prelude.{Err, IfSome, Option, cond, false, replicate}
+use Rattle.std.proofs.Common.{◌≡◌, ◌≢◌, ◌∙◌, ◌/◌, ◌<◌, ◌%◌, ℕ, zero, suc, List, [], ◌∷◌, refl, sym, ap, subst, arith}
+use Rattle.std.specs.Prelude.{Err, IfSome, Option, cond, replicate}
 use Rattle.std.proofs.lemmas.List.Sums.{sum_by-cons}
 use Rattle.dg_drill.proofs.ChainLaws.{run_both, told_before}
 use Rattle.dg_drill.specs.Calls.{Facts, rack_facts}
 use Rattle.dg_drill.specs.Chains.{AreUnwritten, HasLost, HasReadAll, HasWritten}
-use Rattle.dg_drill.specs.Drills.{EndsDrill, HasDrilled, HasNoVolume, IsDone, TellsBoundaries, later_events, loss_events, read_events, write_events, written_count}
+use Rattle.dg_drill.specs.Drills.{EndsDrill, HasDrilled, HasNoVolume, IsDone, TellsBoundaries, loss_events, read_events, written_count}
 use Rattle.dg_drill.specs.Outcomes.{IsTally}
-use Rattle.dg_drill.specs.Reports.{boundary_of, refused_text, report_text}
+use Rattle.dg_drill.specs.Reports.{refused_text, report_text}
 use Rattle.dg_drill.specs.Volumes.{IsDrillVolume, drill_shape, drill_spec}
 use Rattle.dg_drill.specs.declared.drills.DrillEnd.{DrillEnd}
 use Rattle.dg_drill.specs.declared.drills.DrillEnd.TheVariants.{Done as DrillDone, WriteFault}
@@ -22,7 +22,7 @@ use Rattle.dg_model.proofs.KnownLaws.{run_less, step_less}
 use Rattle.dg_model.specs.Runs.{Run}
 use Rattle.dg_model.specs.Seals.{HoldsLabel, LastLabel}
 use Rattle.dg_model.specs.Sites.{has_site}
-use Rattle.dg_model.specs.States.{Holds, HoldsAll, IsBlank, State}
+use Rattle.dg_model.specs.States.{Holds, HoldsAll, State}
 use Rattle.dg_model.specs.Tables.{Table, empty_table, sites_in}
 use Rattle.dg_model.specs.declared.events.Event.{Event}
 use Rattle.dg_model.specs.declared.events.Event.TheVariants.{Fail, Settle}

@@ -1,10 +1,10 @@
 -- A drill without faults, step by step: what its states keep, and what each reading answers.
-use Rattle.std.proofs.Common.{◌≡◌, ◌≢◌, ◌⊎◌, ◌<◌, ◌≤◌, ◌+◌, ◌*◌, ◌/◌, ◌%◌, ◌++◌, ◌==◌, ℕ, zero, suc, Bool, true, false, cond, List, [], ◌∷◌, length, refl, sym, ◌∙◌, ap, subst, inl, inr, arith}
+use Rattle.std.proofs.Common.{◌≡◌, ◌≢◌, ◌<◌, ◌≤◌, ◌+◌, ◌*◌, ◌/◌, ◌%◌, ◌++◌, ◌==◌, ℕ, zero, suc, Bool, true, false, cond, List, [], ◌∷◌, length, refl, sym, ◌∙◌, ap, subst, inl, inr, arith}
 use Rattle.std.specs.Prelude.{All, IsNone, IsSomeAnd, Option, Some, None, Result, Ok, Err, count_by, map}
 use Rattle.std.specs.List.{range_with_len}
 use Rattle.std.proofs.lemmas.Bool.Decides.{nat_tests}
 use Rattle.std.proofs.lemmas.List.Sums.{sum_by-cons}
-use Rattle.std.proofs.lemmas.Bool.{cases_eq, cases_lt, eq-eqb, le-ltb, lt-ltb, ne_eqb, false≢true}
+use Rattle.std.proofs.lemmas.Bool.{cases_lt, eq-eqb, le-ltb, lt-ltb, false≢true}
 use Rattle.dg_model.specs.Causes.{NoneRose}
 use Rattle.dg_model.specs.Changes.{IsInOrder, Stays}
 use Rattle.dg_model.specs.Homes.{home_of}
@@ -12,7 +12,7 @@ use Rattle.dg_model.specs.Members.{MembersFall, is_lost}
 use Rattle.dg_model.specs.Moves.{count_upto}
 use Rattle.dg_model.specs.Runs.{Run, Trace}
 use Rattle.dg_model.specs.Shapes.{IsShape}
-use Rattle.dg_model.specs.States.{Counts, CountsRise, IsBlank, State}
+use Rattle.dg_model.specs.States.{Counts, IsBlank, State}
 use Rattle.dg_model.specs.Steps.{Step}
 use Rattle.dg_model.specs.Tables.{IsTable, Table}
 use Rattle.dg_model.specs.Lists.{AreLines}
@@ -25,9 +25,9 @@ use Rattle.dg_model.specs.declared.phases.Phase.TheVariants.{Settled as SettledP
 use Rattle.dg_model.specs.declared.replies.Reply.{Reply}
 use Rattle.dg_model.specs.declared.replies.Reply.TheVariants.{Already, Cut, Degraded, Done, Given, Range, Refused, Settled, Unavailable}
 use Rattle.dg_model.specs.declared.shapes.Shape.{Shape}
-use Rattle.dg_model.proofs.MemberLaws.{falls_same, none_back, none_front}
+use Rattle.dg_model.proofs.MemberLaws.{none_back, none_front}
 use Rattle.dg_model.proofs.RunLaws.{run_more, run_none, trace_more}
-use Rattle.dg_model.proofs.StepLaws.{keeps_same, run_keeps, step_keeps}
+use Rattle.dg_model.proofs.StepLaws.{run_keeps, step_keeps}
 use Rattle.dg_promise.specs.Promises.{AreTold, FewLost, GivesAll, IsAsPromised, LosesNone, Survives, bytes_at, file_at}
 use Rattle.dg_promise.specs.Steady.{FitsBlock, IsSteady}
 use Rattle.ufs_model.specs.Paths.{cat_of}

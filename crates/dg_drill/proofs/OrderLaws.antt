@@ -2,7 +2,7 @@
 use Rattle.std.proofs.Common.{◌≡◌, ◌<◌, ◌≤◌, ◌+◌, ◌-◌, ◌&&◌, ℕ, zero, suc, Bool, true, false, List, [], ◌∷◌, ◌++◌, length, get_or, drop, refl, sym, ◌∙◌, ap, subst, inl, inr, arith}
 use Rattle.std.specs.Prelude.{◌⊎◌, All, cond, not, reverse}
 use Rattle.std.specs.List.{filter, range_with_len}
-use Rattle.std.proofs.lemmas.Bool.{cases_Bool, false≢true}
+use Rattle.std.proofs.lemmas.Bool.{false≢true}
 use Rattle.std.proofs.lemmas.List.{get_or-reverse, length-reverse, reverse-append}
 use Rattle.std.proofs.lemmas.List.Elements.{All-append, All-filter, All-from_get_or, All-get_or}
 use Rattle.std.proofs.lemmas.List.FromFn.{get_or-range_with_len, length-range_with_len}

@@ -1,5 +1,5 @@
 -- The path of a file is one.
-use Rattle.std.proofs.Common.{◌≡◌, ◌<◌, ◌≤◌, ◌==◌, ◌/◌, ℕ, Bool, true, false, List, [], ◌∷◌, refl, arith}
+use Rattle.std.proofs.Common.{◌≡◌, ◌==◌, ◌/◌, ℕ, true, false, [], ◌∷◌, refl, arith}
 use Rattle.std.proofs.lemmas.Bool.{ne_eqb}
 use Rattle.ufs_model.specs.Chunks.{is_name}
 use Rattle.ufs_model.specs.Paths.{is_path, is_path_name}

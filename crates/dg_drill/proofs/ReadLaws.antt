@@ -1,5 +1,5 @@
 -- The readings of a drill's files.
-use Rattle.std.proofs.Common.{◌≡◌, ◌≢◌, ◌∙◌, ◌<◌, ◌≤◌, ◌+◌, ◌++◌, ℕ, Bool, true, false, List, [], ◌∷◌, length, refl, sym, ap, subst, inl, inr, arith, length-append}
+use Rattle.std.proofs.Common.{◌≡◌, ◌∙◌, ◌<◌, ◌≤◌, ◌+◌, ◌++◌, ℕ, Bool, true, false, List, [], ◌∷◌, length, refl, sym, ap, subst, inl, inr, arith, length-append}
 use Rattle.std.specs.Prelude.{if◌then◌else◌, map, ◌==◌}
 use Rattle.std.specs.Cmp.Lexicographic.{pointwise}
 use Rattle.std.specs.List.{concat, range_with_len}
@@ -15,13 +15,12 @@ use Rattle.dg_drill.specs.Comparisons.{Compared, ComparedPart, fresh, is_whole}
 use Rattle.dg_drill.specs.Drills.{read_event, read_events}
 use Rattle.dg_drill.specs.Items.{byte_of, bytes_of, file_bytes, file_path, size_of}
 use Rattle.dg_drill.specs.Outcomes.{IsTally, outcome_by, outcome_of, with_outcome}
-use Rattle.dg_drill.specs.Reports.{given_bytes, given_count, gives, is_unavailable, unavailable_count}
+use Rattle.dg_drill.specs.Reports.{gives, is_unavailable}
 use Rattle.dg_drill.specs.declared.comparers.Comparer.{Comparer}
 use Rattle.dg_drill.specs.declared.reads.Outcome.{Outcome}
 use Rattle.dg_drill.specs.declared.reads.Outcome.TheVariants.{Given, Other, Unavailable}
 use Rattle.dg_drill.specs.declared.reads.Tally.{Tally}
 use Rattle.dg_io.specs.declared.outside.Rack.{Ghosts}
-use Rattle.dg_model.specs.Lists.{AreLines}
 use Rattle.dg_model.specs.Shapes.{IsShape}
 use Rattle.dg_model.specs.States.{State}
 use Rattle.dg_model.specs.declared.shapes.Shape.{Shape}
@@ -30,7 +29,7 @@ use Rattle.dg_model.specs.declared.events.Event.TheVariants.{Cat}
 use Rattle.dg_model.specs.declared.replies.Reply.{Reply}
 use Rattle.dg_model.specs.declared.replies.Reply.TheVariants.{Cut as CutReply, Given as GivenReply, Refused as RefusedReply, Unavailable as UnavailableReply}
 use Rattle.dg_volume.specs.Replies.{AnswersCat}
-use Rattle.dg_volume.specs.Volumes.{Leaves, StandsIn, StepsBy, StepsTo, any_phase, shape_of}
+use Rattle.dg_volume.specs.Volumes.{Leaves, StandsIn, StepsBy, StepsTo, any_phase}
 use Rattle.dg_volume.specs.declared.phases.AnyPhase.{AnyPhase}
 use Rattle.dg_volume.specs.declared.volumes.Volume.{Volume}
 use Rattle.ufs_model.specs.declared.reads.PathRefusal.TheVariants.{Bad as RefusedBad, NotDirectory as RefusedNotDirectory, NotFound as RefusedNotFound, NotRegular as RefusedNotRegular}

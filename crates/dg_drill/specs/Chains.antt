@@ -1,6 +1,5 @@
 -- The volume of a drill beside the states of the model.
-use Rattle.std.specs.Prelude.{◌≡◌, ◌⊎◌, ◌+◌, ℕ, List, [], ◌∷◌, false, length, map}
-use Rattle.std.specs.List.{range_with_len}
+use Rattle.std.specs.Prelude.{◌≡◌, ◌⊎◌, ◌+◌, ℕ, List, [], ◌∷◌, false, length}
 use Rattle.dg_drill.specs.Drills.{read_events, written_count}
 use Rattle.dg_drill.specs.Outcomes.{IsTally, outcome_of}
 use Rattle.dg_drill.specs.declared.reads.Outcome.{Outcome}

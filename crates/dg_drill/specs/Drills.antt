@@ -1,5 +1,5 @@
 -- What a drill does to an array, and how it ends.
-use Rattle.std.specs.Prelude.{◌≡◌, ◌⊎◌, ◌<◌, ◌/◌, ℕ, List, [], ◌∷◌, ◌++◌, Option, Result, Ok, Err, IsSome, map, length, count_by}
+use Rattle.std.specs.Prelude.{◌≡◌, ◌⊎◌, ◌<◌, ◌/◌, ℕ, List, [], ◌∷◌, ◌++◌, Option, Err, IsSome, map, length, count_by}
 use Rattle.std.specs.List.{range_with_len}
 use Rattle.dg_drill.specs.Calls.{Facts}
 use Rattle.dg_drill.specs.Items.{drill_items, file_path}

@@ -1,5 +1,5 @@
 -- The volume of a drill, and the array that it stands on.
-use Rattle.std.specs.Prelude.{◌≡◌, ℕ, List, Result, Ok, Err, Option, Some}
+use Rattle.std.specs.Prelude.{◌≡◌, ℕ, List, Ok, Some}
 use Rattle.dg_model.specs.declared.shapes.Shape.{Shape}
 use Rattle.dg_drill.specs.Items.{drill_items}
 use Rattle.ufs_build.specs.Builds.{built}

@@ -5,13 +5,12 @@ use Rattle.dg_drill.proofs.OrderLaws.{late_apart, late_below}
 use Rattle.dg_drill.specs.Calls.{rack_facts}
 use Rattle.dg_drill.specs.Chains.{AreApart, AreUnwritten, HasWritten}
 use Rattle.dg_drill.specs.Drills.{HasDrilled}
-use Rattle.dg_drill.specs.Volumes.{drill_shape}
 use Rattle.dg_model.specs.States.{State}
 use Rattle.dg_model.specs.declared.events.Event.TheVariants.{Settle}
 use Rattle.dg_model.specs.declared.replies.Reply.{Reply}
 use Rattle.dg_model.specs.declared.shapes.Shape.{Shape}
 use Rattle.dg_trace.specs.Traces.{writes_of}
-use Rattle.dg_volume.specs.Volumes.{IsBlankVolume, StandsIn, StepsTo, any_phase, shape_of}
+use Rattle.dg_volume.specs.Volumes.{IsBlankVolume, StandsIn, StepsTo, any_phase}
 use Rattle.dg_words.specs.declared.commands.Order.TheVariants.{Late}
 use Rattle.ufs_build.specs.Traces.{trace_of}
 use Rattle.dg_drill.proofs.drills.drill_array.Goals as goal

@@ -1,4 +1,4 @@
-use Rattle.std.proofs.Common.{◌≤◌, ℕ, subst, sym}
+use Rattle.std.proofs.Common.{◌≤◌, ℕ, subst}
 use Rattle.std.specs.Prelude.{length}
 use Rattle.dg_drill.proofs.BlockLaws.{stripped_within}
 use Rattle.dg_drill.proofs.LossSteps.{drill_read}

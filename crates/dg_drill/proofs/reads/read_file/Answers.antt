@@ -1,11 +1,11 @@
-use Rattle.std.proofs.Common.{◌≡◌, ◌∙◌, ◌<◌, List, ℕ, ap, subst, sym, true, inl, inr, arith}
+use Rattle.std.proofs.Common.{◌≡◌, ◌∙◌, List, ℕ, ap, subst, sym, true}
 use Rattle.std.specs.Prelude.{Bool}
 use Rattle.dg_drill.proofs.PathLaws.{file_path_is}
 use Rattle.dg_drill.proofs.ReadLaws.{gives_file, holds_file, read_by, some_bytes}
 use Rattle.dg_drill.specs.Chains.{HasRead}
-use Rattle.dg_drill.specs.Comparisons.{Compared, ComparedPart, is_whole}
+use Rattle.dg_drill.specs.Comparisons.{Compared, ComparedPart}
 use Rattle.dg_drill.specs.Drills.{read_event}
-use Rattle.dg_drill.specs.Items.{bytes_of, file_path}
+use Rattle.dg_drill.specs.Items.{bytes_of}
 use Rattle.dg_drill.specs.Outcomes.{outcome_by}
 use Rattle.dg_drill.specs.declared.comparers.Comparer.{Comparer}
 use Rattle.dg_drill.specs.declared.reads.Outcome.{Outcome}

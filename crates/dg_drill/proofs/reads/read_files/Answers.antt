@@ -1,4 +1,4 @@
-use Rattle.std.proofs.Common.{◌≡◌, ◌∙◌, ◌≤◌, ◌*◌, ◌+◌, ℕ, ap, refl, sym, arith}
+use Rattle.std.proofs.Common.{◌≡◌, ◌∙◌, ◌*◌, ◌+◌, ap, refl, sym, arith}
 use Rattle.dg_drill.proofs.ChainLaws.{leaves_both, leaves_none}
 use Rattle.dg_drill.proofs.ItemLaws.{generator_more}
 use Rattle.dg_drill.proofs.ReadLaws.{outcome_few, reads_more, reads_none}

@@ -1,4 +1,4 @@
-use Rattle.std.proofs.Common.{◌≡◌, ◌≤◌, ◌*◌, ℕ}
+use Rattle.std.proofs.Common.{◌≡◌, ◌≤◌, ◌*◌}
 use Rattle.dg_drill.specs.Chains.{HasReadAll}
 use Rattle.dg_drill.specs.Items.{generator_after}
 use Rattle.dg_model.specs.States.{State}

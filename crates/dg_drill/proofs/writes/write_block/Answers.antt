@@ -1,4 +1,4 @@
-use Rattle.std.proofs.Common.{◌≡◌, ◌∙◌, List, ℕ, ap, refl, subst, sym}
+use Rattle.std.proofs.Common.{◌≡◌, ◌∙◌, ap, sym}
 use Rattle.dg_drill.proofs.BlockLaws.{padded_block}
 use Rattle.dg_drill.proofs.ChainLaws.{steps_of}
 use Rattle.dg_model.specs.Blocks.{padded, stripped}

@@ -1,11 +1,7 @@
-use Rattle.std.proofs.Common.{◌≡◌, ◌∙◌, ◌<◌, ◌≤◌, ◌+◌, [], List, ℕ, ap, arith, drop, get_or, refl, subst, sym, take}
-use Rattle.std.specs.Prelude.{All}
-use Rattle.std.proofs.lemmas.List.{drop_all, take_all}
+use Rattle.std.proofs.Common.{◌≡◌, ◌<◌, ℕ, ap, arith, get_or, refl}
 use Rattle.std.proofs.lemmas.List.Elements.{All-get_or}
 use Rattle.dg_drill.proofs.ChainLaws.{leaves_both, leaves_none, writes_all, writes_more, writes_none}
-use Rattle.dg_drill.specs.Chains.{HasWritten}
 use Rattle.dg_model.specs.declared.shapes.Shape.{Shape}
-use Rattle.dg_trace.specs.Traces.{writes_of}
 use Rattle.dg_volume.specs.Volumes.{shape_of}
 use Rattle.dg_drill.proofs.writes.write_blocks.Goals as goal
 

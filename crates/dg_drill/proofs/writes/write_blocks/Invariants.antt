@@ -1,4 +1,4 @@
-use Rattle.std.proofs.Common.{◌≡◌, ◌≤◌, drop, take}
+use Rattle.std.proofs.Common.{◌≤◌, drop, take}
 use Rattle.dg_drill.specs.Chains.{AreUnwritten, HasWritten}
 use Rattle.dg_model.specs.States.{State}
 use Rattle.dg_trace.specs.Traces.{writes_of}
