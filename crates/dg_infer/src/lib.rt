@@ -16,8 +16,6 @@ mod pointers;
 mod seen;
 mod superblocks;
 mod sweeps;
-#[cfg(test)]
-mod tests;
 mod verdicts;
 mod watches;
 mod writes;
