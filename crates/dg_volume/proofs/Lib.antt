@@ -15,6 +15,7 @@ mod OpenSteps
 mod PathSteps
 mod PlacedLaws
 mod ReapLaws
+mod RebuildMarks
 mod RebuildSteps
 mod RefillLaws
 mod ReplaceSteps

@@ -1,10 +1,8 @@
 -- A volume makes a step by a refill of a member.
-use Rattle.std.proofs.Common.{◌≡◌, ◌∙◌, ◌<◌, ◌≤◌, ◌+◌, ◌*◌, ◌/◌, ◌++◌, ◌⊎◌, ◌&&◌, ℕ, Bool, true, false, List, [], ◌∷◌, length, inl, inr, refl, sym, ap, subst, arith}
-use Rattle.std.specs.Prelude.{◌↔◌, Err, IfOk, IfSome, IsSome, None, OnErr, Ok, Option, Result, Some, if◌then◌else◌, is_some, not, replicate}
+use Rattle.std.proofs.Common.{◌≡◌, ◌∙◌, ◌<◌, ◌≤◌, ◌+◌, ◌/◌, ◌++◌, ◌⊎◌, ℕ, Bool, true, false, List, [], length, inl, inr, refl, sym, ap, subst, arith}
+use Rattle.std.specs.Prelude.{◌↔◌, Err, IfOk, IfSome, IsSome, OnErr, Ok, Option, Result, Some, if◌then◌else◌, replicate}
 use Rattle.std.proofs.lemmas.Bool.{cases_eq, false≢true}
 use Rattle.std.proofs.lemmas.List.{length-replicate}
-use Rattle.std.specs.List.{Contains}
-use Rattle.dg_infer.specs.Meanings.{KeptInference}
 use Rattle.dg_infer.specs.Meanings as inferences
 use Rattle.dg_infer.specs.Wants.{IsWantBy}
 use Rattle.dg_io.specs.declared.outside.Rack.{Ghosts}
@@ -23,7 +21,7 @@ use Rattle.dg_model.specs.Sites.{has_site}
 use Rattle.dg_model.specs.States.{State, has_lost}
 use Rattle.dg_model.specs.Steps.{Step}
 use Rattle.dg_model.specs.Tables.{Table, sites_in}
-use Rattle.dg_model.specs.Wants.{AreWants, FitWants, want_of}
+use Rattle.dg_model.specs.Wants.{AreWants, want_of}
 use Rattle.dg_model.specs.declared.events.Event.{Event}
 use Rattle.dg_model.specs.declared.events.Event.TheVariants.{Rebuild}
 use Rattle.dg_model.specs.declared.homes.Home.{Home}
@@ -33,8 +31,6 @@ use Rattle.dg_model.specs.declared.phases.Phase.TheVariants.{Worn as WornPhase}
 use Rattle.dg_model.specs.declared.replies.Reply.{Reply}
 use Rattle.dg_model.specs.declared.replies.Reply.TheVariants.{Copied as CopiedReply, Failed as FailedReply, Lost as LostReply, NotFilling as NotFillingReply, Range as RangeReply}
 use Rattle.dg_model.specs.declared.shapes.Shape.{Shape}
-use Rattle.dg_model.specs.declared.sites.Site.{Site}
-use Rattle.dg_model.specs.declared.wants.Want.{Want}
 use Rattle.dg_model.specs.declared.wants.Want.TheVariants.{Stray}
 use Rattle.dg_rebuild.specs.Answers as answers
 use Rattle.dg_rebuild.specs.Passed.{IsLeftAt, Passed}
@@ -48,97 +44,19 @@ use Rattle.dg_store.specs.Stores as stores
 use Rattle.dg_store.specs.declared.store.Store.{Store}
 use Rattle.dg_volume.proofs.LabelLaws.{CallsOnSlots, relabels_then, slots_kept}
 use Rattle.dg_volume.proofs.LooseLaws.{LooseBlocksChange, reaped_differ}
-use Rattle.dg_volume.proofs.ReapLaws.{are_without, by_without, fit_without, placed_without, without, zeroed_stands}
+use Rattle.dg_volume.proofs.ReapLaws.{are_without, by_without, fit_without, placed_without, without}
+use Rattle.dg_volume.proofs.RebuildMarks.{both_out, by_loss, copied_not_lost, dead_mark, failed_not_lost, if_some, mark_dead, mark_free, none_passed, reaped_stands, stands_has, stray_at}
 use Rattle.dg_volume.proofs.RefillLaws.{filling_live, lost_none_filling, lost_where_left}
 use Rattle.dg_volume.proofs.VolumeLaws.{IsBeside, Keeps, Labels, StepsAt, holds_on, kept_state, label_by, leaves, lost_on, on_label, quiet_in, still_in}
 use Rattle.dg_volume.proofs.VolumeSteps.{false_of}
-use Rattle.dg_volume.proofs.WantedLaws.{one_want}
 use Rattle.dg_volume.specs.Phases.{CanReapAll}
 use Rattle.dg_volume.specs.Seals.{Relabels}
 use Rattle.dg_volume.specs.Refills.{AreReapMarks, AreReaped, HasFilling, IsDeadMark, SparesFiles, rebuild_reply, told_of}
-use Rattle.dg_volume.specs.Volumes.{AreWantsBy, FitsArray, IsInPlace, IsWell, Leaves, StandsFor, StandsIn, StepsSized, Tells, marks_by, marks_of, members_of, rack_of, shape_of, state_of, table_of}
+use Rattle.dg_volume.specs.Volumes.{FitsArray, IsInPlace, IsWell, Leaves, StandsFor, StandsIn, StepsSized, Tells, marks_by, marks_of, members_of, rack_of, shape_of, state_of, table_of}
 use Rattle.dg_volume.specs.declared.phases.InPhase as phases
 use Rattle.dg_volume.specs.declared.refills.RebuildAnswer as rebuilds
 use Rattle.dg_volume.specs.declared.refills.RebuildAnswer.TheVariants.{Failed as RebuildFailed, Lost as RebuildLost}
 use Rattle.dg_volume.specs.declared.volumes.Volume.{Volume}
-
--- a block that stands somewhere has a site
-stands_has : (sites : List Site) (site : Site) → Contains sites site → has_site sites ≡ true
-stands_has [] site here = absurd (let low = here.1 in omega (arith, low))
-stands_has (x ∷ xs) site here = refl
-
-if_some : {A : Type 0} (o : Option A) {P Q : A → Type 0} → ((a : A) → P a → Q a) → IfSome o P → IfSome o Q
-if_some None go h = tt
-if_some (Some a) go h = go a h
-
-if_some_both : {A : Type 0} (o : Option A) {P Q T : A → Type 0} → ((a : A) → P a → Q a → T a) → IfSome o P → IfSome o Q → IfSome o T
-if_some_both None go h k = tt
-if_some_both (Some a) go h k = go a h k
-
--- ---- marks
-
-module _ {R : Type 0} (store : Store R) where
-  -- a marked block is no wanted one
-  stray_at : (kept : Option KeptInference) (marks : List Bool) (wants : List (Option Want)) → FitWants (stores.table_of store) wants
-      → ((b : ℕ) → is_marked marks b ≡ true → IsSome kept) → IfSome kept (λ inference. (b : ℕ) → is_marked marks b ≡ true → IsDeadMark (stores.table_of store) inference b true)
-      → IfSome kept (λ inference. AreWantsBy inference wants) → (b : ℕ) → is_marked marks b ≡ true → has_site (sites_in (stores.table_of store) b) ≡ true → want_of wants b ≡ Some Stray
-  stray_at None marks wants fit some safe by b marked written = absurd (let none = some b marked in cc none)
-  stray_at (Some inference) marks wants fit some safe by b marked written = at_want (want_of wants b) refl
-    where
-      stray : IsWantBy inference b Stray
-      stray = let is = safe b marked in is.stray refl
-
-      at_want : (w : Option Want) → want_of wants b ≡ w → want_of wants b ≡ Some Stray
-      at_want None e = absurd (false≢true (sym (ap is_some e) ∙ fit.written b ∙ written))
-      at_want (Some want) e = e ∙ ap Some (one_want inference b want Stray (by b want e) stray)
-
-  -- a marked block isn't pending
-  mark_free : (kept : Option KeptInference) (marks pending : List Bool) → ((b : ℕ) → is_marked marks b ≡ true → IsSome kept)
-      → IfSome kept (λ inference. (b : ℕ) → is_marked marks b ≡ true → IsDeadMark (stores.table_of store) inference b true)
-      → (b : ℕ) → is_marked marks b ≡ true → is_marked (marks_by kept pending) b ≡ false
-  mark_free None marks pending some safe b marked = absurd (let none = some b marked in cc none)
-  mark_free (Some inference) marks pending some safe b marked = let is = safe b marked in is.pending refl
-
-  -- it is dead
-  mark_dead : (kept : Option KeptInference) (marks pending : List Bool) → ((b : ℕ) → is_marked marks b ≡ true → IsSome kept)
-      → IfSome kept (λ inference. (b : ℕ) → is_marked marks b ≡ true → IsDeadMark (stores.table_of store) inference b true)
-      → (V : List (List ℕ)) → IfSome kept (λ inference. inferences.StandsFor inference V) → (b : ℕ) → is_marked marks b ≡ true → IsDead (stores.table_of store) V (marks_by kept pending) b
-  mark_dead None marks pending some safe V held b marked = absurd (let none = some b marked in cc none)
-  mark_dead (Some inference) marks pending some safe V held b marked = let is = safe b marked in (is.is V held).0 refl
-
-  -- where any may be reaped, each dead block is marked
-  dead_mark : (kept : Option KeptInference) (marks pending : List Bool) → IsSome kept
-      → IfSome kept (λ inference. (b : ℕ) → IsDeadMark (stores.table_of store) inference b (is_marked marks b))
-      → (V : List (List ℕ)) → IfSome kept (λ inference. inferences.StandsFor inference V) → (b : ℕ) → IsDead (stores.table_of store) V (marks_by kept pending) b → is_marked marks b ≡ true
-  dead_mark None marks pending some each V held b dead = absurd (cc some)
-  dead_mark (Some inference) marks pending some each V held b dead = let is = each b in (is.is V held).1 dead
-
--- what is inferred stands where dead blocks are zeros
-reaped_stands : (kept : Option KeptInference) (table : Table) (shape : Shape) → table.shape ≡ shape → (marks : List Bool) (blocks : List ℕ) → IfSome kept (FitsArray shape)
-    → IfSome kept (λ inference. (b : ℕ) → is_marked marks b ≡ true → IsDeadMark table inference b true) → IfSome kept (λ inference. CanReapAll inference blocks)
-    → ((b : ℕ) → is_among blocks b ≡ true → is_marked marks b ≡ true) → (V : List (List ℕ)) → IfSome kept (λ inference. inferences.StandsFor inference V)
-    → IfSome kept (λ inference. inferences.StandsFor inference (zeroed shape.l blocks V))
-reaped_stands None table shape same marks blocks fits safe can marked V held = tt
-reaped_stands (Some inference) table shape same marks blocks fits safe can marked V held =
-    subst (λ (l : ℕ). inferences.StandsFor inference (zeroed l blocks V)) fits.bytes
-    (zeroed_stands inference table marks (ap (λ (x : Shape). x.l) same ∙ sym fits.bytes) (ap (λ (x : Shape). x.n) same ∙ sym fits.number)
-    (λ b m W stands. let is = safe b m in (is.is W stands).0 refl) blocks can marked V held)
-
--- a boundary of which both members are out is lost
-both_out : (members : ℕ → MemberState) (s q : ℕ) → q / 2 ≡ s → members q ≡ Out → members (partner_of q) ≡ Out → is_lost members s ≡ false → ⊥
-both_out members s q at out other live = elim (cases_eq q (2 * s)) [
-  | inl here ↦
-      let next : partner_of q ≡ 2 * s + 1 = omega (arith, here, at) in
-      false≢true (sym live ∙ lost_by (subst (λ (p : ℕ). members p ≡ Out) here out) (subst (λ (p : ℕ). members p ≡ Out) next other))
-  | inr apart ↦
-      let here : q ≡ 2 * s + 1 = omega (arith, apart, at) in
-      let first : partner_of q ≡ 2 * s = omega (arith, here) in
-      false≢true (sym live ∙ lost_by (subst (λ (p : ℕ). members p ≡ Out) first other) (subst (λ (p : ℕ). members p ≡ Out) here out))
-]
-  where
-    lost_by : members (2 * s) ≡ Out → members (2 * s + 1) ≡ Out → is_lost members s ≡ true
-    lost_by one two =
-        ap (λ (x : MemberState). not (is_good x) && not (is_good (members (2 * s + 1)))) one ∙ ap (λ (x : MemberState). true && not (is_good x)) two
 
 module _ {S R : Type 0} (phase : phases.Ghosts S) (rack : Ghosts R) where
   -- ---- behind the opening of the seal
@@ -315,19 +233,15 @@ module _ {S R : Type 0} (phase : phases.Ghosts S) (rack : Ghosts R) where
         lost_where_left (shape_of a) (stores.members_of m) (members_of b) s h.came.members.q h.low _ opening.sound.paired h.came.members.was h.came.members.left lost;
   }
 
-  by_loss : (m : Store R) (s : ℕ) (lost : Bool) → is_lost (stores.members_of m) s ≡ lost → IsSound rack m → answers.HasNoFilling (stores.members_of m) s ⊎ (is_lost (stores.members_of m) s ≡ false)
-  by_loss m s true is sound = inl (lost_none_filling (stores.members_of m) s sound.paired is)
-  by_loss m s false is sound = inr is
-
   outcome : {E : Type 0} (a : Volume S R) (m : Store R) (s n : ℕ) (marks : List Bool) (before after : List ℕ) (result : Result RebuildAnswer E) (b : Volume S R)
       → HasRebuilt a m s n marks before after result b → Outcome a m marks s after b
   outcome a m s n marks before after (Ok (Copied d l)) b h = inr (passed_copied a m s n d l marks before after b h.none h.opening (h.call.copied d l refl))
-  outcome a m s n marks before after (Ok (Lost t)) b h = elim (by_loss m s (is_lost (stores.members_of m) s) refl h.opening.sound) [
+  outcome a m s n marks before after (Ok (Lost t)) b h = elim (by_loss rack m s (is_lost (stores.members_of m) s) refl h.opening.sound) [
     | inl none ↦ inl ((h.call.quiet none).0)
     | inr live ↦ inr (passed_broken a m s marks before after b h.none h.opening (h.call.broken (inr (ap Lost (h.call.other t refl))) live))
   ]
   outcome a m s n marks before after (Ok NotFilling) b h = inl ((h.call.quiet ((h.call.not_filling.0 refl).0)).0)
-  outcome a m s n marks before after (Ok Failed) b h = elim (by_loss m s (is_lost (stores.members_of m) s) refl h.opening.sound) [
+  outcome a m s n marks before after (Ok Failed) b h = elim (by_loss rack m s (is_lost (stores.members_of m) s) refl h.opening.sound) [
     | inl none ↦ inl ((h.call.quiet none).0)
     | inr live ↦ inr (passed_broken a m s marks before after b h.none h.opening (h.call.broken (inl refl) live))
   ]
@@ -370,12 +284,12 @@ module _ {S R : Type 0} (phase : phases.Ghosts S) (rack : Ghosts R) where
   rebuilt_by a m s n marks before after (Ok (Copied d l)) c opening h =
       let k = h.copied d l refl in
       inr (left_slots a m c marks s k.low k.high k.q k.low (refilled_to ((stores.shape_of m).k + 1) k.high) before after opening k.slots k.filling k.members)
-  rebuilt_by a m s n marks before after (Ok (Lost t)) c opening h = elim (by_loss m s (is_lost (stores.members_of m) s) refl opening.sound) [
+  rebuilt_by a m s n marks before after (Ok (Lost t)) c opening h = elim (by_loss rack m s (is_lost (stores.members_of m) s) refl opening.sound) [
     | inl none ↦ inl ((h.quiet none).0)
     | inr live ↦ inr (broken_slots a m c marks s before after (h.broken (inr (ap Lost (h.other t refl))) live))
   ]
   rebuilt_by a m s n marks before after (Ok NotFilling) c opening h = inl ((h.quiet ((h.not_filling.0 refl).0)).0)
-  rebuilt_by a m s n marks before after (Ok Failed) c opening h = elim (by_loss m s (is_lost (stores.members_of m) s) refl opening.sound) [
+  rebuilt_by a m s n marks before after (Ok Failed) c opening h = elim (by_loss rack m s (is_lost (stores.members_of m) s) refl opening.sound) [
     | inl none ↦ inl ((h.quiet none).0)
     | inr live ↦ inr (broken_slots a m c marks s before after (h.broken (inl refl) live))
   ]
@@ -672,19 +586,6 @@ module _ {S R : Type 0} (phase : phases.Ghosts S) (rack : Ghosts R) where
   pub opened_spares : (law : LooseBlocksChange) (a b : Volume S R) → HasOpened a b → SparesFiles phase rack a b
   opened_spares law a b h = still_spares law a b (keeps_opened a b h)
 
-  -- no slot was passed
-  none_passed : (table : Table) (V : List (List ℕ)) (s : ℕ) → Reaps table V s 0 0 (λ c. false) table V
-  none_passed table V s = record {
-    run = omega arith;
-    within = omega arith;
-    passed = λ c e. absurd (false≢true e);
-    shape = refl;
-    rows = refl;
-    sites = λ c. refl;
-    count = refl;
-    values = λ c. refl;
-  }
-
   breaks_at_once : (a b : Volume S R) (s : ℕ) (h : HasOpened a b) (rest : State) (V : List (List ℕ)) (label : StandsLabeled rack a.store a.label rest.label)
       → BreaksOff (Tells rack b) (state_of phase rack a rest V) s (kept_state phase rack a b (keeps_opened a b h) rest V)
   breaks_at_once a b s h rest V label =
@@ -767,12 +668,6 @@ module _ {S R : Type 0} (phase : phases.Ghosts S) (rack : Ghosts R) where
       by_loss_of : (x : Bool) → is_lost (members_of b) s ≡ x → StepsSized phase phase rack a (Rebuild s n) (rebuild_reply answer) b
       by_loss_of true is = subst (λ (r : rebuilds.RebuildAnswer). StepsSized phase phase rack a (Rebuild s n) (rebuild_reply r) b) (sym (lost is)) (steps_gone a b s n h is)
       by_loss_of false is = subst (λ (r : rebuilds.RebuildAnswer). StepsSized phase phase rack a (Rebuild s n) (rebuild_reply r) b) (sym (fell is)) (steps_fell a b s n h is)
-
-  copied_not_lost : (d l s : ℕ) → Lost s ≡ Copied d l → ⊥
-  copied_not_lost d l s e = cc e
-
-  failed_not_lost : (s : ℕ) → Lost s ≡ Failed → ⊥
-  failed_not_lost s e = cc e
 
   steps_copied : {E : Type 0} (a : Volume S R) (m : Store R) (s n d l : ℕ) (marks : List Bool) (before after : List ℕ) (b : Volume S R) → IsWell phase rack a
       → HasRebuilt {E = E} a m s n marks before after (Ok (Copied d l)) b → StepsSized phase phase rack a (Rebuild s n) (CopiedReply d l) b
