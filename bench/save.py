@@ -3,9 +3,11 @@
 The arrays have blocks of 512 bytes on four boundaries (m = 2, slots for twice the blocks). Each is saved and opened twice: with all blocks written
 and no volume on them, and with a settled volume of bench/check.py, whose claims an opening reads again. A save's time is that of one event, from
 sending it to its reply; an opening's is that of a run of the program beyond a run on an array of 64 blocks. The MB a second are those of the bodies: on all
-members for a save, of the one that is read for an opening. From 2^12 to each the processor's time per block may grow by a factor of 1.5 at most; that
-of an opening of a volume, by block and bit of the number, since it sorts claims. Else the exit status is 1. The image files stand in a
-temporary folder (TMPDIR says where): about 1.5 GB.
+members for a save, of the one that is read for an opening. From 2^16 to 2^20 the processor's time per block may grow by a factor of 1.5 at most; that
+of an opening of a volume, by block and bit of the number, since it sorts claims. Else the exit status is 1. (What an array of 2^12 needs fits into the
+processor's caches, so it takes less time a block, by the same instructions.) With the word `count`, the instructions that valgrind counts of a save and of an
+opening of loose arrays of 2^12 to 2^18 blocks are printed instead, and may grow by a factor of 1.02 at most. The image files stand in a temporary folder
+(TMPDIR says where): about 1.5 GB.
 """
 import os
 import subprocess
@@ -15,12 +17,14 @@ import time
 
 from check import FRAGMENT, sound_volume
 from session import Session, load
+from taken import instructions
 
 SIZES = (12, 16, 20)
 LEAST = 6
 BOUNDARIES = 4
 ROUNDS = 5
 OPENINGS = 25
+COUNTED = (12, 14, 16, 18)
 LABEL_LENGTH_AT = 40
 
 
@@ -97,20 +101,52 @@ def measure(program, folder, is_volume):
     for _ in range(OPENINGS):
         for array in (least, *arrays):
             array.open()
-    (small_save, small_open), *others = [array.each(least.least(least.openings)) for array in arrays]
-    grew = False
-    for bits, (save, opened) in zip(SIZES[1:], others):
-        by_bit = opened / small_open * SIZES[0] / bits
-        print(
-            f"{arrays[0].phase}, time per block at 2^{bits} to that at 2^{SIZES[0]}: save {save / small_save:.2f}, opening {opened / small_open:.2f}, "
-            f"by the bits of the number {by_bit:.2f}", flush=True,
-        )
-        grew = grew or save / small_save > 1.5 or (by_bit if is_volume else opened / small_open) > 1.5
-    return grew
+    found = {bits: array.each(least.least(least.openings)) for bits, array in zip(SIZES, arrays)}
+    return [grows(arrays[0].phase, found, small, large) for small, large in ((SIZES[0], SIZES[1]), (SIZES[1], SIZES[2]))][-1]
+
+
+def grows(phase, found, small, large):
+    """Prints by how much a save's and an opening's time per block grow, and answers whether that is more than they may."""
+    save, opened = (one / other for one, other in zip(found[large], found[small]))
+    by_bit = opened * small / large
+    print(
+        f"{phase}, time per block at 2^{large} to that at 2^{small}: save {save:.2f}, opening {opened:.2f}, "
+        f"by the bits of the number {by_bit:.2f}", flush=True,
+    )
+    return save > 1.5 or (by_bit if phase == "settled" else opened) > 1.5
+
+
+def of_saves(program, folder, bits, saves):
+    """The instructions of a replay that fills an array and saves it so many times."""
+    place, trace = os.path.join(folder, f"{bits}-{saves}"), os.path.join(folder, "trace")
+    os.mkdir(place)
+    with open(trace, "w") as out:
+        out.write("array {} {} {} {} {}\n".format(*shape_of(bits)))
+        out.writelines(lines_of(bits, False))
+        out.write("save\n" * saves)
+    return instructions(program, ["replay"], trace, place)
+
+
+def count(program, folder):
+    """Prints the instructions per block of a save and of an opening, and answers whether they grow."""
+    of_saves(program, folder, LEAST, 1)
+    least = instructions(program, ["status"], folder=os.path.join(folder, f"{LEAST}-1"))
+    if least is None:
+        sys.exit("there is no valgrind")
+    found = []
+    for bits in COUNTED:
+        one, two = (of_saves(program, folder, bits, saves) for saves in (1, 2))
+        opened = instructions(program, ["status"], folder=os.path.join(folder, f"{bits}-1")) - least
+        found.append([each / (1 << bits) for each in (two - one, opened)])
+        print(f"2^{bits} blocks, loose: {found[-1][0]:.1f} instructions a block of a save, {found[-1][1]:.1f} of an opening", flush=True)
+    return any(large / small > 1.02 for small, large in zip(found[0], found[-1]))
 
 
 def main():
     program = os.path.abspath(sys.argv[1])
+    if "count" in sys.argv[2:]:
+        with tempfile.TemporaryDirectory() as folder:
+            sys.exit(count(program, folder))
     grew = []
     for is_volume in (False, True):
         with tempfile.TemporaryDirectory() as folder:
