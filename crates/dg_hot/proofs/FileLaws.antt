@@ -1,49 +1,47 @@
 -- A file on a store: its copy, or none.
 use Rattle.std.proofs.Common.{◌≡◌, ◌≢◌, ◌<◌, ◌≤◌, ◌+◌, ℕ, Bool, true, false, List, [], ◌∷◌, length, get_or, take, inl, inr, refl, sym, ◌∙◌, ap, subst, arith}
-use Rattle.std.specs.Prelude.{Err, IfOk, IfSome, None, Ok, OnErr, OnOk, Option, Result, Some, if◌then◌else◌, nat_le}
-use Rattle.std.specs.List.{Contains, range_with_len}
+use Rattle.std.specs.Global.{Vec}
+use Rattle.std.specs.Prelude.{Err, IfOk, IfSome, None, Ok, OnErr, OnOk, Option, Result, Some, if◌then◌else◌, map, nat_le}
 use Rattle.std.proofs.lemmas.Bool.{false≢true}
-use Rattle.std.proofs.lemmas.Bool.Decides.{nat_tests}
+use Rattle.std.proofs.lemmas.List.{get_or-map, length-map}
 use Rattle.dg_model.specs.Copies.{Spread, copied_to, emptiest, fitted, spread_by, spread_over}
 use Rattle.dg_model.specs.Homes.{home_of, with_home}
 use Rattle.dg_model.specs.Moves.{all_done}
 use Rattle.dg_model.specs.Placed.{IsPlaced}
-use Rattle.dg_model.specs.Plans.{blocks_of, blocks_with, is_file}
+use Rattle.dg_model.specs.Plans.{blocks_of}
 use Rattle.dg_model.specs.States.{has_lost}
 use Rattle.dg_model.specs.Tables.{used_in}
-use Rattle.dg_model.specs.Wants.{FitWants, want_of}
+use Rattle.dg_model.specs.Wants.{FitWants}
 use Rattle.dg_model.specs.declared.homes.Home.{Home}
 use Rattle.dg_model.specs.declared.shapes.Shape.{Shape}
 use Rattle.dg_model.specs.declared.wants.Want.{Want}
-use Rattle.dg_model.specs.declared.wants.Want.TheVariants.{Kept, File, Stray}
 use Rattle.dg_store.specs.Stores.{members_of, shape_of, table_of}
 use Rattle.dg_store.specs.declared.store.Store.{Store}
-use Rattle.dg_hot.specs.Copied.{copies_to, is_of, of_file}
-use Rattle.dg_hot.specs.Spreads.{HasSpread, HasSpreadSome, IsSpread, SpreadsOrNot, spread_of}
+use Rattle.dg_hot.specs.Copied.{copies_to}
+use Rattle.dg_hot.specs.Spreads.{HasSpread, HasSpreadSome, IsSpread, SpreadsOrNot, lists_in, spread_of, spread_with}
 use Rattle.dg_hot.proofs.CopyLaws.{copies_sized}
 use Rattle.dg_hot.proofs.HomeLaws.{length_home}
-use Rattle.dg_hot.proofs.Lists.{among_in, filter_below, filter_both}
 use Rattle.dg_hot.proofs.PlacedLaws.{placed_copy, written_copy}
 use Rattle.dg_hot.proofs.SpreadLaws.{does_fit, emptiest_other, spread_next, spread_none}
 
--- ---- the blocks of a file among those of some files
+-- ---- the blocks of a file
 
-of_some : (files : List ℕ) (i : ℕ) (want : Option Want) → Contains files i → is_file i want ≡ true → is_of files want ≡ true
-of_some files i None there e = absurd (false≢true e)
-of_some files i (Some Kept) there e = absurd (false≢true e)
-of_some files i (Some (File j)) there e =
-    let same : i ≡ j = grind (arith, nat_tests, e) in
-    among_in j files (subst (λ (n : ℕ). Contains files n) same there)
-of_some files i (Some Stray) there e = absurd (false≢true e)
+pub list_here : (wants : List (Option Want)) (files : List ℕ) (lists : List (Vec ℕ)) (k i : ℕ) (list : Vec ℕ) → lists_in lists ≡ map (blocks_of wants) files → k < length files
+    → get_or files k 0 ≡ i → list ≡ get_or lists k list → list.items ≡ blocks_of wants i
+list_here wants files lists k i list listed low at is =
+    let size = ap length listed in
+    let long : k < length lists = omega (arith, size, length-map lists (λ (v : Vec ℕ). v.items), length-map files (blocks_of wants), low) in
+    ap (λ (v : Vec ℕ). v.items) is
+    ∙ sym (get_or-map (λ (v : Vec ℕ). v.items) lists k list [] long)
+    ∙ ap (λ (xs : List (List ℕ)). get_or xs k []) listed
+    ∙ get_or-map (blocks_of wants) files k 0 [] low
+    ∙ ap (blocks_of wants) at
 
-pub own_blocks : (wants : List (Option Want)) (files blocks : List ℕ) (i : ℕ) → blocks ≡ blocks_with (is_of files) wants → Contains files i → of_file wants i blocks ≡ blocks_of wants i
-own_blocks wants files blocks i are there =
-    ap (of_file wants i) are
-    ∙ filter_both (λ b. is_file i (want_of wants b)) (λ b. is_of files (want_of wants b)) (λ b e. of_some files i (want_of wants b) there e) (range_with_len 0 (length wants))
-
-pub blocks_below : (wants : List (Option Want)) (files blocks : List ℕ) → blocks ≡ blocks_with (is_of files) wants → (b : ℕ) → Contains blocks b → b < length wants
-blocks_below wants files blocks are b there =
-    filter_below (λ c. is_of files (want_of wants c)) (length wants) b (subst (λ (xs : List ℕ). Contains xs b) are there)
+pub by_blocks : (wants : List (Option Want)) (blocks : List ℕ) (i : ℕ) (home there : Option ℕ) (spread : Spread) → blocks ≡ blocks_of wants i
+    → spread_with blocks i home there spread ≡ spread_by wants i home there spread
+by_blocks wants blocks i None there spread e = refl
+by_blocks wants blocks i (Some home) (Some s) spread e = refl
+by_blocks wants blocks i (Some home) None spread e = ap (λ (xs : List ℕ). fitted i (emptiest spread.table home) xs spread) e
 
 -- ---- a file that fits, or not
 
