@@ -34,8 +34,9 @@ pub enum DiffuseAnswer {
 /// blocks fit below K used slots; else it is skipped. The spare slot isn't used. A copy that a loss interrupts is given up
 /// whole.
 ///
-/// `blocks` has the written blocks of each of these files, ascending: one list for each file, in the order of `hot`. So the
-/// cost is that of these files, and not of the array. The clauses hold by any wants that have each block in its place.
+/// `blocks` has one list for each file, in the order of `hot`: its written blocks, ascending, where it has a home and no copy,
+/// and else none. So the cost is that of the files that are copied, and not of the array. The clauses hold by any wants that
+/// have each block in its place.
 pub fn diffuse<R: Rack>(
     alloc: Global,
     store: &mut Store<R>,

@@ -2,12 +2,11 @@ use Rattle.std.proofs.Common.{◌∙◌, ◌+◌, ◌<◌, ℕ, List, length, re
 use Rattle.std.specs.Prelude.{map}
 use Rattle.std.proofs.lemmas.List.{get_or_read}
 use Rattle.dg_model.specs.Homes.{home_of}
-use Rattle.dg_model.specs.Plans.{blocks_of}
 use Rattle.dg_store.specs.Stores.{table_of}
 use Rattle.dg_hot.specs.Copied.{AreApart, CanCopy}
-use Rattle.dg_hot.specs.Spreads.{HasSpreadSome, spread_of}
-use Rattle.dg_hot.proofs.FileLaws.{IsSettled, by_blocks, has_none, list_here, on_err, settled_has, settled_some, spread_on, spread_same, spread_some, spreads_as}
-use Rattle.dg_hot.proofs.PlacedLaws.{blocks_apart, can_copy}
+use Rattle.dg_hot.specs.Spreads.{HasSpreadSome, spread_of, to_copy}
+use Rattle.dg_hot.proofs.FileLaws.{IsSettled, by_blocks, copied_apart, copied_can, has_none, list_here, none_before, on_err, settled_has, settled_some, spread_on, spread_same, spread_some, spreads_as}
+use Rattle.dg_hot.proofs.PlacedLaws.{can_copy}
 use Rattle.dg_hot.proofs.StoreLaws.{moved_both, moved_none}
 use Rattle.dg_hot.proofs.spreads.diffuse.Goals as goal
 
@@ -39,10 +38,10 @@ spread_file-requires-clause-apart g c =
     let at = sym (get_or_read c.in_ok-files.files.items _ _ low c.index.ensures 0) in
     let own =
     c.deref.ensures.value
-    ∙ list_here wants c.in_ok-files.files.items c.args.blocks.now c.loop-place.place c.index.result.now c.index-blocks-place.result
-    (by.listed ∙ ap (map (blocks_of wants)) (sym c.in_ok-files.ensures.inodes)) low at c.index-blocks-place.is
+    ∙ list_here (to_copy wants c.args.homes.now c.args.copies.now) c.in_ok-files.files.items c.args.blocks.now c.loop-place.place c.index.result.now c.index-blocks-place.result
+    (by.listed ∙ ap (map (to_copy wants c.args.homes.now c.args.copies.now)) (sym c.in_ok-files.ensures.inodes)) low at c.index-blocks-place.is
     in
-    subst AreApart (sym own) (blocks_apart wants c.index.result.now)
+    subst AreApart (sym own) (copied_apart wants c.args.homes.now c.args.copies.now c.index.result.now)
 
 pub spread_file-requires-clause-can : goal.spread_file-requires-clause-can
 spread_file-requires-clause-can g c h s home off none =
@@ -56,11 +55,12 @@ spread_file-requires-clause-can g c h s home off none =
     let at = sym (get_or_read c.in_ok-files.files.items _ _ low c.index.ensures 0) in
     let own =
     c.deref.ensures.value
-    ∙ list_here wants c.in_ok-files.files.items c.args.blocks.now c.loop-place.place c.index.result.now c.index-blocks-place.result
-    (by.listed ∙ ap (map (blocks_of wants)) (sym c.in_ok-files.ensures.inodes)) low at c.index-blocks-place.is
+    ∙ list_here (to_copy wants c.args.homes.now c.args.copies.now) c.in_ok-files.files.items c.args.blocks.now c.loop-place.place c.index.result.now c.index-blocks-place.result
+    (by.listed ∙ ap (map (to_copy wants c.args.homes.now c.args.copies.now)) (sym c.in_ok-files.ensures.inodes)) low at c.index-blocks-place.is
     in
     subst (CanCopy (table_of c.loop-place.store) s) (sym own)
-    (can_copy wants (table_of c.loop-place.store) c.args.homes.now c.loop-place.copies c.index.result.now h s now.placed now.fit now.sized home none off)
+    (copied_can wants c.args.homes.now c.args.copies.now c.index.result.now (table_of c.loop-place.store) s
+    (can_copy wants (table_of c.loop-place.store) c.args.homes.now c.loop-place.copies c.index.result.now h s now.placed now.fit now.sized home none off))
 
 pub loop-place-preserved : goal.loop-place-preserved
 loop-place-preserved g c =
@@ -74,13 +74,17 @@ loop-place-preserved g c =
       spread = λ wants by.
           let own =
           c.deref.ensures.value
-          ∙ list_here wants c.in_ok-files.files.items c.args.blocks.now c.loop-place.place c.index.result.now c.index-blocks-place.result
-          (by.listed ∙ ap (map (blocks_of wants)) (sym c.in_ok-files.ensures.inodes)) low at c.index-blocks-place.is
+          ∙ list_here (to_copy wants c.args.homes.now c.args.copies.now) c.in_ok-files.files.items c.args.blocks.now c.loop-place.place c.index.result.now c.index-blocks-place.result
+          (by.listed ∙ ap (map (to_copy wants c.args.homes.now c.args.copies.now)) (sym c.in_ok-files.ensures.inodes)) low at c.index-blocks-place.is
           in
           let tried =
           spreads_as _ _ c.in_ok-more.more c.loop-place.copies c.spread_file.new.copies c.loop-place.store c.spread_file.new.store
-          (by_blocks wants c.deref.result.now c.index.result.now (home_of c.args.homes.now c.index.result.now) (home_of c.loop-place.copies c.index.result.now)
-          (spread_of c.loop-place.store c.loop-place.copies) own)
+          (by_blocks wants c.args.homes.now c.args.copies.now c.index.result.now c.deref.result.now (home_of c.args.homes.now c.index.result.now)
+          (home_of c.loop-place.copies c.index.result.now)
+          (spread_of c.loop-place.store c.loop-place.copies) refl
+          (none_before wants c.args.homes.now c.in_ok-files.files.items c.loop-place.place c.loop-place.gained c.args.copies.now c.loop-place.copies
+          c.args.store.now c.loop-place.store c.index.result.now (c.loop-place.invariant.spread wants by))
+          own)
           c.in_ok-more.ensures.spread
           in
           spread_on wants c.args.homes.now c.in_ok-files.files.items c.loop-place.place (c.loop-place.gained + c.in_ok-more.more)
@@ -127,13 +131,17 @@ returns-in-Some-clause-placed g c wants by =
     let at = sym (get_or_read c.in_ok-files.files.items _ _ low c.index.ensures 0) in
     let own =
     c.deref.ensures.value
-    ∙ list_here wants c.in_ok-files.files.items c.args.blocks.now c.loop-place.place c.index.result.now c.index-blocks-place.result
-    (by.listed ∙ ap (map (blocks_of wants)) (sym c.in_ok-files.ensures.inodes)) low at c.index-blocks-place.is
+    ∙ list_here (to_copy wants c.args.homes.now c.args.copies.now) c.in_ok-files.files.items c.args.blocks.now c.loop-place.place c.index.result.now c.index-blocks-place.result
+    (by.listed ∙ ap (map (to_copy wants c.args.homes.now c.args.copies.now)) (sym c.in_ok-files.ensures.inodes)) low at c.index-blocks-place.is
     in
     let tried =
     spreads_as _ _ c.in_ok-more.more c.loop-place.copies c.spread_file.new.copies c.loop-place.store c.spread_file.new.store
-    (by_blocks wants c.deref.result.now c.index.result.now (home_of c.args.homes.now c.index.result.now) (home_of c.loop-place.copies c.index.result.now)
-    (spread_of c.loop-place.store c.loop-place.copies) own)
+    (by_blocks wants c.args.homes.now c.args.copies.now c.index.result.now c.deref.result.now (home_of c.args.homes.now c.index.result.now)
+    (home_of c.loop-place.copies c.index.result.now)
+    (spread_of c.loop-place.store c.loop-place.copies) refl
+    (none_before wants c.args.homes.now c.in_ok-files.files.items c.loop-place.place c.loop-place.gained c.args.copies.now c.loop-place.copies
+    c.args.store.now c.loop-place.store c.index.result.now (c.loop-place.invariant.spread wants by))
+    own)
     c.in_ok-more.ensures.spread
     in
     settled_some wants c.args.homes.now c.in_ok-files.files.items c.args.copies.now c.spread_file.new.copies c.args.store.now c.spread_file.new.store start
@@ -147,13 +155,17 @@ returns-in-Some-clause-cut g c wants by s e =
     let at = sym (get_or_read c.in_ok-files.files.items _ _ low c.index.ensures 0) in
     let own =
     c.deref.ensures.value
-    ∙ list_here wants c.in_ok-files.files.items c.args.blocks.now c.loop-place.place c.index.result.now c.index-blocks-place.result
-    (by.listed ∙ ap (map (blocks_of wants)) (sym c.in_ok-files.ensures.inodes)) low at c.index-blocks-place.is
+    ∙ list_here (to_copy wants c.args.homes.now c.args.copies.now) c.in_ok-files.files.items c.args.blocks.now c.loop-place.place c.index.result.now c.index-blocks-place.result
+    (by.listed ∙ ap (map (to_copy wants c.args.homes.now c.args.copies.now)) (sym c.in_ok-files.ensures.inodes)) low at c.index-blocks-place.is
     in
     let tried =
     spreads_as _ _ c.in_ok-more.more c.loop-place.copies c.spread_file.new.copies c.loop-place.store c.spread_file.new.store
-    (by_blocks wants c.deref.result.now c.index.result.now (home_of c.args.homes.now c.index.result.now) (home_of c.loop-place.copies c.index.result.now)
-    (spread_of c.loop-place.store c.loop-place.copies) own)
+    (by_blocks wants c.args.homes.now c.args.copies.now c.index.result.now c.deref.result.now (home_of c.args.homes.now c.index.result.now)
+    (home_of c.loop-place.copies c.index.result.now)
+    (spread_of c.loop-place.store c.loop-place.copies) refl
+    (none_before wants c.args.homes.now c.in_ok-files.files.items c.loop-place.place c.loop-place.gained c.args.copies.now c.loop-place.copies
+    c.args.store.now c.loop-place.store c.index.result.now (c.loop-place.invariant.spread wants by))
+    own)
     c.in_ok-more.ensures.spread
     in
     subst (λ (is : List ℕ). HasSpreadSome wants c.args.homes.now is c.args.copies.now c.spread_file.new.copies c.args.store.now c.spread_file.new.store)
