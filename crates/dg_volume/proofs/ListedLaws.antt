@@ -7,7 +7,7 @@ use Rattle.std.specs.List.Sorted.{IsStrictlyIncreasing}
 use Rattle.std.proofs.lemmas.Bool.{cases_lt, eq-eqb, false≢true}
 use Rattle.std.proofs.lemmas.List.{get_or_past}
 use Rattle.std.proofs.lemmas.List.Kept.{IsStrictlyIncreasing-filter}
-use Rattle.dg_hot.specs.Spreads.{AreListed, lists_in}
+use Rattle.dg_hot.specs.Spreads.{AreListed, lists_in, to_copy}
 use Rattle.dg_infer.specs.Meanings.{KeptInference}
 use Rattle.dg_infer.specs.Wants.{IsWantBy}
 use Rattle.dg_model.specs.Placed.{IsPlaced}
@@ -62,7 +62,7 @@ module _ (table : Table) (kept : KeptInference) (wants : List (Option Want)) (wa
 
 -- lists that were made of a table are those of an equal one
 pub listed_on : (table next : Table) (kept : KeptInference) (wants : List (Option Want)) (homes copies : List Home) (files : List ℕ) (lists : List (Vec ℕ))
-    → next ≡ table → AreWanted table kept wants → IsPlaced wants table homes copies → lists_in lists ≡ map (blocks_of wants) files
+    → next ≡ table → AreWanted table kept wants → IsPlaced wants table homes copies → lists_in lists ≡ map (to_copy wants homes copies) files
     → AreListed wants next homes copies files lists
 listed_on table next kept wants homes copies files lists same wanted placed listed = record {
   fit = subst (λ (t : Table). FitWants t wants) (sym same) wanted.fit;

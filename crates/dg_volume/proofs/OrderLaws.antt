@@ -65,7 +65,7 @@ from_increasing n (x ∷ xs) up first = (
   from_increasing (x + 1) xs (λ k low.
       let e : suc k + 1 ≡ suc (k + 1) = omega arith in
       subst (λ (m : ℕ). get_or (x ∷ xs) (suc k) 0 < get_or (x ∷ xs) m 0) e (up (suc k) (omega (arith, low))))
-  (λ some. let next : x < get_or xs 0 0 = up 0 (omega (arith, some)) in omega (arith, next)),
+      (λ some. let next : x < get_or xs 0 0 = up 0 (omega (arith, some)) in omega (arith, next)),
 )
 
 low_in : (n : ℕ) (xs : List ℕ) → From n xs → (b : ℕ) → Contains xs b → n ≤ b

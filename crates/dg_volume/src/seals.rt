@@ -14,9 +14,9 @@ ghost use Rattle.dg_store.specs.Answers.{IsAllLost, IsUnchanged, SameWritten};
 ghost use Rattle.dg_store.specs.Leaves.{CallsAtMost};
 ghost use Rattle.dg_store.specs.Stores.{IsSound, members_of, shape_of, table_of};
 ghost use Rattle.dg_volume.specs.Planned.{AreWanted, HasMovedArray};
-ghost use Rattle.dg_volume.specs.Seals.{EndsMoves, FallsOn, HasStoredBlock, OpensWhere, Relabels, lacks_copy, opening_calls};
+ghost use Rattle.dg_volume.specs.Seals.{EndsMoves, FallsOn, HasStoredBlock, OpensWhere, Relabels, opening_calls};
 
-use crate::file_lists::file_lists;
+use crate::file_lists::{any_lacks_copy, file_lists};
 use dg_hot::{DiffuseAnswer, Hot, diffuse};
 use dg_infer::Inference;
 use dg_io::{NoMemory, Rack};
@@ -88,34 +88,8 @@ pub fn move_within<R: Rack>(
     tend(store, targets, limit)
 }
 
-/// Whether a file has a home and no copy.
-fn lacks_copy(homes: &Homes, copies: &Homes, inode: u32) -> bool
-    requires homes { Ascend homes.now }
-    requires copies { Ascend copies.now }
-    ensures { result ≡ lacks_copy homes.now copies.now inode }
-{
-    match homes.home_of(inode) {
-        Some(_) => copies.home_of(inode).is_none(),
-        None => false,
-    }
-}
-
-/// Whether some of these files has a home and no copy.
-fn any_lacks_copy(homes: &Homes, copies: &Homes, inodes: &[u32]) -> bool
-    requires homes { Ascend homes.now }
-    requires copies { Ascend copies.now }
-    ensures { result ≡ false → All (λ i. lacks_copy homes.now copies.now i ≡ false) inodes.now }
-{
-    for inode in inodes {
-        if lacks_copy(homes, copies, *inode) {
-            return true;
-        }
-    }
-    false
-}
-
 /// Copies the files that were read last, where one of them has a home and no copy. The seal is opened before that. The cost is
-/// that of these files, and not of the array.
+/// that of the files that are copied, and not of the array.
 pub fn spread_recent<R: Rack>(
     alloc: Global,
     store: &mut Store<R>,
@@ -149,7 +123,7 @@ pub fn spread_recent<R: Rack>(
     if !any_lacks_copy(homes, copies, &recent) {
         return Ok(DiffuseAnswer::Diffused(0));
     }
-    let blocks = file_lists(alloc, store, inference, &recent)?;
+    let blocks = file_lists(alloc, store, inference, homes, copies, &recent)?;
     open_seal(store, label);
     if let Some(lost) = store.least_lost() {
         return Ok(DiffuseAnswer::Lost(lost));

@@ -1,15 +1,13 @@
 use Rattle.std.proofs.Common.{◌≡◌, ◌∙◌, ℕ, false, List, length, sym, ap, subst}
 use Rattle.std.specs.Prelude.{All, map}
-use Rattle.dg_hot.specs.Spreads.{HasSpread, lists_in}
+use Rattle.dg_hot.specs.Spreads.{HasSpread, lacks_copy, lists_in, to_copy}
 use Rattle.dg_hot.specs.declared.spreads.DiffuseAnswer.{DiffuseAnswer}
 use Rattle.dg_hot.specs.declared.spreads.DiffuseAnswer.TheVariants.{Diffused, Lost}
 use Rattle.dg_model.specs.Placed.{IsPlaced}
-use Rattle.dg_model.specs.Plans.{blocks_of}
 use Rattle.dg_model.specs.Tables.{Table}
 use Rattle.dg_store.specs.Stores.{table_of}
 use Rattle.dg_volume.proofs.ListedLaws.{listed_on, placed_by_any}
 use Rattle.dg_volume.proofs.SealSteps.{cut_behind, diffused_behind, labels_behind, labels_opened, none_copied, none_cut, spread_behind}
-use Rattle.dg_volume.specs.Seals.{lacks_copy}
 use Rattle.dg_volume.proofs.seals.spread_recent.Goals as goal
 
 count_in : DiffuseAnswer → ℕ
@@ -71,7 +69,7 @@ returns-clause-placed g c wants wanted =
     listed_on (table_of c.args.store.now) (table_of c.open_seal.new.store) c.args.inference.now wants c.args.homes.now c.args.copies.now c.args.hot.now c.deref-3.result.now
     c.open_seal.ensures.array.table wanted
     (placed_by_any (table_of c.args.store.now) c.args.inference.now c.args.homes.now c.args.copies.now c.requires.placed wants wanted)
-    (ap lists_in c.deref-3.ensures.value ∙ c.in_ok-blocks.ensures wants wanted ∙ ap (map (blocks_of wants)) (c.deref-2.ensures.value ∙ c.in_ok-recent.ensures.inodes))
+    (ap lists_in c.deref-3.ensures.value ∙ c.in_ok-blocks.ensures wants wanted ∙ ap (map (to_copy wants c.args.homes.now c.args.copies.now)) (c.deref-2.ensures.value ∙ c.in_ok-recent.ensures.inodes))
     in
     c.diffuse.ensures.placed wants listed
 
@@ -81,7 +79,7 @@ returns-clause-diffused g c wants wanted =
     listed_on (table_of c.args.store.now) (table_of c.open_seal.new.store) c.args.inference.now wants c.args.homes.now c.args.copies.now c.args.hot.now c.deref-3.result.now
     c.open_seal.ensures.array.table wanted
     (placed_by_any (table_of c.args.store.now) c.args.inference.now c.args.homes.now c.args.copies.now c.requires.placed wants wanted)
-    (ap lists_in c.deref-3.ensures.value ∙ c.in_ok-blocks.ensures wants wanted ∙ ap (map (blocks_of wants)) (c.deref-2.ensures.value ∙ c.in_ok-recent.ensures.inodes))
+    (ap lists_in c.deref-3.ensures.value ∙ c.in_ok-blocks.ensures wants wanted ∙ ap (map (to_copy wants c.args.homes.now c.args.copies.now)) (c.deref-2.ensures.value ∙ c.in_ok-recent.ensures.inodes))
     in
     diffused_behind g.R.Rack wants c.args.homes.now c.args.hot.now c.args.copies.now c.diffuse.new.copies c.args.store.now c.open_seal.new.store c.diffuse.new.store
     c.diffuse.result c.open_seal.ensures.array (c.diffuse.ensures.diffused wants listed)
@@ -92,7 +90,7 @@ returns-clause-cut g c wants wanted =
     listed_on (table_of c.args.store.now) (table_of c.open_seal.new.store) c.args.inference.now wants c.args.homes.now c.args.copies.now c.args.hot.now c.deref-3.result.now
     c.open_seal.ensures.array.table wanted
     (placed_by_any (table_of c.args.store.now) c.args.inference.now c.args.homes.now c.args.copies.now c.requires.placed wants wanted)
-    (ap lists_in c.deref-3.ensures.value ∙ c.in_ok-blocks.ensures wants wanted ∙ ap (map (blocks_of wants)) (c.deref-2.ensures.value ∙ c.in_ok-recent.ensures.inodes))
+    (ap lists_in c.deref-3.ensures.value ∙ c.in_ok-blocks.ensures wants wanted ∙ ap (map (to_copy wants c.args.homes.now c.args.copies.now)) (c.deref-2.ensures.value ∙ c.in_ok-recent.ensures.inodes))
     in
     cut_behind g.R.Rack wants c.args.homes.now c.args.hot.now c.args.copies.now c.diffuse.new.copies c.args.store.now c.open_seal.new.store c.diffuse.new.store
     c.diffuse.result c.open_seal.ensures.array (c.diffuse.ensures.cut wants listed)
