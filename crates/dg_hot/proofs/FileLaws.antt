@@ -1,49 +1,72 @@
 -- A file on a store: its copy, or none.
 use Rattle.std.proofs.Common.{◌≡◌, ◌≢◌, ◌<◌, ◌≤◌, ◌+◌, ℕ, Bool, true, false, List, [], ◌∷◌, length, get_or, take, inl, inr, refl, sym, ◌∙◌, ap, subst, arith}
-use Rattle.std.specs.Prelude.{Err, IfOk, IfSome, None, Ok, OnErr, OnOk, Option, Result, Some, if◌then◌else◌, nat_le}
-use Rattle.std.specs.List.{Contains, range_with_len}
-use Rattle.std.proofs.lemmas.Bool.{false≢true}
-use Rattle.std.proofs.lemmas.Bool.Decides.{nat_tests}
+use Rattle.std.specs.Global.{Vec}
+use Rattle.std.specs.Prelude.{◌&&◌, Err, IfOk, IfSome, None, Ok, OnErr, OnOk, Option, Result, Some, if◌then◌else◌, is_some, map, nat_le, not}
+use Rattle.std.proofs.lemmas.Bool.{cases_eq, false≢true}
+use Rattle.std.proofs.lemmas.List.{get_or-map, length-map}
 use Rattle.dg_model.specs.Copies.{Spread, copied_to, emptiest, fitted, spread_by, spread_over}
 use Rattle.dg_model.specs.Homes.{home_of, with_home}
 use Rattle.dg_model.specs.Moves.{all_done}
 use Rattle.dg_model.specs.Placed.{IsPlaced}
-use Rattle.dg_model.specs.Plans.{blocks_of, blocks_with, is_file}
+use Rattle.dg_model.specs.Plans.{blocks_of}
 use Rattle.dg_model.specs.States.{has_lost}
-use Rattle.dg_model.specs.Tables.{used_in}
-use Rattle.dg_model.specs.Wants.{FitWants, want_of}
+use Rattle.dg_model.specs.Tables.{Table, used_in}
+use Rattle.dg_model.specs.Wants.{FitWants}
 use Rattle.dg_model.specs.declared.homes.Home.{Home}
 use Rattle.dg_model.specs.declared.shapes.Shape.{Shape}
 use Rattle.dg_model.specs.declared.wants.Want.{Want}
-use Rattle.dg_model.specs.declared.wants.Want.TheVariants.{Kept, File, Stray}
 use Rattle.dg_store.specs.Stores.{members_of, shape_of, table_of}
 use Rattle.dg_store.specs.declared.store.Store.{Store}
-use Rattle.dg_hot.specs.Copied.{copies_to, is_of, of_file}
-use Rattle.dg_hot.specs.Spreads.{HasSpread, HasSpreadSome, IsSpread, SpreadsOrNot, spread_of}
+use Rattle.dg_hot.specs.Copied.{AreApart, CanCopy, copies_to}
+use Rattle.dg_hot.specs.Spreads.{HasSpread, HasSpreadSome, IsSpread, SpreadsOrNot, lacks_copy, lists_in, spread_of, spread_with, to_copy}
 use Rattle.dg_hot.proofs.CopyLaws.{copies_sized}
-use Rattle.dg_hot.proofs.HomeLaws.{length_home}
-use Rattle.dg_hot.proofs.Lists.{among_in, filter_below, filter_both}
-use Rattle.dg_hot.proofs.PlacedLaws.{placed_copy, written_copy}
+use Rattle.dg_hot.proofs.HomeLaws.{home_others, length_home}
+use Rattle.dg_hot.proofs.Lists.{nothing_in}
+use Rattle.dg_hot.proofs.PlacedLaws.{blocks_apart, placed_copy, written_copy}
 use Rattle.dg_hot.proofs.SpreadLaws.{does_fit, emptiest_other, spread_next, spread_none}
 
--- ---- the blocks of a file among those of some files
+-- ---- the blocks of a file
 
-of_some : (files : List ℕ) (i : ℕ) (want : Option Want) → Contains files i → is_file i want ≡ true → is_of files want ≡ true
-of_some files i None there e = absurd (false≢true e)
-of_some files i (Some Kept) there e = absurd (false≢true e)
-of_some files i (Some (File j)) there e =
-    let same : i ≡ j = grind (arith, nat_tests, e) in
-    among_in j files (subst (λ (n : ℕ). Contains files n) same there)
-of_some files i (Some Stray) there e = absurd (false≢true e)
+pub list_here : (blocks : ℕ → List ℕ) (files : List ℕ) (lists : List (Vec ℕ)) (k i : ℕ) (list : Vec ℕ) → lists_in lists ≡ map blocks files → k < length files
+    → get_or files k 0 ≡ i → list ≡ get_or lists k list → list.items ≡ blocks i
+list_here blocks files lists k i list listed low at is =
+    let size = ap length listed in
+    let long : k < length lists = omega (arith, size, length-map lists (λ (v : Vec ℕ). v.items), length-map files blocks, low) in
+    ap (λ (v : Vec ℕ). v.items) is
+    ∙ sym (get_or-map (λ (v : Vec ℕ). v.items) lists k list [] long)
+    ∙ ap (λ (xs : List (List ℕ)). get_or xs k []) listed
+    ∙ get_or-map blocks files k 0 [] low
+    ∙ ap blocks at
 
-pub own_blocks : (wants : List (Option Want)) (files blocks : List ℕ) (i : ℕ) → blocks ≡ blocks_with (is_of files) wants → Contains files i → of_file wants i blocks ≡ blocks_of wants i
-own_blocks wants files blocks i are there =
-    ap (of_file wants i) are
-    ∙ filter_both (λ b. is_file i (want_of wants b)) (λ b. is_of files (want_of wants b)) (λ b e. of_some files i (want_of wants b) there e) (range_with_len 0 (length wants))
+-- what is copied of a file has no block twice, and can be copied where the file's blocks can
+module _ (wants : List (Option Want)) (homes copies : List Home) (i : ℕ) where
+  pub copied_apart : AreApart (to_copy wants homes copies i)
+  copied_apart = by_test (lacks_copy homes copies i)
+    where
+      by_test : (t : Bool) → AreApart (if t then blocks_of wants i else [])
+      by_test true = blocks_apart wants i
+      by_test false = tt
 
-pub blocks_below : (wants : List (Option Want)) (files blocks : List ℕ) → blocks ≡ blocks_with (is_of files) wants → (b : ℕ) → Contains blocks b → b < length wants
-blocks_below wants files blocks are b there =
-    filter_below (λ c. is_of files (want_of wants c)) (length wants) b (subst (λ (xs : List ℕ). Contains xs b) are there)
+  pub copied_can : (table : Table) (s : ℕ) → CanCopy table s (blocks_of wants i) → CanCopy table s (to_copy wants homes copies i)
+  copied_can table s can = by_test (lacks_copy homes copies i)
+    where
+      by_test : (t : Bool) → CanCopy table s (if t then blocks_of wants i else [])
+      by_test true = can
+      by_test false = record {
+        within = λ b there. absurd (nothing_in b there);
+        written = λ b there. absurd (nothing_in b there);
+        none = λ b there. absurd (nothing_in b there);
+      }
+
+  -- where it has a home and no copy its blocks are copied, and else nothing is done
+  pub by_blocks : (blocks : List ℕ) (home there : Option ℕ) (spread : Spread) → home_of homes i ≡ home → (there ≡ None → home_of copies i ≡ None)
+      → blocks ≡ to_copy wants homes copies i → spread_with blocks i home there spread ≡ spread_by wants i home there spread
+  by_blocks blocks None there spread has none e = refl
+  by_blocks blocks (Some home) (Some s) spread has none e = refl
+  by_blocks blocks (Some home) None spread has none e =
+      ap (λ (xs : List ℕ). fitted i (emptiest spread.table home) xs spread)
+      (e ∙ ap (λ (o : Option ℕ). if is_some o && not (is_some (home_of copies i)) then blocks_of wants i else []) has
+      ∙ ap (λ (o : Option ℕ). if not (is_some o) then blocks_of wants i else []) (none refl))
 
 -- ---- a file that fits, or not
 
@@ -88,6 +111,36 @@ module _ (wants : List (Option Want)) (homes : List Home) where
   settled_over [] old is = is
   settled_over (i ∷ files) old is =
       settled_over files (spread_by wants i (home_of homes i) (home_of old.copies i) old) (settled_by i (home_of homes i) (home_of old.copies i) old is refl refl)
+
+-- a file that has no copy now had none before
+module _ (wants : List (Option Want)) (homes : List Home) (i : ℕ) where
+  none_copied : (j s : ℕ) (blocks : List ℕ) (old : Spread) → home_of old.copies j ≡ None → home_of (copied_to j s blocks old).copies i ≡ None → home_of old.copies i ≡ None
+  none_copied j s blocks old free none = elim (cases_eq j i) [
+    | inl same ↦ ap (home_of old.copies) (sym same) ∙ free
+    | inr other ↦ sym (home_others (record { inode = j; boundary = s }) old.copies i other) ∙ none
+  ]
+
+  none_fitted : (j : ℕ) (best : Option ℕ) (blocks : List ℕ) (old : Spread) → home_of old.copies j ≡ None → home_of (fitted j best blocks old).copies i ≡ None
+      → home_of old.copies i ≡ None
+  none_fitted j None blocks old free none = none
+  none_fitted j (Some s) blocks old free none = by_test (nat_le (used_in old.table s + length blocks) old.table.shape.k) none
+    where
+      by_test : (t : Bool) → home_of (if t then copied_to j s blocks old else old).copies i ≡ None → home_of old.copies i ≡ None
+      by_test true after = none_copied j s blocks old free after
+      by_test false after = after
+
+  none_by : (j : ℕ) (home there : Option ℕ) (old : Spread) → home_of old.copies j ≡ there → home_of (spread_by wants j home there old).copies i ≡ None
+      → home_of old.copies i ≡ None
+  none_by j None there old has none = none
+  none_by j (Some h) (Some s) old has none = none
+  none_by j (Some h) None old has none = none_fitted j (emptiest old.table h) (blocks_of wants j) old has none
+
+  pub none_over : (files : List ℕ) (old : Spread) → home_of (spread_over wants homes files old).copies i ≡ None → home_of old.copies i ≡ None
+  unfolding spread_over
+  none_over [] old none = none
+  none_over (j ∷ files) old none =
+      none_by j (home_of homes j) (home_of old.copies j) old refl
+      (none_over files (spread_by wants j (home_of homes j) (home_of old.copies j) old) none)
 
 -- ---- answers
 
@@ -158,6 +211,11 @@ module _ {R : Type 0} where
   pub settled_some : (wants : List (Option Want)) (homes : List Home) (recent : List ℕ) (before after : List Home) (old new : Store R)
       → IsSettled wants homes (spread_of old before) → HasSpreadSome wants homes recent before after old new → IsPlaced wants (table_of new) homes after
   settled_some wants homes recent before after old new is some = (settled_has wants homes recent some.count some.gained before after old new is some.has).placed
+
+  pub none_before : (wants : List (Option Want)) (homes : List Home) (recent : List ℕ) (count gained : ℕ) (before after : List Home) (old new : Store R) (i : ℕ)
+      → HasSpread wants homes recent count gained before after old new → home_of after i ≡ None → home_of before i ≡ None
+  none_before wants homes recent count gained before after old new i has none =
+      none_over wants homes i (take count recent) (spread_of old before) (sym (ap (λ (spread : Spread). home_of spread.copies i) has.spread) ∙ none)
 
   -- ---- one file after another
 

@@ -1,11 +1,8 @@
 -- Lists of numbers: which are apart, and what a filter leaves.
-use Rattle.std.proofs.Common.{◌≡◌, ◌⊎◌, ◌<◌, ◌≤◌, ◌+◌, ◌++◌, ◌==◌, ℕ, zero, suc, Bool, true, false, cond, List, [], ◌∷◌, length, get_or, take, inl, inr, refl, sym, ◌∙◌, ap, subst, arith}
-use Rattle.std.specs.Prelude.{◌||◌, filter, if◌then◌else◌}
-use Rattle.std.specs.List.{Contains, list_any, range_with_len}
-use Rattle.std.proofs.lemmas.Bool.{cases_eq, false≢true}
-use Rattle.std.proofs.lemmas.List.Elements.{filter-append}
-use Rattle.std.proofs.lemmas.List.Folds.{list_any_at, list_any_more}
-use Rattle.dg_model.proofs.SiteLists.{apart_test, same_test}
+use Rattle.std.proofs.Common.{◌≡◌, ◌⊎◌, ◌<◌, ◌≤◌, ◌+◌, ℕ, zero, suc, Bool, true, false, cond, List, [], ◌∷◌, length, get_or, take, inl, inr, refl, sym, ◌∙◌, ap, subst, arith}
+use Rattle.std.specs.Prelude.{filter}
+use Rattle.std.specs.List.{Contains, range_with_len}
+use Rattle.std.proofs.lemmas.Bool.{cases_eq}
 use Rattle.dg_hot.specs.Copied.{AreApart}
 
 -- ---- elements
@@ -105,17 +102,6 @@ apart_filter p (x ∷ xs) apart = by_test (p x) refl (apart_filter p xs apart.1)
     by_test true e later = subst AreApart (sym (filter_yes p x xs e)) (λ there. apart.0 (in_filter p xs x there).0, later)
     by_test false e later = subst AreApart (sym (filter_no p x xs e)) later
 
--- a filter behind a wider one
-pub filter_both : (p q : ℕ → Bool) → ((x : ℕ) → p x ≡ true → q x ≡ true) → (xs : List ℕ) → filter p (filter q xs) ≡ filter p xs
-filter_both p q wider [] = refl
-filter_both p q wider (x ∷ xs) = by_tests (p x) (q x) refl refl (filter_both p q wider xs)
-  where
-    by_tests : (t u : Bool) → p x ≡ t → q x ≡ u → filter p (filter q xs) ≡ filter p xs → filter p (filter q (x ∷ xs)) ≡ filter p (x ∷ xs)
-    by_tests true true e f later = ap (filter p) (filter_yes q x xs f) ∙ filter_yes p x (filter q xs) e ∙ ap (λ (zs : List ℕ). x ∷ zs) later ∙ sym (filter_yes p x xs e)
-    by_tests true false e f later = absurd (false≢true (sym f ∙ wider x e))
-    by_tests false true e f later = ap (filter p) (filter_yes q x xs f) ∙ filter_no p x (filter q xs) e ∙ later ∙ sym (filter_no p x xs e)
-    by_tests false false e f later = ap (filter p) (filter_no q x xs f) ∙ later ∙ sym (filter_no p x xs e)
-
 -- ---- ranges
 
 pub range_from : (a n y : ℕ) → Contains (range_with_len a n) y → a ≤ y
@@ -129,75 +115,9 @@ pub apart_range : (a n : ℕ) → AreApart (range_with_len a n)
 apart_range a zero = tt
 apart_range a (suc n) = (λ there. let h = range_from (a + 1) n a there in absurd (omega (arith, h)), apart_range (a + 1) n)
 
-grow : (a n : ℕ) → range_with_len a (suc n) ≡ range_with_len a n ++ (a + n) ∷ []
-grow a zero = let e : a ≡ a + 0 = omega arith in ap (λ (x : ℕ). x ∷ []) e
-grow a (suc n) =
-    let e : (a + 1) + n ≡ a + suc n = omega arith in
-    ap (λ (xs : List ℕ). a ∷ xs) (grow (a + 1) n ∙ ap (λ (x : ℕ). range_with_len (a + 1) n ++ x ∷ []) e)
-
-pub range_more : (a n : ℕ) → range_with_len a (n + 1) ≡ range_with_len a n ++ (a + n) ∷ []
-range_more a n = let e : n + 1 ≡ suc n = omega arith in ap (range_with_len a) e ∙ grow a n
-
 pub in_range : (a n y : ℕ) → a ≤ y → y < a + n → Contains (range_with_len a n) y
 in_range a zero y from before = absurd (omega (arith, from, before))
 in_range a (suc n) y from before = elim (cases_eq a y) [
   | inl same ↦ subst (λ (z : ℕ). Contains (a ∷ range_with_len (a + 1) n) z) same (head_in a (range_with_len (a + 1) n))
   | inr other ↦ tail_in a (range_with_len (a + 1) n) y (in_range (a + 1) n y (omega (arith, from, other)) (omega (arith, before)))
 ]
-
--- one more number behind a filter
-pub filter_more : (p : ℕ → Bool) (n : ℕ) (t : Bool) → p n ≡ t → filter p (range_with_len 0 (n + 1)) ≡ cond t (filter p (range_with_len 0 n) ++ n ∷ []) (filter p (range_with_len 0 n))
-filter_more p n t e =
-    let at : 0 + n ≡ n = omega arith in
-    ap (filter p) (range_more 0 n ∙ ap (λ (x : ℕ). range_with_len 0 n ++ x ∷ []) at)
-    ∙ filter-append p (range_with_len 0 n) (n ∷ [])
-    ∙ last t e
-  where
-    empty : (xs : List ℕ) → xs ++ [] ≡ xs
-    empty [] = refl
-    empty (x ∷ xs) = ap (λ (ys : List ℕ). x ∷ ys) (empty xs)
-
-    last : (t : Bool) → p n ≡ t → filter p (range_with_len 0 n) ++ filter p (n ∷ []) ≡ cond t (filter p (range_with_len 0 n) ++ n ∷ []) (filter p (range_with_len 0 n))
-    last true e = ap (λ (xs : List ℕ). filter p (range_with_len 0 n) ++ xs) (filter_yes p n [] e)
-    last false e = ap (λ (xs : List ℕ). filter p (range_with_len 0 n) ++ xs) (filter_no p n [] e) ∙ empty (filter p (range_with_len 0 n))
-
--- ---- an inode among others
-
-pub same_among : (i : ℕ) (xs : List ℕ) (k : ℕ) → k < length xs → get_or xs k 0 ≡ i → list_any (λ (j : ℕ). j == i) xs ≡ true
-same_among i xs k low at = list_any_at (λ (j : ℕ). j == i) xs k 0 low (same_test (get_or xs k 0) i at)
-
-pub none_among : (i : ℕ) (xs : List ℕ) (k : ℕ) → k < length xs → list_any (λ (j : ℕ). j == i) (take k xs) ≡ false → (get_or xs k 0 ≡ i → ⊥)
-    → list_any (λ (j : ℕ). j == i) (take (k + 1) xs) ≡ false
-none_among i xs k low none other =
-    list_any_more (λ (j : ℕ). j == i) xs k 0 low
-    ∙ ap (λ (t : Bool). t || (get_or xs k 0 == i)) none
-    ∙ apart_test (get_or xs k 0) i other
-
-pub place_in : (xs : List ℕ) (k : ℕ) → k < length xs → Contains xs (get_or xs k 0)
-place_in [] k low = absurd (omega (arith, low))
-place_in (x ∷ xs) zero low = (0, low, refl)
-place_in (x ∷ xs) (suc k) low = tail_in x xs (get_or xs k 0) (place_in xs k (omega (arith, low)))
-
-pub among_in : (i : ℕ) (xs : List ℕ) → Contains xs i → list_any (λ (j : ℕ). j == i) xs ≡ true
-among_in i xs there = list_any_at (λ (j : ℕ). j == i) xs there.0 i there.1 (same_test (get_or xs there.0 i) i there.2)
-
--- ---- one more block behind a filter
-
-pub push_filter : (p : ℕ → Bool) (n : ℕ) (old new : List ℕ) (t : Bool) → t ≡ p n → old ≡ filter p (range_with_len 0 n) → new ≡ (if t then old ++ n ∷ [] else old)
-    → new ≡ filter p (range_with_len 0 (n + 1))
-push_filter p n old new true e was now = now ∙ ap (λ (xs : List ℕ). xs ++ n ∷ []) was ∙ sym (filter_more p n true (sym e))
-push_filter p n old new false e was now = now ∙ was ∙ sym (filter_more p n false (sym e))
-
-range_below : (a n y : ℕ) → Contains (range_with_len a n) y → y < a + n
-range_below a zero y there = absurd (nothing_in y there)
-range_below a (suc n) y there = elim (in_parts a (range_with_len (a + 1) n) y there) [
-  | inl same ↦ omega (arith, same)
-  | inr more ↦ let h = range_below (a + 1) n y more in omega (arith, h)
-]
-
-pub filter_below : (p : ℕ → Bool) (n y : ℕ) → Contains (filter p (range_with_len 0 n)) y → y < n
-filter_below p n y there = let h = range_below 0 n y (in_filter p (range_with_len 0 n) y there).0 in omega (arith, h)
-
-pub contains_at : (xs ys : List ℕ) (k i : ℕ) → ys ≡ xs → k < length xs → get_or xs k 0 ≡ i → Contains ys i
-contains_at xs ys k i same low at =
-    subst (λ (zs : List ℕ). Contains zs i) (sym same) (subst (λ (n : ℕ). Contains xs n) at (place_in xs k low))

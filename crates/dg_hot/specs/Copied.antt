@@ -1,13 +1,9 @@
 -- Blocks that are copied to a boundary, and copies that are given up again.
-use Rattle.std.specs.Prelude.{◌≡◌, ◌<◌, ◌==◌, ℕ, true, Bool, false, List, [], ◌∷◌, Option, Some, None, length, map, filter}
-use Rattle.std.specs.List.{Contains, list_any}
+use Rattle.std.specs.Prelude.{◌≡◌, ◌<◌, ℕ, true, List, [], ◌∷◌, length, map}
+use Rattle.std.specs.List.{Contains}
 use Rattle.dg_model.specs.Moves.{Action, copy_to, give_up}
-use Rattle.dg_model.specs.Plans.{is_file}
 use Rattle.dg_model.specs.Sites.{has_site}
 use Rattle.dg_model.specs.Tables.{Table, count_on, sites_in}
-use Rattle.dg_model.specs.Wants.{want_of}
-use Rattle.dg_model.specs.declared.wants.Want.{Want}
-use Rattle.dg_model.specs.declared.wants.Want.TheVariants.{Kept, File, Stray}
 
 -- each of these blocks is copied to boundary s
 abbrev pub copies_to : ℕ → List ℕ → List Action
@@ -27,17 +23,6 @@ pub record CanCopy (table : Table) (s : ℕ) (blocks : List ℕ) : Type 0 where
   pub within : (b : ℕ) → Contains blocks b → b < table.shape.n
   pub written : (b : ℕ) → Contains blocks b → has_site (sites_in table b) ≡ true
   pub none : (b : ℕ) → Contains blocks b → count_on s (sites_in table b) ≡ 0
-
--- whether a block is one of these files
-abbrev pub is_of : List ℕ → Option Want → Bool
-is_of files None = false
-is_of files (Some Kept) = false
-is_of files (Some (File i)) = list_any (λ j. j == i) files
-is_of files (Some Stray) = false
-
--- those of some blocks that are of file i
-abbrev pub of_file : List (Option Want) → ℕ → List ℕ → List ℕ
-of_file wants i blocks = filter (λ b. is_file i (want_of wants b)) blocks
 
 -- each of these blocks has a site on boundary s, and another one
 pub record CanGiveUp (table : Table) (s : ℕ) (blocks : List ℕ) : Type 0 where

@@ -1,14 +1,44 @@
--- What a spreading of copies leaves.
-use Rattle.std.specs.Prelude.{◌≡◌, ◌⊎◌, ◌+◌, ℕ, true, List, Option, length, take}
+-- What a spreading of copies needs, and what it leaves.
+use Rattle.std.specs.Global.{Vec}
+use Rattle.std.specs.Prelude.{◌≡◌, ◌⊎◌, ◌+◌, ◌&&◌, ℕ, Bool, true, List, [], Option, Some, None, if◌then◌else◌, is_some, length, map, not, take}
 use Rattle.dg_io.specs.declared.outside.Rack.{Ghosts}
-use Rattle.dg_model.specs.Copies.{Spread, spread_over}
+use Rattle.dg_model.specs.Copies.{Spread, emptiest, fitted, spread_over}
+use Rattle.dg_model.specs.Homes.{home_of}
+use Rattle.dg_model.specs.Placed.{IsPlaced}
+use Rattle.dg_model.specs.Plans.{blocks_of}
 use Rattle.dg_model.specs.States.{IsLeastLost, has_lost}
+use Rattle.dg_model.specs.Tables.{Table}
+use Rattle.dg_model.specs.Wants.{FitWants}
 use Rattle.dg_model.specs.declared.homes.Home.{Home}
 use Rattle.dg_model.specs.declared.wants.Want.{Want}
 use Rattle.dg_store.specs.Answers.{SameWritten}
 use Rattle.dg_store.specs.Leaves.{Leaves}
 use Rattle.dg_store.specs.Stores.{KeepsBlocks, TellsAll, members_of, shape_of, table_of}
 use Rattle.dg_store.specs.declared.store.Store.{Store}
+
+-- the blocks in each list
+abbrev pub lists_in : List (Vec ℕ) → List (List ℕ)
+lists_in lists = map (λ (list : Vec ℕ). list.items) lists
+
+-- file i has a home and no copy
+abbrev pub lacks_copy : List Home → List Home → ℕ → Bool
+lacks_copy homes copies i = is_some (home_of homes i) && not (is_some (home_of copies i))
+
+-- what is copied of file i: its written blocks where it has a home and no copy, and else none
+abbrev pub to_copy : List (Option Want) → List Home → List Home → ℕ → List ℕ
+to_copy wants homes copies i = if lacks_copy homes copies i then blocks_of wants i else []
+
+-- By these wants each block is in its place, and these lists are what is copied of the files, one list for each file.
+pub record AreListed (wants : List (Option Want)) (table : Table) (homes copies : List Home) (files : List ℕ) (lists : List (Vec ℕ)) : Type 0 where
+  pub fit : FitWants table wants
+  pub placed : IsPlaced wants table homes copies
+  pub listed : lists_in lists ≡ map (to_copy wants homes copies) files
+
+-- file i, of these blocks, by its home and its copy: it gets a copy where it has a home and no copy
+abbrev pub spread_with : List ℕ → ℕ → Option ℕ → Option ℕ → Spread → Spread
+spread_with blocks i None there spread = spread
+spread_with blocks i (Some home) (Some s) spread = spread
+spread_with blocks i (Some home) None spread = fitted i (emptiest spread.table home) blocks spread
 
 -- where blocks stand, and which files have a copy
 abbrev pub spread_of : {R : Type 0} → Store R → List Home → Spread

@@ -3,7 +3,6 @@
 
 mod copies;
 mod emptiest;
-mod file_blocks;
 mod home_lists;
 mod hot;
 mod spreads;
@@ -11,6 +10,6 @@ mod spreads;
 mod tests;
 
 pub use dg_io::NoMemory;
-pub use dg_plan::{Homes, Wants};
+pub use dg_plan::Homes;
 pub use hot::Hot;
 pub use spreads::{DiffuseAnswer, diffuse};

@@ -1,25 +1,22 @@
 // Copies of the files that were read last.
-ghost use Rattle.std.specs.Prelude.{◌≡◌, ◌≢◌, ◌<◌, ◌≤◌, ℕ, length, false, None, Some, IfOk, OnErr, OnOk};
-ghost use Rattle.std.specs.List.{Contains};
-ghost use Rattle.dg_hot.specs.Copied.{AreApart, CanCopy, CanGiveUp, give_ups_on, of_file};
-ghost use Rattle.dg_hot.specs.Spreads.{HasSpread, HasSpreadSome, IsLost, Moved, SpreadsOrNot, spread_of};
-ghost use Rattle.dg_model.specs.Copies.{emptiest, fitted, spread_by};
+ghost use Rattle.std.specs.Prelude.{◌≡◌, ◌≢◌, ◌<◌, ◌≤◌, ℕ, List, Option, length, false, None, Some, IfOk, OnErr, OnOk};
+ghost use Rattle.dg_hot.specs.Copied.{AreApart, CanCopy, CanGiveUp, give_ups_on};
+ghost use Rattle.dg_hot.specs.Spreads.{AreListed, HasSpread, HasSpreadSome, IsLost, Moved, SpreadsOrNot, spread_of, spread_with};
+ghost use Rattle.dg_model.specs.Copies.{emptiest, fitted};
 ghost use Rattle.dg_model.specs.Homes.{Ascend, home_of, with_home};
 ghost use Rattle.dg_model.specs.Moves.{all_done};
 ghost use Rattle.dg_model.specs.Placed.{IsPlaced};
-ghost use Rattle.dg_model.specs.Plans.{blocks_of};
 ghost use Rattle.dg_model.specs.States.{has_lost};
-ghost use Rattle.dg_model.specs.Wants.{FitWants};
+ghost use Rattle.dg_model.specs.declared.wants.Want.{Want};
 ghost use Rattle.dg_store.specs.Stores.{IsSound, members_of, shape_of, table_of};
 
 use crate::Hot;
 use crate::copies::{copy_all, give_up};
 use crate::emptiest::emptiest;
-use crate::file_blocks::{blocks_of_file, blocks_of_files};
 use crate::home_lists::add_home;
 use dg_io::{NoMemory, Rack};
 use dg_model::Home;
-use dg_plan::{Homes, Wants};
+use dg_plan::Homes;
 use dg_store::Store;
 use std::alloc::Global;
 
@@ -37,35 +34,39 @@ pub enum DiffuseAnswer {
 /// blocks fit below K used slots; else it is skipped. The spare slot isn't used. A copy that a loss interrupts is given up
 /// whole.
 ///
-/// One pass over the wants, and a look at the blocks of the recent files for each of them.
+/// `blocks` has one list for each file, in the order of `hot`: its written blocks, ascending, where it has a home and no copy,
+/// and else none. So the cost is that of the files that are copied, and not of the array. The clauses hold by any wants that
+/// have each block in its place.
 pub fn diffuse<R: Rack>(
     alloc: Global,
     store: &mut Store<R>,
     hot: &Hot,
-    wants: &Wants,
+    blocks: &[Vec<u32>],
     homes: &Homes,
     copies: &mut Homes,
 ) -> Result<DiffuseAnswer, NoMemory>
     requires sound { IsSound R.Rack store.old }
     requires whole { has_lost (shape_of store.old) (members_of store.old) ≡ false }
-    requires fit { FitWants (table_of store.old) wants.now }
-    requires placed { IsPlaced wants.now (table_of store.old) homes.now copies.old }
+    requires listed { (wants : List (Option Want)) × AreListed wants (table_of store.old) homes.now copies.old hot.now blocks.now }
     ensures moved { Moved R.Rack store.old store.new }
-    ensures placed { IsPlaced wants.now (table_of store.new) homes.now copies.new }
+    ensures placed { (wants : List (Option Want)) → AreListed wants (table_of store.old) homes.now copies.old hot.now blocks.now
+        → IsPlaced wants (table_of store.new) homes.now copies.new }
     ensures whole { IfOk result (λ answer. (n : ℕ) → answer ≡ DiffuseAnswer.Diffused n
         → has_lost (shape_of store.new) (members_of store.new) ≡ false) }
-    ensures diffused { IfOk result (λ answer. (n : ℕ) → answer ≡ DiffuseAnswer.Diffused n
-        → HasSpread wants.now homes.now hot.now (length hot.now) n copies.old copies.new store.old store.new) }
+    ensures diffused { (wants : List (Option Want)) → AreListed wants (table_of store.old) homes.now copies.old hot.now blocks.now
+        → IfOk result (λ answer. (n : ℕ) → answer ≡ DiffuseAnswer.Diffused n
+        → HasSpread wants homes.now hot.now (length hot.now) n copies.old copies.new store.old store.new) }
     ensures lost { IfOk result (λ answer. (s : ℕ) → answer ≡ DiffuseAnswer.Lost s → IsLost store.new s) }
-    ensures cut { IfOk result (λ answer. (s : ℕ) → answer ≡ DiffuseAnswer.Lost s
-        → HasSpreadSome wants.now homes.now hot.now copies.old copies.new store.old store.new) }
-    ensures err { OnErr result (HasSpreadSome wants.now homes.now hot.now copies.old copies.new store.old store.new) }
+    ensures cut { (wants : List (Option Want)) → AreListed wants (table_of store.old) homes.now copies.old hot.now blocks.now
+        → IfOk result (λ answer. (s : ℕ) → answer ≡ DiffuseAnswer.Lost s
+        → HasSpreadSome wants homes.now hot.now copies.old copies.new store.old store.new) }
+    ensures err { (wants : List (Option Want)) → AreListed wants (table_of store.old) homes.now copies.old hot.now blocks.now
+        → OnErr result (HasSpreadSome wants homes.now hot.now copies.old copies.new store.old store.new) }
 {
     let files = hot.inodes(alloc)?;
-    let blocks = blocks_of_files(alloc, wants, &files)?;
     let mut gained = 0;
     for place in 0..files.len() {
-        let more = spread_file(alloc, store, files[place], wants, &blocks, homes, copies)?;
+        let more = spread_file(alloc, store, files[place], &blocks[place], homes, copies)?;
         gained += more;
         if let Some(lost) = store.least_lost() {
             return Ok(DiffuseAnswer::Lost(lost));
@@ -74,35 +75,32 @@ pub fn diffuse<R: Rack>(
     Ok(DiffuseAnswer::Diffused(gained))
 }
 
-// Gives a file a copy where it is to have one, and tells how many got one: one or none. Where it is to have one and gets none,
-// a boundary is lost.
+// Gives a file with these blocks a copy where it is to have one, and tells how many got one: one or none. Where it is to have one
+// and gets none, a boundary is lost.
 fn spread_file<R: Rack>(
     alloc: Global,
     store: &mut Store<R>,
     inode: u32,
-    wants: &Wants,
     blocks: &[u32],
     homes: &Homes,
     copies: &mut Homes,
 ) -> Result<u32, NoMemory>
     requires sound { IsSound R.Rack store.old }
-    requires fit { FitWants (table_of store.old) wants.now }
-    requires placed { IsPlaced wants.now (table_of store.old) homes.now copies.old }
-    requires within { (b : ℕ) → Contains blocks.now b → b < length wants.now }
-    requires own { of_file wants.now inode blocks.now ≡ blocks_of wants.now inode }
+    requires homes { Ascend homes.now }
+    requires copies { Ascend copies.old }
+    requires apart { AreApart blocks.now }
+    requires can { (h s : ℕ) → home_of homes.now inode ≡ Some h → s ≢ h → home_of copies.old inode ≡ None
+        → CanCopy (table_of store.old) s blocks.now }
     ensures moved { Moved R.Rack store.old store.new }
     ensures spread { IfOk result (λ n. SpreadsOrNot
-        (spread_by wants.now inode (home_of homes.now inode) (home_of copies.old inode) (spread_of store.old copies.old))
+        (spread_with blocks.now inode (home_of homes.now inode) (home_of copies.old inode) (spread_of store.old copies.old))
         n copies.old copies.new store.old store.new) }
     ensures few { IfOk result (λ n. n ≤ 1) }
     ensures err { OnErr result (spread_of store.new copies.new ≡ spread_of store.old copies.old) }
 {
     match homes.home_of(inode) {
         None => Ok(0),
-        Some(boundary) => {
-            let home = Home { inode, boundary };
-            spread_homed(alloc, store, home, wants, blocks, copies)
-        }
+        Some(boundary) => spread_homed(alloc, store, Home { inode, boundary }, blocks, copies),
     }
 }
 
@@ -111,29 +109,23 @@ fn spread_homed<R: Rack>(
     alloc: Global,
     store: &mut Store<R>,
     home: Home,
-    wants: &Wants,
     blocks: &[u32],
     copies: &mut Homes,
 ) -> Result<u32, NoMemory>
     requires sound { IsSound R.Rack store.old }
     requires ascend { Ascend copies.old }
-    requires can { (s : ℕ) → s ≢ home.boundary → home_of copies.old home.inode ≡ None
-        → CanCopy (table_of store.old) s (blocks_of wants.now home.inode) }
-    requires within { (b : ℕ) → Contains blocks.now b → b < length wants.now }
-    requires own { of_file wants.now home.inode blocks.now ≡ blocks_of wants.now home.inode }
+    requires apart { AreApart blocks.now }
+    requires can { (s : ℕ) → s ≢ home.boundary → home_of copies.old home.inode ≡ None → CanCopy (table_of store.old) s blocks.now }
     ensures moved { Moved R.Rack store.old store.new }
     ensures spread { IfOk result (λ n. SpreadsOrNot
-        (spread_by wants.now home.inode (Some home.boundary) (home_of copies.old home.inode) (spread_of store.old copies.old))
+        (spread_with blocks.now home.inode (Some home.boundary) (home_of copies.old home.inode) (spread_of store.old copies.old))
         n copies.old copies.new store.old store.new) }
     ensures few { IfOk result (λ n. n ≤ 1) }
     ensures err { OnErr result (spread_of store.new copies.new ≡ spread_of store.old copies.old) }
 {
     match copies.home_of(home.inode) {
         Some(_) => Ok(0),
-        None => {
-            let own = blocks_of_file(alloc, wants, blocks, home.inode)?;
-            copy_file(alloc, store, home, &own, copies)
-        }
+        None => copy_file(alloc, store, home, blocks, copies),
     }
 }
 

@@ -4,6 +4,7 @@ pub mod BoundLaws
 pub mod ChainLaws
 pub mod ChangeLaws
 pub mod FetchedLaws
+pub mod FileLaws
 pub mod GroupLaws
 pub mod KindLaws
 pub mod ListLaws

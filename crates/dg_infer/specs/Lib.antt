@@ -5,6 +5,7 @@ pub mod Chains
 pub mod Changes
 pub mod Claimed
 pub mod Fetched
+pub mod Files
 pub mod Fits
 pub mod Inferences
 pub mod Known

@@ -5,6 +5,7 @@
 
 mod areas;
 mod chains;
+mod files;
 mod fresh;
 mod groups;
 mod inferences;

@@ -59,7 +59,7 @@ fn own_verdict(geometry: Option<Geometry>, block: u32) -> Option<Who>
 }
 
 /// Whether an inode is kept as a regular file.
-fn is_regular(kinds: &BTreeMap<u32, Kind>, inode: u32) -> bool
+pub fn is_regular(kinds: &BTreeMap<u32, Kind>, inode: u32) -> bool
     ensures { Decides result (kind_at kinds.now.entries inode ≡ Some Regular) }
 {
     match kinds.get(&inode) {

@@ -319,6 +319,51 @@ fn the_other_order_of_bytes(rt: HostRuntime) -> Result<(), Fail> {
     Ok(())
 }
 
+/// Whether the blocks of a regular file are those from one on, up to another.
+fn has_blocks(
+    alloc: Global,
+    array: &Array,
+    inode: u32,
+    first: u32,
+    end: u32,
+) -> Result<bool, Fail> {
+    let Ok(blocks) = array.inference.file_blocks(alloc, inode) else {
+        return Err("memory".into());
+    };
+    let mut wanted = Vec::new(alloc);
+    for block in first..end {
+        wanted.push(block)?;
+    }
+    Ok(blocks == wanted)
+}
+
+#[test]
+fn blocks_of_files(rt: HostRuntime) -> Result<(), Fail> {
+    let alloc = rt.alloc();
+    let mut image = image_of(alloc, Which::F)?;
+    let mut array = blank(alloc)?;
+    write_all(alloc, &mut array, &image, &[8, 9, 28, 84])?;
+    assert!(rt; has_blocks(alloc, &array, 3, 34, 35)?);
+    assert!(rt; has_blocks(alloc, &array, 5, 36, 92)?);
+    assert!(rt; has_blocks(alloc, &array, 7, 92, 94)?);
+    for inode in [0u32, 1, 2, 4, 6, 8, 31, 32, 4294967295] {
+        assert!(rt; has_blocks(alloc, &array, inode, 0, 0)?);
+    }
+    set_size(&mut image, 6, 5)?;
+    set_slot(&mut image, 6, 0, 34)?;
+    write(alloc, &mut array, &image, 28)?;
+    assert!(rt; has_blocks(alloc, &array, 3, 0, 0)?);
+    assert!(rt; has_blocks(alloc, &array, 6, 0, 0)?);
+    set_slot(&mut image, 6, 0, 28)?;
+    write(alloc, &mut array, &image, 28)?;
+    assert!(rt; has_blocks(alloc, &array, 3, 34, 35)?);
+    assert!(rt; has_blocks(alloc, &array, 6, 0, 0)?);
+    set_slot(&mut image, 6, 0, 94)?;
+    write(alloc, &mut array, &image, 28)?;
+    assert!(rt; has_blocks(alloc, &array, 6, 94, 95)?);
+    Ok(())
+}
+
 #[test]
 fn blocks_that_are_dead(rt: HostRuntime) -> Result<(), Fail> {
     let alloc = rt.alloc();

@@ -1,9 +1,8 @@
 -- A settled volume makes a step by a spreading of copies.
 use Rattle.std.proofs.Common.{◌≡◌, ◌∙◌, ◌<◌, ◌≤◌, ◌/◌, ◌^◌, ◌==◌, ◌||◌, ℕ, Bool, true, false, List, [], ◌∷◌, length, inl, inr, refl, sym, ap, subst, arith}
-use Rattle.std.specs.Prelude.{◌++◌, All, Err, IfOk, IfSome, IsSome, None, Ok, Option, Result, Some, filter, if◌then◌else◌, is_some, option_to_list, take}
+use Rattle.std.specs.Prelude.{◌++◌, All, Err, IfOk, IfSome, IsSome, None, Ok, Option, Result, Some, filter, if◌then◌else◌, option_to_list, take}
 use Rattle.std.specs.List.{list_any, range_with_len}
 use Rattle.std.proofs.lemmas.Bool.{cases_lt, eq-eqb, eqb-true, false≢true, or_left, or_right}
-use Rattle.std.proofs.lemmas.List.Elements.{filter_agree}
 use Rattle.dg_hot.specs.Spreads.{HasSpread, HasSpreadSome, IsLost, spread_of}
 use Rattle.dg_hot.specs.declared.spreads.DiffuseAnswer.{DiffuseAnswer}
 use Rattle.dg_hot.specs.declared.spreads.DiffuseAnswer.TheVariants.{Diffused, Lost}
@@ -15,7 +14,7 @@ use Rattle.dg_model.specs.Changes.{Spreads}
 use Rattle.dg_model.specs.Copies.{spread_over}
 use Rattle.dg_model.specs.Homes.{home_of}
 use Rattle.dg_model.specs.Placed.{IsPlaced, boundaries_with}
-use Rattle.dg_model.specs.Plans.{count_of, is_file}
+use Rattle.dg_model.specs.Plans.{is_file}
 use Rattle.dg_model.specs.Saves.{AreHomes}
 use Rattle.dg_model.specs.States.{IsLeastLost, State, has_lost}
 use Rattle.dg_model.specs.Steps.{Step}
@@ -34,43 +33,12 @@ use Rattle.dg_volume.proofs.HomeLaws.{are_homes}
 use Rattle.dg_volume.proofs.PlacedLaws.{off_table}
 use Rattle.dg_store.specs.Answers.{SameWritten}
 use Rattle.dg_volume.proofs.VolumeLaws.{Labels, StepsAt, label_by, on_label}
-use Rattle.dg_volume.proofs.WantedLaws.{one_want}
 use Rattle.dg_volume.specs.Copies.{StepsHot, diffuse_reply}
 use Rattle.dg_volume.specs.Planned.{AreWanted, HasMovedArray}
 use Rattle.dg_volume.specs.Settles.{KeepsArray}
 use Rattle.dg_volume.specs.Volumes.{AreWantsBy, FitsArray, IsInPlace, IsWell, Leaves, StandsFor, StandsIn, Tells, marks_by, marks_of, members_of, rack_of, shape_of, state_of, table_of}
 use Rattle.dg_volume.specs.declared.phases.InPhase as phases
 use Rattle.dg_volume.specs.declared.volumes.Volume.{Volume}
-
--- ---- wants that are made anew
-
--- one block is one thing, by what is kept
-module _ (table : Table) (kept : KeptInference) (one two : List (Option Want)) (fit : FitWants table one) (fits : FitWants table two) (by : AreWantsBy kept one) (bys : AreWantsBy kept two) where
-  same_at : (b : ℕ) (x y : Option Want) → want_of one b ≡ x → want_of two b ≡ y → is_some x ≡ is_some y → x ≡ y
-  same_at b None None e f is = refl
-  same_at b None (Some want) e f is = absurd (false≢true is)
-  same_at b (Some want) None e f is = absurd (false≢true (sym is))
-  same_at b (Some x) (Some y) e f is = ap Some (one_want kept b x y (by b x e) (bys b y f))
-
-  same_want : (b : ℕ) → want_of one b ≡ want_of two b
-  same_want b = same_at b (want_of one b) (want_of two b) refl refl (fit.written b ∙ sym (fits.written b))
-
-  same_count : (i : ℕ) → count_of one i ≡ count_of two i
-  same_count i =
-      ap (λ (n : ℕ). length (filter (λ b. is_file i (want_of one b)) (range_with_len 0 n))) (fit.size ∙ sym fits.size)
-      ∙ ap length (filter_agree (λ b. is_file i (want_of one b)) (λ b. is_file i (want_of two b)) (λ b. ap (is_file i) (same_want b)) (range_with_len 0 (length two)))
-
-  placed_anew : (homes copies : List Home) → IsPlaced one table homes copies → IsPlaced two table homes copies
-  placed_anew homes copies placed = record {
-    kept = λ b found. placed.kept b (same_want b ∙ found);
-    file = λ b i found. placed.file b i (same_want b ∙ found);
-    homes_are = λ i.
-        let both = placed.homes_are i in
-        (λ h. subst (λ (n : ℕ). 0 < n) (same_count i) (both.0 h), λ h. both.1 (subst (λ (n : ℕ). 0 < n) (sym (same_count i)) h));
-    copies_are = placed.copies_are;
-    homes_ascend = placed.homes_ascend;
-    copies_ascend = placed.copies_ascend;
-  }
 
 -- ---- copies stand on boundaries of the array
 
@@ -82,7 +50,7 @@ some_kept test (x ∷ xs) h = by_test (test x) refl h (λ low. some_kept test xs
     by_test true is low rest = (x, is)
     by_test false is low rest = rest (subst (λ (b : Bool). 0 < length (if b then x ∷ filter test xs else filter test xs)) is low)
 
-file_want : (i : ℕ) (want : Option Want) → is_file i want ≡ true → want ≡ Some (File i)
+pub file_want : (i : ℕ) (want : Option Want) → is_file i want ≡ true → want ≡ Some (File i)
 file_want i None h = absurd (false≢true h)
 file_want i (Some Kept) h = absurd (false≢true h)
 file_want i (Some (File j)) h = ap (λ (k : ℕ). Some (File k)) (eqb-true j i h)
@@ -132,13 +100,19 @@ module _ {S R : Type 0} (phase : phases.Ghosts S) (rack : Ghosts R) where
     pub lost : IfOk result (λ answer. (s : ℕ) → answer ≡ Lost s → IsLost b.store s)
     pub cut : IfOk result (λ answer. (s : ℕ) → answer ≡ Lost s → HasSpreadSome wants a.homes hot a.copies b.copies a.store b.store)
 
-  -- the wants that are made anew are those by which each block is in its place
-  pub placed_by : (a : Volume S R) (kept : KeptInference) (wants : List (Option Want)) → IsWell phase rack a → phase.phase a.phase ≡ SettledPhase → phase.kept a.phase ≡ Some kept
-      → AreWanted (table_of a) kept wants → IsPlaced wants (table_of a) a.homes a.copies
-  placed_by a kept wants well settled is wanted =
-      let place = well.settled settled in
-      let by : AreWantsBy kept place.wants = subst (λ (k : Option KeptInference). IfSome k (λ inference. AreWantsBy inference place.wants)) is place.by in
-      placed_anew (table_of a) kept place.wants wants place.fit wanted.fit by wanted.by a.homes a.copies place.placed
+  -- the wants by which each block of a settled volume is in its place
+  pub wanted_by : (a : Volume S R) (kept : KeptInference) → IsWell phase rack a → phase.kept a.phase ≡ Some kept
+      → (place : IsInPlace (table_of a) (phase.kept a.phase) a.homes a.copies) → AreWanted (table_of a) kept place.wants
+  wanted_by a kept well is place =
+      let fitted : FitsArray (shape_of a) kept = subst (λ (k : Option KeptInference). IfSome k (FitsArray (shape_of a))) is well.inferred in
+      record {
+        fit = place.fit;
+        are = λ V held.
+            let found : inferences.StandsFor kept V → AreWants (shape_of a).l (shape_of a).n V place.wants =
+            subst (λ (k : Option KeptInference). IfSome k (λ inference. inferences.StandsFor inference V → AreWants (shape_of a).l (shape_of a).n V place.wants)) is (place.are V) in
+            subst (λ (l : ℕ). AreWants l kept.n V place.wants) (sym fitted.bytes) (subst (λ (n : ℕ). AreWants (shape_of a).l n V place.wants) (sym fitted.number) (found held));
+        by = subst (λ (k : Option KeptInference). IfSome k (λ inference. AreWantsBy inference place.wants)) is place.by;
+      }
 
   module _ {E : Type 0} (a : Volume S R) (kept : KeptInference) (wants : List (Option Want)) (hot : List ℕ) (result : Result DiffuseAnswer E) (b : Volume S R) (h : HasDiffused a kept wants hot result b) where
     same_shape : shape_of b ≡ shape_of a

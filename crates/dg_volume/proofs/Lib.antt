@@ -8,10 +8,12 @@ mod FileLaws
 mod GoneLaws
 mod HomeLaws
 mod LabelLaws
+mod ListedLaws
 mod LooseLaws
 mod MoveSteps
 mod OpenLaws
 mod OpenSteps
+mod OrderLaws
 mod PathSteps
 mod PlacedLaws
 mod ReapLaws

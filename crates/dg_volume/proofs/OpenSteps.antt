@@ -44,7 +44,7 @@ use Rattle.dg_store.specs.declared.store.Store.{Store}
 use Rattle.dg_volume.specs.Opens.{HadBody, HasOpened, IsDisordered, IsMadeOf, IsOrdered, IsPhaseOf, IsRestored, had}
 use Rattle.dg_volume.specs.Phases.{kept_in, phase_in}
 use Rattle.dg_volume.specs.Planned.{HasReadArray}
-use Rattle.dg_volume.specs.Volumes.{FitsArray, IsInPlace, IsWell, StandsFor, StandsIn, Tells, any_phase, marks_by, marks_of, members_of, rack_of, shape_of, state_of, table_of}
+use Rattle.dg_volume.specs.Volumes.{FitsArray, IsInPlace, IsWell, StandsIn, Tells, any_phase, marks_by, marks_of, members_of, rack_of, shape_of, table_of}
 use Rattle.dg_volume.specs.declared.phases.AnyPhase.{AnyPhase}
 use Rattle.dg_volume.specs.declared.phases.AnyPhase.TheVariants.{Loose, Settled, Worn}
 use Rattle.dg_volume.specs.declared.volumes.Volume.{Volume}

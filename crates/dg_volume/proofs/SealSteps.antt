@@ -4,7 +4,7 @@ use Rattle.std.specs.Prelude.{All, Err, IfOk, None, Ok, OnErr, Option, Result, S
 use Rattle.std.proofs.Math.Seq.{take-length}
 use Rattle.std.proofs.lemmas.Bool.{false≢true}
 use Rattle.std.proofs.lemmas.Bool.Decides.{nat_tests}
-use Rattle.dg_hot.specs.Spreads.{HasSpread, HasSpreadSome, Moved, spread_of}
+use Rattle.dg_hot.specs.Spreads.{HasSpread, HasSpreadSome, Moved, lacks_copy, spread_of}
 use Rattle.dg_hot.specs.declared.spreads.DiffuseAnswer.{DiffuseAnswer}
 use Rattle.dg_hot.specs.declared.spreads.DiffuseAnswer.TheVariants.{Diffused, Lost as DiffuseLost}
 use Rattle.dg_io.specs.declared.outside.Rack.{Ghosts}
@@ -39,7 +39,7 @@ use Rattle.dg_volume.proofs.ArrayLaws.{moved_by, moved_then, opened_array}
 use Rattle.dg_volume.proofs.LabelLaws.{good_whole, opened_opens, relabels_none, relabels_opened, relabels_then, relabels_where, slots_kept}
 use Rattle.dg_volume.specs.Planned.{HasMovedArray}
 use Rattle.dg_volume.specs.Refills.{HasFilling, OpensRefill}
-use Rattle.dg_volume.specs.Seals.{EndsMoves, FallsOn, HasStoredBlock, OpensWhere, Relabels, lacks_copy, opening_calls}
+use Rattle.dg_volume.specs.Seals.{EndsMoves, FallsOn, HasStoredBlock, OpensWhere, Relabels, opening_calls}
 use Rattle.dg_volume.specs.declared.refills.RebuildAnswer.{RebuildAnswer}
 use Rattle.dg_volume.specs.declared.refills.RebuildAnswer.TheVariants.{Failed as RebuildFailed, Lost as RebuildLost}
 

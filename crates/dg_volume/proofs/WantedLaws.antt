@@ -1,12 +1,21 @@
 -- By what is kept one block is one thing to the plan.
-use Rattle.std.proofs.Common.{◌≡◌, ◌∙◌, ℕ, inl, inr, refl, sym, ap, subst}
+use Rattle.std.proofs.Common.{◌≡◌, ◌∙◌, ◌<◌, ℕ, List, length, inl, inr, refl, sym, ap, subst}
+use Rattle.std.specs.Prelude.{None, Option, Some, filter, is_some}
+use Rattle.std.specs.List.{range_with_len}
 use Rattle.std.proofs.lemmas.Bool.{false≢true}
+use Rattle.std.proofs.lemmas.List.Elements.{filter_agree}
 use Rattle.dg_claims.specs.Kept.{table_of}
 use Rattle.dg_claims.specs.Tables.{TableClaims}
 use Rattle.dg_infer.specs.Meanings.{KeptInference}
 use Rattle.dg_infer.specs.Wants.{IsOfBy, IsRegularBy, IsWantBy}
+use Rattle.dg_model.specs.Placed.{IsPlaced}
+use Rattle.dg_model.specs.Plans.{count_of, is_file}
+use Rattle.dg_model.specs.Tables.{Table}
+use Rattle.dg_model.specs.Wants.{want_of}
+use Rattle.dg_model.specs.declared.homes.Home.{Home}
 use Rattle.dg_model.specs.declared.wants.Want.{Want}
 use Rattle.dg_model.specs.declared.wants.Want.TheVariants.{File, Kept, Stray}
+use Rattle.dg_volume.specs.Planned.{AreWanted}
 use Rattle.ufs_model.specs.Owners.{IsOwner}
 use Rattle.ufs_model.specs.Owners.IsOwner.{by_own_slot, by_upper}
 use Rattle.ufs_model.specs.declared.claims.ClaimSource.{ClaimSource}
@@ -57,3 +66,33 @@ module _ (kept : KeptInference) (b : ℕ) where
   one_want Stray Kept one other = absurd (kept_stray other one)
   one_want Stray (File i) one other = absurd (one.1 i other.1)
   one_want Stray Stray one other = refl
+
+-- ---- wants that are made anew
+
+-- one block is one thing, by what is kept
+module _ (table : Table) (kept : KeptInference) (one two : List (Option Want)) (old : AreWanted table kept one) (new : AreWanted table kept two) where
+  same_at : (b : ℕ) (x y : Option Want) → want_of one b ≡ x → want_of two b ≡ y → is_some x ≡ is_some y → x ≡ y
+  same_at b None None e f is = refl
+  same_at b None (Some want) e f is = absurd (false≢true is)
+  same_at b (Some want) None e f is = absurd (false≢true (sym is))
+  same_at b (Some x) (Some y) e f is = ap Some (one_want kept b x y (old.by b x e) (new.by b y f))
+
+  same_want : (b : ℕ) → want_of one b ≡ want_of two b
+  same_want b = same_at b (want_of one b) (want_of two b) refl refl (old.fit.written b ∙ sym (new.fit.written b))
+
+  same_count : (i : ℕ) → count_of one i ≡ count_of two i
+  same_count i =
+      ap (λ (n : ℕ). length (filter (λ b. is_file i (want_of one b)) (range_with_len 0 n))) (old.fit.size ∙ sym new.fit.size)
+      ∙ ap length (filter_agree (λ b. is_file i (want_of one b)) (λ b. is_file i (want_of two b)) (λ b. ap (is_file i) (same_want b)) (range_with_len 0 (length two)))
+
+  pub placed_anew : (homes copies : List Home) → IsPlaced one table homes copies → IsPlaced two table homes copies
+  placed_anew homes copies placed = record {
+    kept = λ b found. placed.kept b (same_want b ∙ found);
+    file = λ b i found. placed.file b i (same_want b ∙ found);
+    homes_are = λ i.
+        let both = placed.homes_are i in
+        (λ h. subst (λ (n : ℕ). 0 < n) (same_count i) (both.0 h), λ h. both.1 (subst (λ (n : ℕ). 0 < n) (sym (same_count i)) h));
+    copies_are = placed.copies_are;
+    homes_ascend = placed.homes_ascend;
+    copies_ascend = placed.copies_ascend;
+  }

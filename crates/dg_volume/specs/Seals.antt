@@ -1,16 +1,14 @@
 -- What calls that open the seal of the label where they write leave of an array and of the label.
-use Rattle.std.specs.Prelude.{◌≡◌, ◌&&◌, ℕ, Bool, true, false, List, Option, Some, if◌then◌else◌, is_some, not}
+use Rattle.std.specs.Prelude.{◌≡◌, ℕ, Bool, true, false, List, Option, Some, if◌then◌else◌}
 use Rattle.dg_io.specs.declared.outside.Rack.{Ghosts}
 use Rattle.dg_label.specs.Labels.{IsLabeled, StandsLabeled, is_sealed}
 use Rattle.dg_label.specs.Seals.{KeepsArray, OpensSeal}
 use Rattle.dg_label.specs.declared.labels.KeptLabel.{KeptLabel}
-use Rattle.dg_model.specs.Homes.{home_of}
 use Rattle.dg_model.specs.Members.{MembersFall}
 use Rattle.dg_model.specs.Moves.{IsCutOff}
 use Rattle.dg_model.specs.Seals.{LastLabel, label_after}
 use Rattle.dg_model.specs.Sites.{IsSited, all_lost}
 use Rattle.dg_model.specs.Tables.{Table, sites_in}
-use Rattle.dg_model.specs.declared.homes.Home.{Home}
 use Rattle.dg_move.specs.Answers.{IsTended}
 use Rattle.dg_move.specs.declared.tends.TendAnswer.{TendAnswer}
 use Rattle.dg_move.specs.declared.tends.TendAnswer.TheVariants.{Lost, Tended}
@@ -57,7 +55,3 @@ pub record HasStoredBlock {R : Type 0} (rack : Ghosts R) (b : ℕ) (value : List
 -- the calls that open a seal, where a label is sealed
 abbrev pub opening_calls : Option KeptLabel → ℕ → ℕ
 opening_calls label members = if is_sealed label then members else 0
-
--- a file has a home and no copy
-abbrev pub lacks_copy : List Home → List Home → ℕ → Bool
-lacks_copy homes copies i = is_some (home_of homes i) && not (is_some (home_of copies i))

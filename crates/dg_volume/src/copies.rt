@@ -7,7 +7,7 @@ ghost use Rattle.dg_volume.specs.Settles.{KeepsArray};
 ghost use Rattle.dg_volume.specs.Volumes.{IsWell, Leaves, any_phase, phase_of, settled_phase};
 
 use crate::phases::{AnyPhase, InPhase, Settled};
-use crate::plans::{all_wants, inodes_fit};
+use crate::plans::inodes_fit;
 use crate::seals::spread_recent;
 use crate::volumes::Volume;
 use dg_hot::{DiffuseAnswer, Hot};
@@ -39,13 +39,12 @@ impl<S: InPhase, R: Rack> Volume<S, R> {
         let Some(inference) = self.phase.inference() else {
             unreachable!();
         };
-        let wants = all_wants(alloc, &self.store, inference)?;
         let answer = spread_recent(
             alloc,
             &mut self.store,
             &mut self.label,
             hot,
-            &wants,
+            inference,
             &self.homes,
             &mut self.copies,
         );

@@ -7,6 +7,7 @@
 
 mod any;
 mod copies;
+mod file_lists;
 mod opens;
 mod paths;
 mod phases;

@@ -1,5 +1,5 @@
 // Opening the seal of the label, and what is written behind that.
-ghost use Rattle.std.specs.Prelude.{◌≡◌, ◌+◌, ◌*◌, ◌<◌, ℕ, All, false, true, length, max, IfOk, OnErr};
+ghost use Rattle.std.specs.Prelude.{◌≡◌, ◌+◌, ◌*◌, ◌<◌, ℕ, All, List, Option, false, true, length, max, IfOk, OnErr};
 ghost use Rattle.dg_hot.specs.Spreads.{HasSpread, HasSpreadSome, IsLost};
 ghost use Rattle.dg_label.specs.Labels.{IsLabeled};
 ghost use Rattle.dg_model.specs.Homes.{Ascend};
@@ -7,20 +7,22 @@ ghost use Rattle.dg_model.specs.Moves.{AreTargets};
 ghost use Rattle.dg_model.specs.Placed.{IsPlaced};
 ghost use Rattle.dg_model.specs.States.{has_lost};
 ghost use Rattle.dg_model.specs.Tables.{sites_in};
-ghost use Rattle.dg_model.specs.Wants.{FitWants};
+ghost use Rattle.dg_model.specs.declared.wants.Want.{Want};
 ghost use Rattle.dg_move.specs.Answers.{NamesLoss};
 ghost use Rattle.dg_plan.specs.Targets.{blocks_in, wants_of};
 ghost use Rattle.dg_store.specs.Answers.{IsAllLost, IsUnchanged, SameWritten};
 ghost use Rattle.dg_store.specs.Leaves.{CallsAtMost};
 ghost use Rattle.dg_store.specs.Stores.{IsSound, members_of, shape_of, table_of};
-ghost use Rattle.dg_volume.specs.Planned.{HasMovedArray};
-ghost use Rattle.dg_volume.specs.Seals.{EndsMoves, FallsOn, HasStoredBlock, OpensWhere, Relabels, lacks_copy, opening_calls};
+ghost use Rattle.dg_volume.specs.Planned.{AreWanted, HasMovedArray};
+ghost use Rattle.dg_volume.specs.Seals.{EndsMoves, FallsOn, HasStoredBlock, OpensWhere, Relabels, opening_calls};
 
+use crate::file_lists::{any_lacks_copy, file_lists};
 use dg_hot::{DiffuseAnswer, Hot, diffuse};
+use dg_infer::Inference;
 use dg_io::{NoMemory, Rack};
 use dg_label::{KeptLabel, open_seal};
 use dg_move::{TendAnswer, missing, tend};
-use dg_plan::{Homes, Targets, Wants};
+use dg_plan::{Homes, Targets};
 use dg_store::{Store, StoreWrite};
 use std::alloc::Global;
 
@@ -86,66 +88,45 @@ pub fn move_within<R: Rack>(
     tend(store, targets, limit)
 }
 
-/// Whether a file has a home and no copy.
-fn lacks_copy(homes: &Homes, copies: &Homes, inode: u32) -> bool
-    requires homes { Ascend homes.now }
-    requires copies { Ascend copies.now }
-    ensures { result ≡ lacks_copy homes.now copies.now inode }
-{
-    match homes.home_of(inode) {
-        Some(_) => copies.home_of(inode).is_none(),
-        None => false,
-    }
-}
-
-/// Whether some of these files has a home and no copy.
-fn any_lacks_copy(homes: &Homes, copies: &Homes, inodes: &[u32]) -> bool
-    requires homes { Ascend homes.now }
-    requires copies { Ascend copies.now }
-    ensures { result ≡ false → All (λ i. lacks_copy homes.now copies.now i ≡ false) inodes.now }
-{
-    for inode in inodes {
-        if lacks_copy(homes, copies, *inode) {
-            return true;
-        }
-    }
-    false
-}
-
-/// Copies the files that were read last, where one of them has a home and no copy. The seal is opened before that.
+/// Copies the files that were read last, where one of them has a home and no copy. The seal is opened before that. The cost is
+/// that of the files that are copied, and not of the array.
 pub fn spread_recent<R: Rack>(
     alloc: Global,
     store: &mut Store<R>,
     label: &mut Option<KeptLabel>,
     hot: &Hot,
-    wants: &Wants,
+    inference: &Inference,
     homes: &Homes,
     copies: &mut Homes,
 ) -> Result<DiffuseAnswer, NoMemory>
     requires sound { IsSound R.Rack store.old }
     requires labeled { IsLabeled R.Rack store.old label.old }
     requires whole { has_lost (shape_of store.old) (members_of store.old) ≡ false }
-    requires fit { FitWants (table_of store.old) wants.now }
-    requires placed { IsPlaced wants.now (table_of store.old) homes.now copies.old }
+    requires placed { (wants : List (Option Want)) × AreWanted (table_of store.old) inference.now wants
+        × IsPlaced wants (table_of store.old) homes.now copies.old }
     ensures array { HasMovedArray R.Rack store.old store.new }
     ensures written { SameWritten (table_of store.old) (table_of store.new) }
     ensures label { Relabels R.Rack store.old store.new label.old label.new }
-    ensures placed { IsPlaced wants.now (table_of store.new) homes.now copies.new }
+    ensures placed { (wants : List (Option Want)) → AreWanted (table_of store.old) inference.now wants
+        → IsPlaced wants (table_of store.new) homes.now copies.new }
     ensures whole { IfOk result (λ answer. (n : ℕ) → answer ≡ DiffuseAnswer.Diffused n
         → has_lost (shape_of store.new) (members_of store.new) ≡ false) }
-    ensures diffused { IfOk result (λ answer. (n : ℕ) → answer ≡ DiffuseAnswer.Diffused n
-        → HasSpread wants.now homes.now hot.now (length hot.now) n copies.old copies.new store.old store.new) }
+    ensures diffused { (wants : List (Option Want)) → AreWanted (table_of store.old) inference.now wants
+        → IfOk result (λ answer. (n : ℕ) → answer ≡ DiffuseAnswer.Diffused n
+        → HasSpread wants homes.now hot.now (length hot.now) n copies.old copies.new store.old store.new) }
     ensures lost { IfOk result (λ answer. (s : ℕ) → answer ≡ DiffuseAnswer.Lost s → IsLost store.new s) }
-    ensures cut { IfOk result (λ answer. (s : ℕ) → answer ≡ DiffuseAnswer.Lost s
-        → HasSpreadSome wants.now homes.now hot.now copies.old copies.new store.old store.new) }
+    ensures cut { (wants : List (Option Want)) → AreWanted (table_of store.old) inference.now wants
+        → IfOk result (λ answer. (s : ℕ) → answer ≡ DiffuseAnswer.Lost s
+        → HasSpreadSome wants homes.now hot.now copies.old copies.new store.old store.new) }
 {
     let recent = hot.inodes(alloc)?;
     if !any_lacks_copy(homes, copies, &recent) {
         return Ok(DiffuseAnswer::Diffused(0));
     }
+    let blocks = file_lists(alloc, store, inference, homes, copies, &recent)?;
     open_seal(store, label);
     if let Some(lost) = store.least_lost() {
         return Ok(DiffuseAnswer::Lost(lost));
     }
-    diffuse(alloc, store, hot, wants, homes, copies)
+    diffuse(alloc, store, hot, &blocks, homes, copies)
 }

@@ -1,13 +1,16 @@
-use Rattle.std.proofs.Common.{◌≡◌, ◌≤◌, false}
+use Rattle.std.proofs.Common.{◌≡◌, ◌≤◌, false, List}
+use Rattle.std.specs.Prelude.{Option}
 use Rattle.dg_model.specs.States.{has_lost}
-use Rattle.dg_store.specs.Stores.{members_of, shape_of}
-use Rattle.dg_hot.specs.Spreads.{HasSpread, Moved}
+use Rattle.dg_model.specs.declared.wants.Want.{Want}
+use Rattle.dg_store.specs.Stores.{members_of, shape_of, table_of}
+use Rattle.dg_hot.specs.Spreads.{AreListed, HasSpread, Moved}
 use Rattle.dg_hot.proofs.spreads.diffuse.Given as goal
 
 abbrev pub invariant-loop-place : goal.invariant-loop-place
 invariant-loop-place g l = record {
   moved : Moved g.R.Rack l.fn.store l.store;
   whole : has_lost (shape_of l.store) (members_of l.store) ≡ false;
-  spread : HasSpread l.wants l.homes l.files.items l.place l.gained l.fn.copies l.copies l.fn.store l.store;
+  spread : (wants : List (Option Want)) → AreListed wants (table_of l.fn.store) l.homes l.fn.copies l.hot l.blocks
+      → HasSpread wants l.homes l.files.items l.place l.gained l.fn.copies l.copies l.fn.store l.store;
   few : l.gained ≤ l.place;
 }

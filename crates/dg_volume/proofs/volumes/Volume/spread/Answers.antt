@@ -1,25 +1,29 @@
 use Rattle.std.proofs.Common.{◌<◌, ◌^◌, List, refl, subst}
 use Rattle.std.specs.Prelude.{All}
 use Rattle.dg_model.specs.declared.homes.Home.{Home}
-use Rattle.dg_volume.proofs.CopySteps.{diffuse_leaves, diffuse_steps, placed_by}
+use Rattle.dg_volume.proofs.CopySteps.{diffuse_leaves, diffuse_steps, wanted_by}
 use Rattle.dg_volume.proofs.volumes.Volume.spread.Goals as goal
 
 pub spread_recent-answer-requires-clause-placed : goal.spread_recent-answer-requires-clause-placed
 spread_recent-answer-requires-clause-placed g c =
-    placed_by g.S.InPhase g.R.Rack c.args.self.now c.in-Some-inference.inference.now c.in_ok-wants.wants c.requires.well c.requires.settled c.in-Some-inference.ensures.kept c.in_ok-wants.ensures
+    let place = c.requires.well.settled c.requires.settled in
+    let wanted = wanted_by g.S.InPhase g.R.Rack c.args.self.now c.in-Some-inference.inference.now c.requires.well c.in-Some-inference.ensures.kept place in
+    (place.wants, wanted, place.placed)
 
 pub returns-clause-leaves : goal.returns-clause-leaves
 returns-clause-leaves g c =
     let a = c.args.self.now in
+    let place = c.requires.well.settled c.requires.settled in
+    let wanted = wanted_by g.S.InPhase g.R.Rack c.args.self.now c.in-Some-inference.inference.now c.requires.well c.in-Some-inference.ensures.kept place in
     let k = c.spread_recent-answer.ensures in
-    diffuse_leaves g.S.InPhase g.R.Rack a c.in-Some-inference.inference.now c.in_ok-wants.wants c.args.hot.now c.spread_recent-answer.result
+    diffuse_leaves g.S.InPhase g.R.Rack a c.in-Some-inference.inference.now place.wants c.args.hot.now c.spread_recent-answer.result
     (record a { store = c.spread_recent-answer.new.store; label = c.spread_recent-answer.new.label; copies = c.spread_recent-answer.new.copies })
     (record {
       well = c.requires.well;
       settled = c.requires.settled;
       kept_is = c.in-Some-inference.ensures.kept;
       whole = c.in_default.ensures;
-      wanted = c.in_ok-wants.ensures;
+      wanted = wanted;
       phase_is = refl;
       pending = refl;
       homes = refl;
@@ -28,25 +32,27 @@ returns-clause-leaves g c =
       moved = k.array;
       written = k.written;
       labels = k.label;
-      placed = k.placed;
+      placed = k.placed place.wants wanted;
       live = k.whole;
-      diffused = k.diffused;
+      diffused = k.diffused place.wants wanted;
       lost = k.lost;
-      cut = k.cut;
+      cut = k.cut place.wants wanted;
     })
 
 pub returns-clause-steps : goal.returns-clause-steps
 returns-clause-steps g c =
     let a = c.args.self.now in
+    let place = c.requires.well.settled c.requires.settled in
+    let wanted = wanted_by g.S.InPhase g.R.Rack c.args.self.now c.in-Some-inference.inference.now c.requires.well c.in-Some-inference.ensures.kept place in
     let k = c.spread_recent-answer.ensures in
-    diffuse_steps g.S.InPhase g.R.Rack a c.in-Some-inference.inference.now c.in_ok-wants.wants c.args.hot.now c.spread_recent-answer.result
+    diffuse_steps g.S.InPhase g.R.Rack a c.in-Some-inference.inference.now place.wants c.args.hot.now c.spread_recent-answer.result
     (record a { store = c.spread_recent-answer.new.store; label = c.spread_recent-answer.new.label; copies = c.spread_recent-answer.new.copies })
     (record {
       well = c.requires.well;
       settled = c.requires.settled;
       kept_is = c.in-Some-inference.ensures.kept;
       whole = c.in_default.ensures;
-      wanted = c.in_ok-wants.ensures;
+      wanted = wanted;
       phase_is = refl;
       pending = refl;
       homes = refl;
@@ -55,9 +61,9 @@ returns-clause-steps g c =
       moved = k.array;
       written = k.written;
       labels = k.label;
-      placed = k.placed;
+      placed = k.placed place.wants wanted;
       live = k.whole;
-      diffused = k.diffused;
+      diffused = k.diffused place.wants wanted;
       lost = k.lost;
-      cut = k.cut;
+      cut = k.cut place.wants wanted;
     })
