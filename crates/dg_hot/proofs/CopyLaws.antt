@@ -1,35 +1,24 @@
 -- The table while blocks are copied to a boundary, and while they give their copies up.
-use Rattle.std.proofs.Common.{◌≡◌, ◌≢◌, ◌<◌, ◌≤◌, ◌+◌, ◌++◌, ◌==◌, ℕ, zero, suc, true, cond, List, [], ◌∷◌, length, get_or, inl, inr, refl, sym, ◌∙◌, ap, subst, arith, get_or-set_other, get_or-set_same}
+use Rattle.std.proofs.Common.{◌≡◌, ◌≢◌, ◌<◌, ◌≤◌, ◌+◌, ◌++◌, ℕ, zero, suc, List, [], ◌∷◌, length, get_or, inl, inr, refl, sym, ◌∙◌, ap, subst, arith, get_or-set_other}
 use Rattle.std.specs.List.{Contains}
 use Rattle.std.proofs.lemmas.List.{length-set, same_lists}
 use Rattle.std.proofs.lemmas.List.Sums.{sum_by-set}
 use Rattle.dg_model.specs.Moves.{all_done, copy_to, done, give_up}
-use Rattle.dg_model.specs.Sites.{has_site}
 use Rattle.dg_model.specs.Tables.{IsLowestFree, IsTable, Table, count_on, lowest_free, put_site, sites_in, sites_off, used_in, without_site}
 use Rattle.dg_model.specs.declared.sites.Site.{Site}
+use Rattle.dg_model.proofs.CopyLaws.{HasCopy, copies_here, copies_other, copies_sized, site_for}
 use Rattle.dg_model.proofs.FreeLaws.{lowest_free_found}
-use Rattle.dg_model.proofs.SiteLists.{count_on-last, count_on-push, off_last}
+use Rattle.dg_model.proofs.NumberLists.{head_in, in_or_out, in_parts, nothing_in, tail_in}
+use Rattle.dg_model.proofs.PutLaws.{sites_put_here, sites_without_here}
+use Rattle.dg_model.proofs.SiteLists.{count_on-last, off_last}
 use Rattle.dg_model.proofs.TableLaws.{IsSized, all_done_sized, sized_both}
 use Rattle.dg_hot.specs.Copied.{AreApart, copies_to, give_ups_on}
-use Rattle.dg_hot.proofs.Lists.{head_in, in_or_out, in_parts, nothing_in, tail_in}
+use Rattle.dg_hot.proofs.ApartLaws.{numbers_apart}
 
 -- ---- one action
 
-put_here : (table : Table) (b : ℕ) (site : Site) → b < length table.rows → sites_in (put_site table b site) b ≡ sites_in table b ++ site ∷ []
-put_here table b site row = get_or-set_same table.rows b (sites_in table b ++ site ∷ []) [] row
-
-put_other : (table : Table) (b c : ℕ) (site : Site) → c ≢ b → sites_in (put_site table b site) c ≡ sites_in table c
-put_other table b c site other = get_or-set_other table.rows b c (sites_in table b ++ site ∷ []) [] other
-
-without_here : (table : Table) (b s : ℕ) → b < length table.rows → sites_in (without_site table b s) b ≡ sites_off s (sites_in table b)
-without_here table b s row = get_or-set_same table.rows b (sites_off s (sites_in table b)) [] row
-
 without_other : (table : Table) (b c s : ℕ) → c ≢ b → sites_in (without_site table b s) c ≡ sites_in table c
 without_other table b c s other = get_or-set_other table.rows b c (sites_off s (sites_in table b)) [] other
-
--- the site that a copy gets
-abbrev pub site_for : Table → ℕ → Site
-site_for table s = record { boundary = s; slot = lowest_free table s }
 
 -- a block that got the lowest free slot was copied
 pub copied_is : (old new : Table) (b s : ℕ) (site : Site) → IsTable new → b < length old.rows → site.boundary ≡ s → IsLowestFree old s site.slot
@@ -37,7 +26,7 @@ pub copied_is : (old new : Table) (b s : ℕ) (site : Site) → IsTable new → 
 copied_is old new b s site is row on lowest taken =
     let there : Contains (sites_in new b) (record { boundary = s; slot = site.slot }) =
     subst (λ (t : Table). Contains (sites_in t b) (record { boundary = s; slot = site.slot })) (sym taken)
-    (subst (λ (xs : List Site). Contains xs (record { boundary = s; slot = site.slot })) (sym (put_here old b site row))
+    (subst (λ (xs : List Site). Contains xs (record { boundary = s; slot = site.slot })) (sym (sites_put_here old b site row))
     (subst (λ (x : Site). Contains (sites_in old b ++ site ∷ []) x) same (last_in (sites_in old b) site)))
     in
     let k : new.shape.k ≡ old.shape.k = ap (λ (t : Table). t.shape.k) taken in
@@ -58,39 +47,6 @@ module _ (s : ℕ) where
   pub copies_more : (table : Table) (bs : List ℕ) (b : ℕ) → all_done table (copies_to s (bs ++ b ∷ [])) ≡ done (all_done table (copies_to s bs)) (copy_to b s)
   copies_more table [] b = refl
   copies_more table (c ∷ bs) b = copies_more (done table (copy_to c s)) bs b
-
-  pub copies_sized : (table : Table) (bs : List ℕ) → IsSized table (all_done table (copies_to s bs))
-  copies_sized table bs = all_done_sized (copies_to s bs) table
-
-  pub copies_other : (table : Table) (bs : List ℕ) (c : ℕ) → (Contains bs c → ⊥) → sites_in (all_done table (copies_to s bs)) c ≡ sites_in table c
-  copies_other table [] c none = refl
-  copies_other table (b ∷ bs) c none =
-      copies_other (done table (copy_to b s)) bs c (λ there. none (tail_in b bs c there))
-      ∙ put_other table b c (site_for table s) (λ same. none (subst (λ (d : ℕ). Contains (b ∷ bs) d) (sym same) (head_in b bs)))
-
-  -- a block among them has one more site, its last one
-  pub record HasCopy (old new : List Site) : Type 0 where
-    pub slot : ℕ
-    pub is : new ≡ old ++ record { boundary = s; slot = slot } ∷ []
-
-  pub copies_here : (table : Table) (bs : List ℕ) (c : ℕ) → AreApart bs → Contains bs c → c < length table.rows
-      → HasCopy (sites_in table c) (sites_in (all_done table (copies_to s bs)) c)
-  copies_here table [] c apart there row = absurd (nothing_in c there)
-  copies_here table (b ∷ bs) c apart there row = elim (in_parts b bs c there) [
-    | inl same ↦ record {
-      slot = lowest_free table s;
-      is = copies_other (done table (copy_to b s)) bs c (λ more. apart.0 (subst (λ (d : ℕ). Contains bs d) (sym same) more))
-          ∙ subst (λ (d : ℕ). sites_in (put_site table b (site_for table s)) d ≡ sites_in table d ++ site_for table s ∷ []) same
-          (put_here table b (site_for table s) (subst (λ (d : ℕ). d < length table.rows) (sym same) row));
-    }
-    | inr more ↦
-        let rows : length (done table (copy_to b s)).rows ≡ length table.rows = length-set table.rows b (sites_in table b ++ site_for table s ∷ []) in
-        let later = copies_here (done table (copy_to b s)) bs c apart.1 more (omega (arith, row, rows)) in
-        let before : sites_in (done table (copy_to b s)) c ≡ sites_in table c =
-        put_other table b c (site_for table s) (λ same. apart.0 (subst (λ (d : ℕ). Contains bs d) same more))
-        in
-        record { slot = later.slot; is = later.is ∙ ap (λ (xs : List Site). xs ++ record { boundary = s; slot = later.slot } ∷ []) before }
-  ]
 
   -- each takes one slot
   pub copies_used : (table : Table) (bs : List ℕ) → ((b : ℕ) → Contains bs b → b < length table.rows) → used_in (all_done table (copies_to s bs)) s ≡ used_in table s + length bs
@@ -125,7 +81,7 @@ module _ (s : ℕ) where
     | inl same ↦
         gives_other (done table (give_up b s)) bs c (λ more. apart.0 (subst (λ (d : ℕ). Contains bs d) (sym same) more))
         ∙ subst (λ (d : ℕ). sites_in (without_site table b s) d ≡ sites_off s (sites_in table d)) same
-        (without_here table b s (subst (λ (d : ℕ). d < length table.rows) (sym same) row))
+        (sites_without_here table b s (subst (λ (d : ℕ). d < length table.rows) (sym same) row))
     | inr more ↦
         let rows : length (done table (give_up b s)).rows ≡ length table.rows = length-set table.rows b (sites_off s (sites_in table b)) in
         gives_here (done table (give_up b s)) bs c apart.1 more (omega (arith, row, rows))
@@ -133,7 +89,7 @@ module _ (s : ℕ) where
   ]
 
   -- a block that has no site on the boundary, and one more there: without it, it has what it had
-  off_copy : (old new : List Site) → count_on s old ≡ 0 → HasCopy old new → sites_off s new ≡ old
+  off_copy : (old new : List Site) → count_on s old ≡ 0 → HasCopy s old new → sites_off s new ≡ old
   off_copy old new none copy =
       let site : Site = record { boundary = s; slot = copy.slot } in
       let one : count_on s (old ++ site ∷ []) ≤ 1 = omega (arith, count_on-last old site, none) in
@@ -157,29 +113,19 @@ module _ (s : ℕ) where
       → all_done (all_done table (copies_to s bs)) (give_ups_on s bs) ≡ table
   given_back table bs apart none =
       let mid = all_done table (copies_to s bs) in
-      let first = copies_sized table bs in
+      let first = copies_sized s table bs in
       same_table table (all_done mid (give_ups_on s bs)) (sized_both table mid (all_done mid (give_ups_on s bs)) first (all_done_sized (give_ups_on s bs) mid))
       (λ b low. elim (in_or_out bs b) [
         | inl there ↦
             let size = first.rows in
             gives_here mid bs b apart there (omega (arith, low, size))
-            ∙ off_copy (sites_in table b) (sites_in mid b) (none b there) (copies_here table bs b apart there low)
-        | inr out ↦ gives_other mid bs b out ∙ copies_other table bs b out
+            ∙ off_copy (sites_in table b) (sites_in mid b) (none b there) (copies_here s table bs b (numbers_apart bs apart) there low)
+        | inr out ↦ gives_other mid bs b out ∙ copies_other s table bs b out
       ])
 
-  -- ---- where blocks stand then
+  -- ---- how many sites they have then
 
-  pub on_copy : (old new : List Site) (t : ℕ) → HasCopy old new → count_on t new ≡ count_on t old + cond (s == t) 1 0
-  on_copy old new t copy = ap (count_on t) copy.is ∙ count_on-push t old (record { boundary = s; slot = copy.slot })
-
-  pub has_copy : (old new : List Site) → HasCopy old new → has_site new ≡ true
-  has_copy old new copy = ap has_site copy.is ∙ some old
-    where
-      some : (xs : List Site) → has_site (xs ++ record { boundary = s; slot = copy.slot } ∷ []) ≡ true
-      some [] = refl
-      some (x ∷ xs) = refl
-
-  pub length_copy : (old new : List Site) → HasCopy old new → length new ≡ length old + 1
+  pub length_copy : (old new : List Site) → HasCopy s old new → length new ≡ length old + 1
   length_copy old new copy = ap (λ (xs : List Site). length xs) copy.is ∙ more old
     where
       more : (xs : List Site) → length (xs ++ record { boundary = s; slot = copy.slot } ∷ []) ≡ length xs + 1

@@ -15,14 +15,15 @@ use Rattle.dg_model.specs.Wants.{FitWants}
 use Rattle.dg_model.specs.declared.homes.Home.{Home}
 use Rattle.dg_model.specs.declared.shapes.Shape.{Shape}
 use Rattle.dg_model.specs.declared.wants.Want.{Want}
+use Rattle.dg_model.proofs.CopyLaws.{copies_sized}
+use Rattle.dg_model.proofs.HomeLaws.{home_others, length_home}
+use Rattle.dg_model.proofs.NumberLists.{nothing_in}
+use Rattle.dg_model.proofs.PlacedLaws.{blocks_apart, placed_copy, written_copy}
 use Rattle.dg_store.specs.Stores.{members_of, shape_of, table_of}
 use Rattle.dg_store.specs.declared.store.Store.{Store}
 use Rattle.dg_hot.specs.Copied.{AreApart, CanCopy, copies_to}
 use Rattle.dg_hot.specs.Spreads.{HasSpread, HasSpreadSome, IsSpread, SpreadsOrNot, lacks_copy, lists_in, spread_of, spread_with, to_copy}
-use Rattle.dg_hot.proofs.CopyLaws.{copies_sized}
-use Rattle.dg_hot.proofs.HomeLaws.{home_others, length_home}
-use Rattle.dg_hot.proofs.Lists.{nothing_in}
-use Rattle.dg_hot.proofs.PlacedLaws.{blocks_apart, placed_copy, written_copy}
+use Rattle.dg_hot.proofs.ApartLaws.{blocks_are_apart}
 use Rattle.dg_hot.proofs.SpreadLaws.{does_fit, emptiest_other, spread_next, spread_none}
 
 -- ---- the blocks of a file
@@ -44,7 +45,7 @@ module _ (wants : List (Option Want)) (homes copies : List Home) (i : ℕ) where
   copied_apart = by_test (lacks_copy homes copies i)
     where
       by_test : (t : Bool) → AreApart (if t then blocks_of wants i else [])
-      by_test true = blocks_apart wants i
+      by_test true = blocks_are_apart (blocks_of wants i) (blocks_apart wants i)
       by_test false = tt
 
   pub copied_can : (table : Table) (s : ℕ) → CanCopy table s (blocks_of wants i) → CanCopy table s (to_copy wants homes copies i)

@@ -1,7 +1,6 @@
+mod ApartLaws
 mod CopyLaws
 mod FileLaws
-mod HomeLaws
-mod Lists
 mod PlacedLaws
 mod RecentLaws
 mod SpreadLaws

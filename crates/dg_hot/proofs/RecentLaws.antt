@@ -8,7 +8,7 @@ use Rattle.std.proofs.lemmas.Bool.Decides.{nat_tests}
 use Rattle.std.proofs.lemmas.List.{take_all}
 use Rattle.lru.specs.LruCache.{LruCache, put_entries}
 use Rattle.dg_model.specs.Copies.{touched}
-use Rattle.dg_hot.proofs.Lists.{filter_no, filter_yes}
+use Rattle.dg_model.proofs.NumberLists.{filter_no, filter_yes}
 
 abbrev others : ℕ → ℕ → Bool
 others i j = not (j == i)

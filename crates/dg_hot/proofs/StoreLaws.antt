@@ -14,7 +14,9 @@ use Rattle.dg_model.specs.declared.members.MemberState.{MemberState}
 use Rattle.dg_model.specs.declared.members.MemberState.TheVariants.{Good}
 use Rattle.dg_model.specs.declared.shapes.Shape.{Shape}
 use Rattle.dg_model.specs.declared.sites.Site.{Site}
+use Rattle.dg_model.proofs.CopyLaws.{copies_here, copies_other, copies_sized, on_copy}
 use Rattle.dg_model.proofs.MemberLaws.{has_lost_at, has_lost_from}
+use Rattle.dg_model.proofs.NumberLists.{in_take}
 use Rattle.dg_model.proofs.SiteLists.{one_if, same_test}
 use Rattle.dg_model.proofs.TableLaws.{all_done_sized}
 use Rattle.dg_store.specs.Answers.{IsPlaced}
@@ -25,8 +27,8 @@ use Rattle.dg_store.specs.declared.store.PlaceAnswer.TheVariants.{Full, Gone, Lo
 use Rattle.dg_store.specs.declared.store.Store.{Store}
 use Rattle.dg_hot.specs.Copied.{AreApart, CanCopy, CanGiveUp, copies_to, give_ups_on}
 use Rattle.dg_hot.specs.Spreads.{Moved}
-use Rattle.dg_hot.proofs.CopyLaws.{copied_is, copies_here, copies_more, copies_other, copies_sized, copies_used, gives_more, gives_other, length_copy, on_copy}
-use Rattle.dg_hot.proofs.Lists.{apart_at, in_take}
+use Rattle.dg_hot.proofs.CopyLaws.{copied_is, copies_more, copies_used, gives_more, gives_other, length_copy}
+use Rattle.dg_hot.proofs.ApartLaws.{apart_at, numbers_apart}
 
 module _ {R : Type 0} (rack : Ghosts R) where
   pub moved_none : (a : Store R) → IsSound rack a → Moved rack a a
@@ -91,10 +93,10 @@ module _ (table : Table) (s : ℕ) (is : IsTable table) where
         let low = can.within b there in
         omega (arith, same, low);
     one = λ b there.
-        let has = copies_here s table bs b apart there (row_of bs can b there) in
+        let has = copies_here s table bs b (numbers_apart bs apart) there (row_of bs can b there) in
         omega (arith, on_copy s (sites_in table b) (sites_in (all_done table (copies_to s bs)) b) s has, here s);
     other = λ b there.
-        let has = copies_here s table bs b apart there (row_of bs can b there) in
+        let has = copies_here s table bs b (numbers_apart bs apart) there (row_of bs can b there) in
         omega (
           arith,
           length_copy s (sites_in table b) (sites_in (all_done table (copies_to s bs)) b) has,

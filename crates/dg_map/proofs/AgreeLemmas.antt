@@ -7,9 +7,9 @@ use Rattle.dg_map.specs.declared.boundary_slots.Slots.{Slots}
 use Rattle.dg_map.specs.Maps.{Agrees}
 use Rattle.dg_map.specs.Slots.{GivesUp, IsUnused, Puts, block_in}
 use Rattle.dg_model.specs.Tables.{IsFree, IsTable, StandsIn, Table, count_on, empty_table, put_site, sites_in, without_site}
+use Rattle.dg_model.proofs.PutLaws.{none_stands, used_empty, put_cases, put_here, put_kept, site_at, used_put, used_without_here, used_without_other, without_apart, without_kept, without_stood}
+use Rattle.dg_model.proofs.RowLaws.{one_on}
 use Rattle.dg_model.proofs.SiteLists.{apart_test, one_if, same_test, zero_if}
-use Rattle.dg_map.proofs.RowLemmas.{one_on}
-use Rattle.dg_map.proofs.TableLemmas.{none_stands, used_empty, put_cases, put_here, put_kept, site_at, used_put, used_without_here, used_without_other, without_apart, without_kept, without_stood}
 
 pub not_both : (o : Option ℕ) (b : ℕ) → o ≡ None → o ≡ Some b → ⊥
 not_both o b none some = cc

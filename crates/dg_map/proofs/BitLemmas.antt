@@ -5,9 +5,9 @@ use Rattle.std.proofs.lemmas.Bool.{cases_eq, cases_lt}
 use Rattle.std.proofs.lemmas.Bool.Decides.{nat_tests}
 use Rattle.std.proofs.lemmas.List.{get_or-set_same, get_or-set_other, get_or_past, length-set}
 use Rattle.std.proofs.lemmas.Nat.Bits.{bit_at-zero}
+use Rattle.dg_model.proofs.RowLaws.{same_from_test}
 use Rattle.dg_map.specs.Bits.{IsBits, IsFirstBit, IsFirstWord, IsLeast, Sets, SetsBit, SumsUp, bit_in, has, word_at}
 use Rattle.dg_map.specs.declared.bits.Bits.{Bits}
-use Rattle.dg_map.proofs.RowLemmas.{same_from_test}
 
 pub bit_is : (words : List ℕ) (k : ℕ) → bit_in words k ≡ bit_at (word_at words (k / 64)) (k % 64)
 unfolding bit_in

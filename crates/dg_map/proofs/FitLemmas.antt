@@ -6,9 +6,9 @@ use Rattle.std.proofs.lemmas.List.{length_push}
 use Rattle.std.proofs.lemmas.List.Elements.{Contains-push_cases}
 use Rattle.dg_model.specs.declared.sites.Site.{Site}
 use Rattle.dg_model.specs.Tables.{count_on, sites_off}
+use Rattle.dg_model.proofs.PutLaws.{site_at}
+use Rattle.dg_model.proofs.RowLaws.{Contains-off, Contains-off_apart, count_off_other, count_off_same}
 use Rattle.dg_model.proofs.SiteLists.{apart_test, count_on-cons, count_on-push, one_if, same_test, zero_if}
-use Rattle.dg_map.proofs.RowLemmas.{Contains-off, Contains-off_apart, count_off_other, count_off_same}
-use Rattle.dg_map.proofs.TableLemmas.{site_at}
 
 off_step : (b : Bool) (s : ℕ) (x : Site) (xs ys : List Site) → (x.boundary == s) ≡ b → length ys + count_on s xs ≡ length xs → length (cond (not b) (x ∷ ys) ys) + count_on s (x ∷ xs) ≡ length (x ∷ xs)
 off_step true s x xs ys e h = omega (arith, h, count_on-cons s x xs, one_if (x.boundary == s) e)

@@ -6,6 +6,4 @@ pub mod FlatLemmas
 pub mod ListLemmas
 pub mod MapLemmas
 pub mod RestoreLemmas
-pub mod RowLemmas
 pub mod SlotLemmas
-pub mod TableLemmas

@@ -17,14 +17,15 @@ use Rattle.dg_map.specs.Maps.{Agrees, IsMap, table_of}
 use Rattle.dg_map.specs.Slots.{GivesUp, IsUnused, Puts, block_in}
 use Rattle.dg_map.specs.Takes.{TakesLowest}
 use Rattle.dg_model.specs.Tables.{IsFree, IsLowestFree, IsTable, StandsIn, Table, count_on, empty_table, put_site, sites_in, without_site, sites_off}
+use Rattle.dg_model.proofs.FreeLaws.{stands_within}
+use Rattle.dg_model.proofs.PutLaws.{IsTable-empty, IsTable-put, IsTable-without, site_at}
+use Rattle.dg_model.proofs.SiteLists.{apart_test, same_test}
 use Rattle.dg_map.proofs.AgreeLemmas.{agrees_empty, agrees_put, agrees_put_apart, agrees_without, agrees_without_apart, free_slot}
 use Rattle.dg_map.proofs.SlotLemmas.{few_used}
 use Rattle.dg_map.proofs.ListLemmas.{row_past}
 use Rattle.dg_map.proofs.FitLemmas.{fits_more}
 use Rattle.dg_map.specs.Spreads.{HasNoSpread, IsLeastSpread}
-use Rattle.dg_map.proofs.TableLemmas.{IsTable-empty, IsTable-put, IsTable-without, block_within, site_at}
 use Rattle.dg_map.specs.Rows.{Appends, IsBare, IsFirstSpread, IsUnspread, SetsRow, row_of}
-use Rattle.dg_model.proofs.SiteLists.{apart_test, same_test}
 
 pub row_at : (lists : SiteLists) (n b : ℕ) → b < n → get_or (map (row_of lists) (range_with_len 0 n)) b [] ≡ row_of lists b
 row_at lists n b lt = get_or-map-range_with_len (row_of lists) 0 n b b [] lt (omega arith)
@@ -218,7 +219,7 @@ module _ (old : Inside) (ok : IsMap old) where
   block_in_range table e s slot None h = tt
   block_in_range table e s slot (Some b) h =
       let sound : IsTable table = subst IsTable e ok.table in
-      omega (arith, block_within table b s slot h, sound.size)
+      omega (arith, stands_within table b s slot h, sound.size)
 
   pub none_past : (table : Table) → table_of old ≡ table → (s slot : ℕ) → old.shape.b ≤ s → IsFree table s slot
   none_past table e s slot past = subst (λ t. IsFree t s slot) e (λ b h. absurd (omega (arith, ok.table.boundaries b s slot h)))

@@ -9,9 +9,9 @@ use Rattle.std.proofs.lemmas.List.Elements.{Contains-get_or}
 use Rattle.dg_model.specs.declared.sites.Site.{Site}
 use Rattle.dg_model.specs.declared.shapes.Shape.{Shape}
 use Rattle.dg_model.specs.Tables.{IsFree, IsTable, StandsIn, Table, count_on, empty_table, put_site, sites_in}
+use Rattle.dg_model.proofs.PutLaws.{empty_row, site_at}
 use Rattle.dg_model.proofs.SiteLists.{count_on-append, count_on-last, count_pos}
 use Rattle.dg_map.specs.Restores.{AreSites, CanHave, IsRestoredBelow, set_sites, table_with}
-use Rattle.dg_map.proofs.TableLemmas.{empty_row, site_at}
 
 -- what a read past the end of a list gives
 abbrev pub no_site : Site

@@ -1,20 +1,27 @@
 pub mod ClaimSearch
+pub mod CopyLaws
 pub mod FirstSites
 mod FormatRows
 pub mod FreeLaws
+pub mod HomeLaws
 pub mod KnownLaws
 pub mod MarkLaws
 pub mod MemberLaws
+pub mod NumberLists
 mod OpeningRows
+pub mod PlacedLaws
 mod PlanRows
+pub mod PutLaws
 mod RefillRows
 pub mod RereadLaws
 pub mod RoomLaws
+pub mod RowLaws
 pub mod RunLaws
 pub mod SealLaws
 mod SettledRows
 pub mod SiteLists
 pub mod SpareLaws
+pub mod SpareSteps
 pub mod StepLaws
 mod StepRows
 pub mod SumLaws

@@ -3,6 +3,5 @@ pub mod CallLaws
 pub mod CursorLaws
 pub mod MeetLaws
 pub mod MissingLaws
-pub mod SpareSteps
 pub mod StoreLaws
 pub mod TurnLaws

@@ -17,6 +17,7 @@ use Rattle.dg_model.specs.declared.shapes.Shape.{Shape}
 use Rattle.dg_model.specs.declared.sites.Site.{Site}
 use Rattle.dg_model.proofs.ClaimSearch.{in_range}
 use Rattle.dg_model.proofs.SiteLists.{count_on-push}
+use Rattle.dg_model.proofs.SpareSteps.{DropsSpare}
 use Rattle.dg_store.specs.Answers.{SameWritten}
 use Rattle.dg_store.specs.Leaves.{Keeps, Leaves}
 use Rattle.dg_store.specs.ReadLaws.{keeps_both, keeps_none}
@@ -26,7 +27,6 @@ use Rattle.dg_store.specs.declared.store.PlaceAnswer.TheVariants.{Placed, Full, 
 use Rattle.dg_store.specs.declared.store.Store.{Store}
 use Rattle.dg_move.specs.Stores.{GivesUpOnly, KeepsMet, MovesOn}
 use Rattle.dg_move.proofs.ActLaws.{all_both, tidying_below, tidying_more}
-use Rattle.dg_move.proofs.SpareSteps.{DropsSpare}
 
 -- ---- rows of a table
 

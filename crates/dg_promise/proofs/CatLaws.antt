@@ -19,11 +19,11 @@ use Rattle.ufs_model.specs.declared.malformations.BadKind.{BadKind}
 use Rattle.ufs_model.specs.declared.malformations.BadKind.TheVariants.{Filesize, Past, PastIn, Wild as WildSlot, WildIn}
 use Rattle.ufs_model.specs.declared.pointers.Address.TheVariants.{Hole, Wild}
 use Rattle.ufs_frames.specs.Frames.{FilesAreTame, IsFile, IsWhole}
-use Rattle.dg_promise.proofs.FragmentLaws.{in_none}
+use Rattle.ufs_frames.proofs.FragmentLaws.{in_none}
+use Rattle.ufs_frames.proofs.NeedLaws.{regular_kind}
+use Rattle.ufs_frames.proofs.ReachLaws.{pointer_claims, slot_claims}
 use Rattle.dg_promise.proofs.LedLaws.{pointer_low, reached_needed, slot_low}
-use Rattle.dg_promise.proofs.NeedLaws.{regular_kind}
 use Rattle.dg_promise.proofs.OwnerLaws.{claim_contains, place_in, pointer_above, traced}
-use Rattle.dg_promise.proofs.ReachLaws.{pointer_claims, slot_claims}
 use Rattle.dg_promise.proofs.ReadLaws.{IsRead, contents_need, contents_read}
 
 -- ---- claims of what isn't 0

@@ -20,10 +20,10 @@ use Rattle.ufs_model.specs.declared.inodes.Inode.{Inode}
 use Rattle.ufs_model.specs.declared.pointers.Address.{Address}
 use Rattle.ufs_model.specs.declared.pointers.Address.TheVariants.{At, Hole, Wild}
 use Rattle.ufs_frames.specs.Frames.{IsFile, IsWhole}
-use Rattle.dg_promise.proofs.DataLaws.{fragments_within}
-use Rattle.dg_promise.proofs.FragmentLaws.{contains_got, fragments_have, in_none, pointer_at_fragment, pointers_many, quarters}
-use Rattle.dg_promise.proofs.OwnerLaws.{reached_claim}
-use Rattle.dg_promise.proofs.ReachLaws.{address_span, pointer_claims, slot_claims, slot_whole}
+use Rattle.ufs_frames.proofs.ClaimLaws.{reached_claim}
+use Rattle.ufs_frames.proofs.DataLaws.{fragments_within}
+use Rattle.ufs_frames.proofs.FragmentLaws.{contains_got, fragments_have, in_none, pointer_at_fragment, pointers_many, quarters}
+use Rattle.ufs_frames.proofs.ReachLaws.{address_span, pointer_claims, slot_claims, slot_whole}
 use Rattle.dg_promise.proofs.WalkLaws.{Leads, first_needs, first_value, slot_leads, step_leads}
 
 -- ---- fragments

@@ -1,8 +1,3 @@
-pub mod FragmentLaws
-pub mod DataLaws
-pub mod ReachLaws
-pub mod RoleLaws
-pub mod NeedLaws
 pub mod OwnerLaws
 pub mod WalkLaws
 pub mod LedLaws
@@ -15,18 +10,11 @@ pub mod GoneLaws
 pub mod WantLaws
 pub mod PromiseLaws
 pub mod CatSteps
-pub mod HomeLaws
 pub mod PlanLaws
-pub mod RowLaws
-pub mod TableLaws
-pub mod SpareSteps
 pub mod SlotLaws
 pub mod MoveLaws
 pub mod SettleLaws
 pub mod ReapLaws
-pub mod Lists
-pub mod CopyLaws
-pub mod PlacedLaws
 pub mod SpreadLaws
 pub mod Effects
 pub mod OrderLaws

@@ -14,14 +14,14 @@ use Rattle.dg_model.specs.Tables.{IsTable, Table, count_on, is_on, lowest_free, 
 use Rattle.dg_model.specs.declared.shapes.Shape.{Shape}
 use Rattle.dg_model.specs.declared.sites.Site.{Site}
 use Rattle.dg_model.proofs.ClaimSearch.{part_of, range_low}
+use Rattle.dg_model.proofs.PutLaws.{IsTable-put, IsTable-without, sites_put_here, sites_put_other, sites_without_here, sites_without_other}
 use Rattle.dg_model.proofs.RoomLaws.{met_from, missing_from, two_steps_enough}
 use Rattle.dg_model.proofs.SiteLists.{apart_test, count_on-push, one_if, same_test, zero_if}
 use Rattle.dg_model.proofs.SpareLaws.{no_other, spare_met, unmet_none}
+use Rattle.dg_model.proofs.SpareSteps.{drops, has_off, spare_push}
 use Rattle.dg_model.proofs.SumLaws.{count_one_less, count_pos, count_same, sum_one_less, sum_same, term_le}
 use Rattle.dg_promise.proofs.PlanLaws.{in_filter}
 use Rattle.dg_promise.proofs.SlotLaws.{free_is, free_low}
-use Rattle.dg_promise.proofs.SpareSteps.{drops, has_off, spare_push}
-use Rattle.dg_promise.proofs.TableLaws.{IsTable-put, IsTable-without, sites_put_here, sites_put_other, sites_without_here, sites_without_other}
 
 all_both : (xs ys : List Action) (a : Table) → all_done a (xs ++ ys) ≡ all_done (all_done a xs) ys
 all_both [] ys a = refl

@@ -12,7 +12,7 @@ use Rattle.ufs_model.specs.Owners.IsOwner.{by_own_slot, by_upper}
 use Rattle.ufs_model.specs.declared.claims.ClaimSource.{ClaimSource}
 use Rattle.ufs_model.specs.declared.claims.ClaimSource.TheVariants.{Pointer, Slot}
 use Rattle.ufs_model.specs.declared.geometries.Geometry.{Geometry}
-use Rattle.dg_promise.proofs.FragmentLaws.{contains_got}
+use Rattle.ufs_frames.proofs.FragmentLaws.{contains_got}
 
 -- ---- one owner at most
 
@@ -141,10 +141,3 @@ traced g v (by_upper {fragment = f} {upper = u} {at = at} {inode = i} {above = a
       one = one;
       of_level = is;
     }
-
--- what is claimed through a source is claimed
-pub reached_claim : (g : Geometry) (v : Volume) (source : ClaimSource) (i n f : ℕ) → FirstBlock g v source i n → Contains (source_fragments g v source) f
-    → IsClaim (source_fragments g v) f source
-reached_claim g v source i n f of_slot has = by_slot has
-reached_claim g v source i n f (of_pointer {f = upper} {n = m} {source = other} place before here level above) has =
-    by_pointer (reached_claim g v other i m upper before (contains_got (source_fragments g v other) place upper here)) level above has

@@ -23,16 +23,19 @@ use Rattle.ufs_model.specs.declared.reads.PathRefusal.TheVariants.{NotRegular}
 use Rattle.ufs_model.specs.declared.roles.Role.{Role}
 use Rattle.ufs_model.specs.declared.roles.Role.TheVariants.{Data, Outside, System}
 use Rattle.ufs_frames.specs.Frames.{FilesAreTame, HasWholeIndirects}
+use Rattle.ufs_frames.proofs.DataLaws.{claim_data}
+use Rattle.ufs_frames.proofs.LooseLaws.{one_geometry}
+use Rattle.ufs_frames.proofs.NeedLaws.{Needs, look_value, named_value, needs_bind, needs_cat, needs_known, needs_then, ok_same, regular_kind, then_value}
+use Rattle.ufs_frames.proofs.ReachLaws.{IsReachedFor}
+use Rattle.ufs_frames.proofs.RoleLaws.{superblock_system}
+use Rattle.ufs_frames.proofs.StructureLaws.{geometry_needs, whole_by}
+use Rattle.ufs_frames.proofs.VolumeLaws.{geometry_is, volume_accepted}
 use Rattle.dg_model.specs.Volumes.{IsRegularFile, IsSystemBlock}
 use Rattle.dg_model.specs.Wants.{IsOf}
 use Rattle.dg_promise.proofs.CatLaws.{file_needs, file_read}
-use Rattle.dg_promise.proofs.DataLaws.{claim_data}
-use Rattle.dg_promise.proofs.NeedLaws.{IsNeededBy, Needs, by_file, by_system, look_value, named_value, needs_bind, needs_cat, needs_known, needs_then, ok_same, regular_kind, then_value}
 use Rattle.dg_promise.proofs.OwnerLaws.{one_owner, owner_of_reached}
-use Rattle.dg_promise.proofs.ReachLaws.{IsReachedFor}
 use Rattle.dg_promise.proofs.ReadLaws.{IsRead, then_ok, then_refused, then_second}
-use Rattle.dg_promise.proofs.RoleLaws.{superblock_system}
-use Rattle.dg_promise.proofs.VolumeLaws.{accepted_is_read, fragments_by, geometry_is, geometry_needs, one_geometry, sound_by, sound_geometry, volume_accepted, whole_by}
+use Rattle.dg_promise.proofs.VolumeLaws.{accepted_is_read, fragments_by, sound_by, sound_geometry}
 use Rattle.dg_promise.specs.Needed.{IsNeeded}
 use Rattle.dg_promise.specs.Needed.IsNeeded.{of_directory, of_file, of_system}
 
@@ -112,6 +115,11 @@ refused_too l n v path refusal has = on ((volume_geometry l n v).value) refl
 
 -- ---- which blocks are needed
 
+-- a block of the file system itself, or one that is reached for one of some inodes
+data IsNeededBy (g : Geometry) (v : Volume) (wanted : ℕ → Type 0) (b : ℕ) : Type 0 where
+  by_system : is_system (role g b) ≡ true → IsNeededBy g v wanted b
+  by_file : (i : ℕ) → wanted i → IsReachedFor g v i b → IsNeededBy g v wanted b
+
 data_no_system : (group : ℕ) (one : Role) → is_data_of group one ≡ true → is_system one ≡ true → ⊥
 data_no_system group Outside is system = let no : false ≡ true = is in cc
 data_no_system group (System kind) is system = let no : false ≡ true = is in cc
@@ -169,7 +177,7 @@ module _ (l n : ℕ) (v : Volume) (whole_blocks : HasWholeIndirects l n v) (soun
   needs_of_cat g is = needs_then (IsNeededBy g v (Wanted g)) v (volume_geometry l n) _ (needs_volume g is) (λ h has.
       subst (λ (k : Geometry). Needs (IsNeededBy g v (Wanted g)) v (and_then (look_from k (names_of path) 2) (λ found. contents_of k found.1)))
       (sym (one_geometry l n v g h is (volume_accepted l n v h has)))
-      (needs_cat g v (whole_by l n v g is whole_blocks) (Wanted g) (λ i inode there kind. inl (inode, there, kind)) (names_of path) 2
+      (needs_cat g v (whole_by l n v g is whole_blocks) (IsNeededBy g v (Wanted g)) (Wanted g) (λ b h. by_system h) (λ i b wanted reached. by_file i wanted reached) (λ i inode there kind. inl (inode, there, kind)) (names_of path) 2
       (λ found look regular. inr (file_value g found (accepted_is_read l n v g is) look regular))))
 
   owner_by : (g : Geometry) (is : (geometry_of l n v).value ≡ Ok g) (i b : ℕ) → IsReachedFor g v i b → IsOf l n v b i

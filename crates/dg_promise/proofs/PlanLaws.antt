@@ -14,7 +14,7 @@ use Rattle.dg_model.specs.declared.shapes.Shape.{Shape}
 use Rattle.dg_model.specs.declared.wants.NoRoom.TheVariants.{Inode}
 use Rattle.dg_model.specs.declared.wants.Want.{Want}
 use Rattle.dg_model.specs.declared.wants.Want.TheVariants.{File, Kept, Stray}
-use Rattle.dg_promise.proofs.HomeLaws.{AscendFrom, Ascending, ascending_from, home_others, with_ascends}
+use Rattle.dg_model.proofs.HomeLaws.{AscendFrom, Ascending, ascending_from, home_others, with_ascends}
 use Rattle.dg_promise.proofs.WantLaws.{block_counts}
 
 -- ---- results

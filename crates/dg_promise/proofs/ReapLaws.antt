@@ -17,6 +17,9 @@ use Rattle.ufs_model.specs.declared.inodes.Kind.TheVariants.{Regular}
 use Rattle.ufs_model.specs.declared.roles.Role.TheVariants.{Data}
 use Rattle.ufs_frames.specs.Frames.{AgreeOn, DifferLoosely, HasWholeIndirects, IsLocal, IsLoose, IsUsed}
 use Rattle.ufs_frames.specs.Frames.IsUsed.{of_claim, of_system}
+use Rattle.ufs_frames.proofs.ClaimLaws.{inode_needs, number_below}
+use Rattle.ufs_frames.proofs.RoleLaws.{inode_system}
+use Rattle.ufs_frames.proofs.VolumeLaws.{geometry_is}
 use Rattle.dg_model.specs.Blocks.{block_in, zeros}
 use Rattle.dg_model.specs.Marks.{IsDead}
 use Rattle.dg_model.specs.Placed.{IsPlaced}
@@ -31,10 +34,7 @@ use Rattle.dg_model.specs.declared.shapes.Shape.{Shape}
 use Rattle.dg_model.specs.declared.sites.Site.{Site}
 use Rattle.dg_model.specs.declared.wants.Want.{Want}
 use Rattle.dg_model.specs.declared.wants.Want.TheVariants.{File, Kept, Stray}
-use Rattle.dg_promise.proofs.NeedLaws.{inode_needs, number_below}
 use Rattle.dg_promise.proofs.PathLaws.{owner_claim}
-use Rattle.dg_promise.proofs.RoleLaws.{inode_system}
-use Rattle.dg_promise.proofs.VolumeLaws.{geometry_is}
 use Rattle.dg_promise.proofs.WantLaws.{block_counts, some_block}
 
 -- loose blocks may change

@@ -13,12 +13,12 @@ use Rattle.dg_model.specs.declared.homes.Home.{Home}
 use Rattle.dg_model.specs.declared.shapes.Shape.{Shape}
 use Rattle.dg_model.specs.declared.wants.Want.{Want}
 use Rattle.dg_model.specs.declared.wants.Want.TheVariants.{File}
+use Rattle.dg_model.proofs.CopyLaws.{copies_sized, copies_to, site_for}
+use Rattle.dg_model.proofs.NumberLists.{AreApart, head_in, tail_in}
+use Rattle.dg_model.proofs.PlacedLaws.{block_is, blocks_apart, not_copied, placed_copy, wanted_within, written_copy}
+use Rattle.dg_model.proofs.PutLaws.{IsTable-put, sites_put_other, used_put}
 use Rattle.dg_model.proofs.SiteLists.{apart_test, one_if, same_test}
-use Rattle.dg_promise.proofs.CopyLaws.{copies_sized, copies_to, site_for}
-use Rattle.dg_promise.proofs.Lists.{AreApart, head_in, tail_in}
-use Rattle.dg_promise.proofs.PlacedLaws.{block_is, blocks_apart, not_copied, placed_copy, wanted_within, written_copy}
 use Rattle.dg_promise.proofs.SlotLaws.{free_is, free_low}
-use Rattle.dg_promise.proofs.TableLaws.{IsTable-put, sites_put_other, used_put}
 
 -- ---- the boundary for a copy
 

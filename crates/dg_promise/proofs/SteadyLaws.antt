@@ -21,8 +21,9 @@ use Rattle.dg_model.specs.declared.events.Event.TheVariants.{Array}
 use Rattle.dg_model.specs.declared.phases.Phase.TheVariants.{Loose, Settled}
 use Rattle.dg_model.specs.declared.replies.Reply.{Reply}
 use Rattle.dg_model.specs.declared.replies.Reply.TheVariants.{Done}
-use Rattle.dg_model.proofs.StepLaws.{step_keeps}
 use Rattle.dg_model.specs.declared.shapes.Shape.{Shape}
+use Rattle.dg_model.proofs.PutLaws.{IsTable-empty}
+use Rattle.dg_model.proofs.StepLaws.{step_keeps}
 use Rattle.dg_model.proofs.TableLaws.{IsSized, all_done_sized, sited_sized}
 use Rattle.dg_promise.proofs.Effects.{HasEffect, KeepsPlaces, effect_of}
 use Rattle.dg_promise.proofs.Effects.HasEffect.{keeps, moves_some, passes, settles, spreads, writes}
@@ -30,7 +31,6 @@ use Rattle.dg_promise.proofs.MoveLaws.{front_moved}
 use Rattle.dg_promise.proofs.OrderLaws.{Volumes, order_stays, reaped_order, spread_is, spread_order}
 use Rattle.dg_promise.proofs.PlanLaws.{good_plan}
 use Rattle.dg_promise.proofs.SettleLaws.{PlansAreTargets, settled_table, settles as settles_order}
-use Rattle.dg_promise.proofs.TableLaws.{IsTable-empty}
 use Rattle.dg_promise.proofs.ThinLaws.{reaped_table, sited_table}
 use Rattle.dg_promise.specs.Promises.{AreTold}
 use Rattle.dg_promise.specs.Steady.{FitsBlock, IsSteady}

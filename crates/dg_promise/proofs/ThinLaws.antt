@@ -13,11 +13,11 @@ use Rattle.dg_model.specs.Sites.{Evicts, IsFirstBoundary, IsSited, has_site, wit
 use Rattle.dg_model.specs.Tables.{IsTable, StandsIn, Table, count_on, sites_in, used_in}
 use Rattle.dg_model.specs.declared.shapes.Shape.{Shape}
 use Rattle.dg_model.specs.declared.sites.Site.{Site}
-use Rattle.dg_model.proofs.FreeLaws.{taken_to}
-use Rattle.dg_model.proofs.SiteLists.{count_on-append}
 use Rattle.ufs_model.specs.Blocks.{Volume}
+use Rattle.dg_model.proofs.FreeLaws.{taken_to}
+use Rattle.dg_model.proofs.PutLaws.{IsTable-put, site_at}
+use Rattle.dg_model.proofs.SiteLists.{count_on-append}
 use Rattle.dg_promise.proofs.SlotLaws.{taken_below}
-use Rattle.dg_promise.proofs.TableLaws.{IsTable-put, site_at}
 
 -- ---- fewer sites
 

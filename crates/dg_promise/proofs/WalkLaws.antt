@@ -17,7 +17,7 @@ use Rattle.ufs_model.specs.declared.inodes.Inode.{Inode}
 use Rattle.ufs_model.specs.declared.pointers.Address.{Address}
 use Rattle.ufs_model.specs.declared.pointers.Chain.{Chain}
 use Rattle.ufs_model.specs.declared.pointers.Chain.TheVariants.{Direct, One, Two, Three}
-use Rattle.dg_promise.proofs.FragmentLaws.{two_powers}
+use Rattle.ufs_frames.proofs.FragmentLaws.{two_powers}
 
 -- file block m of those that are found through an address, k levels down
 pub descend : Geometry → ℕ → ℕ → Address → Reading Address

@@ -12,14 +12,14 @@ use Rattle.ufs_model.specs.Geometries.{IsGeometry, cgstart}
 use Rattle.ufs_model.specs.Inodes.{has_pointers, inode_of, is_inode_number, slot_of, span}
 use Rattle.ufs_model.specs.Numbers.{all_below}
 use Rattle.ufs_model.specs.Pointers.{address, is_data_run, pointer_in}
-use Rattle.ufs_model.specs.Roles.{has_super, is_data_of, is_system, role, role_in}
+use Rattle.ufs_model.specs.Roles.{has_super, is_data_of, role, role_in}
 use Rattle.ufs_model.specs.declared.claims.ClaimSource.{ClaimSource}
 use Rattle.ufs_model.specs.declared.claims.ClaimSource.TheVariants.{Pointer, Slot}
 use Rattle.ufs_model.specs.declared.geometries.Geometry.{Geometry}
 use Rattle.ufs_model.specs.declared.inodes.Inode.{Inode}
 use Rattle.ufs_model.specs.declared.pointers.Address.TheVariants.{At, Hole, Wild}
 use Rattle.ufs_model.specs.declared.roles.Role.{Role}
-use Rattle.ufs_model.specs.declared.roles.Role.TheVariants.{Data, Outside, System}
+use Rattle.ufs_model.specs.declared.roles.Role.TheVariants.{Outside, System}
 use Rattle.ufs_model.specs.declared.roles.SystemKind.TheVariants.{Boot, Super}
 use Rattle.ufs_frames.proofs.FragmentLaws.{in_none, in_one}
 
@@ -37,7 +37,7 @@ below_at test (suc n) all i low =
       | inr ge ↦ let e : n ≡ i = omega arith in subst (λ (k : ℕ). test k ≡ true) e (parts.1)
     ]
 
-fragments_within : (a k f : ℕ) → Contains (fragments_from a k) f → (a ≤ f) × (f < a + k)
+pub fragments_within : (a k f : ℕ) → Contains (fragments_from a k) f → (a ≤ f) × (f < a + k)
 fragments_within a zero f h = absurd (in_none f h)
 fragments_within a (suc k) f h = elim (Contains-append_cases (a ∷ []) (fragments_from (suc a) k) f h) [
   | inl first ↦ let same = in_one a f first in (omega arith, omega arith)
@@ -64,7 +64,7 @@ address_data g a k f h =
 
 -- ---- what a source claims
 
-if_contains : (b : Bool) (xs : List ℕ) (f : ℕ) → Contains (if b then xs else []) f → Contains xs f
+pub if_contains : (b : Bool) (xs : List ℕ) (f : ℕ) → Contains (if b then xs else []) f → Contains xs f
 if_contains true xs f h = h
 if_contains false xs f h = absurd (in_none f h)
 

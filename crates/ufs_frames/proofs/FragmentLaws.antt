@@ -133,13 +133,13 @@ area_have l a k b v h = let range = area_range l a k b v h in fragments_have a k
 
 -- ---- the bounds of a chain
 
-two_powers : (n : ℕ) → n ^ 2 ≡ n * n
+pub two_powers : (n : ℕ) → n ^ 2 ≡ n * n
 two_powers n =
     let none : n ^ 0 ≡ 1 = simp unary_clauses in
     let one : n ^ 1 ≡ n = pow-suc n 0 ∙ ap (λ k. k * n) none ∙ one-mul n in
     pow-suc n 1 ∙ ap (λ k. k * n) one
 
-pointers_many : (g : Geometry) → IsGeometry g → 1024 ≤ g.nindir
+pub pointers_many : (g : Geometry) → IsGeometry g → 1024 ≤ g.nindir
 pointers_many g is = let many = is.nindir in let low = is.bsize.1 in omega arith
 
 quotient_below : (n m : ℕ) → 1024 ≤ n → m < n ^ 2 → m / n < n

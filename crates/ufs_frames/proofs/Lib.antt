@@ -10,5 +10,6 @@ pub mod DataLaws
 pub mod MalformationLaws
 pub mod StructureLaws
 pub mod RoleLaws
+pub mod NeedLaws
 pub mod UseLaws
 pub mod LooseLaws

@@ -17,15 +17,16 @@ use Rattle.ufs_model.specs.declared.reads.PathRefusal.{PathRefusal}
 use Rattle.ufs_model.specs.declared.reads.PathRefusal.TheVariants.{NotDirectory}
 use Rattle.ufs_frames.specs.Frames.{AgreeOn, DifferLoosely, HasWholeIndirects, HaveSameStructure, IsLoose, IsUsed, ReadTheSame}
 use Rattle.ufs_frames.specs.Frames.IsUsed.{of_claim, of_system}
+use Rattle.ufs_frames.proofs.NeedLaws.{Needs, needs_bind, needs_if, needs_known, needs_then}
 use Rattle.ufs_frames.proofs.RoleLaws.{superblock_system}
 use Rattle.ufs_frames.proofs.StructureLaws.{claims_by, geometry_needs, same_structure, whole_by}
-use Rattle.ufs_frames.proofs.UseLaws.{IsUsed as IsUsedBy, Needs, metadata_used, needs_bind, needs_cat, needs_if, needs_known, needs_look, needs_ls, needs_named, needs_then, needs_tree}
+use Rattle.ufs_frames.proofs.UseLaws.{IsUsed as IsUsedBy, metadata_used, needs_cat, needs_look, needs_ls, needs_named, needs_tree}
 use Rattle.ufs_frames.proofs.UseLaws.IsUsed.{by_claim, by_system}
 use Rattle.ufs_frames.proofs.VolumeLaws.{geometry_is, local_cat_of, local_file_of, local_look_of, local_ls_of, local_tree_of, volume_accepted}
 
 -- ---- by the geometry
 
-one_geometry : (l n : ℕ) (v : Volume) (g h : Geometry) → (geometry_of l n v).value ≡ Ok g → (geometry_of l n v).value ≡ Ok h → h ≡ g
+pub one_geometry : (l n : ℕ) (v : Volume) (g h : Geometry) → (geometry_of l n v).value ≡ Ok g → (geometry_of l n v).value ≡ Ok h → h ≡ g
 one_geometry l n v g h one other = let same : ◌≡◌ {A = Result Geometry BadSuper} (Ok h) (Ok g) = sym other ∙ one in cc
 
 module _ (l n : ℕ) (v : Volume) (g : Geometry) (is : (geometry_of l n v).value ≡ Ok g) where

@@ -10,8 +10,6 @@ use Rattle.ufs_model.specs.Geometries.{IsGeometry}
 use Rattle.ufs_model.specs.Inodes.{block_count, has_pointers, inode_of, is_inode_number, slot_of, span}
 use Rattle.ufs_model.specs.Malformations.{FirstBlock, first_block, inode_at}
 use Rattle.ufs_model.specs.Malformations.FirstBlock.{of_pointer, of_slot}
-use Rattle.ufs_model.specs.Metadata.{IsMetadataBy}
-use Rattle.ufs_model.specs.Metadata.IsMetadataBy.{of_indirect}
 use Rattle.ufs_model.specs.Paths.{block_of, bytes_at}
 use Rattle.ufs_model.specs.Pointers.{address, chain_address, file_block_of, is_data_run, locate_of, pointer_in, slot_address, through}
 use Rattle.ufs_model.specs.declared.claims.ClaimSource.{ClaimSource}
@@ -40,6 +38,13 @@ pub record IsClaimed (g : Geometry) (v : Volume) (i level : ℕ) (at : Address) 
   pub reached : (a k : ℕ) → at ≡ At a k → (source : ClaimSource) × IsReached g v i level source (At a k)
   pub whole : 0 < level → (a k : ℕ) → at ≡ At a k → k ≡ g.frag
 
+-- block b is claimed by a source through which a file block of inode i is reached
+pub record IsReachedFor (g : Geometry) (v : Volume) (i b : ℕ) : Type 0 where
+  pub source : ClaimSource
+  pub first : ℕ
+  pub claim : IsClaim (source_fragments g v) b source
+  pub reaches : FirstBlock g v source i first
+
 -- what is claimed at no fragment is claimed anyhow
 claims_nothing : (g : Geometry) (v : Volume) (i level : ℕ) (at : Address) → ((a k : ℕ) → at ≡ At a k → ⊥) → IsClaimed g v i level at
 claims_nothing g v i level at none = record { reached = λ a k is. absurd (none a k is); whole = λ above a k is. absurd (none a k is) }
@@ -49,7 +54,7 @@ span_by true run a k b j is = let no : Hole ≡ At b j = is in cc
 span_by false true a k b j is = let same : At a k ≡ At b j = is in cc
 span_by false false a k b j is = let no : Wild ≡ At b j = is in cc
 
-address_span : (g : Geometry) (a k b j : ℕ) → address g a k ≡ At b j → j ≡ k
+pub address_span : (g : Geometry) (a k b j : ℕ) → address g a k ≡ At b j → j ≡ k
 unfolding address
 address_span g a k b j is = span_by (a == 0) (is_data_run g a k) a k b j is
 
@@ -58,14 +63,14 @@ slot_by : (g : Geometry) (slot : ℕ) (inode : Inode) (within : Bool) (found : O
 slot_by g slot inode true found is = rw is refl
 slot_by g slot inode false found is = let no : None ≡ Some inode = is in cc
 
-slot_claims : (g : Geometry) (v : Volume) (i slot : ℕ) (inode : Inode) → inode_at g v i ≡ Some inode → has_pointers g inode ≡ true → slot < 15
+pub slot_claims : (g : Geometry) (v : Volume) (i slot : ℕ) (inode : Inode) → inode_at g v i ≡ Some inode → has_pointers g inode ≡ true → slot < 15
     → source_fragments g v (Slot i slot) ≡ fragments_at (slot_address g inode slot)
 unfolding source_fragments slot_fragments
 slot_claims g v i slot inode is pointers low =
     let within : nat_lt slot 15 ≡ true = grind (arith, nat_tests) in
     slot_by g slot inode (is_inode_number g i) ((inode_of g i v).value) is ∙ rw (pointers, within) refl
 
-slot_whole : (g : Geometry) (inode : Inode) (slot : ℕ) → 12 ≤ slot → span g inode slot ≡ g.frag
+pub slot_whole : (g : Geometry) (inode : Inode) (slot : ℕ) → 12 ≤ slot → span g inode slot ≡ g.frag
 unfolding span
 slot_whole g inode slot high = let past : nat_le 12 slot ≡ true = grind (arith, nat_tests) in rw past refl
 
@@ -80,7 +85,7 @@ slot_claimed g v i slot inode is pointers low = record {
 
 -- ---- through an indirect block
 
-pointer_claims : (g : Geometry) (v : Volume) (f level at : ℕ) → at < g.fsize / 4
+pub pointer_claims : (g : Geometry) (v : Volume) (f level at : ℕ) → at < g.fsize / 4
     → source_fragments g v (Pointer f level at) ≡ fragments_at (address g (pointer_in g.endian (block_at g.fsize v f) at) g.frag)
 unfolding source_fragments pointer_fragments
 pointer_claims g v f level at low = let within : nat_lt at (g.fsize / 4) ≡ true = grind (arith, nat_tests) in rw within refl
@@ -129,12 +134,12 @@ through_claimed g v i level p (At a k) whole low one =
       whole = λ above b j is. address_span g (pointer_in g.endian ((area_of g.fsize a k v).value) p) g.frag b j is;
     }
 
-through_needs : (g : Geometry) (v : Volume) (i level p b : ℕ) (at : Address) → IsClaimed g v i (suc level) at → Contains ((through g p at v).needs) b → IsMetadataBy g v b
+through_needs : (g : Geometry) (v : Volume) (i level p b : ℕ) (at : Address) → IsClaimed g v i (suc level) at → Contains ((through g p at v).needs) b → IsReachedFor g v i b
 unfolding through bind
 through_needs g v i level p b Hole one h = absurd (in_none b h)
 through_needs g v i level p b Wild one h = absurd (in_none b h)
 through_needs g v i level p b (At a k) one h = elim (Contains-append_cases ((area_of g.fsize a k v).needs) [] b h) [
-  | inl here ↦ let reached = one.reached a k refl in of_indirect reached.0 (reached.1.claims b (area_have g.fsize a k b v here)) (let level = reached.1.of_level in omega arith)
+  | inl here ↦ let reached = one.reached a k refl in record { source = reached.0; first = reached.1.first; claim = reached.1.claims b (area_have g.fsize a k b v here); reaches = reached.1.owner }
   | inr none ↦ absurd (in_none b none)
 ]
 
@@ -143,7 +148,7 @@ through_needs g v i level p b (At a k) one h = elim (Contains-append_cases ((are
 -- what a chain leads to is claimed as data, and it goes through indirect blocks alone
 record IsChained (g : Geometry) (v : Volume) (i : ℕ) (reading : Consulted Address) : Type 0 where
   claimed : IsClaimed g v i 0 reading.value
-  needs : (b : ℕ) → Contains reading.needs b → IsMetadataBy g v b
+  needs : (b : ℕ) → Contains reading.needs b → IsReachedFor g v i b
 
 chain_by : (g : Geometry) (v : Volume) (i : ℕ) (inode : Inode) (chain : Chain) → IsWhole g v → IsFile g v i inode → IsChain g.nindir chain → IsChained g v i (chain_address g inode chain v)
 unfolding bind
@@ -210,27 +215,22 @@ block_needs : (g : Geometry) (inode : Inode) (n b : ℕ) (v : Volume) → Contai
 unfolding block_of bind
 block_needs g inode n b v h = Contains-append_cases ((file_block_of g inode n v).needs) ((bytes_at g ((file_block_of g inode n v).value) v).needs) b h
 
--- a block of the structure above a file, or one that it claims
-pub data IsOfFile (g : Geometry) (v : Volume) (i b : ℕ) : Type 0 where
-  of_indirects : IsMetadataBy g v b → IsOfFile g v i b
-  of_data : (first : ℕ) (source : ClaimSource) → IsClaim (source_fragments g v) b source → FirstBlock g v source i first → IsOfFile g v i b
-
 pub few : (g : Geometry) (inode : Inode) (n : ℕ) → IsGeometry g → inode.size < 2 ^ 32 → n < block_count g inode → n < 2 ^ 30
 few g inode n is small low = let most = count_few inode.size g.bsize (is.bsize.1) small in omega arith
 
 -- what is needed to find a file block
 pub file_block_needs : (g : Geometry) (v : Volume) (i n b : ℕ) (inode : Inode) → IsWhole g v → IsFile g v i inode → inode.size < 2 ^ 32 → n < block_count g inode
-    → Contains ((file_block_of g inode n v).needs) b → IsMetadataBy g v b
+    → Contains ((file_block_of g inode n v).needs) b → IsReachedFor g v i b
 file_block_needs g v i n b inode whole file small low h = (file_block_chained g v i n inode whole file (few g inode n whole.geometry small low)).needs b h
 
 -- what is needed to read it
 pub block_of_needs : (g : Geometry) (v : Volume) (i n b : ℕ) (inode : Inode) → IsWhole g v → IsFile g v i inode → inode.size < 2 ^ 32 → n < block_count g inode
-    → Contains ((block_of g inode n v).needs) b → IsOfFile g v i b
+    → Contains ((block_of g inode n v).needs) b → IsReachedFor g v i b
 block_of_needs g v i n b inode whole file small low h = elim (block_needs g inode n b v h) [
-  | inl upper ↦ of_indirects (file_block_needs g v i n b inode whole file small low upper)
+  | inl upper ↦ file_block_needs g v i n b inode whole file small low upper
   | inr bytes ↦
       let chained = file_block_chained g v i n inode whole file (few g inode n whole.geometry small low) in
       let here = bytes_need g v b ((file_block_of g inode n v).value) bytes in
       let reached = chained.claimed.reached here.start here.count here.are in
-      of_data (reached.1.first) reached.0 (reached.1.claims b here.here) reached.1.owner
+      record { source = reached.0; first = reached.1.first; claim = reached.1.claims b here.here; reaches = reached.1.owner }
 ]

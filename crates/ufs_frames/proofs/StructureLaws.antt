@@ -32,7 +32,7 @@ use Rattle.ufs_frames.proofs.ClaimLaws.{ClaimAlike, alike, first_back, first_ont
 use Rattle.ufs_frames.proofs.FragmentLaws.{in_none}
 use Rattle.ufs_frames.proofs.LocalLaws.{bind_same, local_within}
 use Rattle.ufs_frames.proofs.MalformationLaws.{AreAlike, is_directory as directory_onto, same_bad, turned}
-use Rattle.ufs_frames.proofs.ReachLaws.{IsOfFile, block_of_needs, file_block_needs, of_data, of_indirects}
+use Rattle.ufs_frames.proofs.ReachLaws.{IsReachedFor, block_of_needs, file_block_needs}
 use Rattle.ufs_frames.proofs.VolumeLaws.{geometry_is, local_geometry}
 
 -- ---- readings one after another
@@ -174,9 +174,8 @@ directory_found : (g : Geometry) (v : Volume) (i : ℕ) (inode : Inode) → inod
 directory_found g v i inode there is = subst (λ found. MatchOption found ⊥ (λ inode. (kind_of inode.mode ≡ Directory) × Unit {0})) (sym there) (is, tt)
 
 -- the blocks that are needed to read a directory
-of_file : (l n : ℕ) (v : Volume) (g : Geometry) → (geometry_of l n v).value ≡ Ok g → (i b : ℕ) → IsDirectory g v i (λ _. Unit {0}) → IsOfFile g v i b → IsStructure l n v b
-of_file l n v g is i b directory (of_indirects h) = of_metadata (by_geometry g is h)
-of_file l n v g is i b directory (of_data first source claim reaches) = of_directory g i first source is directory claim reaches
+of_file : (l n : ℕ) (v : Volume) (g : Geometry) → (geometry_of l n v).value ≡ Ok g → (i b : ℕ) → IsDirectory g v i (λ _. Unit {0}) → IsReachedFor g v i b → IsStructure l n v b
+of_file l n v g is i b directory reached = of_directory g i reached.first reached.source is directory reached.claim reached.reaches
 
 pub directory_needs : (l n : ℕ) (v : Volume) → HasWholeIndirects l n v → (g : Geometry) → (geometry_of l n v).value ≡ Ok g → (i : ℕ) (inode : Inode) → inode_at g v i ≡ Some inode
     → kind_of inode.mode ≡ Directory → inode.size < 2 ^ 32 → (k : ℕ) → k < block_count g inode → (b : ℕ) → Contains ((block_of g inode k v).needs) b → IsStructure l n v b
@@ -188,7 +187,7 @@ module _ (l n : ℕ) (v w : Volume) (whole : HasWholeIndirects l n v) (agree : A
   pub agree_metadata : AgreeOn l (IsMetadata l n v) v w
   agree_metadata b h = agree b (of_metadata h)
 
-  agree_file : (g : Geometry) → (geometry_of l n v).value ≡ Ok g → (i b : ℕ) → IsDirectory g v i (λ _. Unit {0}) → IsOfFile g v i b → block_at g.fsize w b ≡ block_at g.fsize v b
+  agree_file : (g : Geometry) → (geometry_of l n v).value ≡ Ok g → (i b : ℕ) → IsDirectory g v i (λ _. Unit {0}) → IsReachedFor g v i b → block_at g.fsize w b ≡ block_at g.fsize v b
   agree_file g is i b directory h =
       subst (λ (k : ℕ). block_at k w b ≡ block_at k v b) (sym ((geometry_is l n v g is).fsize)) (agree b (of_file l n v g is i b directory h))
 
@@ -199,7 +198,7 @@ module _ (l n : ℕ) (v w : Volume) (whole : HasWholeIndirects l n v) (agree : A
 
     same_address : (k : ℕ) → k < block_count g inode → file_block_of g inode k w ≡ file_block_of g inode k v
     same_address k low = (local_file_block g inode k).same v w (λ b h.
-        agree_file g is i b (directory_found g v i inode there directory) (of_indirects (file_block_needs g v i k b inode (whole_by l n v g is whole) file small low h)))
+        agree_file g is i b (directory_found g v i inode there directory) (file_block_needs g v i k b inode (whole_by l n v g is whole) file small low h))
 
     same_block : (k : ℕ) → k < block_count g inode → block_of g inode k w ≡ block_of g inode k v
     same_block k low = (local_block g inode k).same v w (λ b h.

@@ -5,7 +5,7 @@ use Rattle.dg_model.specs.declared.shapes.Shape.{Shape}
 use Rattle.dg_store.specs.Stores.{members_of, shape_of, table_of}
 use Rattle.dg_hot.specs.Copied.{CanGiveUp, give_ups_on}
 use Rattle.dg_hot.proofs.CopyLaws.{given_back}
-use Rattle.dg_hot.proofs.Lists.{apart_take}
+use Rattle.dg_hot.proofs.ApartLaws.{apart_take}
 use Rattle.dg_hot.proofs.StoreLaws.{can_give_up, can_take, lost_on, moved_both, next_done, next_none, next_used, next_within}
 use Rattle.dg_hot.proofs.copies.copy_all.Goals as goal
 

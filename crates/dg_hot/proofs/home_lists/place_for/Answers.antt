@@ -1,5 +1,5 @@
 use Rattle.std.proofs.Common.{length, arith}
-use Rattle.dg_hot.proofs.HomeLaws.{put_at, same_default}
+use Rattle.dg_model.proofs.HomeLaws.{put_at, same_default}
 use Rattle.dg_hot.proofs.home_lists.place_for.Goals as goal
 
 pub returns-then-home-homes-clause-place : goal.returns-then-home-homes-clause-place

@@ -6,9 +6,9 @@ use Rattle.dg_model.specs.Moves.{spare}
 use Rattle.dg_move.specs.Spares.{AreWithin}
 use Rattle.dg_model.specs.declared.shapes.Shape.{Shape}
 use Rattle.dg_model.specs.declared.sites.Site.{Site}
+use Rattle.dg_model.proofs.SpareSteps.{drops, off_length}
 use Rattle.dg_move.proofs.MeetLaws.{within_of}
 use Rattle.dg_move.proofs.StoreLaws.{gave_one, only_both, only_one, without_here, without_other}
-use Rattle.dg_move.proofs.SpareSteps.{drops, off_length}
 use Rattle.dg_move.proofs.spares.give_up_spare.Goals as goal
 
 pub first_spare-requires-clause-within : goal.first_spare-requires-clause-within

@@ -1,7 +1,7 @@
 use Rattle.std.proofs.Common.{◌≡◌, ◌/◌, refl, sym, ◌∙◌}
+use Rattle.dg_model.proofs.RowLaws.{same_from_test}
 use Rattle.dg_map.specs.Bits.{bit_in}
 use Rattle.dg_map.proofs.BitLemmas.{removed, some_from_test, sums_clear, sums_stay, word_some}
-use Rattle.dg_map.proofs.RowLemmas.{same_from_test}
 use Rattle.dg_map.proofs.bits.Bits.remove.Goals as goal
 
 pub returns-then-not-clear_bit : goal.returns-then-not-clear_bit

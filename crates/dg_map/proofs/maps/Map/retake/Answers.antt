@@ -1,6 +1,6 @@
+use Rattle.dg_model.proofs.PutLaws.{undone}
 use Rattle.dg_map.specs.Maps.{table_of}
 use Rattle.dg_map.proofs.MapLemmas.{room_for, slot_none, taken_at, with_slots}
-use Rattle.dg_map.proofs.TableLemmas.{undone}
 use Rattle.dg_map.proofs.maps.Map.retake.Goals as goal
 
 pub take_at-requires-clause-free : goal.take_at-requires-clause-free

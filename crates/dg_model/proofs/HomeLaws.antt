@@ -66,7 +66,7 @@ abbrev inodes : List Home → List ℕ
 inodes homes = map (λ (home : Home). home.inode) homes
 
 -- the first inode is above a number, and they ascend
-abbrev AscendFrom : ℕ → List Home → Type 0
+abbrev pub AscendFrom : ℕ → List Home → Type 0
 AscendFrom n [] = Unit {0}
 AscendFrom n (home ∷ homes) = (n < home.inode) × AscendFrom home.inode homes
 

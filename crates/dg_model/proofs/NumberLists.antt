@@ -1,5 +1,5 @@
 -- Lists of numbers: which are apart, and what a filter leaves.
-use Rattle.std.proofs.Common.{◌≡◌, ◌⊎◌, ◌<◌, ◌≤◌, ◌+◌, ℕ, zero, suc, Bool, true, false, cond, List, [], ◌∷◌, inl, inr, refl, sym, ◌∙◌, ap, subst, arith}
+use Rattle.std.proofs.Common.{◌≡◌, ◌⊎◌, ◌<◌, ◌≤◌, ◌+◌, ℕ, zero, suc, Bool, true, false, cond, List, [], ◌∷◌, take, inl, inr, refl, sym, ◌∙◌, ap, subst, arith}
 use Rattle.std.specs.Prelude.{filter}
 use Rattle.std.specs.List.{Contains, range_with_len}
 use Rattle.std.proofs.lemmas.Bool.{cases_eq}
@@ -32,6 +32,14 @@ in_or_out (x ∷ xs) y = elim (cases_eq x y) [
     | inl there ↦ inl (tail_in x xs y there)
     | inr none ↦ inr (λ h. elim (in_parts x xs y h) [ inl same ↦ other same | inr there ↦ none there ])
   ]
+]
+
+pub in_take : (k : ℕ) (xs : List ℕ) (y : ℕ) → Contains (take k xs) y → Contains xs y
+in_take zero xs y there = absurd (nothing_in y there)
+in_take (suc k) [] y there = there
+in_take (suc k) (x ∷ xs) y there = elim (in_parts x (take k xs) y there) [
+  | inl same ↦ subst (λ (z : ℕ). Contains (x ∷ xs) z) same (head_in x xs)
+  | inr more ↦ tail_in x xs y (in_take k xs y more)
 ]
 
 -- ---- filters

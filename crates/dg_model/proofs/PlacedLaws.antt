@@ -18,9 +18,9 @@ use Rattle.dg_model.specs.declared.sites.Site.{Site}
 use Rattle.dg_model.specs.declared.wants.Want.{Want}
 use Rattle.dg_model.specs.declared.wants.Want.TheVariants.{Kept, File, Stray}
 use Rattle.dg_model.proofs.SiteLists.{apart_test, same_test}
-use Rattle.dg_promise.proofs.CopyLaws.{copies_here, copies_to, copies_other, copies_sized, has_copy, on_copy}
-use Rattle.dg_promise.proofs.HomeLaws.{home_new, home_others, with_ascends}
-use Rattle.dg_promise.proofs.Lists.{AreApart, apart_filter, apart_range, filter_in, in_filter, in_or_out, in_range}
+use Rattle.dg_model.proofs.CopyLaws.{copies_here, copies_to, copies_other, copies_sized, has_copy, on_copy}
+use Rattle.dg_model.proofs.HomeLaws.{home_new, home_others, with_ascends}
+use Rattle.dg_model.proofs.NumberLists.{AreApart, apart_filter, apart_range, filter_in, in_filter, in_or_out, in_range}
 
 -- ---- the blocks of a file
 

@@ -11,7 +11,7 @@ use Rattle.dg_model.specs.declared.shapes.Shape.{Shape}
 use Rattle.dg_model.specs.Shapes.{IsShape}
 use Rattle.dg_model.specs.Tables.{IsFree, IsTable, StandsIn, Table, count_on, empty_table, put_site, sites_in, used_in, without_site, sites_off}
 use Rattle.dg_model.proofs.SiteLists.{apart_test, count_on-push, off_last, one_if, same_test, zero_if}
-use Rattle.dg_map.proofs.RowLemmas.{count_off_other, count_off_same, off-Contains, Contains-off, Contains-off_apart}
+use Rattle.dg_model.proofs.RowLaws.{count_off_other, count_off_same, off-Contains, Contains-off, Contains-off_apart}
 
 -- the site that a boundary and a slot name
 abbrev pub site_at : ℕ → ℕ → Site
@@ -157,6 +157,8 @@ undone table new b site within is before others ok last was =
     let size : table.shape.n ≡ before.shape.n = ap (λ (t : Table). t.shape.n) was in
     is ∙ ap (λ t. put_site t b site) was ∙ put-without before b others site ok (omega (arith, ok.size)) last
 
+-- ---- the table without sites
+
 pub empty_row : (n b : ℕ) → get_or {A = List Site} (replicate n []) b [] ≡ []
 empty_row n b =
     ⊎_elim
@@ -182,14 +184,3 @@ IsTable-empty shape ok = record {
   one_site = λ b s. subst (λ xs. count_on s xs ≤ 1) (sym (empty_row shape.n b)) (omega arith);
   used = λ s. omega (arith, used_empty shape s);
 }
-
--- a block that has a site is one of the table's
-pub block_within : (table : Table) (b s slot : ℕ) → StandsIn table b s slot → b < length table.rows
-block_within table b s slot h =
-    ⊎_elim
-    (λ lt. lt)
-    (λ past. absurd (past_none (subst (λ xs. Contains xs (site_at s slot)) (get_or_past table.rows b [] past) h)))
-    (cases_lt b (length table.rows))
-  where
-    past_none : Contains [] (site_at s slot) → ⊥
-    past_none h = absurd (omega (arith, h.1))

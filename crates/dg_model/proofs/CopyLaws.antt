@@ -1,23 +1,21 @@
 -- The table once blocks were copied to a boundary.
-use Rattle.std.proofs.Common.{◌≡◌, ◌≢◌, ◌<◌, ◌+◌, ◌++◌, ◌==◌, ℕ, true, cond, List, [], ◌∷◌, length, map, inl, inr, refl, sym, ◌∙◌, ap, subst, arith, get_or-set_other, get_or-set_same}
+use Rattle.std.proofs.Common.{◌≡◌, ◌≢◌, ◌<◌, ◌+◌, ◌++◌, ◌==◌, ℕ, true, cond, List, [], ◌∷◌, length, map, inl, inr, refl, sym, ◌∙◌, ap, subst, arith, get_or-set_other}
 use Rattle.std.specs.List.{Contains}
 use Rattle.std.proofs.lemmas.List.{length-set}
 use Rattle.dg_model.specs.Moves.{Action, all_done, copy_to, done}
 use Rattle.dg_model.specs.Sites.{has_site}
 use Rattle.dg_model.specs.Tables.{Table, count_on, lowest_free, put_site, sites_in}
 use Rattle.dg_model.specs.declared.sites.Site.{Site}
+use Rattle.dg_model.proofs.PutLaws.{sites_put_here}
 use Rattle.dg_model.proofs.SiteLists.{count_on-push}
 use Rattle.dg_model.proofs.TableLaws.{IsSized, all_done_sized}
-use Rattle.dg_promise.proofs.Lists.{AreApart, head_in, in_parts, nothing_in, tail_in}
+use Rattle.dg_model.proofs.NumberLists.{AreApart, head_in, in_parts, nothing_in, tail_in}
 
 -- each of these blocks is copied to boundary s
 abbrev pub copies_to : ℕ → List ℕ → List Action
 copies_to s blocks = map (λ b. copy_to b s) blocks
 
 -- ---- one action
-
-put_here : (table : Table) (b : ℕ) (site : Site) → b < length table.rows → sites_in (put_site table b site) b ≡ sites_in table b ++ site ∷ []
-put_here table b site row = get_or-set_same table.rows b (sites_in table b ++ site ∷ []) [] row
 
 put_other : (table : Table) (b c : ℕ) (site : Site) → c ≢ b → sites_in (put_site table b site) c ≡ sites_in table c
 put_other table b c site other = get_or-set_other table.rows b c (sites_in table b ++ site ∷ []) [] other
@@ -51,7 +49,7 @@ module _ (s : ℕ) where
       slot = lowest_free table s;
       is = copies_other (done table (copy_to b s)) bs c (λ more. apart.0 (subst (λ (d : ℕ). Contains bs d) (sym same) more))
           ∙ subst (λ (d : ℕ). sites_in (put_site table b (site_for table s)) d ≡ sites_in table d ++ site_for table s ∷ []) same
-          (put_here table b (site_for table s) (subst (λ (d : ℕ). d < length table.rows) (sym same) row));
+          (sites_put_here table b (site_for table s) (subst (λ (d : ℕ). d < length table.rows) (sym same) row));
     }
     | inr more ↦
         let rows : length (done table (copy_to b s)).rows ≡ length table.rows = length-set table.rows b (sites_in table b ++ site_for table s ∷ []) in
