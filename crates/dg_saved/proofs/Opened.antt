@@ -1,6 +1,6 @@
 -- What was done on an opened volume, told by the members and the counts of its rack.
 use Rattle.std.proofs.Common.{◌≡◌, ◌≢◌, ◌⊎◌, ℕ, List, ap, refl, sym, ◌∙◌, inl, inr}
-use Rattle.std.specs.Prelude.{Bool, true, false, Option}
+use Rattle.std.specs.Prelude.{Bool, Option}
 use Rattle.dg_io.specs.declared.outside.Rack.{Ghosts}
 use Rattle.dg_model.proofs.KnownLaws.{step_less}
 use Rattle.dg_model.specs.States.{State}

@@ -3,22 +3,21 @@ use Rattle.std.proofs.Common.{◌≡◌, ◌<◌, ◌/◌, ℕ, List, ap, refl, 
 use Rattle.std.specs.Prelude.{Bool, true, false, Option, Some, None, IfSome, IsSome}
 use Rattle.std.proofs.lemmas.Bool.{false≢true}
 use Rattle.dg_io.specs.declared.outside.Rack.{Ghosts}
-use Rattle.dg_model.specs.Changes.{IsInOrder, SeesWants}
+use Rattle.dg_model.specs.Changes.{IsInOrder}
 use Rattle.dg_model.specs.Marks.{AreNext}
-use Rattle.dg_model.specs.Members.{is_good}
 use Rattle.dg_model.specs.Openings.{Found, IsReopened, Opens}
 use Rattle.dg_model.specs.Saves.{HasBody, SavedState, body_of}
 use Rattle.dg_model.specs.Seals.{HoldsLabel, LastLabel}
 use Rattle.dg_model.specs.States.{Counts, Holds, HoldsAll, StandsFor, State, is_broken}
 use Rattle.dg_model.specs.Tables.{Table}
 use Rattle.dg_model.specs.declared.shapes.Shape.{Shape}
-use Rattle.dg_open.specs.Founds.{AreRead, IsRead}
+use Rattle.dg_open.specs.Founds.{IsRead}
 use Rattle.dg_open.specs.Reopenings.{FindsNoState, FindsUnclean}
 use Rattle.dg_saved.specs.Calls.{Facts}
-use Rattle.dg_saved.specs.Saved.{FoundNoState, FoundUnclean, HasLooked, HasSource, IsHeld, IsOpenedAs, TellsArray, had}
+use Rattle.dg_saved.specs.Saved.{FoundNoState, FoundUnclean, HasSource, IsHeld, IsOpenedAs, TellsArray, had}
 use Rattle.dg_volume.specs.Opens.{HadBody, HasOpened}
 use Rattle.dg_volume.specs.Opens as openings
-use Rattle.dg_volume.specs.Volumes.{Leaves, StandsIn, Tells, any_phase, members_of, rack_of, shape_of, table_of}
+use Rattle.dg_volume.specs.Volumes.{Leaves, StandsIn, Tells, any_phase, members_of, rack_of, shape_of}
 use Rattle.dg_volume.specs.declared.phases.AnyPhase.{AnyPhase}
 use Rattle.dg_volume.specs.declared.volumes.Volume.{Volume}
 use Rattle.ufs_model.specs.Blocks.{Volume as Blocks}
