@@ -7,10 +7,9 @@ use Rattle.dg_drill.specs.declared.drills.DrillEnd.{DrillEnd}
 use Rattle.dg_model.specs.declared.events.Event.{Event}
 use Rattle.dg_run.proofs.Refusing.{le_or_lt}
 use Rattle.dg_run.proofs.Whole.{told_front}
-use Rattle.dg_run.specs.Calls.{Facts}
+use Rattle.dg_run.specs.Calls.{Facts, drill_met, met_by, streams_of}
 use Rattle.dg_run.specs.Completes.{Completes, CompletesReplay, CompletesResume, CompletesTrace, IsUnopened, answer_status}
-use Rattle.dg_run.specs.Ends.{Ends, EndsDrilled, EndsReplay, EndsSaved, EndsTrace, asked_by, drill_met, met_by, streams_of}
-use Rattle.dg_run.specs.Opened.{Opening}
+use Rattle.dg_run.specs.Ends.{Ends, EndsDrilled, EndsReplay, EndsSaved, EndsTrace, asked_by}
 use Rattle.dg_run.specs.Replays.{IsInput}
 use Rattle.dg_run.specs.Resumes.{AreLines, EndsResume}
 use Rattle.dg_run.specs.declared.top.Status.{Status}
@@ -49,7 +48,7 @@ resume_done : (f : Facts) (status : Status) → EndsResume f status → NoFault 
 resume_done f Done ends none events lines text = inl refl
 resume_done f BadLine ends none events lines (is, some) =
     let front = told_front _ f.left f.rest (input_of events) is some ends.input in
-    absurd (front.1.1.none events (lines ends.ran.opening) refl)
+    absurd (front.1.1.none events (lines ends.ran.opened ends.ran.source) refl)
 resume_done f ReadFault ends none events lines text = absurd (none.0 refl)
 resume_done f WriteFault ends none events lines text = absurd (none.1 refl)
 resume_done f NoMemory ends none events lines text = inr (inr refl)

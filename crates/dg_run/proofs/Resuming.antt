@@ -5,6 +5,7 @@ use Rattle.std.specs.Option.{option_map}
 use Rattle.std.proofs.lemmas.List.Concat.{flat_map-append}
 use Rattle.dg_io.specs.Told.{AreAny, Told, Took, TookPart}
 use Rattle.dg_io.specs.declared.outside.Rack.{Ghosts}
+use Rattle.dg_model.specs.Tables.{Table}
 use Rattle.dg_model.specs.declared.events.Event.{Event}
 use Rattle.dg_model.specs.declared.events.Event.TheVariants.{Tree}
 use Rattle.dg_model.specs.declared.replies.Reply.{Reply}
@@ -12,7 +13,7 @@ use Rattle.dg_model.specs.declared.replies.Reply.TheVariants.{Nodes}
 use Rattle.dg_model.specs.declared.shapes.Shape.{Shape}
 use Rattle.dg_run.proofs.Broken.{up_to}
 use Rattle.dg_run.proofs.Inputs.{All-head, All-right}
-use Rattle.dg_run.proofs.Opening.{met, opening, reached, resumed}
+use Rattle.dg_run.proofs.Opening.{from, met, reached, resumed}
 use Rattle.dg_run.proofs.Runs.{volume_runs}
 use Rattle.dg_run.proofs.ToldSteps.{Told-each, Told-then}
 use Rattle.dg_run.proofs.Whole.{fresh_told, rest_ended, rest_told, took_last}
@@ -21,7 +22,7 @@ use Rattle.dg_run.specs.Endings.{GaveLines, LinesBrokeOff, LinesCut, LinesRanOut
 use Rattle.dg_run.specs.Events.{IsRefused}
 use Rattle.dg_run.specs.Lines.{AllServed, BeginsAll, RefusedBehind, RefusedInPart, ServedTo}
 use Rattle.dg_run.specs.Resumes.{AreLines, EndsResume, RanOn, ResumeCut, ResumeCutRefusal, ResumeListed, ResumeWanted, StopsOn, WantedOn}
-use Rattle.dg_run.specs.Steps.{GoesOn, RunsBefore, VolumeRunsTo, shape_of}
+use Rattle.dg_run.specs.Steps.{GoesOn, RunsBefore, VolumeRunsTo, rack_of, shape_of}
 use Rattle.dg_run.specs.declared.arrays.Array.{Array}
 use Rattle.dg_run.specs.declared.top.Status.{Status}
 use Rattle.dg_run.specs.declared.top.Status.TheVariants.{Done, Usage, BadLine, ReadFault, WriteFault, NoMemory, NoState, Unclean, Refused}
@@ -58,31 +59,38 @@ module _ {R : Type 0} (rack : Ghosts R) (before : R) (a b : Array R) (opened : H
   abbrev pub last_left : Option (List ℕ)
   last_left = option_map (λ more. kept ++ more) rest
 
+  -- the lines are on the sites of what the array was opened from
+  lines_on : (events : List Event) → All (IsInPlace (Some (shape_of a))) events → length (input_of events) ≤ 2 ^ 40 → AreLines opened.saved.table.shape events
+  lines_on events placed budget = subst (λ (t : Table). AreLines t.shape events) opened.table (record { in_place = placed; budget = budget })
+
   abbrev ran_on : (events : List Event) (replies : List Reply) → All (IsInPlace (Some (shape_of a))) events → length (input_of events) ≤ 2 ^ 40 → VolumeRunsTo rack a events replies b
       → RanOn (met rack before a b opened goes left rest taken given) events replies
   ran_on events replies placed budget runs = record {
-    opening = opening rack before a b opened goes left rest taken given;
-    lines = record { in_place = placed; budget = budget };
-    states = λ blocks agreed. reached rack before a b opened goes left rest taken given blocks agreed events replies runs;
+    opened = rack.counts (rack_of a);
+    source = from rack before a b opened goes left rest taken given;
+    lines = lines_on events placed budget;
+    runs = λ V held. reached rack before a b opened goes left rest taken given V held events replies runs;
   }
 
   abbrev wanted_on : (events : List Event) (replies : List Reply) → All (IsInPlace (Some (shape_of a))) events → length (input_of events) ≤ 2 ^ 40 → RunsBefore rack a events replies b
       → WantedOn (met rack before a b opened goes left rest taken given) events replies
   wanted_on events replies placed budget runs = record {
-    opening = opening rack before a b opened goes left rest taken given;
-    lines = record { in_place = placed; budget = budget };
-    states = λ blocks agreed. resumed rack before a b opened goes left rest taken given blocks agreed events replies runs;
+    opened = rack.counts (rack_of a);
+    source = from rack before a b opened goes left rest taken given;
+    lines = lines_on events placed budget;
+    runs = λ V held. resumed rack before a b opened goes left rest taken given V held events replies runs;
   }
 
   served_to : (number : ℕ) (kind : Kind) (z w : Option (List ℕ)) → (s : ServedTo rack (shape_of a) 0 1 number kind first_left last_left z w a b)
-      → Told (λ p q. (text : List ℕ) × StopsOn (shape_of a) s.events kind p text) left rest
+      → Told (λ p q. (text : List ℕ) × StopsOn opened.saved.table.shape s.events kind p text) left rest
   served_to number kind z w s =
       let at : 0 + length (input_of s.events) ≡ length (input_of s.events) = omega arith in
       let refused = subst (λ (n : ℕ). Told (λ p q. IsRefused (Some (shape_of a)) (2 ^ 40 - n) p kind) s.middle last_left) at s.refused in
       let both = Told-then (BeginsAll (Some (shape_of a)) s.events) (λ p q. IsRefused (Some (shape_of a)) (2 ^ 40 - length (input_of s.events)) p kind)
       (λ p q. (text : List ℕ) × StopsOn (shape_of a) s.events kind p text) (λ p q r f refused. (q, stops (shape_of a) s.events kind p q f refused)) first_left s.middle last_left s.served.input refused in
-      rest_told (λ p. (text : List ℕ) × StopsOn (shape_of a) s.events kind p text) kept left rest
-      (fresh_told (λ p q. (text : List ℕ) × StopsOn (shape_of a) s.events kind p text) unread left last_left fresh both)
+      subst (λ (t : Table). Told (λ p q. (text : List ℕ) × StopsOn t.shape s.events kind p text) left rest) opened.table
+      (rest_told (λ p. (text : List ℕ) × StopsOn (shape_of a) s.events kind p text) kept left rest
+      (fresh_told (λ p q. (text : List ℕ) × StopsOn (shape_of a) s.events kind p text) unread left last_left fresh both))
 
   abbrev Cut : Type 0
   Cut = ResumeCut (met rack before a b opened goes left rest taken given) ⊎ ResumeCutRefusal (met rack before a b opened goes left rest taken given)

@@ -1,13 +1,14 @@
 -- What each command answers where neither the source nor the sink fails.
 use Rattle.std.specs.Prelude.{◌≡◌, ◌⊎◌, ℕ, List, Option, Some, IsSome, Result, Ok, Err}
+use Rattle.dg_model.specs.States.{Counts}
 use Rattle.dg_model.specs.declared.events.Event.{Event}
-use Rattle.dg_run.specs.Calls.{Facts}
-use Rattle.dg_run.specs.Ends.{asked_by, streams_of}
-use Rattle.dg_run.specs.Opened.{Opening}
+use Rattle.dg_run.specs.Calls.{Facts, met_by, streams_of}
+use Rattle.dg_run.specs.Ends.{asked_by}
 use Rattle.dg_run.specs.Replays.{IsInput}
 use Rattle.dg_run.specs.Resumes.{AreLines}
 use Rattle.dg_run.specs.declared.top.Status.{Status}
 use Rattle.dg_run.specs.declared.top.Status.TheVariants.{Done, NoMemory, NoState, Refused, Unclean}
+use Rattle.dg_saved.specs.Saved.{HasSource}
 use Rattle.dg_text.specs.Lines.{input_of}
 use Rattle.dg_trace.specs.Answers.{IsAnswer}
 use Rattle.dg_trace.specs.Calls as traces
@@ -31,7 +32,8 @@ CompletesReplay facts status = (events : List Event) → IsInput events → IsTe
 
 -- so are lines that are acceptable on whichever array was opened
 abbrev pub CompletesResume : Facts → Status → Type 0
-CompletesResume facts status = (events : List Event) → ((opening : Opening facts) → AreLines opening.table.shape events)
+CompletesResume facts status = (events : List Event)
+    → ((opened : Counts) (source : HasSource (met_by facts) opened) → AreLines source.saved.table.shape events)
     → IsText facts.left facts.rest (input_of events) → (status ≡ Done) ⊎ (IsUnopened status ⊎ (status ≡ NoMemory))
 
 -- the status by the answer to an image

@@ -1,16 +1,14 @@
 -- How each command ends, by its status.
 use Rattle.std.specs.Prelude.{◌≡◌, ℕ, List, Option, Bool, true, false, Result, Ok, Err}
 use Rattle.dg_io.specs.Told.{Told, Took, TookPart}
-use Rattle.dg_drill.specs.Calls as drills
 use Rattle.dg_drill.specs.Drills.{EndsDrill}
 use Rattle.dg_drill.specs.declared.drills.DrillEnd.{DrillEnd}
 use Rattle.dg_drill.specs.declared.drills.DrillEnd.TheVariants.{Done as Drilled, WriteFault as DrillCut}
-use Rattle.dg_run.specs.Calls.{Facts}
+use Rattle.dg_run.specs.Calls.{Facts, drill_met, met_by, streams_of}
 use Rattle.dg_run.specs.Replays.{BrokeOff, IsCut, RanOut, Replayed, Stopped}
 use Rattle.dg_run.specs.Resumes.{EndsResume}
 use Rattle.dg_run.specs.declared.top.Status.{Status}
 use Rattle.dg_run.specs.declared.top.Status.TheVariants.{Done, Usage, BadLine, ReadFault, WriteFault, NoMemory, NoState, Unclean, Refused}
-use Rattle.dg_saved.specs.Calls as commands
 use Rattle.dg_saved.specs.Ends.{EndsCat, EndsLs, EndsStatus}
 use Rattle.dg_saved.specs.declared.ends.SavedEnd.{SavedEnd}
 use Rattle.dg_saved.specs.declared.ends.SavedEnd.TheVariants.{Done as SavedDone, NoState as SavedNoState, Refused as SavedRefused, Unclean as SavedUnclean, WriteFault as SavedWriteFault}
@@ -62,17 +60,6 @@ EndsSaved ends taken given WriteFault = ends SavedWriteFault
 EndsSaved ends taken given NoMemory = given ≡ taken
 EndsSaved ends taken given status = ⊥
 
--- what it met outside
-abbrev pub met_by : Facts → commands.Facts
-met_by facts = record {
-  before = facts.before;
-  now = facts.now;
-  images = facts.images;
-  bytes = facts.bytes;
-  taken = facts.taken;
-  given = facts.given;
-}
-
 -- the status of a trace that is made of an image
 abbrev pub trace_status : Result TraceEnd TraceFault → Status
 trace_status (Ok Written) = Done
@@ -94,10 +81,6 @@ EndsTrace facts asked status = ⊥
 abbrev pub asked_by : Order → ℕ → ℕ → ℕ → Asked
 asked_by order b k m = record { order = order; b = b; k = k; m = m }
 
--- the source and the sink that it met
-abbrev pub streams_of : Facts → traces.Facts
-streams_of facts = record { left = facts.left; rest = facts.rest; taken = facts.taken; given = facts.given }
-
 -- the status of a drill
 abbrev pub drill_status : DrillEnd → Status
 drill_status Drilled = Done
@@ -109,17 +92,6 @@ EndsDrilled ends taken given Done = ends Drilled
 EndsDrilled ends taken given WriteFault = ends DrillCut
 EndsDrilled ends taken given NoMemory = given ≡ taken
 EndsDrilled ends taken given status = ⊥
-
--- the sink and the rack that it met
-abbrev pub drill_met : Facts → drills.Facts
-drill_met facts = record {
-  before = facts.before;
-  now = facts.now;
-  images = facts.images;
-  bytes = facts.bytes;
-  taken = facts.taken;
-  given = facts.given;
-}
 
 -- each command by its own rules
 abbrev pub Ends : Facts → Command → Status → Type 0

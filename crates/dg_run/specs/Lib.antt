@@ -16,4 +16,3 @@ pub mod Resumes
 pub mod Scans
 pub mod Statuses
 pub mod Steps
-pub mod Texts

@@ -1,18 +1,21 @@
 -- What a trace on a saved array means: the events of its input, their replies, and what the rack holds at the end.
 use Rattle.std.specs.Prelude.{◌≡◌, ◌⊎◌, ◌≤◌, ◌<◌, ◌+◌, ◌-◌, ◌^◌, ◌++◌, [], ◌∷◌, ℕ, List, length, Option, Some, All}
 use Rattle.dg_io.specs.Told.{AreAny, Told, Took}
+use Rattle.dg_model.specs.States.{Counts}
 use Rattle.dg_model.specs.declared.events.Event.{Event}
 use Rattle.dg_model.specs.declared.events.Event.TheVariants.{Tree}
 use Rattle.dg_model.specs.declared.replies.Reply.{Reply}
 use Rattle.dg_model.specs.declared.replies.Reply.TheVariants.{Nodes}
 use Rattle.dg_model.specs.declared.shapes.Shape.{Shape}
-use Rattle.dg_run.specs.Calls.{Facts}
+use Rattle.dg_run.specs.Calls.{Facts, met_by}
 use Rattle.dg_run.specs.Endings.{GaveLines, StartsWith, TookUpTo}
 use Rattle.dg_run.specs.Events.{IsRefused}
-use Rattle.dg_run.specs.Opened.{Agreed, CutAnswer, FoundNone, FoundUnclean, Opening, Reached, Resumed}
-use Rattle.dg_run.specs.Texts.{nostate, unclean}
+use Rattle.dg_run.specs.Opened.{ReadsNothing, Reached, Resumed}
 use Rattle.dg_run.specs.declared.top.Status.{Status}
 use Rattle.dg_run.specs.declared.top.Status.TheVariants.{Done, BadLine, ReadFault, WriteFault, NoMemory, NoState, Unclean}
+use Rattle.dg_saved.specs.Ends.{CutUnopened, Printed}
+use Rattle.dg_saved.specs.Saved.{FoundNoState, FoundUnclean, HasSource, IsHeld}
+use Rattle.dg_saved.specs.Texts.{nostate_text, unclean_text}
 use Rattle.dg_text.specs.Lines.{IsInPlace, input_of}
 use Rattle.dg_text.specs.Replies.{nodes_text, output_of, refusal, reply_line}
 use Rattle.dg_text.specs.declared.lines.BadLine.{BadLine as Kind}
@@ -23,18 +26,20 @@ pub record AreLines (shape : Shape) (events : List Event) : Type 0 where
   pub in_place : All (IsInPlace (Some shape)) events
   pub budget : length (input_of events) ≤ 2 ^ 40
 
--- The array was opened. These events are in their places, and had these replies: of each list of blocks that the members agree on, in steps
--- from an opened state to one that the rack holds.
+-- A saved array was opened. These events are in their places, and had these replies: whichever blocks the members held, in steps from the
+-- opened state to one that the rack holds.
 pub record RanOn (facts : Facts) (events : List Event) (replies : List Reply) : Type 0 where
-  pub opening : Opening facts
-  pub lines : AreLines opening.table.shape events
-  pub states : (blocks : List (List ℕ)) → Agreed facts opening blocks → Reached facts opening blocks events replies
+  pub opened : Counts
+  pub source : HasSource (met_by facts) opened
+  pub lines : AreLines source.saved.table.shape events
+  pub runs : (V : List (List ℕ)) → IsHeld (met_by facts) opened source V → Reached facts opened source V events replies
 
 -- the same, but nothing is said of what the rack holds
 pub record WantedOn (facts : Facts) (events : List Event) (replies : List Reply) : Type 0 where
-  pub opening : Opening facts
-  pub lines : AreLines opening.table.shape events
-  pub states : (blocks : List (List ℕ)) → Agreed facts opening blocks → Resumed facts opening blocks events replies
+  pub opened : Counts
+  pub source : HasSource (met_by facts) opened
+  pub lines : AreLines source.saved.table.shape events
+  pub runs : (V : List (List ℕ)) → IsHeld (met_by facts) opened source V → Resumed facts opened source V events replies
 
 -- the input was read to its end, and is the lines of these events, of which there may be none; the output is the text of their replies
 pub record AllResumed (facts : Facts) : Type 0 where
@@ -57,7 +62,7 @@ pub record ResumeStopped (facts : Facts) : Type 0 where
   pub replies : List Reply
   pub kind : Kind
   pub ran : RanOn facts events replies
-  pub input : Told (λ b a. (text : List ℕ) × StopsOn ran.opening.table.shape events kind b text) facts.left facts.rest
+  pub input : Told (λ b a. (text : List ℕ) × StopsOn ran.source.saved.table.shape events kind b text) facts.left facts.rest
   pub output : Told (Took (output_of replies ++ refusal (length events + 1) kind)) facts.taken facts.given
 
 -- the source failed: the lines that it gave whole are those of these events
@@ -83,7 +88,7 @@ pub record ResumeCutRefusal (facts : Facts) : Type 0 where
   pub replies : List Reply
   pub kind : Kind
   pub ran : RanOn facts events replies
-  pub input : Told (λ b a. (text : List ℕ) × StopsOn ran.opening.table.shape events kind b text) facts.left facts.rest
+  pub input : Told (λ b a. (text : List ℕ) × StopsOn ran.source.saved.table.shape events kind b text) facts.left facts.rest
   pub output : Told (TookUpTo (output_of replies) (refusal (length events + 1) kind)) facts.taken facts.given
 
 -- memory was wanting before a reply, or behind one
@@ -109,8 +114,8 @@ abbrev pub EndsResume : Facts → Status → Type 0
 EndsResume facts Done = AllResumed facts
 EndsResume facts BadLine = ResumeStopped facts
 EndsResume facts ReadFault = ResumeBrokeOff facts
-EndsResume facts WriteFault = CutAnswer facts ⊎ (ResumeCut facts ⊎ ResumeCutRefusal facts)
+EndsResume facts WriteFault = (ReadsNothing facts × CutUnopened (met_by facts)) ⊎ (ResumeCut facts ⊎ ResumeCutRefusal facts)
 EndsResume facts NoMemory = (Told AreAny facts.left facts.rest × (facts.given ≡ facts.taken)) ⊎ (ResumeWanted facts ⊎ ResumeListed facts)
-EndsResume facts NoState = FoundNone facts × Told (Took nostate) facts.taken facts.given
-EndsResume facts Unclean = FoundUnclean facts × Told (Took unclean) facts.taken facts.given
+EndsResume facts NoState = ReadsNothing facts × FoundNoState (met_by facts) × Printed (met_by facts) nostate_text
+EndsResume facts Unclean = ReadsNothing facts × FoundUnclean (met_by facts) × Printed (met_by facts) unclean_text
 EndsResume facts status = ⊥

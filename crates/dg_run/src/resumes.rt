@@ -9,7 +9,7 @@ ghost use Rattle.dg_run.specs.Inputs.{ahead};
 ghost use Rattle.dg_run.specs.Lines.{AllServed, RefusedBehind, RefusedInPart};
 ghost use Rattle.dg_run.specs.Resumes.{EndsResume};
 ghost use Rattle.dg_run.specs.Steps.{GoesOn, IsSound, shape_of};
-ghost use Rattle.dg_run.specs.Texts.{nostate, unclean};
+ghost use Rattle.dg_saved.specs.Texts.{nostate_text, unclean_text};
 
 use crate::arrays::Array;
 use crate::input::Input;
@@ -24,8 +24,8 @@ use std::alloc::Global;
 /// Tells that there is no saved array.
 pub fn tell_no_state<K: Sink>(sink: &mut K) -> Status
     ensures is { (result ≡ Status.NoState) ⊎ (result ≡ Status.WriteFault) }
-    ensures all { result ≡ Status.NoState → Told (Took nostate) (K.taken sink.old) (K.taken sink.new) }
-    ensures part { result ≡ Status.WriteFault → Told (TookPart nostate) (K.taken sink.old) (K.taken sink.new) }
+    ensures all { result ≡ Status.NoState → Told (Took nostate_text) (K.taken sink.old) (K.taken sink.new) }
+    ensures part { result ≡ Status.WriteFault → Told (TookPart nostate_text) (K.taken sink.old) (K.taken sink.new) }
     ensures write { result ≡ Status.WriteFault → Rose (K.faults sink.old) (K.faults sink.new) }
     ensures kept { (result ≡ Status.WriteFault → ⊥) → K.faults sink.new ≡ K.faults sink.old }
 {
@@ -38,8 +38,8 @@ pub fn tell_no_state<K: Sink>(sink: &mut K) -> Status
 /// Tells that the saved array was written after its last save.
 pub fn tell_unclean<K: Sink>(sink: &mut K) -> Status
     ensures is { (result ≡ Status.Unclean) ⊎ (result ≡ Status.WriteFault) }
-    ensures all { result ≡ Status.Unclean → Told (Took unclean) (K.taken sink.old) (K.taken sink.new) }
-    ensures part { result ≡ Status.WriteFault → Told (TookPart unclean) (K.taken sink.old) (K.taken sink.new) }
+    ensures all { result ≡ Status.Unclean → Told (Took unclean_text) (K.taken sink.old) (K.taken sink.new) }
+    ensures part { result ≡ Status.WriteFault → Told (TookPart unclean_text) (K.taken sink.old) (K.taken sink.new) }
     ensures write { result ≡ Status.WriteFault → Rose (K.faults sink.old) (K.faults sink.new) }
     ensures kept { (result ≡ Status.WriteFault → ⊥) → K.faults sink.new ≡ K.faults sink.old }
 {

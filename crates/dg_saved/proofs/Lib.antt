@@ -1,4 +1,3 @@
-mod KnownOpenings
 mod Lined
 mod Opened
 mod PathReplies

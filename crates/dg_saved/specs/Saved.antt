@@ -48,11 +48,13 @@ had before (Some now) = before
 abbrev pub TellsArray : (ℕ → Option (List ℕ)) → Table → Type 0
 TellsArray bytes table = (q : ℕ) → q / 2 < table.shape.b → IsSome (bytes q)
 
--- What an array was opened from, when the rack had these counts: what was taken of the members, as they stood before; the first of the newest
--- that says a state; and what each member did before blocks were read, and when it had been opened. It was good at first only where it may be.
+-- What an array was opened from, when the rack had these counts, of which none fell: what was taken of the members, as they stood before; the
+-- first of the newest that says a state; and what each member did before blocks were read, and when it had been opened. It was good at first only
+-- where it may be. Nothing was written.
 pub record HasSource (facts : Facts) (opened : Counts) : Type 0 where
   pub taken : ℕ → Option Found
   pub read : AreRead (λ q. had (facts.images q) (facts.bytes q)) facts.before.faults opened.faults taken
+  pub rise : CountsRise facts.before opened
   pub writes : opened.writes ≡ facts.before.writes
   pub source : ℕ
   pub label : Label
@@ -69,10 +71,11 @@ pub record IsHeld (facts : Facts) (opened : Counts) (source : HasSource facts op
   pub body : (q : ℕ) → is_good (source.members q) ≡ true
       → IfSome (facts.images q) (λ all. HasBody all source.saved.table.shape (body_of source.label.format source.saved))
 
--- The array was opened in this state, with these blocks.
+-- The array was opened in this state, with these blocks and the sites of its source.
 pub record IsOpenedAs (facts : Facts) (opened : Counts) (source : HasSource facts opened) (V : List (List ℕ)) (state : State) : Type 0 where
   pub blocks : state.blocks ≡ V
   pub opens : Opens (TellsArray facts.bytes source.saved.table) source.taken facts.before state
+  pub table : state.table ≡ source.saved.table
   pub members : state.members ≡ source.members
   pub counts : state.counts ≡ opened
 

@@ -1,9 +1,10 @@
 use Rattle.std.proofs.Common.{subst, sym}
 use Rattle.dg_model.specs.declared.events.Event.TheVariants.{Cat}
-use Rattle.dg_saved.proofs.Opened.{ends_event, found_no_state, found_unclean}
+use Rattle.dg_saved.proofs.Opened.{ends_event}
 use Rattle.dg_saved.proofs.Unopened.{event_unopened, no_state_ends, unclean_ends}
 use Rattle.dg_saved.specs.Calls.{facts_of}
 use Rattle.dg_saved.specs.Ends.{EndsCat}
+use Rattle.dg_saved.specs.OpeningLaws.{found_no_state, found_unclean}
 use Rattle.dg_saved.specs.Texts.{cat_text, gives_file}
 use Rattle.dg_volume.specs.Opens.{AnswersOpen}
 use Rattle.dg_saved.proofs.files.cat_saved.Goals as goal

@@ -1,4 +1,4 @@
-use Rattle.std.proofs.Common.{ℕ, List, rules, subst}
+use Rattle.std.proofs.Common.{rules, subst}
 use Rattle.dg_io.specs.Told.{Told, Took, TookPart}
 use Rattle.dg_model.specs.declared.events.Event.TheVariants.{Cat}
 use Rattle.dg_saved.proofs.PathReplies.{cat_nothing, has_reply}

@@ -1,9 +1,10 @@
 use Rattle.std.proofs.Common.{subst, sym}
 use Rattle.dg_model.specs.declared.events.Event.TheVariants.{Ls}
-use Rattle.dg_saved.proofs.Opened.{ends_event, found_no_state, found_unclean}
+use Rattle.dg_saved.proofs.Opened.{ends_event}
 use Rattle.dg_saved.proofs.Unopened.{event_unopened, no_state_ends, unclean_ends}
 use Rattle.dg_saved.specs.Calls.{facts_of}
 use Rattle.dg_saved.specs.Ends.{EndsLs}
+use Rattle.dg_saved.specs.OpeningLaws.{found_no_state, found_unclean}
 use Rattle.dg_saved.specs.Texts.{ls_text, gives_listing}
 use Rattle.dg_volume.specs.Opens.{AnswersOpen}
 use Rattle.dg_saved.proofs.listings.ls_saved.Goals as goal

@@ -1,8 +1,9 @@
 use Rattle.std.proofs.Common.{◌∙◌, subst, sym}
-use Rattle.dg_saved.proofs.Opened.{found_no_state, found_unclean, has_shown, shown_ends}
+use Rattle.dg_saved.proofs.Opened.{has_shown, shown_ends}
 use Rattle.dg_saved.proofs.Unopened.{no_state_ends, status_unopened, unclean_ends}
 use Rattle.dg_saved.specs.Calls.{facts_of}
 use Rattle.dg_saved.specs.Ends.{EndsStatus}
+use Rattle.dg_saved.specs.OpeningLaws.{found_no_state, found_unclean}
 use Rattle.dg_volume.specs.Opens.{AnswersOpen}
 use Rattle.dg_volume.specs.Volumes.{rack_of}
 use Rattle.dg_saved.proofs.shows.show_status.Goals as goal

@@ -1,0 +1,183 @@
+-- Laws of an array that was opened, and of what was found where none was. They stand here since the crates above cite them.
+use Rattle.std.proofs.Common.{◌≡◌, ◌<◌, ◌/◌, ℕ, List, ap, refl, sym, subst, ◌∙◌}
+use Rattle.std.specs.Prelude.{Bool, true, false, Option, Some, None, IfSome, IsSome}
+use Rattle.std.proofs.lemmas.Bool.{false≢true}
+use Rattle.dg_io.specs.declared.outside.Rack.{Ghosts}
+use Rattle.dg_model.specs.Changes.{IsInOrder}
+use Rattle.dg_model.specs.Marks.{AreNext}
+use Rattle.dg_model.specs.Openings.{Found, IsReopened, Opens}
+use Rattle.dg_model.specs.Saves.{HasBody, SavedState, body_of}
+use Rattle.dg_model.specs.Seals.{HoldsLabel, LastLabel}
+use Rattle.dg_model.specs.States.{Counts, Holds, HoldsAll, StandsFor, State, is_broken}
+use Rattle.dg_model.specs.Tables.{Table}
+use Rattle.dg_model.specs.declared.shapes.Shape.{Shape}
+use Rattle.dg_open.specs.Founds.{IsRead}
+use Rattle.dg_open.specs.Reopenings.{FindsNoState, FindsUnclean}
+use Rattle.dg_saved.specs.Calls.{Facts}
+use Rattle.dg_saved.specs.Saved.{FoundNoState, FoundUnclean, HasSource, IsHeld, IsOpenedAs, TellsArray, had}
+use Rattle.dg_volume.specs.Opens.{HadBody, HasOpened}
+use Rattle.dg_volume.specs.Opens as openings
+use Rattle.dg_volume.specs.Volumes.{Leaves, StandsIn, Tells, any_phase, members_of, rack_of, shape_of}
+use Rattle.dg_volume.specs.declared.phases.AnyPhase.{AnyPhase}
+use Rattle.dg_volume.specs.declared.volumes.Volume.{Volume}
+use Rattle.ufs_model.specs.Blocks.{Volume as Blocks}
+
+-- ---- a stronger premise
+
+-- What is said of an opened state where K holds is said of it where J does.
+module _ {K J : Type 0} (w : J → K) where
+  next_less : (broken : Bool) (l n : ℕ) (v : Blocks) (old new : List Bool) → AreNext broken K l n v old new → AreNext broken J l n v old new
+  next_less true l n v old new h = h
+  next_less false l n v old new h = record { size = h.size; fewer = h.fewer; are = λ j. h.are (w j) }
+
+  order_less : (state : State) → IsInOrder K state → IsInOrder J state
+  order_less state h = record {
+    wants = h.wants;
+    seen = record { fit = h.seen.fit; are = λ j. h.seen.are (w j) };
+    placed = h.placed;
+    sound = λ j. h.sound (w j);
+  }
+
+  -- where both hold, each says as much
+  order_more : (state : State) → J → IsInOrder J state → IsInOrder K state
+  order_more state told h = record {
+    wants = h.wants;
+    seen = record { fit = h.seen.fit; are = λ k. h.seen.are told };
+    placed = h.placed;
+    sound = λ k. h.sound told;
+  }
+
+  reopened_less : (saved : SavedState) (state : State) → IsReopened K saved state → IsReopened J saved state
+  reopened_less saved state h = record {
+    worn = h.worn;
+    settled = λ e. ((h.settled e).0, order_less state (h.settled e).1);
+    loose = λ e was told ordered. h.loose e was (w told) (order_more (record state { copies = saved.copies }) told ordered);
+    copies = h.copies;
+  }
+
+  pub opens_less : (taken : ℕ → Option Found) (before : Counts) (state : State) → Opens K taken before state → Opens J taken before state
+  opens_less taken before state h = record {
+    source = h.source;
+    label = h.label;
+    saved = h.saved;
+    is_source = h.is_source;
+    table = h.table;
+    homes = h.homes;
+    recent = h.recent;
+    good = h.good;
+    out = h.out;
+    pending = next_less (is_broken state) state.table.shape.l state.table.shape.n state.blocks h.saved.pending state.pending h.pending;
+    phase = reopened_less h.saved state h.phase;
+    label_is = h.label_is;
+    body = h.body;
+    counts = h.counts;
+  }
+
+-- what is told in the end was told before
+pub had_less : (P : List ℕ → Type 0) (before mid now : Option (List ℕ)) → (IsSome now → IsSome mid) → IfSome (openings.had before mid) P → IfSome (had before now) P
+had_less P before mid None told h = tt
+had_less P before None (Some now) told h = absurd (false≢true (told refl))
+had_less P before (Some mid) (Some now) told h = h
+
+-- ---- nothing was opened
+
+module _ {R : Type 0} (rack : Ghosts R) (before now : R) (taken given : Option (List ℕ)) where
+  abbrev pub looked_facts : Facts
+  looked_facts = record {
+    before = rack.counts before;
+    now = rack.counts now;
+    images = rack.bytes before;
+    bytes = rack.bytes now;
+    taken = taken;
+    given = given;
+  }
+
+  pub found_no_state : FindsNoState rack before now → FoundNoState looked_facts
+  found_no_state h = record {
+    looked = record { taken = h.taken; read = h.read; same = h.leaves.same; rise = h.leaves.rise; writes = h.leaves.writes };
+    none = h.none;
+  }
+
+  pub found_unclean : FindsUnclean rack before now → FoundUnclean looked_facts
+  found_unclean h = record {
+    looked = record { taken = h.taken; read = h.read; same = h.leaves.same; rise = h.leaves.rise; writes = h.leaves.writes };
+    unclean = h.unclean;
+  }
+
+-- ---- an array was opened
+
+module _ {R : Type 0} (rack : Ghosts R) (before : R) (volume new : Volume AnyPhase R) (hot : List ℕ) (taken given : Option (List ℕ))
+    (opened : HasOpened rack before volume hot) (leaves : Leaves any_phase any_phase rack volume new) where
+  -- what was met outside
+  abbrev pub facts : Facts
+  facts = record {
+    before = rack.counts before;
+    now = rack.counts (rack_of new);
+    images = rack.bytes before;
+    bytes = rack.bytes (rack_of new);
+    taken = taken;
+    given = given;
+  }
+
+  -- what it was opened from
+  abbrev pub source : HasSource facts (rack.counts (rack_of volume))
+  source = record {
+    taken = opened.taken;
+    read = record {
+      each = λ q low.
+          had_less (λ all. IsRead opened.taken q ((rack.counts before).faults q) ((rack.counts (rack_of volume)).faults q) all (opened.taken q))
+          (rack.bytes before q) (rack.bytes (rack_of volume) q) (rack.bytes (rack_of new) q) (leaves.tells q) (opened.read.each q low);
+      others = opened.read.others;
+    };
+    rise = opened.stays.rise;
+    writes = opened.writes;
+    source = opened.source;
+    label = opened.label;
+    saved = opened.saved;
+    is_source = opened.is_source;
+    first = opened.first;
+    first_are = opened.first_are;
+    members = members_of volume;
+    falls = opened.falls;
+  }
+
+  known_volume : TellsArray (rack.bytes (rack_of new)) opened.saved.table → Tells rack volume
+  known_volume told q below = leaves.tells q (told q (subst (λ (t : Table). q / 2 < t.shape.b) opened.table below))
+
+  pub known : TellsArray (rack.bytes (rack_of new)) opened.saved.table → Tells rack new
+  known told q below = told q (subst (λ (t : Table). q / 2 < t.shape.b) opened.table (subst (λ (s : Shape). q / 2 < s.b) leaves.shape below))
+
+  body_had : (V : List (List ℕ)) → IsHeld facts (rack.counts (rack_of volume)) source V → HadBody rack before volume (body_of opened.label.format opened.saved)
+  body_had V held q good =
+      subst (λ (t : Table). IfSome (rack.bytes before q) (λ all. HasBody all t.shape (body_of opened.label.format opened.saved))) (sym opened.table) (held.body q good)
+
+  -- the members hold a state in which the volume is in the end
+  pub holds_all : (state : State) → StandsIn any_phase rack new state → Tells rack new → HoldsAll (rack.bytes (rack_of new)) state
+  holds_all state stands told =
+      let shape : shape_of new ≡ state.table.shape = sym (ap (λ (s : State). s.table.shape) stands.is) in (
+        subst (λ (s : State). Holds (rack.bytes (rack_of new)) s) (sym stands.is) (stands.holds told).array,
+        subst (λ (s : Shape). IfSome state.label (λ (last : LastLabel). HoldsLabel s last (rack.bytes (rack_of new)))) shape stands.label.holds,
+      )
+
+  -- the state in which it was opened, with these blocks
+  pub record AtFirst (V : List (List ℕ)) : Type 0 where
+    pub state : State
+    pub blocks : state.blocks ≡ V
+    pub opens : Opens (Tells rack volume) opened.taken (rack.counts before) state
+    pub stands : StandsIn any_phase rack volume state
+    pub recent : state.recent ≡ hot
+
+  module _ (V : List (List ℕ)) (held : IsHeld facts (rack.counts (rack_of volume)) source V) where
+    pub at_first : AtFirst V
+    at_first =
+        let at = opened.states_are V (λ told. subst (λ (t : Table). StandsFor t opened.first (rack.bytes before) V) (sym opened.table) held.blocks) (body_had V held) in
+        record { state = at.0; blocks = at.1; opens = at.2; stands = at.3; recent = at.4 }
+
+    pub is_opened : IsOpenedAs facts (rack.counts (rack_of volume)) source V at_first.state
+    is_opened = record {
+      blocks = at_first.blocks;
+      opens = opens_less known_volume opened.taken (rack.counts before) at_first.state at_first.opens;
+      table = ap (λ (s : State). s.table) at_first.stands.is ∙ opened.table;
+      members = ap (λ (s : State). s.members) at_first.stands.is;
+      counts = ap (λ (s : State). s.counts) at_first.stands.is;
+    }
