@@ -1,17 +1,15 @@
 -- What commands answer where neither the source nor the sink fails.
-use Rattle.std.proofs.Common.{◌≡◌, ◌≤◌, ◌<◌, ◌+◌, ◌^◌, ◌++◌, ◌∙◌, ℕ, List, [], ap, arith, inl, inr, length, length-append, refl, sym, subst}
-use Rattle.std.specs.Prelude.{◌⊎◌, Option, Some, IsSome, Result, Ok, Err}
+use Rattle.std.proofs.Common.{◌≡◌, ◌≤◌, ◌<◌, ◌+◌, ◌^◌, ◌++◌, ◌∙◌, ℕ, List, ap, arith, inl, inr, length, length-append, refl, sym, subst}
+use Rattle.std.specs.Prelude.{◌⊎◌, Option, Result, Ok, Err}
 use Rattle.std.proofs.lemmas.List.{append-nil}
 use Rattle.dg_drill.specs.Drills.{EndsDrill}
 use Rattle.dg_drill.specs.declared.drills.DrillEnd.{DrillEnd}
-use Rattle.dg_model.specs.declared.events.Event.{Event}
 use Rattle.dg_run.proofs.Refusing.{le_or_lt}
 use Rattle.dg_run.proofs.Whole.{told_front}
 use Rattle.dg_run.specs.Calls.{Facts, drill_met, met_by, streams_of}
 use Rattle.dg_run.specs.Completes.{Completes, CompletesReplay, CompletesResume, CompletesTrace, IsUnopened, answer_status}
 use Rattle.dg_run.specs.Ends.{Ends, EndsDrilled, EndsReplay, EndsSaved, EndsTrace, asked_by}
-use Rattle.dg_run.specs.Replays.{IsInput}
-use Rattle.dg_run.specs.Resumes.{AreLines, EndsResume}
+use Rattle.dg_run.specs.Resumes.{EndsResume}
 use Rattle.dg_run.specs.declared.top.Status.{Status}
 use Rattle.dg_run.specs.declared.top.Status.TheVariants.{Done, Usage, BadLine, ReadFault, WriteFault, NoMemory, NoState, Unclean, Refused}
 use Rattle.dg_saved.specs.Ends.{EndsCat, EndsLs}
@@ -22,7 +20,7 @@ use Rattle.dg_trace.specs.Calls as traces
 use Rattle.dg_trace.specs.Images.{GaveImage}
 use Rattle.dg_trace.specs.declared.asked.Asked.{Asked}
 use Rattle.dg_trace.specs.declared.asked.TraceRefusal.{TraceRefusal}
-use Rattle.dg_trace.specs.declared.asked.TraceRefusal.TheVariants.{Length, Limits, Super}
+use Rattle.dg_trace.specs.declared.asked.TraceRefusal.TheVariants.{Length}
 use Rattle.dg_words.specs.declared.commands.Command.{Command}
 use Rattle.dg_words.specs.declared.commands.Command.TheVariants.{Replay, Resume, Cat, Ls, Status as StatusCommand, Trace, Drill}
 use Rattle.ufs_model.specs.declared.geometries.Geometry.{Geometry}

@@ -1,7 +1,6 @@
 -- How commands end.
-use Rattle.std.proofs.Common.{◌≡◌, ◌∙◌, ℕ, List, [], ap, arith, false, inl, inr, refl, sym, subst, true}
+use Rattle.std.proofs.Common.{◌≡◌, ◌∙◌, ℕ, List, [], arith, inl, inr, refl, sym, subst}
 use Rattle.std.specs.Prelude.{◌⊎◌, Option, Result, Ok, Err}
-use Rattle.std.proofs.lemmas.Bool.{false≢true}
 use Rattle.dg_drill.specs.declared.drills.DrillEnd.{DrillEnd}
 use Rattle.dg_drill.specs.declared.drills.DrillEnd.TheVariants.{Done as Drilled, WriteFault as DrillCut}
 use Rattle.dg_io.specs.Told.{AreAny, Told, Took, TookPart}
@@ -27,7 +26,6 @@ use Rattle.dg_trace.specs.declared.asked.TraceFault.TheVariants.{NoMemory as Ima
 use Rattle.dg_words.specs.Commands.{Gives, IsCommand}
 use Rattle.dg_words.specs.declared.commands.Command.{Command}
 use Rattle.dg_words.specs.declared.commands.Command.TheVariants.{Replay, Resume, Cat, Ls, Status as StatusCommand, Trace, Drill}
-use Rattle.dg_words.specs.declared.commands.Order.{Order}
 use Rattle.dg_words.specs.declared.commands.WordsRefused.{WordsRefused}
 use Rattle.dg_words.specs.declared.commands.WordsRefused.TheVariants.{Usage as NotWords, NoMemory as WordsNoMemory}
 

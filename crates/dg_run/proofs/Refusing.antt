@@ -1,5 +1,5 @@
 -- By which kind a text is refused where it stands.
-use Rattle.std.proofs.Common.{◌≡◌, ◌≢◌, ◌≤◌, ◌<◌, ◌+◌, ◌++◌, ◌∷◌, [], ℕ, zero, suc, List, length, take, refl, sym, ◌∙◌, ap, ap₂, subst, arith, append_assoc, length-append, inl, inr, false}
+use Rattle.std.proofs.Common.{◌≡◌, ◌≢◌, ◌≤◌, ◌<◌, ◌+◌, ◌++◌, ◌∷◌, [], ℕ, zero, suc, List, length, take, refl, sym, ◌∙◌, ap, ap₂, subst, arith, append_assoc, length-append, inl, inr}
 use Rattle.std.specs.Prelude.{◌⊎◌, Option, None, Result, Ok, Err, IfErr, IfOk, Contains}
 use Rattle.std.proofs.lemmas.List.Elements.{All-contains, All-take}
 use Rattle.dg_model.specs.declared.shapes.Shape.{Shape}

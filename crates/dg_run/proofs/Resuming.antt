@@ -1,6 +1,6 @@
 -- A trace on an array that was opened, by how its lines ended.
-use Rattle.std.proofs.Common.{◌≡◌, ◌≤◌, ◌<◌, ◌+◌, ◌-◌, ◌^◌, ℕ, List, [], ◌∷◌, ◌++◌, length, arith, length-append, ap, inl, inr, refl, subst, sym, ◌∙◌, true}
-use Rattle.std.specs.Prelude.{◌⊎◌, All, Option, Some, None}
+use Rattle.std.proofs.Common.{◌≡◌, ◌≤◌, ◌+◌, ◌-◌, ◌^◌, ℕ, List, [], ◌∷◌, ◌++◌, length, arith, length-append, ap, inl, inr, refl, subst, ◌∙◌}
+use Rattle.std.specs.Prelude.{◌⊎◌, All, Option, Some}
 use Rattle.std.specs.Option.{option_map}
 use Rattle.std.proofs.lemmas.List.Concat.{flat_map-append}
 use Rattle.dg_io.specs.Told.{AreAny, Told, Took, TookPart}
@@ -15,10 +15,10 @@ use Rattle.dg_run.proofs.Broken.{up_to}
 use Rattle.dg_run.proofs.Inputs.{All-head, All-right}
 use Rattle.dg_run.proofs.Opening.{from, met, reached, resumed}
 use Rattle.dg_run.proofs.Runs.{volume_runs}
-use Rattle.dg_run.proofs.ToldSteps.{Told-each, Told-then}
+use Rattle.dg_run.proofs.ToldSteps.{Told-then}
 use Rattle.dg_run.proofs.Whole.{fresh_told, rest_ended, rest_told, took_last}
 use Rattle.dg_run.specs.Arrays.{IsOfReplay}
-use Rattle.dg_run.specs.Endings.{GaveLines, LinesBrokeOff, LinesCut, LinesRanOut, StartsWith, TookUpTo}
+use Rattle.dg_run.specs.Endings.{GaveLines, LinesBrokeOff, LinesCut, LinesRanOut, StartsWith}
 use Rattle.dg_run.specs.Events.{IsRefused}
 use Rattle.dg_run.specs.Lines.{AllServed, BeginsAll, RefusedBehind, RefusedInPart, ServedTo}
 use Rattle.dg_run.specs.Resumes.{AreLines, EndsResume, RanOn, ResumeCut, ResumeCutRefusal, ResumeListed, ResumeWanted, StopsOn, WantedOn}
@@ -27,7 +27,7 @@ use Rattle.dg_run.specs.declared.arrays.Array.{Array}
 use Rattle.dg_run.specs.declared.top.Status.{Status}
 use Rattle.dg_run.specs.declared.top.Status.TheVariants.{Done, Usage, BadLine, ReadFault, WriteFault, NoMemory, NoState, Unclean, Refused}
 use Rattle.dg_text.specs.Lines.{IsInPlace, input_of, line_of}
-use Rattle.dg_text.specs.Replies.{nodes_text, output_of, refusal, reply_line}
+use Rattle.dg_text.specs.Replies.{output_of, refusal}
 use Rattle.dg_text.specs.declared.lines.BadLine.{BadLine as Kind}
 use Rattle.dg_volume.specs.Opens.{HasOpened}
 

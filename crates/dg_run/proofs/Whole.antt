@@ -1,6 +1,6 @@
 -- A whole replay.
-use Rattle.std.proofs.Common.{◌≡◌, ◌≤◌, ◌<◌, ◌+◌, ◌-◌, ◌/◌, ◌^◌, ℕ, List, [], ◌∷◌, ◌++◌, length, refl, sym, ◌∙◌, ap, subst, arith, append_assoc, inl, inr, length-append}
-use Rattle.std.specs.Prelude.{◌⊎◌, Option, Some, None, All, Result, Ok, Err, IfOk, IfSome, IsSome}
+use Rattle.std.proofs.Common.{◌≡◌, ◌≤◌, ◌<◌, ◌+◌, ◌-◌, ◌/◌, ◌^◌, ℕ, List, [], ◌∷◌, ◌++◌, length, refl, sym, ◌∙◌, ap, subst, arith, append_assoc, inr, length-append}
+use Rattle.std.specs.Prelude.{Option, Some, None, All, Result, Ok, Err, IfOk, IfSome, IsSome}
 use Rattle.std.proofs.lemmas.List.{append_cancel_left}
 use Rattle.std.proofs.lemmas.List.Concat.{flat_map-append}
 use Rattle.dg_model.specs.Shapes.{IsShape}
@@ -25,7 +25,7 @@ use Rattle.dg_run.specs.Events.{Begins, IsRefused}
 use Rattle.dg_run.specs.Lines.{Served, ServedTo}
 use Rattle.dg_run.specs.Endings.{TookUpTo}
 use Rattle.dg_run.specs.Refusals.{IsRefusedBy}
-use Rattle.dg_run.specs.Replays.{CutRefusal, IsCut, IsInput, IsNoInput, Ran, Replayed, Stopped, StopsAt, TellsBoundaries}
+use Rattle.dg_run.specs.Replays.{CutRefusal, IsCut, IsNoInput, Ran, Replayed, Stopped, StopsAt, TellsBoundaries}
 use Rattle.dg_run.specs.Arrays.{AllAnswered, AnsweredTo, ArrayReplayed, ArrayStopped, IsCutAt}
 use Rattle.dg_run.proofs.Inputs.{All-head, All-right, no_line}
 use Rattle.dg_run.proofs.Runs.{volume_runs}

@@ -1,5 +1,5 @@
 -- What a trace on a saved array means: the events of its input, their replies, and what the rack holds at the end.
-use Rattle.std.specs.Prelude.{◌≡◌, ◌⊎◌, ◌≤◌, ◌<◌, ◌+◌, ◌-◌, ◌^◌, ◌++◌, [], ◌∷◌, ℕ, List, length, Option, Some, All}
+use Rattle.std.specs.Prelude.{◌≡◌, ◌⊎◌, ◌≤◌, ◌+◌, ◌-◌, ◌^◌, ◌++◌, [], ◌∷◌, ℕ, List, length, Some, All}
 use Rattle.dg_io.specs.Told.{AreAny, Told, Took}
 use Rattle.dg_model.specs.States.{Counts}
 use Rattle.dg_model.specs.declared.events.Event.{Event}

@@ -1,4 +1,4 @@
-use Rattle.std.proofs.Common.{◌≡◌, ◌∙◌, ◌<◌, ◌++◌, ℕ, List, ap, arith, inl, inr, length, refl, rules, subst, sym}
+use Rattle.std.proofs.Common.{◌≡◌, ◌∙◌, ◌<◌, ◌++◌, ℕ, List, ap, arith, inl, inr, length, refl, rules, subst}
 use Rattle.std.specs.Prelude.{OnErr, OnOk, Option, codes}
 use Rattle.std.specs.List.{concat}
 use Rattle.dg_io.specs.Told.{Told, Took, TookPart}

@@ -1,4 +1,4 @@
-use Rattle.std.proofs.Common.{◌≡◌, ◌<◌, ◌≤◌, ◌+◌, length, arith}
+use Rattle.std.proofs.Common.{◌<◌, ◌≤◌, ◌+◌, length, arith}
 use Rattle.std.specs.Option.{option_copied}
 use Rattle.dg_text.specs.Refusals.{IsRefused}
 use Rattle.dg_run.proofs.Refusing.{err_of, refused_size, refused_words}

@@ -1,4 +1,4 @@
-use Rattle.std.proofs.Common.{◌≡◌, subst, sym}
+use Rattle.std.proofs.Common.{subst, sym}
 use Rattle.dg_run.proofs.Ended.{ends_trace}
 use Rattle.dg_run.specs.Ends.{EndsTrace}
 use Rattle.dg_run.specs.declared.top.Status.{Status}

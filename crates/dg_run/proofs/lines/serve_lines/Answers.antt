@@ -1,4 +1,4 @@
-use Rattle.std.proofs.Common.{refl, rules, subst, arith, ◌∙◌}
+use Rattle.std.proofs.Common.{refl, rules, arith, ◌∙◌}
 use Rattle.dg_run.proofs.Breaks.{lines_broke_off, lines_cut_at, lines_ran_out_at}
 use Rattle.dg_run.proofs.Inputs.{line_some}
 use Rattle.dg_run.proofs.Runs.{so_far_none, so_far_next, turned_served, lines_end, lines_refused, goes_none, goes_then}

@@ -1,4 +1,4 @@
-use Rattle.std.proofs.Common.{◌≡◌, ap, refl, sym}
+use Rattle.std.proofs.Common.{sym}
 use Rattle.std.specs.Prelude.{codes}
 use Rattle.dg_model.specs.Marks.{marked}
 use Rattle.dg_model.specs.declared.events.Event.TheVariants.{Pending}

@@ -1,4 +1,4 @@
-use Rattle.std.proofs.Common.{◌≡◌, refl, rules, subst}
+use Rattle.std.proofs.Common.{◌≡◌, rules, subst}
 use Rattle.dg_run.proofs.Broken.{ran_out_first}
 use Rattle.dg_run.proofs.Ended.{ends_replay}
 use Rattle.dg_run.specs.Calls.{facts_of}

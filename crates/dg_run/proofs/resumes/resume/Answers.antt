@@ -1,4 +1,4 @@
-use Rattle.std.proofs.Common.{refl, subst, sym}
+use Rattle.std.proofs.Common.{subst, sym}
 use Rattle.dg_run.proofs.Opening.{ends_no_state, ends_unclean}
 use Rattle.dg_run.proofs.Resuming.{ends_resume}
 use Rattle.dg_run.specs.Calls.{facts_of}

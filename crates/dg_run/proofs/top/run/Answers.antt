@@ -1,4 +1,4 @@
-use Rattle.std.proofs.Common.{◌≡◌, ◌∙◌, ap, false, inr, refl, subst, sym}
+use Rattle.std.proofs.Common.{◌≡◌, ◌∙◌, ap, false, refl, subst, sym}
 use Rattle.std.specs.Prelude.{Err}
 use Rattle.dg_run.proofs.Completing.{completes}
 use Rattle.dg_run.proofs.Ended.{asked_is, ends_usage, wanted_first, words_refused}

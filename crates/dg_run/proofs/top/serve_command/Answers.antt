@@ -1,4 +1,4 @@
-use Rattle.std.proofs.Common.{ℕ, List, refl, subst, sym}
+use Rattle.std.proofs.Common.{ℕ, List, subst, sym}
 use Rattle.dg_run.specs.Calls.{facts_of}
 use Rattle.dg_run.specs.Ends.{Ends, EndsReplay}
 use Rattle.dg_run.specs.Resumes.{EndsResume}

@@ -1,4 +1,4 @@
-use Rattle.std.proofs.Common.{ℕ, List, refl, rules, subst}
+use Rattle.std.proofs.Common.{refl, rules, subst}
 use Rattle.std.specs.Prelude.{OnErr, OnOk, codes}
 use Rattle.dg_io.specs.Told.{Told, Took, TookPart}
 use Rattle.dg_model.specs.declared.events.Event.TheVariants.{Tree}
