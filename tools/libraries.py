@@ -1,0 +1,114 @@
+#!/usr/bin/env python3
+"""Proves the libraries of this repository side by side, each once those below it are proved, and hands them on.
+
+    tools/libraries.py prove FOLDER [LANES]        proves all of them, in clones FOLDER/lane0 and on; FOLDER/proved gets each library that is proved
+    tools/libraries.py hand FOLDER CLONE [CRATE..] gives CLONE all proved libraries, and of each CRATE what its checks kept, so that only changes are proved
+
+`rt` locks a crate and all below it while it works, so two checks go side by side only in two clones. What is committed at the top is proved. A second `prove`
+proves what has changed since. It isn't the verdict: that is `rt ci`.
+"""
+import os
+import subprocess
+import sys
+import threading
+import time
+
+import kit
+
+TOP = os.path.dirname(os.path.dirname(os.path.abspath(__file__)))
+
+
+def prove_one(clone, name):
+    """Checks a library in a clone that has those below it, and builds it. This is a process of its own."""
+    rt = kit.script("rt")
+    os.chdir(clone)
+    crate = rt.rtlib.Crate(f"{clone}/crates/{name}", clone, {})
+    held = rt.rtlib.lock([*crate.below(), crate])
+    lacking = [it.name for it in crate.below() if not it.is_built()]
+    if lacking:
+        sys.exit(f"not proved: {lacking}")
+    if not crate.is_built():
+        status = crate.check(["--jobs", "1"]) or crate.build_rlib(["--jobs", "1"], anew=False)
+        sys.exit(status)
+    del held
+
+
+class Lanes:
+    """The libraries that are proved, and those that are being proved."""
+
+    def __init__(self, folder, count):
+        self.folder, self.proved = folder, f"{folder}/proved"
+        self.clones = [f"{folder}/lane{i}" for i in range(count)]
+        for clone in (self.proved, *self.clones):
+            if not os.path.isdir(clone):
+                subprocess.run(["git", "clone", "-q", TOP, clone], check=True)
+            subprocess.run(["git", "-C", clone, "pull", "-q", "--ff-only", TOP, "HEAD"], check=True)
+        self.below = kit.libraries_of(self.proved)
+        self.turn, self.ended, self.started = threading.Condition(), {}, set()
+
+    def chain(self, name):
+        """How many libraries stand on each other from this one upwards."""
+        return 1 + max((self.chain(it) for it, below in self.below.items() if name in below), default=0)
+
+    def next(self):
+        """The library that is ready with the longest chain above it; None where none will be."""
+        with self.turn:
+            while True:
+                left = [it for it in self.below if it not in self.started]
+                ready = [it for it in left if all(self.ended.get(dep) for dep in self.below[it])]
+                if ready:
+                    name = max(ready, key=self.chain)
+                    self.started.add(name)
+                    return name
+                if not left or self.started == {*self.ended}:
+                    return None
+                self.turn.wait()
+
+    def work(self, clone):
+        """Proves one library after another in a clone."""
+        while (name := self.next()) is not None:
+            for it in self.below:
+                if self.ended.get(it):
+                    kit.hand_library(self.proved, clone, it)
+            if not os.path.isdir(f"{clone}/crates/{name}/out/incremental"):
+                kit.hand_kept(self.proved, clone, name)
+            start = time.monotonic()
+            with open(f"{self.folder}/{name}.log", "w") as log:
+                ran = subprocess.run([sys.executable, __file__, "one", clone, name], stdout=log, stderr=subprocess.STDOUT)
+            if ran.returncode == 0:
+                kit.hand_library(clone, self.proved, name)
+                kit.hand_kept(clone, self.proved, name)
+            print(f"{name}: {'proved' if ran.returncode == 0 else f'NOT PROVED: {log.name}'}, {time.monotonic() - start:.0f} s", flush=True)
+            with self.turn:
+                self.ended[name] = ran.returncode == 0
+                self.turn.notify_all()
+
+
+def prove(folder, count):
+    os.makedirs(folder, exist_ok=True)
+    lanes = Lanes(os.path.abspath(folder), count)
+    threads = [threading.Thread(target=lanes.work, args=(clone,)) for clone in lanes.clones]
+    for it in threads:
+        it.start()
+    for it in threads:
+        it.join()
+    sys.exit(not all(lanes.ended.get(it) for it in lanes.below))
+
+
+def main(verb="", *words):
+    if verb == "prove" and len(words) in (1, 2):
+        prove(words[0], int(words[1]) if len(words) == 2 else os.cpu_count())
+    elif verb == "hand" and len(words) >= 2:
+        folder, clone, *crates = words
+        for name in kit.libraries_of(f"{folder}/proved"):
+            kit.hand_library(f"{folder}/proved", clone, name)
+        for name in crates:
+            kit.hand_kept(f"{folder}/proved", clone, name)
+    elif verb == "one" and len(words) == 2:
+        prove_one(*words)
+    else:
+        sys.exit(__doc__)
+
+
+if __name__ == "__main__":
+    main(*sys.argv[1:])
