@@ -1,7 +1,6 @@
 -- Copies of one file after another, and the boundary for a copy.
-use Rattle.std.proofs.Common.{◌≡◌, ◌≢◌, ◌<◌, ◌≤◌, ◌+◌, ◌++◌, ℕ, zero, suc, Bool, true, false, List, [], ◌∷◌, length, get_or, take, inl, inr, refl, sym, ◌∙◌, ap, subst, arith}
-use Rattle.std.specs.Prelude.{IfSome, Option, Some, None, if◌then◌else◌, nat_le, nat_lt}
-use Rattle.std.proofs.lemmas.Bool.{cases_eq}
+use Rattle.std.proofs.Common.{◌≡◌, ◌≢◌, ◌<◌, ◌≤◌, ◌+◌, ◌++◌, ℕ, suc, Bool, true, false, List, [], ◌∷◌, length, get_or, take, refl, sym, ◌∙◌, ap, subst, arith}
+use Rattle.std.specs.Prelude.{IfSome, Option, Some, None, if◌then◌else◌, nat_le}
 use Rattle.std.proofs.lemmas.Bool.Decides.{nat_tests}
 use Rattle.std.proofs.lemmas.List.{take_more}
 use Rattle.dg_model.specs.Copies.{Spread, copied_to, emptier, emptiest, emptiest_of, fitted, spread_by, spread_over}
@@ -10,6 +9,7 @@ use Rattle.dg_model.specs.Plans.{blocks_of}
 use Rattle.dg_model.specs.Tables.{Table, used_in}
 use Rattle.dg_model.specs.declared.homes.Home.{Home}
 use Rattle.dg_model.specs.declared.wants.Want.{Want}
+use Rattle.dg_model.proofs.EmptiestLaws.{never_home}
 use Rattle.dg_model.proofs.SiteLists.{apart_test, same_test}
 
 -- ---- files
@@ -70,28 +70,6 @@ emptiest_more table home s best off is =
 pub emptiest_is : (table : Table) (home : ℕ) → emptiest table home ≡ emptiest_of table home table.shape.b
 unfolding emptiest
 emptiest_is table home = refl
-
-emptier_not : (table : Table) (home s : ℕ) (best : Option ℕ) → (s ≡ home → ⊥) → IfSome best (λ t. t ≢ home) → IfSome (emptier table best s) (λ t. t ≢ home)
-emptier_not table home s None off other = off
-emptier_not table home s (Some t) off other = by_test (nat_lt (used_in table s) (used_in table t))
-  where
-    by_test : (less : Bool) → IfSome (if less then Some s else Some t) (λ u. u ≢ home)
-    by_test true = off
-    by_test false = other
-
--- it isn't the home
-pub never_home : (table : Table) (home n : ℕ) → IfSome (emptiest_of table home n) (λ s. s ≢ home)
-never_home table home zero = tt
-never_home table home (suc s) = elim (cases_eq s home) [
-  | inl here ↦
-      subst (λ (o : Option ℕ). IfSome o (λ t. t ≢ home))
-      (sym (ap (λ (t : Bool). if t then emptiest_of table home s else emptier table (emptiest_of table home s) s) (same_test s home here)))
-      (never_home table home s)
-  | inr off ↦
-      subst (λ (o : Option ℕ). IfSome o (λ t. t ≢ home))
-      (sym (ap (λ (t : Bool). if t then emptiest_of table home s else emptier table (emptiest_of table home s) s) (apart_test s home off)))
-      (emptier_not table home s (emptiest_of table home s) off (never_home table home s))
-]
 
 pub emptiest_other : (table : Table) (home : ℕ) → IfSome (emptiest table home) (λ s. s ≢ home)
 emptiest_other table home = subst (λ (o : Option ℕ). IfSome o (λ s. s ≢ home)) (sym (emptiest_is table home)) (never_home table home table.shape.b)

@@ -1,5 +1,7 @@
+pub mod ActionLists
 pub mod ClaimSearch
 pub mod CopyLaws
+pub mod EmptiestLaws
 pub mod FirstSites
 mod FormatRows
 pub mod FreeLaws
@@ -7,6 +9,7 @@ pub mod HomeLaws
 pub mod KnownLaws
 pub mod MarkLaws
 pub mod MemberLaws
+pub mod MissingLaws
 pub mod NumberLists
 mod OpeningRows
 pub mod PlacedLaws
@@ -26,6 +29,7 @@ pub mod StepLaws
 mod StepRows
 pub mod SumLaws
 pub mod TableLaws
+pub mod ThinLaws
 pub mod TrimLaws
 mod VerdictRows
 mod WriteRows

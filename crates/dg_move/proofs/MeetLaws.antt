@@ -6,13 +6,13 @@ use Rattle.std.proofs.lemmas.List.Elements.{Contains-get_or}
 use Rattle.dg_model.specs.Moves.{all_done, give_ups, is_missing, off_target, spare}
 use Rattle.dg_model.specs.Tables.{IsLowestFree, IsTable, Table, count_on, put_site, sites_in}
 use Rattle.dg_model.specs.declared.sites.Site.{Site}
+use Rattle.dg_model.proofs.MissingLaws.{not_missing}
 use Rattle.dg_model.proofs.SiteLists.{apart_test, count_on-push, one_if, same_test, zero_if}
 use Rattle.dg_model.proofs.SpareLaws.{off_head, off_tail}
 use Rattle.dg_model.proofs.SpareSteps.{spare_push}
 use Rattle.dg_move.specs.Spares.{AreWithin}
 use Rattle.dg_move.specs.Turns.{Meets}
 use Rattle.dg_move.proofs.ActLaws.{copied_is}
-use Rattle.dg_move.proofs.MissingLaws.{not_missing}
 use Rattle.dg_move.proofs.StoreLaws.{put_here, put_other}
 
 -- a block was copied, and gave up what it can do without

@@ -15,6 +15,7 @@ use Rattle.dg_model.specs.Tables.{IsTable, Table, count_on, is_on, put_site, sit
 use Rattle.dg_model.specs.declared.members.MemberState.{MemberState}
 use Rattle.dg_model.specs.declared.shapes.Shape.{Shape}
 use Rattle.dg_model.specs.declared.sites.Site.{Site}
+use Rattle.dg_model.proofs.ActionLists.{all_both, tidying_below, tidying_more}
 use Rattle.dg_model.proofs.ClaimSearch.{in_range}
 use Rattle.dg_model.proofs.SiteLists.{count_on-push}
 use Rattle.dg_model.proofs.SpareSteps.{DropsSpare}
@@ -26,7 +27,6 @@ use Rattle.dg_store.specs.declared.store.PlaceAnswer.{PlaceAnswer}
 use Rattle.dg_store.specs.declared.store.PlaceAnswer.TheVariants.{Placed, Full, Gone, Lost}
 use Rattle.dg_store.specs.declared.store.Store.{Store}
 use Rattle.dg_move.specs.Stores.{GivesUpOnly, KeepsMet, MovesOn}
-use Rattle.dg_move.proofs.ActLaws.{all_both, tidying_below, tidying_more}
 
 -- ---- rows of a table
 

@@ -10,10 +10,11 @@ use Rattle.dg_model.specs.Sites.{has_site, is_gone}
 use Rattle.dg_model.specs.Tables.{Table, sites_in}
 use Rattle.dg_model.specs.declared.members.MemberState.{MemberState}
 use Rattle.dg_model.specs.declared.shapes.Shape.{Shape}
+use Rattle.dg_model.proofs.ActionLists.{all_both, missing_length}
 use Rattle.dg_model.proofs.SumLaws.{count_one_less, count_same, sum_one_less, sum_same}
 use Rattle.dg_move.specs.Answers.{IsCutByLoss}
 use Rattle.dg_move.specs.Turns.{IsNext, IsTurned, Meets, move_to}
-use Rattle.dg_move.proofs.ActLaws.{all_both, meeting_is, missing_length, tidying_none}
+use Rattle.dg_move.proofs.ActLaws.{meeting_is, tidying_none}
 
 module _ (targets : ℕ → ℕ → Bool) where
   pub turned_none : (total : ℕ) (old now : Table) → now ≡ all_done old (tidying targets old) → IsTurned targets total 0 old now

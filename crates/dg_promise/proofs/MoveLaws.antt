@@ -1,63 +1,26 @@
 -- After all moves each block stands on just its targets.
 use Rattle.std.proofs.Common.{◌≡◌, ◌≢◌, ◌∙◌, ◌&&◌, ◌==◌, ℕ, zero, suc, ◌+◌, ◌<◌, ◌≤◌, inl, inr, Bool, true, false, cond, not, List, [], ◌∷◌, ◌++◌, length, map, Option, Some, None, refl, sym, ap, subst, arith}
 use Rattle.std.specs.Prelude.{Contains, find, nat_le, nat_lt}
-use Rattle.std.specs.List.{filter, flat_map, range_with_len, sum_by}
-use Rattle.std.proofs.lemmas.Bool.{and_parts, both_ways, cases_Bool, cases_eq, cases_lt, le-ltb, leb-true, lt-ltb, ltb-false}
-use Rattle.std.proofs.lemmas.Grind.{flat_map-append}
-use Rattle.std.proofs.lemmas.List.{append-nil, length-append, length-map, set_past}
+use Rattle.std.specs.List.{filter, flat_map, range_with_len}
+use Rattle.std.proofs.lemmas.Bool.{cases_Bool, cases_eq, cases_lt, leb-true}
+use Rattle.std.proofs.lemmas.List.{append-nil, set_past}
 use Rattle.std.proofs.lemmas.List.Elements.{Contains-append_cases, Contains-append_right}
-use Rattle.std.proofs.lemmas.List.Sums.{length-filter, sum_by-append, sum_by-cons}
-use Rattle.dg_model.specs.Moves.{Action, AreTargets, IsAtTargets, IsTidy, all_done, copy_to, count_upto, done, ending, give_ups, has_met, is_missing, meeting, missing, missing_in, missing_of, moved, moves, next_placement, off_target, round, rounds, spare, sum_upto, tidying, within}
+use Rattle.dg_model.specs.Moves.{Action, AreTargets, IsAtTargets, IsTidy, all_done, copy_to, count_upto, done, ending, give_ups, is_missing, meeting, missing, missing_in, missing_of, moved, moves, next_placement, off_target, round, rounds, spare, sum_upto, tidying, within}
 use Rattle.dg_model.specs.Plans.{Placement}
 use Rattle.dg_model.specs.Sites.{has_site}
 use Rattle.dg_model.specs.Tables.{IsTable, Table, count_on, is_on, lowest_free, put_site, sites_in, sites_off, used_in, without_site}
 use Rattle.dg_model.specs.declared.shapes.Shape.{Shape}
 use Rattle.dg_model.specs.declared.sites.Site.{Site}
+use Rattle.dg_model.proofs.ActionLists.{all_both, missing_length, tidying_below, tidying_is, tidying_more}
 use Rattle.dg_model.proofs.ClaimSearch.{part_of, range_low}
+use Rattle.dg_model.proofs.MissingLaws.{missing_none, missing_wanted, not_missing, placed_from}
 use Rattle.dg_model.proofs.PutLaws.{IsTable-put, IsTable-without, sites_put_here, sites_put_other, sites_without_here, sites_without_other}
-use Rattle.dg_model.proofs.RoomLaws.{met_from, missing_from, two_steps_enough}
+use Rattle.dg_model.proofs.RoomLaws.{two_steps_enough}
 use Rattle.dg_model.proofs.SiteLists.{apart_test, count_on-push, one_if, same_test, zero_if}
-use Rattle.dg_model.proofs.SpareLaws.{no_other, spare_met, unmet_none}
 use Rattle.dg_model.proofs.SpareSteps.{drops, has_off, spare_push}
-use Rattle.dg_model.proofs.SumLaws.{count_one_less, count_pos, count_same, sum_one_less, sum_same, term_le}
+use Rattle.dg_model.proofs.SumLaws.{count_one_less, count_same, sum_one_less, sum_same}
 use Rattle.dg_promise.proofs.PlanLaws.{in_filter}
 use Rattle.dg_promise.proofs.SlotLaws.{free_is, free_low}
-
-all_both : (xs ys : List Action) (a : Table) → all_done a (xs ++ ys) ≡ all_done (all_done a xs) ys
-all_both [] ys a = refl
-all_both (x ∷ xs) ys a = all_both xs ys (done a x)
-
--- ---- lists of placements
-
-range_last : (a n : ℕ) → range_with_len a (suc n) ≡ range_with_len a n ++ (a + n) ∷ []
-range_last a zero = let e : a ≡ a + 0 = omega arith in ap (λ (x : ℕ). x ∷ []) e
-range_last a (suc n) =
-    let e : a + 1 + n ≡ a + suc n = omega arith in
-    ap (λ (xs : List ℕ). a ∷ xs) (range_last (a + 1) n ∙ ap (λ (x : ℕ). range_with_len (a + 1) n ++ x ∷ []) e)
-
-sum_range : (f : ℕ → ℕ) (n : ℕ) → sum_by f (range_with_len 0 n) ≡ sum_upto n f
-sum_range f zero = refl
-sum_range f (suc n) =
-    let e : 0 + n ≡ n = omega arith in
-    omega (arith, ap (sum_by f) (range_last 0 n), sum_by-append f (range_with_len 0 n) ((0 + n) ∷ []), sum_by-cons f (0 + n) [], ap f e, sum_range f n)
-
-flat_length : {X Y : Type 0} (f : X → List Y) (xs : List X) → length (flat_map f xs) ≡ sum_by (λ (x : X). length (f x)) xs
-flat_length f [] = refl
-flat_length {X} {Y} f (x ∷ xs) = omega (arith, length-append (f x) (flat_map f xs), flat_length f xs, sum_by-cons (λ (y : X). length (f y)) x xs)
-
-one_length : (targets : ℕ → ℕ → Bool) (table : Table) (b : ℕ) → length (missing_of targets table b) ≡ count_upto table.shape.b (is_missing targets table b)
-one_length targets table b =
-    length-map (filter (is_missing targets table b) (range_with_len 0 table.shape.b)) (λ s. record { block = b; boundary = s })
-    ∙ length-filter (is_missing targets table b) (range_with_len 0 table.shape.b)
-    ∙ sum_range (λ s. cond (is_missing targets table b s) 1 0) table.shape.b
-
--- there are as many missing placements as were counted
-missing_length : (targets : ℕ → ℕ → Bool) (table : Table) → length (missing targets table) ≡ missing_in targets table
-unfolding missing
-missing_length targets table =
-    flat_length (missing_of targets table) (range_with_len 0 table.shape.n)
-    ∙ sum_range (λ b. length (missing_of targets table b)) table.shape.n
-    ∙ sum_same (λ b. length (missing_of targets table b)) (λ b. count_upto table.shape.b (is_missing targets table b)) table.shape.n (λ b low. one_length targets table b)
 
 in_map : (f : ℕ → Placement) (xs : List ℕ) (y : Placement) → Contains (map f xs) y → (x : ℕ) × Contains xs x × (f x ≡ y)
 in_map f [] y has = let low = has.1 in absurd (omega arith)
@@ -96,25 +59,6 @@ next_open targets table p is =
 
 -- ---- what a missing placement is
 
-missing_wanted : (targets : ℕ → ℕ → Bool) (table : Table) (b t : ℕ) → is_missing targets table b t ≡ true → targets b t ≡ true
-missing_wanted targets table b t is = (and_parts (targets b t) (not (is_on table b t)) is).0
-
-not_true : (b : Bool) → not b ≡ true → b ≡ false
-not_true true h = sym h
-not_true false h = refl
-
-missing_none : (targets : ℕ → ℕ → Bool) (table : Table) (b t : ℕ) → is_missing targets table b t ≡ true → count_on t (sites_in table b) ≡ 0
-missing_none targets table b t is =
-    let off = not_true (is_on table b t) (and_parts (targets b t) (not (is_on table b t)) is).1 in
-    let few : count_on t (sites_in table b) ≤ 0 = ltb-false 0 (count_on t (sites_in table b)) off in
-    omega arith
-
-not_missing : (targets : ℕ → ℕ → Bool) (table : Table) (b t : ℕ) → 0 < count_on t (sites_in table b) → is_missing targets table b t ≡ false
-not_missing targets table b t some = elim (cases_Bool (is_missing targets table b t)) [
-  | inl hit ↦ absurd (omega (arith, missing_none targets table b t hit, some))
-  | inr miss ↦ miss
-]
-
 missing_same : (targets : ℕ → ℕ → Bool) (old new : Table) (b t : ℕ) → (targets b t ≡ true → count_on t (sites_in new b) ≡ count_on t (sites_in old b)) → is_missing targets new b t ≡ is_missing targets old b t
 missing_same targets old new b t same = elim (cases_Bool (targets b t)) [
   | inl wanted ↦ ap (λ (k : ℕ). targets b t && not (nat_lt 0 k)) (same wanted)
@@ -152,23 +96,6 @@ give_block targets b (site ∷ rest) old ok low is =
 
 -- ---- all blocks do
 
-tidying_below : (ℕ → ℕ → Bool) → Table → ℕ → List Action
-tidying_below targets table k = flat_map (λ b. give_ups b (spare (targets b) (sites_in table b))) (range_with_len 0 k)
-
-tidying_is : (targets : ℕ → ℕ → Bool) (table : Table) → tidying targets table ≡ tidying_below targets table table.shape.n
-unfolding tidying tidying_below
-tidying_is targets table = refl
-
-tidying_more : (targets : ℕ → ℕ → Bool) (table : Table) (k : ℕ) → tidying_below targets table (suc k) ≡ tidying_below targets table k ++ give_ups k (spare (targets k) (sites_in table k))
-unfolding tidying_below
-tidying_more targets table k =
-    let f : ℕ → List Action = λ b. give_ups b (spare (targets b) (sites_in table b)) in
-    let e : 0 + k ≡ k = omega arith in
-    ap (flat_map (λ b. give_ups b (spare (targets b) (sites_in table b)))) (range_last 0 k)
-    ∙ flat_map-append (λ b. give_ups b (spare (targets b) (sites_in table b))) (range_with_len 0 k) ((0 + k) ∷ [])
-    ∙ ap (λ (xs : List Action). flat_map (λ b. give_ups b (spare (targets b) (sites_in table b))) (range_with_len 0 k) ++ xs)
-    (append-nil (give_ups (0 + k) (spare (targets (0 + k)) (sites_in table (0 + k)))) ∙ ap (λ b. give_ups b (spare (targets b) (sites_in table b))) e)
-
 record AreTidied (targets : ℕ → ℕ → Bool) (k : ℕ) (old new : Table) : Type 0 where
   ok : IsTable new
   shape : new.shape ≡ old.shape
@@ -178,7 +105,6 @@ record AreTidied (targets : ℕ → ℕ → Bool) (k : ℕ) (old new : Table) : 
   written : (c : ℕ) → has_site (sites_in new c) ≡ has_site (sites_in old c)
 
 tidied_below : (targets : ℕ → ℕ → Bool) (old : Table) (k : ℕ) → IsTable old → k ≤ old.shape.n → AreTidied targets k old (all_done old (tidying_below targets old k))
-unfolding tidying_below
 tidied_below targets old zero ok low = record { ok = ok; shape = refl; tidy = λ c few. absurd (omega arith); later = λ c high. refl; kept = λ c t wanted. refl; written = λ c. refl }
 tidied_below targets old (suc k) ok low =
     let now = all_done old (tidying_below targets old k) in
@@ -187,7 +113,7 @@ tidied_below targets old (suc k) ok low =
     let inside : k < now.shape.n = subst (λ (shape : Shape). k < shape.n) (sym before.shape) (omega arith) in
     let one = give_block targets k (spare (targets k) (sites_in old k)) (all_done old (tidying_below targets old k)) before.ok inside (ap (spare (targets k)) same) in
     let acts : all_done old (tidying_below targets old (suc k)) ≡ all_done (all_done old (tidying_below targets old k)) (give_ups k (spare (targets k) (sites_in old k))) =
-    ap (all_done old) (tidying_more targets old k) ∙ all_both (tidying_below targets old k) (give_ups k (spare (targets k) (sites_in old k))) old in
+    ap (all_done old) (tidying_more targets old k (suc k) (omega arith)) ∙ all_both (tidying_below targets old k) (give_ups k (spare (targets k) (sites_in old k))) old in
     subst (AreTidied targets (suc k) old) (sym acts) (record {
       ok = one.ok;
       shape = one.shape ∙ before.shape;
@@ -342,40 +268,6 @@ round_met targets old ok are some =
         }
 
 -- ---- where none is missing
-
-none_at_all : (targets : ℕ → ℕ → Bool) (table : Table) (b t : ℕ) → missing_in targets table ≡ 0 → b < table.shape.n → t < table.shape.b → is_missing targets table b t ≡ false
-none_at_all targets table b t none below within = elim (cases_Bool (is_missing targets table b t)) [
-  | inl hit ↦
-      absurd (omega (
-        arith,
-        none,
-        term_le (λ c. count_upto table.shape.b (is_missing targets table c)) table.shape.n b below,
-        count_pos table.shape.b t (is_missing targets table b) within hit,
-      ))
-  | inr miss ↦ miss
-]
-
-some_from : (t : ℕ) (sites : List Site) → 0 < count_on t sites → has_site sites ≡ true
-some_from t [] some = absurd (omega arith)
-some_from t (x ∷ xs) some = refl
-
--- each block stands on just its targets
-placed_from : (targets : ℕ → ℕ → Bool) (table : Table) → AreTargets targets table → IsTidy targets table → missing_in targets table ≡ 0 → IsAtTargets targets table
-placed_from targets table are tidy none b t below within = elim (cases_Bool (targets b t)) [
-  | inl hit ↦ lt-ltb 0 (count_on t (sites_in table b)) (met_from targets table b t hit (none_at_all targets table b t none below within)) ∙ sym hit
-  | inr miss ↦ le-ltb 0 (count_on t (sites_in table b)) (elsewhere miss) ∙ sym miss
-]
-  where
-    elsewhere : targets b t ≡ false → count_on t (sites_in table b) ≤ 0
-    elsewhere miss = elim (cases_lt 0 (count_on t (sites_in table b))) [
-      | inr few ↦ few
-      | inl some ↦ elim (cases_Bool (has_met (targets b) (sites_in table b))) [
-        | inl met ↦ omega (arith, no_other (targets b) (sites_in table b) t (sym (spare_met (targets b) (sites_in table b) met) ∙ tidy b below) miss)
-        | inr unmet ↦
-            let other = are.some b below (some_from t (sites_in table b) some) in
-            absurd (both_ways (is_missing targets table b other.0) (none_at_all targets table b other.0 none below other.1) (missing_from targets table b other.0 other.2 (unmet_none (targets b) (sites_in table b) other.0 unmet other.2)))
-      ]
-    ]
 
 -- ---- all rounds
 

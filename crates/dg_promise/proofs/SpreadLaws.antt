@@ -14,6 +14,7 @@ use Rattle.dg_model.specs.declared.shapes.Shape.{Shape}
 use Rattle.dg_model.specs.declared.wants.Want.{Want}
 use Rattle.dg_model.specs.declared.wants.Want.TheVariants.{File}
 use Rattle.dg_model.proofs.CopyLaws.{copies_sized, copies_to, site_for}
+use Rattle.dg_model.proofs.EmptiestLaws.{never_home}
 use Rattle.dg_model.proofs.NumberLists.{AreApart, head_in, tail_in}
 use Rattle.dg_model.proofs.PlacedLaws.{block_is, blocks_apart, not_copied, placed_copy, wanted_within, written_copy}
 use Rattle.dg_model.proofs.PutLaws.{IsTable-put, sites_put_other, used_put}
@@ -21,28 +22,6 @@ use Rattle.dg_model.proofs.SiteLists.{apart_test, one_if, same_test}
 use Rattle.dg_promise.proofs.SlotLaws.{free_is, free_low}
 
 -- ---- the boundary for a copy
-
-emptier_not : (table : Table) (home s : ℕ) (best : Option ℕ) → (s ≡ home → ⊥) → IfSome best (λ t. t ≢ home) → IfSome (emptier table best s) (λ t. t ≢ home)
-emptier_not table home s None off other = off
-emptier_not table home s (Some t) off other = by_test (nat_lt (used_in table s) (used_in table t))
-  where
-    by_test : (less : Bool) → IfSome (if less then Some s else Some t) (λ u. u ≢ home)
-    by_test true = off
-    by_test false = other
-
--- it isn't the home
-pub never_home : (table : Table) (home n : ℕ) → IfSome (emptiest_of table home n) (λ s. s ≢ home)
-never_home table home zero = tt
-never_home table home (suc s) = elim (cases_eq s home) [
-  | inl here ↦
-      subst (λ (o : Option ℕ). IfSome o (λ t. t ≢ home))
-      (sym (ap (λ (t : Bool). if t then emptiest_of table home s else emptier table (emptiest_of table home s) s) (same_test s home here)))
-      (never_home table home s)
-  | inr off ↦
-      subst (λ (o : Option ℕ). IfSome o (λ t. t ≢ home))
-      (sym (ap (λ (t : Bool). if t then emptiest_of table home s else emptier table (emptiest_of table home s) s) (apart_test s home off)))
-      (emptier_not table home s (emptiest_of table home s) off (never_home table home s))
-]
 
 emptier_low : (table : Table) (s n : ℕ) (best : Option ℕ) → s < n → IfSome best (λ t. t < n) → IfSome (emptier table best s) (λ t. t < n)
 emptier_low table s n None low other = low

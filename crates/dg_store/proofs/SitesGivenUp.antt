@@ -1,19 +1,18 @@
 -- What is left of a table once sites were given up, and that they can be taken again.
-use Rattle.std.proofs.Common.{◌≡◌, ◌<◌, ◌≤◌, ◌+◌, ◌-◌, ◌≢◌, ℕ, suc, List, [], ◌∷◌, ◌++◌, length, get_or, set, take, Result, Ok, Err, OnErr, inl, inr, refl, sym, ◌∙◌, ap, subst, arith}
+use Rattle.std.proofs.Common.{◌≡◌, ◌<◌, ◌≤◌, ◌+◌, ◌-◌, ◌≢◌, ℕ, List, [], ◌∷◌, ◌++◌, length, set, take, Result, Ok, Err, OnErr, inl, inr, refl, sym, ◌∙◌, ap, subst, arith}
 use Rattle.std.specs.List.{Contains, sum_by}
 use Rattle.std.specs.Prelude.{Some, slice_get}
 use Rattle.std.proofs.lemmas.Bool.{cases_eq}
 use Rattle.std.proofs.lemmas.List.{append-nil, append_assoc, get_or-set_same, get_or-set_other, length-set, length-take-le, length_push, set-get_or, set-set}
 use Rattle.std.proofs.lemmas.List.Elements.{Contains-append_left, Contains-push}
-use Rattle.std.proofs.lemmas.List.Sums.{sum_by-cons, sum_by-set}
-use Rattle.dg_model.specs.declared.shapes.Shape.{Shape}
+use Rattle.std.proofs.lemmas.List.Sums.{sum_by-set}
 use Rattle.dg_model.specs.declared.sites.Site.{Site}
-use Rattle.dg_model.specs.Shapes.{IsShape}
 use Rattle.dg_model.specs.Sites.{IsLeastSpread, has_site, without_last}
-use Rattle.dg_model.specs.Tables.{IsFree, IsTable, StandsIn, Table, count_on, put_site, sites_in, sites_off, used_in, without_site}
+use Rattle.dg_model.specs.Tables.{IsFree, IsTable, StandsIn, Table, count_on, put_site, sites_in, sites_off, without_site}
+use Rattle.dg_model.proofs.SiteLists.{count_on-last, count_pos, off_last, single_off}
+use Rattle.dg_model.proofs.ThinLaws.{thinned_table}
 use Rattle.dg_store.specs.declared.sites.GivenUp.{GivenUp}
 use Rattle.dg_store.specs.Evictions.{GaveUp, IsLastSite, IsThinned, table_before}
-use Rattle.dg_model.proofs.SiteLists.{count_on-append, count_on-last, count_pos, off_last, single_off}
 use Rattle.dg_store.proofs.SitesLists.{front_none, has_site-some, split_last, take_others}
 
 -- the site that a boundary and a slot name
@@ -43,35 +42,8 @@ thinned_both a b c first second = record {
 pub thinned_empty : (old new : Table) (b : ℕ) → IsThinned old new → sites_in old b ≡ [] → sites_in new b ≡ []
 thinned_empty old new b thin none = let f = thin.front b in front_none (sites_in new b) f.0 (sym none ∙ f.1)
 
-sums_le : (f : List Site → ℕ) (xs ys : List (List Site)) → length xs ≡ length ys → ((k : ℕ) → f (get_or xs k []) ≤ f (get_or ys k [])) → sum_by f xs ≤ sum_by f ys
-sums_le f [] [] same below = omega arith
-sums_le f [] (y ∷ ys) same below = absurd (omega (arith, same))
-sums_le f (x ∷ xs) [] same below = absurd (omega (arith, same))
-sums_le f (x ∷ xs) (y ∷ ys) same below = omega (arith, sum_by-cons f x xs, sum_by-cons f y ys, below 0, sums_le f xs ys (omega (arith, same)) (λ k. below (suc k)))
-
 pub IsTable-thinned : (old new : Table) → IsTable old → IsThinned old new → length new.rows ≡ length old.rows → IsTable new
-IsTable-thinned old new ok thin size = record {
-  shape = subst IsShape (sym thin.shape) ok.shape;
-  size = size ∙ ok.size ∙ ap (λ (s : Shape). s.n) (sym thin.shape);
-  boundaries = λ b s slot h. subst (λ (sh : Shape). s < sh.b) (sym thin.shape) (ok.boundaries b s slot (stood b s slot h));
-  slots = λ b s slot h. subst (λ (sh : Shape). slot ≤ sh.k) (sym thin.shape) (ok.slots b s slot (stood b s slot h));
-  one_block = λ a b s slot g h. ok.one_block a b s slot (stood a s slot g) (stood b s slot h);
-  one_site = λ b s. omega (arith, fewer s b, ok.one_site b s);
-  used = λ s.
-      subst (λ (sh : Shape). used_in new s ≤ sh.k + 1) (sym thin.shape)
-      (omega (arith, sums_le (count_on s) new.rows old.rows size (fewer s), ok.used s));
-}
-  where
-    stood : (b s slot : ℕ) → StandsIn new b s slot → StandsIn old b s slot
-    stood b s slot h =
-        let f = thin.front b in
-        subst (λ xs. Contains xs (site_at s slot)) (sym f.1) (Contains-append_left (sites_in new b) f.0 (site_at s slot) h)
-
-    fewer : (s b : ℕ) → count_on s (sites_in new b) ≤ count_on s (sites_in old b)
-    fewer s b =
-        let f = thin.front b in
-        let more : count_on s (sites_in old b) ≡ count_on s (sites_in new b) + count_on s f.0 = ap (count_on s) f.1 ∙ count_on-append s (sites_in new b) f.0 in
-        omega (arith, more)
+IsTable-thinned old new ok thin size = thinned_table old new ok (record { shape = thin.shape; rows = size; front = thin.front })
 
 -- ---- one site that was given up
 

@@ -2,8 +2,9 @@ use Rattle.std.proofs.Common.{◌≡◌, ◌≢◌, ◌∙◌, ℕ, sym, ap, sub
 use Rattle.std.specs.Prelude.{IfSome, Option}
 use Rattle.dg_model.specs.Copies.{emptiest_of}
 use Rattle.dg_model.specs.declared.shapes.Shape.{Shape}
+use Rattle.dg_model.proofs.EmptiestLaws.{never_home}
 use Rattle.dg_store.specs.Stores.{shape_of, table_of}
-use Rattle.dg_hot.proofs.SpreadLaws.{emptiest_is, never_home}
+use Rattle.dg_hot.proofs.SpreadLaws.{emptiest_is}
 use Rattle.dg_hot.proofs.emptiest.emptiest.Goals as goal
 
 pub returns-clause-emptiest : goal.returns-clause-emptiest

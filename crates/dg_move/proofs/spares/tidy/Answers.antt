@@ -4,9 +4,9 @@ use Rattle.dg_plan.specs.Targets.{wants_of}
 use Rattle.dg_store.specs.Stores.{table_of}
 use Rattle.dg_model.specs.Moves.{all_done, spare}
 use Rattle.std.proofs.lemmas.Bool.{cases_eq}
-use Rattle.dg_move.proofs.ActLaws.{tidying_below, tidying_is}
 use Rattle.dg_move.proofs.StoreLaws.{only_both, tidy_more}
 use Rattle.dg_model.specs.declared.shapes.Shape.{Shape}
+use Rattle.dg_model.proofs.ActionLists.{tidying_below, tidying_is}
 use Rattle.dg_move.proofs.spares.tidy.Goals as goal
 
 pub loop-block-preserved : goal.loop-block-preserved

@@ -3,7 +3,7 @@ use Rattle.dg_model.specs.Tables.{sites_in}
 use Rattle.dg_plan.specs.Targets.{wants_of}
 use Rattle.dg_store.specs.Stores.{table_of}
 use Rattle.dg_model.specs.Moves.{all_done, spare}
-use Rattle.dg_move.proofs.ActLaws.{tidying_below}
+use Rattle.dg_model.proofs.ActionLists.{tidying_below}
 use Rattle.dg_move.specs.Stores.{GivesUpOnly}
 use Rattle.dg_move.proofs.spares.tidy.Given as goal
 

@@ -1,11 +1,11 @@
 use Rattle.std.proofs.Common.{◌<◌, ℕ, length, arith, ap, ◌∙◌}
 use Rattle.dg_model.specs.Members.{is_lost}
 use Rattle.dg_model.specs.declared.members.MemberState.{MemberState}
+use Rattle.dg_model.proofs.MissingLaws.{missing_none, missing_wanted}
 use Rattle.dg_plan.specs.Targets.{wants_of}
 use Rattle.dg_store.specs.Stores.{members_of, table_of}
 use Rattle.dg_move.proofs.CallLaws.{one_copy}
 use Rattle.dg_move.proofs.MeetLaws.{meets_of}
-use Rattle.dg_move.proofs.MissingLaws.{missing_none, missing_wanted}
 use Rattle.dg_move.proofs.StoreLaws.{cause_lost, cause_of, moves_both, not_placed, only_missing, only_moves, placed_moves, put_slot, stands_of, stays_moves}
 use Rattle.dg_move.proofs.tends.move_block.Goals as goal
 
