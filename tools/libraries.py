@@ -68,7 +68,7 @@ class Lanes:
         """Proves one library after another in a clone."""
         while (name := self.next()) is not None:
             for it in self.below:
-                if self.ended.get(it):
+                if it == name or self.ended.get(it):
                     kit.hand_library(self.proved, clone, it)
             if not os.path.isdir(f"{clone}/crates/{name}/out/incremental"):
                 kit.hand_kept(self.proved, clone, name)
