@@ -38,12 +38,17 @@ module _ {R : Type 0} (rack : Ghosts R) where
   -- ---- what calls leave
 
   pub leaves_none : (v : Volume AnyPhase R) → IsWell any_phase rack v → Leaves any_phase any_phase rack v v
-  leaves_none v well = record { well = well; shape = refl; tells = λ q told. told; same_rack = refl }
+  leaves_none v well = record { well = well; shape = refl; rise = record { faults = λ q. omega arith; calls = omega arith; writes = omega arith }; tells = λ q told. told; same_rack = refl }
 
   pub leaves_both : (a b c : Volume AnyPhase R) → Leaves any_phase any_phase rack a b → Leaves any_phase any_phase rack b c → Leaves any_phase any_phase rack a c
   leaves_both a b c one other = record {
     well = other.well;
     shape = other.shape ∙ one.shape;
+    rise = record {
+      faults = λ q. let early = one.rise.faults q in let late = other.rise.faults q in omega arith;
+      calls = omega (arith, one.rise.calls, other.rise.calls);
+      writes = omega (arith, one.rise.writes, other.rise.writes);
+    };
     tells = λ q told. one.tells q (other.tells q told);
     same_rack = other.same_rack ∙ one.same_rack;
   }

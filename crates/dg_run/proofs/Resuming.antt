@@ -68,6 +68,7 @@ module _ {R : Type 0} (rack : Ghosts R) (before : R) (a b : Array R) (opened : H
   ran_on events replies placed budget runs = record {
     opened = rack.counts (rack_of a);
     source = from rack before a b opened goes left rest taken given;
+    rise = goes.rise;
     lines = lines_on events placed budget;
     runs = λ V held. reached rack before a b opened goes left rest taken given V held events replies runs;
   }
@@ -77,6 +78,7 @@ module _ {R : Type 0} (rack : Ghosts R) (before : R) (a b : Array R) (opened : H
   wanted_on events replies placed budget runs = record {
     opened = rack.counts (rack_of a);
     source = from rack before a b opened goes left rest taken given;
+    rise = goes.rise;
     lines = lines_on events placed budget;
     runs = λ V held. resumed rack before a b opened goes left rest taken given V held events replies runs;
   }

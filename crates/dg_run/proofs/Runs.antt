@@ -145,10 +145,20 @@ module _ {R : Type 0} (rack : Ghosts R) where
       (subst (λ (s : Array R). AllServed rack shape first x z t u a s) (sym end.2) (all_served rack shape first from passed number x y z t u a b budget was end.0))
 
   pub goes_none : (a : Array R) → IsSound rack a → GoesOn rack a a
-  goes_none a sound = record { well = sound; shape = refl; tells = λ q h. h; same_rack = refl }
+  goes_none a sound = record { well = sound; shape = refl; rise = record { faults = λ q. omega arith; calls = omega arith; writes = omega arith }; tells = λ q h. h; same_rack = refl }
 
   pub goes_then : (a b c : Array R) → GoesOn rack a b → GoesOn rack b c → GoesOn rack a c
-  goes_then a b c first second = record { well = second.well; shape = second.shape ∙ first.shape; tells = λ q h. first.tells q (second.tells q h); same_rack = second.same_rack ∙ first.same_rack }
+  goes_then a b c first second = record {
+    well = second.well;
+    shape = second.shape ∙ first.shape;
+    rise = record {
+      faults = λ q. let early = first.rise.faults q in let late = second.rise.faults q in omega arith;
+      calls = omega (arith, first.rise.calls, second.rise.calls);
+      writes = omega (arith, first.rise.writes, second.rise.writes);
+    };
+    tells = λ q h. first.tells q (second.tells q h);
+    same_rack = second.same_rack ∙ first.same_rack;
+  }
 
   pub turned_refused : (room : ℕ) (kind : BadLine) (y z u v : Option (List ℕ)) (b c : Array R) (turn : Turn) → turn ≡ turn_refused kind → Turned rack room y z u v b c turn
       → Told (λ before after. IsRefused (Some (shape_of b)) room before kind) y z × (v ≡ u) × (c ≡ b)

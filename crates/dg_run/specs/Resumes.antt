@@ -1,7 +1,7 @@
 -- What a trace on a saved array means: the events of its input, their replies, and what the rack holds at the end.
 use Rattle.std.specs.Prelude.{◌≡◌, ◌⊎◌, ◌≤◌, ◌+◌, ◌-◌, ◌^◌, ◌++◌, [], ◌∷◌, ℕ, List, length, Some, All}
 use Rattle.dg_io.specs.Told.{AreAny, Told, Took}
-use Rattle.dg_model.specs.States.{Counts}
+use Rattle.dg_model.specs.States.{Counts, CountsRise}
 use Rattle.dg_model.specs.declared.events.Event.{Event}
 use Rattle.dg_model.specs.declared.events.Event.TheVariants.{Tree}
 use Rattle.dg_model.specs.declared.replies.Reply.{Reply}
@@ -26,11 +26,12 @@ pub record AreLines (shape : Shape) (events : List Event) : Type 0 where
   pub in_place : All (IsInPlace (Some shape)) events
   pub budget : length (input_of events) ≤ 2 ^ 40
 
--- A saved array was opened. These events are in their places, and had these replies: whichever blocks the members held, in steps from the
--- opened state to one that the rack holds.
+-- A saved array was opened, and no count fell from then on. These events are in their places, and had these replies: whichever blocks the
+-- members held, in steps from the opened state to one that the rack holds.
 pub record RanOn (facts : Facts) (events : List Event) (replies : List Reply) : Type 0 where
   pub opened : Counts
   pub source : HasSource (met_by facts) opened
+  pub rise : CountsRise opened facts.now
   pub lines : AreLines source.saved.table.shape events
   pub runs : (V : List (List ℕ)) → IsHeld (met_by facts) opened source V → Reached facts opened source V events replies
 
@@ -38,6 +39,7 @@ pub record RanOn (facts : Facts) (events : List Event) (replies : List Reply) : 
 pub record WantedOn (facts : Facts) (events : List Event) (replies : List Reply) : Type 0 where
   pub opened : Counts
   pub source : HasSource (met_by facts) opened
+  pub rise : CountsRise opened facts.now
   pub lines : AreLines source.saved.table.shape events
   pub runs : (V : List (List ℕ)) → IsHeld (met_by facts) opened source V → Resumed facts opened source V events replies
 

@@ -1,5 +1,5 @@
 -- What was done on an opened volume, told by the members and the counts of its rack.
-use Rattle.std.proofs.Common.{◌≡◌, ◌≢◌, ◌⊎◌, ℕ, List, ap, refl, sym, ◌∙◌, inl, inr}
+use Rattle.std.proofs.Common.{◌≡◌, ◌≢◌, ◌⊎◌, ℕ, List, ap, arith, refl, sym, ◌∙◌, inl, inr}
 use Rattle.std.specs.Prelude.{Bool, Option}
 use Rattle.dg_io.specs.declared.outside.Rack.{Ghosts}
 use Rattle.dg_model.proofs.KnownLaws.{step_less}
@@ -48,7 +48,7 @@ module _ {R : Type 0} (rack : Ghosts R) (before : R) (volume new : Volume AnyPha
       }
 
   has_run : (event : Event) (reply : Reply) → Steps rack volume event reply new → HasRun was event reply
-  has_run event reply steps = record { opened = rack.counts (rack_of volume); source = from; runs = runs_from event reply steps }
+  has_run event reply steps = record { opened = rack.counts (rack_of volume); source = from; rise = leaves.rise; runs = runs_from event reply steps }
 
   -- the end of a command that is one event
   pub ends_event : (event : Event) (text : Reply → List ℕ) (gives : Reply → Bool) (end : SavedEnd) → EndsServed rack volume event text gives taken given new end
@@ -64,7 +64,13 @@ module _ {R : Type 0} (rack : Ghosts R) (before : R) (volume new : Volume AnyPha
 module _ {R : Type 0} (rack : Ghosts R) (before : R) (volume : Volume AnyPhase R) (hot : List ℕ) (taken given : Option (List ℕ))
     (opened : HasOpened rack before volume hot) where
   pub stays : Leaves any_phase any_phase rack volume volume
-  stays = record { well = opened.well; shape = refl; tells = λ q told. told; same_rack = refl }
+  stays = record {
+    well = opened.well;
+    shape = refl;
+    rise = record { faults = λ q. omega arith; calls = omega arith; writes = omega arith };
+    tells = λ q told. told;
+    same_rack = refl;
+  }
 
   -- the text of its parts tells of its state
   pub has_shown : (text : List ℕ) → text ≡ array_text (table_of volume) (members_of volume) (phase_of any_phase volume)

@@ -55,7 +55,7 @@ module _ {K J : Type 0} (w : J → K) where
     copies = h.copies;
   }
 
-  pub opens_less : (taken : ℕ → Option Found) (before : Counts) (state : State) → Opens K taken before state → Opens J taken before state
+  opens_less : (taken : ℕ → Option Found) (before : Counts) (state : State) → Opens K taken before state → Opens J taken before state
   opens_less taken before state h = record {
     source = h.source;
     label = h.label;

@@ -89,10 +89,11 @@ pub record RunsFrom (facts : Facts) (opened : Counts) (source : HasSource facts 
   pub counts : next.counts ≡ facts.now
   pub holds : TellsArray facts.bytes source.saved.table → HoldsAll facts.bytes next
 
--- A saved array was opened, and the event was answered by this reply, whichever blocks the members held.
+-- A saved array was opened, and the event was answered by this reply, whichever blocks the members held. No count fell from then on.
 pub record HasRun (facts : Facts) (event : Event) (reply : Reply) : Type 0 where
   pub opened : Counts
   pub source : HasSource facts opened
+  pub rise : CountsRise opened facts.now
   pub runs : (V : List (List ℕ)) → IsHeld facts opened source V → RunsFrom facts opened source event reply V
 
 -- With these blocks, the array was opened in a state of which this text tells, and the members hold it where they tell their bytes in the end.

@@ -5,6 +5,7 @@ use Rattle.dg_infer.specs.Meanings.{KeptInference}
 use Rattle.dg_infer.specs.Meanings as inferences
 use Rattle.dg_io.specs.declared.outside.Rack.{Ghosts}
 use Rattle.dg_model.specs.States.{State}
+use Rattle.dg_store.specs.ReadLaws.{rack_none}
 use Rattle.dg_volume.specs.Phases.{kept_in, phase_in}
 use Rattle.dg_volume.specs.Volumes.{FitsArray, IsInPlace, IsSame, IsWell, StandsIn, any_phase, marks_by, members_of, rack_of, shape_of, table_of}
 use Rattle.dg_volume.specs.declared.phases.AnyPhase.{AnyPhase}
@@ -67,7 +68,7 @@ module _ {S R : Type 0} (phase : phases.Ghosts S) (rack : Ghosts R) where
 
   pub same_later : (volume : Volume S R) (any : AnyPhase) → IsPhaseOf volume any → IsWell phase rack volume → IsSame phase any_phase rack volume (told_later volume any)
   same_later volume any h well = record {
-    leaves = record { well = well_still volume any h well; shape = refl; tells = λ q told. told; same_rack = refl };
+    leaves = record { well = well_still volume any h well; shape = refl; rise = (rack_none rack (rack_of volume)).rise; tells = λ q told. told; same_rack = refl };
     stands = stands_still volume any h;
     rack_is = refl;
     given_is = refl;

@@ -172,6 +172,7 @@ module _ {S R : Type 0} (phase : phases.Ghosts S) (rack : Ghosts R) where
             settled = λ settled. in_place;
           };
           shape = same_shape;
+          rise = h.moved.stays.stays.rise;
           tells = h.moved.stays.stays.tells;
           same_rack = h.moved.stays.stays.same_rack;
         }

@@ -86,6 +86,7 @@ module _ {S R : Type 0} (phase : phases.Ghosts S) (rack : Ghosts R) where
           settled = λ settled. absurd (loose_not_settled (sym still ∙ settled));
         };
         shape = shape;
+        rise = h.array.stays.stays.rise;
         tells = h.array.stays.stays.tells;
         same_rack = h.array.stays.stays.same_rack;
       }

@@ -396,7 +396,7 @@ module _ {S R : Type 0} (phase : phases.Ghosts S) (rack : Ghosts R) where
         }
 
     leaves_passed : Leaves phase phase rack a b
-    leaves_passed = record { well = well_passed; shape = same_shape; tells = passed.slots.stays.stays.tells; same_rack = passed.slots.stays.stays.same_rack }
+    leaves_passed = record { well = well_passed; shape = same_shape; rise = passed.slots.stays.stays.rise; tells = passed.slots.stays.stays.tells; same_rack = passed.slots.stays.stays.same_rack }
 
     told_before : Tells rack b → Tells rack a
     told_before told q below = passed.slots.stays.stays.tells q (told q (subst (λ (x : Shape). q / 2 < x.b) (sym same_shape) below))
@@ -531,6 +531,7 @@ module _ {S R : Type 0} (phase : phases.Ghosts S) (rack : Ghosts R) where
         levels = levels;
         sound = now.sound;
         table = now.table;
+        rise = now.stays.stays.rise;
         tells = now.stays.stays.tells;
         same_rack = now.stays.stays.same_rack;
         back = λ q good. good_was (rack.counts (rack_of a)).faults (rack.counts (rack_of b)).faults (members_of a) (members_of b) q now.falls good;

@@ -263,6 +263,7 @@ module _ {S R : Type 0} (phase : phases.Ghosts S) (rack : Ghosts R) where
       levels = h.levels;
       sound = h.sound;
       table = h.table ∙ h.opening.array.table;
+      rise = rises_both (rack.counts (rack_of a)) (rack.counts (stores.rack_of m)) (rack.counts (rack_of b)) h.opening.array.stays.stays.rise h.left.stays.rise;
       tells = λ q told. h.opening.array.stays.stays.tells q (h.left.stays.tells q told);
       same_rack = h.left.stays.same_rack ∙ h.opening.array.stays.stays.same_rack;
       back = λ q good. mid_good q (recovers_none q good);

@@ -171,6 +171,7 @@ module _ {S R : Type 0} (phase : phases.Ghosts S) (rack : Ghosts R) where
     save_leaves well labeled = record {
       well = saved_well well labeled;
       shape = shape;
+      rise = keeps.stays.stays.rise;
       tells = keeps.stays.stays.tells;
       same_rack = keeps.stays.stays.same_rack;
     }

@@ -183,6 +183,6 @@ module _ {S T R : Type 0} (from : phases.Ghosts S) (to : phases.Ghosts T) (rack 
     -- the volume is settled by that
     pub goes_settled : GoesBy from to rack a Settle SettledReply (in_phase b phase)
     goes_settled = record {
-      leaves = record { well = settled_well; shape = left.shape; tells = left.tells; same_rack = left.same_rack };
+      leaves = record { well = settled_well; shape = left.shape; rise = left.rise; tells = left.tells; same_rack = left.same_rack };
       steps = settled_steps;
     }

@@ -62,6 +62,7 @@ module _ {S R : Type 0} (phase : phases.Ghosts S) (rack : Ghosts R) where
     pub levels : b.levels.fragment ≡ a.levels.fragment
     pub sound : IsSound rack b.store
     pub table : table_of b ≡ table_of a
+    pub rise : CountsRise (rack.counts (rack_of a)) (rack.counts (rack_of b))
     pub tells : StillTold (rack.bytes (rack_of a)) (rack.bytes (rack_of b))
     pub same_rack : rack.name (rack_of b) ≡ rack.name (rack_of a)
     pub back : NoneRecovers (members_of a) (members_of b)
@@ -107,7 +108,7 @@ module _ {S R : Type 0} (phase : phases.Ghosts S) (rack : Ghosts R) where
       }
 
   pub leaves : (a b : Volume S R) → IsWell phase rack a → Keeps a b → Leaves phase phase rack a b
-  leaves a b well keeps = record { well = well_on a b well keeps; shape = shape_kept a b keeps; tells = keeps.tells; same_rack = keeps.same_rack }
+  leaves a b well keeps = record { well = well_on a b well keeps; shape = shape_kept a b keeps; rise = keeps.rise; tells = keeps.tells; same_rack = keeps.same_rack }
 
   -- ---- states
 
@@ -208,6 +209,7 @@ module _ {S R : Type 0} (phase : phases.Ghosts S) (rack : Ghosts R) where
     levels = h.levels;
     sound = h.sound;
     table = h.reads.table;
+    rise = h.reads.keeps.stays.rise;
     tells = h.reads.keeps.stays.tells;
     same_rack = h.reads.keeps.stays.same_rack;
     back = λ q. good_was (rack.counts (rack_of a)).faults (rack.counts (rack_of b)).faults (members_of a) (members_of b) q h.reads.keeps.falls;

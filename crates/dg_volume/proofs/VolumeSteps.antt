@@ -12,7 +12,7 @@ use Rattle.dg_model.specs.Changes.{IsMember, ReadsFew}
 use Rattle.dg_model.specs.Members.{ArePaired, IsStruck, is_filling, is_good}
 use Rattle.dg_model.specs.Seals.{label_after}
 use Rattle.dg_model.specs.Sites.{is_gone}
-use Rattle.dg_model.specs.States.{State}
+use Rattle.dg_model.specs.States.{CountsRise, State}
 use Rattle.dg_model.specs.Tables.{Table, sites_in}
 use Rattle.dg_model.specs.declared.events.Event.TheVariants.{Fail, Read}
 use Rattle.dg_model.specs.declared.members.MemberState.{MemberState}
@@ -20,6 +20,7 @@ use Rattle.dg_model.specs.declared.members.MemberState.TheVariants.{Out}
 use Rattle.dg_model.specs.declared.replies.Reply.TheVariants.{Already, Data, Done, Unavailable}
 use Rattle.dg_store.specs.Leaves.{CallsAtMost, NoFault}
 use Rattle.dg_store.specs.Stores.{HasBlock, IsSound, KeepsBlocks}
+use Rattle.dg_store.specs.ReadLaws.{rack_none}
 use Rattle.dg_store.specs.Stores as stores
 use Rattle.dg_volume.proofs.LabelLaws.{none_opens, quiet_opens, relabels_none, relabels_quiet}
 use Rattle.dg_volume.proofs.VolumeLaws.{HasRead, IsBeside, Keeps, Labels, kept_state, leaves, quiet_in, read_keeps, read_state, reads_in, reads_stay, steps_from, still_in, told_before}
@@ -145,6 +146,7 @@ module _ {S R : Type 0} (phase : phases.Ghosts S) (rack : Ghosts R) where
     levels = h.levels;
     sound = h.sound;
     table = h.table;
+    rise = subst (λ (r : R). CountsRise (rack.counts (rack_of a)) (rack.counts r)) (sym h.rack_is) (rack_none rack (rack_of a)).rise;
     tells = subst (λ (r : R). StillTold (rack.bytes (rack_of a)) (rack.bytes r)) (sym h.rack_is) (λ q told. told);
     same_rack = ap rack.name h.rack_is;
     back = λ q good. struck_good_was (2 * s + j) (members_of a) (members_of b) q h.struck good;

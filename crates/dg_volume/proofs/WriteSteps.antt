@@ -36,6 +36,7 @@ use Rattle.dg_model.specs.declared.sites.Site.{Site}
 use Rattle.dg_store.specs.Answers.{IsAllLost}
 use Rattle.dg_store.specs.Leaves.{CallsAtMost, NoFault}
 use Rattle.dg_store.specs.Stores.{IsSound, KeepsBlocks}
+use Rattle.dg_store.specs.ReadLaws.{rack_none, rises_both}
 use Rattle.dg_store.specs.Stores as stores
 use Rattle.dg_store.specs.Views.{Fetches, ReadsOn, is_written}
 use Rattle.dg_store.specs.declared.store.Store.{Store}
@@ -158,6 +159,7 @@ module _ {S T R : Type 0} (from : phases.Ghosts S) (to : phases.Ghosts T) (rack 
   pub record IsLeft (a : Volume S R) (c : Volume T R) : Type 0 where
     pub sound : IsSound rack c.store
     pub shape : shape_of c ≡ shape_of a
+    pub rise : CountsRise (rack.counts (rack_of a)) (rack.counts (rack_of c))
     pub tells : StillTold (rack.bytes (rack_of a)) (rack.bytes (rack_of c))
     pub same_rack : rack.name (rack_of c) ≡ rack.name (rack_of a)
     pub levels : c.levels.fragment ≡ a.levels.fragment
@@ -186,6 +188,7 @@ module _ {S T R : Type 0} (from : phases.Ghosts S) (to : phases.Ghosts T) (rack 
       settled = λ settled. absurd (h.settled settled);
     };
     shape = h.shape;
+    rise = h.rise;
     tells = h.tells;
     same_rack = h.same_rack;
   }
@@ -258,6 +261,7 @@ module _ {S T R : Type 0} (from : phases.Ghosts S) (to : phases.Ghosts T) (rack 
       left_leaves a c well (record {
         sound = h.array.sound;
         shape = shape_on a b block m c.store h.array;
+        rise = rises_both (rack.counts (rack_of a)) (rack.counts (stores.rack_of m)) (rack.counts (rack_of c)) h.array.first.stays.stays.rise h.array.reads.keeps.stays.rise;
         tells = tells_on a b block m c.store h.array;
         same_rack = h.array.reads.keeps.stays.same_rack ∙ h.array.first.stays.stays.same_rack;
         levels = h.levels;
@@ -442,6 +446,7 @@ module _ {S T R : Type 0} (from : phases.Ghosts S) (to : phases.Ghosts T) (rack 
       left_leaves from to rack a c well (record {
         sound = sound;
         shape = reads.keeps.shape ∙ first.stays.shape;
+        rise = rises_both (rack.counts (rack_of a)) (rack.counts (stores.rack_of m)) (rack.counts (rack_of c)) first.stays.stays.rise reads.keeps.stays.rise;
         tells = λ q told. first.stays.stays.tells q (reads.keeps.stays.tells q told);
         same_rack = reads.keeps.stays.same_rack ∙ first.stays.stays.same_rack;
         levels = levels;
@@ -466,6 +471,7 @@ module _ {S R : Type 0} (phase : phases.Ghosts S) (rack : Ghosts R) where
     levels = refl;
     sound = sound;
     table = refl;
+    rise = (rack_none rack (rack_of a)).rise;
     tells = λ q told. told;
     same_rack = refl;
     back = λ q good. good;
@@ -515,6 +521,7 @@ module _ {S R : Type 0} (phase : phases.Ghosts S) (rack : Ghosts R) where
     levels = h.levels;
     sound = h.first.sound;
     table = h.lost.table;
+    rise = h.first.stays.stays.rise;
     tells = h.first.stays.stays.tells;
     same_rack = h.first.stays.stays.same_rack;
     back = λ q. good_was (rack.counts (rack_of a)).faults (rack.counts (rack_of c)).faults (members_of a) (members_of c) q h.first.falls;

@@ -7,7 +7,7 @@ use Rattle.dg_io.specs.declared.outside.Rack.{Ghosts}
 use Rattle.dg_io.specs.Told.{StillTold}
 use Rattle.dg_label.specs.Labels.{IsLabeled, StandsLabeled}
 use Rattle.dg_model.specs.Saves.{AreHomes}
-use Rattle.dg_model.specs.States.{IsBlank, State, has_lost}
+use Rattle.dg_model.specs.States.{CountsRise, IsBlank, State, has_lost}
 use Rattle.dg_model.specs.Placed.{IsPlaced}
 use Rattle.dg_model.specs.Steps.{Step, recent_after}
 use Rattle.dg_model.specs.Tables.{Table}
@@ -149,10 +149,11 @@ pub record IsWell {S R : Type 0} (phase : phases.Ghosts S) (rack : Ghosts R) (vo
   pub worn : phase.phase volume.phase ≡ WornPhase → has_lost (shape_of volume) (members_of volume) ≡ true
   pub settled : phase.phase volume.phase ≡ SettledPhase → IsInPlace (table_of volume) (phase.kept volume.phase) volume.homes volume.copies
 
--- what any call leaves: a volume of the same array with which all is well, over the same rack, and what that tells it told before
+-- what any call leaves: a volume of the same array with which all is well, over the same rack, of which no count fell, and what that tells it told before
 pub record Leaves {S T R : Type 0} (from : phases.Ghosts S) (to : phases.Ghosts T) (rack : Ghosts R) (old : Volume S R) (new : Volume T R) : Type 0 where
   pub well : IsWell to rack new
   pub shape : shape_of new ≡ shape_of old
+  pub rise : CountsRise (rack.counts (rack_of old)) (rack.counts (rack_of new))
   pub tells : StillTold (rack.bytes (rack_of old)) (rack.bytes (rack_of new))
   pub same_rack : rack.name (rack_of new) ≡ rack.name (rack_of old)
 
