@@ -205,7 +205,9 @@ fn what_the_volume_answers_is_written(rt: HostRuntime) -> Result<(), Fail> {
     write_reply(&mut sink, &Reply::Nodes(one_entry(alloc)?))?;
     write_reply(&mut sink, &Reply::NodesCut(one_entry(alloc)?))?;
     let text =
-        b"malformed magic 0\nmalformed type 7\nnospace system\nnospace inode 5\nnospace strays\nsystem inodes\noutside\ninode 5 level 1\nshared 2\npending\ndead\nidle\nblock 3\nblock 10\nend 2\nnode 1 6 l 3 x\\x20y\\x80\\x5c\nend 1\nnode 1 6 l 3 x\\x20y\\x80\\x5c\ncut 1\n";
+        b"malformed magic 0\nmalformed type 7\nnospace system\nnospace inode 5\nnospace strays\nsystem inodes\noutside\n\
+          inode 5 level 1\nshared 2\npending\ndead\nidle\nblock 3\nblock 10\nend 2\n\
+          node 1 6 l 3 x\\x20y\\x80\\x5c\nend 1\nnode 1 6 l 3 x\\x20y\\x80\\x5c\ncut 1\n";
     assert!(rt; sink.taken() == text.as_slice());
     Ok(())
 }
@@ -321,7 +323,8 @@ fn a_line_of_an_entry_may_fail_in_the_middle(rt: HostRuntime) -> Result<(), Fail
 
 // Writes two pieces as the lines of a file.
 fn write_pieces<K: Sink>(sink: &mut K, first: &[u8], second: &[u8], n: u32) -> Result<(), Failed>
-    ensures { OnOk result ((lines : List (List ℕ)) × AreLines 4 lines × (concat lines ≡ first.now ++ second.now) × Told (Took (file_text lines ++ last_line (codes "end ") n)) (K.taken sink.old) (K.taken sink.new)) }
+    ensures { OnOk result ((lines : List (List ℕ)) × AreLines 4 lines × (concat lines ≡ first.now ++ second.now)
+        × Told (Took (file_text lines ++ last_line (codes "end ") n)) (K.taken sink.old) (K.taken sink.new)) }
 {
     let mut lines = HexLines::new(&mut *sink, 4);
     lines.piece(first)?;
