@@ -1,0 +1,307 @@
+#!/usr/bin/env python3
+"""Random folders as volumes that makefs makes: tests/makefs/run.py [PROGRAM] [--rounds N] [--seed S] [--keep FOLDER]
+
+Each round makes a folder of files, directories, links and pipes, and a UFS1 image of it by NetBSD's makefs (Debian's package of that
+name), in either order of bytes, with fragments of 512 to 4096 bytes. `trace`, `replay` and `resume` take it to a settled, saved array.
+Then each file's bytes and each directory's entries are compared with the folder's: with all boundaries, with some lost, and once a member
+was replaced, refilled, and serves alone. With fewer than m boundaries lost, a file must be given whole exactly where its home isn't lost, or its
+copy isn't, and each directory must be listed; with more, each answer must be right or `unavailable`. The status is 1 where an answer is wrong;
+without makefs nothing is run, which is told.
+"""
+import argparse
+import os
+import random
+import shutil
+import stat
+import subprocess
+import sys
+import tempfile
+
+HERE = os.path.dirname(os.path.abspath(__file__))
+PROGRAM = os.path.join(HERE, "..", "..", "crates", "dgraid", "out", "dgraid")
+PATH = os.environ["PATH"] + os.pathsep + "/usr/sbin"
+KINDS = [(stat.S_ISREG, "r"), (stat.S_ISDIR, "d"), (stat.S_ISLNK, "l"), (stat.S_ISFIFO, "p")]
+NAME_BYTES = bytes(b for b in range(1, 256) if b != ord("/"))
+
+
+class Wrong(Exception):
+    """An answer that isn't the right one."""
+
+
+# ---- folders
+
+def some_name(rng):
+    """A name: mostly a short plain word, now and then a long one or any bytes."""
+    if rng.random() < 0.8:
+        return bytes(rng.choices(b"abcdefghijklmnopqrstuvwxyz0123456789._-", k=rng.randint(1, 14)))
+    return bytes(rng.choices(NAME_BYTES, k=rng.choice([1, 3, 20, 100, 255])))
+
+
+def some_size(rng, largest):
+    """A size: log-normal around some 3 KiB, now and then none, an edge of a file block, or a large one."""
+    chance = rng.random()
+    if chance < 0.05:
+        return 0
+    if chance < 0.20:
+        return max(0, rng.choice([512, 4096, 8192, 12 * 4096, 12 * 8192]) * rng.randint(1, 3) + rng.randint(-1, 1))
+    if chance < 0.22:
+        return rng.randint(largest // 2, largest)
+    return min(largest, int(rng.lognormvariate(8, 1.6)))
+
+
+def make_folder(rng, top, entries, largest):
+    """Fills a folder with so many entries."""
+    folders, files = [top], []
+    os.mkdir(top)
+    while entries > 0:
+        path = os.path.join(rng.choice(folders), some_name(rng))
+        if os.path.basename(path) in (b".", b"..") or os.path.lexists(path):
+            continue
+        entries -= 1
+        chance = rng.random()
+        if chance < 0.12:
+            os.mkdir(path)
+            folders.append(path)
+        elif chance < 0.17:
+            os.symlink(bytes(rng.choices(b"abc/", k=rng.choice([1, 30, 59, 60, 61, 400]))), path)
+        elif chance < 0.18:
+            os.mkfifo(path)
+        elif chance < 0.22 and files:
+            os.link(rng.choice(files), path)
+        else:
+            with open(path, "wb") as file:
+                file.write(rng.randbytes(some_size(rng, largest)))
+            files.append(path)
+
+
+def kind_of(mode):
+    return next(letter for test, letter in KINDS if test(mode))
+
+
+class Folder:
+    """What a volume of a folder must say: the files with their bytes, and the directories with their entries, by path."""
+
+    def __init__(self, top):
+        self.files, self.listings = {}, {}
+        self.walk(top, b"")
+
+    def walk(self, here, path):
+        entries = []
+        for name in os.listdir(here):
+            found = os.lstat(os.path.join(here, name))
+            kind = kind_of(found.st_mode)
+            # (a directory's size is the volume's own)
+            entries.append((kind, None if kind == "d" else 0 if kind == "p" else found.st_size, name))
+            if kind == "d":
+                self.walk(os.path.join(here, name), path + b"/" + name)
+            elif kind == "r":
+                with open(os.path.join(here, name), "rb") as file:
+                    self.files[path + b"/" + name] = file.read()
+        self.listings[path or b"/"] = sorted(entries, key=lambda entry: entry[2])
+
+
+# ---- the program
+
+def spelled(path):
+    """A path as it stands in a trace."""
+    return b"".join(bytes([b]) if 0x21 <= b <= 0x7E and b != 0x5C else b"\\x%02x" % b for b in path)
+
+
+def unspelled(word):
+    parts = word.split(b"\\x")
+    return parts[0] + b"".join(bytes([int(part[:2], 16)]) + part[2:] for part in parts[1:])
+
+
+class Array:
+    """The program over the image files of one folder."""
+
+    def __init__(self, program, folder):
+        self.program, self.folder = program, folder
+
+    def run(self, words, given=b""):
+        done = subprocess.run([self.program, *words], cwd=self.folder, input=given, stdout=subprocess.PIPE, stderr=subprocess.PIPE)
+        if done.stderr:
+            raise Wrong(f"{words}: on standard error: {done.stderr[:300]}")
+        return done.returncode, done.stdout
+
+    def copied(self, folder):
+        """The same array in another folder, which is made anew."""
+        shutil.rmtree(folder, ignore_errors=True)
+        os.mkdir(folder)
+        images = [os.path.join(self.folder, name) for name in os.listdir(self.folder) if name.startswith("member-")]
+        subprocess.run(["cp", "--sparse=always", *images, folder], check=True)
+        return Array(self.program, folder)
+
+    def replies(self, command, events):
+        """The lines that the events were answered by, in their order."""
+        status, out = self.run([command], b"".join(event + b"\n" for event in events))
+        if status != 0:
+            raise Wrong(f"{command}: status {status}: {out[-300:]}")
+        return out.split(b"\n")[:-1]
+
+
+def bytes_of(lines):
+    """The bytes of a file from the reply to its `cat`, taken off the front of the lines; or the word of a refusal."""
+    parts = []
+    while True:
+        line = next(lines)
+        if line.startswith(b"bytes "):
+            parts.append(bytes.fromhex(line[6:].decode()))
+        elif line.startswith(b"end "):
+            found = b"".join(parts)
+            if len(found) != int(line[4:]):
+                raise Wrong(f"{line!r} behind {len(found)} bytes")
+            return found
+        elif parts:
+            raise Wrong(f"{line!r} behind {len(parts)} lines")
+        else:
+            return line.decode()
+
+
+def entries_of(lines):
+    """The entries of a directory but `.` and `..` from the reply to its `ls`; or the word of a refusal."""
+    found = []
+    while True:
+        line = next(lines)
+        if line.startswith(b"entry "):
+            _, _, kind, size, name = line.split(b" ")
+            name = unspelled(name)
+            if name not in (b".", b".."):
+                found.append((kind.decode(), None if kind == b"d" else int(size), name))
+        elif line.startswith(b"end "):
+            return sorted(found, key=lambda entry: entry[2])
+        else:
+            return line.decode()
+
+
+# ---- a round
+
+def image_of(rng, folder, image):
+    """Makes the image of a folder; what was asked of makefs."""
+    fragment = rng.choice([512, 1024, 1024, 2048, 4096])
+    block = rng.choice([size for size in (4096, 8192, 16384, 32768) if 1 <= size // fragment <= 8])
+    options = f"version=1,fsize={fragment},bsize={block},density=2048,minfree=0"
+    order = rng.choice(["le", "be"])
+    size = sum(os.lstat(os.path.join(here, name)).st_size + block for here, folders, files in os.walk(folder) for name in folders + files)
+    size = (2 * size + (4 << 20)) // block * block
+    made = subprocess.run(["makefs", "-t", "ffs", "-B", order, "-s", str(size), "-o", options, image, folder],
+                          env={**os.environ, "PATH": PATH}, stdout=subprocess.PIPE, stderr=subprocess.STDOUT)
+    asked = f"makefs -B {order} -s {size} -o {options}"
+    if made.returncode != 0:
+        raise Wrong(f"{asked}: {made.stdout[-300:]}")
+    return asked, fragment
+
+
+def homes_of(lines, folder):
+    """The home and the copy of each file from the replies to their `home`: none of a file that owns no block."""
+    found = {}
+    for path, content in folder.files.items():
+        words = next(lines).split(b" ")
+        if words[0] != b"home" or (words[1] == b"none") != (content == b""):
+            raise Wrong(f"the home of {path!r} of {len(content)} bytes: {words}")
+        found[path] = [] if words[1] == b"none" else [int(word) for word in words[1::2]]
+    return found
+
+
+def compare(array, folder, lost, places, copied):
+    """Copies some files, loses some boundaries, and compares each file and listing; how many files were given."""
+    cats, lists = ([event + spelled(path) for path in paths] for event, paths in ((b"cat ", folder.files), (b"ls ", folder.listings)))
+    homes = [b"home " + spelled(path) for path in folder.files]
+    lines = iter(array.replies("resume", [*(b"cat " + spelled(path) for path in copied), b"diffuse", *homes, *fails(lost), *cats, *lists]))
+    if [bytes_of(lines) for _ in copied] != [folder.files[path] for path in copied]:
+        raise Wrong("a file before the loss")
+    if not next(lines).startswith(b"diffused "):
+        raise Wrong("no copies")
+    stands = homes_of(lines, folder)
+    if any(next(lines) != b"ok" for _ in fails(lost)):
+        raise Wrong("a member doesn't fail")
+    given, few = 0, len(lost) < places
+    for path, content in folder.files.items():
+        found = bytes_of(lines)
+        kept = not stands[path] or any(s not in lost for s in stands[path])
+        if found != content and found != "unavailable" or few and (found == content) != kept:
+            raise Wrong(f"{path!r} with {lost} lost, home {stands[path]}: {found[:80]!r}")
+        given += found == content
+    for path, entries in folder.listings.items():
+        found = entries_of(lines)
+        if found != entries and (few or found != "unavailable"):
+            raise Wrong(f"the listing of {path!r} with {lost} lost: {found!r}, not {entries!r}")
+    if list(lines):
+        raise Wrong("more lines than events")
+    return given
+
+
+def fails(lost):
+    return [b"fail %d %d" % (s, j) for s in lost for j in (0, 1)]
+
+
+def refill(array, folder, s, j):
+    """Replaces one member of a boundary, refills it, and reads each file once it serves alone."""
+    events = [b"fail %d %d" % (s, j), b"replace %d %d" % (s, j), b"rebuild %d 4294967295" % s, b"fail %d %d" % (s, 1 - j)]
+    lines = iter(array.replies("resume", [*events, *(b"cat " + spelled(path) for path in folder.files)]))
+    told = [next(lines) for _ in events]
+    if [told[0], told[1], told[3]] != [b"ok"] * 3 or not (told[2].startswith(b"copied ") and told[2].endswith(b" 0")):
+        raise Wrong(f"a refill of member {s} {j}: {told}")
+    for path, content in folder.files.items():
+        if bytes_of(lines) != content:
+            raise Wrong(f"{path!r} behind a refill of member {s} {j}")
+
+
+def one_round(seed, program, base):
+    """One folder, its image, its array, and what it gives; a line about it."""
+    rng = random.Random(seed)
+    top, image, work = (os.path.join(base, name) for name in ("folder", "image", "work"))
+    make_folder(rng, os.fsencode(top), rng.choice([3, 30, 150, 400]), rng.choice([20_000, 300_000, 6_000_000]))
+    asked, fragment = image_of(rng, top, image)
+    folder = Folder(os.fsencode(top))
+    blocks = os.path.getsize(image) // fragment
+    boundaries = rng.choice([b for b in (2, 3, 4, 8, 16) if b * blocks <= 1 << 21])
+    places = rng.randint(1, boundaries)
+    words = [rng.choice(["up", "down", "late"]), str(boundaries), str(blocks), str(places)]
+    array = Array(program, base)
+    with open(image, "rb") as file:
+        status, trace = array.run(["trace", *words], file.read())
+    if status != 0:
+        raise Wrong(f"{asked}: trace {words}: status {status}: {trace[:80]}")
+    events = trace.split(b"\n")[:-1]
+    replies = array.replies("replay", [*events, b"settle", b"save"])
+    if replies != [b"ok"] * len(events) + [b"settled", b"saved 1"]:
+        raise Wrong(f"{asked}: trace {words}: {[line for line in replies if line != b'ok'][:5]}")
+    shares = []
+    for count in sorted({0, 1, places - 1, rng.randint(0, boundaries)}):
+        lost = sorted(rng.sample(range(boundaries), count))
+        copied = rng.sample(sorted(folder.files), min(len(folder.files), rng.choice([0, 5, 20])))
+        shares.append(f"{compare(array.copied(work), folder, lost, places, copied)}/{len(folder.files)} with {count} lost")
+    refill(array.copied(work), folder, rng.randrange(boundaries), rng.randrange(2))
+    return f"{asked}; trace {' '.join(words)}: {len(events) - 1} writes; " + ", ".join(shares)
+
+
+def main():
+    parser = argparse.ArgumentParser()
+    parser.add_argument("program", nargs="?", default=PROGRAM)
+    parser.add_argument("--rounds", type=int, default=20)
+    parser.add_argument("--seed", type=int, default=1)
+    parser.add_argument("--keep", help="a folder in which a round that went wrong is left")
+    given = parser.parse_args()
+    program = os.path.abspath(given.program)
+    if not os.access(program, os.X_OK):
+        sys.exit(f"no program: {program}")
+    if shutil.which("makefs", path=PATH) is None:
+        print("skipped: makefs isn't installed")
+        return
+    wrong = 0
+    for seed in range(given.seed, given.seed + given.rounds):
+        with tempfile.TemporaryDirectory() as base:
+            try:
+                print(f"seed {seed}: {one_round(seed, program, base)}", flush=True)
+            except Wrong as why:
+                wrong += 1
+                print(f"seed {seed}: WRONG: {why}", flush=True)
+                if given.keep:
+                    subprocess.run(["cp", "-a", "--sparse=always", base, os.path.join(given.keep, str(seed))], check=True)
+    print(f"{given.rounds} rounds, {wrong} wrong")
+    sys.exit(wrong > 0)
+
+
+if __name__ == "__main__":
+    main()
