@@ -7,7 +7,6 @@ use dg_model::{Want, Who};
 use std::alloc::Global;
 use std::marker::Model;
 use std::test::Fail;
-use ufs_model::{Kind, SystemKind};
 use ufs_pointer::Levels;
 use ufs_samples::{Which, sample_image};
 
@@ -15,16 +14,6 @@ use ufs_samples::{Which, sample_image};
 const BLOCK: u32 = 1024;
 
 const BLOCKS: u32 = 128;
-
-/// The six orders of the inodes' block, the indirect block and a block of data.
-const ORDERS: [[u32; 3]; 6] = [
-    [28, 84, 88],
-    [28, 88, 84],
-    [84, 28, 88],
-    [84, 88, 28],
-    [88, 28, 84],
-    [88, 84, 28],
-];
 
 /// The blocks of an array, with its inference.
 #[derive(Drop)]
@@ -217,108 +206,6 @@ fn is_scanned(alloc: Global, array: &mut Array) -> Result<bool, Fail> {
     )
 }
 
-#[test]
-fn an_indirect_block_before_its_inode(rt: HostRuntime) -> Result<(), Fail> {
-    let alloc = rt.alloc();
-    let image = image_of(alloc, Which::F)?;
-    let mut array = blank(alloc)?;
-    write_all(alloc, &mut array, &image, &[8, 9, 88, 84])?;
-    assert_eq!(rt; who(&array, 88)?, Who::Pending);
-    assert_eq!(rt; array.inference.next_pending(0), Some(84));
-    write(alloc, &mut array, &image, 28)?;
-    assert_eq!(rt; who(&array, 88)?, Who::Inode(5, 0));
-    assert_eq!(rt; who(&array, 84)?, Who::Inode(5, 1));
-    assert_eq!(rt; who(&array, 8)?, Who::System(SystemKind::Super));
-    assert_eq!(rt; who(&array, 32)?, Who::System(SystemKind::Summary));
-    assert_eq!(rt; who(&array, 120)?, Who::Idle);
-    assert_eq!(rt; array.inference.next_pending(0), None);
-    Ok(())
-}
-
-/// Writes blocks after the superblock, and answers whether the last verdicts are those of the volume F.
-fn ends_as_f(alloc: Global, image: &[u8], order: &[u32]) -> Result<bool, Fail> {
-    let mut array = blank(alloc)?;
-    write_all(alloc, &mut array, image, &[8, 9])?;
-    write_all(alloc, &mut array, image, order)?;
-    Ok(
-        who(&array, 88)? == Who::Inode(5, 0)
-            && who(&array, 84)? == Who::Inode(5, 1)
-            && who(&array, 34)? == Who::Inode(3, 0)
-            && array.inference.next_pending(0).is_none()
-            && is_scanned(alloc, &mut array)?,
-    )
-}
-
-#[test]
-fn each_order_ends_the_same(rt: HostRuntime) -> Result<(), Fail> {
-    let alloc = rt.alloc();
-    let image = image_of(alloc, Which::F)?;
-    for order in &ORDERS {
-        assert!(rt; ends_as_f(alloc, &image, order)?);
-    }
-    Ok(())
-}
-
-#[test]
-fn shared_blocks(rt: HostRuntime) -> Result<(), Fail> {
-    let alloc = rt.alloc();
-    let mut array = array_of_f(alloc)?;
-    let mut image = image_of(alloc, Which::F)?;
-    assert_eq!(rt; who(&array, 34)?, Who::Inode(3, 0));
-    set_size(&mut image, 6, 5)?;
-    set_slot(&mut image, 6, 0, 34)?;
-    write(alloc, &mut array, &image, 28)?;
-    assert_eq!(rt; who(&array, 34)?, Who::Shared(2));
-    set_size(&mut image, 3, 0)?;
-    set_slot(&mut image, 3, 0, 0)?;
-    write(alloc, &mut array, &image, 28)?;
-    assert_eq!(rt; who(&array, 34)?, Who::Inode(6, 0));
-    let mut other = array_of_f(alloc)?;
-    let mut changed = image_of(alloc, Which::F)?;
-    set_slot(&mut changed, 5, 13, 84)?;
-    write(alloc, &mut other, &changed, 28)?;
-    assert_eq!(rt; who(&other, 84)?, Who::Shared(2));
-    assert_eq!(rt; who(&other, 88)?, Who::Shared(2));
-    Ok(())
-}
-
-#[test]
-fn a_superblock_that_goes_and_comes(rt: HostRuntime) -> Result<(), Fail> {
-    let alloc = rt.alloc();
-    let image = image_of(alloc, Which::F)?;
-    let zeros = vec![in alloc; 0u8; 131072]?;
-    let mut array = array_of_f(alloc)?;
-    write(alloc, &mut array, &zeros, 8)?;
-    assert_eq!(rt; array.inference.next_pending(0), Some(8));
-    assert_eq!(rt; array.inference.next_pending(9), Some(94));
-    assert_eq!(rt; who(&array, 34)?, Who::Idle);
-    write(alloc, &mut array, &image, 8)?;
-    assert_eq!(rt; array.inference.next_pending(0), Some(94));
-    assert_eq!(rt; who(&array, 34)?, Who::Inode(3, 0));
-    assert_eq!(rt; array.inference.want(34), Want::File(3));
-    assert_eq!(rt; array.inference.want(33), Want::Kept);
-    assert_eq!(rt; array.inference.want(120), Want::Stray);
-    Ok(())
-}
-
-#[test]
-fn the_other_order_of_bytes(rt: HostRuntime) -> Result<(), Fail> {
-    let alloc = rt.alloc();
-    let little = image_of(alloc, Which::F)?;
-    let big = image_of(alloc, Which::Fb)?;
-    let mut array = array_of_f(alloc)?;
-    write_all(alloc, &mut array, &big, &[8, 9])?;
-    assert!(rt; is_scanned(alloc, &mut array)?);
-    assert_eq!(rt; who(&array, 88)?, Who::Idle);
-    write_up(alloc, &mut array, &big)?;
-    assert_eq!(rt; who(&array, 88)?, Who::Inode(5, 0));
-    assert!(rt; is_scanned(alloc, &mut array)?);
-    write_up(alloc, &mut array, &little)?;
-    assert_eq!(rt; who(&array, 88)?, Who::Inode(5, 0));
-    assert!(rt; is_scanned(alloc, &mut array)?);
-    Ok(())
-}
-
 /// Whether the blocks of a regular file are those from one on, up to another.
 fn has_blocks(
     alloc: Global,
@@ -346,6 +233,9 @@ fn blocks_of_files(rt: HostRuntime) -> Result<(), Fail> {
     assert!(rt; has_blocks(alloc, &array, 3, 34, 35)?);
     assert!(rt; has_blocks(alloc, &array, 5, 36, 92)?);
     assert!(rt; has_blocks(alloc, &array, 7, 92, 94)?);
+    assert_eq!(rt; array.inference.want(34), Want::File(3));
+    assert_eq!(rt; array.inference.want(33), Want::Kept);
+    assert_eq!(rt; array.inference.want(120), Want::Stray);
     for inode in [0u32, 1, 2, 4, 6, 8, 31, 32, 4294967295] {
         assert!(rt; has_blocks(alloc, &array, inode, 0, 0)?);
     }
@@ -361,24 +251,6 @@ fn blocks_of_files(rt: HostRuntime) -> Result<(), Fail> {
     set_slot(&mut image, 6, 0, 94)?;
     write(alloc, &mut array, &image, 28)?;
     assert!(rt; has_blocks(alloc, &array, 6, 94, 95)?);
-    Ok(())
-}
-
-#[test]
-fn blocks_that_are_dead(rt: HostRuntime) -> Result<(), Fail> {
-    let alloc = rt.alloc();
-    let empty = image_of(alloc, Which::E)?;
-    let mut array = array_of_f(alloc)?;
-    write_all(alloc, &mut array, &empty, &[24, 28])?;
-    assert_eq!(rt; who(&array, 33)?, Who::Inode(2, 0));
-    assert_eq!(rt; who(&array, 34)?, Who::Dead);
-    assert_eq!(rt; array.inference.who(false, 34), Who::Idle);
-    assert!(rt; !array.inference.dead(true, 33));
-    array.inference.reaped(34);
-    assert_eq!(rt; who(&array, 34)?, Who::Dead);
-    let zeros = vec![in alloc; 0u8; 131072]?;
-    write(alloc, &mut array, &zeros, 24)?;
-    assert_eq!(rt; who(&array, 34)?, Who::Idle);
     Ok(())
 }
 

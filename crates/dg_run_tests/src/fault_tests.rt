@@ -1,7 +1,7 @@
 // Runs in which calls of the rack, of the source or of the sink fail: the volume F is written and settled, gets a copy, loses
 // a member and gets it back, and is saved and read. Then the commands open what was saved.
 use crate::cat_tests::{call_behind, cut_after, image, lines_of, long_file};
-use crate::saved_tests::{bytes_of_b, front_of, put, run_over};
+use crate::runs::{bytes_of_b, front_of, put, run_over};
 use crate::tests::{Pieces, rack_of, source_of, words_of};
 use dg_io::{Failed, MemRack, MemSink, Rack};
 use dg_run::{Status, run};

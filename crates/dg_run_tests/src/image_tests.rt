@@ -1,6 +1,6 @@
 // The command `trace`, on the image of the volume F and on parts of it.
 use crate::cat_tests::{image, push_write};
-use crate::saved_tests::run_over;
+use crate::runs::run_over;
 use crate::tests::{rack_of, source_of};
 use dg_io::MemSink;
 use dg_run::{Status, run};

@@ -12,8 +12,6 @@ mod image_tests;
 #[cfg(test)]
 mod list_tests;
 #[cfg(test)]
-mod saved_tests;
+mod runs;
 #[cfg(test)]
 mod tests;
-#[cfg(test)]
-mod volume_tests;

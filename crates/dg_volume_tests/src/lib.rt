@@ -2,13 +2,7 @@
 #![tactic(auto)]
 
 #[cfg(test)]
-mod open_tests;
-#[cfg(test)]
-mod save_tests;
-#[cfg(test)]
 mod settle_tests;
-#[cfg(test)]
-mod settled_tests;
 #[cfg(test)]
 mod tests;
 #[cfg(test)]

@@ -17,8 +17,8 @@ const LENGTH: u64 = 40_000;
 
 /// A listing that counts its entries.
 #[derive(Drop)]
-pub struct Counted {
-    pub entries: u32,
+struct Counted {
+    entries: u32,
 }
 
 impl Listing for Counted {

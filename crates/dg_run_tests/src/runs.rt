@@ -1,0 +1,67 @@
+// Runs over a rack, and the bytes of its members.
+ghost use Rattle.std.specs.Prelude.{◌≡◌, IfOk, length};
+
+use crate::tests::source_of;
+use dg_io::{Failed, MemSink, Rack};
+use dg_run::{Status, run};
+use std::alloc::Global;
+use std::test::Fail;
+
+// Bytes of all that a run prints.
+const OUTPUT: usize = 131072;
+
+// A run over a rack, by the words of a command with spaces between them: how it ended, and what it printed.
+pub fn run_over<R: Rack>(
+    alloc: Global,
+    line: &str,
+    input: &[u8],
+    rack: &mut R,
+) -> Result<(Status, Vec<u8>), Fail> {
+    let mut words = Vec::new(alloc);
+    for word in line.split(' ') {
+        words.push(String::from_str(alloc, word)?)?;
+    }
+    let mut source = source_of(alloc, input, &[])?;
+    let mut sink = MemSink::new(alloc, OUTPUT, Vec::new(alloc))?;
+    let status = run(alloc, &words, &mut source, &mut sink, rack);
+    Ok((status, Vec::from_slice(alloc, sink.taken())?))
+}
+
+// The bytes of `/d/b`: fragment i of the file has the bytes i + 1.
+pub fn bytes_of_b(alloc: Global) -> Result<Vec<u8>, Fail> {
+    let mut bytes = Vec::new(alloc);
+    for byte in 1..53 {
+        for _ in 0..1024 {
+            bytes.push(byte)?;
+        }
+    }
+    Ok(bytes)
+}
+
+// The first bytes of a member.
+pub fn front_of<R: Rack>(
+    alloc: Global,
+    rack: &mut R,
+    member: u8,
+    count: usize,
+) -> Result<Vec<u8>, Fail>
+    ensures { IfOk result (λ bytes. length bytes.items ≡ count) }
+{
+    let mut bytes = vec![in alloc; 0u8; count]?;
+    let Ok(Some(size)) = rack.attach(member) else {
+        return Err("member".into());
+    };
+    if size < count as u64 {
+        return Err("length".into());
+    }
+    let Ok(()) = rack.read(member, 0, &mut bytes) else {
+        return Err("read".into());
+    };
+    Ok(bytes)
+}
+
+// Makes a member of these bytes, by two calls.
+pub fn put<R: Rack>(rack: &mut R, member: u8, bytes: &[u8]) -> Result<(), Failed> {
+    rack.blank(member, bytes.len() as u64)?;
+    rack.write(member, 0, bytes)
+}
