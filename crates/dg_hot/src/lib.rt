@@ -6,8 +6,6 @@ mod emptiest;
 mod home_lists;
 mod hot;
 mod spreads;
-#[cfg(test)]
-mod tests;
 
 pub use dg_io::NoMemory;
 pub use dg_plan::Homes;

@@ -11,8 +11,6 @@ mod faults;
 mod maps;
 mod restores;
 mod site_lists;
-#[cfg(test)]
-mod tests;
 
 pub use dg_model::{NoMemory, Shape, Site};
 pub use faults::TakeFault;

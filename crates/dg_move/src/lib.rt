@@ -6,8 +6,6 @@ mod laws;
 mod placements;
 mod spares;
 mod tends;
-#[cfg(test)]
-mod tests;
 
 pub use dg_model::NoMemory;
 pub use dg_plan::Targets;

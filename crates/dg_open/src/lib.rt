@@ -5,8 +5,6 @@ mod bodies;
 mod labels;
 mod reopens;
 mod rows;
-#[cfg(test)]
-mod tests;
 
 pub use dg_io::NoMemory;
 pub use dg_label::KeptLabel;

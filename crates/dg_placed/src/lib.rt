@@ -4,8 +4,6 @@
 mod files;
 mod places;
 mod standing;
-#[cfg(test)]
-mod tests;
 
 pub use dg_io::NoMemory;
 pub use places::is_placed;

@@ -13,8 +13,6 @@ mod placings;
 mod plans;
 mod strays;
 mod target_lists;
-#[cfg(test)]
-mod tests;
 mod want_lists;
 
 pub use dg_model::{Home, NoMemory, NoRoom, Parent, Shape, Want};

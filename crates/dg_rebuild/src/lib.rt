@@ -3,8 +3,6 @@
 
 mod rebuilds;
 mod slots;
-#[cfg(test)]
-mod tests;
 
 pub use dg_io::NoMemory;
 pub use rebuilds::{RebuildAnswer, rebuild};

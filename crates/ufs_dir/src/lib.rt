@@ -8,8 +8,6 @@
 
 mod heads;
 mod searches;
-#[cfg(test)]
-mod tests;
 mod walks;
 
 pub use searches::{check, find};

@@ -4,8 +4,6 @@
 
 mod blocks;
 mod maps;
-#[cfg(test)]
-mod tests;
 
 pub use crate::blocks::{group_block, read_group};
 pub use crate::maps::{is_free, is_used};

@@ -8,8 +8,6 @@
 mod inodes;
 mod places;
 mod slots;
-#[cfg(test)]
-mod tests;
 
 pub use crate::inodes::{has_pointers, inode_at, read_inode};
 pub use crate::places::{inodes_inside, inodes_near, place_of};

@@ -18,8 +18,6 @@ mod paths;
 mod pointers;
 mod reads;
 mod roles;
-#[cfg(test)]
-mod tests;
 
 pub use crate::chunks::{BadEntry, Found};
 pub use crate::claims::ClaimSource;

@@ -10,8 +10,6 @@ mod places;
 mod roles;
 mod runs;
 mod superblocks;
-#[cfg(test)]
-mod tests;
 
 pub use crate::places::{cgbase, cgstart, end_of, group_of};
 pub use crate::roles::role;

@@ -1,9 +1,0 @@
-use Rattle.std.proofs.Common.{◌≡◌}
-use Rattle.dg_store.specs.Stores.{IsSound, shape_of}
-use Rattle.dg_move.proofs.tests.check_losses.Given as goal
-
-abbrev pub invariant-loop-copies : goal.invariant-loop-copies
-invariant-loop-copies g l = record {
-  sound : IsSound g.R.Rack l.store;
-  shape : shape_of l.store ≡ shape_of l.fn.store;
-}
