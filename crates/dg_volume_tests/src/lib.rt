@@ -4,8 +4,6 @@
 #[cfg(test)]
 mod settle_tests;
 #[cfg(test)]
-mod tests;
-#[cfg(test)]
 mod write_tests;
 #[cfg(test)]
 mod written;

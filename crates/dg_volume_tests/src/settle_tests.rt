@@ -1,90 +1,46 @@
-// Settling and moving, on volumes of 128 fragments of 1024 bytes that were written block by block.
+// Settling and moving, on the volume F that was written block by block.
 ghost use Rattle.std.specs.Prelude.{IfOk};
-ghost use Rattle.dg_volume.specs.Volumes.{IsWell, any_phase, loose_phase, settled_phase};
+ghost use Rattle.dg_volume.specs.Volumes.{IsWell, any_phase, loose_phase};
 
 use crate::written::{image, rack, shape_of, up};
-use dg_io::{MemSink, Rack};
-use dg_model::NoRoom;
-use dg_volume::{AnyPhase, FailAnswer, HomeAnswer, Loose, Settled, TendRun, Unsettled, Volume};
+use dg_io::Rack;
+use dg_volume::{AnyPhase, FailAnswer, HomeAnswer, Loose, TendRun, Unsettled, Volume};
 use std::alloc::Global;
 use std::process::Abort;
 use std::test::Fail;
 use ufs_model::is_path;
-use ufs_samples::Which;
 
-/// The inode of the file at a path, which is given whole, and what is told of its home.
-fn tell<R: Rack>(
+/// Moves one block of the volume F, and settles it then by the call that gives a settled one. Its file at this path stands on boundary 3.
+fn settle_typed<R: Rack + Drop>(
+    rt: &impl Abort,
     alloc: Global,
-    volume: &mut Volume<Settled, R>,
+    mut volume: Volume<Loose, R>,
     path: &[u8],
-) -> Result<(Option<u32>, HomeAnswer), Fail>
-    requires { IsWell settled_phase R.Rack volume.old }
-    ensures { IfOk result (λ told. IsWell settled_phase R.Rack volume.new) }
+) -> Result<(), Fail>
+    requires { IsWell loose_phase R.Rack volume }
 {
     if !is_path(path) {
         return Err("path".into());
     }
-    let mut out = MemSink::new(alloc, 60_000, Vec::new(alloc))?;
-    let _ = volume.cat(path, &mut out);
-    Ok((volume.given(), volume.home(path)))
-}
-
-/// What is told of a file of this inode, all of whose blocks stand on this boundary. It has no copy.
-fn at(inode: u32, home: u8) -> (Option<u32>, HomeAnswer) {
-    (Some(inode), HomeAnswer::At { home, copy: None })
-}
-
-/// Settles the volume F, and checks the homes of its files: inodes with their boundaries. The empty file 6 has none.
-fn check_homes<R: Rack + Drop>(
-    rt: &impl Abort,
-    alloc: Global,
-    volume: Volume<Loose, R>,
-    wanted: [(u32, u8); 3],
-) -> Result<(), Fail>
-    requires { IsWell loose_phase R.Rack volume }
-{
+    let tended = volume.tend(alloc, 1)?;
+    assert_eq!(rt; tended, TendRun::Tended { moved: 1, left: 48 });
     let Ok(mut settled) = volume.settle(alloc)? else {
         return Err("refused".into());
     };
-    let [a, b, h] = wanted;
-    assert!(rt; tell(alloc, &mut settled, b"/a")? == at(a.0, a.1));
-    assert!(rt; tell(alloc, &mut settled, b"/d/b")? == at(b.0, b.1));
-    assert!(rt; tell(alloc, &mut settled, b"/h")? == at(h.0, h.1));
-    assert!(rt; tell(alloc, &mut settled, b"/z")? == (Some(6), HomeAnswer::NoHome));
-    Ok(())
-}
-
-#[test]
-fn homes_of_a_settled_volume(rt: HostRuntime) -> Result<(), Fail> {
-    let alloc = rt.alloc();
-    let image = image(alloc, Which::F)?;
-    let volume = up(alloc, rack(alloc, None)?, shape_of(4, 64, 2)?, &image, 0)?;
-    check_homes(&rt, alloc, volume, [(3, 3), (5, 2), (7, 3)])
-}
-
-#[test]
-fn a_loose_volume_is_tended(rt: HostRuntime) -> Result<(), Fail> {
-    let alloc = rt.alloc();
-    let files = image(alloc, Which::F)?;
-    let mut volume = up(alloc, rack(alloc, None)?, shape_of(4, 64, 2)?, &files, 0)?;
-    assert_eq!(rt;
-        volume.tend(alloc, 1)?,
-        TendRun::Tended { moved: 1, left: 48 }
-    );
-    Ok(())
-}
-
-#[test]
-fn a_loose_volume_without_room_stays_so(rt: HostRuntime) -> Result<(), Fail> {
-    let alloc = rt.alloc();
-    let empty = image(alloc, Which::E)?;
-    let volume = up(alloc, rack(alloc, None)?, shape_of(4, 32, 4)?, &empty, 33)?;
-    let Err((mut volume, why)) = volume.settle(alloc)? else {
-        return Err("settled".into());
+    let home = HomeAnswer::At {
+        home: 3,
+        copy: None,
     };
-    assert_eq!(rt; why, Unsettled::NoSpace(NoRoom::System));
-    assert_eq!(rt; volume.tend(alloc, 1)?, TendRun::NoSpace(NoRoom::System));
+    assert_eq!(rt; settled.home(path), home);
     Ok(())
+}
+
+#[test]
+fn a_loose_volume_is_tended_and_settled(rt: HostRuntime) -> Result<(), Fail> {
+    let alloc = rt.alloc();
+    let files = image(alloc)?;
+    let volume = up(alloc, rack(alloc, &[])?, shape_of(4, 64, 2)?, &files)?;
+    settle_typed(&rt, alloc, volume, b"/a")
 }
 
 /// Makes one member of each boundary fail. It answers whether no member was out before.
@@ -131,13 +87,13 @@ fn run<R: Rack>(
 #[test]
 fn losses_in_the_middle(rt: HostRuntime) -> Result<(), Fail> {
     let alloc = rt.alloc();
-    let files = image(alloc, Which::F)?;
+    let files = image(alloc)?;
     let shape = shape_of(4, 64, 2)?;
     let mut kept = false;
     let mut lost = 0u32;
     for step in 0..100u64 {
-        let rack = rack(alloc, Some(13 * step))?;
-        let mut volume = up(alloc, rack, shape, &files, 0)?.into_any();
+        let rack = rack(alloc, &[13 * step])?;
+        let mut volume = up(alloc, rack, shape, &files)?.into_any();
         let whole = fail_sides(&mut volume);
         let same = run(&rt, alloc, &mut volume)?;
         if whole && same {

@@ -2,27 +2,18 @@
 ghost use Rattle.std.specs.Prelude.{IfOk};
 ghost use Rattle.dg_volume.specs.Volumes.{IsWell, any_phase, loose_phase};
 
-use dg_io::{MemRack, Rack};
+use crate::written::{image, rack};
+use dg_io::Rack;
 use dg_model::Shape;
-use dg_volume::{AnyPhase, InPhase, Loose, Phase, Volume, Who, WhoAnswer, WriteAnswer, Wrote};
+use dg_volume::{
+    AnyPhase, InPhase, Loose, Phase, ReadAnswer, Volume, Who, WhoAnswer, WriteAnswer, Wrote,
+};
 use std::alloc::Global;
 use std::process::Abort;
 use std::test::Fail;
-use ufs_samples::{Which, sample_image};
-
-// Bytes of a member of the array 1024 128 3 43 1, and some more.
-const LENGTH: u64 = 60_000;
 
 /// The superblock, the indirect block, the inodes, and a block of data.
 const BLOCKS: [u32; 5] = [8, 9, 84, 28, 88];
-
-/// The 128 blocks of the volume F.
-fn image_of_f(alloc: Global) -> Result<Vec<u8>, Fail> {
-    match sample_image(alloc, Which::F) {
-        Ok(image) => Ok(image),
-        Err(_) => Err("memory".into()),
-    }
-}
 
 /// The volume of a blank array of 128 blocks on three boundaries. Its members are blanked by six calls on the rack.
 fn blank<R: Rack + Drop>(alloc: Global, rack: R) -> Result<Volume<Loose, R>, Fail>
@@ -33,11 +24,6 @@ fn blank<R: Rack + Drop>(alloc: Global, rack: R) -> Result<Volume<Loose, R>, Fai
         Ok(volume) => Ok(volume),
         Err(_) => Err("memory".into()),
     }
-}
-
-/// A rack in memory of six members, of which these calls fail.
-fn rack_of(alloc: Global, fails: &[u64]) -> Result<MemRack, Fail> {
-    Ok(MemRack::new(alloc, 6, LENGTH, fails.to_vec(alloc)?)?)
 }
 
 /// Writes a block as it is in an image.
@@ -108,10 +94,9 @@ fn write_in_place<R: Rack + Drop>(
 #[test]
 fn each_call_may_fail(rt: HostRuntime) -> Result<(), Fail> {
     let alloc = rt.alloc();
-    let image = image_of_f(alloc)?;
+    let image = image(alloc)?;
     for call in 6..18u64 {
-        let rack = rack_of(alloc, &[call])?;
-        write_in_place(&rt, alloc, rack, &image, &BLOCKS)?;
+        write_in_place(&rt, alloc, rack(alloc, &[call])?, &image, &BLOCKS)?;
     }
     Ok(())
 }
@@ -120,8 +105,6 @@ fn each_call_may_fail(rt: HostRuntime) -> Result<(), Fail> {
 fn wear<R: Rack + Drop>(rt: &impl Abort, alloc: Global, rack: R, image: &[u8]) -> Result<(), Fail> {
     let mut volume = blank(alloc, rack)?.into_any();
     put_all(rt, alloc, &mut volume, image, &[8, 9, 84])?;
-    assert_eq!(rt; volume.phase(), Phase::Loose);
-    assert_eq!(rt; volume.who(84), WhoAnswer::Is(Who::Pending));
     assert_eq!(rt; put(alloc, &mut volume, image, 28)?, WriteAnswer::Written);
     assert_eq!(rt; volume.phase(), Phase::Worn);
     assert_eq!(rt; volume.lost(), 1);
@@ -129,88 +112,38 @@ fn wear<R: Rack + Drop>(rt: &impl Abort, alloc: Global, rack: R, image: &[u8]) -
     assert_eq!(rt; volume.next_pending(0), Some(28));
     assert_eq!(rt; volume.next_pending(29), Some(84));
     assert_eq!(rt; volume.next_pending(85), None);
-    assert_eq!(rt; put(alloc, &mut volume, image, 88)?, WriteAnswer::Degraded);
-    assert_eq!(rt; volume.next_pending(85), None);
     Ok(())
 }
 
 #[test]
 fn a_boundary_is_lost_by_a_fetch(rt: HostRuntime) -> Result<(), Fail> {
     let alloc = rt.alloc();
-    let image = image_of_f(alloc)?;
-    wear(&rt, alloc, rack_of(alloc, &[15, 16])?, &image)
+    let image = image(alloc)?;
+    wear(&rt, alloc, rack(alloc, &[15, 16])?, &image)
 }
 
-/// Writes a block whose members fail both.
-fn miss<R: Rack + Drop>(rt: &impl Abort, alloc: Global, rack: R, image: &[u8]) -> Result<(), Fail> {
-    let mut volume = blank(alloc, rack)?.into_any();
-    put_all(rt, alloc, &mut volume, image, &[8])?;
-    assert_eq!(rt; put(alloc, &mut volume, image, 9)?, WriteAnswer::Degraded);
-    assert_eq!(rt; volume.phase(), Phase::Loose);
-    assert_eq!(rt; volume.lost(), 1);
-    assert_eq!(rt; volume.who(8), WhoAnswer::Is(Who::Pending));
-    assert_eq!(rt; volume.who(9), WhoAnswer::Is(Who::Idle));
-    assert_eq!(rt; put(alloc, &mut volume, image, 28)?, WriteAnswer::Degraded);
-    assert_eq!(rt; volume.next_pending(9), None);
-    Ok(())
-}
-
-#[test]
-fn all_sites_are_lost(rt: HostRuntime) -> Result<(), Fail> {
-    let alloc = rt.alloc();
-    let image = image_of_f(alloc)?;
-    miss(&rt, alloc, rack_of(alloc, &[8, 9])?, &image)
-}
-
-/// Writes a block as it is in an image, to a volume in one phase.
-fn write<S: InPhase + Drop, R: Rack + Drop>(
-    alloc: Global,
-    volume: Volume<S, R>,
-    image: &[u8],
-    block: u32,
-) -> Result<Volume<Loose, R>, Fail>
-    requires { IsWell S.InPhase R.Rack volume }
-    ensures { IfOk result (λ new. IsWell loose_phase R.Rack new) }
-{
+/// Writes and reads a block that there isn't. The program writes by `write_block`, and prints nothing of a buffer that stays as it was.
+fn go_beyond<R: Rack + Drop>(rt: &impl Abort, alloc: Global, rack: R) -> Result<(), Fail> {
+    let volume = blank(alloc, rack)?;
+    let mut buf = [0xee; 1024];
     let size = volume.shape().l;
-    if size != 1024 || image.len() != 131072 || block >= 128 {
-        return Err("block".into());
-    }
-    let start = block as usize * 1024;
-    match volume.write(alloc, block, &image[start..start + 1024]) {
-        Ok(Wrote::Loose(new)) => Ok(new),
-        Ok(_) => Err("refused".into()),
-        Err(_) => Err("memory".into()),
-    }
-}
-
-/// Writes F, and a block that there isn't.
-fn write_typed<R: Rack + Drop>(
-    rt: &impl Abort,
-    alloc: Global,
-    rack: R,
-    image: &[u8],
-) -> Result<(), Fail> {
-    let volume = write(alloc, blank(alloc, rack)?, image, 9)?;
-    let volume = write(alloc, volume, image, 84)?;
-    let volume = write(alloc, volume, image, 8)?;
-    let volume = write(alloc, volume, image, 28)?;
-    let volume = write(alloc, volume, image, 88)?;
-    check_f(rt, &volume);
-    let size = volume.shape().l;
-    if size != 1024 || image.len() != 131072 {
+    if size != 1024 {
         return Err("size".into());
     }
-    let Ok(Wrote::Range(volume)) = volume.write(alloc, 128, &image[0..1024]) else {
+    let Ok(Wrote::Range(mut volume)) = volume.write(alloc, 128, &buf) else {
         return Err("range".into());
     };
-    check_f(rt, &volume);
+    let size = volume.shape().l;
+    if size != 1024 {
+        return Err("size".into());
+    }
+    assert_eq!(rt; volume.read(128, &mut buf), ReadAnswer::Range);
+    assert!(rt; buf[0] == 0xee);
     Ok(())
 }
 
 #[test]
-fn writes_of_a_loose_volume(rt: HostRuntime) -> Result<(), Fail> {
+fn a_block_that_there_is_not(rt: HostRuntime) -> Result<(), Fail> {
     let alloc = rt.alloc();
-    let image = image_of_f(alloc)?;
-    write_typed(&rt, alloc, rack_of(alloc, &[])?, &image)
+    go_beyond(&rt, alloc, rack(alloc, &[])?)
 }

@@ -1,4 +1,4 @@
-// Volumes of 128 fragments of 1024 bytes that were written block by block.
+// The volume F of 128 fragments of 1024 bytes, written block by block.
 ghost use Rattle.std.specs.Prelude.{IfOk};
 ghost use Rattle.dg_model.specs.Shapes.{IsShape};
 ghost use Rattle.dg_volume.specs.Volumes.{IsWell, loose_phase};
@@ -23,18 +23,14 @@ pub fn shape_of(boundaries: u32, slots: u32, places: u32) -> Result<Shape, Fail>
     }
 }
 
-/// A rack in memory of eight members, of whose calls one fails, if one is given.
-pub fn rack(alloc: Global, fails: Option<u64>) -> Result<MemRack, Fail> {
-    let mut calls = Vec::new(alloc);
-    if let Some(call) = fails {
-        calls.push(call)?;
-    }
-    Ok(MemRack::new(alloc, 8, LENGTH, calls)?)
+/// A rack in memory of eight members, of which these calls fail.
+pub fn rack(alloc: Global, fails: &[u64]) -> Result<MemRack, Fail> {
+    Ok(MemRack::new(alloc, 8, LENGTH, fails.to_vec(alloc)?)?)
 }
 
-/// The 128 blocks of a volume.
-pub fn image(alloc: Global, which: Which) -> Result<Vec<u8>, Fail> {
-    match sample_image(alloc, which) {
+/// The 128 blocks of the volume F.
+pub fn image(alloc: Global) -> Result<Vec<u8>, Fail> {
+    match sample_image(alloc, Which::F) {
         Ok(image) => Ok(image),
         Err(_) => Err("memory".into()),
     }
@@ -61,13 +57,12 @@ fn write<R: Rack + Drop>(
     }
 }
 
-/// The loose volume of an image: the blocks that aren't zero or have a number below a bound were written, ascending.
+/// The loose volume of an image: the blocks that aren't zero were written, ascending.
 pub fn up<R: Rack + Drop>(
     alloc: Global,
     rack: R,
     shape: Shape,
     image: &[u8],
-    bound: usize,
 ) -> Result<Volume<Loose, R>, Fail>
     requires { IsShape shape }
     ensures { IfOk result (IsWell loose_phase R.Rack) }
@@ -77,7 +72,7 @@ pub fn up<R: Rack + Drop>(
         Err(_) => return Err("memory".into()),
     };
     for (block, bytes) in image.chunks(1024).enumerate() {
-        if block < bound || bytes.iter().any(|byte| *byte != 0) {
+        if bytes.iter().any(|byte| *byte != 0) {
             volume = write(alloc, volume, block, bytes)?;
         }
     }
