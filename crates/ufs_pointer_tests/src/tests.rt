@@ -186,6 +186,7 @@ fn chains_of_file_blocks(rt: HostRuntime) -> Result<(), Fail> {
         // Through the double one alone.
         (1036, 108, 0, BlockAnswer::At(104, 4)),
         (1036, 99, 0, BlockAnswer::Gone),
+        (1037, 108, 0, BlockAnswer::Hole),
         (2060, 108, 0, BlockAnswer::Wild),
         (3084, 108, 0, BlockAnswer::Hole),
     ] {
