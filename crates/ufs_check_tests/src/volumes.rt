@@ -12,43 +12,12 @@ use ufs_samples::{Which, sample_image};
 pub type Edit<'a> = (usize, &'a [u8]);
 
 /// A block that isn't read.
-pub const NOTHING: Loss = Loss { block: 1, fetch: 0 };
+const NOTHING: Loss = Loss { block: 1, fetch: 0 };
 
-/// The first byte of the group block, and of its maps of used inodes and of free fragments.
-pub const GROUP: usize = 24 * 1024;
-
-pub const INODE_MAP: usize = GROUP + 256;
-
-pub const FRAGMENT_MAP: usize = GROUP + 260;
-
-/// The first byte of inodes: 2 is the root's, and 4 that of the directory `/d`.
-pub const INODE_2: usize = 28 * 1024 + 2 * 128;
-
+/// The first byte of inode 3, and of the entry `b` in `/d`.
 pub const INODE_3: usize = 28 * 1024 + 3 * 128;
 
-pub const INODE_4: usize = 28 * 1024 + 4 * 128;
-
-pub const INODE_5: usize = 28 * 1024 + 5 * 128;
-
-pub const INODE_6: usize = 28 * 1024 + 6 * 128;
-
-pub const INODE_7: usize = 28 * 1024 + 7 * 128;
-
-/// The chunks of the root's directory and of `/d`.
-pub const ROOT: usize = 33 * 1024;
-
-pub const D: usize = 35 * 1024;
-
-/// The first byte of entries: `z` for inode 6 and `h` for inode 7 in the root's, and `b` for inode 5 in
-/// `/d`.
-pub const ENTRY_Z: usize = ROOT + 48;
-
-pub const ENTRY_H: usize = ROOT + 60;
-
-pub const ENTRY_B: usize = D + 24;
-
-/// The indirect block of inode 5.
-pub const INDIRECT: usize = 84 * 1024;
+pub const ENTRY_B: usize = 35 * 1024 + 24;
 
 /// Writes bytes at a place, if they fit.
 fn put(image: &mut [u8], at: usize, bytes: &[u8])
@@ -70,7 +39,7 @@ fn lay_out(image: &mut [u8], rows: &[u8], edits: &[Edit])
 }
 
 /// A volume with more blocks of zeros after it, and with bytes put in.
-pub fn edited(alloc: Global, which: Which, count: u32, edits: &[Edit]) -> Result<Vec<u8>, Fail>
+fn edited(alloc: Global, which: Which, count: u32, edits: &[Edit]) -> Result<Vec<u8>, Fail>
     requires { count ≤ 256 }
     ensures { IfOk result (λ image. length image.items ≡ count * 1024) }
 {
@@ -141,11 +110,4 @@ pub fn verdict_by(alloc: Global, other: Which, edits: &[Edit]) -> Result<Verdict
     let mut levels = Levels::new(alloc, 1024)?;
     let claims = claims_of(alloc, other, 128, edits, &mut levels)?;
     told_by(alloc, Which::F, 128, &[], NOTHING, &mut levels, &claims)
-}
-
-/// What is told of a volume of so many blocks with bytes put in.
-pub fn verdict(alloc: Global, which: Which, count: u32, edits: &[Edit]) -> Result<Verdict, Fail>
-    requires { count ≤ 256 }
-{
-    verdict_without(alloc, which, count, edits, NOTHING)
 }
