@@ -15,3 +15,5 @@ mod list_tests;
 mod runs;
 #[cfg(test)]
 mod tests;
+#[cfg(test)]
+mod uses;
