@@ -4,11 +4,7 @@
 #[cfg(test)]
 mod cat_tests;
 #[cfg(test)]
-mod drill_tests;
-#[cfg(test)]
 mod fault_tests;
-#[cfg(test)]
-mod image_tests;
 #[cfg(test)]
 mod list_tests;
 #[cfg(test)]
