@@ -100,6 +100,8 @@ expect 'an image that was cut short' $status 0 $'ok\nok\ndata 6869\ndata 6869\na
 enter input
 "$program" replay </ >"$base/out" 2>"$base/err"
 expect 'standard input is a directory' $? 3 '' $'standard input: read: Is a directory\n'
+"$program" trace up 4 64 2 </ >"$base/out" 2>"$base/err"
+expect 'the image of a trace is a directory' $? 3 '' $'standard input: read: Is a directory\n'
 "$program" replay <&- >"$base/out" 2>"$base/err"
 expect 'standard input is closed' $? 3 '' $'standard input: read: Is a directory\n'
 
@@ -110,6 +112,17 @@ read -r passed failed <"$base/counts"
 status=$?
 : >"$base/out"
 expect 'the usage line, and standard output is full' $status 4 '' $'standard output: write: No space left on device\n'
+printf 'reed 3\n' | { "$program" replay >/dev/full 2>"$base/err"; status=$?; : >"$base/out"; expect 'a refused line, and standard output is full' $status 4 '' $'standard output: write: No space left on device\n'; echo "$passed $failed" >"$base/counts"; }
+read -r passed failed <"$base/counts"
+# Nothing is saved here, and the image has no bytes. A drill reads no standard input, which is a directory.
+for words in status 'cat /a' 'ls /' 'trace up 4 64 2' 'drill 1 1'; do
+    from=/dev/null
+    if [ "$words" = 'drill 1 1' ]; then from=/; fi
+    "$program" $words <$from >/dev/full 2>"$base/err"
+    status=$?
+    : >"$base/out"
+    expect "$words, and standard output is full" $status 4 '' $'standard output: write: No space left on device\n'
+done
 mkfifo replies
 sleep 5 <replies &
 reader=$!

@@ -2,6 +2,7 @@
 // with 64 slots. Block b stands on boundary b mod 4.
 ghost use Rattle.std.specs.Prelude.{◌≡◌, IfOk, length};
 
+use crate::runs::mark_of;
 use crate::tests::replay;
 use dg_io::MemSink;
 use dg_run::Status;
@@ -14,14 +15,11 @@ use ufs_samples::{Which, sample_image};
 const OUTPUT: usize = 131072;
 
 // The line that writes a block.
-pub fn push_write(text: &mut Vec<u8>, number: usize, block: &[u8]) -> Result<(), Fail> {
+fn push_write(text: &mut Vec<u8>, number: usize, block: &[u8]) -> Result<(), Fail> {
     let mut digits = Buffer::new();
     text.extend_from_slice(b"write ")?;
     text.extend_from_slice(digits.format(number).as_bytes())?;
     text.push(b' ')?;
-    if block.is_empty() {
-        text.push(b'-')?;
-    }
     for byte in block {
         let mut word = [0u8; 2];
         let _ = hex::encode_to_slice([*byte], &mut word);
@@ -80,29 +78,10 @@ pub fn calls_from(alloc: Global, first: u64) -> Result<Vec<u64>, Fail> {
     Ok(calls)
 }
 
-// Whether a member falls while the blocks of an image are written, where each call of the rack from one on fails.
-fn has_fallen(alloc: Global, image: &[u8], call: u64) -> Result<bool, Fail> {
-    let fails = calls_from(alloc, call)?;
-    let mut input = lines_of(alloc, image)?;
-    input.extend_from_slice(
-        b"fail 0 0\nfail 0 1\nfail 1 0\nfail 1 1\nfail 2 0\nfail 2 1\nfail 3 0\nfail 3 1\n",
-    )?;
-    let mut sink = MemSink::new(alloc, OUTPUT, Vec::new(alloc))?;
-    if replay(alloc, &input, &mut sink, &fails)? != Status::Done {
-        return Err("status".into());
-    }
-    Ok(!sink.taken().ends_with(b"ok\nok\nok\nok\nok\nok\nok\nok\n"))
-}
-
 // The number of the first call of the rack behind those for the array and for the blocks of an image.
 pub fn first_call(alloc: Global, image: &[u8]) -> Result<u64, Fail> {
-    let mut last: u64 = 0;
-    for bit in [2048, 1024, 512, 256, 128, 64, 32, 16, 8, 4, 2, 1] {
-        if has_fallen(alloc, image, last | bit)? {
-            last |= bit;
-        }
-    }
-    Ok(last.saturating_add(1))
+    let (calls, _) = mark_of(alloc, &lines_of(alloc, image)?)?;
+    Ok(calls)
 }
 
 // That call, and one further on.
@@ -173,19 +152,15 @@ fn failing_calls_make_a_file_unavailable_or_cut_it(rt: HostRuntime) -> Result<()
     }
 
     // The hole of `/h` was handed on, and one of the two blocks behind it is lost the second time.
+    let mut wanted = Vec::new(alloc);
+    for _ in 0..4 {
+        push_bytes(&mut wanted, 0, 1024)?;
+    }
+    wanted.extend_from_slice(b"cut 4096\n")?;
     for passed in [12, 13] {
         let call = call_behind(first, passed);
         let answer = replies(alloc, &volume, "cat /h\n", &[call, call_behind(call, 1)])?;
-        let mut rest = answer.as_slice();
-        for _ in 0..4 {
-            let Some(line) = rest.strip_prefix(b"bytes ") else {
-                return Err("no line".into());
-            };
-            assert!(rt; line.len() > 2048);
-            assert!(rt; line.iter().take(2048).all(|digit| *digit == b'0'));
-            rest = &line[2049..];
-        }
-        assert!(rt; rest == b"cut 4096\n".as_slice());
+        assert!(rt; answer == wanted, "{passed}");
     }
     Ok(())
 }

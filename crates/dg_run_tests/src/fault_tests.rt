@@ -1,9 +1,9 @@
 // Runs in which calls of the rack, of the source or of the sink fail: the volume F is written and settled, gets a copy, loses
 // a member and gets it back, and is saved and read. Then the commands open what was saved.
 use crate::cat_tests::{call_behind, cut_after, image, lines_of, long_file};
-use crate::runs::{bytes_of_b, front_of, put, run_over};
-use crate::tests::{Pieces, rack_of, source_of, words_of};
-use dg_io::{Failed, MemRack, MemSink, Rack};
+use crate::runs::{Counted, bytes_of_b, front_of, mark_of, put, run_over};
+use crate::tests::{rack_of, source_of, words_of};
+use dg_io::{MemRack, MemSink, Rack};
 use dg_run::{Status, run};
 use std::alloc::Global;
 use std::process::Abort;
@@ -44,50 +44,6 @@ const MIDDLES: [(&str, bool); 6] = [
     ("ok\nok\nlost 2\nsaved 1\n", true),
 ];
 
-// A rack that counts its calls.
-#[derive(Drop)]
-struct Counted<R> {
-    rack: R,
-    calls: u64,
-}
-
-impl<R: Rack> Rack for Counted<R> {
-    ghost name = { λ r. R.name r.rack };
-
-    ghost bytes = { λ r. R.bytes r.rack };
-
-    ghost counts = { λ r. R.counts r.rack };
-
-    ghost stands = { λ r. R.stands r.rack };
-
-    ghost steady = { λ r. R.steady r.rack };
-
-    fn blank(&mut self, member: u8, length: u64) -> Result<(), Failed> {
-        self.calls = self.calls.saturating_add(1);
-        self.rack.blank(member, length)
-    }
-
-    fn attach(&mut self, member: u8) -> Result<Option<u64>, Failed> {
-        self.calls = self.calls.saturating_add(1);
-        self.rack.attach(member)
-    }
-
-    fn read(&mut self, member: u8, place: u64, buf: &mut [u8]) -> Result<(), Failed> {
-        self.calls = self.calls.saturating_add(1);
-        self.rack.read(member, place, buf)
-    }
-
-    fn write(&mut self, member: u8, place: u64, buf: &[u8]) -> Result<(), Failed> {
-        self.calls = self.calls.saturating_add(1);
-        self.rack.write(member, place, buf)
-    }
-
-    fn extend(&mut self, member: u8, length: u64) -> Result<(), Failed> {
-        self.calls = self.calls.saturating_add(1);
-        self.rack.extend(member, length)
-    }
-}
-
 // The script, and what it prints where no call fails.
 #[derive(Drop)]
 struct Script {
@@ -100,14 +56,6 @@ struct Script {
     marks: Vec<(u64, usize)>,
     // The bytes of `/d/b`.
     bytes: Vec<u8>,
-}
-
-// The calls that a replay makes where none fails, and the bytes that it prints.
-fn mark_of(alloc: Global, input: &[u8]) -> Result<(u64, usize), Fail> {
-    let rack = rack_of(alloc, &[])?;
-    let mut rack = Counted { rack, calls: 0 };
-    let (_, printed) = run_over(alloc, "replay", input, &mut rack)?;
-    Ok((rack.calls, printed.len()))
 }
 
 fn make_script(alloc: Global) -> Result<Script, Fail> {
@@ -424,32 +372,6 @@ fn two_failed_calls_in_the_refill_or_in_the_save(rt: HostRuntime) -> Result<(), 
 #[test]
 fn two_failed_calls_behind_the_save(rt: HostRuntime) -> Result<(), Fail> {
     try_calls_by_two(&rt, rt.alloc(), 8, 9)
-}
-
-// Call i of the source fails after 8192 * i bytes. The lines that are whole in these are done, and nothing is saved.
-#[test]
-fn a_failed_call_of_the_source_ends_the_writes(rt: HostRuntime) -> Result<(), Fail> {
-    let alloc = rt.alloc();
-    let words = words_of(alloc, &["replay"])?;
-    let input = lines_of(alloc, &image(alloc, Which::F)?)?;
-    for call in 0..10 {
-        let mut source = Pieces(source_of(alloc, &input, &[call])?, 8192);
-        let mut sink = MemSink::new(alloc, OUTPUT, Vec::new(alloc))?;
-        let mut rack = rack_of(alloc, &[])?;
-        let status = run(alloc, &words, &mut source, &mut sink, &mut rack);
-        assert_eq!(rt; status, Status::ReadFault, "call {call}");
-        let before = input.iter().take(8192 * call as usize);
-        let lines = before.filter(|byte| **byte == b'\n').count();
-        let mut wanted = Vec::new(alloc);
-        for _ in 0..lines {
-            wanted.extend_from_slice(b"ok\n")?;
-        }
-        assert!(rt; sink.taken() == wanted.as_slice(), "call {call}");
-        let (status, text) = run_over(alloc, "status", b"", &mut rack)?;
-        assert_eq!(rt; status, Status::NoState, "call {call}");
-        assert!(rt; text.as_slice() == b"nostate\n".as_slice());
-    }
-    Ok(())
 }
 
 // The first replies are one call each, and so is that to `save`, before which nothing is saved.

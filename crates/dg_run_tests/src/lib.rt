@@ -4,14 +4,12 @@
 #[cfg(test)]
 mod cat_tests;
 #[cfg(test)]
-mod drill_tests;
-#[cfg(test)]
 mod fault_tests;
-#[cfg(test)]
-mod image_tests;
 #[cfg(test)]
 mod list_tests;
 #[cfg(test)]
 mod runs;
 #[cfg(test)]
 mod tests;
+#[cfg(test)]
+mod uses;

@@ -1,7 +1,7 @@
 // Runs over a rack, and the bytes of its members.
 ghost use Rattle.std.specs.Prelude.{◌≡◌, IfOk, length};
 
-use crate::tests::source_of;
+use crate::tests::{rack_of, source_of};
 use dg_io::{Failed, MemSink, Rack};
 use dg_run::{Status, run};
 use std::alloc::Global;
@@ -64,4 +64,56 @@ pub fn front_of<R: Rack>(
 pub fn put<R: Rack>(rack: &mut R, member: u8, bytes: &[u8]) -> Result<(), Failed> {
     rack.blank(member, bytes.len() as u64)?;
     rack.write(member, 0, bytes)
+}
+
+// A rack that counts its calls.
+#[derive(Drop)]
+pub struct Counted<R> {
+    pub rack: R,
+    pub calls: u64,
+}
+
+impl<R: Rack> Rack for Counted<R> {
+    ghost name = { λ r. R.name r.rack };
+
+    ghost bytes = { λ r. R.bytes r.rack };
+
+    ghost counts = { λ r. R.counts r.rack };
+
+    ghost stands = { λ r. R.stands r.rack };
+
+    ghost steady = { λ r. R.steady r.rack };
+
+    fn blank(&mut self, member: u8, length: u64) -> Result<(), Failed> {
+        self.calls = self.calls.saturating_add(1);
+        self.rack.blank(member, length)
+    }
+
+    fn attach(&mut self, member: u8) -> Result<Option<u64>, Failed> {
+        self.calls = self.calls.saturating_add(1);
+        self.rack.attach(member)
+    }
+
+    fn read(&mut self, member: u8, place: u64, buf: &mut [u8]) -> Result<(), Failed> {
+        self.calls = self.calls.saturating_add(1);
+        self.rack.read(member, place, buf)
+    }
+
+    fn write(&mut self, member: u8, place: u64, buf: &[u8]) -> Result<(), Failed> {
+        self.calls = self.calls.saturating_add(1);
+        self.rack.write(member, place, buf)
+    }
+
+    fn extend(&mut self, member: u8, length: u64) -> Result<(), Failed> {
+        self.calls = self.calls.saturating_add(1);
+        self.rack.extend(member, length)
+    }
+}
+
+// The calls that a replay makes where none fails, and the bytes that it prints.
+pub fn mark_of(alloc: Global, input: &[u8]) -> Result<(u64, usize), Fail> {
+    let rack = rack_of(alloc, &[])?;
+    let mut rack = Counted { rack, calls: 0 };
+    let (_, printed) = run_over(alloc, "replay", input, &mut rack)?;
+    Ok((rack.calls, printed.len()))
 }

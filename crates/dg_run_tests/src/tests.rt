@@ -1,3 +1,4 @@
+use crate::runs::run_over;
 use dg_io::{Failed, MemRack, MemSink, MemSource, Source, SureRack, SureSink, SureSource};
 use dg_run::{Status, run};
 use std::alloc::Global;
@@ -10,7 +11,7 @@ const OUTPUT: usize = 4096;
 
 // A source that gives at most so many bytes in a call, and at least one.
 #[derive(Drop)]
-pub struct Pieces<S>(pub S, pub usize);
+struct Pieces<S>(S, usize);
 
 impl<S: Source> Source for Pieces<S> {
     ghost left = { λ s. S.left s.0 };
@@ -55,92 +56,6 @@ pub fn replay(
     let mut source = source_of(alloc, input, &[])?;
     let mut rack = rack_of(alloc, fails)?;
     Ok(run(alloc, &words, &mut source, sink, &mut rack))
-}
-
-#[test]
-fn lines_are_answered(rt: HostRuntime) -> Result<(), Fail> {
-    let alloc = rt.alloc();
-    let rows = [
-        (
-            "array 1024 64 4 32 2\nwrite 3 6869\nread 3\n",
-            "ok\nok\ndata 6869\n",
-        ),
-        (
-            "array 1024 128 4 64 2\nread 5\nwrite 5 -\nread 5\n",
-            "ok\ndata -\nok\ndata -\n",
-        ),
-        (
-            "array 1024 64 4 32 2\nwrite 64 00\nwrite 63 00\nread 64\nfail 4 0\nfail 0 2\n",
-            "ok\nrange\nok\nrange\nrange\nrange\n",
-        ),
-        (
-            "array 1024 128 4 64 2\nwrite 3 aa\nfail 3 0\nwrite 3 bb\nread 3\nfail 3 0\nfail 3 1\nread 3\n",
-            "ok\nok\nok\nok\ndata bb\nalready\nok\nunavailable\n",
-        ),
-        (
-            "array 1024 128 4 64 2\nwrite 3 aa\nfail 3 0\nfail 3 1\nread 3\nread 2\nwrite 2 00\nsettle\ntend 1\n",
-            "ok\nok\nok\nok\nunavailable\ndata -\ndegraded\nlost 3\nlost 3\n",
-        ),
-        (
-            "array 1024 128 4 64 2\nwho 3\nwho 128\npending\nfail 3 0\nfail 3 1\nwho 3\npending\n",
-            "ok\nidle\nrange\nend 0\nok\nok\nidle\nend 0\n",
-        ),
-    ];
-    for (input, output) in rows {
-        let mut sink = sink_of(alloc, &[])?;
-        let status = replay(alloc, input.as_bytes(), &mut sink, &[])?;
-        assert_eq!(rt; status, Status::Done);
-        assert!(rt; sink.taken() == output.as_bytes(), "{input}");
-    }
-    Ok(())
-}
-
-#[test]
-fn words_of_no_command_are_refused(rt: HostRuntime) -> Result<(), Fail> {
-    let alloc = rt.alloc();
-    let rows: [&[&str]; 5] = [
-        &[],
-        &["reply"],
-        &["replay", "x"],
-        &["trace", "up", "4", "64"],
-        &["drill", "1", "0"],
-    ];
-    for texts in rows {
-        let words = words_of(alloc, texts)?;
-        let mut source = source_of(alloc, b"", &[0])?;
-        let mut sink = sink_of(alloc, &[1])?;
-        let mut rack = rack_of(alloc, &[])?;
-        let status = run(alloc, &words, &mut source, &mut sink, &mut rack);
-        assert_eq!(rt; status, Status::Usage);
-        assert!(rt;
-            sink.taken()
-                .starts_with(b"usage: dgraid replay | resume | ")
-        );
-        let status = run(alloc, &words, &mut source, &mut sink, &mut rack);
-        assert_eq!(rt; status, Status::WriteFault);
-    }
-    Ok(())
-}
-
-#[test]
-fn members_that_fail_are_out(rt: HostRuntime) -> Result<(), Fail> {
-    let alloc = rt.alloc();
-    let mut from_eight = Vec::new(alloc);
-    for call in 8..100 {
-        from_eight.push(call)?;
-    }
-    let mut sink = sink_of(alloc, &[])?;
-    let input = b"array 1024 64 4 32 2\nwrite 3 aa\nread 3\nwrite 2 aa\n";
-    let status = replay(alloc, input, &mut sink, &from_eight)?;
-    assert_eq!(rt; status, Status::Done);
-    assert!(rt; sink.taken() == b"ok\ndegraded\ndata -\ndegraded\n".as_slice());
-
-    let mut sink = sink_of(alloc, &[])?;
-    let input = b"array 1024 64 4 32 2\nwrite 0 aa\nread 0\n";
-    let status = replay(alloc, input, &mut sink, &[0])?;
-    assert_eq!(rt; status, Status::Done);
-    assert!(rt; sink.taken() == b"ok\nok\ndata aa\n".as_slice());
-    Ok(())
 }
 
 // Twenty lines, and their replies where nothing fails.
@@ -206,33 +121,7 @@ fn one_failed_call_of_the_rack_shows_in_no_reply(rt: HostRuntime) -> Result<(), 
     Ok(())
 }
 
-// Members are blanked one after another, ascending by number.
-#[test]
-fn a_member_whose_blanking_fails_is_out(rt: HostRuntime) -> Result<(), Fail> {
-    let alloc = rt.alloc();
-    let rows = [
-        (0, "fail 0 0"),
-        (1, "fail 0 1"),
-        (2, "fail 1 0"),
-        (7, "fail 3 1"),
-    ];
-    for (call, line) in rows {
-        let mut input = Vec::new(alloc);
-        input.extend_from_slice(b"array 1024 64 4 32 2\n")?;
-        input.extend_from_slice(line.as_bytes())?;
-        input.extend_from_slice(b"\nwrite 0 aa\nread 0\n")?;
-        let mut sink = sink_of(alloc, &[])?;
-        let status = replay(alloc, &input, &mut sink, &[call])?;
-        assert_eq!(rt; status, Status::Done);
-        assert!(rt;
-            sink.taken() == b"ok\nalready\nok\ndata aa\n".as_slice(),
-            "call {call}"
-        );
-    }
-    Ok(())
-}
-
-// Call i of the source fails after 16 * i bytes, which have so many whole lines.
+// Call i of the source fails after 16 * i bytes. The lines that are whole in these are done, and nothing is saved.
 #[test]
 fn a_failed_call_of_the_source_ends_the_replies(rt: HostRuntime) -> Result<(), Fail> {
     let alloc = rt.alloc();
@@ -256,27 +145,9 @@ fn a_failed_call_of_the_source_ends_the_replies(rt: HostRuntime) -> Result<(), F
         let status = run(alloc, &words, &mut source, &mut sink, &mut rack);
         assert_eq!(rt; status, Status::ReadFault);
         assert!(rt; is_first_replies(sink.taken(), count), "call {call}");
+        let (status, _) = run_over(alloc, "status", b"", &mut rack)?;
+        assert_eq!(rt; status, Status::NoState, "call {call}");
     }
-    Ok(())
-}
-
-// Each reply is one call of the sink.
-#[test]
-fn a_failed_call_of_the_sink_ends_the_replies(rt: HostRuntime) -> Result<(), Fail> {
-    let alloc = rt.alloc();
-    for call in 0..10 {
-        let mut sink = sink_of(alloc, &[call])?;
-        let status = replay(alloc, SCRIPT, &mut sink, &[])?;
-        assert_eq!(rt; status, Status::WriteFault);
-        assert!(rt;
-            is_first_replies(sink.taken(), call as usize),
-            "call {call}"
-        );
-    }
-    let mut sink = sink_of(alloc, &[1])?;
-    let status = replay(alloc, b"array 1024 64 4 32 2\nreed 3\n", &mut sink, &[])?;
-    assert_eq!(rt; status, Status::WriteFault);
-    assert!(rt; sink.taken() == b"ok\n".as_slice());
     Ok(())
 }
 

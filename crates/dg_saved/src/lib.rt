@@ -8,8 +8,6 @@ mod files;
 mod listings;
 mod replies;
 mod shows;
-#[cfg(test)]
-mod tests;
 mod texts;
 
 pub use ends::{Ended, SavedEnd};

@@ -8,8 +8,6 @@ mod asked;
 mod images;
 mod laws;
 mod lines;
-#[cfg(test)]
-mod tests;
 mod traces;
 mod volumes;
 

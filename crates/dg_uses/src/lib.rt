@@ -7,8 +7,6 @@ mod blanks;
 mod laws;
 mod promises;
 mod replays;
-#[cfg(test)]
-mod tests;
 
 pub use answers::{answer_an_image, replay_lines};
 pub use blanks::{Answer, find_no_array, refuse_an_empty_image};

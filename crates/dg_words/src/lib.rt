@@ -6,8 +6,6 @@
 
 mod commands;
 mod numbers;
-#[cfg(test)]
-mod tests;
 mod values;
 mod words;
 

@@ -1,8 +1,9 @@
-use crate::{
+// The runs of a client that concludes from the clauses of `run` what they print.
+use dg_run::Status;
+use dg_uses::{
     fail_at_the_first_reply, find_no_array, lose_a_block, read_past_a_failure,
     read_what_was_written, refuse_an_empty_image, refuse_the_second_line,
 };
-use dg_run::Status;
 use std::test::Fail;
 
 #[test]
