@@ -3,14 +3,53 @@ ghost use Rattle.std.specs.Prelude.{IfOk};
 ghost use Rattle.dg_volume.specs.Volumes.{IsWell, any_phase, loose_phase};
 
 use crate::written::{image, rack, shape_of, up};
-use dg_io::Rack;
-use dg_volume::{AnyPhase, FailAnswer, HomeAnswer, Loose, TendRun, Unsettled, Volume};
+use dg_io::{Failed, Rack};
+use dg_model::NoRoom;
+use dg_volume::{
+    AnyPhase, CatAnswer, DiffuseAnswer, FailAnswer, HomeAnswer, Hot, Listing, Loose, Phase,
+    TendRun, Unsettled, Volume,
+};
 use std::alloc::Global;
 use std::process::Abort;
 use std::test::Fail;
-use ufs_model::is_path;
+use ufs_model::{Kind, is_path};
 
-/// Moves one block of the volume F, and settles it then by the call that gives a settled one. Its file at this path stands on boundary 3.
+/// A listing that counts its entries.
+#[derive(Drop)]
+struct Count {
+    entries: u32,
+}
+
+impl Listing for Count {
+    ghost took = { λ old entries new. Unit {0} };
+
+    ghost took_part = { λ old entries new. Unit {0} };
+
+    ghost faults = { λ listing. 0 };
+
+    fn line(
+        &mut self,
+        _depth: u32,
+        _inode: u32,
+        _kind: Kind,
+        _size: u64,
+        _name: &[u8],
+    ) -> Result<(), Failed> {
+        self.entries = self.entries.saturating_add(1);
+        Ok(())
+    }
+
+    ghost nothing = { λ s. tt };
+
+    ghost then = { λ a b c x y first second. tt };
+
+    ghost then_part = { λ a b c x y first second. tt };
+
+    ghost part = { λ a b x y first. tt };
+}
+
+/// Moves one block of the volume F, and settles it then by the call that gives a settled one. Its file at this path is inode 3, which stands on
+/// boundary 3 and gets a copy on boundary 0.
 fn settle_typed<R: Rack + Drop>(
     rt: &impl Abort,
     alloc: Global,
@@ -32,6 +71,17 @@ fn settle_typed<R: Rack + Drop>(
         copy: None,
     };
     assert_eq!(rt; settled.home(path), home);
+    let mut out = Count { entries: 0 };
+    assert_eq!(rt; settled.tree(alloc, &mut out)?, CatAnswer::Given(5));
+    assert_eq!(rt; out.entries, 5);
+    let mut hot = Hot::new(alloc)?;
+    hot.touch(3)?;
+    assert_eq!(rt; settled.diffuse(alloc, &hot)?, DiffuseAnswer::Diffused(1));
+    let copied = HomeAnswer::At {
+        home: 3,
+        copy: Some(0),
+    };
+    assert_eq!(rt; settled.home(path), copied);
     Ok(())
 }
 
@@ -41,6 +91,30 @@ fn a_loose_volume_is_tended_and_settled(rt: HostRuntime) -> Result<(), Fail> {
     let files = image(alloc)?;
     let volume = up(alloc, rack(alloc, &[])?, shape_of(4, 64, 2)?, &files)?;
     settle_typed(&rt, alloc, volume, b"/a")
+}
+
+/// Where its largest file has no room the volume is given back, loose.
+fn settle_refused<R: Rack + Drop>(
+    rt: &impl Abort,
+    alloc: Global,
+    volume: Volume<Loose, R>,
+) -> Result<(), Fail>
+    requires { IsWell loose_phase R.Rack volume }
+{
+    let Err((loose, refused)) = volume.settle(alloc)? else {
+        return Err("settled".into());
+    };
+    assert_eq!(rt; refused, Unsettled::NoSpace(NoRoom::Inode(5)));
+    assert_eq!(rt; (loose.phase(), loose.lost()), (Phase::Loose, 0));
+    Ok(())
+}
+
+#[test]
+fn a_loose_volume_without_room_is_given_back(rt: HostRuntime) -> Result<(), Fail> {
+    let alloc = rt.alloc();
+    let files = image(alloc)?;
+    let volume = up(alloc, rack(alloc, &[])?, shape_of(4, 32, 2)?, &files)?;
+    settle_refused(&rt, alloc, volume)
 }
 
 /// Makes one member of each boundary fail. It answers whether no member was out before.
