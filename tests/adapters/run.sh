@@ -1,7 +1,7 @@
 #!/usr/bin/env bash
-# What the program does, and tells on standard error, where calls of the system fail. Needs the built program:
-# tests/adapters/run.sh [PROGRAM]. Prints each case that failed, and each that was skipped because this machine doesn't let
-# it be made; the status is 1 where a case failed.
+# What the program does, and tells on standard error, where calls of the system fail or do a part (calls.py has more of these), and with image files as people
+# keep them (images.py). Needs the built program: tests/adapters/run.sh [PROGRAM]. Names each case: passed, failed, or skipped because this machine doesn't let it be
+# made; the status is 1 where a case failed.
 set -u
 here=$(cd "$(dirname "$0")" && pwd)
 program=$(realpath "${1:-$here/../../crates/dgraid/out/dgraid}")
@@ -27,7 +27,7 @@ expect() {
     [ "$status" = "$want_status" ] || { echo "$name: status $status, not $want_status"; well=0; }
     diff <(printf '%s' "$want_out") "$base/out" >"$base/diff" || { echo "$name: standard output:"; cat "$base/diff"; well=0; }
     diff <(printf '%s' "$want_err") "$base/err" >"$base/diff" || { echo "$name: standard error:"; cat "$base/diff"; well=0; }
-    if [ "$well" = 1 ]; then passed=$((passed + 1)); else failed=$((failed + 1)); fi
+    if [ "$well" = 1 ]; then passed=$((passed + 1)); echo "passed: $name"; else failed=$((failed + 1)); echo "failed: $name"; fi
 }
 
 skip() {
@@ -58,23 +58,24 @@ else
     skip 'a folder that cannot be written to' 'root writes to any folder, and setpriv can not run the program as nobody'
 fi
 
-# The files hold a page or two of 4096 bytes each, as a tmpfs counts them: some write behind those finds no space on either member of a boundary.
+# A tmpfs of eight pages of 4096 bytes. Slots 0 to 6 of a member stand on its first two pages, and slot 7 goes on to the third one. So of four members each has two
+# pages behind the writes of blocks 0 to 13; block 14 comes to slot 7 of boundary 0, neither member of which finds space for it.
 enter full
-if mount -t tmpfs -o size=32k tmpfs . 2>/dev/null; then
+if [ "$(getconf PAGESIZE)" != 4096 ]; then
+    skip 'a full disk' 'the pages of this machine have another length'
+elif mount -t tmpfs -o size=32k tmpfs . 2>/dev/null; then
     mounted=$PWD
     cd "$base/full"
     {
         echo 'array 1024 64 2 32 1'
         for b in $(seq 0 39); do echo "write $b 01"; done
-        for b in 0 1 2 3 8 9; do echo "read $b"; done
+        for b in $(seq 0 15); do echo "read $b"; done
+        printf 'fail 0 0\nfail 0 1\nfail 1 0\n'
     } | "$program" replay >"$base/out" 2>"$base/err"
     status=$?
-    well=1
-    [ "$status" = 0 ] || well=0
-    grep -q '^member-0[01]-[01].img: write: No space left on device$' "$base/err" || well=0
-    [ "$(sort "$base/err" | uniq -d)" = '' ] || well=0
-    grep -q -x degraded "$base/out" || well=0
-    if [ "$well" = 1 ]; then passed=$((passed + 1)); else failed=$((failed + 1)); echo "a full disk: status $status"; cat "$base/out" "$base/err"; fi
+    want=$(echo ok; for b in $(seq 0 13); do echo ok; done; for b in $(seq 14 39); do echo degraded; done
+        for b in $(seq 0 6); do printf 'unavailable\ndata 01\n'; done; printf 'data -\ndata -\nalready\nalready\nok\n')$'\n'
+    expect 'a full disk' $status 0 "$want" $'member-00-0.img: write: No space left on device\nmember-00-1.img: write: No space left on device\n'
     cd "$base" && umount "$base/full" && mounted=
 else
     skip 'a full disk' 'no tmpfs can be mounted here'
@@ -114,14 +115,17 @@ status=$?
 expect 'the usage line, and standard output is full' $status 4 '' $'standard output: write: No space left on device\n'
 printf 'reed 3\n' | { "$program" replay >/dev/full 2>"$base/err"; status=$?; : >"$base/out"; expect 'a refused line, and standard output is full' $status 4 '' $'standard output: write: No space left on device\n'; echo "$passed $failed" >"$base/counts"; }
 read -r passed failed <"$base/counts"
-# Nothing is saved here, and the image has no bytes. A drill reads no standard input, which is a directory.
+# Nothing is saved here, where a replay made the images of two boundaries; the image of the trace has no bytes. A drill reads no standard input, which is a directory.
 for words in status 'cat /a' 'ls /' 'trace up 4 64 2' 'drill 1 1'; do
-    from=/dev/null
-    if [ "$words" = 'drill 1 1' ]; then from=/; fi
+    from=/dev/null told=$'4 images, none with a label\n'
+    case $words in
+        trace*) told= ;;
+        drill*) from=/ told=$'4 images set aside, as member-SS-J.img.old\n' ;;
+    esac
     "$program" $words <$from >/dev/full 2>"$base/err"
     status=$?
     : >"$base/out"
-    expect "$words, and standard output is full" $status 4 '' $'standard output: write: No space left on device\n'
+    expect "$words, and standard output is full" $status 4 '' "$told"$'standard output: write: No space left on device\n'
 done
 mkfifo replies
 sleep 5 <replies &
@@ -134,7 +138,7 @@ printf 'array 1024 64 2 32 1\nread 0\n' >trace
 status=$?
 exec 4>&-
 : >"$base/out"
-expect 'nobody reads standard output' $status 4 '' $'standard output: write: Broken pipe\n'
+expect 'nobody reads standard output' $status 4 '' $'8 images set aside, as member-SS-J.img.old\nstandard output: write: Broken pipe\n'
 
 # A stream that is closed leaves its number to no image file.
 enter closed
@@ -156,6 +160,19 @@ expect 'standard error is closed' $status 0 $'ok\ndata -\n' ''
 "$program" replay <"$base/output/trace" >"$base/out" 2>/dev/full
 status=$?
 expect 'standard error is full' $status 0 $'ok\ndata -\n' ''
+
+# ---- cases that need python3: calls that fail or do a part, long images and many (calls.py); image files as people keep them (images.py)
+
+cd "$base"
+for cases in calls images; do
+    python3 -B "$here/$cases.py" "$program" | tee "$base/cases" | sed '$d'
+    if [[ $(tail -n 1 "$base/cases") =~ ^([0-9]+)\ passed,\ ([0-9]+)\ failed,\ ([0-9]+)\ skipped$ ]]; then
+        passed=$((passed + BASH_REMATCH[1])) failed=$((failed + BASH_REMATCH[2])) skipped=$((skipped + BASH_REMATCH[3]))
+    else
+        echo "failed: $cases.py ended early"
+        failed=$((failed + 1))
+    fi
+done
 
 echo "$passed passed, $failed failed, $skipped skipped"
 [ "$failed" = 0 ]

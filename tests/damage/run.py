@@ -36,6 +36,8 @@ MOST_WRONG = 10
 REFUSED = {"nostate": 6, "unclean": 7}
 F_PATHS = ["/", "/a", "/d", "/d/b", "/h", "/z", "/d/x"]
 REFUSAL = re.compile(rb"(notfound|notdir|notregular|unavailable|bad [a-z]+)\n")
+# what is told on standard error, by whether there is no saved array
+TOLD = re.compile(b""), re.compile(rb"(no image in this folder|\d+ images?, none with a (label|label of its own|whole state behind its label))\n")
 
 
 def images_in(folder):
@@ -138,7 +140,7 @@ class Case:
         except subprocess.TimeoutExpired:
             raise Difference(f"{words}: no end in {SECONDS} seconds") from None
         self.counts[words[0]] += 1
-        if done.returncode not in (0, 6, 7, 8) or done.stderr:
+        if done.returncode not in (0, 6, 7, 8) or not TOLD[done.returncode == 6].fullmatch(done.stderr):
             raise Difference(f"{words}: status {done.returncode}, standard error {done.stderr!r:.500}, output {done.stdout!r:.200}")
         return done.stdout, done.returncode
 

@@ -1,4 +1,6 @@
 """What the command `drill` prints, worked out from the rules of its files, of the volume and of the plan."""
+import functools
+
 from images import Item, Spec, Volume
 
 BOUNDARIES, SLOTS, PLACES = 4, 16384, 3
@@ -25,12 +27,23 @@ def words(seed):
         state = state * MULTIPLIER + increment & LONG
 
 
+@functools.lru_cache(None)
+def row_of(first):
+    """The 256 bytes that begin with this one, each by seven more than the one before."""
+    return bytes((first + 7 * at) % 251 for at in range(256))
+
+
+def bytes_of(k, size):
+    """The bytes of a file: at byte `at` (31 k + 7 at + at / 256) mod 251. From one row of 256 bytes to the next that grows by 7 * 256 + 1."""
+    return b"".join(row_of((31 * k + (7 * 256 + 1) * row) % 251) for row in range(-(-size // 256)))[:size]
+
+
 def items(seed, count):
     """Ten directories, and files of up to 12,000 bytes; each hundredth has 200,000 more."""
     made = [Item(f"/d{number}", "dir") for number in range(10)]
     for k, word in zip(range(count), words(seed)):
         size = word % 12000 + (0 if k % 100 else 200000)
-        made.append(Item(f"/d{k % 10}/f{k:04}", "file", bytes((31 * k + 7 * at + at // 256) % 251 for at in range(size))))
+        made.append(Item(f"/d{k % 10}/f{k:04}", "file", bytes_of(k, size)))
     return made
 
 
@@ -59,6 +72,7 @@ def homes(volume):
     return found
 
 
+@functools.lru_cache(None)
 def report(seed, count):
     """All that is printed."""
     try:

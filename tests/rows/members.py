@@ -20,7 +20,7 @@ class Folder:
         return os.path.join(self.path, f"member-{int(boundary):02}-{side}.img")
 
     def files(self):
-        return [os.path.join(self.path, name) for name in sorted(os.listdir(self.path)) if name.startswith("member-")]
+        return [os.path.join(self.path, name) for name in sorted(os.listdir(self.path)) if name.endswith(".img")]
 
     # what is done
 
@@ -77,6 +77,15 @@ class Folder:
         now = self.read_all()
         other = [file for file in sorted(now.keys() | self.kept[name]) if now.get(file) != self.kept[name].get(file)]
         return f"other than before: {' '.join(other)}" if other else None
+
+    def do_aside(self, name):
+        """The images that were kept are set aside, and no others."""
+        found = {}
+        for file in sorted(os.listdir(self.path)):
+            if file.endswith(".old"):
+                with open(os.path.join(self.path, file), "rb") as image:
+                    found[file.removesuffix(".old")] = image.read()
+        return None if found == self.kept[name] else f"set aside are {' '.join(found)}"
 
     def do_length(self, length):
         other = [os.path.basename(path) for path in self.files() if os.path.getsize(path) != int(length)]

@@ -1,10 +1,17 @@
-"""Runs rows through the program and compares each line of its output, its status and what it leaves of its members.
+"""Runs rows through the program and compares each line of its output and of standard error, its status and what it leaves of its members.
 
     run.py PROGRAM [FILE..]          the rows of these files, or of all files *.rows beside this script
     run.py --cases FOLDER [FILE..]   writes the rows of one replay, for `rt try --cases FOLDER -- replay`
 
 Prints each difference with the row's name, and at last `N rows, M differ`; the status is 1 where a row differs. README.md in this
 folder says how a row is written.
+
+Standard error: a command writes nothing there but the lines that its row names, in their order, by lines like
+
+    ! member-0[01]-1.img: write: File too large ; 2 images, none with a label
+
+which stand behind what the command is to print. Lines have ` ; ` between them; `[01]` is each of these characters in turn, so that the first
+part is the line of member-00-1.img and then that of member-01-1.img. What is told, and when, is in DIAGNOSTICS of docs/dgraid.1.
 """
 import argparse
 import glob
@@ -32,8 +39,8 @@ def shown(data):
     return text + (f" and {len(data) - SHOWN} bytes more" if len(data) > SHOWN else "")
 
 
-def difference(run, output, status):
-    """The first part of a command's output that isn't as it is wanted, or its status; None where all is."""
+def difference(run, output, told, status):
+    """The first part of a command's output that isn't as it is wanted, or its status or standard error; None where all is."""
     at = 0
     for part in run.parts:
         got = output[at:at + len(part.wanted)]
@@ -44,21 +51,24 @@ def difference(run, output, status):
         return run.parts[-1].number, f"{run.parts[-1].what}: more output: {shown(output[at:])}"
     if status != run.status:
         return run.number, f"{run.what}: wanted status {run.status}, got {status}"
+    wanted = "".join(line + "\n" for line in run.told).encode()
+    if told != wanted:
+        return run.number, f"{run.what}: standard error: wanted {shown(wanted)}, got {shown(told)}"
     return None
 
 
 def do_stages(program, run, folder):
     """Runs a command stage by stage: its files get another limit once all replies that are wanted before it are there."""
     process = subprocess.Popen(
-        [program, *run.words], stdin=subprocess.PIPE, stdout=subprocess.PIPE, stderr=subprocess.DEVNULL, cwd=folder,
-        preexec_fn=lambda: signal.signal(signal.SIGXFSZ, signal.SIG_IGN))
+        [program, *run.words], stdin=subprocess.PIPE, stdout=subprocess.PIPE, stderr=subprocess.PIPE, cwd=folder,
+        preexec_fn=lambda: [signal.signal(number, signal.SIG_IGN) for number in run.ignored])
     try:
         output = feed(process, run)
-        rest, _ = process.communicate(timeout=SECONDS)
+        rest, told = process.communicate(timeout=SECONDS)
     finally:
         process.kill()
         process.wait()
-    return output + rest, process.returncode
+    return output + rest, told, process.returncode
 
 
 def feed(process, run):
@@ -87,7 +97,7 @@ def do_run(program, run, folder):
         return run.number, f"{run.what}: no end in {SECONDS} seconds"
     except BrokenPipeError:
         return run.number, f"{run.what}: an end before that of its input"
-    return difference(run, done.stdout, done.returncode)
+    return difference(run, done.stdout, done.stderr, done.returncode)
 
 
 def do_row(program, row):

@@ -1,6 +1,8 @@
 """The files of rows as lists of steps: commands with their input and the output that is wanted, and what is done to the members between them."""
 import collections
+import itertools
 import re
+import signal
 
 from drills import report
 from volumes import volume
@@ -14,13 +16,14 @@ class Mistake(Exception):
 
 
 class Run:
-    """A command of the program: its words, its input and output part by part, and the status that is wanted."""
+    """A command of the program: its words, its input and output part by part, and the status and the lines of standard error that are wanted."""
 
     def __init__(self, number, text):
         words, _, status = (" " + text).partition(" -> ")
         self.number, self.what = number, "run" + words.rstrip(" ")
         self.words = [spelled(word) for word in re.findall("(?:<[^<>]*>|[^ <])+", words)]
         self.status, self.parts, self.limits = int(status or 0), [Part(number, self.what, b"", b"")], {}
+        self.told, self.ignored = [], []
 
     def add(self, number, what, given, wanted):
         self.parts.append(Part(number, what, given, wanted))
@@ -54,6 +57,15 @@ def spelled(text):
         data += bytes.fromhex(byte) if byte else again.encode() * int(count) if again else b""
         at = found.end()
     return data + text[at:].encode()
+
+
+def each_of(text):
+    """The lines that a text stands for: lines have ` ; ` between them, and `[01]` is each of these characters in turn, the last such place first."""
+    lines = []
+    for line in text.split(" ; "):
+        places = [part[1:-1] if part.startswith("[") else [part] for part in re.findall(r"\[[^\[\]]+\]|[^\[\]]+", line)]
+        lines += map("".join, itertools.product(*places))
+    return lines
 
 
 def read_rows(path):
@@ -117,6 +129,10 @@ class Reader:
             raise Mistake(f"line {number}: no command yet")
         elif word == "limit":
             run.limits[len(run.parts)] = int(rest)
+        elif word == "ignore":
+            run.ignored.append(signal.Signals[rest])
+        elif word == "!":
+            run.told += each_of(rest)
         elif word == "=>":
             run.add_wanted(replies(rest))
         elif word == "=":

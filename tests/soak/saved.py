@@ -4,7 +4,8 @@
 
 A round is a folder of image files: a random trace with saves in it is replayed, the label and the body on each member are read
 beside what the model would save, some images are deleted or damaged, the array is opened by `status`, `cat` and `ls`, and a
-further trace is resumed on it, again and again. At the first difference the round's commands are printed, with what differs; the
+further trace is resumed on it, again and again. Which members have which label is the model's: behind `saved q` each member that was good then has label
+q and the body of that state, and it is sealed as long as nothing is written. At the first difference the round's commands are printed, with what differs; the
 status is 1. A round is decided by its seed and the length.
 """
 import argparse
@@ -115,6 +116,8 @@ class Round:
         self.array = None
         # the states that were saved, by number, and whether it is sure that the seal was opened since the last one, or sure that it wasn't
         self.saved, self.wrote, self.may_have = {}, False, False
+        # the number of the label that a member has, 0 for none; of a member that was taken away or damaged nothing is said
+        self.labels, self.last = {}, 0
 
     def run(self, words, trace=b""):
         self.told.append(f"dgraid {' '.join(words)}" + (f" < {len(trace.splitlines())} lines" if trace else ""))
@@ -134,10 +137,17 @@ class Round:
         if word == "save":
             if last[0] == "saved":
                 good = good_members(self.array)
-                self.saved[int(last[1])] = (copy.deepcopy(self.array), good, body_of(self.array, good))
+                self.last = int(last[1])
+                self.saved[self.last] = (copy.deepcopy(self.array), good, body_of(self.array, good))
+                self.labels.update((member, self.last) for member, mark in enumerate(good) if mark)
                 self.wrote = self.may_have = False
         elif word == "array" or word == "write" and last == ["ok"] or word == "replace" and last == ["ok"]:
             self.wrote = True
+            if word == "array":
+                self.labels = dict.fromkeys(range(2 * self.array.b), 0)
+            elif word == "replace":
+                s, j = map(int, line.split(" ")[1:])
+                self.labels[2 * s + j] = 0
         elif word == "rebuild" and last[0] == "copied" or word == "tend" and last[0] == "tended" or word == "diffuse" and last[0] == "diffused":
             self.wrote |= int(last[1]) > 0
             self.may_have |= word != "tend"
@@ -179,21 +189,23 @@ class Round:
     # images
 
     def see_images(self):
-        """The label and the body on each member that was good at the last save, where it is sealed still."""
-        if not self.saved:
-            return
-        number = max(self.saved)
-        _, good, body = self.saved[number]
-        for member, mark in enumerate(good):
+        """Each member that wasn't taken away or damaged has the label that it got last, or none, and the body under a sealed one. The seal of the last save is there still, or opened."""
+        for member, number in sorted(self.labels.items()):
+            name = image_name(member)
             label, image = read_label(self.folder, member)
-            if not mark or label is None or label.sequence != number:
+            self.see(f"the number on {name}", number, label.sequence if label else 0)
+            if not label:
+                self.see(f"bytes of a label on {name}", False, any(image[:512]))
                 continue
-            if self.wrote and self.array.members[member // 2][member % 2] == GOOD:
-                self.see(f"the seal of {image_name(member)}", False, label.sealed)
-            if not (self.wrote or self.may_have):
-                self.see(f"the seal of {image_name(member)}", True, label.sealed)
+            array, _, body = self.saved[number]
+            self.see(f"the format and the array on {name}", (b"2", (array.l, array.n, array.b, array.k, array.m)), (label.form, label.shape))
+            if number == self.last:
+                if self.wrote and self.array.members[member // 2][member % 2] == GOOD:
+                    self.see(f"the seal of {name}", False, label.sealed)
+                if not (self.wrote or self.may_have):
+                    self.see(f"the seal of {name}", True, label.sealed)
             if label.sealed:
-                self.see(f"the body on {image_name(member)}", body, label.body(image))
+                self.see(f"the body on {name}", body, label.body(image))
 
     def take_away(self):
         rng, b = self.rng, self.array.b
@@ -203,6 +215,7 @@ class Round:
             for s in rng.sample(range(b), rng.choice([1, 1, 2]) if kind < 0.97 else b):
                 gone += [2 * s, 2 * s + 1]
         for member in gone:
+            self.labels.pop(member, None)
             path = os.path.join(self.folder, image_name(member))
             if os.path.exists(path):
                 if rng.random() < 0.2:
@@ -232,7 +245,7 @@ class Round:
             return "nostate"
         source = sources[0]
         array = copy.deepcopy(state)
-        array.saves = newest
+        array.saves = self.last = newest
         for member in range(2 * array.b):
             same = member in counted and counted[member].key == counted[source].key
             array.members[member // 2][member % 2] = GOOD if same and good[member] else OUT
@@ -283,10 +296,11 @@ class Round:
             self.counts["opened" if not isinstance(array, str) else array] += 1
             self.see_commands(array)
             if isinstance(array, str):
-                return
+                break
             self.counts["phase " + array.phase()] += 1
             self.array, self.wrote, self.may_have = array, False, False
             self.play("resume", self.with_saves(self.more(array)))
+        self.see_images()
 
     def more(self, array):
         """Events for an array that was opened: those of another trace that it can take, and a few of its own."""

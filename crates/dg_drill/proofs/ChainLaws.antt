@@ -20,7 +20,8 @@ use Rattle.dg_model.specs.declared.events.Event.TheVariants.{Write}
 use Rattle.dg_model.specs.declared.replies.Reply.{Reply}
 use Rattle.dg_model.specs.declared.shapes.Shape.{Shape}
 use Rattle.dg_trace.specs.Traces.{write_of, writes_of}
-use Rattle.dg_volume.specs.Volumes.{IsWell, Leaves, StandsIn, StepsBy, Tells, any_phase, shape_of, table_of}
+use Rattle.dg_volume.specs.HeldLaws.{own_still, own_then}
+use Rattle.dg_volume.specs.Volumes.{IsWell, Leaves, StandsIn, StepsBy, Tells, any_phase, rack_of, shape_of, table_of}
 use Rattle.dg_volume.specs.declared.phases.AnyPhase.{AnyPhase}
 use Rattle.dg_volume.specs.declared.volumes.Volume.{Volume}
 use Rattle.ufs_build.specs.Traces.{block_in}
@@ -38,7 +39,15 @@ module _ {R : Type 0} (rack : Ghosts R) where
   -- ---- what calls leave
 
   pub leaves_none : (v : Volume AnyPhase R) → IsWell any_phase rack v → Leaves any_phase any_phase rack v v
-  leaves_none v well = record { well = well; shape = refl; rise = record { faults = λ q. omega arith; calls = omega arith; writes = omega arith }; tells = λ q told. told; same_rack = refl }
+  leaves_none v well = record {
+    well = well;
+    shape = refl;
+    rise = record { faults = λ q. omega arith; calls = omega arith; writes = omega arith };
+    tells = λ q told. told;
+    told_before = λ q told. told;
+    own = own_still rack v;
+    same_rack = refl;
+  }
 
   pub leaves_both : (a b c : Volume AnyPhase R) → Leaves any_phase any_phase rack a b → Leaves any_phase any_phase rack b c → Leaves any_phase any_phase rack a c
   leaves_both a b c one other = record {
@@ -50,12 +59,14 @@ module _ {R : Type 0} (rack : Ghosts R) where
       writes = omega (arith, one.rise.writes, other.rise.writes);
     };
     tells = λ q told. one.tells q (other.tells q told);
+    told_before = λ q told. one.told_before q (other.told_before q told);
+    own = own_then rack (shape_of a) (shape_of b) (rack_of a) (rack_of b) (rack_of c) one.shape one.own other.own;
     same_rack = other.same_rack ∙ one.same_rack;
   }
 
   -- what is told in the end was told before
   pub told_before : (a b : Volume AnyPhase R) → Leaves any_phase any_phase rack a b → Tells rack b → Tells rack a
-  told_before a b leaves told q below = leaves.tells q (told q (subst (λ (s : Shape). q / 2 < s.b) (sym leaves.shape) below))
+  told_before a b leaves told q below = leaves.told_before q (told q (subst (λ (s : Shape). q / 2 < s.b) (sym leaves.shape) below))
 
   -- a step, whatever it changed of what was read last
   pub steps_of : (touch : List ℕ → List ℕ) (a b : Volume AnyPhase R) (event : Event) (reply : Reply) → StepsBy any_phase any_phase rack touch a event reply b → Steps rack a event reply b

@@ -1,17 +1,18 @@
 -- A drill, from the blank array to the last reading.
-use Rattle.std.proofs.Common.{◌≡◌, ◌≢◌, ◌∙◌, ◌/◌, ◌<◌, ◌%◌, ℕ, zero, suc, List, [], ◌∷◌, refl, sym, ap, subst, arith}
-use Rattle.std.specs.Prelude.{Err, IfSome, Option, cond, replicate}
+use Rattle.std.proofs.Common.{◌≡◌, ◌≢◌, ◌∙◌, ◌/◌, ◌<◌, ◌≤◌, ◌%◌, ℕ, zero, suc, List, [], ◌∷◌, refl, sym, ap, subst, arith}
+use Rattle.std.specs.Prelude.{Err, Option, cond, replicate}
 use Rattle.std.proofs.lemmas.List.Sums.{sum_by-cons}
 use Rattle.dg_drill.proofs.ChainLaws.{run_both, told_before}
 use Rattle.dg_drill.specs.Calls.{Facts, rack_facts}
 use Rattle.dg_drill.specs.Chains.{AreUnwritten, HasLost, HasReadAll, HasWritten}
-use Rattle.dg_drill.specs.Drills.{EndsDrill, HasDrilled, HasNoVolume, IsDone, TellsBoundaries, loss_events, read_events, written_count}
+use Rattle.dg_drill.specs.Drills.{EndsDrill, HasDrilled, HasNoVolume, IsDone, OthersKept, TellsBoundaries, loss_events, read_events, written_count}
 use Rattle.dg_drill.specs.Outcomes.{IsTally}
 use Rattle.dg_drill.specs.Reports.{refused_text, report_text}
 use Rattle.dg_drill.specs.Volumes.{IsDrillVolume, drill_shape, drill_spec}
 use Rattle.dg_drill.specs.declared.drills.DrillEnd.{DrillEnd}
 use Rattle.dg_drill.specs.declared.drills.DrillEnd.TheVariants.{Done as DrillDone, WriteFault}
 use Rattle.dg_drill.specs.Items.{drill_items}
+use Rattle.dg_io.specs.MadeLaws.{same_both}
 use Rattle.dg_io.specs.Told.{Told, Took, TookPart}
 use Rattle.ufs_build.specs.Builds.{built}
 use Rattle.ufs_build.specs.declared.refusals.BuildRefused.{BuildRefused}
@@ -20,9 +21,8 @@ use Rattle.dg_io.specs.declared.outside.Rack.{Ghosts}
 use Rattle.dg_model.proofs.FirstSites.{empty_rows}
 use Rattle.dg_model.proofs.KnownLaws.{run_less, step_less}
 use Rattle.dg_model.specs.Runs.{Run}
-use Rattle.dg_model.specs.Seals.{HoldsLabel, LastLabel}
 use Rattle.dg_model.specs.Sites.{has_site}
-use Rattle.dg_model.specs.States.{Holds, HoldsAll, State}
+use Rattle.dg_model.specs.States.{State}
 use Rattle.dg_model.specs.Tables.{Table, empty_table, sites_in}
 use Rattle.dg_model.specs.declared.events.Event.{Event}
 use Rattle.dg_model.specs.declared.events.Event.TheVariants.{Fail, Settle}
@@ -31,6 +31,7 @@ use Rattle.dg_model.specs.declared.replies.Reply.TheVariants.{Done}
 use Rattle.dg_model.specs.declared.shapes.Shape.{Shape}
 use Rattle.dg_model.specs.declared.sites.Site.{Site}
 use Rattle.dg_trace.specs.Traces.{writes_of}
+use Rattle.dg_volume.specs.HeldLaws.{TellsTold, holds_all, tells_now}
 use Rattle.dg_volume.specs.Volumes.{IsBlankVolume, IsSame, Leaves, StandsIn, StepsTo, Tells, any_phase, loose_phase, rack_of, shape_of}
 use Rattle.dg_volume.specs.declared.phases.AnyPhase.{AnyPhase}
 use Rattle.dg_volume.specs.declared.phases.Loose.{Loose}
@@ -88,7 +89,7 @@ module _ {R : Type 0} (rack : Ghosts R) (before : R) (loose : Volume Loose R) (v
     (loses : (state : State) → StandsIn any_phase rack v2 state → HasLost rack state s v3)
     (reads : (state : State) → StandsIn any_phase rack v3 state → HasReadAll rack seed state files tally v4)
     (text_is : (replies : List Reply) → IsTally seed replies tally → text ≡ report_text seed files more settled replies)
-    (volume : IsDrillVolume seed files image g) (boundary : s ≡ seed % 4) (taken given : Option (List ℕ)) where
+    (volume : IsDrillVolume seed files image g) (boundary : s ≡ seed % 4) (law : TellsTold rack) (taken given : Option (List ℕ)) where
   table_is : blank.state.table ≡ empty_table drill_shape
   table_is = ap (λ (s : State). s.table) blank.blank.is
 
@@ -105,7 +106,7 @@ module _ {R : Type 0} (rack : Ghosts R) (before : R) (loose : Volume Loose R) (v
   shape_is = ap (λ (s : State). s.table.shape) read.led.stands.is
 
   known4 : TellsBoundaries (rack.bytes (rack_of v4)) read.next → Tells rack v4
-  known4 told q below = told q (subst (λ (t : Shape). q / 2 < t.b) (sym shape_is) below)
+  known4 told = tells_now rack v4 law (λ q below. told q (subst (λ (t : Shape). q / 2 < t.b) (sym shape_is) below))
 
   known3 : TellsBoundaries (rack.bytes (rack_of v4)) read.next → Tells rack v3
   known3 told = told_before rack v3 v4 l4 (known4 told)
@@ -116,12 +117,23 @@ module _ {R : Type 0} (rack : Ghosts R) (before : R) (loose : Volume Loose R) (v
   known1 : TellsBoundaries (rack.bytes (rack_of v4)) read.next → Tells rack v1
   known1 told = told_before rack v1 v2 l2 (known2 told)
 
-  -- the members hold the last state
-  holds_all : TellsBoundaries (rack.bytes (rack_of v4)) read.next → HoldsAll (rack.bytes (rack_of v4)) read.next
-  holds_all told = (
-    subst (λ (s : State). Holds (rack.bytes (rack_of v4)) s) (sym read.led.stands.is) (read.led.stands.holds (known4 told)).array,
-    subst (λ (t : Shape). IfSome read.next.label (λ (last : LastLabel). HoldsLabel t last (rack.bytes (rack_of v4)))) (sym shape_is) read.led.stands.label.holds,
-  )
+  -- the members behind the array's own were left alone
+  shape_then : (v w : Volume AnyPhase R) → Leaves any_phase any_phase rack v w → shape_of v ≡ drill_shape → shape_of w ≡ drill_shape
+  shape_then v w leaves is = leaves.shape ∙ is
+
+  others_then : (v w : Volume AnyPhase R) → Leaves any_phase any_phase rack v w → shape_of v ≡ drill_shape
+      → OthersKept (rack.bytes before) (rack.bytes (rack_of v)) → OthersKept (rack.bytes before) (rack.bytes (rack_of w))
+  others_then v w leaves is was q past = same_both _ _ _ (was q past) (leaves.own.other_bytes q (subst (λ (t : Shape). t.b ≤ q / 2) (sym is) past))
+
+  others : OthersKept (rack.bytes before) (rack.bytes (rack_of v4))
+  others =
+      let shape0 : shape_of v0 ≡ drill_shape = same.leaves.shape ∙ blank.shape_is in
+      let shape1 = shape_then v0 v1 l1 shape0 in
+      let shape2 = shape_then v1 v2 l2 shape1 in
+      let shape3 = shape_then v2 v3 l3 shape2 in
+      let first : OthersKept (rack.bytes before) (rack.bytes (rack_of v0)) =
+      λ q past. same_both _ _ _ (blank.own.other_bytes q past) (same.leaves.own.other_bytes q (subst (λ (t : Shape). t.b ≤ q / 2) (sym blank.shape_is) past)) in
+      others_then v3 v4 l4 shape3 (others_then v2 v3 l3 shape2 (others_then v1 v2 l2 shape1 (others_then v0 v1 l1 shape0 first)))
 
   count_is : more ≡ written_count written.next.table
   count_is = let none = blank_count blank.state table_is in omega (arith, none, written.count)
@@ -151,7 +163,8 @@ module _ {R : Type 0} (rack : Ghosts R) (before : R) (loose : Volume Loose R) (v
               (run_less known4 lost.next (read_events files) read.replies read.next read.led.run),
         );
         counts = ap (λ (s : State). s.counts) read.led.stands.is;
-        holds = holds_all;
+        holds = λ told. holds_all rack v4 any_phase read.next read.led.stands (known4 told);
+        others = others;
         text_is = text_is read.replies read.tallied ∙ ap (λ (n : ℕ). report_text seed files n settled read.replies) count_is;
       }
 

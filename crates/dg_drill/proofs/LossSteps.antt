@@ -1,20 +1,23 @@
 -- A drill without faults, step by step: what its states keep, and what each reading answers.
 use Rattle.std.proofs.Common.{◌≡◌, ◌≢◌, ◌<◌, ◌≤◌, ◌+◌, ◌*◌, ◌/◌, ◌%◌, ◌++◌, ◌==◌, ℕ, zero, suc, Bool, true, false, cond, List, [], ◌∷◌, length, refl, sym, ◌∙◌, ap, subst, inl, inr, arith}
-use Rattle.std.specs.Prelude.{All, IsNone, IsSomeAnd, Option, Some, None, Result, Ok, Err, count_by, map}
-use Rattle.std.specs.List.{range_with_len}
+use Rattle.std.specs.Prelude.{All, IsNone, IsSomeAnd, Option, Some, None, Result, Ok, Err, count_by, map, replicate, slice_set}
+use Rattle.std.specs.List.{list_any, range_with_len}
 use Rattle.std.proofs.lemmas.Bool.Decides.{nat_tests}
 use Rattle.std.proofs.lemmas.List.Sums.{sum_by-cons}
 use Rattle.std.proofs.lemmas.Bool.{cases_lt, eq-eqb, le-ltb, lt-ltb, false≢true}
 use Rattle.dg_model.specs.Causes.{NoneRose}
 use Rattle.dg_model.specs.Changes.{IsInOrder, Stays}
 use Rattle.dg_model.specs.Homes.{home_of}
+use Rattle.dg_model.specs.Lives.{all_live, place_in}
+use Rattle.dg_model.specs.Marks.{is_marked}
 use Rattle.dg_model.specs.Members.{MembersFall, is_lost}
 use Rattle.dg_model.specs.Moves.{count_upto}
 use Rattle.dg_model.specs.Runs.{Run, Trace}
 use Rattle.dg_model.specs.Shapes.{IsShape}
-use Rattle.dg_model.specs.States.{Counts, IsBlank, State}
-use Rattle.dg_model.specs.Steps.{Step}
+use Rattle.dg_model.specs.States.{Counts, IsBlank, State, is_cut}
+use Rattle.dg_model.specs.Steps.{Step, member_of}
 use Rattle.dg_model.specs.Tables.{IsTable, Table}
+use Rattle.dg_model.specs.Valid.{IsUncut}
 use Rattle.dg_model.specs.Lists.{AreLines}
 use Rattle.dg_model.specs.declared.events.Event.{Event}
 use Rattle.dg_model.specs.declared.events.Event.TheVariants.{Array, Cat, Fail, Settle, Write}
@@ -25,9 +28,10 @@ use Rattle.dg_model.specs.declared.phases.Phase.TheVariants.{Settled as SettledP
 use Rattle.dg_model.specs.declared.replies.Reply.{Reply}
 use Rattle.dg_model.specs.declared.replies.Reply.TheVariants.{Already, Cut, Degraded, Done, Given, Range, Refused, Settled, Unavailable}
 use Rattle.dg_model.specs.declared.shapes.Shape.{Shape}
+use Rattle.dg_model.proofs.LineLaws.{none_marked, none_unmarked, place_whole}
 use Rattle.dg_model.proofs.MemberLaws.{none_back, none_front}
 use Rattle.dg_model.proofs.RunLaws.{run_more, run_none, trace_more}
-use Rattle.dg_model.proofs.StepLaws.{run_keeps, step_keeps}
+use Rattle.dg_model.proofs.StepLaws.{StayInUse, StaysInUse, run_keeps, step_keeps}
 use Rattle.dg_promise.specs.Promises.{AreTold, FewLost, GivesAll, IsAsPromised, LosesNone, Survives, bytes_at, file_at}
 use Rattle.dg_promise.specs.Steady.{FitsBlock, IsSteady}
 use Rattle.ufs_model.specs.Paths.{cat_of}
@@ -43,19 +47,28 @@ use Rattle.dg_drill.specs.Reports.{boundary_of, is_unavailable, unavailable_coun
 
 -- ---- what steps leave
 
--- members only fell, the copies are those that they were, and so is where files stand
+-- members only fell, the boundaries in use are those that they were, no block became cut, and where there was no copy there is none
 record Advances (old new : State) : Type 0 where
+  boundaries : new.boundaries ≡ old.boundaries
+  live : new.live ≡ old.live
+  cut : (n : ℕ) → old.cut ≡ replicate n false → new.cut ≡ replicate n false
   members : MembersFall old.counts.faults new.counts.faults old.members new.members
   copies : old.copies ≡ [] → new.copies ≡ []
 
 advance_same : (old new : State) → new ≡ old → Advances old new
 advance_same old new e = record {
+  boundaries = ap (λ (s : State). s.boundaries) e;
+  live = ap (λ (s : State). s.live) e;
+  cut = λ n none. ap (λ (s : State). s.cut) e ∙ none;
   members = λ q. inl (ap (λ (s : State). s.members q) e);
   copies = λ none. ap (λ (s : State). s.copies) e ∙ none;
 }
 
 advance_stays : (old new : State) → Stays old new → Advances old new
 advance_stays old new h = record {
+  boundaries = ap (λ (s : State). s.boundaries) h.rest;
+  live = ap (λ (s : State). s.live) h.rest;
+  cut = λ n none. ap (λ (s : State). s.cut) h.rest ∙ none;
   members = h.goes.members;
   copies = λ none. ap (λ (s : State). s.copies) h.rest ∙ none;
 }
@@ -63,7 +76,13 @@ advance_stays old new h = record {
 write_advances : (old new : State) (b : ℕ) (bytes : List ℕ) (reply : Reply) → Step AreTold old (Write b bytes) reply new → Advances old new
 write_advances old new b bytes Range h = advance_same old new h.1
 write_advances old new b bytes Degraded h = elim h.1 [ inl was ↦ advance_same old new was.1 | inr now ↦ advance_stays old new now.3 ]
-write_advances old new b bytes Done h = record { members = h.2.goes.members; copies = λ none. ap (λ (s : State). s.copies) h.2.rest }
+write_advances old new b bytes Done h = record {
+  boundaries = ap (λ (s : State). s.boundaries) h.2.rest;
+  live = ap (λ (s : State). s.live) h.2.rest;
+  cut = λ n none. ap (λ (s : State). s.cut) h.2.rest ∙ ap (λ (l : List Bool). slice_set l b false) none ∙ none_unmarked n b;
+  members = h.2.goes.members;
+  copies = λ none. ap (λ (s : State). s.copies) h.2.rest;
+}
 write_advances old new b bytes reply h = absurd h
 
 -- what a reading leaves: where files stand, too
@@ -87,7 +106,13 @@ reads_stays old new h = record {
 
 cat_reads : (old new : State) (path : List ℕ) (reply : Reply) → Step AreTold old (Cat path) reply new → ReadsOn old new
 cat_reads old new path (Given lines) h = record {
-  on = record { members = h.2.goes.members; copies = λ none. ap (λ (s : State). s.copies) h.2.rest ∙ none };
+  on = record {
+    boundaries = ap (λ (s : State). s.boundaries) h.2.rest;
+    live = ap (λ (s : State). s.live) h.2.rest;
+    cut = λ n none. ap (λ (s : State). s.cut) h.2.rest ∙ none;
+    members = h.2.goes.members;
+    copies = λ none. ap (λ (s : State). s.copies) h.2.rest ∙ none;
+  };
   table = ap (λ (s : State). s.table) h.2.rest;
   blocks = ap (λ (s : State). s.blocks) h.2.rest;
   homes = ap (λ (s : State). s.homes) h.2.rest;
@@ -108,29 +133,70 @@ settles_on : (old new : State) → Step AreTold old Settle Settled new → Settl
 settles_on old new h = elim h.1 [
   | inl was ↦ record { on = advance_same old new was.1; phase = ap (λ (s : State). s.phase) was.1 ∙ was.0 }
   | inr now ↦ record {
-    on = record { members = now.2.goes.members; copies = λ none. ap (λ (s : State). s.copies) now.2.rest ∙ none };
+    on = record {
+      boundaries = ap (λ (s : State). s.boundaries) now.2.rest;
+      live = ap (λ (s : State). s.live) now.2.rest;
+      cut = λ n none. ap (λ (s : State). s.cut) now.2.rest ∙ none;
+      members = now.2.goes.members;
+      copies = λ none. ap (λ (s : State). s.copies) now.2.rest ∙ none;
+    };
     phase = ap (λ (s : State). s.phase) now.2.rest;
   }
 ]
 
 -- ---- what its states keep
 
--- the state is steady, of the drill's array, without copies, and its members do this
+-- the state is steady, of the drill's array, with all boundaries in use, no cut block and no copies, and its members do this
 record IsFine (should : ℕ → MemberState) (state : State) : Type 0 where
   steady : IsSteady state
   shape : state.table.shape ≡ drill_shape
+  boundaries : state.boundaries ≡ 4
+  live : state.live ≡ all_live 4
+  cut : state.cut ≡ replicate 32768 false
   copies : state.copies ≡ []
   members : Do state.members should
+
+-- writes take no boundary out of use
+writes_in_use : (bytes : ℕ → List ℕ) (blocks : List ℕ) (replies : List Reply) → StayInUse (map (λ b. Write b (bytes b)) blocks) replies
+writes_in_use bytes [] replies = tt
+writes_in_use bytes (b ∷ blocks) [] = tt
+writes_in_use bytes (b ∷ blocks) (reply ∷ replies) = (tt, writes_in_use bytes blocks replies)
+
+-- nor do readings
+reads_in_use : (k n : ℕ) (replies : List Reply) → StayInUse (map read_event (range_with_len k n)) replies
+reads_in_use k zero replies = tt
+reads_in_use k (suc n) [] = tt
+reads_in_use k (suc n) (reply ∷ replies) = (tt, reads_in_use (k + 1) n replies)
+
+-- nor do losses and readings
+ends_in_use : (seed files : ℕ) (replies : List Reply) → StayInUse (loss_events seed ++ map read_event (range_with_len 0 files)) replies
+ends_in_use seed files [] = tt
+ends_in_use seed files (one ∷ []) = (tt, tt)
+ends_in_use seed files (one ∷ other ∷ replies) = (tt, (tt, reads_in_use 0 files replies))
+
+-- a member has the place that its boundary's number says
+member_here : (s j : ℕ) (state : State) → s < 4 → state.live ≡ all_live 4 → member_of state s j ≡ 2 * s + j
+member_here s j state low live = ap (λ (p : ℕ). 2 * p + j) (ap (λ (l : List ℕ). place_in l s) live ∙ place_whole 4 s low)
+
+-- no block that is needed was cut
+none_cut : (state : State) (needs : List ℕ) (n : ℕ) → state.cut ≡ replicate n false → list_any (is_cut state) needs ≡ false
+none_cut state [] n none = refl
+none_cut state (b ∷ needs) n none =
+    let here : is_cut state b ≡ false = ap (λ (l : List Bool). is_marked l b) none ∙ none_marked n b in
+    rw here (none_cut state needs n none)
 
 -- by the laws of single steps
 module _ (kept : (old : State) (event : Event) (reply : Reply) (new : State) → FitsBlock old.table.shape.l event → IsSteady old → Step AreTold old event reply new → IsSteady new) where
   step_fine : (should : ℕ → MemberState) (old : State) (event : Event) (reply : Reply) (new : State) → FitsBlock 1024 event → AreWhole should → Advances old new → IsFine should old
-      → NoneRose old.counts.faults new.counts.faults → Step AreTold old event reply new → IsFine should new
-  step_fine should old event reply new fits whole on fine none step =
+      → NoneRose old.counts.faults new.counts.faults → StaysInUse event reply → Step AreTold old event reply new → IsFine should new
+  step_fine should old event reply new fits whole on fine none in_use step =
       let l : old.table.shape.l ≡ 1024 = ap (λ (s : Shape). s.l) fine.shape in
       record {
         steady = kept old event reply new (subst (λ (n : ℕ). FitsBlock n event) (sym l) fits) fine.steady step;
-        shape = (step_keeps AreTold old event reply new step).table.shape ∙ fine.shape;
+        shape = (step_keeps AreTold old event reply new in_use step).table.shape ∙ fine.shape;
+        boundaries = on.boundaries ∙ fine.boundaries;
+        live = on.live ∙ fine.live;
+        cut = on.cut 32768 fine.cut;
         copies = on.copies fine.copies;
         members = do_stay old.counts.faults new.counts.faults old.members new.members should none whole fine.members on.members;
       }
@@ -140,21 +206,22 @@ module _ (kept : (old : State) (event : Event) (reply : Reply) (new : State) →
   writes_fine bytes [] old final replies short fine none run = subst (λ (s : State). IsFine good_member s) (sym (run_none AreTold old final replies run).1) fine
   writes_fine bytes (b ∷ blocks) old final replies short fine none run =
       let first = run_more AreTold old (Write b (bytes b)) (map (λ b. Write b (bytes b)) blocks) replies final run in
-      let rises = (step_keeps AreTold old (Write b (bytes b)) first.reply first.mid first.step).counts.faults in
-      let later = (run_keeps AreTold first.mid (map (λ b. Write b (bytes b)) blocks) first.rest final first.run).counts.faults in
+      let rises = (step_keeps AreTold old (Write b (bytes b)) first.reply first.mid tt first.step).counts.faults in
+      let later = (run_keeps AreTold first.mid (map (λ b. Write b (bytes b)) blocks) first.rest final (writes_in_use bytes blocks first.rest) first.run).counts.faults in
       let here = none_front old.counts.faults first.mid.counts.faults final.counts.faults later none in
       let there = none_back old.counts.faults first.mid.counts.faults final.counts.faults rises none in
       let fits : FitsBlock 1024 (Write b (bytes b)) = λ c other e. subst (λ (x : List ℕ). length x ≤ 1024) (let same : bytes b ≡ other = cc e in same) (short b) in
       writes_fine bytes blocks first.mid final first.rest short
-      (step_fine good_member old (Write b (bytes b)) first.reply first.mid fits good_whole (write_advances old first.mid b (bytes b) first.reply first.step) fine here first.step)
+      (step_fine good_member old (Write b (bytes b)) first.reply first.mid fits good_whole (write_advances old first.mid b (bytes b) first.reply first.step) fine here tt first.step)
       there first.run
 
   -- one member fails
   fail_fine : (q s j : ℕ) (should : ℕ → MemberState) (old : State) (reply : Reply) (new : State) → q ≡ 2 * s + j → s < 4 → j < 2 → should q ≡ Good → AreWhole should → IsFine should old
       → old.phase ≡ SettledPhase → Step AreTold old (Fail s j) reply new → IsFine (λ p. cond (p == q) Out (should p)) new × (new.phase ≡ SettledPhase)
   fail_fine q s j should old Range new at low side good whole fine settled h =
-      absurd (h.0 (record { boundary = subst (λ (n : Shape). s < n.b) (sym fine.shape) low; side = side }))
-  fail_fine q s j should old Already new at low side good whole fine settled h = absurd (was_out (sym good ∙ sym (fine.members q) ∙ ap old.members at ∙ h.1))
+      absurd (h.0 (record { boundary = subst (λ (n : ℕ). s < n) (sym fine.boundaries) low; side = side }))
+  fail_fine q s j should old Already new at low side good whole fine settled h =
+      absurd (was_out (sym good ∙ sym (fine.members q) ∙ ap old.members (at ∙ sym (member_here s j old low fine.live)) ∙ h.1))
     where
       was_out : Good ≡ Out → ⊥
       was_out e = cc e
@@ -163,9 +230,12 @@ module _ (kept : (old : State) (event : Event) (reply : Reply) (new : State) →
         record {
           steady = kept old (Fail s j) Done new fits fine.steady h;
           shape = ap (λ (s : State). s.table.shape) h.2.rest ∙ fine.shape;
+          boundaries = ap (λ (s : State). s.boundaries) h.2.rest ∙ fine.boundaries;
+          live = ap (λ (s : State). s.live) h.2.rest ∙ fine.live;
+          cut = ap (λ (s : State). s.cut) h.2.rest ∙ fine.cut;
           copies = ap (λ (s : State). s.copies) h.2.rest ∙ fine.copies;
-          members = subst (λ (n : ℕ). Do new.members (λ p. cond (p == n) Out (should p))) (sym at)
-              (do_struck (2 * s + j) old.members new.members should whole fine.members h.2.members);
+          members = subst (λ (n : ℕ). Do new.members (λ p. cond (p == n) Out (should p))) (member_here s j old low fine.live ∙ sym at)
+              (do_struck (member_of old s j) old.members new.members should whole fine.members h.2.members);
         },
         ap (λ (s : State). s.phase) h.2.rest ∙ settled,
       )
@@ -221,22 +291,26 @@ kept_file s state i is apart = by_home (home_of state.homes i) refl apart
         let stands = stands_there state.members s h is.fine.members (home_low s state i h is e) differs in
         inr (inl (subst (λ (o : Option ℕ). IsSomeAnd o (λ t. is_lost state.members t ≡ false)) (sym e) stands))
 
+-- no block was cut that a file needs
+uncut : (s : ℕ) (state : State) (path : List ℕ) → IsSpoilt s state → IsUncut state path
+uncut s state path is = none_cut state _ 32768 is.fine.cut
+
 -- a reading whose reply is the promised one is unavailable just where the file's home is lost
 unavailable_is : (s : ℕ) (state : State) (path : List ℕ) (reply : Reply) → IsSpoilt s state → IsAsPromised state path reply
     → is_unavailable reply ≡ stands_at state s (file_at state path)
 unavailable_is s state path reply is promised = by_file (file_at state path) refl
   where
     by_home : (i : ℕ) → file_at state path ≡ Ok i → (at : Bool) → is_at s (home_of state.homes i) ≡ at → is_unavailable reply ≡ at
-    by_home i e true at = ap is_unavailable ((promised.unavailable i e).0 (gone_file s state i is (at_home (home_of state.homes i) at)))
+    by_home i e true at = ap is_unavailable ((promised.unavailable i e).0 (λ served. gone_file s state i is (at_home (home_of state.homes i) at) served.0))
       where
         at_home : (home : Option ℕ) → is_at s home ≡ true → home ≡ Some s
         at_home None at = absurd (false≢true at)
         at_home (Some h) at = ap Some (let same : h ≡ s = grind (arith, nat_tests, at) in same)
-    by_home i e false at = ap is_unavailable ((promised.given i e).0 (kept_file s state i is at)).reply_is
+    by_home i e false at = ap is_unavailable ((promised.given i e).0 (kept_file s state i is at, uncut s state path is)).reply_is
 
     by_file : (file : Result ℕ PathRefusal) → file_at state path ≡ file → is_unavailable reply ≡ stands_at state s file
     by_file (Ok i) e = by_home i e (is_at s (home_of state.homes i)) refl
-    by_file (Err refusal) e = ap is_unavailable (promised.refused refusal e).reply_is
+    by_file (Err refusal) e = ap is_unavailable (promised.refused refusal e (uncut s state path is)).reply_is
 
 -- ---- all readings
 
@@ -300,7 +374,7 @@ module _ (kept : KeepSteady) (promise : KeepPromise) (stands : LoseNone) where
       let on = cat_reads old new path reply step in
       let fits : FitsBlock 1024 (Cat path) = λ b bytes e. absurd (cc e) in
       record {
-        fine = step_fine kept (lost_member s) old (Cat path) reply new fits (lost_whole s) on.on is.fine none step;
+        fine = step_fine kept (lost_member s) old (Cat path) reply new fits (lost_whole s) on.on is.fine none tt step;
         settled = on.phase ∙ is.settled;
       }
 
@@ -322,8 +396,8 @@ module _ (kept : KeepSteady) (promise : KeepPromise) (stands : LoseNone) where
       let path = file_path k in
       let first = run_more AreTold old (read_event k) (map read_event (range_with_len (k + 1) n)) replies final run in
       let on = cat_reads old first.mid path first.reply first.step in
-      let rises = (step_keeps AreTold old (read_event k) first.reply first.mid first.step).counts.faults in
-      let later = (run_keeps AreTold first.mid (map read_event (range_with_len (k + 1) n)) first.rest final first.run).counts.faults in
+      let rises = (step_keeps AreTold old (read_event k) first.reply first.mid tt first.step).counts.faults in
+      let later = (run_keeps AreTold first.mid (map read_event (range_with_len (k + 1) n)) first.rest final (reads_in_use (k + 1) n first.rest) first.run).counts.faults in
       let here = none_front old.counts.faults first.mid.counts.faults final.counts.faults later none in
       let there = none_back old.counts.faults first.mid.counts.faults final.counts.faults rises none in
       let promised = read_promise s old path first.reply first.mid low is here first.step in
@@ -341,7 +415,7 @@ module _ (kept : KeepSteady) (promise : KeepPromise) (stands : LoseNone) where
           (λ i leads apart.
               let was : file_at old path ≡ Ok i = sym (file_alike old final path alike) ∙ leads in
               let home : is_at s (home_of old.homes i) ≡ false = ap (λ (homes : List Home). is_at s (home_of homes i)) (sym alike.homes) ∙ apart in
-              gives_alike old final path first.reply alike ((promised.given i was).0 (kept_file s old i is home))),
+              gives_alike old final path first.reply alike ((promised.given i was).0 (kept_file s old i is home, uncut s old path is))),
           rest.given,
         );
       }
@@ -380,6 +454,9 @@ module _ (kept : KeepSteady) (promise : KeepPromise) (stands : LoseNone)
   blank_fine before blank none is = record {
     steady = blank_steady drill_shape before blank shape_holds is;
     shape = ap (λ (s : State). s.table.shape) is.is;
+    boundaries = ap (λ (s : State). s.boundaries) is.is;
+    live = ap (λ (s : State). s.live) is.is;
+    cut = ap (λ (s : State). s.cut) is.is;
     copies = ap (λ (s : State). s.copies) is.is;
     members = λ q. elim (cases_lt (q / 2) 4) [
       | inl low ↦ rw (lt-ltb (q / 2) 4 low) (elim (is.members q low) [ inl good ↦ good | inr out ↦ absurd (none q out.1) ])
@@ -401,8 +478,8 @@ module _ (kept : KeepSteady) (promise : KeepPromise) (stands : LoseNone)
       let both = chain.2.0 in
       let half = fail_fine kept (2 * s + 0) s 0 good_member old two.first one refl low (omega arith) (first_good s low) good_whole fine settled chain.1 in
       let spoilt = fail_fine kept (2 * s + 1) s 1 (half_member s) one two.second both refl low (omega arith) (second_good s low) (half_whole s) half.0 half.1 chain.2.1 in
-      let rises = (step_keeps AreTold old (Fail s 0) two.first one chain.1).counts.faults in
-      let more = (step_keeps AreTold one (Fail s 1) two.second both chain.2.1).counts.faults in
+      let rises = (step_keeps AreTold old (Fail s 0) two.first one tt chain.1).counts.faults in
+      let more = (step_keeps AreTold one (Fail s 1) two.second both tt chain.2.1).counts.faults in
       let there = none_back one.counts.faults both.counts.faults final.counts.faults more (none_back old.counts.faults one.counts.faults final.counts.faults rises none) in
       let read = all_read kept promise stands s 0 files both final cats low (record { fine = spoilt.0; settled = spoilt.1 }) there chain.2.2 in
       (read.count, read.given)
@@ -415,8 +492,8 @@ module _ (kept : KeepSteady) (promise : KeepPromise) (stands : LoseNone)
       let events = map (λ b. Write b (bytes b)) blocks in
       let first = trace_more AreTold before drill_shape events writes written trace in
       let settled = run.0 in
-      let wrote = (run_keeps AreTold first.blank events first.rest written first.run).counts.faults in
-      let on = (run_keeps AreTold written (later_events seed files) (Settled ∷ (losses ++ cats)) final run).counts.faults in
+      let wrote = (run_keeps AreTold first.blank events first.rest written (writes_in_use bytes blocks first.rest) first.run).counts.faults in
+      let on = (run_keeps AreTold written (later_events seed files) (Settled ∷ (losses ++ cats)) final (tt, ends_in_use seed files (losses ++ cats)) run).counts.faults in
       let none_written = none_front before.faults written.counts.faults final.counts.faults on none in
       let none_blank = none_front before.faults first.blank.counts.faults written.counts.faults wrote none_written in
       let begun = none_back before.faults first.blank.counts.faults written.counts.faults first.is_blank.counts.faults none_written in
@@ -424,10 +501,10 @@ module _ (kept : KeepSteady) (promise : KeepPromise) (stands : LoseNone)
       let from_blank : (q : ℕ) → before.faults q ≤ written.counts.faults q = λ q. omega (arith, first.is_blank.counts.faults q, wrote q) in
       let none_later = none_back before.faults written.counts.faults final.counts.faults from_blank none in
       let step = run.1 in
-      let more = (step_keeps AreTold written Settle Settled settled step).counts.faults in
-      let rest = (run_keeps AreTold settled (loss_events seed ++ map read_event (range_with_len 0 files)) (losses ++ cats) final run.2).counts.faults in
+      let more = (step_keeps AreTold written Settle Settled settled tt step).counts.faults in
+      let rest = (run_keeps AreTold settled (loss_events seed ++ map read_event (range_with_len 0 files)) (losses ++ cats) final (ends_in_use seed files (losses ++ cats)) run.2).counts.faults in
       let here = none_front written.counts.faults settled.counts.faults final.counts.faults rest none_later in
       let there = none_back written.counts.faults settled.counts.faults final.counts.faults more none_later in
       let is = settles_on written settled step in
       let fits : FitsBlock 1024 Settle = λ b x e. absurd (cc e) in
-      end_read seed files settled final losses cats (step_fine kept good_member written Settle Settled settled fits good_whole is.on fine here step) is.phase number there run.2
+      end_read seed files settled final losses cats (step_fine kept good_member written Settle Settled settled fits good_whole is.on fine here tt step) is.phase number there run.2

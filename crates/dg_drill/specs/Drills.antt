@@ -1,5 +1,5 @@
 -- What a drill does to an array, and how it ends.
-use Rattle.std.specs.Prelude.{◌≡◌, ◌⊎◌, ◌<◌, ◌/◌, ℕ, List, [], ◌∷◌, ◌++◌, Option, Err, IsSome, map, length, count_by}
+use Rattle.std.specs.Prelude.{◌≡◌, ◌⊎◌, ◌<◌, ◌≤◌, ◌/◌, ℕ, List, [], ◌∷◌, ◌++◌, Option, Err, IsSome, map, length, count_by}
 use Rattle.std.specs.List.{range_with_len}
 use Rattle.dg_drill.specs.Calls.{Facts}
 use Rattle.dg_drill.specs.Items.{drill_items, file_path}
@@ -7,7 +7,7 @@ use Rattle.dg_drill.specs.Reports.{boundary_of, refused_text, report_text}
 use Rattle.dg_drill.specs.Volumes.{IsDrillVolume, drill_shape, drill_spec}
 use Rattle.dg_drill.specs.declared.drills.DrillEnd.{DrillEnd}
 use Rattle.dg_drill.specs.declared.drills.DrillEnd.TheVariants.{Done, WriteFault}
-use Rattle.dg_io.specs.Told.{Told, Took, TookPart}
+use Rattle.dg_io.specs.Told.{IsSame, Told, Took, TookPart}
 use Rattle.dg_model.specs.Runs.{Run, Trace}
 use Rattle.dg_model.specs.Sites.{has_site}
 use Rattle.dg_model.specs.States.{HoldsAll, State}
@@ -52,8 +52,13 @@ written_count table = count_by has_site table.rows
 abbrev pub TellsBoundaries : (ℕ → Option (List ℕ)) → State → Type 0
 TellsBoundaries bytes state = (q : ℕ) → q / 2 < state.table.shape.b → IsSome (bytes q)
 
+-- each member behind those of the drill's array has the bytes that it had, where it tells them
+abbrev pub OthersKept : (ℕ → Option (List ℕ)) → (ℕ → Option (List ℕ)) → Type 0
+OthersKept images bytes = (q : ℕ) → drill_shape.b ≤ q / 2 → Told IsSame (images q) (bytes q)
+
 -- The volume was made, and the array went by a chain of steps, whatever the replies were: from nothing to where each block was written, and
--- on to where each file was read. The last state has the counts of the rack, which holds it where each member tells its bytes in the end.
+-- on to where each file was read. The last state has the counts of the rack, which holds it where each member tells its bytes in the end;
+-- its other members have the bytes that they had.
 -- `text` is what is printed of it.
 pub record HasDrilled (facts : Facts) (seed files : ℕ) (text : List ℕ) : Type 0 where
   pub image : List ℕ
@@ -70,6 +75,7 @@ pub record HasDrilled (facts : Facts) (seed files : ℕ) (text : List ℕ) : Typ
   pub on : Run (TellsBoundaries facts.bytes final) written (later_events seed files) (settled ∷ (losses ++ cats)) final
   pub counts : final.counts ≡ facts.now
   pub holds : TellsBoundaries facts.bytes final → HoldsAll facts.bytes final
+  pub others : OthersKept facts.images facts.bytes
   pub text_is : text ≡ report_text seed files (written_count written.table) settled cats
 
 -- There is no volume with these files; so nothing was done.

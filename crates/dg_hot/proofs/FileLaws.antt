@@ -4,7 +4,7 @@ use Rattle.std.specs.Global.{Vec}
 use Rattle.std.specs.Prelude.{◌&&◌, Err, IfOk, IfSome, None, Ok, OnErr, OnOk, Option, Result, Some, if◌then◌else◌, is_some, map, nat_le, not}
 use Rattle.std.proofs.lemmas.Bool.{cases_eq, false≢true}
 use Rattle.std.proofs.lemmas.List.{get_or-map, length-map}
-use Rattle.dg_model.specs.Copies.{Spread, copied_to, emptiest, fitted, spread_by, spread_over}
+use Rattle.dg_model.specs.Copies.{Spread, copied_to, emptiest, fitted, lacks_copy, spread_by, spread_over}
 use Rattle.dg_model.specs.Homes.{home_of, with_home}
 use Rattle.dg_model.specs.Moves.{all_done}
 use Rattle.dg_model.specs.Placed.{IsPlaced}
@@ -22,7 +22,7 @@ use Rattle.dg_model.proofs.PlacedLaws.{blocks_apart, placed_copy, written_copy}
 use Rattle.dg_store.specs.Stores.{members_of, shape_of, table_of}
 use Rattle.dg_store.specs.declared.store.Store.{Store}
 use Rattle.dg_hot.specs.Copied.{AreApart, CanCopy, copies_to}
-use Rattle.dg_hot.specs.Spreads.{HasSpread, HasSpreadSome, IsSpread, SpreadsOrNot, lacks_copy, lists_in, spread_of, spread_with, to_copy}
+use Rattle.dg_hot.specs.Spreads.{HasSpread, HasSpreadSome, IsSpread, SpreadsOrNot, lists_in, spread_of, spread_with, to_copy}
 use Rattle.dg_hot.proofs.ApartLaws.{blocks_are_apart}
 use Rattle.dg_hot.proofs.SpreadLaws.{does_fit, emptiest_other, spread_next, spread_none}
 

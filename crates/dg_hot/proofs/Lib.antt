@@ -1,7 +1,9 @@
 mod ApartLaws
+mod CallLaws
 mod CopyLaws
 mod FileLaws
 mod PlacedLaws
 mod RecentLaws
 mod SpreadLaws
+mod StillLaws
 mod StoreLaws

@@ -1,8 +1,8 @@
 -- Copies of blocks on a store.
-use Rattle.std.proofs.Common.{◌≡◌, ◌≢◌, ◌<◌, ◌≤◌, ◌+◌, ◌*◌, ◌/◌, ◌&&◌, ◌==◌, ℕ, zero, suc, true, cond, not, List, [], ◌∷◌, length, get_or, take, inl, inr, refl, sym, ◌∙◌, ap, subst, arith}
+use Rattle.std.proofs.Common.{◌≡◌, ◌≢◌, ◌<◌, ◌≤◌, ◌+◌, ◌*◌, ◌&&◌, ◌==◌, ℕ, zero, suc, true, cond, not, List, [], ◌∷◌, length, get_or, take, refl, sym, ◌∙◌, ap, subst, arith}
 use Rattle.std.specs.Prelude.{◌↔◌}
 use Rattle.std.specs.List.{Contains}
-use Rattle.std.proofs.lemmas.Bool.{and_parts, cases_lt, false≢true}
+use Rattle.std.proofs.lemmas.Bool.{and_parts, false≢true}
 use Rattle.std.proofs.lemmas.List.{length-take-le, take_more}
 use Rattle.dg_io.specs.declared.outside.Rack.{Ghosts}
 use Rattle.dg_model.specs.Members.{is_good, is_lost}
@@ -11,7 +11,6 @@ use Rattle.dg_model.specs.Sites.{all_lost, has_site, is_gone}
 use Rattle.dg_model.specs.States.{has_lost}
 use Rattle.dg_model.specs.Tables.{IsTable, Table, count_on, sites_in, used_in}
 use Rattle.dg_model.specs.declared.members.MemberState.{MemberState}
-use Rattle.dg_model.specs.declared.members.MemberState.TheVariants.{Good}
 use Rattle.dg_model.specs.declared.shapes.Shape.{Shape}
 use Rattle.dg_model.specs.declared.sites.Site.{Site}
 use Rattle.dg_model.proofs.CopyLaws.{copies_here, copies_other, copies_sized, on_copy}
@@ -20,8 +19,8 @@ use Rattle.dg_model.proofs.NumberLists.{in_take}
 use Rattle.dg_model.proofs.SiteLists.{one_if, same_test}
 use Rattle.dg_model.proofs.TableLaws.{all_done_sized}
 use Rattle.dg_store.specs.Answers.{IsPlaced}
-use Rattle.dg_store.specs.ReadLaws.{keeps_both, keeps_none}
-use Rattle.dg_store.specs.Stores.{IsSound, Tells, TellsAll, members_of, shape_of}
+use Rattle.dg_store.specs.ReadLaws.{keeps_both, keeps_none, told_all}
+use Rattle.dg_store.specs.Stores.{IsSound}
 use Rattle.dg_store.specs.declared.store.PlaceAnswer.{PlaceAnswer}
 use Rattle.dg_store.specs.declared.store.PlaceAnswer.TheVariants.{Full, Gone, Lost, Placed}
 use Rattle.dg_store.specs.declared.store.Store.{Store}
@@ -34,25 +33,12 @@ module _ {R : Type 0} (rack : Ghosts R) where
   pub moved_none : (a : Store R) → IsSound rack a → Moved rack a a
   moved_none a sound = record { leaves = record { sound = sound; keeps = keeps_none rack a }; written = λ c. refl; stands = λ told V st. st }
 
-  tells_before : (b c : Store R) → Moved rack b c → TellsAll rack c → TellsAll rack b
-  tells_before b c moved told q within =
-      moved.leaves.keeps.stays.tells q (told q (subst (λ (sh : Shape). q / 2 < sh.b) (sym moved.leaves.keeps.shape) within))
-
   pub moved_both : (a b c : Store R) → Moved rack a b → Moved rack b c → Moved rack a c
   moved_both a b c first second = record {
     leaves = record { sound = second.leaves.sound; keeps = keeps_both rack a b c first.leaves.keeps second.leaves.keeps };
     written = λ d. second.written d ∙ first.written d;
-    stands = λ told V st. second.stands told V (first.stands (tells_before b c second told) V st);
+    stands = λ told V st. second.stands told V (first.stands (told_all rack b c second.leaves.keeps.shape second.leaves.keeps.stays told) V st);
   }
-
-  good_not_out : (m : MemberState) → m ≡ Good → m ≡ MemberState.Out → ⊥
-  good_not_out m good out = let e = sym good ∙ out in cc e
-
-  pub good_tells : (c : Store R) → IsSound rack c → TellsAll rack c → Tells rack c
-  good_tells c sound told q good = told q (elim (cases_lt (q / 2) (shape_of c).b) [
-    | inl low ↦ low
-    | inr past ↦ absurd (good_not_out (members_of c q) good (sound.others q past))
-  ])
 
 -- ---- boundaries that are lost
 

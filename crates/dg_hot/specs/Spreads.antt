@@ -1,9 +1,9 @@
 -- What a spreading of copies needs, and what it leaves.
 use Rattle.std.specs.Global.{Vec}
-use Rattle.std.specs.Prelude.{◌≡◌, ◌⊎◌, ◌+◌, ◌&&◌, ℕ, Bool, true, List, [], Option, Some, None, if◌then◌else◌, is_some, length, map, not, take}
+use Rattle.std.specs.Prelude.{◌≡◌, ◌⊎◌, ◌+◌, ◌*◌, ℕ, true, List, [], Option, Some, None, if◌then◌else◌, length, map, take}
+use Rattle.std.specs.List.{sum_by}
 use Rattle.dg_io.specs.declared.outside.Rack.{Ghosts}
-use Rattle.dg_model.specs.Copies.{Spread, emptiest, fitted, spread_over}
-use Rattle.dg_model.specs.Homes.{home_of}
+use Rattle.dg_model.specs.Copies.{Spread, emptiest, fitted, lacks_copy, spread_over}
 use Rattle.dg_model.specs.Placed.{IsPlaced}
 use Rattle.dg_model.specs.Plans.{blocks_of}
 use Rattle.dg_model.specs.States.{IsLeastLost, has_lost}
@@ -20,9 +20,13 @@ use Rattle.dg_store.specs.declared.store.Store.{Store}
 abbrev pub lists_in : List (Vec ℕ) → List (List ℕ)
 lists_in lists = map (λ (list : Vec ℕ). list.items) lists
 
--- file i has a home and no copy
-abbrev pub lacks_copy : List Home → List Home → ℕ → Bool
-lacks_copy homes copies i = is_some (home_of homes i) && not (is_some (home_of copies i))
+-- how many blocks the lists have together
+abbrev pub count_in : List (Vec ℕ) → ℕ
+count_in lists = sum_by (λ (list : Vec ℕ). length list.items) lists
+
+-- how many calls on the rack copies of so many blocks make at most: each reads at most all sites of its block but one, and writes one
+abbrev pub copy_calls : Table → ℕ → ℕ
+copy_calls table count = 2 * table.shape.b * count
 
 -- what is copied of file i: its written blocks where it has a home and no copy, and else none
 abbrev pub to_copy : List (Option Want) → List Home → List Home → ℕ → List ℕ

@@ -1,12 +1,13 @@
 // Copies of blocks to a boundary, which are given up again where a boundary is lost.
 ghost use Rattle.std.specs.Prelude.{◌≡◌, ◌+◌, ◌<◌, ◌≤◌, ℕ, length, true, false, IfOk, OnErr};
 ghost use Rattle.dg_hot.specs.Copied.{AreApart, CanCopy, CanGiveUp, copies_to, give_ups_on};
-ghost use Rattle.dg_hot.specs.Spreads.{Moved};
+ghost use Rattle.dg_hot.specs.Spreads.{Moved, copy_calls};
 ghost use Rattle.dg_model.specs.Moves.{all_done, copy_to, done};
 ghost use Rattle.dg_model.specs.Sites.{has_site};
 ghost use Rattle.dg_model.specs.States.{has_lost};
 ghost use Rattle.dg_model.specs.Tables.{count_on, sites_in, used_in};
-ghost use Rattle.dg_store.specs.Stores.{IsSound, members_of, shape_of, table_of};
+ghost use Rattle.dg_store.specs.Leaves.{CallsAtMost};
+ghost use Rattle.dg_store.specs.Stores.{IsSound, members_of, rack_of, shape_of, table_of};
 
 use dg_io::{NoMemory, Rack};
 use dg_store::{PlaceAnswer, Store};
@@ -24,6 +25,7 @@ fn copy_block<R: Rack>(store: &mut Store<R>, block: u32, boundary: u8) -> Result
     ensures lost { IfOk result (λ copied. copied ≡ false → has_lost (shape_of store.new) (members_of store.new) ≡ true) }
     ensures same { IfOk result (λ copied. copied ≡ false → table_of store.new ≡ table_of store.old) }
     ensures err { OnErr result (table_of store.new ≡ table_of store.old) }
+    ensures most { CallsAtMost R.Rack store.old store.new (copy_calls (table_of store.old) 1) }
 {
     match store.place(block, boundary, false) {
         Ok(answer) => match answer {
@@ -40,6 +42,7 @@ pub fn give_up<R: Rack>(store: &mut Store<R>, boundary: u8, blocks: &[u32])
     requires apart { AreApart blocks.now }
     requires can { CanGiveUp (table_of store.old) boundary blocks.now }
     ensures moved { Moved R.Rack store.old store.new }
+    ensures rack { rack_of store.new ≡ rack_of store.old }
     ensures members { (q : ℕ) → members_of store.new q ≡ members_of store.old q }
     ensures table { table_of store.new ≡ all_done (table_of store.old) (give_ups_on boundary blocks.now) }
 {
@@ -65,6 +68,7 @@ pub fn copy_all<R: Rack>(
     ensures lost { IfOk result (λ copied. copied ≡ false → has_lost (shape_of store.new) (members_of store.new) ≡ true) }
     ensures same { IfOk result (λ copied. copied ≡ false → table_of store.new ≡ table_of store.old) }
     ensures err { OnErr result (table_of store.new ≡ table_of store.old) }
+    ensures most { CallsAtMost R.Rack store.old store.new (copy_calls (table_of store.old) (length blocks.now)) }
 {
     for place in 0..blocks.len() {
         match copy_block(store, blocks[place], boundary) {

@@ -1,14 +1,16 @@
 // Copies of the files that were read last.
-ghost use Rattle.std.specs.Prelude.{◌≡◌, ◌≢◌, ◌<◌, ◌≤◌, ℕ, List, Option, length, false, None, Some, IfOk, OnErr, OnOk};
+ghost use Rattle.std.specs.Prelude.{◌≡◌, ◌≢◌, ◌<◌, ◌≤◌, ℕ, List, Option, length, true, false, None, Some, is_some, IfOk, OnErr, OnOk};
+ghost use Rattle.std.specs.List.{list_any};
 ghost use Rattle.dg_hot.specs.Copied.{AreApart, CanCopy, CanGiveUp, give_ups_on};
-ghost use Rattle.dg_hot.specs.Spreads.{AreListed, HasSpread, HasSpreadSome, IsLost, Moved, SpreadsOrNot, spread_of, spread_with};
-ghost use Rattle.dg_model.specs.Copies.{emptiest, fitted};
+ghost use Rattle.dg_hot.specs.Spreads.{AreListed, HasSpread, HasSpreadSome, IsLost, Moved, SpreadsOrNot, copy_calls, count_in, spread_of, spread_with};
+ghost use Rattle.dg_model.specs.Copies.{emptiest, fitted, lacks_copy};
 ghost use Rattle.dg_model.specs.Homes.{Ascend, home_of, with_home};
 ghost use Rattle.dg_model.specs.Moves.{all_done};
 ghost use Rattle.dg_model.specs.Placed.{IsPlaced};
 ghost use Rattle.dg_model.specs.States.{has_lost};
 ghost use Rattle.dg_model.specs.declared.wants.Want.{Want};
-ghost use Rattle.dg_store.specs.Stores.{IsSound, members_of, shape_of, table_of};
+ghost use Rattle.dg_store.specs.Leaves.{CallsAtMost};
+ghost use Rattle.dg_store.specs.Stores.{IsSound, members_of, rack_of, shape_of, table_of};
 
 use crate::Hot;
 use crate::copies::{copy_all, give_up};
@@ -35,8 +37,8 @@ pub enum DiffuseAnswer {
 /// whole.
 ///
 /// `blocks` has one list for each file, in the order of `hot`: its written blocks, ascending, where it has a home and no copy,
-/// and else none. So the cost is that of the files that are copied, and not of the array. The clauses hold by any wants that
-/// have each block in its place.
+/// and else none. So the cost is that of the files that are copied, and not of the array: each of these blocks takes at most two calls for
+/// each boundary, and nothing else takes one. The clauses hold by any wants that have each block in its place.
 pub fn diffuse<R: Rack>(
     alloc: Global,
     store: &mut Store<R>,
@@ -60,6 +62,8 @@ pub fn diffuse<R: Rack>(
     ensures cut { (wants : List (Option Want)) → AreListed wants (table_of store.old) homes.now copies.old hot.now blocks.now
         → IfOk result (λ answer. (s : ℕ) → answer ≡ DiffuseAnswer.Lost s
         → HasSpreadSome wants homes.now hot.now copies.old copies.new store.old store.new) }
+    ensures still { list_any (lacks_copy homes.now copies.old) hot.now ≡ false → rack_of store.new ≡ rack_of store.old }
+    ensures most { CallsAtMost R.Rack store.old store.new (copy_calls (table_of store.old) (count_in blocks.now)) }
     ensures err { (wants : List (Option Want)) → AreListed wants (table_of store.old) homes.now copies.old hot.now blocks.now
         → OnErr result (HasSpreadSome wants homes.now hot.now copies.old copies.new store.old store.new) }
 {
@@ -95,7 +99,9 @@ fn spread_file<R: Rack>(
     ensures spread { IfOk result (λ n. SpreadsOrNot
         (spread_with blocks.now inode (home_of homes.now inode) (home_of copies.old inode) (spread_of store.old copies.old))
         n copies.old copies.new store.old store.new) }
+    ensures still { lacks_copy homes.now copies.old inode ≡ false → (store.new ≡ store.old) × (copies.new ≡ copies.old) }
     ensures few { IfOk result (λ n. n ≤ 1) }
+    ensures most { CallsAtMost R.Rack store.old store.new (copy_calls (table_of store.old) (length blocks.now)) }
     ensures err { OnErr result (spread_of store.new copies.new ≡ spread_of store.old copies.old) }
 {
     match homes.home_of(inode) {
@@ -120,7 +126,9 @@ fn spread_homed<R: Rack>(
     ensures spread { IfOk result (λ n. SpreadsOrNot
         (spread_with blocks.now home.inode (Some home.boundary) (home_of copies.old home.inode) (spread_of store.old copies.old))
         n copies.old copies.new store.old store.new) }
+    ensures still { is_some (home_of copies.old home.inode) ≡ true → (store.new ≡ store.old) × (copies.new ≡ copies.old) }
     ensures few { IfOk result (λ n. n ≤ 1) }
+    ensures most { CallsAtMost R.Rack store.old store.new (copy_calls (table_of store.old) (length blocks.now)) }
     ensures err { OnErr result (spread_of store.new copies.new ≡ spread_of store.old copies.old) }
 {
     match copies.home_of(home.inode) {
@@ -145,6 +153,7 @@ fn copy_file<R: Rack>(
         (fitted home.inode (emptiest (table_of store.old) home.boundary) blocks.now (spread_of store.old copies.old))
         n copies.old copies.new store.old store.new) }
     ensures few { IfOk result (λ n. n ≤ 1) }
+    ensures most { CallsAtMost R.Rack store.old store.new (copy_calls (table_of store.old) (length blocks.now)) }
     ensures err { OnErr result (spread_of store.new copies.new ≡ spread_of store.old copies.old) }
 {
     match emptiest(store, home.boundary) {
@@ -176,6 +185,7 @@ fn copy_to<R: Rack>(
         (fitted copy.inode (Some copy.boundary) blocks.now (spread_of store.old copies.old))
         n copies.old copies.new store.old store.new) }
     ensures few { IfOk result (λ n. n ≤ 1) }
+    ensures most { CallsAtMost R.Rack store.old store.new (copy_calls (table_of store.old) (length blocks.now)) }
     ensures err { OnErr result (spread_of store.new copies.new ≡ spread_of store.old copies.old) }
 {
     let wanted = store.map().used(copy.boundary) as usize + blocks.len();
@@ -206,6 +216,7 @@ fn keep_copy<R: Rack>(
     ensures added { OnOk result (copies.new ≡ with_home copy copies.old) }
     ensures stays { OnOk result (store.new ≡ store.old) }
     ensures err { OnErr result (copies.new ≡ copies.old) }
+    ensures rack { rack_of store.new ≡ rack_of store.old }
     ensures back { OnErr result (table_of store.new ≡ all_done (table_of store.old) (give_ups_on copy.boundary blocks.now)) }
 {
     match add_home(alloc, copies, copy) {

@@ -54,8 +54,8 @@ pub reread_of : {S : Type 0} (view : Ghosts S) (Super Group : ℕ → Type 0) (K
     → FetchesOnce view.fetched Super s t → FetchesBegun view.fetched before now 0 t u → FetchesOnce view.fetched Group u x → ((b : ℕ) → Super b → Group b → ⊥)
     → (Known → (b : ℕ) → Super b → IsBeside l n v w block b) → (Known → (b : ℕ) → Group b → IsBeside l n v w block b)
     → (Known → (place : ClaimPlace) → 0 < place.level → IsBegun before now place.level place.fragment → IsChangedAt l n v w place)
-    → FetchesReread view s x Known l n v w block
-reread_of view Super Group Known l n v w block before now s t u x both super begun group apart super_is group_is begun_is = record {
+    → ((b : ℕ) → Super b → b ≢ block) → ((b : ℕ) → Group b → b ≢ block) → FetchesReread view s x Known l n v w block
+reread_of view Super Group Known l n v w block before now s t u x both super begun group apart super_is group_is begun_is super_other group_other = record {
   reads = record {
     indirect = begun.places;
     indirect_once = once_pairs begun.places begun.once;
@@ -65,6 +65,9 @@ reread_of view Super Group Known l n v w block before now s t u x both super beg
     are_beside = λ known.
         All-append (IsBeside l n v w block) super.blocks group.blocks (all_of (IsBeside l n v w block) super.blocks (λ b has. super_is known b (super.each b has)))
         (all_of (IsBeside l n v w block) group.blocks (λ b has. group_is known b (group.each b has)));
+    others = λ known.
+        All-append (λ f. f ≢ block) super.blocks group.blocks (all_of (λ f. f ≢ block) super.blocks (λ b has. super_other b (super.each b has)))
+        (all_of (λ f. f ≢ block) group.blocks (λ b has. group_other b (group.each b has)));
   };
   blocks = super.blocks ++ (fragments_of begun.places ++ group.blocks);
   were = both s t x super.blocks (fragments_of begun.places ++ group.blocks) super.were (both t u x (fragments_of begun.places) group.blocks begun.were group.were);
@@ -98,6 +101,12 @@ group_beside l n v w g block b is rest =
 pub areas_beside : (l n : ℕ) (v w : Volume) (g : Geometry) (end block b : ℕ) → geometry_on l n v ≢ geometry_on l n w → Some g ≡ accepted (geometry_on l n w) → IsAreaRest g end block b
     → IsBeside l n v w block b
 areas_beside l n v w g end block b changed is rest = of_areas changed (inr (to_accepted (geometry_on l n w) g (λ h. IsAreaOf h w b) is (rest.area w)))
+
+-- ---- they are other blocks
+
+rest_other : (geometry : Option Geometry) (block b : ℕ) → IsGroupRestBy geometry block b → b ≢ block
+rest_other None block b rest = absurd rest
+rest_other (Some g) block b rest = rest.rest.other
 
 -- ---- they are apart
 
@@ -191,7 +200,7 @@ pub bound_off : {S : Type 0} (view : Ghosts S) (Known : Type 0) (l n : ℕ) (v w
 bound_off view Known l n v w block geometry before now s x both none one told =
     reread_of view (λ b. ⊥) (IsGroupRestBy geometry block) Known l n v w block before.claimed now.claimed s s one.middle x both (fetches_none view.fetched (λ b. ⊥) s (none s)) one.levels one.group
     (λ b early rest. early) (λ known b one. absurd one) (λ known b rest. rest_beside l n v w geometry block b ((told known).second) rest)
-    (λ known place above begun. begun_kept l n v w before now place ((told known).were) ((told known).are) above begun)
+    (λ known place above begun. begun_kept l n v w before now place ((told known).were) ((told known).are) above begun) (λ b one. absurd one) (rest_other geometry block)
 
 bound_kept : {S : Type 0} (view : Ghosts S) (Known : Type 0) (l n : ℕ) (v w : Volume) (block : ℕ) (geometry next : Option Geometry) (before now : ClaimTable) (s t x : S)
     → ((s t u : S) (x y : List ℕ) → view.fetched s x t → view.fetched t y u → view.fetched s (x ++ y) u)
@@ -203,7 +212,7 @@ bound_kept view Known l n v w block geometry next before now s t x both from ins
     (λ b one rest. rest_apart l n geometry block b (subst (λ o. IfSome o (IsGeometryOn l n)) (sym same) on) one rest)
     (λ known b one. super_beside l n v w block b from inside one)
     (λ known b rest. rest_beside l n v w geometry block b (same ∙ (told known).second) rest)
-    (λ known place above begun. begun_kept l n v w before now place ((told known).were) ((told known).are) above begun)
+    (λ known place above begun. begun_kept l n v w before now place ((told known).were) ((told known).are) above begun) (λ b one. one.other) (rest_other geometry block)
 
 changed_volumes : (l n : ℕ) (v w : Volume) (geometry next : Option Geometry) (before now : ClaimTable) → (geometry ≡ next → ⊥) → IsTold l n v w geometry next before now → geometry_on l n v ≢ geometry_on l n w
 changed_volumes l n v w geometry next before now changed told e = changed (told.first ∙ ap accepted e ∙ sym told.second)
@@ -219,7 +228,7 @@ bound_on view Known l n v w block geometry next before now s t x both none from 
     reread_of view (IsRest (8192 / l) (superblock_blocks l n) block) (λ b. ⊥) Known l n v w block before.claimed now.claimed s t x x both super
     (record { places = []; were = one; once = tt; each = λ place has. absurd (contains_none place has) }) (fetches_none view.fetched (λ b. ⊥) x (none x))
     (λ b one rest. rest) (λ known b one. super_beside l n v w block b from inside one) (λ known b rest. absurd rest)
-    (λ known place above begun. begun_kept l n v w before now place ((told known).were) ((told known).are) above begun)
+    (λ known place above begun. begun_kept l n v w before now place ((told known).were) ((told known).are) above begun) (λ b one. one.other) (λ b rest. absurd rest)
 bound_on view Known l n v w block geometry next before now s t x both none from inside on super (fresh changed g is one) told =
     let Super : ℕ → Type 0 = λ b. IsRest (8192 / l) (superblock_blocks l n) block b ⊎ IsAreaRest g g.size block b in
     let on_g = subst (λ o. IfSome o (IsGeometryOn l n)) is on in
@@ -233,3 +242,4 @@ bound_on view Known l n v w block geometry next before now s t x both none from 
     ])
     (λ known b rest. absurd rest)
     (λ known place above begun. begun_anew l n v w (λ source. []) now place (changed_volumes l n v w geometry next before now changed (told known)) ((told known).are) above begun)
+    (λ b either. elim either [ inl early ↦ early.other | inr late ↦ late.other ]) (λ b rest. absurd rest)

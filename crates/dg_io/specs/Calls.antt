@@ -1,12 +1,12 @@
 -- What a call on a member leaves of a rack, whatever the call is.
-use Rattle.std.specs.Prelude.{◌≡◌, ◌≢◌, ◌↔◌, ℕ, List, Option, Result, OnOk}
+use Rattle.std.specs.Prelude.{◌≡◌, ◌≢◌, ◌↔◌, ℕ, Bool, true, List, Option, Result, OnOk}
 use Rattle.dg_model.specs.Causes.{RoseByOne}
 use Rattle.dg_model.specs.States.{Counts, CountsRise}
 use Rattle.dg_io.specs.Faults.{HasCause, OnlyMember}
 use Rattle.dg_io.specs.Told.{StillTold, OthersSame}
 
 -- What a call on one member leaves of a rack, with its answer. The first five words are what the rack means.
-pub record LeavesRack {S T E : Type 0} (name : S → ℕ) (bytes : S → ℕ → Option (List ℕ)) (counts : S → Counts) (stands : S → ℕ → Type 0) (steady : S → Type 0)
+pub record LeavesRack {S T E : Type 0} (name : S → ℕ) (bytes : S → ℕ → Option (List ℕ)) (counts : S → Counts) (stands : S → ℕ → Bool) (steady : S → Type 0)
     (member : ℕ) (result : Result T E) (old new : S) : Type 0 where
   -- it is the same rack
   pub same_rack : name new ≡ name old
@@ -18,9 +18,9 @@ pub record LeavesRack {S T E : Type 0} (name : S → ℕ) (bytes : S → ℕ →
   -- each other member is as it was
   pub others : OthersSame member (bytes old) (bytes new)
   pub other_faults : OnlyMember member (counts old).faults (counts new).faults
-  pub others_stand : (q : ℕ) → q ≢ member → stands old q → stands new q
+  pub others_stand : (q : ℕ) → q ≢ member → stands old q ≡ true → stands new q ≡ true
   -- the member stands on where the call was done
-  pub stands_on : OnOk result (stands old member → stands new member)
+  pub stands_on : OnOk result (stands old member ≡ true → stands new member ≡ true)
   -- what is told now was told before
   pub tells : StillTold (bytes old) (bytes new)
   -- steady or not is for good

@@ -1,7 +1,11 @@
 -- What the racks in memory hold.
-use Rattle.std.specs.Prelude.{◌⊎◌, ◌<◌, ◌≤◌, ◌≡◌, ℕ, Bool, true, false, List, [], length, Option, Some, None, if◌then◌else◌, slice_get, slice_index}
+use Rattle.std.specs.Prelude.{◌⊎◌, ◌<◌, ◌≤◌, ◌≡◌, ℕ, Bool, true, false, List, [], length, Option, Some, None, if◌then◌else◌, IsSome, slice_get, slice_index}
 use Rattle.std.specs.List.{Contains}
 use Rattle.dg_model.specs.States.{Counts}
+use Rattle.dg_io.specs.Disks.{DiskStates, no_disks}
+use Rattle.dg_io.specs.Kept.{Kept}
+use Rattle.dg_io.specs.Made.{AfterCalls}
+use Rattle.dg_io.specs.RackCalls.{RackCall}
 use Rattle.dg_io.specs.declared.members.MemMember.{MemMember}
 use Rattle.dg_io.specs.declared.racks.MemRack.{MemRack}
 use Rattle.dg_io.specs.declared.racks.SureRack.{SureRack}
@@ -39,14 +43,29 @@ abbrev pub counts_in : MemRack → Counts
 counts_in rack = record { faults = λ q. slice_index rack.faults q; calls = rack.calls; writes = rack.writes }
 
 -- each of its members stands, it is steady, and it isn't lent
-abbrev pub stands_in : MemRack → ℕ → Type 0
-stands_in rack q = Unit {0}
+abbrev pub stands_in : MemRack → ℕ → Bool
+stands_in rack q = true
 
 abbrev pub steady_in : MemRack → Type 0
 steady_in rack = Unit {0}
 
 abbrev pub name_in : MemRack → ℕ
 name_in rack = 0
+
+-- it tells a member where it tells its bytes, and it keeps no checkpoint
+abbrev pub told_in : MemRack → ℕ → Type 0
+told_in rack q = IsSome (member_in rack q)
+
+abbrev pub keeps_in : MemRack → Option Kept → Type 0
+keeps_in rack kept = ⊥
+
+-- it has no disks
+abbrev pub disks_in : MemRack → DiskStates
+disks_in rack = no_disks
+
+-- what just these calls leave of it
+abbrev pub made_in : MemRack → List RackCall → MemRack → Type 0
+made_in old calls new = AfterCalls name_in member_in counts_in stands_in steady_in told_in keeps_in disks_in calls old new
 
 -- the numbers of the calls that fail, from 0
 abbrev pub rack_fails : MemRack → List ℕ
@@ -94,14 +113,29 @@ abbrev pub sure_there_in : SureRack → ℕ → Bool
 sure_there_in rack q = is_there (slice_get rack.members.items q)
 
 -- each of its members stands, it is steady, and it isn't lent
-abbrev pub sure_stands : SureRack → ℕ → Type 0
-sure_stands rack q = Unit {0}
+abbrev pub sure_stands : SureRack → ℕ → Bool
+sure_stands rack q = true
 
 abbrev pub sure_steady : SureRack → Type 0
 sure_steady rack = Unit {0}
 
 abbrev pub sure_name : SureRack → ℕ
 sure_name rack = 0
+
+-- it tells a member where it tells its bytes, and it keeps no checkpoint
+abbrev pub sure_told : SureRack → ℕ → Type 0
+sure_told rack q = IsSome (sure_member rack q)
+
+abbrev pub sure_keeps : SureRack → Option Kept → Type 0
+sure_keeps rack kept = ⊥
+
+-- it has no disks
+abbrev pub sure_disks : SureRack → DiskStates
+sure_disks rack = no_disks
+
+-- what just these calls leave of it
+abbrev pub sure_made : SureRack → List RackCall → SureRack → Type 0
+sure_made old calls new = AfterCalls sure_name sure_member sure_counts sure_stands sure_steady sure_told sure_keeps sure_disks calls old new
 
 -- what it was made with stays: how many members, and their room; and a member that is there is there
 pub record SureStays (old new : SureRack) : Type 0 where

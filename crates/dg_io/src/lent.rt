@@ -1,6 +1,7 @@
 // A source, a sink, a rack, a view or a receiver of pieces that is lent.
 ghost use Rattle.std.specs.Prelude.{◌≡◌, refl};
 ghost use Rattle.std.proofs.Common.{◌∙◌};
+ghost use Rattle.dg_io.specs.MadeLaws.{after_through};
 
 use crate::{Failed, Fetched, Pieces, Rack, Sink, Source, View};
 
@@ -35,6 +36,14 @@ impl<R: Rack> Rack for &mut R {
 
     ghost steady = { λ r. R.steady r.now };
 
+    ghost tells = { λ r. R.tells r.now };
+
+    ghost keeps = { λ r. R.keeps r.now };
+
+    ghost disks = { λ r. R.disks r.now };
+
+    ghost made = { λ a calls b. R.made a.now calls b.now × (b.ghost_name ≡ a.ghost_name) };
+
     fn blank(&mut self, member: u8, length: u64) -> Result<(), Failed> {
         (**self).blank(member, length)
     }
@@ -54,6 +63,17 @@ impl<R: Rack> Rack for &mut R {
     fn extend(&mut self, member: u8, length: u64) -> Result<(), Failed> {
         (**self).extend(member, length)
     }
+
+    ghost made_none = { λ s. (R.made_none s.now, refl) };
+
+    ghost made_both = { λ a b c x y first second. (R.made_both a.now b.now c.now x y first.0 second.0, second.1 ∙ first.1) };
+
+    ghost after = { λ a b calls made. after_through (λ s. s.now) (λ s. s.ghost_name) R.name R.bytes R.counts R.stands R.steady R.tells R.keeps R.disks
+        calls a b made.1 (R.after a.now b.now calls made.0) };
+
+    ghost tells_told = { λ s q h. R.tells_told s.now q h };
+
+    ghost told = { λ s q h stand. R.told s.now q h stand };
 }
 
 impl<V: View> View for &mut V {

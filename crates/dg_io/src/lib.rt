@@ -5,22 +5,29 @@
 #![tactic(auto)]
 
 mod calls;
+mod checkpoints;
+mod disks;
 mod lent;
 mod members;
 mod memory_views;
 mod outside;
 mod pieces;
+mod plain;
 mod racks;
+mod reduces;
 mod sinks;
 mod sources;
 mod stored;
 mod views;
 
+pub use checkpoints::{Checkpoint, CommitAnswer};
 pub use dg_model::{Failed, NoMemory};
+pub use disks::{Disks, DropAnswer, MendAnswer};
 pub use memory_views::{Loss, MemView};
 pub use outside::{Rack, Sink, Source, write_all};
 pub use pieces::Pieces;
 pub use racks::{MemRack, SureRack};
+pub use reduces::Reduces;
 pub use sinks::{MemSink, SureSink};
 pub use sources::{MemSource, SureSource};
 pub use views::{Fetched, View};

@@ -1,9 +1,14 @@
 // The traits of the outside.
-ghost use Rattle.std.specs.Prelude.{◌≡◌, ◌≢◌, ◌+◌, ◌≤◌, ◌<◌, ◌++◌, [], List, ℕ, Option, None, IsSome, length, take, IfOk, OnOk, IfSome, OnErr};
+ghost use Rattle.std.specs.Prelude.{◌≡◌, ◌≢◌, ◌+◌, ◌≤◌, ◌<◌, ◌++◌, ◌∷◌, ◌↔◌, [], List, ℕ, Bool, true, Option, None, IsSome, length, take};
+ghost use Rattle.std.specs.Prelude.{IfOk, OnOk, IfSome, OnErr};
 ghost use Rattle.dg_model.specs.Causes.{RoseByOne};
 ghost use Rattle.dg_io.specs.Told.{Told, Patched, Torn, IsSame, Took, TookPart, Gave, Reads, IsZeros, FitsIn, Measures, IsEmpty, Extended, KeepsFront, IsHeader, OldOrNew};
 ghost use Rattle.dg_io.specs.Calls.{LeavesRack};
+ghost use Rattle.dg_io.specs.Disks.{DiskStates};
 ghost use Rattle.dg_io.specs.Faults.{HasCause};
+ghost use Rattle.dg_io.specs.Kept.{Kept, KeepsRest};
+ghost use Rattle.dg_io.specs.Made.{AfterCalls};
+ghost use Rattle.dg_io.specs.RackCalls.{RackCall};
 
 use dg_model::Failed;
 
@@ -56,17 +61,31 @@ pub trait Rack {
     /// How often each member has failed, and how many calls were made, and how many that write.
     ghost counts: { Self → Counts };
 
-    /// That a member stands: it was made or found, and no call on it has failed since.
-    ghost stands: { Self → ℕ → Type 0 };
+    /// Whether a member stands: it was made or found, and no call on it has failed since.
+    ghost stands: { Self → ℕ → Bool };
 
     /// That it is steady: a write of one of a member's first two pages of 512 bytes is done whole or not at all.
     ghost steady: { Self → Type 0 };
+
+    /// That it tells this member's bytes as long as the member stands.
+    ghost tells: { Self → ℕ → Type 0 };
+
+    /// That it keeps this checkpoint, or one that it doesn't tell.
+    ghost keeps: { Self → Option Kept → Type 0 };
+
+    /// Which disks are out, and how often each has failed. A plain rack has none.
+    ghost disks: { Self → DiskStates };
+
+    /// What may have become of it by just these calls, one after another.
+    ghost made: { Self → List RackCall → Self → Type 0 };
 
     /// Makes the member anew, of so many zero bytes. A failed one leaves any bytes, and any length.
     fn blank(&mut self, member: u8, length: u64) -> Result<(), Failed>
         ensures ok { OnOk result (Told (IsZeros length) (bytes self.old member) (bytes self.new member)) }
         ensures leaves { LeavesRack name bytes counts stands steady member result self.old self.new }
-        ensures stands { OnOk result (stands self.new member) }
+        ensures stands { OnOk result (stands self.new member ≡ true) }
+        ensures keeps { KeepsRest keeps stands member self.old self.new }
+        ensures made { made self.old (RackCall.blanks member ∷ []) self.new }
         ensures writes { RoseByOne (counts self.old).writes (counts self.new).writes };
 
     /// Finds the member, and answers its length, or `None` for no such member.
@@ -75,39 +94,59 @@ pub trait Rack {
         ensures absent { IfOk result (λ found. found ≡ None → Told IsEmpty (bytes self.old member) (bytes self.new member)) }
         ensures same { Told IsSame (bytes self.old member) (bytes self.new member) }
         ensures leaves { LeavesRack name bytes counts stands steady member result self.old self.new }
-        ensures stands { IfOk result (λ found. IsSome found → stands self.new member) }
+        ensures stands { IfOk result (λ found. IsSome found → stands self.new member ≡ true) }
+        ensures made { made self.old (RackCall.looks member ∷ []) self.new }
         ensures writes { (counts self.new).writes ≡ (counts self.old).writes };
 
     /// Reads the bytes of a member at a place, counted from 0. The range is inside its length.
     fn read(&mut self, member: u8, place: u64, buf: &mut [u8]) -> Result<(), Failed>
-        requires stands { stands self.old member }
+        requires stands { stands self.old member ≡ true }
         requires range { IfSome (bytes self.old member) (λ all. place + length buf.old ≤ length all) }
         ensures ok { OnOk result (Told (Reads place buf.new) (bytes self.old member) (bytes self.new member)) }
         ensures same { Told IsSame (bytes self.old member) (bytes self.new member) }
+        ensures made { made self.old (RackCall.calls member ∷ []) self.new }
         ensures leaves { LeavesRack name bytes counts stands steady member result self.old self.new }
         ensures writes { (counts self.new).writes ≡ (counts self.old).writes };
 
     /// Writes the bytes of a member at a place. The range is inside its length. A failed write leaves any bytes in the
     /// range, and the rest as it was; on a steady rack a page at the front is written whole or not at all.
     fn write(&mut self, member: u8, place: u64, buf: &[u8]) -> Result<(), Failed>
-        requires stands { stands self.old member }
+        requires stands { stands self.old member ≡ true }
         requires range { IfSome (bytes self.old member) (λ all. place + length buf.now ≤ length all) }
         ensures ok { OnOk result (Told (Patched place buf.now) (bytes self.old member) (bytes self.new member)) }
         ensures err { OnErr result (Told (Torn place (length buf.now)) (bytes self.old member) (bytes self.new member)) }
         ensures whole { OnErr result (steady self.old → IsHeader place buf.now
             → Told (OldOrNew place buf.now) (bytes self.old member) (bytes self.new member)) }
+        ensures made { made self.old (RackCall.calls member ∷ []) self.new }
         ensures leaves { LeavesRack name bytes counts stands steady member result self.old self.new }
         ensures writes { RoseByOne (counts self.old).writes (counts self.new).writes };
 
     /// Makes the member so many bytes long, with zeros at its end. It isn't longer before. A failed one leaves the bytes
     /// as they were, with any end behind them.
     fn extend(&mut self, member: u8, length: u64) -> Result<(), Failed>
-        requires stands { stands self.old member }
+        requires stands { stands self.old member ≡ true }
         requires longer { IfSome (bytes self.old member) (FitsIn length) }
         ensures ok { OnOk result (Told (Extended length) (bytes self.old member) (bytes self.new member)) }
         ensures err { OnErr result (Told KeepsFront (bytes self.old member) (bytes self.new member)) }
+        ensures made { made self.old (RackCall.calls member ∷ []) self.new }
         ensures leaves { LeavesRack name bytes counts stands steady member result self.old self.new }
         ensures writes { RoseByOne (counts self.old).writes (counts self.new).writes };
+
+    /// No call at all.
+    ghost made_none: { (s : Self) → made s [] s };
+
+    /// Calls, and then others.
+    ghost made_both: { (a b c : Self) (x y : List RackCall) → made a x b → made b y c → made a (x ++ y) c };
+
+    /// What calls leave.
+    ghost after: { (a b : Self) (calls : List RackCall) → made a calls b
+        → AfterCalls name bytes counts stands steady tells keeps disks calls a b };
+
+    /// A member whose bytes are told is one that it tells.
+    ghost tells_told: { (s : Self) (q : ℕ) → IsSome (bytes s q) → tells s q };
+
+    /// It tells the bytes of such a member while that stands.
+    ghost told: { (s : Self) (q : ℕ) → tells s q → stands s q ≡ true → IsSome (bytes s q) };
 }
 
 /// Writes the whole piece, or fails after a part of it.

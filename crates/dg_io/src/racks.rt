@@ -1,10 +1,14 @@
 // Racks in memory. Their calls are counted from 0.
-ghost use Rattle.std.specs.Prelude.{◌≡◌, ◌≢◌, ◌⊎◌, ◌↔◌, ◌+◌, ◌≤◌, ◌<◌, [], ℕ, Option, None, true};
+ghost use Rattle.std.specs.Prelude.{◌≡◌, ◌≢◌, ◌⊎◌, ◌↔◌, ◌+◌, ◌≤◌, ◌<◌, ◌∷◌, [], ℕ, Option, None, true};
 ghost use Rattle.std.specs.Prelude.{false, length, slice_index, OnOk, OnErr, IfOk, IfSome, IsSome, IsErr, IsTrue, All, Some};
 ghost use Rattle.dg_model.specs.Causes.{Rose, RoseByOne};
 ghost use Rattle.dg_io.specs.Calls.{LeavesRack};
 ghost use Rattle.dg_io.specs.Faults.{HasCause};
 ghost use Rattle.dg_io.specs.Told.{Told, IsSame, IsZeros, Measures, IsEmpty, Reads, Patched, Torn, FitsIn, Extended, KeepsFront, IsHeader, OldOrNew};
+ghost use Rattle.dg_io.specs.Kept.{KeepsRest};
+ghost use Rattle.dg_io.specs.MemMade.{mem_made_none, mem_made_both, sure_made_none, sure_made_both};
+ghost use Rattle.dg_io.specs.RackCalls.{RackCall};
+ghost use Rattle.dg_io.specs.Racks.{told_in, keeps_in, disks_in, made_in, sure_told, sure_keeps, sure_disks, sure_made};
 ghost use Rattle.dg_io.specs.Racks.{name_in, counts_in, member_in, stands_in, steady_in, there_in, members_in, room_in};
 ghost use Rattle.dg_io.specs.Racks.{rack_fails, IsListed, IsAbsent, IsPast, StaysMade, sure_name, sure_counts, sure_room_in};
 ghost use Rattle.dg_io.specs.Racks.{sure_member, sure_members_in, sure_there_in, sure_stands, sure_steady, tells_in, SureStays};
@@ -129,10 +133,20 @@ impl Rack for MemRack {
 
     ghost steady = { steady_in };
 
+    ghost tells = { told_in };
+
+    ghost keeps = { keeps_in };
+
+    ghost disks = { disks_in };
+
+    ghost made = { made_in };
+
     /// It fails exactly where the call is listed, or the member can't have so many bytes.
     fn blank(&mut self, member: u8, length: u64) -> Result<(), Failed>
         ensures ok { OnOk result (Told (IsZeros length) (member_in self.old member) (member_in self.new member)) }
         ensures leaves { LeavesRack name_in member_in counts_in stands_in steady_in member result self.old self.new }
+        ensures keeps { KeepsRest keeps_in stands_in member self.old self.new }
+        ensures made { made_in self.old (RackCall.blanks member ∷ []) self.new }
         ensures writes { RoseByOne (counts_in self.old).writes (counts_in self.new).writes }
         ensures fails { IsErr result ↔ (IsListed self.old ⊎ IsPast self.old member length) }
         ensures there { OnOk result (there_in self.new member ≡ true) }
@@ -153,6 +167,7 @@ impl Rack for MemRack {
         ensures absent { IfOk result (λ found. found ≡ None → Told IsEmpty (member_in self.old member) (member_in self.new member)) }
         ensures same { Told IsSame (member_in self.old member) (member_in self.new member) }
         ensures leaves { LeavesRack name_in member_in counts_in stands_in steady_in member result self.old self.new }
+        ensures made { made_in self.old (RackCall.looks member ∷ []) self.new }
         ensures writes { (counts_in self.new).writes ≡ (counts_in self.old).writes }
         ensures fails { IsErr result ↔ IsListed self.old }
         ensures finds { IfOk result (λ found. IsSome found ↔ (there_in self.old member ≡ true)) }
@@ -172,6 +187,7 @@ impl Rack for MemRack {
         ensures ok { OnOk result (Told (Reads place buf.new) (member_in self.old member) (member_in self.new member)) }
         ensures same { Told IsSame (member_in self.old member) (member_in self.new member) }
         ensures leaves { LeavesRack name_in member_in counts_in stands_in steady_in member result self.old self.new }
+        ensures made { made_in self.old (RackCall.calls member ∷ []) self.new }
         ensures writes { (counts_in self.new).writes ≡ (counts_in self.old).writes }
         ensures fails { IsErr result ↔ (IsListed self.old ⊎ IsAbsent self.old member) }
         ensures there { (q : ℕ) → there_in self.new q ≡ there_in self.old q }
@@ -192,6 +208,7 @@ impl Rack for MemRack {
         ensures whole { OnErr result (steady_in self.old → IsHeader place buf.now
             → Told (OldOrNew place buf.now) (member_in self.old member) (member_in self.new member)) }
         ensures leaves { LeavesRack name_in member_in counts_in stands_in steady_in member result self.old self.new }
+        ensures made { made_in self.old (RackCall.calls member ∷ []) self.new }
         ensures writes { RoseByOne (counts_in self.old).writes (counts_in self.new).writes }
         ensures fails { IsErr result ↔ (IsListed self.old ⊎ IsAbsent self.old member) }
         ensures there { (q : ℕ) → there_in self.new q ≡ there_in self.old q }
@@ -212,6 +229,7 @@ impl Rack for MemRack {
         ensures ok { OnOk result (Told (Extended length) (member_in self.old member) (member_in self.new member)) }
         ensures err { OnErr result (Told KeepsFront (member_in self.old member) (member_in self.new member)) }
         ensures leaves { LeavesRack name_in member_in counts_in stands_in steady_in member result self.old self.new }
+        ensures made { made_in self.old (RackCall.calls member ∷ []) self.new }
         ensures writes { RoseByOne (counts_in self.old).writes (counts_in self.new).writes }
         ensures fails { IsErr result ↔ (IsListed self.old ⊎ (IsAbsent self.old member ⊎ (room_in self.old member < length))) }
         ensures there { (q : ℕ) → there_in self.new q ≡ there_in self.old q }
@@ -224,6 +242,16 @@ impl Rack for MemRack {
             Err(_) => self.fault(member),
         }
     }
+
+    ghost made_none = { λ s. mem_made_none s };
+
+    ghost made_both = { λ a b c x y first second. mem_made_both a b c x y first second };
+
+    ghost after = { λ a b calls made. made };
+
+    ghost tells_told = { λ s q h. h };
+
+    ghost told = { λ s q h stand. h };
 }
 
 /// A rack of members in memory, which never fails. Where it is asked for more than it has room for, it succeeds, and
@@ -267,10 +295,20 @@ impl Rack for SureRack {
 
     ghost steady = { sure_steady };
 
+    ghost tells = { sure_told };
+
+    ghost keeps = { sure_keeps };
+
+    ghost disks = { sure_disks };
+
+    ghost made = { sure_made };
+
     /// It tells on exactly where there is room for so many bytes.
     fn blank(&mut self, member: u8, length: u64) -> Result<(), Failed>
         ensures ok { OnOk result (Told (IsZeros length) (sure_member self.old member) (sure_member self.new member)) }
         ensures leaves { LeavesRack sure_name sure_member sure_counts sure_stands sure_steady member result self.old self.new }
+        ensures keeps { KeepsRest sure_keeps sure_stands member self.old self.new }
+        ensures made { sure_made self.old (RackCall.blanks member ∷ []) self.new }
         ensures writes { RoseByOne (sure_counts self.old).writes (sure_counts self.new).writes }
         ensures tells { (tells_in self.new ≡ true)
             ↔ ((tells_in self.old ≡ true) × (member < sure_members_in self.old) × (length ≤ sure_room_in self.old member)) }
@@ -290,6 +328,7 @@ impl Rack for SureRack {
         ensures absent { IfOk result (λ found. found ≡ None → Told IsEmpty (sure_member self.old member) (sure_member self.new member)) }
         ensures same { Told IsSame (sure_member self.old member) (sure_member self.new member) }
         ensures leaves { LeavesRack sure_name sure_member sure_counts sure_stands sure_steady member result self.old self.new }
+        ensures made { sure_made self.old (RackCall.looks member ∷ []) self.new }
         ensures writes { (sure_counts self.new).writes ≡ (sure_counts self.old).writes }
         ensures finds { IfOk result (λ found. IsSome found ↔ (sure_there_in self.old member ≡ true)) }
         ensures tells { tells_in self.new ≡ tells_in self.old }
@@ -307,6 +346,7 @@ impl Rack for SureRack {
         ensures ok { OnOk result (Told (Reads place buf.new) (sure_member self.old member) (sure_member self.new member)) }
         ensures same { Told IsSame (sure_member self.old member) (sure_member self.new member) }
         ensures leaves { LeavesRack sure_name sure_member sure_counts sure_stands sure_steady member result self.old self.new }
+        ensures made { sure_made self.old (RackCall.calls member ∷ []) self.new }
         ensures writes { (sure_counts self.new).writes ≡ (sure_counts self.old).writes }
         ensures tells { sure_there_in self.old member ≡ true → tells_in self.new ≡ tells_in self.old }
         ensures stays { SureStays self.old self.new }
@@ -325,6 +365,7 @@ impl Rack for SureRack {
         ensures whole { OnErr result (sure_steady self.old → IsHeader place buf.now
             → Told (OldOrNew place buf.now) (sure_member self.old member) (sure_member self.new member)) }
         ensures leaves { LeavesRack sure_name sure_member sure_counts sure_stands sure_steady member result self.old self.new }
+        ensures made { sure_made self.old (RackCall.calls member ∷ []) self.new }
         ensures writes { RoseByOne (sure_counts self.old).writes (sure_counts self.new).writes }
         ensures tells { sure_there_in self.old member ≡ true → tells_in self.new ≡ tells_in self.old }
         ensures stays { SureStays self.old self.new }
@@ -342,6 +383,7 @@ impl Rack for SureRack {
         ensures ok { OnOk result (Told (Extended length) (sure_member self.old member) (sure_member self.new member)) }
         ensures err { OnErr result (Told KeepsFront (sure_member self.old member) (sure_member self.new member)) }
         ensures leaves { LeavesRack sure_name sure_member sure_counts sure_stands sure_steady member result self.old self.new }
+        ensures made { sure_made self.old (RackCall.calls member ∷ []) self.new }
         ensures writes { RoseByOne (sure_counts self.old).writes (sure_counts self.new).writes }
         ensures tells { (tells_in self.new ≡ true)
             ↔ ((tells_in self.old ≡ true) × (sure_there_in self.old member ≡ true) × (length ≤ sure_room_in self.old member)) }
@@ -354,4 +396,14 @@ impl Rack for SureRack {
         }
         Ok(())
     }
+
+    ghost made_none = { λ s. sure_made_none s };
+
+    ghost made_both = { λ a b c x y first second. sure_made_both a b c x y first second };
+
+    ghost after = { λ a b calls made. made };
+
+    ghost tells_told = { λ s q h. h };
+
+    ghost told = { λ s q h stand. h };
 }

@@ -1,17 +1,19 @@
 -- What passes over the members leave of a label and a body.
-use Rattle.std.proofs.Common.{◌≡◌, ◌≢◌, ◌∙◌, ◌<◌, ◌≤◌, ◌+◌, ◌*◌, ◌/◌, ◌%◌, ◌^◌, ◌&&◌, ◌||◌, ℕ, Bool, true, false, not, List, length, inl, inr, refl, sym, ap, subst, take, arith}
+use Rattle.std.proofs.Common.{◌≡◌, ◌≢◌, ◌⊎◌, ◌∙◌, ◌<◌, ◌≤◌, ◌+◌, ◌*◌, ◌/◌, ◌%◌, ◌^◌, ◌&&◌, ◌||◌, ℕ, Bool, true, false, not, List, length, inl, inr, refl, sym, ap, subst, take, arith}
 use Rattle.std.specs.Prelude.{Err, IfOk, IfSome, IsSomeAnd, None, Ok, Option, Result, Some, replicate, if◌then◌else◌}
-use Rattle.std.proofs.lemmas.Bool.{and_from, and_parts, both_ways, cases_lt, false≢true}
+use Rattle.std.proofs.lemmas.Bool.{and_from, and_parts, both_ways, cases_Bool, cases_lt, false≢true, or_left}
 use Rattle.dg_io.specs.Told.{Extended, FitsIn, IsSame, Patched, Told}
 use Rattle.dg_io.specs.declared.outside.Rack.{Ghosts}
-use Rattle.dg_label.specs.Labels.{AreNumbers, AreNumbersOf, HasLength, IsLabeled, StandsLabeled, next_number}
-use Rattle.dg_label.specs.Passes.{AreWhole, Passes, numbered}
+use Rattle.dg_label.specs.Labels.{AreFresh, AreNumbers, AreNumbersOf, HasLength, IsLabeled, IsOfArray, StandsLabeled, is_sealed, next_number, unsealed}
+use Rattle.dg_label.specs.Passes.{AreWhole, FillingStay, Passes, numbered}
 use Rattle.dg_label.specs.Seals.{HasGood, HasNoGood, KeepsArray, OpensSeal, saved_label}
 use Rattle.dg_label.specs.declared.labels.KeptLabel.{KeptLabel}
 use Rattle.dg_label.proofs.ByteLaws.{body_stays, body_there, extended_long, front_there, label_long, patched_long}
-use Rattle.dg_label.proofs.PassLaws.{filling_kept, good_kept, good_or_filling, stood_kept}
+use Rattle.dg_label.proofs.PassLaws.{filling_bad, filling_kept, good_kept, good_or_filling, keeps_none, stood_kept, told_is}
+use Rattle.dg_model.specs.Blocks.{zeros}
 use Rattle.dg_model.specs.Members.{is_filling, is_good, partner_of}
 use Rattle.dg_model.specs.Saves.{BeginsWith, HasBody, IsLabel, Label, body_place, label_bytes, member_length, room_of}
+use Rattle.dg_model.specs.Saves as saves
 use Rattle.dg_model.specs.Seals.{LastLabel, label_after, label_on}
 use Rattle.dg_model.specs.Shapes.{IsShape}
 use Rattle.dg_model.specs.States.{IsLeastLost}
@@ -45,6 +47,14 @@ pub flipped : (b : Bool) → not b ≡ false → b ≡ true
 flipped true e = refl
 flipped false e = sym e
 
+pub unflipped : (b : Bool) → not b ≡ true → b ≡ false
+unflipped true e = sym e
+unflipped false e = refl
+
+unsealed_same : (label : Option KeptLabel) → is_sealed label ≡ false → label ≡ unsealed label
+unsealed_same None none = refl
+unsealed_same (Some kept) none = ap (λ (b : Bool). Some (record kept { sealed = b })) none
+
 -- ---- numbers
 
 pub next_first : (label : Option KeptLabel) → 1 ≤ next_number label
@@ -62,16 +72,33 @@ is_label shape kept q is numbers within = record {
   body = numbers.body;
 }
 
-label_same : (shape : Shape) (last : LastLabel) (kept : KeptLabel) (q : ℕ) → AreNumbersOf last kept → numbered shape kept q ≡ label_on shape last q
-label_same shape last kept q same = λ i. record {
+label_same : (shape : Shape) (last : LastLabel) (kept : KeptLabel) (q : ℕ) → AreNumbersOf last kept → IsOfArray shape last → numbered shape kept q ≡ label_on last q
+label_same shape last kept q same of_array = λ i. record {
   format = sym same.format i;
   sequence = sym same.sequence i;
   sealed = sym same.sealed i;
-  boundary = q / 2;
-  side = q % 2;
-  shape = shape;
+  boundary = sym (of_array.numbers_are q) i / 2;
+  side = sym (of_array.numbers_are q) i % 2;
+  shape = sym of_array.shape_is i;
   body = sym same.body i;
 }
+
+-- a member as long as the array's label says is so as the model's label says
+size_is : (shape : Shape) (last : LastLabel) (kept : KeptLabel) (q size : ℕ) → AreNumbersOf last kept → IsOfArray shape last → (kept.format ≡ 1) ⊎ (kept.format ≡ 2)
+    → HasLength shape (Some kept) size → saves.HasLength (label_on last q) size
+size_is shape last kept q size same of_array formats has = subst (λ (l : Label). saves.HasLength l size) (label_same shape last kept q same of_array) numbered_size
+  where
+    numbered_size : saves.HasLength (numbered shape kept q) size
+    numbered_size = elim has [
+      | inl new ↦ elim formats [ inl one ↦ inr (one, new) | inr two ↦ inl (new ∙ ap (λ (f : ℕ). member_length f shape) (sym two)) ]
+      | inr old ↦ inl (old.1 ∙ ap (λ (f : ℕ). member_length f shape) (sym old.0))
+    ]
+
+-- a member that isn't good keeps no label once its seal is opened
+kept_none : (x y z : Bool) → z ≡ false → (x && (y && z)) ≡ false
+kept_none false y z bad = refl
+kept_none true false z bad = refl
+kept_none true true z bad = bad
 
 module _ {R : Type 0} (rack : Ghosts R) where
   -- ---- which members there are
@@ -89,6 +116,12 @@ module _ {R : Type 0} (rack : Ghosts R) where
   filling_stands : (a : Store R) (q : ℕ) → is_filling (members_of a q) ≡ true → members_of a q ≢ Out
   filling_stands a q filling out = false≢true (sym (ap is_filling out) ∙ filling)
 
+  filling_within : (a : Store R) (q : ℕ) → IsSound rack a → is_filling (members_of a q) ≡ true → q / 2 < (shape_of a).b
+  filling_within a q sound filling = elim (cases_lt (q / 2) (shape_of a).b) [
+    | inl low ↦ low
+    | inr high ↦ absurd (filling_stands a q filling (sound.others q high))
+  ]
+
   -- where none is good, none stands
   none_stands : (a : Store R) → IsSound rack a → HasNoGood a → (q : ℕ) → members_of a q ≢ Out → ⊥
   none_stands a sound none q stands = elim (good_or_filling (members_of a q) stands) [
@@ -105,6 +138,35 @@ module _ {R : Type 0} (rack : Ghosts R) where
   none_past a n sound past none q = elim (cases_lt q n) [
     | inl low ↦ none q low
     | inr high ↦ ap is_good (sound.others q (omega (arith, past, high)))
+  ]
+
+  -- ---- members that are refilled
+
+  -- where a label would be, each of them has zeros
+  abbrev FillingFresh : Store R → Type 0
+  FillingFresh store = (q : ℕ) → is_filling (members_of store q) ≡ true → IfSome (rack.bytes (rack_of store) q) (λ all. take 512 all ≡ zeros 512)
+
+  filling_fresh : (a : Store R) (label : Option KeptLabel) (last : Option LastLabel) → IsSound rack a → StandsLabeled rack a label last → FillingFresh a
+  filling_fresh a label last sound stands q filling = stands.fresh q (filling_within a q sound filling) (filling_stands a q filling) (stands.filling q filling)
+
+  -- so they have while their bytes stay
+  pub fresh_on : (a b : Store R) → KeepsArray rack a b → FillingStay rack a b → FillingFresh a → FillingFresh b
+  fresh_on a b keeps stay fresh q filling =
+      told_is (λ all. take 512 all ≡ zeros 512) (rack.bytes (rack_of a) q) (rack.bytes (rack_of b) q) (stay q filling) (fresh q (filling_kept rack a b q keeps filling))
+
+  -- and once a seal was opened
+  pub fresh_opened : (a b : Store R) (before after : Option KeptLabel) (last : Option LastLabel) → IsSound rack a → OpensSeal rack a b before after
+      → StandsLabeled rack a before last → FillingFresh b
+  fresh_opened a b before after last sound opens stands = elim (cases_Bool (is_sealed before)) [
+    | inl sealed ↦ filling_fresh b after (label_after true (members_of a) (members_of b) last) opens.array.sound (opens.stands last sealed stands)
+    | inr other ↦ subst (λ (s : Store R). FillingFresh s) (sym (opens.quiet other)) (filling_fresh a before last sound stands)
+  ]
+
+  -- no other members are without a label where each good one keeps it
+  fresh_rest : (b : Store R) (last : LastLabel) → ((q : ℕ) → is_good (members_of b q) ≡ true → last.keepers q ≡ true) → FillingFresh b → AreFresh rack b (Some last)
+  fresh_rest b last each fresh q within stands none = elim (good_or_filling (members_of b q) stands) [
+    | inl good ↦ absurd (both_ways (last.keepers q) none (each q good))
+    | inr filling ↦ fresh q filling
   ]
 
   -- ---- how long members are
@@ -159,6 +221,18 @@ module _ {R : Type 0} (rack : Ghosts R) where
       weaker (λ all. HasLength (shape_of a) kept (length all)) (λ all. length all ≡ member_length 2 (shape_of a)) (rack.bytes (rack_of a) q)
       (λ all long. elim long [ inl same ↦ same | inr old ↦ absurd (other old.0) ])
       (labeled.lengths q stands)
+
+  -- where there is no seal, none is opened
+  pub opens_none : (a : Store R) (label : Option KeptLabel) → IsSound rack a → IsLabeled rack a label → is_sealed label ≡ false → OpensSeal rack a a label label
+  opens_none a label sound labeled none = record {
+    array = keeps_none rack a sound;
+    labeled = labeled;
+    after_is = unsealed_same label none;
+    quiet = λ other. refl;
+    stands = λ last sealed. absurd (both_ways (is_sealed label) none sealed);
+    wrote = λ sealed. absurd (both_ways (is_sealed label) none sealed);
+    most = omega arith;
+  }
 
   module _ (a b : Store R) (sound : IsSound rack a) where
     abbrev Labels : KeptLabel → Type 0
@@ -221,9 +295,15 @@ module _ {R : Type 0} (rack : Ghosts R) where
     opens_all last true = refl
     opens_all last false = refl
 
-    opened_stands : (kept : KeptLabel) (last : LastLabel) → AreNumbers (shape_of a) kept → Labels (record kept { sealed = false }) → AreNumbersOf last kept
-        → StandsLabeled rack b (Some (record kept { sealed = false })) (Some (opened last))
-    opened_stands kept last numbers passes same =
+    opened_stands : (kept : KeptLabel) (last : LastLabel) → kept.sealed ≡ true → AreNumbers (shape_of a) kept → Labels (record kept { sealed = false })
+        → IsLabeled rack b (Some (record kept { sealed = false }))
+        → StandsLabeled rack a (Some kept) (Some last) → StandsLabeled rack b (Some (record kept { sealed = false })) (Some (opened last))
+    opened_stands kept last is numbers passes labeled stands =
+        let same : AreNumbersOf last kept = stands.kept in
+        let of_array : IsOfArray (shape_of b) (opened last) = record {
+          shape_is = stands.of_array.shape_is ∙ sym passes.array.stays.shape;
+          numbers_are = stands.of_array.numbers_are;
+        } in
         let next : KeptLabel = record kept { sealed = false } in
         let next_numbers : AreNumbers (shape_of a) next = record { formats = numbers.formats; first = numbers.first; last = numbers.last; body = numbers.body } in
         let of_next : AreNumbersOf (opened last) next = record { format = same.format; sequence = same.sequence; sealed = refl; body = same.body } in
@@ -233,10 +313,24 @@ module _ {R : Type 0} (rack : Ghosts R) where
             label = λ q keeps.
                 let parts = and_parts (last.sealed || last.keepers q) (is_good (members_of a q) && is_good (members_of b q)) keeps in
                 let good = (and_parts (is_good (members_of a q)) (is_good (members_of b q)) parts.1).1 in
-                subst (λ (l : Label). IfSome (rack.bytes (rack_of b) q) (λ all. BeginsWith all l)) (label_same (shape_of b) (opened last) next q of_next)
+                subst (λ (l : Label). IfSome (rack.bytes (rack_of b) q) (λ all. BeginsWith all l)) (label_same (shape_of b) (opened last) next q of_next of_array)
                 (have_labels next next_numbers passes q good);
             body = λ q keeps sealed. absurd (false≢true sealed);
           };
+          sizes = λ q keeps.
+              let parts = and_parts (last.sealed || last.keepers q) (is_good (members_of a q) && is_good (members_of b q)) keeps in
+              let good = (and_parts (is_good (members_of a q)) (is_good (members_of b q)) parts.1).1 in
+              weaker (λ all. HasLength (shape_of b) (Some next) (length all)) (λ all. saves.HasLength (label_on (opened last) q) (length all)) (rack.bytes (rack_of b) q)
+              (λ all long. size_is (shape_of b) (opened last) next q (length all) of_next of_array numbers.formats long)
+              (labeled.lengths q (good_stands b q good));
+          of_array = of_array;
+          filling = λ q filling.
+              kept_none (last.sealed || last.keepers q) (is_good (members_of a q)) (is_good (members_of b q)) (filling_bad (members_of b q) filling);
+          fresh = fresh_rest b (opened last)
+              (λ q good. and_from (last.sealed || last.keepers q) (is_good (members_of a q) && is_good (members_of b q))
+              (or_left last.sealed (last.keepers q) (same.sealed ∙ is))
+              (and_from (is_good (members_of a q)) (is_good (members_of b q)) (good_kept rack a b q passes.array good) good))
+              (fresh_on a b passes.array passes.filling (filling_fresh a (Some kept) (Some last) sound stands));
         }
 
     pub opens_seal : (kept : KeptLabel) → kept.sealed ≡ true → IsLabeled rack a (Some kept) → Labels (record kept { sealed = false })
@@ -259,8 +353,11 @@ module _ {R : Type 0} (rack : Ghosts R) where
             → StandsLabeled rack b (Some (record kept { sealed = false })) (label_after true (members_of a) (members_of b) last)
         at_last None stands = absurd stands.kept
         at_last (Some last) stands =
+            let n = labeled.numbers in
+            let next : KeptLabel = record kept { sealed = false } in
+            let next_numbers : AreNumbers (shape_of a) next = record { formats = n.formats; first = n.first; last = n.last; body = n.body } in
             subst (λ (l : LastLabel). StandsLabeled rack b (Some (record kept { sealed = false })) (Some l)) (sym (opens_all last last.sealed))
-            (opened_stands kept last labeled.numbers passes stands.kept)
+            (opened_stands kept last is labeled.numbers passes (labeled_after kept next refl next_numbers labeled passes) stands)
 
     -- ---- saving
 
@@ -319,7 +416,7 @@ module _ {R : Type 0} (rack : Ghosts R) where
     -- what a save leaves on members that have the body already
     pub saved : (body : List ℕ) (kept : KeptLabel) → kept.format ≡ 2 → kept.sealed ≡ true → kept.body ≡ length body → 1 ≤ kept.sequence → kept.sequence < 2 ^ 63
         → length body ≤ room_of 2 (shape_of a) → AreWhole rack a → HaveBody a body → Labels kept
-        → IsLabeled rack b (Some kept) × StandsLabeled rack b (Some kept) (Some (saved_label b kept.sequence body))
+        → IsLabeled rack b (Some kept) × (FillingFresh b → StandsLabeled rack b (Some kept) (Some (saved_label b kept.sequence body)))
     saved body kept format sealed size first last room whole had passes =
         let numbers : AreNumbers (shape_of a) kept = record {
           formats = inr format;
@@ -328,7 +425,8 @@ module _ {R : Type 0} (rack : Ghosts R) where
           body = subst (λ (f : ℕ). kept.body ≤ room_of f (shape_of a)) (sym format) (omega (arith, size, room));
         } in
         let is_whole = whole_labels kept whole passes in
-        let of_kept : AreNumbersOf (saved_label b kept.sequence body) kept = record { format = sym format; sequence = refl; sealed = sym sealed; body = sym size } in (
+        let of_kept : AreNumbersOf (saved_label b kept.sequence body) kept = record { format = sym format; sequence = refl; sealed = sym sealed; body = sym size } in
+        let of_array : IsOfArray (shape_of b) (saved_label b kept.sequence body) = record { shape_is = refl; numbers_are = λ q. refl } in (
           record {
             numbers = subst (λ (sh : Shape). AreNumbers sh kept) (sym passes.array.stays.shape) numbers;
             lengths = λ q stands.
@@ -336,14 +434,20 @@ module _ {R : Type 0} (rack : Ghosts R) where
                 (λ all long. inl long) (is_whole q stands);
             filling = λ q filling. is_whole q (filling_stands b q filling);
           },
-          record {
+          λ fresh. record {
             kept = of_kept;
             holds = record {
               label = λ q good.
-                  subst (λ (l : Label). IfSome (rack.bytes (rack_of b) q) (λ all. BeginsWith all l)) (label_same (shape_of b) (saved_label b kept.sequence body) kept q of_kept)
-                  (have_labels kept numbers passes q good);
+                  subst (λ (l : Label). IfSome (rack.bytes (rack_of b) q) (λ all. BeginsWith all l))
+                  (label_same (shape_of b) (saved_label b kept.sequence body) kept q of_kept of_array) (have_labels kept numbers passes q good);
               body = λ q good is. have_body kept body passes had q good;
             };
+            sizes = λ q good.
+                weaker (λ all. length all ≡ member_length 2 (shape_of b)) (λ all. saves.HasLength (label_on (saved_label b kept.sequence body) q) (length all))
+                (rack.bytes (rack_of b) q) (λ all long. inl long) (is_whole q (good_stands b q good));
+            of_array = of_array;
+            filling = λ q filling. filling_bad (members_of b q) filling;
+            fresh = fresh_rest b (saved_label b kept.sequence body) (λ q good. good) fresh;
           },
         )
 
@@ -352,10 +456,14 @@ module _ {R : Type 0} (rack : Ghosts R) where
       → Passes rack (2 * (shape_of a).b) (λ (q : ℕ). Patched (body_place (shape_of a)) body) a b
       → Passes rack (2 * (shape_of b).b) (λ (q : ℕ). Patched 0 (label_bytes (numbered (shape_of b) kept q))) b c
       → kept.format ≡ 2 → kept.sealed ≡ true → kept.body ≡ length body → 1 ≤ kept.sequence → kept.sequence < 2 ^ 63
-      → IsLabeled rack c (Some kept) × StandsLabeled rack c (Some kept) (Some (saved_label c kept.sequence body))
+      → IsLabeled rack c (Some kept) × (FillingFresh a → StandsLabeled rack c (Some kept) (Some (saved_label c kept.sequence body)))
   save_stands a b c body kept sound whole room bodies labels format sealed size first last =
+      let both =
       saved b c bodies.array.sound body kept format sealed size first last (subst (λ (sh : Shape). length body ≤ room_of 2 sh) (sym bodies.array.stays.shape) room)
-      (whole_bodies a b sound body whole room bodies) (have_bodies a b sound body whole room bodies) labels
+      (whole_bodies a b sound body whole room bodies) (have_bodies a b sound body whole room bodies) labels in (
+        both.0,
+        λ fresh. both.1 (fresh_on b c labels.array labels.filling (fresh_on a b bodies.array bodies.filling fresh)),
+      )
 
   -- a label stays that of an array none of whose members stands
   pub none_labeled : (a b : Store R) (kept : Option KeptLabel) → IsLabeled rack a kept → KeepsArray rack a b → HasNoGood b → IsLabeled rack b kept

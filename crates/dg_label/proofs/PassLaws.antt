@@ -14,10 +14,10 @@ use Rattle.dg_pair.specs.declared.boundaries.ExtendAnswer.TheVariants as extende
 use Rattle.dg_pair.specs.declared.boundaries.NoteAnswer.{NoteAnswer}
 use Rattle.dg_pair.specs.declared.boundaries.NoteAnswer.TheVariants as noted
 use Rattle.dg_store.specs.Leaves.{BytesChange, CallsAtMost, HasWritten, OnlyBytesOf}
-use Rattle.dg_store.specs.ReadLaws.{rack_both}
+use Rattle.dg_store.specs.ReadLaws.{fell_both, idle_both, stays_both, stays_none}
 use Rattle.dg_store.specs.Stores.{IsSound, members_of, rack_of}
 use Rattle.dg_store.specs.declared.store.Store.{Store}
-use Rattle.dg_label.specs.Passes.{Passes, Touches}
+use Rattle.dg_label.specs.Passes.{FillingStay, Passes, Touches}
 use Rattle.dg_label.specs.Seals.{KeepsArray}
 
 -- ---- bytes that may be told
@@ -76,6 +76,12 @@ good_fills Good good filling = false≢true filling
 good_fills (Filling have) good filling = false≢true good
 good_fills Out good filling = false≢true good
 
+-- one that is refilled isn't good
+pub filling_bad : (m : MemberState) → is_filling m ≡ true → is_good m ≡ false
+filling_bad Good filling = sym filling
+filling_bad (Filling have) filling = refl
+filling_bad Out filling = refl
+
 out_fills : (m : MemberState) → m ≡ Out → is_filling m ≡ true → ⊥
 out_fills m out filling = false≢true (sym (ap is_filling out) ∙ filling)
 
@@ -108,15 +114,9 @@ module _ {R : Type 0} (rack : Ghosts R) where
   pub keeps_none : (a : Store R) → IsSound rack a → KeepsArray rack a a
   keeps_none a sound = record {
     sound = sound;
-    stays = record {
-      shape = refl;
-      stays = record {
-        rise = record { faults = λ q. omega arith; calls = omega arith; writes = omega arith };
-        tells = λ q told. told;
-        same_rack = refl;
-        steady_on = (λ h. h, λ h. h);
-      };
-    };
+    stays = stays_none rack a;
+    idle = λ q out. refl;
+    fell = λ q rose. absurd (omega (arith, rose));
     table = refl;
     falls = falls_same (faults a) (faults a) (members_of a);
     stands = λ V stands. stands;
@@ -125,7 +125,9 @@ module _ {R : Type 0} (rack : Ghosts R) where
   pub keeps_both : (a b c : Store R) → KeepsArray rack a b → KeepsArray rack b c → KeepsArray rack a c
   keeps_both a b c first second = record {
     sound = second.sound;
-    stays = record { shape = second.stays.shape ∙ first.stays.shape; stays = rack_both rack _ _ _ first.stays.stays second.stays.stays };
+    stays = stays_both rack a b c first.stays second.stays;
+    idle = idle_both (faults a) (faults b) (faults c) (members_of a) (members_of b) first.idle second.idle first.falls;
+    fell = fell_both (faults a) (faults b) (faults c) (members_of b) (members_of c) first.fell second.fell second.falls;
     table = second.table ∙ first.table;
     falls = falls_both (faults a) (faults b) (faults c) (members_of a) (members_of b) (members_of c)
         (rises a b first).faults (rises b c second).faults first.falls second.falls;
@@ -146,6 +148,9 @@ module _ {R : Type 0} (rack : Ghosts R) where
 
   pub wrote_before : (a b c : Store R) → KeepsArray rack a b → HasWritten rack b c → HasWritten rack a c
   wrote_before a b c keeps wrote = rose_before _ _ _ (rises a b keeps).writes wrote
+
+  pub filling_none : (a : Store R) → FillingStay rack a a
+  filling_none a q filling = told_same (rack.bytes (rack_of a) q)
 
   -- ---- one call
 

@@ -1,10 +1,12 @@
 -- What is kept of the last label of an array, beside the label of the model and the bytes of the members.
-use Rattle.std.specs.Prelude.{◌≡◌, ◌≢◌, ◌⊎◌, ◌+◌, ◌^◌, ◌<◌, ◌≤◌, ℕ, Bool, true, false, Option, Some, None, IfSome, IsSomeAnd, length}
+use Rattle.std.specs.Prelude.{◌≡◌, ◌≢◌, ◌⊎◌, ◌+◌, ◌^◌, ◌<◌, ◌≤◌, ◌/◌, ℕ, Bool, take, true, false, Option, Some, None, IfSome, IsSomeAnd, length}
 use Rattle.dg_io.specs.declared.outside.Rack.{Ghosts}
 use Rattle.dg_label.specs.declared.labels.KeptLabel.{KeptLabel}
+use Rattle.dg_model.specs.Blocks.{zeros}
 use Rattle.dg_model.specs.Members.{is_filling}
 use Rattle.dg_model.specs.Saves.{member_length, room_of}
-use Rattle.dg_model.specs.Seals.{HoldsLabel, LastLabel}
+use Rattle.dg_model.specs.Saves as saves
+use Rattle.dg_model.specs.Seals.{HoldsLabel, LastLabel, keeps_label, label_on}
 use Rattle.dg_model.specs.declared.members.MemberState.TheVariants.{Out}
 use Rattle.dg_model.specs.declared.shapes.Shape.{Shape}
 use Rattle.dg_store.specs.Stores.{members_of, rack_of, shape_of}
@@ -63,7 +65,27 @@ pub record IsLabeled {R : Type 0} (rack : Ghosts R) (store : Store R) (label : O
   pub filling : (q : ℕ) → is_filling (members_of store q) ≡ true
       → IfSome (rack.bytes (rack_of store) q) (λ all. length all ≡ member_length 2 (shape_of store))
 
--- The label is the last one of the model, and the members that keep it, and tell their bytes, have it.
+-- A label of this array: it has the array's numbers, and each member has the number that it had.
+pub record IsOfArray (shape : Shape) (last : LastLabel) : Type 0 where
+  pub shape_is : last.shape ≡ shape
+  pub numbers_are : (q : ℕ) → last.numbers q ≡ q
+
+-- A member that isn't out, and doesn't keep the label, was made anew since: where a label would be it has zeros.
+abbrev pub AreFresh : {R : Type 0} → Ghosts R → Store R → Option LastLabel → Type 0
+AreFresh rack store last =
+    (q : ℕ) → q / 2 < (shape_of store).b → members_of store q ≢ Out → keeps_label last q ≡ false
+    → IfSome (rack.bytes (rack_of store) q) (λ all. take 512 all ≡ zeros 512)
+
+-- each member that keeps the label, and tells its bytes, is as long as the label says; so is one that went out since
+abbrev pub AreSized : {R : Type 0} → Ghosts R → Store R → LastLabel → Type 0
+AreSized rack store last =
+    (q : ℕ) → last.keepers q ≡ true → IfSome (rack.bytes (rack_of store) q) (λ all. saves.HasLength (label_on last q) (length all))
+
+-- The label is the last one of the model, and the members that keep it, and tell their bytes, have it; none of them is refilled.
 pub record StandsLabeled {R : Type 0} (rack : Ghosts R) (store : Store R) (label : Option KeptLabel) (last : Option LastLabel) : Type 0 where
   pub kept : IsKeptOf last label
-  pub holds : IfSome last (λ label. HoldsLabel (shape_of store) label (rack.bytes (rack_of store)))
+  pub holds : IfSome last (λ label. HoldsLabel label (rack.bytes (rack_of store)))
+  pub sizes : IfSome last (AreSized rack store)
+  pub of_array : IfSome last (IsOfArray (shape_of store))
+  pub filling : (q : ℕ) → is_filling (members_of store q) ≡ true → keeps_label last q ≡ false
+  pub fresh : AreFresh rack store last

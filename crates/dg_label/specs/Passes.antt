@@ -24,6 +24,10 @@ numbered shape kept q = record {
   body = kept.body;
 }
 
+-- the bytes of each member that is refilled are as they were
+abbrev pub FillingStay : {R : Type 0} → Ghosts R → Store R → Store R → Type 0
+FillingStay rack old new = (q : ℕ) → is_filling (members_of new q) ≡ true → BytesChange rack old new q IsSame
+
 -- One call was made on member q, if it was good, and none else. Where it is good still, its bytes changed so.
 pub record Touches {R : Type 0} (rack : Ghosts R) (q : ℕ) (change : List ℕ → List ℕ → Type 0) (old new : Store R) : Type 0 where
   pub array : KeepsArray rack old new
@@ -38,7 +42,7 @@ pub record Passes {R : Type 0} (rack : Ghosts R) (first : ℕ) (change : ℕ →
   pub array : KeepsArray rack old new
   pub done : (q : ℕ) → q < first → is_good (members_of new q) ≡ true → BytesChange rack old new q (change q)
   pub rest : (q : ℕ) → first ≤ q → BytesChange rack old new q IsSame
-  pub filling : (q : ℕ) → is_filling (members_of new q) ≡ true → BytesChange rack old new q IsSame
+  pub filling : FillingStay rack old new
   pub stay_good : (q : ℕ) → first ≤ q → is_good (members_of old q) ≡ true → is_good (members_of new q) ≡ true
   pub most : CallsAtMost rack old new first
 

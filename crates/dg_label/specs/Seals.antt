@@ -8,7 +8,7 @@ use Rattle.dg_label.specs.declared.saves.SaveAnswer.TheVariants.{Lost, Saved}
 use Rattle.dg_model.specs.Members.{MembersFall, is_good}
 use Rattle.dg_model.specs.Seals.{LastLabel, label_after}
 use Rattle.dg_model.specs.States.{IsLeastLost}
-use Rattle.dg_store.specs.Leaves.{CallsAtMost, HasWritten, Stays}
+use Rattle.dg_store.specs.Leaves.{CallsAtMost, HasWritten, KeepsOut, PutsOut, Stays}
 use Rattle.dg_store.specs.Stores.{IsSound, KeepsBlocks, members_of, rack_of, shape_of, table_of}
 use Rattle.dg_store.specs.declared.store.Store.{Store}
 
@@ -19,10 +19,13 @@ HasGood store = (q : ℕ) × (is_good (members_of store q) ≡ true)
 abbrev pub HasNoGood : {R : Type 0} → Store R → Type 0
 HasNoGood store = (q : ℕ) → is_good (members_of store q) ≡ false
 
--- what writing beside the slots leaves of an array: no site moves, members only fall, and each block keeps its value
+-- What writing beside the slots leaves of an array: no site moves, only members that aren't out are called, they only fall, and each block
+-- keeps its value.
 pub record KeepsArray {R : Type 0} (rack : Ghosts R) (old new : Store R) : Type 0 where
   pub sound : IsSound rack new
   pub stays : Stays rack old new
+  pub idle : KeepsOut rack old new
+  pub fell : PutsOut rack old new
   pub table : table_of new ≡ table_of old
   pub falls : MembersFall (rack.counts (rack_of old)).faults (rack.counts (rack_of new)).faults (members_of old) (members_of new)
   pub stands : KeepsBlocks rack old new
@@ -45,13 +48,17 @@ saved_label store sequence body = record {
   format = 2;
   sequence = sequence;
   sealed = true;
+  shape = shape_of store;
   body = body;
   keepers = λ q. is_good (members_of store q);
+  bodies = λ q. is_good (members_of store q);
+  numbers = λ q. q;
 }
 
--- By the answer: each good member has the body and the label, sealed, under the next number; or none is good, and of the label the
--- numbers stay.
+-- By the answer: wherever an array stood with its label, each good member has the body and the label now, sealed, under the next number; or
+-- none is good, and of the label the numbers stay.
 abbrev pub AnswersSave : {R : Type 0} → Ghosts R → List ℕ → Store R → Store R → Option KeptLabel → Option KeptLabel → SaveAnswer → Type 0
 AnswersSave rack body old new before after (Saved sequence) =
-    HasGood new × (sequence ≡ next_number before) × StandsLabeled rack new after (Some (saved_label new sequence body))
+    HasGood new × (sequence ≡ next_number before)
+    × ((last : Option LastLabel) → StandsLabeled rack old before last → StandsLabeled rack new after (Some (saved_label new sequence body)))
 AnswersSave rack body old new before after (Lost s) = HasNoGood new × IsLeastLost (shape_of new) (members_of new) s × (after ≡ before)

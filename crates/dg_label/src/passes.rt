@@ -2,7 +2,7 @@
 ghost use Rattle.std.specs.Prelude.{◌≡◌, ◌+◌, ◌*◌, ◌<◌, ◌≤◌, ℕ, IfSome, length, false, true};
 ghost use Rattle.dg_io.specs.Told.{Extended, FitsIn, Patched};
 ghost use Rattle.dg_label.specs.Labels.{AreNumbers, IsLabeled};
-ghost use Rattle.dg_label.specs.Passes.{AreWhole, Passes, Touches, numbered};
+ghost use Rattle.dg_label.specs.Passes.{AreWhole, FillingStay, Passes, Touches, numbered};
 ghost use Rattle.dg_label.specs.Seals.{HasGood, HasNoGood, KeepsArray};
 ghost use Rattle.dg_model.specs.Members.{is_good};
 ghost use Rattle.dg_model.specs.Saves.{body_place as place_of_body, label_bytes, member_length as length_of, room_of};
@@ -109,6 +109,7 @@ pub fn lengthen<R: Rack>(store: &mut Store<R>, label: &Option<KeptLabel>)
     requires sound { IsSound R.Rack store.old }
     requires labeled { IsLabeled R.Rack store.old label.now }
     ensures array { KeepsArray R.Rack store.old store.new }
+    ensures filling { FillingStay R.Rack store.old store.new }
     ensures whole { AreWhole R.Rack store.new }
 {
     let Some(kept) = label else {

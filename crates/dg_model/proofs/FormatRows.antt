@@ -112,7 +112,7 @@ copies_of_loose can = let e = ap phase_byte (can.settled (omega arith)) in omega
 -- ---- seals and marks
 
 abbrev sealed_label : LastLabel
-sealed_label = record { format = 2; sequence = 3; sealed = true; body = []; keepers = λ q. true }
+sealed_label = record { format = 2; sequence = 3; sealed = true; shape = shape; body = []; keepers = λ q. true; bodies = λ q. true; numbers = λ q. q }
 
 abbrev seal_of : Option LastLabel → Bool
 seal_of None = false

@@ -1,17 +1,20 @@
 -- What an opening takes of four members, three of which have the last save, and what it doesn't.
-use Rattle.std.proofs.Common.{◌≡◌, ◌<◌, ◌≤◌, ◌⊎◌, inl, inr, ℕ, zero, suc, Bool, true, false, cond, [], ◌∷◌, ap, refl, arith, sym, ◌∙◌, length}
+use Rattle.std.proofs.Common.{get_or, ◌≡◌, ◌<◌, ◌≤◌, ◌⊎◌, inl, inr, ℕ, zero, suc, Bool, true, false, cond, [], ◌∷◌, ap, refl, arith, sym, ◌∙◌, length}
 use Rattle.std.proofs.lemmas.Bool.{false≢true}
-use Rattle.std.specs.Prelude.{◌↔◌, ◌==◌, ◌/◌, ◌%◌, IsSome, Option, Some, None, is_some, nat_lt, ◌+◌, ◌||◌}
+use Rattle.std.specs.Prelude.{◌↔◌, ◌==◌, ◌/◌, ◌%◌, IsSome, Option, Some, None, is_some, nat_lt, ◌+◌, ◌||◌, ◌&&◌, if◌then◌else◌}
 use Rattle.std.specs.List.{list_any}
+use Rattle.std.specs.List.Sorted.{IsStrictlyIncreasing}
+use Rattle.dg_model.specs.Marks.{is_marked}
+use Rattle.dg_model.specs.Sites.{has_site}
 use Rattle.dg_model.specs.Causes.{Rose}
 use Rattle.dg_model.specs.Changes.{IsInOrder}
 use Rattle.dg_model.specs.Members.{is_good}
-use Rattle.dg_model.specs.Openings.{Found, HasLength, IsReopened, IsSource, IsUnclean, MayBeGood, Opens}
+use Rattle.dg_model.specs.Openings.{Found, IsReopened, IsSource, IsUnclean, MayBeGood, Opens}
 use Rattle.dg_model.specs.Placed.{IsPlaced, StandsOnJust, boundaries_with}
 use Rattle.dg_model.specs.Plans.{is_kept}
-use Rattle.dg_model.specs.Saves.{Label, SavedState, body_of}
+use Rattle.dg_model.specs.Saves.{HasLength, Label, SavedState, body_of}
 use Rattle.dg_model.specs.States.{Counts, State, is_broken, saved_of}
-use Rattle.dg_model.specs.Tables.{is_on}
+use Rattle.dg_model.specs.Tables.{is_on, sites_in}
 use Rattle.dg_model.specs.Wants.{want_of}
 use Rattle.dg_model.specs.declared.members.MemberState.{MemberState}
 use Rattle.dg_model.specs.declared.members.MemberState.TheVariants.{Good, Out}
@@ -175,7 +178,16 @@ members (suc (suc (suc q))) = Out
 abbrev opened_state : State
 opened_state = record (array_with both_on_0 at_home 9) {
   members = members;
-  label = Some (record { format = 2; sequence = 5; sealed = true; body = body_of 2 saved; keepers = λ q. is_good (members q) });
+  label = Some (record {
+    format = 2;
+    sequence = 5;
+    sealed = true;
+    shape = shape;
+    body = body_of 2 saved;
+    keepers = λ q. is_good (members q);
+    bodies = λ q. (q == 0) && is_good (members q);
+    numbers = λ q. q;
+  });
 }
 
 may_be : (q : ℕ) → members q ≡ Good → MayBeGood taken (label 0 5 true) saved q
@@ -225,18 +237,45 @@ holds = record {
   sound = λ told. absurd told;
 }
 
-opens : Opens ⊥ taken before opened_state
+two_ascend : IsStrictlyIncreasing (0 ∷ 1 ∷ [])
+two_ascend zero low = omega arith
+two_ascend (suc k) low = absurd (omega (arith, low))
+
+two_within : (k d : ℕ) → k < 2 → get_or (0 ∷ 1 ∷ []) k d < 2
+two_within zero d low = omega arith
+two_within (suc zero) d low = omega arith
+two_within (suc (suc k)) d low = absurd (omega (arith, low))
+
+none_cut : (b : ℕ) → is_marked (false ∷ false ∷ []) b ≡ true → has_site (sites_in both_on_0 b) ≡ false
+none_cut zero e = absurd (false≢true e)
+none_cut (suc zero) e = absurd (false≢true e)
+none_cut (suc (suc b)) e = absurd (false≢true e)
+
+opens : Opens ⊥ taken None before opened_state
 unfolding members
 opens = record {
   source = 0;
   label = label 0 5 true;
   saved = saved;
   is_source = source;
+  reduced = record { boundaries = 2; live = 0 ∷ 1 ∷ []; cut = false ∷ false ∷ [] };
+  reduced_is = refl;
+  fits = record {
+    most = omega arith;
+    live = record { ascend = two_ascend; within = two_within };
+    number = refl;
+    marks = refl;
+    unsited = none_cut;
+  };
+  boundaries = refl;
+  live = refl;
+  cut = refl;
   table = refl;
   homes = refl;
   recent = refl;
   good = may_be;
   out = out_or_good;
+  fell = λ q less. absurd (omega (arith, less));
   pending = record { size = refl; fewer = λ b e. e; are = λ told. absurd told };
   phase = record {
     worn = ((λ e. absurd (phase_apart Settled refl e)), (λ e. absurd (false≢true e)));
@@ -248,6 +287,11 @@ opens = record {
   body = refl;
   counts = record { faults = λ q. omega arith; calls = omega arith; writes = omega arith };
 }
+
+-- a member on which a call of the opening failed isn't good
+fallen_good : (Known : Type 0) → Opens Known taken None before (record opened_state { counts = record { faults = λ q. if q == 1 then 1 else 0; calls = 9; writes = 9 } }) → ⊥
+unfolding members
+fallen_good Known h = false≢true (sym (ap is_good (h.fell 1 (omega arith))))
 
 -- an array with a lost boundary isn't opened as a settled one
 broken_settled : (Known : Type 0) (state : State) → state.phase ≡ Settled → is_broken state ≡ true → IsReopened Known saved state → ⊥

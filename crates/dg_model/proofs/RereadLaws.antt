@@ -1,5 +1,5 @@
 -- Of calls after a write. A library for the crates above.
-use Rattle.std.proofs.Common.{◌≤◌, ◌+◌, ◌*◌, ℕ, [], arith}
+use Rattle.std.proofs.Common.{◌≢◌, ◌≤◌, ◌+◌, ◌*◌, ℕ, [], arith}
 use Rattle.std.specs.Prelude.{length, max}
 use Rattle.std.proofs.lemmas.List.Elements.{All-nil}
 use Rattle.ufs_model.specs.Blocks.{Volume}
@@ -17,6 +17,7 @@ no_rereads Known l n b old new = record {
   beside = [];
   beside_once = λ i j d less within. absurd (omega (arith, within));
   are_beside = λ known. All-nil (IsBeside l n old new b);
+  others = λ known. All-nil (λ f. f ≢ b);
 }
 
 -- a write that makes at most two calls for each of the block's sites, or for its first one

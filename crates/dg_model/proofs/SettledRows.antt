@@ -36,7 +36,7 @@ use Rattle.dg_model.specs.declared.verdicts.Who.TheVariants.{Dead, Pending as Is
 use Rattle.dg_model.specs.declared.wants.Want.{Want}
 use Rattle.dg_model.specs.declared.wants.Want.TheVariants.{File}
 use Rattle.dg_model.proofs.PlanRows.{home, on}
-use Rattle.dg_model.proofs.StepRows.{Rest, all_good, array_read, array_with, before, both_on_1, goes, is_loose, not_filling, nothing, reads, stays, table_with}
+use Rattle.dg_model.proofs.StepRows.{Rest, all_good, array_read, array_with, before, both_on_1, goes, is_loose, not_filling, nothing, reads, shape, table_with}
 use Rattle.dg_model.proofs.VerdictRows.{blocks, not_dead, plain}
 
 -- ---- settled: both blocks stand on boundary 0, which is the file's home
@@ -72,6 +72,7 @@ settled = (
       goes = goes both_on_1 both_on_0 nothing at_home;
       sound = λ told. absurd told;
       rest = refl;
+      still = λ none. absurd (omega (arith, none));
     },
   ),
 )
@@ -105,11 +106,12 @@ diffused = (
     spread = refl;
     gained_is = refl;
     rest = refl;
+    still = λ none. absurd (false≢true (sym none));
   },
 )
 
 -- a file that has a copy already gets no other
-diffused_again : Step ⊥ (array_with on_both copied 5) Diffuse (Diffused 0) (array_with on_both copied 9)
+diffused_again : Step ⊥ (array_with on_both copied 5) Diffuse (Diffused 0) (array_read on_both copied 9)
 unfolding all_good spread_over emptiest lowest_free
 diffused_again = (
   refl,
@@ -118,10 +120,11 @@ diffused_again = (
   record {
     wants = of_file;
     seen = record { fit = record { size = refl; written = written_both }; are = λ told. absurd told };
-    goes = goes on_both on_both copied copied;
+    goes = (reads on_both copied).goes;
     spread = refl;
     gained_is = refl;
     rest = refl;
+    still = λ none. refl;
   },
 )
   where
@@ -216,8 +219,11 @@ first_label = record {
   format = 2;
   sequence = 1;
   sealed = true;
+  shape = shape;
   body = body_of 2 (saved_of (array_with both_on_0 at_home 5) all_marks);
   keepers = λ q. is_good (all_good q);
+  bodies = λ q. is_good (all_good q);
+  numbers = λ q. q;
 }
 
 marks_good : (q : ℕ) → is_marked all_marks q ≡ is_good (all_good q)
@@ -235,6 +241,8 @@ saved = record {
     counts = record { faults = λ q. omega arith; calls = omega arith; writes = omega arith };
     members = λ q. inl refl;
     paired = not_filling;
+    faults = record { fell = λ q low less. absurd (omega (arith, less)); beyond = λ q high. refl };
+    out = λ q was. refl;
   };
   some = (0, refl);
   marks = all_marks;
@@ -291,9 +299,11 @@ replaced = (
       counts = record { faults = λ q. omega arith; calls = omega arith; writes = omega arith };
       label = record { opens = true; rose = λ a b. refl; stood = λ e. absurd (omega (arith, e)); is = refl };
       paired = paired_filling;
+      faults = record { fell = λ q low less. absurd (omega (arith, less)); beyond = λ q high. refl };
     };
     blank = refl;
     others = λ q e. inl (others_same q e);
+    out = λ q e was. refl;
     rest = refl;
   },
 )
@@ -327,7 +337,10 @@ rebuilt = (
         counts = record { faults = λ q. omega arith; calls = omega arith; writes = omega arith };
         label = record { opens = true; rose = λ a b. refl; stood = λ e. absurd (omega (arith, e)); is = refl };
         paired = not_filling;
+        faults = record { fell = λ q low less. absurd (omega (arith, less)); beyond = λ q high. refl };
       };
+      out = λ q was. refl;
+      kept = λ told. absurd told;
       reaps = record {
         run = omega arith;
         within = omega arith;

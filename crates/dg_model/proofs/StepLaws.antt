@@ -4,19 +4,19 @@ use Rattle.std.specs.Prelude.{Option, Some, None, take}
 use Rattle.std.proofs.lemmas.List.{length-set}
 use Rattle.dg_model.specs.Blocks.{padded}
 use Rattle.dg_model.specs.Copies.{Spread}
-use Rattle.dg_model.specs.Changes.{IsCut, PassesSlots, Settles, Spreads, Stays, Strikes, Tends, Writes, spread_in}
+use Rattle.dg_model.specs.Changes.{IsCut, Misses, PassesSlots, Settles, Spreads, Stays, Strikes, Tends, Writes, spread_in}
 use Rattle.dg_model.specs.Marks.{AreNext, with_mark}
 use Rattle.dg_model.specs.Members.{ArePaired}
 use Rattle.dg_model.specs.Moves.{moves, moved}
 use Rattle.dg_model.specs.Plans.{targets_of}
 use Rattle.dg_model.specs.Runs.{Run}
-use Rattle.dg_model.specs.States.{Counts, CountsRise, State, is_broken}
-use Rattle.dg_model.specs.Steps.{Step, Touches}
+use Rattle.dg_model.specs.States.{Counts, CountsRise, State, is_broken, place_of}
+use Rattle.dg_model.specs.Steps.{Handles, Step, Touches, member_of}
 use Rattle.dg_model.specs.Tables.{Table}
 use Rattle.dg_model.specs.declared.events.Event.{Event}
-use Rattle.dg_model.specs.declared.events.Event.TheVariants.{Write, Read, Fail, Replace, Rebuild, Settle, Tend, Diffuse, Who, Pending, Cat, Ls, Tree, Home, Save}
+use Rattle.dg_model.specs.declared.events.Event.TheVariants.{Write, Read, Fail, Replace, Rebuild, Settle, Tend, Diffuse, Who, Pending, Cat, Ls, Tree, Home, Save, Regroup, LostFiles, Audit, DropDisk, MendDisk}
 use Rattle.dg_model.specs.declared.replies.Reply.{Reply}
-use Rattle.dg_model.specs.declared.replies.Reply.TheVariants.{Done, Range, Degraded, Unavailable, Already, Lost, NotOut, Failed, NotFilling, Copied, Settled, Malformed, NoSpace, Tended, Diffused, NotSettled, Verdict, Blocks, Data, Given, Cut, Listed, ListedCut, Nodes, NodesCut, Refused, HomeAt, NoHome, Saved}
+use Rattle.dg_model.specs.declared.replies.Reply.TheVariants.{Done, Range, Degraded, Unavailable, Already, Lost, NotOut, Failed, NotFilling, Copied, Settled, Malformed, NoSpace, Tended, Diffused, NotSettled, Verdict, Blocks, Data, Given, Cut, Listed, ListedCut, Nodes, NodesCut, Refused, HomeAt, NoHome, Saved, NotSaved, Whole, TooFew, Regrouped, LostFiles as LostFilesReply, LostFilesCut, Audited, NotParity, Mended}
 use Rattle.dg_model.proofs.TableLaws.{IsSized, all_done_sized, sited_sized, sized_same, spread_over_sized}
 
 -- The array's numbers stay, each block has a row, a value and a mark if it had them, no count falls, and a member that is refilled keeps
@@ -91,9 +91,18 @@ keeps_strikes old q new h = record {
   paired = λ p. h.paired;
 }
 
+keeps_misses : (old : State) (q : ℕ) (new : State) → Misses old q new → Keeps old new
+keeps_misses old q new h = record {
+  table = sized_same old.table new.table (ap (λ s. s.table) h.rest);
+  blocks = ap (λ s. length s.blocks) h.rest;
+  marks = ap (λ s. length s.pending) h.rest;
+  counts = h.passes.counts;
+  paired = λ p. h.passes.paired;
+}
+
 keeps_cut : (Known : Type 0) (old : State) (limit : Option ℕ) (new : State) → IsCut Known old limit new → Keeps old new
 keeps_cut Known old limit new h = record {
-  table = subst (λ (t : Table). IsSized old.table t) (sym h.cut.led) (all_done_sized h.cut.front old.table);
+  table = subst (λ (t : Table). IsSized old.table t) (sym h.cut.cut.led) (all_done_sized h.cut.cut.front old.table);
   blocks = ap (λ s. length s.blocks) h.rest;
   marks = ap (λ s. length s.pending) h.rest;
   counts = h.goes.passes.counts;
@@ -150,91 +159,131 @@ keeps_touches Known old path new h = record {
   paired = λ p. h.goes.passes.paired;
 }
 
-pub step_keeps : (Known : Type 0) (old : State) (event : Event) (reply : Reply) (new : State) → Step Known old event reply new → Keeps old new
-step_keeps Known old (Write b bytes) Range new h = keeps_same old new h.1
-step_keeps Known old (Write b bytes) Degraded new h = elim h.1 [ inl was ↦ keeps_same old new was.1 | inr now ↦ keeps_stays old new now.3 ]
-step_keeps Known old (Write b bytes) Done new h = keeps_writes Known old b bytes new h.2
-step_keeps Known old (Read b) Range new h = keeps_same old new h.1
-step_keeps Known old (Read b) Unavailable new h = keeps_stays old new h.3
-step_keeps Known old (Read b) (Data bytes) new h = keeps_stays old new h.4
-step_keeps Known old (Fail s j) Range new h = keeps_same old new h.1
-step_keeps Known old (Fail s j) Already new h = keeps_same old new h.2
-step_keeps Known old (Fail s j) Done new h = keeps_strikes old _ new h.2
-step_keeps Known old (Replace s j) Range new h = keeps_same old new h.1
-step_keeps Known old (Replace s j) (Lost t) new h = elim h.3 [ inl was ↦ keeps_same old new was.1 | inr now ↦ keeps_stays old new now.2 ]
-step_keeps Known old (Replace s j) NotOut new h = keeps_same old new h.2
-step_keeps Known old (Replace s j) Failed new h = keeps_stays old new h.4
-step_keeps Known old (Replace s j) Done new h = record {
+-- the boundaries in use stay: this is no `regroup` that takes some out
+abbrev pub StaysInUse : Event → Reply → Type 0
+StaysInUse Regroup (Regrouped r c) = ⊥
+StaysInUse event reply = Unit {0}
+
+keeps_handles : (old : State) (s : ℕ) (new : State) → Handles old s new → Keeps old new
+keeps_handles old s new h = record {
+  table = sized_same old.table new.table (ap (λ s. s.table) h.rest);
+  blocks = ap (λ s. length s.blocks) h.rest;
+  marks = ap (λ s. length s.pending) h.rest;
+  counts = h.counts;
+  paired = λ p. h.paired;
+}
+
+pub step_keeps : (Known : Type 0) (old : State) (event : Event) (reply : Reply) (new : State) → StaysInUse event reply → Step Known old event reply new → Keeps old new
+step_keeps Known old (Write b bytes) Range new u h = keeps_same old new h.1
+step_keeps Known old (Write b bytes) Degraded new u h = elim h.1 [ inl was ↦ keeps_same old new was.1 | inr now ↦ keeps_stays old new now.3 ]
+step_keeps Known old (Write b bytes) Done new u h = keeps_writes Known old b bytes new h.2
+step_keeps Known old (Read b) Range new u h = keeps_same old new h.1
+step_keeps Known old (Read b) Unavailable new u h = keeps_stays old new h.3
+step_keeps Known old (Read b) (Data bytes) new u h = keeps_stays old new h.5
+step_keeps Known old (Fail s j) Range new u h = keeps_same old new h.1
+step_keeps Known old (Fail s j) Already new u h = keeps_same old new h.2
+step_keeps Known old (Fail s j) Done new u h = keeps_strikes old _ new h.2
+step_keeps Known old (Replace s j) Range new u h = keeps_same old new h.1
+step_keeps Known old (Replace s j) (Lost t) new u h = elim h.3 [ inl was ↦ keeps_same old new was.1 | inr now ↦ keeps_stays old new now.2 ]
+step_keeps Known old (Replace s j) NotOut new u h = keeps_same old new h.2
+step_keeps Known old (Replace s j) Failed new u h = keeps_misses old (member_of old s j) new h.3
+step_keeps Known old (Replace s j) Done new u h = record {
   table = sized_same old.table new.table (ap (λ s. s.table) h.3.rest);
   blocks = ap (λ s. length s.blocks) h.3.rest;
   marks = ap (λ s. length s.pending) h.3.rest;
   counts = h.3.passes.counts;
   paired = λ p. h.3.passes.paired;
 }
-step_keeps Known old (Rebuild s n) Range new h = keeps_same old new h.1
-step_keeps Known old (Rebuild s n) (Lost t) new h =
-    elim h.2 [ inl was ↦ keeps_same old new was.1 | inr now ↦ keeps_slots Known old s now.2.low now.2.high new now.2.slots ]
-step_keeps Known old (Rebuild s n) NotFilling new h = keeps_same old new h.3
-step_keeps Known old (Rebuild s n) Failed new h = keeps_slots Known old s h.3.low h.3.high new h.3.slots
-step_keeps Known old (Rebuild s n) (Copied d l) new h = keeps_slots Known old s h.2.low h.2.high new h.2.slots
-step_keeps Known old Settle (Lost s) new h = elim h [
+step_keeps Known old (Rebuild s n) Range new u h = keeps_same old new h.1
+step_keeps Known old (Rebuild s n) (Lost t) new u h =
+    elim h.2 [ inl was ↦ keeps_same old new was.1 | inr now ↦ keeps_slots Known old (place_of old s) now.2.low now.2.high new now.2.slots ]
+step_keeps Known old (Rebuild s n) NotFilling new u h = keeps_same old new h.3
+step_keeps Known old (Rebuild s n) Failed new u h = keeps_slots Known old (place_of old s) h.3.low h.3.high new h.3.slots
+step_keeps Known old (Rebuild s n) (Copied d l) new u h = keeps_slots Known old (place_of old s) h.2.low h.2.high new h.2.slots
+step_keeps Known old Settle (Lost s) new u h = elim h [
   | inl was ↦ keeps_same old new was.1
   | inr now ↦ elim now.2 [ inl stays ↦ keeps_stays old new stays | inr cut ↦ keeps_cut Known old None new cut.1 ]
 ]
-step_keeps Known old Settle Settled new h = elim h.1 [ inl was ↦ keeps_same old new was.1 | inr now ↦ keeps_settles Known old new now.2 ]
-step_keeps Known old Settle (Malformed kind n) new h = keeps_stays old new h.3
-step_keeps Known old Settle (NoSpace bad) new h = keeps_stays old new h.4
-step_keeps Known old (Tend n) (Lost s) new h = elim h [
+step_keeps Known old Settle Settled new u h = elim h.1 [ inl was ↦ keeps_same old new was.1 | inr now ↦ keeps_settles Known old new now.2 ]
+step_keeps Known old Settle (Malformed kind n) new u h = keeps_stays old new h.3.stays
+step_keeps Known old Settle (NoSpace bad) new u h = keeps_stays old new h.4.stays
+step_keeps Known old (Tend n) (Lost s) new u h = elim h [
   | inl was ↦ keeps_same old new was.1
   | inr now ↦ elim now.2 [ inl stays ↦ keeps_stays old new stays | inr cut ↦ keeps_cut Known old (Some n) new cut ]
 ]
-step_keeps Known old (Tend n) (Tended m l) new h = elim h.1 [ inl was ↦ keeps_same old new was.3 | inr now ↦ keeps_tends Known old n m l new now.2 ]
-step_keeps Known old (Tend n) (NoSpace bad) new h = keeps_stays old new h.3
-step_keeps Known old Diffuse NotSettled new h = keeps_same old new h.1
-step_keeps Known old Diffuse (Lost s) new h =
+step_keeps Known old (Tend n) (Tended m l) new u h = elim h.1 [ inl was ↦ keeps_same old new was.3 | inr now ↦ keeps_tends Known old n m l new now.2 ]
+step_keeps Known old (Tend n) (NoSpace bad) new u h = keeps_stays old new h.3.stays
+step_keeps Known old Diffuse NotSettled new u h = keeps_same old new h.1
+step_keeps Known old Diffuse (Lost s) new u h =
     elim h.1 [ inl was ↦ keeps_same old new was.1 | inr now ↦ keeps_spreads Known old now.1.0 now.1.1 new now.1.2 ]
-step_keeps Known old Diffuse (Diffused gained) new h = keeps_spreads Known old (length old.recent) gained new h.3
-step_keeps Known old (Who b) Range new h = keeps_same old new h.1
-step_keeps Known old (Who b) Unavailable new h = keeps_same old new h.2
-step_keeps Known old (Who b) (Verdict who) new h = keeps_same old new h.3
-step_keeps Known old Pending (Blocks blocks) new h = keeps_same old new h.1
-step_keeps Known old (Cat path) (Given lines) new h = keeps_touches Known old path new h.2
-step_keeps Known old (Cat path) (Refused refusal) new h = keeps_stays old new h.1
-step_keeps Known old (Cat path) Unavailable new h = keeps_stays old new h.1
-step_keeps Known old (Cat path) (Cut lines) new h = keeps_stays old new h.3
-step_keeps Known old (Ls path) (Listed entries) new h = keeps_stays old new h.1
-step_keeps Known old (Ls path) (Refused refusal) new h = keeps_stays old new h.1
-step_keeps Known old (Ls path) Unavailable new h = keeps_stays old new h.1
-step_keeps Known old (Ls path) (ListedCut entries) new h = keeps_stays old new h.2
-step_keeps Known old Tree NotSettled new h = keeps_same old new h.1
-step_keeps Known old Tree (Nodes entries) new h = keeps_stays old new h.2
-step_keeps Known old Tree (Refused refusal) new h = keeps_stays old new h.2
-step_keeps Known old Tree Unavailable new h = keeps_stays old new h.2
-step_keeps Known old Tree (NodesCut entries) new h = keeps_stays old new h.3
-step_keeps Known old (Home path) NotSettled new h = keeps_same old new h.1
-step_keeps Known old (Home path) (HomeAt s copy) new h = keeps_stays old new h.2
-step_keeps Known old (Home path) NoHome new h = keeps_stays old new h.2
-step_keeps Known old (Home path) (Refused refusal) new h = keeps_stays old new h.2
-step_keeps Known old (Home path) Unavailable new h = keeps_stays old new h.2
-step_keeps Known old Save (Lost s) new h = record {
+step_keeps Known old Diffuse (Diffused gained) new u h = keeps_spreads Known old (length old.recent) gained new h.3
+step_keeps Known old (Who b) Range new u h = keeps_same old new h.1
+step_keeps Known old (Who b) Unavailable new u h = keeps_same old new h.2
+step_keeps Known old (Who b) (Verdict who) new u h = keeps_same old new h.3
+step_keeps Known old Pending (Blocks blocks) new u h = keeps_same old new h.1
+step_keeps Known old (Cat path) (Given lines) new u h = keeps_touches Known old path new h.2
+step_keeps Known old (Cat path) (Refused refusal) new u h = keeps_stays old new h.1
+step_keeps Known old (Cat path) Unavailable new u h = keeps_stays old new h.1
+step_keeps Known old (Cat path) (Cut lines) new u h = keeps_stays old new h.3
+step_keeps Known old (Ls path) (Listed entries) new u h = keeps_stays old new h.1
+step_keeps Known old (Ls path) (Refused refusal) new u h = keeps_stays old new h.1
+step_keeps Known old (Ls path) Unavailable new u h = keeps_stays old new h.1
+step_keeps Known old (Ls path) (ListedCut entries) new u h = keeps_stays old new h.2
+step_keeps Known old Tree NotSettled new u h = keeps_same old new h.1
+step_keeps Known old Tree (Nodes entries) new u h = keeps_stays old new h.2
+step_keeps Known old Tree (Refused refusal) new u h = keeps_stays old new h.2
+step_keeps Known old Tree Unavailable new u h = keeps_stays old new h.2
+step_keeps Known old Tree (NodesCut entries) new u h = keeps_stays old new h.3
+step_keeps Known old (Home path) NotSettled new u h = keeps_same old new h.1
+step_keeps Known old (Home path) (HomeAt s copy) new u h = keeps_stays old new h.2
+step_keeps Known old (Home path) NoHome new u h = keeps_stays old new h.2
+step_keeps Known old (Home path) (Refused refusal) new u h = keeps_stays old new h.2
+step_keeps Known old (Home path) Unavailable new u h = keeps_stays old new h.2
+step_keeps Known old Save (Lost s) new u h = record {
   table = sized_same old.table new.table (ap (λ s. s.table) h.1.rest);
   blocks = ap (λ s. length s.blocks) h.1.rest;
   marks = ap (λ s. length s.pending) h.1.rest;
   counts = h.1.passes.counts;
   paired = λ p. h.1.passes.paired;
 }
-step_keeps Known old Save (Saved sequence) new h = record {
+step_keeps Known old Save (Saved sequence) new u h = record {
   table = sized_same old.table new.table (ap (λ s. s.table) h.rest);
   blocks = ap (λ s. length s.blocks) h.rest;
   marks = ap (λ s. length s.pending) h.rest;
   counts = h.passes.counts;
   paired = λ p. h.passes.paired;
 }
-step_keeps Known old event reply new h = absurd h
+step_keeps Known old Save NotSaved new u h = keeps_same old new h.1
+step_keeps Known old Regroup Whole new u h = keeps_same old new h.1
+step_keeps Known old Regroup TooFew new u h = keeps_stays old new h.3
+step_keeps Known old Regroup (Regrouped r c) new u h = absurd u
+step_keeps Known old LostFiles NotSettled new u h = keeps_same old new h.1
+step_keeps Known old LostFiles (LostFilesReply lost) new u h = keeps_stays old new h.2
+step_keeps Known old LostFiles (Refused refusal) new u h = keeps_stays old new h.2
+step_keeps Known old LostFiles Unavailable new u h = keeps_stays old new h.2
+step_keeps Known old LostFiles (LostFilesCut lost) new u h = keeps_stays old new h.3
+step_keeps Known old Audit (Audited findings) new u h = keeps_stays old new h.1
+step_keeps Known old Audit Unavailable new u h = keeps_stays old new h.1
+step_keeps Known old (DropDisk s j) NotParity new u h = keeps_same old new h
+step_keeps Known old (DropDisk s j) Range new u h = keeps_same old new h
+step_keeps Known old (DropDisk s j) Already new u h = keeps_same old new h
+step_keeps Known old (DropDisk s j) Done new u h = keeps_handles old s new h.1
+step_keeps Known old (MendDisk s j) NotParity new u h = keeps_same old new h
+step_keeps Known old (MendDisk s j) Range new u h = keeps_same old new h
+step_keeps Known old (MendDisk s j) (Lost t) new u h = elim h.2 [ inl was ↦ keeps_same old new was.1 | inr now ↦ keeps_handles old s new now.2 ]
+step_keeps Known old (MendDisk s j) NotOut new u h = keeps_same old new h.1
+step_keeps Known old (MendDisk s j) Failed new u h = keeps_handles old s new h.2
+step_keeps Known old (MendDisk s j) (Mended c) new u h = keeps_handles old s new h.2
+step_keeps Known old event reply new u h = absurd h
 
-pub run_keeps : (Known : Type 0) (old : State) (events : List Event) (replies : List Reply) (new : State) → Run Known old events replies new → Keeps old new
-run_keeps Known old [] [] new h = keeps_same old new h
-run_keeps Known old [] (reply ∷ replies) new h = absurd h
-run_keeps Known old (event ∷ events) [] new h = absurd h
-run_keeps Known old (event ∷ events) (reply ∷ replies) new h =
-    keeps_both old h.0 new (step_keeps Known old event reply h.0 h.1) (run_keeps Known h.0 events replies new h.2)
+-- so they do in each step
+abbrev pub StayInUse : List Event → List Reply → Type 0
+StayInUse (event ∷ events) (reply ∷ replies) = StaysInUse event reply × StayInUse events replies
+StayInUse events replies = Unit {0}
+
+pub run_keeps : (Known : Type 0) (old : State) (events : List Event) (replies : List Reply) (new : State) → StayInUse events replies → Run Known old events replies new → Keeps old new
+run_keeps Known old [] [] new u h = keeps_same old new h
+run_keeps Known old [] (reply ∷ replies) new u h = absurd h
+run_keeps Known old (event ∷ events) [] new u h = absurd h
+run_keeps Known old (event ∷ events) (reply ∷ replies) new u h =
+    keeps_both old h.0 new (step_keeps Known old event reply h.0 u.0 h.1) (run_keeps Known h.0 events replies new u.1 h.2)

@@ -1,16 +1,17 @@
 -- Steps of an array of two blocks over members that hold no volume, and what is no step. Where bytes are told, the blocks are nobody's.
 use Rattle.std.proofs.Common.{◌≡◌, ◌<◌, inl, inr, ℕ, zero, suc, Bool, true, false, List, [], ◌∷◌, ◌++◌, ap, refl, arith, sym, subst, ◌∙◌, length, take}
 use Rattle.std.proofs.lemmas.Bool.{false≢true}
-use Rattle.std.proofs.lemmas.List.{take_all}
+use Rattle.std.proofs.lemmas.List.{length-append, take_all}
 use Rattle.std.specs.Prelude.{Option, Some, None, Result, Ok, Err, is_some}
+use Rattle.std.specs.List.{sum_by}
 use Rattle.std.specs.Option.{unwrap_or}
 use Rattle.ufs_model.specs.Malformations.{IsFirstMalformation, IsMalformed}
 use Rattle.ufs_model.specs.Owners.{BelongsTo}
 use Rattle.ufs_model.specs.declared.geometries.BadSuper.TheVariants.{Magic}
 use Rattle.ufs_model.specs.declared.malformations.BadKind.TheVariants.{Super}
 use Rattle.dg_model.specs.Changes.{Goes, SeesWants, Stays, Tends}
-use Rattle.dg_model.specs.Members.{is_filling, is_good, partner_of}
-use Rattle.dg_model.specs.Moves.{Action, IsCutOff, all_done, copy_to, give_up, missing, missing_in, moved, moves, round, tidying}
+use Rattle.dg_model.specs.Members.{is_filling, is_good, is_lost, partner_of}
+use Rattle.dg_model.specs.Moves.{Action, IsCutByLoss, IsCutOff, all_done, copy_to, give_up, give_ups, missing, missing_in, moved, moves, round, tidying}
 use Rattle.dg_model.specs.Plans.{Plan, place_kept, place_stray, place_with, plan, roomiest, stay, targets_of}
 use Rattle.dg_model.specs.States.{State}
 use Rattle.dg_model.specs.Steps.{Step}
@@ -70,9 +71,12 @@ nothing = record { homes = []; copies = []; phase = Loose; recent = [] }
 -- the array after so many calls, all of which wrote
 abbrev pub array_with : Table → Rest → ℕ → State
 array_with table rest calls = record {
+  boundaries = 2;
+  live = 0 ∷ 1 ∷ [];
   table = table;
   blocks = blocks;
   pending = true ∷ false ∷ [];
+  cut = false ∷ false ∷ [];
   homes = rest.homes;
   copies = rest.copies;
   phase = rest.phase;
@@ -90,8 +94,10 @@ goes t u x y = record {
     counts = record { faults = λ q. omega arith; calls = omega arith; writes = omega arith };
     label = record { opens = true; rose = λ a b. refl; stood = λ e. absurd (omega (arith, e)); is = refl };
     paired = not_filling;
+    faults = record { fell = λ q low less. absurd (omega (arith, less)); beyond = λ q high. refl };
   };
   members = λ q. inl refl;
+  out = λ q was. refl;
 }
 
 pub stays : (t : Table) (x : Rest) → Stays (array_with t x 5) (array_with t x 9)
@@ -109,8 +115,10 @@ reads t x = record {
       counts = record { faults = λ q. omega arith; calls = omega arith; writes = omega arith };
       label = record { opens = false; rose = λ less. absurd (omega (arith, less)); stood = λ e below. refl; is = refl };
       paired = not_filling;
+      faults = record { fell = λ q low less. absurd (omega (arith, less)); beyond = λ q high. refl };
     };
     members = λ q. inl refl;
+    out = λ q was. refl;
   };
   rest = refl;
 }
@@ -186,6 +194,7 @@ tended = (
       rest = refl;
       met = refl;
       left = refl;
+      still = λ none. absurd (omega (arith, none));
     },
   ),
 )
@@ -302,9 +311,65 @@ given_up_first cut =
     let none = ap sites_of_0 cut.led in
     omega (arith, some, none)
 
+-- ---- cut by the loss of boundary 0: the copy to it fails, and block 0 keeps its source
+
+one_lost : ℕ → MemberState
+one_lost zero = Out
+one_lost (suc zero) = Out
+one_lost (suc (suc q)) = all_good (suc (suc q))
+
+-- nothing was done
+cut_before_copy : IsCutByLoss targets (Some 1) both_on_1 both_on_1 one_lost
+unfolding one_lost
+cut_before_copy = record {
+  cut = record { front = []; rest = copy_to 0 0 ∷ give_up 0 1 ∷ []; whole = actions; led = refl };
+  end = inl (record { block = 0; boundary = 0; more = give_up 0 1 ∷ []; copy = refl; cause = inr refl });
+}
+
+boundary_of : List Action → ℕ
+boundary_of [] = 0
+boundary_of (copy_to b s ∷ more) = s
+boundary_of (give_up b s ∷ more) = s
+
+second_copies : List Action → Bool
+second_copies [] = false
+second_copies (x ∷ []) = false
+second_copies (x ∷ copy_to b s ∷ more) = true
+second_copies (x ∷ give_up b s ∷ more) = false
+
+-- of the two actions the first alone is a copy
+first_copies : (earlier : List Action) (b s : ℕ) (more : List Action) → copy_to 0 0 ∷ give_up 0 1 ∷ [] ≡ earlier ++ copy_to b s ∷ more → (earlier ≡ []) × (s ≡ 0)
+unfolding boundary_of second_copies
+first_copies [] b s more e = (refl, sym (ap boundary_of e))
+first_copies (x ∷ []) b s more e = absurd (false≢true (ap second_copies e))
+first_copies (x ∷ y ∷ earlier) b s more e =
+    let long = ap (λ (acts : List Action). length acts) e in absurd (omega (arith, long, length-append earlier (copy_to b s ∷ more)))
+
+append_three : (xs ys zs : List Action) → (xs ++ ys) ++ zs ≡ xs ++ (ys ++ zs)
+append_three [] ys zs = refl
+append_three (x ∷ xs) ys zs = ap (λ (l : List Action). x ∷ l) (append_three xs ys zs)
+
+abbrev boundary_of_0 : Table → ℕ
+boundary_of_0 table = sum_by (λ site. site.boundary) (sites_in table 0)
+
+-- the copy that failed wasn't done, and its block didn't give up its source
+cut_after_copy : IsCutByLoss targets (Some 1) both_on_1 apart one_lost → ⊥
+unfolding one_lost
+cut_after_copy h = elim h.end [
+  | inl next ↦
+      let first = first_copies h.cut.front next.block next.boundary next.more (sym actions ∙ h.cut.whole ∙ ap (λ (l : List Action). h.cut.front ++ l) next.copy) in
+      let same = ap boundary_of_0 (h.cut.led ∙ ap (λ (l : List Action). all_done both_on_1 l) first.0) in
+      omega (arith, same)
+  | inr last ↦
+      let parts = append_three last.before (copy_to last.block last.boundary ∷ give_ups last.block last.given_up) h.cut.rest in
+      let first = first_copies last.before last.block last.boundary (give_ups last.block last.given_up ++ h.cut.rest)
+      (sym actions ∙ h.cut.whole ∙ ap (λ (l : List Action). l ++ h.cut.rest) last.copy ∙ parts) in
+      false≢true (sym last.stands ∙ ap (λ (s : ℕ). is_lost one_lost s) first.1)
+]
+
 -- ---- settle finds that there is no volume
 
-malformed : IsFirstMalformation 512 2 blocks (Super Magic) 0
+pub malformed : IsFirstMalformation 512 2 blocks (Super Magic) 0
 unfolding IsMalformed
 malformed = record {
   here = rw no_volume (refl, refl);
@@ -312,9 +377,13 @@ malformed = record {
   first = λ other m low bad. omega (arith, low);
 }
 
-settles_not : Step (Unit {0}) before Settle (Malformed (Super Magic) 0) (array_with both_on_1 nothing 9)
+settles_not : Step (Unit {0}) before Settle (Malformed (Super Magic) 0) (array_read both_on_1 nothing 9)
 unfolding all_good
-settles_not = (refl, is_loose, (λ told. malformed), stays both_on_1 nothing)
+settles_not = (refl, is_loose, (λ told. malformed), record { stays = reads both_on_1 nothing; unwritten = refl })
+
+-- and writes nothing, so that the seal of a label stays
+refuses_written : Step (Unit {0}) before Settle (Malformed (Super Magic) 0) (array_with both_on_1 nothing 9) → ⊥
+refuses_written h = let e = h.3.unwritten in omega (arith, e)
 
 -- so it doesn't settle
 settles_unsound : (new : State) → Step (Unit {0}) before Settle SettledReply new → ⊥

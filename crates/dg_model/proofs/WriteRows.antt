@@ -1,5 +1,5 @@
 -- A write of an array of two blocks that hold no volume, and what is no write.
-use Rattle.std.proofs.Common.{◌≡◌, inl, inr, ℕ, true, false, List, [], ◌∷◌, length, ap, refl, arith}
+use Rattle.std.proofs.Common.{◌≡◌, ◌≢◌, inl, inr, ℕ, true, false, List, [], ◌∷◌, length, ap, refl, arith}
 use Rattle.std.specs.Prelude.{Err, slice_set}
 use Rattle.std.specs.List.{All, Contains, sum_by}
 use Rattle.std.proofs.lemmas.Bool.{false≢true}
@@ -62,7 +62,7 @@ written = (
   record {
     goes = goes_plain empty (after 7) refl refl
         (record { faults = λ q. omega arith; calls = omega arith; writes = omega arith })
-        (λ q. inl refl) not_filling;
+        (λ q. inl refl) not_filling (record { fell = λ q low less. absurd (omega (arith, less)); beyond = λ q high. refl }) (λ q was. refl);
     few = few_calls (Unit {0}) empty 0 (after 7) (omega arith);
     sited = sited;
     marks = left;
@@ -111,6 +111,10 @@ written_by_more h =
     let most = h.2.few.most (λ q rose. omega (arith, rose)) in
     let read = no_rereads h.2.few.rereads in
     omega (arith, most, read)
+
+-- the block itself isn't read again
+reads_itself : (Known : Type 0) → Known → (l n : ℕ) (old new : Volume) (b : ℕ) (rereads : Rereads Known l n old new b) → Contains rereads.beside b → ⊥
+reads_itself Known told l n old new b rereads there = All-contains (λ (f : ℕ). f ≢ b) rereads.beside b (rereads.others told) there refl
 
 -- ---- no other mark, no other site, and no refusal
 

@@ -49,8 +49,8 @@ pub data IsBeside (l n : ℕ) (old new : Volume) (b : ℕ) : ℕ → Type 0 wher
       → IsOkAnd ((geometry_of l n old).value) (λ g. IsAreaOf g old f) ⊎ IsOkAnd ((geometry_of l n new).value) (λ g. IsAreaOf g new f)
       → IsBeside l n old new b f
 
--- What is read after a write of block b, each once: indirect blocks whose claims began or ended, and what stands beside the block. The
--- volume is known where its bytes are told.
+-- What is read after a write of block b, each once: indirect blocks whose claims began or ended, and what stands beside the block, which is
+-- none of it. The volume is known where its bytes are told.
 pub record Rereads (Known : Type 0) (l n : ℕ) (old new : Volume) (b : ℕ) : Type 0 where
   pub indirect : List ClaimPlace
   pub indirect_once : AllPairs (λ one other. one ≢ other) indirect
@@ -58,6 +58,7 @@ pub record Rereads (Known : Type 0) (l n : ℕ) (old new : Volume) (b : ℕ) : T
   pub beside : List ℕ
   pub beside_once : AllPairs (λ one other. one ≢ other) beside
   pub are_beside : Known → All (IsBeside l n old new b) beside
+  pub others : Known → All (λ f. f ≢ b) beside
 
 -- how many blocks these are
 abbrev pub count_read : {Known : Type 0} {l n b : ℕ} {old new : Volume} → Rereads Known l n old new b → ℕ

@@ -3,5 +3,6 @@ pub mod CallLaws
 pub mod CursorLaws
 pub mod MeetLaws
 pub mod MissingLaws
+pub mod StopLaws
 pub mod StoreLaws
 pub mod TurnLaws

@@ -1,8 +1,8 @@
 -- What moves leave of a store, one after another.
-use Rattle.std.proofs.Common.{◌≡◌, ◌≢◌, ◌/◌, ◌<◌, ◌≤◌, ◌+◌, ◌&&◌, ◌⊎◌, ℕ, Bool, true, false, List, [], ◌∷◌, ◌++◌, length, inl, inr, refl, sym, ◌∙◌, ap, subst, arith}
+use Rattle.std.proofs.Common.{◌≡◌, ◌≢◌, ◌<◌, ◌≤◌, ◌+◌, ◌&&◌, ◌⊎◌, ℕ, Bool, true, false, List, [], ◌∷◌, ◌++◌, length, inl, inr, refl, sym, ◌∙◌, ap, subst, arith}
 use Rattle.std.specs.Prelude.{◌↔◌, Option, Some, None, Result, Ok, Err, IfNone, IfSome, OnErr, nat_lt, not}
 use Rattle.std.specs.List.{Contains, range_with_len}
-use Rattle.std.proofs.lemmas.Bool.{and_parts, cases_eq, cases_lt, false≢true, lt-ltb, ltb-true}
+use Rattle.std.proofs.lemmas.Bool.{and_parts, cases_eq, false≢true, lt-ltb, ltb-true}
 use Rattle.std.proofs.lemmas.List.{get_or-set_same, get_or-set_other}
 use Rattle.std.proofs.lemmas.List.Elements.{Contains-push}
 use Rattle.std.proofs.lemmas.List.Folds.{list_any_at}
@@ -20,9 +20,9 @@ use Rattle.dg_model.proofs.ClaimSearch.{in_range}
 use Rattle.dg_model.proofs.SiteLists.{count_on-push}
 use Rattle.dg_model.proofs.SpareSteps.{DropsSpare}
 use Rattle.dg_store.specs.Answers.{SameWritten}
-use Rattle.dg_store.specs.Leaves.{Keeps, Leaves}
-use Rattle.dg_store.specs.ReadLaws.{keeps_both, keeps_none}
-use Rattle.dg_store.specs.Stores.{IsSound, KeepsBlocks, Tells, TellsAll, members_of, rack_of, shape_of, table_of}
+use Rattle.dg_store.specs.Leaves.{Leaves}
+use Rattle.dg_store.specs.ReadLaws.{keeps_both, keeps_none, tells_good, told_all}
+use Rattle.dg_store.specs.Stores.{IsSound, KeepsBlocks, Tells, members_of, rack_of, shape_of, table_of}
 use Rattle.dg_store.specs.declared.store.PlaceAnswer.{PlaceAnswer}
 use Rattle.dg_store.specs.declared.store.PlaceAnswer.TheVariants.{Placed, Full, Gone, Lost}
 use Rattle.dg_store.specs.declared.store.Store.{Store}
@@ -120,17 +120,6 @@ module _ {R : Type 0} (rack : Ghosts R) where
   pub leaves_both : (a b c : Store R) → Leaves rack a b → Leaves rack b c → Leaves rack a c
   leaves_both a b c first second = record { sound = second.sound; keeps = keeps_both rack a b c first.keeps second.keeps }
 
-  -- where each member of the array tells its bytes, those that are good do
-  pub tells_good : (s : Store R) → IsSound rack s → TellsAll rack s → Tells rack s
-  tells_good s sound told q good = elim (cases_lt (q / 2) (shape_of s).b) [
-    | inl below ↦ told q below
-    | inr past ↦ let out = sound.others q past in absurd (let e = sym good ∙ out in cc)
-  ]
-
-  -- what is told in the end was told before
-  pub told_before : (old new : Store R) → Keeps rack old new → TellsAll rack new → TellsAll rack old
-  told_before old new keeps told q below = keeps.stays.tells q (told q (subst (λ (s : Shape). q / 2 < s.b) (sym keeps.shape) below))
-
   module _ (targets : ℕ → ℕ → Bool) where
     pub moves_none : (s : Store R) → IsSound rack s → MovesOn rack targets s s
     moves_none s sound = record {
@@ -145,7 +134,7 @@ module _ {R : Type 0} (rack : Ghosts R) where
       leaves = leaves_both a b c first.leaves second.leaves;
       written = λ q. second.written q ∙ first.written q;
       met = met_both targets (table_of a) (table_of b) (table_of c) first.met second.met;
-      stands = λ told V st. second.stands told V (first.stands (told_before b c second.leaves.keeps told) V st);
+      stands = λ told V st. second.stands told V (first.stands (told_all rack b c second.leaves.keeps.shape second.leaves.keeps.stays told) V st);
     }
 
     pub only_none : (s : Store R) → IsSound rack s → GivesUpOnly rack targets s s
@@ -246,7 +235,7 @@ module _ {R : Type 0} (rack : Ghosts R) where
           leaves = leaves;
           written = written;
           met = λ c s wanted on. on_more (count_on s (sites_in (table_of old) c)) (count_on s (sites_in (table_of new) c)) (more c s) on;
-          stands = λ told. stands (tells_good new leaves.sound told);
+          stands = λ told. stands (tells_good rack new leaves.sound told);
         }
 
 -- the slot of a site that was put is one of the boundary's

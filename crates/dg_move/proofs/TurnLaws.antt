@@ -4,7 +4,7 @@ use Rattle.std.specs.Prelude.{Some, None}
 use Rattle.std.proofs.lemmas.Bool.{cases_eq, cases_lt}
 use Rattle.std.proofs.lemmas.List.{append_assoc}
 use Rattle.dg_model.specs.Members.{is_lost}
-use Rattle.dg_model.specs.Moves.{Action, AreTargets, IsCutOff, IsTidy, all_done, copy_to, count_upto, ending, give_ups, is_missing, meeting, missing, missing_in, moved, moves, next_placement, off_target, round, rounds, spare, sum_upto, tidying}
+use Rattle.dg_model.specs.Moves.{Action, AreTargets, IsCutByLoss, IsCutOff, IsTidy, all_done, copy_to, count_upto, ending, give_ups, is_missing, meeting, missing, missing_in, moved, moves, next_placement, off_target, round, rounds, spare, sum_upto, tidying}
 use Rattle.dg_model.specs.Plans.{Placement}
 use Rattle.dg_model.specs.Sites.{has_site, is_gone}
 use Rattle.dg_model.specs.Tables.{Table, sites_in}
@@ -12,7 +12,6 @@ use Rattle.dg_model.specs.declared.members.MemberState.{MemberState}
 use Rattle.dg_model.specs.declared.shapes.Shape.{Shape}
 use Rattle.dg_model.proofs.ActionLists.{all_both, missing_length}
 use Rattle.dg_model.proofs.SumLaws.{count_one_less, count_same, sum_one_less, sum_same}
-use Rattle.dg_move.specs.Answers.{IsCutByLoss}
 use Rattle.dg_move.specs.Turns.{IsNext, IsTurned, Meets, move_to}
 use Rattle.dg_move.proofs.ActLaws.{meeting_is, tidying_none}
 
@@ -53,7 +52,7 @@ module _ (targets : ℕ → ℕ → Bool) where
       ∙ ap (all_done turned) (sym (round_is turned now b t tidy next))
 
   -- one round more is left where some are left
-  left_more : (total count left : ℕ) → count + left ≡ total → count < total → (less : ℕ) × (left ≡ suc less)
+  pub left_more : (total count left : ℕ) → count + left ≡ total → count < total → (less : ℕ) × (left ≡ suc less)
   left_more total count zero all below = absurd (omega arith)
   left_more total count (suc less) all below = (less, refl)
 
@@ -83,7 +82,7 @@ module _ (targets : ℕ → ℕ → Bool) where
   abbrev after_copy : (now turned : Table) (b less : ℕ) → List Action
   after_copy now turned b less = give_ups b (off_target (targets b) (sites_in now b)) ++ rounds targets less (all_done turned (round targets turned))
 
-  next_whole : (limit total count less : ℕ) (old now : Table) (b t : ℕ) → total ≡ min limit (missing_in targets old) → (so_far : IsTurned targets total count old now)
+  pub next_whole : (limit total count less : ℕ) (old now : Table) (b t : ℕ) → total ≡ min limit (missing_in targets old) → (so_far : IsTurned targets total count old now)
       → IsNext targets now b t → so_far.left ≡ suc less
       → moves targets (Some limit) old ≡ (so_far.acts ++ tidying targets so_far.turned) ++ (copy_to b t ∷ after_copy now so_far.turned b less)
   unfolding moves
@@ -98,7 +97,7 @@ module _ (targets : ℕ → ℕ → Bool) where
       ∙ ap (λ (xs : List Action). so_far.acts ++ xs) (append_assoc first (move_to targets now b t) later)
       ∙ sym (append_assoc so_far.acts first (move_to targets now b t ++ later))
 
-  next_led : (total count : ℕ) (old now new : Table) → (so_far : IsTurned targets total count old now) → new ≡ now
+  pub next_led : (total count : ℕ) (old now new : Table) → (so_far : IsTurned targets total count old now) → new ≡ now
       → new ≡ all_done old (so_far.acts ++ tidying targets so_far.turned)
   next_led total count old now new so_far same =
       same
@@ -120,7 +119,7 @@ module _ (targets : ℕ → ℕ → Bool) where
   -- the copy of the next round failed
   pub cut_failed : (limit total count : ℕ) (old now new : Table) (members : ℕ → MemberState) (b t : ℕ) → total ≡ min limit (missing_in targets old)
       → IsTurned targets total count old now → IsNext targets now b t → count < total → new ≡ now
-      → (is_gone new members b ≡ true) ⊎ (is_lost members t ≡ true) → IsCutByLoss targets limit old new members
+      → (is_gone new members b ≡ true) ⊎ (is_lost members t ≡ true) → IsCutByLoss targets (Some limit) old new members
   cut_failed limit total count old now new members b t is so_far next below same cause =
       let less = left_more total count so_far.left so_far.all below in
       record {
@@ -136,7 +135,7 @@ module _ (targets : ℕ → ℕ → Bool) where
   -- cut off behind a round, whose copy stands
   pub cut_whole : (limit total count : ℕ) (old now new : Table) (members : ℕ → MemberState) (b t : ℕ) → total ≡ min limit (missing_in targets old)
       → count < total → IsTurned targets total count old now → IsNext targets now b t → Meets targets now new b t → is_lost members t ≡ false
-      → IsCutByLoss targets limit old new members
+      → IsCutByLoss targets (Some limit) old new members
   unfolding moves
   cut_whole limit total count old now new members b t is below so_far next meets stands =
       let less = left_more total count so_far.left so_far.all below in
@@ -177,7 +176,7 @@ module _ (targets : ℕ → ℕ → Bool) where
   }
 
   pub loss_same : (limit total : ℕ) (old new : Table) (members : ℕ → MemberState) → total ≡ min limit (missing_in targets old)
-      → IsCutByLoss targets total old new members → IsCutByLoss targets limit old new members
+      → IsCutByLoss targets (Some total) old new members → IsCutByLoss targets (Some limit) old new members
   unfolding moves
   loss_same limit total old new members is loss = record {
     cut = record {

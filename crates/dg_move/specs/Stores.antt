@@ -1,7 +1,9 @@
 -- What moves leave of a store.
-use Rattle.std.specs.Prelude.{◌≡◌, ◌*◌, ℕ, Bool, true, min}
+use Rattle.std.specs.Prelude.{◌≡◌, ◌⊎◌, ◌*◌, ℕ, Bool, true, min}
 use Rattle.dg_io.specs.declared.outside.Rack.{Ghosts}
+use Rattle.dg_model.specs.Members.{is_lost}
 use Rattle.dg_model.specs.Moves.{missing_in}
+use Rattle.dg_model.specs.Sites.{is_gone}
 use Rattle.dg_model.specs.Tables.{Table, count_on, is_on, sites_in}
 use Rattle.dg_store.specs.declared.store.Store.{Store}
 use Rattle.dg_store.specs.Answers.{SameWritten}
@@ -28,6 +30,13 @@ pub record GivesUpOnly {R : Type 0} (rack : Ghosts R) (targets : ℕ → ℕ →
   pub stands : KeepsBlocks rack old new
   pub written : SameWritten (table_of old) (table_of new)
   pub kept : (b s : ℕ) → targets b s ≡ true → count_on s (sites_in (table_of new) b) ≡ count_on s (sites_in (table_of old) b)
+
+-- the copy of block b to boundary s failed, as the block is gone or the boundary is lost: each block has the sites and the value that it had
+pub record CopyFails {R : Type 0} (rack : Ghosts R) (b s : ℕ) (old new : Store R) : Type 0 where
+  pub leaves : Leaves rack old new
+  pub same : table_of new ≡ table_of old
+  pub cause : (is_gone (table_of new) (members_of new) b ≡ true) ⊎ (is_lost (members_of new) s ≡ true)
+  pub stands : KeepsBlocks rack old new
 
 -- how many calls on the rack so many copies make at most: each reads at most all sites of its block but one, and writes one
 abbrev pub copy_calls : Table → ℕ → ℕ

@@ -1,12 +1,15 @@
 -- How one round after another goes on, once the first has tidied the table.
 use Rattle.std.specs.Prelude.{◌≡◌, ◌≢◌, ◌⊎◌, ◌<◌, ◌≤◌, ◌+◌, ◌++◌, ℕ, Bool, true, false, List, [], ◌∷◌}
+use Rattle.dg_io.specs.declared.outside.Rack.{Ghosts}
 use Rattle.dg_model.specs.Members.{is_lost}
 use Rattle.dg_model.specs.Moves.{Action, all_done, copy_to, give_ups, is_missing, off_target, rounds, spare, tidying}
-use Rattle.dg_model.specs.Sites.{is_gone}
 use Rattle.dg_model.specs.States.{has_lost}
 use Rattle.dg_model.specs.Tables.{Table, sites_in, used_in}
 use Rattle.dg_model.specs.declared.members.MemberState.{MemberState}
+use Rattle.dg_store.specs.Stores.{members_of, shape_of, table_of}
+use Rattle.dg_store.specs.declared.store.Store.{Store}
 use Rattle.dg_move.specs.Cursors.{AreCursors}
+use Rattle.dg_move.specs.Stores.{CopyFails}
 
 -- block b is copied to boundary s, and gives up its sites on no target
 abbrev pub move_to : (ℕ → ℕ → Bool) → Table → ℕ → ℕ → List Action
@@ -29,11 +32,10 @@ pub record Meets (targets : ℕ → ℕ → Bool) (old new : Table) (b s : ℕ) 
   pub met : is_missing targets new b s ≡ false
   pub rest : (c t : ℕ) → (c ≡ b → t ≢ s) → is_missing targets new c t ≡ is_missing targets old c t
 
--- the copy of block b to boundary s failed, as it is gone or the boundary is lost: the sites are as they were
-pub record IsStopped (old new : Table) (members : ℕ → MemberState) (b s : ℕ) : Type 0 where
-  pub same : new ≡ old
-  pub cause : (is_gone new members b ≡ true) ⊎ (is_lost members s ≡ true)
-  pub lost : has_lost new.shape members ≡ true
+-- the copy of block b to boundary s failed, so a boundary is lost
+pub record IsStopped {R : Type 0} (rack : Ghosts R) (b s : ℕ) (old new : Store R) : Type 0 where
+  pub fails : CopyFails rack b s old new
+  pub lost : has_lost (shape_of new) (members_of new) ≡ true
 
 -- the next placement was met, and its copy stands
 pub record IsTurn (targets : ℕ → ℕ → Bool) (old new : Table) (members : ℕ → MemberState) (next : List ℕ) (b s : ℕ) : Type 0 where
@@ -55,8 +57,8 @@ pub record IsTurned (targets : ℕ → ℕ → Bool) (total count : ℕ) (old no
   pub start : count ≡ 0 → turned ≡ old
 
 -- what a round comes to: the next placement was met, or its copy failed
-pub record TurnsOrStops (targets : ℕ → ℕ → Bool) (old new : Table) (members : ℕ → MemberState) (next : List ℕ) : Type 0 where
+pub record TurnsOrStops {R : Type 0} (rack : Ghosts R) (targets : ℕ → ℕ → Bool) (old new : Store R) (next : List ℕ) : Type 0 where
   pub block : ℕ
   pub boundary : ℕ
-  pub first : IsNext targets old block boundary
-  pub end : IsTurn targets old new members next block boundary ⊎ IsStopped old new members block boundary
+  pub first : IsNext targets (table_of old) block boundary
+  pub end : IsTurn targets (table_of old) (table_of new) (members_of new) next block boundary ⊎ IsStopped rack block boundary old new

@@ -1,14 +1,15 @@
 // Moves with a limit.
 ghost use Rattle.std.specs.Prelude.{◌≡◌, ◌⊎◌, ◌+◌, ◌<◌, ◌≤◌, ℕ, length, true, false, IfNone, IfOk, IfSome, OnErr, OnOk, Some};
 ghost use Rattle.dg_model.specs.Members.{is_lost};
-ghost use Rattle.dg_model.specs.Moves.{AreTargets, IsCutOff, IsTidy, is_missing, missing_in};
+ghost use Rattle.dg_model.specs.Moves.{AreTargets, IsCutByLoss, IsCutOff, IsTidy, is_missing, missing_in};
 ghost use Rattle.dg_model.specs.States.{IsLeastLost, has_lost};
 ghost use Rattle.dg_model.specs.Tables.{used_in};
 ghost use Rattle.dg_plan.specs.Targets.{blocks_in, wants_of};
 ghost use Rattle.dg_store.specs.Leaves.{CallsAtMost};
 ghost use Rattle.dg_store.specs.Stores.{IsSound, members_of, rack_of, shape_of, table_of};
-ghost use Rattle.dg_move.specs.Answers.{IsCutByLoss, MovesTo, NamesLoss};
+ghost use Rattle.dg_move.specs.Answers.{MovesTo, NamesLoss};
 ghost use Rattle.dg_move.specs.Cursors.{AreCursors};
+ghost use Rattle.dg_move.specs.Stops.{StoppedAt};
 ghost use Rattle.dg_move.specs.Stores.{MovesOn, copy_calls, rounds_in};
 ghost use Rattle.dg_move.specs.Turns.{IsNext, IsStopped, IsTurn, IsTurned, Meets, TurnsOrStops};
 
@@ -47,7 +48,7 @@ fn move_block<R: Rack>(
     ensures on { MovesOn R.Rack (wants_of targets.now) store.old store.new }
     ensures meets { IfOk result (λ moved. moved ≡ true → Meets (wants_of targets.now) (table_of store.old) (table_of store.new) block boundary) }
     ensures stands { IfOk result (λ moved. moved ≡ true → is_lost (members_of store.new) boundary ≡ false) }
-    ensures stopped { IfOk result (λ moved. moved ≡ false → IsStopped (table_of store.old) (table_of store.new) (members_of store.new) block boundary) }
+    ensures stopped { IfOk result (λ moved. moved ≡ false → IsStopped R.Rack block boundary store.old store.new) }
     ensures err { OnErr result (table_of store.new ≡ table_of store.old) }
     ensures most { CallsAtMost R.Rack store.old store.new (copy_calls (table_of store.old) 1) }
 {
@@ -75,7 +76,7 @@ fn turn<R: Rack>(
     requires cursors { AreCursors (wants_of targets.now) (table_of store.old) next.old }
     requires some { 0 < missing_in (wants_of targets.now) (table_of store.old) }
     ensures on { MovesOn R.Rack (wants_of targets.now) store.old store.new }
-    ensures turned { OnOk result (TurnsOrStops (wants_of targets.now) (table_of store.old) (table_of store.new) (members_of store.new) next.new) }
+    ensures turned { OnOk result (TurnsOrStops R.Rack (wants_of targets.now) store.old store.new next.new) }
     ensures next { (b s : ℕ) × IsNext (wants_of targets.now) (table_of store.old) b s }
     ensures err { OnErr result (table_of store.new ≡ table_of store.old) }
     ensures most { CallsAtMost R.Rack store.old store.new (copy_calls (table_of store.old) 1) }
@@ -111,7 +112,8 @@ fn run<R: Rack>(
         (missing_in (wants_of targets.now) (table_of store.new) + rounds ≡ missing_in (wants_of targets.now) (table_of store.old))) }
     ensures live { IfOk result (λ lost. IfNone lost (has_lost (shape_of store.new) (members_of store.new) ≡ false)) }
     ensures cut { IfOk result (λ lost. IfSome lost (λ s.
-        IsCutByLoss (wants_of targets.now) rounds (table_of store.old) (table_of store.new) (members_of store.new))) }
+        IsCutByLoss (wants_of targets.now) (Some rounds) (table_of store.old) (table_of store.new) (members_of store.new))) }
+    ensures stopped { IfOk result (λ lost. IfSome lost (λ s. StoppedAt R.Rack (wants_of targets.now) rounds store.old store.new)) }
     ensures lost { IfOk result (λ lost. IfSome lost (λ s. IsLeastLost (shape_of store.new) (members_of store.new) s)) }
     ensures err { OnErr result (IsCutOff (wants_of targets.now) (Some rounds) (table_of store.old) (table_of store.new)) }
 {
@@ -140,6 +142,8 @@ pub fn tend<R: Rack>(
     requires live { has_lost (shape_of store.old) (members_of store.old) ≡ false }
     ensures on { MovesOn R.Rack (wants_of targets.now) store.old store.new }
     ensures moves { IfOk result (λ answer. MovesTo (wants_of targets.now) limit (table_of store.old) (table_of store.new) (members_of store.new) answer) }
+    ensures stopped { IfOk result (λ answer. (s : ℕ) → answer ≡ TendAnswer.Lost s
+        → StoppedAt R.Rack (wants_of targets.now) limit store.old store.new) }
     ensures lost { IfOk result (λ answer. NamesLoss (shape_of store.new) (members_of store.new) answer) }
     ensures still { rounds_in (wants_of targets.now) limit (table_of store.old) ≡ 0 → rack_of store.new ≡ rack_of store.old }
     ensures most { CallsAtMost R.Rack store.old store.new

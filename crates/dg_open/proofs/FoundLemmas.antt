@@ -6,8 +6,8 @@ use Rattle.std.proofs.lemmas.Grind.{common_steps}
 use Rattle.std.proofs.lemmas.List.{length-take}
 use Rattle.dg_io.specs.Told.{IsEmpty, IsSame, Measures, Reads, Told}
 use Rattle.dg_io.specs.declared.outside.Rack.{Ghosts}
-use Rattle.dg_model.specs.Openings.{HasLength, HasOwnLabel}
-use Rattle.dg_model.specs.Saves.{Label as LabelValue, label_bytes}
+use Rattle.dg_model.specs.Openings.{HasOwnLabel}
+use Rattle.dg_model.specs.Saves.{HasLength, Label as LabelValue, label_bytes}
 use Rattle.dg_open.proofs.ReadLemmas.{if_both, if_some, told_by, told_on}
 use Rattle.dg_open.specs.Seen.{HasHead, IsAttached, IsNoLabel, IsOwnLabel, IsSeen, IsShort}
 use Rattle.dg_save.specs.Labels.{IsOwn, SaysLabel, label_of}
@@ -43,7 +43,7 @@ empty x y e = let n = ap length e.same in let m = ap length e.none in omega (ari
 
 pub attached : {R : Type 0} (rack : Ghosts R) (old new : R) (member : ℕ) (found : Option ℕ) (n : ℕ)
     → IfSome found (λ size. Told (Measures size) (rack.bytes old member) (rack.bytes new member))
-    → (IsSome found → rack.stands new member) → found ≡ Some n → 512 ≤ n → IsAttached rack new member n
+    → (IsSome found → rack.stands new member ≡ true) → found ≡ Some n → 512 ≤ n → IsAttached rack new member n
 attached rack old new member None n told stands is room = absurd (false≢true (ap (λ (o : Option ℕ). is_some_of o) is))
   where
     is_some_of : Option ℕ → Bool
@@ -81,7 +81,7 @@ head_is head x y size reads = reads.there ∙ front_is (length head) x ∙ ap (�
 
 pub has_head : {R : Type 0} (rack : Ghosts R) (old new : R) (member size : ℕ) (head : List ℕ) → IsAttached rack old member size
     → Told IsSame (rack.bytes old member) (rack.bytes new member) → Told (Reads 0 head) (rack.bytes old member) (rack.bytes new member)
-    → length head ≡ 512 → rack.stands new member → HasHead rack new member size head
+    → length head ≡ 512 → rack.stands new member ≡ true → HasHead rack new member size head
 has_head rack old new member size head attached same reads length_is stands = record {
   stands = stands;
   size_is = told_on (λ all. length all ≡ size) (rack.bytes old member) (rack.bytes new member) same attached.size_is;

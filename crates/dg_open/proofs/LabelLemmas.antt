@@ -1,14 +1,14 @@
 -- The label of an array that was opened, and the whole of what an opening gives.
-use Rattle.std.proofs.Common.{◌≡◌, ◌≢◌, ◌⊎◌, inl, inr, ℕ, ◌*◌, ◌/◌, ◌%◌, ◌<◌, Bool, true, List, length, refl, sym, ◌∙◌, ap, subst}
-use Rattle.std.specs.Prelude.{Option, Some, IfSome}
-use Rattle.std.proofs.lemmas.Bool.{cases_Bool, false≢true}
+use Rattle.std.proofs.Common.{◌≡◌, ◌≢◌, ◌⊎◌, inl, inr, ℕ, ◌+◌, ◌*◌, ◌/◌, ◌%◌, ◌<◌, Bool, true, List, length, refl, sym, ◌∙◌, ap, subst, arith, eqb}
+use Rattle.std.specs.Prelude.{◌==◌, Option, Some, IfSome, IsSome, slice_range}
+use Rattle.std.proofs.lemmas.Bool.{and_parts, both_ways, cases_Bool, false≢true}
 use Rattle.dg_io.specs.declared.outside.Rack.{Ghosts}
 use Rattle.dg_label.specs.Labels.{AreNumbers, AreNumbersOf, HasLength, IsLabeled, StandsLabeled}
 use Rattle.dg_label.specs.declared.labels.KeptLabel.{KeptLabel}
 use Rattle.dg_model.specs.Members.{is_filling, is_good}
-use Rattle.dg_model.specs.Openings.{Found, HasOwnLabel, MayBeGood}
-use Rattle.dg_model.specs.Openings as openings
-use Rattle.dg_model.specs.Saves.{BeginsWith, IsLabel, Label as LabelValue, body_of, member_length}
+use Rattle.dg_model.specs.Openings.{Found, HasOwnLabel, MayBeGood, Says}
+use Rattle.dg_model.specs.Saves.{BeginsWith, HasBody, IsLabel, Label as LabelValue, body_of, body_place, member_length}
+use Rattle.dg_model.specs.Saves as saves
 use Rattle.dg_model.specs.Seals.{LastLabel, label_on}
 use Rattle.dg_model.specs.Tables.{Table}
 use Rattle.dg_model.specs.declared.members.MemberState.{MemberState}
@@ -16,10 +16,11 @@ use Rattle.dg_model.specs.declared.members.MemberState.TheVariants.{Good, Fillin
 use Rattle.dg_model.specs.declared.shapes.Shape.{Shape}
 use Rattle.dg_model.specs.Marks.{is_marked}
 use Rattle.dg_open.proofs.OpenLemmas.{counted_may, may_counted, seen_after, seen_labeled, source_is, source_read, state_from}
-use Rattle.dg_open.proofs.ReadLemmas.{failed_before, if_some, reads_both}
+use Rattle.dg_open.proofs.ReadLemmas.{failed_before, if_some, quiet_both, reads_both}
 use Rattle.dg_open.proofs.RowLemmas.{counted_labeled, counted_low}
-use Rattle.dg_open.specs.Reopenings.{HasReopened, HaveBody, HaveLabel, LeavesRead, opened_label}
-use Rattle.dg_open.specs.Seen.{AreCounted, AreFailed, AreLabeled, AreSealed, AreSeen, HasFailed, IsCounted, IsFirst, IsGreatest, IsLabeledBy, OpensFrom, kept_of, taken_in}
+use Rattle.dg_open.specs.Reopenings.{HasReopened, LeavesRead, opened_label}
+use Rattle.dg_open.specs.Seen.{AreCounted, AreFailed, AreLabeled, AreQuiet, AreSealed, AreSeen, HasFailed, HasNotFailed, IsCounted, IsFirst, IsGreatest, IsLabeledBy, OpensFrom, QuietBut}
+use Rattle.dg_open.specs.Seen.{kept_of, taken_in}
 use Rattle.dg_open.specs.declared.bodies.Source.{Source}
 use Rattle.dg_open.specs.declared.reopens.Reopened.{Reopened}
 use Rattle.dg_save.specs.Labels.{label_of}
@@ -39,6 +40,9 @@ when_good P member is good = elim is [ inl here ↦ here.1 | inr out ↦ absurd 
 when_in : (P : Type 0) (member : MemberState) → ((member ≡ Good) × P) ⊎ ((member ≡ Out) × (P → ⊥)) → member ≢ Out → P
 when_in P member is not = elim is [ inl here ↦ here.1 | inr out ↦ absurd (not out.0) ]
 
+eqb_is : (q s : ℕ) → eqb q s ≡ true → q ≡ s
+eqb_is q s e = grind (arith, e)
+
 good_is : (member : MemberState) → is_good member ≡ true → member ≡ Good
 good_is Good e = refl
 good_is (Filling have) e = absurd (false≢true e)
@@ -50,14 +54,11 @@ never_filling P member is filling = elim is [
   | inr out ↦ false≢true (sym (ap is_filling out.0) ∙ filling)
 ]
 
-same_value : (l : LabelValue) (shape : Shape) (body : ℕ) → l.sealed ≡ true → l.shape ≡ shape → l.body ≡ body → l ≡ record l { sealed = true; shape = shape; body = body }
-same_value l shape body sealed shaped size =
-    ap (λ (b : Bool). record l { sealed = b }) sealed
-    ∙ ap (λ (s : Shape). record l { sealed = true; shape = s }) shaped
-    ∙ ap (λ (n : ℕ). record l { sealed = true; shape = shape; body = n }) size
+same_value : (l : LabelValue) (body : ℕ) → l.sealed ≡ true → l.body ≡ body → l ≡ record l { sealed = true; body = body }
+same_value l body sealed size = ap (λ (b : Bool). record l { sealed = b }) sealed ∙ ap (λ (n : ℕ). record l { sealed = true; body = n }) size
 
 length_is : (label : LabelValue) (kept : KeptLabel) (shape : Shape) (size : ℕ) → IsLabel label → kept.format ≡ label.format → shape ≡ label.shape
-    → openings.HasLength label size → HasLength shape (Some kept) size
+    → saves.HasLength label size → HasLength shape (Some kept) size
 length_is label kept shape size is format shaped has = subst (λ (s : Shape). HasLength s (Some kept) size) (sym shaped) (elim has [
   | inl same ↦ elim is.formats [
     | inl one ↦ inr (format ∙ one, same ∙ ap (λ (f : ℕ). member_length f label.shape) one)
@@ -70,6 +71,7 @@ module _ {R : Type 0} (rack : Ghosts R) (before start : R) (table : List (Option
     (seen : AreSeen rack before start table 32) (is_greatest : IsGreatest table 32 greatest) (sealed : AreSealed table greatest 32)
     (leaves : LeavesRead rack start (rack_of reopened.store)) (first : IsFirst rack start (rack_of reopened.store) table greatest (record { label = label; saved = reopened.saved }))
     (fails : AreFailed rack start (rack_of reopened.store) failed)
+    (quiet_start : AreQuiet rack before start table 32) (quiet : QuietBut rack start (rack_of reopened.store) failed)
     (table_is : table_of reopened.store ≡ (state_of reopened.saved).table) (members : AreCounted table failed label reopened.saved.good (members_of reopened.store))
     (label_is : reopened.label ≡ kept_of label) (sound : IsSound rack reopened.store) where
   abbrev now : R
@@ -94,7 +96,7 @@ module _ {R : Type 0} (rack : Ghosts R) (before start : R) (table : List (Option
   shape_is = ap (λ (t : Table). t.shape) table_is ∙ first.says.numbers
 
   abbrev last : LastLabel
-  last = opened_label (label_of label) (state_of reopened.saved) reopened.store
+  last = opened_label first.q (label_of label) (state_of reopened.saved) reopened.store
 
   size_of_marks : length reopened.saved.good ≡ 2 * label.shape.b
   size_of_marks = first.says.form.members ∙ ap (λ (s : Shape). 2 * s.b) first.says.numbers
@@ -105,13 +107,29 @@ module _ {R : Type 0} (rack : Ghosts R) (before start : R) (table : List (Option
   own : (q : ℕ) → IsCounted table failed label reopened.saved.good q → IsLabeledBy rack now q (record label { boundary = q / 2; side = q % 2 })
   own q counted = counted_labeled rack now table failed label reopened.saved.good q labeled (low q counted) counted
 
-  begins : HaveLabel rack reopened.store last
+  begins : (q : ℕ) → is_good (members_of reopened.store q) ≡ true → IfSome (rack.bytes now q) (λ all. BeginsWith all (label_on last q))
   begins q good =
       let counted = when_good _ (members_of reopened.store q) (members q) (good_is (members_of reopened.store q) good) in
-      let value : label_of (record label { boundary = q / 2; side = q % 2 }) ≡ label_on (shape_of reopened.store) last q =
-      same_value (label_of (record label { boundary = q / 2; side = q % 2 })) (shape_of reopened.store) (length (body_of label.format (state_of reopened.saved))) is_sealed (sym shape_is) (sym first.says.size) in
-      if_some (λ all. HasOwnLabel q all (label_of (record label { boundary = q / 2; side = q % 2 }))) (λ all. BeginsWith all (label_on (shape_of reopened.store) last q)) (rack.bytes now q) (own q counted).own
+      let value : label_of (record label { boundary = q / 2; side = q % 2 }) ≡ label_on last q =
+      same_value (label_of (record label { boundary = q / 2; side = q % 2 })) (length (body_of label.format (state_of reopened.saved))) is_sealed (sym first.says.size) in
+      if_some (λ all. HasOwnLabel q all (label_of (record label { boundary = q / 2; side = q % 2 }))) (λ all. BeginsWith all (label_on last q)) (rack.bytes now q) (own q counted).own
       (λ all h. subst (λ (l : LabelValue). BeginsWith all l) value h.begins)
+
+  -- it is as long as the label says
+  sized : (q : ℕ) → is_good (members_of reopened.store q) ≡ true → IfSome (rack.bytes now q) (λ all. saves.HasLength (label_on last q) (length all))
+  sized q good =
+      let counted = when_good _ (members_of reopened.store q) (members q) (good_is (members_of reopened.store q) good) in
+      if_some (λ all. HasOwnLabel q all (label_of (record label { boundary = q / 2; side = q % 2 }))) (λ all. saves.HasLength (label_on last q) (length all)) (rack.bytes now q) (own q counted).own
+      (λ all h. h.size)
+
+  -- the source has the body that was read
+  has_body : (q : ℕ) → last.bodies q ≡ true → IfSome (rack.bytes now q) (λ all. HasBody all label.shape (body_of label.format (state_of reopened.saved)))
+  has_body q is =
+      let here = eqb_is q first.q (and_parts (q == first.q) (is_good (members_of reopened.store q)) is).0 in
+      subst (λ (p : ℕ). IfSome (rack.bytes now p) (λ all. HasBody all label.shape (body_of label.format (state_of reopened.saved)))) (sym here)
+      (if_some (λ all. Says (label_of label) all (Some (state_of reopened.saved))) (λ all. HasBody all label.shape (body_of label.format (state_of reopened.saved))) (rack.bytes now first.q)
+      first.says.says
+      (λ all is_body. ap (λ (n : ℕ). slice_range all (body_place label.shape) (body_place label.shape + n)) first.says.size ∙ is_body.says))
 
   numbers_of : AreNumbersOf last (kept_of label)
   numbers_of = record { format = refl; sequence = refl; sealed = sym is_sealed; body = first.says.size }
@@ -134,14 +152,33 @@ module _ {R : Type 0} (rack : Ghosts R) (before start : R) (table : List (Option
     filling = λ q filling. absurd (never_filling _ (members_of reopened.store q) (members q) filling);
   }
 
-  stands : HaveBody rack reopened.store (body_of label.format (state_of reopened.saved)) → StandsLabeled rack reopened.store (Some reopened.label) (Some last)
-  stands have = record {
+  stands : StandsLabeled rack reopened.store (Some reopened.label) (Some last)
+  stands = record {
     kept = kept;
     holds = record {
       label = begins;
-      body = λ q keeps sealed_last. have q keeps;
+      body = λ q has sealed_last. has_body q has;
     };
+    of_array = record { shape_is = sym shape_is; numbers_are = λ q. refl };
+    sizes = sized;
+    filling = λ q filling. absurd (never_filling _ (members_of reopened.store q) (members q) filling);
+    fresh = λ q within not none. elim (members q) [
+      | inl good ↦ absurd (both_ways (is_good (members_of reopened.store q)) none (ap is_good good.0))
+      | inr gone ↦ absurd (not gone.0)
+    ];
   }
+
+  -- of a member that is good no count of faults rose
+  counted_quiet : (q : ℕ) → IsCounted table failed label reopened.saved.good q → HasNotFailed rack before now q
+  counted_quiet q counted =
+      quiet_both rack before start now q
+      (quiet_start.labeled q (low q counted) (subst (λ (o : Option Label). IsSome o) (sym counted.there) refl)) (quiet q counted.stood)
+
+  fell : (q : ℕ) → (rack.counts before).faults q < (rack.counts now).faults q → members_of reopened.store q ≡ Out
+  fell q rose = elim (members q) [
+    | inl good ↦ absurd (let same = counted_quiet q good.1 in omega (arith, rose, same))
+    | inr gone ↦ gone.0
+  ]
 
   out : (q : ℕ) → (members_of reopened.store q ≡ Good)
       ⊎ ((members_of reopened.store q ≡ Out) × (MayBeGood taken (label_of label) (state_of reopened.saved) q → HasFailed rack before now q))
@@ -168,24 +205,26 @@ module _ {R : Type 0} (rack : Ghosts R) (before start : R) (table : List (Option
     good = λ q good. counted_may rack before start now table greatest source seen is_greatest sealed leaves first failed q
         (when_good _ (members_of reopened.store q) (members q) good);
     out = out;
+    fell = fell;
     body = first.says.size;
     sound = sound;
     labeled = is_labeled;
-    kept = kept;
-    begins = begins;
     stands = stands;
     leaves = reads_both rack before start now seen.leaves leaves;
   }
 
 pub opens : {R : Type 0} (rack : Ghosts R) (before start now : R) (table : List (Option Label)) (failed : List Bool) (greatest : ℕ) (source : Source) (reopened : Reopened R)
     → AreSeen rack before start table 32 → IsGreatest table 32 greatest → AreSealed table greatest 32 → LeavesRead rack start now → IsFirst rack start now table greatest source
-    → AreFailed rack start now failed → OpensFrom rack now table failed source reopened → HasReopened rack before reopened
-opens rack before start now table failed greatest source reopened seen is_greatest sealed leaves first fails opened =
+    → AreFailed rack start now failed → AreQuiet rack before start table 32 → QuietBut rack start now failed
+    → OpensFrom rack now table failed source reopened → HasReopened rack before reopened
+opens rack before start now table failed greatest source reopened seen is_greatest sealed leaves first fails quiet_start quiet opened =
     has_reopened rack before start table failed greatest source.label reopened seen is_greatest sealed
     (subst (λ s. LeavesRead rack start s) (sym opened.rack_is) leaves)
     (subst (λ s. IsFirst rack start s table greatest (record source { saved = reopened.saved })) (sym opened.rack_is)
     (subst (λ (v : SavedState). IsFirst rack start now table greatest (record source { saved = v })) (sym opened.saved_is) first))
     (subst (λ s. AreFailed rack start s failed) (sym opened.rack_is) fails)
+    quiet_start
+    (subst (λ s. QuietBut rack start s failed) (sym opened.rack_is) quiet)
     (opened.table_is ∙ ap (λ (v : SavedState). (state_of v).table) (sym opened.saved_is))
     (subst (λ (v : SavedState). AreCounted table failed source.label v.good (members_of reopened.store)) (sym opened.saved_is) opened.members)
     opened.label_is

@@ -2,12 +2,13 @@
 use Rattle.std.proofs.Common.{◌≡◌, inl, inr, ℕ, ◌≤◌, List, refl, sym, ◌∙◌, subst, arith}
 use Rattle.std.specs.Prelude.{Option, Some, None, Result, IfSome, IsSome}
 use Rattle.std.proofs.lemmas.Bool.{cases_eq, false≢true}
-use Rattle.dg_io.specs.RackWords.{Leaves}
+use Rattle.dg_io.specs.RackCalls.{RackCall}
+use Rattle.dg_io.specs.RackWords.{After, Leaves}
 use Rattle.dg_io.specs.Told.{IsSame, Told}
 use Rattle.dg_io.specs.declared.outside.Rack.{Ghosts}
 use Rattle.dg_model.specs.Causes.{Rose}
 use Rattle.dg_open.specs.Reopenings.{LeavesRead}
-use Rattle.dg_open.specs.Seen.{HasFailed, IsLabeledBy, IsSeen, ReadsOne}
+use Rattle.dg_open.specs.Seen.{HasFailed, HasNotFailed, IsLabeledBy, IsSeen, ReadsOne}
 use Rattle.dg_save.specs.declared.labels.Label.{Label}
 
 -- ---- bytes that are told
@@ -64,6 +65,7 @@ module _ {R : Type 0} (rack : Ghosts R) where
     tells = λ q some. some;
     same_rack = refl;
     steady_on = ((λ h. h), (λ h. h));
+    told_before = λ q tells. tells;
   }
 
   pub reads_both : (a b c : R) → LeavesRead rack a b → LeavesRead rack b c → LeavesRead rack a c
@@ -78,21 +80,24 @@ module _ {R : Type 0} (rack : Ghosts R) where
     tells = λ q some. one.tells q (two.tells q some);
     same_rack = two.same_rack ∙ one.same_rack;
     steady_on = ((λ h. two.steady_on.0 (one.steady_on.0 h)), (λ h. one.steady_on.1 (two.steady_on.1 h)));
+    told_before = λ q tells. one.told_before q (two.told_before q tells);
   }
 
   pub one_none : (member : ℕ) (s : R) → ReadsOne rack member s s
-  one_none member s = record { leaves = reads_none s; others_stand = λ q other stands. stands }
+  one_none member s = record { leaves = reads_none s; other_faults = λ q other. refl; others_stand = λ q other stands. stands }
 
   pub one_both : (member : ℕ) (a b c : R) → ReadsOne rack member a b → ReadsOne rack member b c → ReadsOne rack member a c
   one_both member a b c one two = record {
     leaves = reads_both a b c one.leaves two.leaves;
+    other_faults = λ q other. two.other_faults q other ∙ one.other_faults q other;
     others_stand = λ q other stands. two.others_stand q other (one.others_stand q other stands);
   }
 
   -- a call that leaves the member's bytes, and writes nothing
-  pub one_call : {T E : Type 0} (member : ℕ) (result : Result T E) (old new : R) → Leaves rack member result old new
+  pub one_call : ((a b : R) (calls : List RackCall) → rack.made a calls b → After rack calls a b) → {T E : Type 0} (member : ℕ) (result : Result T E) (old new : R) (calls : List RackCall)
+      → rack.made old calls new → Leaves rack member result old new
       → Told IsSame (rack.bytes old member) (rack.bytes new member) → (rack.counts new).writes ≡ (rack.counts old).writes → ReadsOne rack member old new
-  one_call member result old new leaves same writes = record {
+  one_call after member result old new calls made leaves same writes = record {
     leaves = record {
       rise = leaves.rise;
       writes = writes;
@@ -103,7 +108,9 @@ module _ {R : Type 0} (rack : Ghosts R) where
       tells = leaves.tells;
       same_rack = leaves.same_rack;
       steady_on = leaves.steady_on;
+      told_before = (after old new calls made).told_before;
     };
+    other_faults = leaves.other_faults;
     others_stand = leaves.others_stand;
   }
 
@@ -114,6 +121,9 @@ module _ {R : Type 0} (rack : Ghosts R) where
 
   pub failed_before : (a b c : R) (q : ℕ) → LeavesRead rack a b → HasFailed rack b c q → HasFailed rack a c q
   failed_before a b c q leaves failed = rose_before _ _ _ (leaves.rise.faults q) failed
+
+  pub quiet_both : (a b c : R) (q : ℕ) → HasNotFailed rack a b q → HasNotFailed rack b c q → HasNotFailed rack a c q
+  quiet_both a b c q one two = two ∙ one
 
   pub labeled_on : (b c : R) (q : ℕ) (label : Label) → IsLabeledBy rack b q label → LeavesRead rack b c → IsLabeledBy rack c q label
   labeled_on b c q label labeled leaves = record {

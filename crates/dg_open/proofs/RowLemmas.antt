@@ -48,7 +48,7 @@ body_is label place body x y at size reads =
     ∙ ap (λ (xs : List ℕ). slice_range xs (body_place label.shape) (body_place label.shape + label.body)) (sym reads.same)
 
 pub has_body : {R : Type 0} (rack : Ghosts R) (old new : R) (member : ℕ) (label : Label) (place : ℕ) (body : List ℕ) → place ≡ body_place label.shape → length body ≡ label.body
-    → Told (Reads place body) (rack.bytes old member) (rack.bytes new member) → rack.stands new member → HasBodyOf rack new member label body
+    → Told (Reads place body) (rack.bytes old member) (rack.bytes new member) → rack.stands new member ≡ true → HasBodyOf rack new member label body
 has_body rack old new member label place body at size reads stands = record {
   stands = stands;
   size = size;

@@ -8,8 +8,8 @@ use Rattle.dg_io.specs.declared.outside.Rack.{Ghosts}
 use Rattle.dg_model.specs.Marks.{is_marked}
 use Rattle.dg_open.proofs.ReadLemmas.{failed_before, failed_on, labeled_on, reads_both, seen_before, seen_on, told_on}
 use Rattle.dg_open.specs.Reopenings.{LeavesRead}
-use Rattle.dg_open.specs.Seen.{AllStand, AreFailed, AreLabeled, AreSealed, AreSeen, HasFailed, HasNumber, HasOpened, IsFirst, IsGreatestOf, IsLabeledBy, IsLater, IsSeen}
-use Rattle.dg_open.specs.Seen.{Marks, NoneMarked, ReadsOne, SayNone, SaysAt, SaysNone, StandBut, label_at}
+use Rattle.dg_open.specs.Seen.{AllStand, AreFailed, AreLabeled, AreQuiet, AreSealed, AreSeen, HasFailed, HasNotFailed, HasNumber, HasOpened, IsFirst, IsGreatestOf, IsLabeledBy, IsLater, IsSeen}
+use Rattle.dg_open.specs.Seen.{Marks, NoneMarked, QuietBut, ReadsOne, SayNone, SaysAt, SaysNone, StandBut, label_at}
 use Rattle.dg_open.specs.declared.bodies.Source.{Source}
 use Rattle.dg_save.specs.declared.labels.Label.{Label}
 
@@ -43,13 +43,29 @@ one_seen rack start mid now table m found within seen reads here = record {
     ]
 
 pub one_stands : {R : Type 0} (rack : Ghosts R) (mid now : R) (table : List (Option Label)) (m : ℕ) (found : Option Label) → length table ≡ 32 → m < 32
-    → AllStand rack mid table m → ReadsOne rack m mid now → (IsSome found → rack.stands now m) → AllStand rack now (slice_set table m found) (m + 1)
+    → AllStand rack mid table m → ReadsOne rack m mid now → (IsSome found → rack.stands now m ≡ true) → AllStand rack now (slice_set table m found) (m + 1)
 one_stands rack mid now table m found size within stand reads here q low some = elim (cases_eq q m) [
   | inl same ↦
       let e : label_at (slice_set table m found) q ≡ found = ap (λ (p : ℕ). label_at (slice_set table m found) p) same ∙ set_here table m found (omega arith) in
-      subst (λ (p : ℕ). rack.stands now p) (sym same) (here (subst (λ (o : Option Label). IsSome o) e some))
+      subst (λ (p : ℕ). rack.stands now p ≡ true) (sym same) (here (subst (λ (o : Option Label). IsSome o) e some))
   | inr other ↦ reads.others_stand q other (stand q (omega arith) (subst (λ (o : Option Label). IsSome o) (set_there table m q found other) some))
 ]
+
+pub none_quiet : {R : Type 0} (rack : Ghosts R) (start : R) (table : List (Option Label)) → AreQuiet rack start start table 0
+none_quiet rack start table = record { labeled = λ q low some. refl; later = λ q high. refl }
+
+pub one_quiet : {R : Type 0} (rack : Ghosts R) (start mid now : R) (table : List (Option Label)) (m : ℕ) (found : Option Label) → length table ≡ 32 → m < 32
+    → AreQuiet rack start mid table m → ReadsOne rack m mid now → (IsSome found → HasNotFailed rack mid now m) → AreQuiet rack start now (slice_set table m found) (m + 1)
+one_quiet rack start mid now table m found size within quiet reads here = record {
+  labeled = λ q low some. elim (cases_eq q m) [
+    | inl same ↦
+        let e : label_at (slice_set table m found) q ≡ found = ap (λ (p : ℕ). label_at (slice_set table m found) p) same ∙ set_here table m found (omega arith) in
+        subst (λ (p : ℕ). HasNotFailed rack start now p) (sym same) (here (subst (λ (o : Option Label). IsSome o) e some) ∙ quiet.later m (omega arith))
+    | inr other ↦
+        reads.other_faults q other ∙ quiet.labeled q (omega arith) (subst (λ (o : Option Label). IsSome o) (set_there table m q found other) some)
+  ];
+  later = λ q high. reads.other_faults q (λ e. omega (arith, e)) ∙ quiet.later q (omega arith);
+}
 
 -- ---- the greatest number
 
@@ -148,6 +164,7 @@ pub record Walked {R : Type 0} (rack : Ghosts R) (start now : R) (table : List (
   pub none : SayNone rack start now table greatest m
   pub stand : StandBut rack now table failed
   pub fails : AreFailed rack start now failed
+  pub quiet : QuietBut rack start now failed
   pub clear : NoneMarked failed m
   pub size : length failed ≡ 32
 
@@ -177,7 +194,7 @@ module _ {R : Type 0} (rack : Ghosts R) (start mid now : R) (table : List (Optio
   pub stands_still : m < 32 → length old ≡ 32 → StandBut rack mid table old → ReadsOne rack m mid now → Marks rack mid now table m old new → StandBut rack now table new
   stands_still within size stand reads marks q low some clear = elim marks [
     | inl kept ↦ elim (cases_eq q m) [
-      | inl same ↦ subst (λ (p : ℕ). rack.stands now p) (sym same) (kept.1 (subst (λ (p : ℕ). IsSome (label_at table p)) same some))
+      | inl same ↦ subst (λ (p : ℕ). rack.stands now p ≡ true) (sym same) (kept.1 (subst (λ (p : ℕ). IsSome (label_at table p)) same some))
       | inr other ↦ reads.others_stand q other (stand q low some (ap (λ (f : List Bool). is_marked f q) (sym kept.0) ∙ clear))
     ]
     | inr set_now ↦ elim (cases_eq q m) [
@@ -192,6 +209,21 @@ module _ {R : Type 0} (rack : Ghosts R) (start mid now : R) (table : List (Optio
     | inr set_now ↦ elim (cases_eq q m) [
       | inl same ↦ failed_before rack start mid now q early (subst (λ (p : ℕ). HasFailed rack mid now p) (sym same) set_now.1)
       | inr other ↦ failed_on rack start mid now q (fails q (sym (marked_there old m q other) ∙ ap (λ (f : List Bool). is_marked f q) (sym set_now.0) ∙ marked)) reads.leaves
+    ]
+  ]
+
+  pub quiet_still : m < 32 → length old ≡ 32 → QuietBut rack start mid old → ReadsOne rack m mid now → Marks rack mid now table m old new → QuietBut rack start now new
+  quiet_still within size quiet reads marks q clear = elim marks [
+    | inl kept ↦
+        let was = quiet q (ap (λ (f : List Bool). is_marked f q) (sym kept.0) ∙ clear) in
+        elim (cases_eq q m) [
+          | inl same ↦ subst (λ (p : ℕ). HasNotFailed rack mid now p) (sym same) kept.2 ∙ was
+          | inr other ↦ reads.other_faults q other ∙ was
+        ]
+    | inr set_now ↦ elim (cases_eq q m) [
+      | inl same ↦ absurd (false≢true (sym clear ∙ ap (λ (f : List Bool). is_marked f q) set_now.0 ∙ marked_here old m q same (omega arith)))
+      | inr other ↦
+          reads.other_faults q other ∙ quiet q (sym (marked_there old m q other) ∙ ap (λ (f : List Bool). is_marked f q) (sym set_now.0) ∙ clear)
     ]
   ]
 
@@ -218,6 +250,7 @@ module _ {R : Type 0} (rack : Ghosts R) (start mid now : R) (table : List (Optio
     ];
     stand = stands_still within walked.size walked.stand reads marks;
     fails = fails_still walked.fails walked.leaves reads marks;
+    quiet = quiet_still within walked.size walked.quiet reads marks;
     clear = clear_still walked.clear marks;
     size = size;
   }

@@ -1,13 +1,13 @@
 -- What opening the array of a rack gives, by its answer.
-use Rattle.std.specs.Prelude.{◌≡◌, ◌⊎◌, ◌↔◌, ℕ, true, List, Option, Some, IfSome, length}
+use Rattle.std.specs.Prelude.{◌≡◌, ◌⊎◌, ◌<◌, ◌==◌, ◌&&◌, ◌↔◌, ℕ, true, Option, Some, length}
 use Rattle.dg_io.specs.Told.{IsSame, StillTold, Told}
 use Rattle.dg_io.specs.declared.outside.Rack.{Ghosts}
-use Rattle.dg_label.specs.Labels.{IsKeptOf, IsLabeled, StandsLabeled}
+use Rattle.dg_label.specs.Labels.{IsLabeled, StandsLabeled}
 use Rattle.dg_model.specs.Causes.{Rose}
 use Rattle.dg_model.specs.Members.{is_good}
 use Rattle.dg_model.specs.Openings.{Found, HasNoState, IsSource, IsUnclean, MayBeGood}
-use Rattle.dg_model.specs.Saves.{BeginsWith, CanBeSaved, HasBody, Label, SavedState, body_of}
-use Rattle.dg_model.specs.Seals.{LastLabel, label_on}
+use Rattle.dg_model.specs.Saves.{CanBeSaved, Label, SavedState, body_of}
+use Rattle.dg_model.specs.Seals.{LastLabel}
 use Rattle.dg_model.specs.States.{CountsRise}
 use Rattle.dg_model.specs.declared.members.MemberState.TheVariants.{Good, Out}
 use Rattle.dg_open.specs.Founds.{AreRead}
@@ -15,11 +15,11 @@ use Rattle.dg_open.specs.declared.reopens.ReopenAnswer.{ReopenAnswer}
 use Rattle.dg_open.specs.declared.reopens.ReopenAnswer.TheVariants.{NoState, Found as IsFound, Unclean}
 use Rattle.dg_open.specs.declared.reopens.Reopened.{Reopened}
 use Rattle.dg_save.specs.States.{state_of}
-use Rattle.dg_store.specs.Stores.{IsSound, members_of, rack_of, shape_of, table_of}
+use Rattle.dg_store.specs.Stores.{IsSound, members_of, rack_of, table_of}
 use Rattle.dg_store.specs.declared.store.Store.{Store}
 
 -- What finding and reading members leaves of a rack: it is the same, no count fell, nothing was written, each member that tells its bytes has
--- those that it had, and the rack is steady or not as it was.
+-- those that it had, what tells its bytes did so before, and the rack is steady or not as it was.
 pub record LeavesRead {R : Type 0} (rack : Ghosts R) (before now : R) : Type 0 where
   pub rise : CountsRise (rack.counts before) (rack.counts now)
   pub writes : (rack.counts now).writes ≡ (rack.counts before).writes
@@ -27,34 +27,28 @@ pub record LeavesRead {R : Type 0} (rack : Ghosts R) (before now : R) : Type 0 w
   pub tells : StillTold (rack.bytes before) (rack.bytes now)
   pub same_rack : rack.name now ≡ rack.name before
   pub steady_on : rack.steady before ↔ rack.steady now
+  pub told_before : (q : ℕ) → rack.tells now q → rack.tells before q
 
 -- what was taken of the members of a rack
 abbrev pub AreReadOf : {R : Type 0} → Ghosts R → R → R → (ℕ → Option Found) → Type 0
 AreReadOf rack before now taken = AreRead (rack.bytes now) (rack.counts before).faults (rack.counts now).faults taken
 
--- the label that an opened array has: that of its source, on each member that is good
-abbrev pub opened_label : Label → SavedState → {R : Type 0} → Store R → LastLabel
-opened_label label saved store = record {
+-- the label that an opened array has: that of its source, on each member that is good; that they have the body is known of the source alone
+abbrev pub opened_label : ℕ → Label → SavedState → {R : Type 0} → Store R → LastLabel
+opened_label source label saved store = record {
   format = label.format;
   sequence = label.sequence;
   sealed = true;
+  shape = label.shape;
   body = body_of label.format saved;
   keepers = λ q. is_good (members_of store q);
+  bodies = λ q. (q == source) && is_good (members_of store q);
+  numbers = λ q. q;
 }
 
--- each good member that tells its bytes begins with the last label, as it stands on it
-abbrev pub HaveLabel : {R : Type 0} → Ghosts R → Store R → LastLabel → Type 0
-HaveLabel rack store last = (q : ℕ) → is_good (members_of store q) ≡ true
-    → IfSome (rack.bytes (rack_of store) q) (λ all. BeginsWith all (label_on (shape_of store) last q))
-
--- it has this body behind its slots
-abbrev pub HaveBody : {R : Type 0} → Ghosts R → Store R → List ℕ → Type 0
-HaveBody rack store body = (q : ℕ) → is_good (members_of store q) ≡ true
-    → IfSome (rack.bytes (rack_of store) q) (λ all. HasBody all (shape_of store) body)
-
 -- An array was opened from what was taken: it has the sites that its source says; a member is good only where it has the same label and the
--- source says so, and a member of which that holds is out only where its count of faults rose. The label stands on each good member. Whether
--- the body of the source stands beside it isn't looked at on the other ones: where it does, the label is the last one of the model.
+-- source says so, and a member of which that holds is out only where its count of faults rose, and always there. The label stands on each
+-- good member; whether the body of the source stands beside it isn't looked at on the other ones.
 pub record HasReopened {R : Type 0} (rack : Ghosts R) (before : R) (reopened : Reopened R) : Type 0 where
   pub taken : ℕ → Option Found
   pub source : ℕ
@@ -67,13 +61,11 @@ pub record HasReopened {R : Type 0} (rack : Ghosts R) (before : R) (reopened : R
   pub out : (q : ℕ) → (members_of reopened.store q ≡ Good)
       ⊎ ((members_of reopened.store q ≡ Out)
       × (MayBeGood taken label (state_of reopened.saved) q → Rose ((rack.counts before).faults q) ((rack.counts (rack_of reopened.store)).faults q)))
+  pub fell : (q : ℕ) → (rack.counts before).faults q < (rack.counts (rack_of reopened.store)).faults q → members_of reopened.store q ≡ Out
   pub body : length (body_of label.format (state_of reopened.saved)) ≡ label.body
   pub sound : IsSound rack reopened.store
   pub labeled : IsLabeled rack reopened.store (Some reopened.label)
-  pub kept : IsKeptOf (Some (opened_label label (state_of reopened.saved) reopened.store)) (Some reopened.label)
-  pub begins : HaveLabel rack reopened.store (opened_label label (state_of reopened.saved) reopened.store)
-  pub stands : HaveBody rack reopened.store (body_of label.format (state_of reopened.saved))
-      → StandsLabeled rack reopened.store (Some reopened.label) (Some (opened_label label (state_of reopened.saved) reopened.store))
+  pub stands : StandsLabeled rack reopened.store (Some reopened.label) (Some (opened_label source label (state_of reopened.saved) reopened.store))
   pub leaves : LeavesRead rack before (rack_of reopened.store)
 
 -- no member that counts with the greatest number says a state, and none of them is opened

@@ -1,6 +1,7 @@
 -- What is known of the members of a rack while an array is opened from it: the own label of each member that has one.
 use Rattle.std.specs.Prelude.{◌≡◌, ◌≢◌, ◌⊎◌, ◌/◌, ◌%◌, ◌<◌, ◌≤◌, ℕ, Bool, true, false, List, Option, Some, None, IfSome, IsSome, length, slice_index_or, slice_set, take, max}
 use Rattle.std.specs.Option.{option_map}
+use Rattle.dg_io.specs.Faults.{OnlyMember}
 use Rattle.dg_io.specs.declared.outside.Rack.{Ghosts}
 use Rattle.dg_model.specs.Causes.{Rose}
 use Rattle.dg_model.specs.Marks.{is_marked}
@@ -85,6 +86,10 @@ HasNone rack now q = IfSome (rack.bytes now q) (λ all. (label : LabelValue) →
 abbrev pub HasFailed : {R : Type 0} → Ghosts R → R → R → ℕ → Type 0
 HasFailed rack before now q = Rose ((rack.counts before).faults q) ((rack.counts now).faults q)
 
+-- no call on it failed: its count of faults is as it was
+abbrev pub HasNotFailed : {R : Type 0} → Ghosts R → R → R → ℕ → Type 0
+HasNotFailed rack before now q = (rack.counts now).faults q ≡ (rack.counts before).faults q
+
 -- member q was found with this label; or without one, where it has none, or a call failed
 abbrev pub IsSeen : {R : Type 0} → Ghosts R → R → R → ℕ → Option Label → Type 0
 IsSeen rack before now q None = HasFailed rack before now q ⊎ HasNone rack now q
@@ -102,24 +107,34 @@ AreLabeled rack now table = (q : ℕ) → q < 32 → IfSome (label_at table q) (
 
 -- each member with a label stands
 abbrev pub AllStand : {R : Type 0} → Ghosts R → R → List (Option Label) → ℕ → Type 0
-AllStand rack now table count = (q : ℕ) → q < count → IsSome (label_at table q) → rack.stands now q
+AllStand rack now table count = (q : ℕ) → q < count → IsSome (label_at table q) → rack.stands now q ≡ true
 
 -- each member with a label stands, but for those that are marked
 abbrev pub StandBut : {R : Type 0} → Ghosts R → R → List (Option Label) → List Bool → Type 0
-StandBut rack now table failed = (q : ℕ) → q < 32 → IsSome (label_at table q) → is_marked failed q ≡ false → rack.stands now q
+StandBut rack now table failed = (q : ℕ) → q < 32 → IsSome (label_at table q) → is_marked failed q ≡ false → rack.stands now q ≡ true
 
 -- on each member that is marked a call failed
 abbrev pub AreFailed : {R : Type 0} → Ghosts R → R → R → List Bool → Type 0
 AreFailed rack before now failed = (q : ℕ) → is_marked failed q ≡ true → HasFailed rack before now q
 
+-- no call failed on a member of the first ones that has a label in a table, and those behind them weren't called
+pub record AreQuiet {R : Type 0} (rack : Ghosts R) (before now : R) (table : List (Option Label)) (count : ℕ) : Type 0 where
+  pub labeled : (q : ℕ) → q < count → IsSome (label_at table q) → HasNotFailed rack before now q
+  pub later : (q : ℕ) → count ≤ q → HasNotFailed rack before now q
+
+-- on each member that isn't marked no call failed
+abbrev pub QuietBut : {R : Type 0} → Ghosts R → R → R → List Bool → Type 0
+QuietBut rack before now failed = (q : ℕ) → is_marked failed q ≡ false → HasNotFailed rack before now q
+
 -- reading one member leaves this of a rack
 pub record ReadsOne {R : Type 0} (rack : Ghosts R) (member : ℕ) (before now : R) : Type 0 where
   pub leaves : LeavesRead rack before now
-  pub others_stand : (q : ℕ) → q ≢ member → rack.stands before q → rack.stands now q
+  pub other_faults : OnlyMember member (rack.counts before).faults (rack.counts now).faults
+  pub others_stand : (q : ℕ) → q ≢ member → rack.stands before q ≡ true → rack.stands now q ≡ true
 
 -- the member stands, and has so many bytes, room for a label among them
 pub record IsAttached {R : Type 0} (rack : Ghosts R) (now : R) (member size : ℕ) : Type 0 where
-  pub stands : rack.stands now member
+  pub stands : rack.stands now member ≡ true
   pub room : 512 ≤ size
   pub size_is : IfSome (rack.bytes now member) (λ all. length all ≡ size)
 
@@ -129,7 +144,7 @@ IsShort rack before now member = HasFailed rack before now member ⊎ IfSome (ra
 
 -- the member stands, has so many bytes, and begins with these
 pub record HasHead {R : Type 0} (rack : Ghosts R) (now : R) (member size : ℕ) (head : List ℕ) : Type 0 where
-  pub stands : rack.stands now member
+  pub stands : rack.stands now member ≡ true
   pub size_is : IfSome (rack.bytes now member) (λ all. length all ≡ size)
   pub begins : IfSome (rack.bytes now member) (λ all. head ≡ take 512 all)
 
@@ -147,7 +162,7 @@ IsNoLabel member size head = (label : LabelValue) → IsLabel label → head ≡
 
 -- the member stands, and this is the body of the label
 pub record HasBodyOf {R : Type 0} (rack : Ghosts R) (now : R) (member : ℕ) (label : Label) (body : List ℕ) : Type 0 where
-  pub stands : rack.stands now member
+  pub stands : rack.stands now member ≡ true
   pub size : length body ≡ label.body
   pub is : IfSome (rack.bytes now member) (λ all. body ≡ body_in (label_of label) all)
 
@@ -178,14 +193,17 @@ pub record IsFirst {R : Type 0} (rack : Ghosts R) (before now : R) (table : List
 abbrev pub NoneMarked : List Bool → ℕ → Type 0
 NoneMarked failed low = (q : ℕ) → low ≤ q → is_marked failed q ≡ false
 
--- A member was read: it stands, and no mark changed; or a call on it failed, and it is marked.
+-- A member was read: it stands, no call on it failed, and no mark changed; or a call on it failed, and it is marked.
 abbrev pub MarksOne : {R : Type 0} → Ghosts R → R → R → ℕ → List Bool → List Bool → Type 0
-MarksOne rack before now member old new = ((new ≡ old) × rack.stands now member) ⊎ ((new ≡ slice_set old member true) × HasFailed rack before now member)
+MarksOne rack before now member old new =
+    ((new ≡ old) × (rack.stands now member ≡ true) × HasNotFailed rack before now member)
+    ⊎ ((new ≡ slice_set old member true) × HasFailed rack before now member)
 
 -- The same of one that stands if it has a label.
 abbrev pub Marks : {R : Type 0} → Ghosts R → R → R → List (Option Label) → ℕ → List Bool → List Bool → Type 0
 Marks rack before now table member old new =
-    ((new ≡ old) × (IsSome (label_at table member) → rack.stands now member)) ⊎ ((new ≡ slice_set old member true) × HasFailed rack before now member)
+    ((new ≡ old) × (IsSome (label_at table member) → rack.stands now member ≡ true) × HasNotFailed rack before now member)
+    ⊎ ((new ≡ slice_set old member true) × HasFailed rack before now member)
 
 -- what a member says that has this number, or none that has it
 abbrev pub SaysAt : {R : Type 0} → Ghosts R → R → R → List (Option Label) → ℕ → ℕ → Option Source → Type 0

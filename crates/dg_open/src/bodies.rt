@@ -1,9 +1,9 @@
 // The bodies of the members with the greatest number.
-ghost use Rattle.std.specs.Prelude.{◌≡◌, ◌<◌, IfOk, IfSome, IsSome, MatchOption};
+ghost use Rattle.std.specs.Prelude.{◌≡◌, ◌<◌, true, IfOk, IfSome, IsSome, MatchOption};
 ghost use Rattle.std.specs.Option.{option_map};
 ghost use Rattle.dg_open.specs.Reopenings.{LeavesRead};
-ghost use Rattle.dg_open.specs.Seen.{AllStand, AreFailed, AreLabeled, HasBodyOf, HasFailed, IsFirst, IsLabeledBy, Marks, MarksOne, NoneMarked};
-ghost use Rattle.dg_open.specs.Seen.{ReadsOne, SayNone, SaysAt, SaysNone, SaysState, StandBut, label_at, source_with};
+ghost use Rattle.dg_open.specs.Seen.{AllStand, AreFailed, AreLabeled, HasBodyOf, HasFailed, HasNotFailed, IsFirst, IsLabeledBy, Marks, MarksOne};
+ghost use Rattle.dg_open.specs.Seen.{NoneMarked, QuietBut, ReadsOne, SayNone, SaysAt, SaysNone, SaysState, StandBut, label_at, source_with};
 
 use crate::labels::{Labels, MEMBERS, if_newest};
 use dg_io::{NoMemory, Rack};
@@ -34,6 +34,7 @@ pub fn first_state<R: Rack>(
     ensures leaves { IfOk result (λ found. LeavesRead R.Rack rack.old rack.new) }
     ensures stand { IfOk result (λ found. StandBut R.Rack rack.new labels.now failed.new) }
     ensures failed { IfOk result (λ found. AreFailed R.Rack rack.old rack.new failed.new) }
+    ensures quiet { IfOk result (λ found. QuietBut R.Rack rack.old rack.new failed.new) }
     ensures says { IfOk result (λ found. MatchOption found
         (SayNone R.Rack rack.old rack.new labels.now greatest 32) (IsFirst R.Rack rack.old rack.new labels.now greatest)) }
 {
@@ -56,7 +57,7 @@ fn state_at<R: Rack>(
 ) -> Result<Option<Source>, NoMemory>
     requires within { member < 32 }
     requires labeled { IfSome (label_at labels.now member) (IsLabeledBy R.Rack rack.old member) }
-    requires stands { IsSome (label_at labels.now member) → R.stands rack.old member }
+    requires stands { IsSome (label_at labels.now member) → R.stands rack.old member ≡ true }
     ensures reads { IfOk result (λ found. ReadsOne R.Rack member rack.old rack.new) }
     ensures marks { IfOk result (λ found. Marks R.Rack rack.old rack.new labels.now member failed.old failed.new) }
     ensures says { IfOk result (SaysAt R.Rack rack.old rack.new labels.now greatest member) }
@@ -90,7 +91,7 @@ fn state_on<R: Rack>(
 ) -> Result<Option<SavedState>, NoMemory>
     requires within { member < 32 }
     requires labeled { IsLabeledBy R.Rack rack.old member label.now }
-    requires stands { R.stands rack.old member }
+    requires stands { R.stands rack.old member ≡ true }
     ensures reads { IfOk result (λ found. ReadsOne R.Rack member rack.old rack.new) }
     ensures marks { IfOk result (λ found. MarksOne R.Rack rack.old rack.new member failed.old failed.new) }
     ensures says { IfOk result (λ found. MatchOption found
@@ -113,9 +114,11 @@ fn read_body<R: Rack>(
     member: u8,
 ) -> Result<Option<Vec<u8>>, NoMemory>
     requires labeled { IsLabeledBy R.Rack rack.old member label.now }
-    requires stands { R.stands rack.old member }
+    requires stands { R.stands rack.old member ≡ true }
     ensures reads { IfOk result (λ found. ReadsOne R.Rack member rack.old rack.new) }
-    ensures is { IfOk result (λ found. MatchOption found (HasFailed R.Rack rack.old rack.new member) (λ body. HasBodyOf R.Rack rack.new member label.now body.items)) }
+    ensures is { IfOk result (λ found. MatchOption found
+        (HasFailed R.Rack rack.old rack.new member) (λ body. HasBodyOf R.Rack rack.new member label.now body.items)) }
+    ensures quiet { IfOk result (λ found. IsSome found → HasNotFailed R.Rack rack.old rack.new member) }
 {
     let Ok(mut body) = vec![in alloc; 0; label.body as usize] else {
         return Err(NoMemory);

@@ -1,6 +1,6 @@
 // The labels of the members of a rack.
 ghost use Rattle.std.specs.Prelude.{◌≡◌, ◌≢◌, ◌⊎◌, ◌≤◌, ◌<◌, ◌↔◌, None, true, false, IfSome, IsSome, IsSomeAnd, IsTrue, MatchOption, Some};
-ghost use Rattle.dg_open.specs.Seen.{AllStand, AreSealed, AreSeen, HasFailed, HasHead, HasOpened, IsAttached, IsGreatestOf};
+ghost use Rattle.dg_open.specs.Seen.{AllStand, AreQuiet, AreSealed, AreSeen, HasFailed, HasHead, HasNotFailed, HasOpened, IsAttached, IsGreatestOf};
 ghost use Rattle.dg_open.specs.Seen.{IsLater, IsNoLabel, IsOwnLabel, IsSeen, IsShort, ReadsOne};
 
 use dg_io::Rack;
@@ -16,6 +16,7 @@ pub type Labels = [Option<Label>; MEMBERS];
 pub fn find_all<R: Rack>(rack: &mut R) -> Labels
     ensures seen { AreSeen R.Rack rack.old rack.new result 32 }
     ensures stand { AllStand R.Rack rack.new result 32 }
+    ensures quiet { AreQuiet R.Rack rack.old rack.new result 32 }
 {
     let mut labels = [None; MEMBERS];
     for member in 0..MEMBERS {
@@ -28,7 +29,8 @@ pub fn find_all<R: Rack>(rack: &mut R) -> Labels
 fn find_member<R: Rack>(rack: &mut R, member: u8) -> Option<Label>
     ensures reads { ReadsOne R.Rack member rack.old rack.new }
     ensures seen { IsSeen R.Rack rack.old rack.new member result }
-    ensures stands { IsSome result → R.stands rack.new member }
+    ensures stands { IsSome result → R.stands rack.new member ≡ true }
+    ensures quiet { IsSome result → HasNotFailed R.Rack rack.old rack.new member }
 {
     match attach(rack, member) {
         Some(length) => label_on(rack, member, length),
@@ -40,6 +42,7 @@ fn find_member<R: Rack>(rack: &mut R, member: u8) -> Option<Label>
 fn attach<R: Rack>(rack: &mut R, member: u8) -> Option<u64>
     ensures reads { ReadsOne R.Rack member rack.old rack.new }
     ensures is { MatchOption result (IsShort R.Rack rack.old rack.new member) (IsAttached R.Rack rack.new member) }
+    ensures quiet { IsSome result → HasNotFailed R.Rack rack.old rack.new member }
 {
     match rack.attach(member) {
         Ok(found) => with_room(found),
@@ -69,7 +72,8 @@ fn label_on<R: Rack>(rack: &mut R, member: u8, length: u64) -> Option<Label>
     requires { IsAttached R.Rack rack.old member length }
     ensures reads { ReadsOne R.Rack member rack.old rack.new }
     ensures seen { IsSeen R.Rack rack.old rack.new member result }
-    ensures stands { IsSome result → R.stands rack.new member }
+    ensures stands { IsSome result → R.stands rack.new member ≡ true }
+    ensures quiet { IsSome result → HasNotFailed R.Rack rack.old rack.new member }
 {
     match read_head(rack, member, length) {
         Some(head) => own_label(&head, member, length),
@@ -82,6 +86,7 @@ fn read_head<R: Rack>(rack: &mut R, member: u8, length: u64) -> Option<[u8; LABE
     requires { IsAttached R.Rack rack.old member length }
     ensures reads { ReadsOne R.Rack member rack.old rack.new }
     ensures is { MatchOption result (HasFailed R.Rack rack.old rack.new member) (HasHead R.Rack rack.new member length) }
+    ensures quiet { IsSome result → HasNotFailed R.Rack rack.old rack.new member }
 {
     let mut head = [0; LABEL_BYTES];
     match rack.read(member, 0, &mut head) {

@@ -1,12 +1,12 @@
 -- What stands beside the slots, and members that are made longer.
-use Rattle.std.proofs.Common.{◌≡◌, ◌≢◌, ◌⊎◌, inl, inr, ℕ, ◌+◌, ◌*◌, ◌-◌, ◌≤◌, ◌<◌, true, List, ◌++◌, length, take, replicate, refl, sym, ◌∙◌, ap, subst, arith}
+use Rattle.std.proofs.Common.{◌≡◌, ◌≢◌, inl, inr, ℕ, ◌+◌, ◌*◌, ◌-◌, ◌≤◌, ◌<◌, true, List, length, take, replicate, refl, sym, ◌∙◌, ap, subst, arith}
 use Rattle.std.specs.Prelude.{Option, Some, None}
 use Rattle.std.proofs.lemmas.Bool.{cases_eq}
 use Rattle.std.proofs.lemmas.List.{take_at}
 use Rattle.std.proofs.lemmas.Grind.{common_steps}
 use Rattle.dg_model.specs.Members.{place_of, serves, SlotOf, SlotHolds, HasRoom, MembersFall}
 use Rattle.dg_model.specs.declared.members.MemberState.{MemberState}
-use Rattle.dg_model.specs.declared.members.MemberState.TheVariants.{Good, Filling, Out}
+use Rattle.dg_model.specs.declared.members.MemberState.TheVariants.{Out}
 use Rattle.dg_io.specs.Told.{Told, IsSame, Torn, Extended, KeepsFront, OthersSame}
 use Rattle.dg_pair.specs.declared.boundaries.ExtendAnswer.{ExtendAnswer}
 use Rattle.dg_pair.specs.declared.boundaries.ExtendAnswer.TheVariants.{Extended as ExtendedNow, NotGood, Fell}

@@ -1,18 +1,22 @@
 -- What a call leaves by cases is what it leaves in the words on members.
-use Rattle.std.proofs.Common.{◌≡◌, ◌≢◌, inl, inr, ℕ, ◌/◌, ◌*◌, ◌+◌, ◌-◌, List, true, refl, sym, ◌∙◌, ap, subst, arith}
+use Rattle.std.proofs.Common.{◌≡◌, ◌≢◌, inl, inr, ℕ, ◌/◌, ◌<◌, List, true, refl, sym, ◌∙◌, ap, subst, arith}
 use Rattle.std.specs.Prelude.{Option}
 use Rattle.std.proofs.lemmas.Bool.{cases_eq}
 use Rattle.std.proofs.lemmas.Bool.Decides.{nat_tests}
-use Rattle.dg_model.specs.Members.{is_filling, is_good, partner_of, ArePaired, HasRoom, MembersFall}
+use Rattle.dg_model.specs.Members.{is_good, partner_of, ArePaired, HasRoom, MembersFall}
 use Rattle.dg_model.specs.declared.members.MemberState.{MemberState}
 use Rattle.dg_model.specs.declared.members.MemberState.TheVariants.{Good, Filling, Out}
+use Rattle.dg_io.specs.OnlyLaws.{only_such}
+use Rattle.dg_io.specs.RackCalls.{RackCall, looks, blanks, calls}
+use Rattle.dg_io.specs.RackWords.{MadeOnly}
 use Rattle.dg_io.specs.declared.outside.Rack.{Ghosts}
 use Rattle.dg_pair.specs.declared.boundaries.Boundary.{Boundary}
 use Rattle.dg_pair.specs.declared.boundaries.Boundary.TheVariants.{Both, Half, Fill, Lost}
-use Rattle.dg_pair.specs.Boundaries.{members_of, number_of, size_of, slots_of, IsWell, MembersFit, MembersStand}
-use Rattle.dg_pair.specs.Calls.{IsPair, KeepsPair, LeavesBoundary, LeavesPair}
-use Rattle.dg_pair.specs.Cases.{Fits, Stand, IsOther, LeavesCase}
+use Rattle.dg_pair.specs.Boundaries.{members_of, number_of, size_of, slots_of, IsWell, MembersFit}
+use Rattle.dg_pair.specs.Calls.{IsCallAt, IsCallOf, IsPair, LeavesPair}
+use Rattle.dg_pair.specs.Cases.{Fits, EachIn, IsOther, LeavesCase}
 use Rattle.dg_pair.proofs.BoundaryLemmas.{own_members}
+use Rattle.dg_pair.proofs.ReplaceLemmas.{out_or}
 
 -- a member of another boundary is none of the two
 pub other_is : (x : Boundary) → IsWell x → (q : ℕ) → q / 2 ≢ number_of x → IsOther x q
@@ -36,7 +40,7 @@ paired_in (Lost a b) well q filling = absurd (let e = filling in cc)
 
 module _ (P : ℕ → Type 0) where
   -- what is said of the members that aren't out, by cases
-  pub each_from : (x : Boundary) → Stand x P → (q : ℕ) → members_of x q ≢ Out → P q
+  pub each_from : (x : Boundary) → EachIn x P → (q : ℕ) → members_of x q ≢ Out → P q
   each_from (Both a b) is q other = elim (cases_eq q a.number) [
     | inl e ↦ subst P (sym e) is.0
     | inr not_a ↦ elim (cases_eq q b.number) [ inl e ↦ subst P (sym e) is.1 | inr not_b ↦ absurd (other (grind (arith, nat_tests))) ]
@@ -51,7 +55,7 @@ module _ (P : ℕ → Type 0) where
   is_not : (m : MemberState) → (m ≡ Good) → m ≢ Out
   is_not m good out = let e = sym good ∙ out in cc
 
-  pub each_to : (x : Boundary) → IsWell x → ((q : ℕ) → members_of x q ≢ Out → P q) → Stand x P
+  pub each_to : (x : Boundary) → IsWell x → ((q : ℕ) → members_of x q ≢ Out → P q) → EachIn x P
   each_to (Both a b) well is = (is a.number (is_not _ (grind (arith, nat_tests))), is b.number (is_not _ (grind (arith, nat_tests))))
   each_to (Half a b) well is = is a.number (is_not _ (grind (arith, nat_tests)))
   each_to (Fill a b) well is =
@@ -83,14 +87,32 @@ pair_from x number l slots well number_is l_is slots_is = record {
   paired = paired_in x well;
 }
 
+-- a member whose count rose is out, if each other one has the count that it had
+pub fell_out : (x : Boundary) (f g : ℕ → ℕ) → ((q : ℕ) → members_of x q ≢ Out → g q ≡ f q) → (q : ℕ) → f q < g q → members_of x q ≡ Out
+fell_out x f g same q rose = elim (out_or (members_of x q)) [
+  | inl out ↦ out
+  | inr some ↦ absurd (let e = same q some in omega (arith, e, rose))
+]
+
+-- a call on a member that isn't out is one on a member of the boundary
+call_at : (x : Boundary) → IsWell x → (call : RackCall) → IsCallOf (members_of x) call → IsCallAt (number_of x) call
+call_at x well (looks q) is = is
+call_at x well (blanks q) is = absurd is
+call_at x well (calls q) is = elim (cases_eq (q / 2) (number_of x)) [ inl e ↦ e | inr other ↦ absurd (is (own_members x well q other)) ]
+
+pub only_at : {S : Type 0} (rack : Ghosts S) (x : Boundary) (before now : S) → IsWell x → MadeOnly rack (IsCallOf (members_of x)) before now → MadeOnly rack (IsCallAt (number_of x)) before now
+only_at rack x before now well only = only_such rack (IsCallOf (members_of x)) (IsCallAt (number_of x)) before now (call_at x well) only
+
 pub leaves_fit : {S : Type 0} (rack : Ghosts S) (expected : ℕ → MemberState) (old new : Boundary) (before now : S) → IsWell old → LeavesCase rack old new before now
     → MembersFall (rack.counts before).faults (rack.counts now).faults expected (members_of new) → MembersFit (size_of old) (slots_of old) (members_of new) (rack.bytes now)
-    → LeavesPair rack expected old new before now
-leaves_fit rack expected old new before now was case falls fit = record {
+    → MadeOnly rack (IsCallAt (number_of old)) before now → LeavesPair rack expected old new before now
+leaves_fit rack expected old new before now was case falls fit only = record {
   pair = pair_from new _ _ _ case.well case.number case.size case.slots;
   falls = falls;
   room = fit;
-  stand = each_from (λ q. rack.stands now q) new case.stand;
+  stand = each_from (λ q. rack.stands now q ≡ true) new case.stand;
+  made = only;
+  fell = λ q rose. fell_out new _ _ (each_from _ new case.unfailed) q rose;
   other_bytes = λ q other. case.other_bytes q (other_is old was q other);
   other_faults = λ q other. case.other_faults q (other_is old was q other);
   others_stand = λ q other. case.others_stand q (other_is old was q other);
@@ -101,7 +123,8 @@ leaves_fit rack expected old new before now was case falls fit = record {
 }
 
 pub leaves_from : {S : Type 0} (rack : Ghosts S) (expected : ℕ → MemberState) (old new : Boundary) (before now : S) → IsWell old → LeavesCase rack old new before now
-    → MembersFall (rack.counts before).faults (rack.counts now).faults expected (members_of new) → Fits new (rack.bytes now) → LeavesPair rack expected old new before now
-leaves_from rack expected old new before now was case falls fits = leaves_fit rack expected old new before now was case falls
+    → MembersFall (rack.counts before).faults (rack.counts now).faults expected (members_of new) → Fits new (rack.bytes now)
+    → MadeOnly rack (IsCallAt (number_of old)) before now → LeavesPair rack expected old new before now
+leaves_from rack expected old new before now was case falls fits only = leaves_fit rack expected old new before now was case falls
     (subst (λ (l : ℕ). MembersFit l (slots_of old) (members_of new) (rack.bytes now)) case.size
-    (subst (λ (k : ℕ). MembersFit (size_of new) k (members_of new) (rack.bytes now)) case.slots (fit_from new (rack.bytes now) fits)))
+    (subst (λ (k : ℕ). MembersFit (size_of new) k (members_of new) (rack.bytes now)) case.slots (fit_from new (rack.bytes now) fits))) only

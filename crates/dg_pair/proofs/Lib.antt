@@ -1,8 +1,10 @@
+mod AfterLemmas
 mod BesideLemmas
 mod BoundaryLemmas
 mod CaseLemmas
 mod CopyLemmas
 mod FallLemmas
+mod MadeLemmas
 mod NoteLemmas
 mod RangeLemmas
 mod ReplaceLemmas

@@ -1,9 +1,8 @@
 -- A member that is made anew.
-use Rattle.std.proofs.Common.{◌≡◌, ◌≢◌, ◌⊎◌, inl, inr, ℕ, ◌+◌, ◌*◌, ◌≤◌, true, List, length, replicate, refl, sym, ◌∙◌, ap, subst, arith}
-use Rattle.std.specs.Prelude.{◌↔◌, Option, Some, None}
+use Rattle.std.proofs.Common.{◌≡◌, ◌≢◌, ◌⊎◌, inl, inr, ℕ, ◌≤◌, true, List, length, refl, sym, ◌∙◌, ap, subst, arith}
+use Rattle.std.specs.Prelude.{◌↔◌, Option}
 use Rattle.std.proofs.lemmas.Bool.{cases_eq}
 use Rattle.std.proofs.lemmas.Bool.Decides.{nat_tests}
-use Rattle.std.proofs.lemmas.Grind.{common_steps}
 use Rattle.dg_model.specs.Members.{place_of, serves, slot_of, SlotOf, SlotHolds, HasRoom}
 use Rattle.dg_model.specs.declared.members.MemberState.{MemberState}
 use Rattle.dg_model.specs.declared.members.MemberState.TheVariants.{Good, Filling, Out}
@@ -12,9 +11,9 @@ use Rattle.dg_pair.specs.declared.boundaries.ReplaceAnswer.{ReplaceAnswer}
 use Rattle.dg_pair.specs.declared.boundaries.ReplaceAnswer.TheVariants.{Replaced, Lost, NotOut, Failed}
 use Rattle.dg_pair.specs.Boundaries.{MembersFit}
 use Rattle.dg_pair.specs.Calls.{replaced}
-use Rattle.dg_pair.proofs.SlotLemmas.{told_same}
+use Rattle.dg_pair.proofs.SlotLemmas.{told_same, zeros_room}
 
-out_or : (m : MemberState) → (m ≡ Out) ⊎ (m ≢ Out)
+pub out_or : (m : MemberState) → (m ≡ Out) ⊎ (m ≢ Out)
 out_or Good = inr (λ e. cc)
 out_or (Filling have) = inr (λ e. cc)
 out_or Out = inl refl
@@ -49,13 +48,8 @@ module _ (answer : ReplaceAnswer) (p l slots size : ℕ) (old new : ℕ → Memb
     ])
   ]
 
-  zeros_room : (x y : Option (List ℕ)) → place_of l slots ≤ size → Told (IsZeros size) x y → HasRoom l slots y
-  zeros_room x None enough zeros = tt
-  zeros_room None (Some b) enough zeros = absurd zeros
-  zeros_room (Some a) (Some b) enough zeros = let n : length b ≡ size = grind (arith, common_steps, ap length zeros) in omega (arith, n, enough)
-
   at_p : place_of l slots ≤ size → (answer ≡ Replaced → Told (IsZeros size) (before p) (now p)) → MembersFit l slots old before → (a : ReplaceAnswer) → answer ≡ a → new p ≢ Out → HasRoom l slots (now p)
-  at_p enough blank room Replaced e other = zeros_room (before p) (now p) enough (blank e)
+  at_p enough blank room Replaced e other = zeros_room l slots size (before p) (now p) enough (blank e)
   at_p enough blank room NotOut e other = told_same (λ all. place_of l slots ≤ length all) (before p) (now p) (quiet e) (room p (not_out.0 e))
   at_p enough blank room Lost e other = absurd (out_stays Lost e refl other)
     where

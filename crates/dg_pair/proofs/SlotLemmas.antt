@@ -2,8 +2,9 @@
 use Rattle.std.proofs.Common.{◌≡◌, ◌≢◌, ◌⊎◌, inl, inr, ℕ, ◌+◌, ◌≤◌, ◌<◌, List, length, take, drop, ap, sym, ◌∙◌, subst, arith}
 use Rattle.std.specs.Prelude.{Option, Some, None, IfSome, Result, Ok, Err, OnOk, OnErr}
 use Rattle.std.proofs.lemmas.Bool.{cases_lt, cases_eq}
+use Rattle.std.proofs.lemmas.Grind.{common_steps}
 use Rattle.dg_model.specs.Members.{place_of, HasRoom}
-use Rattle.dg_io.specs.Told.{Told, IsSame, Torn, Patched, OthersSame}
+use Rattle.dg_io.specs.Told.{Told, IsSame, IsZeros, Torn, Patched, OthersSame}
 use Rattle.dg_pair.proofs.RangeLemmas.{torn_before, torn_behind, patch_torn}
 use Rattle.dg_pair.specs.Members.{KeepsSlots}
 
@@ -74,3 +75,16 @@ torn_alone member place n old new torn others q = elim (cases_eq q member) [
 pub put_torn : {T E : Type 0} (r : Result T E) (member place : ℕ) (piece : List ℕ) (old new : ℕ → Option (List ℕ)) → IfSome (old member) (λ all. place + length piece ≤ length all) → OnOk r (Told (Patched place piece) (old member) (new member)) → OnErr r (Told (Torn place (length piece)) (old member) (new member)) → OthersSame member old new → (q : ℕ) → Told (Torn place (length piece)) (old q) (new q)
 put_torn (Ok _) member place piece old new room ok err others = torn_alone member place (length piece) old new (patched_torn place piece (old member) (new member) room ok) others
 put_torn (Err _) member place piece old new room ok err others = torn_alone member place (length piece) old new err others
+
+-- a member of so many zeros has room for its slots, also once others were called
+pub zeros_room : (l slots size : ℕ) (old new : Option (List ℕ)) → place_of l slots ≤ size → Told (IsZeros size) old new → HasRoom l slots new
+zeros_room l slots size old None enough zeros = tt
+zeros_room l slots size None (Some b) enough zeros = absurd zeros
+zeros_room l slots size (Some a) (Some b) enough zeros = let n : length b ≡ size = grind (arith, common_steps, ap length zeros) in omega (arith, n, enough)
+
+pub zeros_room_at : (l slots size n m : ℕ) (old new : ℕ → Option (List ℕ)) → n ≡ m → place_of l slots ≤ size → Told (IsZeros size) (old m) (new m) → HasRoom l slots (new n)
+zeros_room_at l slots size n m old new at enough zeros = subst (λ (k : ℕ). HasRoom l slots (new k)) (sym at) (zeros_room l slots size (old m) (new m) enough zeros)
+
+pub zeros_room_then : (l slots size n m : ℕ) (old mid new : ℕ → Option (List ℕ)) → n ≡ m → place_of l slots ≤ size → Told (IsZeros size) (old m) (mid m) → Told IsSame (mid m) (new m) → HasRoom l slots (new n)
+zeros_room_then l slots size n m old mid new at enough zeros same = subst (λ (k : ℕ). HasRoom l slots (new k)) (sym at)
+    (told_same (λ all. place_of l slots ≤ length all) (mid m) (new m) same (zeros_room l slots size (old m) (mid m) enough zeros))

@@ -1,5 +1,5 @@
 -- A boundary of two members, as the layers above see it. The rules are this project's own.
-use Rattle.std.specs.Prelude.{◌<◌, ◌≡◌, ◌≢◌, ◌+◌, ◌*◌, ◌/◌, ◌≤◌, ◌==◌, ◌||◌, if◌then◌else◌, ℕ, List, Option}
+use Rattle.std.specs.Prelude.{◌<◌, ◌≡◌, ◌≢◌, ◌+◌, ◌*◌, ◌/◌, ◌≤◌, ◌==◌, ◌||◌, if◌then◌else◌, ℕ, Bool, true, List, Option}
 use Rattle.dg_model.specs.Members.{is_good, serves, HasRoom}
 use Rattle.dg_model.specs.declared.members.MemberState.{MemberState}
 use Rattle.dg_model.specs.declared.members.MemberState.TheVariants.{Good, Filling, Out}
@@ -53,8 +53,8 @@ abbrev pub MembersFit : ℕ → ℕ → (ℕ → MemberState) → (ℕ → Optio
 MembersFit l slots members bytes = (q : ℕ) → members q ≢ Out → HasRoom l slots (bytes q)
 
 -- each member that isn't out stands
-abbrev pub MembersStand : (ℕ → MemberState) → (ℕ → Type 0) → Type 0
-MembersStand members stands = (q : ℕ) → members q ≢ Out → stands q
+abbrev pub MembersStand : (ℕ → MemberState) → (ℕ → Bool) → Type 0
+MembersStand members stands = (q : ℕ) → members q ≢ Out → stands q ≡ true
 
 -- how many of boundary s's members are good
 abbrev pub goods_in : (ℕ → MemberState) → ℕ → ℕ

@@ -1,9 +1,11 @@
 -- What any call leaves of a boundary and of the rack that its members stand in. The rules are this project's own.
-use Rattle.std.specs.Prelude.{◌≡◌, ◌≢◌, ◌↔◌, ◌+◌, ◌*◌, ◌/◌, ◌≤◌, ◌==◌, if◌then◌else◌, ℕ, List, Option}
+use Rattle.std.specs.Prelude.{◌≡◌, ◌≢◌, ◌↔◌, ◌+◌, ◌*◌, ◌/◌, ◌≤◌, ◌<◌, ◌==◌, if◌then◌else◌, ℕ, true, List, Option}
 use Rattle.dg_model.specs.Members.{ArePaired, MembersFall}
 use Rattle.dg_model.specs.States.{Counts, CountsRise}
 use Rattle.dg_model.specs.declared.members.MemberState.{MemberState}
 use Rattle.dg_model.specs.declared.members.MemberState.TheVariants.{Good, Filling, Out}
+use Rattle.dg_io.specs.RackCalls.{RackCall, looks, blanks, calls}
+use Rattle.dg_io.specs.RackWords.{MadeOnly}
 use Rattle.dg_io.specs.Told.{Told, IsSame, Torn, StillTold}
 use Rattle.dg_io.specs.declared.outside.Rack.{Ghosts}
 use Rattle.dg_pair.specs.Boundaries.{members_of, number_of, size_of, slots_of, IsWell, MembersFit, MembersStand, raised}
@@ -28,6 +30,24 @@ pub record IsPair (number l slots : ℕ) (boundary : Boundary) : Type 0 where
 abbrev pub KeepsPair : Boundary → Boundary → Type 0
 KeepsPair old new = IsPair (number_of old) (size_of old) (slots_of old) new
 
+-- a call on a member of boundary s, which doesn't look for it
+abbrev pub IsCallAt : ℕ → RackCall → Type 0
+IsCallAt s (looks q) = ⊥
+IsCallAt s (blanks q) = q / 2 ≡ s
+IsCallAt s (calls q) = q / 2 ≡ s
+
+-- a call on a member that isn't out, which neither looks for it nor makes it anew
+abbrev pub IsCallOf : (ℕ → MemberState) → RackCall → Type 0
+IsCallOf members (looks q) = ⊥
+IsCallOf members (blanks q) = ⊥
+IsCallOf members (calls q) = members q ≢ Out
+
+-- a call that makes member p anew
+abbrev pub IsBlankOf : ℕ → RackCall → Type 0
+IsBlankOf p (looks q) = ⊥
+IsBlankOf p (blanks q) = q ≡ p
+IsBlankOf p (calls q) = ⊥
+
 -- What a call over a rack leaves. `expected` is what the members do where no call on one of them fails.
 pub record LeavesBoundary {S : Type 0} (rack : Ghosts S) (number l slots : ℕ) (expected : ℕ → MemberState) (new : Boundary) (before now : S) : Type 0 where
   pub pair : IsPair number l slots new
@@ -39,7 +59,10 @@ pub record LeavesBoundary {S : Type 0} (rack : Ghosts S) (number l slots : ℕ) 
   -- the members of other boundaries are as they were
   pub other_bytes : (q : ℕ) → q / 2 ≢ number → Told IsSame (rack.bytes before q) (rack.bytes now q)
   pub other_faults : (q : ℕ) → q / 2 ≢ number → (rack.counts now).faults q ≡ (rack.counts before).faults q
-  pub others_stand : (q : ℕ) → q / 2 ≢ number → rack.stands before q → rack.stands now q
+  pub others_stand : (q : ℕ) → q / 2 ≢ number → rack.stands before q ≡ true → rack.stands now q ≡ true
+  -- the calls were on its members alone, and a member whose call failed is out
+  pub made : MadeOnly rack (IsCallAt number) before now
+  pub fell : (q : ℕ) → (rack.counts before).faults q < (rack.counts now).faults q → members_of new q ≡ Out
   -- no count fell, what is told now was told before, and it is the same rack
   pub rise : CountsRise (rack.counts before) (rack.counts now)
   pub tells : StillTold (rack.bytes before) (rack.bytes now)

@@ -1,5 +1,5 @@
 -- The same words by cases on the boundary, for the functions that work on one case.
-use Rattle.std.specs.Prelude.{◌≡◌, ◌≢◌, ◌⊎◌, ◌↔◌, ◌<◌, if◌then◌else◌, nat_lt, ℕ, List, Option}
+use Rattle.std.specs.Prelude.{◌≡◌, ◌≢◌, ◌⊎◌, ◌↔◌, ◌<◌, if◌then◌else◌, nat_lt, ℕ, Bool, true, List, Option}
 use Rattle.dg_model.specs.Members.{HasRoom, SlotOf}
 use Rattle.dg_model.specs.States.{CountsRise}
 use Rattle.dg_io.specs.Told.{Told, IsSame, StillTold}
@@ -21,12 +21,16 @@ Fits (Half a b) bytes = HasRoom a.l a.slots (bytes a.number)
 Fits (Fill a b) bytes = HasRoom a.l a.slots (bytes a.number) × HasRoom a.l a.slots (bytes b.number)
 Fits (Lost a b) bytes = Unit {0}
 
--- each member that isn't out stands
-abbrev pub Stand : Boundary → (ℕ → Type 0) → Type 0
-Stand (Both a b) stands = stands a.number × stands b.number
-Stand (Half a b) stands = stands a.number
-Stand (Fill a b) stands = stands a.number × stands b.number
-Stand (Lost a b) stands = Unit {0}
+-- this is said of each member that isn't out
+abbrev pub EachIn : Boundary → (ℕ → Type 0) → Type 0
+EachIn (Both a b) such = such a.number × such b.number
+EachIn (Half a b) such = such a.number
+EachIn (Fill a b) such = such a.number × such b.number
+EachIn (Lost a b) such = Unit {0}
+
+-- each such member stands
+abbrev pub Stand : Boundary → (ℕ → Bool) → Type 0
+Stand boundary stands = EachIn boundary (λ q. stands q ≡ true)
 
 -- it is none of its two members
 abbrev pub IsOther : Boundary → ℕ → Type 0
@@ -44,7 +48,9 @@ pub record LeavesCase {S : Type 0} (rack : Ghosts S) (old new : Boundary) (befor
   pub stand : Stand new (rack.stands now)
   pub other_bytes : (q : ℕ) → IsOther old q → Told IsSame (rack.bytes before q) (rack.bytes now q)
   pub other_faults : (q : ℕ) → IsOther old q → (rack.counts now).faults q ≡ (rack.counts before).faults q
-  pub others_stand : (q : ℕ) → IsOther old q → rack.stands before q → rack.stands now q
+  pub others_stand : (q : ℕ) → IsOther old q → rack.stands before q ≡ true → rack.stands now q ≡ true
+  -- no call on a member that isn't out has failed
+  pub unfailed : EachIn new (λ q. (rack.counts now).faults q ≡ (rack.counts before).faults q)
   pub rise : CountsRise (rack.counts before) (rack.counts now)
   pub tells : StillTold (rack.bytes before) (rack.bytes now)
   pub same_rack : rack.name now ≡ rack.name before

@@ -1,11 +1,13 @@
 // A boundary, and the calls on it.
-ghost use Rattle.std.specs.Prelude.{◌≡◌, ◌≢◌, ◌⊎◌, ◌↔◌, ◌+◌, ◌*◌, ◌/◌, ◌≤◌, ◌<◌, ℕ, List, length, true, false, IsSome, IfSome, Option, if◌then◌else◌};
+ghost use Rattle.std.specs.Prelude.{◌≡◌, ◌≢◌, ◌⊎◌, ◌↔◌, ◌+◌, ◌*◌, ◌/◌, ◌≤◌, ◌<◌, ◌∷◌, [], ℕ, List, length, true, false, IsSome, IfSome, Option, if◌then◌else◌};
 ghost use Rattle.dg_model.specs.Causes.{Rose};
 ghost use Rattle.dg_model.specs.Members.{is_filling, is_lost, serves, place_of, SlotHolds, IsStruck};
-ghost use Rattle.dg_io.specs.Told.{Told, IsSame, IsZeros, Patched, Torn, FitsIn, Extended, KeepsFront, OthersSame};
+ghost use Rattle.dg_io.specs.Told.{Told, IsSame, IsZeros, Patched, Torn, FitsIn, Extended, KeepsFront, OthersSame, IsHeader, OldOrNew};
+ghost use Rattle.dg_io.specs.RackCalls.{RackCall};
+ghost use Rattle.dg_io.specs.RackWords.{MadeOnly};
 ghost use Rattle.dg_io.specs.Faults.{OnlyMember};
 ghost use Rattle.dg_pair.specs.Boundaries.{members_of, number_of, size_of, slots_of, IsWell, MembersFit, MembersStand, goods_in, servers_in, unfilled, raised, completed, IsFilling, HasNext};
-ghost use Rattle.dg_pair.specs.Calls.{IsPair, KeepsPair, LeavesBoundary, LeavesPair, KeepsBeside, begun, replaced, copied};
+ghost use Rattle.dg_pair.specs.Calls.{IsPair, KeepsPair, LeavesBoundary, LeavesPair, IsCallOf, IsBlankOf, KeepsBeside, begun, replaced, copied};
 
 use crate::changes::{extend_any, fail_any, note_any};
 use crate::reads::read_any;
@@ -136,6 +138,7 @@ impl Boundary {
         requires number { number < 128 }
         requires size { 512 + slots * l ≤ size }
         ensures leaves { LeavesBoundary R.Rack number l slots (begun number) result rack.old rack.new }
+        ensures made { R.made rack.old (RackCall.blanks (2 * number) ∷ RackCall.blanks (2 * number + 1) ∷ []) rack.new }
         ensures blank { (q : ℕ) → members_of result q ≡ MemberState.Good → Told (IsZeros size) (R.bytes rack.old q) (R.bytes rack.new q) }
         ensures most { (R.counts rack.new).calls ≤ (R.counts rack.old).calls + 2 }
         ensures most_writes { (R.counts rack.new).writes ≤ (R.counts rack.old).writes + 2 }
@@ -158,6 +161,7 @@ impl Boundary {
         requires room { MembersFit (size_of self.old) (slots_of self.old) (members_of self.old) (R.bytes rack.old) }
         requires stand { MembersStand (members_of self.old) (R.stands rack.old) }
         ensures leaves { LeavesPair R.Rack (members_of self.old) self.old self.new rack.old rack.new }
+        ensures made { MadeOnly R.Rack (IsCallOf (members_of self.old)) rack.old rack.new }
         ensures lost { (result ≡ PairRead.Lost) ↔ (is_lost (members_of self.new) (number_of self.old) ≡ true) }
         ensures out { result ≡ PairRead.Lost → (q : ℕ) → members_of self.new q ≡ MemberState.Out }
         ensures got { result ≡ PairRead.Got
@@ -189,6 +193,7 @@ impl Boundary {
         requires room { MembersFit (size_of self.old) (slots_of self.old) (members_of self.old) (R.bytes rack.old) }
         requires stand { MembersStand (members_of self.old) (R.stands rack.old) }
         ensures leaves { LeavesPair R.Rack (members_of self.old) self.old self.new rack.old rack.new }
+        ensures made { MadeOnly R.Rack (IsCallOf (members_of self.old)) rack.old rack.new }
         ensures lost { (result ≡ PairWrite.Lost) ↔ (is_lost (members_of self.new) (number_of self.old) ≡ true) }
         ensures out { result ≡ PairWrite.Lost → (q : ℕ) → members_of self.new q ≡ MemberState.Out }
         ensures put { SlotHolds (size_of self.old) (members_of self.new) (R.bytes rack.new) (number_of self.old) slot buf.now }
@@ -256,6 +261,7 @@ impl Boundary {
         requires room { MembersFit (size_of self.old) (slots_of self.old) (members_of self.old) (R.bytes rack.old) }
         requires stand { MembersStand (members_of self.old) (R.stands rack.old) }
         ensures leaves { LeavesPair R.Rack (replaced result (2 * number_of self.old + side) (members_of self.old)) self.old self.new rack.old rack.new }
+        ensures made { MadeOnly R.Rack (IsBlankOf (2 * number_of self.old + side)) rack.old rack.new }
         ensures lost { (result ≡ ReplaceAnswer.Lost) ↔ (is_lost (members_of self.old) (number_of self.old) ≡ true) }
         ensures not_out { (result ≡ ReplaceAnswer.NotOut) ↔ (members_of self.old (2 * number_of self.old + side) ≢ MemberState.Out) }
         ensures failed { result ≡ ReplaceAnswer.Failed
@@ -286,6 +292,7 @@ impl Boundary {
         requires room { MembersFit (size_of self.old) (slots_of self.old) (members_of self.old) (R.bytes rack.old) }
         requires stand { MembersStand (members_of self.old) (R.stands rack.old) }
         ensures leaves { LeavesPair R.Rack (copied result (members_of self.old)) self.old self.new rack.old rack.new }
+        ensures made { MadeOnly R.Rack (IsCallOf (members_of self.old)) rack.old rack.new }
         ensures lost { (result ≡ CopyAnswer.Lost) ↔ (is_lost (members_of self.new) (number_of self.old) ≡ true) }
         ensures copied { result ≡ CopyAnswer.Copied → (q : ℕ) → members_of self.new q ≡ raised (members_of self.old q) }
         ensures fell { result ≡ CopyAnswer.Fell → (q : ℕ) → members_of self.new q ≡ unfilled (members_of self.old q) }
@@ -359,6 +366,7 @@ impl Boundary {
         requires room { MembersFit (size_of self.old) (slots_of self.old) (members_of self.old) (R.bytes rack.old) }
         requires stand { MembersStand (members_of self.old) (R.stands rack.old) }
         ensures leaves { LeavesPair R.Rack (members_of self.old) self.old self.new rack.old rack.new }
+        ensures made { MadeOnly R.Rack (IsCallOf (members_of self.old)) rack.old rack.new }
         ensures not_good { (result ≡ NoteAnswer.NotGood) ↔ (members_of self.old (2 * number_of self.old + side) ≢ MemberState.Good) }
         ensures stays { result ≢ NoteAnswer.Fell → (q : ℕ) → members_of self.new q ≡ members_of self.old q }
         ensures out { result ≡ NoteAnswer.Fell → members_of self.new (2 * number_of self.old + side) ≡ MemberState.Out }
@@ -370,6 +378,8 @@ impl Boundary {
             → Told (Patched place buf.now) (R.bytes rack.old (2 * number_of self.old + side)) (R.bytes rack.new (2 * number_of self.old + side)) }
         ensures torn { result ≡ NoteAnswer.Fell
             → Told (Torn place (length buf.now)) (R.bytes rack.old (2 * number_of self.old + side)) (R.bytes rack.new (2 * number_of self.old + side)) }
+        ensures whole { result ≡ NoteAnswer.Fell → R.steady rack.old → IsHeader place buf.now
+            → Told (OldOrNew place buf.now) (R.bytes rack.old (2 * number_of self.old + side)) (R.bytes rack.new (2 * number_of self.old + side)) }
         ensures kept { (x : ℕ) (v : List ℕ) → x < slots_of self.old
             → SlotHolds (size_of self.old) (members_of self.old) (R.bytes rack.old) (number_of self.old) x v
             → SlotHolds (size_of self.old) (members_of self.new) (R.bytes rack.new) (number_of self.old) x v }
@@ -395,6 +405,7 @@ impl Boundary {
         requires room { MembersFit (size_of self.old) (slots_of self.old) (members_of self.old) (R.bytes rack.old) }
         requires stand { MembersStand (members_of self.old) (R.stands rack.old) }
         ensures leaves { LeavesPair R.Rack (members_of self.old) self.old self.new rack.old rack.new }
+        ensures made { MadeOnly R.Rack (IsCallOf (members_of self.old)) rack.old rack.new }
         ensures not_good { (result ≡ ExtendAnswer.NotGood) ↔ (members_of self.old (2 * number_of self.old + side) ≢ MemberState.Good) }
         ensures stays { result ≢ ExtendAnswer.Fell → (q : ℕ) → members_of self.new q ≡ members_of self.old q }
         ensures out { result ≡ ExtendAnswer.Fell → members_of self.new (2 * number_of self.old + side) ≡ MemberState.Out }
@@ -412,6 +423,7 @@ impl Boundary {
         ensures other_members { OthersSame (2 * number_of self.old + side) (R.bytes rack.old) (R.bytes rack.new) }
         ensures only_faults { OnlyMember (2 * number_of self.old + side) (R.counts rack.old).faults (R.counts rack.new).faults }
         ensures called { result ≡ ExtendAnswer.Extended → Rose (R.counts rack.old).writes (R.counts rack.new).writes }
+        ensures tried { result ≡ ExtendAnswer.Fell → Rose (R.counts rack.old).writes (R.counts rack.new).writes }
         ensures most { (R.counts rack.new).calls ≤ (R.counts rack.old).calls + 1 }
         ensures most_writes { (R.counts rack.new).writes ≤ (R.counts rack.old).writes + 1 }
         ensures quiet { result ≡ ExtendAnswer.NotGood → rack.new ≡ rack.old }

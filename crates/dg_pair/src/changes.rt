@@ -1,8 +1,9 @@
 // What puts members out, or changes one beside its slots, by the case that a boundary is in.
-ghost use Rattle.std.specs.Prelude.{◌≡◌, ◌≢◌, ◌↔◌, ◌+◌, ◌*◌, ◌≤◌, ◌<◌, ℕ, length, IfSome};
+ghost use Rattle.std.specs.Prelude.{◌≡◌, ◌≢◌, ◌↔◌, ◌+◌, ◌*◌, ◌≤◌, ◌<◌, ◌∷◌, [], ℕ, length, IfSome};
 ghost use Rattle.dg_model.specs.Causes.{Rose};
 ghost use Rattle.dg_model.specs.Members.{MembersFall};
-ghost use Rattle.dg_io.specs.Told.{Told, Patched, Torn, FitsIn, Extended, KeepsFront, OthersSame};
+ghost use Rattle.dg_io.specs.Told.{Told, Patched, Torn, FitsIn, Extended, KeepsFront, OthersSame, IsHeader, OldOrNew};
+ghost use Rattle.dg_io.specs.RackCalls.{RackCall};
 ghost use Rattle.dg_io.specs.Faults.{OnlyMember};
 ghost use Rattle.dg_pair.specs.Boundaries.{members_of, number_of, size_of, slots_of, IsWell, unfilled};
 ghost use Rattle.dg_pair.specs.Cases.{Stand, LeavesCase};
@@ -58,6 +59,7 @@ pub fn note_any<R: Rack>(
         → IfSome (R.bytes rack.old (2 * number_of boundary + side)) (λ all. place + length buf.now ≤ length all) }
     requires stand { Stand boundary (R.stands rack.old) }
     ensures leaves { LeavesCase R.Rack boundary result.0 rack.old rack.new }
+    ensures made { result.1 ≢ NoteAnswer.NotGood → R.made rack.old (RackCall.calls (2 * number_of boundary + side) ∷ []) rack.new }
     ensures not_good { (result.1 ≡ NoteAnswer.NotGood) ↔ (members_of boundary (2 * number_of boundary + side) ≢ MemberState.Good) }
     ensures stays { result.1 ≢ NoteAnswer.Fell → (q : ℕ) → members_of result.0 q ≡ members_of boundary q }
     ensures out { result.1 ≡ NoteAnswer.Fell → members_of result.0 (2 * number_of boundary + side) ≡ MemberState.Out }
@@ -70,6 +72,8 @@ pub fn note_any<R: Rack>(
         → Told (Patched place buf.now) (R.bytes rack.old (2 * number_of boundary + side)) (R.bytes rack.new (2 * number_of boundary + side)) }
     ensures torn { result.1 ≡ NoteAnswer.Fell
         → Told (Torn place (length buf.now)) (R.bytes rack.old (2 * number_of boundary + side)) (R.bytes rack.new (2 * number_of boundary + side)) }
+    ensures whole { result.1 ≡ NoteAnswer.Fell → R.steady rack.old → IsHeader place buf.now
+        → Told (OldOrNew place buf.now) (R.bytes rack.old (2 * number_of boundary + side)) (R.bytes rack.new (2 * number_of boundary + side)) }
     ensures other_bytes { OthersSame (2 * number_of boundary + side) (R.bytes rack.old) (R.bytes rack.new) }
     ensures other_faults { OnlyMember (2 * number_of boundary + side) (R.counts rack.old).faults (R.counts rack.new).faults }
     ensures called { result.1 ≡ NoteAnswer.Noted → Rose (R.counts rack.old).writes (R.counts rack.new).writes }
@@ -114,6 +118,7 @@ pub fn extend_any<R: Rack>(
         → IfSome (R.bytes rack.old (2 * number_of boundary + side)) (FitsIn size) }
     requires stand { Stand boundary (R.stands rack.old) }
     ensures leaves { LeavesCase R.Rack boundary result.0 rack.old rack.new }
+    ensures made { result.1 ≢ ExtendAnswer.NotGood → R.made rack.old (RackCall.calls (2 * number_of boundary + side) ∷ []) rack.new }
     ensures not_good { (result.1 ≡ ExtendAnswer.NotGood) ↔ (members_of boundary (2 * number_of boundary + side) ≢ MemberState.Good) }
     ensures stays { result.1 ≢ ExtendAnswer.Fell → (q : ℕ) → members_of result.0 q ≡ members_of boundary q }
     ensures out { result.1 ≡ ExtendAnswer.Fell → members_of result.0 (2 * number_of boundary + side) ≡ MemberState.Out }
@@ -129,6 +134,7 @@ pub fn extend_any<R: Rack>(
     ensures other_bytes { OthersSame (2 * number_of boundary + side) (R.bytes rack.old) (R.bytes rack.new) }
     ensures other_faults { OnlyMember (2 * number_of boundary + side) (R.counts rack.old).faults (R.counts rack.new).faults }
     ensures called { result.1 ≡ ExtendAnswer.Extended → Rose (R.counts rack.old).writes (R.counts rack.new).writes }
+    ensures tried { result.1 ≡ ExtendAnswer.Fell → Rose (R.counts rack.old).writes (R.counts rack.new).writes }
     ensures most { (R.counts rack.new).calls ≤ (R.counts rack.old).calls + 1 }
     ensures most_writes { (R.counts rack.new).writes ≤ (R.counts rack.old).writes + 1 }
     ensures quiet { result.1 ≡ ExtendAnswer.NotGood → rack.new ≡ rack.old }

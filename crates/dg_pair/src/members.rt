@@ -1,9 +1,10 @@
 // One member, and the calls on it.
-ghost use Rattle.std.specs.Prelude.{◌≡◌, ◌+◌, ◌*◌, ◌%◌, ◌≤◌, ◌<◌, ℕ, length, IfOk, IfErr, IfSome, OnOk};
+ghost use Rattle.std.specs.Prelude.{◌≡◌, ◌+◌, ◌*◌, ◌%◌, ◌≤◌, ◌<◌, ◌∷◌, [], ℕ, true, length, IfOk, IfErr, IfSome, OnOk, OnErr};
 ghost use Rattle.dg_model.specs.Members.{HasRoom, SlotOf, place_of};
 ghost use Rattle.dg_model.specs.Causes.{RoseByOne};
+ghost use Rattle.dg_io.specs.RackCalls.{RackCall};
 ghost use Rattle.dg_io.specs.RackWords.{Leaves};
-ghost use Rattle.dg_io.specs.Told.{Told, IsSame, IsZeros, Torn, FitsIn};
+ghost use Rattle.dg_io.specs.Told.{Told, IsSame, IsZeros, Torn, FitsIn, IsHeader, OldOrNew};
 ghost use Rattle.dg_pair.specs.Members.{IsMember, GoodIs, FillIs, GotSlot, TookSlot, KeepsSlots, BlankIs, NotedIs, ExtendedIs, answer_of, fill_answer_of};
 
 use dg_io::{Failed, Rack};
@@ -98,11 +99,12 @@ impl<S: Drop> Member<S> {
         requires size { length buf.now ≡ self.now.l }
         requires slot { slot < self.now.slots }
         requires room { HasRoom self.now.l self.now.slots (R.bytes rack.old self.now.number) }
-        requires stand { R.stands rack.old self.now.number }
+        requires stand { R.stands rack.old self.now.number ≡ true }
         ensures put { OnOk result (SlotOf self.now.l slot buf.now (R.bytes rack.new self.now.number)) }
         ensures torn { (q : ℕ) → Told (Torn (place_of self.now.l slot) (length buf.now)) (R.bytes rack.old q) (R.bytes rack.new q) }
         ensures kept { KeepsSlots self.now.l slot (R.bytes rack.old self.now.number) (R.bytes rack.new self.now.number) }
         ensures room { HasRoom self.now.l self.now.slots (R.bytes rack.new self.now.number) }
+        ensures made { R.made rack.old (RackCall.calls self.now.number ∷ []) rack.new }
         ensures leaves { Leaves R.Rack self.now.number result rack.old rack.new }
         ensures writes { RoseByOne (R.counts rack.old).writes (R.counts rack.new).writes }
     {
@@ -121,8 +123,9 @@ impl Member<Out> {
         requires { 512 + self.slots * self.l ≤ size }
         ensures ok { IfOk result (λ m. IsMember self.number self.l self.slots m × (m.state.have ≡ 0)) }
         ensures err { IfErr result (λ m. IsMember self.number self.l self.slots m) }
-        ensures stands { OnOk result (R.stands rack.new self.number) }
+        ensures stands { OnOk result (R.stands rack.new self.number ≡ true) }
         ensures blank { OnOk result (Told (IsZeros size) (R.bytes rack.old self.number) (R.bytes rack.new self.number)) }
+        ensures made { R.made rack.old (RackCall.blanks self.number ∷ []) rack.new }
         ensures leaves { Leaves R.Rack self.number result rack.old rack.new }
         ensures writes { RoseByOne (R.counts rack.old).writes (R.counts rack.new).writes }
     {
@@ -146,10 +149,11 @@ impl Member<Good> {
         requires size { length buf.old ≡ self.l }
         requires slot { slot < self.slots }
         requires room { HasRoom self.l self.slots (R.bytes rack.old self.number) }
-        requires stand { R.stands rack.old self.number }
+        requires stand { R.stands rack.old self.number ≡ true }
         ensures is { GoodIs self.number self.l self.slots result }
         ensures got { GotSlot self.l slot buf.new (R.bytes rack.new self.number) result }
         ensures same { (q : ℕ) → Told IsSame (R.bytes rack.old q) (R.bytes rack.new q) }
+        ensures made { R.made rack.old (RackCall.calls self.number ∷ []) rack.new }
         ensures leaves { Leaves R.Rack self.number (answer_of result) rack.old rack.new }
         ensures writes { (R.counts rack.new).writes ≡ (R.counts rack.old).writes }
     {
@@ -164,12 +168,13 @@ impl Member<Good> {
         requires size { length buf.now ≡ self.l }
         requires slot { slot < self.slots }
         requires room { HasRoom self.l self.slots (R.bytes rack.old self.number) }
-        requires stand { R.stands rack.old self.number }
+        requires stand { R.stands rack.old self.number ≡ true }
         ensures is { GoodIs self.number self.l self.slots result }
         ensures put { GotSlot self.l slot buf.now (R.bytes rack.new self.number) result }
         ensures torn { (q : ℕ) → Told (Torn (place_of self.l slot) (length buf.now)) (R.bytes rack.old q) (R.bytes rack.new q) }
         ensures kept { KeepsSlots self.l slot (R.bytes rack.old self.number) (R.bytes rack.new self.number) }
         ensures room { HasRoom self.l self.slots (R.bytes rack.new self.number) }
+        ensures made { R.made rack.old (RackCall.calls self.number ∷ []) rack.new }
         ensures leaves { Leaves R.Rack self.number (answer_of result) rack.old rack.new }
         ensures writes { RoseByOne (R.counts rack.old).writes (R.counts rack.new).writes }
     {
@@ -182,9 +187,12 @@ impl Member<Good> {
     // Writes at any place.
     pub(crate) fn note<R: Rack>(self, rack: &mut R, place: u64, buf: &[u8]) -> GoodCall
         requires fits { IfSome (R.bytes rack.old self.number) (λ all. place + length buf.now ≤ length all) }
-        requires stand { R.stands rack.old self.number }
+        requires stand { R.stands rack.old self.number ≡ true }
         ensures is { GoodIs self.number self.l self.slots result }
         ensures bytes { NotedIs place buf.now (R.bytes rack.old self.number) (R.bytes rack.new self.number) result }
+        ensures whole { OnErr (answer_of result) (R.steady rack.old → IsHeader place buf.now
+            → Told (OldOrNew place buf.now) (R.bytes rack.old self.number) (R.bytes rack.new self.number)) }
+        ensures made { R.made rack.old (RackCall.calls self.number ∷ []) rack.new }
         ensures leaves { Leaves R.Rack self.number (answer_of result) rack.old rack.new }
         ensures writes { RoseByOne (R.counts rack.old).writes (R.counts rack.new).writes }
     {
@@ -197,9 +205,10 @@ impl Member<Good> {
     // Makes it so many bytes long.
     pub(crate) fn extend<R: Rack>(self, rack: &mut R, size: u64) -> GoodCall
         requires longer { IfSome (R.bytes rack.old self.number) (FitsIn size) }
-        requires stand { R.stands rack.old self.number }
+        requires stand { R.stands rack.old self.number ≡ true }
         ensures is { GoodIs self.number self.l self.slots result }
         ensures bytes { ExtendedIs size (R.bytes rack.old self.number) (R.bytes rack.new self.number) result }
+        ensures made { R.made rack.old (RackCall.calls self.number ∷ []) rack.new }
         ensures leaves { Leaves R.Rack self.number (answer_of result) rack.old rack.new }
         ensures writes { RoseByOne (R.counts rack.old).writes (R.counts rack.new).writes }
     {
@@ -219,8 +228,9 @@ impl Member<Good> {
     ) -> GoodCall
         requires { 512 + slots * l ≤ size }
         ensures is { GoodIs number l slots result }
-        ensures stands { OnOk (answer_of result) (R.stands rack.new number) }
+        ensures stands { OnOk (answer_of result) (R.stands rack.new number ≡ true) }
         ensures blank { BlankIs size (R.bytes rack.old number) (R.bytes rack.new number) result }
+        ensures made { R.made rack.old (RackCall.blanks number ∷ []) rack.new }
         ensures leaves { Leaves R.Rack number (answer_of result) rack.old rack.new }
         ensures writes { RoseByOne (R.counts rack.old).writes (R.counts rack.new).writes }
     {
@@ -262,12 +272,13 @@ impl Member<Filling> {
         requires size { length buf.now ≡ self.l }
         requires slot { slot < self.slots }
         requires room { HasRoom self.l self.slots (R.bytes rack.old self.number) }
-        requires stand { R.stands rack.old self.number }
+        requires stand { R.stands rack.old self.number ≡ true }
         ensures is { FillIs self.number self.l self.slots self.state.have result }
         ensures put { TookSlot self.l slot buf.now (R.bytes rack.new self.number) result }
         ensures torn { (q : ℕ) → Told (Torn (place_of self.l slot) (length buf.now)) (R.bytes rack.old q) (R.bytes rack.new q) }
         ensures kept { KeepsSlots self.l slot (R.bytes rack.old self.number) (R.bytes rack.new self.number) }
         ensures room { HasRoom self.l self.slots (R.bytes rack.new self.number) }
+        ensures made { R.made rack.old (RackCall.calls self.number ∷ []) rack.new }
         ensures leaves { Leaves R.Rack self.number (fill_answer_of result) rack.old rack.new }
         ensures writes { RoseByOne (R.counts rack.old).writes (R.counts rack.new).writes }
     {

@@ -3,7 +3,9 @@ ghost use Rattle.std.specs.Prelude.{◌≡◌, ◌≢◌, ◌↔◌, ◌+◌, �
 ghost use Rattle.dg_model.specs.Causes.{Rose};
 ghost use Rattle.dg_model.specs.Members.{MembersFall};
 ghost use Rattle.dg_io.specs.Told.{Told, IsSame};
+ghost use Rattle.dg_io.specs.RackWords.{MadeOnly};
 ghost use Rattle.dg_pair.specs.Boundaries.{members_of, size_of, slots_of, IsWell};
+ghost use Rattle.dg_pair.specs.Calls.{IsCallOf};
 ghost use Rattle.dg_pair.specs.Cases.{HasNone, Fits, Stand, LeavesCase, ReadsGood, KeepsAll, goods_of};
 
 use crate::boundaries::{Boundary, PairRead};
@@ -25,6 +27,7 @@ fn read_half<R: Rack>(
     requires room { Fits (Boundary.Half a b) (R.bytes rack.old) }
     requires stand { Stand (Boundary.Half a b) (R.stands rack.old) }
     ensures leaves { LeavesCase R.Rack (Boundary.Half a b) result.0 rack.old rack.new }
+    ensures made { MadeOnly R.Rack (IsCallOf (members_of (Boundary.Half a b))) rack.old rack.new }
     ensures lost { (result.1 ≡ PairRead.Lost) ↔ HasNone result.0 }
     ensures got { result.1 ≡ PairRead.Got → ReadsGood result.0 (size_of (Boundary.Half a b)) slot buf.new (R.bytes rack.new) }
     ensures kept { KeepsAll (size_of (Boundary.Half a b)) (Boundary.Half a b) (R.bytes rack.old) result.0 (R.bytes rack.new) }
@@ -58,6 +61,7 @@ fn read_both<R: Rack>(
     requires room { Fits (Boundary.Both a b) (R.bytes rack.old) }
     requires stand { Stand (Boundary.Both a b) (R.stands rack.old) }
     ensures leaves { LeavesCase R.Rack (Boundary.Both a b) result.0 rack.old rack.new }
+    ensures made { MadeOnly R.Rack (IsCallOf (members_of (Boundary.Both a b))) rack.old rack.new }
     ensures lost { (result.1 ≡ PairRead.Lost) ↔ HasNone result.0 }
     ensures got { result.1 ≡ PairRead.Got → ReadsGood result.0 (size_of (Boundary.Both a b)) slot buf.new (R.bytes rack.new) }
     ensures kept { KeepsAll (size_of (Boundary.Both a b)) (Boundary.Both a b) (R.bytes rack.old) result.0 (R.bytes rack.new) }
@@ -91,6 +95,7 @@ fn read_fill<R: Rack>(
     requires room { Fits (Boundary.Fill a b) (R.bytes rack.old) }
     requires stand { Stand (Boundary.Fill a b) (R.stands rack.old) }
     ensures leaves { LeavesCase R.Rack (Boundary.Fill a b) result.0 rack.old rack.new }
+    ensures made { MadeOnly R.Rack (IsCallOf (members_of (Boundary.Fill a b))) rack.old rack.new }
     ensures lost { (result.1 ≡ PairRead.Lost) ↔ HasNone result.0 }
     ensures got { result.1 ≡ PairRead.Got → ReadsGood result.0 (size_of (Boundary.Fill a b)) slot buf.new (R.bytes rack.new) }
     ensures kept { KeepsAll (size_of (Boundary.Fill a b)) (Boundary.Fill a b) (R.bytes rack.old) result.0 (R.bytes rack.new) }
@@ -123,6 +128,7 @@ pub fn read_any<R: Rack>(
     requires room { Fits boundary (R.bytes rack.old) }
     requires stand { Stand boundary (R.stands rack.old) }
     ensures leaves { LeavesCase R.Rack boundary result.0 rack.old rack.new }
+    ensures made { MadeOnly R.Rack (IsCallOf (members_of boundary)) rack.old rack.new }
     ensures lost { (result.1 ≡ PairRead.Lost) ↔ HasNone result.0 }
     ensures got { result.1 ≡ PairRead.Got → ReadsGood result.0 (size_of boundary) slot buf.new (R.bytes rack.new) }
     ensures kept { KeepsAll (size_of boundary) boundary (R.bytes rack.old) result.0 (R.bytes rack.new) }

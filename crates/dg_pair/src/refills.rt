@@ -1,12 +1,14 @@
 // The refill of a member from its partner, by the case that a boundary is in.
-ghost use Rattle.std.specs.Prelude.{◌≡◌, ◌≢◌, ◌⊎◌, ◌↔◌, ◌+◌, ◌*◌, ◌≤◌, ◌<◌, ℕ, length, true, false};
+ghost use Rattle.std.specs.Prelude.{◌≡◌, ◌≢◌, ◌⊎◌, ◌↔◌, ◌+◌, ◌*◌, ◌≤◌, ◌<◌, ◌∷◌, [], ℕ, length, true, false};
 ghost use Rattle.dg_model.specs.Causes.{Rose};
 ghost use Rattle.dg_model.specs.Members.{is_filling, is_lost, place_of, SlotOf, MembersFall};
 ghost use Rattle.dg_io.specs.Told.{Told, IsSame, IsZeros, Torn, OthersSame};
+ghost use Rattle.dg_io.specs.RackCalls.{RackCall};
+ghost use Rattle.dg_io.specs.RackWords.{MadeOnly};
 ghost use Rattle.dg_io.specs.Faults.{OnlyMember};
 ghost use Rattle.dg_pair.specs.Members.{KeepsSlots};
 ghost use Rattle.dg_pair.specs.Boundaries.{members_of, number_of, size_of, slots_of, IsWell, unfilled, raised, completed, IsFilling, HasNext};
-ghost use Rattle.dg_pair.specs.Calls.{replaced};
+ghost use Rattle.dg_pair.specs.Calls.{IsCallOf, replaced};
 ghost use Rattle.dg_pair.specs.Cases.{Fits, Stand, LeavesCase};
 
 use crate::boundaries::{Boundary, CopyAnswer, ReplaceAnswer};
@@ -26,6 +28,8 @@ pub fn replace_any<R: Rack>(
     requires size { 512 + slots_of boundary * size_of boundary ≤ size }
     requires stand { Stand boundary (R.stands rack.old) }
     ensures leaves { LeavesCase R.Rack boundary result.0 rack.old rack.new }
+    ensures made { (result.1 ≡ ReplaceAnswer.Replaced) ⊎ (result.1 ≡ ReplaceAnswer.Failed)
+        → R.made rack.old (RackCall.blanks (2 * number_of boundary + side) ∷ []) rack.new }
     ensures lost { (result.1 ≡ ReplaceAnswer.Lost) ↔ (is_lost (members_of boundary) (number_of boundary) ≡ true) }
     ensures not_out { (result.1 ≡ ReplaceAnswer.NotOut) ↔ (members_of boundary (2 * number_of boundary + side) ≢ MemberState.Out) }
     ensures failed { result.1 ≡ ReplaceAnswer.Failed
@@ -64,6 +68,7 @@ pub fn copy_any<R: Rack>(boundary: Boundary, rack: &mut R, buf: &mut [u8]) -> (B
     requires room { Fits boundary (R.bytes rack.old) }
     requires stand { Stand boundary (R.stands rack.old) }
     ensures leaves { LeavesCase R.Rack boundary result.0 rack.old rack.new }
+    ensures made { MadeOnly R.Rack (IsCallOf (members_of boundary)) rack.old rack.new }
     ensures lost { (result.1 ≡ CopyAnswer.Lost) ↔ (is_lost (members_of result.0) (number_of boundary) ≡ true) }
     ensures copied { result.1 ≡ CopyAnswer.Copied → (q : ℕ) → members_of result.0 q ≡ raised (members_of boundary q) }
     ensures fell { result.1 ≡ CopyAnswer.Fell → (q : ℕ) → members_of result.0 q ≡ unfilled (members_of boundary q) }

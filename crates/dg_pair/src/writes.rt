@@ -3,7 +3,9 @@ ghost use Rattle.std.specs.Prelude.{◌≡◌, ◌↔◌, ◌+◌, ◌≤◌, �
 ghost use Rattle.dg_model.specs.Causes.{Rose};
 ghost use Rattle.dg_model.specs.Members.{serves, place_of, MembersFall};
 ghost use Rattle.dg_io.specs.Told.{Told, IsSame, Torn};
+ghost use Rattle.dg_io.specs.RackWords.{MadeOnly};
 ghost use Rattle.dg_pair.specs.Boundaries.{members_of, size_of, slots_of, IsWell};
+ghost use Rattle.dg_pair.specs.Calls.{IsCallOf};
 ghost use Rattle.dg_pair.specs.Cases.{HasNone, Fits, Stand, LeavesCase, SlotIs, KeepsOthers, servers_of};
 
 use crate::boundaries::{Boundary, PairWrite};
@@ -25,6 +27,7 @@ fn write_half<R: Rack>(
     requires room { Fits (Boundary.Half a b) (R.bytes rack.old) }
     requires stand { Stand (Boundary.Half a b) (R.stands rack.old) }
     ensures leaves { LeavesCase R.Rack (Boundary.Half a b) result.0 rack.old rack.new }
+    ensures made { MadeOnly R.Rack (IsCallOf (members_of (Boundary.Half a b))) rack.old rack.new }
     ensures lost { (result.1 ≡ PairWrite.Lost) ↔ HasNone result.0 }
     ensures put { SlotIs result.0 (size_of (Boundary.Half a b)) slot buf.now (R.bytes rack.new) }
     ensures kept { KeepsOthers (size_of (Boundary.Half a b)) slot (Boundary.Half a b) (R.bytes rack.old) result.0 (R.bytes rack.new) }
@@ -57,6 +60,7 @@ fn write_both<R: Rack>(
     requires room { Fits (Boundary.Both a b) (R.bytes rack.old) }
     requires stand { Stand (Boundary.Both a b) (R.stands rack.old) }
     ensures leaves { LeavesCase R.Rack (Boundary.Both a b) result.0 rack.old rack.new }
+    ensures made { MadeOnly R.Rack (IsCallOf (members_of (Boundary.Both a b))) rack.old rack.new }
     ensures lost { (result.1 ≡ PairWrite.Lost) ↔ HasNone result.0 }
     ensures put { SlotIs result.0 (size_of (Boundary.Both a b)) slot buf.now (R.bytes rack.new) }
     ensures kept { KeepsOthers (size_of (Boundary.Both a b)) slot (Boundary.Both a b) (R.bytes rack.old) result.0 (R.bytes rack.new) }
@@ -92,6 +96,7 @@ fn write_fill<R: Rack>(
     requires room { Fits (Boundary.Fill a b) (R.bytes rack.old) }
     requires stand { Stand (Boundary.Fill a b) (R.stands rack.old) }
     ensures leaves { LeavesCase R.Rack (Boundary.Fill a b) result.0 rack.old rack.new }
+    ensures made { MadeOnly R.Rack (IsCallOf (members_of (Boundary.Fill a b))) rack.old rack.new }
     ensures lost { (result.1 ≡ PairWrite.Lost) ↔ HasNone result.0 }
     ensures put { SlotIs result.0 (size_of (Boundary.Fill a b)) slot buf.now (R.bytes rack.new) }
     ensures kept { KeepsOthers (size_of (Boundary.Fill a b)) slot (Boundary.Fill a b) (R.bytes rack.old) result.0 (R.bytes rack.new) }
@@ -127,6 +132,7 @@ pub fn write_any<R: Rack>(
     requires room { Fits boundary (R.bytes rack.old) }
     requires stand { Stand boundary (R.stands rack.old) }
     ensures leaves { LeavesCase R.Rack boundary result.0 rack.old rack.new }
+    ensures made { MadeOnly R.Rack (IsCallOf (members_of boundary)) rack.old rack.new }
     ensures lost { (result.1 ≡ PairWrite.Lost) ↔ HasNone result.0 }
     ensures put { SlotIs result.0 (size_of boundary) slot buf.now (R.bytes rack.new) }
     ensures kept { KeepsOthers (size_of boundary) slot boundary (R.bytes rack.old) result.0 (R.bytes rack.new) }

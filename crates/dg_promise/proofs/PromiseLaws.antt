@@ -1,6 +1,6 @@
 -- What is gone of a settled array with few lost boundaries, and what that leaves of its files.
-use Rattle.std.proofs.Common.{◌≡◌, ◌∙◌, ◌⊎◌, ℕ, ◌+◌, ◌%◌, ◌<◌, inl, inr, true, false, List, ◌++◌, Option, Some, None, Result, Ok, Err, refl, sym, ap, arith}
-use Rattle.std.specs.Prelude.{IsNone, IsSome, IsSomeAnd, is_some, option_to_list, ◌==◌}
+use Rattle.std.proofs.Common.{◌≡◌, ◌∙◌, ◌⊎◌, ℕ, ◌+◌, ◌%◌, ◌<◌, inl, inr, Bool, true, false, List, ◌++◌, Option, Some, None, Result, Ok, Err, refl, sym, ap, arith}
+use Rattle.std.specs.Prelude.{◌||◌, IsNone, IsSome, IsSomeAnd, is_some, option_to_list, ◌==◌}
 use Rattle.std.specs.List.{list_any}
 use Rattle.std.proofs.lemmas.Bool.{cases_Bool, false≢true}
 use Rattle.std.proofs.lemmas.Bool.Decides.{nat_tests}
@@ -14,8 +14,9 @@ use Rattle.dg_model.specs.Members.{is_lost}
 use Rattle.dg_model.specs.Placed.{IsPlaced}
 use Rattle.dg_model.specs.Plans.{places_of}
 use Rattle.dg_model.specs.Shapes.{IsShape}
-use Rattle.dg_model.specs.Sites.{has_site}
-use Rattle.dg_model.specs.States.{State, gone_in}
+use Rattle.dg_model.specs.Sites.{has_site, is_gone}
+use Rattle.dg_model.specs.States.{State, gone_in, is_cut}
+use Rattle.dg_model.specs.Valid.{IsUncut}
 use Rattle.dg_model.specs.Tables.{sites_in}
 use Rattle.dg_model.specs.Volumes.{IsRegularFile}
 use Rattle.dg_model.specs.Wants.{AreWants, FitWants, IsOf, IsWant, want_of}
@@ -103,6 +104,28 @@ survives_or state i = by_home (home_of state.homes i) (home_of state.copies i)
 
 -- ---- what is gone
 
+by_members : (gone cut : Bool) → (gone || cut) ≡ true → (cut ≡ true → ⊥) → gone ≡ true
+by_members true cut either none = refl
+by_members false cut either none = absurd (none either)
+
+or_left : (gone cut : Bool) → gone ≡ true → (gone || cut) ≡ true
+or_left true cut is = refl
+or_left false cut is = absurd (false≢true is)
+
+or_right : (gone cut : Bool) → cut ≡ true → (gone || cut) ≡ true
+or_right true cut is = refl
+or_right false cut is = is
+
+-- where a needed block was cut, one is gone
+pub cut_lacks : (state : State) (path : List ℕ) → (IsUncut state path → ⊥) → list_any (gone_in state) ((cat_of state.table.shape.l state.table.shape.n path state.blocks).needs) ≡ true
+cut_lacks state path cut = elim (cases_Bool (list_any (is_cut state) ((cat_of state.table.shape.l state.table.shape.n path state.blocks).needs))) [
+  | inl some ↦
+      let one = any_there (is_cut state) ((cat_of state.table.shape.l state.table.shape.n path state.blocks).needs) some in
+      any_found (gone_in state) ((cat_of state.table.shape.l state.table.shape.n path state.blocks).needs) one.0 one.1
+      (or_right (is_gone state.table state.members one.0) (is_cut state one.0) one.2)
+  | inr none ↦ absurd (cut none)
+]
+
 module _ (state : State) (wants : List (Option Want)) (fit : FitWants state.table wants) (placed : IsPlaced wants state.table state.homes state.copies) where
   -- a block that is written has a want, and so has one that is gone
   written_want : (b : ℕ) → has_site (sites_in state.table b) ≡ true → (want : Want) × (want_of wants b ≡ Some want)
@@ -112,17 +135,17 @@ module _ (state : State) (wants : List (Option Want)) (fit : FitWants state.tabl
       on None is some = absurd (false≢true some)
       on (Some want) is some = (want, is)
 
-  want_there : (b : ℕ) → gone_in state b ≡ true → (want : Want) × (want_of wants b ≡ Some want)
+  want_there : (b : ℕ) → is_gone state.table state.members b ≡ true → (want : Want) × (want_of wants b ≡ Some want)
   want_there b gone = written_want b (gone_written state.table state.members b gone)
 
-  kept_stands : IsShape state.table.shape → FewLost state → (b : ℕ) → want_of wants b ≡ Some Kept → gone_in state b ≡ true → ⊥
+  kept_stands : IsShape state.table.shape → FewLost state → (b : ℕ) → want_of wants b ≡ Some Kept → is_gone state.table state.members b ≡ true → ⊥
   kept_stands shape few b is gone =
       let least = shape.least_boundaries in
       let many = places_count (is_lost state.members) state.table.shape.b b state.table.shape.m (omega arith) shape.most_places (λ i low.
       gone_each state.table state.members b ((b + i) % state.table.shape.b) gone (placed.kept b is ((b + i) % state.table.shape.b) ∙ place_there state.table.shape b i low)) in
       omega arith
 
-  file_stands : (b i : ℕ) → Survives state i → want_of wants b ≡ Some (File i) → gone_in state b ≡ true → ⊥
+  file_stands : (b i : ℕ) → Survives state i → want_of wants b ≡ Some (File i) → is_gone state.table state.members b ≡ true → ⊥
   file_stands b i survives is gone =
       let home = (placed.homes_are i).1 (block_counts wants b i is) in
       let one = standing (Stands state) (home_of state.homes i) (home_of state.copies i) home survives in
@@ -130,7 +153,7 @@ module _ (state : State) (wants : List (Option Want)) (fit : FitWants state.tabl
       false≢true (sym one.2 ∙ gone_each state.table state.members b one.0 gone on)
 
   -- a file that doesn't survive has a written block, and each such block is gone
-  file_gone : (i : ℕ) → (Survives state i → ⊥) → (b : ℕ) × (want_of wants b ≡ Some (File i)) × (gone_in state b ≡ true)
+  file_gone : (i : ℕ) → (Survives state i → ⊥) → (b : ℕ) × (want_of wants b ≡ Some (File i)) × (is_gone state.table state.members b ≡ true)
   file_gone i none =
       let home = has_home (Stands state) (home_of state.homes i) (home_of state.copies i) none in
       let block = some_block wants i ((placed.homes_are i).0 home) in
@@ -186,13 +209,13 @@ module _ (state : State) (wants : List (Option Want)) (fit : FitWants state.tabl
 
     module _ (tame : FilesAreTame) (whole : HasWholeIndirects state.table.shape.l state.table.shape.n state.blocks) (sound : IsSoundIn state) (shape : IsShape state.table.shape) (few : FewLost state) (path : List ℕ) where
       kept_stands_too : (b : ℕ) → IsWant state.table.shape.l state.table.shape.n state.blocks b Kept → ((i : ℕ) → IsWant state.table.shape.l state.table.shape.n state.blocks b (File i) → ⊥)
-          → gone_in state b ≡ true → ⊥
+          → is_gone state.table state.members b ≡ true → ⊥
       kept_stands_too b kept no_file gone =
           let want = want_there b gone in
           kept_stands shape few b (want.1 ∙ ap Some (kept_of b want.0 want.1 no_file kept)) gone
 
       -- of the needed blocks only those of the file can be gone
-      gone_of : (b : ℕ) → IsNeeded state.table.shape.l state.table.shape.n state.blocks path b → gone_in state b ≡ true
+      gone_of : (b : ℕ) → IsNeeded state.table.shape.l state.table.shape.n state.blocks path b → is_gone state.table state.members b ≡ true
           → (i : ℕ) × LeadsTo state path i × (Survives state i → ⊥)
       gone_of b (of_system system) gone = absurd (kept_stands_too b (inl system) (λ i file. no_system state.table.shape.l state.table.shape.n state.blocks b i file.0 system) gone)
       gone_of b (of_directory i owner other) gone = absurd (kept_stands_too b (inr (i, owner, other)) (λ j file.
@@ -202,18 +225,20 @@ module _ (state : State) (wants : List (Option Want)) (fit : FitWants state.tabl
           let want = want_there b gone in
           (i, leads, λ survives. file_stands b i survives (want.1 ∙ ap Some (file_want b i want.0 want.1 (owner, regular))) gone)
 
-      any_gone : list_any (gone_in state) ((cat_of state.table.shape.l state.table.shape.n path state.blocks).needs) ≡ true → (i : ℕ) × LeadsTo state path i × (Survives state i → ⊥)
-      any_gone h =
+      any_gone : IsUncut state path → list_any (gone_in state) ((cat_of state.table.shape.l state.table.shape.n path state.blocks).needs) ≡ true → (i : ℕ) × LeadsTo state path i × (Survives state i → ⊥)
+      any_gone uncut h =
           let one = any_there (gone_in state) ((cat_of state.table.shape.l state.table.shape.n path state.blocks).needs) h in
-          gone_of one.0 (needed state.table.shape.l state.table.shape.n state.blocks whole sound path one.0 one.1) one.2
+          gone_of one.0 (needed state.table.shape.l state.table.shape.n state.blocks whole sound path one.0 one.1)
+          (by_members (is_gone state.table state.members one.0) (is_cut state one.0) one.2 (λ cut. false≢true (sym uncut
+          ∙ any_found (is_cut state) ((cat_of state.table.shape.l state.table.shape.n path state.blocks).needs) one.0 one.1 cut)))
 
       same_file : (i j : ℕ) → LeadsTo state path i → LeadsTo state path j → j ≡ i
       same_file i j one other = let same : ◌≡◌ {A = Result ℕ PathRefusal} (Ok j) (Ok i) = sym other ∙ one in cc
 
       -- a file that survives is whole
-      pub whole_file : (i : ℕ) → LeadsTo state path i → Survives state i → list_any (gone_in state) ((cat_of state.table.shape.l state.table.shape.n path state.blocks).needs) ≡ false
-      whole_file i leads survives = elim (cases_Bool (list_any (gone_in state) ((cat_of state.table.shape.l state.table.shape.n path state.blocks).needs))) [
-        | inl gone ↦ let one = any_gone gone in absurd (one.2 (rw (same_file i one.0 leads one.1) survives))
+      pub whole_file : (i : ℕ) → IsUncut state path → LeadsTo state path i → Survives state i → list_any (gone_in state) ((cat_of state.table.shape.l state.table.shape.n path state.blocks).needs) ≡ false
+      whole_file i uncut leads survives = elim (cases_Bool (list_any (gone_in state) ((cat_of state.table.shape.l state.table.shape.n path state.blocks).needs))) [
+        | inl gone ↦ let one = any_gone uncut gone in absurd (one.2 (rw (same_file i one.0 leads one.1) survives))
         | inr none ↦ none
       ]
 
@@ -223,11 +248,11 @@ module _ (state : State) (wants : List (Option Want)) (fit : FitWants state.tabl
           let block = file_gone i none in
           let owner = are block.0 (File i) block.1 in
           any_found (gone_in state) ((cat_of state.table.shape.l state.table.shape.n path state.blocks).needs) block.0
-          (own_needed state.table.shape.l state.table.shape.n state.blocks whole sound path tame i leads block.0 owner.0) block.2
+          (own_needed state.table.shape.l state.table.shape.n state.blocks whole sound path tame i leads block.0 owner.0) (or_left (is_gone state.table state.members block.0) (is_cut state block.0) block.2)
 
       -- and a path that leads to no file lacks none
-      pub whole_refusal : (refusal : PathRefusal) → LeadsNowhere state path refusal → list_any (gone_in state) ((cat_of state.table.shape.l state.table.shape.n path state.blocks).needs) ≡ false
-      whole_refusal refusal leads = elim (cases_Bool (list_any (gone_in state) ((cat_of state.table.shape.l state.table.shape.n path state.blocks).needs))) [
-        | inl gone ↦ let one = any_gone gone in let no : ◌≡◌ {A = Result ℕ PathRefusal} (Ok one.0) (Err refusal) = sym one.1 ∙ leads in absurd (grind (arith, no))
+      pub whole_refusal : (refusal : PathRefusal) → IsUncut state path → LeadsNowhere state path refusal → list_any (gone_in state) ((cat_of state.table.shape.l state.table.shape.n path state.blocks).needs) ≡ false
+      whole_refusal refusal uncut leads = elim (cases_Bool (list_any (gone_in state) ((cat_of state.table.shape.l state.table.shape.n path state.blocks).needs))) [
+        | inl gone ↦ let one = any_gone uncut gone in let no : ◌≡◌ {A = Result ℕ PathRefusal} (Ok one.0) (Err refusal) = sym one.1 ∙ leads in absurd (grind (arith, no))
         | inr none ↦ none
       ]

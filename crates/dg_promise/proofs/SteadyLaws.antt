@@ -1,13 +1,15 @@
 -- What every state keeps: the blank array has it, and each step leaves it.
 use Rattle.std.proofs.Common.{◌≡◌, ◌≢◌, ◌∙◌, ℕ, suc, ◌-◌, ◌<◌, ◌≤◌, inl, inr, length, get_or, Bool, true, false, List, [], ◌∷◌, None, refl, sym, ap, subst, arith}
-use Rattle.std.specs.Prelude.{All, if◌then◌else◌, replicate}
+use Rattle.std.specs.Prelude.{All, if◌then◌else◌, replicate, take}
 use Rattle.std.proofs.lemmas.Bool.{cases_Bool}
 use Rattle.std.proofs.lemmas.List.{get_or_default, length-append, length-replicate}
 use Rattle.std.proofs.lemmas.List.Elements.{All-replicate, All-set}
 use Rattle.ufs_frames.specs.Frames.{HasWholeIndirects}
 use Rattle.ufs_model.specs.Blocks.{Volume}
 use Rattle.dg_model.specs.Blocks.{block_in, padded, zeros}
-use Rattle.dg_model.specs.Changes.{PassesSlots, Writes, phase_after}
+use Rattle.dg_model.specs.Changes.{PassesSlots, Writes, phase_after, spread_in}
+use Rattle.dg_model.specs.Copies.{Spread}
+use Rattle.dg_model.specs.Regroups.{left_in}
 use Rattle.dg_model.specs.Homes.{Ascend}
 use Rattle.dg_model.specs.Moves.{moves}
 use Rattle.dg_model.specs.Plans.{targets_of}
@@ -23,14 +25,14 @@ use Rattle.dg_model.specs.declared.replies.Reply.{Reply}
 use Rattle.dg_model.specs.declared.replies.Reply.TheVariants.{Done}
 use Rattle.dg_model.specs.declared.shapes.Shape.{Shape}
 use Rattle.dg_model.proofs.PutLaws.{IsTable-empty}
-use Rattle.dg_model.proofs.StepLaws.{step_keeps}
-use Rattle.dg_model.proofs.TableLaws.{IsSized, all_done_sized, sited_sized}
-use Rattle.dg_promise.proofs.Effects.{HasEffect, KeepsPlaces, effect_of}
-use Rattle.dg_promise.proofs.Effects.HasEffect.{keeps, moves_some, passes, settles, spreads, writes}
+use Rattle.dg_model.proofs.TableLaws.{IsSized, all_done_sized, sited_sized, spread_over_sized}
+use Rattle.dg_promise.proofs.Effects.{HasEffect, KeepsPlaces, effect_of, stays_places}
+use Rattle.dg_promise.proofs.Effects.HasEffect.{keeps, moves_some, passes, regroups, settles, spreads, writes}
 use Rattle.dg_promise.proofs.MoveLaws.{front_moved}
 use Rattle.dg_promise.proofs.OrderLaws.{Volumes, order_stays, reaped_order, spread_is, spread_order}
 use Rattle.dg_promise.proofs.PlanLaws.{good_plan}
 use Rattle.dg_promise.proofs.SettleLaws.{PlansAreTargets, settled_table, settles as settles_order}
+use Rattle.dg_promise.proofs.RegroupSteps.{homes_ascend, sizes_stay, table_stays}
 use Rattle.dg_promise.proofs.ThinLaws.{reaped_table, sited_table}
 use Rattle.dg_promise.specs.Promises.{AreTold}
 use Rattle.dg_promise.specs.Steady.{FitsBlock, IsSteady}
@@ -146,9 +148,33 @@ module _ (facts : Volumes) (plans : PlansAreTargets) (whole : (l n : ℕ) (v : V
         no_copies = λ other. copies ∙ steady.no_copies unsettled;
         settled = λ is. absurd (unsettled (sym phase ∙ is));
       }
+  by_effect old event new fits steady (regroups r c is h) =
+      let mid = kept_steady old h.mid (stays_places old h.mid h.opened) steady in
+      subst IsSteady (sym h.rest) (record {
+        sites = table_stays h.mid mid.sites h.enough;
+        size = sizes_stay h.mid h.counts mid.size;
+        homes = homes_ascend (left_in h.mid) h.mid.copies h.mid.homes mid.homes;
+        no_copies = λ other. refl;
+        settled = λ is. absurd (loose_or_worn (is_broken new) is);
+      })
 
   pub step_steady : (old : State) (event : Event) (reply : Reply) (new : State) → FitsBlock old.table.shape.l event → IsSteady old → Step AreTold old event reply new → IsSteady new
   step_steady old event reply new fits steady step = by_effect old event new fits steady (effect_of AreTold old event reply new step)
+
+-- ---- the bytes of a block
+
+same_l : (Known : Type 0) (old : State) (event : Event) (new : State) → HasEffect Known old event new → new.table.shape.l ≡ old.table.shape.l
+same_l Known old event new (keeps kept) = ap (λ (table : Table). table.shape.l) kept.table
+same_l Known old event new (writes b bytes is low h) = ap (λ (x : Shape). x.l) (sited_sized old.table b new.table h.sited).shape
+same_l Known old event new (passes s low high h) = ap (λ (x : Shape). x.l) h.reaps.shape
+same_l Known old event new (spreads count gained settled h) =
+    ap (λ (x : Shape). x.l) (subst (λ (t : Table). IsSized old.table t) (sym (ap (λ (spread : Spread). spread.table) h.spread))
+    (spread_over_sized h.wants old.homes (take count old.recent) (spread_in old))).shape
+same_l Known old event new (settles unsettled h) =
+    ap (λ (x : Shape). x.l) (subst (λ (t : Table). IsSized old.table t) (sym (ap (λ (state : State). state.table) h.rest))
+    (all_done_sized (moves (targets_of old.table.shape h.wants h.found) None old.table) old.table)).shape
+same_l Known old event new (moves_some unsettled h) = ap (λ (x : Shape). x.l) (subst (λ (t : Table). IsSized old.table t) (sym h.led) (all_done_sized h.front old.table)).shape
+same_l Known old event new (regroups r c is h) = ap (λ (state : State). state.table.shape.l) h.rest ∙ ap (λ (state : State). state.table.shape.l) h.opened.rest
 
 -- ---- the blank array
 
@@ -170,7 +196,7 @@ module _ (facts : Volumes) (plans : PlansAreTargets) (whole : (l n : ℕ) (v : V
   run_steady l old (event ∷ events) (reply ∷ replies) new same fit steady (mid, step, more) =
       let fits = subst (λ (k : ℕ). FitsBlock k event) (sym same) (fit 0 event (omega arith)) in
       let next = step_steady facts plans whole old event reply mid fits steady step in
-      let size : mid.table.shape.l ≡ l = ap (λ (x : Shape). x.l) (step_keeps AreTold old event reply mid step).table.shape ∙ same in
+      let size : mid.table.shape.l ≡ l = same_l AreTold old event mid (effect_of AreTold old event reply mid step) ∙ same in
       run_steady l mid events replies new size (λ k d low. fit (suc k) d (omega arith)) next more
   run_steady l old [] (reply ∷ replies) new same fit steady none = absurd none
   run_steady l old (event ∷ events) [] new same fit steady none = absurd none

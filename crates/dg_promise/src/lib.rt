@@ -1,5 +1,5 @@
 //! What an array promises of the files of its volume, as laws over single steps: where a settled array has lost fewer boundaries than
-//! blocks of directories have places, a file is given exactly where its home or its copy survives.
+//! blocks of directories have places, a file is given exactly where its home or its copy survives and no block was cut that it needs.
 //!
 //! Each law is a public function that does nothing, whose contract is the law. The laws speak of steps whose bytes are told.
 #![tactic(auto)]
@@ -8,6 +8,7 @@ mod chains;
 mod needs;
 mod orders;
 mod promises;
+mod regroups;
 mod steady;
 #[cfg(test)]
 mod tests;
@@ -21,4 +22,5 @@ pub use crate::promises::{
     cat_keeps_its_promise, cats_without_faults_lose_none, few_losses_leave_files_whole,
     homes_are_of_owners,
 };
+pub use crate::regroups::uncut_files_stay;
 pub use crate::steady::{blank_arrays_are_steady, steps_keep_steady};

@@ -6,7 +6,7 @@ ghost use Rattle.dg_model.specs.States.{State};
 ghost use Rattle.dg_model.specs.Steps.{Step};
 ghost use Rattle.dg_model.specs.Tables.{IsTable};
 ghost use Rattle.dg_model.specs.declared.events.Event.{Event};
-ghost use Rattle.dg_model.specs.declared.events.Event.TheVariants.{Settle, Write};
+ghost use Rattle.dg_model.specs.declared.events.Event.TheVariants.{Regroup, Settle, Write};
 ghost use Rattle.dg_model.specs.declared.phases.Phase.TheVariants.{Settled};
 ghost use Rattle.dg_model.specs.declared.replies.Reply.{Reply};
 ghost use Rattle.dg_model.specs.declared.replies.Reply.TheVariants.{Settled as SettledReply};
@@ -23,12 +23,12 @@ pub fn settled_is_in_order()
     targets_of_plans();
 }
 
-/// A settled state in order stays settled and in order in each step but a write: while it is read, while members fail, are replaced and
-/// refilled, which may reap dead blocks, while files get copies, and where it is saved.
+/// A settled state in order stays settled and in order in each step but a write and one that takes boundaries out of use: while it is
+/// read, while members fail, are replaced and refilled, which may reap dead blocks, while files get copies, and where it is saved.
 pub fn order_is_kept()
     ensures { (old : State) (event : Event) (reply : Reply) (new : State) → IsTable old.table
         → All (λ block. length block ≡ old.table.shape.l) old.blocks → old.phase ≡ Settled → IsInOrder AreTold old
-        → ((b : ℕ) (bytes : List ℕ) → event ≢ Write b bytes) → Step AreTold old event reply new
+        → ((b : ℕ) (bytes : List ℕ) → event ≢ Write b bytes) → event ≢ Regroup → Step AreTold old event reply new
         → IsInOrder AreTold new × (new.phase ≡ Settled) }
 {
     volumes_of_whole_blocks();

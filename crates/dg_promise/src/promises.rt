@@ -15,8 +15,8 @@ ghost use Rattle.dg_promise.specs.Promises.{AreTold, FewLost, IsAsPromised, Lose
 use ufs_frames::{files_are_tame, volumes_of_whole_blocks};
 
 /// In a state in order with fewer than m lost boundaries, in a step in which no boundary becomes lost, a `cat` gives all of a regular
-/// file exactly where the file has no home, or its home or its copy isn't lost; it is unavailable exactly where that isn't so. A path
-/// that leads to no regular file is refused as reading it is.
+/// file exactly where no block was cut that is needed to read it, and the file has no home, or its home or its copy isn't lost; it is
+/// unavailable exactly where that isn't so. A path that leads to no regular file is refused as reading it is, unless such a block was cut.
 pub fn cat_keeps_its_promise()
     ensures { (old : State) (path : List ℕ) (reply : Reply) (new : State) → IsTable old.table
         → All (λ block. length block ≡ old.table.shape.l) old.blocks → IsInOrder AreTold old → FewLost old → LosesNone old new
@@ -32,8 +32,8 @@ pub fn cats_without_faults_lose_none()
         → NoneRose old.counts.faults new.counts.faults → LosesNone old new }
 {}
 
-/// What the state itself promises, whatever is read: no block is gone that the path needs, exactly where the file is served; and none for
-/// a path that leads to no regular file.
+/// What the state itself promises, whatever is read: no block is gone that the path needs, exactly where none of them was cut and the file
+/// is served; for a path that leads to no regular file, exactly where none was cut.
 pub fn few_losses_leave_files_whole()
     ensures { (state : State) (path : List ℕ) → IsTable state.table → All (λ block. length block ≡ state.table.shape.l) state.blocks
         → IsInOrder AreTold state → FewLost state → KeepsPromise state path }

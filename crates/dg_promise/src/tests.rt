@@ -3,6 +3,7 @@ use crate::{
     cats_without_faults_lose_none, few_losses_leave_files_whole, files_are_read,
     files_need_their_blocks, homes_are_of_owners, needed_blocks_have_reasons, order_is_kept,
     reads_keep_their_promise, runs_keep_their_promise, settled_is_in_order, steps_keep_steady,
+    uncut_files_stay,
 };
 
 /// The laws are functions that do nothing.
@@ -22,4 +23,5 @@ fn laws_can_be_called(_rt: HostRuntime) {
     order_is_kept();
     blank_arrays_are_steady();
     steps_keep_steady();
+    uncut_files_stay();
 }

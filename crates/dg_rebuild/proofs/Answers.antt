@@ -4,7 +4,7 @@ use Rattle.std.specs.Prelude.{◌↔◌, Err, IfOk, Ok, Result, if◌then◌else
 use Rattle.std.proofs.lemmas.Bool.{false≢true, ltb-false, ltb-true}
 use Rattle.dg_io.specs.declared.outside.Rack.{Ghosts}
 use Rattle.dg_model.specs.Members.{is_filling, is_good, is_lost}
-use Rattle.dg_model.specs.Tables.{IsTaken, used_between}
+use Rattle.dg_model.specs.Tables.{IsTable, IsTaken, used_between}
 use Rattle.dg_model.specs.declared.members.MemberState.TheVariants.{Good, Filling}
 use Rattle.dg_model.proofs.MemberLaws.{rose_before}
 use Rattle.dg_pair.specs.Boundaries.{completed}
@@ -12,7 +12,7 @@ use Rattle.dg_store.specs.Answers.{ChangesAt}
 use Rattle.dg_store.specs.Leaves.{FaultRose, Stays}
 use Rattle.dg_store.specs.Stores.{IsSound, KeepsBlocks, members_of, rack_of, shape_of, table_of}
 use Rattle.dg_store.specs.declared.store.Store.{Store}
-use Rattle.dg_rebuild.specs.Answers.{FillingFell, HasBrokenOff, HasCopied}
+use Rattle.dg_rebuild.specs.Answers.{FillingFell, HasBrokenOff, HasCopied, IsUnmarkedAt}
 use Rattle.dg_rebuild.specs.Passed.{CouldNot, WentOn}
 use Rattle.dg_rebuild.specs.declared.rebuilds.RebuildAnswer.TheVariants.{Copied, Failed, Lost}
 use Rattle.dg_rebuild.specs.declared.slots.SlotAnswer.TheVariants.{Done}
@@ -57,26 +57,29 @@ module _ {R : Type 0} (rack : Ghosts R) (marks : List Bool) (s : ℕ) where
       subst (λ (m : ℕ). HasCopied rack marks s n m l xs ys a b) same.0 (subst (λ (m : ℕ). HasCopied rack marks s n done m xs ys a b) same.1 has)
 
   -- the refill stops at a used slot
-  pub stops : (a b c : Store R) (low high n done left : ℕ) (xs ys zs : List ℕ) → c ≡ b → zs ≡ ys → WentOn rack marks s low high done xs ys a b
-      → high < (shape_of a).k + 1 → done ≤ n → nat_lt done n ≡ false → IsTaken (table_of b) s high
+  pub stops : (a b c : Store R) (low high n done left : ℕ) (xs ys zs : List ℕ) → IsTable (table_of a) → c ≡ b → zs ≡ ys
+      → WentOn rack marks s low high done xs ys a b → high < (shape_of a).k + 1 → done ≤ n → nat_lt done n ≡ false
+      → IsTaken (table_of b) s high → IsUnmarkedAt (table_of b) marks s high
       → left ≡ used_between (table_of c) s high ((shape_of c).k + 1) → HasCopied rack marks s n done left xs zs a c
-  stops a b c low high n done left xs ys zs same list went below few full taken rest =
-      ends_at rack marks s a c low high n done left xs zs below few (ltb-false done n full)
-      (subst (λ (store : Store R). IsTaken (table_of store) s high) (sym same) taken) rest
+  stops a b c low high n done left xs ys zs is same list went below few full taken unmarked rest =
+      ends_at rack marks s a c low high n done left xs zs is below few (ltb-false done n full)
+      (subst (λ (store : Store R). IsTaken (table_of store) s high) (sym same) taken)
+      (subst (λ (store : Store R). IsUnmarkedAt (table_of store) marks s high) (sym same) unmarked) rest
       (went_same a b c low high done xs ys zs same list went)
 
-  pub stops_as : (a b c : Store R) (low high n done left d l : ℕ) (xs ys zs : List ℕ) → c ≡ b → zs ≡ ys → WentOn rack marks s low high done xs ys a b
-      → high < (shape_of a).k + 1 → done ≤ n → nat_lt done n ≡ false → IsTaken (table_of b) s high
+  pub stops_as : (a b c : Store R) (low high n done left d l : ℕ) (xs ys zs : List ℕ) → IsTable (table_of a) → c ≡ b → zs ≡ ys
+      → WentOn rack marks s low high done xs ys a b → high < (shape_of a).k + 1 → done ≤ n → nat_lt done n ≡ false
+      → IsTaken (table_of b) s high → IsUnmarkedAt (table_of b) marks s high
       → left ≡ used_between (table_of c) s high ((shape_of c).k + 1) → Copied done left ≡ Copied d l → HasCopied rack marks s n d l xs zs a c
-  stops_as a b c low high n done left d l xs ys zs same list went below few full taken rest e =
-      copied_as a c n done left d l xs zs e (stops a b c low high n done left xs ys zs same list went below few full taken rest)
+  stops_as a b c low high n done left d l xs ys zs is same list went below few full taken unmarked rest e =
+      copied_as a c n done left d l xs zs e (stops a b c low high n done left xs ys zs is same list went below few full taken unmarked rest)
 
   -- it is done
-  pub whole_as : (a b c : Store R) (low high n done d l : ℕ) (xs ys : List ℕ) → high ≡ (shape_of a).k + 1 → done ≤ n → WentOn rack marks s low high done xs ys a b
+  pub whole_as : (a b c : Store R) (low high n done d l : ℕ) (xs ys : List ℕ) → IsTable (table_of a) → high ≡ (shape_of a).k + 1 → done ≤ n → WentOn rack marks s low high done xs ys a b
       → IsSound rack c → Stays rack b c → rack_of c ≡ rack_of b → table_of c ≡ table_of b → ChangesAt completed s (members_of b) (members_of c) → KeepsBlocks rack b c
       → Copied done 0 ≡ Copied d l → HasCopied rack marks s n d l xs ys a c
-  whole_as a b c low high n done d l xs ys end few went sound stays same table changes keeps e =
-      copied_as a c n done 0 d l xs ys e (ends_whole rack marks s a b c low n done xs ys few
+  whole_as a b c low high n done d l xs ys is end few went sound stays same table changes keeps e =
+      copied_as a c n done 0 d l xs ys e (ends_whole rack marks s a b c low n done xs ys is few
       (subst (λ (slot : ℕ). WentOn rack marks s low slot done xs ys a b) end went) sound stays same table changes keeps)
 
   -- a boundary whose member was given slots isn't lost
@@ -91,11 +94,12 @@ module _ {R : Type 0} (rack : Ghosts R) (marks : List Bool) (s : ℕ) where
       (λ e. absurd (not_lost d l s e), λ lost. absurd (false≢true (sym stands ∙ lost)))
 
   -- it is broken off
-  pub breaks : (a b c : Store R) (low high copies : ℕ) (xs ys zs : List ℕ) → zs ≡ ys → WentOn rack marks s low high copies xs ys a b → high ≤ (shape_of a).k + 1
-      → CouldNot rack s b c → HasBrokenOff rack marks s xs zs a c
-  breaks a b c low high copies xs ys zs list went within could =
+  pub breaks : (a b c : Store R) (low high copies : ℕ) (xs ys zs : List ℕ) → IsTable (table_of a) → zs ≡ ys → WentOn rack marks s low high copies xs ys a b
+      → high ≤ (shape_of a).k + 1 → IsTaken (table_of b) s high × IsUnmarkedAt (table_of b) marks s high → CouldNot rack s b c → HasBrokenOff rack marks s xs zs a c
+  breaks a b c low high copies xs ys zs is list went within used could =
       let k : (shape_of b).k ≡ (shape_of a).k = ap (λ sh. sh.k) went.slots.stays.shape in
-      subst (λ (ws : List ℕ). HasBrokenOff rack marks s xs ws a c) (sym list) (breaks_off rack marks s a b c low high copies xs ys went (omega (arith, k, within)) could)
+      subst (λ (ws : List ℕ). HasBrokenOff rack marks s xs ws a c) (sym list)
+      (breaks_off rack marks s a b c low high copies xs ys is went (omega (arith, k, within)) used.0 used.1 could)
 
   pub fell_off : (a b c : Store R) (low high copies : ℕ) (xs ys : List ℕ) → WentOn rack marks s low high copies xs ys a b → CouldNot rack s b c
       → ((q : ℕ) → q / 2 ≡ s → is_filling (members_of b q) ≡ true → FaultRose rack b c q) → FillingFell rack s a c

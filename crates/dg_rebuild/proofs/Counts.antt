@@ -157,6 +157,13 @@ module _ (table : Table) (is : IsTable table) where
     sites_some s mid (slot + 1) slot (sites_in table b) stands second (omega arith),
   )
 
+  pub none_lower : (b s low high : ℕ) → low ≤ high → StandsIn table b s high → StandsBetween table b s low high → ⊥
+  none_lower b s low high run stands there = omega (
+    arith,
+    lower_none b s low high high stands run (omega arith),
+    sites_some s low high there.slot (sites_in table b) there.stands there.from there.before,
+  )
+
   -- where blocks that stand in higher slots lose all their sites, as many lower slots are used
   pub used_below : (new : Table) (reaped : ℕ → Bool) (s low mid high : ℕ) → low ≤ mid → length new.rows ≡ length table.rows
       → ((b : ℕ) → sites_in new b ≡ (if reaped b then [] else sites_in table b))

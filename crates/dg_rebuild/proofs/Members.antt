@@ -13,6 +13,18 @@ use Rattle.dg_rebuild.specs.Answers.{HasNoFilling}
 use Rattle.dg_rebuild.specs.Passed.{GoesUp, HasMemberAt, IsLeftAt}
 use Rattle.dg_store.specs.Answers.{ChangesAt}
 
+-- a member that is out stays so where its boundary's members change
+pub changes_out : (change : MemberState → MemberState) → change Out ≡ Out → (s : ℕ) (old new : ℕ → MemberState) → ChangesAt change s old new
+    → (q : ℕ) → old q ≡ Out → new q ≡ Out
+changes_out change still s old new changes q out = elim (cases_eq (q / 2) s) [
+  | inl at ↦ changes.here q at ∙ ap change out ∙ still
+  | inr off ↦ changes.others q off ∙ out
+]
+
+-- or where members only fall
+pub falls_out : (before now : ℕ → ℕ) (old new : ℕ → MemberState) → MembersFall before now old new → (q : ℕ) → old q ≡ Out → new q ≡ Out
+falls_out before now old new falls q out = elim (falls q) [ inl same ↦ same ∙ out | inr fell ↦ fell.out ]
+
 -- ---- one member that is refilled
 
 filling_number : (a b : ℕ) → Filling a ≡ Filling b → a ≡ b

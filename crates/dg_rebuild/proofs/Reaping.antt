@@ -12,7 +12,9 @@ use Rattle.dg_model.specs.Refills.{Reaps, StandsBetween}
 use Rattle.dg_model.specs.Tables.{IsTable, StandsIn, Table, sites_in}
 use Rattle.dg_model.specs.declared.sites.Site.{Site}
 use Rattle.dg_model.proofs.SiteLists.{apart_test, same_test}
+use Rattle.dg_rebuild.specs.Answers.{IsUnmarkedAt}
 use Rattle.dg_rebuild.specs.Reaped.{AreMarkedBetween, StandInOrder, is_among, zeroed}
+use Rattle.dg_rebuild.proofs.Counts.{none_lower}
 
 -- ---- blocks among others
 
@@ -70,6 +72,21 @@ module _ (table : Table) (marks : List Bool) (s : ℕ) where
       λ h. subst (λ (a : ℕ). is_among (b ∷ []) a ≡ true) (is.one_block b c s slot stands (at_slot c slot h.1)) (among_self b),
     );
   }
+
+-- the block in a slot isn't marked, so none that stands there is
+pub unmarked_one : (table : Table) (marks : List Bool) (s slot block : ℕ) → IsTable table → StandsIn table block s slot → is_marked marks block ≡ false
+    → IsUnmarkedAt table marks s slot
+unmarked_one table marks s slot block is stands unmarked b there = ap (is_marked marks) (is.one_block b block s slot there stands) ∙ unmarked
+
+-- what stands behind a run of slots stood there before it
+pub unmarked_before : (old new : Table) (marks : List Bool) (s low high : ℕ) (V W : Volume) (xs : List ℕ) → IsTable old
+    → Reaps old V s low high (is_among xs) new W → IsUnmarkedAt new marks s high → IsUnmarkedAt old marks s high
+unmarked_before old new marks s low high V W xs is reaps unmarked b there = by_test (is_among xs b) refl
+  where
+    by_test : (t : Bool) → is_among xs b ≡ t → is_marked marks b ≡ false
+    by_test true e = absurd (none_lower old is b s low high reaps.run there (reaps.passed b e))
+    by_test false e = unmarked b (subst (λ (sites : List Site). Contains sites (record { boundary = s; slot = high }))
+        (sym (reaps.sites b ∙ ap (λ (t : Bool). if t then [] else sites_in old b) e)) there)
 
 order_wider : (table : Table) (s low mid high : ℕ) (ys : List ℕ) → low ≤ mid → StandInOrder table s mid high ys → StandInOrder table s low high ys
 order_wider table s low mid high [] less order = tt

@@ -9,15 +9,22 @@ use Rattle.dg_model.specs.declared.members.MemberState.{MemberState}
 use Rattle.dg_model.specs.declared.members.MemberState.TheVariants.{Filling, Out}
 use Rattle.dg_pair.specs.Calls.{KeepsBeside}
 use Rattle.dg_rebuild.specs.Reaped.{AreMarkedBetween, is_among, zeroed}
-use Rattle.dg_store.specs.Leaves.{CallsAtMost, Stays}
+use Rattle.dg_store.specs.Leaves.{CallsAtMost, KeepsOut, PutsOut, Stays}
 use Rattle.dg_store.specs.Stores.{IsSound, KeepsBlocks, StandsFor, TellsAll, members_of, rack_of, shape_of, table_of}
 use Rattle.dg_store.specs.declared.store.Store.{Store}
+
+-- What calls leave of counts of faults: a member of which one rose is out; and one that was out is so still, and wasn't called.
+pub record FaultsTell {R : Type 0} (rack : Ghosts R) (old new : Store R) : Type 0 where
+  pub fell : PutsOut rack old new
+  pub idle : KeepsOut rack old new
+  pub out : (q : ℕ) → members_of old q ≡ Out → members_of new q ≡ Out
 
 -- The slots of boundary s from one to before another were passed, and just the marked blocks in them were reaped: they joined a list, in
 -- the order of their slots. The array stands for what it stood for, but that they are zeros, where each member tells its bytes.
 pub record Passed {R : Type 0} (rack : Ghosts R) (marks : List Bool) (s low high : ℕ) (before after : List ℕ) (old new : Store R) : Type 0 where
   pub sound : IsSound rack new
   pub stays : Stays rack old new
+  pub faults : FaultsTell rack old new
   pub beside : KeepsBeside (shape_of old).l ((shape_of old).k + 1) (rack.bytes (rack_of old)) (rack.bytes (rack_of new))
   pub reaped : List ℕ
   pub joined : after ≡ before ++ reaped
@@ -53,6 +60,7 @@ pub record WentOn {R : Type 0} (rack : Ghosts R) (marks : List Bool) (s low high
 pub record CouldNot {R : Type 0} (rack : Ghosts R) (s : ℕ) (old new : Store R) : Type 0 where
   pub sound : IsSound rack new
   pub stays : Stays rack old new
+  pub faults : FaultsTell rack old new
   pub beside : KeepsBeside (shape_of old).l ((shape_of old).k + 1) (rack.bytes (rack_of old)) (rack.bytes (rack_of new))
   pub table : table_of new ≡ table_of old
   pub stands : KeepsBlocks rack old new

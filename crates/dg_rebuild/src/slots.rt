@@ -5,7 +5,7 @@ ghost use Rattle.dg_model.specs.Marks.{is_marked};
 ghost use Rattle.dg_model.specs.Members.{is_filling, is_lost};
 ghost use Rattle.dg_model.specs.Tables.{IsFree, IsTaken, StandsIn, used_between};
 ghost use Rattle.dg_pair.specs.Boundaries.{raised};
-ghost use Rattle.dg_rebuild.specs.Answers.{HasNoFilling};
+ghost use Rattle.dg_rebuild.specs.Answers.{HasNoFilling, IsUnmarkedAt};
 ghost use Rattle.dg_rebuild.specs.Passed.{CouldNot, HasMemberAt, WentOn};
 ghost use Rattle.dg_store.specs.Answers.{ChangesAt, reaped as without};
 ghost use Rattle.dg_store.specs.Leaves.{FaultRose, Stays};
@@ -140,7 +140,9 @@ pub fn refill_slot<R: Rack>(
     ensures most { IfOk result (λ answer. (n : ℕ) → answer ≡ SlotAnswer.Done n → n ≤ (if more then 1 else 0)) }
     ensures still { more ≡ false → rack_of store.new ≡ rack_of store.old }
     ensures kept { IfOk result (λ answer. answer ≡ SlotAnswer.Kept
-        → (more ≡ false) × IsTaken (table_of store.old) boundary slot × (store.new ≡ store.old)) }
+        → (more ≡ false) × (store.new ≡ store.old)) }
+    ensures used { IfOk result (λ answer. (answer ≡ SlotAnswer.Kept) ⊎ (answer ≡ SlotAnswer.Lost) ⊎ (answer ≡ SlotAnswer.Fell)
+        → IsTaken (table_of store.old) boundary slot × IsUnmarkedAt (table_of store.old) dead.now boundary slot) }
     ensures stood { IfOk result (λ answer. (answer ≡ SlotAnswer.Lost) ⊎ (answer ≡ SlotAnswer.Fell) → CouldNot R.Rack boundary store.old store.new) }
     ensures lost { IfOk result (λ answer. answer ≡ SlotAnswer.Lost → is_lost (members_of store.new) boundary ≡ true) }
     ensures whole { IfOk result (λ answer. answer ≡ SlotAnswer.Fell → is_lost (members_of store.new) boundary ≡ false) }

@@ -1,8 +1,7 @@
 -- An array makes a step where its volume does.
 use Rattle.std.proofs.Common.{◌≡◌, ◌∙◌, ◌<◌, ◌/◌, ℕ, List, ap, refl, sym, subst}
-use Rattle.dg_io.specs.Told.{StillTold}
 use Rattle.dg_io.specs.declared.outside.Rack.{Ghosts}
-use Rattle.dg_model.proofs.StepLaws.{step_keeps}
+use Rattle.dg_model.proofs.StepLaws.{StaysInUse, step_keeps}
 use Rattle.dg_model.specs.Marks.{marked}
 use Rattle.dg_model.specs.States.{State}
 use Rattle.dg_model.specs.Steps.{Step}
@@ -18,18 +17,22 @@ use Rattle.dg_volume.specs.Volumes.{any_phase, marks_of}
 use Rattle.dg_volume.specs.Volumes as volumes
 
 module _ {R : Type 0} (rack : Ghosts R) where
+  -- what the rack tells now it told before
+  abbrev pub TellsStill : Array R → Array R → Type 0
+  TellsStill a b = (q : ℕ) → rack.tells (rack_of b) q → rack.tells (rack_of a) q
+
   -- what is told in the end was told before
-  pub told_before : (a b : Array R) → shape_of b ≡ shape_of a → StillTold (rack.bytes (rack_of a)) (rack.bytes (rack_of b)) → Tells rack b → Tells rack a
+  pub told_before : (a b : Array R) → shape_of b ≡ shape_of a → TellsStill a b → Tells rack b → Tells rack a
   told_before a b shape tells told q below = tells q (told q (subst (λ (s : Shape). q / 2 < s.b) (sym shape) below))
 
   -- what a step of its volume leads to
   abbrev pub LeadsTo : (List ℕ → List ℕ) → Array R → Event → Reply → Array R → State → Type 0
   LeadsTo touch a event reply b state = (next : State) × volumes.StandsIn any_phase rack b.volume next × Step (Tells rack b) state event reply next × (next.recent ≡ touch state.recent)
 
-  goes_on : (touch : List ℕ → List ℕ) (a b : Array R) (event : Event) (reply : Reply) (state : State) → StandsIn rack a state → b.hot ≡ touch a.hot → LeadsTo touch a event reply b state
+  goes_on : (touch : List ℕ → List ℕ) (a b : Array R) (event : Event) (reply : Reply) (state : State) → StaysInUse event reply → StandsIn rack a state → b.hot ≡ touch a.hot → LeadsTo touch a event reply b state
       → (next : State) × StandsIn rack b next × Step (Tells rack b) state event reply next
-  goes_on touch a b event reply state st hot one =
-      let keeps = step_keeps (Tells rack b) state event reply one.0 one.2 in (
+  goes_on touch a b event reply state in_use st hot one =
+      let keeps = step_keeps (Tells rack b) state event reply one.0 in_use one.2 in (
         one.0,
         record {
           volume = one.1;
@@ -40,25 +43,25 @@ module _ {R : Type 0} (rack : Ghosts R) where
       )
 
   -- a step that changed the inodes that were read last as its volume says
-  pub steps_by : (touch : List ℕ → List ℕ) (a b : Array R) (event : Event) (reply : Reply) → b.hot ≡ touch a.hot
+  pub steps_by : (touch : List ℕ → List ℕ) (a b : Array R) (event : Event) (reply : Reply) → StaysInUse event reply → b.hot ≡ touch a.hot
       → volumes.StepsBy any_phase any_phase rack touch a.volume event reply b.volume → StepsTo rack a event reply b
-  steps_by touch a b event reply hot steps state st = goes_on touch a b event reply state st hot (steps state st.volume)
+  steps_by touch a b event reply in_use hot steps state st = goes_on touch a b event reply state in_use st hot (steps state st.volume)
 
   -- the same of a volume that says it of states with a block for each of the array's
-  pub steps_sized : (a b : Array R) (event : Event) (reply : Reply) → b.hot ≡ a.hot
+  pub steps_sized : (a b : Array R) (event : Event) (reply : Reply) → StaysInUse event reply → b.hot ≡ a.hot
       → volumes.StepsSized any_phase any_phase rack a.volume event reply b.volume → StepsTo rack a event reply b
-  steps_sized a b event reply hot steps state st =
-      goes_on (λ recent. recent) a b event reply state st hot (steps state st.volume (st.sized ∙ ap (λ (s : State). s.table.shape.n) st.volume.is))
+  steps_sized a b event reply in_use hot steps state st =
+      goes_on (λ recent. recent) a b event reply state in_use st hot (steps state st.volume (st.sized ∙ ap (λ (s : State). s.table.shape.n) st.volume.is))
 
   -- and of one that says it of states in which just these inodes were read last
-  pub steps_hot : (a b : Array R) (event : Event) (reply : Reply) → b.hot ≡ a.hot
+  pub steps_hot : (a b : Array R) (event : Event) (reply : Reply) → StaysInUse event reply → b.hot ≡ a.hot
       → StepsHot any_phase any_phase rack a.hot a.volume event reply b.volume → StepsTo rack a event reply b
-  steps_hot a b event reply hot steps state st = goes_on (λ recent. recent) a b event reply state st hot (steps state st.volume st.recent)
+  steps_hot a b event reply in_use hot steps state st = goes_on (λ recent. recent) a b event reply state in_use st hot (steps state st.volume st.recent)
 
   -- a step that changed none of them
-  pub steps_of : (a b : Array R) (event : Event) (reply : Reply) → b.hot ≡ a.hot
+  pub steps_of : (a b : Array R) (event : Event) (reply : Reply) → StaysInUse event reply → b.hot ≡ a.hot
       → volumes.StepsTo any_phase any_phase rack a.volume event reply b.volume → StepsTo rack a event reply b
-  steps_of a b event reply hot steps = steps_by (λ recent. recent) a b event reply hot steps
+  steps_of a b event reply in_use hot steps = steps_by (λ recent. recent) a b event reply in_use hot steps
 
   -- the step of the volume alone
   pub volume_steps : (touch : List ℕ → List ℕ) (a b : Array R) (event : Event) (reply : Reply)

@@ -6,7 +6,7 @@ use Rattle.std.proofs.lemmas.List.{append-nil}
 use Rattle.std.proofs.lemmas.List.Concat.{flat_map-append}
 use Rattle.std.proofs.lemmas.List.Elements.{All-append}
 use Rattle.dg_io.specs.declared.outside.Rack.{Ghosts}
-use Rattle.dg_io.specs.Told.{AreAny, Told, Took, TookPart, StillTold}
+use Rattle.dg_io.specs.Told.{AreAny, Told, Took, TookPart}
 use Rattle.dg_model.proofs.KnownLaws.{run_less}
 use Rattle.dg_model.specs.States.{State}
 use Rattle.dg_model.specs.declared.shapes.Shape.{Shape}
@@ -23,7 +23,7 @@ use Rattle.dg_run.specs.Events.{Begins}
 use Rattle.dg_run.specs.Lines.{BeginsAll}
 use Rattle.dg_run.proofs.Inputs.{All-one}
 use Rattle.dg_run.proofs.Runs.{SoFar, output_more, volume_runs_more}
-use Rattle.dg_run.proofs.ArraySteps.{told_before}
+use Rattle.dg_run.proofs.ArraySteps.{TellsStill, told_before}
 use Rattle.dg_run.proofs.ToldSteps.{Told-then, any_left}
 
 -- the line of an event was taken, and the source has so much left
@@ -66,7 +66,7 @@ module _ {R : Type 0} (rack : Ghosts R) where
       (subst (λ (s : Array R). LinesBrokeOff rack [] shape first x z t u a s) (sym kept) (broke_off shape first from passed number x y z t u a b budget was told))
 
   pub lines_cut : (shape : Shape) (first from passed number : ℕ) (x y z t u v : Option (List ℕ)) (a b c : Array R) → passed ≤ 2 ^ 40 → SoFar rack shape first from passed number x y t u a b
-      → ServedLinePart rack shape (2 ^ 40 - passed) y z u v b c → shape_of c ≡ shape_of b → StillTold (rack.bytes (rack_of b)) (rack.bytes (rack_of c)) → LinesCut rack [] shape first x z t v a c
+      → ServedLinePart rack shape (2 ^ 40 - passed) y z u v b c → shape_of c ≡ shape_of b → TellsStill rack b c → LinesCut rack [] shape first x z t v a c
   lines_cut shape first from passed number x y z t u v a b c budget was line same tells =
       let es = was.events in
       let e = line.event in
@@ -87,12 +87,12 @@ module _ {R : Type 0} (rack : Ghosts R) where
       }
 
   pub lines_cut_at : (shape here : Shape) (first from passed number : ℕ) (x y z t u v : Option (List ℕ)) (a b c : Array R) → passed ≤ 2 ^ 40 → SoFar rack shape first from passed number x y t u a b → here ≡ shape
-      → ServedLinePart rack here (2 ^ 40 - passed) y z u v b c → shape_of c ≡ shape_of b → StillTold (rack.bytes (rack_of b)) (rack.bytes (rack_of c)) → LinesCut rack [] shape first x z t v a c
+      → ServedLinePart rack here (2 ^ 40 - passed) y z u v b c → shape_of c ≡ shape_of b → TellsStill rack b c → LinesCut rack [] shape first x z t v a c
   lines_cut_at shape here first from passed number x y z t u v a b c budget was is line same tells =
       lines_cut shape first from passed number x y z t u v a b c budget was (subst (λ (s : Shape). ServedLinePart rack s (2 ^ 40 - passed) y z u v b c) is line) same tells
 
   lines_ran_out : (shape : Shape) (first from passed number : ℕ) (x y z t u v : Option (List ℕ)) (a b c : Array R) → passed ≤ 2 ^ 40 → SoFar rack shape first from passed number x y t u a b
-      → Told AreAny y z → v ≡ u → shape_of c ≡ shape_of b → StillTold (rack.bytes (rack_of b)) (rack.bytes (rack_of c)) → LinesWanted rack [] shape first x z t v a c
+      → Told AreAny y z → v ≡ u → shape_of c ≡ shape_of b → TellsStill rack b c → LinesWanted rack [] shape first x z t v a c
   lines_ran_out shape first from passed number x y z t u v a b c budget was told kept same tells = record {
     events = was.events;
     replies = was.served.replies;
@@ -110,7 +110,7 @@ module _ {R : Type 0} (rack : Ghosts R) where
 
   -- the reply of the last line was written whole
   ran_out_behind_reply : (shape : Shape) (first from passed number : ℕ) (x y z t u v : Option (List ℕ)) (a b c : Array R) → passed ≤ 2 ^ 40 → SoFar rack shape first from passed number x y t u a b
-      → (line : WantedLine rack shape (2 ^ 40 - passed) y z u v b c) → AnsweredBefore rack line.event u v b c → shape_of c ≡ shape_of b → StillTold (rack.bytes (rack_of b)) (rack.bytes (rack_of c))
+      → (line : WantedLine rack shape (2 ^ 40 - passed) y z u v b c) → AnsweredBefore rack line.event u v b c → shape_of c ≡ shape_of b → TellsStill rack b c
       → LinesWanted rack [] shape first x z t v a c
   ran_out_behind_reply shape first from passed number x y z t u v a b c budget was line answered same tells =
       let es = was.events in
@@ -133,7 +133,7 @@ module _ {R : Type 0} (rack : Ghosts R) where
 
   -- of the listing that the last line asks for the first entries were written
   ran_out_in_listing : (shape : Shape) (first from passed number : ℕ) (x y z t u v : Option (List ℕ)) (a b c : Array R) → passed ≤ 2 ^ 40 → SoFar rack shape first from passed number x y t u a b
-      → (line : WantedLine rack shape (2 ^ 40 - passed) y z u v b c) → ListedBefore rack line.event u v b c → shape_of c ≡ shape_of b → StillTold (rack.bytes (rack_of b)) (rack.bytes (rack_of c))
+      → (line : WantedLine rack shape (2 ^ 40 - passed) y z u v b c) → ListedBefore rack line.event u v b c → shape_of c ≡ shape_of b → TellsStill rack b c
       → LinesListed rack [] shape first x z t v a c
   ran_out_in_listing shape first from passed number x y z t u v a b c budget was line listed same tells =
       let es = was.events in
@@ -160,14 +160,14 @@ module _ {R : Type 0} (rack : Ghosts R) where
 
   ran_out_by : (shape : Shape) (first from passed number : ℕ) (x y z t u v : Option (List ℕ)) (a b c : Array R) → passed ≤ 2 ^ 40 → SoFar rack shape first from passed number x y t u a b
       → (line : WantedLine rack shape (2 ^ 40 - passed) y z u v b c) → AnsweredBefore rack line.event u v b c ⊎ ListedBefore rack line.event u v b c
-      → shape_of c ≡ shape_of b → StillTold (rack.bytes (rack_of b)) (rack.bytes (rack_of c)) → LinesRanOut rack [] shape first x z t v a c
+      → shape_of c ≡ shape_of b → TellsStill rack b c → LinesRanOut rack [] shape first x z t v a c
   ran_out_by shape first from passed number x y z t u v a b c budget was line (inl answered) same tells =
       inl (ran_out_behind_reply shape first from passed number x y z t u v a b c budget was line answered same tells)
   ran_out_by shape first from passed number x y z t u v a b c budget was line (inr listed) same tells =
       inr (ran_out_in_listing shape first from passed number x y z t u v a b c budget was line listed same tells)
 
   pub lines_ran_out_at : (shape here : Shape) (first from passed number : ℕ) (x y z t u v : Option (List ℕ)) (a b c : Array R) → passed ≤ 2 ^ 40 → SoFar rack shape first from passed number x y t u a b → here ≡ shape
-      → RanOutAt rack here (2 ^ 40 - passed) y z u v b c → shape_of c ≡ shape_of b → StillTold (rack.bytes (rack_of b)) (rack.bytes (rack_of c)) → LinesRanOut rack [] shape first x z t v a c
+      → RanOutAt rack here (2 ^ 40 - passed) y z u v b c → shape_of c ≡ shape_of b → TellsStill rack b c → LinesRanOut rack [] shape first x z t v a c
   lines_ran_out_at shape here first from passed number x y z t u v a b c budget was is (inl none) same tells =
       inl (lines_ran_out shape first from passed number x y z t u v a b c budget was none.0 none.1 same tells)
   lines_ran_out_at shape here first from passed number x y z t u v a b c budget was is (inr line) same tells =

@@ -30,9 +30,9 @@ use Rattle.dg_words.specs.declared.commands.WordsRefused.{WordsRefused}
 use Rattle.dg_words.specs.declared.commands.WordsRefused.TheVariants.{Usage as NotWords, NoMemory as WordsNoMemory}
 
 -- a replay ended, by its status
-pub ends_replay : (f : Facts) (status : Status) → (status ≡ Done → Replayed f.before f.now f.bytes f.left f.rest f.taken f.given)
-    → (status ≡ BadLine → Stopped f.before f.now f.bytes f.left f.rest f.taken f.given) → (status ≡ ReadFault → BrokeOff f.before f.now f.bytes f.left f.rest f.taken f.given)
-    → (status ≡ WriteFault → IsCut f.before f.now f.bytes f.left f.rest f.taken f.given) → (status ≡ NoMemory → RanOut f.before f.bytes f.left f.rest f.taken f.given)
+pub ends_replay : (f : Facts) (status : Status) → (status ≡ Done → Replayed f.before f.now f.images f.bytes f.left f.rest f.taken f.given)
+    → (status ≡ BadLine → Stopped f.before f.now f.images f.bytes f.left f.rest f.taken f.given) → (status ≡ ReadFault → BrokeOff f.before f.now f.images f.bytes f.left f.rest f.taken f.given)
+    → (status ≡ WriteFault → IsCut f.before f.now f.images f.bytes f.left f.rest f.taken f.given) → (status ≡ NoMemory → RanOut f.before f.bytes f.left f.rest f.taken f.given)
     → IsOfReplay status → EndsReplay f status
 ends_replay f Done all stopped broken cut wanting never = all refl
 ends_replay f BadLine all stopped broken cut wanting never = stopped refl

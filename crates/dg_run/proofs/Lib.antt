@@ -1,5 +1,6 @@
 mod Answers
 mod ArraySteps
+mod BeyondLaws
 mod Breaks
 mod Broken
 mod Completing

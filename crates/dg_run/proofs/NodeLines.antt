@@ -42,6 +42,6 @@ module _ {K : Type 0} (taken : K → Option (List ℕ)) (sink : K) (lent : Lines
         is = refl;
         entries = some.0;
         others = some.1;
-        steps = weaker_steps rack a b Tree reply (steps_of rack a b Tree reply hot some.3);
+        steps = weaker_steps rack a b Tree reply (steps_of rack a b Tree reply tt hot some.3);
         output = nodes_told some.0 out some.2;
       }))

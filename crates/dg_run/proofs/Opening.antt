@@ -17,16 +17,17 @@ use Rattle.dg_run.specs.Steps.{GoesOn, RunsBefore, StandsIn, Tells, VolumeRunsTo
 use Rattle.dg_run.specs.declared.arrays.Array.{Array}
 use Rattle.dg_run.specs.declared.top.Status.{Status}
 use Rattle.dg_run.specs.declared.top.Status.TheVariants.{NoState, Unclean, WriteFault}
-use Rattle.dg_saved.specs.OpeningLaws.{AtFirst, at_first, found_no_state, found_unclean, holds_all, is_opened, known, source}
+use Rattle.dg_saved.specs.OpeningLaws.{AtFirst, at_first, found_no_state, found_unclean, is_opened, known, source}
 use Rattle.dg_saved.specs.Saved.{HasSource, IsHeld, TellsArray}
 use Rattle.dg_saved.specs.Texts.{nostate_text, unclean_text}
+use Rattle.dg_volume.specs.HeldLaws.{TellsTold, holds_all}
 use Rattle.dg_volume.specs.Opens.{HasOpened}
 use Rattle.dg_volume.specs.Volumes.{any_phase}
 use Rattle.dg_volume.specs.Volumes as volumes
 
 -- ---- steps from an opened array
 
-module _ {R : Type 0} (rack : Ghosts R) (before : R) (a b : Array R) (opened : HasOpened rack before a.volume a.hot) (goes : GoesOn rack a b) (left rest taken given : Option (List ℕ)) where
+module _ {R : Type 0} (rack : Ghosts R) (before : R) (a b : Array R) (opened : HasOpened rack before a.volume a.hot) (goes : GoesOn rack a b) (law : TellsTold rack) (left rest taken given : Option (List ℕ)) where
   -- what the call met
   abbrev pub met : Facts
   met = record {
@@ -46,7 +47,7 @@ module _ {R : Type 0} (rack : Ghosts R) (before : R) (a b : Array R) (opened : H
 
   -- where the members tell their bytes at the end, the array does
   told_end : TellsArray (rack.bytes (rack_of b)) opened.saved.table → Tells rack b
-  told_end = known rack before a.volume b.volume a.hot taken given opened goes
+  told_end = known rack before a.volume b.volume a.hot taken given opened goes law
 
   module _ (V : List (List ℕ)) (held : IsHeld (met_by met) (rack.counts (rack_of a)) from V) where
     -- the state that the array is in, once it was opened
@@ -57,14 +58,14 @@ module _ {R : Type 0} (rack : Ghosts R) (before : R) (a b : Array R) (opened : H
     stands = record {
       volume = at.stands;
       recent = at.recent;
-      sized = ap length at.blocks ∙ held.blocks.size ∙ ap (λ (t : Table). t.shape.n) (sym opened.table) ∙ ap (λ (s : State). s.table.shape.n) (sym at.stands.is);
+      sized = ap length at.blocks ∙ held.size ∙ ap (λ (t : Table). t.shape.n) (sym opened.table) ∙ ap (λ (s : State). s.table.shape.n) (sym at.stands.is);
     }
 
     resumed_to : (events : List Event) (replies : List Reply) (final : State) → Run (Tells rack b) at.state events replies final
         → Resumed met (rack.counts (rack_of a)) from V events replies
     resumed_to events replies final run = record {
       state = at.state;
-      is = is_opened rack before a.volume b.volume a.hot taken given opened goes V held;
+      is = is_opened rack before a.volume b.volume a.hot taken given opened goes V held law;
       final = final;
       run = run_less told_end at.state events replies final run;
     }
@@ -82,7 +83,7 @@ module _ {R : Type 0} (rack : Ghosts R) (before : R) (a b : Array R) (opened : H
         let in_end : volumes.StandsIn any_phase rack b.volume final = one.1 in
         record {
           resumed = resumed_to events replies final one.2;
-          holds = λ told. holds_all rack before a.volume b.volume a.hot taken given opened goes final in_end (told_end told);
+          holds = λ told. holds_all rack b.volume any_phase final in_end (told_end told);
           counts = ap (λ (s : State). s.counts) in_end.is;
         }
 

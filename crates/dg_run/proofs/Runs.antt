@@ -1,5 +1,5 @@
 -- Lines are served one after another.
-use Rattle.std.proofs.Common.{◌≡◌, ◌≤◌, ◌+◌, ◌-◌, ◌^◌, ℕ, List, [], ◌∷◌, ◌++◌, length, refl, sym, ◌∙◌, ap, subst, arith, append_assoc, length-append}
+use Rattle.std.proofs.Common.{◌≡◌, ◌≤◌, ◌+◌, ◌-◌, ◌/◌, ◌^◌, ℕ, List, [], ◌∷◌, ◌++◌, length, refl, sym, ◌∙◌, ap, subst, arith, append_assoc, length-append}
 use Rattle.std.specs.Prelude.{Option, Some}
 use Rattle.std.proofs.lemmas.List.{append-nil}
 use Rattle.std.proofs.lemmas.List.Concat.{flat_map-append}
@@ -10,7 +10,8 @@ use Rattle.dg_model.proofs.RunLaws.{run_push}
 use Rattle.dg_model.specs.declared.shapes.Shape.{Shape}
 use Rattle.dg_model.specs.declared.events.Event.{Event}
 use Rattle.dg_model.specs.declared.replies.Reply.{Reply}
-use Rattle.dg_io.specs.Told.{Told, Took, StillTold}
+use Rattle.dg_volume.specs.HeldLaws.{own_still, own_then}
+use Rattle.dg_io.specs.Told.{Told, Took}
 use Rattle.dg_run.specs.declared.arrays.Array.{Array}
 use Rattle.dg_text.specs.Lines.{line_of, input_of, IsInPlace}
 use Rattle.dg_text.specs.Replies.{reply_line, output_of}
@@ -23,12 +24,12 @@ use Rattle.dg_run.specs.declared.lines.Turn.TheVariants.{Served as turn_served, 
 use Rattle.dg_run.specs.declared.lines.LinesEnd.{LinesEnd}
 use Rattle.dg_run.specs.declared.lines.LinesEnd.TheVariants.{Input as input_end, Refused as line_refused}
 use Rattle.dg_run.proofs.Inputs.{All-one, begins_none, begins_more}
-use Rattle.dg_run.proofs.ArraySteps.{told_before}
+use Rattle.dg_run.proofs.ArraySteps.{TellsStill, told_before}
 use Rattle.dg_run.proofs.ToldSteps.{Told-refl, Told-then}
 
 module _ {R : Type 0} (rack : Ghosts R) where
   pub runs_more : (a b c : Array R) (es : List Event) (rs : List Reply) (e : Event) (r : Reply) → RunsTo rack a es rs b → StepsTo rack b e r c → shape_of c ≡ shape_of b
-      → StillTold (rack.bytes (rack_of b)) (rack.bytes (rack_of c)) → RunsTo rack a (es ++ e ∷ []) (rs ++ r ∷ []) c
+      → TellsStill rack b c → RunsTo rack a (es ++ e ∷ []) (rs ++ r ∷ []) c
   runs_more a b c es rs e r runs steps shape tells state st =
       let one = runs state st in
       let two = steps one.0 one.1 in
@@ -37,7 +38,7 @@ module _ {R : Type 0} (rack : Ghosts R) where
 
   -- the same where nothing is said of the inodes that were read last
   pub volume_runs_more : (a b c : Array R) (es : List Event) (rs : List Reply) (e : Event) (r : Reply) → RunsTo rack a es rs b → VolumeStepsTo rack b e r c → shape_of c ≡ shape_of b
-      → StillTold (rack.bytes (rack_of b)) (rack.bytes (rack_of c)) → VolumeRunsTo rack a (es ++ e ∷ []) (rs ++ r ∷ []) c
+      → TellsStill rack b c → VolumeRunsTo rack a (es ++ e ∷ []) (rs ++ r ∷ []) c
   volume_runs_more a b c es rs e r runs steps shape tells state st =
       let one = runs state st in
       let two = steps one.0 one.1 in
@@ -63,7 +64,7 @@ module _ {R : Type 0} (rack : Ghosts R) where
     runs = λ state st. (state, st, refl);
   }
 
-  pub served_more : (shape : Shape) (room n : ℕ) (es : List Event) (x y z t u v : Option (List ℕ)) (a b c : Array R) → Served rack shape es x y t u a b → (line : ServedLine rack shape room n y z u v b c) → shape_of c ≡ shape_of b → StillTold (rack.bytes (rack_of b)) (rack.bytes (rack_of c)) → Served rack shape (es ++ line.event ∷ []) x z t v a c
+  pub served_more : (shape : Shape) (room n : ℕ) (es : List Event) (x y z t u v : Option (List ℕ)) (a b c : Array R) → Served rack shape es x y t u a b → (line : ServedLine rack shape room n y z u v b c) → shape_of c ≡ shape_of b → TellsStill rack b c → Served rack shape (es ++ line.event ∷ []) x z t v a c
   served_more shape room n es x y z t u v a b c was line same tells = record {
     replies = was.replies ++ line.answered.reply ∷ [];
     in_place = All-append (IsInPlace (Some shape)) es (line.event ∷ []) was.in_place (All-one (IsInPlace (Some shape)) line.event line.in_place);
@@ -83,7 +84,7 @@ module _ {R : Type 0} (rack : Ghosts R) where
   pub so_far_none : (shape : Shape) (first from : ℕ) (left taken : Option (List ℕ)) (store : Array R) → SoFar rack shape first from first from left left taken taken store store
   so_far_none shape first from left taken store = record { events = []; served = served_none rack shape left taken store; passed_is = omega arith; number_is = omega arith }
 
-  pub so_far_more : (shape : Shape) (first from passed number room n : ℕ) (x y z t u v : Option (List ℕ)) (a b c : Array R) → SoFar rack shape first from passed number x y t u a b → ServedLine rack shape room n y z u v b c → shape_of c ≡ shape_of b → StillTold (rack.bytes (rack_of b)) (rack.bytes (rack_of c))
+  pub so_far_more : (shape : Shape) (first from passed number room n : ℕ) (x y z t u v : Option (List ℕ)) (a b c : Array R) → SoFar rack shape first from passed number x y t u a b → ServedLine rack shape room n y z u v b c → shape_of c ≡ shape_of b → TellsStill rack b c
       → SoFar rack shape first from (passed + n) (number + 1) x z t v a c
   so_far_more shape first from passed number room n x y z t u v a b c was line same tells =
       let text : input_of (was.events ++ line.event ∷ []) ≡ input_of was.events ++ line_of line.event = flat_map-append line_of was.events (line.event ∷ []) ∙ ap (λ (l : List ℕ). input_of was.events ++ l) (append-nil (line_of line.event)) in
@@ -95,7 +96,7 @@ module _ {R : Type 0} (rack : Ghosts R) where
         number_is = omega (arith, length-append was.events (line.event ∷ []), was.number_is);
       }
 
-  pub so_far_next : (shape here : Shape) (first from passed number room n : ℕ) (x y z t u v : Option (List ℕ)) (a b c : Array R) → here ≡ shape → SoFar rack shape first from passed number x y t u a b → ServedLine rack here room n y z u v b c → shape_of c ≡ shape_of b → StillTold (rack.bytes (rack_of b)) (rack.bytes (rack_of c))
+  pub so_far_next : (shape here : Shape) (first from passed number room n : ℕ) (x y z t u v : Option (List ℕ)) (a b c : Array R) → here ≡ shape → SoFar rack shape first from passed number x y t u a b → ServedLine rack here room n y z u v b c → shape_of c ≡ shape_of b → TellsStill rack b c
       → SoFar rack shape first from (passed + n) (number + 1) x z t v a c
   so_far_next shape here first from passed number room n x y z t u v a b c is was line same tells =
       so_far_more shape first from passed number room n x y z t u v a b c was (subst (λ (s : Shape). ServedLine rack s room n y z u v b c) is line) same tells
@@ -145,7 +146,15 @@ module _ {R : Type 0} (rack : Ghosts R) where
       (subst (λ (s : Array R). AllServed rack shape first x z t u a s) (sym end.2) (all_served rack shape first from passed number x y z t u a b budget was end.0))
 
   pub goes_none : (a : Array R) → IsSound rack a → GoesOn rack a a
-  goes_none a sound = record { well = sound; shape = refl; rise = record { faults = λ q. omega arith; calls = omega arith; writes = omega arith }; tells = λ q h. h; same_rack = refl }
+  goes_none a sound = record {
+    well = sound;
+    shape = refl;
+    rise = record { faults = λ q. omega arith; calls = omega arith; writes = omega arith };
+    tells = λ q h. h;
+    told_before = λ q h. h;
+    own = own_still rack a.volume;
+    same_rack = refl;
+  }
 
   pub goes_then : (a b c : Array R) → GoesOn rack a b → GoesOn rack b c → GoesOn rack a c
   goes_then a b c first second = record {
@@ -157,6 +166,8 @@ module _ {R : Type 0} (rack : Ghosts R) where
       writes = omega (arith, first.rise.writes, second.rise.writes);
     };
     tells = λ q h. first.tells q (second.tells q h);
+    told_before = λ q h. first.told_before q (second.told_before q h);
+    own = own_then rack (shape_of a) (shape_of b) (rack_of a) (rack_of b) (rack_of c) first.shape first.own second.own;
     same_rack = second.same_rack ∙ first.same_rack;
   }
 

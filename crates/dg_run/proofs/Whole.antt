@@ -1,21 +1,23 @@
 -- A whole replay.
 use Rattle.std.proofs.Common.{◌≡◌, ◌≤◌, ◌<◌, ◌+◌, ◌-◌, ◌/◌, ◌^◌, ℕ, List, [], ◌∷◌, ◌++◌, length, refl, sym, ◌∙◌, ap, subst, arith, append_assoc, inr, length-append}
-use Rattle.std.specs.Prelude.{Option, Some, None, All, Result, Ok, Err, IfOk, IfSome, IsSome}
+use Rattle.std.specs.Prelude.{Option, Some, None, All, Result, Ok, Err, IfOk, IsSome}
 use Rattle.std.proofs.lemmas.List.{append_cancel_left}
 use Rattle.std.proofs.lemmas.List.Concat.{flat_map-append}
 use Rattle.dg_model.specs.Shapes.{IsShape}
-use Rattle.dg_model.specs.Seals.{HoldsLabel}
-use Rattle.dg_model.specs.States.{Counts, Holds, State, plain_state}
+use Rattle.dg_model.specs.States.{Counts, State, plain_state}
 use Rattle.dg_model.proofs.KnownLaws.{run_less}
+use Rattle.dg_model.specs.Runs.{Run}
+use Rattle.dg_run.proofs.BeyondLaws.{run_beyond}
 use Rattle.dg_io.specs.declared.outside.Rack.{Ghosts}
-use Rattle.dg_run.specs.Steps.{IsBlankArray, Tells, VolumeRunsTo, rack_of, shape_of}
+use Rattle.dg_run.specs.Steps.{GoesOn, IsBlankArray, Tells, VolumeRunsTo, rack_of, shape_of}
 use Rattle.dg_model.specs.declared.shapes.Shape.{Shape}
 use Rattle.dg_model.specs.declared.events.Event.{Event}
 use Rattle.dg_model.specs.declared.events.Event.TheVariants.{Array as MakeArray}
 use Rattle.dg_model.specs.declared.replies.Reply.{Reply}
 use Rattle.dg_model.specs.declared.replies.Reply.TheVariants.{Done}
 use Rattle.dg_model.specs.declared.members.MemberState.TheVariants.{Out}
-use Rattle.dg_io.specs.Told.{Told, Took, TookPart}
+use Rattle.dg_io.specs.MadeLaws.{same_both, same_told}
+use Rattle.dg_io.specs.Told.{IsSame, Told, Took, TookPart}
 use Rattle.dg_run.specs.declared.arrays.Array.{Array}
 use Rattle.dg_text.specs.Lines.{line_of, input_of, IsInPlace}
 use Rattle.dg_text.specs.Replies.{reply_line, output_of, refusal}
@@ -25,10 +27,11 @@ use Rattle.dg_run.specs.Events.{Begins, IsRefused}
 use Rattle.dg_run.specs.Lines.{Served, ServedTo}
 use Rattle.dg_run.specs.Endings.{TookUpTo}
 use Rattle.dg_run.specs.Refusals.{IsRefusedBy}
-use Rattle.dg_run.specs.Replays.{CutRefusal, IsCut, IsNoInput, Ran, Replayed, Stopped, StopsAt, TellsBoundaries}
+use Rattle.dg_run.specs.Replays.{CutRefusal, IsCut, IsNoInput, OthersKept, Ran, Replayed, Stopped, StopsAt, TellsBoundaries}
 use Rattle.dg_run.specs.Arrays.{AllAnswered, AnsweredTo, ArrayReplayed, ArrayStopped, IsCutAt}
 use Rattle.dg_run.proofs.Inputs.{All-head, All-right, no_line}
 use Rattle.dg_run.proofs.Runs.{volume_runs}
+use Rattle.dg_volume.specs.HeldLaws.{TellsTold, holds_all, tells_now}
 use Rattle.dg_volume.specs.Volumes.{any_phase}
 use Rattle.dg_volume.specs.Volumes as volumes
 use Rattle.std.specs.Option.{option_map}
@@ -42,42 +45,53 @@ took_first rs t m v p q = Told-then _ _ (Took (output_of (Done ∷ rs))) (λ a b
 pub took_last : (text last : List ℕ) (t m v : Option (List ℕ)) → Told (Took text) t m → Told (Took last) m v → Told (Took (text ++ last)) t v
 took_last text last t m v p q = Told-then _ _ (Took (text ++ last)) (λ a b c f s. s ∙ ap (λ (l : List ℕ). l ++ last) f ∙ append_assoc a text last) t m v p q
 
--- the members that keep the last label of a state have it
-pub label_held : {R : Type 0} (ghosts : Ghosts R) (b : Array R) (final : State) → volumes.StandsIn any_phase ghosts b.volume final
-    → IfSome final.label (λ last. HoldsLabel final.table.shape last (ghosts.bytes (rack_of b)))
-label_held ghosts b final stands =
-    subst (λ (shape : Shape). IfSome final.label (λ last. HoldsLabel shape last (ghosts.bytes (rack_of b)))) (sym (ap (λ (s : State). s.table.shape) stands.is)) stands.label.holds
-
 module _ {R : Type 0} (ghosts : Ghosts R) (shape : Shape) (first : ℕ) (rack : R) (a b : Array R) (is : first ≡ length (line_of (MakeArray shape))) (well : IsShape shape)
-    (blank : IsBlankArray ghosts shape rack a) where
+    (blank : IsBlankArray ghosts shape rack a) (law : TellsTold ghosts) (goes : GoesOn ghosts a b) where
   pub same_shape : shape_of a ≡ shape
   same_shape = blank.shape_is
 
+  -- the members behind the array's own were left alone
+  abbrev Others : Shape → Type 0
+  Others numbers = OthersKept numbers (ghosts.counts rack) (ghosts.counts (rack_of b)) (ghosts.bytes rack) (ghosts.bytes (rack_of b))
+
+  others_kept : (events : List Event) (replies : List Reply) (final : State) → volumes.StandsIn any_phase ghosts b.volume final → All (IsInPlace (Some (shape_of a))) events
+      → Run (Tells ghosts b) blank.state events replies final → Others final.table.shape
+  others_kept events replies final stands placed run =
+      let numbers : final.table.shape ≡ shape = ap (λ (s : State). s.table.shape) stands.is ∙ goes.shape ∙ same_shape in
+      let first : blank.state.table.shape ≡ shape = ap (λ (s : State). s.table.shape) blank.blank.is in
+      let counts : final.counts ≡ ghosts.counts (rack_of b) = ap (λ (s : State). s.counts) stands.is in
+      let at : Others shape = record {
+        held = λ q past. same_both _ _ _ (blank.others q past) (goes.own.other_bytes q (subst (λ (s : Shape). s.b ≤ q / 2) (sym same_shape) past));
+        faults = λ q past.
+            sym (ap (λ (c : Counts). c.faults q) counts)
+            ∙ run_beyond (Tells ghosts b) (shape_of a) blank.state events replies final placed run q (subst (λ (s : Shape). s.b ≤ q / 2) (sym first) past)
+            ∙ blank.blank.beyond q past;
+      } in
+      subst Others (sym numbers) at
+
   pub ran_of : (events : List Event) (replies : List Reply) → VolumeRunsTo ghosts a events replies b → All (IsInPlace (Some (shape_of a))) events → first + length (input_of events) ≤ 2 ^ 40
-      → Ran (ghosts.counts rack) (ghosts.counts (rack_of b)) (ghosts.bytes (rack_of b)) (MakeArray shape ∷ events) (Done ∷ replies)
+      → Ran (ghosts.counts rack) (ghosts.counts (rack_of b)) (ghosts.bytes rack) (ghosts.bytes (rack_of b)) (MakeArray shape ∷ events) (Done ∷ replies)
   ran_of events replies runs placed budget =
       let W = runs blank.state blank.stands in
       let final = W.0 in
       let stands : volumes.StandsIn any_phase ghosts b.volume final = W.1 in
-      let known : TellsBoundaries (ghosts.bytes (rack_of b)) final → Tells ghosts b = λ told q below. told q (subst (λ (n : ℕ). q / 2 < n) (sym (ap (λ (s : State). s.table.shape.b) stands.is)) below) in
+      let known : TellsBoundaries (ghosts.bytes (rack_of b)) final → Tells ghosts b =
+      λ told. tells_now ghosts b.volume law (λ q below. told q (subst (λ (n : ℕ). q / 2 < n) (sym (ap (λ (s : State). s.table.shape.b) stands.is)) below)) in
       record {
         in_place = (well, subst (λ (s : Shape). All (IsInPlace (Some s)) events) same_shape placed);
         budget = omega (arith, length-append (line_of (MakeArray shape)) (input_of events));
         final = final;
         trace = (blank.state, blank.blank, run_less known blank.state events replies final W.2);
-        holds = λ told.
-            let all = stands.holds (known told) in (
-              subst (λ (s : State). Holds (ghosts.bytes (rack_of b)) s) (sym stands.is) all.array,
-              label_held ghosts b final stands,
-            );
+        holds = λ told. holds_all ghosts b.volume any_phase final stands (known told);
+        others = others_kept events replies final stands placed W.2;
         counts = ap (λ (s : State). s.counts) stands.is;
       }
 
   ran : (events : List Event) (x z t v : Option (List ℕ)) → (served : Served ghosts (shape_of a) events x z t v a b) → first + length (input_of events) ≤ 2 ^ 40
-      → Ran (ghosts.counts rack) (ghosts.counts (rack_of b)) (ghosts.bytes (rack_of b)) (MakeArray shape ∷ events) (Done ∷ served.replies)
+      → Ran (ghosts.counts rack) (ghosts.counts (rack_of b)) (ghosts.bytes rack) (ghosts.bytes (rack_of b)) (MakeArray shape ∷ events) (Done ∷ served.replies)
   ran events x z t v served budget = ran_of events served.replies (volume_runs ghosts a b events served.replies served.runs) served.in_place budget
 
-  pub array_replayed : (x z t v : Option (List ℕ)) → AllAnswered ghosts first x z t v a b → ArrayReplayed (ghosts.counts rack) (ghosts.counts (rack_of b)) (ghosts.bytes (rack_of b)) shape x z t v
+  pub array_replayed : (x z t v : Option (List ℕ)) → AllAnswered ghosts first x z t v a b → ArrayReplayed (ghosts.counts rack) (ghosts.counts (rack_of b)) (ghosts.bytes rack) (ghosts.bytes (rack_of b)) shape x z t v
   array_replayed x z t v all = record {
     events = all.served.events;
     replies = all.served.served.replies;
@@ -98,7 +112,7 @@ module _ {R : Type 0} (ghosts : Ghosts R) (shape : Shape) (first : ℕ) (rack : 
         },
       )) x s.middle z s.served.input s.refused
 
-  pub array_stopped : (x z t v : Option (List ℕ)) → AnsweredTo ghosts first x z t v a b → ArrayStopped (ghosts.counts rack) (ghosts.counts (rack_of b)) (ghosts.bytes (rack_of b)) shape x z t v
+  pub array_stopped : (x z t v : Option (List ℕ)) → AnsweredTo ghosts first x z t v a b → ArrayStopped (ghosts.counts rack) (ghosts.counts (rack_of b)) (ghosts.bytes rack) (ghosts.bytes (rack_of b)) shape x z t v
   array_stopped x z t v to =
       let s = to.served in
       record {
@@ -112,8 +126,8 @@ module _ {R : Type 0} (ghosts : Ghosts R) (shape : Shape) (first : ℕ) (rack : 
             (subst (λ (n : ℕ). Told (Took (refusal n to.kind)) to.before v) s.count to.refused);
       }
 
-module _ (before now : Counts) (bytes : ℕ → Option (List ℕ)) (shape : Shape) (well : IsShape shape) where
-  pub replayed : (x y z t v : Option (List ℕ)) → Told (Begins None (MakeArray shape)) x y → ArrayReplayed before now bytes shape y z t v → Replayed before now bytes x z t v
+module _ (before now : Counts) (images bytes : ℕ → Option (List ℕ)) (shape : Shape) (well : IsShape shape) where
+  pub replayed : (x y z t v : Option (List ℕ)) → Told (Begins None (MakeArray shape)) x y → ArrayReplayed before now images bytes shape y z t v → Replayed before now images bytes x z t v
   replayed x y z t v line rest = record {
     events = MakeArray shape ∷ rest.events;
     replies = Done ∷ rest.replies;
@@ -156,7 +170,7 @@ module _ (before now : Counts) (bytes : ℕ → Option (List ℕ)) (shape : Shap
     no_input events kind p q s.0 f s.1,
   )) x y z line cut
 
-  pub stopped : (x y z t v : Option (List ℕ)) → Told (Begins None (MakeArray shape)) x y → ArrayStopped before now bytes shape y z t v → Stopped before now bytes x z t v
+  pub stopped : (x y z t v : Option (List ℕ)) → Told (Begins None (MakeArray shape)) x y → ArrayStopped before now images bytes shape y z t v → Stopped before now images bytes x z t v
   stopped x y z t v line rest = record {
     events = MakeArray shape ∷ rest.events;
     replies = Done ∷ rest.replies;
@@ -186,19 +200,25 @@ first_stops : (kind : Kind) (text : List ℕ) → IsNoFirst kind text → StopsA
 first_stops kind text first = record { by_kind = first.by_kind; some = λ e. refl; none = first.none }
 
 -- nothing was done
-pub ran_nothing : (now : Counts) (bytes : ℕ → Option (List ℕ)) → Ran now now bytes [] []
+pub ran_nothing : (now : Counts) (bytes : ℕ → Option (List ℕ)) → Ran now now bytes bytes [] []
 unfolding unmade
 ran_nothing now bytes = record {
   in_place = tt;
   budget = omega arith;
   final = unmade now;
   trace = record { is = refl; boundaries = refl; size = refl; rows = refl };
-  holds = λ told. (record { size = refl; blank = λ b h e. absurd (omega arith); held = λ b h. absurd (omega arith) }, tt);
+  holds = λ told. record {
+    blocks = record { size = refl; blank = λ b h e. absurd (omega arith); held = λ b h. absurd (omega arith) };
+    label = tt;
+    sizes = λ whole. tt;
+    fresh = λ q below. absurd (omega arith);
+  };
+  others = record { held = λ q past. same_told (bytes q); faults = λ q past. refl };
   counts = refl;
 }
 
 -- the first line is refused, or there is none
-pub stopped_first : (now : Counts) (bytes : ℕ → Option (List ℕ)) (kind : Kind) (x z t v : Option (List ℕ)) → Told (λ before after. IsNoFirst kind before) x z → Told (Took (refusal 1 kind)) t v → Stopped now now bytes x z t v
+pub stopped_first : (now : Counts) (bytes : ℕ → Option (List ℕ)) (kind : Kind) (x z t v : Option (List ℕ)) → Told (λ before after. IsNoFirst kind before) x z → Told (Took (refusal 1 kind)) t v → Stopped now now bytes bytes x z t v
 stopped_first now bytes kind x z t v refused output = record {
   events = [];
   replies = [];
@@ -209,7 +229,7 @@ stopped_first now bytes kind x z t v refused output = record {
 }
 
 -- the same, but its refusal was written in part
-pub cut_first : (now : Counts) (bytes : ℕ → Option (List ℕ)) (kind : Kind) (x z t v : Option (List ℕ)) → Told (λ before after. IsNoFirst kind before) x z → Told (TookPart (refusal 1 kind)) t v → CutRefusal now now bytes x z t v
+pub cut_first : (now : Counts) (bytes : ℕ → Option (List ℕ)) (kind : Kind) (x z t v : Option (List ℕ)) → Told (λ before after. IsNoFirst kind before) x z → Told (TookPart (refusal 1 kind)) t v → CutRefusal now now bytes bytes x z t v
 cut_first now bytes kind x z t v refused output = record {
   events = [];
   replies = [];
@@ -250,11 +270,11 @@ rest_ended P unread x None told = tt
 rest_ended P unread None (Some b) told = absurd told
 rest_ended P unread (Some a) (Some b) told = (told.0, none_left unread b told.1)
 
-module _ (before now : Counts) (bytes : ℕ → Option (List ℕ)) (unread kept : List ℕ) (fresh : unread ≡ []) (left rest taken given : Option (List ℕ)) where
+module _ (before now : Counts) (images bytes : ℕ → Option (List ℕ)) (unread kept : List ℕ) (fresh : unread ≡ []) (left rest taken given : Option (List ℕ)) where
   pub replay_done : (shape : Shape) (y : Option (List ℕ)) → IsShape shape → Told (Begins None (MakeArray shape)) (option_map (λ more. unread ++ more) left) y
-      → ArrayReplayed before now bytes shape y (option_map (λ more. kept ++ more) rest) taken given → Replayed before now bytes left rest taken given
+      → ArrayReplayed before now images bytes shape y (option_map (λ more. kept ++ more) rest) taken given → Replayed before now images bytes left rest taken given
   replay_done shape y well line all =
-      let whole = replayed before now bytes shape well left y (option_map (λ more. kept ++ more) rest) taken given (fresh_told _ unread left y fresh line) all in
+      let whole = replayed before now images bytes shape well left y (option_map (λ more. kept ++ more) rest) taken given (fresh_told _ unread left y fresh line) all in
       record {
         events = whole.events;
         replies = whole.replies;
@@ -265,9 +285,9 @@ module _ (before now : Counts) (bytes : ℕ → Option (List ℕ)) (unread kept 
       }
 
   pub replay_stopped : (shape : Shape) (y : Option (List ℕ)) → IsShape shape → Told (Begins None (MakeArray shape)) (option_map (λ more. unread ++ more) left) y
-      → ArrayStopped before now bytes shape y (option_map (λ more. kept ++ more) rest) taken given → Stopped before now bytes left rest taken given
+      → ArrayStopped before now images bytes shape y (option_map (λ more. kept ++ more) rest) taken given → Stopped before now images bytes left rest taken given
   replay_stopped shape y well line all =
-      let whole = stopped before now bytes shape well left y (option_map (λ more. kept ++ more) rest) taken given (fresh_told _ unread left y fresh line) all in
+      let whole = stopped before now images bytes shape well left y (option_map (λ more. kept ++ more) rest) taken given (fresh_told _ unread left y fresh line) all in
       record {
         events = whole.events;
         replies = whole.replies;
@@ -283,16 +303,16 @@ module _ (before now : Counts) (bytes : ℕ → Option (List ℕ)) (unread kept 
   first_empty : Told (λ b a. (b ≡ []) × (a ≡ [])) (option_map (λ more. unread ++ more) left) (option_map (λ more. kept ++ more) rest) → Told (λ b a. IsNoFirst Cut b) left rest
   first_empty empty = rest_told (IsNoFirst Cut) kept left rest (fresh_told (λ b a. IsNoFirst Cut b) unread left _ fresh (none_at_all _ _ empty))
 
-  pub replay_refused : (kind : Kind) → Told (λ b a. IsRefused None (2 ^ 40) b kind) (option_map (λ more. unread ++ more) left) (option_map (λ more. kept ++ more) rest) → Told (Took (refusal 1 kind)) taken given → Stopped before before bytes left rest taken given
+  pub replay_refused : (kind : Kind) → Told (λ b a. IsRefused None (2 ^ 40) b kind) (option_map (λ more. unread ++ more) left) (option_map (λ more. kept ++ more) rest) → Told (Took (refusal 1 kind)) taken given → Stopped before before bytes bytes left rest taken given
   replay_refused kind refused output = stopped_first before bytes kind left rest taken given (first_refused kind refused) output
 
-  pub replay_empty : Told (λ b a. (b ≡ []) × (a ≡ [])) (option_map (λ more. unread ++ more) left) (option_map (λ more. kept ++ more) rest) → Told (Took (refusal 1 Cut)) taken given → Stopped before before bytes left rest taken given
+  pub replay_empty : Told (λ b a. (b ≡ []) × (a ≡ [])) (option_map (λ more. unread ++ more) left) (option_map (λ more. kept ++ more) rest) → Told (Took (refusal 1 Cut)) taken given → Stopped before before bytes bytes left rest taken given
   replay_empty empty output = stopped_first before bytes Cut left rest taken given (first_empty empty) output
 
-  pub refused_part : (kind : Kind) → Told (λ b a. IsRefused None (2 ^ 40) b kind) (option_map (λ more. unread ++ more) left) (option_map (λ more. kept ++ more) rest) → Told (TookPart (refusal 1 kind)) taken given → IsCut before before bytes left rest taken given
+  pub refused_part : (kind : Kind) → Told (λ b a. IsRefused None (2 ^ 40) b kind) (option_map (λ more. unread ++ more) left) (option_map (λ more. kept ++ more) rest) → Told (TookPart (refusal 1 kind)) taken given → IsCut before before bytes bytes left rest taken given
   refused_part kind refused output = inr (cut_first before bytes kind left rest taken given (first_refused kind refused) output)
 
-  pub empty_part : Told (λ b a. (b ≡ []) × (a ≡ [])) (option_map (λ more. unread ++ more) left) (option_map (λ more. kept ++ more) rest) → Told (TookPart (refusal 1 Cut)) taken given → IsCut before before bytes left rest taken given
+  pub empty_part : Told (λ b a. (b ≡ []) × (a ≡ [])) (option_map (λ more. unread ++ more) left) (option_map (λ more. kept ++ more) rest) → Told (TookPart (refusal 1 Cut)) taken given → IsCut before before bytes bytes left rest taken given
   empty_part empty output = inr (cut_first before bytes Cut left rest taken given (first_empty empty) output)
 
 pub IfOk-map : {T E : Type 0} (result : Result T E) (P Q : T → Type 0) → ((x : T) → P x → Q x) → IfOk result P → IfOk result Q

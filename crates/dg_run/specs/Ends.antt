@@ -35,10 +35,10 @@ EndsUsage facts status = ⊥
 
 -- a replay: all lines were done, or those before one that is refused, or before a fault
 abbrev pub EndsReplay : Facts → Status → Type 0
-EndsReplay facts Done = Replayed facts.before facts.now facts.bytes facts.left facts.rest facts.taken facts.given
-EndsReplay facts BadLine = Stopped facts.before facts.now facts.bytes facts.left facts.rest facts.taken facts.given
-EndsReplay facts ReadFault = BrokeOff facts.before facts.now facts.bytes facts.left facts.rest facts.taken facts.given
-EndsReplay facts WriteFault = IsCut facts.before facts.now facts.bytes facts.left facts.rest facts.taken facts.given
+EndsReplay facts Done = Replayed facts.before facts.now facts.images facts.bytes facts.left facts.rest facts.taken facts.given
+EndsReplay facts BadLine = Stopped facts.before facts.now facts.images facts.bytes facts.left facts.rest facts.taken facts.given
+EndsReplay facts ReadFault = BrokeOff facts.before facts.now facts.images facts.bytes facts.left facts.rest facts.taken facts.given
+EndsReplay facts WriteFault = IsCut facts.before facts.now facts.images facts.bytes facts.left facts.rest facts.taken facts.given
 EndsReplay facts NoMemory = RanOut facts.before facts.bytes facts.left facts.rest facts.taken facts.given
 EndsReplay facts status = ⊥
 

@@ -7,7 +7,7 @@ use Rattle.dg_model.specs.declared.events.Event.{Event}
 use Rattle.dg_model.specs.declared.events.Event.TheVariants.{Array, Tree}
 use Rattle.dg_model.specs.declared.replies.Reply.{Reply}
 use Rattle.dg_model.specs.declared.replies.Reply.TheVariants.{Nodes}
-use Rattle.dg_io.specs.Told.{Told, Took}
+use Rattle.dg_io.specs.Told.{IsSame, Told, Took}
 use Rattle.dg_text.specs.Lines.{line_of, input_of, IsInPlace, AreInPlace}
 use Rattle.dg_text.specs.Replies.{nodes_text, output_of, refusal, reply_line}
 use Rattle.dg_text.specs.declared.lines.BadLine.{BadLine}
@@ -25,23 +25,31 @@ shape_after (event ∷ events) = None
 abbrev pub TellsBoundaries : (ℕ → Option (List ℕ)) → State → Type 0
 TellsBoundaries bytes state = (q : ℕ) → q / 2 < state.table.shape.b → IsSome (bytes q)
 
+-- The members behind those of an array of this shape were left alone: each has the bytes that it had (`images`), where it tells them, and
+-- the count of faults that it had.
+pub record OthersKept (shape : Shape) (before now : Counts) (images bytes : ℕ → Option (List ℕ)) : Type 0 where
+  pub held : (q : ℕ) → shape.b ≤ q / 2 → Told IsSame (images q) (bytes q)
+  pub faults : (q : ℕ) → shape.b ≤ q / 2 → now.faults q ≡ before.faults q
+
 -- The events are in their places, and their lines keep to the budget of 2^40 bytes. They had these replies, in steps of the array
 -- from nothing to a final state, which has the counts of the rack. Where each member of the array tells its bytes at the end, the
--- steps are known in their bytes too, and the members hold the blocks of the final state, and the last label where they keep it.
-pub record Ran (before now : Counts) (bytes : ℕ → Option (List ℕ)) (events : List Event) (replies : List Reply) : Type 0 where
+-- steps are known in their bytes too, and the members hold the blocks of the final state, and the last label where they keep it. The members
+-- behind the array's own were left alone.
+pub record Ran (before now : Counts) (images bytes : ℕ → Option (List ℕ)) (events : List Event) (replies : List Reply) : Type 0 where
   pub in_place : AreInPlace events
   pub budget : length (input_of events) ≤ 2 ^ 40
   pub final : State
   pub trace : Trace (TellsBoundaries bytes final) before events replies final
   pub holds : TellsBoundaries bytes final → HoldsAll bytes final
+  pub others : OthersKept final.table.shape before now images bytes
   pub counts : final.counts ≡ now
 
 -- the input was read to its end, and is the lines of these events; the output is the text of their replies
-pub record Replayed (before now : Counts) (bytes : ℕ → Option (List ℕ)) (left rest taken given : Option (List ℕ)) : Type 0 where
+pub record Replayed (before now : Counts) (images bytes : ℕ → Option (List ℕ)) (left rest taken given : Option (List ℕ)) : Type 0 where
   pub events : List Event
   pub replies : List Reply
   pub some : events ≡ [] → ⊥
-  pub ran : Ran before now bytes events replies
+  pub ran : Ran before now images bytes events replies
   pub input : Told (λ b a. (b ≡ input_of events) × (a ≡ [])) left rest
   pub output : Told (Took (output_of replies)) taken given
 
@@ -65,45 +73,47 @@ IsNoInput text = (events : List Event) → IsInput events → text ≡ input_of 
 
 -- the input is the lines of these events and then a line that is refused; the output is the text of their replies and
 -- then the refusal with that line's number and kind
-pub record Stopped (before now : Counts) (bytes : ℕ → Option (List ℕ)) (left rest taken given : Option (List ℕ)) : Type 0 where
+pub record Stopped (before now : Counts) (images bytes : ℕ → Option (List ℕ)) (left rest taken given : Option (List ℕ)) : Type 0 where
   pub events : List Event
   pub replies : List Reply
   pub kind : BadLine
-  pub ran : Ran before now bytes events replies
+  pub ran : Ran before now images bytes events replies
   pub input : Told (λ b a. (text : List ℕ) × (b ≡ input_of events ++ text) × StopsAt events kind text × IsNoInput b) left rest
   pub output : Told (Took (output_of replies ++ refusal (length events + 1) kind)) taken given
 
 -- The source failed: the lines that it gave whole are those of these events, and the output is the text of their replies.
-pub record BrokeOff (before now : Counts) (bytes : ℕ → Option (List ℕ)) (left rest taken given : Option (List ℕ)) : Type 0 where
+pub record BrokeOff (before now : Counts) (images bytes : ℕ → Option (List ℕ)) (left rest taken given : Option (List ℕ)) : Type 0 where
   pub events : List Event
   pub replies : List Reply
-  pub ran : Ran before now bytes events replies
+  pub ran : Ran before now images bytes events replies
   pub input : Told (GaveLines (input_of events)) left rest
   pub output : Told (Took (output_of replies)) taken given
 
 -- The sink failed at a reply: the input begins with the lines of these events, all of which were done. The output is the text of
 -- the replies before, and a part of the last one.
-pub record CutReply (before now : Counts) (bytes : ℕ → Option (List ℕ)) (left rest taken given : Option (List ℕ)) : Type 0 where
+pub record CutReply (before now : Counts) (images bytes : ℕ → Option (List ℕ)) (left rest taken given : Option (List ℕ)) : Type 0 where
   pub events : List Event
   pub replies : List Reply
   pub last : Reply
-  pub ran : Ran before now bytes events (replies ++ last ∷ [])
+  pub ran : Ran before now images bytes events (replies ++ last ∷ [])
   pub input : Told (StartsWith (input_of events)) left rest
   pub output : Told (TookUpTo (output_of replies) (reply_line last)) taken given
 
 -- The sink failed at the refusal of a line: the input is the lines of these events and then a line that is refused. The output is the
 -- text of their replies, and a part of the refusal.
-pub record CutRefusal (before now : Counts) (bytes : ℕ → Option (List ℕ)) (left rest taken given : Option (List ℕ)) : Type 0 where
+pub record CutRefusal (before now : Counts) (images bytes : ℕ → Option (List ℕ)) (left rest taken given : Option (List ℕ)) : Type 0 where
   pub events : List Event
   pub replies : List Reply
   pub kind : BadLine
-  pub ran : Ran before now bytes events replies
+  pub ran : Ran before now images bytes events replies
   pub input : Told (λ b a. (text : List ℕ) × (b ≡ input_of events ++ text) × StopsAt events kind text) left rest
   pub output : Told (TookUpTo (output_of replies) (refusal (length events + 1) kind)) taken given
 
 -- the sink failed at a reply, or at the refusal of a line
-abbrev pub IsCut : Counts → Counts → (ℕ → Option (List ℕ)) → Option (List ℕ) → Option (List ℕ) → Option (List ℕ) → Option (List ℕ) → Type 0
-IsCut before now bytes left rest taken given = CutReply before now bytes left rest taken given ⊎ CutRefusal before now bytes left rest taken given
+abbrev pub IsCut : Counts → Counts → (ℕ → Option (List ℕ)) → (ℕ → Option (List ℕ)) → Option (List ℕ) → Option (List ℕ) → Option (List ℕ) → Option (List ℕ)
+    → Type 0
+IsCut before now images bytes left rest taken given =
+    CutReply before now images bytes left rest taken given ⊎ CutRefusal before now images bytes left rest taken given
 
 -- Memory was wanting before a reply, or behind one: the input begins with the lines of these events, and the output is the text of their
 -- replies. Nothing is said of what the rack holds, nor of the counts that it has.

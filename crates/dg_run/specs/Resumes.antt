@@ -14,7 +14,7 @@ use Rattle.dg_run.specs.Opened.{ReadsNothing, Reached, Resumed}
 use Rattle.dg_run.specs.declared.top.Status.{Status}
 use Rattle.dg_run.specs.declared.top.Status.TheVariants.{Done, BadLine, ReadFault, WriteFault, NoMemory, NoState, Unclean}
 use Rattle.dg_saved.specs.Ends.{CutUnopened, Printed}
-use Rattle.dg_saved.specs.Saved.{FoundNoState, FoundUnclean, HasSource, IsHeld}
+use Rattle.dg_saved.specs.Saved.{FoundNoState, FoundUnclean, HasSource, IsHeld, OthersKept}
 use Rattle.dg_saved.specs.Texts.{nostate_text, unclean_text}
 use Rattle.dg_text.specs.Lines.{IsInPlace, input_of}
 use Rattle.dg_text.specs.Replies.{nodes_text, output_of, refusal, reply_line}
@@ -26,12 +26,13 @@ pub record AreLines (shape : Shape) (events : List Event) : Type 0 where
   pub in_place : All (IsInPlace (Some shape)) events
   pub budget : length (input_of events) ≤ 2 ^ 40
 
--- A saved array was opened, and no count fell from then on. These events are in their places, and had these replies: whichever blocks the
--- members held, in steps from the opened state to one that the rack holds.
+-- A saved array was opened, and no count fell from then on; the members behind its own have the bytes that they had. These events are in
+-- their places, and had these replies: whichever blocks the members held, in steps from the opened state to one that the rack holds.
 pub record RanOn (facts : Facts) (events : List Event) (replies : List Reply) : Type 0 where
   pub opened : Counts
   pub source : HasSource (met_by facts) opened
   pub rise : CountsRise opened facts.now
+  pub others : OthersKept (met_by facts) source.saved.table
   pub lines : AreLines source.saved.table.shape events
   pub runs : (V : List (List ℕ)) → IsHeld (met_by facts) opened source V → Reached facts opened source V events replies
 

@@ -1,7 +1,7 @@
 -- An array beside the model's states.
-use Rattle.std.specs.Prelude.{◌≡◌, ◌⊎◌, ◌++◌, ℕ, List, Option, length}
+use Rattle.std.specs.Prelude.{◌≡◌, ◌⊎◌, ◌≤◌, ◌/◌, ◌++◌, ℕ, List, Option, length}
 use Rattle.dg_io.specs.declared.outside.Rack.{Ghosts}
-use Rattle.dg_io.specs.Told.{StillTold, Told, Took, TookPart}
+use Rattle.dg_io.specs.Told.{IsSame, StillTold, Told, Took, TookPart}
 use Rattle.dg_model.specs.Runs.{Run}
 use Rattle.dg_model.specs.States.{IsBlank, State}
 use Rattle.dg_model.specs.Steps.{Step}
@@ -105,11 +105,13 @@ WantedFor rack event taken given old now = (given ≡ taken) ⊎ (AnsweredBefore
 
 -- ---- a blank array
 
--- An array of this shape, over a rack that was so before: it is in the state of the blank array.
+-- An array of this shape, over a rack that was so before: it is in the state of the blank array, and the members behind its own have the
+-- bytes that they had.
 pub record IsBlankArray {R : Type 0} (rack : Ghosts R) (shape : Shape) (before : R) (array : Array R) : Type 0 where
   pub sound : IsSound rack array
   pub shape_is : shape_of array ≡ shape
   pub tells : StillTold (rack.bytes before) (rack.bytes (rack_of array))
+  pub others : (q : ℕ) → shape.b ≤ q / 2 → Told IsSame (rack.bytes before q) (rack.bytes (rack_of array) q)
   pub same_rack : rack.name (rack_of array) ≡ rack.name before
   pub state : State
   pub blank : IsBlank shape (rack.counts before) state

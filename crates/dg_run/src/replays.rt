@@ -128,17 +128,19 @@ fn replay_array<S: Source, K: Sink, R: Rack + Drop>(
     requires budget { first ≤ 2 ^ 40 }
     ensures name { IfOk result (λ end. R.name end.rack ≡ R.name rack) }
     ensures done { IfOk result (λ end. end.status ≡ Status.Done
-        → ArrayReplayed (R.counts rack) (R.counts end.rack) (R.bytes end.rack) shape (ahead input.old (S.left source.old)) (ahead input.new
-        (S.left source.new)) (K.taken sink.old) (K.taken sink.new)) }
+        → ArrayReplayed (R.counts rack) (R.counts end.rack) (R.bytes rack) (R.bytes end.rack) shape (ahead input.old (S.left source.old))
+        (ahead input.new (S.left source.new)) (K.taken sink.old) (K.taken sink.new)) }
     ensures bad_line { IfOk result (λ end. end.status ≡ Status.BadLine
-        → ArrayStopped (R.counts rack) (R.counts end.rack) (R.bytes end.rack) shape (ahead input.old (S.left source.old)) (ahead input.new
-        (S.left source.new)) (K.taken sink.old) (K.taken sink.new)) }
+        → ArrayStopped (R.counts rack) (R.counts end.rack) (R.bytes rack) (R.bytes end.rack) shape (ahead input.old (S.left source.old))
+        (ahead input.new (S.left source.new)) (K.taken sink.old) (K.taken sink.new)) }
     ensures broken { IfOk result (λ end. end.status ≡ Status.ReadFault → (text : Option (List ℕ))
         → Told (Begins None (Event.Array shape)) text (ahead input.old (S.left source.old))
-        → BrokeOff (R.counts rack) (R.counts end.rack) (R.bytes end.rack) text (S.left source.new) (K.taken sink.old) (K.taken sink.new)) }
+        → BrokeOff (R.counts rack) (R.counts end.rack) (R.bytes rack) (R.bytes end.rack) text (S.left source.new) (K.taken sink.old)
+        (K.taken sink.new)) }
     ensures part { IfOk result (λ end. end.status ≡ Status.WriteFault → (text : Option (List ℕ))
         → Told (Begins None (Event.Array shape)) text (ahead input.old (S.left source.old))
-        → IsCut (R.counts rack) (R.counts end.rack) (R.bytes end.rack) text (S.left source.new) (K.taken sink.old) (K.taken sink.new)) }
+        → IsCut (R.counts rack) (R.counts end.rack) (R.bytes rack) (R.bytes end.rack) text (S.left source.new) (K.taken sink.old)
+        (K.taken sink.new)) }
     ensures wanting { IfOk result (λ end. end.status ≡ Status.NoMemory → (text : Option (List ℕ))
         → Told (Begins None (Event.Array shape)) text (ahead input.old (S.left source.old))
         → RanOut (R.counts rack) (R.bytes end.rack) text (S.left source.new) (K.taken sink.old) (K.taken sink.new)) }
@@ -171,13 +173,17 @@ fn replay<S: Source, K: Sink, R: Rack + Drop>(
 ) -> Result<Ended<R>, NoMemory>
     ensures name { IfOk result (λ end. R.name end.rack ≡ R.name rack) }
     ensures done { IfOk result (λ end. end.status ≡ Status.Done
-        → Replayed (R.counts rack) (R.counts end.rack) (R.bytes end.rack) (S.left source.old) (S.left source.new) (K.taken sink.old) (K.taken sink.new)) }
+        → Replayed (R.counts rack) (R.counts end.rack) (R.bytes rack) (R.bytes end.rack) (S.left source.old) (S.left source.new) (K.taken sink.old)
+        (K.taken sink.new)) }
     ensures bad_line { IfOk result (λ end. end.status ≡ Status.BadLine
-        → Stopped (R.counts rack) (R.counts end.rack) (R.bytes end.rack) (S.left source.old) (S.left source.new) (K.taken sink.old) (K.taken sink.new)) }
+        → Stopped (R.counts rack) (R.counts end.rack) (R.bytes rack) (R.bytes end.rack) (S.left source.old) (S.left source.new) (K.taken sink.old)
+        (K.taken sink.new)) }
     ensures broken { IfOk result (λ end. end.status ≡ Status.ReadFault
-        → BrokeOff (R.counts rack) (R.counts end.rack) (R.bytes end.rack) (S.left source.old) (S.left source.new) (K.taken sink.old) (K.taken sink.new)) }
+        → BrokeOff (R.counts rack) (R.counts end.rack) (R.bytes rack) (R.bytes end.rack) (S.left source.old) (S.left source.new) (K.taken sink.old)
+        (K.taken sink.new)) }
     ensures part { IfOk result (λ end. end.status ≡ Status.WriteFault
-        → IsCut (R.counts rack) (R.counts end.rack) (R.bytes end.rack) (S.left source.old) (S.left source.new) (K.taken sink.old) (K.taken sink.new)) }
+        → IsCut (R.counts rack) (R.counts end.rack) (R.bytes rack) (R.bytes end.rack) (S.left source.old) (S.left source.new) (K.taken sink.old)
+        (K.taken sink.new)) }
     ensures wanting { IfOk result (λ end. end.status ≡ Status.NoMemory
         → RanOut (R.counts rack) (R.bytes end.rack) (S.left source.old) (S.left source.new) (K.taken sink.old) (K.taken sink.new)) }
     ensures none { OnErr result (Told AreAny (S.left source.old) (S.left source.new) × (K.taken sink.new ≡ K.taken sink.old)) }

@@ -108,11 +108,18 @@ fn reply_to<R: Rack>(
         Event::Home(path) => Ok(home_reply(array.volume.home(path.as_slice()))),
         Event::Save => Ok(save_reply(array.volume.save(alloc, &array.hot)?)),
         Event::Array(_)
+        | Event::Safe(_)
+        | Event::Parity(_, _)
         | Event::Read(_)
         | Event::Pending
         | Event::Cat(_)
         | Event::Ls(_)
-        | Event::Tree => unreachable!(),
+        | Event::Tree
+        | Event::Regroup
+        | Event::LostFiles
+        | Event::Audit
+        | Event::DropDisk(_, _)
+        | Event::MendDisk(_, _) => unreachable!(),
     }
 }
 

@@ -1,5 +1,6 @@
 // Runs over a rack, and the bytes of its members.
 ghost use Rattle.std.specs.Prelude.{◌≡◌, IfOk, length};
+ghost use Rattle.dg_io.specs.MadeLaws.{after_through};
 
 use crate::tests::{rack_of, source_of};
 use dg_io::{Failed, MemSink, Rack};
@@ -84,6 +85,14 @@ impl<R: Rack> Rack for Counted<R> {
 
     ghost steady = { λ r. R.steady r.rack };
 
+    ghost tells = { λ r. R.tells r.rack };
+
+    ghost keeps = { λ r. R.keeps r.rack };
+
+    ghost disks = { λ r. R.disks r.rack };
+
+    ghost made = { λ a calls b. R.made a.rack calls b.rack };
+
     fn blank(&mut self, member: u8, length: u64) -> Result<(), Failed> {
         self.calls = self.calls.saturating_add(1);
         self.rack.blank(member, length)
@@ -108,6 +117,17 @@ impl<R: Rack> Rack for Counted<R> {
         self.calls = self.calls.saturating_add(1);
         self.rack.extend(member, length)
     }
+
+    ghost made_none = { λ s. R.made_none s.rack };
+
+    ghost made_both = { λ a b c x y first second. R.made_both a.rack b.rack c.rack x y first second };
+
+    ghost after = { λ a b calls made. let h = R.after a.rack b.rack calls made in
+        after_through (λ s. s.rack) (λ s. R.name s.rack) R.name R.bytes R.counts R.stands R.steady R.tells R.keeps R.disks calls a b h.same_rack h };
+
+    ghost tells_told = { λ s q h. R.tells_told s.rack q h };
+
+    ghost told = { λ s q h stand. R.told s.rack q h stand };
 }
 
 // The calls that a replay makes where none fails, and the bytes that it prints.

@@ -2,7 +2,7 @@
 use Rattle.std.specs.Prelude.{◌≡◌, ◌⊎◌, ◌==◌, ◌/◌, ◌%◌, ℕ, List, Option, Some, None, if◌then◌else◌}
 use Rattle.std.specs.Option.{option_map}
 use Rattle.dg_model.specs.Saves.{IsLabel, Label as LabelValue, label_bytes}
-use Rattle.dg_model.specs.Openings.{HasLength}
+use Rattle.dg_model.specs.Saves.{HasLength}
 use Rattle.dg_model.specs.declared.shapes.Shape.{Shape}
 use Rattle.dg_save.specs.declared.labels.Label.{Label}
 

@@ -1,7 +1,6 @@
 ghost use Rattle.std.specs.Prelude.{◌≡◌, ◌+◌, ◌≤◌, ◌↔◌, ℕ, List, ◌++◌, length, MatchOption, IfSome, IsTrue};
-ghost use Rattle.dg_model.specs.Saves.{IsLabel, label_bytes, seal_byte};
+ghost use Rattle.dg_model.specs.Saves.{HasLength, IsLabel, label_bytes, seal_byte};
 ghost use Rattle.dg_model.specs.Blocks.{padded};
-ghost use Rattle.dg_model.specs.Openings.{HasLength};
 ghost use Rattle.dg_model.specs.Shapes.{IsShape};
 ghost use Rattle.dg_save.specs.Labels.{HasNoLabel, HasShape, IsFormat, IsOwn, SaysJust, SaysLabel, format_in, label_of};
 

@@ -9,12 +9,13 @@ use Rattle.dg_model.specs.declared.events.Event.{Event}
 use Rattle.dg_model.specs.declared.replies.Reply.{Reply}
 use Rattle.dg_saved.specs.Calls.{Facts}
 use Rattle.dg_saved.specs.Ends.{EndsEvent, EndsStatus, Printed, PrintedPart}
-use Rattle.dg_saved.specs.OpeningLaws.{at_first, facts, holds_all, is_opened, known, source}
-use Rattle.dg_saved.specs.Saved.{HasRun, HasShown, HasSource, IsHeld, RunsFrom}
+use Rattle.dg_saved.specs.OpeningLaws.{at_first, facts, is_opened, known, others, source}
+use Rattle.dg_saved.specs.Saved.{HasRun, HasShown, HasSource, IsHeld, OthersKept, RunsFrom}
 use Rattle.dg_saved.specs.Serves.{EndsServed, Steps}
 use Rattle.dg_saved.specs.Texts.{array_text, status_text}
 use Rattle.dg_saved.specs.declared.ends.SavedEnd.{SavedEnd}
 use Rattle.dg_saved.specs.declared.ends.SavedEnd.TheVariants.{Done, NoState, Refused, Unclean, WriteFault}
+use Rattle.dg_volume.specs.HeldLaws.{TellsTold, holds_all, own_still}
 use Rattle.dg_volume.specs.Opens.{HasOpened}
 use Rattle.dg_volume.specs.Volumes.{Leaves, any_phase, members_of, phase_of, rack_of, table_of}
 use Rattle.dg_volume.specs.declared.phases.AnyPhase.{AnyPhase}
@@ -23,7 +24,7 @@ use Rattle.dg_volume.specs.declared.volumes.Volume.{Volume}
 -- ---- one event
 
 module _ {R : Type 0} (rack : Ghosts R) (before : R) (volume new : Volume AnyPhase R) (hot : List ℕ) (taken given : Option (List ℕ))
-    (opened : HasOpened rack before volume hot) (leaves : Leaves any_phase any_phase rack volume new) where
+    (opened : HasOpened rack before volume hot) (leaves : Leaves any_phase any_phase rack volume new) (law : TellsTold rack) where
   -- what was met outside, and what it was opened from
   abbrev was : Facts
   was = facts rack before volume new hot taken given opened leaves
@@ -31,24 +32,27 @@ module _ {R : Type 0} (rack : Ghosts R) (before : R) (volume new : Volume AnyPha
   abbrev from : HasSource was (rack.counts (rack_of volume))
   from = source rack before volume new hot taken given opened leaves
 
+  abbrev kept : OthersKept was opened.saved.table
+  kept = others rack before volume new hot taken given opened leaves
+
   -- with the blocks that the members held
   runs_from : (event : Event) (reply : Reply) → Steps rack volume event reply new → (V : List (List ℕ)) → IsHeld was (rack.counts (rack_of volume)) from V
       → RunsFrom was (rack.counts (rack_of volume)) from event reply V
   runs_from event reply steps V held =
       let at = at_first rack before volume new hot taken given opened leaves V held in
       let one = steps at.state at.stands in
-      let all = known rack before volume new hot taken given opened leaves in
+      let all = known rack before volume new hot taken given opened leaves law in
       record {
         state = at.state;
-        is = is_opened rack before volume new hot taken given opened leaves V held;
+        is = is_opened rack before volume new hot taken given opened leaves V held law;
         next = one.0;
         step = step_less all at.state event reply one.0 one.2;
         counts = ap (λ (s : State). s.counts) one.1.is;
-        holds = λ told. holds_all rack before volume new hot taken given opened leaves one.0 one.1 (all told);
+        holds = λ told. holds_all rack new any_phase one.0 one.1 (all told);
       }
 
   has_run : (event : Event) (reply : Reply) → Steps rack volume event reply new → HasRun was event reply
-  has_run event reply steps = record { opened = rack.counts (rack_of volume); source = from; rise = leaves.rise; runs = runs_from event reply steps }
+  has_run event reply steps = record { opened = rack.counts (rack_of volume); source = from; rise = leaves.rise; others = kept; runs = runs_from event reply steps }
 
   -- the end of a command that is one event
   pub ends_event : (event : Event) (text : Reply → List ℕ) (gives : Reply → Bool) (end : SavedEnd) → EndsServed rack volume event text gives taken given new end
@@ -62,13 +66,15 @@ module _ {R : Type 0} (rack : Ghosts R) (before : R) (volume new : Volume AnyPha
 -- ---- the state of an array that was opened
 
 module _ {R : Type 0} (rack : Ghosts R) (before : R) (volume : Volume AnyPhase R) (hot : List ℕ) (taken given : Option (List ℕ))
-    (opened : HasOpened rack before volume hot) where
+    (opened : HasOpened rack before volume hot) (law : TellsTold rack) where
   pub stays : Leaves any_phase any_phase rack volume volume
   stays = record {
     well = opened.well;
     shape = refl;
     rise = record { faults = λ q. omega arith; calls = omega arith; writes = omega arith };
     tells = λ q told. told;
+    told_before = λ q told. told;
+    own = own_still rack volume;
     same_rack = refl;
   }
 
@@ -78,14 +84,15 @@ module _ {R : Type 0} (rack : Ghosts R) (before : R) (volume : Volume AnyPhase R
   has_shown text is = record {
     source = source rack before volume volume hot taken given opened stays;
     phase = phase_of any_phase volume;
+    others = others rack before volume volume hot taken given opened stays;
     text_is = is ∙ ap (λ (t : Table). array_text t (members_of volume) (phase_of any_phase volume)) opened.table;
     shows = λ V held.
         let at = at_first rack before volume volume hot taken given opened stays V held in
         record {
           state = at.state;
-          is = is_opened rack before volume volume hot taken given opened stays V held;
+          is = is_opened rack before volume volume hot taken given opened stays V held law;
           text_is = is ∙ sym (ap status_text at.stands.is);
-          holds = λ told. holds_all rack before volume volume hot taken given opened stays at.state at.stands (known rack before volume volume hot taken given opened stays told);
+          holds = λ told. holds_all rack volume any_phase at.state at.stands (known rack before volume volume hot taken given opened stays law told);
         };
   }
 

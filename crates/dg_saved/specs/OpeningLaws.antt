@@ -1,21 +1,22 @@
 -- Laws of an array that was opened, and of what was found where none was. They stand here since the crates above cite them.
-use Rattle.std.proofs.Common.{◌≡◌, ◌<◌, ◌/◌, ℕ, List, ap, refl, sym, subst, ◌∙◌}
+use Rattle.std.proofs.Common.{◌≡◌, ◌<◌, ◌≤◌, ◌/◌, ℕ, List, ap, refl, sym, subst, ◌∙◌}
 use Rattle.std.specs.Prelude.{Bool, true, false, Option, Some, None, IfSome, IsSome}
 use Rattle.std.proofs.lemmas.Bool.{false≢true}
+use Rattle.dg_io.specs.MadeLaws.{same_both}
 use Rattle.dg_io.specs.declared.outside.Rack.{Ghosts}
 use Rattle.dg_model.specs.Changes.{IsInOrder}
 use Rattle.dg_model.specs.Marks.{AreNext}
-use Rattle.dg_model.specs.Openings.{Found, IsReopened, Opens}
-use Rattle.dg_model.specs.Saves.{HasBody, SavedState, body_of}
-use Rattle.dg_model.specs.Seals.{HoldsLabel, LastLabel}
-use Rattle.dg_model.specs.States.{Counts, Holds, HoldsAll, StandsFor, State, is_broken}
+use Rattle.dg_model.specs.Openings.{Found, IsReopened, Opens, Reduced}
+use Rattle.dg_model.specs.Saves.{SavedState}
+use Rattle.dg_model.specs.States.{Counts, StandsFor, State, is_broken}
 use Rattle.dg_model.specs.Tables.{Table}
 use Rattle.dg_model.specs.declared.shapes.Shape.{Shape}
 use Rattle.dg_open.specs.Founds.{IsRead}
 use Rattle.dg_open.specs.Reopenings.{FindsNoState, FindsUnclean}
 use Rattle.dg_saved.specs.Calls.{Facts}
-use Rattle.dg_saved.specs.Saved.{FoundNoState, FoundUnclean, HasSource, IsHeld, IsOpenedAs, TellsArray, had}
-use Rattle.dg_volume.specs.Opens.{HadBody, HasOpened}
+use Rattle.dg_saved.specs.Saved.{FoundNoState, FoundUnclean, HasSource, IsHeld, IsOpenedAs, OthersKept, TellsArray, had}
+use Rattle.dg_volume.specs.HeldLaws.{TellsTold, tells_now}
+use Rattle.dg_volume.specs.Opens.{HasOpened}
 use Rattle.dg_volume.specs.Opens as openings
 use Rattle.dg_volume.specs.Volumes.{Leaves, StandsIn, Tells, any_phase, members_of, rack_of, shape_of}
 use Rattle.dg_volume.specs.declared.phases.AnyPhase.{AnyPhase}
@@ -55,17 +56,25 @@ module _ {K J : Type 0} (w : J → K) where
     copies = h.copies;
   }
 
-  opens_less : (taken : ℕ → Option Found) (before : Counts) (state : State) → Opens K taken before state → Opens J taken before state
-  opens_less taken before state h = record {
+  opens_less : (taken : ℕ → Option Found) (beside : Option Reduced) (before : Counts) (state : State) → Opens K taken beside before state
+      → Opens J taken beside before state
+  opens_less taken beside before state h = record {
     source = h.source;
     label = h.label;
     saved = h.saved;
     is_source = h.is_source;
+    reduced = h.reduced;
+    reduced_is = h.reduced_is;
+    fits = h.fits;
+    boundaries = h.boundaries;
+    live = h.live;
+    cut = h.cut;
     table = h.table;
     homes = h.homes;
     recent = h.recent;
     good = h.good;
     out = h.out;
+    fell = h.fell;
     pending = next_less (is_broken state) state.table.shape.l state.table.shape.n state.blocks h.saved.pending state.pending h.pending;
     phase = reopened_less h.saved state h.phase;
     label_is = h.label_is;
@@ -138,45 +147,43 @@ module _ {R : Type 0} (rack : Ghosts R) (before : R) (volume new : Volume AnyPha
     first = opened.first;
     first_are = opened.first_are;
     members = members_of volume;
+    fell = opened.fell;
     falls = opened.falls;
   }
 
-  known_volume : TellsArray (rack.bytes (rack_of new)) opened.saved.table → Tells rack volume
-  known_volume told q below = leaves.tells q (told q (subst (λ (t : Table). q / 2 < t.shape.b) opened.table below))
+  -- the members behind the array's own were left alone
+  pub others : OthersKept facts opened.saved.table
+  others q past =
+      let behind : (shape_of volume).b ≤ q / 2 = subst (λ (t : Table). t.shape.b ≤ q / 2) (sym opened.table) past in
+      same_both (rack.bytes before q) (rack.bytes (rack_of volume) q) (rack.bytes (rack_of new) q) (opened.others q behind) (leaves.own.other_bytes q behind)
 
-  pub known : TellsArray (rack.bytes (rack_of new)) opened.saved.table → Tells rack new
-  known told q below = told q (subst (λ (t : Table). q / 2 < t.shape.b) opened.table (subst (λ (s : Shape). q / 2 < s.b) leaves.shape below))
+  -- where each member of its source's array tells its bytes in the end, so it did each time
+  pub known : TellsTold rack → TellsArray (rack.bytes (rack_of new)) opened.saved.table → Tells rack new
+  known law told =
+      tells_now rack new law
+      (λ q below. told q (subst (λ (t : Table). q / 2 < t.shape.b) opened.table (subst (λ (s : Shape). q / 2 < s.b) leaves.shape below)))
 
-  body_had : (V : List (List ℕ)) → IsHeld facts (rack.counts (rack_of volume)) source V → HadBody rack before volume (body_of opened.label.format opened.saved)
-  body_had V held q good =
-      subst (λ (t : Table). IfSome (rack.bytes before q) (λ all. HasBody all t.shape (body_of opened.label.format opened.saved))) (sym opened.table) (held.body q good)
-
-  -- the members hold a state in which the volume is in the end
-  pub holds_all : (state : State) → StandsIn any_phase rack new state → Tells rack new → HoldsAll (rack.bytes (rack_of new)) state
-  holds_all state stands told =
-      let shape : shape_of new ≡ state.table.shape = sym (ap (λ (s : State). s.table.shape) stands.is) in (
-        subst (λ (s : State). Holds (rack.bytes (rack_of new)) s) (sym stands.is) (stands.holds told).array,
-        subst (λ (s : Shape). IfSome state.label (λ (last : LastLabel). HoldsLabel s last (rack.bytes (rack_of new)))) shape stands.label.holds,
-      )
+  known_volume : TellsTold rack → TellsArray (rack.bytes (rack_of new)) opened.saved.table → Tells rack volume
+  known_volume law told q below = leaves.told_before q (known law told q (subst (λ (s : Shape). q / 2 < s.b) (sym leaves.shape) below))
 
   -- the state in which it was opened, with these blocks
   pub record AtFirst (V : List (List ℕ)) : Type 0 where
     pub state : State
     pub blocks : state.blocks ≡ V
-    pub opens : Opens (Tells rack volume) opened.taken (rack.counts before) state
+    pub opens : Opens (Tells rack volume) opened.taken None (rack.counts before) state
     pub stands : StandsIn any_phase rack volume state
     pub recent : state.recent ≡ hot
 
   module _ (V : List (List ℕ)) (held : IsHeld facts (rack.counts (rack_of volume)) source V) where
     pub at_first : AtFirst V
     at_first =
-        let at = opened.states_are V (λ told. subst (λ (t : Table). StandsFor t opened.first (rack.bytes before) V) (sym opened.table) held.blocks) (body_had V held) in
+        let at = opened.states_are V (λ told. subst (λ (t : Table). StandsFor t opened.first (rack.bytes before) V) (sym opened.table) held) in
         record { state = at.0; blocks = at.1; opens = at.2; stands = at.3; recent = at.4 }
 
-    pub is_opened : IsOpenedAs facts (rack.counts (rack_of volume)) source V at_first.state
-    is_opened = record {
+    pub is_opened : TellsTold rack → IsOpenedAs facts (rack.counts (rack_of volume)) source V at_first.state
+    is_opened law = record {
       blocks = at_first.blocks;
-      opens = opens_less known_volume opened.taken (rack.counts before) at_first.state at_first.opens;
+      opens = opens_less (known_volume law) opened.taken None (rack.counts before) at_first.state at_first.opens;
       table = ap (λ (s : State). s.table) at_first.stands.is ∙ opened.table;
       members = ap (λ (s : State). s.members) at_first.stands.is;
       counts = ap (λ (s : State). s.counts) at_first.stands.is;

@@ -1,9 +1,9 @@
 -- What a command on a saved array found, and what it did, told by the members and the counts of the rack.
-use Rattle.std.specs.Prelude.{◌≡◌, ◌⊎◌, ◌<◌, ◌/◌, ℕ, true, List, Option, Some, None, IfSome, IsSome}
+use Rattle.std.specs.Prelude.{◌≡◌, ◌⊎◌, ◌<◌, ◌≤◌, ◌/◌, ℕ, List, Option, Some, None, IfSome, IsSome}
 use Rattle.dg_io.specs.Told.{IsSame, Told}
-use Rattle.dg_model.specs.Members.{MembersFall, is_good}
+use Rattle.dg_model.specs.Members.{MembersFall}
 use Rattle.dg_model.specs.Openings.{Found, HasNoState, IsSource, IsUnclean, MayBeGood, Opens}
-use Rattle.dg_model.specs.Saves.{HasBody, Label, SavedState, body_of}
+use Rattle.dg_model.specs.Saves.{Label, SavedState}
 use Rattle.dg_model.specs.States.{Counts, CountsRise, HoldsAll, StandsFor, State}
 use Rattle.dg_model.specs.Steps.{Step}
 use Rattle.dg_model.specs.Tables.{Table}
@@ -48,9 +48,13 @@ had before (Some now) = before
 abbrev pub TellsArray : (ℕ → Option (List ℕ)) → Table → Type 0
 TellsArray bytes table = (q : ℕ) → q / 2 < table.shape.b → IsSome (bytes q)
 
+-- each member behind those of an array with these sites has the bytes that it had, where it tells them
+abbrev pub OthersKept : Facts → Table → Type 0
+OthersKept facts table = (q : ℕ) → table.shape.b ≤ q / 2 → Told IsSame (facts.images q) (facts.bytes q)
+
 -- What an array was opened from, when the rack had these counts, of which none fell: what was taken of the members, as they stood before; the
 -- first of the newest that says a state; and what each member did before blocks were read, and when it had been opened. It was good at first only
--- where it may be. Nothing was written.
+-- where it may be, and one whose count of faults rose was out. Nothing was written.
 pub record HasSource (facts : Facts) (opened : Counts) : Type 0 where
   pub taken : ℕ → Option Found
   pub read : AreRead (λ q. had (facts.images q) (facts.bytes q)) facts.before.faults opened.faults taken
@@ -63,18 +67,17 @@ pub record HasSource (facts : Facts) (opened : Counts) : Type 0 where
   pub first : ℕ → MemberState
   pub first_are : (q : ℕ) → ((first q ≡ Good) × MayBeGood taken label saved q) ⊎ (first q ≡ Out)
   pub members : ℕ → MemberState
+  pub fell : (q : ℕ) → facts.before.faults q < opened.faults q → members q ≡ Out
   pub falls : MembersFall facts.before.faults opened.faults first members
 
--- The members held these blocks before; and on each one that was good when the array had been opened stood the body of the source.
-pub record IsHeld (facts : Facts) (opened : Counts) (source : HasSource facts opened) (V : List (List ℕ)) : Type 0 where
-  pub blocks : StandsFor source.saved.table source.first facts.images V
-  pub body : (q : ℕ) → is_good (source.members q) ≡ true
-      → IfSome (facts.images q) (λ all. HasBody all source.saved.table.shape (body_of source.label.format source.saved))
+-- The members held these blocks before.
+abbrev pub IsHeld : (facts : Facts) (opened : Counts) → HasSource facts opened → List (List ℕ) → Type 0
+IsHeld facts opened source V = StandsFor source.saved.table source.first facts.images V
 
 -- The array was opened in this state, with these blocks and the sites of its source.
 pub record IsOpenedAs (facts : Facts) (opened : Counts) (source : HasSource facts opened) (V : List (List ℕ)) (state : State) : Type 0 where
   pub blocks : state.blocks ≡ V
-  pub opens : Opens (TellsArray facts.bytes source.saved.table) source.taken facts.before state
+  pub opens : Opens (TellsArray facts.bytes source.saved.table) source.taken None facts.before state
   pub table : state.table ≡ source.saved.table
   pub members : state.members ≡ source.members
   pub counts : state.counts ≡ opened
@@ -89,11 +92,13 @@ pub record RunsFrom (facts : Facts) (opened : Counts) (source : HasSource facts 
   pub counts : next.counts ≡ facts.now
   pub holds : TellsArray facts.bytes source.saved.table → HoldsAll facts.bytes next
 
--- A saved array was opened, and the event was answered by this reply, whichever blocks the members held. No count fell from then on.
+-- A saved array was opened, and the event was answered by this reply, whichever blocks the members held. No count fell from then on, and the
+-- members behind the array's own have the bytes that they had.
 pub record HasRun (facts : Facts) (event : Event) (reply : Reply) : Type 0 where
   pub opened : Counts
   pub source : HasSource facts opened
   pub rise : CountsRise opened facts.now
+  pub others : OthersKept facts source.saved.table
   pub runs : (V : List (List ℕ)) → IsHeld facts opened source V → RunsFrom facts opened source event reply V
 
 -- With these blocks, the array was opened in a state of which this text tells, and the members hold it where they tell their bytes in the end.
@@ -104,9 +109,10 @@ pub record ShowsFrom (facts : Facts) (source : HasSource facts facts.now) (text 
   pub holds : TellsArray facts.bytes source.saved.table → HoldsAll facts.bytes state
 
 -- A saved array was opened, and this text tells of its state, whichever blocks the members held. It has the sites that its source says, and
--- its members.
+-- its members; those behind them have the bytes that they had.
 pub record HasShown (facts : Facts) (text : List ℕ) : Type 0 where
   pub source : HasSource facts facts.now
   pub phase : Phase
+  pub others : OthersKept facts source.saved.table
   pub text_is : text ≡ array_text source.saved.table source.members phase
   pub shows : (V : List (List ℕ)) → IsHeld facts facts.now source V → ShowsFrom facts source text V

@@ -1,5 +1,5 @@
 -- Boundary s of a row was called, and x became y: what its clauses say of the row.
-use Rattle.std.proofs.Common.{◌≡◌, ◌≢◌, inl, inr, ℕ, ◌+◌, ◌*◌, ◌/◌, ◌≤◌, ◌<◌, List, length, sym, ◌∙◌, ap, subst, arith}
+use Rattle.std.proofs.Common.{◌≡◌, ◌≢◌, inl, inr, ℕ, ◌+◌, ◌*◌, ◌/◌, ◌≤◌, ◌<◌, Bool, true, List, length, sym, ◌∙◌, ap, subst, arith}
 use Rattle.std.specs.Prelude.{Option, Some, None, IfSome, slice_get, slice_set}
 use Rattle.std.proofs.lemmas.Bool.{cases_eq}
 use Rattle.std.proofs.lemmas.List.{length-set}
@@ -8,14 +8,20 @@ use Rattle.dg_model.specs.Saves.{member_length}
 use Rattle.dg_model.specs.declared.members.MemberState.{MemberState}
 use Rattle.dg_model.specs.declared.members.MemberState.TheVariants.{Good, Out}
 use Rattle.dg_model.specs.declared.shapes.Shape.{Shape}
+use Rattle.dg_io.specs.Makes.{Makes}
+use Rattle.dg_io.specs.MakesLaws.{makes_only}
+use Rattle.dg_io.specs.OnlyLaws.{only_faults, only_such, only_told}
+use Rattle.dg_io.specs.RackCalls.{IsNotOn, RackCall, blanks, calls, looks}
+use Rattle.dg_io.specs.RackWords.{After, MadeOnly}
 use Rattle.dg_io.specs.Told.{Told, IsSame, Torn}
 use Rattle.dg_io.specs.declared.outside.Rack.{Ghosts}
 use Rattle.dg_pair.specs.declared.boundaries.Boundary.{Boundary}
 use Rattle.dg_pair.specs.Boundaries.{MembersFit, MembersStand, members_of, number_of, size_of, slots_of}
-use Rattle.dg_pair.specs.Calls.{KeepsBeside, KeepsPair, LeavesPair}
+use Rattle.dg_pair.specs.Calls.{IsCallAt, IsCallOf, KeepsBeside, KeepsPair, LeavesBoundary, LeavesPair}
+use Rattle.dg_store.specs.Leaves.{CallsBelow, IsCallBelow, OutAreIdle, RackStays}
 use Rattle.dg_store.specs.Rows.{AreLong, IsRow, RowStands, members_in}
 use Rattle.dg_store.specs.Slots.{KeepsOtherSlots, KeepsSlots, RowKeeps}
-use Rattle.dg_store.proofs.Changed.{OtherPairsSame, falls_changed, lost_is, holds_part, holds_whole, kept_changed}
+use Rattle.dg_store.proofs.Changed.{OtherPairsSame, falls_changed, fell_changed, lost_is, holds_part, holds_whole, kept_changed}
 use Rattle.dg_store.proofs.Rows.{set_changed, set_stands}
 
 -- ---- how long members are
@@ -51,7 +57,7 @@ module _ (l slots s : ℕ) (row : List Boundary) (x y : Boundary) (within : s < 
       ] in
       subst (λ (n : ℕ). HasRoom (size_of x) n (bytes q)) (count ∙ sym st.slots_is) (subst (λ (k : ℕ). HasRoom k (shape.k + 1) (bytes q)) (size ∙ sym st.size_is) wide)
 
-  pub part_stand : (here : ℕ → Type 0) → MembersStand (members_in row) here → MembersStand (members_of x) here
+  pub part_stand : (here : ℕ → Bool) → MembersStand (members_in row) here → MembersStand (members_of x) here
   part_stand here stand q serving = elim (cases_eq (q / 2) s) [
     | inl at ↦ stand q (λ out. serving (sym ((set_changed row s x x within was).was q at) ∙ out))
     | inr off ↦ absurd (serving ((stands s x was).own q off))
@@ -128,12 +134,63 @@ module _ (l slots s : ℕ) (row : List Boundary) (x y : Boundary) (within : s < 
         → KeepsOtherSlots l s at (members_in row) before (members_in (slice_set row s y)) now
     row_kept_others at kept t slot v other had = kept_at t slot v (λ here part. kept slot v (other here) part) had
 
+-- ---- the calls
+
+-- a call on a member of the boundary is one on a member of the row
+called_in : {s : ℕ} {x row : ℕ → MemberState} → ((q : ℕ) → q / 2 ≢ s → x q ≡ Out) → ((q : ℕ) → q / 2 ≡ s → row q ≡ x q) → (call : RackCall) → IsCallOf x call → IsCallOf row call
+called_in own was (looks q) is = is
+called_in own was (blanks q) is = is
+called_in {s = s} own was (calls q) is = elim (cases_eq (q / 2) s) [
+  | inl at ↦ λ out. is (sym (was q at) ∙ out)
+  | inr off ↦ absurd (is (own q off))
+]
+
+pub called_of : {R : Type 0} (rack : Ghosts R) {s : ℕ} {x row : ℕ → MemberState} {old new : R} → ((q : ℕ) → q / 2 ≢ s → x q ≡ Out) → ((q : ℕ) → q / 2 ≡ s → row q ≡ x q)
+    → MadeOnly rack (IsCallOf x) old new → Makes rack (IsCallOf row) old new
+called_of rack {x = x} {row = row} {old = old} {new = new} own was only = makes_only rack (IsCallOf row) old new (only_such rack (IsCallOf x) (IsCallOf row) old new (called_in own was) only)
+
+-- a member of the row that was out wasn't called
+not_called : (row : ℕ → MemberState) (q : ℕ) → row q ≡ Out → (call : RackCall) → IsCallOf row call → IsNotOn q call
+not_called row q out (looks p) is = absurd is
+not_called row q out (blanks p) is = absurd is
+not_called row q out (calls p) is = λ at. is (ap row at ∙ out)
+
+pub idle_of : {R : Type 0} (rack : Ghosts R) → ((a b : R) (calls : List RackCall) → rack.made a calls b → After rack calls a b) → {s : ℕ} {x row : ℕ → MemberState} {old new : R}
+    → ((q : ℕ) → q / 2 ≢ s → x q ≡ Out) → ((q : ℕ) → q / 2 ≡ s → row q ≡ x q) → MadeOnly rack (IsCallOf x) old new → OutAreIdle (rack.counts old).faults (rack.counts new).faults row
+idle_of rack after {x = x} {row = row} {old = old} {new = new} own was only q out =
+    only_faults rack after (IsCallOf row) old new (only_such rack (IsCallOf x) (IsCallOf row) old new (called_in own was) only) q (not_called row q out)
+
+-- what a call on a boundary leaves of the rack
+pub stays_of : {R : Type 0} (rack : Ghosts R) → ((a b : R) (calls : List RackCall) → rack.made a calls b → After rack calls a b) → {number l slots : ℕ} {expected : ℕ → MemberState} {y : Boundary} {old new : R}
+    → LeavesBoundary rack number l slots expected y old new → RackStays rack old new
+stays_of rack after {number = number} {old = old} {new = new} leaves = record {
+  rise = leaves.rise;
+  tells = leaves.tells;
+  same_rack = leaves.same_rack;
+  steady_on = leaves.steady_on;
+  told_before = only_told rack after (IsCallAt number) old new leaves.made;
+}
+
+call_below : {s b : ℕ} → s < b → (call : RackCall) → IsCallAt s call → IsCallBelow b call
+call_below low (looks q) is = is
+call_below low (blanks q) is = omega (arith, low, is)
+call_below low (calls q) is = omega (arith, low, is)
+
+pub own_of : {R : Type 0} (rack : Ghosts R) {number s b l slots : ℕ} {expected : ℕ → MemberState} {y : Boundary} {old new : R} → number ≡ s → s < b → LeavesBoundary rack number l slots expected y old new → CallsBelow rack b old new
+own_of rack {number = number} {s = s} {b = b} {old = old} {new = new} at low leaves =
+    let inside : number < b = omega (arith, at, low) in
+    record {
+      made = makes_only rack (IsCallBelow b) old new (only_such rack (IsCallAt number) (IsCallBelow b) old new (call_below inside) leaves.made);
+      other_bytes = λ q past. leaves.other_bytes q (λ here. omega (arith, past, inside, here));
+      other_faults = λ q past. leaves.other_faults q (λ here. omega (arith, past, inside, here));
+    }
+
 -- ---- the whole row
 
 module _ {R : Type 0} (rack : Ghosts R) (shape : Shape) (s : ℕ) (row : List Boundary) (x y : Boundary) (old new : R) (within : s < length row) (was : slice_get row s ≡ Some x) (is : IsRow rack shape row old) where
   -- the row after a call that made the members of boundary s what they are
   pub row_is : KeepsPair x y → MembersStand (members_of y) (rack.stands new)
-      → ((q : ℕ) → q / 2 ≢ number_of x → rack.stands old q → rack.stands new q)
+      → ((q : ℕ) → q / 2 ≢ number_of x → rack.stands old q ≡ true → rack.stands new q ≡ true)
       → ((q : ℕ) → q / 2 ≢ number_of x → Told IsSame (rack.bytes old q) (rack.bytes new q))
       → ((q : ℕ) → q / 2 ≡ s → members_of y q ≢ Out → IfSome (rack.bytes new q) (λ all. member_length 1 shape ≤ length all))
       → IsRow rack shape (slice_set row s y) new
@@ -154,16 +211,20 @@ module _ {R : Type 0} (rack : Ghosts R) (shape : Shape) (s : ℕ) (row : List Bo
       }
 
   -- after a call on slots
-  pub row_keeps : LeavesPair rack (members_of x) x y old new → KeepsBeside (size_of x) (slots_of x) (rack.bytes old) (rack.bytes new)
-      → RowKeeps rack shape row old (slice_set row s y) new
-  row_keeps leaves beside =
+  pub row_keeps : ((a b : R) (calls : List RackCall) → rack.made a calls b → After rack calls a b) → LeavesPair rack (members_of x) x y old new → MadeOnly rack (IsCallOf (members_of x)) old new
+      → KeepsBeside (size_of x) (slots_of x) (rack.bytes old) (rack.bytes new) → RowKeeps rack shape row old (slice_set row s y) new
+  row_keeps after leaves only beside =
       let st = is.stands s x was in
       let changed = set_changed row s x y within was in
       record {
         row = row_is leaves.pair leaves.stand leaves.others_stand leaves.other_bytes
             (λ q at serving. still_long shape 512 (slots_of x * size_of x) (rack.bytes old q) (rack.bytes new q) (beside q)
             (is.long q (λ out. was_in _ _ _ _ leaves.falls q serving (sym (changed.was q at) ∙ out))));
-        stays = record { rise = leaves.rise; tells = leaves.tells; same_rack = leaves.same_rack; steady_on = leaves.steady_on };
+        stays = stays_of rack after leaves;
+        own = own_of rack st.number_is (omega (arith, within, is.count)) leaves;
+        called = called_of rack st.own changed.was only;
+        idle = idle_of rack after st.own changed.was only;
+        fell = fell_changed s (members_of x) (members_of y) (members_in row) (members_in (slice_set row s y)) changed _ _ (λ q off. leaves.other_faults q (λ at. off (at ∙ st.number_is))) leaves.fell;
         falls = row_falls shape.l (shape.k + 1) s row x y within was is.stands _ _ leaves.falls;
         beside = subst (λ (n : ℕ). KeepsBeside shape.l n (rack.bytes old) (rack.bytes new)) st.slots_is (subst (λ (l : ℕ). KeepsBeside l (slots_of x) (rack.bytes old) (rack.bytes new)) st.size_is beside);
       }

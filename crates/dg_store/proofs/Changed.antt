@@ -1,5 +1,5 @@
 -- One boundary of a row was called: what holds of its members holds of the row's.
-use Rattle.std.proofs.Common.{◌≡◌, ◌≢◌, inl, inr, ℕ, ◌+◌, ◌*◌, ◌/◌, ◌≤◌, List, length, sym, ◌∙◌, ap, arith}
+use Rattle.std.proofs.Common.{◌≡◌, ◌≢◌, inl, inr, ℕ, ◌+◌, ◌*◌, ◌/◌, ◌≤◌, Bool, true, List, length, sym, ◌∙◌, ap, arith}
 use Rattle.std.specs.Prelude.{IfSome, Option, Some, None, ◌&&◌, not}
 use Rattle.std.proofs.lemmas.Bool.{cases_eq, cases_lt}
 use Rattle.dg_model.specs.Members.{is_good, is_filling, serves, is_lost, partner_of, SlotOf, SlotHolds, MembersFall, slot_of}
@@ -13,6 +13,7 @@ use Rattle.dg_store.specs.Rows.{AreLong}
 use Rattle.std.proofs.lemmas.List.{length-replicate}
 use Rattle.dg_store.specs.Answers.{IsZeroed}
 use Rattle.dg_store.specs.Answers.{AreBlank, AreZeroed}
+use Rattle.dg_store.specs.Leaves.{FailedAreOut}
 
 -- the members of boundary s were x's and are y's, and each other is as it was
 pub record IsChanged (s : ℕ) (x y old new : ℕ → MemberState) : Type 0 where
@@ -62,7 +63,7 @@ module _ (s : ℕ) (x y old new : ℕ → MemberState) (changed : IsChanged s x 
       let b = changed.here (2 * s + 1) high in
       ap (λ (m : MemberState). not (is_good m) && not (is_good (new (2 * s + 1)))) a ∙ ap (λ (m : MemberState). not (is_good (y (2 * s))) && not (is_good m)) b
 
-  pub stand_changed : (before now : ℕ → Type 0) → ((q : ℕ) → q / 2 ≢ s → before q → now q) → MembersStand old before → MembersStand y now → MembersStand new now
+  pub stand_changed : (before now : ℕ → Bool) → ((q : ℕ) → q / 2 ≢ s → before q ≡ true → now q ≡ true) → MembersStand old before → MembersStand y now → MembersStand new now
   stand_changed before now others stand done q serving = elim (cases_eq (q / 2) s) [
     | inl at ↦ done q (λ out. serving (changed.here q at ∙ out))
     | inr off ↦ others q off (stand q (λ out. serving (changed.other q off ∙ out)))
@@ -83,6 +84,20 @@ module _ (s : ℕ) (x y old new : ℕ → MemberState) (changed : IsChanged s x 
       })
     ]
     | inr off ↦ inl (changed.other q off)
+  ]
+
+  -- a boundary was added: a member whose call failed is out, then and before
+  pub pushed_fell : (f g h : ℕ → ℕ) → FailedAreOut f g old → FailedAreOut g h y → ((q : ℕ) → s ≤ q / 2 → g q ≡ f q) → ((q : ℕ) → q / 2 ≢ s → h q ≡ g q) → FailedAreOut f h new
+  pushed_fell f g h first second early others q rose = elim (cases_eq (q / 2) s) [
+    | inl at ↦ changed.here q at ∙ second q (let same = early q (omega (arith, at)) in omega (arith, same, rose))
+    | inr off ↦ changed.other q off ∙ first q (let same = others q off in omega (arith, same, rose))
+  ]
+
+  -- a member whose call failed is out
+  pub fell_changed : (before now : ℕ → ℕ) → ((q : ℕ) → q / 2 ≢ s → now q ≡ before q) → FailedAreOut before now y → FailedAreOut before now new
+  fell_changed before now others fell q rose = elim (cases_eq (q / 2) s) [
+    | inl at ↦ changed.here q at ∙ fell q rose
+    | inr off ↦ absurd (let same = others q off in omega (arith, same, rose))
   ]
 
   -- what a slot of the row holds, the boundary's own slot holds

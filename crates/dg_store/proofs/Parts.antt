@@ -4,9 +4,7 @@ use Rattle.std.specs.Prelude.{Some, slice_get, slice_set}
 use Rattle.dg_io.specs.declared.outside.Rack.{Ghosts}
 use Rattle.dg_pair.specs.declared.boundaries.Boundary.{Boundary}
 use Rattle.dg_pair.specs.Boundaries.{MembersFit, MembersStand, members_of, size_of, slots_of}
-use Rattle.dg_pair.specs.Calls.{IsPair, LeavesBoundary}
-use Rattle.dg_model.specs.declared.members.MemberState.{MemberState}
-use Rattle.dg_store.specs.Leaves.{RackStays}
+use Rattle.dg_pair.specs.Calls.{IsPair}
 use Rattle.dg_store.specs.Rows.{members_in}
 use Rattle.dg_store.specs.Stores.{IsSound}
 use Rattle.dg_store.specs.declared.store.Store.{Store}
@@ -35,7 +33,3 @@ part_of {rack = rack} {store = store} {s = s} {x = x} sound low is =
       stand = part_stand _ _ s store.row.items x x within was sound.built.stands _ sound.stand;
       changed = λ y. set_changed store.row.items s x y within was;
     }
-
--- what a call on it leaves of the rack
-pub stays_of : {R : Type 0} {rack : Ghosts R} {number l slots : ℕ} {expected : ℕ → MemberState} {y : Boundary} {old new : R} → LeavesBoundary rack number l slots expected y old new → RackStays rack old new
-stays_of leaves = record { rise = leaves.rise; tells = leaves.tells; same_rack = leaves.same_rack; steady_on = leaves.steady_on }

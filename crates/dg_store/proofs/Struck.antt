@@ -9,7 +9,7 @@ use Rattle.dg_io.specs.declared.outside.Rack.{Ghosts}
 use Rattle.dg_model.specs.declared.shapes.Shape.{Shape}
 use Rattle.dg_pair.specs.declared.boundaries.Boundary.{Boundary}
 use Rattle.dg_pair.specs.Boundaries.{unfilled}
-use Rattle.dg_store.specs.Rows.{IsRow, RowStands, members_in}
+use Rattle.dg_store.specs.Rows.{AreLong, IsRow, RowStands, members_in}
 use Rattle.dg_store.specs.Slots.{KeepsSlots}
 use Rattle.dg_store.proofs.Changed.{IsChanged}
 
@@ -41,6 +41,13 @@ pub struck_keeps : (l q : ℕ) (old new : ℕ → MemberState) (bytes : ℕ → 
 struck_keeps l q old new bytes is s slot v had p at served = elim (stays_or_out q p old new is) [
   | inl same ↦ had p at (sym (ap (λ (m : MemberState). serves m slot) same) ∙ served)
   | inr out ↦ let no : serves (new p) slot ≡ false = ap (λ (m : MemberState). serves m slot) out in absurd (cc (no, served))
+]
+
+-- and each member that isn't out is long enough still
+pub struck_long : (shape : Shape) (old new : ℕ → MemberState) (bytes : ℕ → Option (List ℕ)) (q : ℕ) → AreLong shape old bytes → IsStruck q old new → AreLong shape new bytes
+struck_long shape old new bytes q long is p called = elim (stays_or_out q p old new is) [
+  | inl same ↦ long p (λ e. called (same ∙ e))
+  | inr out ↦ absurd (called out)
 ]
 
 -- the row is that of the array still

@@ -1,5 +1,7 @@
 -- What the answers of a store's calls mean.
-use Rattle.std.specs.Prelude.{◌≡◌, ◌≢◌, ◌⊎◌, ◌+◌, ◌*◌, ◌/◌, ◌≤◌, ◌<◌, ℕ, Bool, false, List, [], Option, IfSome, if◌then◌else◌, length, replicate, slice_set}
+use Rattle.std.specs.Prelude.{◌≡◌, ◌≢◌, ◌⊎◌, ◌+◌, ◌*◌, ◌/◌, ◌≤◌, ◌<◌, ◌++◌, ◌∷◌, ℕ, zero, suc, Bool, false, List, []}
+use Rattle.std.specs.Prelude.{Option, IfSome, if◌then◌else◌, length, replicate, slice_set}
+use Rattle.dg_io.specs.RackCalls.{RackCall, blanks}
 use Rattle.dg_io.specs.declared.outside.Rack.{Ghosts}
 use Rattle.dg_map.specs.Takes.{TakesLowest}
 use Rattle.dg_model.specs.Blocks.{zeros}
@@ -14,10 +16,15 @@ use Rattle.dg_model.specs.declared.members.MemberState.TheVariants.{Good, Out}
 use Rattle.dg_model.specs.declared.shapes.Shape.{Shape}
 use Rattle.dg_model.specs.declared.sites.Site.{Site}
 use Rattle.dg_store.specs.declared.store.Store.{Store}
-use Rattle.dg_store.specs.Leaves.{CallsAtMost, RackStays}
+use Rattle.dg_store.specs.Leaves.{CallsAtMost, CallsBelow, FailedAreOut, RackStays}
 use Rattle.dg_store.specs.Stores.{IsSound, KeepsBlocks, SetsBlock, StandsFor, members_of, rack_of, table_of}
 
 -- ---- a blank array
+
+-- the calls that make the members of the first b boundaries anew, in the order of their numbers
+abbrev pub blanks_of : ℕ → List RackCall
+blanks_of zero = []
+blanks_of (suc s) = blanks_of s ++ blanks (2 * s) ∷ blanks (2 * s + 1) ∷ []
 
 -- there are n boundaries, and each of their members is good, but for one that failed
 pub record AreBlank (n : ℕ) (before now : ℕ → ℕ) (members : ℕ → MemberState) : Type 0 where
@@ -38,6 +45,10 @@ pub record IsBlankStore {R : Type 0} (rack : Ghosts R) (shape : Shape) (before :
   pub table : table_of store ≡ empty_table shape
   pub members : AreBlank shape.b (rack.counts before).faults (rack.counts (rack_of store)).faults (members_of store)
   pub stays : RackStays rack before (rack_of store)
+  -- the members were made anew, in the order of their numbers; no other one was called, and one whose call failed is out
+  pub made : rack.made before (blanks_of shape.b) (rack_of store)
+  pub own : CallsBelow rack shape.b before (rack_of store)
+  pub fell : FailedAreOut (rack.counts before).faults (rack.counts (rack_of store)).faults (members_of store)
   pub blanked : AreZeroed (member_length 2 shape) (members_of store) (rack.bytes (rack_of store))
   pub stands : StandsFor rack store (replicate shape.n (zeros shape.l))
   pub most : (rack.counts (rack_of store)).calls ≤ (rack.counts before).calls + 2 * shape.b

@@ -1,5 +1,5 @@
 -- Sites that were given up to make room, and how they are taken back.
-use Rattle.std.specs.Prelude.{◌≡◌, ◌<◌, ◌≤◌, ◌++◌, ℕ, List, [], ◌∷◌, length}
+use Rattle.std.specs.Prelude.{◌≡◌, ◌<◌, ◌++◌, ℕ, List, [], ◌∷◌, length}
 use Rattle.dg_model.specs.Sites.{IsLeastSpread, has_site}
 use Rattle.dg_model.specs.Tables.{Table, put_site, sites_in, without_site}
 use Rattle.dg_model.specs.declared.sites.Site.{Site}

@@ -1,31 +1,74 @@
 -- What any call leaves of a store. A fact about all calls is one field here.
-use Rattle.std.specs.Prelude.{◌≡◌, ◌↔◌, ◌+◌, ◌-◌, ◌^◌, ◌≤◌, ℕ, List, min}
+use Rattle.std.specs.Prelude.{◌≡◌, ◌↔◌, ◌+◌, ◌-◌, ◌/◌, ◌^◌, ◌≤◌, ◌<◌, ℕ, List, min}
 use Rattle.dg_io.specs.Faults.{OnlyMember}
-use Rattle.dg_io.specs.Told.{OthersSame, StillTold, Told}
+use Rattle.dg_io.specs.Makes.{Makes}
+use Rattle.dg_io.specs.RackCalls.{RackCall, blanks, calls, looks}
+use Rattle.dg_io.specs.Told.{IsSame, OthersSame, StillTold, Told}
 use Rattle.dg_io.specs.declared.outside.Rack.{Ghosts}
 use Rattle.dg_model.specs.Causes.{NoneRose, Rose}
 use Rattle.dg_model.specs.Members.{MembersFall}
 use Rattle.dg_model.specs.States.{CountsRise}
-use Rattle.dg_pair.specs.Calls.{KeepsBeside}
+use Rattle.dg_model.specs.declared.members.MemberState.{MemberState}
+use Rattle.dg_model.specs.declared.members.MemberState.TheVariants.{Out}
+use Rattle.dg_pair.specs.Calls.{IsCallOf, KeepsBeside}
 use Rattle.dg_store.specs.declared.store.Store.{Store}
 use Rattle.dg_store.specs.Stores.{IsSound, members_of, rack_of, shape_of}
 
--- it is the same rack, no count fell, what is told was told before, and it is steady or not as it was
+-- it is the same rack, no count fell, what is told was told before, what tells its bytes did so before, and it is steady or not as it was
 pub record RackStays {R : Type 0} (rack : Ghosts R) (old new : R) : Type 0 where
   pub rise : CountsRise (rack.counts old) (rack.counts new)
   pub tells : StillTold (rack.bytes old) (rack.bytes new)
   pub same_rack : rack.name new ≡ rack.name old
   pub steady_on : rack.steady old ↔ rack.steady new
+  pub told_before : (q : ℕ) → rack.tells new q → rack.tells old q
+
+-- a call on a member of the first b boundaries, which doesn't look for it
+abbrev pub IsCallBelow : ℕ → RackCall → Type 0
+IsCallBelow b (looks q) = ⊥
+IsCallBelow b (blanks q) = q / 2 < b
+IsCallBelow b (calls q) = q / 2 < b
+
+-- the calls were on members of the first b boundaries alone: each other one has the bytes and the count of faults that it had
+pub record CallsBelow {R : Type 0} (rack : Ghosts R) (b : ℕ) (old new : R) : Type 0 where
+  pub made : Makes rack (IsCallBelow b) old new
+  pub other_bytes : (q : ℕ) → b ≤ q / 2 → Told IsSame (rack.bytes old q) (rack.bytes new q)
+  pub other_faults : (q : ℕ) → b ≤ q / 2 → (rack.counts new).faults q ≡ (rack.counts old).faults q
+
+-- calls were made, each on a member that isn't out, and none makes a member anew
+abbrev pub CallsThoseIn : {R : Type 0} → Ghosts R → Store R → Store R → Type 0
+CallsThoseIn rack old new = Makes rack (IsCallOf (members_of old)) (rack_of old) (rack_of new)
+
+-- a member whose call failed is out
+abbrev pub FailedAreOut : (ℕ → ℕ) → (ℕ → ℕ) → (ℕ → MemberState) → Type 0
+FailedAreOut before now members = (q : ℕ) → before q < now q → members q ≡ Out
+
+-- the same of a store
+abbrev pub PutsOut : {R : Type 0} → Ghosts R → Store R → Store R → Type 0
+PutsOut rack old new = FailedAreOut (rack.counts (rack_of old)).faults (rack.counts (rack_of new)).faults (members_of new)
+
+-- a member that is out isn't called: it has the count of faults that it had
+abbrev pub OutAreIdle : (ℕ → ℕ) → (ℕ → ℕ) → (ℕ → MemberState) → Type 0
+OutAreIdle before now members = (q : ℕ) → members q ≡ Out → now q ≡ before q
+
+-- the same of a store
+abbrev pub KeepsOut : {R : Type 0} → Ghosts R → Store R → Store R → Type 0
+KeepsOut rack old new = OutAreIdle (rack.counts (rack_of old)).faults (rack.counts (rack_of new)).faults (members_of old)
 
 -- what any call at all leaves
 pub record Stays {R : Type 0} (rack : Ghosts R) (old new : Store R) : Type 0 where
   pub shape : shape_of new ≡ shape_of old
   pub stays : RackStays rack (rack_of old) (rack_of new)
+  pub own : CallsBelow rack (shape_of old).b (rack_of old) (rack_of new)
 
--- what a call on slots leaves: members only fall, and the bytes beside the slots and the lengths of members stay
+-- what a call on slots leaves: only members that aren't out are called, they only fall, and the bytes beside the slots and the lengths of
+-- members stay
 pub record Keeps {R : Type 0} (rack : Ghosts R) (old new : Store R) : Type 0 where
   pub shape : shape_of new ≡ shape_of old
   pub stays : RackStays rack (rack_of old) (rack_of new)
+  pub own : CallsBelow rack (shape_of old).b (rack_of old) (rack_of new)
+  pub called : CallsThoseIn rack old new
+  pub idle : KeepsOut rack old new
+  pub fell : PutsOut rack old new
   pub falls : MembersFall (rack.counts (rack_of old)).faults (rack.counts (rack_of new)).faults (members_of old) (members_of new)
   pub beside : KeepsBeside (shape_of old).l ((shape_of old).k + 1) (rack.bytes (rack_of old)) (rack.bytes (rack_of new))
 

@@ -1,8 +1,12 @@
 -- Laws of what calls leave: none, and one after another. They stand here since the view's members cite them.
-use Rattle.std.proofs.Common.{◌≡◌, inl, inr, ℕ, ◌≤◌, ◌+◌, ◌*◌, ◌++◌, Bool, true, false, cond, List, [], ◌∷◌, length, refl, sym, ◌∙◌, ap, subst, arith}
+use Rattle.std.proofs.Common.{◌≡◌, ◌≢◌, inl, inr, ℕ, ◌≤◌, ◌<◌, ◌+◌, ◌*◌, ◌/◌, ◌++◌, Bool, true, false, cond, List, [], ◌∷◌, length, refl, sym, ◌∙◌, ap, subst, arith}
 use Rattle.std.specs.Prelude.{Option, Some, None, not, count_by}
-use Rattle.std.proofs.lemmas.Bool.{and_parts, and_from, false≢true}
+use Rattle.std.proofs.lemmas.Bool.{and_parts, and_from, cases_lt, false≢true}
 use Rattle.std.proofs.lemmas.List.Sums.{sum_by-append, sum_by-cons}
+use Rattle.dg_io.specs.MadeLaws.{same_both, same_told}
+use Rattle.dg_io.specs.Makes.{Makes}
+use Rattle.dg_io.specs.MakesLaws.{makes_both, makes_none, makes_such}
+use Rattle.dg_io.specs.RackCalls.{RackCall, blanks, calls, looks}
 use Rattle.dg_io.specs.Told.{Told, Torn}
 use Rattle.dg_io.specs.declared.outside.Rack.{Ghosts}
 use Rattle.dg_model.specs.Causes.{NoneRose}
@@ -12,11 +16,12 @@ use Rattle.dg_model.specs.States.{Counts, CountsRise}
 use Rattle.dg_model.specs.Tables.{Table, sites_in}
 use Rattle.dg_model.specs.declared.members.MemberState.{MemberState}
 use Rattle.dg_model.specs.declared.members.MemberState.TheVariants.{Out}
+use Rattle.dg_model.specs.declared.shapes.Shape.{Shape}
 use Rattle.dg_model.specs.declared.sites.Site.{Site}
-use Rattle.dg_pair.specs.Calls.{KeepsBeside}
+use Rattle.dg_pair.specs.Calls.{IsCallOf, KeepsBeside}
 use Rattle.dg_store.specs.declared.store.Store.{Store}
-use Rattle.dg_store.specs.Leaves.{Keeps, RackStays}
-use Rattle.dg_store.specs.Stores.{members_of, rack_of, shape_of, table_of}
+use Rattle.dg_store.specs.Leaves.{CallsBelow, FailedAreOut, IsCallBelow, Keeps, OutAreIdle, RackStays, Stays}
+use Rattle.dg_store.specs.Stores.{IsSound, Tells, TellsAll, members_of, rack_of, shape_of, table_of}
 use Rattle.dg_store.specs.Views.{Fetches, ReadsOn, is_given, is_written}
 
 -- ---- members
@@ -94,6 +99,31 @@ rises_both a b c first second = record {
   writes = omega (arith, first.writes, second.writes);
 }
 
+below_wider : (l n : ℕ) → l ≤ n → (call : RackCall) → IsCallBelow l call → IsCallBelow n call
+below_wider l n wide (looks q) is = is
+below_wider l n wide (blanks q) is = omega (arith, wide, is)
+below_wider l n wide (calls q) is = omega (arith, wide, is)
+
+-- a member that isn't out in the end wasn't before
+called_before : (f g : ℕ → ℕ) (x y : ℕ → MemberState) → MembersFall f g x y → (call : RackCall) → IsCallOf y call → IsCallOf x call
+called_before f g x y falls (looks q) is = is
+called_before f g x y falls (blanks q) is = is
+called_before f g x y falls (calls q) is = λ out. is (stays_out f g x y q falls out)
+
+none_failed : (m : MemberState) (n : ℕ) → n < n → m ≡ Out
+none_failed m n rose = absurd (omega (arith, rose))
+
+-- members that failed are out, and stay out
+pub fell_both : (f g h : ℕ → ℕ) (x y : ℕ → MemberState) → FailedAreOut f g x → FailedAreOut g h y → MembersFall g h x y → FailedAreOut f h y
+fell_both f g h x y first second falls q rose = elim (cases_lt (g q) (h q)) [
+  | inl late ↦ second q late
+  | inr not_late ↦ stays_out g h x y q falls (first q (omega (arith, rose, not_late)))
+]
+
+-- members that were out stay out, and are idle further on
+pub idle_both : (f g h : ℕ → ℕ) (x y : ℕ → MemberState) → OutAreIdle f g x → OutAreIdle g h y → MembersFall f g x y → OutAreIdle f h x
+idle_both f g h x y first second falls q out = second q (stays_out f g x y q falls out) ∙ first q out
+
 module _ {R : Type 0} (rack : Ghosts R) where
   pub rack_none : (r : R) → RackStays rack r r
   rack_none r = record {
@@ -101,6 +131,7 @@ module _ {R : Type 0} (rack : Ghosts R) where
     tells = λ q told. told;
     same_rack = refl;
     steady_on = (λ h. h, λ h. h);
+    told_before = λ q h. h;
   }
 
   pub rack_both : (a b c : R) → RackStays rack a b → RackStays rack b c → RackStays rack a c
@@ -109,14 +140,58 @@ module _ {R : Type 0} (rack : Ghosts R) where
     tells = λ q told. first.tells q (second.tells q told);
     same_rack = second.same_rack ∙ first.same_rack;
     steady_on = (λ h. second.steady_on.0 (first.steady_on.0 h), λ h. first.steady_on.1 (second.steady_on.1 h));
+    told_before = λ q h. first.told_before q (second.told_before q h);
   }
 
+  pub own_none : (b : ℕ) (r : R) → CallsBelow rack b r r
+  own_none b r = record {
+    made = makes_none rack (IsCallBelow b) r;
+    other_bytes = λ q past. same_told (rack.bytes r q);
+    other_faults = λ q past. refl;
+  }
+
+  pub own_both : (l : ℕ) (a b c : R) → CallsBelow rack l a b → CallsBelow rack l b c → CallsBelow rack l a c
+  own_both l a b c first second = record {
+    made = makes_both rack (IsCallBelow l) a b c first.made second.made;
+    other_bytes = λ q past. same_both _ _ _ (first.other_bytes q past) (second.other_bytes q past);
+    other_faults = λ q past. second.other_faults q past ∙ first.other_faults q past;
+  }
+
+  pub own_wider : (l n : ℕ) (a b : R) → l ≤ n → CallsBelow rack l a b → CallsBelow rack n a b
+  own_wider l n a b wide own = record {
+    made = makes_such rack (IsCallBelow l) (IsCallBelow n) (below_wider l n wide) a b own.made;
+    other_bytes = λ q past. own.other_bytes q (omega (arith, wide, past));
+    other_faults = λ q past. own.other_faults q (omega (arith, wide, past));
+  }
+
+  -- members that are called in the end weren't out before
+  pub called_both : (f g : ℕ → ℕ) (x y : ℕ → MemberState) (a b c : R) → MembersFall f g x y → Makes rack (IsCallOf x) a b → Makes rack (IsCallOf y) b c → Makes rack (IsCallOf x) a c
+  called_both f g x y a b c falls first second = makes_both rack (IsCallOf x) a b c first (makes_such rack (IsCallOf y) (IsCallOf x) (called_before f g x y falls) b c second)
+
   -- ---- stores
+
+  pub stays_none : (s : Store R) → Stays rack s s
+  stays_none s = record { shape = refl; stays = rack_none (rack_of s); own = own_none (shape_of s).b (rack_of s) }
+
+  pub stays_both : (a b c : Store R) → Stays rack a b → Stays rack b c → Stays rack a c
+  stays_both a b c first second = record {
+    shape = second.shape ∙ first.shape;
+    stays = rack_both (rack_of a) (rack_of b) (rack_of c) first.stays second.stays;
+    own = own_both (shape_of a).b (rack_of a) (rack_of b) (rack_of c) first.own (rw (← first.shape) second.own);
+  }
+
+  -- where all members tell their bytes in the end, they did so before
+  pub told_all : (a b : Store R) → shape_of b ≡ shape_of a → RackStays rack (rack_of a) (rack_of b) → TellsAll rack b → TellsAll rack a
+  told_all a b shape stays told q below = stays.told_before q (told q (subst (λ (s : Shape). q / 2 < s.b) (sym shape) below))
 
   pub keeps_none : (s : Store R) → Keeps rack s s
   keeps_none s = record {
     shape = refl;
     stays = rack_none (rack_of s);
+    own = own_none (shape_of s).b (rack_of s);
+    called = makes_none rack (IsCallOf (members_of s)) (rack_of s);
+    idle = λ q out. refl;
+    fell = λ q rose. none_failed (members_of s q) ((rack.counts (rack_of s)).faults q) rose;
     falls = λ q. inl refl;
     beside = beside_none (shape_of s).l ((shape_of s).k + 1) (rack.bytes (rack_of s));
   }
@@ -125,6 +200,10 @@ module _ {R : Type 0} (rack : Ghosts R) where
   keeps_both a b c first second = record {
     shape = second.shape ∙ first.shape;
     stays = rack_both (rack_of a) (rack_of b) (rack_of c) first.stays second.stays;
+    own = own_both (shape_of a).b (rack_of a) (rack_of b) (rack_of c) first.own (rw (← first.shape) second.own);
+    called = called_both _ _ (members_of a) (members_of b) (rack_of a) (rack_of b) (rack_of c) first.falls first.called second.called;
+    idle = idle_both _ _ _ (members_of a) (members_of b) first.idle second.idle first.falls;
+    fell = fell_both _ _ _ (members_of b) (members_of c) first.fell second.fell second.falls;
     falls = falls_both _ _ _ _ _ _ first.stays.rise.faults second.stays.rise.faults first.falls second.falls;
     beside = beside_both _ _ _ _ _ first.beside (rw (← first.shape) second.beside);
   }
@@ -138,6 +217,14 @@ module _ {R : Type 0} (rack : Ghosts R) where
     table = second.table ∙ first.table;
     writes = second.writes ∙ first.writes;
   }
+
+-- each good member tells its bytes, where each member of the array tells them as long as it stands
+pub tells_good : {R : Type 0} (rack : Ghosts R) (store : Store R) → IsSound rack store → TellsAll rack store → Tells rack store
+tells_good rack store sound tells q good = sound.telling q
+    (elim (cases_lt (q / 2) (shape_of store).b) [ inl below ↦ tells q below | inr past ↦ absurd (some (sound.others q past)) ]) some
+  where
+    some : members_of store q ≢ Out
+    some out = let e = sym good ∙ out in cc
 
 -- ---- fetches
 

@@ -1,6 +1,7 @@
 -- Slots and lists of sites of a row of boundaries, for the functions that work on the parts of a store.
 use Rattle.std.specs.Prelude.{◌≡◌, ◌≢◌, ◌+◌, ◌/◌, ◌<◌, ℕ, true, List, Option, IsSome}
 use Rattle.std.specs.List.{All, Contains}
+use Rattle.dg_io.specs.Makes.{Makes}
 use Rattle.dg_io.specs.declared.outside.Rack.{Ghosts}
 use Rattle.dg_model.specs.Blocks.{block_in}
 use Rattle.dg_model.specs.Members.{is_lost, MembersFall, SlotHolds}
@@ -9,8 +10,8 @@ use Rattle.dg_model.specs.declared.members.MemberState.TheVariants.{Good, Out}
 use Rattle.dg_model.specs.declared.shapes.Shape.{Shape}
 use Rattle.dg_model.specs.declared.sites.Site.{Site}
 use Rattle.dg_pair.specs.declared.boundaries.Boundary.{Boundary}
-use Rattle.dg_pair.specs.Calls.{KeepsBeside}
-use Rattle.dg_store.specs.Leaves.{RackStays}
+use Rattle.dg_pair.specs.Calls.{IsCallOf, KeepsBeside}
+use Rattle.dg_store.specs.Leaves.{CallsBelow, FailedAreOut, OutAreIdle, RackStays}
 use Rattle.dg_store.specs.Rows.{IsRow, members_in}
 use Rattle.dg_store.specs.Stores.{StandsFor}
 use Rattle.dg_store.specs.declared.store.Store.{Store}
@@ -19,6 +20,10 @@ use Rattle.dg_store.specs.declared.store.Store.{Store}
 pub record RowKeeps {R : Type 0} (rack : Ghosts R) (shape : Shape) (was : List Boundary) (old : R) (now : List Boundary) (new : R) : Type 0 where
   pub row : IsRow rack shape now new
   pub stays : RackStays rack old new
+  pub own : CallsBelow rack shape.b old new
+  pub called : Makes rack (IsCallOf (members_in was)) old new
+  pub idle : OutAreIdle (rack.counts old).faults (rack.counts new).faults (members_in was)
+  pub fell : FailedAreOut (rack.counts old).faults (rack.counts new).faults (members_in now)
   pub falls : MembersFall (rack.counts old).faults (rack.counts new).faults (members_in was) (members_in now)
   pub beside : KeepsBeside shape.l (shape.k + 1) (rack.bytes old) (rack.bytes new)
 

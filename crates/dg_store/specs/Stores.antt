@@ -1,5 +1,5 @@
 -- What a store means. The words below are all that the crates above cite; they say nothing of how a store keeps it.
-use Rattle.std.specs.Prelude.{◌/◌, ◌≤◌, ◌<◌, ◌≡◌, ◌+◌, ◌^◌, ℕ, zero, suc, List, [], length, IsSome, if◌then◌else◌, slice_set}
+use Rattle.std.specs.Prelude.{◌/◌, ◌≤◌, ◌<◌, ◌≡◌, ◌≢◌, ◌+◌, ◌^◌, ℕ, zero, suc, List, [], length, IsSome, if◌then◌else◌, slice_set}
 use Rattle.dg_io.specs.declared.outside.Rack.{Ghosts}
 use Rattle.dg_model.specs.Blocks.{block_in}
 use Rattle.dg_model.specs.Members.{ArePaired, is_lost}
@@ -35,14 +35,25 @@ pub record IsBuilt {R : Type 0} (store : Store R) : Type 0 where
   pub block : length store.block.items ≡ store.map.shape.l
   pub given_up : store.given_up.items ≡ []
 
+-- What holds of it whatever stands: its sites are a table; a member that is refilled has a good partner; there is no member past the last
+-- boundary; and each member that isn't out is long enough where it tells its bytes.
+pub record IsWhole {R : Type 0} (rack : Ghosts R) (store : Store R) : Type 0 where
+  pub table : IsTable (table_of store)
+  pub paired : ArePaired (members_of store)
+  pub others : (q : ℕ) → (shape_of store).b ≤ q / 2 → members_of store q ≡ Out
+  pub long : AreLong (shape_of store) (members_of store) (rack.bytes (rack_of store))
+  pub built : IsBuilt store
+
 -- What holds of it between calls: its sites are a table; a member that is refilled has a good partner; there is no member past the
--- last boundary; and each member that isn't out stands, and is long enough where it tells its bytes.
+-- last boundary; and each member that isn't out stands, is long enough where it tells its bytes, and tells them where the rack tells them
+-- as long as it stands.
 pub record IsSound {R : Type 0} (rack : Ghosts R) (store : Store R) : Type 0 where
   pub table : IsTable (table_of store)
   pub paired : ArePaired (members_of store)
   pub others : (q : ℕ) → (shape_of store).b ≤ q / 2 → members_of store q ≡ Out
   pub long : AreLong (shape_of store) (members_of store) (rack.bytes (rack_of store))
   pub stand : MembersStand (members_of store) (rack.stands (rack_of store))
+  pub telling : (q : ℕ) → rack.tells (rack_of store) q → members_of store q ≢ Out → IsSome (rack.bytes (rack_of store) q)
   pub built : IsBuilt store
 
 -- the state that it is in, where these are its blocks, and the rest is as in another state
@@ -70,9 +81,9 @@ HasBlock rack store b value = (V : List (List ℕ)) → StandsFor rack store V �
 abbrev pub Tells : {R : Type 0} → Ghosts R → Store R → Type 0
 Tells rack store = (q : ℕ) → members_of store q ≡ Good → IsSome (rack.bytes (rack_of store) q)
 
--- each member of the array tells its bytes
+-- each member of the array tells its bytes as long as it stands
 abbrev pub TellsAll : {R : Type 0} → Ghosts R → Store R → Type 0
-TellsAll rack store = (q : ℕ) → q / 2 < (shape_of store).b → IsSome (rack.bytes (rack_of store) q)
+TellsAll rack store = (q : ℕ) → q / 2 < (shape_of store).b → rack.tells (rack_of store) q
 
 -- bit s for each lost boundary s below a number
 abbrev pub lost_bits : (ℕ → MemberState) → ℕ → ℕ

@@ -1,6 +1,6 @@
 // The flat array: each block stands at the sites that the map has for it, on both members of each.
 ghost use Rattle.std.specs.Prelude.{◌≡◌, ◌≢◌, ◌↔◌, ◌⊎◌, ◌+◌, ◌*◌, ◌/◌, ◌≤◌, ◌<◌, ◌-◌, ℕ, List, length, max, true, false, [], IfOk, IfSome, OnErr, MatchOption};
-ghost use Rattle.dg_io.specs.Told.{Extended, FitsIn, IsZeros, KeepsFront, Patched, Torn};
+ghost use Rattle.dg_io.specs.Told.{Extended, FitsIn, IsHeader, IsZeros, KeepsFront, OldOrNew, Patched, Torn};
 ghost use Rattle.dg_model.specs.Blocks.{zeros};
 ghost use Rattle.dg_model.specs.Members.{is_filling, is_lost, IsStruck, MembersFall};
 ghost use Rattle.dg_model.specs.Saves.{body_place, member_length as length_of};
@@ -11,10 +11,11 @@ ghost use Rattle.dg_model.specs.Tables.{Table, IsTable, count_on, sites_in, used
 ghost use Rattle.dg_pair.specs.Boundaries.{IsWell, completed, number_of, members_of as boundary_members, raised, unfilled};
 ghost use Rattle.dg_pair.specs.Calls.{KeepsBeside, copied, replaced};
 ghost use Rattle.dg_store.specs.Answers.{ChangesAt, HasAllSlots, HasFreeSlot, HasNextSlot, IsAllLost, IsBlankStore, IsFull, IsPlaced, IsStored, IsUnchanged, SameWritten, reaped};
-ghost use Rattle.dg_store.specs.Leaves.{BytesChange, CallsAtMost, FaultRose, HasCalled, HasWritten, Leaves, NoFault, OnlyBytesOf, OnlyFaultsOf, Stays};
+ghost use Rattle.dg_store.specs.Leaves.{BytesChange, CallsAtMost, CallsThoseIn, FaultRose, HasCalled, HasWritten, KeepsOut, Leaves, NoFault};
+ghost use Rattle.dg_store.specs.Leaves.{OnlyBytesOf, OnlyFaultsOf, PutsOut, Stays};
 ghost use Rattle.dg_store.specs.Rows.{IsRow, members_in};
 ghost use Rattle.dg_store.specs.Slots.{PutsBlock, SitesTell};
-ghost use Rattle.dg_store.specs.Stores.{rack_of, table_of, shape_of, members_of, HasBlock, IsSound, KeepsBlocks, SetsBlock, Tells, lost_bits};
+ghost use Rattle.dg_store.specs.Stores.{rack_of, table_of, shape_of, members_of, HasBlock, IsSound, IsWhole, KeepsBlocks, SetsBlock, Tells, lost_bits};
 ghost use Rattle.dg_store.specs.Views.{ReadsOn};
 
 use crate::Shape;
@@ -208,10 +209,11 @@ impl<R: Rack> Store<R> {
     /// Makes a member fail, given by its boundary and its side, 0 or 1. It is out then, and so is one that was refilled
     /// from it. It makes no call on the rack.
     pub fn fail(&mut self, boundary: u8, side: u8) -> FailAnswer
-        requires sound { IsSound R.Rack self.old }
+        requires whole { IsWhole R.Rack self.old }
         requires boundary { boundary < (shape_of self.old).b }
         requires side { side < 2 }
-        ensures sound { IsSound R.Rack self.new }
+        ensures whole { IsWhole R.Rack self.new }
+        ensures sound { IsSound R.Rack self.old → IsSound R.Rack self.new }
         ensures stays { Stays R.Rack self.old self.new }
         ensures rack { rack_of self.new ≡ rack_of self.old }
         ensures table { table_of self.new ≡ table_of self.old }
@@ -234,6 +236,7 @@ impl<R: Rack> Store<R> {
         ensures gone { (result ≡ Fetched.Gone) ↔ (is_gone (table_of self.new) (members_of self.new) block ≡ true) }
         ensures got { result ≡ Fetched.Got → Tells R.Rack self.new → HasBlock R.Rack self.old block buf.new }
         ensures unwritten { has_site (sites_in (table_of self.old) block) ≡ false → rack_of self.new ≡ rack_of self.old }
+        ensures zeros { has_site (sites_in (table_of self.old) block) ≡ false → buf.new ≡ zeros (shape_of self.old).l }
         ensures called { result ≡ Fetched.Got → has_site (sites_in (table_of self.old) block) ≡ true
             → HasCalled R.Rack self.old self.new }
         ensures most { CallsAtMost R.Rack self.old self.new (2 * length (sites_in (table_of self.old) block)) }
@@ -341,6 +344,7 @@ impl<R: Rack> Store<R> {
         requires size { length_of 1 (shape_of self.old) ≤ size }
         ensures sound { IsSound R.Rack self.new }
         ensures stays { Stays R.Rack self.old self.new }
+        ensures faulty { PutsOut R.Rack self.old self.new }
         ensures table { table_of self.new ≡ table_of self.old }
         ensures lost { (result ≡ ReplaceAnswer.Lost) ↔ (is_lost (members_of self.old) boundary ≡ true) }
         ensures not_out { (result ≡ ReplaceAnswer.NotOut) ↔ (members_of self.old (2 * boundary + side) ≢ MemberState.Out) }
@@ -365,6 +369,9 @@ impl<R: Rack> Store<R> {
         requires size { length buf.old ≡ (shape_of self.old).l }
         ensures sound { IsSound R.Rack self.new }
         ensures stays { Stays R.Rack self.old self.new }
+        ensures called { CallsThoseIn R.Rack self.old self.new }
+        ensures idle { KeepsOut R.Rack self.old self.new }
+        ensures faulty { PutsOut R.Rack self.old self.new }
         ensures beside { KeepsBeside (shape_of self.old).l ((shape_of self.old).k + 1) (R.bytes (rack_of self.old)) (R.bytes (rack_of self.new)) }
         ensures table { table_of self.new ≡ table_of self.old }
         ensures lost { (result ≡ CopyAnswer.Lost) ↔ (is_lost (members_of self.new) boundary ≡ true) }
@@ -424,6 +431,9 @@ impl<R: Rack> Store<R> {
             → IfSome (R.bytes (rack_of self.old) (2 * boundary + side)) (λ all. place + length buf.now ≤ length all) }
         ensures sound { IsSound R.Rack self.new }
         ensures stays { Stays R.Rack self.old self.new }
+        ensures called { CallsThoseIn R.Rack self.old self.new }
+        ensures idle { KeepsOut R.Rack self.old self.new }
+        ensures faulty { PutsOut R.Rack self.old self.new }
         ensures table { table_of self.new ≡ table_of self.old }
         ensures not_good { (result ≡ NoteAnswer.NotGood) ↔ (members_of self.old (2 * boundary + side) ≢ MemberState.Good) }
         ensures kept { result ≢ NoteAnswer.Fell → (q : ℕ) → members_of self.new q ≡ members_of self.old q }
@@ -432,6 +442,8 @@ impl<R: Rack> Store<R> {
         ensures falls { MembersFall (R.counts (rack_of self.old)).faults (R.counts (rack_of self.new)).faults (members_of self.old) (members_of self.new) }
         ensures patched { result ≡ NoteAnswer.Noted → BytesChange R.Rack self.old self.new (2 * boundary + side) (Patched place buf.now) }
         ensures torn { result ≡ NoteAnswer.Fell → BytesChange R.Rack self.old self.new (2 * boundary + side) (Torn place (length buf.now)) }
+        ensures whole { result ≡ NoteAnswer.Fell → R.steady (rack_of self.old) → IsHeader place buf.now
+            → BytesChange R.Rack self.old self.new (2 * boundary + side) (OldOrNew place buf.now) }
         ensures other_bytes { OnlyBytesOf R.Rack self.old self.new (2 * boundary + side) }
         ensures other_faults { OnlyFaultsOf R.Rack self.old self.new (2 * boundary + side) }
         ensures written { result ≡ NoteAnswer.Noted → HasWritten R.Rack self.old self.new }
@@ -453,6 +465,9 @@ impl<R: Rack> Store<R> {
             → IfSome (R.bytes (rack_of self.old) (2 * boundary + side)) (FitsIn size) }
         ensures sound { IsSound R.Rack self.new }
         ensures stays { Stays R.Rack self.old self.new }
+        ensures called { CallsThoseIn R.Rack self.old self.new }
+        ensures idle { KeepsOut R.Rack self.old self.new }
+        ensures faulty { PutsOut R.Rack self.old self.new }
         ensures table { table_of self.new ≡ table_of self.old }
         ensures not_good { (result ≡ ExtendAnswer.NotGood) ↔ (members_of self.old (2 * boundary + side) ≢ MemberState.Good) }
         ensures kept { result ≢ ExtendAnswer.Fell → (q : ℕ) → members_of self.new q ≡ members_of self.old q }
@@ -464,6 +479,7 @@ impl<R: Rack> Store<R> {
         ensures other_bytes { OnlyBytesOf R.Rack self.old self.new (2 * boundary + side) }
         ensures other_faults { OnlyFaultsOf R.Rack self.old self.new (2 * boundary + side) }
         ensures written { result ≡ ExtendAnswer.Extended → HasWritten R.Rack self.old self.new }
+        ensures tried { result ≡ ExtendAnswer.Fell → HasWritten R.Rack self.old self.new }
         ensures quiet { result ≡ ExtendAnswer.NotGood → rack_of self.new ≡ rack_of self.old }
         ensures most { CallsAtMost R.Rack self.old self.new 1 }
         ensures stands { KeepsBlocks R.Rack self.old self.new }

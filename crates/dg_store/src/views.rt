@@ -37,11 +37,11 @@ impl<R: Rack> View for Store<R> {
         (shape.l, shape.n)
     }
 
-    ghost unchanged = { λ s. reads_none R.Rack s };
+    ghost unchanged = { λ s. reads_none _ s };
 
-    ghost further = { λ a b c first second. reads_both R.Rack a b c first second };
+    ghost further = { λ a b c first second. reads_both _ a b c first second };
 
-    ghost fetched_none = { λ s. fetches_none R.Rack s };
+    ghost fetched_none = { λ s. fetches_none _ s };
 
-    ghost fetched_both = { λ a b c x y first second. fetches_both R.Rack a b c x y first second };
+    ghost fetched_both = { λ a b c x y first second. fetches_both _ a b c x y first second };
 }

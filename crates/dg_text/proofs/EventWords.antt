@@ -42,6 +42,7 @@ later_of (Ls path) = path_word path ∷ []
 later_of Tree = []
 later_of (Home path) = path_word path ∷ []
 later_of Save = []
+later_of event = []
 
 -- ---- the words of an event in its place
 
@@ -451,6 +452,7 @@ text_of shape Diffuse h some = absurd (omega arith)
 text_of shape Pending h some = absurd (omega arith)
 text_of shape Tree h some = absurd (omega arith)
 text_of shape Save h some = absurd (omega arith)
+text_of shape event h some = absurd h
 
 pub text_is : (shape : Shape) (line : List ℕ) (event : Event) (kind : EventKind) (text : List ℕ) → IsInPlace (Some shape) event → line ≡ spelling event
     → words line ≡ word_of kind ∷ words text → 0 < length (words text) → IsTextOf shape kind text

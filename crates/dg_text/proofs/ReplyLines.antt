@@ -6,7 +6,7 @@ use Rattle.std.specs.List.{concat}
 use Rattle.std.proofs.lemmas.List.{append-nil}
 use Rattle.dg_io.specs.Told.{Told, Took, TookPart}
 use Rattle.dg_model.specs.declared.replies.Reply.{Reply}
-use Rattle.dg_model.specs.declared.replies.Reply.TheVariants.{Copied, HomeAt, Tended}
+use Rattle.dg_model.specs.declared.replies.Reply.TheVariants.{Copied, HomeAt, Regrouped, Tended}
 use Rattle.dg_text.specs.Replies.{file_text, reply_line}
 use Rattle.dg_text.specs.Listings.{front_in, line_in, listing_text}
 use Rattle.dg_text.specs.declared.listings.Form.{Form}
@@ -36,6 +36,10 @@ copied_line reply n m is = ap (λ (l : List ℕ). codes "copied " ++ l) (two_num
 pub tended_line : (reply : Reply) (n m : ℕ) → reply ≡ Tended n m
     → codes "tended " ++ (decimal n ++ (codes " " ++ (decimal m ++ codes "\n"))) ≡ reply_line reply
 tended_line reply n m is = ap (λ (l : List ℕ). codes "tended " ++ l) (two_numbers n m (codes " ")) ∙ ap reply_line (sym is)
+
+pub regrouped_line : (reply : Reply) (n m : ℕ) → reply ≡ Regrouped n m
+    → codes "regrouped " ++ (decimal n ++ (codes " " ++ (decimal m ++ codes "\n"))) ≡ reply_line reply
+regrouped_line reply n m is = ap (λ (l : List ℕ). codes "regrouped " ++ l) (two_numbers n m (codes " ")) ∙ ap reply_line (sym is)
 
 pub home_line : (s : ℕ) (copy : Option ℕ) → copy ≡ None → codes "home " ++ (decimal s ++ codes "\n") ≡ reply_line (HomeAt s copy)
 home_line s copy is =

@@ -11,7 +11,7 @@ use Rattle.dg_model.specs.declared.events.Event.{Event}
 use Rattle.dg_model.specs.declared.events.Event.TheVariants.{Array, Write, Read, Fail, Replace, Rebuild, Settle, Tend, Diffuse, Who, Pending, Cat, Ls, Tree, Home, Save}
 use Rattle.dg_text.specs.Lines.{AreBytes, AreInPlace, hex_word, path_word, spelled_byte, is_plain, spelling, line_of, input_of, IsInPlace}
 use Rattle.dg_text.specs.Refusals.{numbers_of, tail_of, word_of, words}
-use Rattle.dg_text.specs.Texts.{event_kind}
+use Rattle.dg_text.specs.Texts.{event_kind, is_spelled}
 use Rattle.dg_text.specs.declared.kinds.EventKind.{EventKind}
 use Rattle.dg_text.specs.declared.kinds.EventKind.TheVariants.{Array as KindArray, Write as KindWrite, Read as KindRead, Fail as KindFail, Replace as KindReplace, Rebuild as KindRebuild, Settle as KindSettle, Tend as KindTend, Diffuse as KindDiffuse, Who as KindWho, Pending as KindPending, Cat as KindCat, Ls as KindLs, Tree as KindTree, Home as KindHome, Save as KindSave}
 use Rattle.dg_text.specs.declared.kinds.Tail.{Tail}
@@ -80,6 +80,7 @@ numbers_in (Ls path) = []
 numbers_in Tree = []
 numbers_in (Home path) = []
 numbers_in Save = []
+numbers_in event = []
 
 -- its bytes
 bytes_in : Event → List ℕ
@@ -99,6 +100,7 @@ bytes_in (Ls path) = path
 bytes_in Tree = []
 bytes_in (Home path) = path
 bytes_in Save = []
+bytes_in event = []
 
 -- the event of some numbers and bytes
 made_of : EventKind → List ℕ → List ℕ → Event
@@ -119,24 +121,25 @@ made_of KindTree ns bs = Tree
 made_of KindHome ns bs = Home bs
 made_of KindSave ns bs = Save
 
-made_back : (event : Event) → made_of (event_kind event) (numbers_in event) (bytes_in event) ≡ event
+made_back : (event : Event) → is_spelled event ≡ true → made_of (event_kind event) (numbers_in event) (bytes_in event) ≡ event
 unfolding numbers_in bytes_in made_of
-made_back (Array s) = refl
-made_back (Write b bytes) = refl
-made_back (Read b) = refl
-made_back (Fail s j) = refl
-made_back (Replace s j) = refl
-made_back (Rebuild s n) = refl
-made_back Settle = refl
-made_back (Tend n) = refl
-made_back Diffuse = refl
-made_back (Who b) = refl
-made_back Pending = refl
-made_back (Cat path) = refl
-made_back (Ls path) = refl
-made_back Tree = refl
-made_back (Home path) = refl
-made_back Save = refl
+made_back (Array s) is = refl
+made_back (Write b bytes) is = refl
+made_back (Read b) is = refl
+made_back (Fail s j) is = refl
+made_back (Replace s j) is = refl
+made_back (Rebuild s n) is = refl
+made_back Settle is = refl
+made_back (Tend n) is = refl
+made_back Diffuse is = refl
+made_back (Who b) is = refl
+made_back Pending is = refl
+made_back (Cat path) is = refl
+made_back (Ls path) is = refl
+made_back Tree is = refl
+made_back (Home path) is = refl
+made_back Save is = refl
+made_back event is = absurd (cc is)
 
 -- the word behind the numbers, if there is one
 abbrev tail_words : Tail → List ℕ → List (List ℕ)
@@ -162,6 +165,7 @@ later_is (Ls path) = refl
 later_is Tree = refl
 later_is (Home path) = refl
 later_is Save = refl
+later_is event = refl
 
 numbers_count : (event : Event) → length (numbers_in event) ≡ numbers_of (event_kind event)
 unfolding numbers_in
@@ -181,6 +185,7 @@ numbers_count (Ls path) = refl
 numbers_count Tree = refl
 numbers_count (Home path) = refl
 numbers_count Save = refl
+numbers_count event = refl
 
 abbrev IsSmall : ℕ → Type 0
 IsSmall n = n < 2 ^ 32
@@ -262,6 +267,26 @@ numbers_same (n ∷ ns) (m ∷ ms) xs ys size hn hm e =
     let rest = numbers_same ns ms xs ys (omega arith) (All-tail IsSmall n ns hn) (All-tail IsSmall m ms hm) more in
     (cc (first, rest.0), rest.1)
 
+-- what stands in its place is spelled
+in_place_spelled : (shape : Option Shape) (event : Event) → IsInPlace shape event → is_spelled event ≡ true
+in_place_spelled None (Array s) h = refl
+in_place_spelled (Some shape) (Write b bytes) h = refl
+in_place_spelled (Some shape) (Read b) h = refl
+in_place_spelled (Some shape) (Fail s j) h = refl
+in_place_spelled (Some shape) (Replace s j) h = refl
+in_place_spelled (Some shape) (Rebuild s n) h = refl
+in_place_spelled (Some shape) Settle h = refl
+in_place_spelled (Some shape) (Tend n) h = refl
+in_place_spelled (Some shape) Diffuse h = refl
+in_place_spelled (Some shape) (Who b) h = refl
+in_place_spelled (Some shape) Pending h = refl
+in_place_spelled (Some shape) (Cat path) h = refl
+in_place_spelled (Some shape) (Ls path) h = refl
+in_place_spelled (Some shape) Tree h = refl
+in_place_spelled (Some shape) (Home path) h = refl
+in_place_spelled (Some shape) Save h = refl
+in_place_spelled shape event h = absurd h
+
 -- two events in one place with one spelling are one
 pub spelling_same : (shape : Option Shape) (a b : Event) → IsInPlace shape a → IsInPlace shape b → spelling a ≡ spelling b → a ≡ b
 spelling_same shape a b h g e =
@@ -274,7 +299,7 @@ spelling_same shape a b h g e =
     let Q : EventKind → Type 0 = λ k. map decimal (numbers_in a) ++ tail_words (tail_of k) (bytes_in a) ≡ map decimal (numbers_in b) ++ tail_words (tail_of (event_kind b)) (bytes_in b) in
     let both = numbers_same (numbers_in a) (numbers_in b) _ _ size (numbers_small shape a h) (numbers_small shape b g) (subst Q kind (sym (later_is a) ∙ later ∙ later_is b)) in
     let bytes = tail_same (tail_of (event_kind b)) (bytes_in a) (bytes_in b) (subst P kind (tail_right shape a h)) (tail_right shape b g) both.1 in
-    sym (made_back a) ∙ (λ i. made_of (kind i) (both.0 i) (bytes i)) ∙ made_back b
+    sym (made_back a (in_place_spelled shape a h)) ∙ (λ i. made_of (kind i) (both.0 i) (bytes i)) ∙ made_back b (in_place_spelled shape b g)
 
 -- a text begins with the line of one event in its place
 pub line_cut : (shape : Option Shape) (a b : Event) (x y : List ℕ) → IsInPlace shape a → IsInPlace shape b → line_of a ++ x ≡ line_of b ++ y → (a ≡ b) × (x ≡ y)

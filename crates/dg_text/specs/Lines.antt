@@ -32,7 +32,7 @@ path_word path = flat_map spelled_byte path
 abbrev pub shape_words : Shape → List ℕ
 shape_words s = decimal s.l ++ (codes " " ++ (decimal s.n ++ (codes " " ++ (decimal s.b ++ (codes " " ++ (decimal s.k ++ (codes " " ++ decimal s.m)))))))
 
--- the one spelling of an event
+-- the one spelling of an event. No line spells the events past these yet
 abbrev pub spelling : Event → List ℕ
 spelling (Array s) = codes "array " ++ shape_words s
 spelling (Write b bytes) = codes "write " ++ (decimal b ++ (codes " " ++ hex_word bytes))
@@ -50,6 +50,7 @@ spelling (Ls path) = codes "ls " ++ path_word path
 spelling Tree = codes "tree"
 spelling (Home path) = codes "home " ++ path_word path
 spelling Save = codes "save"
+spelling event = []
 
 -- its line
 abbrev pub line_of : Event → List ℕ
@@ -63,7 +64,7 @@ input_of events = flat_map line_of events
 abbrev pub AreBytes : List ℕ → Type 0
 AreBytes bytes = All (λ x. x < 256) bytes
 
--- the events that may stand first, or after an array of this shape
+-- the events that may stand first, or after an array of this shape. One that no line spells stands nowhere
 abbrev pub IsInPlace : Option Shape → Event → Type 0
 IsInPlace None (Array s) = IsShape s
 IsInPlace None event = ⊥
@@ -83,6 +84,7 @@ IsInPlace (Some shape) (Ls path) = (is_path path ≡ true) × AreBytes path
 IsInPlace (Some shape) Tree = Unit {0}
 IsInPlace (Some shape) (Home path) = (is_path path ≡ true) × AreBytes path
 IsInPlace (Some shape) Save = Unit {0}
+IsInPlace (Some shape) event = ⊥
 
 -- the events of an input are in their places: the first makes an array, and the others follow it
 abbrev pub AreInPlace : List Event → Type 0

@@ -3,8 +3,11 @@ use Rattle.std.specs.Prelude.{ℕ, List, [], ◌++◌, length, codes, Option, So
 use Rattle.std.specs.Fmt.{decimal}
 use Rattle.std.specs.List.{flat_map, concat}
 use Rattle.hex.specs.Hex.{encode_lower}
+use Rattle.dg_model.specs.Paths.{PathOf}
+use Rattle.dg_model.specs.declared.findings.Finding.{Finding}
+use Rattle.dg_model.specs.declared.findings.Finding.TheVariants.{Bad as BadFinding, Unnamed, Unclaimed}
 use Rattle.dg_model.specs.declared.replies.Reply.{Reply}
-use Rattle.dg_model.specs.declared.replies.Reply.TheVariants.{Done, Range, Degraded, Unavailable, Already, Lost, NotOut, Failed, NotFilling, Copied, Settled, Malformed, NoSpace, Tended, Diffused, NotSettled, Verdict, Blocks, Data, Given, Cut, Listed as ListedReply, ListedCut, Nodes, NodesCut, Refused, HomeAt, NoHome, Saved}
+use Rattle.dg_model.specs.declared.replies.Reply.TheVariants.{Done, Range, Degraded, Unavailable, Already, Lost, NotOut, Failed, NotFilling, Copied, Settled, Malformed, NoSpace, Tended, Diffused, NotSettled, Verdict, Blocks, Data, Given, Cut, Listed as ListedReply, ListedCut, Nodes, NodesCut, Refused, HomeAt, NoHome, Saved, NotSaved, Whole, TooFew, Regrouped, LostFiles, LostFilesCut, Audited, NotParity, Mended}
 use Rattle.dg_model.specs.declared.verdicts.Who.{Who}
 use Rattle.dg_model.specs.declared.verdicts.Who.TheVariants.{System, Outside, Inode as OfInode, Shared, Pending, Dead, Idle}
 use Rattle.dg_model.specs.declared.wants.NoRoom.{NoRoom}
@@ -161,7 +164,25 @@ abbrev pub copy_words : Option ℕ → List ℕ
 copy_words None = []
 copy_words (Some s) = codes " copy " ++ decimal s
 
--- the words of a reply; the lines of a file, a listing or some blocks stand in front of the last of them
+-- the line of a file that lost blocks
+abbrev pub lost_line : PathOf → List ℕ
+lost_line lost = codes "lost " ++ (decimal lost.inode ++ (codes " " ++ (path_word lost.path ++ codes "\n")))
+
+-- the lines of some such files
+abbrev pub lost_text : List PathOf → List ℕ
+lost_text files = flat_map lost_line files
+
+-- a line of an audit
+abbrev pub finding_line : Finding → List ℕ
+finding_line (BadFinding kind n) = codes "bad " ++ (malformation_word kind ++ (codes " " ++ (decimal n ++ codes "\n")))
+finding_line (Unnamed i) = codes "note unnamed " ++ (decimal i ++ codes "\n")
+finding_line (Unclaimed f) = codes "note unclaimed " ++ (decimal f ++ codes "\n")
+
+-- the lines of an audit
+abbrev pub findings_text : List Finding → List ℕ
+findings_text findings = flat_map finding_line findings
+
+-- the words of a reply; the lines of a file, a listing, some blocks, lost files or an audit stand in front of the last of them
 abbrev pub words_of : Reply → List ℕ
 words_of Done = codes "ok"
 words_of Range = codes "range"
@@ -192,6 +213,15 @@ words_of (Refused refusal) = refusal_words refusal
 words_of (HomeAt s copy) = codes "home " ++ (decimal s ++ copy_words copy)
 words_of NoHome = codes "home none"
 words_of (Saved sequence) = codes "saved " ++ decimal sequence
+words_of NotSaved = codes "not saved"
+words_of Whole = codes "whole"
+words_of TooFew = codes "too few"
+words_of (Regrouped boundaries blocks) = codes "regrouped " ++ (decimal boundaries ++ (codes " " ++ decimal blocks))
+words_of (LostFiles files) = lost_text files ++ (codes "end " ++ decimal (length files))
+words_of (LostFilesCut files) = lost_text files ++ (codes "cut " ++ decimal (length files))
+words_of (Audited findings) = findings_text findings ++ (codes "end " ++ decimal (length findings))
+words_of NotParity = codes "not parity"
+words_of (Mended stripes) = codes "mended " ++ decimal stripes
 
 -- the line of a reply
 abbrev pub reply_line : Reply → List ℕ

@@ -1,15 +1,26 @@
 -- What a line says behind its first word.
-use Rattle.std.specs.Prelude.{◌≡◌, ◌≤◌, ◌<◌, ◌^◌, ℕ, List, [], ◌∷◌, ◌++◌, length, codes, Option, Some, None}
+use Rattle.std.specs.Prelude.{◌≡◌, ◌≤◌, ◌<◌, ◌^◌, Bool, true, false, ℕ, List, [], ◌∷◌, ◌++◌, length, codes, Option, Some, None}
 use Rattle.std.specs.Fmt.{decimal}
 use Rattle.dg_model.specs.declared.shapes.Shape.{Shape}
 use Rattle.dg_model.specs.declared.events.Event.{Event}
-use Rattle.dg_model.specs.declared.events.Event.TheVariants.{Array, Write, Read, Fail, Replace, Rebuild, Settle, Tend, Diffuse, Who, Pending, Cat, Ls, Tree, Home, Save}
+use Rattle.dg_model.specs.declared.events.Event.TheVariants.{Array, Write, Read, Fail, Replace, Rebuild, Settle, Tend, Diffuse, Who, Pending, Cat, Ls, Tree, Home, Save, Safe, Parity, Regroup, LostFiles, Audit, DropDisk, MendDisk}
 use Rattle.dg_text.specs.Lines.{AreBytes, hex_word, path_word, shape_words, spelling, IsInPlace}
 use Rattle.dg_text.specs.Refusals.{IsNumberWord, IsPathWord, word_of}
 use Rattle.dg_text.specs.declared.kinds.EventKind.{EventKind}
 use Rattle.dg_text.specs.declared.kinds.EventKind.TheVariants.{Array as KindArray, Write as KindWrite, Read as KindRead, Fail as KindFail, Replace as KindReplace, Rebuild as KindRebuild, Settle as KindSettle, Tend as KindTend, Diffuse as KindDiffuse, Who as KindWho, Pending as KindPending, Cat as KindCat, Ls as KindLs, Tree as KindTree, Home as KindHome, Save as KindSave}
 
--- the kind of an event
+-- whether a line spells the event
+abbrev pub is_spelled : Event → Bool
+is_spelled (Safe s) = false
+is_spelled (Parity s d) = false
+is_spelled Regroup = false
+is_spelled LostFiles = false
+is_spelled Audit = false
+is_spelled (DropDisk s d) = false
+is_spelled (MendDisk s d) = false
+is_spelled event = true
+
+-- the kind of an event; of one that no line spells, any kind
 abbrev pub event_kind : Event → EventKind
 event_kind (Array s) = KindArray
 event_kind (Write b bytes) = KindWrite
@@ -27,12 +38,13 @@ event_kind (Ls path) = KindLs
 event_kind Tree = KindTree
 event_kind (Home path) = KindHome
 event_kind Save = KindSave
+event_kind event = KindSave
 
 -- two numbers, and what stands between them
 abbrev pub two_numbers : ℕ → ℕ → List ℕ
 two_numbers m n = codes " " ++ (decimal m ++ (codes " " ++ decimal n))
 
--- what its line says behind the first word
+-- what its line says behind the first word, if a line spells it
 abbrev pub rest_of : Event → List ℕ
 rest_of (Array s) = codes " " ++ shape_words s
 rest_of (Write b bytes) = codes " " ++ (decimal b ++ (codes " " ++ hex_word bytes))
@@ -50,6 +62,7 @@ rest_of (Ls path) = codes " " ++ path_word path
 rest_of Tree = []
 rest_of (Home path) = codes " " ++ path_word path
 rest_of Save = []
+rest_of event = []
 
 -- a text of two numbers
 abbrev pub AreTwoNumbers : List ℕ → Type 0

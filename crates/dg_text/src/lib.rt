@@ -2,6 +2,7 @@
 //! in its place is refused.
 #![tactic(auto)]
 
+mod audits;
 mod counts;
 mod hex_lines;
 mod hex_words;
@@ -10,6 +11,7 @@ mod laws;
 mod lines;
 mod listing_lines;
 mod listings;
+mod lost_files;
 mod path_words;
 mod raw;
 mod replies;

@@ -98,8 +98,8 @@ pub fn write_entry_line<K: Sink>(
     write_all(sink, &line[..end])
 }
 
-// Writes the line of an entry with a longer name than a directory can have, byte by byte.
-fn write_long_entry<K: Sink>(sink: &mut K, head: &[u8], name: &[u8]) -> Result<(), Failed>
+/// Writes the line of an entry with a longer name than a directory can have, byte by byte; so of a longer path than most.
+pub fn write_long_entry<K: Sink>(sink: &mut K, head: &[u8], name: &[u8]) -> Result<(), Failed>
     ensures ok { OnOk result (Told (Took (head.now ++ (path_word name.now ++ codes "\n"))) (K.taken sink.old) (K.taken sink.new)) }
     ensures err { OnErr result (Told (TookPart (head.now ++ (path_word name.now ++ codes "\n"))) (K.taken sink.old) (K.taken sink.new)) }
     ensures cause { HasCause (K.faults sink.old) (K.faults sink.new) result }
@@ -173,8 +173,8 @@ fn spell_depth(line: &mut [u8], depth: u32) -> usize
     put(line, number, b" ")
 }
 
-// Puts the spelling of a name at a place of a line, and answers where it ends.
-fn put_name(line: &mut [u8], at: usize, name: &[u8]) -> usize
+/// Puts the spelling of a name at a place of a line, and answers where it ends.
+pub fn put_name(line: &mut [u8], at: usize, name: &[u8]) -> usize
     requires { at + 4 * length name.now ≤ length line.old }
     ensures end { result ≤ at + 4 * length name.now }
     ensures text { take result line.new ≡ take at line.old ++ path_word name.now }

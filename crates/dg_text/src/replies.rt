@@ -9,8 +9,10 @@ ghost use Rattle.dg_text.specs.HexLines.{last_line};
 ghost use Rattle.dg_text.specs.Replies.{reply_line, refusal, kind_of, usage, block_line, bytes_line, file_text, blocks_text, super_word, bad_word, refusal_words};
 
 use crate::BadLine;
+use crate::audits::write_audit;
 use crate::counts::{write_number, write_numbers};
 use crate::listings::{Form, write_listing};
+use crate::lost_files::write_lost;
 use crate::verdicts::{write_home, write_malformation, write_no_room, write_verdict};
 use dg_io::{Sink, write_all};
 use dg_model::{Bytes, Failed, Reply};
@@ -27,7 +29,7 @@ const HEX_ROOM: usize = 6 + 2 * LARGEST + 1;
 // Room for the answer to a refused line, whose number has at most 20 digits.
 const REFUSAL_ROOM: usize = 64;
 
-/// Writes the line of a reply; of a file, a listing or blocks their lines, and the one that ends them.
+/// Writes the line of a reply; of a file, a listing, blocks, lost files or an audit their lines, and the one that ends them.
 pub fn write_reply<K: Sink>(sink: &mut K, reply: &Reply) -> Result<(), Failed>
     ensures ok { OnOk result (Told (Took (reply_line reply.now)) (K.taken sink.old) (K.taken sink.new)) }
     ensures err { OnErr result (Told (TookPart (reply_line reply.now)) (K.taken sink.old) (K.taken sink.new)) }
@@ -67,6 +69,15 @@ pub fn write_reply<K: Sink>(sink: &mut K, reply: &Reply) -> Result<(), Failed>
         Reply::HomeAt(s, copy) => write_home(sink, *s, *copy),
         Reply::NoHome => write_all(sink, b"home none\n"),
         Reply::Saved(sequence) => write_number(sink, b"saved ", *sequence as u128),
+        Reply::NotSaved => write_all(sink, b"not saved\n"),
+        Reply::Whole => write_all(sink, b"whole\n"),
+        Reply::TooFew => write_all(sink, b"too few\n"),
+        Reply::Regrouped(gone, cut) => write_numbers(sink, b"regrouped ", *gone, b" ", *cut),
+        Reply::LostFiles(files) => write_lost(sink, files.as_slice(), b"end "),
+        Reply::LostFilesCut(files) => write_lost(sink, files.as_slice(), b"cut "),
+        Reply::Audited(findings) => write_audit(sink, findings.as_slice()),
+        Reply::NotParity => write_all(sink, b"not parity\n"),
+        Reply::Mended(stripes) => write_number(sink, b"mended ", *stripes as u128),
     }
 }
 

@@ -2,7 +2,7 @@
 ghost use Rattle.std.specs.Prelude.{◌≡◌, ◌++◌, codes, IfOk, OnOk};
 ghost use Rattle.std.specs.Fmt.{decimal};
 ghost use Rattle.dg_text.specs.Lines.{hex_word, path_word, shape_words, spelling};
-ghost use Rattle.dg_text.specs.Texts.{event_kind, rest_of, two_numbers};
+ghost use Rattle.dg_text.specs.Texts.{event_kind, is_spelled, rest_of, two_numbers};
 
 use crate::kinds::EventKind;
 use crate::listings::put_byte;
@@ -11,17 +11,36 @@ use dg_model::{Event, NoMemory, Shape};
 use itoa::Buffer;
 use std::alloc::Global;
 
-/// The one line that spells an event, without its LF.
+/// The one line that spells an event, without its LF; of an event that no line spells, no bytes.
 pub fn write_event(alloc: Global, event: &Event) -> Result<Vec<u8>, NoMemory>
     ensures { IfOk result (λ line. line.items ≡ spelling event.now) }
 {
+    if !is_spelled(event) {
+        return Ok(Vec::new(alloc));
+    }
     let mut line = Vec::new(alloc);
     push(&mut line, kind_of(event).word())?;
     push_rest(&mut line, event)?;
     Ok(line)
 }
 
-// Which event it is.
+// Whether a line spells an event.
+fn is_spelled(event: &Event) -> bool
+    ensures { result ≡ is_spelled event.now }
+{
+    match event {
+        Event::Safe(_)
+        | Event::Parity(_, _)
+        | Event::Regroup
+        | Event::LostFiles
+        | Event::Audit
+        | Event::DropDisk(_, _)
+        | Event::MendDisk(_, _) => false,
+        _ => true,
+    }
+}
+
+// Which event it is. Of one that no line spells, the answer is any kind.
 fn kind_of(event: &Event) -> EventKind
     ensures { result ≡ event_kind event.now }
 {
@@ -41,7 +60,7 @@ fn kind_of(event: &Event) -> EventKind
         Event::Ls(_) => EventKind::Ls,
         Event::Tree => EventKind::Tree,
         Event::Home(_) => EventKind::Home,
-        Event::Save => EventKind::Save,
+        _ => EventKind::Save,
     }
 }
 
@@ -61,7 +80,7 @@ fn push_rest(line: &mut Vec<u8>, event: &Event) -> Result<(), NoMemory>
         Event::Cat(path) => push_path(line, path.as_slice()),
         Event::Ls(path) => push_path(line, path.as_slice()),
         Event::Home(path) => push_path(line, path.as_slice()),
-        Event::Settle | Event::Diffuse | Event::Pending | Event::Tree | Event::Save => Ok(()),
+        _ => Ok(()),
     }
 }
 

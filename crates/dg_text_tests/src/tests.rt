@@ -6,11 +6,14 @@ ghost use Rattle.dg_text.specs.Replies.{file_text};
 ghost use Rattle.dg_text.specs.HexLines.{last_line};
 
 use dg_io::{MemSink, Pieces, Sink};
-use dg_model::{Bytes, Failed, ListedEntries, ListedEntry, Numbers, Reply};
+use dg_model::{
+    Bytes, Failed, Finding, Findings, ListedEntries, ListedEntry, LostPath, LostPaths, Numbers,
+    Reply,
+};
 use dg_text::{BadLine, Form, HexLines, Lines, Raw, write_data, write_refusal, write_reply};
 use std::alloc::{AllocError, Global};
 use std::test::Fail;
-use ufs_model::Kind;
+use ufs_model::{BadKind, BadSuper, Kind};
 use ufs_path::Listing;
 
 // The line of one byte.
@@ -80,6 +83,54 @@ fn replies_of_several_lines_are_written(rt: HostRuntime) -> Result<(), Fail> {
     Ok(())
 }
 
+// A file that lost blocks.
+fn lost_file(alloc: Global, inode: u32, path: &[u8]) -> Result<LostPath, AllocError> {
+    let bytes = Bytes::new(Vec::from_slice(alloc, path)?);
+    Ok(LostPath::new(inode, bytes))
+}
+
+// Two such files, of which one has bytes in its path that don't stand for themselves.
+fn two_lost(alloc: Global) -> Result<LostPaths, AllocError> {
+    let mut files = Vec::new(alloc);
+    files.push(lost_file(alloc, 5, b"/d/b")?)?;
+    files.push(lost_file(alloc, 4294967295, b"/x y/\x80\\")?)?;
+    Ok(LostPaths::new(files))
+}
+
+// An audit that found two malformations, and something of each other kind.
+fn four_findings(alloc: Global) -> Result<Findings, AllocError> {
+    let mut findings = Vec::new(alloc);
+    findings.push(Finding::Bad(BadKind::Super(BadSuper::Layout), 0))?;
+    findings.push(Finding::Bad(BadKind::GroupMagic, 4294967295))?;
+    findings.push(Finding::Unnamed(7))?;
+    findings.push(Finding::Unclaimed(96))?;
+    Ok(Findings::new(findings))
+}
+
+// What is said of boundaries that are taken out of use, of the files that lost blocks so, of an audit, and of disks under parity.
+#[test]
+fn replies_about_losses_are_written(rt: HostRuntime) -> Result<(), Fail> {
+    let alloc = rt.alloc();
+    let mut sink = MemSink::new(alloc, 512, Vec::new(alloc))?;
+    write_reply(&mut sink, &Reply::NotSaved)?;
+    write_reply(&mut sink, &Reply::Whole)?;
+    write_reply(&mut sink, &Reply::TooFew)?;
+    write_reply(&mut sink, &Reply::Regrouped(2, 17))?;
+    write_reply(&mut sink, &Reply::NotParity)?;
+    write_reply(&mut sink, &Reply::Mended(12))?;
+    let nothing = LostPaths::new(Vec::new(alloc));
+    write_reply(&mut sink, &Reply::LostFiles(nothing))?;
+    write_reply(&mut sink, &Reply::LostFiles(two_lost(alloc)?))?;
+    write_reply(&mut sink, &Reply::LostFilesCut(two_lost(alloc)?))?;
+    write_reply(&mut sink, &Reply::Audited(four_findings(alloc)?))?;
+    let text = b"not saved\nwhole\ntoo few\nregrouped 2 17\nnot parity\nmended 12\nend 0\n\
+          lost 5 /d/b\nlost 4294967295 /x\\x20y/\\x80\\x5c\nend 2\n\
+          lost 5 /d/b\nlost 4294967295 /x\\x20y/\\x80\\x5c\ncut 2\n\
+          bad layout 0\nbad groupmagic 4294967295\nnote unnamed 7\nnote unclaimed 96\nend 4\n";
+    assert!(rt; sink.taken() == text.as_slice());
+    Ok(())
+}
+
 // Bytes that are all alike.
 fn alike(alloc: Global, n: usize) -> Result<Bytes, AllocError> {
     let mut bytes = Vec::new(alloc);
@@ -89,7 +140,7 @@ fn alike(alloc: Global, n: usize) -> Result<Bytes, AllocError> {
     Ok(Bytes::new(bytes))
 }
 
-// No block has so many bytes, and no directory such a name.
+// No block has so many bytes, no directory such a name, and no event such a path.
 #[test]
 fn long_lines_are_written_whole(rt: HostRuntime) -> Result<(), Fail> {
     let alloc = rt.alloc();
@@ -98,8 +149,11 @@ fn long_lines_are_written_whole(rt: HostRuntime) -> Result<(), Fail> {
     let mut entries = Vec::new(alloc);
     entries.push(ListedEntry::new(1, 6, Kind::Link, 3, alike(alloc, 256)?))?;
     write_reply(&mut sink, &Reply::Listed(ListedEntries::new(entries)))?;
+    let mut files = Vec::new(alloc);
+    files.push(LostPath::new(6, alike(alloc, 1024)?))?;
+    write_reply(&mut sink, &Reply::LostFiles(LostPaths::new(files)))?;
     let text = sink.taken();
-    assert!(rt; text.len() == 5 + 2 * 4097 + 1 + 12 + 256 + 1 + 6);
+    assert!(rt; text.len() == 5 + 2 * 4097 + 1 + 12 + 256 + 1 + 6 + 7 + 1024 + 1 + 6);
     assert!(rt; text.starts_with(b"data 6161"));
     assert!(rt; text.ends_with(b"aaa\nend 1\n"));
     Ok(())

@@ -7,7 +7,7 @@ use Rattle.std.proofs.lemmas.List.Elements.{All-cons, All-head, All-nil, All-tai
 use Rattle.dg_model.proofs.FirstSites.{AreBelow, IsInside, empty_inside, sited_inside}
 use Rattle.dg_model.proofs.MemberLaws.{none_back, none_front, none_lost, stays_where_none, whole_from}
 use Rattle.dg_model.proofs.RunLaws.{run_more, run_none, trace_more}
-use Rattle.dg_model.proofs.StepLaws.{run_keeps, step_keeps}
+use Rattle.dg_model.proofs.StepLaws.{StayInUse, run_keeps, step_keeps}
 use Rattle.dg_model.specs.Blocks.{block_in, padded, stripped, zeros}
 use Rattle.dg_model.specs.Causes.{NoneRose}
 use Rattle.dg_model.specs.Changes.{LosesSites, Stays, Writes}
@@ -150,6 +150,13 @@ set_value l value blocks new b bytes low is right c had = elim (cases_eq c b) [
   | inr other ↦ ap (λ (x : List (List ℕ)). block_in x c) is ∙ get_or-set_other blocks b c (padded l bytes) [] other ∙ had
 ]
 
+-- a write takes no boundary out of use
+writes_stay : (bytes : ℕ → List ℕ) (written : List ℕ) (replies : List Reply) → StayInUse (map (λ b. Write b (bytes b)) written) replies
+writes_stay bytes [] [] = tt
+writes_stay bytes [] (reply ∷ replies) = tt
+writes_stay bytes (b ∷ bs) [] = tt
+writes_stay bytes (b ∷ bs) (reply ∷ replies) = (tt, writes_stay bytes bs replies)
+
 pub writes_done : (shape : Shape) (value bytes : ℕ → List ℕ) (written : List ℕ) (old final : State) (replies : List Reply) → 0 < shape.b
     → All (λ b. b < shape.n) written → ((b : ℕ) → b < shape.n → padded shape.l (bytes b) ≡ value b) → IsFine shape old
     → NoneRose old.counts.faults final.counts.faults → Run AreTold old (map (λ b. Write b (bytes b)) written) replies final
@@ -165,8 +172,8 @@ writes_done shape value bytes [] old final replies some below right fine none ru
 writes_done shape value bytes (b ∷ bs) old final replies some below right fine none run =
     let events : List Event = map (λ x. Write x (bytes x)) bs in
     let m = run_more AreTold old (Write b (bytes b)) events replies final run in
-    let here = none_front old.counts.faults m.mid.counts.faults final.counts.faults (run_keeps AreTold m.mid events m.rest final m.run).counts.faults none in
-    let later = none_back old.counts.faults m.mid.counts.faults final.counts.faults (step_keeps AreTold old (Write b (bytes b)) m.reply m.mid m.step).counts.faults none in
+    let here = none_front old.counts.faults m.mid.counts.faults final.counts.faults (run_keeps AreTold m.mid events m.rest final (writes_stay bytes bs m.rest) m.run).counts.faults none in
+    let later = none_back old.counts.faults m.mid.counts.faults final.counts.faults (step_keeps AreTold old (Write b (bytes b)) m.reply m.mid tt m.step).counts.faults none in
     let low : b < shape.n = All-head (λ (x : ℕ). x < shape.n) b bs below in
     let one = write_done shape old m.mid b (bytes b) m.reply some low fine here m.step in
     let rest = writes_done shape value bytes bs m.mid final m.rest some (All-tail (λ (x : ℕ). x < shape.n) b bs below) right one.fine later m.run in
@@ -212,7 +219,7 @@ replayed asked image g before replies final is trace none =
     let written = trace_of asked.order g (volume_bytes g image) in
     let events : List Event = map (λ b. Write b (stripped (image_block g.fsize (volume_bytes g image) b))) (trace_of asked.order g (volume_bytes g image)) in
     let t = trace_more AreTold before (shape_for asked g) events replies final trace in
-    let rises = (run_keeps AreTold t.blank events t.rest final t.run).counts.faults in
+    let rises = (run_keeps AreTold t.blank events t.rest final (writes_stay bytes written t.rest) t.run).counts.faults in
     let first = none_front before.faults t.blank.counts.faults final.counts.faults rises none in
     let later = none_back before.faults t.blank.counts.faults final.counts.faults t.is_blank.counts.faults none in
     let some : 0 < asked.b = omega (arith, is.limits.least_boundaries) in

@@ -20,6 +20,7 @@ use Rattle.dg_model.proofs.RunLaws.{trace_more}
 use Rattle.dg_model.proofs.StepLaws.{run_keeps, step_keeps}
 use Rattle.dg_uses.specs.Views.{Core, IsViewed, Views, blank_core, core_of}
 use Rattle.dg_uses.proofs.Cores.{Sound, core_is}
+use Rattle.dg_uses.proofs.InUse.{InUse, in_use_blank, in_use_next, viewed_stay, viewed_stays}
 use Rattle.dg_uses.proofs.OneView.{view_same, view_sound}
 use Rattle.dg_uses.proofs.StepViews.{view_of}
 
@@ -41,17 +42,20 @@ views_same shape (event ∷ events) c x y (reply ∷ r) (other ∷ q) sound u v 
 -- ---- runs
 
 module _ (Known : Type 0) (known : Known) (shape : Shape) where
-  pub run_views : (events : List Event) (old new : State) (replies : List Reply) → All IsViewed events → Sound shape (core_of old)
+  pub run_views : (events : List Event) (old new : State) (replies : List Reply) → All IsViewed events → Sound shape (core_of old) → InUse shape old
       → NoneRose old.counts.faults new.counts.faults → Run Known old events replies new → Views (core_of old) events replies (core_of new)
-  run_views [] old new [] served sound none run = ap (λ (s : State). core_of s) run
-  run_views [] old new (reply ∷ replies) served sound none run = absurd run
-  run_views (event ∷ events) old new [] served sound none run = absurd run
-  run_views (event ∷ events) old new (reply ∷ replies) served sound none run =
+  run_views [] old new [] served sound in_use none run = ap (λ (s : State). core_of s) run
+  run_views [] old new (reply ∷ replies) served sound in_use none run = absurd run
+  run_views (event ∷ events) old new [] served sound in_use none run = absurd run
+  run_views (event ∷ events) old new (reply ∷ replies) served sound in_use none run =
       let mid = run.0 in
-      let front = none_front old.counts.faults mid.counts.faults new.counts.faults (run_keeps Known mid events replies new run.2).counts.faults none in
-      let back = none_back old.counts.faults mid.counts.faults new.counts.faults (step_keeps Known old event reply mid run.1).counts.faults none in
-      let view = view_of Known known shape old mid sound front event reply (All-head IsViewed event events served) run.1 in
-      let rest = run_views events mid new replies (All-tail IsViewed event events served) (view_sound shape (core_of old) event reply (core_of mid) sound view) back run.2 in
+      let viewed = All-head IsViewed event events served in
+      let others = All-tail IsViewed event events served in
+      let front = none_front old.counts.faults mid.counts.faults new.counts.faults (run_keeps Known mid events replies new (viewed_stay events replies others) run.2).counts.faults none in
+      let back = none_back old.counts.faults mid.counts.faults new.counts.faults (step_keeps Known old event reply mid (viewed_stays event reply viewed) run.1).counts.faults none in
+      let view = view_of Known known shape old mid sound in_use front event reply viewed run.1 in
+      let after = in_use_next shape old mid in_use Known event reply viewed run.1 in
+      let rest = run_views events mid new replies others (view_sound shape (core_of old) event reply (core_of mid) sound view) after back run.2 in
       (core_of mid, view, rest)
 
 -- ---- traces
@@ -96,11 +100,11 @@ pub trace_chain : (Known : Type 0) → Known → (shape : Shape) (events : List 
     → IsChain shape events replies (core_of final)
 trace_chain Known known shape events before replies final is served none trace =
     let t = trace_more Known before shape events replies final trace in
-    let front = none_front before.faults t.blank.counts.faults final.counts.faults (run_keeps Known t.blank events t.rest final t.run).counts.faults none in
+    let front = none_front before.faults t.blank.counts.faults final.counts.faults (run_keeps Known t.blank events t.rest final (viewed_stay events t.rest served) t.run).counts.faults none in
     let back = none_back before.faults t.blank.counts.faults final.counts.faults t.is_blank.counts.faults none in
     let same = blank_is shape before t.blank front t.is_blank in
     let sound : Sound shape (core_of t.blank) = subst (λ (c : Core). Sound shape c) (sym same) (blank_sound shape is) in
-    let views = run_views Known known shape events t.blank final t.rest served sound back t.run in
+    let views = run_views Known known shape events t.blank final t.rest served sound (in_use_blank shape before t.blank t.is_blank) back t.run in
     record { rest = t.rest; is = t.is; views = subst (λ (c : Core). Views c events t.rest (core_of final)) same views }
 
 -- any trace in which no count of faults rises, where bytes are told, has the replies of a chain that a client writes down

@@ -7,7 +7,7 @@ use Rattle.std.proofs.lemmas.List.Elements.{All-head}
 use Rattle.dg_model.proofs.FirstSites.{AreBelow, IsInside, empty_inside, sited_inside}
 use Rattle.dg_model.proofs.MemberLaws.{none_back, none_front, none_lost, stays_where_none, whole_from}
 use Rattle.dg_model.proofs.RunLaws.{run_more, run_none, trace_more}
-use Rattle.dg_model.proofs.StepLaws.{run_keeps, step_keeps}
+use Rattle.dg_model.proofs.StepLaws.{StayInUse, run_keeps, step_keeps}
 use Rattle.dg_model.proofs.TrimLaws.{trimmed_written, zeros_padded}
 use Rattle.dg_model.specs.Blocks.{block_in, padded, stripped, zeros}
 use Rattle.dg_model.specs.Causes.{NoneRose}
@@ -17,7 +17,7 @@ use Rattle.dg_model.specs.Runs.{Run, Trace}
 use Rattle.dg_model.specs.Shapes.{IsShape}
 use Rattle.dg_model.specs.Sites.{all_lost, has_site}
 use Rattle.dg_model.specs.States.{Counts, IsBlank, State, has_lost, is_broken}
-use Rattle.dg_model.specs.Steps.{Step}
+use Rattle.dg_model.specs.Steps.{Step, member_of}
 use Rattle.dg_model.specs.Tables.{Table, sites_in}
 use Rattle.dg_model.specs.declared.events.Event.{Event}
 use Rattle.dg_model.specs.declared.events.Event.TheVariants.{Array, Fail, Read, Write}
@@ -27,14 +27,16 @@ use Rattle.dg_model.specs.declared.replies.Reply.{Reply}
 use Rattle.dg_model.specs.declared.replies.Reply.TheVariants.{Already, Data, Degraded, Done, Range, Unavailable}
 use Rattle.dg_model.specs.declared.shapes.Shape.{Shape}
 use Rattle.dg_model.specs.declared.sites.Site.{Site}
+use Rattle.dg_uses.proofs.InUse.{InUse, gone_is, in_use_as, in_use_blank, in_use_stays, in_use_wrote, member_here}
 use Rattle.dg_uses.specs.Answers.{StaysWhole, answers, member_by, put, struck}
 
--- these members are out, no boundary is lost, and these bytes were written to the blocks
+-- these members are out, all boundaries are in use and none is lost, no block was cut, and these bytes were written to the blocks
 pub record Fine (shape : Shape) (out : ℕ → Bool) (written : ℕ → List ℕ) (state : State) : Type 0 where
   pub within : IsInside shape state.table
   pub size : length state.blocks ≡ shape.n
   pub blocks : (b : ℕ) → b < shape.n → block_in state.blocks b ≡ padded shape.l (written b)
   pub members : (q : ℕ) → state.members q ≡ member_by shape out q
+  pub in_use : InUse shape state
   pub whole : has_lost shape (member_by shape out) ≡ false
 
 -- ---- members
@@ -109,6 +111,7 @@ wrote Known shape out f old new b bytes some below fine none w =
       size = ap (λ (l : List (List ℕ)). length l) blocks ∙ length-set old.blocks b (padded shape.l bytes) ∙ fine.size;
       blocks = λ c lt. ap (λ (l : List (List ℕ)). block_in l c) blocks ∙ put_blocks shape.l shape.n f old.blocks b bytes fine.size fine.blocks below c lt;
       members = stay_same shape out f old new fine none w.goes.members;
+      in_use = in_use_wrote shape old new fine.in_use b (ap (λ (s : State). s.boundaries) w.rest) (ap (λ (s : State). s.live) w.rest) (ap (λ (s : State). s.cut) w.rest);
       whole = fine.whole;
     }
 
@@ -124,6 +127,7 @@ stayed shape out f old new fine none s =
       size = ap (λ (l : List (List ℕ)). length l) blocks ∙ fine.size;
       blocks = λ c lt. ap (λ (l : List (List ℕ)). block_in l c) blocks ∙ fine.blocks c lt;
       members = stay_same shape out f old new fine none s.goes.members;
+      in_use = in_use_stays shape old new fine.in_use s;
       whole = fine.whole;
     }
 
@@ -159,6 +163,7 @@ struck_fine shape out f old new q fine whole s =
       size = ap (λ (l : List (List ℕ)). length l) blocks ∙ fine.size;
       blocks = λ c lt. ap (λ (l : List (List ℕ)). block_in l c) blocks ∙ fine.blocks c lt;
       members = strike shape out old.members new.members q fine.members s.members;
+      in_use = in_use_as shape old new fine.in_use (ap (λ (x : State). x.boundaries) s.rest) (ap (λ (x : State). x.live) s.rest) (ap (λ (x : State). x.cut) s.rest);
       whole = whole;
     }
 
@@ -173,6 +178,7 @@ struck_again shape out f old q fine was whole = record {
     | inl same ↦ fine.members p ∙ out_is (nat_lt (p / 2) shape.b) (out p) (ap out same ∙ was) ∙ sym (struck_here shape out q p same)
     | inr other ↦ fine.members p ∙ sym (struck_there shape out q p other)
   ];
+  in_use = fine.in_use;
   whole = whole;
 }
   where
@@ -227,9 +233,9 @@ module _ (Known : Type 0) (told : Known) (shape : Shape) (some : 0 < shape.b) (o
   read_below b Range below h = let past = h.0 in absurd (omega (arith, low_n b below, past))
   read_below b Unavailable below h =
       let now = stayed shape out f old new fine none h.3 in
-      absurd (false≢true (sym (sites_stand shape.b new.members (sites_in new.table b) (stands shape out new.members now.members now.whole) (now.within.sites b)) ∙ h.1))
+      absurd (false≢true (sym (sites_stand shape.b new.members (sites_in new.table b) (stands shape out new.members now.members now.whole) (now.within.sites b)) ∙ sym (gone_is shape new now.in_use b) ∙ h.1))
   read_below b (Data bytes) below h =
-      (ap Data (trimmed_written shape.l bytes (block_in old.blocks b) (f b) (h.2 told) (fine.blocks b below)), stayed shape out f old new fine none h.4)
+      (ap Data (trimmed_written shape.l bytes (block_in old.blocks b) (f b) (h.2 told) (fine.blocks b below)), stayed shape out f old new fine none h.5)
   read_below b reply below h = absurd h
 
   pub read_past : (b : ℕ) (reply : Reply) → shape.n ≤ b → Step Known old (Read b) reply new → (reply ≡ Range) × Fine shape out f new
@@ -239,7 +245,10 @@ module _ (Known : Type 0) (told : Known) (shape : Shape) (some : 0 < shape.b) (o
   read_past b reply past h = absurd h
 
   is_there : (s j : ℕ) → s < shape.b → j < 2 → IsMember old s j
-  is_there s j boundary side = record { boundary = subst (λ (t : Shape). s < t.b) (sym fine.within.numbers) boundary; side = side }
+  is_there s j boundary side = record { boundary = subst (λ (n : ℕ). s < n) (sym fine.in_use.boundaries) boundary; side = side }
+
+  here : (s j : ℕ) → s < shape.b → member_of old s j ≡ 2 * s + j
+  here s j boundary = member_here shape old fine.in_use s j boundary
 
   -- a member that isn't out is made to fail
   pub fail_good : (s j : ℕ) (reply : Reply) → s < shape.b → j < 2 → out (2 * s + j) ≡ false → has_lost shape (member_by shape (struck out (2 * s + j))) ≡ false
@@ -247,8 +256,8 @@ module _ (Known : Type 0) (told : Known) (shape : Shape) (some : 0 < shape.b) (o
   fail_good s j Range boundary side was whole h = absurd (h.0 (is_there s j boundary side))
   fail_good s j Already boundary side was whole h =
       let low : (2 * s + j) / 2 < shape.b = omega (arith, boundary, side) in
-      absurd (good_not_out (old.members (2 * s + j)) (fine.members (2 * s + j) ∙ good_by shape out (2 * s + j) low was) h.1)
-  fail_good s j Done boundary side was whole h = (refl, struck_fine shape out f old new (2 * s + j) fine whole h.2)
+      absurd (good_not_out (old.members (2 * s + j)) (fine.members (2 * s + j) ∙ good_by shape out (2 * s + j) low was) (ap old.members (sym (here s j boundary)) ∙ h.1))
+  fail_good s j Done boundary side was whole h = (refl, struck_fine shape out f old new (2 * s + j) fine whole (subst (λ (q : ℕ). Strikes old q new) (here s j boundary) h.2))
   fail_good s j reply boundary side was whole h = absurd h
 
   -- one that is out already
@@ -257,10 +266,19 @@ module _ (Known : Type 0) (told : Known) (shape : Shape) (some : 0 < shape.b) (o
   fail_out s j Range boundary side was whole h = absurd (h.0 (is_there s j boundary side))
   fail_out s j Already boundary side was whole h =
       (refl, same_state shape (struck out (2 * s + j)) f old new (struck_again shape out f old (2 * s + j) fine was whole) h.2)
-  fail_out s j Done boundary side was whole h = absurd (h.1 (fine.members (2 * s + j) ∙ out_by shape out (2 * s + j) was))
+  fail_out s j Done boundary side was whole h = absurd (h.1 (ap old.members (here s j boundary) ∙ fine.members (2 * s + j) ∙ out_by shape out (2 * s + j) was))
   fail_out s j reply boundary side was whole h = absurd h
 
 -- ---- all steps
+
+-- none of the events takes a boundary out of use
+whole_stay : (shape : Shape) (out : ℕ → Bool) (events : List Event) (replies : List Reply) → StaysWhole shape out events → StayInUse events replies
+whole_stay shape out [] replies whole = tt
+whole_stay shape out (event ∷ events) [] whole = tt
+whole_stay shape out (Write b bytes ∷ events) (reply ∷ replies) whole = (tt, whole_stay shape out events replies whole)
+whole_stay shape out (Read b ∷ events) (reply ∷ replies) whole = (tt, whole_stay shape out events replies whole)
+whole_stay shape out (Fail s j ∷ events) (reply ∷ replies) whole = (tt, whole_stay shape (struck out (2 * s + j)) events replies whole.2)
+whole_stay shape out (event ∷ events) (reply ∷ replies) whole = absurd whole
 
 -- a run of such events has the replies that are promised
 pub run_answers : (Known : Type 0) (told : Known) (shape : Shape) (out : ℕ → Bool) (f : ℕ → List ℕ) (events : List Event) (old final : State) (replies : List Reply) → 0 < shape.b
@@ -268,8 +286,8 @@ pub run_answers : (Known : Type 0) (told : Known) (shape : Shape) (out : ℕ →
 run_answers Known told shape out f [] old final replies some whole fine none run = (run_none Known old final replies run).0
 run_answers Known told shape out f (Write b bytes ∷ es) old final replies some whole fine none run =
     let m = run_more Known old (Write b bytes) es replies final run in
-    let here = none_front old.counts.faults m.mid.counts.faults final.counts.faults (run_keeps Known m.mid es m.rest final m.run).counts.faults none in
-    let later = none_back old.counts.faults m.mid.counts.faults final.counts.faults (step_keeps Known old (Write b bytes) m.reply m.mid m.step).counts.faults none in
+    let here = none_front old.counts.faults m.mid.counts.faults final.counts.faults (run_keeps Known m.mid es m.rest final (whole_stay shape out es m.rest whole) m.run).counts.faults none in
+    let later = none_back old.counts.faults m.mid.counts.faults final.counts.faults (step_keeps Known old (Write b bytes) m.reply m.mid tt m.step).counts.faults none in
     elim (cases_lt b shape.n) [
       | inl below ↦
           let w = write_below Known told shape some out f old m.mid fine here b bytes m.reply below m.step in
@@ -284,8 +302,8 @@ run_answers Known told shape out f (Write b bytes ∷ es) old final replies some
     ]
 run_answers Known told shape out f (Read b ∷ es) old final replies some whole fine none run =
     let m = run_more Known old (Read b) es replies final run in
-    let here = none_front old.counts.faults m.mid.counts.faults final.counts.faults (run_keeps Known m.mid es m.rest final m.run).counts.faults none in
-    let later = none_back old.counts.faults m.mid.counts.faults final.counts.faults (step_keeps Known old (Read b) m.reply m.mid m.step).counts.faults none in
+    let here = none_front old.counts.faults m.mid.counts.faults final.counts.faults (run_keeps Known m.mid es m.rest final (whole_stay shape out es m.rest whole) m.run).counts.faults none in
+    let later = none_back old.counts.faults m.mid.counts.faults final.counts.faults (step_keeps Known old (Read b) m.reply m.mid tt m.step).counts.faults none in
     elim (cases_lt b shape.n) [
       | inl below ↦
           let r = read_below Known told shape some out f old m.mid fine here b m.reply below m.step in
@@ -300,8 +318,8 @@ run_answers Known told shape out f (Read b ∷ es) old final replies some whole 
     ]
 run_answers Known told shape out f (Fail s j ∷ es) old final replies some whole fine none run =
     let m = run_more Known old (Fail s j) es replies final run in
-    let here = none_front old.counts.faults m.mid.counts.faults final.counts.faults (run_keeps Known m.mid es m.rest final m.run).counts.faults none in
-    let later = none_back old.counts.faults m.mid.counts.faults final.counts.faults (step_keeps Known old (Fail s j) m.reply m.mid m.step).counts.faults none in
+    let here = none_front old.counts.faults m.mid.counts.faults final.counts.faults (run_keeps Known m.mid es m.rest final (whole_stay shape (struck out (2 * s + j)) es m.rest whole.2) m.run).counts.faults none in
+    let later = none_back old.counts.faults m.mid.counts.faults final.counts.faults (step_keeps Known old (Fail s j) m.reply m.mid tt m.step).counts.faults none in
     let low = whole.0.boundary in
     let side = whole.0.side in
     elim (cases_Bool (out (2 * s + j))) [
@@ -345,6 +363,7 @@ blank_fine shape before state none blank =
       size = ap (λ (l : List (List ℕ)). length l) blocks ∙ length-replicate shape.n (zeros shape.l);
       blocks = λ b lt. ap (λ (l : List (List ℕ)). block_in l b) blocks ∙ get_or-replicate shape.n b (zeros shape.l) [] lt ∙ zeros_padded shape.l;
       members = blank_member shape before state none blank;
+      in_use = in_use_blank shape before state blank;
       whole = blank_whole shape;
     }
 
@@ -354,7 +373,7 @@ pub trace_answers : (Known : Type 0) (told : Known) (before : Counts) (shape : S
     → replies ≡ Done ∷ answers shape (λ p. false) (λ b. []) events
 trace_answers Known told before shape events replies final is whole none trace =
     let t = trace_more Known before shape events replies final trace in
-    let rises = (run_keeps Known t.blank events t.rest final t.run).counts.faults in
+    let rises = (run_keeps Known t.blank events t.rest final (whole_stay shape (λ p. false) events t.rest whole) t.run).counts.faults in
     let first = none_front before.faults t.blank.counts.faults final.counts.faults rises none in
     let later = none_back before.faults t.blank.counts.faults final.counts.faults t.is_blank.counts.faults none in
     let some : 0 < shape.b = omega (arith, is.least_boundaries) in

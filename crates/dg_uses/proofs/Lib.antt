@@ -1,6 +1,7 @@
 mod BlankRows
 mod Ended
 mod Flat
+pub mod InUse
 mod Lines
 mod LossRows
 mod Promised

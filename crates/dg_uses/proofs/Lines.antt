@@ -41,8 +41,9 @@ prints one shape events promised places are text spelled end did never =
     let smoothly : RanSmoothly (Array shape ∷ events) replayed.replies = record {
       before = did.before;
       now = counts_in end.rack;
+      images = did.images;
       bytes = member_in end.rack;
       smooth = smooth_from did.before (counts_in end.rack) (member_in end.rack) did.fresh never (λ q. refl);
-      ran = subst (λ (es : List Event). Ran did.before (counts_in end.rack) (member_in end.rack) es replayed.replies) same replayed.ran;
+      ran = subst (λ (es : List Event). Ran did.before (counts_in end.rack) did.images (member_in end.rack) es replayed.replies) same replayed.ran;
     } in
     replayed.output ∙ ap output_of (are replayed.replies smoothly)

@@ -20,9 +20,10 @@ pub record IsSmooth (before now : Counts) (bytes : ℕ → Option (List ℕ)) : 
 pub record RanSmoothly (events : List Event) (replies : List Reply) : Type 0 where
   pub before : Counts
   pub now : Counts
+  pub images : ℕ → Option (List ℕ)
   pub bytes : ℕ → Option (List ℕ)
   pub smooth : IsSmooth before now bytes
-  pub ran : Ran before now bytes events replies
+  pub ran : Ran before now images bytes events replies
 
 -- nothing was counted yet
 pub record AreNone (counts : Counts) : Type 0 where
@@ -38,19 +39,22 @@ NeverFailed end = NoneRose (λ q. 0) (counts_in end.rack).faults
 pub record HasReplayed (text : List ℕ) (end : Replay) : Type 0 where
   pub before : Counts
   pub fresh : AreNone before
-  pub replayed : Replayed before (counts_in end.rack) (member_in end.rack) (Some text) (Some (left_in end.source)) (Some []) (Some (taken_in end.sink))
+  pub images : ℕ → Option (List ℕ)
+  pub replayed : Replayed before (counts_in end.rack) images (member_in end.rack) (Some text) (Some (left_in end.source)) (Some []) (Some (taken_in end.sink))
 
 -- the same up to a line that is refused
 pub record HasStopped (text : List ℕ) (end : Replay) : Type 0 where
   pub before : Counts
   pub fresh : AreNone before
-  pub stopped : Stopped before (counts_in end.rack) (member_in end.rack) (Some text) (Some (left_in end.source)) (Some []) (Some (taken_in end.sink))
+  pub images : ℕ → Option (List ℕ)
+  pub stopped : Stopped before (counts_in end.rack) images (member_in end.rack) (Some text) (Some (left_in end.source)) (Some []) (Some (taken_in end.sink))
 
 -- the same up to a fault of the sink
 pub record HasBeenCut (text : List ℕ) (end : Replay) : Type 0 where
   pub before : Counts
   pub fresh : AreNone before
-  pub cut : IsCut before (counts_in end.rack) (member_in end.rack) (Some text) (Some (left_in end.source)) (Some []) (Some (taken_in end.sink))
+  pub images : ℕ → Option (List ℕ)
+  pub cut : IsCut before (counts_in end.rack) images (member_in end.rack) (Some text) (Some (left_in end.source)) (Some []) (Some (taken_in end.sink))
 
 -- a text begins with this part
 pub record IsFront (part whole : List ℕ) : Type 0 where

@@ -22,7 +22,8 @@ use Rattle.dg_model.specs.declared.replies.Reply.TheVariants.{Done, Range, Degra
 
 -- ---- what decides the replies
 
--- Where blocks stand, their values, and what members do: all of a state that the replies to these events rest on.
+-- Where blocks stand, their values, and what members do: all of a state that the replies to these events rest on, as long as all boundaries
+-- are in use and no block was cut. So it is from the blank array on, since none of these events takes a boundary out of use.
 pub record Core : Type 0 where
   pub table : Table
   pub blocks : List (List ℕ)

@@ -14,8 +14,8 @@ use dg_promise::reads_keep_their_promise;
 /// none is lost while the file is read, all of a regular file is given exactly where it has no home, or its home or its copy isn't lost;
 /// it is unavailable exactly where that isn't so; and a path to none is refused.
 pub fn cats_keep_their_promise()
-    ensures { (before now : Counts) (bytes : ℕ → Option (List ℕ)) (shape : Shape) (front rest : List Event) (path : List ℕ) (replies : List Reply)
-        → (ran : Ran before now bytes (Event.Array shape ∷ (front ++ Event.Cat path ∷ rest)) (Reply.Done ∷ replies)) → IsToldAtEnd bytes ran
+    ensures { (before now : Counts) (images bytes : ℕ → Option (List ℕ)) (shape : Shape) (front rest : List Event) (path : List ℕ) (replies : List Reply)
+        → (ran : Ran before now images bytes (Event.Array shape ∷ (front ++ Event.Cat path ∷ rest)) (Reply.Done ∷ replies)) → IsToldAtEnd bytes ran
         → ReadsInRun before shape front path rest replies ran.final }
 {
     reads_keep_their_promise();

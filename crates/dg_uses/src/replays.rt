@@ -50,12 +50,12 @@ fn run_replay(
     rack: &mut MemRack,
 ) -> Status
     requires { IsCommand (map string_bytes words.now.items) Command.Replay }
-    ensures done { result ≡ Status.Done → Replayed (counts_in rack.old) (counts_in rack.new) (member_in rack.new) (Some (left_in source.old))
-        (Some (left_in source.new)) (Some (taken_in sink.old)) (Some (taken_in sink.new)) }
-    ensures bad_line { result ≡ Status.BadLine → Stopped (counts_in rack.old) (counts_in rack.new) (member_in rack.new) (Some (left_in source.old))
-        (Some (left_in source.new)) (Some (taken_in sink.old)) (Some (taken_in sink.new)) }
-    ensures part { result ≡ Status.WriteFault → IsCut (counts_in rack.old) (counts_in rack.new) (member_in rack.new) (Some (left_in source.old))
-        (Some (left_in source.new)) (Some (taken_in sink.old)) (Some (taken_in sink.new)) }
+    ensures done { result ≡ Status.Done → Replayed (counts_in rack.old) (counts_in rack.new) (member_in rack.old) (member_in rack.new)
+        (Some (left_in source.old)) (Some (left_in source.new)) (Some (taken_in sink.old)) (Some (taken_in sink.new)) }
+    ensures bad_line { result ≡ Status.BadLine → Stopped (counts_in rack.old) (counts_in rack.new) (member_in rack.old) (member_in rack.new)
+        (Some (left_in source.old)) (Some (left_in source.new)) (Some (taken_in sink.old)) (Some (taken_in sink.new)) }
+    ensures part { result ≡ Status.WriteFault → IsCut (counts_in rack.old) (counts_in rack.new) (member_in rack.old) (member_in rack.new)
+        (Some (left_in source.old)) (Some (left_in source.new)) (Some (taken_in sink.old)) (Some (taken_in sink.new)) }
 {
     run(alloc, words, source, sink, rack)
 }

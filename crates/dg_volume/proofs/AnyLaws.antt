@@ -1,11 +1,12 @@
 -- A volume whose phase is told only when the program runs is the same volume.
-use Rattle.std.proofs.Common.{◌≡◌, ◌∙◌, length, refl, sym, subst}
-use Rattle.std.specs.Prelude.{Option, IfSome}
+use Rattle.std.proofs.Common.{◌≡◌, ◌∙◌, false, length, refl, sym, subst}
+use Rattle.std.specs.Prelude.{Option, IfSome, replicate}
 use Rattle.dg_infer.specs.Meanings.{KeptInference}
 use Rattle.dg_infer.specs.Meanings as inferences
 use Rattle.dg_io.specs.declared.outside.Rack.{Ghosts}
+use Rattle.dg_model.specs.Lives.{all_live}
 use Rattle.dg_model.specs.States.{State}
-use Rattle.dg_store.specs.ReadLaws.{rack_none}
+use Rattle.dg_store.specs.ReadLaws.{own_none, rack_none}
 use Rattle.dg_volume.specs.Phases.{kept_in, phase_in}
 use Rattle.dg_volume.specs.Volumes.{FitsArray, IsInPlace, IsSame, IsWell, StandsIn, any_phase, marks_by, members_of, rack_of, shape_of, table_of}
 use Rattle.dg_volume.specs.declared.phases.AnyPhase.{AnyPhase}
@@ -51,8 +52,11 @@ module _ {S R : Type 0} (phase : phases.Ghosts S) (rack : Ghosts R) where
       → StandsIn any_phase rack (told_later volume any) state
   stands_still volume any h state st = record {
     is = st.is ∙ (λ i. record state {
+      boundaries = (shape_of volume).b;
+      live = all_live (shape_of volume).b;
       table = table_of volume;
       pending = marks_by (sym h.kept_is i) volume.pending.items;
+      cut = replicate (shape_of volume).n false;
       homes = volume.homes;
       copies = volume.copies;
       phase = sym h.phase_is i;
@@ -68,7 +72,7 @@ module _ {S R : Type 0} (phase : phases.Ghosts S) (rack : Ghosts R) where
 
   pub same_later : (volume : Volume S R) (any : AnyPhase) → IsPhaseOf volume any → IsWell phase rack volume → IsSame phase any_phase rack volume (told_later volume any)
   same_later volume any h well = record {
-    leaves = record { well = well_still volume any h well; shape = refl; rise = (rack_none rack (rack_of volume)).rise; tells = λ q told. told; same_rack = refl };
+    leaves = record { well = well_still volume any h well; shape = refl; rise = (rack_none rack (rack_of volume)).rise; tells = λ q told. told; told_before = λ q tells. tells; own = own_none rack (shape_of volume).b (rack_of volume); same_rack = refl };
     stands = stands_still volume any h;
     rack_is = refl;
     given_is = refl;

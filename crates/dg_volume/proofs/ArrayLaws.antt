@@ -19,9 +19,10 @@ use Rattle.dg_move.specs.Stores.{MovesOn}
 use Rattle.dg_plan.specs.Planned.{IsPlanned, KeepsRules}
 use Rattle.dg_plan.specs.declared.target_lists.Targets.{Targets}
 use Rattle.dg_store.specs.Leaves.{Keeps}
-use Rattle.dg_store.specs.ReadLaws.{rack_both, reads_both}
-use Rattle.dg_store.specs.Stores.{TellsAll, members_of, rack_of}
+use Rattle.dg_store.specs.ReadLaws.{reads_both, reads_none, stays_both}
+use Rattle.dg_store.specs.Stores.{IsSound, TellsAll, members_of, rack_of}
 use Rattle.dg_store.specs.declared.store.Store.{Store}
+use Rattle.dg_volume.proofs.FaultLaws.{array_outs, array_tells, falls_out, keeps_outs, keeps_tells, outs_both, stays_by, tells_both}
 use Rattle.dg_volume.specs.Planned.{AreKnown, AreWanted, HasMovedArray, HasNoPlan, HasPlan, HasReadArray}
 use Rattle.dg_volume.specs.Volumes.{FitsArray}
 
@@ -40,10 +41,14 @@ table_right shape kept claims V fits same held =
 module _ {R : Type 0} (rack : Ghosts R) where
   -- what is told in the end was told before
   pub told_by : (a b : Store R) → Keeps rack a b → TellsAll rack b → TellsAll rack a
-  told_by a b keeps told q below = keeps.stays.tells q (told q (subst (λ (s : Shape). q / 2 < s.b) (sym keeps.shape) below))
+  told_by a b keeps told q below = keeps.stays.told_before q (told q (subst (λ (s : Shape). q / 2 < s.b) (sym keeps.shape) below))
 
   pub told_moved : (a b : Store R) → HasMovedArray rack a b → TellsAll rack b → TellsAll rack a
-  told_moved a b h told q below = h.stays.stays.tells q (told q (subst (λ (s : Shape). q / 2 < s.b) (sym h.stays.shape) below))
+  told_moved a b h told q below = h.stays.stays.told_before q (told q (subst (λ (s : Shape). q / 2 < s.b) (sym h.stays.shape) below))
+
+  -- no call was made
+  pub read_none : (a : Store R) → IsSound rack a → HasReadArray rack a a
+  read_none a sound = record { sound = sound; reads = reads_none rack a; stands = λ V held. held }
 
   pub read_both : (a b c : Store R) → HasReadArray rack a b → HasReadArray rack b c → HasReadArray rack a c
   read_both a b c first second = record {
@@ -55,32 +60,48 @@ module _ {R : Type 0} (rack : Ghosts R) where
   pub read_moved : (a b : Store R) → HasReadArray rack a b → HasMovedArray rack a b
   read_moved a b h = record {
     sound = h.sound;
-    stays = record { shape = h.reads.keeps.shape; stays = h.reads.keeps.stays };
+    stays = stays_by rack a b h.reads.keeps;
     falls = h.reads.keeps.falls;
+    faults = keeps_tells rack a b h.reads.keeps;
+    outs = keeps_outs rack a b h.reads.keeps;
     stands = λ told. h.stands;
   }
+
+  pub moved_none : (a : Store R) → IsSound rack a → HasMovedArray rack a a
+  moved_none a sound = read_moved a a (read_none a sound)
 
   pub moved_by : (targets : ℕ → ℕ → Bool) (a b : Store R) → MovesOn rack targets a b → HasMovedArray rack a b
   moved_by targets a b h = record {
     sound = h.leaves.sound;
-    stays = record { shape = h.leaves.keeps.shape; stays = h.leaves.keeps.stays };
+    stays = stays_by rack a b h.leaves.keeps;
     falls = h.leaves.keeps.falls;
+    faults = keeps_tells rack a b h.leaves.keeps;
+    outs = keeps_outs rack a b h.leaves.keeps;
     stands = h.stands;
   }
 
   pub opened_array : (a b : Store R) → KeepsArray rack a b → HasMovedArray rack a b
-  opened_array a b h = record { sound = h.sound; stays = h.stays; falls = h.falls; stands = λ told. h.stands }
+  opened_array a b h = record {
+    sound = h.sound;
+    stays = h.stays;
+    falls = h.falls;
+    faults = array_tells rack a b h;
+    outs = array_outs rack a b h;
+    stands = λ told. h.stands;
+  }
 
   pub moved_then : (a b c : Store R) → HasMovedArray rack a b → HasMovedArray rack b c → HasMovedArray rack a c
   moved_then a b c first second = record {
     sound = second.sound;
-    stays = record {
-      shape = second.stays.shape ∙ first.stays.shape;
-      stays = rack_both rack (rack_of a) (rack_of b) (rack_of c) first.stays.stays second.stays.stays;
-    };
+    stays = stays_both rack a b c first.stays second.stays;
     falls =
         falls_both (rack.counts (rack_of a)).faults (rack.counts (rack_of b)).faults (rack.counts (rack_of c)).faults (members_of a) (members_of b) (members_of c)
         first.stays.stays.rise.faults second.stays.stays.rise.faults first.falls second.falls;
+    faults =
+        tells_both rack a b c first.stays.shape
+        (falls_out (rack.counts (rack_of b)).faults (rack.counts (rack_of c)).faults (members_of b) (members_of c) second.falls) first.faults second.faults;
+    outs =
+        outs_both rack a b c (falls_out (rack.counts (rack_of a)).faults (rack.counts (rack_of b)).faults (members_of a) (members_of b) first.falls) first.outs second.outs;
     stands = λ told V held. second.stands told V (first.stands (told_moved b c second told) V held);
   }
 

@@ -1,14 +1,15 @@
 -- The volume of a blank array is in the state of the blank array.
 use Rattle.std.proofs.Common.{◌≡◌, ◌≢◌, ◌∙◌, ◌≤◌, ◌/◌, ℕ, true, false, List, [], length, inl, inr, refl, sym, ap, subst, arith, rules}
-use Rattle.std.specs.Prelude.{IfSome, None, Option, Some, replicate}
+use Rattle.std.specs.Prelude.{IfSome, None, Option, Some, replicate, take}
 use Rattle.std.proofs.lemmas.Bool.{cases_lt, false≢true}
-use Rattle.std.proofs.lemmas.List.{length-replicate}
+use Rattle.std.proofs.lemmas.List.{length-replicate, take-replicate}
 use Rattle.dg_infer.specs.Meanings.{KeptInference}
 use Rattle.dg_infer.specs.Meanings as inferences
 use Rattle.dg_io.specs.declared.outside.Rack.{Ghosts}
-use Rattle.dg_label.specs.Labels.{HasLength, IsLabeled, StandsLabeled}
+use Rattle.dg_label.specs.Labels.{AreFresh, HasLength, IsLabeled, StandsLabeled}
 use Rattle.dg_label.specs.declared.labels.KeptLabel.{KeptLabel}
 use Rattle.dg_model.specs.Blocks.{zeros}
+use Rattle.dg_model.specs.Lives.{all_live}
 use Rattle.dg_model.specs.Members.{is_filling}
 use Rattle.dg_model.specs.Saves.{AreHomes, member_length}
 use Rattle.dg_model.specs.States.{IsBlank, State, plain_state}
@@ -19,6 +20,7 @@ use Rattle.dg_model.specs.declared.shapes.Shape.{Shape}
 use Rattle.dg_store.specs.Answers.{IsBlankStore, IsZeroed}
 use Rattle.dg_store.specs.Stores as stores
 use Rattle.dg_store.specs.declared.store.Store.{Store}
+use Rattle.dg_volume.proofs.FaultLaws.{blank_beyond, blank_fell}
 use Rattle.dg_volume.specs.Volumes.{IsBlankVolume, StandsIn, loose_phase, members_of, rack_of, shape_of}
 use Rattle.dg_volume.specs.declared.phases.Loose.{Loose}
 use Rattle.dg_volume.specs.declared.volumes.Volume.{Volume}
@@ -51,6 +53,23 @@ module _ {R : Type 0} (rack : Ghosts R) (shape : Shape) (before : R) (store : St
     | inr past ↦ absurd (false≢true (sym (ap is_filling (blank.members.others q (omega (arith, past)))) ∙ fills))
   ]
 
+  -- where a label would be it has zeros
+  blank_fresh : AreFresh rack store None
+  blank_fresh q below here lacks = elim (cases_lt (q / 2) shape.b) [
+    | inl within ↦ elim (blank.members.begins q within) [
+      | inl good ↦ none (rack.bytes (stores.rack_of store) q) (blank.blanked q good)
+      | inr fell ↦ absurd (here fell.0)
+    ]
+    | inr past ↦ absurd (here (blank.members.others q (omega (arith, past))))
+  ]
+    where
+      none : (told : Option (List ℕ)) → IsZeroed (member_length 2 shape) told → IfSome told (λ all. take 512 all ≡ zeros 512)
+      none None zeroed = tt
+      none (Some all) zeroed = ap (λ (xs : List ℕ). take 512 xs) zeroed ∙ take-replicate 512 (member_length 2 shape) 0 (omega arith)
+
+  pub blank_unlabeled : StandsLabeled rack store None None
+  blank_unlabeled = record { kept = tt; holds = tt; sizes = tt; of_array = tt; filling = λ q fills. refl; fresh = blank_fresh }
+
   pub blank_labeled : IsLabeled rack store None
   blank_labeled = record { numbers = tt; lengths = lengths; filling = none_filling }
 
@@ -64,6 +83,7 @@ pub record IsPlain {R : Type 0} (shape : Shape) (volume : Volume Loose R) : Type
   pub homes : volume.homes ≡ []
   pub copies : volume.copies ≡ []
   pub label : volume.label ≡ None
+  pub given : volume.given ≡ None
 
 module _ {R : Type 0} (rack : Ghosts R) (shape : Shape) (before : R) (volume : Volume Loose R) (blank : IsBlankStore rack shape before volume.store) (plain : IsPlain shape volume) where
   same_shape : shape_of volume ≡ shape
@@ -76,14 +96,30 @@ module _ {R : Type 0} (rack : Ghosts R) (shape : Shape) (before : R) (volume : V
   start_in : StandsIn loose_phase rack volume start
   unfolding start
   start_in = record {
-    is = λ i. record start { table = sym blank.table i; pending = sym plain.pending i; homes = sym plain.homes i; copies = sym plain.copies i };
-    label = subst (λ (k : Option KeptLabel). StandsLabeled rack volume.store k None) (sym plain.label) (record { kept = tt; holds = tt });
+    is = λ i. record start {
+      boundaries = (sym blank.table i).shape.b;
+      live = all_live (sym blank.table i).shape.b;
+      cut = replicate (sym blank.table i).shape.n false;
+      table = sym blank.table i;
+      pending = sym plain.pending i;
+      homes = sym plain.homes i;
+      copies = sym plain.copies i;
+    };
+    label = subst (λ (k : Option KeptLabel). StandsLabeled rack volume.store k None) (sym plain.label) (blank_unlabeled rack shape before volume.store blank);
     holds = λ told. record { array = blank.stands; inferred = plain.inferred };
   }
 
   start_blank : IsBlank shape (rack.counts before) start
   unfolding start
-  start_blank = record { is = refl; others = blank.members.others; members = blank.members.begins; counts = blank.stays.rise }
+  start_blank = record {
+    is = refl;
+    others = blank.members.others;
+    members = blank.members.begins;
+    counts = blank.stays.rise;
+    fell = blank_fell rack shape before volume.store blank;
+    beyond = blank_beyond rack shape before volume.store blank;
+    few = blank.most;
+  }
 
   pub is_blank : IsBlankVolume rack shape before volume
   is_blank = record {
@@ -102,9 +138,12 @@ module _ {R : Type 0} (rack : Ghosts R) (shape : Shape) (before : R) (volume : V
     };
     shape_is = same_shape;
     tells = blank.stays.tells;
+    told_before = blank.stays.told_before;
+    own = blank.own;
     same_rack = blank.stays.same_rack;
     state = start;
     blank = start_blank;
     stands = start_in;
+    given_is = plain.given;
     few = blank.most;
   }

@@ -1,6 +1,6 @@
 -- A settled volume makes a step by a spreading of copies.
 use Rattle.std.proofs.Common.{◌≡◌, ◌∙◌, ◌<◌, ◌≤◌, ◌/◌, ◌^◌, ◌==◌, ◌||◌, ℕ, Bool, true, false, List, [], ◌∷◌, length, inl, inr, refl, sym, ap, subst, arith}
-use Rattle.std.specs.Prelude.{◌++◌, All, Err, IfOk, IfSome, IsSome, None, Ok, Option, Result, Some, filter, if◌then◌else◌, option_to_list, take}
+use Rattle.std.specs.Prelude.{◌++◌, All, Err, IfOk, IfSome, IsSome, None, Ok, Option, Result, Some, filter, if◌then◌else◌, option_to_list, replicate, take}
 use Rattle.std.specs.List.{list_any, range_with_len}
 use Rattle.std.proofs.lemmas.Bool.{cases_lt, eq-eqb, eqb-true, false≢true, or_left, or_right}
 use Rattle.dg_hot.specs.Spreads.{HasSpread, HasSpreadSome, IsLost, spread_of}
@@ -11,8 +11,9 @@ use Rattle.dg_infer.specs.Meanings as inferences
 use Rattle.dg_io.specs.declared.outside.Rack.{Ghosts}
 use Rattle.dg_label.specs.Labels.{StandsLabeled}
 use Rattle.dg_model.specs.Changes.{Spreads}
-use Rattle.dg_model.specs.Copies.{spread_over}
+use Rattle.dg_model.specs.Copies.{lacks_copy, spread_over}
 use Rattle.dg_model.specs.Homes.{home_of}
+use Rattle.dg_model.specs.Lives.{all_live}
 use Rattle.dg_model.specs.Placed.{IsPlaced, boundaries_with}
 use Rattle.dg_model.specs.Plans.{is_file}
 use Rattle.dg_model.specs.Saves.{AreHomes}
@@ -30,6 +31,7 @@ use Rattle.dg_model.specs.declared.shapes.Shape.{Shape}
 use Rattle.dg_model.specs.declared.wants.Want.{Want}
 use Rattle.dg_model.specs.declared.wants.Want.TheVariants.{File, Kept, Stray}
 use Rattle.dg_volume.proofs.HomeLaws.{are_homes}
+use Rattle.dg_volume.proofs.LineLaws.{least_in}
 use Rattle.dg_volume.proofs.PlacedLaws.{off_table}
 use Rattle.dg_store.specs.Answers.{SameWritten}
 use Rattle.dg_volume.proofs.VolumeLaws.{Labels, StepsAt, label_by, on_label}
@@ -99,6 +101,7 @@ module _ {S R : Type 0} (phase : phases.Ghosts S) (rack : Ghosts R) where
     pub diffused : IfOk result (λ answer. (n : ℕ) → answer ≡ Diffused n → HasSpread wants a.homes hot (length hot) n a.copies b.copies a.store b.store)
     pub lost : IfOk result (λ answer. (s : ℕ) → answer ≡ Lost s → IsLost b.store s)
     pub cut : IfOk result (λ answer. (s : ℕ) → answer ≡ Lost s → HasSpreadSome wants a.homes hot a.copies b.copies a.store b.store)
+    pub still : list_any (lacks_copy a.homes a.copies) hot ≡ false → rack_of b ≡ rack_of a
 
   -- the wants by which each block of a settled volume is in its place
   pub wanted_by : (a : Volume S R) (kept : KeptInference) → IsWell phase rack a → phase.kept a.phase ≡ Some kept
@@ -174,6 +177,8 @@ module _ {S R : Type 0} (phase : phases.Ghosts S) (rack : Ghosts R) where
           shape = same_shape;
           rise = h.moved.stays.stays.rise;
           tells = h.moved.stays.stays.tells;
+          told_before = h.moved.stays.stays.told_before;
+          own = h.moved.stays.own;
           same_rack = h.moved.stays.stays.same_rack;
         }
 
@@ -181,7 +186,7 @@ module _ {S R : Type 0} (phase : phases.Ghosts S) (rack : Ghosts R) where
     diffuse_keeps told = h.moved.stands told
 
     told_before : Tells rack b → Tells rack a
-    told_before told q below = h.moved.stays.stays.tells q (told q (subst (λ (x : Shape). q / 2 < x.b) (sym same_shape) below))
+    told_before told q below = h.moved.stays.stays.told_before q (told q (subst (λ (x : Shape). q / 2 < x.b) (sym same_shape) below))
 
     -- the state that it is in then
     abbrev next_state : State → List (List ℕ) → State
@@ -199,6 +204,12 @@ module _ {S R : Type 0} (phase : phases.Ghosts S) (rack : Ghosts R) where
           };
     }
 
+    -- where no file lacks a copy no call that writes was made
+    still_on : (rest : State) → rest.recent ≡ hot → list_any (lacks_copy a.homes a.copies) rest.recent ≡ false
+        → (rack.counts (rack_of b)).writes ≡ (rack.counts (rack_of a)).writes
+    still_on rest recent none =
+        ap (λ (r : R). (rack.counts r).writes) (h.still (subst (λ (files : List ℕ). list_any (lacks_copy a.homes a.copies) files ≡ false) recent none))
+
     -- so many of the files may have got copies
     spreads : (count gained : ℕ) → HasSpread wants a.homes hot count gained a.copies b.copies a.store b.store → (rest : State) (V : List (List ℕ))
         → StandsLabeled rack a.store a.label rest.label → rest.recent ≡ hot → (Tells rack a → StandsFor phase rack a V)
@@ -212,12 +223,21 @@ module _ {S R : Type 0} (phase : phases.Ghosts S) (rack : Ghosts R) where
             wants_on V (subst (λ (k : Option KeptInference). IfSome k (λ inference. inferences.StandsFor inference V)) h.kept_is held.inferred);
       };
       goes = record {
-        passes = record { counts = h.moved.stays.stays.rise; label = label_by rack a b h.labels rest.label label; paired = h.moved.sound.paired };
+        passes = record {
+          counts = h.moved.stays.stays.rise;
+          label = label_by rack a b h.labels rest.label label;
+          paired = h.moved.sound.paired;
+          faults = record { fell = h.moved.faults.fell; beyond = h.moved.faults.beyond };
+        };
         members = h.moved.falls;
+        out = h.moved.outs;
       };
       spread = has.spread ∙ ap (λ (files : List ℕ). spread_over wants a.homes (take count files) (spread_of a.store a.copies)) (sym recent);
       gained_is = has.gained_is;
       rest = λ i. record (on_label a b h.labels.opens rest) {
+        boundaries = (same_shape i).b;
+        live = all_live (same_shape i).b;
+        cut = replicate (same_shape i).n false;
         table = table_of b;
         blocks = V;
         pending = same_marks i;
@@ -227,6 +247,7 @@ module _ {S R : Type 0} (phase : phases.Ghosts S) (rack : Ghosts R) where
         members = members_of b;
         counts = rack.counts (rack_of b);
       };
+      still = still_on rest recent;
     }
 
   hot_steps : (a b : Volume S R) (hot : List ℕ) (event : Event) (reply : Reply)
@@ -257,7 +278,7 @@ module _ {S R : Type 0} (phase : phases.Ghosts S) (rack : Ghosts R) where
         next_in a kept wants hot (Ok (Lost s)) b h rest V label holds,
         (
           h.settled,
-          inr ((h.whole, h.lost s refl), (some.count, some.gained, spreads a kept wants hot (Ok (Lost s)) b h some.count some.gained some.has rest V label recent holds)),
+          inr ((h.whole, least_in (shape_of b) (members_of b) s (h.lost s refl)), (some.count, some.gained, spreads a kept wants hot (Ok (Lost s)) b h some.count some.gained some.has rest V label recent holds)),
         ),
         refl,
       ))
@@ -269,7 +290,7 @@ module _ {S R : Type 0} (phase : phases.Ghosts S) (rack : Ghosts R) where
   diffuse_lost a hot s settled lost = hot_steps a a hot Diffuse (LostReply s) (λ rest V label recent holds. (
     state_of phase rack a rest V,
     record { is = refl; label = label; holds = holds },
-    (settled, inl (lost, refl)),
+    (settled, inl (least_in (shape_of a) (members_of a) s lost, refl)),
     refl,
   ))
 

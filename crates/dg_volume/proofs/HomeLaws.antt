@@ -1,6 +1,6 @@
 -- Homes that ascend, each of which is found by its inode.
-use Rattle.std.proofs.Common.{◌≡◌, ◌<◌, ◌+◌, ◌^◌, ℕ, zero, suc, Bool, cond, List, [], ◌∷◌, length, get_or, map, refl, ◌∙◌, ap, subst, arith}
-use Rattle.std.specs.Prelude.{Some, All}
+use Rattle.std.proofs.Common.{◌≡◌, ◌<◌, ◌+◌, ◌^◌, ℕ, zero, suc, Bool, true, false, cond, List, [], ◌∷◌, length, get_or, map, refl, ◌∙◌, ap, subst, arith}
+use Rattle.std.specs.Prelude.{◌==◌, All, Option, Some, if◌then◌else◌}
 use Rattle.dg_model.proofs.SiteLists.{apart_test, same_test}
 use Rattle.dg_model.specs.Homes.{Ascend, home_of}
 use Rattle.dg_model.specs.Saves.{AreHomes}
@@ -40,3 +40,16 @@ pub are_homes : (shape : Shape) (homes : List Home) → Ascend homes → ((i s :
     → All (λ (home : Home). home.inode < 2 ^ 32) homes → AreHomes shape homes
 are_homes shape homes ascend within small =
     (ascend, λ k d low. (small k d low, within ((get_or homes k d).inode) ((get_or homes k d).boundary) (found_at homes k d ascend low)))
+
+-- and each that is found is there
+pub home_within : (shape : Shape) (homes : List Home) (i s : ℕ) → AreHomes shape homes → home_of homes i ≡ Some s → s < shape.b
+home_within shape homes i s are is = at_some homes are.1 is
+  where
+    by_test : (b : Bool) {low : ℕ} {rest : Option ℕ} → low < shape.b → (rest ≡ Some s → s < shape.b) → (if b then Some low else rest) ≡ Some s → s < shape.b
+    by_test true {low} below rest is = let same : low ≡ s = cc is in subst (λ (k : ℕ). k < shape.b) same below
+    by_test false below rest is = rest is
+
+    at_some : (homes : List Home) → All (λ (home : Home). (home.inode < 2 ^ 32) × (home.boundary < shape.b)) homes → home_of homes i ≡ Some s → s < shape.b
+    at_some [] all is = absurd (cc is)
+    at_some (home ∷ homes) all is =
+        by_test (home.inode == i) (all 0 home (omega arith)).1 (λ more. at_some homes (λ k d low. all (suc k) d (omega (arith, low))) more) is

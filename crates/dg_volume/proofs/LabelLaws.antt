@@ -1,27 +1,30 @@
 -- What calls leave of a label: each law is one on the array and what is kept of the label.
-use Rattle.std.proofs.Common.{◌≡◌, ◌⊎◌, ◌∙◌, ◌<◌, ◌≤◌, ◌+◌, ◌*◌, ◌^◌, ◌-◌, ◌&&◌, ◌||◌, ℕ, Bool, true, false, List, length, inl, inr, refl, sym, ap, subst, arith}
+use Rattle.std.proofs.Common.{◌≡◌, ◌⊎◌, ◌∙◌, ◌<◌, ◌≤◌, ◌+◌, ◌*◌, ◌^◌, ◌-◌, ◌/◌, ◌&&◌, ◌||◌, ◌≢◌, ℕ, Bool, true, false, List, length, inl, inr, refl, sym, ap, subst, arith}
 use Rattle.std.specs.Prelude.{IfSome, None, Option, Some, drop, if◌then◌else◌, nat_lt, not, take}
 use Rattle.std.proofs.lemmas.Bool.{and_parts, false≢true, le-ltb, lt-ltb}
 use Rattle.dg_io.specs.Told.{IsSame, Told, Torn}
 use Rattle.dg_io.specs.declared.outside.Rack.{Ghosts}
-use Rattle.dg_label.specs.Labels.{AreNumbers, HasLength, IsKeptOf, IsLabeled, StandsLabeled, is_sealed, unsealed}
+use Rattle.dg_label.specs.Labels.{AreFresh, AreNumbers, AreSized, HasLength, IsKeptOf, IsLabeled, IsOfArray, StandsLabeled, is_sealed, unsealed}
 use Rattle.dg_label.specs.Seals.{HasGood, OpensSeal}
 use Rattle.dg_label.specs.declared.labels.KeptLabel.{KeptLabel}
 use Rattle.dg_model.proofs.MemberLaws.{none_lost}
+use Rattle.dg_model.specs.Blocks.{zeros}
 use Rattle.dg_model.specs.Causes.{Rose}
 use Rattle.dg_model.specs.Members.{MembersFall, is_filling, is_good, is_lost}
 use Rattle.dg_model.specs.Saves.{BeginsWith, HasBody, Label, body_place, member_length}
-use Rattle.dg_model.specs.Seals.{HoldsLabel, KeepsLabel, LastLabel, label_after, label_on, next_label}
+use Rattle.dg_model.specs.Saves as saves
+use Rattle.dg_model.specs.Seals.{HoldsLabel, KeepsLabel, LastLabel, keeps_label as has_label, label_after, label_on, next_label}
 use Rattle.dg_model.specs.States.{has_lost}
 use Rattle.dg_model.specs.declared.members.MemberState.{MemberState}
-use Rattle.dg_model.specs.declared.members.MemberState.TheVariants.{Out}
+use Rattle.dg_model.specs.declared.members.MemberState.TheVariants.{Filling, Good, Out}
 use Rattle.dg_model.specs.declared.shapes.Shape.{Shape}
 use Rattle.dg_pair.specs.Calls.{KeepsBeside}
-use Rattle.dg_store.specs.Leaves.{Keeps}
+use Rattle.dg_store.specs.Leaves.{Keeps, Stays}
 use Rattle.dg_store.specs.ReadLaws.{beside_none}
 use Rattle.dg_store.specs.Stores.{members_of, rack_of, shape_of}
 use Rattle.dg_store.specs.Views.{ReadsOn}
 use Rattle.dg_store.specs.declared.store.Store.{Store}
+use Rattle.dg_volume.proofs.FaultLaws.{stays_by}
 use Rattle.dg_volume.specs.Seals.{OpensWhere, Relabels}
 
 -- ---- the bytes of a member
@@ -61,6 +64,51 @@ torn_none place n (Some b) (Some a) told = record {
   back = ap (λ (xs : List ℕ). drop (place + n) xs) told;
 }
 
+-- zeros where a label would be
+abbrev pub HasNone : Option (List ℕ) → Type 0
+HasNone told = IfSome told (λ all. take 512 all ≡ zeros 512)
+
+-- so do they
+pub none_stays : (n : ℕ) (before now : Option (List ℕ)) → Told (Torn 512 n) before now → HasNone before → HasNone now
+none_stays n None None told had = tt
+none_stays n (Some b) None told had = tt
+none_stays n None (Some a) told had = absurd told
+none_stays n (Some b) (Some a) told had = told.front ∙ had
+
+-- ---- members
+
+pub filling_not_good : (m : MemberState) → is_filling m ≡ true → is_good m ≡ false
+filling_not_good Good fills = absurd (false≢true fills)
+filling_not_good (Filling n) fills = refl
+filling_not_good Out fills = refl
+
+pub here_filling : (m : MemberState) → m ≢ Out → is_good m ≡ false → is_filling m ≡ true
+here_filling Good here bad = absurd (false≢true (sym bad))
+here_filling (Filling n) here bad = refl
+here_filling Out here bad = absurd (here refl)
+
+pub out_or : (m : MemberState) → (m ≡ Out) ⊎ (m ≢ Out)
+out_or Good = inr (λ e. absurd (cc e))
+out_or (Filling n) = inr (λ e. absurd (cc e))
+out_or Out = inl refl
+
+and_first : (x g h : Bool) → x ≡ false → (x && (g && h)) ≡ false
+and_first x g h e = ap (λ (b : Bool). b && (g && h)) e
+
+and_second : (x g h : Bool) → g ≡ false → (x && (g && h)) ≡ false
+and_second true g h e = ap (λ (b : Bool). b && h) e
+and_second false g h e = refl
+
+and_third : (x g h : Bool) → h ≡ false → (x && (g && h)) ≡ false
+and_third true true h e = e
+and_third true false h e = refl
+and_third false g h e = refl
+
+lacking : (x g h : Bool) → (x && (g && h)) ≡ false → (x ≡ false) ⊎ ((g ≡ false) ⊎ (h ≡ false))
+lacking false g h e = inl refl
+lacking true false h e = inr (inl refl)
+lacking true true h e = inr (inr e)
+
 -- ---- the label of the next state
 
 -- the label with its seal opened, on the members that were good and still are
@@ -85,6 +133,17 @@ kept_opened old new last (Some k) is kept = record { format = kept.format; seque
 unsealed_same : (kept : Option KeptLabel) → is_sealed kept ≡ false → unsealed kept ≡ kept
 unsealed_same None is = refl
 unsealed_same (Some k) is = λ i. Some (record k { sealed = sym is i })
+
+-- the array's numbers stay
+of_opened : (shape : Shape) (old new : ℕ → MemberState) (last : LastLabel) → IsOfArray shape last → IsOfArray shape (opened old new last)
+of_opened shape old new last is = record { shape_is = is.shape_is; numbers_are = is.numbers_are }
+
+of_shape : (a b : Shape) (last : Option LastLabel) → b ≡ a → IfSome last (IsOfArray a) → IfSome last (IsOfArray b)
+of_shape a b last same is = subst (λ (s : Shape). IfSome last (IsOfArray s)) (sym same) is
+
+-- no member that is refilled keeps a label that was opened
+filling_lacks : (old new : ℕ → MemberState) (last : LastLabel) (q : ℕ) → is_filling (new q) ≡ true → has_label (Some (opened old new last)) q ≡ false
+filling_lacks old new last q fills = and_third (last.sealed || last.keepers q) (is_good (old q)) (is_good (new q)) (filling_not_good (new q) fills)
 
 module _ {R : Type 0} (rack : Ghosts R) where
   abbrev writes_of : Store R → ℕ
@@ -148,10 +207,19 @@ module _ {R : Type 0} (rack : Ghosts R) where
           label = λ q keeps.
               let parts = and_parts (last.sealed || last.keepers q) (is_good (members_of a q) && is_good (members_of a q)) keeps in
               let had : last.keepers q ≡ true = subst (λ (s : Bool). (s || last.keepers q) ≡ true) is parts.0 in
-              subst (λ (s : Bool). IfSome (rack.bytes (rack_of a) q) (λ all. BeginsWith all (record (label_on (shape_of a) last q) { sealed = s }))) is
+              subst (λ (s : Bool). IfSome (rack.bytes (rack_of a) q) (λ all. BeginsWith all (record (label_on last q) { sealed = s }))) is
               (stands.holds.label q had);
           body = λ q keeps sealed. absurd (false≢true sealed);
         };
+        sizes = λ q keeps.
+            let parts = and_parts (last.sealed || last.keepers q) (is_good (members_of a q) && is_good (members_of a q)) keeps in
+            stands.sizes q (subst (λ (s : Bool). (s || last.keepers q) ≡ true) is parts.0);
+        of_array = of_opened (shape_of a) (members_of a) (members_of a) last stands.of_array;
+        filling = filling_lacks (members_of a) (members_of a) last;
+        fresh = λ q below here lacks. elim (lacking (last.sealed || last.keepers q) (is_good (members_of a q)) (is_good (members_of a q)) lacks) [
+          | inl none ↦ stands.fresh q below here (sym (ap (λ (s : Bool). s || last.keepers q) is) ∙ none)
+          | inr bad ↦ stands.fresh q below here (stands.filling q (here_filling (members_of a q) here (elim bad [ inl one ↦ one | inr two ↦ two ])))
+        ];
       } in
       subst (λ (s : Bool). StandsLabeled rack a kept (Some (if s && not false then last else opened (members_of a) (members_of a) last))) (sym is) open_now
 
@@ -165,7 +233,7 @@ module _ {R : Type 0} (rack : Ghosts R) where
   }
     where
       at_last : (last : Option LastLabel) → StandsLabeled rack a kept last → StandsLabeled rack a kept (label_after false (members_of a) (members_of a) last)
-      at_last None stands = record { kept = stands.kept; holds = tt }
+      at_last None stands = stands
       at_last (Some last) stands = still_label a kept last last.sealed refl stands
 
   -- ---- an opening
@@ -205,29 +273,52 @@ module _ {R : Type 0} (rack : Ghosts R) where
 
   -- ---- a call behind that
 
-  -- What a call left that doesn't touch the label: of the members that keep it, the bytes beside the slots are as they were.
+  -- What a call left that doesn't touch the label: of the members that keep it, the bytes beside the slots are as they were. Where the seal
+  -- was opened some member may have been made anew.
   pub record LeavesLabel (a m c : Store R) (opens : Bool) : Type 0 where
     pub shape : shape_of c ≡ shape_of m
     pub rise : writes_of m ≤ writes_of c
     pub back : (q : ℕ) → is_good (members_of a q) ≡ true → is_good (members_of c q) ≡ true → is_good (members_of m q) ≡ true
     pub beside : (q : ℕ) → (is_good (members_of c q) ≡ true) ⊎ (opens ≡ false)
         → Told (Torn 512 (((shape_of m).k + 1) * (shape_of m).l)) (rack.bytes (rack_of m) q) (rack.bytes (rack_of c) q)
+    pub fills : (q : ℕ) → is_filling (members_of c q) ≡ true → (is_filling (members_of m q) ≡ true) ⊎ ((opens ≡ true) × HasNone (rack.bytes (rack_of c) q))
+    pub outs : (q : ℕ) → members_of m q ≡ Out → (members_of c q ≡ Out) ⊎ ((opens ≡ true) × HasNone (rack.bytes (rack_of c) q))
+    pub live : (q : ℕ) → members_of c q ≢ Out → members_of m q ≢ Out
+        → Told (Torn 512 (((shape_of m).k + 1) * (shape_of m).l)) (rack.bytes (rack_of m) q) (rack.bytes (rack_of c) q)
 
-  same_shape : (m c : Store R) (last : LastLabel) → shape_of c ≡ shape_of m → HoldsLabel (shape_of m) last (rack.bytes (rack_of c)) → HoldsLabel (shape_of c) last (rack.bytes (rack_of c))
-  same_shape m c last same holds = subst (λ (s : Shape). HoldsLabel s last (rack.bytes (rack_of c))) (sym same) holds
+  below_on : (a c : Store R) → shape_of c ≡ shape_of a → (q : ℕ) → q / 2 < (shape_of c).b → q / 2 < (shape_of a).b
+  below_on a c same q below = subst (λ (s : Shape). q / 2 < s.b) same below
+
+  -- a member that has no label had none where the array stood with this one before
+  fresh_on : (a m c : Store R) (opens : Bool) (last : Option LastLabel) → LeavesLabel a m c opens → AreFresh rack m last
+      → (q : ℕ) → q / 2 < (shape_of c).b → members_of c q ≢ Out → (members_of m q ≢ Out → has_label last q ≡ false) → HasNone (rack.bytes (rack_of c) q)
+  fresh_on a m c opens last h fresh q below here lacks = elim (out_or (members_of m q)) [
+    | inl out ↦ elim (h.outs q out) [ inl still ↦ absurd (here still) | inr anew ↦ anew.1 ]
+    | inr stood ↦
+        none_stays (((shape_of m).k + 1) * (shape_of m).l) (rack.bytes (rack_of m) q) (rack.bytes (rack_of c) q) (h.live q here stood)
+        (fresh q (below_on m c h.shape q below) stood (lacks stood))
+  ]
 
   still_or_opened : (a m c : Store R) (opens : Bool) (kept : Option KeptLabel) (last : LastLabel) (test : Bool) → (last.sealed && not opens) ≡ test → LeavesLabel a m c opens
       → StandsLabeled rack m kept (Some (if test then last else opened (members_of a) (members_of m) last))
       → StandsLabeled rack c kept (Some (if test then last else opened (members_of a) (members_of c) last))
   still_or_opened a m c opens kept last true is h stands =
       let closed : opens ≡ false = closed_of opens (and_parts last.sealed (not opens) is).1 in
+      let shape : last.shape ≡ shape_of m = stands.of_array.shape_is in
+      let room : ((shape_of m).k + 1) * (shape_of m).l ≡ (last.shape.k + 1) * last.shape.l = ap (λ (s : Shape). (s.k + 1) * s.l) (sym shape) in
       record {
         kept = stands.kept;
-        holds = same_shape m c last h.shape (record {
-          label = λ q keeps. front_stays (((shape_of m).k + 1) * (shape_of m).l) (label_on (shape_of m) last q) (rack.bytes (rack_of m) q) (rack.bytes (rack_of c) q)
+        holds = record {
+          label = λ q keeps. front_stays (((shape_of m).k + 1) * (shape_of m).l) (label_on last q) (rack.bytes (rack_of m) q) (rack.bytes (rack_of c) q)
               (h.beside q (inr closed)) (stands.holds.label q keeps);
-          body = λ q keeps sealed. body_stays (shape_of m) last.body (rack.bytes (rack_of m) q) (rack.bytes (rack_of c) q) (h.beside q (inr closed)) (stands.holds.body q keeps sealed);
-        });
+          body = λ q has sealed. body_stays last.shape last.body (rack.bytes (rack_of m) q) (rack.bytes (rack_of c) q)
+              (subst (λ (n : ℕ). Told (Torn 512 n) (rack.bytes (rack_of m) q) (rack.bytes (rack_of c) q)) room (h.beside q (inr closed))) (stands.holds.body q has sealed);
+        };
+        sizes = λ q keeps. length_stays (((shape_of m).k + 1) * (shape_of m).l) (λ size. saves.HasLength (label_on last q) size) (rack.bytes (rack_of m) q) (rack.bytes (rack_of c) q)
+            (h.beside q (inr closed)) (stands.sizes q keeps);
+        of_array = of_shape (shape_of m) (shape_of c) (Some last) h.shape stands.of_array;
+        filling = λ q fills. elim (h.fills q fills) [ inl was ↦ stands.filling q was | inr anew ↦ absurd (false≢true (sym closed ∙ anew.0)) ];
+        fresh = λ q below here lacks. fresh_on a m c opens (Some last) h stands.fresh q below here (λ stood. lacks);
       }
     where
       closed_of : (b : Bool) → not b ≡ true → b ≡ false
@@ -235,17 +326,39 @@ module _ {R : Type 0} (rack : Ghosts R) where
       closed_of false e = refl
   still_or_opened a m c opens kept last false is h stands = record {
     kept = again kept stands.kept;
-    holds = same_shape m c (opened (members_of a) (members_of c) last) h.shape (record {
+    holds = record {
       label = λ q keeps.
           let parts = and_parts (last.sealed || last.keepers q) (is_good (members_of a q) && is_good (members_of c q)) keeps in
           let both = and_parts (is_good (members_of a q)) (is_good (members_of c q)) parts.1 in
           let mid = h.back q both.0 both.1 in
-          front_stays (((shape_of m).k + 1) * (shape_of m).l) (label_on (shape_of m) (opened (members_of a) (members_of c) last) q) (rack.bytes (rack_of m) q) (rack.bytes (rack_of c) q)
+          front_stays (((shape_of m).k + 1) * (shape_of m).l) (label_on (opened (members_of a) (members_of c) last) q) (rack.bytes (rack_of m) q) (rack.bytes (rack_of c) q)
           (h.beside q (inl both.1)) (stands.holds.label q (joined (last.sealed || last.keepers q) (is_good (members_of a q)) (is_good (members_of m q)) parts.0 both.0 mid));
       body = λ q keeps sealed. absurd (false≢true sealed);
-    });
+    };
+    sizes = λ q keeps.
+        let parts = and_parts (last.sealed || last.keepers q) (is_good (members_of a q) && is_good (members_of c q)) keeps in
+        let both = and_parts (is_good (members_of a q)) (is_good (members_of c q)) parts.1 in
+        let mid = h.back q both.0 both.1 in
+        length_stays (((shape_of m).k + 1) * (shape_of m).l) (λ size. saves.HasLength (label_on last q) size) (rack.bytes (rack_of m) q) (rack.bytes (rack_of c) q)
+        (h.beside q (inl both.1)) (stands.sizes q (joined (last.sealed || last.keepers q) (is_good (members_of a q)) (is_good (members_of m q)) parts.0 both.0 mid));
+    of_array = of_shape (shape_of m) (shape_of c) (Some (opened (members_of a) (members_of c) last)) h.shape
+        (record { shape_is = stands.of_array.shape_is; numbers_are = stands.of_array.numbers_are });
+    filling = filling_lacks (members_of a) (members_of c) last;
+    fresh = λ q below here lacks.
+        elim (lacking (last.sealed || last.keepers q) (is_good (members_of a q)) (is_good (members_of c q)) lacks) [
+          | inl none ↦ on q below here (λ stood. and_first (last.sealed || last.keepers q) (is_good (members_of a q)) (is_good (members_of m q)) none)
+          | inr (inl bad) ↦ on q below here (λ stood. and_second (last.sealed || last.keepers q) (is_good (members_of a q)) (is_good (members_of m q)) bad)
+          | inr (inr bad) ↦ elim (h.fills q (here_filling (members_of c q) here bad)) [
+            | inl fills ↦ on q below here (λ stood. stands.filling q fills)
+            | inr anew ↦ anew.1
+          ]
+        ];
   }
     where
+      on : (q : ℕ) → q / 2 < (shape_of c).b → members_of c q ≢ Out → (members_of m q ≢ Out → has_label (Some (opened (members_of a) (members_of m) last)) q ≡ false)
+          → HasNone (rack.bytes (rack_of c) q)
+      on = fresh_on a m c opens (Some (opened (members_of a) (members_of m) last)) h stands.fresh
+
       joined : (x y z : Bool) → x ≡ true → y ≡ true → z ≡ true → (x && (y && z)) ≡ true
       joined x y z e f g = ap (λ (b : Bool). b && (y && z)) e ∙ ap (λ (b : Bool). true && (b && z)) f ∙ ap (λ (b : Bool). true && (true && b)) g
 
@@ -268,7 +381,14 @@ module _ {R : Type 0} (rack : Ghosts R) where
 
       at_last : (last : Option LastLabel) → StandsLabeled rack m after (label_after first.opens (members_of a) (members_of m) last)
           → StandsLabeled rack c after (label_after first.opens (members_of a) (members_of c) last)
-      at_last None stands = record { kept = stands.kept; holds = tt }
+      at_last None stands = record {
+        kept = stands.kept;
+        holds = tt;
+        sizes = tt;
+        of_array = tt;
+        filling = λ q fills. refl;
+        fresh = λ q below here lacks. fresh_on a m c first.opens None h stands.fresh q below here (λ stood. refl);
+      }
       at_last (Some last) stands = still_or_opened a m c first.opens after last (last.sealed && not first.opens) refl h stands
 
   -- ---- calls on slots
@@ -298,7 +418,15 @@ module _ {R : Type 0} (rack : Ghosts R) where
   pub relabels_then : (a m c : Store R) (before after : Option KeptLabel) (first : Relabels rack a m before after) → CallsOnSlots a m c
       → (first.opens ≡ false → writes_of c ≡ writes_of m) → Relabels rack a c before after
   relabels_then a m c before after first h stood =
-      relabels_on a m c before after first (labeled_on a m c after first.labeled h) (record { shape = h.shape; rise = h.rise; back = h.back; beside = λ q why. h.beside q }) stood
+      relabels_on a m c before after first (labeled_on a m c after first.labeled h) (record {
+        shape = h.shape;
+        rise = h.rise;
+        back = h.back;
+        beside = λ q why. h.beside q;
+        fills = λ q fills. inl (h.fills q fills);
+        outs = λ q out. inl (h.outs q out);
+        live = λ q here stood. h.beside q;
+      }) stood
 
   pub out_falls : (before now : ℕ → ℕ) (old new : ℕ → MemberState) → MembersFall before now old new → (q : ℕ) → old q ≡ Out → new q ≡ Out
   out_falls before now old new falls q out = elim (falls q) [ inl same ↦ same ∙ out | inr fell ↦ fell.out ]
@@ -316,15 +444,19 @@ module _ {R : Type 0} (rack : Ghosts R) where
   ]
 
   -- calls of which the array tells so
-  pub slots_kept : (a m c : Store R) → Keeps rack m c → CallsOnSlots a m c
-  slots_kept a m c h = record {
-    shape = h.shape;
-    rise = h.stays.rise.writes;
-    back = λ q was good. good_falls (rack.counts (rack_of m)).faults (rack.counts (rack_of c)).faults (members_of m) (members_of c) h.falls q good;
-    outs = out_falls (rack.counts (rack_of m)).faults (rack.counts (rack_of c)).faults (members_of m) (members_of c) h.falls;
-    fills = fills_falls (rack.counts (rack_of m)).faults (rack.counts (rack_of c)).faults (members_of m) (members_of c) h.falls;
-    beside = h.beside;
+  pub slots_fell : (a m c : Store R) → Stays rack m c → MembersFall (rack.counts (rack_of m)).faults (rack.counts (rack_of c)).faults (members_of m) (members_of c)
+      → KeepsBeside (shape_of m).l ((shape_of m).k + 1) (rack.bytes (rack_of m)) (rack.bytes (rack_of c)) → CallsOnSlots a m c
+  slots_fell a m c left falls beside = record {
+    shape = left.shape;
+    rise = left.stays.rise.writes;
+    back = λ q was good. good_falls (rack.counts (rack_of m)).faults (rack.counts (rack_of c)).faults (members_of m) (members_of c) falls q good;
+    outs = out_falls (rack.counts (rack_of m)).faults (rack.counts (rack_of c)).faults (members_of m) (members_of c) falls;
+    fills = fills_falls (rack.counts (rack_of m)).faults (rack.counts (rack_of c)).faults (members_of m) (members_of c) falls;
+    beside = beside;
   }
+
+  pub slots_kept : (a m c : Store R) → Keeps rack m c → CallsOnSlots a m c
+  slots_kept a m c h = slots_fell a m c (stays_by rack m c h) h.falls h.beside
 
   -- ---- some member is good
 
@@ -358,23 +490,44 @@ module _ {R : Type 0} (rack : Ghosts R) where
 
   -- ---- reads
 
-  stands_through : (a r : Store R) (kept : Option KeptLabel) (last : LastLabel) → Keeps rack a r → StandsLabeled rack a kept (Some last) → StandsLabeled rack r kept (Some last)
+  pub stands_through : (a r : Store R) (kept : Option KeptLabel) (last : Option LastLabel) → Keeps rack a r → StandsLabeled rack a kept last → StandsLabeled rack r kept last
   stands_through a r kept last h stands = record {
     kept = stands.kept;
-    holds = same_shape a r last h.shape (record {
-      label = λ q keeps. front_stays (((shape_of a).k + 1) * (shape_of a).l) (label_on (shape_of a) last q) (rack.bytes (rack_of a) q) (rack.bytes (rack_of r) q)
-          (h.beside q) (stands.holds.label q keeps);
-      body = λ q keeps sealed. body_stays (shape_of a) last.body (rack.bytes (rack_of a) q) (rack.bytes (rack_of r) q) (h.beside q) (stands.holds.body q keeps sealed);
-    });
+    holds = at_last last stands.holds stands.of_array;
+    sizes = sizes_at last stands.sizes;
+    of_array = of_shape (shape_of a) (shape_of r) last h.shape stands.of_array;
+    filling = λ q fills. stands.filling q (fills_falls (rack.counts (rack_of a)).faults (rack.counts (rack_of r)).faults (members_of a) (members_of r) h.falls q fills);
+    fresh = λ q below here lacks.
+        none_stays (((shape_of a).k + 1) * (shape_of a).l) (rack.bytes (rack_of a) q) (rack.bytes (rack_of r) q) (h.beside q)
+        (stands.fresh q (below_on a r h.shape q below)
+        (λ out. here (out_falls (rack.counts (rack_of a)).faults (rack.counts (rack_of r)).faults (members_of a) (members_of r) h.falls q out)) lacks);
   }
+    where
+      at_last : (last : Option LastLabel) → IfSome last (λ label. HoldsLabel label (rack.bytes (rack_of a))) → IfSome last (IsOfArray (shape_of a))
+          → IfSome last (λ label. HoldsLabel label (rack.bytes (rack_of r)))
+      at_last None holds of_array = tt
+      at_last (Some last) holds of_array =
+          let room : ((shape_of a).k + 1) * (shape_of a).l ≡ (last.shape.k + 1) * last.shape.l = ap (λ (s : Shape). (s.k + 1) * s.l) (sym of_array.shape_is) in
+          record {
+            label = λ q keeps. front_stays (((shape_of a).k + 1) * (shape_of a).l) (label_on last q) (rack.bytes (rack_of a) q) (rack.bytes (rack_of r) q)
+                (h.beside q) (holds.label q keeps);
+            body = λ q has sealed. body_stays last.shape last.body (rack.bytes (rack_of a) q) (rack.bytes (rack_of r) q)
+                (subst (λ (n : ℕ). Told (Torn 512 n) (rack.bytes (rack_of a) q) (rack.bytes (rack_of r) q)) room (h.beside q)) (holds.body q has sealed);
+          }
+
+      sizes_at : (last : Option LastLabel) → IfSome last (AreSized rack a) → IfSome last (AreSized rack r)
+      sizes_at None sizes = tt
+      sizes_at (Some last) sizes = λ q keeps.
+          length_stays (((shape_of a).k + 1) * (shape_of a).l) (λ size. saves.HasLength (label_on last q) size) (rack.bytes (rack_of a) q) (rack.bytes (rack_of r) q) (h.beside q) (sizes q keeps)
 
   -- fewer members keep it where more were good before
   narrowed : (a r c : Store R) (kept : Option KeptLabel) (last : LastLabel) (test : Bool)
       → ((q : ℕ) → is_good (members_of a q) ≡ true → is_good (members_of c q) ≡ true → is_good (members_of r q) ≡ true)
+      → ((q : ℕ) → is_good (members_of r q) ≡ true → is_good (members_of a q) ≡ true)
       → StandsLabeled rack c kept (Some (if test then last else opened (members_of r) (members_of c) last))
       → StandsLabeled rack c kept (Some (if test then last else opened (members_of a) (members_of c) last))
-  narrowed a r c kept last true back stands = stands
-  narrowed a r c kept last false back stands = record {
+  narrowed a r c kept last true back from stands = stands
+  narrowed a r c kept last false back from stands = record {
     kept = again kept stands.kept;
     holds = record {
       label = λ q keeps.
@@ -384,8 +537,24 @@ module _ {R : Type 0} (rack : Ghosts R) where
           stands.holds.label q (joined (last.sealed || last.keepers q) (is_good (members_of r q)) (is_good (members_of c q)) parts.0 mid both.1);
       body = λ q keeps sealed. absurd (false≢true sealed);
     };
+    sizes = λ q keeps.
+        let parts = and_parts (last.sealed || last.keepers q) (is_good (members_of a q) && is_good (members_of c q)) keeps in
+        let both = and_parts (is_good (members_of a q)) (is_good (members_of c q)) parts.1 in
+        let mid = back q both.0 both.1 in
+        stands.sizes q (joined (last.sealed || last.keepers q) (is_good (members_of r q)) (is_good (members_of c q)) parts.0 mid both.1);
+    of_array = record { shape_is = stands.of_array.shape_is; numbers_are = stands.of_array.numbers_are };
+    filling = filling_lacks (members_of a) (members_of c) last;
+    fresh = λ q below here lacks. stands.fresh q below here (elim (lacking (last.sealed || last.keepers q) (is_good (members_of a q)) (is_good (members_of c q)) lacks) [
+      | inl none ↦ and_first (last.sealed || last.keepers q) (is_good (members_of r q)) (is_good (members_of c q)) none
+      | inr (inl bad) ↦ and_second (last.sealed || last.keepers q) (is_good (members_of r q)) (is_good (members_of c q)) (was_bad (is_good (members_of r q)) (is_good (members_of a q)) bad (from q))
+      | inr (inr bad) ↦ and_third (last.sealed || last.keepers q) (is_good (members_of r q)) (is_good (members_of c q)) bad
+    ]);
   }
     where
+      was_bad : (r a : Bool) → a ≡ false → (r ≡ true → a ≡ true) → r ≡ false
+      was_bad true a bad from = absurd (false≢true (sym bad ∙ from refl))
+      was_bad false a bad from = refl
+
       joined : (x y z : Bool) → x ≡ true → y ≡ true → z ≡ true → (x && (y && z)) ≡ true
       joined x y z e f g = ap (λ (b : Bool). b && (y && z)) e ∙ ap (λ (b : Bool). true && (b && z)) f ∙ ap (λ (b : Bool). true && (true && b)) g
 
@@ -408,11 +577,11 @@ module _ {R : Type 0} (rack : Ghosts R) where
       rose_from x y z same rose = subst (λ (n : ℕ). Rose n z) same rose
 
       at_last : (last : Option LastLabel) → StandsLabeled rack a before last → StandsLabeled rack c after (label_after second.opens (members_of a) (members_of c) last)
-      at_last None stands =
-          let on = second.stands None (record { kept = stands.kept; holds = tt }) in
-          record { kept = on.kept; holds = tt }
+      at_last None stands = second.stands None (stands_through a r before None reads.keeps stands)
       at_last (Some last) stands =
-          narrowed a r c after last (last.sealed && not second.opens) back (second.stands (Some last) (stands_through a r before last reads.keeps stands))
+          narrowed a r c after last (last.sealed && not second.opens) back
+          (good_falls (rack.counts (rack_of a)).faults (rack.counts (rack_of r)).faults (members_of a) (members_of r) reads.keeps.falls)
+          (second.stands (Some last) (stands_through a r before (Some last) reads.keeps stands))
 
   pub relabels_read : (a c : Store R) (kept : Option KeptLabel) → IsLabeled rack a kept → ReadsOn rack a c → Relabels rack a c kept kept
   relabels_read a c kept labeled reads = relabels_then a a c kept kept (relabels_none a kept labeled) (slots_kept a a c reads.keeps) (λ opens. reads.writes)
@@ -434,13 +603,17 @@ module _ {R : Type 0} (rack : Ghosts R) where
       (record { shape = shape; rise = omega (arith, writes); back = back; outs = outs; fills = fills; beside = same_bytes m c same }) (λ opens. writes)
 
   -- the label stands as it stood
-  pub stands_same : (a c : Store R) (kept : Option KeptLabel) (last : Option LastLabel) → shape_of c ≡ shape_of a → rack_of c ≡ rack_of a → StandsLabeled rack a kept last
-      → StandsLabeled rack c kept last
-  stands_same a c kept last shape same stands = record {
+  pub stands_same : (a c : Store R) (kept : Option KeptLabel) (last : Option LastLabel) → shape_of c ≡ shape_of a → rack_of c ≡ rack_of a
+      → ((q : ℕ) → members_of a q ≡ Out → members_of c q ≡ Out) → ((q : ℕ) → is_filling (members_of c q) ≡ true → is_filling (members_of a q) ≡ true)
+      → StandsLabeled rack a kept last → StandsLabeled rack c kept last
+  stands_same a c kept last shape same outs fills stands = record {
     kept = stands.kept;
-    holds =
-        subst (λ (r : R). IfSome last (λ label. HoldsLabel (shape_of c) label (rack.bytes r))) (sym same)
-        (subst (λ (s : Shape). IfSome last (λ label. HoldsLabel s label (rack.bytes (rack_of a)))) (sym shape) stands.holds);
+    holds = subst (λ (r : R). IfSome last (λ label. HoldsLabel label (rack.bytes r))) (sym same) stands.holds;
+    sizes = subst (λ (r : R). IfSome last (λ label. (q : ℕ) → label.keepers q ≡ true → IfSome (rack.bytes r q) (λ all. saves.HasLength (label_on label q) (length all)))) (sym same) stands.sizes;
+    of_array = of_shape (shape_of a) (shape_of c) last shape stands.of_array;
+    filling = λ q filled. stands.filling q (fills q filled);
+    fresh = λ q below here lacks.
+        subst (λ (r : R). HasNone (rack.bytes r q)) (sym same) (stands.fresh q (below_on a c shape q below) (λ out. here (outs q out)) lacks);
   }
 
   -- whether the seal was opened

@@ -2,12 +2,14 @@ mod AnyLaws
 mod ArrayLaws
 mod BlankLaws
 mod CopySteps
+mod FaultLaws
 mod FewLaws
 mod FileAnswers
 mod FileLaws
 mod GoneLaws
 mod HomeLaws
 mod LabelLaws
+mod LineLaws
 mod ListedLaws
 mod LooseLaws
 mod MoveSteps
@@ -19,6 +21,7 @@ mod PlacedLaws
 mod ReapLaws
 mod RebuildMarks
 mod RebuildSteps
+mod RefillBehind
 mod RefillLaws
 mod ReplaceSteps
 mod SaveLaws

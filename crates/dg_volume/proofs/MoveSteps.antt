@@ -1,13 +1,14 @@
 -- A volume makes a step by moves of its blocks: what is left of it, and each answer of `tend` and of `settle`.
-use Rattle.std.proofs.Common.{◌≡◌, ◌≢◌, ◌∙◌, ◌≤◌, ℕ, Bool, false, List, length, refl, sym, ap, subst, inl, inr}
-use Rattle.std.specs.Prelude.{Option, Some, None, Err, IfSome}
+use Rattle.std.proofs.Common.{◌≡◌, ◌≢◌, ◌⊎◌, ◌∙◌, ◌≤◌, ℕ, Bool, false, List, length, refl, sym, ap, subst, inl, inr}
+use Rattle.std.specs.Prelude.{Option, Some, None, Err, IfSome, replicate}
 use Rattle.dg_label.specs.Labels.{StandsLabeled}
 use Rattle.dg_label.specs.declared.labels.KeptLabel.{KeptLabel}
 use Rattle.dg_infer.specs.Meanings.{KeptInference}
 use Rattle.dg_infer.specs.Meanings as inferences
 use Rattle.dg_io.specs.declared.outside.Rack.{Ghosts}
-use Rattle.dg_model.specs.Changes.{Goes, IsCramped, IsCut, IsPlan, SeesParents, SeesWants}
-use Rattle.dg_model.specs.Moves.{IsCutOff, moved}
+use Rattle.dg_model.specs.Changes.{Goes, IsCramped, IsCut, IsPlan, MovesNothing, SeesParents, SeesWants, Stays}
+use Rattle.dg_model.specs.Lives.{all_live}
+use Rattle.dg_model.specs.Moves.{IsCutByLoss, missing_in, moved, within}
 use Rattle.dg_model.specs.Plans.{targets_of}
 use Rattle.dg_model.specs.Saves.{AreHomes}
 use Rattle.dg_model.specs.Seals.{KeepsLabel, LastLabel}
@@ -31,6 +32,7 @@ use Rattle.dg_store.specs.Stores as stores
 use Rattle.dg_store.specs.declared.store.Store.{Store}
 use Rattle.dg_volume.proofs.ArrayLaws.{told_by, told_moved}
 use Rattle.dg_volume.proofs.LabelLaws.{good_falls, relabels_behind}
+use Rattle.dg_volume.proofs.LineLaws.{least_in}
 use Rattle.dg_volume.proofs.VolumeLaws.{HasRead, IsBeside, Labels, label_by, on_label, read_state, reads_in, reads_stay, same_in, steps_from}
 use Rattle.dg_volume.specs.Planned.{AnswersCheck, AreKnown, AreWanted, FindsOn, HasMovedArray, HasNoPlan, HasPlan, HasReadArray}
 use Rattle.dg_volume.specs.Seals.{Relabels}
@@ -88,6 +90,8 @@ module _ {S R : Type 0} (phase : phases.Ghosts S) (rack : Ghosts R) where
         shape = shape;
         rise = h.array.stays.stays.rise;
         tells = h.array.stays.stays.tells;
+        told_before = h.array.stays.stays.told_before;
+        own = h.array.stays.own;
         same_rack = h.array.stays.stays.same_rack;
       }
 
@@ -119,8 +123,34 @@ module _ {S R : Type 0} (phase : phases.Ghosts S) (rack : Ghosts R) where
   moved_goes : (a b : Volume S R) (rest : State) (V : List (List ℕ)) → StandsLabeled rack a.store a.label rest.label → (h : HasMoved a b)
       → Goes (state_of phase rack a rest V) (moved_state a b h rest V)
   moved_goes a b rest V label h = record {
-    passes = record { counts = h.array.stays.stays.rise; label = moved_passes a b rest label h; paired = h.array.sound.paired };
+    passes = record {
+      counts = h.array.stays.stays.rise;
+      label = moved_passes a b rest label h;
+      paired = h.array.sound.paired;
+      faults = record { fell = h.array.faults.fell; beyond = h.array.faults.beyond };
+    };
     members = h.array.falls;
+    out = h.array.outs;
+  }
+
+  -- such a step in which no block was moved
+  moved_stays : (a b : Volume S R) (rest : State) (V : List (List ℕ)) → StandsLabeled rack a.store a.label rest.label → (h : HasMoved a b) → table_of b ≡ table_of a
+      → b.homes ≡ a.homes → Stays (state_of phase rack a rest V) (moved_state a b h rest V)
+  moved_stays a b rest V label h table homes = record {
+    goes = moved_goes a b rest V label h;
+    rest = λ i. record (on_label a b h.labels.opens rest) {
+      boundaries = (table i).shape.b;
+      live = all_live (table i).shape.b;
+      table = table i;
+      blocks = V;
+      pending = marks_moved a b h i;
+      cut = replicate (table i).shape.n false;
+      homes = homes i;
+      copies = h.copies i;
+      phase = phase.phase (h.phase_is i);
+      members = members_of b;
+      counts = rack.counts (rack_of b);
+    };
   }
 
   -- what reads left of a volume, by what they left of its array
@@ -221,7 +251,7 @@ module _ {S R : Type 0} (phase : phases.Ghosts S) (rack : Ghosts R) where
   tend_lost_first a limit s least = steps_from phase rack a a (Tend limit) (LostReply s) (λ rest V label holds. (
     state_of phase rack a rest V,
     same_in phase rack a rest V label holds,
-    inl (least, refl),
+    inl (least_in (shape_of a) (members_of a) s least, refl),
     refl,
   ))
 
@@ -229,7 +259,7 @@ module _ {S R : Type 0} (phase : phases.Ghosts S) (rack : Ghosts R) where
   settle_lost_first a s least = steps_from phase rack a a Settle (LostReply s) (λ rest V label holds. (
     state_of phase rack a rest V,
     same_in phase rack a rest V label holds,
-    inl (least, refl),
+    inl (least_in (shape_of a) (members_of a) s least, refl),
     refl,
   ))
 
@@ -257,7 +287,7 @@ module _ {S R : Type 0} (phase : phases.Ghosts S) (rack : Ghosts R) where
   tend_lost_reading a b limit s ready h least = steps_from phase rack a b (Tend limit) (LostReply s) (λ rest V label holds. (
     read_state phase rack a b h rest V,
     reads_in phase rack a b rest V label h holds,
-    inr ((ready.whole, least), not_settled a ready, inl (reads_stay phase rack a b rest V label h)),
+    inr ((ready.whole, least_in (shape_of b) (members_of b) s least), not_settled a ready, inl (reads_stay phase rack a b rest V label h)),
     refl,
   ))
 
@@ -266,7 +296,7 @@ module _ {S R : Type 0} (phase : phases.Ghosts S) (rack : Ghosts R) where
   settle_lost_reading a b s ready h least = steps_from phase rack a b Settle (LostReply s) (λ rest V label holds. (
     read_state phase rack a b h rest V,
     reads_in phase rack a b rest V label h holds,
-    inr ((ready.whole, least), not_settled a ready, inl (reads_stay phase rack a b rest V label h)),
+    inr ((ready.whole, least_in (shape_of b) (members_of b) s least), not_settled a ready, inl (reads_stay phase rack a b rest V label h)),
     refl,
   ))
 
@@ -284,7 +314,7 @@ module _ {S R : Type 0} (phase : phases.Ghosts S) (rack : Ghosts R) where
       ready.whole,
       not_settled a ready,
       is_cramped (Tells rack b) a b.store kept rest V keeps (λ told. told) (held_before a b V h holds) bad found,
-      reads_stay phase rack a b rest V label h,
+      record { stays = reads_stay phase rack a b rest V label h; unwritten = h.reads.writes },
     ),
     refl,
   ))
@@ -303,7 +333,7 @@ module _ {S R : Type 0} (phase : phases.Ghosts S) (rack : Ghosts R) where
       ready.whole,
       not_settled a ready,
       found_in a b b.store kept V (λ v. IsFirstMalformation (shape_of a).l (shape_of a).n v kind n) keeps (λ told. told) (held_before a b V h holds) found,
-      reads_stay phase rack a b rest V label h,
+      record { stays = reads_stay phase rack a b rest V label h; unwritten = h.reads.writes },
     ),
     refl,
   ))
@@ -328,7 +358,7 @@ module _ {S R : Type 0} (phase : phases.Ghosts S) (rack : Ghosts R) where
       not_settled a ready,
       sound_in a b kept V keeps check (held_before a b V h holds),
       is_cramped (Tells rack b) a b.store kept rest V keeps (λ told. told) (held_before a b V h holds) bad found,
-      reads_stay phase rack a b rest V label h,
+      record { stays = reads_stay phase rack a b rest V label h; unwritten = h.reads.writes },
     ),
     refl,
   ))
@@ -370,14 +400,17 @@ module _ {S R : Type 0} (phase : phases.Ghosts S) (rack : Ghosts R) where
     plan_at rest V holds = is_plan (Tells rack b) a mid kept rest V run.keeps run.told (held_at V holds) targets run.plan
 
     cut_at : (rest : State) (V : List (List ℕ)) (limit : Option ℕ) → StandsLabeled rack a.store a.label rest.label → b.homes ≡ a.homes → (Tells rack a → StandsFor phase rack a V)
-        → IsCutOff (wants_of targets) limit (stores.table_of mid) (table_of b) → IsCut (Tells rack b) (state_of phase rack a rest V) limit (moved_state a b run.moves rest V)
+        → IsCutByLoss (wants_of targets) limit (stores.table_of mid) (table_of b) (members_of b) → IsCut (Tells rack b) (state_of phase rack a rest V) limit (moved_state a b run.moves rest V)
     cut_at rest V limit label homes holds cut = record {
       wants = run.plan.wants;
       found = run.plan.planned.found;
       planned = plan_at rest V holds;
       goes = moved_goes a b rest V label run.moves;
-      cut = on_plan (λ f t. IsCutOff f limit t (table_of b)) cut;
+      cut = on_plan (λ f t. IsCutByLoss f limit t (table_of b) (members_of b)) cut;
       rest = λ i. record (on_label a b run.moves.labels.opens rest) {
+        boundaries = (run.moves.array.stays.shape i).b;
+        live = all_live (run.moves.array.stays.shape i).b;
+        cut = replicate (run.moves.array.stays.shape i).n false;
         table = table_of b;
         blocks = V;
         pending = marks_moved a b run.moves i;
@@ -389,31 +422,55 @@ module _ {S R : Type 0} (phase : phases.Ghosts S) (rack : Ghosts R) where
       };
     }
 
+    -- a loss ended the moves, before any of them or at one
+    abbrev pub IsEnded : Option ℕ → Type 0
+    IsEnded limit = (table_of b ≡ stores.table_of mid) ⊎ IsCutByLoss (wants_of targets) limit (stores.table_of mid) (table_of b) (members_of b)
+
+    -- where nothing was to be moved the rack wasn't called by moves
+    abbrev pub IsStill : Option ℕ → Type 0
+    IsStill limit = within limit (missing_in (wants_of targets) (stores.table_of mid)) ≡ 0 → rack_of b ≡ stores.rack_of mid
+
+    still_at : (rest : State) (V : List (List ℕ)) (next : State) (limit : Option ℕ) → IsStill limit → next.counts.writes ≡ (rack.counts (rack_of b)).writes
+        → MovesNothing goals limit (state_of phase rack a rest V) next
+    still_at rest V next limit still same none =
+        let quiet = on_plan (λ f t. within limit (missing_in f t) ≡ 0 → rack_of b ≡ stores.rack_of mid) still in
+        same ∙ ap (λ (r : R). (rack.counts r).writes) (quiet none) ∙ run.read.reads.writes
+
     pub tend_lost_moving : (limit s : ℕ) → IsReady a → b.homes ≡ a.homes → IsLeastLost (shape_of b) (members_of b) s
-        → IsCutOff (wants_of targets) (Some limit) (stores.table_of mid) (table_of b) → StepsTo phase phase rack a (Tend limit) (LostReply s) b
-    tend_lost_moving limit s ready homes least cut = steps_from phase rack a b (Tend limit) (LostReply s) (λ rest V label holds. (
+        → IsEnded (Some limit) → StepsTo phase phase rack a (Tend limit) (LostReply s) b
+    tend_lost_moving limit s ready homes least ended = steps_from phase rack a b (Tend limit) (LostReply s) (λ rest V label holds. (
       moved_state a b run.moves rest V,
       moved_in a b rest V label run.moves holds,
-      inr ((ready.whole, least), not_settled a ready, inr (cut_at rest V (Some limit) label homes holds cut)),
+      inr (
+        (ready.whole, least_in (shape_of b) (members_of b) s least),
+        not_settled a ready,
+        elim ended [
+          | inl same ↦ inl (moved_stays a b rest V label run.moves (same ∙ run.read.reads.table) homes)
+          | inr cut ↦ inr (cut_at rest V (Some limit) label homes holds cut)
+        ],
+      ),
       refl,
     ))
 
     pub settle_lost_moving : (s : ℕ) → IsReady a → IsChecked a kept b → b.homes ≡ a.homes → IsLeastLost (shape_of b) (members_of b) s
-        → IsCutOff (wants_of targets) None (stores.table_of mid) (table_of b) → StepsTo phase phase rack a Settle (LostReply s) b
-    settle_lost_moving s ready check homes least cut = steps_from phase rack a b Settle (LostReply s) (λ rest V label holds. (
+        → IsEnded None → StepsTo phase phase rack a Settle (LostReply s) b
+    settle_lost_moving s ready check homes least ended = steps_from phase rack a b Settle (LostReply s) (λ rest V label holds. (
       moved_state a b run.moves rest V,
       moved_in a b rest V label run.moves holds,
       inr (
-        (ready.whole, least),
+        (ready.whole, least_in (shape_of b) (members_of b) s least),
         not_settled a ready,
-        inr (sound_in a b kept V run.keeps check (held_at V holds), cut_at rest V None label homes holds cut),
+        elim ended [
+          | inl same ↦ inl (moved_stays a b rest V label run.moves (same ∙ run.read.reads.table) homes)
+          | inr cut ↦ inr (sound_in a b kept V run.keeps check (held_at V holds), cut_at rest V None label homes holds cut)
+        ],
       ),
       refl,
     ))
 
     pub tend_done : (limit m l : ℕ) → IsReady a → b.homes ≡ a.homes → has_lost (shape_of b) (members_of b) ≡ false
-        → IsTended (wants_of targets) limit (stores.table_of mid) (table_of b) m l → StepsTo phase phase rack a (Tend limit) (TendedReply m l) b
-    tend_done limit m l ready homes live is = steps_from phase rack a b (Tend limit) (TendedReply m l) (λ rest V label holds.
+        → IsTended (wants_of targets) limit (stores.table_of mid) (table_of b) m l → IsStill (Some limit) → StepsTo phase phase rack a (Tend limit) (TendedReply m l) b
+    tend_done limit m l ready homes live is still = steps_from phase rack a b (Tend limit) (TendedReply m l) (λ rest V label holds.
         let done = on_plan (λ f t. IsTended f limit t (table_of b) m l) is in (
           moved_state a b run.moves rest V,
           moved_in a b rest V label run.moves holds,
@@ -428,6 +485,9 @@ module _ {S R : Type 0} (phase : phases.Ghosts S) (rack : Ghosts R) where
                 planned = plan_at rest V holds;
                 goes = moved_goes a b rest V label run.moves;
                 rest = λ i. record (on_label a b run.moves.labels.opens rest) {
+                  boundaries = (run.moves.array.stays.shape i).b;
+                  live = all_live (run.moves.array.stays.shape i).b;
+                  cut = replicate (run.moves.array.stays.shape i).n false;
                   table = done.table i;
                   blocks = V;
                   pending = marks_moved a b run.moves i;
@@ -439,6 +499,7 @@ module _ {S R : Type 0} (phase : phases.Ghosts S) (rack : Ghosts R) where
                 };
                 met = done.met;
                 left = done.left;
+                still = still_at rest V (moved_state a b run.moves rest V) (Some limit) still refl;
               },
             ),
           ),
@@ -447,11 +508,11 @@ module _ {S R : Type 0} (phase : phases.Ghosts S) (rack : Ghosts R) where
 
     -- the step of settling, to a state of a settled volume
     pub settle_step : IsReady a → IsChecked a kept b → b.homes ≡ run.plan.planned.found.homes → has_lost (shape_of b) (members_of b) ≡ false
-        → table_of b ≡ moved (wants_of targets) None (stores.table_of mid)
+        → table_of b ≡ moved (wants_of targets) None (stores.table_of mid) → IsStill None
         → (rest : State) (V : List (List ℕ)) → StandsLabeled rack a.store a.label rest.label → (Tells rack a → StandsFor phase rack a V)
         → (last : Option LastLabel) × StandsLabeled rack b.store b.label last
         × Step (Tells rack b) (state_of phase rack a rest V) Settle SettledReply (record (state_of phase rack b rest V) { phase = SettledPhase; label = last })
-    settle_step ready check homes live is rest V label holds =
+    settle_step ready check homes live is still rest V label holds =
         let done = on_plan (λ f t. table_of b ≡ moved f None t) is in (
           (on_label a b run.moves.labels.opens rest).label,
           run.moves.labels.stands rest.label label,
@@ -465,11 +526,20 @@ module _ {S R : Type 0} (phase : phases.Ghosts S) (rack : Ghosts R) where
                 found = run.plan.planned.found;
                 planned = plan_at rest V holds;
                 goes = record {
-                  passes = record { counts = run.moves.array.stays.stays.rise; label = moved_passes a b rest label run.moves; paired = run.moves.array.sound.paired };
+                  passes = record {
+                    counts = run.moves.array.stays.stays.rise;
+                    label = moved_passes a b rest label run.moves;
+                    paired = run.moves.array.sound.paired;
+                    faults = record { fell = run.moves.array.faults.fell; beyond = run.moves.array.faults.beyond };
+                  };
                   members = run.moves.array.falls;
+                  out = run.moves.array.outs;
                 };
                 sound = sound_in a b kept V run.keeps check (held_at V holds);
                 rest = λ i. record (on_label a b run.moves.labels.opens rest) {
+                  boundaries = (run.moves.array.stays.shape i).b;
+                  live = all_live (run.moves.array.stays.shape i).b;
+                  cut = replicate (run.moves.array.stays.shape i).n false;
                   table = done i;
                   blocks = V;
                   pending = marks_moved a b run.moves i;
@@ -479,6 +549,7 @@ module _ {S R : Type 0} (phase : phases.Ghosts S) (rack : Ghosts R) where
                   members = members_of b;
                   counts = rack.counts (rack_of b);
                 };
+                still = still_at rest V (moved_state a b run.moves rest V) None still refl;
               },
             ),
           ),

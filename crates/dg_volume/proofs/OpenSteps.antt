@@ -1,11 +1,12 @@
 -- What an opening makes is in a state that the model opens.
-use Rattle.std.proofs.Common.{◌≡◌, ◌≢◌, ◌⊎◌, ◌∙◌, ◌<◌, ◌≤◌, ◌+◌, ◌*◌, ◌-◌, ℕ, Bool, true, false, List, [], length, drop, get_or, inl, inr, refl, sym, ap, subst, take, arith}
-use Rattle.std.specs.Prelude.{IfSome, IsSome, Option, Some, None, is_some}
-use Rattle.std.proofs.lemmas.Bool.{false≢true}
+use Rattle.std.proofs.Common.{◌≡◌, ◌≢◌, ◌⊎◌, ◌∙◌, ◌<◌, ◌≤◌, ◌+◌, ◌*◌, ◌-◌, ℕ, Bool, true, false, List, [], length, drop, get_or, inl, inr, refl, sym, ap, subst, take, arith, ◌/◌, ◌&&◌}
+use Rattle.std.specs.Prelude.{◌==◌, IfSome, IsSome, Option, Some, None, is_some, replicate}
+use Rattle.std.proofs.lemmas.Bool.{and_from, and_parts, cases_lt, false≢true}
 use Rattle.std.proofs.lemmas.List.{get_or_default, same_lists}
 use Rattle.std.proofs.lemmas.List.Elements.{All-nil, All-weaker}
 use Rattle.dg_infer.specs.Meanings.{KeptInference}
 use Rattle.dg_infer.specs.Meanings as inferences
+use Rattle.dg_io.specs.MadeLaws.{same_both}
 use Rattle.dg_io.specs.Told.{IsSame, Told, Torn}
 use Rattle.dg_io.specs.declared.outside.Rack.{Ghosts}
 use Rattle.dg_label.specs.Labels.{AreNumbers, HasLength, IsLabeled, StandsLabeled}
@@ -13,9 +14,10 @@ use Rattle.dg_label.specs.declared.labels.KeptLabel.{KeptLabel}
 use Rattle.dg_model.specs.Blocks.{block_in}
 use Rattle.dg_model.specs.Causes.{Rose}
 use Rattle.dg_model.specs.Changes.{IsInOrder}
+use Rattle.dg_model.specs.Lives.{all_live}
 use Rattle.dg_model.specs.Marks.{AreLeft, AreNext}
 use Rattle.dg_model.specs.Members.{HasFallen, SlotHolds, SlotOf, is_filling, is_good, slot_of}
-use Rattle.dg_model.specs.Openings.{Found, IsReopened, MayBeGood, Opens, copies_after}
+use Rattle.dg_model.specs.Openings.{Found, IsReopened, MayBeGood, Opens, all_in_use, copies_after}
 use Rattle.dg_model.specs.Placed.{IsPlaced}
 use Rattle.dg_model.specs.Saves.{AreHomes, BeginsWith, HasBody, Label, SavedState, body_of, body_place, member_length}
 use Rattle.dg_model.specs.Seals.{LastLabel, label_on}
@@ -41,7 +43,10 @@ use Rattle.dg_store.specs.Leaves.{RackStays}
 use Rattle.dg_store.specs.Stores.{TellsAll}
 use Rattle.dg_store.specs.Stores as stores
 use Rattle.dg_store.specs.declared.store.Store.{Store}
-use Rattle.dg_volume.specs.Opens.{HadBody, HasOpened, IsDisordered, IsMadeOf, IsOrdered, IsPhaseOf, IsRestored, had}
+use Rattle.dg_volume.proofs.FaultLaws.{falls_out, keeps_tells}
+use Rattle.dg_volume.proofs.LabelLaws.{filling_not_good, good_falls, length_stays, stands_through}
+use Rattle.dg_volume.proofs.LineLaws.{fits_all}
+use Rattle.dg_volume.specs.Opens.{HasOpened, IsDisordered, IsMadeOf, IsOrdered, IsPhaseOf, IsRestored, had}
 use Rattle.dg_volume.specs.Phases.{kept_in, phase_in}
 use Rattle.dg_volume.specs.Planned.{HasReadArray}
 use Rattle.dg_volume.specs.Volumes.{FitsArray, IsInPlace, IsWell, StandsIn, Tells, any_phase, marks_by, marks_of, members_of, rack_of, shape_of, table_of}
@@ -135,28 +140,6 @@ read_had P Q before None (Some n) same told is gives = absurd (false≢true (tol
 read_had P Q None (Some m) (Some n) same told is gives = absurd same
 read_had P Q (Some b) (Some m) (Some n) same told is gives = gives b (subst P same is)
 
--- ---- bytes beside slots
-
-front_on : (n : ℕ) (label : Label) (before now : Option (List ℕ)) → Told (Torn 512 n) before now → IfSome before (λ all. BeginsWith all label) → IfSome now (λ all. BeginsWith all label)
-front_on n label None None told begins = tt
-front_on n label (Some b) None told begins = tt
-front_on n label None (Some a) told begins = absurd told
-front_on n label (Some b) (Some a) told begins = record { is = begins.is; bytes = told.front ∙ begins.bytes }
-
-length_on : (n : ℕ) (P : ℕ → Type 0) (before now : Option (List ℕ)) → Told (Torn 512 n) before now → IfSome before (λ all. P (length all)) → IfSome now (λ all. P (length all))
-length_on n P None None told is = tt
-length_on n P (Some b) None told is = tt
-length_on n P None (Some a) told is = absurd told
-length_on n P (Some b) (Some a) told is = subst P (sym told.size) is
-
-body_on : (shape : Shape) (body : List ℕ) (before mid now : Option (List ℕ)) → Told IsSame before mid → Told (Torn 512 ((shape.k + 1) * shape.l)) mid now
-    → IfSome before (λ all. HasBody all shape body) → IfSome now (λ all. HasBody all shape body)
-body_on shape body before mid None same told has = tt
-body_on shape body before None (Some n) same told has = absurd told
-body_on shape body None (Some m) (Some n) same told has = absurd same
-body_on shape body (Some b) (Some m) (Some n) same told has =
-    ap (λ (xs : List ℕ). take ((body_place shape + length body) - body_place shape) xs) (told.back ∙ ap (λ (xs : List ℕ). drop (body_place shape) xs) same) ∙ has
-
 torn_on : (n : ℕ) (before mid now : Option (List ℕ)) → Told IsSame before mid → Told (Torn 512 n) mid now → Told (Torn 512 n) before now
 torn_on n before mid None same told = tt
 torn_on n before None (Some a) same told = absurd told
@@ -238,11 +221,11 @@ module _ {R : Type 0} (rack : Ghosts R) where
     numbers = subst (λ (s : Shape). IfSome label (AreNumbers s)) (sym keeps.shape) is.numbers;
     lengths = λ q stays.
         subst (λ (s : Shape). IfSome (rack.bytes (stores.rack_of new) q) (λ all. HasLength s label (length all))) (sym keeps.shape)
-        (length_on _ (HasLength (stores.shape_of old) label) (rack.bytes (stores.rack_of old) q) (rack.bytes (stores.rack_of new) q) (keeps.beside q)
+        (length_stays _ (HasLength (stores.shape_of old) label) (rack.bytes (stores.rack_of old) q) (rack.bytes (stores.rack_of new) q) (keeps.beside q)
         (is.lengths q (λ out. elim (keeps.falls q) [ inl same ↦ stays (same ∙ out) | inr fallen ↦ stays fallen.out ])));
     filling = λ q fills.
         subst (λ (s : Shape). IfSome (rack.bytes (stores.rack_of new) q) (λ all. length all ≡ member_length 2 s)) (sym keeps.shape)
-        (length_on _ (λ n. n ≡ member_length 2 (stores.shape_of old)) (rack.bytes (stores.rack_of old) q) (rack.bytes (stores.rack_of new) q) (keeps.beside q)
+        (length_stays _ (λ n. n ≡ member_length 2 (stores.shape_of old)) (rack.bytes (stores.rack_of old) q) (rack.bytes (stores.rack_of new) q) (keeps.beside q)
         (is.filling q (was_filling q fills)));
   }
     where
@@ -439,7 +422,7 @@ module _ (one : OneOwner) (none : NoSystem) {R : Type 0} (rack : Ghosts R) (befo
   saved = saves.state_of reopened.saved
 
   abbrev last : LastLabel
-  last = opened_label found.label saved volume.store
+  last = opened_label found.source found.label saved volume.store
 
   table_saved : table_of volume ≡ saved.table
   table_saved = made.reads.reads.table ∙ found.table
@@ -475,6 +458,7 @@ module _ (one : OneOwner) (none : NoSystem) {R : Type 0} (rack : Ghosts R) (befo
         tells = λ q told. found.leaves.tells q (keeps.tells q told);
         same_rack = keeps.same_rack ∙ found.leaves.same_rack;
         steady_on = (λ s. keeps.steady_on.0 (found.leaves.steady_on.0 s), λ s. found.leaves.steady_on.1 (keeps.steady_on.1 s));
+        told_before = λ q told. found.leaves.told_before q (keeps.told_before q told);
       }
 
   well : IsWell any_phase rack volume
@@ -499,29 +483,57 @@ module _ (one : OneOwner) (none : NoSystem) {R : Type 0} (rack : Ghosts R) (befo
       size : length saved.pending ≡ (shape_of volume).n
       size = of_saved (λ t. length saved.pending ≡ t.shape.n) found.form.marks
 
-  begins : (q : ℕ) → is_good (members_of volume q) ≡ true → IfSome (rack.bytes (rack_of volume) q) (λ all. BeginsWith all (label_on (shape_of volume) last q))
-  begins q good =
-      let keeps = made.reads.reads.keeps in
-      let was = still_good _ _ (stores.members_of start) (members_of volume) q (keeps.falls q) (good_is (members_of volume q) good) in
-      subst (λ (s : Shape). IfSome (rack.bytes (rack_of volume) q) (λ all. BeginsWith all (label_on s last q))) (sym keeps.shape)
-      (front_on _ (label_on (stores.shape_of start) last q) (rack.bytes (stores.rack_of start) q) (rack.bytes (rack_of volume) q) (keeps.beside q) (found.begins q (ap is_good was)))
+  was_good : (q : ℕ) → is_good (members_of volume q) ≡ true → is_good (stores.members_of start q) ≡ true
+  was_good = good_falls rack (rack.counts (stores.rack_of start)).faults (rack.counts (rack_of volume)).faults (stores.members_of start) (members_of volume) made.reads.reads.keeps.falls
 
-  have_body : (body : List ℕ) → HadBody rack before volume body → (q : ℕ) → is_good (members_of volume q) ≡ true → IfSome (rack.bytes (rack_of volume) q) (λ all. HasBody all (shape_of volume) body)
-  have_body body have q good =
-      let keeps = made.reads.reads.keeps in
-      subst (λ (s : Shape). IfSome (rack.bytes (rack_of volume) q) (λ all. HasBody all s body)) (sym keeps.shape)
-      (body_on (stores.shape_of start) body (rack.bytes before q) (rack.bytes (stores.rack_of start) q) (rack.bytes (rack_of volume) q) (found.leaves.same q) (keeps.beside q)
-      (subst (λ (s : Shape). IfSome (rack.bytes before q) (λ all. HasBody all s body)) keeps.shape (have q good)))
+  was_out : (q : ℕ) → stores.members_of start q ≡ Out → members_of volume q ≡ Out
+  was_out = falls_out (rack.counts (stores.rack_of start)).faults (rack.counts (rack_of volume)).faults (stores.members_of start) (members_of volume) made.reads.reads.keeps.falls
 
-  stands_labeled : HadBody rack before volume (body_of found.label.format saved) → StandsLabeled rack volume.store volume.label (Some last)
-  stands_labeled have = subst (λ (l : Option KeptLabel). StandsLabeled rack volume.store l (Some last)) (sym made.label) (record {
-    kept = record { format = found.kept.format; sequence = found.kept.sequence; sealed = found.kept.sealed; body = found.kept.body };
-    holds = record { label = begins; body = λ q good sealed. have_body (body_of found.label.format saved) have q good };
-  })
+  -- each member that isn't out is good, since none is refilled
+  good_or_out : (q : ℕ) → members_of volume q ≢ Out → is_good (members_of volume q) ≡ true
+  good_or_out q here = elim (made.reads.reads.keeps.falls q) [
+    | inl same ↦ elim (found.out q) [ inl good ↦ ap is_good (same ∙ good) | inr out ↦ absurd (here (was_out q out.0)) ]
+    | inr fell ↦ absurd (here fell.out)
+  ]
+
+  stands_labeled : StandsLabeled rack volume.store volume.label (Some last)
+  stands_labeled =
+      let through = stands_through rack start volume.store (Some reopened.label) (Some (opened_label found.source found.label saved start)) made.reads.reads.keeps found.stands in
+      subst (λ (l : Option KeptLabel). StandsLabeled rack volume.store l (Some last)) (sym made.label) (record {
+        kept = record { format = through.kept.format; sequence = through.kept.sequence; sealed = through.kept.sealed; body = through.kept.body };
+        holds = record {
+          label = λ q good. through.holds.label q (was_good q good);
+          body = λ q has sealed. through.holds.body q (has_before q has) sealed;
+        };
+        sizes = λ q good. through.sizes q (was_good q good);
+        of_array = record { shape_is = through.of_array.shape_is; numbers_are = through.of_array.numbers_are };
+        filling = λ q fills. filling_not_good (members_of volume q) fills;
+        fresh = λ q below here lacks. absurd (false≢true (sym lacks ∙ good_or_out q here));
+      })
+    where
+      has_before : (q : ℕ) → ((q == found.source) && is_good (members_of volume q)) ≡ true → ((q == found.source) && is_good (stores.members_of start q)) ≡ true
+      has_before q has =
+          let parts = and_parts (q == found.source) (is_good (members_of volume q)) has in
+          and_from (q == found.source) (is_good (stores.members_of start q)) parts.0 (was_good q parts.1)
+
+  -- a member of which a call failed is out
+  failed_out : (q : ℕ) → (rack.counts before).faults q < (rack.counts (rack_of volume)).faults q → members_of volume q ≡ Out
+  failed_out q rose = elim (cases_lt (q / 2) (shape_of volume).b) [
+    | inl below ↦ elim (cases_lt ((rack.counts before).faults q) ((rack.counts (stores.rack_of start)).faults q)) [
+      | inl early ↦ was_out q (found.fell q early)
+      | inr late ↦
+          let faults = keeps_tells rack start volume.store made.reads.reads.keeps in
+          faults.fell q (subst (λ (s : Shape). q / 2 < s.b) made.reads.reads.keeps.shape below) (omega (arith, late, rose))
+    ]
+    | inr past ↦ made.reads.sound.others q (omega (arith, past))
+  ]
 
   -- the state of these blocks
   abbrev opened : List (List ℕ) → State
   opened V = record {
+    boundaries = (shape_of volume).b;
+    live = all_live (shape_of volume).b;
+    cut = replicate (shape_of volume).n false;
     table = table_of volume;
     blocks = V;
     pending = marks_of any_phase volume;
@@ -534,25 +546,31 @@ module _ (one : OneOwner) (none : NoSystem) {R : Type 0} (rack : Ghosts R) (befo
     counts = rack.counts (rack_of volume);
   }
 
-  module _ (V : List (List ℕ)) (held : Tells rack volume → states.StandsFor (table_of volume) (stores.members_of start) (rack.bytes before) V)
-      (have : HadBody rack before volume (body_of found.label.format saved)) where
+  module _ (V : List (List ℕ)) (held : Tells rack volume → states.StandsFor (table_of volume) (stores.members_of start) (rack.bytes before) V) where
     start_held : Tells rack volume → stores.StandsFor rack start V
     start_held told =
         subst (λ (t : Table). states.StandsFor t (stores.members_of start) (rack.bytes (stores.rack_of start)) V) made.reads.reads.table
         (held_same (table_of volume) (stores.members_of start) (rack.bytes before) (rack.bytes (stores.rack_of start)) V found.leaves.same (held told))
 
-    opens : Opens (Tells rack volume) found.taken (rack.counts before) (opened V)
+    opens : Opens (Tells rack volume) found.taken None (rack.counts before) (opened V)
     opens = record {
       source = found.source;
       label = found.label;
       saved = saved;
       is_source = found.is_source;
+      reduced = all_in_use saved.table.shape;
+      reduced_is = refl;
+      fits = fits_all saved.table found.form.table;
+      boundaries = ap (λ (t : Table). t.shape.b) table_saved;
+      live = ap (λ (t : Table). all_live t.shape.b) table_saved;
+      cut = ap (λ (t : Table). replicate t.shape.n false) table_saved;
       table = table_saved;
       homes = made.homes;
       recent = made.recent;
       good = λ q good. found.good q (still_good _ _ (stores.members_of start) (members_of volume) q (made.reads.reads.keeps.falls q) good);
       out = λ q. out_by (rack.counts before).faults (rack.counts (stores.rack_of start)).faults (rack.counts (rack_of volume)).faults (stores.members_of start) (members_of volume) q
           (MayBeGood found.taken found.label saved q) (earlier q) (later q) (found.out q) (made.reads.reads.keeps.falls q);
+      fell = failed_out;
       pending = pending_next rack start volume.store saved made.reads.reads.table V start_held volume.phase volume.pending.items made.phase made.pending;
       phase = reopened_is rack start volume.store saved made.reads.reads.table V start_held one none (opened V) refl refl made.homes volume.phase made.phase refl made.copies refl;
       label_is = refl;
@@ -563,7 +581,7 @@ module _ (one : OneOwner) (none : NoSystem) {R : Type 0} (rack : Ghosts R) (befo
     stands_in : StandsIn any_phase rack volume (opened V)
     stands_in = record {
       is = refl;
-      label = stands_labeled have;
+      label = stands_labeled;
       holds = λ told. record {
         array = made.reads.stands V (start_held told);
         inferred = inferred rack start volume.store saved made.reads.reads.table V start_held volume.phase made.phase told;
@@ -573,6 +591,7 @@ module _ (one : OneOwner) (none : NoSystem) {R : Type 0} (rack : Ghosts R) (befo
   pub has_opened : HasOpened rack before volume hot
   has_opened = record {
     well = well;
+    given_is = made.given;
     stays = stays_on;
     writes = made.reads.reads.writes ∙ found.leaves.writes;
     beside = λ q. subst (λ (s : Shape). Told (Torn 512 ((s.k + 1) * s.l)) (rack.bytes before q) (rack.bytes (rack_of volume) q)) (sym made.reads.reads.keeps.shape)
@@ -586,7 +605,11 @@ module _ (one : OneOwner) (none : NoSystem) {R : Type 0} (rack : Ghosts R) (befo
     table = table_saved;
     first = stores.members_of start;
     first_are = λ q. elim (found.out q) [ inl good ↦ inl (good, found.good q good) | inr out ↦ inr out.0 ];
+    fell = failed_out;
+    others = λ q past.
+        same_both (rack.bytes before q) (rack.bytes (stores.rack_of start) q) (rack.bytes (rack_of volume) q) (found.leaves.same q)
+        (made.reads.reads.keeps.own.other_bytes q (subst (λ (s : Shape). s.b ≤ q / 2) made.reads.reads.keeps.shape past));
     falls = λ q. fall_before (rack.counts before).faults (rack.counts (stores.rack_of start)).faults (rack.counts (rack_of volume)).faults (stores.members_of start) (members_of volume) q (earlier q)
         (made.reads.reads.keeps.falls q);
-    states_are = λ V held have. (opened V, refl, opens V held have, stands_in V held have, refl);
+    states_are = λ V held. (opened V, refl, opens V held, stands_in V held, refl);
   }

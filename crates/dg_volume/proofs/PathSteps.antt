@@ -1,16 +1,19 @@
 -- A volume makes a step by a file that is read, or a directory that is listed, by its path.
-use Rattle.std.proofs.Common.{◌≡◌, ℕ, List, ◌++◌, refl, sym, subst, true}
-use Rattle.std.specs.Prelude.{Option, Some, None, Result, Ok, Err, IfNone}
+use Rattle.std.proofs.Common.{◌≡◌, ◌∙◌, ℕ, List, ◌++◌, false, refl, sym, subst, true}
+use Rattle.std.specs.Prelude.{Option, Some, None, Result, Ok, Err, IfNone, replicate}
 use Rattle.std.specs.List.{concat}
 use Rattle.dg_io.specs.declared.outside.Rack.{Ghosts}
 use Rattle.dg_model.specs.Changes.{IsCutShort, MayRead}
 use Rattle.dg_model.specs.Lists.{AreLines}
+use Rattle.dg_model.specs.Lives.{all_live}
 use Rattle.dg_model.specs.Sites.{is_gone}
-use Rattle.dg_model.specs.States.{State}
+use Rattle.dg_model.specs.States.{HasGone, State}
 use Rattle.dg_model.specs.Steps.{recent_after}
 use Rattle.dg_model.specs.declared.events.Event.TheVariants.{Cat, Ls}
 use Rattle.dg_model.specs.declared.replies.Reply.TheVariants.{Cut, Given, Listed as ListedReply, ListedCut, Refused, Unavailable as ReplyUnavailable}
 use Rattle.dg_store.specs.Stores as stores
+use Rattle.dg_volume.proofs.FaultLaws.{keeps_outs, keeps_tells}
+use Rattle.dg_volume.proofs.LineLaws.{any_in, gone_at, meets_in}
 use Rattle.dg_volume.proofs.VolumeLaws.{HasRead, label_by, on_label, read_keeps, read_state, reads_in, reads_stay, steps_by, steps_from, told_before}
 use Rattle.dg_volume.specs.Replies.{AnswersCat, AnswersLs, HasFileAt, TellsInode}
 use Rattle.dg_volume.specs.Volumes.{StandsFor, StepsBy, StepsTo, Tells, marks_by, members_of, rack_of, shape_of, state_of, table_of, touched_by}
@@ -54,17 +57,23 @@ module _ {S R : Type 0} (phase : phases.Ghosts S) (rack : Ghosts R) where
       → (Tells rack a → StandsFor phase rack a V) → ReadsBy reading a b answer → IfNone answer (LosesBlock b)
       → MayRead (Tells rack b) (state_of phase rack a rest V) (read_state phase rack a b h rest V) reading answer
   may_read reading a b rest V answer h holds reads gone = record {
-    rule = λ told. reads.rule told V (held a b V h holds told);
-    cause = gone;
+    rule = λ told.
+        meets_in (shape_of a).n (shape_of b).n (is_gone (table_of a) (members_of a)) (is_gone (table_of b) (members_of b)) (reading V) answer
+        (reads.rule told V (held a b V h holds told));
+    cause = at_end answer gone;
     unwritten = h.reads.writes;
   }
+    where
+      at_end : {A : Type 0} (answer : Option A) → IfNone answer (LosesBlock b) → IfNone answer (HasGone (read_state phase rack a b h rest V))
+      at_end None gone = (gone.0, gone_at (shape_of b).n (is_gone (table_of b) (members_of b) gone.0) gone.0 ∙ gone.1)
+      at_end (Some given) gone = tt
 
   -- what was cut short
   pub cut_short : {A : Type 0} (reading : Reading A) (a b : Volume S R) (rest : State) (V : List (List ℕ)) → (h : HasRead phase rack a b)
       → (Tells rack a → StandsFor phase rack a V) → ReadsBy reading a b None → IsCutShort (Tells rack b) (state_of phase rack a rest V) (read_state phase rack a b h rest V) reading
   cut_short reading a b rest V h holds lost told =
       let rule = lost.rule told V (held a b V h holds told) in
-      rule.only
+      any_in (shape_of b).n (is_gone (table_of b) (members_of b)) (reading V).needs rule.only
 
   -- ---- a file
 
@@ -109,7 +118,9 @@ module _ {S R : Type 0} (phase : phases.Ghosts S) (rack : Ghosts R) where
         (
           are,
           record {
-            rule = λ told. reads.rule told V (held a b V h holds told);
+            rule = λ told.
+                meets_in (shape_of a).n (shape_of b).n (is_gone (table_of a) (members_of a)) (is_gone (table_of b) (members_of b))
+                (cat_of (shape_of a).l (shape_of a).n path V) (Some (Ok (concat lines))) (reads.rule told V (held a b V h holds told));
             cause = tt;
             unwritten = h.reads.writes;
           },
@@ -119,12 +130,19 @@ module _ {S R : Type 0} (phase : phases.Ghosts S) (rack : Ghosts R) where
                 counts = h.reads.keeps.stays.rise;
                 label = label_by rack a b (read_keeps phase rack a b h).labels rest.label label;
                 paired = h.sound.paired;
+                faults =
+                    let faults = keeps_tells rack a.store b.store h.reads.keeps in
+                    record { fell = faults.fell; beyond = faults.beyond };
               };
               members = h.reads.keeps.falls;
+              out = keeps_outs rack a.store b.store h.reads.keeps;
             };
             i = i;
             is = λ told. file (state_of phase rack a rest V) (record { is = refl; label = label; holds = holds }) told;
             rest = λ j. record (on_label a b (read_keeps phase rack a b h).labels.opens (touched_rest a i rest)) {
+              boundaries = (h.reads.table j).shape.b;
+              live = all_live (h.reads.table j).shape.b;
+              cut = replicate (h.reads.table j).shape.n false;
               table = h.reads.table j;
               blocks = V;
               pending = marks_by (phase.kept (h.beside.phase_is j)) ((h.beside.pending j).items);

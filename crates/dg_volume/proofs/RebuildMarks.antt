@@ -1,5 +1,5 @@
 -- The marks by which a refill reaps blocks, and small facts of its answers.
-use Rattle.std.proofs.Common.{◌≡◌, ◌∙◌, ◌+◌, ◌*◌, ◌/◌, ◌⊎◌, ◌&&◌, ℕ, Bool, true, false, List, [], ◌∷◌, inl, inr, refl, sym, ap, subst, arith}
+use Rattle.std.proofs.Common.{◌≡◌, ◌∙◌, ◌+◌, ◌*◌, ◌/◌, ◌⊎◌, ◌&&◌, ℕ, Bool, true, false, List, [], ◌∷◌, inl, inr, refl, sym, ap, subst, arith, ◌≤◌}
 use Rattle.std.specs.Prelude.{IfSome, IsSome, None, Option, Some, is_some, not}
 use Rattle.std.proofs.lemmas.Bool.{cases_eq, false≢true}
 use Rattle.std.specs.List.{Contains}
@@ -108,10 +108,10 @@ both_out members s q at out other live = elim (cases_eq q (2 * s)) [
         ap (λ (x : MemberState). not (is_good x) && not (is_good (members (2 * s + 1)))) one ∙ ap (λ (x : MemberState). true && not (is_good x)) two
 
 -- no slot was passed
-pub none_passed : (table : Table) (V : List (List ℕ)) (s : ℕ) → Reaps table V s 0 0 (λ c. false) table V
-none_passed table V s = record {
+pub none_passed : (table : Table) (V : List (List ℕ)) (s slot : ℕ) → slot ≤ table.shape.k + 1 → Reaps table V s slot slot (λ c. false) table V
+none_passed table V s slot low = record {
   run = omega arith;
-  within = omega arith;
+  within = low;
   passed = λ c e. absurd (false≢true e);
   shape = refl;
   rows = refl;

@@ -12,13 +12,14 @@ use Rattle.dg_label.specs.declared.labels.KeptLabel.{KeptLabel}
 use Rattle.dg_model.proofs.MemberLaws.{falls_both, good_was, lost_stays, rose_after, rose_before}
 use Rattle.dg_model.specs.Causes.{Rose}
 use Rattle.dg_model.specs.Blocks.{block_in, zeros}
-use Rattle.dg_model.specs.Changes.{BreaksOff, MayReap, PassesSlots, refilled_to}
+use Rattle.dg_model.specs.Changes.{BreaksOff, MayReap, PassesSlots, Rebuilds, SparesAll, refilled_to}
+use Rattle.dg_model.specs.Lives.{all_live}
 use Rattle.dg_model.specs.Marks.{IsDead, is_marked}
 use Rattle.dg_model.specs.Members.{ArePaired, HasFallen, IsRefilled, MembersFall, OthersFall, is_filling, is_good, is_lost, partner_of}
 use Rattle.dg_model.specs.Refills.{Reaps}
 use Rattle.dg_model.specs.Saves.{AreHomes}
 use Rattle.dg_model.specs.Sites.{has_site}
-use Rattle.dg_model.specs.States.{State, has_lost}
+use Rattle.dg_model.specs.States.{State, has_lost, is_broken}
 use Rattle.dg_model.specs.Steps.{Step}
 use Rattle.dg_model.specs.Tables.{Table, sites_in}
 use Rattle.dg_model.specs.Wants.{AreWants, want_of}
@@ -38,17 +39,20 @@ use Rattle.dg_rebuild.specs.Reaped.{AreMarkedBetween, is_among, zeroed}
 use Rattle.dg_rebuild.specs.declared.rebuilds.RebuildAnswer.{RebuildAnswer}
 use Rattle.dg_rebuild.specs.declared.rebuilds.RebuildAnswer.TheVariants.{Copied, Failed, Lost, NotFilling}
 use Rattle.dg_store.specs.Leaves as arrays
-use Rattle.dg_store.specs.ReadLaws.{rack_both}
 use Rattle.dg_store.specs.Stores.{IsSound}
 use Rattle.dg_store.specs.Stores as stores
 use Rattle.dg_store.specs.declared.store.Store.{Store}
-use Rattle.dg_volume.proofs.LabelLaws.{CallsOnSlots, relabels_then, slots_kept}
+use Rattle.dg_volume.proofs.FaultLaws.{array_outs, array_tells, behind_outs, behind_tells, falls_out, passed_outs, passed_tells}
+use Rattle.dg_volume.proofs.LineLaws.{lost_in, lost_of, own_place}
+use Rattle.dg_volume.proofs.LabelLaws.{CallsOnSlots, relabels_then, slots_fell}
 use Rattle.dg_volume.proofs.LooseLaws.{LooseBlocksChange, reaped_differ}
 use Rattle.dg_volume.proofs.ReapLaws.{are_without, by_without, fit_without, placed_without, without}
 use Rattle.dg_volume.proofs.RebuildMarks.{both_out, by_loss, copied_not_lost, dead_mark, failed_not_lost, if_some, mark_dead, mark_free, none_passed, reaped_stands, stands_has, stray_at}
-use Rattle.dg_volume.proofs.RefillLaws.{filling_live, lost_none_filling, lost_where_left}
+use Rattle.dg_volume.proofs.RefillBehind.{HasSlots, below_behind, falls_behind, filling_was, live_before, lost_behind, others_behind, slots_behind}
+use Rattle.dg_volume.proofs.RefillLaws.{filling_live, left_outs, lost_none_filling, lost_where_left}
 use Rattle.dg_volume.proofs.VolumeLaws.{IsBeside, Keeps, Labels, StepsAt, holds_on, kept_state, label_by, leaves, lost_on, on_label, quiet_in, still_in}
 use Rattle.dg_volume.proofs.VolumeSteps.{false_of}
+use Rattle.dg_volume.specs.Faults.{OutsStay, TellsFaults}
 use Rattle.dg_volume.specs.Phases.{CanReapAll}
 use Rattle.dg_volume.specs.Seals.{Relabels}
 use Rattle.dg_volume.specs.Refills.{AreReapMarks, AreReaped, HasFilling, IsDeadMark, SparesFiles, rebuild_reply, told_of}
@@ -60,35 +64,6 @@ use Rattle.dg_volume.specs.declared.volumes.Volume.{Volume}
 
 module _ {S R : Type 0} (phase : phases.Ghosts S) (rack : Ghosts R) where
   -- ---- behind the opening of the seal
-
-  -- The slots of boundary s from one to before another were passed, and just the marked blocks in them reaped, by what stood before the opening.
-  pub record HasSlots (marks : List Bool) (s low high : ℕ) (before after : List ℕ) (old new : Store R) : Type 0 where
-    pub sound : IsSound rack new
-    pub stays : arrays.Stays rack old new
-    pub reaped : List ℕ
-    pub joined : after ≡ before ++ reaped
-    pub marked : AreMarkedBetween (stores.table_of old) marks s low high reaped
-    pub reaps : (V : List (List ℕ)) → length V ≡ (stores.shape_of old).n
-        → Reaps (stores.table_of old) V s low high (is_among reaped) (stores.table_of new) (zeroed (stores.shape_of old).l reaped V)
-    pub stands : stores.TellsAll rack new → (V : List (List ℕ)) → stores.StandsFor rack old V → stores.StandsFor rack new (zeroed (stores.shape_of old).l reaped V)
-
-  stays_both : (a m b : Store R) → arrays.Stays rack a m → arrays.Stays rack m b → arrays.Stays rack a b
-  stays_both a m b first second = record {
-    shape = second.shape ∙ first.shape;
-    stays = rack_both rack (stores.rack_of a) (stores.rack_of m) (stores.rack_of b) first.stays second.stays;
-  }
-
-  slots_behind : (marks : List Bool) (s low high : ℕ) (before after : List ℕ) (a m b : Store R) → KeepsArray rack a m → Passed rack marks s low high before after m b
-      → HasSlots marks s low high before after a b
-  slots_behind marks s low high before after a m b opening p = record {
-    sound = p.sound;
-    stays = stays_both a m b opening.stays p.stays;
-    reaped = p.reaped;
-    joined = p.joined;
-    marked = subst (λ (t : Table). AreMarkedBetween t marks s low high p.reaped) opening.table p.marked;
-    reaps = subst (λ (t : Table). (V : List (List ℕ)) → length V ≡ t.shape.n → Reaps t V s low high (is_among p.reaped) (stores.table_of b) (zeroed t.shape.l p.reaped V)) opening.table p.reaps;
-    stands = λ told V held. subst (λ (t : Table). stores.StandsFor rack b (zeroed t.shape.l p.reaped V)) opening.table (p.stands told V (opening.stands V held));
-  }
 
   -- the marks of blocks that may be reaped, by the table that stood before the opening
   pub record HasMarks (a : Volume S R) (m : Store R) (marks : List Bool) : Type 0 where
@@ -108,53 +83,6 @@ module _ {S R : Type 0} (phase : phases.Ghosts S) (rack : Ghosts R) where
     safe = if_some (phase.kept a.phase) (λ inference safe b marked. subst (λ (t : Table). IsDeadMark t inference b true) opening.table (safe b marked)) h.safe;
   }
 
-  -- a member that is refilled behind the opening was so before
-  filling_was : (a m : Store R) (s q have : ℕ) → KeepsArray rack a m → IsRefilled (stores.members_of m) s q have → IsRefilled (stores.members_of a) s q have
-  filling_was a m s q have opening filling = elim (opening.falls q) [
-    | inl same ↦ (filling.0, sym same ∙ filling.1)
-    | inr fell ↦ absurd (not_out (sym filling.1 ∙ fell.out))
-  ]
-    where
-      not_out : Filling have ≡ Out → ⊥
-      not_out e = cc e
-
-  -- what is lost before it is lost behind it
-  lost_behind : (a m : Store R) → KeepsArray rack a m → has_lost (stores.shape_of a) (stores.members_of a) ≡ true → has_lost (stores.shape_of a) (stores.members_of m) ≡ true
-  lost_behind a m opening lost =
-      lost_on (stores.shape_of a) (stores.members_of a) (stores.members_of m)
-      (λ q good. good_was (rack.counts (stores.rack_of a)).faults (rack.counts (stores.rack_of m)).faults (stores.members_of a) (stores.members_of m) q opening.falls good) lost
-
-  live_before : (a m : Store R) (s : ℕ) → KeepsArray rack a m → is_lost (stores.members_of m) s ≡ false → is_lost (stores.members_of a) s ≡ true → ⊥
-  live_before a m s opening live lost =
-      false≢true (sym live ∙ lost_stays (stores.members_of a) (stores.members_of m) s
-      (λ q good. good_was (rack.counts (stores.rack_of a)).faults (rack.counts (stores.rack_of m)).faults (stores.members_of a) (stores.members_of m) q opening.falls good) lost)
-
-  -- the other members, where one is refilled behind the opening
-  others_behind : (a m b : Store R) (q have : ℕ) (state : MemberState) → KeepsArray rack a m → arrays.Stays rack m b → stores.members_of m q ≡ Filling have
-      → IsLeftAt (stores.members_of m) (stores.members_of b) q state
-      → OthersFall q (rack.counts (stores.rack_of a)).faults (rack.counts (stores.rack_of b)).faults (stores.members_of a) (stores.members_of b)
-  others_behind a m b q have state opening left filling h p apart = elim (opening.falls p) [
-    | inl same ↦ inl (h.others p apart ∙ same)
-    | inr fell ↦ inr (record {
-      out = h.others p apart ∙ fell.out;
-      caused = elim fell.caused [
-        | inl rose ↦
-            inl (rose_after ((rack.counts (stores.rack_of a)).faults p) ((rack.counts (stores.rack_of m)).faults p) ((rack.counts (stores.rack_of b)).faults p) rose (left.stays.rise.faults p))
-        | inr gone ↦ inr (gone.0, h.others (partner_of p) (λ here. not_out (sym filling ∙ sym (ap (stores.members_of m) here) ∙ gone.1)) ∙ gone.1)
-      ];
-    })
-  ]
-    where
-      not_out : Filling have ≡ Out → ⊥
-      not_out e = cc e
-
-  falls_behind : (a m b : Store R) → KeepsArray rack a m → arrays.Stays rack m b
-      → MembersFall (rack.counts (stores.rack_of m)).faults (rack.counts (stores.rack_of b)).faults (stores.members_of m) (stores.members_of b)
-      → MembersFall (rack.counts (stores.rack_of a)).faults (rack.counts (stores.rack_of b)).faults (stores.members_of a) (stores.members_of b)
-  falls_behind a m b opening left falls =
-      falls_both (rack.counts (stores.rack_of a)).faults (rack.counts (stores.rack_of m)).faults (rack.counts (stores.rack_of b)).faults
-      (stores.members_of a) (stores.members_of m) (stores.members_of b) opening.stays.stays.rise.faults left.stays.rise.faults opening.falls falls
-
   -- ---- what is left
 
   -- slots were passed, and marked blocks in them reaped
@@ -163,7 +91,9 @@ module _ {S R : Type 0} (phase : phases.Ghosts S) (rack : Ghosts R) where
     pub high : ℕ
     pub before : List ℕ
     pub none : before ≡ []
-    pub slots : HasSlots marks s low high before reaped a.store b.store
+    pub slots : HasSlots rack marks s low high before reaped a.store b.store
+    pub faults : TellsFaults rack a.store b.store
+    pub outs : OutsStay rack a.store b.store
     pub lost : has_lost (shape_of a) (stores.members_of m) ≡ true → has_lost (shape_of a) (members_of b) ≡ true
 
   -- what the array's call left
@@ -203,7 +133,10 @@ module _ {S R : Type 0} (phase : phases.Ghosts S) (rack : Ghosts R) where
     none = none;
     low = h.low;
     high = h.high;
-    slots = slots_behind marks s h.low h.high before after a.store m b.store opening h.slots;
+    slots = slots_behind rack marks s h.low h.high before after a.store m b.store opening h.slots;
+    faults = behind_tells rack a.store m b.store opening (left_outs (stores.members_of m) (members_of b) s h.q h.low (refilled_to ((stores.shape_of m).k + 1) h.high) h.filling h.members)
+        (passed_tells rack marks s h.low h.high before after m b.store h.slots);
+    outs = behind_outs rack a.store m b.store opening (passed_outs rack marks s h.low h.high before after m b.store h.slots);
     lost = λ lost.
         lost_where_left (shape_of a) (stores.members_of m) (members_of b) s h.q h.low (refilled_to ((stores.shape_of m).k + 1) h.high) opening.sound.paired h.filling h.members lost;
   }
@@ -215,7 +148,10 @@ module _ {S R : Type 0} (phase : phases.Ghosts S) (rack : Ghosts R) where
     none = none;
     low = h.low;
     high = h.high;
-    slots = slots_behind marks s h.low h.high before after a.store m b.store opening h.slots;
+    slots = slots_behind rack marks s h.low h.high before after a.store m b.store opening h.slots;
+    faults = behind_tells rack a.store m b.store opening (falls_out (rack.counts (stores.rack_of m)).faults (rack.counts (rack_of b)).faults (stores.members_of m) (members_of b) h.members)
+        (passed_tells rack marks s h.low h.high before after m b.store h.slots);
+    outs = behind_outs rack a.store m b.store opening (passed_outs rack marks s h.low h.high before after m b.store h.slots);
     lost = λ lost.
         lost_on (shape_of a) (stores.members_of m) (members_of b)
         (λ q good. good_was (rack.counts (stores.rack_of m)).faults (rack.counts (rack_of b)).faults (stores.members_of m) (members_of b) q h.members good) lost;
@@ -228,7 +164,10 @@ module _ {S R : Type 0} (phase : phases.Ghosts S) (rack : Ghosts R) where
     none = none;
     low = h.low;
     high = h.high;
-    slots = slots_behind marks s h.low h.high before after a.store m b.store opening h.came.slots;
+    slots = slots_behind rack marks s h.low h.high before after a.store m b.store opening h.came.slots;
+    faults = behind_tells rack a.store m b.store opening (left_outs (stores.members_of m) (members_of b) s h.came.members.q h.low _ h.came.members.was h.came.members.left)
+        (passed_tells rack marks s h.low h.high before after m b.store h.came.slots);
+    outs = behind_outs rack a.store m b.store opening (passed_outs rack marks s h.low h.high before after m b.store h.came.slots);
     lost = λ lost.
         lost_where_left (shape_of a) (stores.members_of m) (members_of b) s h.came.members.q h.low _ opening.sound.paired h.came.members.was h.came.members.left lost;
   }
@@ -257,7 +196,7 @@ module _ {S R : Type 0} (phase : phases.Ghosts S) (rack : Ghosts R) where
     rise = passed.stays.stays.rise.writes;
     back = λ p was good. elim (cases_eq p q) [
       | inl here ↦
-          let old = filling_was a.store m s q have opening filling in
+          let old = filling_was rack a.store m s q have opening filling in
           absurd (false≢true (sym (ap (λ (x : ℕ). is_good (members_of a x)) here ∙ ap is_good old.1) ∙ was))
       | inr apart ↦ sym (ap is_good (left.others p apart)) ∙ good
     ];
@@ -277,7 +216,7 @@ module _ {S R : Type 0} (phase : phases.Ghosts S) (rack : Ghosts R) where
 
   broken_slots : (a : Volume S R) (m c : Store R) (marks : List Bool) (s : ℕ) (before after : List ℕ) → answers.HasBrokenOff rack marks s before after m c → CallsOnSlots rack a.store m c
   broken_slots a m c marks s before after h =
-      slots_kept rack a.store m c (record { shape = h.slots.stays.shape; stays = h.slots.stays.stays; falls = h.members; beside = h.slots.beside })
+      slots_fell rack a.store m c h.slots.stays h.members h.slots.beside
 
   rebuilt_by : {E : Type 0} (a : Volume S R) (m : Store R) (s n : ℕ) (marks : List Bool) (before after : List ℕ) (result : Result RebuildAnswer E) (c : Store R) → KeepsArray rack a.store m
       → CallsRebuild m s n marks before after result c → (c ≡ m) ⊎ CallsOnSlots rack a.store m c
@@ -390,16 +329,16 @@ module _ {S R : Type 0} (phase : phases.Ghosts S) (rack : Ghosts R) where
           copies_are = subst (λ (x : List Home). AreHomes (shape_of b) x) (sym h.beside.copies) copies;
           uncopied = λ unsettled. h.beside.copies ∙ well.uncopied (λ settled. unsettled (ap phase.phase h.beside.phase_is ∙ settled));
           worn = λ worn.
-              let lost = passed.lost (lost_behind a.store m h.opening (well.worn (ap phase.phase (sym h.beside.phase_is) ∙ worn))) in
+              let lost = passed.lost (lost_behind rack a.store m h.opening (well.worn (ap phase.phase (sym h.beside.phase_is) ∙ worn))) in
               ap (λ (x : Shape). has_lost x (members_of b)) same_shape ∙ lost;
           settled = λ settled. in_place (well.settled (ap phase.phase (sym h.beside.phase_is) ∙ settled));
         }
 
     leaves_passed : Leaves phase phase rack a b
-    leaves_passed = record { well = well_passed; shape = same_shape; rise = passed.slots.stays.stays.rise; tells = passed.slots.stays.stays.tells; same_rack = passed.slots.stays.stays.same_rack }
+    leaves_passed = record { well = well_passed; shape = same_shape; rise = passed.slots.stays.stays.rise; tells = passed.slots.stays.stays.tells; told_before = passed.slots.stays.stays.told_before; own = passed.slots.stays.own; same_rack = passed.slots.stays.stays.same_rack }
 
     told_before : Tells rack b → Tells rack a
-    told_before told q below = passed.slots.stays.stays.tells q (told q (subst (λ (x : Shape). q / 2 < x.b) (sym same_shape) below))
+    told_before told q below = passed.slots.stays.stays.told_before q (told q (subst (λ (x : Shape). q / 2 < x.b) (sym same_shape) below))
 
     -- ---- what it stands for
 
@@ -449,44 +388,54 @@ module _ {S R : Type 0} (phase : phases.Ghosts S) (rack : Ghosts R) where
       next_in : StandsIn phase rack b next
       next_in = record { is = refl; label = h.labels.stands rest.label label; holds = λ told. stands_passed V told (holds (told_before told)) }
 
+      mid_shape : stores.shape_of m ≡ shape_of a
+      mid_shape = h.opening.stays.shape
+
+      broken_mid : has_lost (shape_of a) (members_of a) ≡ true → has_lost (stores.shape_of m) (stores.members_of m) ≡ true
+      broken_mid lost = ap (λ (x : Shape). has_lost x (stores.members_of m)) mid_shape ∙ lost_behind rack a.store m h.opening lost
+
+      broken_now : has_lost (stores.shape_of m) (stores.members_of m) ≡ true → has_lost (shape_of b) (members_of b) ≡ true
+      broken_now lost =
+          ap (λ (x : Shape). has_lost x (members_of b)) same_shape ∙ passed.lost (sym (ap (λ (x : Shape). has_lost x (stores.members_of m)) mid_shape) ∙ lost)
+
+      -- where blocks may be reaped each dead one is marked
+      marked_dead : Tells rack b → (SparesAll was → ⊥) → is_broken next ≡ false → (c : ℕ) → IsDead (table_of a) V (marks_of phase a) c → is_marked marks c ≡ true
+      marked_dead told live unbroken c dead =
+          let held = holds (told_before told) in
+          let live_mid : (has_lost (stores.shape_of m) (stores.members_of m) ≡ true) ⊎ (phase.phase a.phase ≡ WornPhase) → ⊥ =
+          λ why. elim why [ inl lost ↦ false≢true (sym unbroken ∙ broken_now lost) | inr worn ↦ live (inr worn) ] in
+          dead_mark a.store (phase.kept a.phase) marks a.pending.items (h.marks_are.some live_mid)
+          (if_some (phase.kept a.phase) (λ inference all. all live_mid) h.marks_are.each) V held.inferred c dead
+
       may_reap : MayReap (Tells rack b) was s passed.low passed.high (is_among reaped) next
       may_reap = record {
         none = λ spares c. at_test c (is_among reaped c) refl (elim spares [ inl lost ↦ inl (broken_mid lost) | inr worn ↦ inr worn ]);
         marks = λ c among. mark_free a.store (phase.kept a.phase) marks a.pending.items h.marks_are.known h.marks_are.safe c (marked c among);
         dead = λ told c among. dead_at V (holds (told_before told)) c among;
-        all = λ told live unbroken c dead between.
-            let held = holds (told_before told) in
-            let each = are.each c in
-            let live_mid : (has_lost (stores.shape_of m) (stores.members_of m) ≡ true) ⊎ (phase.phase a.phase ≡ WornPhase) → ⊥ =
-            λ why. elim why [ inl lost ↦ false≢true (sym unbroken ∙ broken_now lost) | inr worn ↦ live (inr worn) ] in
-            each.1 (
-              dead_mark a.store (phase.kept a.phase) marks a.pending.items (h.marks_are.some live_mid)
-                  (if_some (phase.kept a.phase) (λ inference all. all live_mid) h.marks_are.each) V held.inferred c dead,
-              between,
-            );
+        all = λ told live unbroken c dead between. let each = are.each c in each.1 (marked_dead told live unbroken c dead, between);
       }
         where
-          mid_shape : stores.shape_of m ≡ shape_of a
-          mid_shape = h.opening.stays.shape
-
-          broken_mid : has_lost (shape_of a) (members_of a) ≡ true → has_lost (stores.shape_of m) (stores.members_of m) ≡ true
-          broken_mid lost = ap (λ (x : Shape). has_lost x (stores.members_of m)) mid_shape ∙ lost_behind a.store m h.opening lost
-
-          broken_now : has_lost (stores.shape_of m) (stores.members_of m) ≡ true → has_lost (shape_of b) (members_of b) ≡ true
-          broken_now lost =
-              ap (λ (x : Shape). has_lost x (members_of b)) same_shape ∙ passed.lost (sym (ap (λ (x : Shape). has_lost x (stores.members_of m)) mid_shape) ∙ lost)
-
           at_test : (c : ℕ) (x : Bool) → is_among reaped c ≡ x → (has_lost (stores.shape_of m) (stores.members_of m) ≡ true) ⊎ (phase.phase a.phase ≡ WornPhase) → is_among reaped c ≡ false
           at_test c true is spares = absurd (false≢true (sym (h.marks_are.none spares c) ∙ marked c is))
           at_test c false is spares = is
 
-      passes : PassesSlots (Tells rack b) was s passed.low passed.high next
-      passes = record {
+      passes : answers.IsUnmarkedAt (table_of a) marks s passed.high → PassesSlots (Tells rack b) was s passed.low passed.high next
+      passes unmarked = record {
         reaped = is_among reaped;
-        passes = record { counts = passed.slots.stays.stays.rise; label = label_by rack a b h.labels rest.label label; paired = passed.slots.sound.paired };
+        passes = record {
+          counts = passed.slots.stays.stays.rise;
+          label = label_by rack a b h.labels rest.label label;
+          paired = passed.slots.sound.paired;
+          faults = record { fell = passed.faults.fell; beyond = passed.faults.beyond };
+        };
+        out = passed.outs;
+        kept = λ told live unbroken c stands dead. false≢true (sym (unmarked c stands) ∙ marked_dead told live unbroken c dead);
         reaps = reaps V size;
         may = may_reap;
         rest = λ i. record (on_label a b h.labels.opens rest) {
+          boundaries = (same_shape i).b;
+          live = all_live (same_shape i).b;
+          cut = replicate (same_shape i).n false;
           table = table_of b;
           blocks = zeroed (shape_of a).l reaped V;
           pending = same_marks i;
@@ -511,6 +460,9 @@ module _ {S R : Type 0} (phase : phases.Ghosts S) (rack : Ghosts R) where
   -- nothing was done
   quiet_state : (a b : Volume S R) → IsBeside phase rack a b → b.store ≡ a.store → (rest : State) (V : List (List ℕ)) → state_of phase rack b rest V ≡ state_of phase rack a rest V
   quiet_state a b beside same rest V i = record rest {
+    boundaries = (stores.shape_of (same i)).b;
+    live = all_live (stores.shape_of (same i)).b;
+    cut = replicate (stores.shape_of (same i)).n false;
     table = stores.table_of (same i);
     blocks = V;
     pending = marks_by (phase.kept (beside.phase_is i)) ((beside.pending i).items);
@@ -533,10 +485,13 @@ module _ {S R : Type 0} (phase : phases.Ghosts S) (rack : Ghosts R) where
         table = now.table;
         rise = now.stays.stays.rise;
         tells = now.stays.stays.tells;
+        told_before = now.stays.stays.told_before;
+        own = now.stays.own;
         same_rack = now.stays.stays.same_rack;
         back = λ q good. good_was (rack.counts (rack_of a)).faults (rack.counts (rack_of b)).faults (members_of a) (members_of b) q now.falls good;
         stands = now.stands;
         labels = labels;
+        faults = array_tells rack a.store b.store now;
       }
 
   usual : {E : Type 0} (a : Volume S R) (m : Store R) (s n : ℕ) (marks : List Bool) (before after : List ℕ) (result : Result RebuildAnswer E) (b : Volume S R) → IsWell phase rack a
@@ -587,24 +542,36 @@ module _ {S R : Type 0} (phase : phases.Ghosts S) (rack : Ghosts R) where
   pub opened_spares : (law : LooseBlocksChange) (a b : Volume S R) → HasOpened a b → SparesFiles phase rack a b
   opened_spares law a b h = still_spares law a b (keeps_opened a b h)
 
-  breaks_at_once : (a b : Volume S R) (s : ℕ) (h : HasOpened a b) (rest : State) (V : List (List ℕ)) (label : StandsLabeled rack a.store a.label rest.label)
+  breaks_at_once : (a b : Volume S R) (s : ℕ) → IsSound rack a.store → (h : HasOpened a b) (rest : State) (V : List (List ℕ)) (label : StandsLabeled rack a.store a.label rest.label)
       → BreaksOff (Tells rack b) (state_of phase rack a rest V) s (kept_state phase rack a b (keeps_opened a b h) rest V)
-  breaks_at_once a b s h rest V label =
+  breaks_at_once a b s sound h rest V label =
       let keeps = keeps_opened a b h in
+      let last = (shape_of a).k + 1 in
       record {
-        low = 0;
-        high = 0;
+        low = last;
+        high = last;
+        at = inl refl;
         slots = record {
           reaped = λ c. false;
-          passes = record { counts = h.opening.stays.stays.rise; label = label_by rack a b keeps.labels rest.label label; paired = h.opening.sound.paired };
-          reaps = subst (λ (t : Table). Reaps (table_of a) V s 0 0 (λ c. false) t V) (sym h.opening.table) (none_passed (table_of a) V s);
+          passes = record {
+            counts = h.opening.stays.stays.rise;
+            label = label_by rack a b keeps.labels rest.label label;
+            paired = h.opening.sound.paired;
+            faults = record { fell = keeps.faults.fell; beyond = keeps.faults.beyond };
+          };
+          out = array_outs rack a.store b.store h.opening;
+          kept = λ told live unbroken c stands dead. let low = sound.table.slots c s last stands in omega (arith, low);
+          reaps = subst (λ (t : Table). Reaps (table_of a) V s last last (λ c. false) t V) (sym h.opening.table) (none_passed (table_of a) V s last (omega arith));
           may = record {
             none = λ spares c. refl;
             marks = λ c among. absurd (false≢true among);
             dead = λ told c among. absurd (false≢true among);
-            all = λ told live unbroken c dead between. absurd (let early = between.before in omega (arith, early));
+            all = λ told live unbroken c dead between. absurd (let early = between.before in let late = between.from in omega (arith, early, late));
           };
           rest = λ i. record (on_label a b keeps.labels.opens rest) {
+            boundaries = (keeps.table i).shape.b;
+            live = all_live (keeps.table i).shape.b;
+            cut = replicate (keeps.table i).shape.n false;
             table = table_of b;
             blocks = V;
             pending = marks_by (phase.kept (h.beside.phase_is i)) ((h.beside.pending i).items);
@@ -619,10 +586,14 @@ module _ {S R : Type 0} (phase : phases.Ghosts S) (rack : Ghosts R) where
         begun = λ less. absurd (omega (arith, less));
       }
 
+  -- the boundary is there still
+  below_on : (a b : Volume S R) (s : ℕ) → Keeps phase rack a b → s < (shape_of a).b → s < (shape_of b).b
+  below_on a b s keeps low = subst (λ (t : Table). s < t.shape.b) (sym keeps.table) low
+
   -- the member was refilled, and isn't any more
   pub record HasLostFilling (a b : Volume S R) (s : ℕ) : Type 0 where
     pub boundary : s < (shape_of a).b
-    pub paired : ArePaired (members_of a)
+    pub sound : IsSound rack a.store
     pub was : HasFilling (members_of a) s
     pub none : answers.HasNoFilling (members_of b) s
     pub opened : HasOpened a b
@@ -634,7 +605,12 @@ module _ {S R : Type 0} (phase : phases.Ghosts S) (rack : Ghosts R) where
     (
       h.boundary,
       refl,
-      inr (λ was. filling_live (members_of a) s h.was.q h.was.have h.paired h.was.refilled was, lost, breaks_at_once a b s h.opened rest V label),
+      inr (
+        λ was. filling_live (members_of a) s h.was.q h.was.have h.sound.paired h.was.refilled (lost_of (shape_of a).b (members_of a) s h.boundary was),
+        lost_in (shape_of b).b (members_of b) s (below_on a b s (keeps_opened a b h.opened) h.boundary) lost,
+        subst (λ (x : ℕ). BreaksOff (Tells rack b) (state_of phase rack a rest V) x (kept_state phase rack a b (keeps_opened a b h.opened) rest V))
+            (sym (own_place (shape_of a).b s h.boundary)) (breaks_at_once a b s h.sound h.opened rest V label),
+      ),
     ),
     refl,
   ))
@@ -645,9 +621,10 @@ module _ {S R : Type 0} (phase : phases.Ghosts S) (rack : Ghosts R) where
     still_in phase rack a b rest V label (keeps_opened a b h.opened) holds,
     (
       h.boundary,
-      λ lost. false≢true (sym live ∙ lost),
-      record { q = h.was.q; have = h.was.have; filling = h.was.refilled; out = fell.out; rose = rose },
-      breaks_at_once a b s h.opened rest V label,
+      λ lost. false≢true (sym live ∙ lost_of (shape_of b).b (members_of b) s (below_on a b s (keeps_opened a b h.opened) h.boundary) lost),
+      record { q = h.was.q; have = h.was.have; filling = (h.was.refilled.0 ∙ (sym (own_place (shape_of a).b s h.boundary)), h.was.refilled.1); out = fell.out; rose = rose },
+      subst (λ (x : ℕ). BreaksOff (Tells rack b) (state_of phase rack a rest V) x (kept_state phase rack a b (keeps_opened a b h.opened) rest V))
+          (sym (own_place (shape_of a).b s h.boundary)) (breaks_at_once a b s h.sound h.opened rest V label),
     ),
     refl,
   ))
@@ -681,17 +658,17 @@ module _ {S R : Type 0} (phase : phases.Ghosts S) (rack : Ghosts R) where
         next_in a m marks s after b all passed rest V label size holds,
         (
           h.boundary,
-          λ lost. copied_not_lost d l s (sym (h.call.lost.1 lost)),
-          record {
+          λ lost. copied_not_lost d l s (sym (h.call.lost.1 (lost_of (shape_of b).b (members_of b) s (below_behind rack a.store m b.store s h.opening h.call.left h.boundary) lost))),
+          subst (λ (x : ℕ). Rebuilds (Tells rack b) (state_of phase rack a rest V) x n d l (next a m marks s after b all passed rest V label size holds)) (sym (own_place (shape_of a).b s h.boundary)) (record {
             q = k.q;
             low = k.low;
             high = k.high;
-            filling = filling_was a.store m s k.q k.low h.opening k.filling;
+            filling = filling_was rack a.store m s k.q k.low h.opening k.filling;
             refills = k.refills;
-            slots = passes a m marks s after b all passed rest V label size holds;
+            slots = passes a m marks s after b all passed rest V label size holds (subst (λ (t : Table). answers.IsUnmarkedAt t marks s k.high) h.opening.table k.kept);
             member = k.members.member ∙ ap (λ (x : Shape). refilled_to (x.k + 1) k.high) h.opening.stays.shape;
-            others = others_behind a.store m b.store k.q k.low (refilled_to ((stores.shape_of m).k + 1) k.high) h.opening h.call.left (k.filling.1) k.members;
-          },
+            others = others_behind rack a.store m b.store k.q k.low (refilled_to ((stores.shape_of m).k + 1) k.high) h.opening h.call.left (k.filling.1) k.members;
+          }),
         ),
         refl,
       ))
@@ -703,9 +680,11 @@ module _ {S R : Type 0} (phase : phases.Ghosts S) (rack : Ghosts R) where
   breaks_off a m s marks before after b none all left k rest V label size holds = record {
     low = k.low;
     high = k.high;
-    slots = passes a m marks s after b all (passed_broken a m s marks before after b none all.opening k) rest V label size holds;
-    members = falls_behind a.store m b.store all.opening left k.members;
-    begun = λ less. (k.q, filling_was a.store m s k.q k.low all.opening k.filling);
+    at = inr k.at;
+    slots = passes a m marks s after b all (passed_broken a m s marks before after b none all.opening k) rest V label size holds
+        (subst (λ (t : Table). answers.IsUnmarkedAt t marks s k.high) all.opening.table k.kept);
+    members = falls_behind rack a.store m b.store all.opening left k.members;
+    begun = λ less. (k.q, filling_was rack a.store m s k.q k.low all.opening k.filling);
   }
 
   steps_lost : {E : Type 0} (a : Volume S R) (m : Store R) (s n t : ℕ) (marks : List Bool) (before after : List ℕ) (b : Volume S R) → IsWell phase rack a
@@ -716,8 +695,10 @@ module _ {S R : Type 0} (phase : phases.Ghosts S) (rack : Ghosts R) where
       let same : b.store ≡ a.store = (h.call.quiet none).0 ∙ still.0 in
       sized a b (Rebuild s n) (LostReply t) (λ rest V label size holds. (
         state_of phase rack b rest V,
-        quiet_in phase rack a b rest V label (opened_keeps a m b h.opening h.labels h.beside h.levels (h.call.quiet none).0) (ap (λ (x : Store R). stores.rack_of x) same) still.1 holds,
-        (h.boundary, h.call.other t refl, inl (subst (λ (x : Store R). is_lost (stores.members_of x) s ≡ true) still.0 is, quiet_state a b h.beside same rest V)),
+        quiet_in phase rack a b rest V label (opened_keeps a m b h.opening h.labels h.beside h.levels (h.call.quiet none).0) (ap (λ (x : Store R). stores.rack_of x) same) still.1
+            (λ q out. ap (λ (x : Store R). stores.members_of x q) same ∙ out)
+            (λ q fills. ap (λ (x : Store R). is_filling (stores.members_of x q)) (sym same) ∙ fills) holds,
+        (h.boundary, h.call.other t refl, inl (lost_in (shape_of a).b (members_of a) s h.boundary (subst (λ (x : Store R). is_lost (stores.members_of x) s ≡ true) still.0 is), quiet_state a b h.beside same rest V)),
         refl,
       ))
   steps_lost a m s n t marks before after b well h false is =
@@ -730,7 +711,12 @@ module _ {S R : Type 0} (phase : phases.Ghosts S) (rack : Ghosts R) where
         (
           h.boundary,
           e,
-          inr (live_before a.store m s h.opening is, h.call.lost.0 (ap Lost e), breaks_off a m s marks before after b h.none all h.call.left k rest V label size holds),
+          inr (
+            λ lost. live_before rack a.store m s h.opening is (lost_of (shape_of a).b (members_of a) s h.boundary lost),
+            lost_in (shape_of b).b (members_of b) s (below_behind rack a.store m b.store s h.opening h.call.left h.boundary) (h.call.lost.0 (ap Lost e)),
+            subst (λ (x : ℕ). BreaksOff (Tells rack b) (state_of phase rack a rest V) x (next a m marks s after b all (passed_broken a m s marks before after b h.none all.opening k) rest V label size holds))
+                (sym (own_place (shape_of a).b s h.boundary)) (breaks_off a m s marks before after b h.none all h.call.left k rest V label size holds),
+          ),
         ),
         refl,
       ))
@@ -743,11 +729,13 @@ module _ {S R : Type 0} (phase : phases.Ghosts S) (rack : Ghosts R) where
       let same : b.store ≡ a.store = (h.call.quiet k.0).0 ∙ still.0 in
       sized a b (Rebuild s n) NotFillingReply (λ rest V label size holds. (
         state_of phase rack b rest V,
-        quiet_in phase rack a b rest V label (opened_keeps a m b h.opening h.labels h.beside h.levels (h.call.quiet k.0).0) (ap (λ (x : Store R). stores.rack_of x) same) still.1 holds,
+        quiet_in phase rack a b rest V label (opened_keeps a m b h.opening h.labels h.beside h.levels (h.call.quiet k.0).0) (ap (λ (x : Store R). stores.rack_of x) same) still.1
+            (λ q out. ap (λ (x : Store R). stores.members_of x q) same ∙ out)
+            (λ q fills. ap (λ (x : Store R). is_filling (stores.members_of x q)) (sym same) ∙ fills) holds,
         (
           h.boundary,
-          λ lost. false≢true (sym k.1 ∙ ap (λ (x : Store R). is_lost (stores.members_of x) s) same ∙ lost),
-          subst (λ (x : Store R). answers.HasNoFilling (stores.members_of x) s) still.0 k.0,
+          λ lost. false≢true (sym k.1 ∙ ap (λ (x : Store R). is_lost (stores.members_of x) s) same ∙ lost_of (shape_of a).b (members_of a) s h.boundary lost),
+          subst (λ (x : ℕ). answers.HasNoFilling (members_of a) x) (sym (own_place (shape_of a).b s h.boundary)) (subst (λ (x : Store R). answers.HasNoFilling (stores.members_of x) s) still.0 k.0),
           quiet_state a b h.beside same rest V,
         ),
         refl,
@@ -766,16 +754,17 @@ module _ {S R : Type 0} (phase : phases.Ghosts S) (rack : Ghosts R) where
         next_in a m marks s after b all (passed_broken a m s marks before after b h.none all.opening k) rest V label size holds,
         (
           h.boundary,
-          λ lost. failed_not_lost s (sym (h.call.lost.1 lost)),
+          λ lost. failed_not_lost s (sym (h.call.lost.1 (lost_of (shape_of b).b (members_of b) s (below_behind rack a.store m b.store s h.opening h.call.left h.boundary) lost))),
           record {
             q = fell.q;
             have = fell.low;
-            filling = filling_was a.store m s fell.q fell.low h.opening fell.filling;
+            filling = subst (λ (x : ℕ). IsRefilled (members_of a) x fell.q fell.low) (sym (own_place (shape_of a).b s h.boundary)) (filling_was rack a.store m s fell.q fell.low h.opening fell.filling);
             out = fell.out;
             rose = rose_before ((rack.counts (rack_of a)).faults fell.q) ((rack.counts (stores.rack_of m)).faults fell.q) ((rack.counts (rack_of b)).faults fell.q)
                 (h.opening.stays.stays.rise.faults fell.q) fell.rose;
           },
-          breaks_off a m s marks before after b h.none all h.call.left k rest V label size holds,
+          subst (λ (x : ℕ). BreaksOff (Tells rack b) (state_of phase rack a rest V) x (next a m marks s after b all (passed_broken a m s marks before after b h.none all.opening k) rest V label size holds))
+              (sym (own_place (shape_of a).b s h.boundary)) (breaks_off a m s marks before after b h.none all h.call.left k rest V label size holds),
         ),
         refl,
       ))

@@ -2,7 +2,7 @@
 use Rattle.std.proofs.Common.{◌≡◌, ◌≢◌, ◌∙◌, ◌<◌, ◌≤◌, ◌+◌, ◌*◌, ◌/◌, ◌⊎◌, ℕ, Bool, true, false, not, List, [], ◌∷◌, ◌++◌, length, inl, inr, refl, sym, ap, subst, arith}
 use Rattle.std.specs.Prelude.{◌&&◌, Err, IfOk, IfSome, IsSome, None, Ok, Option, Result, Some, if◌then◌else◌}
 use Rattle.std.specs.Result.{is_err, is_ok}
-use Rattle.std.proofs.lemmas.Bool.{and_parts, cases_lt, cases_order, false≢true, not-true}
+use Rattle.std.proofs.lemmas.Bool.{and_parts, cases_eq, cases_lt, cases_order, false≢true, not-true}
 use Rattle.std.proofs.lemmas.List.{get_or_append_left, get_or_past, get_or_push, length-append}
 use Rattle.dg_infer.specs.Meanings.{KeptInference}
 use Rattle.dg_model.proofs.MemberLaws.{has_lost_at, has_lost_from}
@@ -12,6 +12,7 @@ use Rattle.dg_model.specs.Sites.{has_site}
 use Rattle.dg_model.specs.States.{has_lost}
 use Rattle.dg_model.specs.Tables.{IsTable, Table, sites_in}
 use Rattle.dg_model.specs.declared.members.MemberState.{MemberState}
+use Rattle.dg_model.specs.declared.members.MemberState.TheVariants.{Filling, Out}
 use Rattle.dg_model.specs.declared.phases.Phase.{Phase}
 use Rattle.dg_model.specs.declared.phases.Phase.TheVariants.{Worn}
 use Rattle.dg_model.specs.declared.shapes.Shape.{Shape}
@@ -49,6 +50,16 @@ lost_none_filling members s paired lost q at = by_test (is_filling (members q)) 
 -- the boundary of a member that is refilled isn't lost
 pub filling_live : (members : ℕ → MemberState) (s q have : ℕ) → ArePaired members → IsRefilled members s q have → is_lost members s ≡ true → ⊥
 filling_live members s q have paired filling lost = false≢true (sym (lost_none_filling members s paired lost q filling.0) ∙ ap is_filling filling.1)
+
+-- where one member was refilled on, each that was out is out
+pub left_outs : (old new : ℕ → MemberState) (s q have : ℕ) (state : MemberState) → IsRefilled old s q have → IsLeftAt old new q state → (p : ℕ) → old p ≡ Out → new p ≡ Out
+left_outs old new s q have state filling left p out = elim (cases_eq p q) [
+  | inl here ↦ absurd (not_out (sym filling.1 ∙ sym (ap old here) ∙ out))
+  | inr apart ↦ left.others p apart ∙ out
+]
+  where
+    not_out : Filling have ≡ Out → ⊥
+    not_out e = cc e
 
 -- another boundary has the members that it had
 same_lost : (old new : ℕ → MemberState) (q t : ℕ) (state : MemberState) → IsLeftAt old new q state → q / 2 ≢ t → is_lost new t ≡ is_lost old t

@@ -1,16 +1,18 @@
 -- A volume makes a step by a replacement of a member.
-use Rattle.std.proofs.Common.{◌≡◌, ◌≢◌, ◌∙◌, ◌⊎◌, ◌<◌, ◌+◌, ◌*◌, ◌==◌, ℕ, Bool, true, false, List, length, inl, inr, refl, sym, ap, subst}
-use Rattle.std.specs.Prelude.{◌↔◌, IfSome, None, Option, Some, if◌then◌else◌}
-use Rattle.std.proofs.lemmas.Bool.{cases_eq, eq-eqb, false≢true, ne_eqb}
-use Rattle.std.proofs.lemmas.List.{length-replicate}
+use Rattle.std.proofs.Common.{◌≡◌, ◌≢◌, ◌∙◌, ◌⊎◌, ◌<◌, ◌≤◌, ◌/◌, ◌+◌, ◌*◌, ◌==◌, ℕ, Bool, true, false, List, length, inl, inr, refl, sym, ap, subst, arith}
+use Rattle.std.specs.Prelude.{◌↔◌, IfSome, None, Option, Some, if◌then◌else◌, replicate, take}
+use Rattle.std.proofs.lemmas.Bool.{cases_eq, cases_lt, eq-eqb, false≢true, ne_eqb}
+use Rattle.std.proofs.lemmas.List.{length-replicate, take-replicate}
 use Rattle.dg_io.specs.Told.{IsZeros, Told, Torn}
 use Rattle.dg_io.specs.declared.outside.Rack.{Ghosts}
 use Rattle.dg_label.specs.Labels.{AreNumbers, HasLength, IsLabeled, StandsLabeled}
 use Rattle.dg_model.proofs.MemberLaws.{NoneRecovers, falls_both, rose_after, rose_before}
-use Rattle.dg_model.specs.Changes.{IsMember}
+use Rattle.dg_model.specs.Changes.{IsMember, Misses, Passes, Replaces}
+use Rattle.dg_model.specs.Lives.{all_live}
 use Rattle.dg_model.specs.Members.{MembersFall, OthersFall, is_filling, is_good, is_lost, partner_of}
 use Rattle.dg_model.specs.Saves.{member_length}
 use Rattle.dg_model.specs.States.{CountsRise, State, after_calls}
+use Rattle.dg_model.specs.Tables.{Table}
 use Rattle.dg_model.specs.declared.events.Event.TheVariants.{Replace}
 use Rattle.dg_model.specs.declared.members.MemberState.{MemberState}
 use Rattle.dg_model.specs.declared.members.MemberState.TheVariants.{Filling, Good, Out}
@@ -19,15 +21,18 @@ use Rattle.dg_model.specs.declared.replies.Reply.TheVariants.{Done, Failed as Fa
 use Rattle.dg_pair.specs.Calls.{replaced}
 use Rattle.dg_pair.specs.declared.boundaries.ReplaceAnswer.{ReplaceAnswer}
 use Rattle.dg_pair.specs.declared.boundaries.ReplaceAnswer.TheVariants.{Failed, Lost, NotOut, Replaced}
-use Rattle.dg_store.specs.Leaves.{BytesChange, FaultRose, OnlyBytesOf}
+use Rattle.dg_store.specs.Leaves.{BytesChange, FaultRose, OnlyBytesOf, OnlyFaultsOf}
 use Rattle.dg_store.specs.Leaves as arrays
 use Rattle.dg_store.specs.ReadLaws.{rises_both}
 use Rattle.dg_store.specs.Stores.{IsSound, KeepsBlocks}
 use Rattle.dg_store.specs.Stores as stores
 use Rattle.dg_store.specs.declared.store.Store.{Store}
-use Rattle.dg_volume.proofs.LabelLaws.{good_falls, good_live, length_stays, out_falls, relabels_on, relabels_where, same_bytes, torn_none}
+use Rattle.dg_volume.proofs.FaultLaws.{array_outs, array_tells, own_then}
+use Rattle.dg_volume.proofs.LineLaws.{lost_in, lost_of, own_member}
+use Rattle.dg_volume.proofs.LabelLaws.{HasNone, good_falls, good_live, length_stays, out_falls, relabels_on, relabels_where, same_bytes, torn_none}
 use Rattle.dg_volume.proofs.VolumeLaws.{IsBeside, Keeps, Labels, kept_state, label_by, leaves, on_label, quiet_in, stays, steps_from, still_in}
 use Rattle.dg_volume.proofs.VolumeSteps.{false_of}
+use Rattle.dg_volume.specs.Faults.{OutsStay, TellsFaults, faults_of}
 use Rattle.dg_volume.specs.Seals.{OpensWhere, Relabels}
 use Rattle.dg_volume.specs.Volumes.{IsWell, Leaves, StandsFor, StandsIn, StepsTo, Tells, marks_by, members_of, rack_of, shape_of, state_of, table_of}
 use Rattle.dg_volume.specs.declared.phases.InPhase as phases
@@ -52,6 +57,12 @@ none_recovers Failed p old new is q good = ap is_good (sym (is q)) ∙ good
 
 failed_stood : Failed ≡ NotOut → ⊥
 failed_stood e = cc e
+
+replaced_stood : Replaced ≡ NotOut → ⊥
+replaced_stood e = cc e
+
+replaced_lost : Replaced ≡ Lost → ⊥
+replaced_lost e = cc e
 
 lost_stood : Lost ≡ NotOut → ⊥
 lost_stood e = cc e
@@ -80,6 +91,8 @@ module _ {S R : Type 0} (phase : phases.Ghosts S) (rack : Ghosts R) where
     pub members : (q : ℕ) → members_of b q ≡ replaced answer (2 * s + j) (stores.members_of m) q
     pub blank : answer ≡ Replaced → BytesChange rack m b.store (2 * s + j) (IsZeros (member_length 2 (stores.shape_of m)))
     pub other_bytes : OnlyBytesOf rack m b.store (2 * s + j)
+    pub other_faults : OnlyFaultsOf rack m b.store (2 * s + j)
+    pub faulty : (q : ℕ) → faults_of rack m q < faults_of rack b.store q → members_of b q ≡ Out
     pub quiet : (answer ≡ Lost) ⊎ (answer ≡ NotOut) → rack_of b ≡ stores.rack_of m
     pub stands : KeepsBlocks rack m b.store
 
@@ -144,6 +157,52 @@ module _ {S R : Type 0} (phase : phases.Ghosts S) (rack : Ghosts R) where
 
     failed_out : answer ≡ Failed → stores.members_of m (2 * s + j) ≡ Out
     failed_out is = out_by (stores.members_of m (2 * s + j)) (λ stood. failed_stood (sym is ∙ h.not_out.1 stood))
+
+    -- where a member is made anew it was out
+    replaced_out : answer ≡ Replaced → stores.members_of m (2 * s + j) ≡ Out
+    replaced_out is = out_by (stores.members_of m (2 * s + j)) (λ stood. replaced_stood (sym is ∙ h.not_out.1 stood))
+
+    writes_where : answer ≡ Replaced → writes ≡ true
+    writes_where is = by_writes writes refl
+      where
+        by_writes : (x : Bool) → writes ≡ x → x ≡ true
+        by_writes true e = refl
+        by_writes false e = absurd (elim (found e) [ inl stood ↦ replaced_stood (sym is ∙ stood) | inr lost ↦ replaced_lost (sym is ∙ lost) ])
+
+    -- ---- faults
+
+    -- the member itself wasn't called before it was made anew
+    own_uncalled : faults_of rack m (2 * s + j) ≡ faults_of rack a.store (2 * s + j)
+    own_uncalled = by_writes writes refl
+      where
+        by_writes : (x : Bool) → writes ≡ x → faults_of rack m (2 * s + j) ≡ faults_of rack a.store (2 * s + j)
+        by_writes true e = array_outs rack a.store m h.opening.array (2 * s + j) (h.out e)
+        by_writes false e = ap (λ (x : Store R). faults_of rack x (2 * s + j)) (h.opening.quiet e).0
+
+    tells_replaced : TellsFaults rack a.store b.store
+    tells_replaced =
+        let first = array_tells rack a.store m h.opening.array in
+        record {
+          fell = λ q below rose. elim (cases_lt (faults_of rack m q) (faults_of rack b.store q)) [
+            | inl late ↦ h.faulty q late
+            | inr early ↦
+                let rises : faults_of rack a.store q < faults_of rack m q = omega (arith, rose, early) in
+                elim (cases_eq q (2 * s + j)) [
+                  | inl here ↦ absurd (omega (arith, subst (λ (p : ℕ). faults_of rack m p ≡ faults_of rack a.store p) (sym here) own_uncalled, rises))
+                  | inr apart ↦ stays_at q apart ∙ first.fell q below rises
+                ]
+          ];
+          beyond = λ q past. h.other_faults q (λ here. not_past q here past) ∙ first.beyond q past;
+        }
+      where
+        not_past : (q : ℕ) → q ≡ 2 * s + j → (shape_of a).b ≤ q / 2 → ⊥
+        not_past q here past = let low = h.boundary in let side = h.side in omega (arith, here, past, low, side)
+
+    others_uncalled : (q : ℕ) → q ≢ 2 * s + j → members_of a q ≡ Out → faults_of rack b.store q ≡ faults_of rack a.store q
+    others_uncalled q apart out = h.other_faults q apart ∙ array_outs rack a.store m h.opening.array q out
+
+    outs_quiet : rack_of b ≡ stores.rack_of m → OutsStay rack a.store b.store
+    outs_quiet same q out = ap (λ (r : R). (rack.counts r).faults q) same ∙ array_outs rack a.store m h.opening.array q out
 
     -- ---- the label
 
@@ -243,6 +302,51 @@ module _ {S R : Type 0} (phase : phases.Ghosts S) (rack : Ghosts R) where
     recovers_none : (q : ℕ) → is_good (members_of b q) ≡ true → is_good (stores.members_of m q) ≡ true
     recovers_none = none_recovers answer (2 * s + j) (stores.members_of m) (members_of b) h.members
 
+    none_anew : (before now : Option (List ℕ)) → Told (IsZeros (member_length 2 (stores.shape_of m))) before now → HasNone now
+    none_anew None None told = tt
+    none_anew (Some x) None told = tt
+    none_anew None (Some y) told = absurd told
+    none_anew (Some x) (Some y) told = ap (λ (xs : List ℕ). take 512 xs) told ∙ take-replicate 512 (member_length 2 (stores.shape_of m)) 0 (omega arith)
+
+    -- the member that was made anew has no label
+    none_at : (q : ℕ) → q ≡ 2 * s + j → answer ≡ Replaced → HasNone (rack.bytes (rack_of b) q)
+    none_at q at is =
+        subst (λ (p : ℕ). HasNone (rack.bytes (rack_of b) p)) (sym at) (none_anew (rack.bytes (stores.rack_of m) (2 * s + j)) (rack.bytes (rack_of b) (2 * s + j)) (h.blank is))
+
+    opens_at : answer ≡ Replaced → opened_first.0.opens ≡ true
+    opens_at is = opened_first.1 ∙ writes_where is
+
+    filling_at : (q : ℕ) → is_filling (members_of b q) ≡ true
+        → (is_filling (stores.members_of m q) ≡ true) ⊎ ((opened_first.0.opens ≡ true) × HasNone (rack.bytes (rack_of b) q))
+    filling_at q fills = elim (cases_eq q (2 * s + j)) [
+      | inl at ↦ elim answer_is [
+        | inl is ↦ inr (opens_at is, none_at q at is)
+        | inr (inl is) ↦ absurd (false≢true (sym (ap is_filling (ap (members_of b) at ∙ same_failed is (2 * s + j) ∙ failed_out is)) ∙ fills))
+        | inr (inr still) ↦ inl (sym (ap is_filling (same_quiet still q)) ∙ fills)
+      ]
+      | inr apart ↦ inl (sym (ap is_filling (stays_at q apart)) ∙ fills)
+    ]
+
+    out_at : (q : ℕ) → stores.members_of m q ≡ Out → (members_of b q ≡ Out) ⊎ ((opened_first.0.opens ≡ true) × HasNone (rack.bytes (rack_of b) q))
+    out_at q out = elim (cases_eq q (2 * s + j)) [
+      | inl at ↦ elim answer_is [
+        | inl is ↦ inr (opens_at is, none_at q at is)
+        | inr (inl is) ↦ inl (same_failed is q ∙ out)
+        | inr (inr still) ↦ inl (same_quiet still q ∙ out)
+      ]
+      | inr apart ↦ inl (stays_at q apart ∙ out)
+    ]
+
+    live_at : (q : ℕ) → members_of b q ≢ Out → stores.members_of m q ≢ Out → Beside q
+    live_at q here stood = elim (cases_eq q (2 * s + j)) [
+      | inl at ↦ elim answer_is [
+        | inl is ↦ absurd (stood (ap (stores.members_of m) at ∙ replaced_out is))
+        | inr (inl is) ↦ absurd (here (ap (members_of b) at ∙ same_failed is (2 * s + j) ∙ failed_out is))
+        | inr (inr still) ↦ same_bytes rack m b.store (h.quiet still) q
+      ]
+      | inr apart ↦ other_beside q apart
+    ]
+
     labels_now : Labels rack a b
     labels_now =
         let first = opened_first.0 in
@@ -252,6 +356,9 @@ module _ {S R : Type 0} (phase : phases.Ghosts S) (rack : Ghosts R) where
           rise = h.left.stays.rise.writes;
           back = λ q was good. recovers_none q good;
           beside = λ q why. bytes_at q (elim why [ inl good ↦ inl good | inr closed ↦ inr (sym opens ∙ closed) ]);
+          fills = filling_at;
+          outs = out_at;
+          live = live_at;
         })
         (λ closed. ap (λ (r : R). (rack.counts r).writes) (quiet_where (sym opens ∙ closed)))
 
@@ -265,10 +372,13 @@ module _ {S R : Type 0} (phase : phases.Ghosts S) (rack : Ghosts R) where
       table = h.table ∙ h.opening.array.table;
       rise = rises_both (rack.counts (rack_of a)) (rack.counts (stores.rack_of m)) (rack.counts (rack_of b)) h.opening.array.stays.stays.rise h.left.stays.rise;
       tells = λ q told. h.opening.array.stays.stays.tells q (h.left.stays.tells q told);
+      told_before = λ q told. h.opening.array.stays.stays.told_before q (h.left.stays.told_before q told);
+      own = own_then rack a.store m b.store h.opening.array.stays.shape h.opening.array.stays.own h.left.own;
       same_rack = h.left.stays.same_rack ∙ h.opening.array.stays.stays.same_rack;
       back = λ q good. mid_good q (recovers_none q good);
       stands = λ V held. h.stands V (h.opening.array.stands V held);
       labels = labels_now;
+      faults = tells_replaced;
     }
 
     rises : CountsRise (rack.counts (rack_of a)) (rack.counts (rack_of b))
@@ -301,15 +411,25 @@ module _ {S R : Type 0} (phase : phases.Ghosts S) (rack : Ghosts R) where
     member_in : (rest : State) (V : List (List ℕ)) → IsMember (state_of phase rack a rest V) s j
     member_in rest V = record { boundary = h.boundary; side = h.side }
 
+    -- where nothing was opened each member does what it did
+    same_members : writes ≡ false → (q : ℕ) → members_of b q ≡ members_of a q
+    same_members none q =
+        let mid = (h.opening.quiet none).0 in
+        let still : (answer ≡ Lost) ⊎ (answer ≡ NotOut) = elim (found none) [ inl stood ↦ inr stood | inr lost ↦ inl lost ] in
+        same_quiet still q ∙ ap (λ (x : Store R). stores.members_of x q) mid
+
     -- nothing was done
     same_state : writes ≡ false → (rest : State) (V : List (List ℕ)) → state_of phase rack b rest V ≡ state_of phase rack a rest V
     same_state none rest V =
         let mid = (h.opening.quiet none).0 in
-        let still : (answer ≡ Lost) ⊎ (answer ≡ NotOut) = elim (found none) [ inl stood ↦ inr stood | inr lost ↦ inl lost ] in
-        let members : (q : ℕ) → members_of b q ≡ members_of a q = λ q. same_quiet still q ∙ ap (λ (x : Store R). stores.members_of x q) mid in
+        let members = same_members none in
         let rack_is : rack_of b ≡ rack_of a = quiet_where none ∙ ap (λ (x : Store R). stores.rack_of x) mid in
+        let table = h.table ∙ h.opening.array.table in
         λ i. record rest {
-          table = (h.table ∙ h.opening.array.table) i;
+          boundaries = (table i).shape.b;
+          live = all_live (table i).shape.b;
+          cut = replicate (table i).shape.n false;
+          table = table i;
           blocks = V;
           pending = marks_by (phase.kept (h.beside.phase_is i)) ((h.beside.pending i).items);
           homes = h.beside.homes i;
@@ -322,11 +442,46 @@ module _ {S R : Type 0} (phase : phases.Ghosts S) (rack : Ghosts R) where
     same_next : writes ≡ false → (rest : State) (V : List (List ℕ)) → StandsLabeled rack a.store a.label rest.label → (Tells rack a → StandsFor phase rack a V)
         → StandsIn phase rack b (state_of phase rack b rest V)
     same_next none rest V label holds =
-        quiet_in phase rack a b rest V label replace_keeps (quiet_where none ∙ ap (λ (x : Store R). stores.rack_of x) (h.opening.quiet none).0) (h.opening.quiet none).1 holds
+        quiet_in phase rack a b rest V label replace_keeps (quiet_where none ∙ ap (λ (x : Store R). stores.rack_of x) (h.opening.quiet none).0) (h.opening.quiet none).1
+        (λ q out. same_members none q ∙ out) (λ q fills. ap is_filling (sym (same_members none q)) ∙ fills) holds
 
   pub replace_leaves : (a : Volume S R) (s j : ℕ) (answer : ReplaceAnswer) (writes : Bool) (m : Store R) (b : Volume S R) → IsWell phase rack a → HasReplaced a s j answer writes m b
       → Leaves phase phase rack a b
   replace_leaves a s j answer writes m b well h = leaves phase rack a b well (replace_keeps a s j answer writes m b h)
+
+  module _ (a : Volume S R) (s j : ℕ) (answer : ReplaceAnswer) (writes : Bool) (m : Store R) (b : Volume S R) (h : HasReplaced a s j answer writes m b) (rest : State) (V : List (List ℕ)) where
+    passes_replaced : StandsLabeled rack a.store a.label rest.label
+        → Passes (state_of phase rack a rest V) (kept_state phase rack a b (replace_keeps a s j answer writes m b h) rest V)
+    passes_replaced label =
+        let keeps = replace_keeps a s j answer writes m b h in
+        record {
+          counts = rises a s j answer writes m b h;
+          label = label_by rack a b keeps.labels rest.label label;
+          paired = h.sound.paired;
+          faults = record { fell = keeps.faults.fell; beyond = keeps.faults.beyond };
+        }
+
+    rest_replaced : kept_state phase rack a b (replace_keeps a s j answer writes m b h) rest V
+        ≡ after_calls (state_of phase rack a rest V) (kept_state phase rack a b (replace_keeps a s j answer writes m b h) rest V)
+    rest_replaced i =
+        let keeps = replace_keeps a s j answer writes m b h in
+        record (on_label a b keeps.labels.opens rest) {
+          boundaries = (keeps.table i).shape.b;
+          live = all_live (keeps.table i).shape.b;
+          cut = replicate (keeps.table i).shape.n false;
+          table = keeps.table i;
+          blocks = V;
+          pending = marks_by (phase.kept (h.beside.phase_is i)) ((h.beside.pending i).items);
+          homes = h.beside.homes i;
+          copies = h.beside.copies i;
+          phase = phase.phase (h.beside.phase_is i);
+          members = members_of b;
+          counts = rack.counts (rack_of b);
+        }
+
+    -- its boundary is there still
+    there : s < (shape_of b).b
+    there = let keeps = replace_keeps a s j answer writes m b h in subst (λ (t : Table). s < t.shape.b) (sym keeps.table) h.boundary
 
   opened_where : (x : ReplaceAnswer) (writes : Bool) → (x ≡ NotOut → ⊥) → (x ≡ Lost → ⊥) → (writes ≡ false → (x ≡ NotOut) ⊎ (x ≡ Lost)) → writes ≡ true
   opened_where x true stood lost found = refl
@@ -341,34 +496,19 @@ module _ {S R : Type 0} (phase : phases.Ghosts S) (rack : Ghosts R) where
         still_in phase rack a b rest V label (replace_keeps a s j Replaced writes m b h) holds,
         (
           member_in a s j Replaced writes m b h rest V,
-          h.out opens,
-          λ lost. false≢true (sym (h.live opens) ∙ lost),
-          record {
-            passes = record {
-              counts = rises a s j Replaced writes m b h;
-              label = label_by rack a b (replace_keeps a s j Replaced writes m b h).labels rest.label label;
-              paired = h.sound.paired;
-            };
-            blank = made_anew a s j Replaced writes m b h refl;
-            others = others_fall a s j Replaced writes m b h well.array (h.out opens);
-            rest = rest_is a rest V b h (replace_keeps a s j Replaced writes m b h);
-          },
+          ap (members_of a) (own_member (shape_of a).b s j h.boundary) ∙ h.out opens,
+          λ lost. false≢true (sym (h.live opens) ∙ lost_of (shape_of a).b (members_of a) s h.boundary lost),
+          subst (λ (q : ℕ). Replaces (state_of phase rack a rest V) q (kept_state phase rack a b (replace_keeps a s j Replaced writes m b h) rest V))
+              (sym (own_member (shape_of a).b s j h.boundary)) (record {
+                passes = passes_replaced a s j Replaced writes m b h rest V label;
+                blank = made_anew a s j Replaced writes m b h refl;
+                others = others_fall a s j Replaced writes m b h well.array (h.out opens);
+                out = others_uncalled a s j Replaced writes m b h;
+                rest = rest_replaced a s j Replaced writes m b h rest V;
+              }),
         ),
         refl,
       ))
-    where
-      rest_is : (a : Volume S R) (rest : State) (V : List (List ℕ)) (b : Volume S R) → HasReplaced a s j Replaced writes m b → (keeps : Keeps phase rack a b)
-          → kept_state phase rack a b keeps rest V ≡ after_calls (state_of phase rack a rest V) (kept_state phase rack a b keeps rest V)
-      rest_is a rest V b h keeps i = record (on_label a b keeps.labels.opens rest) {
-        table = keeps.table i;
-        blocks = V;
-        pending = marks_by (phase.kept (h.beside.phase_is i)) ((h.beside.pending i).items);
-        homes = h.beside.homes i;
-        copies = h.beside.copies i;
-        phase = phase.phase (h.beside.phase_is i);
-        members = members_of b;
-        counts = rack.counts (rack_of b);
-      }
 
   -- its boundary was lost before, or was lost by the opening of the seal
   steps_lost_by : (a : Volume S R) (s j : ℕ) (writes : Bool) (m : Store R) (b : Volume S R) (x : Bool) → writes ≡ x → HasReplaced a s j Lost writes m b
@@ -379,12 +519,13 @@ module _ {S R : Type 0} (phase : phases.Ghosts S) (rack : Ghosts R) where
     (
       member_in a s j Lost writes m b h rest V,
       refl,
-      h.out opens,
+      ap (members_of a) (own_member (shape_of a).b s j h.boundary) ∙ h.out opens,
       inr (
-        λ lost. false≢true (sym (h.live opens) ∙ lost),
-        lost_same s (stores.members_of m) (members_of b) (same_quiet a s j Lost writes m b h (inl refl)) (h.lost.0 refl),
+        λ lost. false≢true (sym (h.live opens) ∙ lost_of (shape_of a).b (members_of a) s h.boundary lost),
+        lost_in (shape_of b).b (members_of b) s (there a s j Lost writes m b h rest V)
+            (lost_same s (stores.members_of m) (members_of b) (same_quiet a s j Lost writes m b h (inl refl)) (h.lost.0 refl)),
         stays phase rack a b rest V label (replace_keeps a s j Lost writes m b h) (rises a s j Lost writes m b h)
-            (falls_as a s j Lost writes m b h (same_quiet a s j Lost writes m b h (inl refl))),
+            (falls_as a s j Lost writes m b h (same_quiet a s j Lost writes m b h (inl refl))) (outs_quiet a s j Lost writes m b h (h.quiet (inl refl))),
       ),
     ),
     refl,
@@ -397,8 +538,8 @@ module _ {S R : Type 0} (phase : phases.Ghosts S) (rack : Ghosts R) where
         (
           member_in a s j Lost writes m b h rest V,
           refl,
-          out_by (members_of a (2 * s + j)) (λ stood. lost_stood (h.not_out.1 (subst (λ (x : Store R). stores.members_of x (2 * s + j) ≢ Out) (sym mid) stood))),
-          inl (subst (λ (x : Store R). is_lost (stores.members_of x) s ≡ true) mid (h.lost.0 refl), same_state a s j Lost writes m b h none rest V),
+          ap (members_of a) (own_member (shape_of a).b s j h.boundary) ∙ out_by (members_of a (2 * s + j)) (λ stood. lost_stood (h.not_out.1 (subst (λ (x : Store R). stores.members_of x (2 * s + j) ≢ Out) (sym mid) stood))),
+          inl (lost_in (shape_of a).b (members_of a) s h.boundary (subst (λ (x : Store R). is_lost (stores.members_of x) s ≡ true) mid (h.lost.0 refl)), same_state a s j Lost writes m b h none rest V),
         ),
         refl,
       ))
@@ -417,7 +558,7 @@ module _ {S R : Type 0} (phase : phases.Ghosts S) (rack : Ghosts R) where
         same_next a s j NotOut writes m b h none rest V label holds,
         (
           member_in a s j NotOut writes m b h rest V,
-          subst (λ (x : Store R). stores.members_of x (2 * s + j) ≢ Out) mid stood,
+          λ out. subst (λ (x : Store R). stores.members_of x (2 * s + j) ≢ Out) mid stood (ap (members_of a) (sym (own_member (shape_of a).b s j h.boundary)) ∙ out),
           same_state a s j NotOut writes m b h none rest V,
         ),
         refl,
@@ -431,12 +572,17 @@ module _ {S R : Type 0} (phase : phases.Ghosts S) (rack : Ghosts R) where
         still_in phase rack a b rest V label (replace_keeps a s j Failed writes m b h) holds,
         (
           member_in a s j Failed writes m b h rest V,
-          h.out opens,
-          λ lost. false≢true (sym (h.live opens) ∙ lost),
-          rose_before ((rack.counts (rack_of a)).faults (2 * s + j)) ((rack.counts (stores.rack_of m)).faults (2 * s + j)) ((rack.counts (rack_of b)).faults (2 * s + j))
-              (h.opening.array.stays.stays.rise.faults (2 * s + j)) (h.failed refl),
-          stays phase rack a b rest V label (replace_keeps a s j Failed writes m b h) (rises a s j Failed writes m b h)
-              (falls_as a s j Failed writes m b h (same_failed a s j Failed writes m b h refl)),
+          ap (members_of a) (own_member (shape_of a).b s j h.boundary) ∙ h.out opens,
+          λ lost. false≢true (sym (h.live opens) ∙ lost_of (shape_of a).b (members_of a) s h.boundary lost),
+          subst (λ (q : ℕ). Misses (state_of phase rack a rest V) q (kept_state phase rack a b (replace_keeps a s j Failed writes m b h) rest V))
+              (sym (own_member (shape_of a).b s j h.boundary)) (record {
+                passes = passes_replaced a s j Failed writes m b h rest V label;
+                members = falls_as a s j Failed writes m b h (same_failed a s j Failed writes m b h refl);
+                out = others_uncalled a s j Failed writes m b h;
+                rose = rose_before ((rack.counts (rack_of a)).faults (2 * s + j)) ((rack.counts (stores.rack_of m)).faults (2 * s + j)) ((rack.counts (rack_of b)).faults (2 * s + j))
+                    (h.opening.array.stays.stays.rise.faults (2 * s + j)) (h.failed refl);
+                rest = rest_replaced a s j Failed writes m b h rest V;
+              }),
         ),
         refl,
       ))

@@ -1,6 +1,6 @@
 -- A volume makes a step by a save.
 use Rattle.std.proofs.Common.{◌≡◌, ◌≢◌, ◌⊎◌, ◌∙◌, ◌<◌, ◌≤◌, ◌+◌, ◌*◌, ◌/◌, ◌^◌, ◌++◌, ℕ, suc, Bool, true, false, List, [], ◌∷◌, length, map, take, get_or, inl, inr, refl, sym, ap, subst, arith}
-use Rattle.std.specs.Prelude.{All, Err, IfOk, IfSome, None, Ok, OnErr, Option, Result, Some}
+use Rattle.std.specs.Prelude.{All, Err, IfOk, IfSome, None, Ok, OnErr, Option, Result, Some, replicate}
 use Rattle.std.specs.Global.{Vec}
 use Rattle.std.specs.List.{AllPairs, range_with_len}
 use Rattle.std.specs.Option.{option_map}
@@ -8,23 +8,25 @@ use Rattle.std.proofs.lemmas.Bool.{cases_lt, false≢true}
 use Rattle.std.proofs.lemmas.List.{get_or_past, map-append, take_more}
 use Rattle.std.proofs.lemmas.List.FromFn.{get_or-map-range_with_len, length-map-range_with_len, map-range_with_len_more}
 use Rattle.dg_io.specs.declared.outside.Rack.{Ghosts}
-use Rattle.dg_label.specs.Labels.{IsKeptOf, IsLabeled, StandsLabeled, next_number}
-use Rattle.dg_label.specs.Seals.{AnswersSave, KeepsArray, saved_label}
+use Rattle.dg_label.specs.Labels.{AreSized, IsKeptOf, IsLabeled, IsOfArray, StandsLabeled, next_number}
+use Rattle.dg_label.specs.Seals.{AnswersSave, HasNoGood, KeepsArray, saved_label}
 use Rattle.dg_label.specs.declared.labels.KeptLabel.{KeptLabel}
 use Rattle.dg_label.specs.declared.saves.SaveAnswer.{SaveAnswer}
 use Rattle.dg_label.specs.declared.saves.SaveAnswer.TheVariants.{Lost, Saved}
 use Rattle.dg_model.proofs.MemberLaws.{good_was}
 use Rattle.dg_model.specs.Changes.{AreGoodMarks, PassesSave}
 use Rattle.dg_model.specs.Homes.{home_of}
+use Rattle.dg_model.specs.Lives.{all_live}
 use Rattle.dg_model.specs.Marks.{is_marked}
-use Rattle.dg_model.specs.Members.{is_good}
+use Rattle.dg_model.specs.Members.{is_good, partner_of}
 use Rattle.dg_model.specs.Saves.{AreHomes, HasForm, SavedState, body_of, room_of}
-use Rattle.dg_model.specs.Seals.{HoldsLabel, LastLabel, forgotten, next_sequence}
+use Rattle.dg_model.specs.Seals.{HoldsLabel, LastLabel, forgotten, keeps_label as has_label, next_sequence}
 use Rattle.dg_model.specs.States.{State, has_lost}
 use Rattle.dg_model.specs.Steps.{Step}
 use Rattle.dg_model.specs.Tables.{Table}
 use Rattle.dg_model.specs.declared.events.Event.TheVariants.{Save}
 use Rattle.dg_model.specs.declared.homes.Home.{Home}
+use Rattle.dg_model.specs.declared.members.MemberState.TheVariants.{Out}
 use Rattle.dg_model.specs.declared.phases.Phase.{Phase}
 use Rattle.dg_model.specs.declared.phases.Phase.TheVariants.{Loose as LoosePhase, Settled as SettledPhase, Worn as WornPhase}
 use Rattle.dg_model.specs.declared.replies.Reply.{Reply}
@@ -35,6 +37,9 @@ use Rattle.dg_save.specs.Parts.{rows_in}
 use Rattle.dg_store.specs.Stores.{IsSound}
 use Rattle.dg_store.specs.Stores as stores
 use Rattle.dg_store.specs.declared.store.Store.{Store}
+use Rattle.dg_volume.proofs.FaultLaws.{array_outs, array_tells}
+use Rattle.dg_volume.proofs.LabelLaws.{here_filling}
+use Rattle.dg_volume.proofs.LineLaws.{least_in}
 use Rattle.dg_volume.proofs.VolumeLaws.{lost_on}
 use Rattle.dg_volume.specs.Copies.{StepsHot}
 use Rattle.dg_volume.specs.Saves.{good_marks, save_reply, saved_by}
@@ -173,15 +178,25 @@ module _ {S R : Type 0} (phase : phases.Ghosts S) (rack : Ghosts R) where
       shape = shape;
       rise = keeps.stays.stays.rise;
       tells = keeps.stays.stays.tells;
+      told_before = keeps.stays.stays.told_before;
+      own = keeps.stays.own;
       same_rack = keeps.stays.stays.same_rack;
     }
 
     told_before : Tells rack after → Tells rack a
-    told_before told q below = keeps.stays.stays.tells q (told q (subst (λ (s : Shape). q / 2 < s.b) (sym shape) below))
+    told_before told q below = keeps.stays.stays.told_before q (told q (subst (λ (s : Shape). q / 2 < s.b) (sym shape) below))
 
     passes : (rest : State) (V : List (List ℕ)) (next : Option LastLabel)
         → PassesSave (state_of phase rack a rest V) (record (state_of phase rack after rest V) { label = next })
-    passes rest V next = record { counts = keeps.stays.stays.rise; members = keeps.falls; paired = keeps.sound.paired }
+    passes rest V next =
+        let faults = array_tells rack a.store store keeps in
+        record {
+          counts = keeps.stays.stays.rise;
+          members = keeps.falls;
+          paired = keeps.sound.paired;
+          faults = record { fell = faults.fell; beyond = faults.beyond };
+          out = array_outs rack a.store store keeps;
+        }
 
     still_stands : (rest : State) (V : List (List ℕ)) (next : Option LastLabel) → StandsLabeled rack store label next → (Tells rack a → StandsFor phase rack a V)
         → StandsIn phase rack after (record (state_of phase rack after rest V) { label = next })
@@ -245,7 +260,7 @@ module _ {S R : Type 0} (phase : phases.Ghosts S) (rack : Ghosts R) where
             let last : Option LastLabel = Some (saved_label store sequence body) in
             let said : body ≡ body_of 2 (saved_by phase a rest.recent) = says ∙ ap (λ (r : List ℕ). body_of 2 (saved_by phase a r)) (sym recent) in (
               record (state_of phase rack after rest V) { label = last },
-              still_stands rest V last answer.2 holds,
+              still_stands rest V last (answer.2 rest.label stands) holds,
               record {
                 passes = passes rest V last;
                 some = answer.0;
@@ -253,6 +268,9 @@ module _ {S R : Type 0} (phase : phases.Ghosts S) (rack : Ghosts R) where
                 marks_are = marks_are sound rest V last;
                 next = answer.1 ∙ next_of rest.label a.label stands.kept;
                 rest = λ i. record rest {
+                  boundaries = (keeps.table i).shape.b;
+                  live = all_live (keeps.table i).shape.b;
+                  cut = replicate (keeps.table i).shape.n false;
                   table = keeps.table i;
                   blocks = V;
                   pending = marks_of phase a;
@@ -260,7 +278,16 @@ module _ {S R : Type 0} (phase : phases.Ghosts S) (rack : Ghosts R) where
                   copies = a.copies;
                   phase = phase.phase a.phase;
                   members = stores.members_of store;
-                  label = Some (record { format = 2; sequence = sequence; sealed = true; body = said i; keepers = λ q. is_good (stores.members_of store q) });
+                  label = Some (record {
+                    format = 2;
+                    sequence = sequence;
+                    sealed = true;
+                    shape = (keeps.table i).shape;
+                    body = said i;
+                    keepers = λ q. is_good (stores.members_of store q);
+                    bodies = λ q. is_good (stores.members_of store q);
+                    numbers = λ q. q;
+                  });
                   counts = rack.counts (stores.rack_of store);
                 };
               },
@@ -269,8 +296,15 @@ module _ {S R : Type 0} (phase : phases.Ghosts S) (rack : Ghosts R) where
 
     -- ---- no member is good
 
-    forgets : (last : Option LastLabel) → StandsLabeled rack a.store a.label last → label ≡ a.label → StandsLabeled rack store label (option_map forgotten last)
-    forgets last stands same = subst (λ (k : Option KeptLabel). StandsLabeled rack store k (option_map forgotten last)) (sym same) (record { kept = kept_of last a.label stands.kept; holds = held last })
+    forgets : (last : Option LastLabel) → StandsLabeled rack a.store a.label last → label ≡ a.label → HasNoGood store → StandsLabeled rack store label (option_map forgotten last)
+    forgets last stands same none = subst (λ (k : Option KeptLabel). StandsLabeled rack store k (option_map forgotten last)) (sym same) (record {
+      kept = kept_of last a.label stands.kept;
+      holds = held last;
+      sizes = sized last;
+      of_array = of_last last stands.of_array;
+      filling = λ q fills. lacks last q;
+      fresh = λ q below here lacking. absurd (out_each q here);
+    })
       where
         kept_of : (last : Option LastLabel) (kept : Option KeptLabel) → IsKeptOf last kept → IsKeptOf (option_map forgotten last) kept
         kept_of None None is = tt
@@ -278,9 +312,25 @@ module _ {S R : Type 0} (phase : phases.Ghosts S) (rack : Ghosts R) where
         kept_of (Some l) None is = absurd is
         kept_of (Some l) (Some k) is = record { format = is.format; sequence = is.sequence; sealed = is.sealed; body = is.body }
 
-        held : (last : Option LastLabel) → IfSome (option_map forgotten last) (λ l. HoldsLabel (stores.shape_of store) l (rack.bytes (stores.rack_of store)))
+        held : (last : Option LastLabel) → IfSome (option_map forgotten last) (λ l. HoldsLabel l (rack.bytes (stores.rack_of store)))
         held None = tt
         held (Some l) = record { label = λ q keeps. absurd (false≢true keeps); body = λ q keeps sealed. absurd (false≢true keeps) }
+
+        sized : (last : Option LastLabel) → IfSome (option_map forgotten last) (AreSized rack store)
+        sized None = tt
+        sized (Some l) = λ q keeps. absurd (false≢true keeps)
+
+        of_last : (last : Option LastLabel) → IfSome last (IsOfArray (shape_of a)) → IfSome (option_map forgotten last) (IsOfArray (stores.shape_of store))
+        of_last None is = tt
+        of_last (Some l) is = record { shape_is = is.shape_is ∙ sym shape; numbers_are = is.numbers_are }
+
+        lacks : (last : Option LastLabel) (q : ℕ) → has_label (option_map forgotten last) q ≡ false
+        lacks None q = refl
+        lacks (Some l) q = refl
+
+        -- a member that is refilled has a good partner
+        out_each : (q : ℕ) → stores.members_of store q ≢ Out → ⊥
+        out_each q here = false≢true (sym (none (partner_of q)) ∙ keeps.sound.paired q (here_filling (stores.members_of store q) here (none q)))
 
     saves_none : (hot body : List ℕ) (s : ℕ) → AnswersSave rack body a.store store a.label label (Lost s) → StepsHot phase phase rack hot a Save (LostReply s) after
     saves_none hot body s answer = by_state hot (LostReply s) goes
@@ -290,13 +340,16 @@ module _ {S R : Type 0} (phase : phases.Ghosts S) (rack : Ghosts R) where
         goes rest V stands holds recent =
             let last : Option LastLabel = option_map forgotten rest.label in (
               record (state_of phase rack after rest V) { label = last },
-              still_stands rest V last (forgets rest.label stands answer.2) holds,
+              still_stands rest V last (forgets rest.label stands answer.2 answer.0) holds,
               (
-                answer.1,
+                least_in (stores.shape_of store) (stores.members_of store) s answer.1,
                 record {
                   passes = passes rest V last;
                   none = answer.0;
                   rest = λ i. record rest {
+                    boundaries = (keeps.table i).shape.b;
+                    live = all_live (keeps.table i).shape.b;
+                    cut = replicate (keeps.table i).shape.n false;
                     table = keeps.table i;
                     blocks = V;
                     pending = marks_of phase a;

@@ -1,10 +1,12 @@
 -- What the calls behind an opening of the seal leave of an array, each by what the opening left and what the call itself left.
-use Rattle.std.proofs.Common.{◌≡◌, ◌∙◌, ◌≤◌, ◌+◌, ◌*◌, ◌&&◌, ℕ, suc, Bool, true, false, List, [], ◌∷◌, length, refl, sym, ap, subst, arith, inl, inr}
+use Rattle.std.proofs.Common.{◌≡◌, ◌∙◌, ◌≤◌, ◌+◌, ◌*◌, ◌&&◌, ℕ, suc, Bool, true, false, List, [], ◌∷◌, length, get_or, refl, sym, ap, subst, arith, inl, inr}
 use Rattle.std.specs.Prelude.{All, Err, IfOk, None, Ok, OnErr, Option, Result, Some, if◌then◌else◌, is_some, max, nat_lt, not, take}
 use Rattle.std.proofs.Math.Seq.{take-length}
 use Rattle.std.proofs.lemmas.Bool.{false≢true}
+use Rattle.std.specs.List.{list_any}
 use Rattle.std.proofs.lemmas.Bool.Decides.{nat_tests}
-use Rattle.dg_hot.specs.Spreads.{HasSpread, HasSpreadSome, Moved, lacks_copy, spread_of}
+use Rattle.std.proofs.lemmas.List.Folds.{list_any_at}
+use Rattle.dg_hot.specs.Spreads.{HasSpread, HasSpreadSome, Moved, spread_of}
 use Rattle.dg_hot.specs.declared.spreads.DiffuseAnswer.{DiffuseAnswer}
 use Rattle.dg_hot.specs.declared.spreads.DiffuseAnswer.TheVariants.{Diffused, Lost as DiffuseLost}
 use Rattle.dg_io.specs.declared.outside.Rack.{Ghosts}
@@ -13,10 +15,9 @@ use Rattle.dg_label.specs.Seals.{HasGood, KeepsArray, OpensSeal}
 use Rattle.dg_label.specs.declared.labels.KeptLabel.{KeptLabel}
 use Rattle.dg_model.proofs.MemberLaws.{falls_both, falls_same}
 use Rattle.dg_model.specs.Changes.{LosesSites}
-use Rattle.dg_model.specs.Copies.{Spread, spread_by, spread_over}
+use Rattle.dg_model.specs.Copies.{Spread, lacks_copy, spread_by, spread_over}
 use Rattle.dg_model.specs.Homes.{home_of}
 use Rattle.dg_model.specs.Members.{is_filling, is_lost, partner_of}
-use Rattle.dg_model.specs.Moves.{IsCutOff, moves}
 use Rattle.dg_model.specs.Sites.{IsSited}
 use Rattle.dg_model.specs.States.{has_lost}
 use Rattle.dg_model.specs.Tables.{Table, sites_in}
@@ -29,13 +30,14 @@ use Rattle.dg_move.specs.declared.tends.TendAnswer.{TendAnswer}
 use Rattle.dg_move.specs.declared.tends.TendAnswer.TheVariants.{Lost as TendLost, Tended}
 use Rattle.dg_rebuild.specs.Answers.{HasNoFilling}
 use Rattle.dg_store.specs.Answers.{IsAllLost, IsStored, IsUnchanged, SameWritten}
-use Rattle.dg_store.specs.Leaves.{CallsAtMost, Leaves, Stays}
-use Rattle.dg_store.specs.ReadLaws.{rack_both, rack_none}
+use Rattle.dg_store.specs.Leaves.{CallsAtMost, Leaves}
+use Rattle.dg_store.specs.ReadLaws.{stays_both, stays_none}
 use Rattle.dg_store.specs.Stores.{IsSound, members_of, rack_of, shape_of, table_of}
 use Rattle.dg_store.specs.declared.store.StoreWrite.{StoreWrite}
 use Rattle.dg_store.specs.declared.store.StoreWrite.TheVariants.{AllLost, Stored}
 use Rattle.dg_store.specs.declared.store.Store.{Store}
 use Rattle.dg_volume.proofs.ArrayLaws.{moved_by, moved_then, opened_array}
+use Rattle.dg_volume.proofs.FaultLaws.{array_outs, array_tells, falls_out, keeps_outs, keeps_tells, outs_both, stays_by, tells_both}
 use Rattle.dg_volume.proofs.LabelLaws.{good_whole, opened_opens, relabels_none, relabels_opened, relabels_then, relabels_where, slots_kept}
 use Rattle.dg_volume.specs.Planned.{HasMovedArray}
 use Rattle.dg_volume.specs.Refills.{HasFilling, OpensRefill}
@@ -59,13 +61,23 @@ none_spread wants homes (i ∷ more) spread none =
     by_file (Some s) (Some t) none = refl
     by_file (Some s) None none = absurd (false≢true (sym none))
 
+-- where none passes, each fails
+pub none_of : {X : Type 0} (p : X → Bool) (xs : List X) → list_any p xs ≡ false → All (λ x. p x ≡ false) xs
+none_of p xs none k d low = by_test (p (get_or xs k d)) refl
+  where
+    by_test : (b : Bool) → p (get_or xs k d) ≡ b → b ≡ false
+    by_test true is = absurd (false≢true (sym none ∙ list_any_at p xs k d low is))
+    by_test false is = refl
+
 module _ {R : Type 0} (rack : Ghosts R) where
   -- ---- openings
 
   pub keeps_none : (a : Store R) → IsSound rack a → KeepsArray rack a a
   keeps_none a sound = record {
     sound = sound;
-    stays = record { shape = refl; stays = rack_none rack (rack_of a) };
+    stays = stays_none rack a;
+    idle = λ q out. refl;
+    fell = λ q rose. absurd (omega (arith, rose));
     table = refl;
     falls = falls_same (rack.counts (rack_of a)).faults (rack.counts (rack_of a)).faults (members_of a);
     stands = λ V held. held;
@@ -82,16 +94,20 @@ module _ {R : Type 0} (rack : Ghosts R) where
 
   -- ---- a write
 
-  stays_both : (a m c : Store R) → Stays rack a m → Stays rack m c → Stays rack a c
-  stays_both a m c first second = record { shape = second.shape ∙ first.shape; stays = rack_both rack (rack_of a) (rack_of m) (rack_of c) first.stays second.stays }
-
   pub falls_behind : (a m c : Store R) → KeepsArray rack a m → Leaves rack m c → FallsOn rack a c
   falls_behind a m c first second = record {
     sound = second.sound;
-    stays = stays_both a m c first.stays (record { shape = second.keeps.shape; stays = second.keeps.stays });
+    stays = stays_both rack a m c first.stays (stays_by rack m c second.keeps);
     falls =
         falls_both (rack.counts (rack_of a)).faults (rack.counts (rack_of m)).faults (rack.counts (rack_of c)).faults (members_of a) (members_of m) (members_of c)
         first.stays.stays.rise.faults second.keeps.stays.rise.faults first.falls second.keeps.falls;
+    faults =
+        tells_both rack a m c first.stays.shape
+        (falls_out (rack.counts (rack_of m)).faults (rack.counts (rack_of c)).faults (members_of m) (members_of c) second.keeps.falls)
+        (array_tells rack a m first) (keeps_tells rack m c second.keeps);
+    outs =
+        outs_both rack a m c (falls_out (rack.counts (rack_of a)).faults (rack.counts (rack_of m)).faults (members_of a) (members_of m) first.falls)
+        (array_outs rack a m first) (keeps_outs rack m c second.keeps);
   }
 
   pub stored_behind : {E : Type 0} (a m c : Store R) (b : ℕ) (value : List ℕ) (result : Result StoreWrite E) → KeepsArray rack a m
@@ -171,22 +187,24 @@ module _ {R : Type 0} (rack : Ghosts R) where
       let first = relabels_where rack writes a m before after labeled (λ is. good_in a sound whole) opening in first.0
 
   pub ends_behind : {E : Type 0} (targets : ℕ → ℕ → Bool) (limit : ℕ) (a m c : Store R) (result : Result TendAnswer E) → KeepsArray rack a m
-      → IfOk result (λ answer. MovesTo targets limit (table_of m) (table_of c) (members_of c) answer) → IfOk result (λ answer. EndsMoves targets limit (table_of a) (table_of c) answer)
-  ends_behind targets limit a m c (Ok (Tended n l)) first h = subst (λ (t : Table). EndsMoves targets limit t (table_of c) (Tended n l)) first.table h
-  ends_behind targets limit a m c (Ok (TendLost s)) first h = subst (λ (t : Table). EndsMoves targets limit t (table_of c) (TendLost s)) first.table h.cut
+      → IfOk result (λ answer. MovesTo targets limit (table_of m) (table_of c) (members_of c) answer) → IfOk result (λ answer. EndsMoves targets limit (table_of a) (table_of c) (members_of c) answer)
+  ends_behind targets limit a m c (Ok (Tended n l)) first h = subst (λ (t : Table). EndsMoves targets limit t (table_of c) (members_of c) (Tended n l)) first.table h
+  ends_behind targets limit a m c (Ok (TendLost s)) first h = subst (λ (t : Table). EndsMoves targets limit t (table_of c) (members_of c) (TendLost s)) first.table (inr h)
   ends_behind targets limit a m c (Err e) first h = tt
 
-  -- before any action
-  pub ends_at_once : (targets : ℕ → ℕ → Bool) (limit : ℕ) (a m : Store R) → KeepsArray rack a m → IsCutOff targets (Some limit) (table_of a) (table_of m)
-  ends_at_once targets limit a m first = record { front = []; rest = moves targets (Some limit) (table_of a); whole = refl; led = first.table }
+  -- in the opening, before any action
+  pub ends_at_once : (targets : ℕ → ℕ → Bool) (limit s : ℕ) (a m : Store R) → KeepsArray rack a m → EndsMoves targets limit (table_of a) (table_of m) (members_of m) (TendLost s)
+  ends_at_once targets limit s a m first = inl first.table
 
   -- ---- copies of files
 
   pub spread_behind : (a m c : Store R) → KeepsArray rack a m → Moved rack m c → HasMovedArray rack a c
   spread_behind a m c first second = moved_then rack a m c (opened_array rack a m first) (record {
     sound = second.leaves.sound;
-    stays = record { shape = second.leaves.keeps.shape; stays = second.leaves.keeps.stays };
+    stays = stays_by rack m c second.leaves.keeps;
     falls = second.leaves.keeps.falls;
+    faults = keeps_tells rack m c second.leaves.keeps;
+    outs = keeps_outs rack m c second.leaves.keeps;
     stands = second.stands;
   })
 

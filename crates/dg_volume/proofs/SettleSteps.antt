@@ -1,18 +1,21 @@
 -- A volume whose blocks are put in their places, and which is settled by that.
-use Rattle.std.proofs.Common.{◌≡◌, ◌∙◌, ◌<◌, ◌≤◌, ◌/◌, ◌+◌, ◌^◌, min, ℕ, false, List, [], length, refl, sym, ap, subst, arith}
-use Rattle.std.specs.Prelude.{Option, Some, None, All, IfSome}
+use Rattle.std.proofs.Common.{◌≡◌, ◌⊎◌, ◌∙◌, ◌<◌, ◌≤◌, ◌/◌, ◌+◌, ◌^◌, min, ℕ, Bool, false, List, [], length, inl, inr, refl, sym, ap, subst, arith}
+use Rattle.std.specs.Prelude.{Option, Some, None, All, IfSome, replicate}
 use Rattle.dg_infer.specs.Meanings.{KeptInference}
 use Rattle.dg_infer.specs.Meanings as inferences
 use Rattle.dg_io.specs.declared.outside.Rack.{Ghosts}
-use Rattle.dg_model.specs.Moves.{IsAtTargets, all_done, missing_in, moves}
+use Rattle.dg_model.specs.Lives.{all_live}
+use Rattle.dg_model.specs.Moves.{IsAtTargets, IsCutByLoss, all_done, missing_in, moves}
 use Rattle.dg_model.specs.Placed.{IsPlaced}
 use Rattle.dg_model.specs.Saves.{AreHomes}
 use Rattle.dg_model.specs.Seals.{LastLabel}
 use Rattle.dg_model.specs.States.{State, has_lost}
+use Rattle.dg_model.specs.Tables.{Table}
 use Rattle.dg_model.specs.Steps.{Step}
 use Rattle.dg_model.specs.Wants.{AreWants, FitWants}
 use Rattle.dg_model.specs.declared.events.Event.TheVariants.{Settle}
 use Rattle.dg_model.specs.declared.homes.Home.{Home}
+use Rattle.dg_model.specs.declared.members.MemberState.{MemberState}
 use Rattle.dg_model.specs.declared.phases.Phase.TheVariants.{Settled as SettledPhase, Worn as WornPhase}
 use Rattle.dg_model.specs.declared.replies.Reply.TheVariants.{Settled as SettledReply}
 use Rattle.dg_model.specs.declared.shapes.Shape.{Shape}
@@ -28,13 +31,23 @@ use Rattle.dg_volume.proofs.MoveSteps.{HasRun, IsChecked, IsReady, settle_step, 
 use Rattle.dg_volume.proofs.PlacedLaws.{are_placed}
 use Rattle.dg_volume.specs.Planned.{HasPlan, IsPutInPlace}
 use Rattle.dg_volume.specs.Settles.{GoesBy}
-use Rattle.dg_volume.specs.Volumes.{AreWantsBy, FitsArray, IsInPlace, IsWell, Leaves, StandsFor, StepsTo, Tells, marks_by, members_of, rack_of, shape_of, state_of, table_of}
+use Rattle.dg_volume.specs.Volumes.{AreWantsBy, FitsArray, IsInPlace, IsWell, Leaves, StandsFor, StepsTo, Tells, given_of, marks_by, members_of, rack_of, shape_of, state_of, table_of}
 use Rattle.dg_volume.specs.declared.phases.InPhase as phases
 use Rattle.dg_volume.specs.declared.volumes.Volume.{Volume}
 
 -- where a limit allows all missing placements, none is left
 none_left : (limit missing m l : ℕ) → missing ≤ limit → m ≡ min limit missing → m + l ≡ missing → l ≡ 0
 none_left limit missing m l few met whole = omega (arith, few, met, whole)
+
+-- where a limit allows all moves, they end as without one
+pub unlimited : (targets : ℕ → ℕ → Bool) (limit : ℕ) (old new : Table) (members : ℕ → MemberState) → moves targets (Some limit) old ≡ moves targets None old
+    → (new ≡ old) ⊎ IsCutByLoss targets (Some limit) old new members → (new ≡ old) ⊎ IsCutByLoss targets None old new members
+unlimited targets limit old new members all (inl same) = inl same
+unlimited targets limit old new members all (inr c) =
+    inr (record { cut = record { front = c.cut.front; rest = c.cut.rest; whole = sym all ∙ c.cut.whole; led = c.cut.led }; end = c.end })
+
+no_limit : (limit missing : ℕ) → missing ≡ 0 → min limit missing ≡ 0
+no_limit limit missing none = omega (arith, none)
 
 module _ {S R : Type 0} (phase : phases.Ghosts S) (rack : Ghosts R) where
   -- the plan's homes are on boundaries of the array
@@ -91,15 +104,17 @@ module _ {S R : Type 0} (phase : phases.Ghosts S) (rack : Ghosts R) where
     pub put_in_place : (m l limit : ℕ) → IsReady phase rack a → IsChecked phase rack a kept b → b.homes ≡ homes_of targets → b.copies ≡ []
         → SameWritten (table_of a) (table_of b) → has_lost (shape_of b) (members_of b) ≡ false → missing_in (wants_of targets) (stores.table_of mid) ≤ limit
         → moves (wants_of targets) (Some limit) (stores.table_of mid) ≡ moves (wants_of targets) None (stores.table_of mid)
-        → IsTended (wants_of targets) limit (stores.table_of mid) (table_of b) m l → IsPutInPlace phase rack a b
-    put_in_place m l limit ready check homes copies written live few all is = record {
+        → IsTended (wants_of targets) limit (stores.table_of mid) (table_of b) m l
+        → (min limit (missing_in (wants_of targets) (stores.table_of mid)) ≡ 0 → rack_of b ≡ stores.rack_of mid) → IsPutInPlace phase rack a b
+    put_in_place m l limit ready check homes copies written live few all is still = record {
       phase_is = run.moves.phase_is;
       pending_is = run.moves.pending;
       placed = in_place homes copies written (is.placed (none_left limit (missing_in (wants_of targets) (stores.table_of mid)) m l few is.met is.whole));
       stands = λ V told held. stands_moved phase rack a b V run.moves told held;
       steps =
           settle_step phase rack a kept targets mid b run ready check (homes ∙ run.plan.planned.same_homes) live
-          (is.table ∙ ap (all_done (stores.table_of mid)) all);
+          (is.table ∙ ap (all_done (stores.table_of mid)) all)
+          (λ none. still (no_limit limit (missing_in (wants_of targets) (stores.table_of mid)) none));
     }
 
 -- ---- the settled volume
@@ -144,7 +159,7 @@ module _ {S T R : Type 0} (from : phases.Ghosts S) (to : phases.Ghosts T) (rack 
     }
 
     told_first : Tells rack b → Tells rack a
-    told_first told q below = left.tells q (told q (subst (λ (s : Shape). q / 2 < s.b) (sym left.shape) below))
+    told_first told q below = left.told_before q (told q (subst (λ (s : Shape). q / 2 < s.b) (sym left.shape) below))
 
     settled_stands : (V : List (List ℕ)) → (Tells rack a → StandsFor from rack a V) → Tells rack b → StandsFor to rack (in_phase b phase) V
     settled_stands V holds told =
@@ -158,6 +173,9 @@ module _ {S T R : Type 0} (from : phases.Ghosts S) (to : phases.Ghosts T) (rack 
     settled_state : (rest : State) (last : Option LastLabel) (V : List (List ℕ))
         → record (state_of from rack b rest V) { phase = SettledPhase; label = last } ≡ state_of to rack (in_phase b phase) (labeled_so rest last) V
     settled_state rest last V = λ i. record (labeled_so rest last) {
+      boundaries = (shape_of b).b;
+      live = all_live (shape_of b).b;
+      cut = replicate (shape_of b).n false;
       table = table_of b;
       blocks = V;
       pending = marks_by (sym is.kept_is i) b.pending.items;
@@ -181,8 +199,9 @@ module _ {S T R : Type 0} (from : phases.Ghosts S) (to : phases.Ghosts T) (rack 
         )
 
     -- the volume is settled by that
-    pub goes_settled : GoesBy from to rack a Settle SettledReply (in_phase b phase)
-    goes_settled = record {
-      leaves = record { well = settled_well; shape = left.shape; rise = left.rise; tells = left.tells; same_rack = left.same_rack };
+    pub goes_settled : given_of b ≡ given_of a → GoesBy from to rack a Settle SettledReply (in_phase b phase)
+    goes_settled given = record {
+      given_is = given;
+      leaves = record { well = settled_well; shape = left.shape; rise = left.rise; tells = left.tells; told_before = left.told_before; own = left.own; same_rack = left.same_rack };
       steps = settled_steps;
     }

@@ -4,10 +4,12 @@ use Rattle.std.specs.Prelude.{IfOk, None, Ok, OnErr, Option, Err, Result, Some, 
 use Rattle.std.specs.Option.{option_map}
 use Rattle.dg_io.specs.declared.outside.Rack.{Ghosts}
 use Rattle.dg_model.specs.Homes.{home_of}
+use Rattle.dg_model.specs.Saves.{AreHomes}
 use Rattle.dg_model.specs.declared.events.Event.TheVariants.{Home, Tree}
 use Rattle.dg_model.specs.declared.phases.Phase.TheVariants.{Settled as SettledPhase}
 use Rattle.dg_model.specs.declared.replies.Reply.TheVariants.{HomeAt, NoHome, Nodes, NodesCut, Refused, Unavailable as ReplyUnavailable}
 use Rattle.dg_volume.proofs.FileLaws.{as_file}
+use Rattle.dg_volume.proofs.LineLaws.{home_place, home_places}
 use Rattle.dg_volume.proofs.PathSteps.{LosesBlock, ReadsBy, cut_short, may_read}
 use Rattle.dg_volume.proofs.VolumeLaws.{HasRead, read_state, reads_in, reads_stay, steps_from}
 use Rattle.dg_volume.specs.Fronts.{HandsLines}
@@ -184,18 +186,19 @@ module _ {S R : Type 0} (phase : phases.Ghosts S) (rack : Ghosts R) where
   home_irregular path a b settled h reads = home_refused path RefusedNotRegular a b settled h reads
 
   home_by : (path : List ℕ) (i : ℕ) (home : Option ℕ) (a b : Volume S R) → phase.phase a.phase ≡ SettledPhase → HasRead phase rack a b → Finds path a b (Some (Ok i))
-      → home_of a.homes i ≡ home → StepsTo phase phase rack a (Home path) (home_reply (answer_for home (home_of a.copies i))) b
-  home_by path i (Some s) a b settled h reads is = steps_from phase rack a b (Home path) (HomeAt s (home_of a.copies i)) (λ rest V label holds. (
+      → AreHomes (shape_of a) a.homes → AreHomes (shape_of a) a.copies → home_of a.homes i ≡ home
+      → StepsTo phase phase rack a (Home path) (home_reply (answer_for home (home_of a.copies i))) b
+  home_by path i (Some s) a b settled h reads homes copies is = steps_from phase rack a b (Home path) (HomeAt s (home_of a.copies i)) (λ rest V label holds. (
     read_state phase rack a b h rest V,
     reads_in phase rack a b rest V label h holds,
     (
       settled,
-      (i, may_read phase rack (file_of (shape_of a).l (shape_of a).n path) a b rest V (Some (Ok i)) h holds reads tt, is, refl),
+      (i, may_read phase rack (file_of (shape_of a).l (shape_of a).n path) a b rest V (Some (Ok i)) h holds reads tt, home_place (shape_of a) a.homes i s homes is, home_places (shape_of a) a.copies i (home_of a.copies i) copies refl),
       reads_stay phase rack a b rest V label h,
     ),
     refl,
   ))
-  home_by path i None a b settled h reads is = steps_from phase rack a b (Home path) NoHome (λ rest V label holds. (
+  home_by path i None a b settled h reads homes copies is = steps_from phase rack a b (Home path) NoHome (λ rest V label holds. (
     read_state phase rack a b h rest V,
     reads_in phase rack a b rest V label h holds,
     (
@@ -207,5 +210,5 @@ module _ {S R : Type 0} (phase : phases.Ghosts S) (rack : Ghosts R) where
   ))
 
   pub home_steps : (path : List ℕ) (i : ℕ) (a b : Volume S R) → phase.phase a.phase ≡ SettledPhase → HasRead phase rack a b → Finds path a b (Some (Ok i))
-      → StepsTo phase phase rack a (Home path) (home_reply (answer_for (home_of a.homes i) (home_of a.copies i))) b
-  home_steps path i a b settled h reads = home_by path i (home_of a.homes i) a b settled h reads refl
+      → AreHomes (shape_of a) a.homes → AreHomes (shape_of a) a.copies → StepsTo phase phase rack a (Home path) (home_reply (answer_for (home_of a.homes i) (home_of a.copies i))) b
+  home_steps path i a b settled h reads homes copies = home_by path i (home_of a.homes i) a b settled h reads homes copies refl

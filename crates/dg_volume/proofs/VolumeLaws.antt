@@ -1,6 +1,6 @@
 -- What calls that keep all of a volume but its array leave of it.
-use Rattle.std.proofs.Common.{◌≡◌, ◌∙◌, ◌<◌, ◌≤◌, ◌/◌, ℕ, Bool, true, List, length, refl, sym, ap, subst}
-use Rattle.std.specs.Prelude.{IfSome, Option}
+use Rattle.std.proofs.Common.{◌≡◌, ◌∙◌, ◌<◌, ◌≤◌, ◌/◌, ℕ, Bool, true, false, List, length, refl, sym, ap, subst}
+use Rattle.std.specs.Prelude.{IfSome, Option, replicate}
 use Rattle.dg_infer.specs.Meanings.{KeptInference}
 use Rattle.dg_infer.specs.Meanings as inferences
 use Rattle.dg_io.specs.Told.{StillTold}
@@ -9,7 +9,8 @@ use Rattle.dg_model.proofs.MemberLaws.{NoneRecovers, good_was, has_lost_at, has_
 use Rattle.dg_label.specs.Labels.{IsLabeled, StandsLabeled}
 use Rattle.dg_label.specs.declared.labels.KeptLabel.{KeptLabel}
 use Rattle.dg_model.specs.Changes.{Stays}
-use Rattle.dg_model.specs.Members.{MembersFall}
+use Rattle.dg_model.specs.Lives.{all_live}
+use Rattle.dg_model.specs.Members.{MembersFall, is_filling}
 use Rattle.dg_model.specs.Saves.{AreHomes}
 use Rattle.dg_model.specs.Seals.{KeepsLabel, LastLabel, label_after}
 use Rattle.dg_model.specs.States.{CountsRise, State, has_lost}
@@ -18,11 +19,16 @@ use Rattle.dg_model.specs.Tables.{Table}
 use Rattle.dg_model.specs.declared.events.Event.{Event}
 use Rattle.dg_model.specs.declared.homes.Home.{Home}
 use Rattle.dg_model.specs.declared.members.MemberState.{MemberState}
+use Rattle.dg_model.specs.declared.members.MemberState.TheVariants.{Out}
 use Rattle.dg_model.specs.declared.replies.Reply.{Reply}
 use Rattle.dg_model.specs.declared.shapes.Shape.{Shape}
+use Rattle.dg_store.specs.Leaves.{CallsBelow}
+use Rattle.dg_store.specs.ReadLaws.{own_none, rack_none}
 use Rattle.dg_store.specs.Stores.{IsSound, KeepsBlocks}
 use Rattle.dg_store.specs.Views.{ReadsOn}
+use Rattle.dg_volume.proofs.FaultLaws.{keeps_outs, keeps_tells}
 use Rattle.dg_volume.proofs.LabelLaws.{keeps_label, relabels_read, stands_same}
+use Rattle.dg_volume.specs.Faults.{OutsStay, TellsFaults}
 use Rattle.dg_volume.specs.Seals.{Relabels}
 use Rattle.dg_volume.specs.Volumes.{FitsArray, IsInPlace, IsWell, Leaves, StandsFor, StandsIn, StepsBy, StepsTo, Tells, marks_by, marks_of, members_of, rack_of, shape_of, state_of, table_of}
 use Rattle.dg_volume.specs.declared.phases.InPhase as phases
@@ -64,10 +70,13 @@ module _ {S R : Type 0} (phase : phases.Ghosts S) (rack : Ghosts R) where
     pub table : table_of b ≡ table_of a
     pub rise : CountsRise (rack.counts (rack_of a)) (rack.counts (rack_of b))
     pub tells : StillTold (rack.bytes (rack_of a)) (rack.bytes (rack_of b))
+    pub told_before : (q : ℕ) → rack.tells (rack_of b) q → rack.tells (rack_of a) q
+    pub own : CallsBelow rack (shape_of a).b (rack_of a) (rack_of b)
     pub same_rack : rack.name (rack_of b) ≡ rack.name (rack_of a)
     pub back : NoneRecovers (members_of a) (members_of b)
     pub stands : KeepsBlocks rack a.store b.store
     pub labels : Labels rack a b
+    pub faults : TellsFaults rack a.store b.store
 
   pub shape_kept : (a b : Volume S R) → Keeps a b → shape_of b ≡ shape_of a
   shape_kept a b keeps = ap (λ (t : Table). t.shape) keeps.table
@@ -108,7 +117,19 @@ module _ {S R : Type 0} (phase : phases.Ghosts S) (rack : Ghosts R) where
       }
 
   pub leaves : (a b : Volume S R) → IsWell phase rack a → Keeps a b → Leaves phase phase rack a b
-  leaves a b well keeps = record { well = well_on a b well keeps; shape = shape_kept a b keeps; rise = keeps.rise; tells = keeps.tells; same_rack = keeps.same_rack }
+  leaves a b well keeps = record { well = well_on a b well keeps; shape = shape_kept a b keeps; rise = keeps.rise; tells = keeps.tells; told_before = keeps.told_before; own = keeps.own; same_rack = keeps.same_rack }
+
+  -- no call was made
+  pub leaves_none : (a : Volume S R) → IsWell phase rack a → Leaves phase phase rack a a
+  leaves_none a well = record {
+    well = well;
+    shape = refl;
+    rise = (rack_none rack (rack_of a)).rise;
+    tells = λ q told. told;
+    told_before = λ q told. told;
+    own = own_none rack (shape_of a).b (rack_of a);
+    same_rack = refl;
+  }
 
   -- ---- states
 
@@ -133,7 +154,7 @@ module _ {S R : Type 0} (phase : phases.Ghosts S) (rack : Ghosts R) where
 
   -- what is told in the end was told before
   pub told_before : (a b : Volume S R) → Keeps a b → Tells rack b → Tells rack a
-  told_before a b keeps told q below = keeps.tells q (told q (subst (λ (s : Shape). q / 2 < s.b) (sym (shape_kept a b keeps)) below))
+  told_before a b keeps told q below = keeps.told_before q (told q (subst (λ (s : Shape). q / 2 < s.b) (sym (shape_kept a b keeps)) below))
 
   pub holds_on : (a b : Volume S R) (V : List (List ℕ)) → Keeps a b → StandsFor phase rack a V → StandsFor phase rack b V
   holds_on a b V keeps holds = record {
@@ -160,29 +181,34 @@ module _ {S R : Type 0} (phase : phases.Ghosts S) (rack : Ghosts R) where
 
   -- no call was made on its rack: it is in the state with the same label
   pub quiet_in : (a b : Volume S R) (rest : State) (V : List (List ℕ)) → StandsLabeled rack a.store a.label rest.label → Keeps a b → rack_of b ≡ rack_of a → b.label ≡ a.label
+      → ((q : ℕ) → members_of a q ≡ Out → members_of b q ≡ Out) → ((q : ℕ) → is_filling (members_of b q) ≡ true → is_filling (members_of a q) ≡ true)
       → (Tells rack a → StandsFor phase rack a V) → StandsIn phase rack b (state_of phase rack b rest V)
-  quiet_in a b rest V label keeps same label_is holds = record {
+  quiet_in a b rest V label keeps same label_is outs fills holds = record {
     is = refl;
     label =
         subst (λ (k : Option KeptLabel). StandsLabeled rack b.store k rest.label) (sym label_is)
-        (stands_same rack a.store b.store a.label rest.label (shape_kept a b keeps) same label);
+        (stands_same rack a.store b.store a.label rest.label (shape_kept a b keeps) same outs fills label);
     holds = λ told. holds_on a b V keeps (holds (told_before a b keeps told));
   }
 
   -- and it stays in it where its members fall
   pub stays : (a b : Volume S R) (rest : State) (V : List (List ℕ)) → StandsLabeled rack a.store a.label rest.label → (keeps : Keeps a b)
       → CountsRise (rack.counts (rack_of a)) (rack.counts (rack_of b))
-      → MembersFall (rack.counts (rack_of a)).faults (rack.counts (rack_of b)).faults (members_of a) (members_of b)
+      → MembersFall (rack.counts (rack_of a)).faults (rack.counts (rack_of b)).faults (members_of a) (members_of b) → OutsStay rack a.store b.store
       → Stays (state_of phase rack a rest V) (kept_state a b keeps rest V)
-  stays a b rest V label keeps rises falls = record {
+  stays a b rest V label keeps rises falls outs = record {
     goes = record {
-      passes = record { counts = rises; label = label_by rack a b keeps.labels rest.label label; paired = keeps.sound.paired };
+      passes = record { counts = rises; label = label_by rack a b keeps.labels rest.label label; paired = keeps.sound.paired; faults = record { fell = keeps.faults.fell; beyond = keeps.faults.beyond } };
       members = falls;
+      out = outs;
     };
     rest = λ i. record (on_label a b keeps.labels.opens rest) {
+      boundaries = (keeps.table i).shape.b;
+      live = all_live (keeps.table i).shape.b;
       table = keeps.table i;
       blocks = V;
       pending = marks_kept a b keeps.beside i;
+      cut = replicate (keeps.table i).shape.n false;
       homes = keeps.beside.homes i;
       copies = keeps.beside.copies i;
       phase = phase.phase (keeps.beside.phase_is i);
@@ -211,12 +237,15 @@ module _ {S R : Type 0} (phase : phases.Ghosts S) (rack : Ghosts R) where
     table = h.reads.table;
     rise = h.reads.keeps.stays.rise;
     tells = h.reads.keeps.stays.tells;
+    told_before = h.reads.keeps.stays.told_before;
+    own = h.reads.keeps.own;
     same_rack = h.reads.keeps.stays.same_rack;
     back = λ q. good_was (rack.counts (rack_of a)).faults (rack.counts (rack_of b)).faults (members_of a) (members_of b) q h.reads.keeps.falls;
     stands = h.stands;
     labels =
         subst (λ (k : Option KeptLabel). Relabels rack a.store b.store a.label k) (sym h.label_is)
         (relabels_read rack a.store b.store a.label h.labeled h.reads);
+    faults = keeps_tells rack a.store b.store h.reads.keeps;
   }
 
   -- the state that it is in then
@@ -225,7 +254,7 @@ module _ {S R : Type 0} (phase : phases.Ghosts S) (rack : Ghosts R) where
 
   pub reads_stay : (a b : Volume S R) (rest : State) (V : List (List ℕ)) → StandsLabeled rack a.store a.label rest.label → (h : HasRead a b)
       → Stays (state_of phase rack a rest V) (read_state a b h rest V)
-  reads_stay a b rest V label h = stays a b rest V label (read_keeps a b h) h.reads.keeps.stays.rise h.reads.keeps.falls
+  reads_stay a b rest V label h = stays a b rest V label (read_keeps a b h) h.reads.keeps.stays.rise h.reads.keeps.falls (keeps_outs rack a.store b.store h.reads.keeps)
 
   pub reads_in : (a b : Volume S R) (rest : State) (V : List (List ℕ)) → StandsLabeled rack a.store a.label rest.label → (h : HasRead a b)
       → (Tells rack a → StandsFor phase rack a V) → StandsIn phase rack b (read_state a b h rest V)

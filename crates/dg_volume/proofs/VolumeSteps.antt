@@ -1,27 +1,31 @@
 -- A volume makes a step by a read of a block, and by a failure of a member.
 use Rattle.std.proofs.Common.{◌≡◌, ◌≢◌, ◌∙◌, ◌<◌, ◌+◌, ◌*◌, ◌/◌, ℕ, Bool, true, false, List, length, refl, sym, ap, subst, arith, inl, inr}
-use Rattle.std.specs.Prelude.{Option}
+use Rattle.std.specs.Prelude.{[], Option, replicate}
 use Rattle.std.proofs.lemmas.Bool.{cases_eq, cases_lt, false≢true}
 use Rattle.dg_io.specs.Told.{StillTold}
 use Rattle.dg_io.specs.declared.outside.Rack.{Ghosts}
 use Rattle.dg_label.specs.Labels.{IsLabeled}
 use Rattle.dg_label.specs.declared.labels.KeptLabel.{KeptLabel}
 use Rattle.dg_model.proofs.MemberLaws.{struck_good_was}
-use Rattle.dg_model.specs.Blocks.{IsTrimmed}
+use Rattle.dg_model.proofs.TrimLaws.{trimmed_written, zeros_padded}
+use Rattle.dg_model.specs.Blocks.{IsTrimmed, zeros}
 use Rattle.dg_model.specs.Changes.{IsMember, ReadsFew}
+use Rattle.dg_model.specs.Lives.{all_live}
 use Rattle.dg_model.specs.Members.{ArePaired, IsStruck, is_filling, is_good}
 use Rattle.dg_model.specs.Seals.{label_after}
-use Rattle.dg_model.specs.Sites.{is_gone}
+use Rattle.dg_model.specs.Sites.{has_site, is_gone}
 use Rattle.dg_model.specs.States.{CountsRise, State}
 use Rattle.dg_model.specs.Tables.{Table, sites_in}
 use Rattle.dg_model.specs.declared.events.Event.TheVariants.{Fail, Read}
 use Rattle.dg_model.specs.declared.members.MemberState.{MemberState}
 use Rattle.dg_model.specs.declared.members.MemberState.TheVariants.{Out}
 use Rattle.dg_model.specs.declared.replies.Reply.TheVariants.{Already, Data, Done, Unavailable}
-use Rattle.dg_store.specs.Leaves.{CallsAtMost, NoFault}
+use Rattle.dg_store.specs.Leaves.{CallsAtMost, CallsBelow, NoFault}
 use Rattle.dg_store.specs.Stores.{HasBlock, IsSound, KeepsBlocks}
-use Rattle.dg_store.specs.ReadLaws.{rack_none}
+use Rattle.dg_store.specs.ReadLaws.{own_none, rack_none, tells_good}
 use Rattle.dg_store.specs.Stores as stores
+use Rattle.dg_volume.proofs.FaultLaws.{tells_same}
+use Rattle.dg_volume.proofs.LineLaws.{gone_at, own_member}
 use Rattle.dg_volume.proofs.LabelLaws.{none_opens, quiet_opens, relabels_none, relabels_quiet}
 use Rattle.dg_volume.proofs.VolumeLaws.{HasRead, IsBeside, Keeps, Labels, kept_state, leaves, quiet_in, read_keeps, read_state, reads_in, reads_stay, steps_from, still_in, told_before}
 use Rattle.dg_volume.specs.Seals.{Relabels}
@@ -60,13 +64,6 @@ struck_fills q old new struck p fills = elim (cases_eq p q) [
 ]
 
 module _ {S R : Type 0} (phase : phases.Ghosts S) (rack : Ghosts R) where
-  -- good members are among those of the array
-  tells_good : (volume : Volume S R) → IsSound rack volume.store → Tells rack volume → stores.Tells rack volume.store
-  tells_good volume sound told q good = elim (cases_lt (q / 2) (shape_of volume).b) [
-    | inl below ↦ told q below
-    | inr past ↦ let no = sound.others q (omega arith) in absurd (cc (good, no))
-  ]
-
   -- ---- reads
 
   pub record HasReadBlock (a : Volume S R) (block : ℕ) (b : Volume S R) : Type 0 where
@@ -80,16 +77,18 @@ module _ {S R : Type 0} (phase : phases.Ghosts S) (rack : Ghosts R) where
   few a block b rest V h = record { unwritten = h.read.reads.writes; most = h.most; one = h.once }
 
   pub steps_data : (a : Volume S R) (block : ℕ) (bytes value : List ℕ) (b : Volume S R) → HasReadBlock a block b → is_gone (table_of b) (members_of b) block ≡ false
-      → IsTrimmed bytes value → (stores.Tells rack b.store → HasBlock rack a.store block value) → StepsTo phase phase rack a (Read block) (Data bytes) b
-  steps_data a block bytes value b h here trimmed got = steps_from phase rack a b (Read block) (Data bytes) (λ rest V label holds. (
+      → IsTrimmed bytes value → (stores.Tells rack b.store → HasBlock rack a.store block value)
+      → (has_site (sites_in (table_of a) block) ≡ false → value ≡ zeros (shape_of a).l) → StepsTo phase phase rack a (Read block) (Data bytes) b
+  steps_data a block bytes value b h here trimmed got blank = steps_from phase rack a b (Read block) (Data bytes) (λ rest V label holds. (
     read_state phase rack a b h.read rest V,
     reads_in phase rack a b rest V label h.read holds,
     (
       h.within,
-      here,
+      gone_at (shape_of b).n (is_gone (table_of b) (members_of b) block) block ∙ here,
       λ told.
           let held = holds (told_before phase rack a b (read_keeps phase rack a b h.read) told) in
-          subst (λ (x : List ℕ). IsTrimmed bytes x) (got (tells_good b h.read.sound told) V held.array) trimmed,
+          subst (λ (x : List ℕ). IsTrimmed bytes x) (got (tells_good rack b.store h.read.sound told) V held.array) trimmed,
+      λ none. trimmed_written (shape_of a).l bytes value [] trimmed (blank none ∙ zeros_padded (shape_of a).l),
       few a block b rest V h,
       reads_stay phase rack a b rest V label h.read,
     ),
@@ -103,7 +102,7 @@ module _ {S R : Type 0} (phase : phases.Ghosts S) (rack : Ghosts R) where
     reads_in phase rack a b rest V label h.read holds,
     (
       h.within,
-      gone,
+      gone_at (shape_of b).n (is_gone (table_of b) (members_of b) block) block ∙ gone,
       few a block b rest V h,
       reads_stay phase rack a b rest V label h.read,
     ),
@@ -148,10 +147,13 @@ module _ {S R : Type 0} (phase : phases.Ghosts S) (rack : Ghosts R) where
     table = h.table;
     rise = subst (λ (r : R). CountsRise (rack.counts (rack_of a)) (rack.counts r)) (sym h.rack_is) (rack_none rack (rack_of a)).rise;
     tells = subst (λ (r : R). StillTold (rack.bytes (rack_of a)) (rack.bytes r)) (sym h.rack_is) (λ q told. told);
+    told_before = subst (λ (r : R). (q : ℕ) → rack.tells r q → rack.tells (rack_of a) q) (sym h.rack_is) (λ q told. told);
+    own = subst (λ (r : R). CallsBelow rack (shape_of a).b (rack_of a) r) (sym h.rack_is) (own_none rack (shape_of a).b (rack_of a));
     same_rack = ap rack.name h.rack_is;
     back = λ q good. struck_good_was (2 * s + j) (members_of a) (members_of b) q h.struck good;
     stands = h.stands;
     labels = (fail_labels a s j b h).0;
+    faults = tells_same rack a.store b.store h.rack_is;
   }
 
   pub fail_leaves : (a : Volume S R) (s j : ℕ) (b : Volume S R) → IsWell phase rack a → HasFailed a s j b → Leaves phase phase rack a b
@@ -163,14 +165,17 @@ module _ {S R : Type 0} (phase : phases.Ghosts S) (rack : Ghosts R) where
     still_in phase rack a b rest V label (fail_keeps a s j b h) holds,
     (
       is_member a rest V s j b h,
-      stood,
+      λ out. stood (ap (members_of a) (sym (own_member (shape_of a).b s j h.boundary)) ∙ out),
       record {
-        members = h.struck;
+        members = subst (λ (q : ℕ). IsStruck q (members_of a) (members_of b)) (sym (own_member (shape_of a).b s j h.boundary)) h.struck;
         paired = h.sound.paired;
         rest = λ i. record rest {
+          boundaries = (h.table i).shape.b;
+          live = all_live (h.table i).shape.b;
           table = h.table i;
           blocks = V;
           pending = marks_by (phase.kept (h.beside.phase_is i)) ((h.beside.pending i).items);
+          cut = replicate (h.table i).shape.n false;
           homes = h.beside.homes i;
           copies = h.beside.copies i;
           phase = phase.phase (h.beside.phase_is i);
@@ -190,14 +195,17 @@ module _ {S R : Type 0} (phase : phases.Ghosts S) (rack : Ghosts R) where
       let same = struck_same (2 * s + j) (members_of a) (members_of b) sound.paired out h.struck in
       steps_from phase rack a b (Fail s j) Already (λ rest V label holds. (
         state_of phase rack b rest V,
-        quiet_in phase rack a b rest V label (fail_keeps a s j b h) h.rack_is h.label_is holds,
+        quiet_in phase rack a b rest V label (fail_keeps a s j b h) h.rack_is h.label_is (λ q was. same q ∙ was) (λ q fills. ap is_filling (sym (same q)) ∙ fills) holds,
         (
           is_member a rest V s j b h,
-          out,
+          ap (members_of a) (own_member (shape_of a).b s j h.boundary) ∙ out,
           λ i. record rest {
+            boundaries = (h.table i).shape.b;
+            live = all_live (h.table i).shape.b;
             table = h.table i;
             blocks = V;
             pending = marks_by (phase.kept (h.beside.phase_is i)) ((h.beside.pending i).items);
+            cut = replicate (h.table i).shape.n false;
             homes = h.beside.homes i;
             copies = h.beside.copies i;
             phase = phase.phase (h.beside.phase_is i);

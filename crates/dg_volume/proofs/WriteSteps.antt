@@ -1,6 +1,6 @@
 -- A volume makes a step by a write of a block.
 use Rattle.std.proofs.Common.{◌≡◌, ◌∙◌, ◌<◌, ◌≤◌, ◌+◌, ◌*◌, ◌/◌, ℕ, Bool, true, false, List, [], ◌∷◌, length, refl, sym, ap, subst, arith, inl, inr, rules}
-use Rattle.std.specs.Prelude.{Option, Some, None, IfSome, if◌then◌else◌, max, slice_set}
+use Rattle.std.specs.Prelude.{Option, Some, None, IfSome, if◌then◌else◌, max, replicate, slice_set}
 use Rattle.std.specs.List.{All, Contains}
 use Rattle.std.proofs.lemmas.List.{length-set}
 use Rattle.std.proofs.lemmas.List.Sums.{count_by-le-length}
@@ -15,6 +15,7 @@ use Rattle.dg_model.proofs.MemberLaws.{NoneRecovers, falls_both, good_was, has_l
 use Rattle.dg_model.specs.Blocks.{padded}
 use Rattle.dg_model.specs.Causes.{NoneRose}
 use Rattle.dg_model.specs.Changes.{WritesFew, phase_after, seal_calls}
+use Rattle.dg_model.specs.Lives.{all_live}
 use Rattle.dg_model.specs.Marks.{AreLeft, AreNext, with_mark}
 use Rattle.dg_model.specs.Members.{MembersFall, is_filling, is_good, is_lost}
 use Rattle.dg_model.specs.Rereads.{IsBeside as IsBesideBlock, IsChangedAt, Rereads, count_read}
@@ -34,18 +35,21 @@ use Rattle.dg_model.specs.declared.replies.Reply.TheVariants.{Degraded, Done, Ra
 use Rattle.dg_model.specs.declared.shapes.Shape.{Shape}
 use Rattle.dg_model.specs.declared.sites.Site.{Site}
 use Rattle.dg_store.specs.Answers.{IsAllLost}
-use Rattle.dg_store.specs.Leaves.{CallsAtMost, NoFault}
+use Rattle.dg_store.specs.Leaves.{CallsAtMost, CallsBelow, NoFault}
 use Rattle.dg_store.specs.Stores.{IsSound, KeepsBlocks}
-use Rattle.dg_store.specs.ReadLaws.{rack_none, rises_both}
+use Rattle.dg_store.specs.ReadLaws.{own_none, rack_none, rises_both}
 use Rattle.dg_store.specs.Stores as stores
 use Rattle.dg_store.specs.Views.{Fetches, ReadsOn, is_written}
 use Rattle.dg_store.specs.declared.store.Store.{Store}
 use Rattle.dg_volume.proofs.BlankLaws.{no_homes}
+use Rattle.dg_volume.proofs.FaultLaws.{falls_out, keeps_outs, keeps_tells, outs_both, own_then, tells_both, tells_same}
 use Rattle.dg_volume.proofs.LabelLaws.{relabels_none, relabels_then, slots_kept}
+use Rattle.dg_volume.proofs.LineLaws.{none_set}
 use Rattle.dg_volume.proofs.MoveSteps.{loose_not_settled, loose_not_worn}
 use Rattle.dg_volume.proofs.VolumeLaws.{IsBeside, Keeps, Labels, kept_state, label_by, leaves, lost_on, on_label, same_in, stays, steps_from, still_in}
+use Rattle.dg_volume.specs.Faults.{OutsStay, TellsFaults}
 use Rattle.dg_volume.specs.Seals.{FallsOn, HasStoredBlock, Relabels, opening_calls}
-use Rattle.dg_volume.specs.Volumes.{FitsArray, IsWell, Leaves, StandsFor, StandsIn, Tells, marks_by, marks_of, members_of, rack_of, shape_of, state_of, table_of}
+use Rattle.dg_volume.specs.Volumes.{FitsArray, IsWell, Leaves, StandsFor, StandsIn, Tells, given_of, marks_by, marks_of, members_of, rack_of, shape_of, state_of, table_of}
 use Rattle.dg_volume.specs.Writes.{IsFollowed, RereadsFew, WritesTo}
 use Rattle.dg_volume.specs.declared.phases.InPhase as phases
 use Rattle.dg_volume.specs.declared.volumes.Volume.{Volume}
@@ -132,7 +136,7 @@ after_settled false p is settled = cc
 
 -- nothing
 none_read : (Known : Type 0) (l n : ℕ) (V W : List (List ℕ)) (b : ℕ) → Rereads Known l n V W b
-none_read Known l n V W b = record { indirect = []; indirect_once = search rules; changed = λ known. search rules; beside = []; beside_once = search rules; are_beside = λ known. search rules }
+none_read Known l n V W b = record { indirect = []; indirect_once = search rules; changed = λ known. search rules; beside = []; beside_once = search rules; are_beside = λ known. search rules; others = λ known. search rules }
 
 -- one fetch for each block
 pub reread_few : {R : Type 0} (rack : Ghosts R) (Known J : Type 0) (l n : ℕ) (old new : Store R) (V W : List (List ℕ)) (b : ℕ) (blocks : List ℕ) → l ≡ (stores.shape_of old).l → n ≡ (stores.shape_of old).n → (J → Known)
@@ -145,6 +149,7 @@ reread_few rack Known J l n old new V W b blocks l_is n_is along reads were coun
     beside = reads.beside;
     beside_once = reads.beside_once;
     are_beside = λ j. subst (λ (x : ℕ). All (IsBesideBlock x (stores.shape_of old).n V W b) reads.beside) l_is (subst (λ (x : ℕ). All (IsBesideBlock l x V W b) reads.beside) n_is (reads.are_beside (along j)));
+    others = λ j. reads.others (along j);
   };
   few = λ none.
       let rose = were.few none in
@@ -161,6 +166,8 @@ module _ {S T R : Type 0} (from : phases.Ghosts S) (to : phases.Ghosts T) (rack 
     pub shape : shape_of c ≡ shape_of a
     pub rise : CountsRise (rack.counts (rack_of a)) (rack.counts (rack_of c))
     pub tells : StillTold (rack.bytes (rack_of a)) (rack.bytes (rack_of c))
+    pub told_before : (q : ℕ) → rack.tells (rack_of c) q → rack.tells (rack_of a) q
+    pub own : CallsBelow rack (shape_of a).b (rack_of a) (rack_of c)
     pub same_rack : rack.name (rack_of c) ≡ rack.name (rack_of a)
     pub levels : c.levels.fragment ≡ a.levels.fragment
     pub homes : c.homes ≡ a.homes
@@ -190,6 +197,8 @@ module _ {S T R : Type 0} (from : phases.Ghosts S) (to : phases.Ghosts T) (rack 
     shape = h.shape;
     rise = h.rise;
     tells = h.tells;
+    told_before = h.told_before;
+    own = h.own;
     same_rack = h.same_rack;
   }
 
@@ -246,6 +255,17 @@ module _ {S T R : Type 0} (from : phases.Ghosts S) (to : phases.Ghosts T) (rack 
         writes = omega (arith, one.writes, other.writes);
       }
 
+  faults_on : (a : Volume S R) (b : ℕ) (block : List ℕ) (m new : Store R) → HasStored a b block m new → TellsFaults rack a.store new
+  faults_on a b block m new h =
+      tells_both rack a.store m new h.first.stays.shape
+      (falls_out (rack.counts (stores.rack_of m)).faults (rack.counts (stores.rack_of new)).faults (stores.members_of m) (stores.members_of new) h.reads.keeps.falls)
+      h.first.faults (keeps_tells rack m new h.reads.keeps)
+
+  outs_on : (a : Volume S R) (b : ℕ) (block : List ℕ) (m new : Store R) → HasStored a b block m new → OutsStay rack a.store new
+  outs_on a b block m new h =
+      outs_both rack a.store m new (falls_out (rack.counts (rack_of a)).faults (rack.counts (stores.rack_of m)).faults (members_of a) (stores.members_of m) h.first.falls)
+      h.first.outs (keeps_outs rack m new h.reads.keeps)
+
   shape_on : (a : Volume S R) (b : ℕ) (block : List ℕ) (m new : Store R) → HasStored a b block m new → stores.shape_of new ≡ shape_of a
   shape_on a b block m new h = h.reads.keeps.shape ∙ h.first.stays.shape
 
@@ -253,7 +273,8 @@ module _ {S T R : Type 0} (from : phases.Ghosts S) (to : phases.Ghosts T) (rack 
   tells_on a b block m new h q told = h.first.stays.stays.tells q (h.reads.keeps.stays.tells q told)
 
   told_first : (a : Volume S R) (b : ℕ) (block : List ℕ) (m new : Store R) → HasStored a b block m new → stores.TellsAll rack new → Tells rack a
-  told_first a b block m new h told q below = tells_on a b block m new h q (told q (subst (λ (s : Shape). q / 2 < s.b) (sym (shape_on a b block m new h)) below))
+  told_first a b block m new h told q below =
+      h.first.stays.stays.told_before q (h.reads.keeps.stays.told_before q (told q (subst (λ (s : Shape). q / 2 < s.b) (sym (shape_on a b block m new h)) below)))
 
   pub written_leaves : (a : Volume S R) (b : ℕ) (block : List ℕ) (m : Store R) (c : Volume T R) → IsWell from rack a → HasWritten a b block m c → Leaves from to rack a c
   written_leaves a b block m c well h =
@@ -263,6 +284,8 @@ module _ {S T R : Type 0} (from : phases.Ghosts S) (to : phases.Ghosts T) (rack 
         shape = shape_on a b block m c.store h.array;
         rise = rises_both (rack.counts (rack_of a)) (rack.counts (stores.rack_of m)) (rack.counts (rack_of c)) h.array.first.stays.stays.rise h.array.reads.keeps.stays.rise;
         tells = tells_on a b block m c.store h.array;
+        told_before = λ q told. h.array.first.stays.stays.told_before q (h.array.reads.keeps.stays.told_before q told);
+        own = own_then rack a.store m c.store h.array.first.stays.shape h.array.first.stays.own h.array.reads.keeps.own;
         same_rack = h.array.reads.keeps.stays.same_rack ∙ h.array.first.stays.stays.same_rack;
         levels = h.levels;
         homes = h.homes;
@@ -292,6 +315,7 @@ module _ {S T R : Type 0} (from : phases.Ghosts S) (to : phases.Ghosts T) (rack 
           beside = few.rereads.beside;
           beside_once = few.rereads.beside_once;
           are_beside = λ told. few.rereads.are_beside (over told);
+          others = λ told. few.rereads.others (over told);
         };
         most = λ none. calls_under rest.label a.label label.kept (rack.counts (rack_of c)).calls (rack.counts (rack_of a)).calls (2 * (shape_of a).b)
             (2 * max 1 (length (sites_in (table_of a) b))) (count_read few.rereads) (few.most none);
@@ -313,22 +337,35 @@ module _ {S T R : Type 0} (from : phases.Ghosts S) (to : phases.Ghosts T) (rack 
   written_step a b bytes m c rest V label h holds =
       let block = padded (shape_of a).l bytes in
       let W = slice_set V b block in
-      let array = h.array in (
+      let array = h.array in
+      let shape = shape_on a b block m c.store array in
+      let faults = faults_on a b block m c.store array in
+      let cut : replicate (shape_of c).n false ≡ slice_set (replicate (shape_of a).n false) b false =
+      ap (λ (s : Shape). replicate s.n false) shape ∙ sym (none_set (shape_of a).n b) in (
         array.within,
         array.whole,
         record {
           goes = record {
-            passes = record { counts = rises_on a b block m c.store array; label = label_by rack a c h.labels rest.label label; paired = array.sound.paired };
+            passes = record {
+              counts = rises_on a b block m c.store array;
+              label = label_by rack a c h.labels rest.label label;
+              paired = array.sound.paired;
+              faults = record { fell = faults.fell; beyond = faults.beyond };
+            };
             members = falls_on a b block m c.store array;
+            out = outs_on a b block m c.store array;
           };
           sited = subst (λ (t : Table). IsSited (table_of a) b t) (sym array.reads.table) array.stored.sited;
           few = writes_few a b block m c rest V label h holds;
           marks = next_along (has_lost (shape_of c) (members_of c)) (Tells rack c) (IsOver a c V) (shape_of a).l (shape_of a).n W (with_mark (marks_of from a) b) (marks_of to c)
               (λ told. record { tells = told; held = holds (told_first a b block m c.store array told) }) (h.marks V);
           rest = λ i. record (on_label a c h.labels.opens rest) {
+            boundaries = (shape i).b;
+            live = all_live (shape i).b;
             table = table_of c;
             blocks = W;
             pending = marks_of to c;
+            cut = cut i;
             homes = h.homes i;
             copies = h.copies i;
             phase = h.phase_is i;
@@ -338,9 +375,11 @@ module _ {S T R : Type 0} (from : phases.Ghosts S) (to : phases.Ghosts T) (rack 
         },
       )
 
-  pub written_to : (a : Volume S R) (b : ℕ) (block : List ℕ) (m : Store R) (c : Volume T R) → IsWell from rack a → HasWritten a b block m c → WritesTo from to rack a b block Done c
-  written_to a b block m c well h = record {
+  pub written_to : (a : Volume S R) (b : ℕ) (block : List ℕ) (m : Store R) (c : Volume T R) → IsWell from rack a → given_of c ≡ given_of a → HasWritten a b block m c
+      → WritesTo from to rack a b block Done c
+  written_to a b block m c well given h = record {
     leaves = written_leaves a b block m c well h;
+    given_is = given;
     steps = λ bytes is state st.
         let wrote : HasWritten a b (padded (shape_of a).l bytes) m c = subst (λ (x : List ℕ). HasWritten a b x m c) is h in
         let W = slice_set state.blocks b (padded (shape_of a).l bytes) in
@@ -404,6 +443,7 @@ module _ {S T R : Type 0} (from : phases.Ghosts S) (to : phases.Ghosts T) (rack 
                 beside = few.rereads.beside;
                 beside_once = few.rereads.beside_once;
                 are_beside = λ over. subst (λ (x : Shape). All (IsBesideBlock x.l x.n V W b) few.rereads.beside) shape (few.rereads.are_beside (followed a b block m kept c V had array over));
+                others = λ over. few.rereads.others (followed a b block m kept c V had array over);
               };
               most = λ none.
                   let rest = few.few (none_back (rack.counts (rack_of a)).faults (rack.counts (stores.rack_of m)).faults (rack.counts (rack_of c)).faults array.first.stays.stays.rise.faults none) in
@@ -448,6 +488,8 @@ module _ {S T R : Type 0} (from : phases.Ghosts S) (to : phases.Ghosts T) (rack 
         shape = reads.keeps.shape ∙ first.stays.shape;
         rise = rises_both (rack.counts (rack_of a)) (rack.counts (stores.rack_of m)) (rack.counts (rack_of c)) first.stays.stays.rise reads.keeps.stays.rise;
         tells = λ q told. first.stays.stays.tells q (reads.keeps.stays.tells q told);
+        told_before = λ q told. first.stays.stays.told_before q (reads.keeps.stays.told_before q told);
+        own = own_then rack a.store m c.store first.stays.shape first.stays.own reads.keeps.own;
         same_rack = reads.keeps.stays.same_rack ∙ first.stays.stays.same_rack;
         levels = levels;
         homes = homes;
@@ -473,16 +515,20 @@ module _ {S R : Type 0} (phase : phases.Ghosts S) (rack : Ghosts R) where
     table = refl;
     rise = (rack_none rack (rack_of a)).rise;
     tells = λ q told. told;
+    told_before = λ q told. told;
+    own = own_none rack (shape_of a).b (rack_of a);
     same_rack = refl;
     back = λ q good. good;
     stands = λ V stands. stands;
     labels = relabels_none rack a.store a.label labeled;
+    faults = tells_same rack a.store a.store refl;
   }
 
   -- there is no such block
   pub past_end : (a : Volume S R) (b : ℕ) (block : List ℕ) → IsWell phase rack a → (shape_of a).n ≤ b → WritesTo phase phase rack a b block Range a
   past_end a b block well past = record {
     leaves = leaves phase rack a a well (unmoved a well.array well.labeled);
+    given_is = refl;
     steps = λ bytes is. steps_from phase rack a a (Write b bytes) Range (λ rest V label holds. (
       state_of phase rack a rest V,
       same_in phase rack a rest V label holds,
@@ -496,6 +542,7 @@ module _ {S R : Type 0} (phase : phases.Ghosts S) (rack : Ghosts R) where
       → WritesTo phase phase rack a b block Degraded a
   lost_before a b block well within lost = record {
     leaves = leaves phase rack a a well (unmoved a well.array well.labeled);
+    given_is = refl;
     steps = λ bytes is. steps_from phase rack a a (Write b bytes) Degraded (λ rest V label holds. (
       state_of phase rack a rest V,
       same_in phase rack a rest V label holds,
@@ -523,15 +570,19 @@ module _ {S R : Type 0} (phase : phases.Ghosts S) (rack : Ghosts R) where
     table = h.lost.table;
     rise = h.first.stays.stays.rise;
     tells = h.first.stays.stays.tells;
+    told_before = h.first.stays.stays.told_before;
+    own = h.first.stays.own;
     same_rack = h.first.stays.stays.same_rack;
     back = λ q. good_was (rack.counts (rack_of a)).faults (rack.counts (rack_of c)).faults (members_of a) (members_of c) q h.first.falls;
     stands = h.lost.stands;
     labels = h.labels;
+    faults = h.first.faults;
   }
 
-  pub lost_now : (a : Volume S R) (b : ℕ) (block : List ℕ) (c : Volume S R) → IsWell phase rack a → HasMissed a b c → WritesTo phase phase rack a b block Degraded c
-  lost_now a b block c well h = record {
+  pub lost_now : (a : Volume S R) (b : ℕ) (block : List ℕ) (c : Volume S R) → IsWell phase rack a → given_of c ≡ given_of a → HasMissed a b c → WritesTo phase phase rack a b block Degraded c
+  lost_now a b block c well given h = record {
     leaves = leaves phase rack a c well (missed_keeps a b c h);
+    given_is = given;
     steps = λ bytes is. steps_from phase rack a c (Write b bytes) Degraded (λ rest V label holds. (
       kept_state phase rack a c (missed_keeps a b c h) rest V,
       still_in phase rack a c rest V label (missed_keeps a b c h) holds,
@@ -541,7 +592,7 @@ module _ {S R : Type 0} (phase : phases.Ghosts S) (rack : Ghosts R) where
           h.whole,
           h.lost.lost,
           refused_under rest.label a.label label.kept (rack.counts (rack_of c)).calls (rack.counts (rack_of a)).calls (2 * (shape_of a).b) (2 * max 1 (length (sites_in (table_of a) b))) h.most,
-          stays phase rack a c rest V label (missed_keeps a b c h) h.first.stays.stays.rise h.first.falls,
+          stays phase rack a c rest V label (missed_keeps a b c h) h.first.stays.stays.rise h.first.falls h.first.outs,
         ),
       ),
       refl,

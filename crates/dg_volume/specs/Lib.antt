@@ -1,5 +1,7 @@
 pub mod Copies
+pub mod Faults
 pub mod Fronts
+pub mod HeldLaws
 pub mod Opens
 pub mod Phases
 pub mod Planned

@@ -1,7 +1,8 @@
 -- What opening a saved array gives, by its answer.
-use Rattle.std.specs.Prelude.{◌≡◌, ◌⊎◌, ◌+◌, ℕ, Bool, true, false, List, Option, Some, None, IfSome}
+use Rattle.std.specs.Prelude.{◌≡◌, ◌⊎◌, ◌+◌, ◌/◌, ◌<◌, ◌≤◌, ℕ, Bool, true, false, List, Option, Some, None, IfSome}
 use Rattle.dg_infer.specs.Meanings.{KeptInference}
 use Rattle.dg_infer.specs.Meanings as inferences
+use Rattle.dg_io.specs.Told.{IsSame, Told}
 use Rattle.dg_io.specs.declared.outside.Rack.{Ghosts}
 use Rattle.dg_model.specs.Marks.{AreLeft}
 use Rattle.dg_model.specs.Members.{MembersFall, is_good}
@@ -26,7 +27,7 @@ use Rattle.dg_store.specs.Stores as stores
 use Rattle.dg_store.specs.declared.store.Store.{Store}
 use Rattle.dg_volume.specs.Phases.{phase_in}
 use Rattle.dg_volume.specs.Planned.{AreWanted, FindsOn, HasReadArray}
-use Rattle.dg_volume.specs.Volumes.{FitsArray, IsWell, StandsIn, Tells, any_phase, members_of, rack_of, shape_of, table_of}
+use Rattle.dg_volume.specs.Volumes.{FitsArray, IsWell, StandsIn, Tells, any_phase, given_of, members_of, rack_of, shape_of, table_of}
 use Rattle.dg_volume.specs.declared.opens.OpenAnswer.{OpenAnswer}
 use Rattle.dg_volume.specs.declared.opens.OpenAnswer.TheVariants.{NoState, Opened, Unclean}
 use Rattle.dg_volume.specs.declared.phases.AnyPhase.{AnyPhase}
@@ -97,6 +98,7 @@ pub record IsMadeOf {R : Type 0} (rack : Ghosts R) (reopened : Reopened R) (volu
   pub homes : volume.homes ≡ reopened.saved.homes
   pub copies : volume.copies ≡ copies_after (phase_in volume.phase) reopened.saved.copies
   pub label : volume.label ≡ Some reopened.label
+  pub given : volume.given ≡ None
   pub recent : hot ≡ reopened.saved.recent
 
 -- the bytes that a member had before, where they are told now
@@ -104,16 +106,13 @@ abbrev pub had : Option (List ℕ) → Option (List ℕ) → Option (List ℕ)
 had before None = None
 had before (Some now) = before
 
--- each member that is good now had this body behind its slots before, where it told its bytes
-abbrev pub HadBody : {R : Type 0} → Ghosts R → R → Volume AnyPhase R → List ℕ → Type 0
-HadBody rack before volume body = (q : ℕ) → is_good (members_of volume q) ≡ true → IfSome (rack.bytes before q) (λ all. HasBody all (shape_of volume) body)
-
 -- What was opened of a rack: its members were read as they stood before; nothing was written, and the bytes beside the slots stay; and
 -- this is the volume. `first` says what members did before blocks were read: one was good only where it may be. Of each list of blocks that
--- these held before, and where the body of the source stood on each member that is good now, the volume is in a state that the model
--- opens. (Two members that were good at first may hold other blocks, or other bodies under one label: of those nothing is said.)
+-- these held before the volume is in a state that the model opens. (Two members that were good at first may hold other blocks: of those
+-- nothing is said.)
 pub record HasOpened {R : Type 0} (rack : Ghosts R) (before : R) (volume : Volume AnyPhase R) (hot : List ℕ) : Type 0 where
   pub well : IsWell any_phase rack volume
+  pub given_is : given_of volume ≡ None
   pub stays : RackStays rack before (rack_of volume)
   pub writes : (rack.counts (rack_of volume)).writes ≡ (rack.counts before).writes
   pub beside : KeepsBeside (shape_of volume).l ((shape_of volume).k + 1) (rack.bytes before) (rack.bytes (rack_of volume))
@@ -126,10 +125,11 @@ pub record HasOpened {R : Type 0} (rack : Ghosts R) (before : R) (volume : Volum
   pub table : table_of volume ≡ saved.table
   pub first : ℕ → MemberState
   pub first_are : (q : ℕ) → ((first q ≡ Good) × MayBeGood taken label saved q) ⊎ (first q ≡ Out)
+  pub fell : (q : ℕ) → (rack.counts before).faults q < (rack.counts (rack_of volume)).faults q → members_of volume q ≡ Out
+  pub others : (q : ℕ) → (shape_of volume).b ≤ q / 2 → Told IsSame (rack.bytes before q) (rack.bytes (rack_of volume) q)
   pub falls : MembersFall (rack.counts before).faults (rack.counts (rack_of volume)).faults first (members_of volume)
   pub states_are : (V : List (List ℕ)) → (Tells rack volume → states.StandsFor (table_of volume) first (rack.bytes before) V)
-      → HadBody rack before volume (body_of label.format saved)
-      → (state : State) × (state.blocks ≡ V) × Opens (Tells rack volume) taken (rack.counts before) state
+      → (state : State) × (state.blocks ≡ V) × Opens (Tells rack volume) taken None (rack.counts before) state
       × StandsIn any_phase rack volume state × (state.recent ≡ hot)
 
 -- by each answer

@@ -27,6 +27,7 @@ use Rattle.dg_store.specs.Stores.{IsSound, KeepsBlocks, TellsAll, members_of, ra
 use Rattle.dg_store.specs.Stores as stores
 use Rattle.dg_store.specs.Views.{ReadsOn}
 use Rattle.dg_store.specs.declared.store.Store.{Store}
+use Rattle.dg_volume.specs.Faults.{OutsStay, TellsFaults}
 use Rattle.dg_volume.specs.Volumes.{AreWantsBy, IsInPlace, StandsFor, Tells, state_of}
 use Rattle.dg_volume.specs.Volumes as volumes
 use Rattle.dg_volume.specs.declared.phases.InPhase as phases
@@ -51,6 +52,8 @@ pub record HasMovedArray {R : Type 0} (rack : Ghosts R) (old new : Store R) : Ty
   pub sound : IsSound rack new
   pub stays : arrays.Stays rack old new
   pub falls : MembersFall (rack.counts (rack_of old)).faults (rack.counts (rack_of new)).faults (members_of old) (members_of new)
+  pub faults : TellsFaults rack old new
+  pub outs : OutsStay rack old new
   pub stands : TellsAll rack new → KeepsBlocks rack old new
 
 -- ---- the plan

@@ -1,11 +1,12 @@
 -- A volume beside the states of the model.
-use Rattle.std.specs.Prelude.{◌≡◌, ◌≢◌, ◌+◌, ◌*◌, ◌≤◌, ℕ, Bool, true, List, [], length, Option, Some, None, IfSome}
+use Rattle.std.specs.Prelude.{◌≡◌, ◌≢◌, ◌+◌, ◌*◌, ◌≤◌, ℕ, Bool, true, false, List, [], length, replicate, Option, Some, None, IfSome}
 use Rattle.dg_infer.specs.Meanings.{KeptInference}
 use Rattle.dg_infer.specs.Meanings as inferences
 use Rattle.dg_infer.specs.Wants.{IsWantBy}
 use Rattle.dg_io.specs.declared.outside.Rack.{Ghosts}
 use Rattle.dg_io.specs.Told.{StillTold}
 use Rattle.dg_label.specs.Labels.{IsLabeled, StandsLabeled}
+use Rattle.dg_model.specs.Lives.{all_live}
 use Rattle.dg_model.specs.Saves.{AreHomes}
 use Rattle.dg_model.specs.States.{CountsRise, IsBlank, State, has_lost}
 use Rattle.dg_model.specs.Placed.{IsPlaced}
@@ -20,6 +21,7 @@ use Rattle.dg_model.specs.declared.phases.Phase.TheVariants.{Loose as LoosePhase
 use Rattle.dg_model.specs.declared.replies.Reply.{Reply}
 use Rattle.dg_model.specs.declared.shapes.Shape.{Shape}
 use Rattle.dg_model.specs.declared.wants.Want.{Want}
+use Rattle.dg_store.specs.Leaves.{CallsBelow}
 use Rattle.dg_store.specs.Stores.{IsSound, TellsAll}
 use Rattle.dg_store.specs.Stores as stores
 use Rattle.dg_volume.specs.Phases.{kept_in, phase_in}
@@ -70,12 +72,15 @@ given_of volume = volume.given
 
 -- ---- states
 
--- the state that it is in, where these are its blocks, and the rest is as in another state
+-- the state that it is in, where these are its blocks, and the rest is as in another state: all boundaries are in use, and no block was cut
 abbrev pub state_of : {S R : Type 0} → phases.Ghosts S → Ghosts R → Volume S R → State → List (List ℕ) → State
 state_of phase rack volume rest blocks = record rest {
+  boundaries = (shape_of volume).b;
+  live = all_live (shape_of volume).b;
   table = table_of volume;
   blocks = blocks;
   pending = marks_of phase volume;
+  cut = replicate (shape_of volume).n false;
   homes = volume.homes;
   copies = volume.copies;
   phase = phase.phase volume.phase;
@@ -149,12 +154,15 @@ pub record IsWell {S R : Type 0} (phase : phases.Ghosts S) (rack : Ghosts R) (vo
   pub worn : phase.phase volume.phase ≡ WornPhase → has_lost (shape_of volume) (members_of volume) ≡ true
   pub settled : phase.phase volume.phase ≡ SettledPhase → IsInPlace (table_of volume) (phase.kept volume.phase) volume.homes volume.copies
 
--- what any call leaves: a volume of the same array with which all is well, over the same rack, of which no count fell, and what that tells it told before
+-- What any call leaves: a volume of the same array with which all is well, over the same rack, of which no count fell, what that tells it told
+-- before, and calls were made on members of the array alone.
 pub record Leaves {S T R : Type 0} (from : phases.Ghosts S) (to : phases.Ghosts T) (rack : Ghosts R) (old : Volume S R) (new : Volume T R) : Type 0 where
   pub well : IsWell to rack new
   pub shape : shape_of new ≡ shape_of old
   pub rise : CountsRise (rack.counts (rack_of old)) (rack.counts (rack_of new))
   pub tells : StillTold (rack.bytes (rack_of old)) (rack.bytes (rack_of new))
+  pub told_before : (q : ℕ) → rack.tells (rack_of new) q → rack.tells (rack_of old) q
+  pub own : CallsBelow rack (shape_of old).b (rack_of old) (rack_of new)
   pub same_rack : rack.name (rack_of new) ≡ rack.name (rack_of old)
 
 -- It is in each state that the other was in: it is the same volume, and only what is known of its phase may be another.
@@ -186,8 +194,11 @@ pub record IsBlankVolume {R : Type 0} (rack : Ghosts R) (shape : Shape) (before 
   pub well : IsWell loose_phase rack volume
   pub shape_is : shape_of volume ≡ shape
   pub tells : StillTold (rack.bytes before) (rack.bytes (rack_of volume))
+  pub told_before : (q : ℕ) → rack.tells (rack_of volume) q → rack.tells before q
+  pub own : CallsBelow rack shape.b before (rack_of volume)
   pub same_rack : rack.name (rack_of volume) ≡ rack.name before
   pub state : State
   pub blank : IsBlank shape (rack.counts before) state
   pub stands : StandsIn loose_phase rack volume state
+  pub given_is : given_of volume ≡ None
   pub few : (rack.counts (rack_of volume)).calls ≤ (rack.counts before).calls + 2 * shape.b

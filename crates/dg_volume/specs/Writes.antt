@@ -12,7 +12,7 @@ use Rattle.dg_store.specs.Leaves.{CallsAtMost, NoFault}
 use Rattle.dg_store.specs.Stores.{TellsAll}
 use Rattle.dg_store.specs.Stores as stores
 use Rattle.dg_store.specs.declared.store.Store.{Store}
-use Rattle.dg_volume.specs.Volumes.{Leaves, StepsTo, loose_phase, shape_of, worn_phase}
+use Rattle.dg_volume.specs.Volumes.{Leaves, StepsTo, given_of, loose_phase, shape_of, worn_phase}
 use Rattle.dg_volume.specs.declared.writes.WriteAnswer.{WriteAnswer}
 use Rattle.dg_volume.specs.declared.writes.WriteAnswer.TheVariants.{Degraded as AnyDegraded, Range as AnyRange, Written}
 use Rattle.dg_volume.specs.declared.phases.InPhase as phases
@@ -20,9 +20,10 @@ use Rattle.dg_volume.specs.declared.volumes.Volume.{Volume}
 use Rattle.dg_volume.specs.declared.writes.Wrote.{Wrote}
 use Rattle.dg_volume.specs.declared.writes.Wrote.TheVariants.{Degraded, Loose, Range, Worn}
 
--- The volume made a step by each write of block b with bytes that fill it so.
+-- The volume made a step by each write of block b with bytes that fill it so, and tells the inode that it told.
 pub record WritesTo {S T R : Type 0} (from : phases.Ghosts S) (to : phases.Ghosts T) (rack : Ghosts R) (old : Volume S R) (b : ℕ) (block : List ℕ) (reply : Reply) (new : Volume T R) : Type 0 where
   pub leaves : Leaves from to rack old new
+  pub given_is : given_of new ≡ given_of old
   pub steps : (bytes : List ℕ) → block ≡ padded (shape_of old).l bytes → StepsTo from to rack old (Write b bytes) reply new
 
 -- by each answer

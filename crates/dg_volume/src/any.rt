@@ -1,8 +1,8 @@
 // A volume whose phase is told only when the program runs. Its calls that change the phase do so in place.
-ghost use Rattle.std.specs.Prelude.{IfOk, OnErr};
+ghost use Rattle.std.specs.Prelude.{◌≡◌, IfOk, OnErr};
 ghost use Rattle.dg_model.specs.declared.events.Event.{Event};
 ghost use Rattle.dg_volume.specs.Settles.{KeepsArray, settle_reply, tend_reply};
-ghost use Rattle.dg_volume.specs.Volumes.{IsSame, IsWell, Leaves, StepsTo, any_phase};
+ghost use Rattle.dg_volume.specs.Volumes.{IsSame, IsWell, Leaves, given_of, StepsTo, any_phase};
 
 use crate::phases::{AnyPhase, InPhase};
 use crate::settles::{TendRun, Unsettled};
@@ -47,6 +47,7 @@ impl<R: Rack> Volume<AnyPhase, R> {
         ensures leaves { Leaves any_phase any_phase R.Rack self.old self.new }
         ensures steps { IfOk result (λ answer. StepsTo any_phase any_phase R.Rack self.old Event.Settle (settle_reply answer) self.new) }
         ensures err { OnErr result (KeepsArray R.Rack self.old self.new) }
+        ensures given { given_of self.new ≡ given_of self.old }
     {
         if self.phase.phase() != Phase::Loose {
             return match self.store.least_lost() {
@@ -67,6 +68,7 @@ impl<R: Rack> Volume<AnyPhase, R> {
         ensures leaves { Leaves any_phase any_phase R.Rack self.old self.new }
         ensures steps { IfOk result (λ answer. StepsTo any_phase any_phase R.Rack self.old (Event.Tend limit) (tend_reply answer) self.new) }
         ensures err { OnErr result (KeepsArray R.Rack self.old self.new) }
+        ensures given { given_of self.new ≡ given_of self.old }
     {
         if self.phase.phase() != Phase::Loose {
             return match self.store.least_lost() {

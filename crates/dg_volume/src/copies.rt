@@ -4,7 +4,7 @@ ghost use Rattle.dg_model.specs.declared.events.Event.{Event};
 ghost use Rattle.dg_model.specs.declared.phases.Phase.{Phase};
 ghost use Rattle.dg_volume.specs.Copies.{StepsHot, any_diffuse_reply, diffuse_reply};
 ghost use Rattle.dg_volume.specs.Settles.{KeepsArray};
-ghost use Rattle.dg_volume.specs.Volumes.{IsWell, Leaves, any_phase, phase_of, settled_phase};
+ghost use Rattle.dg_volume.specs.Volumes.{IsWell, Leaves, given_of, any_phase, phase_of, settled_phase};
 
 use crate::phases::{AnyPhase, InPhase, Settled};
 use crate::plans::inodes_fit;
@@ -32,6 +32,7 @@ impl<S: InPhase, R: Rack> Volume<S, R> {
         ensures steps { IfOk result (λ answer.
             StepsHot S.InPhase S.InPhase R.Rack hot.now self.old Event.Diffuse (diffuse_reply answer) self.new) }
         ensures err { OnErr result (KeepsArray R.Rack self.old self.new) }
+        ensures given { given_of self.new ≡ given_of self.old }
     {
         if let Some(lost) = self.store.least_lost() {
             return Ok(DiffuseAnswer::Lost(lost));
@@ -63,6 +64,7 @@ impl<R: Rack> Volume<Settled, R> {
         ensures steps { IfOk result (λ answer.
             StepsHot settled_phase settled_phase R.Rack hot.now self.old Event.Diffuse (diffuse_reply answer) self.new) }
         ensures err { OnErr result (KeepsArray R.Rack self.old self.new) }
+        ensures given { given_of self.new ≡ given_of self.old }
     {
         self.spread(alloc, hot)
     }
@@ -76,6 +78,7 @@ impl<R: Rack> Volume<AnyPhase, R> {
         ensures steps { IfOk result (λ answer.
             StepsHot any_phase any_phase R.Rack hot.now self.old Event.Diffuse (any_diffuse_reply answer) self.new) }
         ensures err { OnErr result (KeepsArray R.Rack self.old self.new) }
+        ensures given { given_of self.new ≡ given_of self.old }
     {
         match self.phase() {
             Phase::Settled => {

@@ -1,6 +1,8 @@
 // Files that have a home and no copy, and the blocks of these.
 ghost use Rattle.std.specs.Prelude.{◌≡◌, All, List, Option, IfOk, OnOk, ◌++◌, ◌∷◌, [], false, filter, if◌then◌else◌, map};
-ghost use Rattle.dg_hot.specs.Spreads.{lacks_copy, lists_in, to_copy};
+ghost use Rattle.std.specs.List.{list_any};
+ghost use Rattle.dg_hot.specs.Spreads.{lists_in, to_copy};
+ghost use Rattle.dg_model.specs.Copies.{lacks_copy};
 ghost use Rattle.dg_model.specs.Homes.{Ascend};
 ghost use Rattle.dg_model.specs.Plans.{blocks_of};
 ghost use Rattle.dg_model.specs.Sites.{has_site};
@@ -31,7 +33,7 @@ fn lacks_copy(homes: &Homes, copies: &Homes, inode: u32) -> bool
 pub fn any_lacks_copy(homes: &Homes, copies: &Homes, inodes: &[u32]) -> bool
     requires homes { Ascend homes.now }
     requires copies { Ascend copies.now }
-    ensures { result ≡ false → All (λ i. lacks_copy homes.now copies.now i ≡ false) inodes.now }
+    ensures { result ≡ list_any (lacks_copy homes.now copies.now) inodes.now }
 {
     for inode in inodes {
         if lacks_copy(homes, copies, *inode) {

@@ -102,6 +102,7 @@ impl<S: InPhase, R: Rack> Volume<S, R> {
         ensures stays { StaysUnlessFailed result (O.faults out.old) (O.faults out.new) }
         ensures steps { AnswersLs O.took O.took_part O.faults out.old out.new
             (λ reply. StepsTo S.InPhase S.InPhase R.Rack self.old (Event.Ls path.now) reply self.new) result }
+        ensures given { given_of self.new ≡ given_of self.old }
     {
         ls(&mut self.store, &mut self.levels, path, out)
     }

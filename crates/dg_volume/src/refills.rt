@@ -8,7 +8,7 @@ ghost use Rattle.dg_rebuild.specs.Answers.{HasNoFilling};
 ghost use Rattle.dg_store.specs.Stores.{IsSound, members_of, table_of};
 ghost use Rattle.dg_store.specs.Stores as stores;
 ghost use Rattle.dg_volume.specs.Refills.{AreDeadMarks, AreReapMarks, HasFilling, IsDeadMark, OpensRefill, SparesFiles, rebuild_reply, replace_reply, told_of};
-ghost use Rattle.dg_volume.specs.Volumes.{FitsArray, IsWell, Leaves, StepsSized, StepsTo};
+ghost use Rattle.dg_volume.specs.Volumes.{FitsArray, IsWell, Leaves, given_of, StepsSized, StepsTo};
 
 use crate::phases::InPhase;
 use crate::seals::open_where;
@@ -200,6 +200,7 @@ impl<S: InPhase, R: Rack> Volume<S, R> {
         requires well { IsWell S.InPhase R.Rack self.old }
         ensures leaves { Leaves S.InPhase S.InPhase R.Rack self.old self.new }
         ensures steps { StepsTo S.InPhase S.InPhase R.Rack self.old (Event.Replace boundary side) (replace_reply boundary result) self.new }
+        ensures given { given_of self.new ≡ given_of self.old }
     {
         if boundary >= self.store.shape().b as u32 || side >= 2 {
             return ReplaceAnswer::Range;
@@ -229,6 +230,7 @@ impl<S: InPhase, R: Rack> Volume<S, R> {
         ensures steps { IfOk result (λ answer.
             StepsSized S.InPhase S.InPhase R.Rack self.old (Event.Rebuild boundary limit) (rebuild_reply answer) self.new) }
         ensures spares { SparesFiles S.InPhase R.Rack self.old self.new }
+        ensures given { given_of self.new ≡ given_of self.old }
     {
         change_of_loose_blocks();
         if boundary >= self.store.shape().b as u32 {

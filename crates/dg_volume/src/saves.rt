@@ -9,7 +9,7 @@ ghost use Rattle.dg_store.specs.Stores.{IsSound, members_of as stored_members, s
 ghost use Rattle.dg_volume.specs.Copies.{StepsHot};
 ghost use Rattle.dg_volume.specs.Saves.{good_marks, save_reply, saved_by};
 ghost use Rattle.dg_volume.specs.Settles.{KeepsArray};
-ghost use Rattle.dg_volume.specs.Volumes.{IsWell, Leaves, marks_of, shape_of};
+ghost use Rattle.dg_volume.specs.Volumes.{IsWell, Leaves, given_of, marks_of, shape_of};
 
 use crate::phases::InPhase;
 use crate::volumes::Volume;
@@ -106,6 +106,7 @@ impl<S: InPhase, R: Rack> Volume<S, R> {
         ensures leaves { Leaves S.InPhase S.InPhase R.Rack self.old self.new }
         ensures steps { IfOk result (λ answer. StepsHot S.InPhase S.InPhase R.Rack hot.now self.old Event.Save (save_reply answer) self.new) }
         ensures err { OnErr result (KeepsArray R.Rack self.old self.new) }
+        ensures given { given_of self.new ≡ given_of self.old }
     {
         let body = self.body(alloc, hot)?;
         save(&mut self.store, &mut self.label, &body)

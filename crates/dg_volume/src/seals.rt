@@ -1,9 +1,11 @@
 // Opening the seal of the label, and what is written behind that.
-ghost use Rattle.std.specs.Prelude.{◌≡◌, ◌+◌, ◌*◌, ◌<◌, ℕ, All, List, Option, false, true, length, max, IfOk, OnErr};
+ghost use Rattle.std.specs.Prelude.{◌≡◌, ◌+◌, ◌*◌, ◌<◌, ℕ, All, List, Option, false, true, length, max, min, IfOk, OnErr};
+ghost use Rattle.std.specs.List.{list_any};
 ghost use Rattle.dg_hot.specs.Spreads.{HasSpread, HasSpreadSome, IsLost};
 ghost use Rattle.dg_label.specs.Labels.{IsLabeled};
+ghost use Rattle.dg_model.specs.Copies.{lacks_copy};
 ghost use Rattle.dg_model.specs.Homes.{Ascend};
-ghost use Rattle.dg_model.specs.Moves.{AreTargets};
+ghost use Rattle.dg_model.specs.Moves.{AreTargets, missing_in};
 ghost use Rattle.dg_model.specs.Placed.{IsPlaced};
 ghost use Rattle.dg_model.specs.States.{has_lost};
 ghost use Rattle.dg_model.specs.Tables.{sites_in};
@@ -12,7 +14,7 @@ ghost use Rattle.dg_move.specs.Answers.{NamesLoss};
 ghost use Rattle.dg_plan.specs.Targets.{blocks_in, wants_of};
 ghost use Rattle.dg_store.specs.Answers.{IsAllLost, IsUnchanged, SameWritten};
 ghost use Rattle.dg_store.specs.Leaves.{CallsAtMost};
-ghost use Rattle.dg_store.specs.Stores.{IsSound, members_of, shape_of, table_of};
+ghost use Rattle.dg_store.specs.Stores.{IsSound, members_of, rack_of, shape_of, table_of};
 ghost use Rattle.dg_volume.specs.Planned.{AreWanted, HasMovedArray};
 ghost use Rattle.dg_volume.specs.Seals.{EndsMoves, FallsOn, HasStoredBlock, OpensWhere, Relabels, opening_calls};
 
@@ -77,7 +79,8 @@ pub fn move_within<R: Rack>(
     ensures array { HasMovedArray R.Rack store.old store.new }
     ensures written { SameWritten (table_of store.old) (table_of store.new) }
     ensures label { Relabels R.Rack store.old store.new label.old label.new }
-    ensures moves { IfOk result (λ answer. EndsMoves (wants_of targets.now) limit (table_of store.old) (table_of store.new) answer) }
+    ensures moves { IfOk result (λ answer. EndsMoves (wants_of targets.now) limit (table_of store.old) (table_of store.new) (members_of store.new) answer) }
+    ensures still { min limit (missing_in (wants_of targets.now) (table_of store.old)) ≡ 0 → rack_of store.new ≡ rack_of store.old }
     ensures lost { IfOk result (λ answer. NamesLoss (shape_of store.new) (members_of store.new) answer) }
 {
     let copies = limit.min(missing(store, targets));
@@ -115,6 +118,7 @@ pub fn spread_recent<R: Rack>(
         → IfOk result (λ answer. (n : ℕ) → answer ≡ DiffuseAnswer.Diffused n
         → HasSpread wants homes.now hot.now (length hot.now) n copies.old copies.new store.old store.new) }
     ensures lost { IfOk result (λ answer. (s : ℕ) → answer ≡ DiffuseAnswer.Lost s → IsLost store.new s) }
+    ensures still { list_any (lacks_copy homes.now copies.old) hot.now ≡ false → rack_of store.new ≡ rack_of store.old }
     ensures cut { (wants : List (Option Want)) → AreWanted (table_of store.old) inference.now wants
         → IfOk result (λ answer. (s : ℕ) → answer ≡ DiffuseAnswer.Lost s
         → HasSpreadSome wants homes.now hot.now copies.old copies.new store.old store.new) }

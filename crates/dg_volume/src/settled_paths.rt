@@ -6,7 +6,7 @@ ghost use Rattle.dg_model.specs.declared.phases.Phase.{Phase};
 ghost use Rattle.dg_volume.specs.Fronts.{HandsLines};
 ghost use Rattle.dg_volume.specs.Replies.{AnswersTree, AnswersTreeAny, StaysUnlessFailedAny, answer_for, any_home_reply, home_reply};
 ghost use Rattle.dg_volume.specs.Settles.{KeepsArray};
-ghost use Rattle.dg_volume.specs.Volumes.{IsWell, Leaves, StepsTo, any_phase, phase_of, settled_phase};
+ghost use Rattle.dg_volume.specs.Volumes.{IsWell, Leaves, given_of, StepsTo, any_phase, phase_of, settled_phase};
 ghost use Rattle.ufs_model.specs.Inodes.{kind_of};
 ghost use Rattle.ufs_model.specs.Paths.{is_path, is_regular};
 ghost use Rattle.ufs_path.specs.Consults.{StaysUnlessFailed};
@@ -94,6 +94,7 @@ impl<S: InPhase, R: Rack> Volume<S, R> {
         ensures part { OnErr result (HandsLines O.took out.old out.new
             (λ reply. StepsTo S.InPhase S.InPhase R.Rack self.old Event.Tree reply self.new)) }
         ensures err_faults { OnErr result (O.faults out.new ≡ O.faults out.old) }
+        ensures given { given_of self.new ≡ given_of self.old }
     {
         tree(alloc, &mut self.store, &mut self.levels, out)
     }
@@ -105,6 +106,7 @@ impl<S: InPhase, R: Rack> Volume<S, R> {
         requires path { is_path path.now ≡ true }
         ensures leaves { Leaves S.InPhase S.InPhase R.Rack self.old self.new }
         ensures steps { StepsTo S.InPhase S.InPhase R.Rack self.old (Event.Home path.now) (home_reply result) self.new }
+        ensures given { given_of self.new ≡ given_of self.old }
     {
         match look(&mut self.store, &mut self.levels, path) {
             Ok(found) => {
@@ -133,6 +135,7 @@ impl<R: Rack> Volume<Settled, R> {
         ensures part { OnErr result (HandsLines O.took out.old out.new
             (λ reply. StepsTo settled_phase settled_phase R.Rack self.old Event.Tree reply self.new)) }
         ensures err_faults { OnErr result (O.faults out.new ≡ O.faults out.old) }
+        ensures given { given_of self.new ≡ given_of self.old }
     {
         self.list_all(alloc, out)
     }
@@ -143,6 +146,7 @@ impl<R: Rack> Volume<Settled, R> {
         requires path { is_path path.now ≡ true }
         ensures leaves { Leaves settled_phase settled_phase R.Rack self.old self.new }
         ensures steps { StepsTo settled_phase settled_phase R.Rack self.old (Event.Home path.now) (home_reply result) self.new }
+        ensures given { given_of self.new ≡ given_of self.old }
     {
         self.find_home(path)
     }
@@ -161,6 +165,7 @@ impl<R: Rack> Volume<AnyPhase, R> {
         ensures part { OnErr result (HandsLines O.took out.old out.new
             (λ reply. StepsTo any_phase any_phase R.Rack self.old Event.Tree reply self.new)) }
         ensures err_faults { OnErr result (O.faults out.new ≡ O.faults out.old) }
+        ensures given { given_of self.new ≡ given_of self.old }
     {
         match self.phase() {
             Phase::Settled => {
@@ -178,6 +183,7 @@ impl<R: Rack> Volume<AnyPhase, R> {
         requires path { is_path path.now ≡ true }
         ensures leaves { Leaves any_phase any_phase R.Rack self.old self.new }
         ensures steps { StepsTo any_phase any_phase R.Rack self.old (Event.Home path.now) (any_home_reply result) self.new }
+        ensures given { given_of self.new ≡ given_of self.old }
     {
         match self.phase() {
             Phase::Settled => AnyHome::Is(self.find_home(path)),

@@ -5,7 +5,7 @@ ghost use Rattle.dg_model.specs.declared.phases.Phase.{Phase};
 ghost use Rattle.dg_model.specs.declared.replies.Reply.{Reply};
 ghost use Rattle.dg_volume.specs.Planned.{IsPutInPlace};
 ghost use Rattle.dg_volume.specs.Settles.{GoesBy, KeepsArray, tend_reply, unsettled_reply};
-ghost use Rattle.dg_volume.specs.Volumes.{IsWell, Leaves, StepsTo, loose_phase, settled_phase};
+ghost use Rattle.dg_volume.specs.Volumes.{IsWell, Leaves, given_of, StepsTo, loose_phase, settled_phase};
 
 use crate::phases::{InPhase, Loose, Settled};
 use crate::plans::{PlanAnswer, checked, inodes_fit, planned};
@@ -49,6 +49,7 @@ impl<S: InPhase, R: Rack> Volume<S, R> {
         ensures steps { IfOk result (λ answer.
             StepsTo S.InPhase S.InPhase R.Rack self.old (Event.Tend limit) (tend_reply answer) self.new) }
         ensures err { OnErr result (KeepsArray R.Rack self.old self.new) }
+        ensures given { given_of self.new ≡ given_of self.old }
     {
         targets_of_plans();
         if let Some(lost) = self.store.least_lost() {
@@ -84,6 +85,7 @@ impl<S: InPhase, R: Rack> Volume<S, R> {
         ensures refused { IfOk result (λ answer. IfErr answer (λ unsettled.
             StepsTo S.InPhase S.InPhase R.Rack self.old Event.Settle (unsettled_reply unsettled) self.new)) }
         ensures err { OnErr result (KeepsArray R.Rack self.old self.new) }
+        ensures given { given_of self.new ≡ given_of self.old }
     {
         targets_of_plans();
         limit_of_all();
@@ -162,6 +164,7 @@ impl<R: Rack + Drop> Volume<Loose, R> {
         ensures steps { IfOk result (λ answer.
             StepsTo loose_phase loose_phase R.Rack self.old (Event.Tend limit) (tend_reply answer) self.new) }
         ensures err { OnErr result (KeepsArray R.Rack self.old self.new) }
+        ensures given { given_of self.new ≡ given_of self.old }
     {
         self.tend_loose(alloc, limit)
     }

@@ -4,7 +4,7 @@ ghost use Rattle.dg_model.specs.Shapes.{IsShape};
 ghost use Rattle.dg_model.specs.declared.events.Event.{Event};
 ghost use Rattle.dg_model.specs.declared.replies.Reply.{Reply};
 ghost use Rattle.dg_volume.specs.Replies.{IsReadReply, fail_reply};
-ghost use Rattle.dg_volume.specs.Volumes.{IsBlankVolume, IsWell, Leaves, StepsTo, phase_of, rack_of, shape_of};
+ghost use Rattle.dg_volume.specs.Volumes.{IsBlankVolume, IsWell, Leaves, given_of, StepsTo, phase_of, rack_of, shape_of};
 
 use crate::phases::{InPhase, Loose};
 use dg_infer::Inference;
@@ -104,6 +104,7 @@ impl<S: InPhase, R: Rack> Volume<S, R> {
         ensures range { result ≡ ReadAnswer.Range → buf.new ≡ buf.old }
         ensures steps { (reply : Reply) → IsReadReply result buf.new reply
             → StepsTo S.InPhase S.InPhase R.Rack self.old (Event.Read block) reply self.new }
+        ensures given { given_of self.new ≡ given_of self.old }
     {
         if block >= self.store.shape().n {
             return ReadAnswer::Range;
@@ -119,6 +120,7 @@ impl<S: InPhase, R: Rack> Volume<S, R> {
         requires well { IsWell S.InPhase R.Rack self.old }
         ensures leaves { Leaves S.InPhase S.InPhase R.Rack self.old self.new }
         ensures steps { StepsTo S.InPhase S.InPhase R.Rack self.old (Event.Fail boundary side) (fail_reply result) self.new }
+        ensures given { given_of self.new ≡ given_of self.old }
     {
         if boundary >= self.store.shape().b as u32 || side >= 2 {
             return FailAnswer::Range;

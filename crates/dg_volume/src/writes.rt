@@ -8,7 +8,7 @@ ghost use Rattle.dg_store.specs.Stores.{IsSound, KeepsBlocks, members_of};
 ghost use Rattle.dg_store.specs.Stores as stores;
 ghost use Rattle.dg_store.specs.Views.{ReadsOn};
 ghost use Rattle.dg_volume.specs.Phases.{kept_in, phase_in};
-ghost use Rattle.dg_volume.specs.Volumes.{FitsArray, IsWell, Leaves, any_phase, shape_of};
+ghost use Rattle.dg_volume.specs.Volumes.{FitsArray, IsWell, Leaves, given_of, any_phase, shape_of};
 ghost use Rattle.dg_volume.specs.Writes.{AnswersWrite, IsFollowed, RereadsFew, WritesTo, write_reply};
 
 use crate::phases::{AnyPhase, InPhase, Loose, Worn};
@@ -197,6 +197,7 @@ impl<R: Rack> Volume<AnyPhase, R> {
         requires size { length buf.now ≡ (shape_of self.old).l }
         ensures leaves { Leaves any_phase any_phase R.Rack self.old self.new }
         ensures steps { IfOk result (λ answer. WritesTo any_phase any_phase R.Rack self.old block buf.now (write_reply answer) self.new) }
+        ensures given { given_of self.new ≡ given_of self.old }
     {
         if block >= self.store.shape().n {
             return Ok(WriteAnswer::Range);

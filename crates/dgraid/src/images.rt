@@ -1,16 +1,17 @@
 // Image files as a rack. It tells no bytes.
-ghost use Rattle.std.specs.Prelude.{◌≡◌, ◌≢◌, ◌≤◌, ℕ, None, slice_index, IsErr, IsOk};
+ghost use Rattle.std.specs.Prelude.{◌≡◌, ◌≢◌, ◌≤◌, ◌∷◌, [], ℕ, None, slice_index, IsErr, IsOk};
+ghost use Rattle.std.proofs.lemmas.Bool.{false≢true};
+ghost use Rattle.dg_io.specs.RackCalls.{RackCall};
 ghost use Rattle.dg_model.specs.Causes.{Rose, RoseByOne};
+ghost use Rattle.dgraid.specs.Images.{bytes_in, counts_in, disks_in, keeps_in, made_in, made_more, made_no_call, name_in, stands_in, steady_in, tells_in};
 
+use crate::files::Purpose;
+use crate::members::Members;
+use crate::names::{name_of, path_of};
 use crate::reports::report;
+use crate::searches::Search;
 use dg_io::{Failed, NoMemory, Rack};
-use std::fs::{File, OpenOptions};
-use std::io::{self, ErrorKind};
-use std::os::unix::fs::FileExt;
-use std::str;
-
-/// Members of the largest array.
-const MEMBERS: usize = 32;
+use std::io;
 
 /// Numbers that a member can have.
 const NUMBERS: usize = 256;
@@ -48,90 +49,33 @@ impl Call {
     }
 }
 
-/// The members as image files in the current folder, and how often calls on each have failed. A file stays open from
-/// the blank that makes it, or the attach that finds it. Of each member the first failure of each call is told on
-/// standard error; `told` has a bit for each call of which that was done.
+/// The members as image files in the current folder, and how often calls on each have failed. Of each member the first failure of each call
+/// is told on standard error, anew once its image was made anew; `told` has a bit for each call of which that was done.
 #[derive(Drop)]
-pub struct ImageRack {
+pub struct ImageRack<'a> {
     rt: HostRuntime,
-    images: Vec<Option<File>>,
+    members: Members<'a>,
     calls: u64,
     writes: u64,
     faults: [u64; NUMBERS],
     told: [u8; NUMBERS],
 }
 
-/// The name of a member's file, `member-SS-J.img`: the boundary in two digits, and the side.
-fn name_of(member: u8) -> [u8; 15] {
-    let mut name = *b"member-00-0.img";
-    let boundary = member / 2;
-    name[7] = b'0' + boundary / 10 % 10;
-    name[8] = b'0' + boundary % 10;
-    name[10] = b'0' + member % 2;
-    name
-}
-
-/// The name as a path.
-fn path_of(name: &[u8; 15]) -> io::Result<&str> {
-    match str::from_utf8(name) {
-        Ok(path) => Ok(path),
-        Err(_) => Err(io::Error::from(ErrorKind::InvalidFilename)),
-    }
-}
-
-/// Makes a member's file anew, of so many zero bytes.
-fn create(rt: HostRuntime, member: u8, length: u64) -> io::Result<File> {
-    let name = name_of(member);
-    let path = path_of(&name)?;
-    let file = OpenOptions::new()
-        .read(true)
-        .write(true)
-        .create(true)
-        .truncate(true)
-        .open(&rt, path)?;
-    file.set_len(length)?;
-    Ok(file)
-}
-
-/// A member's file, where there is one, and its length.
-fn find(rt: HostRuntime, member: u8) -> io::Result<Option<(File, u64)>> {
-    let name = name_of(member);
-    let path = path_of(&name)?;
-    match OpenOptions::new().read(true).write(true).open(&rt, path) {
-        Ok(file) => {
-            let length = file.metadata()?.len();
-            Ok(Some((file, length)))
-        }
-        Err(error) if error.kind() == ErrorKind::NotFound => Ok(None),
-        Err(error) => Err(error),
-    }
-}
-
-impl ImageRack {
-    /// No file is open yet. The table of the files is taken here.
-    pub fn new(rt: HostRuntime) -> Result<ImageRack, NoMemory> {
-        let mut images = Vec::new(rt.alloc());
-        for _ in 0..MEMBERS {
-            if images.push(None).is_err() {
-                return Err(NoMemory);
-            }
-        }
+impl<'a> ImageRack<'a> {
+    /// No file is open yet.
+    pub fn new(
+        rt: HostRuntime,
+        purpose: Purpose,
+        search: &'a Search,
+    ) -> Result<ImageRack<'a>, NoMemory> {
         Ok(ImageRack {
             rt,
-            images,
+            members: Members::new(rt, purpose, search)?,
             calls: 0,
             writes: 0,
             faults: [0; NUMBERS],
             told: [0; NUMBERS],
         })
-    }
-
-    // The open file of a member.
-    fn image(&self, member: u8) -> io::Result<&File> {
-        match self.images.get(member as usize) {
-            Some(Some(file)) => Ok(file),
-            _ => Err(io::Error::new(ErrorKind::NotFound, "not open")),
-        }
     }
 
     // Tells that the call failed, where that wasn't told of this member and call before.
@@ -180,50 +124,39 @@ impl ImageRack {
     }
 }
 
-impl Rack for ImageRack {
-    ghost name = { λ _. 0 };
+impl<'a> Rack for ImageRack<'a> {
+    ghost name = { name_in };
 
-    ghost bytes = { λ _ _. None };
+    ghost bytes = { bytes_in };
 
-    ghost counts = { λ r. record { faults = λ q. slice_index r.faults q; calls = r.calls; writes = r.writes } };
+    ghost counts = { counts_in };
 
-    ghost stands = { λ _ _. Unit {0} };
+    ghost stands = { stands_in };
 
-    ghost steady = { λ _. ⊥ };
+    ghost steady = { steady_in };
+
+    ghost tells = { tells_in };
+
+    ghost keeps = { keeps_in };
+
+    ghost disks = { disks_in };
+
+    ghost made = { made_in };
 
     fn blank(&mut self, member: u8, length: u64) -> Result<(), Failed> {
         self.calls = self.calls.saturating_add(1);
         self.writes = self.writes.saturating_add(1);
-        let Some(place) = self.images.get_mut(member as usize) else {
-            return self.fault(
-                member,
-                Call::Blank,
-                &io::Error::new(ErrorKind::InvalidInput, "no such member"),
-            );
-        };
-        match create(self.rt, member, length) {
-            Ok(file) => {
-                *place = Some(file);
-                Ok(())
-            }
-            Err(error) => self.fault(member, Call::Blank, &error),
+        let given = self.members.blank(member, length);
+        if given.is_ok() {
+            self.told[member as usize] = 0;
         }
+        self.answer(member, Call::Blank, given)
     }
 
     fn attach(&mut self, member: u8) -> Result<Option<u64>, Failed> {
         self.calls = self.calls.saturating_add(1);
-        let Some(place) = self.images.get_mut(member as usize) else {
-            return Ok(None);
-        };
-        match find(self.rt, member) {
-            Ok(Some((file, length))) => {
-                *place = Some(file);
-                Ok(Some(length))
-            }
-            Ok(None) => {
-                *place = None;
-                Ok(None)
-            }
+        match self.members.attach(member) {
+            Ok(found) => Ok(found),
             Err(error) => {
                 self.fault(member, Call::Attach, &error)?;
                 Ok(None)
@@ -233,30 +166,31 @@ impl Rack for ImageRack {
 
     fn read(&mut self, member: u8, place: u64, buf: &mut [u8]) -> Result<(), Failed> {
         self.calls = self.calls.saturating_add(1);
-        let given = match self.image(member) {
-            Ok(file) => file.read_exact_at(buf, place),
-            Err(error) => Err(error),
-        };
+        let given = self.members.read(member, place, buf);
         self.answer(member, Call::Read, given)
     }
 
     fn write(&mut self, member: u8, place: u64, buf: &[u8]) -> Result<(), Failed> {
         self.calls = self.calls.saturating_add(1);
         self.writes = self.writes.saturating_add(1);
-        let given = match self.image(member) {
-            Ok(file) => file.write_all_at(buf, place),
-            Err(error) => Err(error),
-        };
+        let given = self.members.write(member, place, buf);
         self.answer(member, Call::Write, given)
     }
 
     fn extend(&mut self, member: u8, length: u64) -> Result<(), Failed> {
         self.calls = self.calls.saturating_add(1);
         self.writes = self.writes.saturating_add(1);
-        let given = match self.image(member) {
-            Ok(file) => file.set_len(length),
-            Err(error) => Err(error),
-        };
+        let given = self.members.extend(member, length);
         self.answer(member, Call::Extend, given)
     }
+
+    ghost made_none = { λ s. made_no_call s };
+
+    ghost made_both = { λ a b c x y first second. made_more a b c x y first second };
+
+    ghost after = { λ a b calls made. made };
+
+    ghost tells_told = { λ s q h. false≢true h };
+
+    ghost told = { λ s q h stand. absurd h };
 }

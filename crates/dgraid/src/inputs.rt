@@ -1,10 +1,12 @@
 // Standard input as a source. It tells no bytes.
 ghost use Rattle.std.specs.Prelude.{None, ◌≤◌};
+ghost use Rattle.std.specs.Io.{ReadsAtMost};
 ghost use Rattle.dg_model.specs.Causes.{Rose};
 
 use crate::reports::report;
+use crate::system::pause;
 use dg_io::{Failed, Source};
-use std::io::{self, Read, Stdin};
+use std::io::{self, ErrorKind, Read, Stdin};
 
 /// Standard input, and how often a read of it has failed. The first failure is told on standard error.
 #[derive(Drop)]
@@ -12,6 +14,21 @@ pub struct StandardInput {
     rt: HostRuntime,
     stdin: Stdin,
     faults: u64,
+}
+
+/// Reads some bytes. A call that was interrupted is made again, and where there are none yet they are waited for.
+fn read_some(rt: HostRuntime, stdin: &mut Stdin, buf: &mut [u8]) -> io::Result<usize>
+    ensures { ReadsAtMost result buf.new }
+{
+    for _ in 0..u64::MAX {
+        let given = stdin.read(buf);
+        match given {
+            Err(error) if error.kind() == ErrorKind::Interrupted => {}
+            Err(error) if error.kind() == ErrorKind::WouldBlock => pause(rt),
+            given => return given,
+        }
+    }
+    Err(io::Error::from(ErrorKind::Interrupted))
 }
 
 impl StandardInput {
@@ -40,9 +57,8 @@ impl Source for StandardInput {
 
     ghost faults = { λ s. s.faults };
 
-    // One call of the system for each buffer.
     fn read(&mut self, buf: &mut [u8]) -> Result<usize, Failed> {
-        match self.stdin.read(buf) {
+        match read_some(self.rt, &mut self.stdin, buf) {
             Ok(n) => Ok(n),
             Err(error) => {
                 self.fault(&error);

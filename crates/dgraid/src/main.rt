@@ -3,17 +3,25 @@
 //! standard error what the system said.
 #![tactic(auto)]
 
+mod aside;
+mod files;
 mod images;
 mod inputs;
+mod members;
+mod names;
 mod outputs;
 mod reports;
+mod searches;
+mod system;
 #[cfg(test)]
 mod tests;
 
 use dg_run::{Status, run};
+use files::Purpose;
 use images::ImageRack;
 use inputs::StandardInput;
 use outputs::StandardOutput;
+use searches::Search;
 use std::env;
 use std::fs::File;
 use std::io::{self, ErrorKind};
@@ -36,6 +44,14 @@ fn words_or_none(rt: HostRuntime) -> io::Result<Vec<String>> {
     }
 }
 
+/// What a command does with the images.
+fn purpose_of(words: &[String]) -> Purpose {
+    match words.first().map(|word| word.as_str()) {
+        Some("cat" | "ls" | "status") => Purpose::Read,
+        _ => Purpose::Write,
+    }
+}
+
 /// Opens a folder three times. A standard stream that is closed has one of these numbers then, and fails where it is used; else an image
 /// file would get the number, and the stream's bytes.
 fn hold_streams(rt: HostRuntime) -> [Option<File>; 3] {
@@ -52,11 +68,12 @@ fn serve(rt: HostRuntime) -> Status {
     let Ok(words) = words_or_none(rt) else {
         return Status::NoMemory;
     };
-    let Ok(mut rack) = ImageRack::new(rt) else {
+    let search = Search::new();
+    let Ok(mut rack) = ImageRack::new(rt, purpose_of(&words), &search) else {
         return Status::NoMemory;
     };
     let mut source = StandardInput::new(rt);
-    let mut sink = StandardOutput::new(rt);
+    let mut sink = StandardOutput::new(rt, &search);
     run(rt.alloc(), &words, &mut source, &mut sink, &mut rack)
 }
 

@@ -1,13 +1,16 @@
+use crate::files::Purpose;
 use crate::images::ImageRack;
 use crate::inputs::StandardInput;
 use crate::outputs::StandardOutput;
+use crate::searches::Search;
 use dg_io::{Failed, Rack, Sink, Source};
 use std::fs;
 use std::test::Fail;
 
 #[test]
 fn image_files_keep_bytes(rt: HostRuntime) -> Result<(), Fail> {
-    let mut rack = ImageRack::new(rt)?;
+    let search = Search::new();
+    let mut rack = ImageRack::new(rt, Purpose::Write, &search)?;
     let mut bytes = [b'-'; 4];
     assert_eq!(rt; rack.read(31, 0, &mut bytes), Err(Failed), "not blanked");
     rack.blank(31, 8)?;
@@ -18,14 +21,24 @@ fn image_files_keep_bytes(rt: HostRuntime) -> Result<(), Fail> {
     assert_eq!(rt; rack.blank(32, 8), Err(Failed), "no such member");
     rack.extend(31, 9)?;
     let all = fs::read(&rt, "member-15-1.img")?;
-    let mut other = ImageRack::new(rt)?;
+    let mut other = ImageRack::new(rt, Purpose::Write, &search)?;
+    assert_eq!(rt; other.attach(31), Err(Failed), "in use");
+    rack.close();
     assert_eq!(rt; other.attach(31), Ok(Some(9)));
     other.read(31, 2, &mut bytes)?;
     assert_eq!(rt; bytes, *b"\0hi\0");
-    fs::remove_file(&rt, "member-15-1.img")?;
+    other.blank(31, 4)?;
+    other.close();
+    let mut last = ImageRack::new(rt, Purpose::Write, &search)?;
+    last.blank(30, 4)?;
+    assert_eq!(rt; last.attach(31), Ok(None), "set aside");
+    last.close();
+    let aside = fs::read(&rt, "member-15-1.img.old")?;
+    fs::remove_file(&rt, "member-15-1.img.old")?;
+    fs::remove_file(&rt, "member-15-0.img")?;
     assert_eq!(rt; all.as_slice(), b"\0\0\0hi\0\0\0\0".as_slice());
-    assert_eq!(rt; other.attach(31), Ok(None));
-    assert_eq!(rt; other.attach(32), Ok(None));
+    assert_eq!(rt; aside.as_slice(), b"\0\0\0\0".as_slice());
+    assert_eq!(rt; last.attach(32), Ok(None));
     Ok(())
 }
 
@@ -33,7 +46,8 @@ fn image_files_keep_bytes(rt: HostRuntime) -> Result<(), Fail> {
 #[test]
 fn standard_streams_are_called(rt: HostRuntime) -> Result<(), Fail> {
     assert_eq!(rt; StandardInput::new(rt).read(&mut []), Ok(0));
-    let mut sink = StandardOutput::new(rt);
+    let search = Search::new();
+    let mut sink = StandardOutput::new(rt, &search);
     assert_eq!(rt; sink.write(b""), Ok(0));
     assert_eq!(rt; sink.write(b"ok\n"), Ok(3));
     Ok(())

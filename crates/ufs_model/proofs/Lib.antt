@@ -4,3 +4,4 @@ pub mod ReadingLaws
 pub mod AreaLaws
 mod Rows
 mod PathLaws
+pub mod AuditLaws

@@ -66,6 +66,11 @@ unfoldable pub is_marked_free : Geometry → ℕ → Reading Bool
 is_marked_free g f =
     group_bytes g (f / g.fpg) >>= λ bytes. known (by_maps (group_in g (f / g.fpg) bytes) (λ group. is_free bytes group (f % g.fpg)))
 
+-- a fragment of the volume is marked used: a group that is refused marks nothing
+unfoldable pub is_marked_used : Geometry → ℕ → Reading Bool
+is_marked_used g f =
+    group_bytes g (f / g.fpg) >>= λ bytes. known (by_maps (group_in g (f / g.fpg) bytes) (λ group. not (is_free bytes group (f % g.fpg))))
+
 -- an inode of the volume is marked unused
 unfoldable pub is_marked_unused : Geometry → ℕ → Reading Bool
 is_marked_unused g i =

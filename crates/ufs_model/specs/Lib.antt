@@ -16,3 +16,4 @@ pub mod Owners
 pub mod Malformations
 pub mod Trees
 pub mod Metadata
+pub mod Audits

@@ -24,7 +24,7 @@ pub use crate::claims::ClaimSource;
 pub use crate::geometries::{BadSuper, Geometry};
 pub use crate::group_maps::{BadGroup, Group};
 pub use crate::inodes::{INODE_BYTES, Inode, Kind, ROOT_INODE};
-pub use crate::laws::{accepted_superblocks, own_blocks_of_groups};
+pub use crate::laws::{accepted_superblocks, first_malformations, own_blocks_of_groups};
 pub use crate::malformations::BadKind;
 pub use crate::numbers::{Endian, u16_at, u32_at, u64_at};
 pub use crate::paths::{is_name, is_path, next_name, path_names};

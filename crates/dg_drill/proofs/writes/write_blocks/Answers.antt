@@ -32,3 +32,7 @@ pub returns-clause-runs : goal.returns-clause-runs
 returns-clause-runs g c = λ state stands none.
     writes_all g.R.Rack c.loop-b.volume state c.args.g.now.fsize c.args.image.now c.args.blocks.now c.loop-b.b-index c.loop-b.more
     (omega (arith, c.loop-b-test.false)) (c.loop-b.invariant.runs state stands none)
+
+pub returns-in_err-more-clause-leaves : goal.returns-in_err-more-clause-leaves
+returns-in_err-more-clause-leaves g c =
+    leaves_both g.R.Rack c.args.volume.now c.loop-b.volume c.write_block.new.volume c.loop-b.invariant.leaves c.write_block.ensures.leaves

@@ -1,13 +1,15 @@
 use Rattle.std.proofs.Common.{arith}
+use Rattle.dg_store.specs.ReadLaws.{tells_good}
 use Rattle.dg_store.specs.Stores.{members_of, shape_of, table_of}
-use Rattle.dg_hot.proofs.StoreLaws.{good_tells, not_placed, placed_is}
+use Rattle.dg_hot.proofs.CallLaws.{one_copy}
+use Rattle.dg_hot.proofs.StoreLaws.{not_placed, placed_is}
 use Rattle.dg_hot.proofs.copies.copy_block.Goals as goal
 
 pub returns-in-Placed-clause-moved : goal.returns-in-Placed-clause-moved
 returns-in-Placed-clause-moved g c = record {
   leaves = c.place.ensures.leaves;
   written = c.place.ensures.written;
-  stands = λ told. c.in-Ok.ensures.stands c.in-Placed.is (good_tells g.R.Rack _ c.place.ensures.leaves.sound told);
+  stands = λ told. c.in-Ok.ensures.stands c.in-Placed.is (tells_good g.R.Rack _ c.place.ensures.leaves.sound told);
 }
 
 pub returns-in-Placed-clause-copied : goal.returns-in-Placed-clause-copied
@@ -25,4 +27,21 @@ returns-in_default g c =
           c.in_default.not-Placed did.full.0 did.gone did.lost did.other;
       same = λ e. did.refused c.in_default.not-Placed;
       err = tt;
+      most = omega (arith, did.most, one_copy (table_of c.args.store.now) c.args.block c.args.boundary c.requires.sound.table c.requires.boundary c.requires.none);
     }
+
+pub returns-in-Placed-clause-most : goal.returns-in-Placed-clause-most
+returns-in-Placed-clause-most g c =
+    omega (
+      arith,
+      c.place.ensures.most,
+      one_copy (table_of c.args.store.now) c.args.block c.args.boundary c.requires.sound.table c.requires.boundary c.requires.none,
+    )
+
+pub returns-in-Err-clause-most : goal.returns-in-Err-clause-most
+returns-in-Err-clause-most g c =
+    omega (
+      arith,
+      c.place.ensures.most,
+      one_copy (table_of c.args.store.now) c.args.block c.args.boundary c.requires.sound.table c.requires.boundary c.requires.none,
+    )

@@ -1,7 +1,7 @@
-use Rattle.std.proofs.Common.{◌<◌, ◌∙◌, length, get_or, sym, ap, subst}
+use Rattle.std.proofs.Common.{◌<◌, ◌∙◌, length, get_or, refl, sym, ap, subst}
 use Rattle.dg_model.specs.Tables.{Table, count_on, sites_in, without_site}
 use Rattle.dg_store.specs.Stores.{table_of}
-use Rattle.dg_hot.proofs.StoreLaws.{give_done, give_one, give_other, give_within, moved_both}
+use Rattle.dg_hot.proofs.StoreLaws.{give_done, give_one, give_other, give_within, moved_both, moved_none}
 use Rattle.dg_hot.proofs.copies.give_up.Goals as goal
 
 pub unplace-requires-clause-range : goal.unplace-requires-clause-range
@@ -25,8 +25,12 @@ loop-place-preserved g c =
     let old = c.loop-place.invariant in
     record {
       moved = moved_both g.R.Rack _ _ _ old.moved (record { leaves = did.leaves; written = did.written; stands = λ told. did.stands });
+      rack = did.rack ∙ old.rack;
       members = λ q. did.members q ∙ old.members q;
       table = give_done (table_of c.args.store.now) c.args.boundary c.args.blocks.now c.loop-place.place c.requires.apart c.requires.can c.loop-place-test.true
           (table_of c.unplace.new.self)
           (did.table ∙ ap (λ (t : Table). without_site t (get_or c.args.blocks.now c.loop-place.place 0) c.args.boundary) old.table);
     }
+
+pub loop-place-init : goal.loop-place-init
+loop-place-init g c = record { moved = moved_none g.R.Rack c.args.store.now c.requires.sound; rack = refl; members = λ q. refl; table = refl }

@@ -1,4 +1,4 @@
-use Rattle.std.proofs.Common.{◌≡◌, ◌∙◌, refl, sym, ap, subst, arith}
+use Rattle.std.proofs.Common.{◌≡◌, ◌∙◌, length, refl, sym, ap, subst, arith}
 use Rattle.std.specs.Prelude.{Some}
 use Rattle.dg_model.specs.Copies.{fitted}
 use Rattle.dg_model.specs.Moves.{all_done}
@@ -6,7 +6,8 @@ use Rattle.dg_model.specs.Tables.{Table}
 use Rattle.dg_model.specs.declared.shapes.Shape.{Shape}
 use Rattle.dg_store.specs.Stores.{table_of}
 use Rattle.dg_hot.specs.Copied.{CanGiveUp, give_ups_on}
-use Rattle.dg_hot.specs.Spreads.{spread_of}
+use Rattle.dg_hot.specs.Spreads.{copy_calls, spread_of}
+use Rattle.dg_hot.proofs.CallLaws.{calls_none, calls_same}
 use Rattle.dg_hot.proofs.CopyLaws.{given_back}
 use Rattle.dg_hot.proofs.FileLaws.{kept_one, map_err, not_kept, same_spread, spreads_cut, spreads_not}
 use Rattle.dg_hot.proofs.SpreadLaws.{not_fitted}
@@ -60,3 +61,12 @@ returns-in-Ok-false-clause-spread g c =
 
 pub returns-in-Err-clause-err : goal.returns-in-Err-clause-err
 returns-in-Err-clause-err g c = same_spread c.args.copies.now c.args.copies.now c.args.store.now c.copy_all.new.store refl c.in-Err.ensures.err
+
+pub returns-then-wanted-most-clause-most : goal.returns-then-wanted-most-clause-most
+returns-then-wanted-most-clause-most g c =
+    calls_none g.R.Rack c.args.store.now c.args.store.now (copy_calls (table_of c.args.store.now) (length c.args.blocks.now)) refl
+
+pub returns-in-Ok-true-clause-most : goal.returns-in-Ok-true-clause-most
+returns-in-Ok-true-clause-most g c =
+    calls_same g.R.Rack c.args.store.now c.copy_all.new.store c.keep_copy.new.store (copy_calls (table_of c.args.store.now) (length c.args.blocks.now))
+    c.copy_all.ensures.most c.keep_copy.ensures.rack

@@ -1,12 +1,16 @@
-use Rattle.std.proofs.Common.{◌∙◌, ◌+◌, ◌<◌, ℕ, List, length, refl, sym, ap, subst, arith}
+use Rattle.std.proofs.Common.{◌∙◌, ◌+◌, ◌<◌, ℕ, List, length, refl, sym, ap, subst, take, arith}
+use Rattle.std.specs.Global.{Vec}
 use Rattle.std.specs.Prelude.{map}
 use Rattle.std.proofs.lemmas.List.{get_or_read}
+use Rattle.std.proofs.lemmas.List.Sums.{sum_by-take-le}
 use Rattle.dg_model.specs.Homes.{home_of}
 use Rattle.dg_store.specs.Stores.{table_of}
 use Rattle.dg_hot.specs.Copied.{AreApart, CanCopy}
-use Rattle.dg_hot.specs.Spreads.{HasSpreadSome, spread_of, to_copy}
+use Rattle.dg_hot.specs.Spreads.{HasSpreadSome, copy_calls, count_in, spread_of, to_copy}
+use Rattle.dg_hot.proofs.CallLaws.{as_many, calls_next, calls_none, calls_within}
 use Rattle.dg_hot.proofs.FileLaws.{IsSettled, by_blocks, copied_apart, copied_can, has_none, list_here, none_before, on_err, settled_has, settled_some, spread_on, spread_same, spread_some, spreads_as}
 use Rattle.dg_hot.proofs.PlacedLaws.{can_copy}
+use Rattle.dg_hot.proofs.StillLaws.{same_rack, still_on}
 use Rattle.dg_hot.proofs.StoreLaws.{moved_both, moved_none}
 use Rattle.dg_hot.proofs.spreads.diffuse.Goals as goal
 
@@ -20,6 +24,8 @@ loop-place-init g c = record {
   whole = c.requires.whole;
   spread = λ wants by. has_none wants c.args.homes.now c.in_ok-files.files.items c.args.copies.now c.args.store.now;
   few = omega arith;
+  most = calls_none g.R.Rack c.args.store.now c.args.store.now (copy_calls (table_of c.args.store.now) (count_in (take 0 c.args.blocks.now))) refl;
+  still = λ none. (refl, refl);
 }
 
 -- ---- one file
@@ -91,7 +97,72 @@ loop-place-preserved g c =
           c.loop-place.gained c.in_ok-more.more c.index.result.now c.args.copies.now c.loop-place.copies c.spread_file.new.copies
           c.args.store.now c.loop-place.store c.spread_file.new.store low at refl (old.spread wants by) tried c.in_default.ensures;
       few = omega (arith, old.few, did.few);
+      most =
+          let (wants, by) = c.requires.listed in
+          let many = as_many (to_copy wants c.args.homes.now c.args.copies.now) c.args.hot.now c.args.blocks.now by.listed in
+          let files = ap length c.in_ok-files.ensures.inodes in
+          let long : c.loop-place.place < length c.args.blocks.now = omega (arith, many, files, c.loop-place-test.true) in
+          calls_next g.R.Rack c.args.blocks.now c.loop-place.place c.index-blocks-place.result c.deref.result.now c.args.store.now c.loop-place.store c.spread_file.new.store
+          long c.index-blocks-place.is c.deref.ensures.value c.loop-place.invariant.moved.leaves.keeps.shape c.loop-place.invariant.most did.most;
+      still = still_on c.args.homes.now c.args.copies.now c.loop-place.copies c.spread_file.new.copies c.args.hot.now c.in_ok-files.files.items c.loop-place.place
+          c.index.result.now c.args.store.now c.loop-place.store c.spread_file.new.store c.in_ok-files.ensures.inodes low at old.still did.still;
     }
+
+-- ---- calls
+
+pub returns-in_err-files-clause-most : goal.returns-in_err-files-clause-most
+returns-in_err-files-clause-most g c =
+    calls_none g.R.Rack c.args.store.now c.args.store.now (copy_calls (table_of c.args.store.now) (count_in c.args.blocks.now)) refl
+
+pub returns-in_err-more-clause-most : goal.returns-in_err-more-clause-most
+returns-in_err-more-clause-most g c =
+    let (wants, by) = c.requires.listed in
+    let many = as_many (to_copy wants c.args.homes.now c.args.copies.now) c.args.hot.now c.args.blocks.now by.listed in
+    let files = ap length c.in_ok-files.ensures.inodes in
+    let long : c.loop-place.place < length c.args.blocks.now = omega (arith, many, files, c.loop-place-test.true) in
+    calls_within g.R.Rack c.args.store.now c.spread_file.new.store (count_in (take (c.loop-place.place + 1) c.args.blocks.now)) (count_in c.args.blocks.now)
+    (sum_by-take-le (λ (list : Vec ℕ). length list.items) c.args.blocks.now (c.loop-place.place + 1))
+    (calls_next g.R.Rack c.args.blocks.now c.loop-place.place c.index-blocks-place.result c.deref.result.now c.args.store.now c.loop-place.store c.spread_file.new.store
+    long c.index-blocks-place.is c.deref.ensures.value c.loop-place.invariant.moved.leaves.keeps.shape c.loop-place.invariant.most c.in_err-more.ensures.most)
+
+pub returns-in-Some-clause-most : goal.returns-in-Some-clause-most
+returns-in-Some-clause-most g c =
+    let (wants, by) = c.requires.listed in
+    let many = as_many (to_copy wants c.args.homes.now c.args.copies.now) c.args.hot.now c.args.blocks.now by.listed in
+    let files = ap length c.in_ok-files.ensures.inodes in
+    let long : c.loop-place.place < length c.args.blocks.now = omega (arith, many, files, c.loop-place-test.true) in
+    calls_within g.R.Rack c.args.store.now c.spread_file.new.store (count_in (take (c.loop-place.place + 1) c.args.blocks.now)) (count_in c.args.blocks.now)
+    (sum_by-take-le (λ (list : Vec ℕ). length list.items) c.args.blocks.now (c.loop-place.place + 1))
+    (calls_next g.R.Rack c.args.blocks.now c.loop-place.place c.index-blocks-place.result c.deref.result.now c.args.store.now c.loop-place.store c.spread_file.new.store
+    long c.index-blocks-place.is c.deref.ensures.value c.loop-place.invariant.moved.leaves.keeps.shape c.loop-place.invariant.most c.in_ok-more.ensures.most)
+
+pub returns-clause-most : goal.returns-clause-most
+returns-clause-most g c =
+    calls_within g.R.Rack c.args.store.now c.loop-place.store (count_in (take c.loop-place.place c.args.blocks.now)) (count_in c.args.blocks.now)
+    (sum_by-take-le (λ (list : Vec ℕ). length list.items) c.args.blocks.now c.loop-place.place) c.loop-place.invariant.most
+
+-- ---- no file lacks a copy
+
+pub returns-in_err-more-clause-still : goal.returns-in_err-more-clause-still
+returns-in_err-more-clause-still g c none =
+    let low : c.loop-place.place < length c.in_ok-files.files.items = omega arith in
+    let at = sym (get_or_read c.in_ok-files.files.items _ _ low c.index.ensures 0) in
+    same_rack c.args.store.now c.spread_file.new.store
+    (still_on c.args.homes.now c.args.copies.now c.loop-place.copies c.spread_file.new.copies c.args.hot.now c.in_ok-files.files.items c.loop-place.place
+    c.index.result.now c.args.store.now c.loop-place.store c.spread_file.new.store c.in_ok-files.ensures.inodes low at c.loop-place.invariant.still
+    c.in_err-more.ensures.still none).0
+
+pub returns-in-Some-clause-still : goal.returns-in-Some-clause-still
+returns-in-Some-clause-still g c none =
+    let low : c.loop-place.place < length c.in_ok-files.files.items = omega arith in
+    let at = sym (get_or_read c.in_ok-files.files.items _ _ low c.index.ensures 0) in
+    same_rack c.args.store.now c.spread_file.new.store
+    (still_on c.args.homes.now c.args.copies.now c.loop-place.copies c.spread_file.new.copies c.args.hot.now c.in_ok-files.files.items c.loop-place.place
+    c.index.result.now c.args.store.now c.loop-place.store c.spread_file.new.store c.in_ok-files.ensures.inodes low at c.loop-place.invariant.still
+    c.in_ok-more.ensures.still none).0
+
+pub returns-clause-still : goal.returns-clause-still
+returns-clause-still g c none = same_rack c.args.store.now c.loop-place.store (c.loop-place.invariant.still none).0
 
 -- ---- no memory
 
@@ -181,3 +252,6 @@ returns-clause-placed g c wants by =
     let start : IsSettled wants c.args.homes.now (spread_of c.args.store.now c.args.copies.now) = record { placed = by.placed; fit = by.fit; sized = c.requires.sound.table.size } in
     (settled_has wants c.args.homes.now c.in_ok-files.files.items c.loop-place.place c.loop-place.gained c.args.copies.now c.loop-place.copies
     c.args.store.now c.loop-place.store start (c.loop-place.invariant.spread wants by)).placed
+
+pub returns-in_err-files-clause-moved : goal.returns-in_err-files-clause-moved
+returns-in_err-files-clause-moved g c = moved_none g.R.Rack c.args.store.now c.requires.sound

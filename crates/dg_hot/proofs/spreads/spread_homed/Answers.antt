@@ -1,6 +1,9 @@
-use Rattle.std.proofs.Common.{◌∙◌, ℕ, sym, ap}
-use Rattle.std.specs.Prelude.{Option, Some}
-use Rattle.dg_hot.specs.Spreads.{spread_of, spread_with}
+use Rattle.std.proofs.Common.{◌∙◌, ℕ, length, refl, sym, ap}
+use Rattle.std.specs.Prelude.{Option, Some, is_some}
+use Rattle.std.proofs.lemmas.Bool.{false≢true}
+use Rattle.dg_store.specs.Stores.{table_of}
+use Rattle.dg_hot.specs.Spreads.{copy_calls, spread_of, spread_with}
+use Rattle.dg_hot.proofs.CallLaws.{calls_none}
 use Rattle.dg_hot.proofs.FileLaws.{map_ok, spreads_as, spreads_not}
 use Rattle.dg_hot.proofs.StoreLaws.{moved_none}
 use Rattle.dg_hot.proofs.spreads.spread_homed.Goals as goal
@@ -24,3 +27,10 @@ returns-in-None-clause-spread g c =
     (ap (λ (o : Option ℕ). spread_with c.args.blocks.now c.args.home.inode (Some c.args.home.boundary) o (spread_of c.args.store.now c.args.copies.now))
     (sym c.in-None.is ∙ c.home_of.ensures)) is)
     c.copy_file.ensures.spread
+
+pub returns-in-None-clause-still : goal.returns-in-None-clause-still
+returns-in-None-clause-still g c has = absurd (false≢true (sym (ap is_some (sym c.home_of.ensures ∙ c.in-None.is)) ∙ has))
+
+pub returns-in-Some-clause-most : goal.returns-in-Some-clause-most
+returns-in-Some-clause-most g c =
+    calls_none g.R.Rack c.args.store.now c.args.store.now (copy_calls (table_of c.args.store.now) (length c.args.blocks.now)) refl

@@ -8,5 +8,5 @@ returns g c =
     let at : 2 * (c.args.member / 2) + c.args.member % 2 ≡ c.args.member = omega arith in
     let e = rw at at c.extend.ensures in
     touched_by_extend g.R.Rack c.args.member (Extended c.args.size) c.args.store.now c.extend.new.self
-    (record { sound = e.sound; stays = e.stays; table = e.table; falls = e.falls; stands = e.stands })
+    (record { sound = e.sound; stays = e.stays; idle = e.idle; fell = e.faulty; table = e.table; falls = e.falls; stands = e.stands })
     e.other_bytes e.most c.extend.result e.not_good e.kept e.fell e.extended e.quiet

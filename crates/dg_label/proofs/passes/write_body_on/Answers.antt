@@ -10,5 +10,5 @@ returns g c =
     let at : 2 * (c.args.member / 2) + c.args.member % 2 ≡ c.args.member = omega arith in
     let e = rw (at, c.body_place-place.ensures, c.shape.ensures) at c.note.ensures in
     touched_by_note g.R.Rack c.args.member (Patched (body_place (shape_of c.args.store.now)) c.args.body.now) c.args.store.now c.note.new.self
-    (record { sound = e.sound; stays = e.stays; table = e.table; falls = e.falls; stands = e.stands })
+    (record { sound = e.sound; stays = e.stays; idle = e.idle; fell = e.faulty; table = e.table; falls = e.falls; stands = e.stands })
     e.other_bytes e.most c.note.result e.not_good e.kept e.fell e.patched e.quiet

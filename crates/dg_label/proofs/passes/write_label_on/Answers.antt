@@ -17,7 +17,7 @@ returns-in_default g c =
     let e = rw at at c.note.ensures in
     let page : c.write_label.new.buf ≡ label_bytes (numbered (shape_of a) c.args.kept.now q) = rw c.shape.ensures at c.write_label.ensures in
     let change : List ℕ → List ℕ → Type 0 = Patched 0 (label_bytes (numbered (shape_of a) c.args.kept.now q)) in
-    let array : KeepsArray g.R.Rack a b = record { sound = e.sound; stays = e.stays; table = e.table; falls = e.falls; stands = e.stands } in
+    let array : KeepsArray g.R.Rack a b = record { sound = e.sound; stays = e.stays; idle = e.idle; fell = e.faulty; table = e.table; falls = e.falls; stands = e.stands } in
     record {
       touches = touched_by_note g.R.Rack q change a b array e.other_bytes e.most c.note.result e.not_good e.kept e.fell
           (λ is. subst (λ (xs : List ℕ). BytesChange g.R.Rack a b q (Patched 0 xs)) page (e.patched is)) e.quiet;
@@ -34,7 +34,7 @@ returns-in-Noted g c =
     let e = rw at at c.note.ensures in
     let page : c.write_label.new.buf ≡ label_bytes (numbered (shape_of a) c.args.kept.now q) = rw c.shape.ensures at c.write_label.ensures in
     let change : List ℕ → List ℕ → Type 0 = Patched 0 (label_bytes (numbered (shape_of a) c.args.kept.now q)) in
-    let array : KeepsArray g.R.Rack a b = record { sound = e.sound; stays = e.stays; table = e.table; falls = e.falls; stands = e.stands } in
+    let array : KeepsArray g.R.Rack a b = record { sound = e.sound; stays = e.stays; idle = e.idle; fell = e.faulty; table = e.table; falls = e.falls; stands = e.stands } in
     record {
       touches = touched_by_note g.R.Rack q change a b array e.other_bytes e.most c.note.result e.not_good e.kept e.fell
           (λ is. subst (λ (xs : List ℕ). BytesChange g.R.Rack a b q (Patched 0 xs)) page (e.patched is)) e.quiet;

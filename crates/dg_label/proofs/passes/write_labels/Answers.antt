@@ -7,7 +7,7 @@ use Rattle.dg_store.specs.Leaves.{HasWritten}
 use Rattle.dg_store.specs.Stores.{shape_of}
 use Rattle.dg_label.specs.Passes.{Passes, Touches, numbered}
 use Rattle.dg_label.proofs.LabelLaws.{none_past, some_wrote}
-use Rattle.dg_label.proofs.PassLaws.{bad_more, passes_more, wrote_more}
+use Rattle.dg_label.proofs.PassLaws.{bad_more, passes_more, passes_none, wrote_more}
 use Rattle.dg_label.proofs.passes.write_labels.Goals as goal
 use Rattle.dg_label.proofs.passes.write_labels.Goals.{then-write_label_on, else-write_label_on}
 
@@ -62,3 +62,11 @@ returns-clause-wrote g c =
     let b = ap (λ (sh : Shape). sh.b) c.shape.ensures in
     let past : 2 * (shape_of c.args.store.now).b ≤ c.loop-member.member = omega (arith, b) in
     some_wrote g.R.Rack (HasWritten g.R.Rack c.args.store.now c.loop-member.store) c.args.store.now c.loop-member.member c.requires.sound past c.loop-member.invariant.wrote
+
+pub loop-member-init : goal.loop-member-init
+loop-member-init g c = record {
+  passes = passes_none g.R.Rack (λ (q : ℕ). Patched 0 (label_bytes (numbered (shape_of c.args.store.now) c.args.kept.now q))) c.args.store.now c.requires.sound;
+  some = λ is. absurd (false≢true is);
+  none = λ is q low. absurd (omega (arith, low));
+  wrote = λ q low good. absurd (omega (arith, low));
+}

@@ -1,7 +1,7 @@
 use Rattle.std.proofs.Common.{◌≡◌, ◌∙◌, ◌≤◌, length, refl, subst, sym, true, arith}
 use Rattle.dg_label.specs.declared.labels.KeptLabel.{KeptLabel}
-use Rattle.dg_label.proofs.LabelLaws.{all_lost, next_first, none_labeled, save_stands}
-use Rattle.dg_label.proofs.PassLaws.{keeps_both}
+use Rattle.dg_label.proofs.LabelLaws.{all_lost, fresh_on, fresh_opened, next_first, none_labeled, save_stands}
+use Rattle.dg_label.proofs.PassLaws.{keeps_both, keeps_none}
 use Rattle.dg_model.specs.Saves.{room_of}
 use Rattle.dg_model.specs.declared.shapes.Shape.{Shape}
 use Rattle.dg_store.specs.Stores.{shape_of}
@@ -49,6 +49,12 @@ returns-clause-answer g c =
     let first : 1 ≤ c.number_after-sequence.result = subst (λ n. 1 ≤ n) (sym c.number_after-sequence.ensures) (next_first c.args.label.now) in (
       c.write_labels.ensures.some c.if-not-write_labels.false,
       c.number_after-sequence.ensures,
-      (save_stands g.R.Rack c.lengthen.new.store c.write_bodies.new.store c.write_labels.new.store body kept c.lengthen.ensures.array.sound c.lengthen.ensures.whole room
-          c.write_bodies.ensures c.write_labels.ensures.passes refl refl refl first (omega arith)).1,
+      λ last stands.
+          (save_stands g.R.Rack c.lengthen.new.store c.write_bodies.new.store c.write_labels.new.store body kept c.lengthen.ensures.array.sound c.lengthen.ensures.whole room
+          c.write_bodies.ensures c.write_labels.ensures.passes refl refl refl first (omega arith)).1
+          (fresh_on g.R.Rack c.open_seal.new.store c.lengthen.new.store c.lengthen.ensures.array c.lengthen.ensures.filling
+          (fresh_opened g.R.Rack c.args.store.now c.open_seal.new.store c.args.label.now c.open_seal.new.label last c.requires.sound c.open_seal.ensures stands)),
     )
+
+pub returns-then-sequence-ge-PAST_NUMBERS-clause-array : goal.returns-then-sequence-ge-PAST_NUMBERS-clause-array
+returns-then-sequence-ge-PAST_NUMBERS-clause-array g c = keeps_none g.R.Rack c.args.store.now c.requires.sound

@@ -1,4 +1,4 @@
-use Rattle.std.proofs.Common.{◌≡◌, ◌<◌, ℕ, length, List, ◌∷◌, arith, ap, subst, sym, ◌∙◌}
+use Rattle.std.proofs.Common.{◌≡◌, ◌<◌, ℕ, length, List, ◌∷◌, arith, ap, refl, subst, sym, ◌∙◌}
 use Rattle.dg_model.specs.Tables.{sites_in, Table, count_on, sites_off, without_site}
 use Rattle.dg_plan.specs.Targets.{wants_of}
 use Rattle.dg_store.specs.Stores.{shape_of, table_of}
@@ -8,7 +8,7 @@ use Rattle.dg_model.specs.declared.shapes.Shape.{Shape}
 use Rattle.dg_model.specs.declared.sites.Site.{Site}
 use Rattle.dg_model.proofs.SpareSteps.{drops, off_length}
 use Rattle.dg_move.proofs.MeetLaws.{within_of}
-use Rattle.dg_move.proofs.StoreLaws.{gave_one, only_both, only_one, without_here, without_other}
+use Rattle.dg_move.proofs.StoreLaws.{gave_one, only_both, only_none, only_one, without_here, without_other}
 use Rattle.dg_move.proofs.spares.give_up_spare.Goals as goal
 
 pub first_spare-requires-clause-within : goal.first_spare-requires-clause-within
@@ -60,3 +60,10 @@ loop-boundary-preserved g c =
       others = λ a apart. ap (λ (t : Table). sites_in t a) gone ∙ without_other (table_of now) b f.0.boundary a apart ∙ inv.others a apart;
       goes = gave_one (targets b) (table_of now) (table_of c.unplace.new.self) b f.0 f.1 inside first l gone ∙ inv.goes;
     }
+
+pub loop-boundary-init : goal.loop-boundary-init
+loop-boundary-init g c = record {
+  only = only_none g.R.Rack (wants_of c.args.targets.now) c.args.store.now c.requires.sound;
+  others = λ b apart. refl;
+  goes = refl;
+}

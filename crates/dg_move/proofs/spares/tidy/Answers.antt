@@ -4,7 +4,7 @@ use Rattle.dg_plan.specs.Targets.{wants_of}
 use Rattle.dg_store.specs.Stores.{table_of}
 use Rattle.dg_model.specs.Moves.{all_done, spare}
 use Rattle.std.proofs.lemmas.Bool.{cases_eq}
-use Rattle.dg_move.proofs.StoreLaws.{only_both, tidy_more}
+use Rattle.dg_move.proofs.StoreLaws.{only_both, only_none, tidy_more}
 use Rattle.dg_model.specs.declared.shapes.Shape.{Shape}
 use Rattle.dg_model.proofs.ActionLists.{tidying_below, tidying_is}
 use Rattle.dg_move.proofs.spares.tidy.Goals as goal
@@ -34,3 +34,11 @@ returns-clause-acts g c =
     let blocks = ap (λ (s : Shape). s.n) c.shape.ensures in
     let ended : c.loop-block.block ≡ old.shape.n = omega (arith, c.loop-block-test.false, c.loop-block.auto.block-end, blocks) in
     c.loop-block.invariant.acts ∙ ap (λ (k : ℕ). all_done old (tidying_below targets old k)) ended ∙ ap (all_done old) (sym (tidying_is targets old))
+
+pub loop-block-init : goal.loop-block-init
+loop-block-init g c = record {
+  only = only_none g.R.Rack (wants_of c.args.targets.now) c.args.store.now c.requires.sound;
+  acts = refl;
+  above = λ b past. refl;
+  below = λ b low. absurd (omega (arith, low));
+}

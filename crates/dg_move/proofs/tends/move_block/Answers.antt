@@ -47,12 +47,17 @@ returns-in-Gone-clause-stopped g c =
     let old = table_of c.args.store.now in
     let new = table_of c.place.new.self in
     let members = members_of c.place.new.self in
-    let same = e.refused (not_placed c.in_ok-place.field-0 c.in-Gone.is) in
+    let other = not_placed c.in_ok-place.field-0 c.in-Gone.is in
+    let same = e.refused other in
     let cause = cause_of c.in_ok-place.field-0 old members c.args.block c.args.boundary c.in-Gone.is e.gone e.lost e.other in
     let lost = cause_lost old members c.args.block c.args.boundary c.requires.sound.table c.requires.boundary cause in
     λ _. record {
-      same = same;
-      cause = rw same cause;
+      fails = record {
+        leaves = e.leaves;
+        same = same;
+        cause = rw same cause;
+        stands = e.same other;
+      };
       lost = rw same lost;
     }
 

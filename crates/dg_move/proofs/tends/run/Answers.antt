@@ -5,6 +5,7 @@ use Rattle.dg_model.specs.Moves.{IsCutOff, missing_in}
 use Rattle.dg_plan.specs.Targets.{wants_of}
 use Rattle.dg_store.specs.Stores.{members_of, shape_of, table_of}
 use Rattle.dg_move.proofs.CallLaws.{copies_less, copies_more, copies_same}
+use Rattle.dg_move.proofs.StopLaws.{stopped_next}
 use Rattle.dg_move.proofs.StoreLaws.{moves_both, on_err, only_missing, only_moves, same_lost}
 use Rattle.dg_move.proofs.TurnLaws.{cut_failed, cut_next, cut_whole, met_less, missing_stay, targets_stay, tidy_more, turned_more, turned_none}
 use Rattle.dg_move.proofs.tends.run.Goals as goal
@@ -98,8 +99,23 @@ returns-in-Some-clause-cut g c =
       | inl turn ↦
           cut_whole targets c.args.rounds c.args.rounds c.turns._moved old now new members b t whole c.turns-test.true inv.turned turned.first turn.meets turn.stands
       | inr stopped ↦
-          cut_failed targets c.args.rounds c.args.rounds c.turns._moved old now new members b t whole inv.turned turned.first c.turns-test.true stopped.same stopped.cause
+          cut_failed targets c.args.rounds c.args.rounds c.turns._moved old now new members b t whole inv.turned turned.first c.turns-test.true stopped.fails.same stopped.fails.cause
     ]
+
+pub returns-in-Some-clause-stopped : goal.returns-in-Some-clause-stopped
+returns-in-Some-clause-stopped g c =
+    let targets = wants_of c.args.targets.now in
+    let old = c.args.store.now in
+    let mid = c.turns.store in
+    let new = c.turn.new.store in
+    let inv = c.turns.invariant in
+    let whole : c.args.rounds ≡ min c.args.rounds (missing_in targets (table_of old)) = omega (arith, c.requires.rounds) in
+    let turned = c.in_ok-turn.ensures.turned in
+    stopped_next g.R.Rack targets c.args.rounds c.args.rounds c.turns._moved old mid new turned.block turned.boundary whole c.turns-test.true inv.turned
+    turned.first inv.on inv.live (elim turned.end [
+      | inl turn ↦ inr (record { on = c.turn.ensures.on; table = turn.meets.acts; stands = turn.stands })
+      | inr stopped ↦ inl stopped.fails
+    ])
 
 pub turns-preserved : goal.turns-preserved
 turns-preserved g c =

@@ -1,12 +1,13 @@
 use Rattle.std.proofs.Common.{◌≡◌, ◌+◌, arith, ap, sym, ◌∙◌, min}
 use Rattle.std.specs.Prelude.{Some}
-use Rattle.dg_model.specs.Moves.{IsCutOff, IsTidy, missing_in}
+use Rattle.dg_model.specs.Moves.{IsCutByLoss, IsCutOff, IsTidy, missing_in}
 use Rattle.dg_model.proofs.MissingLaws.{placed_from}
 use Rattle.dg_plan.specs.Targets.{wants_of}
 use Rattle.dg_store.specs.Stores.{members_of, table_of}
-use Rattle.dg_move.specs.Answers.{IsCutByLoss}
+use Rattle.dg_move.specs.Stops.{StoppedAt}
 use Rattle.dg_move.specs.Turns.{IsTurned}
-use Rattle.dg_move.proofs.StoreLaws.{at_none, at_some, on_err}
+use Rattle.dg_move.proofs.StopLaws.{stopped_same}
+use Rattle.dg_move.proofs.StoreLaws.{at_none, at_some, moves_none, on_err}
 use Rattle.dg_move.proofs.TurnLaws.{cut_same, loss_same, moved_none, moved_of, targets_stay}
 use Rattle.dg_move.proofs.tends.tend.Goals.{else-rounds-eq0-via-then-rounds-eq0+else-left-gt0, else-rounds-eq0-via-else-rounds-eq0}
 use Rattle.dg_move.proofs.tends.tend.Goals as goal
@@ -41,7 +42,17 @@ returns-in-Some-clause-moves g c =
     let members = members_of c.run.new.store in
     let is : c.min-rounds.result ≡ min c.args.limit (missing_in targets old) = c.min-rounds.ensures ∙ ap (min c.args.limit) c.missing-left.ensures in
     loss_same targets c.args.limit c.min-rounds.result old new members is
-    (at_some c.in_ok-lost.field-0 (λ s. IsCutByLoss targets c.min-rounds.result old new members) c.in-Some.lost c.in-Some.is c.in_ok-lost.ensures.cut)
+    (at_some c.in_ok-lost.field-0 (λ s. IsCutByLoss targets (Some c.min-rounds.result) old new members) c.in-Some.lost c.in-Some.is c.in_ok-lost.ensures.cut)
+
+pub returns-in-Some-clause-stopped : goal.returns-in-Some-clause-stopped
+returns-in-Some-clause-stopped g c s named =
+    let targets = wants_of c.args.targets.now in
+    let old = c.args.store.now in
+    let new = c.run.new.store in
+    let is : c.min-rounds.result ≡ min c.args.limit (missing_in targets (table_of old)) =
+    c.min-rounds.ensures ∙ ap (min c.args.limit) c.missing-left.ensures in
+    stopped_same g.R.Rack targets c.args.limit c.min-rounds.result old new is
+    (at_some c.in_ok-lost.field-0 (λ t. StoppedAt g.R.Rack targets c.min-rounds.result old new) c.in-Some.lost c.in-Some.is c.in_ok-lost.ensures.stopped)
 
 pub returns-in-None-clause-moves : goal.returns-in-None-clause-moves
 returns-in-None-clause-moves g c =
@@ -65,3 +76,6 @@ returns-in-None-clause-moves g c =
       left = omega (arith, left, some);
       placed = λ none. placed_from targets new (targets_stay targets old new e.on.leaves.keeps.shape e.on.written c.requires.targets) tidy (omega (arith, left, some, none));
     }
+
+pub returns-then-left-gt0-clause-on : goal.returns-then-left-gt0-clause-on
+returns-then-left-gt0-clause-on g c = moves_none g.R.Rack (wants_of c.args.targets.now) c.args.store.now c.requires.sound

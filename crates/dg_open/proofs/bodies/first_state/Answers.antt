@@ -1,6 +1,6 @@
 use Rattle.std.proofs.Common.{arith}
 use Rattle.dg_open.proofs.ReadLemmas.{reads_both}
-use Rattle.dg_open.proofs.TableLemmas.{fails_still, is_first, stands_still, walked_one}
+use Rattle.dg_open.proofs.TableLemmas.{fails_still, is_first, quiet_still, stands_still, walked_one}
 use Rattle.dg_open.proofs.bodies.first_state.Goals as goal
 
 pub returns-in-Some-clause-leaves : goal.returns-in-Some-clause-leaves
@@ -17,6 +17,12 @@ returns-in-Some-clause-failed g c =
     let inv = c.loop-member.invariant in
     fails_still g.R.Rack c.args.rack.now c.loop-member.rack c.state_at.new.rack c.args.labels.now c.args.greatest c.loop-member.member c.loop-member.failed c.state_at.new.failed
     inv.fails inv.leaves c.in_ok-source.ensures.reads c.in_ok-source.ensures.marks
+
+pub returns-in-Some-clause-quiet : goal.returns-in-Some-clause-quiet
+returns-in-Some-clause-quiet g c =
+    let inv = c.loop-member.invariant in
+    quiet_still g.R.Rack c.args.rack.now c.loop-member.rack c.state_at.new.rack c.args.labels.now c.args.greatest c.loop-member.member c.loop-member.failed c.state_at.new.failed
+    c.loop-member-test.true inv.size inv.quiet c.in_ok-source.ensures.reads c.in_ok-source.ensures.marks
 
 pub returns-in-Some-clause-says : goal.returns-in-Some-clause-says
 returns-in-Some-clause-says g c =

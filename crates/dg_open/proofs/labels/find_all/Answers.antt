@@ -1,4 +1,4 @@
-use Rattle.dg_open.proofs.TableLemmas.{one_seen, one_stands}
+use Rattle.dg_open.proofs.TableLemmas.{one_quiet, one_seen, one_stands}
 use Rattle.dg_open.proofs.labels.find_all.Goals as goal
 
 pub loop-member-preserved : goal.loop-member-preserved
@@ -8,4 +8,5 @@ loop-member-preserved g c =
     record {
       seen = one_seen g.R.Rack _ c.loop-member.rack c.find_member.new.rack c.loop-member.labels c.loop-member.member c.find_member.result c.loop-member-test.true inv.seen found.reads found.seen;
       stand = one_stands g.R.Rack c.loop-member.rack c.find_member.new.rack c.loop-member.labels c.loop-member.member c.find_member.result inv.seen.size c.loop-member-test.true inv.stand found.reads found.stands;
+      quiet = one_quiet g.R.Rack _ c.loop-member.rack c.find_member.new.rack c.loop-member.labels c.loop-member.member c.find_member.result inv.seen.size c.loop-member-test.true inv.quiet found.reads found.quiet;
     }

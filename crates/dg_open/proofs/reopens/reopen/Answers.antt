@@ -34,4 +34,4 @@ returns g c =
     let found = c.find_all-labels in
     let read = c.in_ok-source.ensures in
     opens g.R.Rack c.args.rack found.new.rack c.first_state.new.rack found.result c.first_state.new.failed c.in-Some.greatest c.in-Some-2.source c.in_ok-reopened.reopened
-    found.ensures.seen c.in-Some.ensures (c.is_unclean.ensures.clean c.if-is_unclean.false) read.leaves (rw c.in-Some-2.is at c.in_ok-source.ensures.says) read.failed c.in_ok-reopened.ensures
+    found.ensures.seen c.in-Some.ensures (c.is_unclean.ensures.clean c.if-is_unclean.false) read.leaves (rw c.in-Some-2.is at c.in_ok-source.ensures.says) read.failed found.ensures.quiet read.quiet c.in_ok-reopened.ensures

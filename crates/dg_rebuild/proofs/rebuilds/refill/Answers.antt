@@ -3,10 +3,10 @@ use Rattle.std.specs.Prelude.{nat_lt}
 use Rattle.std.proofs.lemmas.Bool.{le-ltb}
 use Rattle.dg_model.specs.declared.shapes.Shape.{Shape}
 use Rattle.dg_model.specs.declared.members.MemberState.TheVariants.{Filling}
-use Rattle.dg_store.specs.ReadLaws.{rack_none}
+use Rattle.dg_store.specs.ReadLaws.{stays_both}
 use Rattle.dg_store.specs.Stores.{members_of, shape_of}
 use Rattle.dg_rebuild.proofs.Answers.{breaks, copied_stands, fell_off, few_copies, not_broken, stops, stops_as, whole_as}
-use Rattle.dg_rebuild.proofs.Steps.{stays_both, went_both, went_none}
+use Rattle.dg_rebuild.proofs.Steps.{went_both, went_none}
 use Rattle.dg_rebuild.proofs.rebuilds.refill.Goals as goal
 
 -- within a limit of 0 no more copies are to be made
@@ -16,7 +16,7 @@ no_more done limit none = le-ltb done limit (omega (arith, none))
 pub loop-slot-init : goal.loop-slot-init
 loop-slot-init g c = record {
   went = went_none g.R.Rack c.args.dead.now c.args.boundary c.args.store.now c.args.have c.args.reaped.now.items c.requires.have c.requires.sound
-      (record { shape = refl; stays = rack_none g.R.Rack _ }) c.requires.filled;
+      c.requires.filled;
   few = omega arith;
   size = c.requires.size;
   still = λ none. refl;
@@ -45,22 +45,24 @@ loop-slot-preserved g c =
 pub returns-in-Ok-Kept-clause-copied : goal.returns-in-Ok-Kept-clause-copied
 returns-in-Ok-Kept-clause-copied g c d l e =
     let kept = c.in-Ok-Kept.ensures.kept c.in-Ok-Kept.field-0-is in
+    let used = c.in-Ok-Kept.ensures.used (inl c.in-Ok-Kept.field-0-is) in
     let k = ap (λ (sh : Shape). sh.k) c.shape.ensures in
     stops_as g.R.Rack c.args.dead.now c.args.boundary c.args.store.now c.loop-slot.store c.refill_slot.new.store c.args.have c.loop-slot.slot c.args.limit
-    c.loop-slot.done c.used_from-left.result d l c.args.reaped.now.items c.loop-slot.reaped.items c.refill_slot.new.reaped.items kept.2
+    c.loop-slot.done c.used_from-left.result d l c.args.reaped.now.items c.loop-slot.reaped.items c.refill_slot.new.reaped.items c.requires.sound.table kept.1
     (c.in-Ok-Kept.ensures.none (inl c.in-Ok-Kept.field-0-is)) c.loop-slot.invariant.went (omega (arith, k, c.loop-slot-test.true)) c.loop-slot.invariant.few
-    kept.0 kept.1 c.used_from-left.ensures e
+    kept.0 used.0 used.1 c.used_from-left.ensures e
 
 pub returns-in-Ok-Kept-clause-lost : goal.returns-in-Ok-Kept-clause-lost
 returns-in-Ok-Kept-clause-lost g c =
     let kept = c.in-Ok-Kept.ensures.kept c.in-Ok-Kept.field-0-is in
+    let used = c.in-Ok-Kept.ensures.used (inl c.in-Ok-Kept.field-0-is) in
     let k = ap (λ (sh : Shape). sh.k) c.shape.ensures in
     copied_stands g.R.Rack c.args.dead.now c.args.boundary c.args.store.now c.refill_slot.new.store c.args.limit c.loop-slot.done c.used_from-left.result
     c.args.reaped.now.items c.refill_slot.new.reaped.items
     (stops g.R.Rack c.args.dead.now c.args.boundary c.args.store.now c.loop-slot.store c.refill_slot.new.store c.args.have c.loop-slot.slot c.args.limit
-    c.loop-slot.done c.used_from-left.result c.args.reaped.now.items c.loop-slot.reaped.items c.refill_slot.new.reaped.items kept.2
+    c.loop-slot.done c.used_from-left.result c.args.reaped.now.items c.loop-slot.reaped.items c.refill_slot.new.reaped.items c.requires.sound.table kept.1
     (c.in-Ok-Kept.ensures.none (inl c.in-Ok-Kept.field-0-is)) c.loop-slot.invariant.went (omega (arith, k, c.loop-slot-test.true)) c.loop-slot.invariant.few
-    kept.0 kept.1 c.used_from-left.ensures)
+    kept.0 used.0 used.1 c.used_from-left.ensures)
 
 pub returns-in-Ok-Lost-clause-stays : goal.returns-in-Ok-Lost-clause-stays
 returns-in-Ok-Lost-clause-stays g c =
@@ -70,8 +72,9 @@ pub returns-in-Ok-Lost-clause-broken : goal.returns-in-Ok-Lost-clause-broken
 returns-in-Ok-Lost-clause-broken g c why =
     let k = ap (λ (sh : Shape). sh.k) c.shape.ensures in
     breaks g.R.Rack c.args.dead.now c.args.boundary c.args.store.now c.loop-slot.store c.refill_slot.new.store c.args.have c.loop-slot.slot c.loop-slot.done
-    c.args.reaped.now.items c.loop-slot.reaped.items c.refill_slot.new.reaped.items (c.in-Ok-Lost.ensures.none (inr (inl c.in-Ok-Lost.field-0-is)))
-    c.loop-slot.invariant.went (omega (arith, k, c.loop-slot-test.true)) (c.in-Ok-Lost.ensures.stood (inl c.in-Ok-Lost.field-0-is))
+    c.args.reaped.now.items c.loop-slot.reaped.items c.refill_slot.new.reaped.items c.requires.sound.table (c.in-Ok-Lost.ensures.none (inr (inl c.in-Ok-Lost.field-0-is)))
+    c.loop-slot.invariant.went (omega (arith, k, c.loop-slot-test.true)) (c.in-Ok-Lost.ensures.used (inr (inl c.in-Ok-Lost.field-0-is)))
+    (c.in-Ok-Lost.ensures.stood (inl c.in-Ok-Lost.field-0-is))
 
 pub returns-in-Ok-Fell-clause-stays : goal.returns-in-Ok-Fell-clause-stays
 returns-in-Ok-Fell-clause-stays g c =
@@ -87,8 +90,9 @@ pub returns-in-Ok-Fell-clause-broken : goal.returns-in-Ok-Fell-clause-broken
 returns-in-Ok-Fell-clause-broken g c why =
     let k = ap (λ (sh : Shape). sh.k) c.shape.ensures in
     breaks g.R.Rack c.args.dead.now c.args.boundary c.args.store.now c.loop-slot.store c.refill_slot.new.store c.args.have c.loop-slot.slot c.loop-slot.done
-    c.args.reaped.now.items c.loop-slot.reaped.items c.refill_slot.new.reaped.items (c.in-Ok-Fell.ensures.none (inr (inr c.in-Ok-Fell.field-0-is)))
-    c.loop-slot.invariant.went (omega (arith, k, c.loop-slot-test.true)) (c.in-Ok-Fell.ensures.stood (inr c.in-Ok-Fell.field-0-is))
+    c.args.reaped.now.items c.loop-slot.reaped.items c.refill_slot.new.reaped.items c.requires.sound.table (c.in-Ok-Fell.ensures.none (inr (inr c.in-Ok-Fell.field-0-is)))
+    c.loop-slot.invariant.went (omega (arith, k, c.loop-slot-test.true)) (c.in-Ok-Fell.ensures.used (inr (inr c.in-Ok-Fell.field-0-is)))
+    (c.in-Ok-Fell.ensures.stood (inr c.in-Ok-Fell.field-0-is))
 
 pub complete-requires-clause-all : goal.complete-requires-clause-all
 complete-requires-clause-all g c =
@@ -111,7 +115,7 @@ returns-clause-copied g c d l e =
     let start : c.args.have ≤ c.shape.result.now.k + 1 = omega (arith, k, c.requires.have) in
     let end : c.loop-slot.slot ≡ (shape_of c.args.store.now).k + 1 = omega (arith, k, c.loop-slot-test.false, c.loop-slot.auto.slot-end start) in
     whole_as g.R.Rack c.args.dead.now c.args.boundary c.args.store.now c.loop-slot.store c.complete.new.self c.args.have c.loop-slot.slot c.args.limit
-    c.loop-slot.done d l c.args.reaped.now.items c.loop-slot.reaped.items end c.loop-slot.invariant.few c.loop-slot.invariant.went did.sound did.stays did.rack
+    c.loop-slot.done d l c.args.reaped.now.items c.loop-slot.reaped.items c.requires.sound.table end c.loop-slot.invariant.few c.loop-slot.invariant.went did.sound did.stays did.rack
     did.table did.completed did.stands e
 
 pub returns-clause-lost : goal.returns-clause-lost
@@ -123,7 +127,7 @@ returns-clause-lost g c =
     copied_stands g.R.Rack c.args.dead.now c.args.boundary c.args.store.now c.complete.new.self c.args.limit c.loop-slot.done 0
     c.args.reaped.now.items c.loop-slot.reaped.items
     (whole_as g.R.Rack c.args.dead.now c.args.boundary c.args.store.now c.loop-slot.store c.complete.new.self c.args.have c.loop-slot.slot c.args.limit
-    c.loop-slot.done c.loop-slot.done 0 c.args.reaped.now.items c.loop-slot.reaped.items end c.loop-slot.invariant.few c.loop-slot.invariant.went did.sound
+    c.loop-slot.done c.loop-slot.done 0 c.args.reaped.now.items c.loop-slot.reaped.items c.requires.sound.table end c.loop-slot.invariant.few c.loop-slot.invariant.went did.sound
     did.stays did.rack did.table did.completed did.stands refl)
 
 pub returns-clause-broken : goal.returns-clause-broken

@@ -1,6 +1,7 @@
 use Rattle.std.proofs.Common.{◌∙◌, ap, arith}
 use Rattle.dg_model.specs.declared.shapes.Shape.{Shape}
 use Rattle.dg_pair.specs.Boundaries.{raised}
+use Rattle.dg_store.specs.ReadLaws.{stays_none}
 use Rattle.dg_rebuild.proofs.Steps.{reaped_free}
 use Rattle.dg_rebuild.proofs.slots.reap_slot.Goals as goal
 
@@ -25,3 +26,6 @@ returns-clause-members g c = record {
 
 pub returns-clause-zeros : goal.returns-clause-zeros
 returns-clause-zeros g c V st = c.pass_slot.ensures.stands _ (c.reap.ensures.zeros V st)
+
+pub returns-in_default-clause-stays : goal.returns-in_default-clause-stays
+returns-in_default-clause-stays g c = stays_none g.R.Rack c.args.store.now

@@ -1,8 +1,10 @@
 use Rattle.std.proofs.Common.{◌≢◌, ◌∙◌, ◌+◌, ℕ, subst, sym}
 use Rattle.dg_pair.specs.declared.boundaries.CopyAnswer.TheVariants.{Copied}
 use Rattle.dg_rebuild.specs.Passed.{WentOn}
+use Rattle.dg_store.specs.Stores.{table_of}
 use Rattle.dg_rebuild.proofs.Answers.{done_number}
-use Rattle.dg_rebuild.proofs.Members.{could_lost, never_true, unfilled_out}
+use Rattle.dg_rebuild.proofs.Members.{could_lost, falls_out, never_true, unfilled_out}
+use Rattle.dg_rebuild.proofs.Reaping.{unmarked_one}
 use Rattle.dg_rebuild.proofs.Steps.{reaped_free, went_copied, went_free, went_reaped}
 use Rattle.dg_rebuild.proofs.slots.refill_slot.Goals as goal
 
@@ -38,7 +40,7 @@ returns-in-Copied-clause-done g c n is =
     let did = c.copy_slot.ensures in
     subst (λ (m : ℕ). WentOn g.R.Rack c.args.dead.now c.args.boundary c.args.slot (c.args.slot + 1) m c.args.reaped.now.items c.args.reaped.now.items
     c.args.store.now c.copy_slot.new.self) (done_number 1 n is) (went_copied g.R.Rack c.args.dead.now c.args.boundary c.args.store.now c.copy_slot.new.self c.args.slot c.in-Some.block c.args.reaped.now.items
-    c.requires.below c.requires.sound c.requires.next c.in-Some.ensures.block (sym c.is_dead.ensures ∙ c.if-is_dead.false) did.sound did.stays did.beside did.table
+    c.requires.below c.requires.sound c.requires.next c.in-Some.ensures.block (sym c.is_dead.ensures ∙ c.if-is_dead.false) did.sound did.stays did.faulty did.idle did.beside did.table
     (did.copied c.in-Copied.is) (did.stands c.in-Copied.is) did.most)
 
 pub returns-in-Lost-clause-stood : goal.returns-in-Lost-clause-stood
@@ -48,6 +50,7 @@ returns-in-Lost-clause-stood g c is =
     record {
       sound = did.sound;
       stays = did.stays;
+      faults = record { fell = did.faulty; idle = did.idle; out = falls_out _ _ _ _ (did.falls other) };
       beside = did.beside;
       table = did.table;
       stands = did.same other;
@@ -63,6 +66,7 @@ returns-in-Fell-clause-stood g c is =
     record {
       sound = did.sound;
       stays = did.stays;
+      faults = record { fell = did.faulty; idle = did.idle; out = falls_out _ _ _ _ (did.falls other) };
       beside = did.beside;
       table = did.table;
       stands = did.same other;
@@ -73,3 +77,24 @@ returns-in-Fell-clause-stood g c is =
 
 pub returns-in-Fell-clause-whole : goal.returns-in-Fell-clause-whole
 returns-in-Fell-clause-whole g c is = never_true _ (λ lost. let now = c.in-Fell.is in let e = c.copy_slot.ensures.lost.1 lost in absurd (cc (now, e)))
+
+pub returns-then-not-more-clause-used : goal.returns-then-not-more-clause-used
+returns-then-not-more-clause-used g c why = (
+  (c.in-Some.block, c.in-Some.ensures.block),
+  unmarked_one (table_of c.args.store.now) c.args.dead.now c.args.boundary c.args.slot c.in-Some.block c.requires.sound.table c.in-Some.ensures.block
+      (sym c.is_dead.ensures ∙ c.if-is_dead.false),
+)
+
+pub returns-in-Lost-clause-used : goal.returns-in-Lost-clause-used
+returns-in-Lost-clause-used g c why = (
+  (c.in-Some.block, c.in-Some.ensures.block),
+  unmarked_one (table_of c.args.store.now) c.args.dead.now c.args.boundary c.args.slot c.in-Some.block c.requires.sound.table c.in-Some.ensures.block
+      (sym c.is_dead.ensures ∙ c.if-is_dead.false),
+)
+
+pub returns-in-Fell-clause-used : goal.returns-in-Fell-clause-used
+returns-in-Fell-clause-used g c why = (
+  (c.in-Some.block, c.in-Some.ensures.block),
+  unmarked_one (table_of c.args.store.now) c.args.dead.now c.args.boundary c.args.slot c.in-Some.block c.requires.sound.table c.in-Some.ensures.block
+      (sym c.is_dead.ensures ∙ c.if-is_dead.false),
+)

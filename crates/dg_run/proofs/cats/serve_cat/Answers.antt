@@ -34,7 +34,7 @@ returns-in-Ok-touch-clause-answered g c =
     let told = subst (λ k. Told (Took (file_text file.lines ++ last_line (codes "end ") c.in-Given.n)) (g.K.Sink.taken k) (g.K.Sink.taken c.end.new.self.sink.now)) c.new-lines.ensures.sink file.told in
     record {
       reply = Given file.lines;
-      steps = steps_by g.R.Rack touch a b (Cat c.args.path.now) (Given file.lines) hot step;
+      steps = steps_by g.R.Rack touch a b (Cat c.args.path.now) (Given file.lines) tt hot step;
       output = subst (λ k. Told (Took (reply_line (Given file.lines))) (g.K.Sink.taken c.args.sink.now) (g.K.Sink.taken k)) (search rules) (told_lines (file_text file.lines) (codes "end ") (concat file.lines) c.in-Given.n _ _ (ap length file.whole ∙ rule.1) told);
     }
 
@@ -84,7 +84,7 @@ returns-in-Ok-cut-clause-answered g c =
     let told = subst (λ k. Told (Took (file_text file.lines ++ last_line (codes "cut ") c.in-Cut.n)) (g.K.Sink.taken k) (g.K.Sink.taken c.cut.new.self.sink.now)) c.new-lines.ensures.sink file.told in
     record {
       reply = Cut file.lines;
-      steps = steps_of g.R.Rack a b (Cat c.args.path.now) (Cut file.lines) refl step;
+      steps = steps_of g.R.Rack a b (Cat c.args.path.now) (Cut file.lines) tt refl step;
       output = subst (λ k. Told (Took (reply_line (Cut file.lines))) (g.K.Sink.taken c.args.sink.now) (g.K.Sink.taken k)) (search rules) (told_lines (file_text file.lines) (codes "cut ") (concat file.lines) c.in-Cut.n _ _ (ap length file.whole ∙ rule.1) told);
     }
 
@@ -100,7 +100,7 @@ returns-in-Err-cut-clause-part g c = λ is.
     let told = subst (λ k. Told (TookPart (file_text file.lines ++ last_line (codes "cut ") c.in-Cut.n)) (g.K.Sink.taken k) (g.K.Sink.taken c.cut.new.self.sink.now)) c.new-lines.ensures.sink file.told in
     record {
       reply = Cut file.lines;
-      steps = weaker_steps g.R.Rack a b (Cat c.args.path.now) (Cut file.lines) (steps_of g.R.Rack a b (Cat c.args.path.now) (Cut file.lines) refl step);
+      steps = weaker_steps g.R.Rack a b (Cat c.args.path.now) (Cut file.lines) (steps_of g.R.Rack a b (Cat c.args.path.now) (Cut file.lines) tt refl step);
       output = subst (λ k. Told (TookPart (reply_line (Cut file.lines))) (g.K.Sink.taken c.args.sink.now) (g.K.Sink.taken k)) (search rules) (part_lines (file_text file.lines) (codes "cut ") (concat file.lines) c.in-Cut.n _ _ (ap length file.whole ∙ rule.1) told);
     }
 
@@ -130,7 +130,7 @@ returns-in_default g c =
     (shape_of a).l (λ reply. StepsBy any_phase any_phase g.R.Rack (touched_by (phase_of any_phase a.volume) (given_of c.cat.new.self)) a.volume (Cat c.as_slice.result.now) reply c.cat.new.self)
     (λ reply. StepsTo any_phase any_phase g.R.Rack a.volume (Cat c.as_slice.result.now) reply c.cat.new.self) c.cat.result has c.cat.ensures.steps in
     let step = subst (λ (p : List ℕ). StepsTo any_phase any_phase g.R.Rack a.volume (Cat p) has.reply c.cat.new.self) c.as_slice.ensures rule.1 in
-    let steps = steps_of g.R.Rack a b event has.reply refl step in
+    let steps = steps_of g.R.Rack a b event has.reply tt refl step in
     let ok = subst (λ k. OnOk c.send_nothing.result (Told (Took (reply_line has.reply)) (g.K.Sink.taken k) (g.K.Sink.taken c.send_nothing.new.sink))) (search (rules, rule.0)) (c.send_nothing.ensures.ok has.reply has.is) in
     let err = subst (λ k. OnErr c.send_nothing.result (Told (TookPart (reply_line has.reply)) (g.K.Sink.taken k) (g.K.Sink.taken c.send_nothing.new.sink))) (search (rules, rule.0)) (c.send_nothing.ensures.part has.reply has.is) in
     record {

@@ -26,7 +26,7 @@ loop-passed-preserved g c =
       size = search (rules, inv.size);
       budget = omega (arith, line.within, inv.budget);
       number = omega (arith, line.size, inv.number);
-      so_far = so_far_next g.R.Rack _ _ c.args.first c.args.from _ _ _ c.in-Served.bytes _ _ _ _ _ _ _ _ _ inv.goes.shape inv.so_far line e.goes.shape e.goes.tells;
+      so_far = so_far_next g.R.Rack _ _ c.args.first c.args.from _ _ _ c.in-Served.bytes _ _ _ _ _ _ _ _ _ inv.goes.shape inv.so_far line e.goes.shape e.goes.told_before;
       source_kept = e.source_kept (λ is. cc is) ∙ inv.source_kept;
       sink_kept = e.sink_kept (λ is. cc is) ∙ inv.sink_kept;
     }
@@ -58,11 +58,15 @@ returns-in_err-bytes-clause-part g c = λ is.
     let inv = c.loop-passed.invariant in
     let e = c.in_err-bytes.ensures in
     let part = e.part (search rules) in
-    lines_cut_at g.R.Rack _ _ c.args.first c.args.from _ _ _ _ _ _ _ _ _ _ _ inv.budget inv.so_far inv.goes.shape part e.goes.shape e.goes.tells
+    lines_cut_at g.R.Rack _ _ c.args.first c.args.from _ _ _ _ _ _ _ _ _ _ _ inv.budget inv.so_far inv.goes.shape part e.goes.shape e.goes.told_before
 
 pub returns-in_err-bytes-clause-wanting : goal.returns-in_err-bytes-clause-wanting
 returns-in_err-bytes-clause-wanting g c = λ is.
     let inv = c.loop-passed.invariant in
     let e = c.in_err-bytes.ensures in
     let wanting = e.wanting (search rules) in
-    lines_ran_out_at g.R.Rack _ _ c.args.first c.args.from _ _ _ _ _ _ _ _ _ _ _ inv.budget inv.so_far inv.goes.shape wanting e.goes.shape e.goes.tells
+    lines_ran_out_at g.R.Rack _ _ c.args.first c.args.from _ _ _ _ _ _ _ _ _ _ _ inv.budget inv.so_far inv.goes.shape wanting e.goes.shape e.goes.told_before
+
+pub returns-in_err-bytes-clause-goes : goal.returns-in_err-bytes-clause-goes
+returns-in_err-bytes-clause-goes g c =
+    goes_then g.R.Rack c.args.array.now c.loop-passed.array c.serve_next.new.array c.loop-passed.invariant.goes c.in_err-bytes.ensures.goes

@@ -7,6 +7,7 @@ use Rattle.dg_run.specs.Events.{Begins}
 use Rattle.dg_run.specs.Inputs.{ahead, unread}
 use Rattle.dg_run.specs.Steps.{shape_of}
 use Rattle.dg_text.specs.Lines.{IsInPlace}
+use Rattle.dg_run.proofs.Runs.{goes_none}
 use Rattle.dg_run.proofs.lines.serve_next.Goals as goal
 
 pub returns-in_ok-serve-in-Event-clause-turned : goal.returns-in_ok-serve-in-Event-clause-turned
@@ -31,3 +32,12 @@ returns-in_err-serve-in-Event-clause-wanting g c = λ is.
     (ahead c.take_event.new.input (g.S.Source.left c.take_event.new.source))) c.shape.ensures e.took in
     ran_out_of g.R.Rack (shape_of c.args.array.now) c.args.room c.in-Event.event (unread c.take_event.new.input) _ _ _ _ c.args.array.now c.serve.new.array
     place within told (c.in_err-serve-in-Event.ensures.wanting (search rules))
+
+pub returns-in_err-event-clause-goes : goal.returns-in_err-event-clause-goes
+returns-in_err-event-clause-goes g c = goes_none g.R.Rack c.args.array.now c.requires.sound
+
+pub returns-in-End-clause-goes : goal.returns-in-End-clause-goes
+returns-in-End-clause-goes g c = goes_none g.R.Rack c.args.array.now c.requires.sound
+
+pub returns-in-Refused-clause-goes : goal.returns-in-Refused-clause-goes
+returns-in-Refused-clause-goes g c = goes_none g.R.Rack c.args.array.now c.requires.sound

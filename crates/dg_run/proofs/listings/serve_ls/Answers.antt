@@ -26,7 +26,7 @@ returns-in-Ok-clause-answered g c =
     let told = told_end (entries_text entries) (last_line (codes "end ") c.in-Given.n) _ _ _ taken c.in-Ok.ensures.ok in
     record {
       reply = Listed entries;
-      steps = steps_of g.R.Rack c.args.array.now (record c.args.array.now { volume = c.ls.new.self }) (Ls c.args.path.now) (Listed entries) refl step;
+      steps = steps_of g.R.Rack c.args.array.now (record c.args.array.now { volume = c.ls.new.self }) (Ls c.args.path.now) (Listed entries) tt refl step;
       output = subst (λ k. Told (Took (reply_line (Listed entries))) (g.K.Sink.taken c.args.sink.now) (g.K.Sink.taken k)) (search rules) (told_lines (entries_text entries) (codes "end ") entries c.in-Given.n _ _ rule.1 told);
     }
 
@@ -40,7 +40,7 @@ returns-in-Ok-cut-clause-answered g c =
     let told = told_end (entries_text entries) (last_line (codes "cut ") c.in-Cut.n) _ _ _ taken c.in-Ok-cut.ensures.ok in
     record {
       reply = ListedCut entries;
-      steps = steps_of g.R.Rack c.args.array.now (record c.args.array.now { volume = c.ls.new.self }) (Ls c.args.path.now) (ListedCut entries) refl step;
+      steps = steps_of g.R.Rack c.args.array.now (record c.args.array.now { volume = c.ls.new.self }) (Ls c.args.path.now) (ListedCut entries) tt refl step;
       output = subst (λ k. Told (Took (reply_line (ListedCut entries))) (g.K.Sink.taken c.args.sink.now) (g.K.Sink.taken k)) (search rules) (told_lines (entries_text entries) (codes "cut ") entries c.in-Cut.n _ _ rule.1 told);
     }
 
@@ -54,7 +54,7 @@ returns-in-Err-clause-part g c is =
     let told = part_end (entries_text entries) (last_line (codes "end ") c.in-Given.n) _ _ _ taken c.in-Err.ensures.err in
     record {
       reply = Listed entries;
-      steps = weaker_steps g.R.Rack c.args.array.now (record c.args.array.now { volume = c.ls.new.self }) (Ls c.args.path.now) (Listed entries) (steps_of g.R.Rack c.args.array.now (record c.args.array.now { volume = c.ls.new.self }) (Ls c.args.path.now) (Listed entries) refl step);
+      steps = weaker_steps g.R.Rack c.args.array.now (record c.args.array.now { volume = c.ls.new.self }) (Ls c.args.path.now) (Listed entries) (steps_of g.R.Rack c.args.array.now (record c.args.array.now { volume = c.ls.new.self }) (Ls c.args.path.now) (Listed entries) tt refl step);
       output = subst (λ k. Told (TookPart (reply_line (Listed entries))) (g.K.Sink.taken c.args.sink.now) (g.K.Sink.taken k)) (search rules) (part_lines (entries_text entries) (codes "end ") entries c.in-Given.n _ _ rule.1 told);
     }
 
@@ -68,7 +68,7 @@ returns-in-Err-cut-clause-part g c is =
     let told = part_end (entries_text entries) (last_line (codes "cut ") c.in-Cut.n) _ _ _ taken c.in-Err-cut.ensures.err in
     record {
       reply = ListedCut entries;
-      steps = weaker_steps g.R.Rack c.args.array.now (record c.args.array.now { volume = c.ls.new.self }) (Ls c.args.path.now) (ListedCut entries) (steps_of g.R.Rack c.args.array.now (record c.args.array.now { volume = c.ls.new.self }) (Ls c.args.path.now) (ListedCut entries) refl step);
+      steps = weaker_steps g.R.Rack c.args.array.now (record c.args.array.now { volume = c.ls.new.self }) (Ls c.args.path.now) (ListedCut entries) (steps_of g.R.Rack c.args.array.now (record c.args.array.now { volume = c.ls.new.self }) (Ls c.args.path.now) (ListedCut entries) tt refl step);
       output = subst (λ k. Told (TookPart (reply_line (ListedCut entries))) (g.K.Sink.taken c.args.sink.now) (g.K.Sink.taken k)) (search rules) (part_lines (entries_text entries) (codes "cut ") entries c.in-Cut.n _ _ rule.1 told);
     }
 
@@ -79,7 +79,7 @@ returns-in-SinkFault-clause-part g c is =
     let step = subst (λ (p : List ℕ). StepsTo any_phase any_phase g.R.Rack c.args.array.now.volume (Ls p) (Listed entries) c.ls.new.self) c.as_slice.ensures rule.3 in
     let written = subst (λ (f : Form). Told (TookPart (lines_in f entries)) (g.K.Sink.taken c.new-entries.result.sink.now) (g.K.Sink.taken c.ls.new.out.sink.now)) c.new-entries.ensures.form rule.1.told in
     let told = subst (λ k. Told (TookPart (entries_text entries)) (g.K.Sink.taken k) (g.K.Sink.taken c.ls.new.out.sink.now)) c.new-entries.ensures.sink written in
-    listing_part g.R.Rack c.args.path.now entries _ _ c.args.array.now (record c.args.array.now { volume = c.ls.new.self }) (weaker_steps g.R.Rack c.args.array.now (record c.args.array.now { volume = c.ls.new.self }) (Ls c.args.path.now) (Listed entries) (steps_of g.R.Rack c.args.array.now (record c.args.array.now { volume = c.ls.new.self }) (Ls c.args.path.now) (Listed entries) refl step))
+    listing_part g.R.Rack c.args.path.now entries _ _ c.args.array.now (record c.args.array.now { volume = c.ls.new.self }) (weaker_steps g.R.Rack c.args.array.now (record c.args.array.now { volume = c.ls.new.self }) (Ls c.args.path.now) (Listed entries) (steps_of g.R.Rack c.args.array.now (record c.args.array.now { volume = c.ls.new.self }) (Ls c.args.path.now) (Listed entries) tt refl step))
     (subst (λ k. Told (TookPart (entries_text entries)) (g.K.Sink.taken c.args.sink.now) (g.K.Sink.taken k)) (search rules) told)
 
 pub returns-in_default : goal.returns-in_default
@@ -88,7 +88,7 @@ returns-in_default g c =
     let rule = ls_nothing (TookEntries g.K.Sink.taken) (TookEntriesPart g.K.Sink.taken) (λ (s : Lines g.row.K.Denot). g.K.Sink.faults s.sink.now) c.new-entries.result c.ls.new.out
     (λ reply. StepsTo any_phase any_phase g.R.Rack c.args.array.now.volume (Ls c.as_slice.result.now) reply c.ls.new.self) c.ls.result has c.ls.ensures.steps in
     let step = subst (λ (p : List ℕ). StepsTo any_phase any_phase g.R.Rack c.args.array.now.volume (Ls p) has.reply c.ls.new.self) c.as_slice.ensures rule.1 in
-    let steps = steps_of g.R.Rack c.args.array.now (record c.args.array.now { volume = c.ls.new.self }) (Ls c.args.path.now) has.reply refl step in
+    let steps = steps_of g.R.Rack c.args.array.now (record c.args.array.now { volume = c.ls.new.self }) (Ls c.args.path.now) has.reply tt refl step in
     let ok = subst (λ k. OnOk c.send_nothing.result (Told (Took (reply_line has.reply)) (g.K.Sink.taken k) (g.K.Sink.taken c.send_nothing.new.sink))) (search (rules, rule.0)) (c.send_nothing.ensures.ok has.reply has.is) in
     let err = subst (λ k. OnErr c.send_nothing.result (Told (TookPart (reply_line has.reply)) (g.K.Sink.taken k) (g.K.Sink.taken c.send_nothing.new.sink))) (search (rules, rule.0)) (c.send_nothing.ensures.part has.reply has.is) in
     record {

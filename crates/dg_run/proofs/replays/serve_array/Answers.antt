@@ -2,11 +2,12 @@ use Rattle.std.proofs.Common.{◌≡◌, ◌∙◌, ap, inl, inr, refl}
 use Rattle.std.specs.Prelude.{Err}
 use Rattle.dg_model.specs.declared.replies.Reply.TheVariants.{Done}
 use Rattle.dg_text.specs.Replies.{reply_line}
-use Rattle.dg_run.specs.declared.events.Fault.TheVariants.{Write, NoMemory}
-use Rattle.dg_run.proofs.Breaks.{cut_behind, ran_out_behind}
+use Rattle.dg_run.specs.declared.events.Fault.TheVariants.{Write, NoMemory, Read}
+use Rattle.dg_run.proofs.Breaks.{broke_off_behind, cut_behind, ran_out_behind}
 use Rattle.dg_io.specs.Told.{AreAny}
 use Rattle.dg_run.proofs.ToldSteps.{Told-refl, any_left}
 use Rattle.dg_run.specs.Inputs.{ahead, unread}
+use Rattle.dg_run.proofs.Runs.{goes_none}
 use Rattle.dg_run.proofs.replays.serve_array.Goals as goal
 
 pub returns-clause-part : goal.returns-clause-part
@@ -24,3 +25,15 @@ returns-clause-wanting g c = λ is.
 pub returns-in_default-send-clause-part : goal.returns-in_default-send-clause-part
 returns-in_default-send-clause-part g c = λ is.
     inl (c.in_default-send.ensures.part, refl, any_left AreAny (unread c.args.input.now) _ _ (Told-refl AreAny (λ b. tt) (ahead c.args.input.now (g.S.Source.left c.args.source.now))))
+
+pub returns-in_default-clause-goes : goal.returns-in_default-clause-goes
+returns-in_default-clause-goes g c = goes_none g.R.Rack c.args.array.now c.requires.sound
+
+pub returns-in_default-send-clause-goes : goal.returns-in_default-send-clause-goes
+returns-in_default-send-clause-goes g c = goes_none g.R.Rack c.args.array.now c.requires.sound
+
+pub returns-clause-broken : goal.returns-clause-broken
+returns-clause-broken g c = λ is.
+    let fault : c.in-Err.fault ≡ Read = c.status_of.ensures.read.0 is in
+    let lines = c.serve_lines.ensures.broken (c.in-Err.is ∙ ap Err fault) in
+    broke_off_behind g.R.Rack (reply_line Done) _ c.args.first _ _ _ _ _ _ _ c.in-Ok-send.ensures.ok lines

@@ -26,7 +26,7 @@ returns-in-Ok-end-clause-answered g c =
     let told = told_end (nodes_text entries) (last_line (codes "end ") c.in-Given.n) _ _ _ (nodes_told g.K.Sink.taken c.args.sink.now lent.result lent.ensures.form lent.ensures.sink entries c.tree.new.out rule.2) c.in-Ok-end.ensures.ok in
     record {
       reply = Nodes entries;
-      steps = steps_of g.R.Rack a b Tree (Nodes entries) refl rule.3;
+      steps = steps_of g.R.Rack a b Tree (Nodes entries) tt refl rule.3;
       output = subst (λ k. Told (Took (reply_line (Nodes entries))) (g.K.Sink.taken c.args.sink.now) (g.K.Sink.taken k)) (search rules) (told_lines (nodes_text entries) (codes "end ") entries c.in-Given.n _ _ rule.1 told);
     }
 
@@ -40,7 +40,7 @@ returns-in-Ok-cut-clause-answered g c =
     let told = told_end (nodes_text entries) (last_line (codes "cut ") c.in-Cut.n) _ _ _ (nodes_told g.K.Sink.taken c.args.sink.now lent.result lent.ensures.form lent.ensures.sink entries c.tree.new.out rule.2) c.in-Ok-cut.ensures.ok in
     record {
       reply = NodesCut entries;
-      steps = steps_of g.R.Rack a b Tree (NodesCut entries) refl rule.3;
+      steps = steps_of g.R.Rack a b Tree (NodesCut entries) tt refl rule.3;
       output = subst (λ k. Told (Took (reply_line (NodesCut entries))) (g.K.Sink.taken c.args.sink.now) (g.K.Sink.taken k)) (search rules) (told_lines (nodes_text entries) (codes "cut ") entries c.in-Cut.n _ _ rule.1 told);
     }
 
@@ -54,7 +54,7 @@ returns-in-Err-clause-part g c is =
     let told = part_end (nodes_text entries) (last_line (codes "end ") c.in-Given.n) _ _ _ (nodes_told g.K.Sink.taken c.args.sink.now lent.result lent.ensures.form lent.ensures.sink entries c.tree.new.out rule.2) c.in-Err.ensures.err in
     record {
       reply = Nodes entries;
-      steps = weaker_steps g.R.Rack a b Tree (Nodes entries) (steps_of g.R.Rack a b Tree (Nodes entries) refl rule.3);
+      steps = weaker_steps g.R.Rack a b Tree (Nodes entries) (steps_of g.R.Rack a b Tree (Nodes entries) tt refl rule.3);
       output = subst (λ k. Told (TookPart (reply_line (Nodes entries))) (g.K.Sink.taken c.args.sink.now) (g.K.Sink.taken k)) (search rules) (part_lines (nodes_text entries) (codes "end ") entries c.in-Given.n _ _ rule.1 told);
     }
 
@@ -68,7 +68,7 @@ returns-in-Err-cut-clause-part g c is =
     let told = part_end (nodes_text entries) (last_line (codes "cut ") c.in-Cut.n) _ _ _ (nodes_told g.K.Sink.taken c.args.sink.now lent.result lent.ensures.form lent.ensures.sink entries c.tree.new.out rule.2) c.in-Err-cut.ensures.err in
     record {
       reply = NodesCut entries;
-      steps = weaker_steps g.R.Rack a b Tree (NodesCut entries) (steps_of g.R.Rack a b Tree (NodesCut entries) refl rule.3);
+      steps = weaker_steps g.R.Rack a b Tree (NodesCut entries) (steps_of g.R.Rack a b Tree (NodesCut entries) tt refl rule.3);
       output = subst (λ k. Told (TookPart (reply_line (NodesCut entries))) (g.K.Sink.taken c.args.sink.now) (g.K.Sink.taken k)) (search rules) (part_lines (nodes_text entries) (codes "cut ") entries c.in-Cut.n _ _ rule.1 told);
     }
 
@@ -82,7 +82,7 @@ returns-in-SinkFault-clause-part g c is =
     let told = nodes_part g.K.Sink.taken c.args.sink.now lent.result lent.ensures.form lent.ensures.sink entries c.tree.new.out rule.1 in
     record {
       reply = Nodes entries;
-      steps = weaker_steps g.R.Rack a b Tree (Nodes entries) (steps_of g.R.Rack a b Tree (Nodes entries) refl rule.3);
+      steps = weaker_steps g.R.Rack a b Tree (Nodes entries) (steps_of g.R.Rack a b Tree (Nodes entries) tt refl rule.3);
       output = subst (λ k. Told (TookPart (reply_line (Nodes entries))) (g.K.Sink.taken c.args.sink.now) (g.K.Sink.taken k)) (search rules) (part_of_lines (nodes_text entries) (codes "end ") entries _ _ told);
     }
 
@@ -101,7 +101,7 @@ returns-in_default-told-clause-answered g c =
     let rule = loose_tree (TookEntries g.K.Sink.taken) (TookEntriesPart g.K.Sink.taken) (λ (s : Lines g.row.K.Denot). g.K.Sink.faults s.sink.now) c.new-entries.result c.tree.new.out
     (λ reply. StepsTo any_phase any_phase g.R.Rack a.volume Tree reply c.tree.new.self) c.in-Ok.told c.in_default-told.not-Is c.in-Ok.ensures.steps in
     let ok = subst (λ k. OnOk c.send.result (Told (Took (reply_line NotSettled)) (g.K.Sink.taken k) (g.K.Sink.taken c.send.new.sink))) (search (rules, rule.0)) c.send.ensures.ok in
-    answered g.R.Rack Tree NotSettled _ _ a b c.send.result (steps_of g.R.Rack a b Tree NotSettled refl rule.1) ok
+    answered g.R.Rack Tree NotSettled _ _ a b c.send.result (steps_of g.R.Rack a b Tree NotSettled tt refl rule.1) ok
 
 pub returns-in_default-told-clause-part : goal.returns-in_default-told-clause-part
 returns-in_default-told-clause-part g c is =
@@ -110,7 +110,7 @@ returns-in_default-told-clause-part g c is =
     let rule = loose_tree (TookEntries g.K.Sink.taken) (TookEntriesPart g.K.Sink.taken) (λ (s : Lines g.row.K.Denot). g.K.Sink.faults s.sink.now) c.new-entries.result c.tree.new.out
     (λ reply. StepsTo any_phase any_phase g.R.Rack a.volume Tree reply c.tree.new.self) c.in-Ok.told c.in_default-told.not-Is c.in-Ok.ensures.steps in
     let err = subst (λ k. OnErr c.send.result (Told (TookPart (reply_line NotSettled)) (g.K.Sink.taken k) (g.K.Sink.taken c.send.new.sink))) (search (rules, rule.0)) c.send.ensures.part in
-    at_err c.send.result _ is (answered_part g.R.Rack Tree NotSettled _ _ a b c.send.result (weaker_steps g.R.Rack a b Tree NotSettled (steps_of g.R.Rack a b Tree NotSettled refl rule.1)) err)
+    at_err c.send.result _ is (answered_part g.R.Rack Tree NotSettled _ _ a b c.send.result (weaker_steps g.R.Rack a b Tree NotSettled (steps_of g.R.Rack a b Tree NotSettled tt refl rule.1)) err)
 
 pub returns-in_default-answer : goal.returns-in_default-answer
 returns-in_default-answer g c =
@@ -119,7 +119,7 @@ returns-in_default-answer g c =
     let has = has_reply c.in-Is.answer c.in_default-answer.not-Given c.in_default-answer.not-Cut c.in_default-answer.not-SinkFault in
     let rule = tree_nothing (TookEntries g.K.Sink.taken) (TookEntriesPart g.K.Sink.taken) (λ (s : Lines g.row.K.Denot). g.K.Sink.faults s.sink.now) c.new-entries.result c.tree.new.out
     (λ reply. StepsTo any_phase any_phase g.R.Rack a.volume Tree reply c.tree.new.self) c.in-Is.answer has (rw c.in-Is.is at c.in-Ok.ensures.steps) in
-    let steps = steps_of g.R.Rack a b Tree has.reply refl rule.1 in
+    let steps = steps_of g.R.Rack a b Tree has.reply tt refl rule.1 in
     let ok = subst (λ k. OnOk c.send_nothing.result (Told (Took (reply_line has.reply)) (g.K.Sink.taken k) (g.K.Sink.taken c.send_nothing.new.sink))) (search (rules, rule.0)) (c.send_nothing.ensures.ok has.reply has.is) in
     let err = subst (λ k. OnErr c.send_nothing.result (Told (TookPart (reply_line has.reply)) (g.K.Sink.taken k) (g.K.Sink.taken c.send_nothing.new.sink))) (search (rules, rule.0)) (c.send_nothing.ensures.part has.reply has.is) in
     record {

@@ -27,6 +27,6 @@ returns-in-Unclean-clause-ends g c =
 pub returns-clause-ends : goal.returns-clause-ends
 returns-clause-ends g c =
     let opened = subst (λ a. AnswersOpen g.R.Rack c.args.rack a) c.in-Opened.is c.in_ok-rack.ensures in
-    let ends = ends_event g.R.Rack c.args.rack c.in-Opened.volume c.serve_ls-end.new.volume c.in-Opened.field-1 _ _ opened c.serve_ls-end.ensures.leaves
+    let ends = ends_event g.R.Rack c.args.rack c.in-Opened.volume c.serve_ls-end.new.volume c.in-Opened.field-1 _ _ opened c.serve_ls-end.ensures.leaves g.met.R.Rack.tells_told
     (Ls c.args.path.now) ls_text gives_listing c.serve_ls-end.result c.serve_ls-end.ensures.ends in
     subst (λ r. EndsLs (facts_of g.K.Sink g.R.Rack c.args.sink.now c.serve_ls-end.new.sink c.args.rack r) c.args.path.now c.serve_ls-end.result) (sym c.into_rack.ensures) ends

@@ -28,7 +28,7 @@ returns-clause-ends g c =
     let volume = c.in-Opened.volume in
     let opened = subst (λ a. AnswersOpen g.R.Rack c.args.rack a) c.in-Opened.is c.in_ok-rack.ensures in
     let text = c.deref.result.now in
-    let shown = has_shown g.R.Rack c.args.rack volume c.in-Opened.field-1 (g.K.Sink.taken c.args.sink.now) (g.K.Sink.taken c.tell-end.new.sink) opened text
+    let shown = has_shown g.R.Rack c.args.rack volume c.in-Opened.field-1 (g.K.Sink.taken c.args.sink.now) (g.K.Sink.taken c.tell-end.new.sink) opened g.met.R.Rack.tells_told text
     (c.deref.ensures.value ∙ c.in_ok-text-in-Opened.ensures) in
     let ends = shown_ends (facts_of g.K.Sink g.R.Rack c.args.sink.now c.tell-end.new.sink c.args.rack (rack_of volume)) c.tell-end.result text c.tell-end.ensures.is c.tell-end.ensures.told
     c.tell-end.ensures.part shown in

@@ -22,7 +22,7 @@ read-requires-clause-stand g c = part_stand _ _ _ _ _ c.index_mut.result.now c.r
 
 pub returns-clause-keeps : goal.returns-clause-keeps
 returns-clause-keeps g c =
-    row_keeps g.R.Rack c.args.shape.now _ _ _ _ _ _ c.requires.within (there _ _ _ c.requires.within c.index_mut.ensures.value) c.requires.row c.read.ensures.leaves c.read.ensures.beside
+    row_keeps g.R.Rack c.args.shape.now _ _ _ _ _ _ c.requires.within (there _ _ _ c.requires.within c.index_mut.ensures.value) c.requires.row g.met.R.Rack.after c.read.ensures.leaves c.read.ensures.made c.read.ensures.beside
 
 pub returns-clause-lost : goal.returns-clause-lost
 returns-clause-lost g c =

@@ -20,7 +20,7 @@ write-requires-clause-stand g c = part_stand _ _ _ _ _ c.index_mut.result.now c.
 
 pub returns-clause-keeps : goal.returns-clause-keeps
 returns-clause-keeps g c =
-    row_keeps g.R.Rack c.args.shape.now _ _ _ _ _ _ c.requires.within (there _ _ _ c.requires.within c.index_mut.ensures.value) c.requires.row c.write.ensures.leaves c.write.ensures.beside
+    row_keeps g.R.Rack c.args.shape.now _ _ _ _ _ _ c.requires.within (there _ _ _ c.requires.within c.index_mut.ensures.value) c.requires.row g.met.R.Rack.after c.write.ensures.leaves c.write.ensures.made c.write.ensures.beside
 
 pub returns-clause-lost : goal.returns-clause-lost
 returns-clause-lost g c =

@@ -1,7 +1,8 @@
 use Rattle.std.proofs.Common.{ap, sym, ◌∙◌, ℕ, List}
-use Rattle.dg_model.specs.declared.replies.Reply.TheVariants.{Cut, Given, Listed as ListedReply, ListedCut, Nodes, NodesCut}
+use Rattle.dg_model.specs.declared.replies.Reply.TheVariants.{Cut, Given, Listed as ListedReply, ListedCut, LostFiles, LostFilesCut, Nodes, NodesCut}
+use Rattle.dg_model.specs.Paths.{PathOf}
 use Rattle.dg_text.specs.Replies.{reply_line}
-use Rattle.dg_text.proofs.ReplyLines.{copied_line, took_as, took_part_as, tended_line}
+use Rattle.dg_text.proofs.ReplyLines.{copied_line, regrouped_line, took_as, took_part_as, tended_line}
 use Rattle.dg_text.proofs.replies.write_reply.Goals as goal
 use Rattle.ufs_model.specs.Listings.{Listed}
 
@@ -58,3 +59,21 @@ returns-in-NodesCut-clause-ok g c = took_as c.write_listing-in-NodesCut.result _
 
 pub returns-in-NodesCut-clause-err : goal.returns-in-NodesCut-clause-err
 returns-in-NodesCut-clause-err g c = took_part_as c.write_listing-in-NodesCut.result _ (reply_line c.args.reply.now) _ _ (ap (λ (x : List Listed). reply_line (NodesCut x)) c.as_slice-in-NodesCut.ensures ∙ ap reply_line (sym c.in-NodesCut.is)) c.write_listing-in-NodesCut.ensures.err
+
+pub returns-in-Regrouped-clause-ok : goal.returns-in-Regrouped-clause-ok
+returns-in-Regrouped-clause-ok g c = took_as c.write_numbers-in-Regrouped.result _ (reply_line c.args.reply.now) _ _ (regrouped_line c.args.reply.now c.in-Regrouped.gone c.in-Regrouped.cut c.in-Regrouped.is) c.write_numbers-in-Regrouped.ensures.ok
+
+pub returns-in-Regrouped-clause-err : goal.returns-in-Regrouped-clause-err
+returns-in-Regrouped-clause-err g c = took_part_as c.write_numbers-in-Regrouped.result _ (reply_line c.args.reply.now) _ _ (regrouped_line c.args.reply.now c.in-Regrouped.gone c.in-Regrouped.cut c.in-Regrouped.is) c.write_numbers-in-Regrouped.ensures.err
+
+pub returns-in-LostFiles-clause-ok : goal.returns-in-LostFiles-clause-ok
+returns-in-LostFiles-clause-ok g c = took_as c.write_lost.result _ (reply_line c.args.reply.now) _ _ (ap (λ (x : List PathOf). reply_line (LostFiles x)) c.as_slice-in-LostFiles.ensures ∙ ap reply_line (sym c.in-LostFiles.is)) c.write_lost.ensures.ok
+
+pub returns-in-LostFiles-clause-err : goal.returns-in-LostFiles-clause-err
+returns-in-LostFiles-clause-err g c = took_part_as c.write_lost.result _ (reply_line c.args.reply.now) _ _ (ap (λ (x : List PathOf). reply_line (LostFiles x)) c.as_slice-in-LostFiles.ensures ∙ ap reply_line (sym c.in-LostFiles.is)) c.write_lost.ensures.err
+
+pub returns-in-LostFilesCut-clause-ok : goal.returns-in-LostFilesCut-clause-ok
+returns-in-LostFilesCut-clause-ok g c = took_as c.write_lost-in-LostFilesCut.result _ (reply_line c.args.reply.now) _ _ (ap (λ (x : List PathOf). reply_line (LostFilesCut x)) c.as_slice-in-LostFilesCut.ensures ∙ ap reply_line (sym c.in-LostFilesCut.is)) c.write_lost-in-LostFilesCut.ensures.ok
+
+pub returns-in-LostFilesCut-clause-err : goal.returns-in-LostFilesCut-clause-err
+returns-in-LostFilesCut-clause-err g c = took_part_as c.write_lost-in-LostFilesCut.result _ (reply_line c.args.reply.now) _ _ (ap (λ (x : List PathOf). reply_line (LostFilesCut x)) c.as_slice-in-LostFilesCut.ensures ∙ ap reply_line (sym c.in-LostFilesCut.is)) c.write_lost-in-LostFilesCut.ensures.err

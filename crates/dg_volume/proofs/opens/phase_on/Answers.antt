@@ -4,7 +4,7 @@ use Rattle.dg_store.specs.Stores.{members_of, table_of}
 use Rattle.dg_volume.specs.Opens.{IsPhaseOf}
 use Rattle.dg_volume.specs.Planned.{HasReadArray}
 use Rattle.dg_volume.specs.declared.phases.AnyPhase.{AnyPhase}
-use Rattle.dg_volume.proofs.ArrayLaws.{read_both}
+use Rattle.dg_volume.proofs.ArrayLaws.{read_both, read_none}
 use Rattle.dg_volume.proofs.GoneLaws.{gone_lost}
 use Rattle.dg_volume.proofs.OpenLaws.{phase_is, restored_later}
 use Rattle.dg_volume.proofs.opens.phase_on.Goals as goal
@@ -53,3 +53,6 @@ returns-clause-phase g c =
     }) in
     subst (λ (p : AnyPhase). IsPhaseOf g.R.Rack old new saved p) (sym c.phase_with.ensures)
     (phase_is g.R.Rack old mid new read saved kept c.in_ok-settled.settled restored c.in_ok-settled.ensures.still)
+
+pub returns-then-is_degraded-clause-reads : goal.returns-then-is_degraded-clause-reads
+returns-then-is_degraded-clause-reads g c = read_none g.R.Rack c.args.store.now c.requires.sound

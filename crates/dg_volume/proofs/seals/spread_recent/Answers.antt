@@ -1,13 +1,17 @@
 use Rattle.std.proofs.Common.{◌≡◌, ◌∙◌, ℕ, false, List, length, sym, ap, subst}
 use Rattle.std.specs.Prelude.{All, map}
-use Rattle.dg_hot.specs.Spreads.{HasSpread, lacks_copy, lists_in, to_copy}
+use Rattle.std.specs.List.{list_any}
+use Rattle.dg_hot.specs.Spreads.{HasSpread, lists_in, to_copy}
 use Rattle.dg_hot.specs.declared.spreads.DiffuseAnswer.{DiffuseAnswer}
 use Rattle.dg_hot.specs.declared.spreads.DiffuseAnswer.TheVariants.{Diffused, Lost}
+use Rattle.dg_model.specs.Copies.{lacks_copy}
 use Rattle.dg_model.specs.Placed.{IsPlaced}
 use Rattle.dg_model.specs.Tables.{Table}
 use Rattle.dg_store.specs.Stores.{table_of}
 use Rattle.dg_volume.proofs.ListedLaws.{listed_on, placed_by_any}
-use Rattle.dg_volume.proofs.SealSteps.{cut_behind, diffused_behind, labels_behind, labels_opened, none_copied, none_cut, spread_behind}
+use Rattle.dg_volume.proofs.ArrayLaws.{moved_none, opened_array}
+use Rattle.dg_volume.proofs.LabelLaws.{relabels_none}
+use Rattle.dg_volume.proofs.SealSteps.{cut_behind, diffused_behind, labels_behind, labels_opened, none_copied, none_cut, none_of, spread_behind}
 use Rattle.dg_volume.proofs.seals.spread_recent.Goals as goal
 
 count_in : DiffuseAnswer → ℕ
@@ -34,11 +38,24 @@ returns-in_err-blocks-clause-placed g c wants wanted =
 
 pub returns-then-not-any_lacks_copy-clause-diffused : goal.returns-then-not-any_lacks_copy-clause-diffused
 returns-then-not-any_lacks_copy-clause-diffused g c wants wanted n is =
-    let none =
-    subst (λ (xs : List ℕ). All (λ i. lacks_copy c.args.homes.now c.args.copies.now i ≡ false) xs) (c.deref.ensures.value ∙ c.in_ok-recent.ensures.inodes)
-    (c.any_lacks_copy.ensures c.if-not-any_lacks_copy.true) in
+    let lacks = lacks_copy c.args.homes.now c.args.copies.now in
+    let none : All (λ i. lacks i ≡ false) c.args.hot.now =
+    none_of lacks c.args.hot.now (subst (λ (xs : List ℕ). list_any lacks xs ≡ false) (c.deref.ensures.value ∙ c.in_ok-recent.ensures.inodes)
+    (sym c.any_lacks_copy.ensures ∙ c.if-not-any_lacks_copy.true)) in
     subst (λ (k : ℕ). HasSpread wants c.args.homes.now c.args.hot.now (length c.args.hot.now) k c.args.copies.now c.args.copies.now c.args.store.now c.args.store.now)
     (none_in n is) (none_copied g.R.Rack wants c.args.homes.now c.args.hot.now c.args.copies.now c.args.store.now none)
+
+pub returns-then-not-any_lacks_copy-clause-label : goal.returns-then-not-any_lacks_copy-clause-label
+returns-then-not-any_lacks_copy-clause-label g c = relabels_none g.R.Rack c.args.store.now c.args.label.now c.requires.labeled
+
+pub returns-in_err-blocks-clause-label : goal.returns-in_err-blocks-clause-label
+returns-in_err-blocks-clause-label g c = relabels_none g.R.Rack c.args.store.now c.args.label.now c.requires.labeled
+
+pub returns-in_err-recent-clause-label : goal.returns-in_err-recent-clause-label
+returns-in_err-recent-clause-label g c = relabels_none g.R.Rack c.args.store.now c.args.label.now c.requires.labeled
+
+pub returns-in-Some-clause-array : goal.returns-in-Some-clause-array
+returns-in-Some-clause-array g c = opened_array g.R.Rack c.args.store.now c.open_seal.new.store c.open_seal.ensures.array
 
 pub returns-in-Some-clause-label : goal.returns-in-Some-clause-label
 returns-in-Some-clause-label g c =
@@ -94,3 +111,12 @@ returns-clause-cut g c wants wanted =
     in
     cut_behind g.R.Rack wants c.args.homes.now c.args.hot.now c.args.copies.now c.diffuse.new.copies c.args.store.now c.open_seal.new.store c.diffuse.new.store
     c.diffuse.result c.open_seal.ensures.array (c.diffuse.ensures.cut wants listed)
+
+pub returns-in_err-recent-clause-array : goal.returns-in_err-recent-clause-array
+returns-in_err-recent-clause-array g c = moved_none g.R.Rack c.args.store.now c.requires.sound
+
+pub returns-then-not-any_lacks_copy-clause-array : goal.returns-then-not-any_lacks_copy-clause-array
+returns-then-not-any_lacks_copy-clause-array g c = moved_none g.R.Rack c.args.store.now c.requires.sound
+
+pub returns-in_err-blocks-clause-array : goal.returns-in_err-blocks-clause-array
+returns-in_err-blocks-clause-array g c = moved_none g.R.Rack c.args.store.now c.requires.sound

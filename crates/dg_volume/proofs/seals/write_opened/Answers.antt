@@ -1,5 +1,5 @@
 use Rattle.std.proofs.Common.{refl}
-use Rattle.dg_volume.proofs.SealSteps.{calls_behind, labels_behind}
+use Rattle.dg_volume.proofs.SealSteps.{calls_behind, falls_behind, labels_behind}
 use Rattle.dg_volume.proofs.seals.write_opened.Goals as goal
 
 pub returns-clause-most : goal.returns-clause-most
@@ -10,3 +10,6 @@ pub returns-clause-label : goal.returns-clause-label
 returns-clause-label g c =
     labels_behind g.R.Rack c.args.store.now c.open_where.new.store c.write.new.self c.args.label.now c.open_where.new.label c.requires.sound c.requires.whole
     (c.open_where.ensures.opens refl) c.write.ensures.leaves
+
+pub returns-clause-falls : goal.returns-clause-falls
+returns-clause-falls g c = falls_behind g.R.Rack c.args.store.now c.open_where.new.store c.write.new.self c.open_where.ensures.array c.write.ensures.leaves

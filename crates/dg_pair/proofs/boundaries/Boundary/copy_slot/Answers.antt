@@ -2,7 +2,7 @@ use Rattle.std.proofs.Common.{refl}
 use Rattle.dg_pair.specs.Boundaries.{members_of, number_of, size_of, slots_of, HasNext}
 use Rattle.dg_pair.specs.Calls.{copied}
 use Rattle.dg_pair.proofs.BesideLemmas.{beside_slot}
-use Rattle.dg_pair.proofs.CaseLemmas.{leaves_from}
+use Rattle.dg_pair.proofs.CaseLemmas.{leaves_from, only_at}
 use Rattle.dg_pair.proofs.CopyLemmas.{copy_falls, copy_keeps, copy_moves}
 use Rattle.dg_pair.proofs.boundaries.Boundary.copy_slot.Goals as goal
 
@@ -22,7 +22,8 @@ returns-clause-torn g c = rw (← c.replace.ensures.value) c.copy_any-next.ensur
 pub returns-clause-leaves : goal.returns-clause-leaves
 returns-clause-leaves g c = rw (← c.replace.ensures.value) (
     leaves_from g.R.Rack (copied c.copy_any-next.result.1 (members_of c.replace.result)) c.replace.result c.copy_any-next.result.0 _ _ (rw c.replace.ensures.value c.requires.well) c.copy_any-next.ensures.leaves
-    (copy_falls c.copy_any-next.result.1 (members_of c.replace.result) (members_of c.copy_any-next.result.0) _ _ c.copy_any-next.ensures.copied c.copy_any-next.ensures.falls) c.copy_any-next.ensures.room)
+    (copy_falls c.copy_any-next.result.1 (members_of c.replace.result) (members_of c.copy_any-next.result.0) _ _ c.copy_any-next.ensures.copied c.copy_any-next.ensures.falls) c.copy_any-next.ensures.room
+    (only_at g.R.Rack c.replace.result _ _ (rw c.replace.ensures.value c.requires.well) c.copy_any-next.ensures.made))
 
 pub returns-clause-fell : goal.returns-clause-fell
 returns-clause-fell g c = rw (← c.replace.ensures.value) c.copy_any-next.ensures.fell

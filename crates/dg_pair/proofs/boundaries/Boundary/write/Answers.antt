@@ -2,12 +2,13 @@ use Rattle.std.proofs.Common.{arith, length}
 use Rattle.dg_pair.specs.Boundaries.{members_of, size_of, slots_of}
 use Rattle.dg_pair.proofs.BesideLemmas.{beside_slot}
 use Rattle.dg_pair.proofs.BoundaryLemmas.{lost_is, holds_moves, servers_are}
-use Rattle.dg_pair.proofs.CaseLemmas.{leaves_from}
+use Rattle.dg_pair.proofs.CaseLemmas.{leaves_from, only_at}
 use Rattle.dg_pair.proofs.boundaries.Boundary.write.Goals as goal
 
 pub returns-clause-leaves : goal.returns-clause-leaves
 returns-clause-leaves g c = rw (← c.replace.ensures.value) (
-    leaves_from g.R.Rack (members_of c.replace.result) c.replace.result c.write_any-next.result.0 _ _ (rw c.replace.ensures.value c.requires.well) c.write_any-next.ensures.leaves c.write_any-next.ensures.falls c.write_any-next.ensures.room)
+    leaves_from g.R.Rack (members_of c.replace.result) c.replace.result c.write_any-next.result.0 _ _ (rw c.replace.ensures.value c.requires.well) c.write_any-next.ensures.leaves c.write_any-next.ensures.falls c.write_any-next.ensures.room
+    (only_at g.R.Rack c.replace.result _ _ (rw c.replace.ensures.value c.requires.well) c.write_any-next.ensures.made))
 
 pub returns-clause-beside : goal.returns-clause-beside
 returns-clause-beside g c = rw (← c.replace.ensures.value) (λ q.

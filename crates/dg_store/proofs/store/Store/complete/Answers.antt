@@ -1,5 +1,5 @@
 use Rattle.std.proofs.Common.{refl, sym, ◌∙◌, arith}
-use Rattle.dg_store.specs.ReadLaws.{rack_none}
+use Rattle.dg_store.specs.ReadLaws.{own_none, rack_none}
 use Rattle.dg_store.proofs.Blocks.{stands_below}
 use Rattle.dg_store.proofs.Calls.{kept_at, part_stand, row_is}
 use Rattle.dg_store.proofs.Refills.{changes_at, part_full, same_told}
@@ -27,7 +27,7 @@ returns-clause-sound g c =
     let row = c.args.self.now.row.items in
     let changed = part.changed y in
     let keeps = c.complete.ensures.keeps in
-    sound_of g.R.Rack _ s.table
+    sound_of g.R.Rack g.met.R.Rack.told _ s.table
     (row_is g.R.Rack c.args.self.now.map.shape c.args.boundary row x y _ _ part.within part.was (row_of g.R.Rack c.args.self.now s) keeps
     (λ q serving. part_stand _ _ _ _ _ x part.within part.was s.built.stands _ s.stand q (λ out. serving (c.complete.ensures.out_stays q out)))
     (λ q off stands. stands) (λ q off. same_told _)
@@ -35,7 +35,7 @@ returns-clause-sound g c =
     s.built.block s.built.given_up
 
 pub returns-clause-stays : goal.returns-clause-stays
-returns-clause-stays g c = record { shape = refl; stays = rack_none g.R.Rack c.args.self.now.rack }
+returns-clause-stays g c = record { shape = refl; stays = rack_none g.R.Rack c.args.self.now.rack; own = own_none g.R.Rack c.args.self.now.map.shape.b c.args.self.now.rack }
 
 pub returns-clause-completed : goal.returns-clause-completed
 returns-clause-completed g c =

@@ -12,7 +12,7 @@ use Rattle.dg_store.proofs.store.Store.copy_in.Goals as goal
 pub returns-in-Err-Full-clause-leaves : goal.returns-in-Err-Full-clause-leaves
 returns-in-Err-Full-clause-leaves g c =
     let s = c.requires.sound in
-    leaves_of g.R.Rack c.args.self.now _ (ap (λ (t : Table). t.shape) c.in-Err-Full.ensures.refused) c.take_spare.ensures.table s.built.block s.built.given_up
+    leaves_of g.R.Rack g.met.R.Rack.told c.args.self.now _ (ap (λ (t : Table). t.shape) c.in-Err-Full.ensures.refused) c.take_spare.ensures.table s.built.block s.built.given_up
     (keeps_none g.R.Rack c.args.self.now.map.shape _ _ (row_of g.R.Rack c.args.self.now s))
 
 pub returns-in-Err-Full-clause-same : goal.returns-in-Err-Full-clause-same
@@ -21,7 +21,7 @@ returns-in-Err-Full-clause-same g c other V st = rw c.in-Err-Full.ensures.refuse
 pub returns-in-Err-NoMemory-clause-leaves : goal.returns-in-Err-NoMemory-clause-leaves
 returns-in-Err-NoMemory-clause-leaves g c =
     let s = c.requires.sound in
-    leaves_of g.R.Rack c.args.self.now _ (ap (λ (t : Table). t.shape) c.in-Err-NoMemory.ensures.refused) c.take_spare.ensures.table s.built.block s.built.given_up
+    leaves_of g.R.Rack g.met.R.Rack.told c.args.self.now _ (ap (λ (t : Table). t.shape) c.in-Err-NoMemory.ensures.refused) c.take_spare.ensures.table s.built.block s.built.given_up
     (keeps_none g.R.Rack c.args.self.now.map.shape _ _ (row_of g.R.Rack c.args.self.now s))
 
 pub returns-in-Err-NoMemory-clause-err_same : goal.returns-in-Err-NoMemory-clause-err_same
@@ -53,7 +53,7 @@ returns-in-Kept-clause-leaves g c =
     let put = ap (λ (t : Table). t.shape) c.in-Ok.ensures.taken.taken in
     let shape = c.shape-shape.ensures.shape ∙ put in
     let k = rw shape at c.write_slot.ensures in
-    leaves_of g.R.Rack c.args.self.now _ put c.take_spare.ensures.table s.built.block s.built.given_up k.keeps
+    leaves_of g.R.Rack g.met.R.Rack.told c.args.self.now _ put c.take_spare.ensures.table s.built.block s.built.given_up k.keeps
 
 pub returns-in-Kept-clause-members : goal.returns-in-Kept-clause-members
 returns-in-Kept-clause-members g c q off = c.write_slot.ensures.others q (λ at. off (at ∙ c.in-Ok.ensures.taken.on))
@@ -93,7 +93,7 @@ returns-in-Lost-clause-leaves g c =
     let put = ap (λ (t : Table). t.shape) c.in-Ok.ensures.taken.taken in
     let shape = c.shape-shape.ensures.shape ∙ put in
     let k = rw shape at c.write_slot.ensures in
-    leaves_of g.R.Rack c.args.self.now _ (ap (λ (t : Table). t.shape) c.drop_site.ensures.dropped ∙ put) c.drop_site.ensures.table s.built.block s.built.given_up k.keeps
+    leaves_of g.R.Rack g.met.R.Rack.told c.args.self.now _ (ap (λ (t : Table). t.shape) c.drop_site.ensures.dropped ∙ put) c.drop_site.ensures.table s.built.block s.built.given_up k.keeps
 
 pub returns-in-Lost-clause-members : goal.returns-in-Lost-clause-members
 returns-in-Lost-clause-members g c q off = c.write_slot.ensures.others q (λ at. off (at ∙ c.in-Ok.ensures.taken.on))

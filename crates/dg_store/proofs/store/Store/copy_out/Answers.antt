@@ -13,7 +13,7 @@ pub returns-clause-leaves : goal.returns-clause-leaves
 returns-clause-leaves g c =
     let s = c.requires.sound in
     let k = rw c.shape-shape.ensures.shape at c.read_block.ensures in
-    leaves_of g.R.Rack c.args.self.now _ refl s.table k.size s.built.given_up k.keeps
+    leaves_of g.R.Rack g.met.R.Rack.told c.args.self.now _ refl s.table k.size s.built.given_up k.keeps
 
 pub returns-clause-got : goal.returns-clause-got
 returns-clause-got g c got told V st =

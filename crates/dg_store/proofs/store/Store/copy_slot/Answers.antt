@@ -1,9 +1,10 @@
 use Rattle.std.proofs.Common.{inl, inr, refl, sym, ◌∙◌, ap}
 use Rattle.dg_store.proofs.Blocks.{stands_kept}
-use Rattle.dg_store.proofs.Calls.{kept_at, row_falls, row_is, row_kept, row_lost, still_long}
+use Rattle.dg_store.proofs.Changed.{fell_changed}
+use Rattle.dg_store.proofs.Calls.{kept_at, row_falls, row_is, row_kept, row_lost, still_long, own_of, stays_of, called_of, idle_of}
 use Rattle.dg_model.specs.Members.{is_filling}
 use Rattle.dg_store.proofs.Refills.{changes_at, copy_told, copied_in, not_next, part_filling, part_next, uncopied_falls}
-use Rattle.dg_store.proofs.Parts.{part_of, stays_of}
+use Rattle.dg_store.proofs.Parts.{part_of}
 use Rattle.dg_store.proofs.Sound.{row_of, sound_of}
 use Rattle.std.proofs.lemmas.Bool.{cases_eq}
 use Rattle.dg_pair.specs.Boundaries.{raised, unfilled}
@@ -43,7 +44,7 @@ returns-clause-sound g c =
     let row = c.args.self.now.row.items in
     let changed = part.changed y in
     let leaves = c.copy_slot.ensures.leaves in
-    sound_of g.R.Rack _ s.table
+    sound_of g.R.Rack g.met.R.Rack.told _ s.table
     (row_is g.R.Rack c.args.self.now.map.shape c.args.boundary row x y _ _ part.within part.was (row_of g.R.Rack c.args.self.now s) leaves.pair leaves.stand leaves.others_stand leaves.other_bytes
     (λ q here serving. still_long c.args.self.now.map.shape 512 _ _ _ (c.copy_slot.ensures.beside q)
     (s.long q (λ out. copied_in _ _ c.copy_slot.result _ _ leaves.falls q serving (sym (changed.was q here) ∙ out)))))
@@ -51,7 +52,23 @@ returns-clause-sound g c =
 
 pub returns-clause-stays : goal.returns-clause-stays
 returns-clause-stays g c =
-    record { shape = refl; stays = stays_of c.copy_slot.ensures.leaves }
+    let part = part_of c.requires.sound c.requires.boundary c.index_mut.ensures.value in
+    record { shape = refl; stays = stays_of g.R.Rack g.met.R.Rack.after c.copy_slot.ensures.leaves; own = own_of g.R.Rack part.pair.number_is c.requires.boundary c.copy_slot.ensures.leaves }
+
+pub returns-clause-called : goal.returns-clause-called
+returns-clause-called g c =
+    let part = part_of c.requires.sound c.requires.boundary c.index_mut.ensures.value in
+    called_of g.R.Rack part.pair.own (part.changed c.copy_slot.new.self).was c.copy_slot.ensures.made
+
+pub returns-clause-idle : goal.returns-clause-idle
+returns-clause-idle g c =
+    let part = part_of c.requires.sound c.requires.boundary c.index_mut.ensures.value in
+    idle_of g.R.Rack g.met.R.Rack.after part.pair.own (part.changed c.copy_slot.new.self).was c.copy_slot.ensures.made
+
+pub returns-clause-faulty : goal.returns-clause-faulty
+returns-clause-faulty g c =
+    let part = part_of c.requires.sound c.requires.boundary c.index_mut.ensures.value in
+    fell_changed c.args.boundary _ _ _ _ (part.changed c.copy_slot.new.self) _ _ (λ q off. c.copy_slot.ensures.leaves.other_faults q (λ at. off (at ∙ part.pair.number_is))) c.copy_slot.ensures.leaves.fell
 
 pub returns-clause-beside : goal.returns-clause-beside
 returns-clause-beside g c =

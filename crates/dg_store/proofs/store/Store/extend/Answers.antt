@@ -1,9 +1,10 @@
 use Rattle.std.proofs.Common.{◌≡◌, inl, inr, ◌+◌, ◌*◌, ◌/◌, refl, sym, ◌∙◌, ap, arith}
 use Rattle.std.proofs.lemmas.Bool.{cases_eq}
 use Rattle.dg_store.proofs.Blocks.{stands_below}
-use Rattle.dg_store.proofs.Calls.{kept_at, row_falls, was_in, row_is}
+use Rattle.dg_store.proofs.Changed.{fell_changed}
+use Rattle.dg_store.proofs.Calls.{kept_at, row_falls, was_in, row_is, own_of, stays_of, called_of, idle_of}
 use Rattle.dg_store.proofs.Refills.{extended_is_long}
-use Rattle.dg_store.proofs.Parts.{part_of, stays_of}
+use Rattle.dg_store.proofs.Parts.{part_of}
 use Rattle.dg_store.proofs.Sound.{row_of, sound_of}
 use Rattle.dg_store.proofs.Struck.{struck}
 use Rattle.dg_store.proofs.store.Store.extend.Goals as goal
@@ -43,7 +44,7 @@ returns-clause-sound g c =
     let changed = part.changed y in
     let leaves = c.extend.ensures.leaves in
     let p = 2 * c.args.boundary + c.args.side in
-    sound_of g.R.Rack _ s.table
+    sound_of g.R.Rack g.met.R.Rack.told _ s.table
     (row_is g.R.Rack c.args.self.now.map.shape c.args.boundary row x y _ _ part.within part.was (row_of g.R.Rack c.args.self.now s) leaves.pair leaves.stand leaves.others_stand leaves.other_bytes
     (λ q here serving. extended_is_long c.args.self.now.map.shape p c.args.size c.extend.result _ _ _ _ (was_in _ _ _ _ leaves.falls)
     k.out k.extended k.other_members (λ is. ap g.R.Rack.bytes (k.quiet is)) q
@@ -52,7 +53,23 @@ returns-clause-sound g c =
 
 pub returns-clause-stays : goal.returns-clause-stays
 returns-clause-stays g c =
-    record { shape = refl; stays = stays_of c.extend.ensures.leaves }
+    let part = part_of c.requires.sound c.requires.boundary c.index_mut.ensures.value in
+    record { shape = refl; stays = stays_of g.R.Rack g.met.R.Rack.after c.extend.ensures.leaves; own = own_of g.R.Rack part.pair.number_is c.requires.boundary c.extend.ensures.leaves }
+
+pub returns-clause-called : goal.returns-clause-called
+returns-clause-called g c =
+    let part = part_of c.requires.sound c.requires.boundary c.index_mut.ensures.value in
+    called_of g.R.Rack part.pair.own (part.changed c.extend.new.self).was c.extend.ensures.made
+
+pub returns-clause-idle : goal.returns-clause-idle
+returns-clause-idle g c =
+    let part = part_of c.requires.sound c.requires.boundary c.index_mut.ensures.value in
+    idle_of g.R.Rack g.met.R.Rack.after part.pair.own (part.changed c.extend.new.self).was c.extend.ensures.made
+
+pub returns-clause-faulty : goal.returns-clause-faulty
+returns-clause-faulty g c =
+    let part = part_of c.requires.sound c.requires.boundary c.index_mut.ensures.value in
+    fell_changed c.args.boundary _ _ _ _ (part.changed c.extend.new.self) _ _ (λ q off. c.extend.ensures.leaves.other_faults q (λ at. off (at ∙ part.pair.number_is))) c.extend.ensures.leaves.fell
 
 pub returns-clause-not_good : goal.returns-clause-not_good
 returns-clause-not_good g c =

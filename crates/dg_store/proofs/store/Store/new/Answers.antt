@@ -10,10 +10,13 @@ returns g c =
     let empty = c.in_ok-map.ensures.empty in
     let size : length c.in-Ok.block.items ≡ c.args.shape.l = search rules in
     record {
-      sound = sound_by g.R.Rack _ c.args.shape (ap (λ (t : Table). t.shape) empty) c.in_ok-map.ensures.table row.row size c.new-2.ensures.items;
+      sound = sound_by g.R.Rack g.met.R.Rack.told _ c.args.shape (ap (λ (t : Table). t.shape) empty) c.in_ok-map.ensures.table row.row size c.new-2.ensures.items;
       table = empty;
       members = row.begins;
       stays = row.rack;
+      made = row.made;
+      own = row.own;
+      fell = row.fell;
       blanked = row.zeros;
       stands = rw empty (stands_blank _ _ c.args.shape);
       most = row.most;

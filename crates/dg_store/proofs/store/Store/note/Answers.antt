@@ -1,9 +1,10 @@
 use Rattle.std.proofs.Common.{◌≡◌, inl, inr, ◌+◌, ◌*◌, ◌/◌, refl, sym, ◌∙◌, ap, arith}
 use Rattle.std.proofs.lemmas.Bool.{cases_eq}
 use Rattle.dg_store.proofs.Blocks.{stands_below}
-use Rattle.dg_store.proofs.Calls.{kept_at, row_falls, was_in, row_is}
+use Rattle.dg_store.proofs.Changed.{fell_changed}
+use Rattle.dg_store.proofs.Calls.{kept_at, row_falls, was_in, row_is, own_of, stays_of, called_of, idle_of}
 use Rattle.dg_store.proofs.Refills.{noted_long}
-use Rattle.dg_store.proofs.Parts.{part_of, stays_of}
+use Rattle.dg_store.proofs.Parts.{part_of}
 use Rattle.dg_store.proofs.Sound.{row_of, sound_of}
 use Rattle.dg_store.proofs.Struck.{struck}
 use Rattle.dg_store.proofs.store.Store.note.Goals as goal
@@ -49,7 +50,7 @@ returns-clause-sound g c =
     let leaves = c.note.ensures.leaves in
     let p = 2 * c.args.boundary + c.args.side in
     let at : p / 2 ≡ c.args.boundary = omega (arith, c.requires.side) in
-    sound_of g.R.Rack _ s.table
+    sound_of g.R.Rack g.met.R.Rack.told _ s.table
     (row_is g.R.Rack c.args.self.now.map.shape c.args.boundary row x y _ _ part.within part.was (row_of g.R.Rack c.args.self.now s) leaves.pair leaves.stand leaves.others_stand leaves.other_bytes
     (λ q here serving. noted_long c.args.self.now.map.shape p c.args.place c.args.buf.now c.note.result _ _ _ _ (was_in _ _ _ _ leaves.falls)
     (λ good. c.requires.fits (changed.was p at ∙ good)) k.not_good k.out k.noted k.other_members (λ is. ap g.R.Rack.bytes (k.quiet is)) q
@@ -58,7 +59,23 @@ returns-clause-sound g c =
 
 pub returns-clause-stays : goal.returns-clause-stays
 returns-clause-stays g c =
-    record { shape = refl; stays = stays_of c.note.ensures.leaves }
+    let part = part_of c.requires.sound c.requires.boundary c.index_mut.ensures.value in
+    record { shape = refl; stays = stays_of g.R.Rack g.met.R.Rack.after c.note.ensures.leaves; own = own_of g.R.Rack part.pair.number_is c.requires.boundary c.note.ensures.leaves }
+
+pub returns-clause-called : goal.returns-clause-called
+returns-clause-called g c =
+    let part = part_of c.requires.sound c.requires.boundary c.index_mut.ensures.value in
+    called_of g.R.Rack part.pair.own (part.changed c.note.new.self).was c.note.ensures.made
+
+pub returns-clause-idle : goal.returns-clause-idle
+returns-clause-idle g c =
+    let part = part_of c.requires.sound c.requires.boundary c.index_mut.ensures.value in
+    idle_of g.R.Rack g.met.R.Rack.after part.pair.own (part.changed c.note.new.self).was c.note.ensures.made
+
+pub returns-clause-faulty : goal.returns-clause-faulty
+returns-clause-faulty g c =
+    let part = part_of c.requires.sound c.requires.boundary c.index_mut.ensures.value in
+    fell_changed c.args.boundary _ _ _ _ (part.changed c.note.new.self) _ _ (λ q off. c.note.ensures.leaves.other_faults q (λ at. off (at ∙ part.pair.number_is))) c.note.ensures.leaves.fell
 
 pub returns-clause-not_good : goal.returns-clause-not_good
 returns-clause-not_good g c =
@@ -136,3 +153,9 @@ returns-clause-stands g c V st_for =
     stands_below _ _ _ _ V c.args.self.now.map s.table
     (λ t slot v low. kept_at _ _ _ _ x y part.within part.was s.built.stands _ _ c.note.ensures.leaves.other_bytes t slot v
     (λ here had. c.note.ensures.kept slot v (omega (arith, part.pair.slots_is, low)) had)) st_for
+
+pub returns-clause-whole : goal.returns-clause-whole
+returns-clause-whole g c is =
+    let part = part_of c.requires.sound c.requires.boundary c.index_mut.ensures.value in
+    let k = rw part.pair.number_is at c.note.ensures in
+    k.whole is

@@ -8,7 +8,7 @@ use Rattle.dg_store.proofs.store.Store.reap.Goals as goal
 pub returns-clause-leaves : goal.returns-clause-leaves
 returns-clause-leaves g c =
     let s = c.requires.sound in
-    leaves_of g.R.Rack c.args.self.now _ (ap (λ (t : Table). t.shape) c.give_up_all.ensures.none) c.give_up_all.ensures.table s.built.block s.built.given_up
+    leaves_of g.R.Rack g.met.R.Rack.told c.args.self.now _ (ap (λ (t : Table). t.shape) c.give_up_all.ensures.none) c.give_up_all.ensures.table s.built.block s.built.given_up
     (keeps_none g.R.Rack c.args.self.now.map.shape _ _ (row_of g.R.Rack c.args.self.now s))
 
 pub returns-clause-zeros : goal.returns-clause-zeros

@@ -1,8 +1,9 @@
 use Rattle.std.proofs.Common.{◌≡◌, ◌+◌, ◌*◌, ◌/◌, refl, sym, ◌∙◌, ap, arith}
 use Rattle.dg_store.proofs.Blocks.{stands_kept}
-use Rattle.dg_store.proofs.Calls.{row_is, row_kept}
+use Rattle.dg_store.proofs.Changed.{fell_changed}
+use Rattle.dg_store.proofs.Calls.{row_is, row_kept, own_of, stays_of}
 use Rattle.dg_store.proofs.Refills.{replaced_changed, replaced_long}
-use Rattle.dg_store.proofs.Parts.{part_of, stays_of}
+use Rattle.dg_store.proofs.Parts.{part_of}
 use Rattle.dg_store.proofs.Rows.{lost_at}
 use Rattle.dg_store.proofs.Sound.{row_of, sound_of}
 use Rattle.dg_store.proofs.store.Store.replace.Goals as goal
@@ -37,7 +38,7 @@ returns-clause-sound g c =
     let k = rw part.pair.number_is at c.replace.ensures in
     let changed = part.changed y in
     let p = 2 * c.args.boundary + c.args.side in
-    sound_of g.R.Rack _ s.table
+    sound_of g.R.Rack g.met.R.Rack.told _ s.table
     (row_is g.R.Rack c.args.self.now.map.shape c.args.boundary row x y _ _ part.within part.was (row_of g.R.Rack c.args.self.now s) c.replace.ensures.leaves.pair c.replace.ensures.leaves.stand c.replace.ensures.leaves.others_stand c.replace.ensures.leaves.other_bytes
     (λ q here serving. replaced_long c.args.self.now.map.shape p c.args.size c.replace.result _ _ _ _ c.requires.size k.members k.not_out k.blank k.other_members (λ quiet. ap g.R.Rack.bytes (k.quiet quiet)) q
     (λ stands. s.long q (λ out. stands (sym (changed.was q here) ∙ out))) serving))
@@ -45,7 +46,13 @@ returns-clause-sound g c =
 
 pub returns-clause-stays : goal.returns-clause-stays
 returns-clause-stays g c =
-    record { shape = refl; stays = stays_of c.replace.ensures.leaves }
+    let part = part_of c.requires.sound c.requires.boundary c.index_mut.ensures.value in
+    record { shape = refl; stays = stays_of g.R.Rack g.met.R.Rack.after c.replace.ensures.leaves; own = own_of g.R.Rack part.pair.number_is c.requires.boundary c.replace.ensures.leaves }
+
+pub returns-clause-faulty : goal.returns-clause-faulty
+returns-clause-faulty g c =
+    let part = part_of c.requires.sound c.requires.boundary c.index_mut.ensures.value in
+    fell_changed c.args.boundary _ _ _ _ (part.changed c.replace.new.self) _ _ (λ q off. c.replace.ensures.leaves.other_faults q (λ at. off (at ∙ part.pair.number_is))) c.replace.ensures.leaves.fell
 
 pub returns-clause-lost : goal.returns-clause-lost
 returns-clause-lost g c =

@@ -12,7 +12,7 @@ drop_site-requires-clause-boundary g c = on_boundary c.args.self.now.map c.args.
 pub returns-clause-leaves : goal.returns-clause-leaves
 returns-clause-leaves g c =
     let s = c.requires.sound in
-    leaves_of g.R.Rack c.args.self.now _ (ap (λ (t : Table). t.shape) c.drop_site.ensures.dropped) c.drop_site.ensures.table s.built.block s.built.given_up
+    leaves_of g.R.Rack g.met.R.Rack.told c.args.self.now _ (ap (λ (t : Table). t.shape) c.drop_site.ensures.dropped) c.drop_site.ensures.table s.built.block s.built.given_up
     (keeps_none g.R.Rack c.args.self.now.map.shape _ _ (row_of g.R.Rack c.args.self.now s))
 
 pub returns-clause-written : goal.returns-clause-written

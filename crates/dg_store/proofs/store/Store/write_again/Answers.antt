@@ -25,13 +25,13 @@ pub returns-then-all_lost_at-clause-leaves : goal.returns-then-all_lost_at-claus
 returns-then-all_lost_at-clause-leaves g c =
     let s = c.requires.sound in
     let k = rw c.shape-shape.ensures.shape at c.write_sites.ensures in
-    leaves_of g.R.Rack c.args.self.now _ refl s.table s.built.block s.built.given_up k.keeps
+    leaves_of g.R.Rack g.met.R.Rack.told c.args.self.now _ refl s.table s.built.block s.built.given_up k.keeps
 
 pub returns-else-all_lost_at-clause-leaves : goal.returns-else-all_lost_at-clause-leaves
 returns-else-all_lost_at-clause-leaves g c =
     let s = c.requires.sound in
     let k = rw c.shape-shape.ensures.shape at c.write_sites.ensures in
-    leaves_of g.R.Rack c.args.self.now _ refl s.table s.built.block s.built.given_up k.keeps
+    leaves_of g.R.Rack g.met.R.Rack.told c.args.self.now _ refl s.table s.built.block s.built.given_up k.keeps
 
 pub returns-then-all_lost_at-clause-same : goal.returns-then-all_lost_at-clause-same
 returns-then-all_lost_at-clause-same g c is V st =

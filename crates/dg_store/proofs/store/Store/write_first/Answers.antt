@@ -18,7 +18,7 @@ use Rattle.dg_store.proofs.store.Store.write_first.Goals as goal
 pub returns-in_default-clause-leaves : goal.returns-in_default-clause-leaves
 returns-in_default-clause-leaves g c =
     let s = c.requires.1.1.0 in
-    leaves_of g.R.Rack c.args.self.now _ c.in_default.ensures.err.shape c.in_default.ensures.table s.built.block c.clear.ensures.items
+    leaves_of g.R.Rack g.met.R.Rack.told c.args.self.now _ c.in_default.ensures.err.shape c.in_default.ensures.table s.built.block c.clear.ensures.items
     (keeps_none g.R.Rack c.args.self.now.map.shape _ _ (row_of g.R.Rack c.args.self.now s))
 
 pub returns-in_default-clause-err : goal.returns-in_default-clause-err
@@ -46,7 +46,7 @@ returns-in-Kept-clause-leaves g c =
     let s = c.requires.1.1.0 in
     let shape = c.in-Ok.ensures.others.shape in
     let k = rw (c.shape-shape.ensures.shape, shape) at c.write_slot.ensures in
-    leaves_of g.R.Rack c.args.self.now _ shape c.in-Ok.ensures.table s.built.block c.clear-in-Kept.ensures.items k.keeps
+    leaves_of g.R.Rack g.met.R.Rack.told c.args.self.now _ shape c.in-Ok.ensures.table s.built.block c.clear-in-Kept.ensures.items k.keeps
 
 pub returns-in-Kept-clause-stored : goal.returns-in-Kept-clause-stored
 returns-in-Kept-clause-stored g c is =
@@ -74,7 +74,7 @@ returns-in-Ok-undone-clause-leaves g c =
     let shape = c.in-Ok.ensures.others.shape in
     let k = rw (c.shape-shape.ensures.shape, shape) at c.write_slot.ensures in
     let back = c.in-Ok-undone.ensures.ok ∙ c.requires.1.0 in
-    leaves_of g.R.Rack c.args.self.now _ (ap (λ (t : Table). t.shape) back) c.take_back-undone.ensures.table s.built.block c.clear-in-Lost.ensures.items k.keeps
+    leaves_of g.R.Rack g.met.R.Rack.told c.args.self.now _ (ap (λ (t : Table). t.shape) back) c.take_back-undone.ensures.table s.built.block c.clear-in-Lost.ensures.items k.keeps
 
 pub returns-in-Ok-undone-clause-lost : goal.returns-in-Ok-undone-clause-lost
 returns-in-Ok-undone-clause-lost g c is =
@@ -99,7 +99,7 @@ returns-in-Err-clause-leaves g c =
     let shape = c.in-Ok.ensures.others.shape in
     let k = rw (c.shape-shape.ensures.shape, shape) at c.write_slot.ensures in
     let thinned = rw c.requires.1.0 at c.in-Err.ensures.err in
-    leaves_of g.R.Rack c.args.self.now _ thinned.shape c.take_back-undone.ensures.table s.built.block c.clear-in-Lost.ensures.items k.keeps
+    leaves_of g.R.Rack g.met.R.Rack.told c.args.self.now _ thinned.shape c.take_back-undone.ensures.table s.built.block c.clear-in-Lost.ensures.items k.keeps
 
 pub returns-in-Err-clause-err : goal.returns-in-Err-clause-err
 returns-in-Err-clause-err g c =

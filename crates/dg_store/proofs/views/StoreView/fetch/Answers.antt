@@ -1,7 +1,8 @@
 use Rattle.std.proofs.Common.{◌<◌, ◌/◌, ◌∙◌, [], length, sym, ap, subst, arith}
 use Rattle.std.proofs.lemmas.List.{get_or_default}
 use Rattle.dg_model.specs.Tables.{Table}
-use Rattle.dg_store.proofs.ViewLaws.{fetched_one, gone_stays, tells_good}
+use Rattle.dg_store.specs.ReadLaws.{tells_good}
+use Rattle.dg_store.proofs.ViewLaws.{fetched_one, gone_stays}
 use Rattle.dg_store.proofs.views.StoreView.fetch.Goals as goal
 
 pub returns-clause-keeps : goal.returns-clause-keeps
@@ -10,7 +11,7 @@ returns-clause-keeps g c =
     let on = k.reads in
     record {
       stands = k.stands;
-      told = λ told q below. on.keeps.stays.tells q (told q (subst (λ (t : Table). q / 2 < t.shape.b) (sym on.table) below));
+      told = λ told q below. on.keeps.stays.told_before q (told q (subst (λ (t : Table). q / 2 < t.shape.b) (sym on.table) below));
       stays = λ b gone. gone_stays _ _ _ _ _ _ b on.table on.keeps.falls gone;
       blocks = ap (λ (t : Table). t.shape.n) on.table;
       bytes = ap (λ (t : Table). t.shape.l) on.table;
@@ -22,7 +23,7 @@ pub returns-clause-bytes : goal.returns-clause-bytes
 returns-clause-bytes g c got told v st =
     let k = c.read.ensures in
     let within : c.args.block < length v = omega (arith, st.size, c.requires.within) in
-    k.got got (tells_good _ _ _ k.sound.built.count told) v st ∙ get_or_default v c.args.block [] _ within
+    k.got got (tells_good g.R.Rack _ k.sound told) v st ∙ get_or_default v c.args.block [] _ within
 
 pub returns-clause-fetched : goal.returns-clause-fetched
 returns-clause-fetched g c =

@@ -9,4 +9,4 @@ returns-clause-settled g c =
     let b = c.put_in_place.new.self in
     let e = c.in_ok-unsettled.ensures in
     goes_settled loose_phase settled_phase g.R.Rack c.args.self b (record { inference = b.phase.inference })
-    (record { phase_is = refl; kept_is = refl }) e.leaves (e.put (ap Ok c.in_default.is))
+    (record { phase_is = refl; kept_is = refl }) e.leaves (e.put (ap Ok c.in_default.is)) e.given

@@ -14,4 +14,5 @@ returns g c =
       homes = c.new-6.ensures ∙ c.new-5.ensures.items;
       copies = c.new-8.ensures ∙ c.new-7.ensures.items;
       label = refl;
+      given = refl;
     })

@@ -1,6 +1,7 @@
 use Rattle.std.proofs.Common.{◌≡◌, refl, ap, arith}
 use Rattle.dg_model.specs.declared.shapes.Shape.{Shape}
 use Rattle.dg_volume.proofs.VolumeSteps.{fail_leaves, steps_already, steps_struck}
+use Rattle.dg_volume.proofs.VolumeLaws.{leaves_none}
 use Rattle.dg_volume.specs.Volumes.{shape_of}
 use Rattle.dg_volume.proofs.volumes.Volume.fail.Goals as goal
 
@@ -15,7 +16,7 @@ returns-in-Already-clause-leaves g c =
       side = omega arith;
       beside = record { phase_is = refl; pending = refl; homes = refl; copies = refl };
       levels = refl;
-      sound = k.sound;
+      sound = k.sound c.requires.well.array;
       rack_is = k.rack;
       label_is = refl;
       labeled = c.requires.well.labeled;
@@ -35,7 +36,7 @@ returns-in-Taken-clause-leaves g c =
       side = omega arith;
       beside = record { phase_is = refl; pending = refl; homes = refl; copies = refl };
       levels = refl;
-      sound = k.sound;
+      sound = k.sound c.requires.well.array;
       rack_is = k.rack;
       label_is = refl;
       labeled = c.requires.well.labeled;
@@ -55,7 +56,7 @@ returns-in-Already-clause-steps g c =
       side = omega arith;
       beside = record { phase_is = refl; pending = refl; homes = refl; copies = refl };
       levels = refl;
-      sound = k.sound;
+      sound = k.sound c.requires.well.array;
       rack_is = k.rack;
       label_is = refl;
       labeled = c.requires.well.labeled;
@@ -76,7 +77,7 @@ returns-in-Taken-clause-steps g c =
       side = omega arith;
       beside = record { phase_is = refl; pending = refl; homes = refl; copies = refl };
       levels = refl;
-      sound = k.sound;
+      sound = k.sound c.requires.well.array;
       rack_is = k.rack;
       label_is = refl;
       labeled = c.requires.well.labeled;
@@ -85,3 +86,6 @@ returns-in-Taken-clause-steps g c =
       stands = k.stands;
     })
     (λ out. cc (k.already.1 out))
+
+pub returns-then-boundary-shape-clause-leaves : goal.returns-then-boundary-shape-clause-leaves
+returns-then-boundary-shape-clause-leaves g c = leaves_none g.S.InPhase g.R.Rack c.args.self.now c.requires.well

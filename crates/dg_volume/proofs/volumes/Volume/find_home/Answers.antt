@@ -11,7 +11,8 @@ returns-then-is_regular-clause-steps g c =
     rw c.home_in.ensures
     (home_steps g.S.InPhase g.R.Rack c.args.path.now c.in-Ok.found.0 a (record a { store = c.look.new.view; levels = c.look.new.levels }) c.requires.settled
     (record { beside = record { phase_is = refl; pending = refl; homes = refl; copies = refl }; levels = c.look.ensures.levels; sound = keeps.sound; reads = keeps.goes; stands = keeps.stands; labeled = c.requires.well.labeled; label_is = refl })
-    (file_found (shape_of a).l (shape_of a).n c.args.path.now keeps.stays c.in-Ok.found true (sym c.is_regular.ensures ∙ c.if-is_regular.true) c.in-Ok.ensures.rule))
+    (file_found (shape_of a).l (shape_of a).n c.args.path.now keeps.stays c.in-Ok.found true (sym c.is_regular.ensures ∙ c.if-is_regular.true) c.in-Ok.ensures.rule)
+    c.requires.well.homes_are c.requires.well.copies_are)
 
 pub returns-else-is_regular-clause-steps : goal.returns-else-is_regular-clause-steps
 returns-else-is_regular-clause-steps g c =

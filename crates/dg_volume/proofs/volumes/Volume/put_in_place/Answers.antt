@@ -4,14 +4,17 @@ use Rattle.dg_model.specs.Tables.{Table}
 use Rattle.dg_model.specs.declared.homes.Home.{Home}
 use Rattle.dg_plan.specs.Targets.{wants_of}
 use Rattle.dg_store.specs.Answers.{SameWritten}
-use Rattle.dg_store.specs.Stores.{KeepsBlocks, TellsAll, table_of}
+use Rattle.dg_store.specs.Stores.{KeepsBlocks, TellsAll, members_of, table_of}
 use Rattle.dg_volume.proofs.ArrayLaws.{moved_both, no_plan_before, on_err, plan_before, read_both, told_by, told_moved}
-use Rattle.dg_volume.proofs.MoveSteps.{check_refused, has_moved, has_read, keeps_of, labels_run, loose_not_settled, moved_leaves, settle_cramped, settle_lost_moving, settle_lost_reading}
+use Rattle.dg_volume.proofs.MoveSteps.{check_refused, has_moved, has_read, keeps_of, labels_run, loose_not_settled, moved_leaves, settle_cramped, settle_lost_first, settle_lost_moving, settle_lost_reading}
 use Rattle.dg_volume.proofs.PlacedLaws.{few_missing}
-use Rattle.dg_volume.proofs.SettleSteps.{plan_few, plan_homes, put_in_place}
+use Rattle.dg_volume.proofs.SettleSteps.{plan_few, plan_homes, put_in_place, unlimited}
 use Rattle.dg_volume.proofs.LabelLaws.{relabels_read}
-use Rattle.dg_volume.proofs.VolumeLaws.{reads_leave}
+use Rattle.dg_volume.proofs.VolumeLaws.{leaves_none, reads_leave}
 use Rattle.dg_volume.proofs.volumes.Volume.put_in_place.Goals as goal
+
+pub returns-in-Some-clause-refused : goal.returns-in-Some-clause-refused
+returns-in-Some-clause-refused g c = settle_lost_first g.S.InPhase g.R.Rack c.args.self.now c.in-Some.lost c.in-Some.ensures
 
 pub returns-in-Err-clause-refused : goal.returns-in-Err-clause-refused
 returns-in-Err-clause-refused g c =
@@ -113,7 +116,7 @@ returns-in-Lost-2-clause-refused g c =
     let kept = c.in-Some-inference.inference.now in
     let plan = plan_before g.R.Rack a.store first mid kept a.homes targets d.reads (rw c.in-Found.is at e.answer) in
     let few = few_missing (wants_of targets) (table_of mid) e.reads.sound.table.shape in
-    let cut = rw c.in-Lost-2.is at t.moves in
+    let ended = rw c.in-Lost-2.is at t.moves in
     settle_lost_moving g.S.InPhase g.R.Rack a kept targets mid b
     (record {
       keeps = keeps_of g.S.InPhase g.R.Rack a kept c.requires.well c.in-Some-inference.ensures.kept;
@@ -128,7 +131,8 @@ returns-in-Lost-2-clause-refused g c =
       told = λ told. told_by g.R.Rack first mid e.reads.reads.keeps (told_moved g.R.Rack mid last t.array told);
       sound = rw c.in_default-2.is at d.answer;
     })
-    refl (rw c.in-Lost-2.is at t.lost) (c.limit_of_all.ensures.cut (wants_of targets) (2 ^ 32 - 1) (table_of mid) (table_of last) few cut)
+    refl (rw c.in-Lost-2.is at t.lost) (unlimited (wants_of targets) (2 ^ 32 - 1) (table_of mid) (table_of last) (members_of last)
+    (c.limit_of_all.ensures.moves (wants_of targets) (2 ^ 32 - 1) (table_of mid) few) ended)
 
 pub returns-in-Tended-clause-leaves : goal.returns-in-Tended-clause-leaves
 returns-in-Tended-clause-leaves g c =
@@ -202,7 +206,7 @@ returns-in-Tended-clause-put g c done =
     })
     c.into_homes.ensures (c.requires.well.uncopied (λ settled. loose_not_settled (sym c.requires.loose ∙ settled)))
     (subst (λ (x : Table). SameWritten x (table_of last)) read.reads.table t.written)
-    (rw c.in-Tended.is at t.lost) few (c.limit_of_all.ensures.moves (wants_of targets) (2 ^ 32 - 1) (table_of mid) few) (rw c.in-Tended.is at t.moves)
+    (rw c.in-Tended.is at t.lost) few (c.limit_of_all.ensures.moves (wants_of targets) (2 ^ 32 - 1) (table_of mid) few) (rw c.in-Tended.is at t.moves) t.still
 
 pub move_within-requires-clause-labeled : goal.move_within-requires-clause-labeled
 move_within-requires-clause-labeled g c =
@@ -256,3 +260,6 @@ returns-in-NoSpace-clause-leaves g c =
     reads_leave g.S.InPhase g.R.Rack a b c.requires.well
     (has_read g.S.InPhase g.R.Rack a b c.requires.well (record { phase_is = refl; pending = refl; homes = refl; copies = refl }) (e.levels ∙ d.levels) refl
     (read_both g.R.Rack a.store c.checked.new.store c.planned.new.store d.reads e.reads))
+
+pub returns-in-Some-clause-leaves : goal.returns-in-Some-clause-leaves
+returns-in-Some-clause-leaves g c = leaves_none g.S.InPhase g.R.Rack c.args.self.now c.requires.well

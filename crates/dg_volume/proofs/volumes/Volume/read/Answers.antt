@@ -4,6 +4,7 @@ use Rattle.dg_model.specs.declared.replies.Reply.{Reply}
 use Rattle.dg_model.specs.declared.shapes.Shape.{Shape}
 use Rattle.dg_volume.proofs.VolumeLaws.{reads_leave}
 use Rattle.dg_volume.proofs.VolumeSteps.{false_of, steps_data, steps_gone}
+use Rattle.dg_volume.proofs.VolumeLaws.{leaves_none}
 use Rattle.dg_volume.specs.Volumes.{StepsTo, shape_of}
 use Rattle.dg_volume.proofs.volumes.Volume.read.Goals as goal
 
@@ -36,7 +37,7 @@ returns-in-Got-clause-steps g c reply is =
       most = k.most;
       once = k.once;
     })
-    (false_of _ (λ gone. cc (k.gone.1 gone))) is.1 (λ tells. k.got refl tells))
+    (false_of _ (λ gone. cc (k.gone.1 gone))) is.1 (λ tells. k.got refl tells) (λ none. k.zeros none))
 
 pub returns-in-Gone-clause-steps : goal.returns-in-Gone-clause-steps
 returns-in-Gone-clause-steps g c reply is =
@@ -54,3 +55,6 @@ returns-in-Gone-clause-steps g c reply is =
       once = k.once;
     })
     (k.gone.0 refl))
+
+pub returns-then-block-shape-clause-leaves : goal.returns-then-block-shape-clause-leaves
+returns-then-block-shape-clause-leaves g c = leaves_none g.S.InPhase g.R.Rack c.args.self.now c.requires.well

@@ -5,6 +5,7 @@ use Rattle.dg_volume.proofs.RebuildSteps.{CallsRebuild, opened_leaves, opened_sp
 use Rattle.dg_volume.specs.Phases.{CanReapAll}
 use Rattle.dg_volume.specs.Refills.{AreReapMarks}
 use Rattle.dg_volume.specs.Volumes.{shape_of}
+use Rattle.dg_volume.proofs.VolumeLaws.{leaves_none}
 use Rattle.dg_volume.proofs.volumes.Volume.rebuild.Goals as goal
 
 pub returns-clause-leaves : goal.returns-clause-leaves
@@ -151,7 +152,7 @@ returns-in-Some-clause-steps g c =
     steps_ended g.S.InPhase g.R.Rack a (record a { store = c.open_refill-ended.new.store; label = c.open_refill-ended.new.label }) c.args.boundary c.args.limit c.in-Some.answer
     (record {
       boundary = omega arith;
-      paired = c.requires.well.array.paired;
+      sound = c.requires.well.array;
       was = e.was;
       none = e.none;
       opened = record { beside = record { phase_is = refl; pending = refl; homes = refl; copies = refl }; levels = refl; opening = o.array; labels = o.labels };
@@ -171,3 +172,6 @@ returns-in_err-dead-clause-spares g c =
     let o = c.open_refill-ended.ensures in
     opened_spares g.S.InPhase g.R.Rack c.change_of_loose_blocks.ensures a (record a { store = c.open_refill-ended.new.store; label = c.open_refill-ended.new.label })
     (record { beside = record { phase_is = refl; pending = refl; homes = refl; copies = refl }; levels = refl; opening = o.array; labels = o.labels })
+
+pub returns-then-boundary-shape-clause-leaves : goal.returns-then-boundary-shape-clause-leaves
+returns-then-boundary-shape-clause-leaves g c = leaves_none g.S.InPhase g.R.Rack c.args.self.now c.requires.well

@@ -6,6 +6,7 @@ use Rattle.dg_store.specs.Leaves.{BytesChange}
 use Rattle.dg_volume.proofs.ReplaceSteps.{replace_leaves, steps_failed, steps_lost, steps_not_out, steps_replaced}
 use Rattle.dg_pair.specs.declared.boundaries.ReplaceAnswer.TheVariants.{Failed, Lost, NotOut, Replaced}
 use Rattle.dg_volume.specs.Volumes.{shape_of}
+use Rattle.dg_volume.proofs.VolumeLaws.{leaves_none}
 use Rattle.dg_volume.proofs.volumes.Volume.replace.Goals as goal
 
 pub returns-in-Replaced-clause-leaves : goal.returns-in-Replaced-clause-leaves
@@ -35,6 +36,8 @@ returns-in-Replaced-clause-leaves g c =
           subst (λ (n : ℕ). BytesChange g.R.Rack c.open_where.new.store c.replace.new.self (2 * c.args.boundary + c.args.side) (IsZeros n))
           (c.member_length-size.ensures ∙ ap (member_length 2) c.shape-2.ensures) (k.blank is);
       other_bytes = k.other_bytes;
+      other_faults = k.other_faults;
+      faulty = k.faulty;
       quiet = k.quiet;
       stands = k.stands;
     })
@@ -66,6 +69,8 @@ returns-in-Replaced-clause-steps g c =
           subst (λ (n : ℕ). BytesChange g.R.Rack c.open_where.new.store c.replace.new.self (2 * c.args.boundary + c.args.side) (IsZeros n))
           (c.member_length-size.ensures ∙ ap (member_length 2) c.shape-2.ensures) (k.blank is);
       other_bytes = k.other_bytes;
+      other_faults = k.other_faults;
+      faulty = k.faulty;
       quiet = k.quiet;
       stands = k.stands;
     })
@@ -97,6 +102,8 @@ returns-in-Lost-clause-leaves g c =
           subst (λ (n : ℕ). BytesChange g.R.Rack c.open_where.new.store c.replace.new.self (2 * c.args.boundary + c.args.side) (IsZeros n))
           (c.member_length-size.ensures ∙ ap (member_length 2) c.shape-2.ensures) (k.blank is);
       other_bytes = k.other_bytes;
+      other_faults = k.other_faults;
+      faulty = k.faulty;
       quiet = k.quiet;
       stands = k.stands;
     })
@@ -128,6 +135,8 @@ returns-in-Lost-clause-steps g c =
           subst (λ (n : ℕ). BytesChange g.R.Rack c.open_where.new.store c.replace.new.self (2 * c.args.boundary + c.args.side) (IsZeros n))
           (c.member_length-size.ensures ∙ ap (member_length 2) c.shape-2.ensures) (k.blank is);
       other_bytes = k.other_bytes;
+      other_faults = k.other_faults;
+      faulty = k.faulty;
       quiet = k.quiet;
       stands = k.stands;
     })
@@ -159,6 +168,8 @@ returns-in-NotOut-clause-leaves g c =
           subst (λ (n : ℕ). BytesChange g.R.Rack c.open_where.new.store c.replace.new.self (2 * c.args.boundary + c.args.side) (IsZeros n))
           (c.member_length-size.ensures ∙ ap (member_length 2) c.shape-2.ensures) (k.blank is);
       other_bytes = k.other_bytes;
+      other_faults = k.other_faults;
+      faulty = k.faulty;
       quiet = k.quiet;
       stands = k.stands;
     })
@@ -190,6 +201,8 @@ returns-in-NotOut-clause-steps g c =
           subst (λ (n : ℕ). BytesChange g.R.Rack c.open_where.new.store c.replace.new.self (2 * c.args.boundary + c.args.side) (IsZeros n))
           (c.member_length-size.ensures ∙ ap (member_length 2) c.shape-2.ensures) (k.blank is);
       other_bytes = k.other_bytes;
+      other_faults = k.other_faults;
+      faulty = k.faulty;
       quiet = k.quiet;
       stands = k.stands;
     })
@@ -221,6 +234,8 @@ returns-in-Failed-clause-leaves g c =
           subst (λ (n : ℕ). BytesChange g.R.Rack c.open_where.new.store c.replace.new.self (2 * c.args.boundary + c.args.side) (IsZeros n))
           (c.member_length-size.ensures ∙ ap (member_length 2) c.shape-2.ensures) (k.blank is);
       other_bytes = k.other_bytes;
+      other_faults = k.other_faults;
+      faulty = k.faulty;
       quiet = k.quiet;
       stands = k.stands;
     })
@@ -252,6 +267,11 @@ returns-in-Failed-clause-steps g c =
           subst (λ (n : ℕ). BytesChange g.R.Rack c.open_where.new.store c.replace.new.self (2 * c.args.boundary + c.args.side) (IsZeros n))
           (c.member_length-size.ensures ∙ ap (member_length 2) c.shape-2.ensures) (k.blank is);
       other_bytes = k.other_bytes;
+      other_faults = k.other_faults;
+      faulty = k.faulty;
       quiet = k.quiet;
       stands = k.stands;
     })
+
+pub returns-then-boundary-shape-clause-leaves : goal.returns-then-boundary-shape-clause-leaves
+returns-then-boundary-shape-clause-leaves g c = leaves_none g.S.InPhase g.R.Rack c.args.self.now c.requires.well

@@ -1,7 +1,8 @@
 use Rattle.std.proofs.Common.{◌<◌, ◌^◌, List, refl, subst}
 use Rattle.std.specs.Prelude.{All}
 use Rattle.dg_model.specs.declared.homes.Home.{Home}
-use Rattle.dg_volume.proofs.CopySteps.{diffuse_leaves, diffuse_steps, wanted_by}
+use Rattle.dg_volume.proofs.CopySteps.{diffuse_leaves, diffuse_lost, diffuse_steps, wanted_by}
+use Rattle.dg_volume.proofs.VolumeLaws.{leaves_none}
 use Rattle.dg_volume.proofs.volumes.Volume.spread.Goals as goal
 
 pub spread_recent-answer-requires-clause-placed : goal.spread_recent-answer-requires-clause-placed
@@ -9,6 +10,9 @@ spread_recent-answer-requires-clause-placed g c =
     let place = c.requires.well.settled c.requires.settled in
     let wanted = wanted_by g.S.InPhase g.R.Rack c.args.self.now c.in-Some-inference.inference.now c.requires.well c.in-Some-inference.ensures.kept place in
     (place.wants, wanted, place.placed)
+
+pub returns-in-Some-clause-steps : goal.returns-in-Some-clause-steps
+returns-in-Some-clause-steps g c = diffuse_lost g.S.InPhase g.R.Rack c.args.self.now c.args.hot.now c.in-Some.lost c.requires.settled c.in-Some.ensures
 
 pub returns-clause-leaves : goal.returns-clause-leaves
 returns-clause-leaves g c =
@@ -37,6 +41,7 @@ returns-clause-leaves g c =
       diffused = k.diffused place.wants wanted;
       lost = k.lost;
       cut = k.cut place.wants wanted;
+      still = k.still;
     })
 
 pub returns-clause-steps : goal.returns-clause-steps
@@ -66,4 +71,8 @@ returns-clause-steps g c =
       diffused = k.diffused place.wants wanted;
       lost = k.lost;
       cut = k.cut place.wants wanted;
+      still = k.still;
     })
+
+pub returns-in-Some-clause-leaves : goal.returns-in-Some-clause-leaves
+returns-in-Some-clause-leaves g c = leaves_none g.S.InPhase g.R.Rack c.args.self.now c.requires.well

@@ -1,10 +1,13 @@
 use Rattle.std.proofs.Common.{refl}
 use Rattle.dg_store.specs.Stores.{KeepsBlocks, TellsAll}
 use Rattle.dg_volume.proofs.ArrayLaws.{moved_both, on_err, told_moved}
-use Rattle.dg_volume.proofs.MoveSteps.{has_moved, has_read, keeps_of, labels_run, moved_leaves, tend_cramped, tend_done, tend_lost_moving, tend_lost_reading}
+use Rattle.dg_volume.proofs.MoveSteps.{has_moved, has_read, keeps_of, labels_run, moved_leaves, tend_cramped, tend_done, tend_lost_first, tend_lost_moving, tend_lost_reading}
 use Rattle.dg_volume.proofs.LabelLaws.{relabels_read}
-use Rattle.dg_volume.proofs.VolumeLaws.{reads_leave}
+use Rattle.dg_volume.proofs.VolumeLaws.{leaves_none, reads_leave}
 use Rattle.dg_volume.proofs.volumes.Volume.tend_loose.Goals as goal
+
+pub returns-in-Some-clause-steps : goal.returns-in-Some-clause-steps
+returns-in-Some-clause-steps g c = tend_lost_first g.S.InPhase g.R.Rack c.args.self.now c.args.limit c.in-Some.lost c.in-Some.ensures
 
 pub returns-in-Lost-clause-steps : goal.returns-in-Lost-clause-steps
 returns-in-Lost-clause-steps g c =
@@ -54,7 +57,7 @@ returns-in-Tended-clause-steps g c =
           (moved_both g.R.Rack a.store mid c.move_within.new.store e.reads moved);
     })
     c.args.limit c.in-Tended.moved c.in-Tended.left (record { loose = c.requires.loose; whole = c.in_default.ensures }) refl
-    (rw c.in-Tended.is at t.lost) (rw c.in-Tended.is at t.moves)
+    (rw c.in-Tended.is at t.lost) (rw c.in-Tended.is at t.moves) t.still
 
 pub returns-clause-leaves : goal.returns-clause-leaves
 returns-clause-leaves g c =
@@ -119,3 +122,30 @@ returns-in-NoSpace-clause-leaves g c =
     let e = c.in_ok-lost.ensures in
     reads_leave g.S.InPhase g.R.Rack a b c.requires.well
     (has_read g.S.InPhase g.R.Rack a b c.requires.well (record { phase_is = refl; pending = refl; homes = refl; copies = refl }) e.levels refl e.reads)
+
+pub returns-in-Some-clause-leaves : goal.returns-in-Some-clause-leaves
+returns-in-Some-clause-leaves g c = leaves_none g.S.InPhase g.R.Rack c.args.self.now c.requires.well
+
+pub returns-in_err-moved-in-Found-clause-leaves : goal.returns-in_err-moved-in-Found-clause-leaves
+returns-in_err-moved-in-Found-clause-leaves g c =
+    let a = c.args.self.now in
+    let mid = c.planned.new.store in
+    let b = record a { store = c.move_within.new.store; label = c.move_within.new.label; levels = c.planned.new.levels } in
+    let e = c.in_ok-lost.ensures in
+    let t = c.in_err-moved-in-Found.ensures in
+    moved_leaves g.S.InPhase g.R.Rack a b c.requires.well c.requires.loose
+    (has_moved g.S.InPhase g.R.Rack a b (record { phase_is = refl; pending = refl; homes = refl; copies = refl }) e.levels c.requires.well
+    (labels_run g.S.InPhase g.R.Rack a mid c.move_within.new.store c.move_within.new.label e.reads t.array t.label)
+    (moved_both g.R.Rack a.store mid c.move_within.new.store e.reads t.array))
+
+pub returns-in-Tended-clause-leaves : goal.returns-in-Tended-clause-leaves
+returns-in-Tended-clause-leaves g c =
+    let a = c.args.self.now in
+    let mid = c.planned.new.store in
+    let b = record a { store = c.move_within.new.store; label = c.move_within.new.label; levels = c.planned.new.levels } in
+    let e = c.in_ok-lost.ensures in
+    let t = c.in_ok-moved-in-Found.ensures in
+    moved_leaves g.S.InPhase g.R.Rack a b c.requires.well c.requires.loose
+    (has_moved g.S.InPhase g.R.Rack a b (record { phase_is = refl; pending = refl; homes = refl; copies = refl }) e.levels c.requires.well
+    (labels_run g.S.InPhase g.R.Rack a mid c.move_within.new.store c.move_within.new.label e.reads t.array t.label)
+    (moved_both g.R.Rack a.store mid c.move_within.new.store e.reads t.array))

@@ -2,7 +2,7 @@ use Rattle.std.proofs.Common.{◌≡◌, ◌∙◌, ◌<◌, false, refl, sym, a
 use Rattle.dg_model.specs.Marks.{with_mark}
 use Rattle.dg_model.specs.States.{has_lost}
 use Rattle.dg_model.specs.declared.shapes.Shape.{Shape}
-use Rattle.dg_volume.proofs.WriteSteps.{HasFollowed, HasStored, labels_followed, lost_now, written_broken, written_to, written_whole}
+use Rattle.dg_volume.proofs.WriteSteps.{HasFollowed, HasStored, labels_followed, lost_before, lost_now, past_end, written_broken, written_to, written_whole}
 use Rattle.dg_volume.specs.Volumes.{loose_phase, members_of, shape_of, worn_phase}
 use Rattle.dg_volume.specs.declared.phases.Loose.{Loose}
 use Rattle.dg_volume.specs.declared.phases.Worn.{Worn}
@@ -16,7 +16,7 @@ returns-in-AllLost g c =
     let n : c.shape.result.now.n ≡ (shape_of a).n = ap (λ (x : Shape). x.n) c.shape.ensures in
     let within : c.args.block < (shape_of a).n = omega arith in
     let whole : has_lost (shape_of a) (members_of a) ≡ false = sym c.is_degraded.ensures ∙ c.if-is_degraded.false in
-    lost_now g.S.InPhase g.R.Rack a c.args.block c.args.buf.now (record a { store = c.write_opened.new.store; label = c.write_opened.new.label }) c.requires.well
+    lost_now g.S.InPhase g.R.Rack a c.args.block c.args.buf.now (record a { store = c.write_opened.new.store; label = c.write_opened.new.label }) c.requires.well refl
     (record {
       within = within;
       whole = whole;
@@ -63,7 +63,7 @@ returns-then-branch g c =
       given = a.given;
       label = c.write_opened.new.label;
     } in
-    written_to g.S.InPhase loose_phase g.R.Rack a c.args.block c.args.buf.now c.write_opened.new.store b c.requires.well
+    written_to g.S.InPhase loose_phase g.R.Rack a c.args.block c.args.buf.now c.write_opened.new.store b c.requires.well refl
     (written_whole g.S.InPhase loose_phase g.R.Rack a c.args.block c.args.buf.now c.write_opened.new.store c.in-Some.inference c.follow.new.inference b c.requires.well stored
     f.levels refl (c.new-copies.ensures ∙ c.new.ensures.items) (rw c.in-Some.is at c.into_inference.ensures.kept) refl refl followed (labels_followed g.R.Rack a.store c.write_opened.new.store b.store a.label c.write_opened.new.label k.label f.reads))
 
@@ -95,7 +95,19 @@ returns g c =
       given = a.given;
       label = c.write_opened.new.label;
     } in
-    written_to g.S.InPhase worn_phase g.R.Rack a c.args.block c.args.buf.now c.write_opened.new.store b c.requires.well
+    written_to g.S.InPhase worn_phase g.R.Rack a c.args.block c.args.buf.now c.write_opened.new.store b c.requires.well refl
     (written_broken g.S.InPhase worn_phase g.R.Rack a c.args.block c.args.buf.now c.write_opened.new.store c.in-Some.inference b c.requires.well stored
     f.levels refl (c.new-copies.ensures ∙ c.new.ensures.items) (rw c.in-Some.is at c.into_inference.ensures.kept) refl refl
     (c.worn_marks.ensures ∙ ap (λ xs. with_mark xs c.args.block) (f.kept c.if-branch.false)) (f.lost c.if-branch.false) (labels_followed g.R.Rack a.store c.write_opened.new.store b.store a.label c.write_opened.new.label k.label f.reads))
+
+pub returns-then-block-shape : goal.returns-then-block-shape
+returns-then-block-shape g c =
+    let a = c.args.self in
+    let n : c.shape.result.now.n ≡ (shape_of a).n = ap (λ (x : Shape). x.n) c.shape.ensures in
+    past_end g.S.InPhase g.R.Rack a c.args.block c.args.buf.now c.requires.well (omega arith)
+
+pub returns-then-is_degraded : goal.returns-then-is_degraded
+returns-then-is_degraded g c =
+    let a = c.args.self in
+    let n : c.shape.result.now.n ≡ (shape_of a).n = ap (λ (x : Shape). x.n) c.shape.ensures in
+    lost_before g.S.InPhase g.R.Rack a c.args.block c.args.buf.now c.requires.well (omega arith) (sym c.is_degraded.ensures ∙ c.if-is_degraded.true)

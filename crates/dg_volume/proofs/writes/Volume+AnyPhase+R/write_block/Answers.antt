@@ -2,11 +2,12 @@ use Rattle.std.proofs.Common.{◌≡◌, ◌∙◌, ◌<◌, false, refl, sym, a
 use Rattle.dg_model.specs.Marks.{with_mark}
 use Rattle.dg_model.specs.States.{has_lost}
 use Rattle.dg_model.specs.declared.shapes.Shape.{Shape}
-use Rattle.dg_volume.proofs.WriteSteps.{HasFollowed, HasStored, labels_followed, loosened_leaves, lost_now, written_broken, written_to, written_whole}
+use Rattle.dg_volume.proofs.WriteSteps.{HasFollowed, HasStored, labels_followed, loosened_leaves, lost_before, lost_now, past_end, written_broken, written_to, written_whole}
 use Rattle.dg_volume.specs.Volumes.{any_phase, members_of, shape_of}
 use Rattle.dg_volume.specs.declared.phases.AnyPhase.{AnyPhase}
 use Rattle.dg_volume.specs.declared.phases.AnyPhase.TheVariants.{Loose}
 use Rattle.dg_volume.specs.declared.volumes.Volume.{Volume}
+use Rattle.dg_volume.proofs.VolumeLaws.{leaves_none}
 use Rattle.dg_volume.proofs.writes.Volume+AnyPhase+R.write_block.Goals as goal
 
 pub returns-in-AllLost-clause-steps : goal.returns-in-AllLost-clause-steps
@@ -16,7 +17,7 @@ returns-in-AllLost-clause-steps g c =
     let n : c.shape.result.now.n ≡ (shape_of a).n = ap (λ (x : Shape). x.n) c.shape.ensures in
     let within : c.args.block < (shape_of a).n = omega arith in
     let whole : has_lost (shape_of a) (members_of a) ≡ false = sym c.is_degraded.ensures ∙ c.if-is_degraded.false in
-    lost_now any_phase g.R.Rack a c.args.block c.args.buf.now (record a { store = c.write_opened.new.store; label = c.write_opened.new.label }) c.requires.well
+    lost_now any_phase g.R.Rack a c.args.block c.args.buf.now (record a { store = c.write_opened.new.store; label = c.write_opened.new.label }) c.requires.well refl
     (record {
       within = within;
       whole = whole;
@@ -60,7 +61,7 @@ returns-then-whole-clause-steps g c =
       copies = c.new-3.result;
       levels = c.follow-followed.new.levels;
     } in
-    written_to any_phase any_phase g.R.Rack a c.args.block c.args.buf.now c.write_opened.new.store b c.requires.well
+    written_to any_phase any_phase g.R.Rack a c.args.block c.args.buf.now c.write_opened.new.store b c.requires.well refl
     (written_whole any_phase any_phase g.R.Rack a c.args.block c.args.buf.now c.write_opened.new.store c.in-Some.inference c.follow-followed.new.inference b c.requires.well stored
     f.levels refl (c.new-3.ensures ∙ c.new-2.ensures.items) (rw c.in-Some.is at c.take_inference.ensures.kept) refl refl followed (labels_followed g.R.Rack a.store c.write_opened.new.store b.store a.label c.write_opened.new.label k.label f.reads))
 
@@ -90,7 +91,7 @@ returns-clause-steps g c =
       copies = c.new-3.result;
       levels = c.follow-followed.new.levels;
     } in
-    written_to any_phase any_phase g.R.Rack a c.args.block c.args.buf.now c.write_opened.new.store b c.requires.well
+    written_to any_phase any_phase g.R.Rack a c.args.block c.args.buf.now c.write_opened.new.store b c.requires.well refl
     (written_broken any_phase any_phase g.R.Rack a c.args.block c.args.buf.now c.write_opened.new.store c.in-Some.inference b c.requires.well stored
     f.levels refl (c.new-3.ensures ∙ c.new-2.ensures.items) (rw c.in-Some.is at c.take_inference.ensures.kept) c.take_inference.ensures.left c.take_inference.ensures.left_phase
     (c.worn_marks.ensures ∙ ap (λ xs. with_mark xs c.args.block) (f.kept c.if-whole.false)) (f.lost c.if-whole.false) (labels_followed g.R.Rack a.store c.write_opened.new.store b.store a.label c.write_opened.new.label k.label f.reads))
@@ -116,3 +117,21 @@ returns-in_default-followed-clause-leaves g c =
     loosened_leaves any_phase any_phase g.R.Rack a c.write_opened.new.store c.in-Some.inference c.follow-followed.new.inference b c.requires.well k.falls f.sound f.reads f.levels refl
     (c.new-3.ensures ∙ c.new-2.ensures.items) (rw c.in-Some.is at c.take_inference.ensures.kept) refl refl f.size f.room
     (labels_followed g.R.Rack a.store c.write_opened.new.store b.store a.label c.write_opened.new.label k.label f.reads)
+
+pub returns-then-block-shape-clause-leaves : goal.returns-then-block-shape-clause-leaves
+returns-then-block-shape-clause-leaves g c = leaves_none any_phase g.R.Rack c.args.self.now c.requires.well
+
+pub returns-then-is_degraded-clause-leaves : goal.returns-then-is_degraded-clause-leaves
+returns-then-is_degraded-clause-leaves g c = leaves_none any_phase g.R.Rack c.args.self.now c.requires.well
+
+pub returns-then-block-shape-clause-steps : goal.returns-then-block-shape-clause-steps
+returns-then-block-shape-clause-steps g c =
+    let a = c.args.self.now in
+    let n : c.shape.result.now.n ≡ (shape_of a).n = ap (λ (x : Shape). x.n) c.shape.ensures in
+    past_end any_phase g.R.Rack a c.args.block c.args.buf.now c.requires.well (omega arith)
+
+pub returns-then-is_degraded-clause-steps : goal.returns-then-is_degraded-clause-steps
+returns-then-is_degraded-clause-steps g c =
+    let a = c.args.self.now in
+    let n : c.shape.result.now.n ≡ (shape_of a).n = ap (λ (x : Shape). x.n) c.shape.ensures in
+    lost_before any_phase g.R.Rack a c.args.block c.args.buf.now c.requires.well (omega arith) (sym c.is_degraded.ensures ∙ c.if-is_degraded.true)

@@ -1,0 +1,70 @@
+// The racks in memory are plain: they keep no checkpoint, and have no disks.
+ghost use Rattle.std.specs.Prelude.{None};
+
+use crate::{Checkpoint, CommitAnswer, Disks, DropAnswer, MemRack, MendAnswer, SureRack};
+
+impl Checkpoint for MemRack {
+    ghost room_of = { λ rack. None };
+
+    fn commit(&mut self, _keep: u32, _extra: &[u8]) -> CommitAnswer {
+        CommitAnswer::Committed {
+            sequence: 0,
+            fell: 0,
+        }
+    }
+
+    fn room(&self) -> Option<u32> {
+        None
+    }
+}
+
+impl Disks for MemRack {
+    ghost width = { λ rack. None };
+
+    ghost groups = { λ rack. 0 };
+
+    fn drop_disk(&mut self, _s: u8, _j: u8) -> DropAnswer {
+        unreachable!()
+    }
+
+    fn mend(&mut self, _s: u8, _j: u8) -> MendAnswer {
+        unreachable!()
+    }
+
+    fn disks(&self) -> Option<u8> {
+        None
+    }
+}
+
+impl Checkpoint for SureRack {
+    ghost room_of = { λ rack. None };
+
+    fn commit(&mut self, _keep: u32, _extra: &[u8]) -> CommitAnswer {
+        CommitAnswer::Committed {
+            sequence: 0,
+            fell: 0,
+        }
+    }
+
+    fn room(&self) -> Option<u32> {
+        None
+    }
+}
+
+impl Disks for SureRack {
+    ghost width = { λ rack. None };
+
+    ghost groups = { λ rack. 0 };
+
+    fn drop_disk(&mut self, _s: u8, _j: u8) -> DropAnswer {
+        unreachable!()
+    }
+
+    fn mend(&mut self, _s: u8, _j: u8) -> MendAnswer {
+        unreachable!()
+    }
+
+    fn disks(&self) -> Option<u8> {
+        None
+    }
+}

@@ -1,0 +1,25 @@
+use Rattle.std.proofs.Common.{refl, length}
+use Rattle.std.specs.Prelude.{codes}
+use Rattle.std.specs.Fmt.{decimal}
+use Rattle.std.proofs.lemmas.Result.{on_ok_weaker, on_err_weaker}
+use Rattle.dg_text.specs.Replies.{findings_text}
+use Rattle.dg_text.specs.ToldSteps.{on_err}
+use Rattle.dg_text.proofs.FileLines.{took_ended, took_part_ended, took_part_unended}
+use Rattle.dg_text.proofs.audits.write_audit.Goals as goal
+
+pub returns-in_err-write_findings-clause-err : goal.returns-in_err-write_findings-clause-err
+returns-in_err-write_findings-clause-err g c =
+    on_err c.from_residual.result
+    (took_part_unended (findings_text c.args.findings.now) (codes "end ") (decimal (length c.args.findings.now)) _ _ c.in_err-write_findings.ensures.err)
+
+pub returns-clause-ok : goal.returns-clause-ok
+returns-clause-ok g c =
+    on_ok_weaker c.write_number.result
+    (λ last. took_ended (findings_text c.args.findings.now) (codes "end ") (length c.args.findings.now) (length c.args.findings.now) refl _ _ _ c.in_ok-write_findings.ensures.ok last)
+    c.write_number.ensures.ok
+
+pub returns-clause-err : goal.returns-clause-err
+returns-clause-err g c =
+    on_err_weaker c.write_number.result
+    (λ last. took_part_ended (findings_text c.args.findings.now) (codes "end ") (length c.args.findings.now) (length c.args.findings.now) refl _ _ _ c.in_ok-write_findings.ensures.ok last)
+    c.write_number.ensures.err

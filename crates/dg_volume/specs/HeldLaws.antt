@@ -1,0 +1,41 @@
+-- What calls leave one after another, and what the members of a rack hold of a volume's state. It stands here since the crates above cite it.
+use Rattle.std.proofs.Common.{◌≡◌, ◌<◌, ◌/◌, ℕ, sym, subst}
+use Rattle.std.specs.Prelude.{IsSome}
+use Rattle.dg_io.specs.declared.outside.Rack.{Ghosts}
+use Rattle.dg_model.specs.States.{AreFresh, Holds, HoldsAll, State}
+use Rattle.dg_model.specs.declared.shapes.Shape.{Shape}
+use Rattle.dg_store.specs.Leaves.{CallsBelow}
+use Rattle.dg_store.specs.ReadLaws.{own_both, own_none}
+use Rattle.dg_volume.specs.Volumes.{StandsIn, Tells, rack_of, shape_of}
+use Rattle.dg_volume.specs.declared.phases.InPhase as phases
+use Rattle.dg_volume.specs.declared.volumes.Volume.{Volume}
+
+-- no call was made
+pub own_still : {S R : Type 0} (rack : Ghosts R) (volume : Volume S R) → CallsBelow rack (shape_of volume).b (rack_of volume) (rack_of volume)
+own_still rack volume = own_none rack (shape_of volume).b (rack_of volume)
+
+-- calls on members of an array of this shape, and then others on them
+pub own_then : {R : Type 0} (rack : Ghosts R) (one other : Shape) (a b c : R) → other ≡ one → CallsBelow rack one.b a b → CallsBelow rack other.b b c → CallsBelow rack one.b a c
+own_then rack one other a b c same first second = own_both rack one.b a b c first (subst (λ (s : Shape). CallsBelow rack s.b b c) same second)
+
+-- a member whose bytes are told is one of which the rack tells them as long as it stands
+abbrev pub TellsTold : {R : Type 0} → Ghosts R → Type 0
+TellsTold rack = (now : _) (q : ℕ) → IsSome (rack.bytes now q) → rack.tells now q
+
+module _ {S R : Type 0} (rack : Ghosts R) (volume : Volume S R) where
+  -- each member of the array tells its bytes now
+  abbrev pub TellsNow : Type 0
+  TellsNow = (q : ℕ) → q / 2 < (shape_of volume).b → IsSome (rack.bytes (rack_of volume) q)
+
+  -- so the volume tells them
+  pub tells_now : TellsTold rack → TellsNow → Tells rack volume
+  tells_now law told q below = law (rack_of volume) q (told q below)
+
+  -- the members hold a state in which the volume is
+  pub holds_all : (phase : phases.Ghosts S) (state : State) → StandsIn phase rack volume state → Tells rack volume → HoldsAll (rack.bytes (rack_of volume)) state
+  holds_all phase state stands told = record {
+    blocks = subst (λ (s : State). Holds (rack.bytes (rack_of volume)) s) (sym stands.is) (stands.holds told).array;
+    label = stands.label.holds;
+    sizes = λ whole. stands.label.sizes;
+    fresh = subst (λ (s : State). AreFresh (rack.bytes (rack_of volume)) s) (sym stands.is) stands.label.fresh;
+  }
