@@ -1,5 +1,5 @@
 // Racks that may have groups of disks for members.
-ghost use Rattle.std.specs.Prelude.{◌≡◌, ◌<◌, ℕ, Option, IsSome, IfSome};
+ghost use Rattle.std.specs.Prelude.{◌≡◌, ◌↔◌, ◌<◌, ℕ, Option, None, IfSome};
 ghost use Rattle.dg_io.specs.DiskAnswers.{OneDisk, DropsDisk, MendsDisk, LeavesMembers};
 
 use crate::Rack;
@@ -7,6 +7,8 @@ use crate::Rack;
 /// The answer to the loss of a disk.
 #[derive(Clone, Copy, Debug, PartialEq, Eq)]
 pub enum DropAnswer {
+    /// The rack is a plain one: it has no disks.
+    Plain,
     /// The disk was out.
     Already,
     /// It is out now. True where two disks of the group are out.
@@ -16,6 +18,8 @@ pub enum DropAnswer {
 /// The answer to the mending of a disk.
 #[derive(Clone, Copy, Debug, PartialEq, Eq)]
 pub enum MendAnswer {
+    /// The rack is a plain one: it has no disks.
+    Plain,
     /// Two disks of the group are out.
     Lost,
     /// The disk wasn't out.
@@ -36,9 +40,9 @@ pub trait Disks: Rack {
 
     /// A disk of a group goes out.
     fn drop_disk(&mut self, s: u8, j: u8) -> DropAnswer
-        requires width { IsSome (width self.old) }
-        requires group { s < groups self.old }
-        requires disk { IfSome (width self.old) (λ n. j < n) }
+        requires place { IfSome (width self.old) (λ n. (s < groups self.old) × (j < n)) }
+        ensures plain { (result ≡ DropAnswer.Plain) ↔ (width self.old ≡ None) }
+        ensures idle { width self.old ≡ None → self.new ≡ self.old }
         ensures answer { IfSome (width self.old) (λ n. DropsDisk n s j (Self.disks self.old) (Self.disks self.new) result) }
         ensures disks { OneDisk s j (Self.disks self.old) (Self.disks self.new) }
         ensures leaves { IfSome (width self.old) (λ n. LeavesMembers Self.Rack n s self.old self.new) }
@@ -47,9 +51,9 @@ pub trait Disks: Rack {
 
     /// A disk of a group comes back, and is filled from the others.
     fn mend(&mut self, s: u8, j: u8) -> MendAnswer
-        requires width { IsSome (width self.old) }
-        requires group { s < groups self.old }
-        requires disk { IfSome (width self.old) (λ n. j < n) }
+        requires place { IfSome (width self.old) (λ n. (s < groups self.old) × (j < n)) }
+        ensures plain { (result ≡ MendAnswer.Plain) ↔ (width self.old ≡ None) }
+        ensures idle { width self.old ≡ None → self.new ≡ self.old }
         ensures answer { IfSome (width self.old) (λ n. MendsDisk n s j (Self.disks self.old) (Self.disks self.new) result) }
         ensures disks { OneDisk s j (Self.disks self.old) (Self.disks self.new) }
         ensures leaves { IfSome (width self.old) (λ n. LeavesMembers Self.Rack n s self.old self.new) }

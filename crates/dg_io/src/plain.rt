@@ -24,11 +24,11 @@ impl Disks for MemRack {
     ghost groups = { λ rack. 0 };
 
     fn drop_disk(&mut self, _s: u8, _j: u8) -> DropAnswer {
-        unreachable!()
+        DropAnswer::Plain
     }
 
     fn mend(&mut self, _s: u8, _j: u8) -> MendAnswer {
-        unreachable!()
+        MendAnswer::Plain
     }
 
     fn disks(&self) -> Option<u8> {
@@ -57,11 +57,11 @@ impl Disks for SureRack {
     ghost groups = { λ rack. 0 };
 
     fn drop_disk(&mut self, _s: u8, _j: u8) -> DropAnswer {
-        unreachable!()
+        DropAnswer::Plain
     }
 
     fn mend(&mut self, _s: u8, _j: u8) -> MendAnswer {
-        unreachable!()
+        MendAnswer::Plain
     }
 
     fn disks(&self) -> Option<u8> {

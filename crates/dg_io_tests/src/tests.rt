@@ -1,6 +1,6 @@
 use dg_io::{
-    Failed, MemRack, MemSink, MemSource, Rack, Sink, Source, SureRack, SureSink, SureSource,
-    write_all,
+    Checkpoint, Disks, DropAnswer, Failed, MemRack, MemSink, MemSource, MendAnswer, Rack, Sink,
+    Source, SureRack, SureSink, SureSource, write_all,
 };
 use std::test::Fail;
 
@@ -134,5 +134,16 @@ fn empty_writes_are_counted(rt: HostRuntime) -> Result<(), Fail> {
     assert_eq!(rt; sink.write(b"hi"), Ok(2));
     assert_eq!(rt; sink.write(b"!"), Err(Failed));
     assert_eq!(rt; sink.write(b""), Ok(0));
+    Ok(())
+}
+
+// A plain rack keeps no checkpoint and has no disks, also one that is lent.
+#[test]
+fn plain_racks_say_so(rt: HostRuntime) -> Result<(), Fail> {
+    let alloc = rt.alloc();
+    let mut rack = MemRack::new(alloc, 2, 8, Vec::new(alloc))?;
+    assert_eq!(rt; (rack.room(), rack.disks()), (None, None));
+    assert_eq!(rt; rack.drop_disk(0, 0), DropAnswer::Plain);
+    assert_eq!(rt; Disks::mend(&mut &mut rack, 0, 0), MendAnswer::Plain);
     Ok(())
 }
