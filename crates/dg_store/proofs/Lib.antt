@@ -4,6 +4,11 @@ mod Calls
 mod Changed
 mod EvictionCounts
 mod EvictionSteps
+mod LeftBlocks
+mod LeftPlaces
+mod LeftRows
+mod LeftStores
+mod OtherRack
 mod Parts
 mod Filled
 mod PlaceLemmas

@@ -14,12 +14,12 @@ use Rattle.dg_store.specs.Answers.{AreBlank}
 use Rattle.dg_store.specs.Rows.{member_at, members_in, RowStands}
 use Rattle.dg_store.proofs.Changed.{IsChanged}
 
-get_set_same : {X : Type 0} (xs : List X) (i : ℕ) (y : X) → i < length xs → slice_get (slice_set xs i y) i ≡ Some y
+pub get_set_same : {X : Type 0} (xs : List X) (i : ℕ) (y : X) → i < length xs → slice_get (slice_set xs i y) i ≡ Some y
 get_set_same [] i y h = absurd (omega arith)
 get_set_same (x ∷ xs) zero y h = refl
 get_set_same (x ∷ xs) (suc i) y h = get_set_same xs i y (omega arith)
 
-get_set_other : {X : Type 0} (xs : List X) (i j : ℕ) (y : X) → j ≢ i → slice_get (slice_set xs i y) j ≡ slice_get xs j
+pub get_set_other : {X : Type 0} (xs : List X) (i j : ℕ) (y : X) → j ≢ i → slice_get (slice_set xs i y) j ≡ slice_get xs j
 get_set_other [] i j y h = refl
 get_set_other (x ∷ xs) zero zero y h = absurd (h refl)
 get_set_other (x ∷ xs) zero (suc j) y h = refl
@@ -36,7 +36,7 @@ get_push_other [] (suc j) y h = refl
 get_push_other (z ∷ xs) zero y h = refl
 get_push_other (z ∷ xs) (suc j) y h = get_push_other xs j y (λ e. h (ap suc e))
 
-some_same : {X : Type 0} (a b : X) → Some a ≡ Some b → a ≡ b
+pub some_same : {X : Type 0} (a b : X) → Some a ≡ Some b → a ≡ b
 some_same a b e = cc
 
 -- what a read of the row gives

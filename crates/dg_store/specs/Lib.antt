@@ -1,7 +1,10 @@
 pub mod Answers
+pub mod Commits
+pub mod DiskCalls
 pub mod Evictions
 pub mod Leaves
 pub mod ReadLaws
+pub mod Reduced
 pub mod Rows
 pub mod Slots
 pub mod Stores

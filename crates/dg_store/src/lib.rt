@@ -2,8 +2,11 @@
 #![tactic(auto)]
 
 mod boundaries;
+mod checkpoints;
+mod disks;
 mod lengths;
 mod places;
+mod reductions;
 mod sites;
 mod store;
 mod views;
@@ -13,4 +16,5 @@ pub use dg_map::Map;
 pub use dg_model::{Shape, Site};
 pub use dg_pair::{Boundary, CopyAnswer, ExtendAnswer, FailAnswer, NoteAnswer, ReplaceAnswer};
 pub use lengths::member_length;
+pub use reductions::bits_leave_the_live;
 pub use store::{PlaceAnswer, Store, StoreWrite};

@@ -33,9 +33,9 @@ use std::alloc::Global;
 /// A flat array over the members of a rack.
 #[derive(Drop)]
 pub struct Store<R> {
-    rack: R,
-    map: Map,
-    row: Vec<Boundary>,
+    pub(crate) rack: R,
+    pub(crate) map: Map,
+    pub(crate) row: Vec<Boundary>,
     /// Room for a block that is copied.
     block: Vec<u8>,
     /// Room for the sites that are given up in a write. It is empty between calls.

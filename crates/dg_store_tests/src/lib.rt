@@ -2,6 +2,8 @@
 #![tactic(auto)]
 
 #[cfg(test)]
+mod plain_tests;
+#[cfg(test)]
 mod refill_tests;
 #[cfg(test)]
 mod site_tests;

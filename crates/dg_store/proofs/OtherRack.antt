@@ -1,0 +1,127 @@
+-- A store whose rack is another one, in which its members have the bytes that they had, where it tells them.
+use Rattle.std.proofs.Common.{◌≡◌, ◌≢◌, ◌⊎◌, inl, inr, ℕ, ◌+◌, ◌*◌, ◌≤◌, Bool, true, false, List, length, refl, sym, ◌∙◌, ap, subst}
+use Rattle.std.specs.Prelude.{Option, Some, None, IfSome, IsSome}
+use Rattle.std.proofs.lemmas.Bool.{cases_eq, false≢true}
+use Rattle.dg_io.specs.Commits.{fell_in, is_marked, LeavesCommit}
+use Rattle.dg_io.specs.DiskAnswers.{LeavesMembers, OneDisk, is_group_lost}
+use Rattle.dg_io.specs.Told.{Told, IsSame}
+use Rattle.dg_io.specs.declared.checkpoints.CommitAnswer.{CommitAnswer}
+use Rattle.dg_io.specs.declared.outside.Rack.{Ghosts}
+use Rattle.dg_model.specs.Members.{serves, slot_of}
+use Rattle.dg_model.specs.declared.members.MemberState.{MemberState}
+use Rattle.dg_model.specs.declared.members.MemberState.TheVariants.{Out}
+use Rattle.dg_model.specs.declared.shapes.Shape.{Shape}
+use Rattle.dg_pair.specs.Boundaries.{MembersStand}
+use Rattle.dg_store.specs.Commits.{CommitLeaves}
+use Rattle.dg_store.specs.DiskCalls.{DiskLeaves, IsUntold}
+use Rattle.dg_store.specs.Rows.{AreLong, members_in}
+use Rattle.dg_store.specs.Slots.{KeepsSlots}
+use Rattle.dg_store.specs.Stores.{IsSound, IsWhole, KeepsBlocks}
+use Rattle.dg_store.specs.declared.store.Store.{Store}
+use Rattle.dg_store.proofs.Blocks.{stands_kept}
+use Rattle.dg_store.proofs.Sound.{sound_of, whole_of}
+
+told_same : (o : Option (List ℕ)) → Told IsSame o o
+told_same None = tt
+told_same (Some all) = refl
+
+still_long : (size : ℕ) (old new : Option (List ℕ)) → Told IsSame old new → IfSome old (λ all. size ≤ length all) → IfSome new (λ all. size ≤ length all)
+still_long size old None same long = tt
+still_long size None (Some now) same long = absurd same
+still_long size (Some was) (Some now) same long = subst (λ (all : List ℕ). size ≤ length all) (sym same) long
+
+still_holds : (l slot : ℕ) (v : List ℕ) (old new : Option (List ℕ)) → Told IsSame old new → IfSome old (λ all. slot_of l slot all ≡ v) → IfSome new (λ all. slot_of l slot all ≡ v)
+still_holds l slot v old None same held = tt
+still_holds l slot v None (Some now) same held = absurd same
+still_holds l slot v (Some was) (Some now) same held = subst (λ (all : List ℕ). slot_of l slot all ≡ v) (sym same) held
+
+true_or_false : (b : Bool) → (b ≡ true) ⊎ (b ≡ false)
+true_or_false true = inl refl
+true_or_false false = inr refl
+
+-- the bytes of each member that isn't out are as they were
+abbrev AreSame : (ℕ → MemberState) → (ℕ → Option (List ℕ)) → (ℕ → Option (List ℕ)) → Type 0
+AreSame members old new = (q : ℕ) → members q ≢ Out → Told IsSame (old q) (new q)
+
+long_same : (shape : Shape) (members : ℕ → MemberState) (old new : ℕ → Option (List ℕ)) → AreSame members old new → AreLong shape members old → AreLong shape members new
+long_same shape members old new same long q called = still_long _ (old q) (new q) (same q called) (long q called)
+
+slots_same : (l : ℕ) (members : ℕ → MemberState) (old new : ℕ → Option (List ℕ)) → AreSame members old new → KeepsSlots l members old members new
+slots_same l members old new same s slot v had q at served =
+    let called : members q ≢ Out = λ out. false≢true (sym (ap (λ (m : MemberState). serves m slot) out) ∙ served) in
+    still_holds l slot v (old q) (new q) (same q called) (had q at served)
+
+module _ {R : Type 0} (rack : Ghosts R) (told : (s : R) (q : ℕ) → rack.tells s q → rack.stands s q ≡ true → IsSome (rack.bytes s q)) (store : Store R) (r : R) where
+  whole_with : AreSame (members_in store.row.items) (rack.bytes store.rack) (rack.bytes r) → IsWhole rack store → IsWhole rack (record store { rack = r })
+  whole_with same w =
+      whole_of rack (record store { rack = r }) w.table w.built.count w.built.stands
+      (long_same store.map.shape (members_in store.row.items) (rack.bytes store.rack) (rack.bytes r) same w.long) w.built.block w.built.given_up
+
+  sound_with : AreSame (members_in store.row.items) (rack.bytes store.rack) (rack.bytes r) → MembersStand (members_in store.row.items) (rack.stands r)
+      → IsSound rack store → IsSound rack (record store { rack = r })
+  sound_with same stand s =
+      sound_of rack told (record store { rack = r }) s.table (record {
+        count = s.built.count;
+        stands = s.built.stands;
+        long = long_same store.map.shape (members_in store.row.items) (rack.bytes store.rack) (rack.bytes r) same s.long;
+        stand = stand;
+      }) s.built.block s.built.given_up
+
+  blocks_with : AreSame (members_in store.row.items) (rack.bytes store.rack) (rack.bytes r) → KeepsBlocks rack store (record store { rack = r })
+  blocks_with same V st =
+      stands_kept _ _ _ _ V store.map (slots_same store.map.shape.l (members_in store.row.items) (rack.bytes store.rack) (rack.bytes r) same) st
+
+  -- ---- a commit
+
+  pub commit_leaves : (room : R → Option ℕ) (keep : ℕ) (extra : List ℕ) (answer : CommitAnswer) → LeavesCommit rack room keep extra answer store.rack r → IsWhole rack store
+      → CommitLeaves rack room keep extra answer store (record store { rack = r })
+  commit_leaves room keep extra answer leaves whole = record {
+    table = refl;
+    members = refl;
+    leaves = leaves;
+    whole = whole_with (λ q called. leaves.same q) whole;
+    blocks = blocks_with (λ q called. leaves.same q);
+    stand = λ sound q unnamed called. leaves.stand_on q unnamed ∙ sound.stand q called;
+    sound = λ sound out. sound_with (λ q called. leaves.same q) (λ q called. elim (true_or_false (is_marked (fell_in keep answer) q)) [
+      | inl named ↦ absurd (called (out q named))
+      | inr unnamed ↦ leaves.stand_on q unnamed ∙ sound.stand q called
+    ]) sound;
+  }
+
+  -- ---- a call on a disk
+
+  same_disk : (n s : ℕ) → LeavesMembers rack n s store.rack r → IsUntold rack n s (record store { rack = r }) → AreSame (members_in store.row.items) (rack.bytes store.rack) (rack.bytes r)
+  same_disk n s leaves untold q called = elim (cases_eq q (2 * s)) [
+    | inr other ↦ leaves.others q other
+    | inl own ↦ subst (λ (p : ℕ). Told IsSame (rack.bytes store.rack p) (rack.bytes r p)) (sym own) (elim (true_or_false (is_group_lost n (rack.disks r).out s)) [
+      | inr served ↦ leaves.own served
+      | inl lost ↦ elim (untold lost) [
+        | inl out ↦ absurd (called (ap (members_in store.row.items) own ∙ out))
+        | inr none ↦ subst (λ (o : Option (List ℕ)). Told IsSame (rack.bytes store.rack (2 * s)) o) (sym none) tt
+      ]
+    ])
+  ]
+
+  same_by : (width : Option ℕ) (s : ℕ) → (width ≡ None → r ≡ store.rack) → IfSome width (λ n. LeavesMembers rack n s store.rack r) → IfSome width (λ n. IsUntold rack n s (record store { rack = r }))
+      → AreSame (members_in store.row.items) (rack.bytes store.rack) (rack.bytes r)
+  same_by None s idle leaves untold q called = subst (λ (x : R). Told IsSame (rack.bytes store.rack q) (rack.bytes x q)) (sym (idle refl)) (told_same (rack.bytes store.rack q))
+  same_by (Some n) s idle leaves untold q called = same_disk n s leaves untold q called
+
+  stands_by : (width : Option ℕ) (s : ℕ) → (width ≡ None → r ≡ store.rack) → IfSome width (λ n. LeavesMembers rack n s store.rack r) → (q : ℕ) → rack.stands r q ≡ rack.stands store.rack q
+  stands_by None s idle leaves q = ap (λ (x : R). rack.stands x q) (idle refl)
+  stands_by (Some n) s idle leaves q = leaves.stand q
+
+  pub disk_leaves : (width : R → Option ℕ) (groups : R → ℕ) (s j : ℕ) → OneDisk s j (rack.disks store.rack) (rack.disks r) → IfSome (width store.rack) (λ n. LeavesMembers rack n s store.rack r)
+      → width r ≡ width store.rack → groups r ≡ groups store.rack → (width store.rack ≡ None → r ≡ store.rack) → DiskLeaves rack width groups s j store (record store { rack = r })
+  disk_leaves width groups s j disks leaves width_is groups_is idle = record {
+    table = refl;
+    members = refl;
+    disks = disks;
+    leaves = leaves;
+    width_is = width_is;
+    groups_is = groups_is;
+    idle = λ none. ap (λ (x : R). record store { rack = x }) (idle none);
+    whole = λ w untold. whole_with (same_by (width store.rack) s idle leaves untold) w;
+    sound = λ sound untold. sound_with (same_by (width store.rack) s idle leaves untold) (λ q called. stands_by (width store.rack) s idle leaves q ∙ sound.stand q called) sound;
+    blocks = λ untold. blocks_with (same_by (width store.rack) s idle leaves untold);
+  }

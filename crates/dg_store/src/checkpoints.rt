@@ -1,0 +1,28 @@
+// The checkpoint that the rack of a store keeps.
+ghost use Rattle.std.specs.Prelude.{◌≡◌, ◌≤◌, ℕ, true, IfSome, length};
+ghost use Rattle.dg_io.specs.Commits.{is_marked};
+ghost use Rattle.dg_store.specs.Commits.{CommitLeaves};
+ghost use Rattle.dg_store.specs.Stores.{rack_of, IsWhole};
+
+use crate::Store;
+use dg_io::{Checkpoint, CommitAnswer};
+
+impl<R: Checkpoint> Store<R> {
+    /// Keeps the bytes of the members whose bits are set, all of which stand, and the extra bytes. A member that falls in
+    /// it isn't out by that: whoever commits makes it fail then.
+    pub fn commit(&mut self, keep: u32, extra: &[u8]) -> CommitAnswer
+        requires whole { IsWhole R.Rack self.old }
+        requires stand { (q : ℕ) → is_marked keep q ≡ true → R.stands (rack_of self.old) q ≡ true }
+        requires fits { IfSome (R.room_of (rack_of self.old)) (λ room. length extra.now ≤ room) }
+        ensures leaves { CommitLeaves R.Rack R.room_of keep extra.now result self.old self.new }
+    {
+        self.rack.commit(keep, extra)
+    }
+
+    /// The room for extra bytes, or `None` of a rack that keeps no checkpoint.
+    pub fn room(&self) -> Option<u32>
+        ensures { result ≡ R.room_of (rack_of self.now) }
+    {
+        self.rack.room()
+    }
+}
