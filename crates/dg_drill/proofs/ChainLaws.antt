@@ -1,6 +1,6 @@
 -- Steps of a drill's volume, one after another, and its writes.
 use Rattle.std.proofs.Common.{◌≡◌, ◌∙◌, ◌<◌, ◌≤◌, ◌+◌, ◌/◌, ◌++◌, ℕ, suc, List, [], ◌∷◌, get_or, length, take, drop, refl, sym, ap, subst, inl, inr, arith}
-use Rattle.std.specs.Prelude.{false}
+use Rattle.std.specs.Prelude.{None, false}
 use Rattle.std.proofs.Math.Seq.{drop-cons}
 use Rattle.std.proofs.lemmas.List.{drop_all, map_push, take_all, take_more}
 use Rattle.dg_drill.proofs.OrderLaws.{apart_drop}
@@ -20,8 +20,9 @@ use Rattle.dg_model.specs.declared.events.Event.TheVariants.{Write}
 use Rattle.dg_model.specs.declared.replies.Reply.{Reply}
 use Rattle.dg_model.specs.declared.shapes.Shape.{Shape}
 use Rattle.dg_trace.specs.Traces.{write_of, writes_of}
+use Rattle.dg_volume.specs.Origins.{Always}
 use Rattle.dg_volume.specs.HeldLaws.{own_still, own_then}
-use Rattle.dg_volume.specs.Volumes.{IsWell, Leaves, StandsIn, StepsBy, Tells, any_phase, rack_of, shape_of, table_of}
+use Rattle.dg_volume.specs.Volumes.{IsWell, Known, Leaves, StandsIn, StepsBy, any_phase, rack_of, shape_of, table_of}
 use Rattle.dg_volume.specs.declared.phases.AnyPhase.{AnyPhase}
 use Rattle.dg_volume.specs.declared.volumes.Volume.{Volume}
 use Rattle.ufs_build.specs.Traces.{block_in}
@@ -65,36 +66,36 @@ module _ {R : Type 0} (rack : Ghosts R) where
   }
 
   -- what is told in the end was told before
-  pub told_before : (a b : Volume AnyPhase R) → Leaves any_phase any_phase rack a b → Tells rack b → Tells rack a
-  told_before a b leaves told q below = leaves.told_before q (told q (subst (λ (s : Shape). q / 2 < s.b) (sym leaves.shape) below))
+  pub told_before : (a b : Volume AnyPhase R) → Leaves any_phase any_phase rack a b → Known Always rack b → Known Always rack a
+  told_before a b leaves known = (λ q below. leaves.told_before q (known.0 q (subst (λ (s : Shape). q / 2 < s.b) (sym leaves.shape) below)), known.1)
 
   -- a step, whatever it changed of what was read last
   pub steps_of : (touch : List ℕ → List ℕ) (a b : Volume AnyPhase R) (event : Event) (reply : Reply) → StepsBy any_phase any_phase rack touch a event reply b → Steps rack a event reply b
-  steps_of touch a b event reply steps state st = let one = steps state st in (one.0, one.1, one.2)
+  steps_of touch a b event reply steps state st = let one = steps None state st in (one.0, one.1, one.2)
 
   -- ---- chains
 
-  pub led_none : (v : Volume AnyPhase R) (state : State) → StandsIn any_phase rack v state → LedTo rack state [] [] v state
+  pub led_none : (v : Volume AnyPhase R) (state : State) → StandsIn any_phase rack Always v state → LedTo rack state [] [] v state
   led_none v state stands = record { stands = stands; run = refl }
 
   pub led_more : (a b : Volume AnyPhase R) (state mid next : State) (events : List Event) (replies : List Reply) (event : Event) (reply : Reply)
-      → Leaves any_phase any_phase rack a b → LedTo rack state events replies a mid → StandsIn any_phase rack b next → Step (Tells rack b) mid event reply next
+      → Leaves any_phase any_phase rack a b → LedTo rack state events replies a mid → StandsIn any_phase rack Always b next → Step (Known Always rack b) mid event reply next
       → LedTo rack state (events ++ event ∷ []) (replies ++ reply ∷ []) b next
   led_more a b state mid next events replies event reply leaves led stands step = record {
     stands = stands;
-    run = run_push (Tells rack b) state events replies mid event reply next (run_less (told_before a b leaves) state events replies mid led.run) step;
+    run = run_push (Known Always rack b) state events replies mid event reply next (run_less (told_before a b leaves) state events replies mid led.run) step;
   }
 
   -- ---- writes
 
   -- a block of the array has a row
-  row_of : (v : Volume AnyPhase R) (state : State) (b : ℕ) → IsWell any_phase rack v → StandsIn any_phase rack v state → b < (shape_of v).n → b < length state.table.rows
+  row_of : (v : Volume AnyPhase R) (state : State) (b : ℕ) → IsWell any_phase rack v → StandsIn any_phase rack Always v state → b < (shape_of v).n → b < length state.table.rows
   row_of v state b well stands low =
       let rows = well.array.table.size in
       let same : length state.table.rows ≡ length (table_of v).rows = ap (λ (s : State). length s.table.rows) stands.is in
       omega (arith, rows, same, low)
 
-  pub writes_none : (v : Volume AnyPhase R) (state : State) (blocks : List ℕ) → StandsIn any_phase rack v state → AreUnwritten state.table blocks
+  pub writes_none : (v : Volume AnyPhase R) (state : State) (blocks : List ℕ) → StandsIn any_phase rack Always v state → AreUnwritten state.table blocks
       → HasWritten rack state [] blocks 0 v
   writes_none v state blocks stands none = record {
     replies = [];
@@ -111,7 +112,7 @@ module _ {R : Type 0} (rack : Ghosts R) where
   write_more a c state events b rest bytes more one low apart well leaves was answered =
       let step = answered.steps was.next was.led.stands in
       let none : has_site (sites_in was.next.table b) ≡ false = was.unwritten b (inl refl) in
-      let counted = write_counted (Tells rack c) was.next b bytes answered.reply step.0 (row_of a was.next b well was.led.stands low) none step.2 in
+      let counted = write_counted (Known Always rack c) was.next b bytes answered.reply step.0 (row_of a was.next b well was.led.stands low) none step.2 in
       record {
         replies = was.replies ++ answered.reply ∷ [];
         next = step.0;

@@ -1,6 +1,6 @@
 -- A drill, from the blank array to the last reading.
 use Rattle.std.proofs.Common.{◌≡◌, ◌≢◌, ◌∙◌, ◌/◌, ◌<◌, ◌≤◌, ◌%◌, ℕ, zero, suc, List, [], ◌∷◌, refl, sym, ap, subst, arith}
-use Rattle.std.specs.Prelude.{Err, Option, cond, replicate}
+use Rattle.std.specs.Prelude.{Err, None, Option, cond, replicate}
 use Rattle.std.proofs.lemmas.List.Sums.{sum_by-cons}
 use Rattle.dg_drill.proofs.ChainLaws.{run_both, told_before}
 use Rattle.dg_drill.specs.Calls.{Facts, rack_facts}
@@ -31,8 +31,9 @@ use Rattle.dg_model.specs.declared.replies.Reply.TheVariants.{Done}
 use Rattle.dg_model.specs.declared.shapes.Shape.{Shape}
 use Rattle.dg_model.specs.declared.sites.Site.{Site}
 use Rattle.dg_trace.specs.Traces.{writes_of}
+use Rattle.dg_volume.specs.Origins.{Always}
 use Rattle.dg_volume.specs.HeldLaws.{TellsTold, holds_all, tells_now}
-use Rattle.dg_volume.specs.Volumes.{IsBlankVolume, IsSame, Leaves, StandsIn, StepsTo, Tells, any_phase, loose_phase, rack_of, shape_of}
+use Rattle.dg_volume.specs.Volumes.{IsBlankVolume, IsSame, Known, Leaves, StandsIn, StepsTo, any_phase, loose_phase, rack_of, shape_of}
 use Rattle.dg_volume.specs.declared.phases.AnyPhase.{AnyPhase}
 use Rattle.dg_volume.specs.declared.phases.Loose.{Loose}
 use Rattle.dg_volume.specs.declared.volumes.Volume.{Volume}
@@ -59,10 +60,10 @@ blank_unwritten state blocks is b there = ap (λ (t : Table). has_site (sites_in
 
 module _ {R : Type 0} (rack : Ghosts R) where
   pub lost_both : (a b c : Volume AnyPhase R) (s : ℕ) (one other : Reply) → Leaves any_phase any_phase rack b c → StepsTo any_phase any_phase rack a (Fail s 0) one b
-      → StepsTo any_phase any_phase rack b (Fail s 1) other c → (state : State) → StandsIn any_phase rack a state → HasLost rack state s c
+      → StepsTo any_phase any_phase rack b (Fail s 1) other c → (state : State) → StandsIn any_phase rack Always a state → HasLost rack state s c
   lost_both a b c s one other leaves first second state stands =
-      let half = first state stands in
-      let whole = second half.0 half.1 in
+      let half = first None state stands in
+      let whole = second None half.0 half.1 in
       record {
         losses = one ∷ other ∷ [];
         next = whole.0;
@@ -83,21 +84,21 @@ module _ {R : Type 0} (rack : Ghosts R) (before : R) (loose : Volume Loose R) (v
     (settled : Reply) (tally : Tally) (text : List ℕ)
     (blank : IsBlankVolume rack drill_shape before loose) (same : IsSame loose_phase any_phase rack loose v0)
     (l1 : Leaves any_phase any_phase rack v0 v1) (l2 : Leaves any_phase any_phase rack v1 v2) (l3 : Leaves any_phase any_phase rack v2 v3) (l4 : Leaves any_phase any_phase rack v3 v4)
-    (writes : (state : State) → StandsIn any_phase rack v0 state → AreUnwritten state.table (trace_of Late g image)
+    (writes : (state : State) → StandsIn any_phase rack Always v0 state → AreUnwritten state.table (trace_of Late g image)
     → HasWritten rack state (writes_of g.fsize image (trace_of Late g image)) [] more v1)
     (settles : StepsTo any_phase any_phase rack v1 Settle settled v2)
-    (loses : (state : State) → StandsIn any_phase rack v2 state → HasLost rack state s v3)
-    (reads : (state : State) → StandsIn any_phase rack v3 state → HasReadAll rack seed state files tally v4)
+    (loses : (state : State) → StandsIn any_phase rack Always v2 state → HasLost rack state s v3)
+    (reads : (state : State) → StandsIn any_phase rack Always v3 state → HasReadAll rack seed state files tally v4)
     (text_is : (replies : List Reply) → IsTally seed replies tally → text ≡ report_text seed files more settled replies)
     (volume : IsDrillVolume seed files image g) (boundary : s ≡ seed % 4) (law : TellsTold rack) (taken given : Option (List ℕ)) where
   table_is : blank.state.table ≡ empty_table drill_shape
   table_is = ap (λ (s : State). s.table) blank.blank.is
 
   written : HasWritten rack blank.state (writes_of g.fsize image (trace_of Late g image)) [] more v1
-  written = writes blank.state (same.stands blank.state blank.stands) (blank_unwritten blank.state (trace_of Late g image) table_is)
+  written = writes blank.state (same.stands None blank.state blank.stands) (blank_unwritten blank.state (trace_of Late g image) table_is)
 
-  lost : HasLost rack (settles written.next written.led.stands).0 s v3
-  lost = loses (settles written.next written.led.stands).0 (settles written.next written.led.stands).1
+  lost : HasLost rack (settles None written.next written.led.stands).0 s v3
+  lost = loses (settles None written.next written.led.stands).0 (settles None written.next written.led.stands).1
 
   read : HasReadAll rack seed lost.next files tally v4
   read = reads lost.next lost.led.stands
@@ -105,16 +106,16 @@ module _ {R : Type 0} (rack : Ghosts R) (before : R) (loose : Volume Loose R) (v
   shape_is : read.next.table.shape ≡ shape_of v4
   shape_is = ap (λ (s : State). s.table.shape) read.led.stands.is
 
-  known4 : TellsBoundaries (rack.bytes (rack_of v4)) read.next → Tells rack v4
-  known4 told = tells_now rack v4 law (λ q below. told q (subst (λ (t : Shape). q / 2 < t.b) (sym shape_is) below))
+  known4 : TellsBoundaries (rack.bytes (rack_of v4)) read.next → Known Always rack v4
+  known4 told = (tells_now rack v4 law (λ q below. told q (subst (λ (t : Shape). q / 2 < t.b) (sym shape_is) below)), tt)
 
-  known3 : TellsBoundaries (rack.bytes (rack_of v4)) read.next → Tells rack v3
+  known3 : TellsBoundaries (rack.bytes (rack_of v4)) read.next → Known Always rack v3
   known3 told = told_before rack v3 v4 l4 (known4 told)
 
-  known2 : TellsBoundaries (rack.bytes (rack_of v4)) read.next → Tells rack v2
+  known2 : TellsBoundaries (rack.bytes (rack_of v4)) read.next → Known Always rack v2
   known2 told = told_before rack v2 v3 l3 (known3 told)
 
-  known1 : TellsBoundaries (rack.bytes (rack_of v4)) read.next → Tells rack v1
+  known1 : TellsBoundaries (rack.bytes (rack_of v4)) read.next → Known Always rack v1
   known1 told = told_before rack v1 v2 l2 (known2 told)
 
   -- the members behind the array's own were left alone
@@ -141,7 +142,7 @@ module _ {R : Type 0} (rack : Ghosts R) (before : R) (loose : Volume Loose R) (v
   pub has_drilled : HasDrilled (rack_facts rack before (rack_of v4) taken given) seed files text
   has_drilled =
       let K : Type 0 = TellsBoundaries (rack.bytes (rack_of v4)) read.next in
-      let step = settles written.next written.led.stands in
+      let step = settles None written.next written.led.stands in
       let fails = subst (λ (n : ℕ). Run K step.0 (loss_at n) lost.losses lost.next) boundary
       (run_less known3 step.0 (loss_at s) lost.losses lost.next lost.led.run) in
       record {

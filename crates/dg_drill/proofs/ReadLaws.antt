@@ -28,6 +28,7 @@ use Rattle.dg_model.specs.declared.events.Event.{Event}
 use Rattle.dg_model.specs.declared.events.Event.TheVariants.{Cat}
 use Rattle.dg_model.specs.declared.replies.Reply.{Reply}
 use Rattle.dg_model.specs.declared.replies.Reply.TheVariants.{Cut as CutReply, Given as GivenReply, Refused as RefusedReply, Unavailable as UnavailableReply}
+use Rattle.dg_volume.specs.Origins.{Always}
 use Rattle.dg_volume.specs.Replies.{AnswersCat}
 use Rattle.dg_volume.specs.Volumes.{Leaves, StandsIn, StepsBy, StepsTo, any_phase}
 use Rattle.dg_volume.specs.declared.phases.AnyPhase.{AnyPhase}
@@ -132,7 +133,7 @@ some_bytes shape h = elim h.block [
 
 module _ {R : Type 0} (rack : Ghosts R) where
   pub reads_none : (seed : ℕ) (v : Volume AnyPhase R) (state : State) (tally : Tally) → tally ≡ record { given = 0; bytes = 0; unavailable = 0 }
-      → StandsIn any_phase rack v state → HasReadAll rack seed state 0 tally v
+      → StandsIn any_phase rack Always v state → HasReadAll rack seed state 0 tally v
   reads_none seed v state tally is stands = record {
     replies = [];
     next = state;

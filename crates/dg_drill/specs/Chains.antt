@@ -14,7 +14,8 @@ use Rattle.dg_model.specs.declared.events.Event.{Event}
 use Rattle.dg_model.specs.declared.events.Event.TheVariants.{Fail}
 use Rattle.dg_model.specs.declared.replies.Reply.{Reply}
 use Rattle.dg_model.specs.declared.replies.Reply.TheVariants.{Done}
-use Rattle.dg_volume.specs.Volumes.{StandsIn, Tells, any_phase}
+use Rattle.dg_volume.specs.Origins.{Always}
+use Rattle.dg_volume.specs.Volumes.{Known, StandsIn, any_phase}
 use Rattle.dg_volume.specs.declared.phases.AnyPhase.{AnyPhase}
 use Rattle.dg_volume.specs.declared.volumes.Volume.{Volume}
 
@@ -22,13 +23,13 @@ use Rattle.dg_volume.specs.declared.volumes.Volume.{Volume}
 
 -- whichever state the volume was in, it made a step from it, to a state that it is in now
 abbrev pub Steps : {R : Type 0} → Ghosts R → Volume AnyPhase R → Event → Reply → Volume AnyPhase R → Type 0
-Steps rack old event reply new = (state : State) → StandsIn any_phase rack old state →
-    (next : State) × StandsIn any_phase rack new next × Step (Tells rack new) state event reply next
+Steps rack old event reply new = (state : State) → StandsIn any_phase rack Always old state →
+    (next : State) × StandsIn any_phase rack Always new next × Step (Known Always rack new) state event reply next
 
 -- from this state events had these replies, in one step after another, to a state that the volume is in now
 pub record LedTo {R : Type 0} (rack : Ghosts R) (state : State) (events : List Event) (replies : List Reply) (new : Volume AnyPhase R) (next : State) : Type 0 where
-  pub stands : StandsIn any_phase rack new next
-  pub run : Run (Tells rack new) state events replies next
+  pub stands : StandsIn any_phase rack Always new next
+  pub run : Run (Known Always rack new) state events replies next
 
 -- ---- writes
 

@@ -7,6 +7,7 @@ ghost use Rattle.dg_drill.specs.Volumes.{IsDrillVolume, drill_shape};
 ghost use Rattle.dg_io.specs.Told.{Told, Took, TookPart};
 ghost use Rattle.dg_model.specs.Causes.{Rose};
 ghost use Rattle.dg_model.specs.States.{State};
+ghost use Rattle.dg_volume.specs.Origins.{Always};
 ghost use Rattle.dg_volume.specs.Settles.{settle_reply};
 ghost use Rattle.dg_volume.specs.Volumes.{IsWell, Leaves, StandsIn, any_phase, shape_of};
 ghost use Rattle.ufs_model.specs.Geometries.{IsGeometry};
@@ -64,7 +65,7 @@ fn settle_reply(answer: Result<(), Unsettled>) -> Reply
 fn lose<R: Rack>(volume: &mut Volume<AnyPhase, R>, s: u32)
     requires well { IsWell any_phase R.Rack volume.old }
     ensures leaves { Leaves any_phase any_phase R.Rack volume.old volume.new }
-    ensures runs { (state : State) → StandsIn any_phase R.Rack volume.old state → HasLost R.Rack state s volume.new }
+    ensures runs { (state : State) → StandsIn any_phase R.Rack Always volume.old state → HasLost R.Rack state s volume.new }
 {
     volume.fail(s, 0);
     volume.fail(s, 1);

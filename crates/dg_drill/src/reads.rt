@@ -5,6 +5,7 @@ ghost use Rattle.dg_drill.specs.Drills.{read_event};
 ghost use Rattle.dg_drill.specs.Items.{bytes_of};
 ghost use Rattle.dg_drill.specs.Outcomes.{outcome_by, with_outcome};
 ghost use Rattle.dg_model.specs.States.{State};
+ghost use Rattle.dg_volume.specs.Origins.{Always};
 ghost use Rattle.dg_volume.specs.Volumes.{IsWell, Leaves, StandsIn, any_phase};
 
 use crate::comparers::Comparer;
@@ -86,7 +87,7 @@ pub fn read_files<R: Rack>(seed: u64, files: u32, volume: &mut Volume<AnyPhase, 
     requires well { IsWell any_phase R.Rack volume.old }
     requires few { files ≤ 2000 }
     ensures leaves { Leaves any_phase any_phase R.Rack volume.old volume.new }
-    ensures runs { (state : State) → StandsIn any_phase R.Rack volume.old state → HasReadAll R.Rack seed state files result volume.new }
+    ensures runs { (state : State) → StandsIn any_phase R.Rack Always volume.old state → HasReadAll R.Rack seed state files result volume.new }
 {
     let mut sizes = sizes_of(seed);
     let mut tally = Tally {

@@ -3,6 +3,7 @@ ghost use Rattle.std.specs.Prelude.{◌≡◌, ◌≤◌, ◌<◌, ◌*◌, All,
 ghost use Rattle.dg_drill.specs.Chains.{AreApart, AreUnwritten, HasAnswered, HasWritten, done_count};
 ghost use Rattle.dg_model.specs.States.{State};
 ghost use Rattle.dg_trace.specs.Traces.{write_of, writes_of};
+ghost use Rattle.dg_volume.specs.Origins.{Always};
 ghost use Rattle.dg_volume.specs.Volumes.{IsWell, Leaves, StandsIn, any_phase, shape_of};
 ghost use Rattle.dg_volume.specs.Writes.{write_reply};
 ghost use Rattle.ufs_build.specs.Traces.{block_in};
@@ -71,7 +72,7 @@ pub fn write_blocks<R: Rack>(
     requires fits { g.now.fsize ≡ (shape_of volume.old).l }
     requires inside { g.now.size ≤ (shape_of volume.old).n }
     ensures leaves { Leaves any_phase any_phase R.Rack volume.old volume.new }
-    ensures runs { IfOk result (λ more. (state : State) → StandsIn any_phase R.Rack volume.old state → AreUnwritten state.table blocks.now
+    ensures runs { IfOk result (λ more. (state : State) → StandsIn any_phase R.Rack Always volume.old state → AreUnwritten state.table blocks.now
         → HasWritten R.Rack state (writes_of g.now.fsize image.now blocks.now) [] more volume.new) }
 {
     let mut more = 0;

@@ -10,7 +10,7 @@ use Rattle.dg_model.specs.declared.events.Event.TheVariants.{Pending}
 use Rattle.dg_model.specs.declared.replies.Reply.{Reply}
 use Rattle.dg_model.specs.declared.replies.Reply.TheVariants.{Blocks}
 use Rattle.dg_model.specs.declared.shapes.Shape.{Shape}
-use Rattle.dg_run.specs.Steps.{StandsIn, StepsTo, Tells, VolumeStepsTo, rack_of, shape_of}
+use Rattle.dg_run.specs.Steps.{Known, StandsIn, StepsTo, VolumeStepsTo, rack_of, shape_of}
 use Rattle.dg_run.specs.declared.arrays.Array.{Array}
 use Rattle.dg_volume.specs.Copies.{StepsHot}
 use Rattle.dg_volume.specs.Volumes.{any_phase, marks_of}
@@ -22,17 +22,17 @@ module _ {R : Type 0} (rack : Ghosts R) where
   TellsStill a b = (q : ℕ) → rack.tells (rack_of b) q → rack.tells (rack_of a) q
 
   -- what is told in the end was told before
-  pub told_before : (a b : Array R) → shape_of b ≡ shape_of a → TellsStill a b → Tells rack b → Tells rack a
-  told_before a b shape tells told q below = tells q (told q (subst (λ (s : Shape). q / 2 < s.b) (sym shape) below))
+  pub told_before : {P : Type 0} → (a b : Array R) → shape_of b ≡ shape_of a → TellsStill a b → Known P rack b → Known P rack a
+  told_before a b shape tells known = (λ q below. tells q (known.0 q (subst (λ (s : Shape). q / 2 < s.b) (sym shape) below)), known.1)
 
   -- what a step of its volume leads to
-  abbrev pub LeadsTo : (List ℕ → List ℕ) → Array R → Event → Reply → Array R → State → Type 0
-  LeadsTo touch a event reply b state = (next : State) × volumes.StandsIn any_phase rack b.volume next × Step (Tells rack b) state event reply next × (next.recent ≡ touch state.recent)
+  abbrev pub LeadsTo : Type 0 → (List ℕ → List ℕ) → Array R → Event → Reply → Array R → State → Type 0
+  LeadsTo P touch a event reply b state = (next : State) × volumes.StandsIn any_phase rack P b.volume next × Step (Known P rack b) state event reply next × (next.recent ≡ touch state.recent)
 
-  goes_on : (touch : List ℕ → List ℕ) (a b : Array R) (event : Event) (reply : Reply) (state : State) → StaysInUse event reply → StandsIn rack a state → b.hot ≡ touch a.hot → LeadsTo touch a event reply b state
-      → (next : State) × StandsIn rack b next × Step (Tells rack b) state event reply next
-  goes_on touch a b event reply state in_use st hot one =
-      let keeps = step_keeps (Tells rack b) state event reply one.0 in_use one.2 in (
+  goes_on : {P : Type 0} → (touch : List ℕ → List ℕ) (a b : Array R) (event : Event) (reply : Reply) (state : State) → StaysInUse event reply → StandsIn rack P a state → b.hot ≡ touch a.hot
+      → LeadsTo P touch a event reply b state → (next : State) × StandsIn rack P b next × Step (Known P rack b) state event reply next
+  goes_on {P = p} touch a b event reply state in_use st hot one =
+      let keeps = step_keeps (Known p rack b) state event reply one.0 in_use one.2 in (
         one.0,
         record {
           volume = one.1;
@@ -45,18 +45,18 @@ module _ {R : Type 0} (rack : Ghosts R) where
   -- a step that changed the inodes that were read last as its volume says
   pub steps_by : (touch : List ℕ → List ℕ) (a b : Array R) (event : Event) (reply : Reply) → StaysInUse event reply → b.hot ≡ touch a.hot
       → volumes.StepsBy any_phase any_phase rack touch a.volume event reply b.volume → StepsTo rack a event reply b
-  steps_by touch a b event reply in_use hot steps state st = goes_on touch a b event reply state in_use st hot (steps state st.volume)
+  steps_by touch a b event reply in_use hot steps origin state st = goes_on touch a b event reply state in_use st hot (steps origin state st.volume)
 
   -- the same of a volume that says it of states with a block for each of the array's
   pub steps_sized : (a b : Array R) (event : Event) (reply : Reply) → StaysInUse event reply → b.hot ≡ a.hot
       → volumes.StepsSized any_phase any_phase rack a.volume event reply b.volume → StepsTo rack a event reply b
-  steps_sized a b event reply in_use hot steps state st =
-      goes_on (λ recent. recent) a b event reply state in_use st hot (steps state st.volume (st.sized ∙ ap (λ (s : State). s.table.shape.n) st.volume.is))
+  steps_sized a b event reply in_use hot steps origin state st =
+      goes_on (λ recent. recent) a b event reply state in_use st hot (steps origin state st.volume (st.sized ∙ ap (λ (s : State). s.table.shape.n) st.volume.is))
 
   -- and of one that says it of states in which just these inodes were read last
   pub steps_hot : (a b : Array R) (event : Event) (reply : Reply) → StaysInUse event reply → b.hot ≡ a.hot
       → StepsHot any_phase any_phase rack a.hot a.volume event reply b.volume → StepsTo rack a event reply b
-  steps_hot a b event reply in_use hot steps state st = goes_on (λ recent. recent) a b event reply state in_use st hot (steps state st.volume st.recent)
+  steps_hot a b event reply in_use hot steps origin state st = goes_on (λ recent. recent) a b event reply state in_use st hot (steps origin state st.volume st.recent)
 
   -- a step that changed none of them
   pub steps_of : (a b : Array R) (event : Event) (reply : Reply) → StaysInUse event reply → b.hot ≡ a.hot
@@ -66,15 +66,15 @@ module _ {R : Type 0} (rack : Ghosts R) where
   -- the step of the volume alone
   pub volume_steps : (touch : List ℕ → List ℕ) (a b : Array R) (event : Event) (reply : Reply)
       → volumes.StepsBy any_phase any_phase rack touch a.volume event reply b.volume → VolumeStepsTo rack a event reply b
-  volume_steps touch a b event reply steps state st =
-      let one = steps state st.volume in
+  volume_steps touch a b event reply steps origin state st =
+      let one = steps origin state st.volume in
       (one.0, one.1, one.2)
 
   pub weaker_steps : (a b : Array R) (event : Event) (reply : Reply) → StepsTo rack a event reply b → VolumeStepsTo rack a event reply b
-  weaker_steps a b event reply steps state st =
-      let one = steps state st in
+  weaker_steps a b event reply steps origin state st =
+      let one = steps origin state st in
       (one.0, one.1.volume, one.2)
 
   -- the pending blocks are told, and nothing is done
   pub pending_steps : (a : Array R) → StepsTo rack a Pending (Blocks (marked (marks_of any_phase a.volume))) a
-  pending_steps a state st = (state, st, (ap (λ (s : State). marked s.pending) (sym st.volume.is), refl))
+  pending_steps a origin state st = (state, st, (ap (λ (s : State). marked s.pending) (sym st.volume.is), refl))

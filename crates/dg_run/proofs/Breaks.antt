@@ -98,8 +98,8 @@ module _ {R : Type 0} (rack : Ghosts R) where
     replies = was.served.replies;
     in_place = was.served.in_place;
     budget = omega (arith, was.passed_is);
-    runs = λ state st.
-        let one = was.served.runs state st in (
+    runs = λ origin state st.
+        let one = was.served.runs origin state st in (
           one.0,
           ap (λ (s : State). s.table.shape) one.1.volume.is ∙ sym same,
           run_less (told_before rack b c same tells) state was.events was.served.replies one.0 one.2,
@@ -124,8 +124,8 @@ module _ {R : Type 0} (rack : Ghosts R) where
         replies = rs ++ r ∷ [];
         in_place = All-append (IsInPlace (Some shape)) es (e ∷ []) was.served.in_place (All-one (IsInPlace (Some shape)) e line.in_place);
         budget = omega (arith, size, length-append (input_of es) (line_of e), was.passed_is, line.within);
-        runs = λ state st.
-            let one = runs state st in
+        runs = λ origin state st.
+            let one = runs origin state st in
             (one.0, ap (λ (s : State). s.table.shape) one.1.is, one.2);
         input = starts_more (Some shape) es e x y z was.served.input line.input;
         output = output_more rack rs r t u v was.served.output answered.output;
@@ -151,8 +151,8 @@ module _ {R : Type 0} (rack : Ghosts R) where
         others = listed.others;
         in_place = All-append (IsInPlace (Some shape)) es (Tree ∷ []) was.served.in_place (All-one (IsInPlace (Some shape)) Tree tt);
         budget = omega (arith, size, length-append (input_of es) (line_of Tree), was.passed_is, within);
-        runs = λ state st.
-            let one = runs state st in
+        runs = λ origin state st.
+            let one = runs origin state st in
             (one.0, ap (λ (s : State). s.table.shape) one.1.is, one.2);
         input = starts_more (Some shape) es Tree x y z was.served.input input;
         output = took_both (output_of rs) (nodes_text listed.entries) t u v was.served.output listed.output;

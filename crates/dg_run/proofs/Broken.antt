@@ -19,8 +19,9 @@ use Rattle.dg_run.specs.Arrays.{AnsweredToPart, ArrayCut, ArrayRanOut}
 use Rattle.dg_run.specs.Endings.{GaveLines, LinesBrokeOff, LinesCut, LinesListed, LinesWanted, StartsWith, TookUpTo}
 use Rattle.dg_run.specs.Events.{Begins}
 use Rattle.dg_run.specs.Replays.{BrokeOff, CutRefusal, CutReply, IsCut, RanOut, RanOutBetween, RanOutWithin, StopsAt, TellsBoundaries}
-use Rattle.dg_run.specs.Steps.{GoesOn, IsBlankArray, Tells, VolumeRunsTo, rack_of, shape_of}
+use Rattle.dg_run.specs.Steps.{GoesOn, IsBlankArray, Known, VolumeRunsTo, rack_of, shape_of}
 use Rattle.dg_run.proofs.Runs.{volume_runs}
+use Rattle.dg_volume.specs.Origins.{Always}
 use Rattle.dg_volume.specs.HeldLaws.{TellsTold, tells_now}
 use Rattle.dg_run.proofs.ToldSteps.{Told-each, Told-refl, Told-then}
 use Rattle.dg_run.proofs.Whole.{cut_input, ran_nothing, ran_of, rest_told, same_shape, stops_text, took_first}
@@ -90,7 +91,7 @@ module _ {R : Type 0} (ghosts : Ghosts R) (shape : Shape) (first : ℕ) (rack : 
   }
 
   no_runs : b ≡ a → VolumeRunsTo ghosts a [] [] b
-  no_runs same = subst (λ (s : Array R). VolumeRunsTo ghosts a [] [] s) (sym same) (λ state st. (state, st.volume, refl))
+  no_runs same = subst (λ (s : Array R). VolumeRunsTo ghosts a [] [] s) (sym same) (λ origin state st. (state, st.volume, refl))
 
   first_cut : (text left rest taken given : Option (List ℕ)) → first ≤ 2 ^ 40 → Told (Begins None (MakeArray shape)) text left → Told (TookPart (reply_line Done)) taken given → b ≡ a → Told AreAny left rest
       → CutReply (ghosts.counts rack) (ghosts.counts (rack_of b)) (ghosts.bytes rack) (ghosts.bytes (rack_of b)) text rest taken given
@@ -142,13 +143,13 @@ module _ {R : Type 0} (ghosts : Ghosts R) (shape : Shape) (first : ℕ) (rack : 
   array_cut unread text left rest taken given small line (inr (inr to)) = inr (refusal_cut unread text left rest taken given line to)
 
   -- what is known of the final state
-  told_in : (final : State) → final.table.shape ≡ shape_of b → TellsBoundaries (ghosts.bytes (rack_of b)) final → Tells ghosts b
-  told_in final is told = tells_now ghosts b.volume law (λ q below. told q (subst (λ (n : ℕ). q / 2 < n) (sym (ap (λ (s : Shape). s.b) is)) below))
+  told_in : (final : State) → final.table.shape ≡ shape_of b → TellsBoundaries (ghosts.bytes (rack_of b)) final → Known Always ghosts b
+  told_in final is told = (tells_now ghosts b.volume law (λ q below. told q (subst (λ (n : ℕ). q / 2 < n) (sym (ap (λ (s : Shape). s.b) is)) below)), tt)
 
   lines_wanted : (text left rest taken given : Option (List ℕ)) → Told (Begins None (MakeArray shape)) text left → LinesWanted ghosts (reply_line Done) (shape_of a) first left rest taken given a b
       → RanOutBetween (ghosts.counts rack) (ghosts.bytes (rack_of b)) text rest taken given
   lines_wanted text left rest taken given line lines =
-      let W = lines.runs blank.state blank.stands in
+      let W = lines.runs None blank.state blank.stands in
       let final = W.0 in
       record {
         events = MakeArray shape ∷ lines.events;
@@ -166,7 +167,7 @@ module _ {R : Type 0} (ghosts : Ghosts R) (shape : Shape) (first : ℕ) (rack : 
   lines_listed text left rest taken given line lines =
       let events = lines.events ++ Tree ∷ [] in
       let replies = lines.replies ++ Nodes (lines.entries ++ lines.others) ∷ [] in
-      let W = lines.runs blank.state blank.stands in
+      let W = lines.runs None blank.state blank.stands in
       let final = W.0 in
       record {
         events = MakeArray shape ∷ lines.events;

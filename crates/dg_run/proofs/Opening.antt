@@ -13,15 +13,16 @@ use Rattle.dg_open.specs.Reopenings.{FindsNoState, FindsUnclean}
 use Rattle.dg_run.specs.Calls.{Facts, met_by}
 use Rattle.dg_run.specs.Opened.{Reached, Resumed}
 use Rattle.dg_run.specs.Resumes.{EndsResume}
-use Rattle.dg_run.specs.Steps.{GoesOn, RunsBefore, StandsIn, Tells, VolumeRunsTo, rack_of}
+use Rattle.dg_run.specs.Steps.{GoesOn, Known, RunsBefore, StandsIn, VolumeRunsTo, rack_of}
 use Rattle.dg_run.specs.declared.arrays.Array.{Array}
 use Rattle.dg_run.specs.declared.top.Status.{Status}
 use Rattle.dg_run.specs.declared.top.Status.TheVariants.{NoState, Unclean, WriteFault}
-use Rattle.dg_saved.specs.OpeningLaws.{AtFirst, at_first, found_no_state, found_unclean, is_opened, known, source}
-use Rattle.dg_saved.specs.Saved.{HasSource, IsHeld, TellsArray}
+use Rattle.dg_saved.specs.OpeningLaws.{AtFirst, at_first, found_no_state, found_unclean, is_opened, known_now, origin, source}
+use Rattle.dg_saved.specs.Saved.{HasSource, IsKnown}
 use Rattle.dg_saved.specs.Texts.{nostate_text, unclean_text}
 use Rattle.dg_volume.specs.HeldLaws.{TellsTold, holds_all}
 use Rattle.dg_volume.specs.Opens.{HasOpened}
+use Rattle.dg_volume.specs.Origins.{Origin, WasHeld}
 use Rattle.dg_volume.specs.Volumes.{any_phase}
 use Rattle.dg_volume.specs.Volumes as volumes
 
@@ -45,42 +46,46 @@ module _ {R : Type 0} (rack : Ghosts R) (before : R) (a b : Array R) (opened : H
   abbrev pub from : HasSource (met_by met) (rack.counts (rack_of a))
   from = source rack before a.volume b.volume a.hot taken given opened goes
 
-  -- where the members tell their bytes at the end, the array does
-  told_end : TellsArray (rack.bytes (rack_of b)) opened.saved.table → Tells rack b
-  told_end = known rack before a.volume b.volume a.hot taken given opened goes law
+  module _ (V : List (List ℕ)) (size : length V ≡ opened.saved.table.shape.n) where
+    -- what its members may have held
+    abbrev was : Origin
+    was = origin rack before a.volume b.volume a.hot taken given opened goes V
 
-  module _ (V : List (List ℕ)) (held : IsHeld (met_by met) (rack.counts (rack_of a)) from V) where
+    -- where the blocks are known at the end, they are known of the array
+    told_end : IsKnown (met_by met) (rack.counts (rack_of a)) from V → Known (WasHeld was) rack b
+    told_end = known_now rack before a.volume b.volume a.hot taken given opened goes law V
+
     -- the state that the array is in, once it was opened
     abbrev at : AtFirst rack before a.volume b.volume a.hot taken given opened goes V
-    at = at_first rack before a.volume b.volume a.hot taken given opened goes V held
+    at = at_first rack before a.volume b.volume a.hot taken given opened goes V
 
-    stands : StandsIn rack a at.state
+    stands : StandsIn rack (WasHeld was) a at.state
     stands = record {
       volume = at.stands;
       recent = at.recent;
-      sized = ap length at.blocks ∙ held.size ∙ ap (λ (t : Table). t.shape.n) (sym opened.table) ∙ ap (λ (s : State). s.table.shape.n) (sym at.stands.is);
+      sized = ap length at.blocks ∙ size ∙ ap (λ (t : Table). t.shape.n) (sym opened.table) ∙ ap (λ (s : State). s.table.shape.n) (sym at.stands.is);
     }
 
-    resumed_to : (events : List Event) (replies : List Reply) (final : State) → Run (Tells rack b) at.state events replies final
+    resumed_to : (events : List Event) (replies : List Reply) (final : State) → Run (Known (WasHeld was) rack b) at.state events replies final
         → Resumed met (rack.counts (rack_of a)) from V events replies
     resumed_to events replies final run = record {
       state = at.state;
-      is = is_opened rack before a.volume b.volume a.hot taken given opened goes V held law;
+      is = is_opened rack before a.volume b.volume a.hot taken given opened goes V law;
       final = final;
       run = run_less told_end at.state events replies final run;
     }
 
     pub resumed : (events : List Event) (replies : List Reply) → RunsBefore rack a events replies b → Resumed met (rack.counts (rack_of a)) from V events replies
     resumed events replies runs =
-        let one = runs at.state stands in
+        let one = runs was at.state stands in
         resumed_to events replies one.0 one.2
 
     pub reached : (events : List Event) (replies : List Reply) → VolumeRunsTo rack a events replies b → Reached met (rack.counts (rack_of a)) from V events replies
     unfolding resumed_to
     reached events replies runs =
-        let one = runs at.state stands in
+        let one = runs was at.state stands in
         let final = one.0 in
-        let in_end : volumes.StandsIn any_phase rack b.volume final = one.1 in
+        let in_end : volumes.StandsIn any_phase rack (WasHeld was) b.volume final = one.1 in
         record {
           resumed = resumed_to events replies final one.2;
           holds = λ told. holds_all rack b.volume any_phase final in_end (told_end told);

@@ -73,7 +73,7 @@ module _ {R : Type 0} (rack : Ghosts R) (before : R) (a b : Array R) (opened : H
     rise = goes.rise;
     others = others rack before a.volume b.volume a.hot taken given opened goes;
     lines = lines_on events placed budget;
-    runs = λ V held. reached rack before a b opened goes law left rest taken given V held events replies runs;
+    runs = λ V size. reached rack before a b opened goes law left rest taken given V size events replies runs;
   }
 
   abbrev wanted_on : (events : List Event) (replies : List Reply) → All (IsInPlace (Some (shape_of a))) events → length (input_of events) ≤ 2 ^ 40 → RunsBefore rack a events replies b
@@ -83,7 +83,7 @@ module _ {R : Type 0} (rack : Ghosts R) (before : R) (a b : Array R) (opened : H
     source = from rack before a b opened goes law left rest taken given;
     rise = goes.rise;
     lines = lines_on events placed budget;
-    runs = λ V held. resumed rack before a b opened goes law left rest taken given V held events replies runs;
+    runs = λ V size. resumed rack before a b opened goes law left rest taken given V size events replies runs;
   }
 
   served_to : (number : ℕ) (kind : Kind) (z w : Option (List ℕ)) → (s : ServedTo rack (shape_of a) 0 1 number kind first_left last_left z w a b)

@@ -11,6 +11,7 @@ use Rattle.dg_model.specs.declared.shapes.Shape.{Shape}
 use Rattle.dg_model.specs.declared.events.Event.{Event}
 use Rattle.dg_model.specs.declared.replies.Reply.{Reply}
 use Rattle.dg_volume.specs.HeldLaws.{own_still, own_then}
+use Rattle.dg_volume.specs.Origins.{WasHeld}
 use Rattle.dg_io.specs.Told.{Told, Took}
 use Rattle.dg_run.specs.declared.arrays.Array.{Array}
 use Rattle.dg_text.specs.Lines.{line_of, input_of, IsInPlace}
@@ -18,7 +19,7 @@ use Rattle.dg_text.specs.Replies.{reply_line, output_of}
 use Rattle.dg_text.specs.declared.lines.BadLine.{BadLine}
 use Rattle.dg_run.specs.Events.{IsRefused}
 use Rattle.dg_run.specs.Lines.{BeginsAll, Served, ServedLine, AllServed, ServedTo, Turned, LinesEndAt}
-use Rattle.dg_run.specs.Steps.{GoesOn, IsSound, RunsTo, StepsTo, Tells, VolumeRunsTo, VolumeStepsTo, rack_of, shape_of}
+use Rattle.dg_run.specs.Steps.{GoesOn, IsSound, Known, RunsTo, StepsTo, VolumeRunsTo, VolumeStepsTo, rack_of, shape_of}
 use Rattle.dg_run.specs.declared.lines.Turn.{Turn}
 use Rattle.dg_run.specs.declared.lines.Turn.TheVariants.{Served as turn_served, End as turn_end, Refused as turn_refused}
 use Rattle.dg_run.specs.declared.lines.LinesEnd.{LinesEnd}
@@ -30,24 +31,24 @@ use Rattle.dg_run.proofs.ToldSteps.{Told-refl, Told-then}
 module _ {R : Type 0} (rack : Ghosts R) where
   pub runs_more : (a b c : Array R) (es : List Event) (rs : List Reply) (e : Event) (r : Reply) → RunsTo rack a es rs b → StepsTo rack b e r c → shape_of c ≡ shape_of b
       → TellsStill rack b c → RunsTo rack a (es ++ e ∷ []) (rs ++ r ∷ []) c
-  runs_more a b c es rs e r runs steps shape tells state st =
-      let one = runs state st in
-      let two = steps one.0 one.1 in
+  runs_more a b c es rs e r runs steps shape tells origin state st =
+      let one = runs origin state st in
+      let two = steps origin one.0 one.1 in
       let run = run_less (told_before rack b c shape tells) state es rs one.0 one.2 in
-      (two.0, two.1, run_push (Tells rack c) state es rs one.0 e r two.0 run two.2)
+      (two.0, two.1, run_push (Known (WasHeld origin) rack c) state es rs one.0 e r two.0 run two.2)
 
   -- the same where nothing is said of the inodes that were read last
   pub volume_runs_more : (a b c : Array R) (es : List Event) (rs : List Reply) (e : Event) (r : Reply) → RunsTo rack a es rs b → VolumeStepsTo rack b e r c → shape_of c ≡ shape_of b
       → TellsStill rack b c → VolumeRunsTo rack a (es ++ e ∷ []) (rs ++ r ∷ []) c
-  volume_runs_more a b c es rs e r runs steps shape tells state st =
-      let one = runs state st in
-      let two = steps one.0 one.1 in
+  volume_runs_more a b c es rs e r runs steps shape tells origin state st =
+      let one = runs origin state st in
+      let two = steps origin one.0 one.1 in
       let run = run_less (told_before rack b c shape tells) state es rs one.0 one.2 in
-      (two.0, two.1, run_push (Tells rack c) state es rs one.0 e r two.0 run two.2)
+      (two.0, two.1, run_push (Known (WasHeld origin) rack c) state es rs one.0 e r two.0 run two.2)
 
   pub volume_runs : (a b : Array R) (es : List Event) (rs : List Reply) → RunsTo rack a es rs b → VolumeRunsTo rack a es rs b
-  volume_runs a b es rs runs state st =
-      let one = runs state st in
+  volume_runs a b es rs runs origin state st =
+      let one = runs origin state st in
       (one.0, one.1.volume, one.2)
 
   pub output_more : (rs : List Reply) (r : Reply) (x y z : Option (List ℕ)) → Told (Took (output_of rs)) x y → Told (Took (reply_line r)) y z → Told (Took (output_of (rs ++ r ∷ []))) x z
@@ -61,7 +62,7 @@ module _ {R : Type 0} (rack : Ghosts R) where
     in_place = λ k d h. absurd (omega arith);
     input = Told-refl _ (begins_none (Some shape)) left;
     output = Told-refl _ (λ b. sym (append-nil b)) taken;
-    runs = λ state st. (state, st, refl);
+    runs = λ origin state st. (state, st, refl);
   }
 
   pub served_more : (shape : Shape) (room n : ℕ) (es : List Event) (x y z t u v : Option (List ℕ)) (a b c : Array R) → Served rack shape es x y t u a b → (line : ServedLine rack shape room n y z u v b c) → shape_of c ≡ shape_of b → TellsStill rack b c → Served rack shape (es ++ line.event ∷ []) x z t v a c

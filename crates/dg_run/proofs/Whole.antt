@@ -9,7 +9,7 @@ use Rattle.dg_model.proofs.KnownLaws.{run_less}
 use Rattle.dg_model.specs.Runs.{Run}
 use Rattle.dg_run.proofs.BeyondLaws.{run_beyond}
 use Rattle.dg_io.specs.declared.outside.Rack.{Ghosts}
-use Rattle.dg_run.specs.Steps.{GoesOn, IsBlankArray, Tells, VolumeRunsTo, rack_of, shape_of}
+use Rattle.dg_run.specs.Steps.{GoesOn, IsBlankArray, Known, VolumeRunsTo, rack_of, shape_of}
 use Rattle.dg_model.specs.declared.shapes.Shape.{Shape}
 use Rattle.dg_model.specs.declared.events.Event.{Event}
 use Rattle.dg_model.specs.declared.events.Event.TheVariants.{Array as MakeArray}
@@ -31,6 +31,7 @@ use Rattle.dg_run.specs.Replays.{CutRefusal, IsCut, IsNoInput, OthersKept, Ran, 
 use Rattle.dg_run.specs.Arrays.{AllAnswered, AnsweredTo, ArrayReplayed, ArrayStopped, IsCutAt}
 use Rattle.dg_run.proofs.Inputs.{All-head, All-right, no_line}
 use Rattle.dg_run.proofs.Runs.{volume_runs}
+use Rattle.dg_volume.specs.Origins.{Always}
 use Rattle.dg_volume.specs.HeldLaws.{TellsTold, holds_all, tells_now}
 use Rattle.dg_volume.specs.Volumes.{any_phase}
 use Rattle.dg_volume.specs.Volumes as volumes
@@ -54,8 +55,8 @@ module _ {R : Type 0} (ghosts : Ghosts R) (shape : Shape) (first : ℕ) (rack : 
   abbrev Others : Shape → Type 0
   Others numbers = OthersKept numbers (ghosts.counts rack) (ghosts.counts (rack_of b)) (ghosts.bytes rack) (ghosts.bytes (rack_of b))
 
-  others_kept : (events : List Event) (replies : List Reply) (final : State) → volumes.StandsIn any_phase ghosts b.volume final → All (IsInPlace (Some (shape_of a))) events
-      → Run (Tells ghosts b) blank.state events replies final → Others final.table.shape
+  others_kept : (events : List Event) (replies : List Reply) (final : State) → volumes.StandsIn any_phase ghosts Always b.volume final → All (IsInPlace (Some (shape_of a))) events
+      → Run (Known Always ghosts b) blank.state events replies final → Others final.table.shape
   others_kept events replies final stands placed run =
       let numbers : final.table.shape ≡ shape = ap (λ (s : State). s.table.shape) stands.is ∙ goes.shape ∙ same_shape in
       let first : blank.state.table.shape ≡ shape = ap (λ (s : State). s.table.shape) blank.blank.is in
@@ -64,7 +65,7 @@ module _ {R : Type 0} (ghosts : Ghosts R) (shape : Shape) (first : ℕ) (rack : 
         held = λ q past. same_both _ _ _ (blank.others q past) (goes.own.other_bytes q (subst (λ (s : Shape). s.b ≤ q / 2) (sym same_shape) past));
         faults = λ q past.
             sym (ap (λ (c : Counts). c.faults q) counts)
-            ∙ run_beyond (Tells ghosts b) (shape_of a) blank.state events replies final placed run q (subst (λ (s : Shape). s.b ≤ q / 2) (sym first) past)
+            ∙ run_beyond (Known Always ghosts b) (shape_of a) blank.state events replies final placed run q (subst (λ (s : Shape). s.b ≤ q / 2) (sym first) past)
             ∙ blank.blank.beyond q past;
       } in
       subst Others (sym numbers) at
@@ -72,11 +73,11 @@ module _ {R : Type 0} (ghosts : Ghosts R) (shape : Shape) (first : ℕ) (rack : 
   pub ran_of : (events : List Event) (replies : List Reply) → VolumeRunsTo ghosts a events replies b → All (IsInPlace (Some (shape_of a))) events → first + length (input_of events) ≤ 2 ^ 40
       → Ran (ghosts.counts rack) (ghosts.counts (rack_of b)) (ghosts.bytes rack) (ghosts.bytes (rack_of b)) (MakeArray shape ∷ events) (Done ∷ replies)
   ran_of events replies runs placed budget =
-      let W = runs blank.state blank.stands in
+      let W = runs None blank.state blank.stands in
       let final = W.0 in
-      let stands : volumes.StandsIn any_phase ghosts b.volume final = W.1 in
-      let known : TellsBoundaries (ghosts.bytes (rack_of b)) final → Tells ghosts b =
-      λ told. tells_now ghosts b.volume law (λ q below. told q (subst (λ (n : ℕ). q / 2 < n) (sym (ap (λ (s : State). s.table.shape.b) stands.is)) below)) in
+      let stands : volumes.StandsIn any_phase ghosts Always b.volume final = W.1 in
+      let known : TellsBoundaries (ghosts.bytes (rack_of b)) final → Known Always ghosts b =
+      λ told. (tells_now ghosts b.volume law (λ q below. told q (subst (λ (n : ℕ). q / 2 < n) (sym (ap (λ (s : State). s.table.shape.b) stands.is)) below)), tt) in
       record {
         in_place = (well, subst (λ (s : Shape). All (IsInPlace (Some s)) events) same_shape placed);
         budget = omega (arith, length-append (line_of (MakeArray shape)) (input_of events));

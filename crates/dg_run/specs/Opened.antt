@@ -5,7 +5,7 @@ use Rattle.dg_model.specs.States.{Counts, HoldsAll, State}
 use Rattle.dg_model.specs.declared.events.Event.{Event}
 use Rattle.dg_model.specs.declared.replies.Reply.{Reply}
 use Rattle.dg_run.specs.Calls.{Facts, met_by}
-use Rattle.dg_saved.specs.Saved.{HasSource, IsOpenedAs, TellsArray}
+use Rattle.dg_saved.specs.Saved.{HasSource, IsKnown, IsOpenedAs}
 
 module _ (facts : Facts) (opened : Counts) (source : HasSource (met_by facts) opened) where
   -- From the state in which the array was opened with these blocks, these events had these replies, in one step after another.
@@ -13,12 +13,12 @@ module _ (facts : Facts) (opened : Counts) (source : HasSource (met_by facts) op
     pub state : State
     pub is : IsOpenedAs (met_by facts) opened source V state
     pub final : State
-    pub run : Run (TellsArray facts.bytes source.saved.table) state events replies final
+    pub run : Run (IsKnown (met_by facts) opened source V) state events replies final
 
-  -- the same, and the rack has the counts of the last state, and its members hold it
+  -- the same, and the rack has the counts of the last state; where the blocks are known its members hold it
   pub record Reached (V : List (List ℕ)) (events : List Event) (replies : List Reply) : Type 0 where
     pub resumed : Resumed V events replies
-    pub holds : TellsArray facts.bytes source.saved.table → HoldsAll facts.bytes resumed.final
+    pub holds : IsKnown (met_by facts) opened source V → HoldsAll facts.bytes resumed.final
     pub counts : resumed.final.counts ≡ facts.now
 
 -- no input was read

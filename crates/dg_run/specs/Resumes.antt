@@ -14,7 +14,7 @@ use Rattle.dg_run.specs.Opened.{ReadsNothing, Reached, Resumed}
 use Rattle.dg_run.specs.declared.top.Status.{Status}
 use Rattle.dg_run.specs.declared.top.Status.TheVariants.{Done, BadLine, ReadFault, WriteFault, NoMemory, NoState, Unclean}
 use Rattle.dg_saved.specs.Ends.{CutUnopened, Printed}
-use Rattle.dg_saved.specs.Saved.{FoundNoState, FoundUnclean, HasSource, IsHeld, OthersKept}
+use Rattle.dg_saved.specs.Saved.{FoundNoState, FoundUnclean, HasSource, OthersKept}
 use Rattle.dg_saved.specs.Texts.{nostate_text, unclean_text}
 use Rattle.dg_text.specs.Lines.{IsInPlace, input_of}
 use Rattle.dg_text.specs.Replies.{nodes_text, output_of, refusal, reply_line}
@@ -27,14 +27,15 @@ pub record AreLines (shape : Shape) (events : List Event) : Type 0 where
   pub budget : length (input_of events) ≤ 2 ^ 40
 
 -- A saved array was opened, and no count fell from then on; the members behind its own have the bytes that they had. These events are in
--- their places, and had these replies: whichever blocks the members held, in steps from the opened state to one that the rack holds.
+-- their places, and had these replies: of whichever blocks, one for each of the array's, in steps from the state opened with them. What these
+-- say of the blocks is known where the members held them, and then the rack holds the last state.
 pub record RanOn (facts : Facts) (events : List Event) (replies : List Reply) : Type 0 where
   pub opened : Counts
   pub source : HasSource (met_by facts) opened
   pub rise : CountsRise opened facts.now
   pub others : OthersKept (met_by facts) source.saved.table
   pub lines : AreLines source.saved.table.shape events
-  pub runs : (V : List (List ℕ)) → IsHeld (met_by facts) opened source V → Reached facts opened source V events replies
+  pub runs : (V : List (List ℕ)) → length V ≡ source.saved.table.shape.n → Reached facts opened source V events replies
 
 -- the same, but nothing is said of what the rack holds
 pub record WantedOn (facts : Facts) (events : List Event) (replies : List Reply) : Type 0 where
@@ -42,7 +43,7 @@ pub record WantedOn (facts : Facts) (events : List Event) (replies : List Reply)
   pub source : HasSource (met_by facts) opened
   pub rise : CountsRise opened facts.now
   pub lines : AreLines source.saved.table.shape events
-  pub runs : (V : List (List ℕ)) → IsHeld (met_by facts) opened source V → Resumed facts opened source V events replies
+  pub runs : (V : List (List ℕ)) → length V ≡ source.saved.table.shape.n → Resumed facts opened source V events replies
 
 -- the input was read to its end, and is the lines of these events, of which there may be none; the output is the text of their replies
 pub record AllResumed (facts : Facts) : Type 0 where

@@ -12,6 +12,7 @@ use Rattle.dg_model.specs.declared.replies.Reply.TheVariants.{Nodes}
 use Rattle.dg_model.specs.declared.shapes.Shape.{Shape}
 use Rattle.dg_run.specs.declared.arrays.Array.{Array}
 use Rattle.dg_text.specs.Replies.{nodes_text, reply_line}
+use Rattle.dg_volume.specs.Origins.{Always, Origin, WasHeld}
 use Rattle.dg_volume.specs.Volumes.{IsWell, Leaves, any_phase}
 use Rattle.dg_volume.specs.Volumes as volumes
 use Rattle.ufs_model.specs.Listings.{Listed}
@@ -30,6 +31,10 @@ rack_of array = volumes.rack_of array.volume
 abbrev pub Tells : {R : Type 0} → Ghosts R → Array R → Type 0
 Tells rack array = volumes.Tells rack array.volume
 
+-- what is known of its blocks is known where each does, and something else is so
+abbrev pub Known : {R : Type 0} → Type 0 → Ghosts R → Array R → Type 0
+Known P rack array = volumes.Known P rack array.volume
+
 -- all is well with its volume
 abbrev pub IsSound : {R : Type 0} → Ghosts R → Array R → Type 0
 IsSound rack array = IsWell any_phase rack array.volume
@@ -41,35 +46,36 @@ GoesOn rack old new = Leaves any_phase any_phase rack old.volume new.volume
 -- ---- states
 
 -- The array is in this state: its volume is, the inodes that it read last are those of the state, and that has a block for each of the array's.
-pub record StandsIn {R : Type 0} (rack : Ghosts R) (array : Array R) (state : State) : Type 0 where
-  pub volume : volumes.StandsIn any_phase rack array.volume state
+pub record StandsIn {R : Type 0} (rack : Ghosts R) (P : Type 0) (array : Array R) (state : State) : Type 0 where
+  pub volume : volumes.StandsIn any_phase rack P array.volume state
   pub recent : state.recent ≡ array.hot
   pub sized : length state.blocks ≡ state.table.shape.n
 
--- whichever state the array was in, it made a step from it, to a state that it is in now
+-- Whichever state the array was in, it made a step from it, to a state that it is in now. That it stood for the state's blocks may rest on what
+-- its members held when it was opened.
 abbrev pub StepsTo : {R : Type 0} → Ghosts R → Array R → Event → Reply → Array R → Type 0
-StepsTo rack old event reply new = (state : State) → StandsIn rack old state →
-    (next : State) × StandsIn rack new next × Step (Tells rack new) state event reply next
+StepsTo rack old event reply new = (origin : Origin) (state : State) → StandsIn rack (WasHeld origin) old state →
+    (next : State) × StandsIn rack (WasHeld origin) new next × Step (Known (WasHeld origin) rack new) state event reply next
 
 -- the same, but nothing is said of the inodes that it read last
 abbrev pub VolumeStepsTo : {R : Type 0} → Ghosts R → Array R → Event → Reply → Array R → Type 0
-VolumeStepsTo rack old event reply new = (state : State) → StandsIn rack old state →
-    (next : State) × volumes.StandsIn any_phase rack new.volume next × Step (Tells rack new) state event reply next
+VolumeStepsTo rack old event reply new = (origin : Origin) (state : State) → StandsIn rack (WasHeld origin) old state →
+    (next : State) × volumes.StandsIn any_phase rack (WasHeld origin) new.volume next × Step (Known (WasHeld origin) rack new) state event reply next
 
 -- a run of steps
 abbrev pub RunsTo : {R : Type 0} → Ghosts R → Array R → List Event → List Reply → Array R → Type 0
-RunsTo rack old events replies new = (state : State) → StandsIn rack old state →
-    (next : State) × StandsIn rack new next × Run (Tells rack new) state events replies next
+RunsTo rack old events replies new = (origin : Origin) (state : State) → StandsIn rack (WasHeld origin) old state →
+    (next : State) × StandsIn rack (WasHeld origin) new next × Run (Known (WasHeld origin) rack new) state events replies next
 
 -- the same, but nothing is said of the inodes that it read last
 abbrev pub VolumeRunsTo : {R : Type 0} → Ghosts R → Array R → List Event → List Reply → Array R → Type 0
-VolumeRunsTo rack old events replies new = (state : State) → StandsIn rack old state →
-    (next : State) × volumes.StandsIn any_phase rack new.volume next × Run (Tells rack new) state events replies next
+VolumeRunsTo rack old events replies new = (origin : Origin) (state : State) → StandsIn rack (WasHeld origin) old state →
+    (next : State) × volumes.StandsIn any_phase rack (WasHeld origin) new.volume next × Run (Known (WasHeld origin) rack new) state events replies next
 
 -- the same, but nothing is said of what the array stands for now
 abbrev pub RunsBefore : {R : Type 0} → Ghosts R → Array R → List Event → List Reply → Array R → Type 0
-RunsBefore rack old events replies now = (state : State) → StandsIn rack old state →
-    (next : State) × (next.table.shape ≡ shape_of now) × Run (Tells rack now) state events replies next
+RunsBefore rack old events replies now = (origin : Origin) (state : State) → StandsIn rack (WasHeld origin) old state →
+    (next : State) × (next.table.shape ≡ shape_of now) × Run (Known (WasHeld origin) rack now) state events replies next
 
 -- ---- answers
 
@@ -115,4 +121,4 @@ pub record IsBlankArray {R : Type 0} (rack : Ghosts R) (shape : Shape) (before :
   pub same_rack : rack.name (rack_of array) ≡ rack.name before
   pub state : State
   pub blank : IsBlank shape (rack.counts before) state
-  pub stands : StandsIn rack array state
+  pub stands : StandsIn rack Always array state

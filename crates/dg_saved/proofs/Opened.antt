@@ -9,8 +9,8 @@ use Rattle.dg_model.specs.declared.events.Event.{Event}
 use Rattle.dg_model.specs.declared.replies.Reply.{Reply}
 use Rattle.dg_saved.specs.Calls.{Facts}
 use Rattle.dg_saved.specs.Ends.{EndsEvent, EndsStatus, Printed, PrintedPart}
-use Rattle.dg_saved.specs.OpeningLaws.{at_first, facts, is_opened, known, others, source}
-use Rattle.dg_saved.specs.Saved.{HasRun, HasShown, HasSource, IsHeld, OthersKept, RunsFrom}
+use Rattle.dg_saved.specs.OpeningLaws.{at_first, facts, is_opened, known_now, origin, others, source}
+use Rattle.dg_saved.specs.Saved.{HasRun, HasShown, HasSource, OthersKept, RunsFrom}
 use Rattle.dg_saved.specs.Serves.{EndsServed, Steps}
 use Rattle.dg_saved.specs.Texts.{array_text, status_text}
 use Rattle.dg_saved.specs.declared.ends.SavedEnd.{SavedEnd}
@@ -35,16 +35,15 @@ module _ {R : Type 0} (rack : Ghosts R) (before : R) (volume new : Volume AnyPha
   abbrev kept : OthersKept was opened.saved.table
   kept = others rack before volume new hot taken given opened leaves
 
-  -- with the blocks that the members held
-  runs_from : (event : Event) (reply : Reply) → Steps rack volume event reply new → (V : List (List ℕ)) → IsHeld was (rack.counts (rack_of volume)) from V
-      → RunsFrom was (rack.counts (rack_of volume)) from event reply V
-  runs_from event reply steps V held =
-      let at = at_first rack before volume new hot taken given opened leaves V held in
-      let one = steps at.state at.stands in
-      let all = known rack before volume new hot taken given opened leaves law in
+  -- with these blocks
+  runs_from : (event : Event) (reply : Reply) → Steps rack volume event reply new → (V : List (List ℕ)) → RunsFrom was (rack.counts (rack_of volume)) from event reply V
+  runs_from event reply steps V =
+      let at = at_first rack before volume new hot taken given opened leaves V in
+      let one = steps (origin rack before volume new hot taken given opened leaves V) at.state at.stands in
+      let all = known_now rack before volume new hot taken given opened leaves law V in
       record {
         state = at.state;
-        is = is_opened rack before volume new hot taken given opened leaves V held law;
+        is = is_opened rack before volume new hot taken given opened leaves V law;
         next = one.0;
         step = step_less all at.state event reply one.0 one.2;
         counts = ap (λ (s : State). s.counts) one.1.is;
@@ -86,13 +85,13 @@ module _ {R : Type 0} (rack : Ghosts R) (before : R) (volume : Volume AnyPhase R
     phase = phase_of any_phase volume;
     others = others rack before volume volume hot taken given opened stays;
     text_is = is ∙ ap (λ (t : Table). array_text t (members_of volume) (phase_of any_phase volume)) opened.table;
-    shows = λ V held.
-        let at = at_first rack before volume volume hot taken given opened stays V held in
+    shows = λ V.
+        let at = at_first rack before volume volume hot taken given opened stays V in
         record {
           state = at.state;
-          is = is_opened rack before volume volume hot taken given opened stays V held law;
+          is = is_opened rack before volume volume hot taken given opened stays V law;
           text_is = is ∙ sym (ap status_text at.stands.is);
-          holds = λ told. holds_all rack volume any_phase at.state at.stands (known rack before volume volume hot taken given opened stays law told);
+          holds = λ told. holds_all rack volume any_phase at.state at.stands (known_now rack before volume volume hot taken given opened stays law V told);
         };
   }
 

@@ -42,7 +42,7 @@ listing_line entries n size =
 
 module _ {R : Type 0} (rack : Ghosts R) (old new : Volume AnyPhase R) where
   pub steps : (touch : List ℕ → List ℕ) (event : Event) (reply : Reply) → StepsBy any_phase any_phase rack touch old event reply new → Steps rack old event reply new
-  steps touch event reply by state st = let one = by state st in (one.0, one.1, one.2)
+  steps touch event reply by origin state st = let one = by origin state st in (one.0, one.1, one.2)
 
   -- a file was given
   pub file_given : (touch : List ℕ → List ℕ) (l : ℕ) (path bytes : List ℕ) (x y : Option (List ℕ)) → 0 < l

@@ -14,11 +14,12 @@ use Rattle.dg_model.specs.declared.shapes.Shape.{Shape}
 use Rattle.dg_open.specs.Founds.{IsRead}
 use Rattle.dg_open.specs.Reopenings.{FindsNoState, FindsUnclean}
 use Rattle.dg_saved.specs.Calls.{Facts}
-use Rattle.dg_saved.specs.Saved.{FoundNoState, FoundUnclean, HasSource, IsHeld, IsOpenedAs, OthersKept, TellsArray, had}
+use Rattle.dg_saved.specs.Saved.{FoundNoState, FoundUnclean, HasSource, IsKnown, IsOpenedAs, OthersKept, TellsArray, had}
 use Rattle.dg_volume.specs.HeldLaws.{TellsTold, tells_now}
 use Rattle.dg_volume.specs.Opens.{HasOpened}
 use Rattle.dg_volume.specs.Opens as openings
-use Rattle.dg_volume.specs.Volumes.{Leaves, StandsIn, Tells, any_phase, members_of, rack_of, shape_of}
+use Rattle.dg_volume.specs.Origins.{Origin, WasHeld}
+use Rattle.dg_volume.specs.Volumes.{Known, Leaves, StandsIn, Tells, any_phase, members_of, rack_of, shape_of, table_of}
 use Rattle.dg_volume.specs.declared.phases.AnyPhase.{AnyPhase}
 use Rattle.dg_volume.specs.declared.volumes.Volume.{Volume}
 use Rattle.ufs_model.specs.Blocks.{Volume as Blocks}
@@ -166,24 +167,33 @@ module _ {R : Type 0} (rack : Ghosts R) (before : R) (volume new : Volume AnyPha
   known_volume : TellsTold rack → TellsArray (rack.bytes (rack_of new)) opened.saved.table → Tells rack volume
   known_volume law told q below = leaves.told_before q (known law told q (subst (λ (s : Shape). q / 2 < s.b) (sym leaves.shape) below))
 
+  -- what its members may have held
+  abbrev pub origin : List (List ℕ) → Origin
+  origin V = Some (record { table = table_of volume; members = opened.first; bytes = rack.bytes before; blocks = V })
+
+  -- where the blocks are known in the end, they are known of the volume now, and when it was opened
+  pub known_now : TellsTold rack → (V : List (List ℕ)) → IsKnown facts (rack.counts (rack_of volume)) source V → Known (WasHeld (origin V)) rack new
+  known_now law V k = (known law (k.0), subst (λ (t : Table). StandsFor t opened.first (rack.bytes before) V) (sym opened.table) (k.1))
+
+  known_first : TellsTold rack → (V : List (List ℕ)) → IsKnown facts (rack.counts (rack_of volume)) source V → Known (WasHeld (origin V)) rack volume
+  known_first law V k = (known_volume law (k.0), subst (λ (t : Table). StandsFor t opened.first (rack.bytes before) V) (sym opened.table) (k.1))
+
   -- the state in which it was opened, with these blocks
   pub record AtFirst (V : List (List ℕ)) : Type 0 where
     pub state : State
     pub blocks : state.blocks ≡ V
-    pub opens : Opens (Tells rack volume) opened.taken None (rack.counts before) state
-    pub stands : StandsIn any_phase rack volume state
+    pub opens : Opens (Known (WasHeld (origin V)) rack volume) opened.taken None (rack.counts before) state
+    pub stands : StandsIn any_phase rack (WasHeld (origin V)) volume state
     pub recent : state.recent ≡ hot
 
-  module _ (V : List (List ℕ)) (held : IsHeld facts (rack.counts (rack_of volume)) source V) where
+  module _ (V : List (List ℕ)) where
     pub at_first : AtFirst V
-    at_first =
-        let at = opened.states_are V (λ told. subst (λ (t : Table). StandsFor t opened.first (rack.bytes before) V) (sym opened.table) held) in
-        record { state = at.0; blocks = at.1; opens = at.2; stands = at.3; recent = at.4 }
+    at_first = let at = opened.states_are V in record { state = at.0; blocks = at.1; opens = at.2; stands = at.3; recent = at.4 }
 
     pub is_opened : TellsTold rack → IsOpenedAs facts (rack.counts (rack_of volume)) source V at_first.state
     is_opened law = record {
       blocks = at_first.blocks;
-      opens = opens_less (known_volume law) opened.taken None (rack.counts before) at_first.state at_first.opens;
+      opens = opens_less (known_first law V) opened.taken None (rack.counts before) at_first.state at_first.opens;
       table = ap (λ (s : State). s.table) at_first.stands.is ∙ opened.table;
       members = ap (λ (s : State). s.members) at_first.stands.is;
       counts = ap (λ (s : State). s.counts) at_first.stands.is;

@@ -9,7 +9,8 @@ use Rattle.dg_model.specs.declared.replies.Reply.{Reply}
 use Rattle.dg_model.specs.declared.replies.Reply.TheVariants.{Refused as ReplyRefused, Unavailable as ReplyUnavailable}
 use Rattle.dg_saved.specs.declared.ends.SavedEnd.{SavedEnd}
 use Rattle.dg_saved.specs.declared.ends.SavedEnd.TheVariants.{Done, NoState, Refused, Unclean, WriteFault}
-use Rattle.dg_volume.specs.Volumes.{StandsIn, Tells, any_phase}
+use Rattle.dg_volume.specs.Origins.{Origin, WasHeld}
+use Rattle.dg_volume.specs.Volumes.{Known, StandsIn, any_phase}
 use Rattle.dg_volume.specs.declared.phases.AnyPhase.{AnyPhase}
 use Rattle.dg_volume.specs.declared.volumes.Volume.{Volume}
 use Rattle.ufs_model.specs.declared.reads.PathRefusal.TheVariants.{Bad as RefusedBad, NotDirectory as RefusedNotDirectory, NotFound as RefusedNotFound, NotRegular as RefusedNotRegular}
@@ -29,8 +30,8 @@ reply_at SinkFault = None
 
 -- whichever state the volume was in, it made a step from it, to a state that it is in now
 abbrev pub Steps : {R : Type 0} → Ghosts R → Volume AnyPhase R → Event → Reply → Volume AnyPhase R → Type 0
-Steps rack old event reply new = (state : State) → StandsIn any_phase rack old state →
-    (next : State) × StandsIn any_phase rack new next × Step (Tells rack new) state event reply next
+Steps rack old event reply new = (origin : Origin) (state : State) → StandsIn any_phase rack (WasHeld origin) old state →
+    (next : State) × StandsIn any_phase rack (WasHeld origin) new next × Step (Known (WasHeld origin) rack new) state event reply next
 
 -- the event was answered by a reply that gives what was asked for, or by one that doesn't, and its text was printed
 pub record Served {R : Type 0} (rack : Ghosts R) (old : Volume AnyPhase R) (event : Event) (text : Reply → List ℕ) (gives : Reply → Bool) (kind : Bool)

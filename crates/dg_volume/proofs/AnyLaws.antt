@@ -48,8 +48,8 @@ module _ {S R : Type 0} (phase : phases.Ghosts S) (rack : Ghosts R) where
         subst (λ (k : Option KeptInference). IsInPlace (table_of volume) k volume.homes volume.copies) (sym h.kept_is) (well.settled (sym h.phase_is ∙ settled));
   }
 
-  stands_still : (volume : Volume S R) (any : AnyPhase) → IsPhaseOf volume any → (state : State) → StandsIn phase rack volume state
-      → StandsIn any_phase rack (told_later volume any) state
+  stands_still : {P : Type 0} → (volume : Volume S R) (any : AnyPhase) → IsPhaseOf volume any → (state : State) → StandsIn phase rack P volume state
+      → StandsIn any_phase rack P (told_later volume any) state
   stands_still volume any h state st = record {
     is = st.is ∙ (λ i. record state {
       boundaries = (shape_of volume).b;
@@ -73,7 +73,7 @@ module _ {S R : Type 0} (phase : phases.Ghosts S) (rack : Ghosts R) where
   pub same_later : (volume : Volume S R) (any : AnyPhase) → IsPhaseOf volume any → IsWell phase rack volume → IsSame phase any_phase rack volume (told_later volume any)
   same_later volume any h well = record {
     leaves = record { well = well_still volume any h well; shape = refl; rise = (rack_none rack (rack_of volume)).rise; tells = λ q told. told; told_before = λ q tells. tells; own = own_none rack (shape_of volume).b (rack_of volume); same_rack = refl };
-    stands = stands_still volume any h;
+    stands = λ origin. stands_still volume any h;
     rack_is = refl;
     given_is = refl;
   }

@@ -1,5 +1,5 @@
 -- What reads and moves leave of an array, one after another, and what was planned over it before and after reads.
-use Rattle.std.proofs.Common.{◌≡◌, ◌∙◌, ◌<◌, ◌/◌, ℕ, Bool, List, sym, subst}
+use Rattle.std.proofs.Common.{◌≡◌, ◌<◌, ◌/◌, ℕ, Bool, List, sym, subst}
 use Rattle.std.specs.Prelude.{Result, Ok, Err, OnErr}
 use Rattle.dg_claims.specs.Kept.{KeptClaims, table_of}
 use Rattle.dg_claims.specs.Tables.{IsTableOf}

@@ -21,6 +21,7 @@ use Rattle.dg_store.specs.Answers.{IsBlankStore, IsZeroed}
 use Rattle.dg_store.specs.Stores as stores
 use Rattle.dg_store.specs.declared.store.Store.{Store}
 use Rattle.dg_volume.proofs.FaultLaws.{blank_beyond, blank_fell}
+use Rattle.dg_volume.specs.Origins.{Always}
 use Rattle.dg_volume.specs.Volumes.{IsBlankVolume, StandsIn, loose_phase, members_of, rack_of, shape_of}
 use Rattle.dg_volume.specs.declared.phases.Loose.{Loose}
 use Rattle.dg_volume.specs.declared.volumes.Volume.{Volume}
@@ -93,7 +94,7 @@ module _ {R : Type 0} (rack : Ghosts R) (shape : Shape) (before : R) (volume : V
   start : State
   start = plain_state (empty_table shape) (replicate shape.n (zeros shape.l)) (members_of volume) (rack.counts (rack_of volume))
 
-  start_in : StandsIn loose_phase rack volume start
+  start_in : StandsIn loose_phase rack Always volume start
   unfolding start
   start_in = record {
     is = λ i. record start {

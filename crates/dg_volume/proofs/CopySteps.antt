@@ -35,10 +35,11 @@ use Rattle.dg_volume.proofs.LineLaws.{least_in}
 use Rattle.dg_volume.proofs.PlacedLaws.{off_table}
 use Rattle.dg_store.specs.Answers.{SameWritten}
 use Rattle.dg_volume.proofs.VolumeLaws.{Labels, StepsAt, label_by, on_label}
+use Rattle.dg_volume.specs.Origins.{Origin, WasHeld}
 use Rattle.dg_volume.specs.Copies.{StepsHot, diffuse_reply}
 use Rattle.dg_volume.specs.Planned.{AreWanted, HasMovedArray}
 use Rattle.dg_volume.specs.Settles.{KeepsArray}
-use Rattle.dg_volume.specs.Volumes.{AreWantsBy, FitsArray, IsInPlace, IsWell, Leaves, StandsFor, StandsIn, Tells, marks_by, marks_of, members_of, rack_of, shape_of, state_of, table_of}
+use Rattle.dg_volume.specs.Volumes.{AreWantsBy, FitsArray, IsInPlace, IsWell, Known, Leaves, StandsFor, StandsIn, marks_by, marks_of, members_of, rack_of, shape_of, state_of, table_of}
 use Rattle.dg_volume.specs.declared.phases.InPhase as phases
 use Rattle.dg_volume.specs.declared.volumes.Volume.{Volume}
 
@@ -185,21 +186,21 @@ module _ {S R : Type 0} (phase : phases.Ghosts S) (rack : Ghosts R) where
     pub diffuse_keeps : KeepsArray rack a b
     diffuse_keeps told = h.moved.stands told
 
-    told_before : Tells rack b → Tells rack a
-    told_before told q below = h.moved.stays.stays.told_before q (told q (subst (λ (x : Shape). q / 2 < x.b) (sym same_shape) below))
+    told_before : {P : Type 0} → Known P rack b → Known P rack a
+    told_before known = (λ q below. h.moved.stays.stays.told_before q (known.0 q (subst (λ (x : Shape). q / 2 < x.b) (sym same_shape) below)), known.1)
 
     -- the state that it is in then
     abbrev next_state : State → List (List ℕ) → State
     next_state rest V = state_of phase rack b (on_label a b h.labels.opens rest) V
 
-    next_in : (rest : State) (V : List (List ℕ)) → StandsLabeled rack a.store a.label rest.label → (Tells rack a → StandsFor phase rack a V) → StandsIn phase rack b (next_state rest V)
+    next_in : {P : Type 0} → (rest : State) (V : List (List ℕ)) → StandsLabeled rack a.store a.label rest.label → (Known P rack a → StandsFor phase rack a V) → StandsIn phase rack P b (next_state rest V)
     next_in rest V label holds = record {
       is = refl;
       label = h.labels.stands rest.label label;
       holds = λ told.
           let held = holds (told_before told) in
           record {
-            array = h.moved.stands told V held.array;
+            array = h.moved.stands (told.0) V held.array;
             inferred = subst (λ (p : S). IfSome (phase.kept p) (λ inference. inferences.StandsFor inference V)) (sym h.phase_is) held.inferred;
           };
     }
@@ -211,9 +212,9 @@ module _ {S R : Type 0} (phase : phases.Ghosts S) (rack : Ghosts R) where
         ap (λ (r : R). (rack.counts r).writes) (h.still (subst (λ (files : List ℕ). list_any (lacks_copy a.homes a.copies) files ≡ false) recent none))
 
     -- so many of the files may have got copies
-    spreads : (count gained : ℕ) → HasSpread wants a.homes hot count gained a.copies b.copies a.store b.store → (rest : State) (V : List (List ℕ))
-        → StandsLabeled rack a.store a.label rest.label → rest.recent ≡ hot → (Tells rack a → StandsFor phase rack a V)
-        → Spreads (Tells rack b) (state_of phase rack a rest V) count gained (next_state rest V)
+    spreads : {P : Type 0} → (count gained : ℕ) → HasSpread wants a.homes hot count gained a.copies b.copies a.store b.store → (rest : State) (V : List (List ℕ))
+        → StandsLabeled rack a.store a.label rest.label → rest.recent ≡ hot → (Known P rack a → StandsFor phase rack a V)
+        → Spreads (Known P rack b) (state_of phase rack a rest V) count gained (next_state rest V)
     spreads count gained has rest V label recent holds = record {
       wants = wants;
       seen = record {
@@ -251,29 +252,30 @@ module _ {S R : Type 0} (phase : phases.Ghosts S) (rack : Ghosts R) where
     }
 
   hot_steps : (a b : Volume S R) (hot : List ℕ) (event : Event) (reply : Reply)
-      → ((rest : State) (V : List (List ℕ)) → StandsLabeled rack a.store a.label rest.label → rest.recent ≡ hot → (Tells rack a → StandsFor phase rack a V) → StepsAt phase rack (λ recent. recent) a rest V event reply b)
+      → ((origin : Origin) (rest : State) (V : List (List ℕ)) → StandsLabeled rack a.store a.label rest.label → rest.recent ≡ hot → (Known (WasHeld origin) rack a → StandsFor phase rack a V)
+      → StepsAt phase rack (WasHeld origin) (λ recent. recent) a rest V event reply b)
       → StepsHot phase phase rack hot a event reply b
-  hot_steps a b hot event reply go state st recent =
-      subst (λ (s : State). (next : State) × StandsIn phase rack b next × Step (Tells rack b) s event reply next × (next.recent ≡ s.recent)) (sym st.is)
-      (go state state.blocks st.label recent st.holds)
+  hot_steps a b hot event reply go origin state st recent =
+      subst (λ (s : State). (next : State) × StandsIn phase rack (WasHeld origin) b next × Step (Known (WasHeld origin) rack b) s event reply next × (next.recent ≡ s.recent)) (sym st.is)
+      (go origin state state.blocks st.label recent st.holds)
 
   pub diffuse_steps : {E : Type 0} (a : Volume S R) (kept : KeptInference) (wants : List (Option Want)) (hot : List ℕ) (result : Result DiffuseAnswer E) (b : Volume S R)
       → HasDiffused a kept wants hot result b → IfOk result (λ answer. StepsHot phase phase rack hot a Diffuse (diffuse_reply answer) b)
-  diffuse_steps a kept wants hot (Ok (Diffused n)) b h = hot_steps a b hot Diffuse (DiffusedReply n) (λ rest V label recent holds. (
+  diffuse_steps a kept wants hot (Ok (Diffused n)) b h = hot_steps a b hot Diffuse (DiffusedReply n) (λ origin rest V label recent holds. (
     next_state a kept wants hot (Ok (Diffused n)) b h rest V,
     next_in a kept wants hot (Ok (Diffused n)) b h rest V label holds,
     (
       h.settled,
       h.whole,
       h.live n refl,
-      subst (λ (count : ℕ). Spreads (Tells rack b) (state_of phase rack a rest V) count n (next_state a kept wants hot (Ok (Diffused n)) b h rest V)) (ap length (sym recent))
+      subst (λ (count : ℕ). Spreads (Known (WasHeld origin) rack b) (state_of phase rack a rest V) count n (next_state a kept wants hot (Ok (Diffused n)) b h rest V)) (ap length (sym recent))
           (spreads a kept wants hot (Ok (Diffused n)) b h (length hot) n (h.diffused n refl) rest V label recent holds),
     ),
     refl,
   ))
   diffuse_steps a kept wants hot (Ok (Lost s)) b h =
       let some = h.cut s refl in
-      hot_steps a b hot Diffuse (LostReply s) (λ rest V label recent holds. (
+      hot_steps a b hot Diffuse (LostReply s) (λ origin rest V label recent holds. (
         next_state a kept wants hot (Ok (Lost s)) b h rest V,
         next_in a kept wants hot (Ok (Lost s)) b h rest V label holds,
         (
@@ -287,7 +289,7 @@ module _ {S R : Type 0} (phase : phases.Ghosts S) (rack : Ghosts R) where
   -- ---- nothing is done
 
   pub diffuse_lost : (a : Volume S R) (hot : List ℕ) (s : ℕ) → phase.phase a.phase ≡ SettledPhase → IsLeastLost (shape_of a) (members_of a) s → StepsHot phase phase rack hot a Diffuse (LostReply s) a
-  diffuse_lost a hot s settled lost = hot_steps a a hot Diffuse (LostReply s) (λ rest V label recent holds. (
+  diffuse_lost a hot s settled lost = hot_steps a a hot Diffuse (LostReply s) (λ origin rest V label recent holds. (
     state_of phase rack a rest V,
     record { is = refl; label = label; holds = holds },
     (settled, inl (least_in (shape_of a) (members_of a) s lost, refl)),
@@ -295,7 +297,7 @@ module _ {S R : Type 0} (phase : phases.Ghosts S) (rack : Ghosts R) where
   ))
 
   pub diffuse_refused : (a : Volume S R) (hot : List ℕ) → (phase.phase a.phase ≡ SettledPhase → ⊥) → StepsHot phase phase rack hot a Diffuse NotSettledReply a
-  diffuse_refused a hot unsettled = hot_steps a a hot Diffuse NotSettledReply (λ rest V label recent holds. (
+  diffuse_refused a hot unsettled = hot_steps a a hot Diffuse NotSettledReply (λ origin rest V label recent holds. (
     state_of phase rack a rest V,
     record { is = refl; label = label; holds = holds },
     (unsettled, refl),

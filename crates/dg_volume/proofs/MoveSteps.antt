@@ -34,10 +34,11 @@ use Rattle.dg_volume.proofs.ArrayLaws.{told_by, told_moved}
 use Rattle.dg_volume.proofs.LabelLaws.{good_falls, relabels_behind}
 use Rattle.dg_volume.proofs.LineLaws.{least_in}
 use Rattle.dg_volume.proofs.VolumeLaws.{HasRead, IsBeside, Labels, label_by, on_label, read_state, reads_in, reads_stay, same_in, steps_from}
+use Rattle.dg_volume.specs.Origins.{WasHeld}
 use Rattle.dg_volume.specs.Planned.{AnswersCheck, AreKnown, AreWanted, FindsOn, HasMovedArray, HasNoPlan, HasPlan, HasReadArray}
 use Rattle.dg_volume.specs.Seals.{Relabels}
 use Rattle.dg_volume.specs.Settles.{unsettled_reply}
-use Rattle.dg_volume.specs.Volumes.{FitsArray, IsWell, Leaves, StandsFor, StandsIn, StepsTo, Tells, marks_by, marks_of, members_of, rack_of, shape_of, state_of, table_of}
+use Rattle.dg_volume.specs.Volumes.{FitsArray, IsWell, Known, Leaves, StandsFor, StandsIn, StepsTo, Tells, marks_by, marks_of, members_of, rack_of, shape_of, state_of, table_of}
 use Rattle.dg_volume.specs.declared.phases.InPhase as phases
 use Rattle.dg_volume.specs.declared.settles.Unsettled.{Unsettled}
 use Rattle.dg_volume.specs.declared.settles.Unsettled.TheVariants.{Lost, Malformed, NoSpace}
@@ -95,8 +96,8 @@ module _ {S R : Type 0} (phase : phases.Ghosts S) (rack : Ghosts R) where
         same_rack = h.array.stays.stays.same_rack;
       }
 
-  told_before : (a b : Volume S R) → HasMoved a b → Tells rack b → Tells rack a
-  told_before a b h told = told_moved rack a.store b.store h.array told
+  told_before : {P : Type 0} → (a b : Volume S R) → HasMoved a b → Known P rack b → Known P rack a
+  told_before a b h known = (told_moved rack a.store b.store h.array (known.0), known.1)
 
   pub stands_moved : (a b : Volume S R) (V : List (List ℕ)) → HasMoved a b → Tells rack b → StandsFor phase rack a V → StandsFor phase rack b V
   stands_moved a b V h told held = record {
@@ -108,12 +109,12 @@ module _ {S R : Type 0} (phase : phases.Ghosts S) (rack : Ghosts R) where
   abbrev moved_state : (a b : Volume S R) → HasMoved a b → State → List (List ℕ) → State
   moved_state a b h rest V = state_of phase rack b (on_label a b h.labels.opens rest) V
 
-  moved_in : (a b : Volume S R) (rest : State) (V : List (List ℕ)) → StandsLabeled rack a.store a.label rest.label → (h : HasMoved a b) → (Tells rack a → StandsFor phase rack a V)
-      → StandsIn phase rack b (moved_state a b h rest V)
+  moved_in : {P : Type 0} → (a b : Volume S R) (rest : State) (V : List (List ℕ)) → StandsLabeled rack a.store a.label rest.label → (h : HasMoved a b) → (Known P rack a → StandsFor phase rack a V)
+      → StandsIn phase rack P b (moved_state a b h rest V)
   moved_in a b rest V label h holds = record {
     is = refl;
     label = h.labels.stands rest.label label;
-    holds = λ told. stands_moved a b V h told (holds (told_before a b h told));
+    holds = λ told. stands_moved a b V h (told.0) (holds (told_before a b h told));
   }
 
   moved_passes : (a b : Volume S R) (rest : State) → StandsLabeled rack a.store a.label rest.label → (h : HasMoved a b)
@@ -248,7 +249,7 @@ module _ {S R : Type 0} (phase : phases.Ghosts S) (rack : Ghosts R) where
   not_settled a ready settled = loose_not_settled (sym ready.loose ∙ settled)
 
   pub tend_lost_first : (a : Volume S R) (limit s : ℕ) → IsLeastLost (shape_of a) (members_of a) s → StepsTo phase phase rack a (Tend limit) (LostReply s) a
-  tend_lost_first a limit s least = steps_from phase rack a a (Tend limit) (LostReply s) (λ rest V label holds. (
+  tend_lost_first a limit s least = steps_from phase rack a a (Tend limit) (LostReply s) (λ origin rest V label holds. (
     state_of phase rack a rest V,
     same_in phase rack a rest V label holds,
     inl (least_in (shape_of a) (members_of a) s least, refl),
@@ -256,7 +257,7 @@ module _ {S R : Type 0} (phase : phases.Ghosts S) (rack : Ghosts R) where
   ))
 
   pub settle_lost_first : (a : Volume S R) (s : ℕ) → IsLeastLost (shape_of a) (members_of a) s → StepsTo phase phase rack a Settle (LostReply s) a
-  settle_lost_first a s least = steps_from phase rack a a Settle (LostReply s) (λ rest V label holds. (
+  settle_lost_first a s least = steps_from phase rack a a Settle (LostReply s) (λ origin rest V label holds. (
     state_of phase rack a rest V,
     same_in phase rack a rest V label holds,
     inl (least_in (shape_of a) (members_of a) s least, refl),
@@ -266,7 +267,7 @@ module _ {S R : Type 0} (phase : phases.Ghosts S) (rack : Ghosts R) where
   -- in a settled volume nothing is done
   pub tend_settled : (a : Volume S R) (limit : ℕ) → phase.phase a.phase ≡ SettledPhase → has_lost (shape_of a) (members_of a) ≡ false
       → StepsTo phase phase rack a (Tend limit) (TendedReply 0 0) a
-  tend_settled a limit settled whole = steps_from phase rack a a (Tend limit) (TendedReply 0 0) (λ rest V label holds. (
+  tend_settled a limit settled whole = steps_from phase rack a a (Tend limit) (TendedReply 0 0) (λ origin rest V label holds. (
     state_of phase rack a rest V,
     same_in phase rack a rest V label holds,
     (whole, inl (settled, refl, refl, refl)),
@@ -274,7 +275,7 @@ module _ {S R : Type 0} (phase : phases.Ghosts S) (rack : Ghosts R) where
   ))
 
   pub settle_settled : (a : Volume S R) → phase.phase a.phase ≡ SettledPhase → has_lost (shape_of a) (members_of a) ≡ false → StepsTo phase phase rack a Settle SettledReply a
-  settle_settled a settled whole = steps_from phase rack a a Settle SettledReply (λ rest V label holds. (
+  settle_settled a settled whole = steps_from phase rack a a Settle SettledReply (λ origin rest V label holds. (
     state_of phase rack a rest V,
     same_in phase rack a rest V label holds,
     (whole, inl (settled, refl)),
@@ -284,7 +285,7 @@ module _ {S R : Type 0} (phase : phases.Ghosts S) (rack : Ghosts R) where
   -- a boundary was lost by reads
   pub tend_lost_reading : (a b : Volume S R) (limit s : ℕ) → IsReady a → HasRead phase rack a b → IsLeastLost (shape_of b) (members_of b) s
       → StepsTo phase phase rack a (Tend limit) (LostReply s) b
-  tend_lost_reading a b limit s ready h least = steps_from phase rack a b (Tend limit) (LostReply s) (λ rest V label holds. (
+  tend_lost_reading a b limit s ready h least = steps_from phase rack a b (Tend limit) (LostReply s) (λ origin rest V label holds. (
     read_state phase rack a b h rest V,
     reads_in phase rack a b rest V label h holds,
     inr ((ready.whole, least_in (shape_of b) (members_of b) s least), not_settled a ready, inl (reads_stay phase rack a b rest V label h)),
@@ -293,7 +294,7 @@ module _ {S R : Type 0} (phase : phases.Ghosts S) (rack : Ghosts R) where
 
   pub settle_lost_reading : (a b : Volume S R) (s : ℕ) → IsReady a → HasRead phase rack a b → IsLeastLost (shape_of b) (members_of b) s
       → StepsTo phase phase rack a Settle (LostReply s) b
-  settle_lost_reading a b s ready h least = steps_from phase rack a b Settle (LostReply s) (λ rest V label holds. (
+  settle_lost_reading a b s ready h least = steps_from phase rack a b Settle (LostReply s) (λ origin rest V label holds. (
     read_state phase rack a b h rest V,
     reads_in phase rack a b rest V label h holds,
     inr ((ready.whole, least_in (shape_of b) (members_of b) s least), not_settled a ready, inl (reads_stay phase rack a b rest V label h)),
@@ -301,38 +302,38 @@ module _ {S R : Type 0} (phase : phases.Ghosts S) (rack : Ghosts R) where
   ))
 
   -- where each member tells its bytes in the end, the blocks are those for which the volume stood
-  held_before : (a b : Volume S R) (V : List (List ℕ)) → HasRead phase rack a b → (Tells rack a → StandsFor phase rack a V) → Tells rack b → StandsFor phase rack a V
-  held_before a b V h holds told = holds (told_by rack a.store b.store h.reads.keeps told)
+  held_before : {P : Type 0} → (a b : Volume S R) (V : List (List ℕ)) → HasRead phase rack a b → (Known P rack a → StandsFor phase rack a V) → Known P rack b → StandsFor phase rack a V
+  held_before a b V h holds known = holds (told_by rack a.store b.store h.reads.keeps (known.0), known.1)
 
   -- there is no room
   pub tend_cramped : (a b : Volume S R) (kept : KeptInference) (limit : ℕ) (bad : NoRoom) → IsReady a → Keeps a kept → HasRead phase rack a b
       → HasNoPlan rack a.store b.store kept a.homes bad → StepsTo phase phase rack a (Tend limit) (NoSpaceReply bad) b
-  tend_cramped a b kept limit bad ready keeps h found = steps_from phase rack a b (Tend limit) (NoSpaceReply bad) (λ rest V label holds. (
+  tend_cramped a b kept limit bad ready keeps h found = steps_from phase rack a b (Tend limit) (NoSpaceReply bad) (λ origin rest V label holds. (
     read_state phase rack a b h rest V,
     reads_in phase rack a b rest V label h holds,
     (
       ready.whole,
       not_settled a ready,
-      is_cramped (Tells rack b) a b.store kept rest V keeps (λ told. told) (held_before a b V h holds) bad found,
+      is_cramped (Known (WasHeld origin) rack b) a b.store kept rest V keeps (λ known. known.0) (held_before a b V h holds) bad found,
       record { stays = reads_stay phase rack a b rest V label h; unwritten = h.reads.writes },
     ),
     refl,
   ))
 
   -- what is found of the blocks of a state, where each member tells its bytes in the end
-  found_in : (a b : Volume S R) (mid : Store R) (kept : KeptInference) (V : List (List ℕ)) (finds : List (List ℕ) → Type 0) → Keeps a kept
-      → (Tells rack b → TellsAll rack mid) → (Tells rack b → StandsFor phase rack a V) → FindsOn rack a.store mid kept finds → Tells rack b → finds V
+  found_in : {P : Type 0} → (a b : Volume S R) (mid : Store R) (kept : KeptInference) (V : List (List ℕ)) (finds : List (List ℕ) → Type 0) → Keeps a kept
+      → (Known P rack b → TellsAll rack mid) → (Known P rack b → StandsFor phase rack a V) → FindsOn rack a.store mid kept finds → Known P rack b → finds V
   found_in a b mid kept V finds keeps middle held found told = let array = held told in found (middle told) V array.array (inferred_of a kept V keeps array)
 
   pub settle_malformed : (a b : Volume S R) (kept : KeptInference) (kind : BadKind) (n : ℕ) → IsReady a → Keeps a kept → HasRead phase rack a b
       → FindsOn rack a.store b.store kept (λ V. IsFirstMalformation (shape_of a).l (shape_of a).n V kind n) → StepsTo phase phase rack a Settle (MalformedReply kind n) b
-  settle_malformed a b kept kind n ready keeps h found = steps_from phase rack a b Settle (MalformedReply kind n) (λ rest V label holds. (
+  settle_malformed a b kept kind n ready keeps h found = steps_from phase rack a b Settle (MalformedReply kind n) (λ origin rest V label holds. (
     read_state phase rack a b h rest V,
     reads_in phase rack a b rest V label h holds,
     (
       ready.whole,
       not_settled a ready,
-      found_in a b b.store kept V (λ v. IsFirstMalformation (shape_of a).l (shape_of a).n v kind n) keeps (λ told. told) (held_before a b V h holds) found,
+      found_in a b b.store kept V (λ v. IsFirstMalformation (shape_of a).l (shape_of a).n v kind n) keeps (λ known. known.0) (held_before a b V h holds) found,
       record { stays = reads_stay phase rack a b rest V label h; unwritten = h.reads.writes },
     ),
     refl,
@@ -344,20 +345,20 @@ module _ {S R : Type 0} (phase : phases.Ghosts S) (rack : Ghosts R) where
     pub told : Tells rack b → TellsAll rack mid
     pub sound : FindsOn rack a.store mid kept (λ V. IsSoundVolume (shape_of a).l (shape_of a).n V)
 
-  sound_in : (a b : Volume S R) (kept : KeptInference) (V : List (List ℕ)) → Keeps a kept → IsChecked a kept b → (Tells rack b → StandsFor phase rack a V)
-      → Tells rack b → IsSoundVolume (shape_of a).l (shape_of a).n V
-  sound_in a b kept V keeps check held = found_in a b check.mid kept V (λ v. IsSoundVolume (shape_of a).l (shape_of a).n v) keeps check.told held check.sound
+  sound_in : {P : Type 0} → (a b : Volume S R) (kept : KeptInference) (V : List (List ℕ)) → Keeps a kept → IsChecked a kept b → (Known P rack b → StandsFor phase rack a V)
+      → Known P rack b → IsSoundVolume (shape_of a).l (shape_of a).n V
+  sound_in a b kept V keeps check held = found_in a b check.mid kept V (λ v. IsSoundVolume (shape_of a).l (shape_of a).n v) keeps (λ known. check.told (known.0)) held check.sound
 
   pub settle_cramped : (a b : Volume S R) (kept : KeptInference) (bad : NoRoom) → IsReady a → Keeps a kept → IsChecked a kept b → HasRead phase rack a b
       → HasNoPlan rack a.store b.store kept a.homes bad → StepsTo phase phase rack a Settle (NoSpaceReply bad) b
-  settle_cramped a b kept bad ready keeps check h found = steps_from phase rack a b Settle (NoSpaceReply bad) (λ rest V label holds. (
+  settle_cramped a b kept bad ready keeps check h found = steps_from phase rack a b Settle (NoSpaceReply bad) (λ origin rest V label holds. (
     read_state phase rack a b h rest V,
     reads_in phase rack a b rest V label h holds,
     (
       ready.whole,
       not_settled a ready,
       sound_in a b kept V keeps check (held_before a b V h holds),
-      is_cramped (Tells rack b) a b.store kept rest V keeps (λ told. told) (held_before a b V h holds) bad found,
+      is_cramped (Known (WasHeld origin) rack b) a b.store kept rest V keeps (λ known. known.0) (held_before a b V h holds) bad found,
       record { stays = reads_stay phase rack a b rest V label h; unwritten = h.reads.writes },
     ),
     refl,
@@ -392,15 +393,15 @@ module _ {S R : Type 0} (phase : phases.Ghosts S) (rack : Ghosts R) where
     on_plan : (P : (ℕ → ℕ → Bool) → Table → Type 0) → P (wants_of targets) (stores.table_of mid) → P goals (table_of a)
     on_plan P is = subst (λ (t : Table). P goals t) run.read.reads.table (subst (λ (f : ℕ → ℕ → Bool). P f (stores.table_of mid)) same_goals is)
 
-    held_at : (V : List (List ℕ)) → (Tells rack a → StandsFor phase rack a V) → Tells rack b → StandsFor phase rack a V
+    held_at : {P : Type 0} → (V : List (List ℕ)) → (Known P rack a → StandsFor phase rack a V) → Known P rack b → StandsFor phase rack a V
     held_at V holds told = holds (told_before a b run.moves told)
 
-    plan_at : (rest : State) (V : List (List ℕ)) → (Tells rack a → StandsFor phase rack a V)
-        → IsPlan (Tells rack b) (state_of phase rack a rest V) run.plan.wants run.plan.planned.found
-    plan_at rest V holds = is_plan (Tells rack b) a mid kept rest V run.keeps run.told (held_at V holds) targets run.plan
+    plan_at : {P : Type 0} → (rest : State) (V : List (List ℕ)) → (Known P rack a → StandsFor phase rack a V)
+        → IsPlan (Known P rack b) (state_of phase rack a rest V) run.plan.wants run.plan.planned.found
+    plan_at {P = p} rest V holds = is_plan (Known p rack b) a mid kept rest V run.keeps (λ known. run.told (known.0)) (held_at V holds) targets run.plan
 
-    cut_at : (rest : State) (V : List (List ℕ)) (limit : Option ℕ) → StandsLabeled rack a.store a.label rest.label → b.homes ≡ a.homes → (Tells rack a → StandsFor phase rack a V)
-        → IsCutByLoss (wants_of targets) limit (stores.table_of mid) (table_of b) (members_of b) → IsCut (Tells rack b) (state_of phase rack a rest V) limit (moved_state a b run.moves rest V)
+    cut_at : {P : Type 0} → (rest : State) (V : List (List ℕ)) (limit : Option ℕ) → StandsLabeled rack a.store a.label rest.label → b.homes ≡ a.homes → (Known P rack a → StandsFor phase rack a V)
+        → IsCutByLoss (wants_of targets) limit (stores.table_of mid) (table_of b) (members_of b) → IsCut (Known P rack b) (state_of phase rack a rest V) limit (moved_state a b run.moves rest V)
     cut_at rest V limit label homes holds cut = record {
       wants = run.plan.wants;
       found = run.plan.planned.found;
@@ -438,7 +439,7 @@ module _ {S R : Type 0} (phase : phases.Ghosts S) (rack : Ghosts R) where
 
     pub tend_lost_moving : (limit s : ℕ) → IsReady a → b.homes ≡ a.homes → IsLeastLost (shape_of b) (members_of b) s
         → IsEnded (Some limit) → StepsTo phase phase rack a (Tend limit) (LostReply s) b
-    tend_lost_moving limit s ready homes least ended = steps_from phase rack a b (Tend limit) (LostReply s) (λ rest V label holds. (
+    tend_lost_moving limit s ready homes least ended = steps_from phase rack a b (Tend limit) (LostReply s) (λ origin rest V label holds. (
       moved_state a b run.moves rest V,
       moved_in a b rest V label run.moves holds,
       inr (
@@ -454,7 +455,7 @@ module _ {S R : Type 0} (phase : phases.Ghosts S) (rack : Ghosts R) where
 
     pub settle_lost_moving : (s : ℕ) → IsReady a → IsChecked a kept b → b.homes ≡ a.homes → IsLeastLost (shape_of b) (members_of b) s
         → IsEnded None → StepsTo phase phase rack a Settle (LostReply s) b
-    settle_lost_moving s ready check homes least ended = steps_from phase rack a b Settle (LostReply s) (λ rest V label holds. (
+    settle_lost_moving s ready check homes least ended = steps_from phase rack a b Settle (LostReply s) (λ origin rest V label holds. (
       moved_state a b run.moves rest V,
       moved_in a b rest V label run.moves holds,
       inr (
@@ -470,7 +471,7 @@ module _ {S R : Type 0} (phase : phases.Ghosts S) (rack : Ghosts R) where
 
     pub tend_done : (limit m l : ℕ) → IsReady a → b.homes ≡ a.homes → has_lost (shape_of b) (members_of b) ≡ false
         → IsTended (wants_of targets) limit (stores.table_of mid) (table_of b) m l → IsStill (Some limit) → StepsTo phase phase rack a (Tend limit) (TendedReply m l) b
-    tend_done limit m l ready homes live is still = steps_from phase rack a b (Tend limit) (TendedReply m l) (λ rest V label holds.
+    tend_done limit m l ready homes live is still = steps_from phase rack a b (Tend limit) (TendedReply m l) (λ origin rest V label holds.
         let done = on_plan (λ f t. IsTended f limit t (table_of b) m l) is in (
           moved_state a b run.moves rest V,
           moved_in a b rest V label run.moves holds,
@@ -507,11 +508,11 @@ module _ {S R : Type 0} (phase : phases.Ghosts S) (rack : Ghosts R) where
         ))
 
     -- the step of settling, to a state of a settled volume
-    pub settle_step : IsReady a → IsChecked a kept b → b.homes ≡ run.plan.planned.found.homes → has_lost (shape_of b) (members_of b) ≡ false
+    pub settle_step : {P : Type 0} → IsReady a → IsChecked a kept b → b.homes ≡ run.plan.planned.found.homes → has_lost (shape_of b) (members_of b) ≡ false
         → table_of b ≡ moved (wants_of targets) None (stores.table_of mid) → IsStill None
-        → (rest : State) (V : List (List ℕ)) → StandsLabeled rack a.store a.label rest.label → (Tells rack a → StandsFor phase rack a V)
+        → (rest : State) (V : List (List ℕ)) → StandsLabeled rack a.store a.label rest.label → (Known P rack a → StandsFor phase rack a V)
         → (last : Option LastLabel) × StandsLabeled rack b.store b.label last
-        × Step (Tells rack b) (state_of phase rack a rest V) Settle SettledReply (record (state_of phase rack b rest V) { phase = SettledPhase; label = last })
+        × Step (Known P rack b) (state_of phase rack a rest V) Settle SettledReply (record (state_of phase rack b rest V) { phase = SettledPhase; label = last })
     settle_step ready check homes live is still rest V label holds =
         let done = on_plan (λ f t. table_of b ≡ moved f None t) is in (
           (on_label a b run.moves.labels.opens rest).label,

@@ -1,5 +1,5 @@
 -- What an opening makes is in a state that the model opens.
-use Rattle.std.proofs.Common.{◌≡◌, ◌≢◌, ◌⊎◌, ◌∙◌, ◌<◌, ◌≤◌, ◌+◌, ◌*◌, ◌-◌, ℕ, Bool, true, false, List, [], length, drop, get_or, inl, inr, refl, sym, ap, subst, take, arith, ◌/◌, ◌&&◌}
+use Rattle.std.proofs.Common.{◌≡◌, ◌≢◌, ◌⊎◌, ◌∙◌, ◌<◌, ◌≤◌, ◌+◌, ◌*◌, ℕ, Bool, true, false, List, [], length, drop, get_or, inl, inr, refl, sym, ap, subst, take, arith, ◌/◌, ◌&&◌}
 use Rattle.std.specs.Prelude.{◌==◌, IfSome, IsSome, Option, Some, None, is_some, replicate}
 use Rattle.std.proofs.lemmas.Bool.{and_from, and_parts, cases_lt, false≢true}
 use Rattle.std.proofs.lemmas.List.{get_or_default, same_lists}
@@ -19,8 +19,8 @@ use Rattle.dg_model.specs.Marks.{AreLeft, AreNext}
 use Rattle.dg_model.specs.Members.{HasFallen, SlotHolds, SlotOf, is_filling, is_good, slot_of}
 use Rattle.dg_model.specs.Openings.{Found, IsReopened, MayBeGood, Opens, all_in_use, copies_after}
 use Rattle.dg_model.specs.Placed.{IsPlaced}
-use Rattle.dg_model.specs.Saves.{AreHomes, BeginsWith, HasBody, Label, SavedState, body_of, body_place, member_length}
-use Rattle.dg_model.specs.Seals.{LastLabel, label_on}
+use Rattle.dg_model.specs.Saves.{AreHomes, Label, SavedState, member_length}
+use Rattle.dg_model.specs.Seals.{LastLabel}
 use Rattle.dg_model.specs.States.{State, has_lost, is_broken}
 use Rattle.dg_model.specs.States as states
 use Rattle.dg_model.specs.Tables.{Table, sites_in}
@@ -46,10 +46,11 @@ use Rattle.dg_store.specs.declared.store.Store.{Store}
 use Rattle.dg_volume.proofs.FaultLaws.{falls_out, keeps_tells}
 use Rattle.dg_volume.proofs.LabelLaws.{filling_not_good, good_falls, length_stays, stands_through}
 use Rattle.dg_volume.proofs.LineLaws.{fits_all}
+use Rattle.dg_volume.specs.Origins.{WasHeld}
 use Rattle.dg_volume.specs.Opens.{HasOpened, IsDisordered, IsMadeOf, IsOrdered, IsPhaseOf, IsRestored, had}
 use Rattle.dg_volume.specs.Phases.{kept_in, phase_in}
 use Rattle.dg_volume.specs.Planned.{HasReadArray}
-use Rattle.dg_volume.specs.Volumes.{FitsArray, IsInPlace, IsWell, StandsIn, Tells, any_phase, marks_by, marks_of, members_of, rack_of, shape_of, table_of}
+use Rattle.dg_volume.specs.Volumes.{FitsArray, IsInPlace, IsWell, Known, StandsIn, any_phase, marks_by, marks_of, members_of, rack_of, shape_of, table_of}
 use Rattle.dg_volume.specs.declared.phases.AnyPhase.{AnyPhase}
 use Rattle.dg_volume.specs.declared.phases.AnyPhase.TheVariants.{Loose, Settled, Worn}
 use Rattle.dg_volume.specs.declared.volumes.Volume.{Volume}
@@ -318,34 +319,34 @@ module _ {R : Type 0} (rack : Ghosts R) (old new : Store R) (saved : SavedState)
       }
 
   -- blocks that the array stood for
-  module _ (V : List (List ℕ)) (held : TellsAll rack new → stores.StandsFor rack old V) where
-    pub inferred : (phase : AnyPhase) → IsPhaseOf rack old new saved phase → TellsAll rack new → IfSome (kept_in phase) (λ kept. inferences.StandsFor kept V)
+  module _ (P : Type 0) (V : List (List ℕ)) (held : TellsAll rack new × P → stores.StandsFor rack old V) where
+    pub inferred : (phase : AnyPhase) → IsPhaseOf rack old new saved phase → TellsAll rack new × P → IfSome (kept_in phase) (λ kept. inferences.StandsFor kept V)
     inferred (Worn worn) h told = tt
-    inferred (Loose loose) h told = h.0.stands told V (held told)
-    inferred (Settled settled) h told = h.0.stands told V (held told)
+    inferred (Loose loose) h told = h.0.stands (told.0) V (held told)
+    inferred (Settled settled) h told = h.0.stands (told.0) V (held told)
 
-    left_now : (kept : KeptInference) → IsRestored rack old new saved.pending kept → AreLeft (TellsAll rack new) (stores.shape_of new).l (stores.shape_of new).n V saved.pending kept.pending
-    left_now kept restored = now (λ t. AreLeft (TellsAll rack new) t.shape.l t.shape.n V saved.pending kept.pending) (record {
+    left_now : (kept : KeptInference) → IsRestored rack old new saved.pending kept → AreLeft (TellsAll rack new × P) (stores.shape_of new).l (stores.shape_of new).n V saved.pending kept.pending
+    left_now kept restored = now (λ t. AreLeft (TellsAll rack new × P) t.shape.l t.shape.n V saved.pending kept.pending) (record {
       size = (restored.pending_are V).size;
       fewer = (restored.pending_are V).fewer;
-      are = λ told b. (restored.pending_are V).are (told, held told) b;
+      are = λ told b. (restored.pending_are V).are (told.0, held told) b;
     })
 
     pub pending_next : (phase : AnyPhase) (marks : List Bool) → IsPhaseOf rack old new saved phase → marks ≡ saved.pending
-        → AreNext (has_lost (stores.shape_of new) (stores.members_of new)) (TellsAll rack new) (stores.shape_of new).l (stores.shape_of new).n V saved.pending (marks_by (kept_in phase) marks)
-    pending_next (Worn worn) marks h own = next_when _ (TellsAll rack new) _ _ V saved.pending marks h own
-    pending_next (Loose loose) marks h own = next_left _ (TellsAll rack new) _ _ V saved.pending loose.inference.pending h.0.live (left_now loose.inference h.0)
-    pending_next (Settled settled) marks h own = next_left _ (TellsAll rack new) _ _ V saved.pending settled.inference.pending h.0.live (left_now settled.inference h.0)
+        → AreNext (has_lost (stores.shape_of new) (stores.members_of new)) (TellsAll rack new × P) (stores.shape_of new).l (stores.shape_of new).n V saved.pending (marks_by (kept_in phase) marks)
+    pending_next (Worn worn) marks h own = next_when _ (TellsAll rack new × P) _ _ V saved.pending marks h own
+    pending_next (Loose loose) marks h own = next_left _ (TellsAll rack new × P) _ _ V saved.pending loose.inference.pending h.0.live (left_now loose.inference h.0)
+    pending_next (Settled settled) marks h own = next_left _ (TellsAll rack new × P) _ _ V saved.pending settled.inference.pending h.0.live (left_now settled.inference h.0)
 
     -- a state of these blocks
     module _ (one : OneOwner) (none : NoSystem) (state : State) (table_is : state.table ≡ stores.table_of new) (blocks_are : state.blocks ≡ V) (homes_are : state.homes ≡ saved.homes) where
       -- what is said of the state is said of these parts
       abbrev Ordered : Table → List (List ℕ) → List Home → List Home → Type 0
-      Ordered table blocks homes copies = IsInOrder (TellsAll rack new) (record state { table = table; blocks = blocks; homes = homes; copies = copies })
+      Ordered table blocks homes copies = IsInOrder (TellsAll rack new × P) (record state { table = table; blocks = blocks; homes = homes; copies = copies })
 
-      sound_now : (kept : KeptInference) → IsRestored rack old new saved.pending kept → IsOrdered rack old new kept saved.homes saved.copies → TellsAll rack new
+      sound_now : (kept : KeptInference) → IsRestored rack old new saved.pending kept → IsOrdered rack old new kept saved.homes saved.copies → TellsAll rack new × P
           → IsSoundVolume (stores.shape_of new).l (stores.shape_of new).n V
-      sound_now kept restored ordered told = now (λ t. IsSoundVolume t.shape.l t.shape.n V) (ordered.sound told V (held told) (restored.stands told V (held told)))
+      sound_now kept restored ordered told = now (λ t. IsSoundVolume t.shape.l t.shape.n V) (ordered.sound (told.0) V (held told) (restored.stands (told.0) V (held told)))
 
       ordered_now : (kept : KeptInference) → IsRestored rack old new saved.pending kept → IsOrdered rack old new kept saved.homes saved.copies
           → Ordered (stores.table_of new) V saved.homes saved.copies
@@ -353,16 +354,16 @@ module _ {R : Type 0} (rack : Ghosts R) (old new : Store R) (saved : SavedState)
         wants = ordered.wants;
         seen = record {
           fit = now (λ t. FitWants t ordered.wants) ordered.wanted.fit;
-          are = λ told. wants_at kept (stores.shape_of new) ordered.wants V (fits_now kept restored.fits) (ordered.wanted.are V (restored.stands told V (held told)));
+          are = λ told. wants_at kept (stores.shape_of new) ordered.wants V (fits_now kept restored.fits) (ordered.wanted.are V (restored.stands (told.0) V (held told)));
         };
         placed = now (λ t. IsPlaced ordered.wants t saved.homes saved.copies) ordered.placed;
         sound = sound_now kept restored ordered;
       }
 
-      disordered_now : (kept : KeptInference) → IsRestored rack old new saved.pending kept → IsDisordered rack old new kept saved.homes saved.copies → TellsAll rack new
+      disordered_now : (kept : KeptInference) → IsRestored rack old new saved.pending kept → IsDisordered rack old new kept saved.homes saved.copies → TellsAll rack new × P
           → Ordered (stores.table_of new) V saved.homes saved.copies → ⊥
       disordered_now kept restored bad told ordered =
-          let stands = restored.stands told V (held told) in
+          let stands = restored.stands (told.0) V (held told) in
           elim bad [
             | inl displaced ↦
                 let wants_are = same_wants one none (stores.table_of new) (stores.shape_of new).l (stores.shape_of new).n V ordered.wants displaced.wants ordered.seen.fit
@@ -372,26 +373,26 @@ module _ {R : Type 0} (rack : Ghosts R) (old new : Store R) (saved : SavedState)
                 (subst (λ (w : List (Option Want)). IsPlaced w (stores.table_of new) saved.homes saved.copies) wants_are ordered.placed))
             | inr more ↦ elim more [
               | inl unsound ↦
-                  let first = now (λ t. IsFirstMalformation t.shape.l t.shape.n V unsound.kind unsound.number) (unsound.first told V (held told) stands) in
+                  let first = now (λ t. IsFirstMalformation t.shape.l t.shape.n V unsound.kind unsound.number) (unsound.first (told.0) V (held told) stands) in
                   ordered.sound told unsound.kind unsound.number first.here
               | inr lost ↦ false≢true (sym restored.live ∙ lost)
             ]
           ]
 
-      to_parts : (copies : List Home) → IsInOrder (TellsAll rack new) (record state { copies = copies }) → Ordered (stores.table_of new) V saved.homes copies
+      to_parts : (copies : List Home) → IsInOrder (TellsAll rack new × P) (record state { copies = copies }) → Ordered (stores.table_of new) V saved.homes copies
       to_parts copies h =
           subst (λ (hs : List Home). Ordered (stores.table_of new) V hs copies) homes_are
           (subst (λ (xs : List (List ℕ)). Ordered (stores.table_of new) xs state.homes copies) blocks_are
           (subst (λ (t : Table). Ordered t state.blocks state.homes copies) table_is h))
 
-      of_parts : Ordered (stores.table_of new) V saved.homes state.copies → IsInOrder (TellsAll rack new) state
+      of_parts : Ordered (stores.table_of new) V saved.homes state.copies → IsInOrder (TellsAll rack new × P) state
       of_parts h =
           subst (λ (t : Table). Ordered t state.blocks state.homes state.copies) (sym table_is)
           (subst (λ (xs : List (List ℕ)). Ordered (stores.table_of new) xs state.homes state.copies) (sym blocks_are)
           (subst (λ (hs : List Home). Ordered (stores.table_of new) V hs state.copies) (sym homes_are) h))
 
       pub reopened_is : (phase : AnyPhase) → IsPhaseOf rack old new saved phase → state.phase ≡ phase_in phase → state.copies ≡ copies_after (phase_in phase) saved.copies
-          → is_broken state ≡ has_lost (stores.shape_of new) (stores.members_of new) → IsReopened (TellsAll rack new) saved state
+          → is_broken state ≡ has_lost (stores.shape_of new) (stores.members_of new) → IsReopened (TellsAll rack new × P) saved state
       reopened_is (Worn worn) h phase_is copies_are broken = record {
         worn = (λ e. broken ∙ h, λ e. phase_is);
         settled = λ e. absurd (worn_settled (sym phase_is ∙ e));
@@ -546,13 +547,17 @@ module _ (one : OneOwner) (none : NoSystem) {R : Type 0} (rack : Ghosts R) (befo
     counts = rack.counts (rack_of volume);
   }
 
-  module _ (V : List (List ℕ)) (held : Tells rack volume → states.StandsFor (table_of volume) (stores.members_of start) (rack.bytes before) V) where
-    start_held : Tells rack volume → stores.StandsFor rack start V
+  module _ (V : List (List ℕ)) where
+    -- the first members held these blocks
+    abbrev P : Type 0
+    P = WasHeld (Some (record { table = table_of volume; members = stores.members_of start; bytes = rack.bytes before; blocks = V }))
+
+    start_held : Known P rack volume → stores.StandsFor rack start V
     start_held told =
         subst (λ (t : Table). states.StandsFor t (stores.members_of start) (rack.bytes (stores.rack_of start)) V) made.reads.reads.table
-        (held_same (table_of volume) (stores.members_of start) (rack.bytes before) (rack.bytes (stores.rack_of start)) V found.leaves.same (held told))
+        (held_same (table_of volume) (stores.members_of start) (rack.bytes before) (rack.bytes (stores.rack_of start)) V found.leaves.same (told.1))
 
-    opens : Opens (Tells rack volume) found.taken None (rack.counts before) (opened V)
+    opens : Opens (Known P rack volume) found.taken None (rack.counts before) (opened V)
     opens = record {
       source = found.source;
       label = found.label;
@@ -571,20 +576,20 @@ module _ (one : OneOwner) (none : NoSystem) {R : Type 0} (rack : Ghosts R) (befo
       out = λ q. out_by (rack.counts before).faults (rack.counts (stores.rack_of start)).faults (rack.counts (rack_of volume)).faults (stores.members_of start) (members_of volume) q
           (MayBeGood found.taken found.label saved q) (earlier q) (later q) (found.out q) (made.reads.reads.keeps.falls q);
       fell = failed_out;
-      pending = pending_next rack start volume.store saved made.reads.reads.table V start_held volume.phase volume.pending.items made.phase made.pending;
-      phase = reopened_is rack start volume.store saved made.reads.reads.table V start_held one none (opened V) refl refl made.homes volume.phase made.phase refl made.copies refl;
+      pending = pending_next rack start volume.store saved made.reads.reads.table P V start_held volume.phase volume.pending.items made.phase made.pending;
+      phase = reopened_is rack start volume.store saved made.reads.reads.table P V start_held one none (opened V) refl refl made.homes volume.phase made.phase refl made.copies refl;
       label_is = refl;
       body = found.body;
       counts = stays_on.rise;
     }
 
-    stands_in : StandsIn any_phase rack volume (opened V)
+    stands_in : StandsIn any_phase rack P volume (opened V)
     stands_in = record {
       is = refl;
       label = stands_labeled;
       holds = λ told. record {
         array = made.reads.stands V (start_held told);
-        inferred = inferred rack start volume.store saved made.reads.reads.table V start_held volume.phase made.phase told;
+        inferred = inferred rack start volume.store saved made.reads.reads.table P V start_held volume.phase made.phase told;
       };
     }
 
@@ -611,5 +616,5 @@ module _ (one : OneOwner) (none : NoSystem) {R : Type 0} (rack : Ghosts R) (befo
         (made.reads.reads.keeps.own.other_bytes q (subst (λ (s : Shape). s.b ≤ q / 2) made.reads.reads.keeps.shape past));
     falls = λ q. fall_before (rack.counts before).faults (rack.counts (stores.rack_of start)).faults (rack.counts (rack_of volume)).faults (stores.members_of start) (members_of volume) q (earlier q)
         (made.reads.reads.keeps.falls q);
-    states_are = λ V held. (opened V, refl, opens V held, stands_in V held, refl);
+    states_are = λ V. (opened V, refl, opens V, stands_in V, refl);
   }

@@ -16,7 +16,7 @@ use Rattle.dg_volume.proofs.FaultLaws.{keeps_outs, keeps_tells}
 use Rattle.dg_volume.proofs.LineLaws.{any_in, gone_at, meets_in}
 use Rattle.dg_volume.proofs.VolumeLaws.{HasRead, label_by, on_label, read_keeps, read_state, reads_in, reads_stay, steps_by, steps_from, told_before}
 use Rattle.dg_volume.specs.Replies.{AnswersCat, AnswersLs, HasFileAt, TellsInode}
-use Rattle.dg_volume.specs.Volumes.{StandsFor, StepsBy, StepsTo, Tells, marks_by, members_of, rack_of, shape_of, state_of, table_of, touched_by}
+use Rattle.dg_volume.specs.Volumes.{Known, StandsFor, StepsBy, StepsTo, Tells, marks_by, members_of, rack_of, shape_of, state_of, table_of, touched_by}
 use Rattle.dg_volume.specs.declared.phases.InPhase as phases
 use Rattle.dg_volume.specs.declared.volumes.Volume.{Volume}
 use Rattle.ufs_model.specs.Blocks.{Reading}
@@ -49,17 +49,17 @@ module _ {S R : Type 0} (phase : phases.Ghosts S) (rack : Ghosts R) where
   abbrev pub Lists : List ℕ → Volume S R → Volume S R → Option (Result (List Listed) PathRefusal) → Type 0
   Lists path a b answer = ReadsBy (ls_of (shape_of a).l (shape_of a).n path) a b answer
 
-  pub held : (a b : Volume S R) (V : List (List ℕ)) → HasRead phase rack a b → (Tells rack a → StandsFor phase rack a V) → Tells rack b → stores.StandsFor rack a.store V
+  pub held : {P : Type 0} → (a b : Volume S R) (V : List (List ℕ)) → HasRead phase rack a b → (Known P rack a → StandsFor phase rack a V) → Known P rack b → stores.StandsFor rack a.store V
   held a b V h holds told = let all = holds (told_before phase rack a b (read_keeps phase rack a b h) told) in all.array
 
   -- what may be answered of a state by what was read of the volume
-  pub may_read : {A : Type 0} (reading : Reading A) (a b : Volume S R) (rest : State) (V : List (List ℕ)) (answer : Option A) → (h : HasRead phase rack a b)
-      → (Tells rack a → StandsFor phase rack a V) → ReadsBy reading a b answer → IfNone answer (LosesBlock b)
-      → MayRead (Tells rack b) (state_of phase rack a rest V) (read_state phase rack a b h rest V) reading answer
+  pub may_read : {P : Type 0} → {A : Type 0} (reading : Reading A) (a b : Volume S R) (rest : State) (V : List (List ℕ)) (answer : Option A) → (h : HasRead phase rack a b)
+      → (Known P rack a → StandsFor phase rack a V) → ReadsBy reading a b answer → IfNone answer (LosesBlock b)
+      → MayRead (Known P rack b) (state_of phase rack a rest V) (read_state phase rack a b h rest V) reading answer
   may_read reading a b rest V answer h holds reads gone = record {
     rule = λ told.
         meets_in (shape_of a).n (shape_of b).n (is_gone (table_of a) (members_of a)) (is_gone (table_of b) (members_of b)) (reading V) answer
-        (reads.rule told V (held a b V h holds told));
+        (reads.rule (told.0) V (held a b V h holds told));
     cause = at_end answer gone;
     unwritten = h.reads.writes;
   }
@@ -69,17 +69,17 @@ module _ {S R : Type 0} (phase : phases.Ghosts S) (rack : Ghosts R) where
       at_end (Some given) gone = tt
 
   -- what was cut short
-  pub cut_short : {A : Type 0} (reading : Reading A) (a b : Volume S R) (rest : State) (V : List (List ℕ)) → (h : HasRead phase rack a b)
-      → (Tells rack a → StandsFor phase rack a V) → ReadsBy reading a b None → IsCutShort (Tells rack b) (state_of phase rack a rest V) (read_state phase rack a b h rest V) reading
+  pub cut_short : {P : Type 0} → {A : Type 0} (reading : Reading A) (a b : Volume S R) (rest : State) (V : List (List ℕ)) → (h : HasRead phase rack a b)
+      → (Known P rack a → StandsFor phase rack a V) → ReadsBy reading a b None → IsCutShort (Known P rack b) (state_of phase rack a rest V) (read_state phase rack a b h rest V) reading
   cut_short reading a b rest V h holds lost told =
-      let rule = lost.rule told V (held a b V h holds told) in
+      let rule = lost.rule (told.0) V (held a b V h holds told) in
       any_in (shape_of b).n (is_gone (table_of b) (members_of b)) (reading V).needs rule.only
 
   -- ---- a file
 
   cat_refused : (path : List ℕ) (refusal : PathRefusal) (a b : Volume S R) → HasRead phase rack a b → Reads path a b (Some (Err refusal))
       → StepsTo phase phase rack a (Cat path) (Refused refusal) b
-  cat_refused path refusal a b h reads = steps_from phase rack a b (Cat path) (Refused refusal) (λ rest V label holds. (
+  cat_refused path refusal a b h reads = steps_from phase rack a b (Cat path) (Refused refusal) (λ origin rest V label holds. (
     read_state phase rack a b h rest V,
     reads_in phase rack a b rest V label h holds,
     (
@@ -90,7 +90,7 @@ module _ {S R : Type 0} (phase : phases.Ghosts S) (rack : Ghosts R) where
   ))
 
   cat_lost : (path : List ℕ) (a b : Volume S R) → HasRead phase rack a b → Reads path a b None → LosesBlock b → StepsTo phase phase rack a (Cat path) ReplyUnavailable b
-  cat_lost path a b h reads gone = steps_from phase rack a b (Cat path) ReplyUnavailable (λ rest V label holds. (
+  cat_lost path a b h reads gone = steps_from phase rack a b (Cat path) ReplyUnavailable (λ origin rest V label holds. (
     read_state phase rack a b h rest V,
     reads_in phase rack a b rest V label h holds,
     (
@@ -103,7 +103,7 @@ module _ {S R : Type 0} (phase : phases.Ghosts S) (rack : Ghosts R) where
   -- what the blocks of the volume say of the file at a path
   pub has_file : (path : List ℕ) (a b : Volume S R) (i : ℕ) → (Tells rack b → Tells rack a)
       → (Tells rack b → (V : List (List ℕ)) → stores.StandsFor rack a.store V → (file_of (shape_of a).l (shape_of a).n path V).value ≡ Ok i) → HasFileAt phase rack a path b i
-  has_file path a b i back is state stands told = let all = stands.holds (back told) in is told state.blocks all.array
+  has_file path a b i back is origin state stands told = let all = stands.holds (back (told.0), told.1) in is (told.0) state.blocks all.array
 
   -- the rest of the state once file i was given whole
   abbrev touched_rest : Volume S R → ℕ → State → State
@@ -111,7 +111,7 @@ module _ {S R : Type 0} (phase : phases.Ghosts S) (rack : Ghosts R) where
 
   touches : (path : List ℕ) (lines : List (List ℕ)) (i : ℕ) (a b : Volume S R) → HasRead phase rack a b → AreLines (shape_of a).l lines → Reads path a b (Some (Ok (concat lines)))
       → HasFileAt phase rack a path b i → StepsBy phase phase rack (recent_after (phase.phase a.phase) i) a (Cat path) (Given lines) b
-  touches path lines i a b h are reads file = steps_by phase rack (recent_after (phase.phase a.phase) i) a b (Cat path) (Given lines) (λ rest V label holds.
+  touches path lines i a b h are reads file = steps_by phase rack (recent_after (phase.phase a.phase) i) a b (Cat path) (Given lines) (λ origin rest V label holds.
       let next = read_state phase rack a b h (touched_rest a i rest) V in (
         next,
         reads_in phase rack a b (touched_rest a i rest) V label h holds,
@@ -120,7 +120,7 @@ module _ {S R : Type 0} (phase : phases.Ghosts S) (rack : Ghosts R) where
           record {
             rule = λ told.
                 meets_in (shape_of a).n (shape_of b).n (is_gone (table_of a) (members_of a)) (is_gone (table_of b) (members_of b))
-                (cat_of (shape_of a).l (shape_of a).n path V) (Some (Ok (concat lines))) (reads.rule told V (held a b V h holds told));
+                (cat_of (shape_of a).l (shape_of a).n path V) (Some (Ok (concat lines))) (reads.rule (told.0) V (held a b V h holds told));
             cause = tt;
             unwritten = h.reads.writes;
           },
@@ -138,7 +138,7 @@ module _ {S R : Type 0} (phase : phases.Ghosts S) (rack : Ghosts R) where
               out = keeps_outs rack a.store b.store h.reads.keeps;
             };
             i = i;
-            is = λ told. file (state_of phase rack a rest V) (record { is = refl; label = label; holds = holds }) told;
+            is = λ told. file origin (state_of phase rack a rest V) (record { is = refl; label = label; holds = holds }) told;
             rest = λ j. record (on_label a b (read_keeps phase rack a b h).labels.opens (touched_rest a i rest)) {
               boundaries = (h.reads.table j).shape.b;
               live = all_live (h.reads.table j).shape.b;
@@ -165,7 +165,7 @@ module _ {S R : Type 0} (phase : phases.Ghosts S) (rack : Ghosts R) where
 
   cut_steps : (path : List ℕ) (lines : List (List ℕ)) (more : List ℕ) (a b : Volume S R) → HasRead phase rack a b → AreLines (shape_of a).l lines
       → Reads path a b (Some (Ok (concat lines ++ more))) → Reads path a b None → StepsTo phase phase rack a (Cat path) (Cut lines) b
-  cut_steps path lines more a b h are reads lost = steps_from phase rack a b (Cat path) (Cut lines) (λ rest V label holds. (
+  cut_steps path lines more a b h are reads lost = steps_from phase rack a b (Cat path) (Cut lines) (λ origin rest V label holds. (
     read_state phase rack a b h rest V,
     reads_in phase rack a b rest V label h holds,
     (
@@ -198,7 +198,7 @@ module _ {S R : Type 0} (phase : phases.Ghosts S) (rack : Ghosts R) where
 
   ls_refused : (path : List ℕ) (refusal : PathRefusal) (a b : Volume S R) → HasRead phase rack a b → Lists path a b (Some (Err refusal))
       → StepsTo phase phase rack a (Ls path) (Refused refusal) b
-  ls_refused path refusal a b h reads = steps_from phase rack a b (Ls path) (Refused refusal) (λ rest V label holds. (
+  ls_refused path refusal a b h reads = steps_from phase rack a b (Ls path) (Refused refusal) (λ origin rest V label holds. (
     read_state phase rack a b h rest V,
     reads_in phase rack a b rest V label h holds,
     (
@@ -209,7 +209,7 @@ module _ {S R : Type 0} (phase : phases.Ghosts S) (rack : Ghosts R) where
   ))
 
   ls_lost : (path : List ℕ) (a b : Volume S R) → HasRead phase rack a b → Lists path a b None → LosesBlock b → StepsTo phase phase rack a (Ls path) ReplyUnavailable b
-  ls_lost path a b h reads gone = steps_from phase rack a b (Ls path) ReplyUnavailable (λ rest V label holds. (
+  ls_lost path a b h reads gone = steps_from phase rack a b (Ls path) ReplyUnavailable (λ origin rest V label holds. (
     read_state phase rack a b h rest V,
     reads_in phase rack a b rest V label h holds,
     (
@@ -221,7 +221,7 @@ module _ {S R : Type 0} (phase : phases.Ghosts S) (rack : Ghosts R) where
 
   listed_steps : (path : List ℕ) (entries : List Listed) (a b : Volume S R) → HasRead phase rack a b → Lists path a b (Some (Ok entries))
       → StepsTo phase phase rack a (Ls path) (ListedReply entries) b
-  listed_steps path entries a b h reads = steps_from phase rack a b (Ls path) (ListedReply entries) (λ rest V label holds. (
+  listed_steps path entries a b h reads = steps_from phase rack a b (Ls path) (ListedReply entries) (λ origin rest V label holds. (
     read_state phase rack a b h rest V,
     reads_in phase rack a b rest V label h holds,
     (
@@ -233,7 +233,7 @@ module _ {S R : Type 0} (phase : phases.Ghosts S) (rack : Ghosts R) where
 
   listed_cut_steps : (path : List ℕ) (entries more : List Listed) (a b : Volume S R) → HasRead phase rack a b → Lists path a b (Some (Ok (entries ++ more))) → Lists path a b None
       → StepsTo phase phase rack a (Ls path) (ListedCut entries) b
-  listed_cut_steps path entries more a b h reads lost = steps_from phase rack a b (Ls path) (ListedCut entries) (λ rest V label holds. (
+  listed_cut_steps path entries more a b h reads lost = steps_from phase rack a b (Ls path) (ListedCut entries) (λ origin rest V label holds. (
     read_state phase rack a b h rest V,
     reads_in phase rack a b rest V label h holds,
     (

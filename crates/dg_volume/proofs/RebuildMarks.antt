@@ -7,7 +7,6 @@ use Rattle.dg_infer.specs.Meanings.{KeptInference}
 use Rattle.dg_infer.specs.Meanings as inferences
 use Rattle.dg_infer.specs.Wants.{IsWantBy}
 use Rattle.dg_io.specs.declared.outside.Rack.{Ghosts}
-use Rattle.dg_model.specs.Blocks.{zeros}
 use Rattle.dg_model.specs.Marks.{IsDead, is_marked}
 use Rattle.dg_model.specs.Members.{is_good, is_lost, partner_of}
 use Rattle.dg_model.specs.Refills.{Reaps}

@@ -9,13 +9,13 @@ use Rattle.dg_io.specs.declared.outside.Rack.{Ghosts}
 use Rattle.dg_label.specs.Labels.{StandsLabeled}
 use Rattle.dg_label.specs.Seals.{KeepsArray}
 use Rattle.dg_label.specs.declared.labels.KeptLabel.{KeptLabel}
-use Rattle.dg_model.proofs.MemberLaws.{falls_both, good_was, lost_stays, rose_after, rose_before}
+use Rattle.dg_model.proofs.MemberLaws.{good_was, rose_before}
 use Rattle.dg_model.specs.Causes.{Rose}
 use Rattle.dg_model.specs.Blocks.{block_in, zeros}
 use Rattle.dg_model.specs.Changes.{BreaksOff, MayReap, PassesSlots, Rebuilds, SparesAll, refilled_to}
 use Rattle.dg_model.specs.Lives.{all_live}
 use Rattle.dg_model.specs.Marks.{IsDead, is_marked}
-use Rattle.dg_model.specs.Members.{ArePaired, HasFallen, IsRefilled, MembersFall, OthersFall, is_filling, is_good, is_lost, partner_of}
+use Rattle.dg_model.specs.Members.{HasFallen, IsRefilled, is_filling, is_good, is_lost}
 use Rattle.dg_model.specs.Refills.{Reaps}
 use Rattle.dg_model.specs.Saves.{AreHomes}
 use Rattle.dg_model.specs.Sites.{has_site}
@@ -52,11 +52,12 @@ use Rattle.dg_volume.proofs.RefillBehind.{HasSlots, below_behind, falls_behind, 
 use Rattle.dg_volume.proofs.RefillLaws.{filling_live, left_outs, lost_none_filling, lost_where_left}
 use Rattle.dg_volume.proofs.VolumeLaws.{IsBeside, Keeps, Labels, StepsAt, holds_on, kept_state, label_by, leaves, lost_on, on_label, quiet_in, still_in}
 use Rattle.dg_volume.proofs.VolumeSteps.{false_of}
+use Rattle.dg_volume.specs.Origins.{Origin, WasHeld}
 use Rattle.dg_volume.specs.Faults.{OutsStay, TellsFaults}
 use Rattle.dg_volume.specs.Phases.{CanReapAll}
 use Rattle.dg_volume.specs.Seals.{Relabels}
 use Rattle.dg_volume.specs.Refills.{AreReapMarks, AreReaped, HasFilling, IsDeadMark, SparesFiles, rebuild_reply, told_of}
-use Rattle.dg_volume.specs.Volumes.{FitsArray, IsInPlace, IsWell, Leaves, StandsFor, StandsIn, StepsSized, Tells, marks_by, marks_of, members_of, rack_of, shape_of, state_of, table_of}
+use Rattle.dg_volume.specs.Volumes.{FitsArray, IsInPlace, IsWell, Known, Leaves, StandsFor, StandsIn, StepsSized, Tells, marks_by, marks_of, members_of, rack_of, shape_of, state_of, table_of}
 use Rattle.dg_volume.specs.declared.phases.InPhase as phases
 use Rattle.dg_volume.specs.declared.refills.RebuildAnswer as rebuilds
 use Rattle.dg_volume.specs.declared.refills.RebuildAnswer.TheVariants.{Failed as RebuildFailed, Lost as RebuildLost}
@@ -337,8 +338,8 @@ module _ {S R : Type 0} (phase : phases.Ghosts S) (rack : Ghosts R) where
     leaves_passed : Leaves phase phase rack a b
     leaves_passed = record { well = well_passed; shape = same_shape; rise = passed.slots.stays.stays.rise; tells = passed.slots.stays.stays.tells; told_before = passed.slots.stays.stays.told_before; own = passed.slots.stays.own; same_rack = passed.slots.stays.stays.same_rack }
 
-    told_before : Tells rack b → Tells rack a
-    told_before told q below = passed.slots.stays.stays.told_before q (told q (subst (λ (x : Shape). q / 2 < x.b) (sym same_shape) below))
+    told_before : {P : Type 0} → Known P rack b → Known P rack a
+    told_before known = (λ q below. passed.slots.stays.stays.told_before q (known.0 q (subst (λ (x : Shape). q / 2 < x.b) (sym same_shape) below)), known.1)
 
     -- ---- what it stands for
 
@@ -378,15 +379,15 @@ module _ {S R : Type 0} (phase : phases.Ghosts S) (rack : Ghosts R) where
 
     -- ---- states
 
-    module _ (rest : State) (V : List (List ℕ)) (label : StandsLabeled rack a.store a.label rest.label) (size : length V ≡ (shape_of a).n) (holds : Tells rack a → StandsFor phase rack a V) where
+    module _ {P : Type 0} (rest : State) (V : List (List ℕ)) (label : StandsLabeled rack a.store a.label rest.label) (size : length V ≡ (shape_of a).n) (holds : Known P rack a → StandsFor phase rack a V) where
       abbrev was : State
       was = state_of phase rack a rest V
 
       abbrev next : State
       next = state_of phase rack b (on_label a b h.labels.opens rest) (zeroed (shape_of a).l reaped V)
 
-      next_in : StandsIn phase rack b next
-      next_in = record { is = refl; label = h.labels.stands rest.label label; holds = λ told. stands_passed V told (holds (told_before told)) }
+      next_in : StandsIn phase rack P b next
+      next_in = record { is = refl; label = h.labels.stands rest.label label; holds = λ told. stands_passed V (told.0) (holds (told_before told)) }
 
       mid_shape : stores.shape_of m ≡ shape_of a
       mid_shape = h.opening.stays.shape
@@ -399,7 +400,7 @@ module _ {S R : Type 0} (phase : phases.Ghosts S) (rack : Ghosts R) where
           ap (λ (x : Shape). has_lost x (members_of b)) same_shape ∙ passed.lost (sym (ap (λ (x : Shape). has_lost x (stores.members_of m)) mid_shape) ∙ lost)
 
       -- where blocks may be reaped each dead one is marked
-      marked_dead : Tells rack b → (SparesAll was → ⊥) → is_broken next ≡ false → (c : ℕ) → IsDead (table_of a) V (marks_of phase a) c → is_marked marks c ≡ true
+      marked_dead : Known P rack b → (SparesAll was → ⊥) → is_broken next ≡ false → (c : ℕ) → IsDead (table_of a) V (marks_of phase a) c → is_marked marks c ≡ true
       marked_dead told live unbroken c dead =
           let held = holds (told_before told) in
           let live_mid : (has_lost (stores.shape_of m) (stores.members_of m) ≡ true) ⊎ (phase.phase a.phase ≡ WornPhase) → ⊥ =
@@ -407,7 +408,7 @@ module _ {S R : Type 0} (phase : phases.Ghosts S) (rack : Ghosts R) where
           dead_mark a.store (phase.kept a.phase) marks a.pending.items (h.marks_are.some live_mid)
           (if_some (phase.kept a.phase) (λ inference all. all live_mid) h.marks_are.each) V held.inferred c dead
 
-      may_reap : MayReap (Tells rack b) was s passed.low passed.high (is_among reaped) next
+      may_reap : MayReap (Known P rack b) was s passed.low passed.high (is_among reaped) next
       may_reap = record {
         none = λ spares c. at_test c (is_among reaped c) refl (elim spares [ inl lost ↦ inl (broken_mid lost) | inr worn ↦ inr worn ]);
         marks = λ c among. mark_free a.store (phase.kept a.phase) marks a.pending.items h.marks_are.known h.marks_are.safe c (marked c among);
@@ -419,7 +420,7 @@ module _ {S R : Type 0} (phase : phases.Ghosts S) (rack : Ghosts R) where
           at_test c true is spares = absurd (false≢true (sym (h.marks_are.none spares c) ∙ marked c is))
           at_test c false is spares = is
 
-      passes : answers.IsUnmarkedAt (table_of a) marks s passed.high → PassesSlots (Tells rack b) was s passed.low passed.high next
+      passes : answers.IsUnmarkedAt (table_of a) marks s passed.high → PassesSlots (Known P rack b) was s passed.low passed.high next
       passes unmarked = record {
         reaped = is_among reaped;
         passes = record {
@@ -451,11 +452,12 @@ module _ {S R : Type 0} (phase : phases.Ghosts S) (rack : Ghosts R) where
 
   -- a step of each state that has a block for each of the array's
   sized : (a b : Volume S R) (event : Event) (reply : Reply)
-      → ((rest : State) (V : List (List ℕ)) → StandsLabeled rack a.store a.label rest.label → length V ≡ (shape_of a).n → (Tells rack a → StandsFor phase rack a V) → StepsAt phase rack (λ recent. recent) a rest V event reply b)
+      → ((origin : Origin) (rest : State) (V : List (List ℕ)) → StandsLabeled rack a.store a.label rest.label → length V ≡ (shape_of a).n
+      → (Known (WasHeld origin) rack a → StandsFor phase rack a V) → StepsAt phase rack (WasHeld origin) (λ recent. recent) a rest V event reply b)
       → StepsSized phase phase rack a event reply b
-  sized a b event reply go state st size =
-      subst (λ (s : State). (next : State) × StandsIn phase rack b next × Step (Tells rack b) s event reply next × (next.recent ≡ s.recent)) (sym st.is)
-      (go state state.blocks st.label size st.holds)
+  sized a b event reply go origin state st size =
+      subst (λ (s : State). (next : State) × StandsIn phase rack (WasHeld origin) b next × Step (Known (WasHeld origin) rack b) s event reply next × (next.recent ≡ s.recent)) (sym st.is)
+      (go origin state state.blocks st.label size st.holds)
 
   -- nothing was done
   quiet_state : (a b : Volume S R) → IsBeside phase rack a b → b.store ≡ a.store → (rest : State) (V : List (List ℕ)) → state_of phase rack b rest V ≡ state_of phase rack a rest V
@@ -542,8 +544,8 @@ module _ {S R : Type 0} (phase : phases.Ghosts S) (rack : Ghosts R) where
   pub opened_spares : (law : LooseBlocksChange) (a b : Volume S R) → HasOpened a b → SparesFiles phase rack a b
   opened_spares law a b h = still_spares law a b (keeps_opened a b h)
 
-  breaks_at_once : (a b : Volume S R) (s : ℕ) → IsSound rack a.store → (h : HasOpened a b) (rest : State) (V : List (List ℕ)) (label : StandsLabeled rack a.store a.label rest.label)
-      → BreaksOff (Tells rack b) (state_of phase rack a rest V) s (kept_state phase rack a b (keeps_opened a b h) rest V)
+  breaks_at_once : {P : Type 0} → (a b : Volume S R) (s : ℕ) → IsSound rack a.store → (h : HasOpened a b) (rest : State) (V : List (List ℕ)) (label : StandsLabeled rack a.store a.label rest.label)
+      → BreaksOff (Known P rack b) (state_of phase rack a rest V) s (kept_state phase rack a b (keeps_opened a b h) rest V)
   breaks_at_once a b s sound h rest V label =
       let keeps = keeps_opened a b h in
       let last = (shape_of a).k + 1 in
@@ -599,7 +601,7 @@ module _ {S R : Type 0} (phase : phases.Ghosts S) (rack : Ghosts R) where
     pub opened : HasOpened a b
 
   pub steps_gone : (a b : Volume S R) (s n : ℕ) → HasLostFilling a b s → is_lost (members_of b) s ≡ true → StepsSized phase phase rack a (Rebuild s n) (LostReply s) b
-  steps_gone a b s n h lost = sized a b (Rebuild s n) (LostReply s) (λ rest V label size holds. (
+  steps_gone a b s n h lost = sized a b (Rebuild s n) (LostReply s) (λ origin rest V label size holds. (
     kept_state phase rack a b (keeps_opened a b h.opened) rest V,
     still_in phase rack a b rest V label (keeps_opened a b h.opened) holds,
     (
@@ -608,7 +610,7 @@ module _ {S R : Type 0} (phase : phases.Ghosts S) (rack : Ghosts R) where
       inr (
         λ was. filling_live (members_of a) s h.was.q h.was.have h.sound.paired h.was.refilled (lost_of (shape_of a).b (members_of a) s h.boundary was),
         lost_in (shape_of b).b (members_of b) s (below_on a b s (keeps_opened a b h.opened) h.boundary) lost,
-        subst (λ (x : ℕ). BreaksOff (Tells rack b) (state_of phase rack a rest V) x (kept_state phase rack a b (keeps_opened a b h.opened) rest V))
+        subst (λ (x : ℕ). BreaksOff (Known (WasHeld origin) rack b) (state_of phase rack a rest V) x (kept_state phase rack a b (keeps_opened a b h.opened) rest V))
             (sym (own_place (shape_of a).b s h.boundary)) (breaks_at_once a b s h.sound h.opened rest V label),
       ),
     ),
@@ -616,14 +618,14 @@ module _ {S R : Type 0} (phase : phases.Ghosts S) (rack : Ghosts R) where
   ))
 
   pub steps_fell : (a b : Volume S R) (s n : ℕ) → HasLostFilling a b s → is_lost (members_of b) s ≡ false → StepsSized phase phase rack a (Rebuild s n) FailedReply b
-  steps_fell a b s n h live = sized a b (Rebuild s n) FailedReply (λ rest V label size holds. (
+  steps_fell a b s n h live = sized a b (Rebuild s n) FailedReply (λ origin rest V label size holds. (
     kept_state phase rack a b (keeps_opened a b h.opened) rest V,
     still_in phase rack a b rest V label (keeps_opened a b h.opened) holds,
     (
       h.boundary,
       λ lost. false≢true (sym live ∙ lost_of (shape_of b).b (members_of b) s (below_on a b s (keeps_opened a b h.opened) h.boundary) lost),
       record { q = h.was.q; have = h.was.have; filling = (h.was.refilled.0 ∙ (sym (own_place (shape_of a).b s h.boundary)), h.was.refilled.1); out = fell.out; rose = rose },
-      subst (λ (x : ℕ). BreaksOff (Tells rack b) (state_of phase rack a rest V) x (kept_state phase rack a b (keeps_opened a b h.opened) rest V))
+      subst (λ (x : ℕ). BreaksOff (Known (WasHeld origin) rack b) (state_of phase rack a rest V) x (kept_state phase rack a b (keeps_opened a b h.opened) rest V))
           (sym (own_place (shape_of a).b s h.boundary)) (breaks_at_once a b s h.sound h.opened rest V label),
     ),
     refl,
@@ -653,13 +655,13 @@ module _ {S R : Type 0} (phase : phases.Ghosts S) (rack : Ghosts R) where
       let k = h.call.copied d l refl in
       let passed = passed_copied a m s n d l marks before after b h.none h.opening k in
       let all = usual a m s n marks before after (Ok (Copied d l)) b well h in
-      sized a b (Rebuild s n) (CopiedReply d l) (λ rest V label size holds. (
+      sized a b (Rebuild s n) (CopiedReply d l) (λ origin rest V label size holds. (
         next a m marks s after b all passed rest V label size holds,
         next_in a m marks s after b all passed rest V label size holds,
         (
           h.boundary,
           λ lost. copied_not_lost d l s (sym (h.call.lost.1 (lost_of (shape_of b).b (members_of b) s (below_behind rack a.store m b.store s h.opening h.call.left h.boundary) lost))),
-          subst (λ (x : ℕ). Rebuilds (Tells rack b) (state_of phase rack a rest V) x n d l (next a m marks s after b all passed rest V label size holds)) (sym (own_place (shape_of a).b s h.boundary)) (record {
+          subst (λ (x : ℕ). Rebuilds (Known (WasHeld origin) rack b) (state_of phase rack a rest V) x n d l (next a m marks s after b all passed rest V label size holds)) (sym (own_place (shape_of a).b s h.boundary)) (record {
             q = k.q;
             low = k.low;
             high = k.high;
@@ -673,10 +675,10 @@ module _ {S R : Type 0} (phase : phases.Ghosts S) (rack : Ghosts R) where
         refl,
       ))
 
-  breaks_off : (a : Volume S R) (m : Store R) (s : ℕ) (marks : List Bool) (before after : List ℕ) (b : Volume S R) (none : before ≡ []) (all : IsUsual a m marks after b)
+  breaks_off : {P : Type 0} → (a : Volume S R) (m : Store R) (s : ℕ) (marks : List Bool) (before after : List ℕ) (b : Volume S R) (none : before ≡ []) (all : IsUsual a m marks after b)
       (left : arrays.Stays rack m b.store) (k : answers.HasBrokenOff rack marks s before after m b.store)
-      (rest : State) (V : List (List ℕ)) (label : StandsLabeled rack a.store a.label rest.label) (size : length V ≡ (shape_of a).n) (holds : Tells rack a → StandsFor phase rack a V)
-      → BreaksOff (Tells rack b) (state_of phase rack a rest V) s (next a m marks s after b all (passed_broken a m s marks before after b none all.opening k) rest V label size holds)
+      (rest : State) (V : List (List ℕ)) (label : StandsLabeled rack a.store a.label rest.label) (size : length V ≡ (shape_of a).n) (holds : Known P rack a → StandsFor phase rack a V)
+      → BreaksOff (Known P rack b) (state_of phase rack a rest V) s (next a m marks s after b all (passed_broken a m s marks before after b none all.opening k) rest V label size holds)
   breaks_off a m s marks before after b none all left k rest V label size holds = record {
     low = k.low;
     high = k.high;
@@ -693,7 +695,7 @@ module _ {S R : Type 0} (phase : phases.Ghosts S) (rack : Ghosts R) where
       let none = lost_none_filling (stores.members_of m) s h.opening.sound.paired is in
       let still = h.same none in
       let same : b.store ≡ a.store = (h.call.quiet none).0 ∙ still.0 in
-      sized a b (Rebuild s n) (LostReply t) (λ rest V label size holds. (
+      sized a b (Rebuild s n) (LostReply t) (λ origin rest V label size holds. (
         state_of phase rack b rest V,
         quiet_in phase rack a b rest V label (opened_keeps a m b h.opening h.labels h.beside h.levels (h.call.quiet none).0) (ap (λ (x : Store R). stores.rack_of x) same) still.1
             (λ q out. ap (λ (x : Store R). stores.members_of x q) same ∙ out)
@@ -705,7 +707,7 @@ module _ {S R : Type 0} (phase : phases.Ghosts S) (rack : Ghosts R) where
       let e = h.call.other t refl in
       let k = h.call.broken (inr (ap Lost e)) is in
       let all = usual a m s n marks before after (Ok (Lost t)) b well h in
-      sized a b (Rebuild s n) (LostReply t) (λ rest V label size holds. (
+      sized a b (Rebuild s n) (LostReply t) (λ origin rest V label size holds. (
         next a m marks s after b all (passed_broken a m s marks before after b h.none all.opening k) rest V label size holds,
         next_in a m marks s after b all (passed_broken a m s marks before after b h.none all.opening k) rest V label size holds,
         (
@@ -714,7 +716,7 @@ module _ {S R : Type 0} (phase : phases.Ghosts S) (rack : Ghosts R) where
           inr (
             λ lost. live_before rack a.store m s h.opening is (lost_of (shape_of a).b (members_of a) s h.boundary lost),
             lost_in (shape_of b).b (members_of b) s (below_behind rack a.store m b.store s h.opening h.call.left h.boundary) (h.call.lost.0 (ap Lost e)),
-            subst (λ (x : ℕ). BreaksOff (Tells rack b) (state_of phase rack a rest V) x (next a m marks s after b all (passed_broken a m s marks before after b h.none all.opening k) rest V label size holds))
+            subst (λ (x : ℕ). BreaksOff (Known (WasHeld origin) rack b) (state_of phase rack a rest V) x (next a m marks s after b all (passed_broken a m s marks before after b h.none all.opening k) rest V label size holds))
                 (sym (own_place (shape_of a).b s h.boundary)) (breaks_off a m s marks before after b h.none all h.call.left k rest V label size holds),
           ),
         ),
@@ -727,7 +729,7 @@ module _ {S R : Type 0} (phase : phases.Ghosts S) (rack : Ghosts R) where
       let k = h.call.not_filling.0 refl in
       let still = h.same k.0 in
       let same : b.store ≡ a.store = (h.call.quiet k.0).0 ∙ still.0 in
-      sized a b (Rebuild s n) NotFillingReply (λ rest V label size holds. (
+      sized a b (Rebuild s n) NotFillingReply (λ origin rest V label size holds. (
         state_of phase rack b rest V,
         quiet_in phase rack a b rest V label (opened_keeps a m b h.opening h.labels h.beside h.levels (h.call.quiet k.0).0) (ap (λ (x : Store R). stores.rack_of x) same) still.1
             (λ q out. ap (λ (x : Store R). stores.members_of x q) same ∙ out)
@@ -749,7 +751,7 @@ module _ {S R : Type 0} (phase : phases.Ghosts S) (rack : Ghosts R) where
       false_of (is_lost (stores.members_of m) s) (λ lost. filling_live (stores.members_of m) s fell.q fell.low h.opening.sound.paired fell.filling lost) in
       let k = h.call.broken (inl refl) live in
       let all = usual a m s n marks before after (Ok Failed) b well h in
-      sized a b (Rebuild s n) FailedReply (λ rest V label size holds. (
+      sized a b (Rebuild s n) FailedReply (λ origin rest V label size holds. (
         next a m marks s after b all (passed_broken a m s marks before after b h.none all.opening k) rest V label size holds,
         next_in a m marks s after b all (passed_broken a m s marks before after b h.none all.opening k) rest V label size holds,
         (
@@ -763,7 +765,7 @@ module _ {S R : Type 0} (phase : phases.Ghosts S) (rack : Ghosts R) where
             rose = rose_before ((rack.counts (rack_of a)).faults fell.q) ((rack.counts (stores.rack_of m)).faults fell.q) ((rack.counts (rack_of b)).faults fell.q)
                 (h.opening.stays.stays.rise.faults fell.q) fell.rose;
           },
-          subst (λ (x : ℕ). BreaksOff (Tells rack b) (state_of phase rack a rest V) x (next a m marks s after b all (passed_broken a m s marks before after b h.none all.opening k) rest V label size holds))
+          subst (λ (x : ℕ). BreaksOff (Known (WasHeld origin) rack b) (state_of phase rack a rest V) x (next a m marks s after b all (passed_broken a m s marks before after b h.none all.opening k) rest V label size holds))
               (sym (own_place (shape_of a).b s h.boundary)) (breaks_off a m s marks before after b h.none all h.call.left k rest V label size holds),
         ),
         refl,
@@ -779,7 +781,7 @@ module _ {S R : Type 0} (phase : phases.Ghosts S) (rack : Ghosts R) where
 
   -- there is no such boundary
   pub steps_range : (a : Volume S R) (s n : ℕ) → IsWell phase rack a → (s < (shape_of a).b → ⊥) → StepsSized phase phase rack a (Rebuild s n) RangeReply a
-  steps_range a s n well past = sized a a (Rebuild s n) RangeReply (λ rest V label size holds. (
+  steps_range a s n well past = sized a a (Rebuild s n) RangeReply (λ origin rest V label size holds. (
     state_of phase rack a rest V,
     record { is = refl; label = label; holds = holds },
     (past, refl),

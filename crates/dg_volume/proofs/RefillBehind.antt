@@ -1,10 +1,10 @@
 -- What a refill leaves behind the opening of the seal.
-use Rattle.std.proofs.Common.{◌≡◌, ◌≢◌, ◌∙◌, ◌<◌, ◌++◌, ℕ, Bool, true, false, List, length, inl, inr, sym, ap, subst}
+use Rattle.std.proofs.Common.{◌≡◌, ◌∙◌, ◌<◌, ◌++◌, ℕ, Bool, true, false, List, length, inl, inr, sym, ap, subst}
 use Rattle.std.proofs.lemmas.Bool.{false≢true}
 use Rattle.dg_io.specs.declared.outside.Rack.{Ghosts}
 use Rattle.dg_label.specs.Seals.{KeepsArray}
 use Rattle.dg_model.proofs.MemberLaws.{falls_both, good_was, lost_stays, rose_after}
-use Rattle.dg_model.specs.Members.{IsRefilled, MembersFall, OthersFall, is_good, is_lost, partner_of}
+use Rattle.dg_model.specs.Members.{IsRefilled, MembersFall, OthersFall, is_lost, partner_of}
 use Rattle.dg_model.specs.Refills.{Reaps}
 use Rattle.dg_model.specs.States.{has_lost}
 use Rattle.dg_model.specs.Tables.{Table}

@@ -34,7 +34,7 @@ use Rattle.dg_volume.proofs.VolumeLaws.{IsBeside, Keeps, Labels, kept_state, lab
 use Rattle.dg_volume.proofs.VolumeSteps.{false_of}
 use Rattle.dg_volume.specs.Faults.{OutsStay, TellsFaults, faults_of}
 use Rattle.dg_volume.specs.Seals.{OpensWhere, Relabels}
-use Rattle.dg_volume.specs.Volumes.{IsWell, Leaves, StandsFor, StandsIn, StepsTo, Tells, marks_by, members_of, rack_of, shape_of, state_of, table_of}
+use Rattle.dg_volume.specs.Volumes.{IsWell, Known, Leaves, StandsFor, StandsIn, StepsTo, marks_by, members_of, rack_of, shape_of, state_of, table_of}
 use Rattle.dg_volume.specs.declared.phases.InPhase as phases
 use Rattle.dg_volume.specs.declared.volumes.Volume.{Volume}
 
@@ -439,8 +439,8 @@ module _ {S R : Type 0} (phase : phases.Ghosts S) (rack : Ghosts R) where
           counts = rack.counts (rack_is i);
         }
 
-    same_next : writes ≡ false → (rest : State) (V : List (List ℕ)) → StandsLabeled rack a.store a.label rest.label → (Tells rack a → StandsFor phase rack a V)
-        → StandsIn phase rack b (state_of phase rack b rest V)
+    same_next : {P : Type 0} → writes ≡ false → (rest : State) (V : List (List ℕ)) → StandsLabeled rack a.store a.label rest.label → (Known P rack a → StandsFor phase rack a V)
+        → StandsIn phase rack P b (state_of phase rack b rest V)
     same_next none rest V label holds =
         quiet_in phase rack a b rest V label replace_keeps (quiet_where none ∙ ap (λ (x : Store R). stores.rack_of x) (h.opening.quiet none).0) (h.opening.quiet none).1
         (λ q out. same_members none q ∙ out) (λ q fills. ap is_filling (sym (same_members none q)) ∙ fills) holds
@@ -491,7 +491,7 @@ module _ {S R : Type 0} (phase : phases.Ghosts S) (rack : Ghosts R) where
       → StepsTo phase phase rack a (Replace s j) Done b
   steps_replaced a s j writes m b well h =
       let opens = opened_where Replaced writes (λ e. cc e) (λ e. cc e) (found a s j Replaced writes m b h) in
-      steps_from phase rack a b (Replace s j) Done (λ rest V label holds. (
+      steps_from phase rack a b (Replace s j) Done (λ origin rest V label holds. (
         kept_state phase rack a b (replace_keeps a s j Replaced writes m b h) rest V,
         still_in phase rack a b rest V label (replace_keeps a s j Replaced writes m b h) holds,
         (
@@ -513,7 +513,7 @@ module _ {S R : Type 0} (phase : phases.Ghosts S) (rack : Ghosts R) where
   -- its boundary was lost before, or was lost by the opening of the seal
   steps_lost_by : (a : Volume S R) (s j : ℕ) (writes : Bool) (m : Store R) (b : Volume S R) (x : Bool) → writes ≡ x → HasReplaced a s j Lost writes m b
       → StepsTo phase phase rack a (Replace s j) (LostReply s) b
-  steps_lost_by a s j writes m b true opens h = steps_from phase rack a b (Replace s j) (LostReply s) (λ rest V label holds. (
+  steps_lost_by a s j writes m b true opens h = steps_from phase rack a b (Replace s j) (LostReply s) (λ origin rest V label holds. (
     kept_state phase rack a b (replace_keeps a s j Lost writes m b h) rest V,
     still_in phase rack a b rest V label (replace_keeps a s j Lost writes m b h) holds,
     (
@@ -532,7 +532,7 @@ module _ {S R : Type 0} (phase : phases.Ghosts S) (rack : Ghosts R) where
   ))
   steps_lost_by a s j writes m b false none h =
       let mid = (h.opening.quiet none).0 in
-      steps_from phase rack a b (Replace s j) (LostReply s) (λ rest V label holds. (
+      steps_from phase rack a b (Replace s j) (LostReply s) (λ origin rest V label holds. (
         state_of phase rack b rest V,
         same_next a s j Lost writes m b h none rest V label holds,
         (
@@ -553,7 +553,7 @@ module _ {S R : Type 0} (phase : phases.Ghosts S) (rack : Ghosts R) where
       let stood = h.not_out.0 refl in
       let none : writes ≡ false = false_of writes (λ opens. stood (mid_out a s j NotOut writes m b h (2 * s + j) (h.out opens))) in
       let mid = (h.opening.quiet none).0 in
-      steps_from phase rack a b (Replace s j) NotOutReply (λ rest V label holds. (
+      steps_from phase rack a b (Replace s j) NotOutReply (λ origin rest V label holds. (
         state_of phase rack b rest V,
         same_next a s j NotOut writes m b h none rest V label holds,
         (
@@ -567,7 +567,7 @@ module _ {S R : Type 0} (phase : phases.Ghosts S) (rack : Ghosts R) where
   pub steps_failed : (a : Volume S R) (s j : ℕ) (writes : Bool) (m : Store R) (b : Volume S R) → HasReplaced a s j Failed writes m b → StepsTo phase phase rack a (Replace s j) FailedReply b
   steps_failed a s j writes m b h =
       let opens = opened_where Failed writes (λ e. cc e) (λ e. cc e) (found a s j Failed writes m b h) in
-      steps_from phase rack a b (Replace s j) FailedReply (λ rest V label holds. (
+      steps_from phase rack a b (Replace s j) FailedReply (λ origin rest V label holds. (
         kept_state phase rack a b (replace_keeps a s j Failed writes m b h) rest V,
         still_in phase rack a b rest V label (replace_keeps a s j Failed writes m b h) holds,
         (

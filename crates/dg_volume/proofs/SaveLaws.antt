@@ -41,10 +41,11 @@ use Rattle.dg_volume.proofs.FaultLaws.{array_outs, array_tells}
 use Rattle.dg_volume.proofs.LabelLaws.{here_filling}
 use Rattle.dg_volume.proofs.LineLaws.{least_in}
 use Rattle.dg_volume.proofs.VolumeLaws.{lost_on}
+use Rattle.dg_volume.specs.Origins.{Origin, WasHeld}
 use Rattle.dg_volume.specs.Copies.{StepsHot}
 use Rattle.dg_volume.specs.Saves.{good_marks, save_reply, saved_by}
 use Rattle.dg_volume.specs.Settles as settles
-use Rattle.dg_volume.specs.Volumes.{FitsArray, IsInPlace, IsWell, Leaves, StandsFor, StandsIn, Tells, marks_of, shape_of, state_of, table_of}
+use Rattle.dg_volume.specs.Volumes.{FitsArray, IsInPlace, IsWell, Known, Leaves, StandsFor, StandsIn, marks_of, shape_of, state_of, table_of}
 use Rattle.dg_volume.specs.declared.phases.InPhase as phases
 use Rattle.dg_volume.specs.declared.volumes.Volume.{Volume}
 
@@ -183,8 +184,8 @@ module _ {S R : Type 0} (phase : phases.Ghosts S) (rack : Ghosts R) where
       same_rack = keeps.stays.stays.same_rack;
     }
 
-    told_before : Tells rack after → Tells rack a
-    told_before told q below = keeps.stays.stays.told_before q (told q (subst (λ (s : Shape). q / 2 < s.b) (sym shape) below))
+    told_before : {P : Type 0} → Known P rack after → Known P rack a
+    told_before known = (λ q below. keeps.stays.stays.told_before q (known.0 q (subst (λ (s : Shape). q / 2 < s.b) (sym shape) below)), known.1)
 
     passes : (rest : State) (V : List (List ℕ)) (next : Option LastLabel)
         → PassesSave (state_of phase rack a rest V) (record (state_of phase rack after rest V) { label = next })
@@ -198,8 +199,8 @@ module _ {S R : Type 0} (phase : phases.Ghosts S) (rack : Ghosts R) where
           out = array_outs rack a.store store keeps;
         }
 
-    still_stands : (rest : State) (V : List (List ℕ)) (next : Option LastLabel) → StandsLabeled rack store label next → (Tells rack a → StandsFor phase rack a V)
-        → StandsIn phase rack after (record (state_of phase rack after rest V) { label = next })
+    still_stands : {P : Type 0} → (rest : State) (V : List (List ℕ)) (next : Option LastLabel) → StandsLabeled rack store label next → (Known P rack a → StandsFor phase rack a V)
+        → StandsIn phase rack P after (record (state_of phase rack after rest V) { label = next })
     still_stands rest V next stands holds = record {
       is = refl;
       label = stands;
@@ -239,24 +240,25 @@ module _ {S R : Type 0} (phase : phases.Ghosts S) (rack : Ghosts R) where
     next_of (Some l) (Some k) is = ap (λ (n : ℕ). n + 1) (sym is.sequence)
 
     -- the state, with this rest and these blocks, in which a volume makes a step
-    abbrev Goes : State → List (List ℕ) → Reply → Type 0
-    Goes rest V reply =
-        (next : State) × StandsIn phase rack after next × Step (Tells rack after) (state_of phase rack a rest V) Save reply next × (next.recent ≡ rest.recent)
+    abbrev Goes : Type 0 → State → List (List ℕ) → Reply → Type 0
+    Goes P rest V reply =
+        (next : State) × StandsIn phase rack P after next × Step (Known P rack after) (state_of phase rack a rest V) Save reply next × (next.recent ≡ rest.recent)
 
     by_state : (hot : List ℕ) (reply : Reply)
-        → ((rest : State) (V : List (List ℕ)) → StandsLabeled rack a.store a.label rest.label → (Tells rack a → StandsFor phase rack a V) → rest.recent ≡ hot → Goes rest V reply)
+        → ((origin : Origin) (rest : State) (V : List (List ℕ)) → StandsLabeled rack a.store a.label rest.label
+        → (Known (WasHeld origin) rack a → StandsFor phase rack a V) → rest.recent ≡ hot → Goes (WasHeld origin) rest V reply)
         → StepsHot phase phase rack hot a Save reply after
-    by_state hot reply goes state st recent =
-        subst (λ (s : State). (next : State) × StandsIn phase rack after next × Step (Tells rack after) s Save reply next × (next.recent ≡ s.recent)) (sym st.is)
-        (goes state state.blocks st.label st.holds recent)
+    by_state hot reply goes origin state st recent =
+        subst (λ (s : State). (next : State) × StandsIn phase rack (WasHeld origin) after next × Step (Known (WasHeld origin) rack after) s Save reply next × (next.recent ≡ s.recent)) (sym st.is)
+        (goes origin state state.blocks st.label st.holds recent)
 
     saves : (hot body : List ℕ) (sequence : ℕ) → IsSound rack a.store → body ≡ body_of 2 (saved_by phase a hot)
         → AnswersSave rack body a.store store a.label label (Saved sequence) → StepsHot phase phase rack hot a Save (SavedReply sequence) after
     saves hot body sequence sound says answer = by_state hot (SavedReply sequence) goes
       where
-        goes : (rest : State) (V : List (List ℕ)) → StandsLabeled rack a.store a.label rest.label → (Tells rack a → StandsFor phase rack a V) → rest.recent ≡ hot
-            → Goes rest V (SavedReply sequence)
-        goes rest V stands holds recent =
+        goes : (origin : Origin) (rest : State) (V : List (List ℕ)) → StandsLabeled rack a.store a.label rest.label → (Known (WasHeld origin) rack a → StandsFor phase rack a V) → rest.recent ≡ hot
+            → Goes (WasHeld origin) rest V (SavedReply sequence)
+        goes origin rest V stands holds recent =
             let last : Option LastLabel = Some (saved_label store sequence body) in
             let said : body ≡ body_of 2 (saved_by phase a rest.recent) = says ∙ ap (λ (r : List ℕ). body_of 2 (saved_by phase a r)) (sym recent) in (
               record (state_of phase rack after rest V) { label = last },
@@ -335,9 +337,9 @@ module _ {S R : Type 0} (phase : phases.Ghosts S) (rack : Ghosts R) where
     saves_none : (hot body : List ℕ) (s : ℕ) → AnswersSave rack body a.store store a.label label (Lost s) → StepsHot phase phase rack hot a Save (LostReply s) after
     saves_none hot body s answer = by_state hot (LostReply s) goes
       where
-        goes : (rest : State) (V : List (List ℕ)) → StandsLabeled rack a.store a.label rest.label → (Tells rack a → StandsFor phase rack a V) → rest.recent ≡ hot
-            → Goes rest V (LostReply s)
-        goes rest V stands holds recent =
+        goes : (origin : Origin) (rest : State) (V : List (List ℕ)) → StandsLabeled rack a.store a.label rest.label → (Known (WasHeld origin) rack a → StandsFor phase rack a V) → rest.recent ≡ hot
+            → Goes (WasHeld origin) rest V (LostReply s)
+        goes origin rest V stands holds recent =
             let last : Option LastLabel = option_map forgotten rest.label in (
               record (state_of phase rack after rest V) { label = last },
               still_stands rest V last (forgets rest.label stands answer.2 answer.0) holds,

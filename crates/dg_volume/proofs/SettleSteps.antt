@@ -29,9 +29,10 @@ use Rattle.dg_volume.proofs.FewLaws.{few_homes}
 use Rattle.dg_volume.proofs.HomeLaws.{are_homes}
 use Rattle.dg_volume.proofs.MoveSteps.{HasRun, IsChecked, IsReady, settle_step, stands_moved, wants_right}
 use Rattle.dg_volume.proofs.PlacedLaws.{are_placed}
+use Rattle.dg_volume.specs.Origins.{WasHeld}
 use Rattle.dg_volume.specs.Planned.{HasPlan, IsPutInPlace}
 use Rattle.dg_volume.specs.Settles.{GoesBy}
-use Rattle.dg_volume.specs.Volumes.{AreWantsBy, FitsArray, IsInPlace, IsWell, Leaves, StandsFor, StepsTo, Tells, given_of, marks_by, members_of, rack_of, shape_of, state_of, table_of}
+use Rattle.dg_volume.specs.Volumes.{AreWantsBy, FitsArray, IsInPlace, IsWell, Known, Leaves, StandsFor, StepsTo, given_of, marks_by, members_of, rack_of, shape_of, state_of, table_of}
 use Rattle.dg_volume.specs.declared.phases.InPhase as phases
 use Rattle.dg_volume.specs.declared.volumes.Volume.{Volume}
 
@@ -111,7 +112,7 @@ module _ {S R : Type 0} (phase : phases.Ghosts S) (rack : Ghosts R) where
       pending_is = run.moves.pending;
       placed = in_place homes copies written (is.placed (none_left limit (missing_in (wants_of targets) (stores.table_of mid)) m l few is.met is.whole));
       stands = λ V told held. stands_moved phase rack a b V run.moves told held;
-      steps =
+      steps = λ origin.
           settle_step phase rack a kept targets mid b run ready check (homes ∙ run.plan.planned.same_homes) live
           (is.table ∙ ap (all_done (stores.table_of mid)) all)
           (λ none. still (no_limit limit (missing_in (wants_of targets) (stores.table_of mid)) none));
@@ -158,12 +159,12 @@ module _ {S T R : Type 0} (from : phases.Ghosts S) (to : phases.Ghosts T) (rack 
           subst (λ (k : Option KeptInference). IsInPlace (table_of b) k b.homes b.copies) (sym (ap from.kept put.phase_is) ∙ sym is.kept_is) put.placed;
     }
 
-    told_first : Tells rack b → Tells rack a
-    told_first told q below = left.told_before q (told q (subst (λ (s : Shape). q / 2 < s.b) (sym left.shape) below))
+    told_first : {P : Type 0} → Known P rack b → Known P rack a
+    told_first known = (λ q below. left.told_before q (known.0 q (subst (λ (s : Shape). q / 2 < s.b) (sym left.shape) below)), known.1)
 
-    settled_stands : (V : List (List ℕ)) → (Tells rack a → StandsFor from rack a V) → Tells rack b → StandsFor to rack (in_phase b phase) V
+    settled_stands : {P : Type 0} → (V : List (List ℕ)) → (Known P rack a → StandsFor from rack a V) → Known P rack b → StandsFor to rack (in_phase b phase) V
     settled_stands V holds told =
-        let held = put.stands V told (holds (told_first told)) in
+        let held = put.stands V (told.0) (holds (told_first told)) in
         record { array = held.array; inferred = subst (λ (k : Option KeptInference). IfSome k (λ kept. inferences.StandsFor kept V)) (sym is.kept_is) held.inferred }
 
     -- the rest of a state, with this label
@@ -187,14 +188,14 @@ module _ {S T R : Type 0} (from : phases.Ghosts S) (to : phases.Ghosts T) (rack 
     }
 
     settled_steps : StepsTo from to rack a Settle SettledReply (in_phase b phase)
-    settled_steps state st =
-        let led = put.steps state state.blocks st.label st.holds in
+    settled_steps origin state st =
+        let led = put.steps origin state state.blocks st.label st.holds in
         let next = state_of to rack (in_phase b phase) (labeled_so state led.0) state.blocks in
         let step =
-        subst (λ (x : State). Step (Tells rack b) (state_of from rack a state state.blocks) Settle SettledReply x) (settled_state state led.0 state.blocks) led.2 in (
+        subst (λ (x : State). Step (Known (WasHeld origin) rack b) (state_of from rack a state state.blocks) Settle SettledReply x) (settled_state state led.0 state.blocks) led.2 in (
           next,
           record { is = refl; label = led.1; holds = settled_stands state.blocks st.holds },
-          subst (λ (x : State). Step (Tells rack b) x Settle SettledReply next) (sym st.is) step,
+          subst (λ (x : State). Step (Known (WasHeld origin) rack b) x Settle SettledReply next) (sym st.is) step,
           refl,
         )
 

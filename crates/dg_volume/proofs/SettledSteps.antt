@@ -64,7 +64,7 @@ module _ {S R : Type 0} (phase : phases.Ghosts S) (rack : Ghosts R) where
 
   tree_refused : (refusal : PathRefusal) (a b : Volume S R) → phase.phase a.phase ≡ SettledPhase → HasRead phase rack a b → Walks a b (Some (Err refusal))
       → StepsTo phase phase rack a Tree (Refused refusal) b
-  tree_refused refusal a b settled h reads = steps_from phase rack a b Tree (Refused refusal) (λ rest V label holds. (
+  tree_refused refusal a b settled h reads = steps_from phase rack a b Tree (Refused refusal) (λ origin rest V label holds. (
     read_state phase rack a b h rest V,
     reads_in phase rack a b rest V label h holds,
     (
@@ -77,7 +77,7 @@ module _ {S R : Type 0} (phase : phases.Ghosts S) (rack : Ghosts R) where
 
   tree_lost : (a b : Volume S R) → phase.phase a.phase ≡ SettledPhase → HasRead phase rack a b → Walks a b None → LosesBlock phase rack b
       → StepsTo phase phase rack a Tree ReplyUnavailable b
-  tree_lost a b settled h reads gone = steps_from phase rack a b Tree ReplyUnavailable (λ rest V label holds. (
+  tree_lost a b settled h reads gone = steps_from phase rack a b Tree ReplyUnavailable (λ origin rest V label holds. (
     read_state phase rack a b h rest V,
     reads_in phase rack a b rest V label h holds,
     (
@@ -90,7 +90,7 @@ module _ {S R : Type 0} (phase : phases.Ghosts S) (rack : Ghosts R) where
 
   tree_steps : (entries : List Listed) (a b : Volume S R) → phase.phase a.phase ≡ SettledPhase → HasRead phase rack a b → Walks a b (Some (Ok entries))
       → StepsTo phase phase rack a Tree (Nodes entries) b
-  tree_steps entries a b settled h reads = steps_from phase rack a b Tree (Nodes entries) (λ rest V label holds. (
+  tree_steps entries a b settled h reads = steps_from phase rack a b Tree (Nodes entries) (λ origin rest V label holds. (
     read_state phase rack a b h rest V,
     reads_in phase rack a b rest V label h holds,
     (
@@ -103,7 +103,7 @@ module _ {S R : Type 0} (phase : phases.Ghosts S) (rack : Ghosts R) where
 
   tree_cut : (entries more : List Listed) (a b : Volume S R) → phase.phase a.phase ≡ SettledPhase → HasRead phase rack a b → Walks a b (Some (Ok (entries ++ more)))
       → Walks a b None → StepsTo phase phase rack a Tree (NodesCut entries) b
-  tree_cut entries more a b settled h reads lost = steps_from phase rack a b Tree (NodesCut entries) (λ rest V label holds. (
+  tree_cut entries more a b settled h reads lost = steps_from phase rack a b Tree (NodesCut entries) (λ origin rest V label holds. (
     read_state phase rack a b h rest V,
     reads_in phase rack a b rest V label h holds,
     (
@@ -150,7 +150,7 @@ module _ {S R : Type 0} (phase : phases.Ghosts S) (rack : Ghosts R) where
 
   home_refused : (path : List ℕ) (refusal : PathRefusal) (a b : Volume S R) → phase.phase a.phase ≡ SettledPhase → HasRead phase rack a b → Finds path a b (Some (Err refusal))
       → StepsTo phase phase rack a (Home path) (Refused refusal) b
-  home_refused path refusal a b settled h reads = steps_from phase rack a b (Home path) (Refused refusal) (λ rest V label holds. (
+  home_refused path refusal a b settled h reads = steps_from phase rack a b (Home path) (Refused refusal) (λ origin rest V label holds. (
     read_state phase rack a b h rest V,
     reads_in phase rack a b rest V label h holds,
     (
@@ -163,7 +163,7 @@ module _ {S R : Type 0} (phase : phases.Ghosts S) (rack : Ghosts R) where
 
   home_lost : (path : List ℕ) (a b : Volume S R) → phase.phase a.phase ≡ SettledPhase → HasRead phase rack a b → Finds path a b None → LosesBlock phase rack b
       → StepsTo phase phase rack a (Home path) ReplyUnavailable b
-  home_lost path a b settled h reads gone = steps_from phase rack a b (Home path) ReplyUnavailable (λ rest V label holds. (
+  home_lost path a b settled h reads gone = steps_from phase rack a b (Home path) ReplyUnavailable (λ origin rest V label holds. (
     read_state phase rack a b h rest V,
     reads_in phase rack a b rest V label h holds,
     (
@@ -188,7 +188,7 @@ module _ {S R : Type 0} (phase : phases.Ghosts S) (rack : Ghosts R) where
   home_by : (path : List ℕ) (i : ℕ) (home : Option ℕ) (a b : Volume S R) → phase.phase a.phase ≡ SettledPhase → HasRead phase rack a b → Finds path a b (Some (Ok i))
       → AreHomes (shape_of a) a.homes → AreHomes (shape_of a) a.copies → home_of a.homes i ≡ home
       → StepsTo phase phase rack a (Home path) (home_reply (answer_for home (home_of a.copies i))) b
-  home_by path i (Some s) a b settled h reads homes copies is = steps_from phase rack a b (Home path) (HomeAt s (home_of a.copies i)) (λ rest V label holds. (
+  home_by path i (Some s) a b settled h reads homes copies is = steps_from phase rack a b (Home path) (HomeAt s (home_of a.copies i)) (λ origin rest V label holds. (
     read_state phase rack a b h rest V,
     reads_in phase rack a b rest V label h holds,
     (
@@ -198,7 +198,7 @@ module _ {S R : Type 0} (phase : phases.Ghosts S) (rack : Ghosts R) where
     ),
     refl,
   ))
-  home_by path i None a b settled h reads homes copies is = steps_from phase rack a b (Home path) NoHome (λ rest V label holds. (
+  home_by path i None a b settled h reads homes copies is = steps_from phase rack a b (Home path) NoHome (λ origin rest V label holds. (
     read_state phase rack a b h rest V,
     reads_in phase rack a b rest V label h holds,
     (

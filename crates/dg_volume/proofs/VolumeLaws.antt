@@ -28,9 +28,10 @@ use Rattle.dg_store.specs.Stores.{IsSound, KeepsBlocks}
 use Rattle.dg_store.specs.Views.{ReadsOn}
 use Rattle.dg_volume.proofs.FaultLaws.{keeps_outs, keeps_tells}
 use Rattle.dg_volume.proofs.LabelLaws.{keeps_label, relabels_read, stands_same}
+use Rattle.dg_volume.specs.Origins.{Origin, WasHeld}
 use Rattle.dg_volume.specs.Faults.{OutsStay, TellsFaults}
 use Rattle.dg_volume.specs.Seals.{Relabels}
-use Rattle.dg_volume.specs.Volumes.{FitsArray, IsInPlace, IsWell, Leaves, StandsFor, StandsIn, StepsBy, StepsTo, Tells, marks_by, marks_of, members_of, rack_of, shape_of, state_of, table_of}
+use Rattle.dg_volume.specs.Volumes.{FitsArray, IsInPlace, IsWell, Known, Leaves, StandsFor, StandsIn, StepsBy, StepsTo, marks_by, marks_of, members_of, rack_of, shape_of, state_of, table_of}
 use Rattle.dg_volume.specs.declared.phases.InPhase as phases
 use Rattle.dg_volume.specs.declared.volumes.Volume.{Volume}
 
@@ -134,27 +135,29 @@ module _ {S R : Type 0} (phase : phases.Ghosts S) (rack : Ghosts R) where
   -- ---- states
 
   -- a state of the volume, and a step to it from the state with this rest and these blocks that another was in
-  abbrev pub StepsAt : (List ℕ → List ℕ) → Volume S R → State → List (List ℕ) → Event → Reply → Volume S R → Type 0
-  StepsAt touch a rest V event reply b =
-      (next : State) × StandsIn phase rack b next × Step (Tells rack b) (state_of phase rack a rest V) event reply next × (next.recent ≡ touch rest.recent)
+  abbrev pub StepsAt : Type 0 → (List ℕ → List ℕ) → Volume S R → State → List (List ℕ) → Event → Reply → Volume S R → Type 0
+  StepsAt P touch a rest V event reply b =
+      (next : State) × StandsIn phase rack P b next × Step (Known P rack b) (state_of phase rack a rest V) event reply next × (next.recent ≡ touch rest.recent)
 
   -- the same of all such states
   abbrev pub StepsFrom : Volume S R → Event → Reply → Volume S R → Type 0
-  StepsFrom a event reply b = (rest : State) (V : List (List ℕ)) → StandsLabeled rack a.store a.label rest.label → (Tells rack a → StandsFor phase rack a V) → StepsAt (λ recent. recent) a rest V event reply b
+  StepsFrom a event reply b = (origin : Origin) (rest : State) (V : List (List ℕ)) → StandsLabeled rack a.store a.label rest.label
+      → (Known (WasHeld origin) rack a → StandsFor phase rack a V) → StepsAt (WasHeld origin) (λ recent. recent) a rest V event reply b
 
   pub steps_by : (touch : List ℕ → List ℕ) (a b : Volume S R) (event : Event) (reply : Reply)
-      → ((rest : State) (V : List (List ℕ)) → StandsLabeled rack a.store a.label rest.label → (Tells rack a → StandsFor phase rack a V) → StepsAt touch a rest V event reply b)
+      → ((origin : Origin) (rest : State) (V : List (List ℕ)) → StandsLabeled rack a.store a.label rest.label
+      → (Known (WasHeld origin) rack a → StandsFor phase rack a V) → StepsAt (WasHeld origin) touch a rest V event reply b)
       → StepsBy phase phase rack touch a event reply b
-  steps_by touch a b event reply h state st =
-      subst (λ (s : State). (next : State) × StandsIn phase rack b next × Step (Tells rack b) s event reply next × (next.recent ≡ touch s.recent)) (sym st.is)
-      (h state state.blocks st.label st.holds)
+  steps_by touch a b event reply h origin state st =
+      subst (λ (s : State). (next : State) × StandsIn phase rack (WasHeld origin) b next × Step (Known (WasHeld origin) rack b) s event reply next × (next.recent ≡ touch s.recent))
+      (sym st.is) (h origin state state.blocks st.label st.holds)
 
   pub steps_from : (a b : Volume S R) (event : Event) (reply : Reply) → StepsFrom a event reply b → StepsTo phase phase rack a event reply b
   steps_from a b event reply h = steps_by (λ recent. recent) a b event reply h
 
   -- what is told in the end was told before
-  pub told_before : (a b : Volume S R) → Keeps a b → Tells rack b → Tells rack a
-  told_before a b keeps told q below = keeps.told_before q (told q (subst (λ (s : Shape). q / 2 < s.b) (sym (shape_kept a b keeps)) below))
+  pub told_before : {P : Type 0} → (a b : Volume S R) → Keeps a b → Known P rack b → Known P rack a
+  told_before a b keeps known = (λ q below. keeps.told_before q (known.0 q (subst (λ (s : Shape). q / 2 < s.b) (sym (shape_kept a b keeps)) below)), known.1)
 
   pub holds_on : (a b : Volume S R) (V : List (List ℕ)) → Keeps a b → StandsFor phase rack a V → StandsFor phase rack b V
   holds_on a b V keeps holds = record {
@@ -166,8 +169,8 @@ module _ {S R : Type 0} (phase : phases.Ghosts S) (rack : Ghosts R) where
   abbrev pub kept_state : (a b : Volume S R) → Keeps a b → State → List (List ℕ) → State
   kept_state a b keeps rest V = state_of phase rack b (on_label a b keeps.labels.opens rest) V
 
-  pub still_in : (a b : Volume S R) (rest : State) (V : List (List ℕ)) → StandsLabeled rack a.store a.label rest.label → (keeps : Keeps a b)
-      → (Tells rack a → StandsFor phase rack a V) → StandsIn phase rack b (kept_state a b keeps rest V)
+  pub still_in : {P : Type 0} → (a b : Volume S R) (rest : State) (V : List (List ℕ)) → StandsLabeled rack a.store a.label rest.label → (keeps : Keeps a b)
+      → (Known P rack a → StandsFor phase rack a V) → StandsIn phase rack P b (kept_state a b keeps rest V)
   still_in a b rest V label keeps holds = record {
     is = refl;
     label = keeps.labels.stands rest.label label;
@@ -175,14 +178,14 @@ module _ {S R : Type 0} (phase : phases.Ghosts S) (rack : Ghosts R) where
   }
 
   -- nothing was done: it is in the state that it was in
-  pub same_in : (a : Volume S R) (rest : State) (V : List (List ℕ)) → StandsLabeled rack a.store a.label rest.label → (Tells rack a → StandsFor phase rack a V)
-      → StandsIn phase rack a (state_of phase rack a rest V)
+  pub same_in : {P : Type 0} → (a : Volume S R) (rest : State) (V : List (List ℕ)) → StandsLabeled rack a.store a.label rest.label → (Known P rack a → StandsFor phase rack a V)
+      → StandsIn phase rack P a (state_of phase rack a rest V)
   same_in a rest V label holds = record { is = refl; label = label; holds = holds }
 
   -- no call was made on its rack: it is in the state with the same label
-  pub quiet_in : (a b : Volume S R) (rest : State) (V : List (List ℕ)) → StandsLabeled rack a.store a.label rest.label → Keeps a b → rack_of b ≡ rack_of a → b.label ≡ a.label
+  pub quiet_in : {P : Type 0} → (a b : Volume S R) (rest : State) (V : List (List ℕ)) → StandsLabeled rack a.store a.label rest.label → Keeps a b → rack_of b ≡ rack_of a → b.label ≡ a.label
       → ((q : ℕ) → members_of a q ≡ Out → members_of b q ≡ Out) → ((q : ℕ) → is_filling (members_of b q) ≡ true → is_filling (members_of a q) ≡ true)
-      → (Tells rack a → StandsFor phase rack a V) → StandsIn phase rack b (state_of phase rack b rest V)
+      → (Known P rack a → StandsFor phase rack a V) → StandsIn phase rack P b (state_of phase rack b rest V)
   quiet_in a b rest V label keeps same label_is outs fills holds = record {
     is = refl;
     label =
@@ -256,8 +259,8 @@ module _ {S R : Type 0} (phase : phases.Ghosts S) (rack : Ghosts R) where
       → Stays (state_of phase rack a rest V) (read_state a b h rest V)
   reads_stay a b rest V label h = stays a b rest V label (read_keeps a b h) h.reads.keeps.stays.rise h.reads.keeps.falls (keeps_outs rack a.store b.store h.reads.keeps)
 
-  pub reads_in : (a b : Volume S R) (rest : State) (V : List (List ℕ)) → StandsLabeled rack a.store a.label rest.label → (h : HasRead a b)
-      → (Tells rack a → StandsFor phase rack a V) → StandsIn phase rack b (read_state a b h rest V)
+  pub reads_in : {P : Type 0} → (a b : Volume S R) (rest : State) (V : List (List ℕ)) → StandsLabeled rack a.store a.label rest.label → (h : HasRead a b)
+      → (Known P rack a → StandsFor phase rack a V) → StandsIn phase rack P b (read_state a b h rest V)
   reads_in a b rest V label h holds = still_in a b rest V label (read_keeps a b h) holds
 
   pub reads_leave : (a b : Volume S R) → IsWell phase rack a → HasRead a b → Leaves phase phase rack a b

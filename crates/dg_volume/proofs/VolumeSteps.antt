@@ -1,7 +1,7 @@
 -- A volume makes a step by a read of a block, and by a failure of a member.
-use Rattle.std.proofs.Common.{◌≡◌, ◌≢◌, ◌∙◌, ◌<◌, ◌+◌, ◌*◌, ◌/◌, ℕ, Bool, true, false, List, length, refl, sym, ap, subst, arith, inl, inr}
+use Rattle.std.proofs.Common.{◌≡◌, ◌≢◌, ◌∙◌, ◌<◌, ◌+◌, ◌*◌, ℕ, Bool, true, false, List, length, refl, sym, ap, subst, inl, inr}
 use Rattle.std.specs.Prelude.{[], Option, replicate}
-use Rattle.std.proofs.lemmas.Bool.{cases_eq, cases_lt, false≢true}
+use Rattle.std.proofs.lemmas.Bool.{cases_eq, false≢true}
 use Rattle.dg_io.specs.Told.{StillTold}
 use Rattle.dg_io.specs.declared.outside.Rack.{Ghosts}
 use Rattle.dg_label.specs.Labels.{IsLabeled}
@@ -29,7 +29,7 @@ use Rattle.dg_volume.proofs.LineLaws.{gone_at, own_member}
 use Rattle.dg_volume.proofs.LabelLaws.{none_opens, quiet_opens, relabels_none, relabels_quiet}
 use Rattle.dg_volume.proofs.VolumeLaws.{HasRead, IsBeside, Keeps, Labels, kept_state, leaves, quiet_in, read_keeps, read_state, reads_in, reads_stay, steps_from, still_in, told_before}
 use Rattle.dg_volume.specs.Seals.{Relabels}
-use Rattle.dg_volume.specs.Volumes.{IsWell, Leaves, StepsTo, Tells, marks_by, members_of, rack_of, shape_of, state_of, table_of}
+use Rattle.dg_volume.specs.Volumes.{IsWell, Leaves, StepsTo, marks_by, members_of, rack_of, shape_of, state_of, table_of}
 use Rattle.dg_volume.specs.declared.phases.InPhase as phases
 use Rattle.dg_volume.specs.declared.volumes.Volume.{Volume}
 
@@ -79,7 +79,7 @@ module _ {S R : Type 0} (phase : phases.Ghosts S) (rack : Ghosts R) where
   pub steps_data : (a : Volume S R) (block : ℕ) (bytes value : List ℕ) (b : Volume S R) → HasReadBlock a block b → is_gone (table_of b) (members_of b) block ≡ false
       → IsTrimmed bytes value → (stores.Tells rack b.store → HasBlock rack a.store block value)
       → (has_site (sites_in (table_of a) block) ≡ false → value ≡ zeros (shape_of a).l) → StepsTo phase phase rack a (Read block) (Data bytes) b
-  steps_data a block bytes value b h here trimmed got blank = steps_from phase rack a b (Read block) (Data bytes) (λ rest V label holds. (
+  steps_data a block bytes value b h here trimmed got blank = steps_from phase rack a b (Read block) (Data bytes) (λ origin rest V label holds. (
     read_state phase rack a b h.read rest V,
     reads_in phase rack a b rest V label h.read holds,
     (
@@ -87,7 +87,7 @@ module _ {S R : Type 0} (phase : phases.Ghosts S) (rack : Ghosts R) where
       gone_at (shape_of b).n (is_gone (table_of b) (members_of b) block) block ∙ here,
       λ told.
           let held = holds (told_before phase rack a b (read_keeps phase rack a b h.read) told) in
-          subst (λ (x : List ℕ). IsTrimmed bytes x) (got (tells_good rack b.store h.read.sound told) V held.array) trimmed,
+          subst (λ (x : List ℕ). IsTrimmed bytes x) (got (tells_good rack b.store h.read.sound (told.0)) V held.array) trimmed,
       λ none. trimmed_written (shape_of a).l bytes value [] trimmed (blank none ∙ zeros_padded (shape_of a).l),
       few a block b rest V h,
       reads_stay phase rack a b rest V label h.read,
@@ -97,7 +97,7 @@ module _ {S R : Type 0} (phase : phases.Ghosts S) (rack : Ghosts R) where
 
   pub steps_gone : (a : Volume S R) (block : ℕ) (b : Volume S R) → HasReadBlock a block b → is_gone (table_of b) (members_of b) block ≡ true
       → StepsTo phase phase rack a (Read block) Unavailable b
-  steps_gone a block b h gone = steps_from phase rack a b (Read block) Unavailable (λ rest V label holds. (
+  steps_gone a block b h gone = steps_from phase rack a b (Read block) Unavailable (λ origin rest V label holds. (
     read_state phase rack a b h.read rest V,
     reads_in phase rack a b rest V label h.read holds,
     (
@@ -160,7 +160,7 @@ module _ {S R : Type 0} (phase : phases.Ghosts S) (rack : Ghosts R) where
   fail_leaves a s j b well h = leaves phase rack a b well (fail_keeps a s j b h)
 
   pub steps_struck : (a : Volume S R) (s j : ℕ) (b : Volume S R) → HasFailed a s j b → members_of a (2 * s + j) ≢ Out → StepsTo phase phase rack a (Fail s j) Done b
-  steps_struck a s j b h stood = steps_from phase rack a b (Fail s j) Done (λ rest V label holds. (
+  steps_struck a s j b h stood = steps_from phase rack a b (Fail s j) Done (λ origin rest V label holds. (
     kept_state phase rack a b (fail_keeps a s j b h) rest V,
     still_in phase rack a b rest V label (fail_keeps a s j b h) holds,
     (
@@ -193,7 +193,7 @@ module _ {S R : Type 0} (phase : phases.Ghosts S) (rack : Ghosts R) where
       → StepsTo phase phase rack a (Fail s j) Already b
   steps_already a s j b h sound out =
       let same = struck_same (2 * s + j) (members_of a) (members_of b) sound.paired out h.struck in
-      steps_from phase rack a b (Fail s j) Already (λ rest V label holds. (
+      steps_from phase rack a b (Fail s j) Already (λ origin rest V label holds. (
         state_of phase rack b rest V,
         quiet_in phase rack a b rest V label (fail_keeps a s j b h) h.rack_is h.label_is (λ q was. same q ∙ was) (λ q fills. ap is_filling (sym (same q)) ∙ fills) holds,
         (

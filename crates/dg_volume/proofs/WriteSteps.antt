@@ -47,9 +47,10 @@ use Rattle.dg_volume.proofs.LabelLaws.{relabels_none, relabels_then, slots_kept}
 use Rattle.dg_volume.proofs.LineLaws.{none_set}
 use Rattle.dg_volume.proofs.MoveSteps.{loose_not_settled, loose_not_worn}
 use Rattle.dg_volume.proofs.VolumeLaws.{IsBeside, Keeps, Labels, kept_state, label_by, leaves, lost_on, on_label, same_in, stays, steps_from, still_in}
+use Rattle.dg_volume.specs.Origins.{WasHeld}
 use Rattle.dg_volume.specs.Faults.{OutsStay, TellsFaults}
 use Rattle.dg_volume.specs.Seals.{FallsOn, HasStoredBlock, Relabels, opening_calls}
-use Rattle.dg_volume.specs.Volumes.{FitsArray, IsWell, Leaves, StandsFor, StandsIn, Tells, given_of, marks_by, marks_of, members_of, rack_of, shape_of, state_of, table_of}
+use Rattle.dg_volume.specs.Volumes.{FitsArray, IsWell, Known, Leaves, StandsFor, StandsIn, Tells, given_of, marks_by, marks_of, members_of, rack_of, shape_of, state_of, table_of}
 use Rattle.dg_volume.specs.Writes.{IsFollowed, RereadsFew, WritesTo}
 use Rattle.dg_volume.specs.declared.phases.InPhase as phases
 use Rattle.dg_volume.specs.declared.volumes.Volume.{Volume}
@@ -272,9 +273,12 @@ module _ {S T R : Type 0} (from : phases.Ghosts S) (to : phases.Ghosts T) (rack 
   tells_on : (a : Volume S R) (b : ℕ) (block : List ℕ) (m new : Store R) → HasStored a b block m new → StillTold (rack.bytes (rack_of a)) (rack.bytes (stores.rack_of new))
   tells_on a b block m new h q told = h.first.stays.stays.tells q (h.reads.keeps.stays.tells q told)
 
-  told_first : (a : Volume S R) (b : ℕ) (block : List ℕ) (m new : Store R) → HasStored a b block m new → stores.TellsAll rack new → Tells rack a
-  told_first a b block m new h told q below =
-      h.first.stays.stays.told_before q (h.reads.keeps.stays.told_before q (told q (subst (λ (s : Shape). q / 2 < s.b) (sym (shape_on a b block m new h)) below)))
+  told_first : {P : Type 0} → (a : Volume S R) (b : ℕ) (block : List ℕ) (m new : Store R) → HasStored a b block m new → stores.TellsAll rack new × P → Known P rack a
+  told_first a b block m new h known = (
+    λ q below.
+        h.first.stays.stays.told_before q (h.reads.keeps.stays.told_before q (known.0 q (subst (λ (s : Shape). q / 2 < s.b) (sym (shape_on a b block m new h)) below))),
+    known.1,
+  )
 
   pub written_leaves : (a : Volume S R) (b : ℕ) (block : List ℕ) (m : Store R) (c : Volume T R) → IsWell from rack a → HasWritten a b block m c → Leaves from to rack a c
   written_leaves a b block m c well h =
@@ -302,10 +306,10 @@ module _ {S T R : Type 0} (from : phases.Ghosts S) (to : phases.Ghosts T) (rack 
   abbrev written_state : (a : Volume S R) (b : ℕ) (block : List ℕ) (m : Store R) (c : Volume T R) → HasWritten a b block m c → State → List (List ℕ) → State
   written_state a b block m c h rest W = state_of to rack c (on_label a c h.labels.opens rest) W
 
-  writes_few : (a : Volume S R) (b : ℕ) (block : List ℕ) (m : Store R) (c : Volume T R) (rest : State) (V : List (List ℕ)) → StandsLabeled rack a.store a.label rest.label → (h : HasWritten a b block m c)
-      → (Tells rack a → StandsFor from rack a V) → WritesFew (Tells rack c) (state_of from rack a rest V) b (written_state a b block m c h rest (slice_set V b block))
-  writes_few a b block m c rest V label h holds =
-      let over : Tells rack c → IsOver a c V = λ told. record { tells = told; held = holds (told_first a b block m c.store h.array told) } in
+  writes_few : {P : Type 0} → (a : Volume S R) (b : ℕ) (block : List ℕ) (m : Store R) (c : Volume T R) (rest : State) (V : List (List ℕ)) → StandsLabeled rack a.store a.label rest.label → (h : HasWritten a b block m c)
+      → (Known P rack a → StandsFor from rack a V) → WritesFew (Known P rack c) (state_of from rack a rest V) b (written_state a b block m c h rest (slice_set V b block))
+  writes_few {P = p} a b block m c rest V label h holds =
+      let over : Known p rack c → IsOver a c V = λ told. record { tells = told.0; held = holds (told_first a b block m c.store h.array told) } in
       let few = h.few V in
       record {
         rereads = record {
@@ -321,20 +325,20 @@ module _ {S T R : Type 0} (from : phases.Ghosts S) (to : phases.Ghosts T) (rack 
             (2 * max 1 (length (sites_in (table_of a) b))) (count_read few.rereads) (few.most none);
       }
 
-  stands_after : (a : Volume S R) (b : ℕ) (block : List ℕ) (m : Store R) (c : Volume T R) (rest : State) (V : List (List ℕ)) → StandsLabeled rack a.store a.label rest.label → (h : HasWritten a b block m c)
-      → (Tells rack a → StandsFor from rack a V) → StandsIn to rack c (written_state a b block m c h rest (slice_set V b block))
+  stands_after : {P : Type 0} → (a : Volume S R) (b : ℕ) (block : List ℕ) (m : Store R) (c : Volume T R) (rest : State) (V : List (List ℕ)) → StandsLabeled rack a.store a.label rest.label → (h : HasWritten a b block m c)
+      → (Known P rack a → StandsFor from rack a V) → StandsIn to rack P c (written_state a b block m c h rest (slice_set V b block))
   stands_after a b block m c rest V label h holds = record {
     is = refl;
     label = h.labels.stands rest.label label;
     holds = λ told.
         let held = holds (told_first a b block m c.store h.array told) in
-        record { array = h.array.stands (slice_set V b block) (h.array.stored.sets V held.array); inferred = h.inferred V (record { tells = told; held = held }) };
+        record { array = h.array.stands (slice_set V b block) (h.array.stored.sets V held.array); inferred = h.inferred V (record { tells = told.0; held = held }) };
   }
 
-  written_step : (a : Volume S R) (b : ℕ) (bytes : List ℕ) (m : Store R) (c : Volume T R) (rest : State) (V : List (List ℕ)) → StandsLabeled rack a.store a.label rest.label
-      → (h : HasWritten a b (padded (shape_of a).l bytes) m c) → (Tells rack a → StandsFor from rack a V)
-      → Step (Tells rack c) (state_of from rack a rest V) (Write b bytes) Done (written_state a b (padded (shape_of a).l bytes) m c h rest (slice_set V b (padded (shape_of a).l bytes)))
-  written_step a b bytes m c rest V label h holds =
+  written_step : {P : Type 0} → (a : Volume S R) (b : ℕ) (bytes : List ℕ) (m : Store R) (c : Volume T R) (rest : State) (V : List (List ℕ)) → StandsLabeled rack a.store a.label rest.label
+      → (h : HasWritten a b (padded (shape_of a).l bytes) m c) → (Known P rack a → StandsFor from rack a V)
+      → Step (Known P rack c) (state_of from rack a rest V) (Write b bytes) Done (written_state a b (padded (shape_of a).l bytes) m c h rest (slice_set V b (padded (shape_of a).l bytes)))
+  written_step {P = p} a b bytes m c rest V label h holds =
       let block = padded (shape_of a).l bytes in
       let W = slice_set V b block in
       let array = h.array in
@@ -357,8 +361,8 @@ module _ {S T R : Type 0} (from : phases.Ghosts S) (to : phases.Ghosts T) (rack 
           };
           sited = subst (λ (t : Table). IsSited (table_of a) b t) (sym array.reads.table) array.stored.sited;
           few = writes_few a b block m c rest V label h holds;
-          marks = next_along (has_lost (shape_of c) (members_of c)) (Tells rack c) (IsOver a c V) (shape_of a).l (shape_of a).n W (with_mark (marks_of from a) b) (marks_of to c)
-              (λ told. record { tells = told; held = holds (told_first a b block m c.store array told) }) (h.marks V);
+          marks = next_along (has_lost (shape_of c) (members_of c)) (Known p rack c) (IsOver a c V) (shape_of a).l (shape_of a).n W (with_mark (marks_of from a) b) (marks_of to c)
+              (λ told. record { tells = told.0; held = holds (told_first a b block m c.store array told) }) (h.marks V);
           rest = λ i. record (on_label a c h.labels.opens rest) {
             boundaries = (shape i).b;
             live = all_live (shape i).b;
@@ -380,10 +384,10 @@ module _ {S T R : Type 0} (from : phases.Ghosts S) (to : phases.Ghosts T) (rack 
   written_to a b block m c well given h = record {
     leaves = written_leaves a b block m c well h;
     given_is = given;
-    steps = λ bytes is state st.
+    steps = λ bytes is origin state st.
         let wrote : HasWritten a b (padded (shape_of a).l bytes) m c = subst (λ (x : List ℕ). HasWritten a b x m c) is h in
         let W = slice_set state.blocks b (padded (shape_of a).l bytes) in
-        subst (λ (s : State). (next : State) × StandsIn to rack c next × Step (Tells rack c) s (Write b bytes) Done next × (next.recent ≡ s.recent)) (sym st.is) (
+        subst (λ (s : State). (next : State) × StandsIn to rack (WasHeld origin) c next × Step (Known (WasHeld origin) rack c) s (Write b bytes) Done next × (next.recent ≡ s.recent)) (sym st.is) (
           written_state a b (padded (shape_of a).l bytes) m c wrote state W,
           stands_after a b (padded (shape_of a).l bytes) m c state state.blocks st.label wrote st.holds,
           written_step a b bytes m c state state.blocks st.label wrote st.holds,
@@ -529,7 +533,7 @@ module _ {S R : Type 0} (phase : phases.Ghosts S) (rack : Ghosts R) where
   past_end a b block well past = record {
     leaves = leaves phase rack a a well (unmoved a well.array well.labeled);
     given_is = refl;
-    steps = λ bytes is. steps_from phase rack a a (Write b bytes) Range (λ rest V label holds. (
+    steps = λ bytes is. steps_from phase rack a a (Write b bytes) Range (λ origin rest V label holds. (
       state_of phase rack a rest V,
       same_in phase rack a rest V label holds,
       (past, refl),
@@ -543,7 +547,7 @@ module _ {S R : Type 0} (phase : phases.Ghosts S) (rack : Ghosts R) where
   lost_before a b block well within lost = record {
     leaves = leaves phase rack a a well (unmoved a well.array well.labeled);
     given_is = refl;
-    steps = λ bytes is. steps_from phase rack a a (Write b bytes) Degraded (λ rest V label holds. (
+    steps = λ bytes is. steps_from phase rack a a (Write b bytes) Degraded (λ origin rest V label holds. (
       state_of phase rack a rest V,
       same_in phase rack a rest V label holds,
       (within, inl (lost, refl)),
@@ -583,7 +587,7 @@ module _ {S R : Type 0} (phase : phases.Ghosts S) (rack : Ghosts R) where
   lost_now a b block c well given h = record {
     leaves = leaves phase rack a c well (missed_keeps a b c h);
     given_is = given;
-    steps = λ bytes is. steps_from phase rack a c (Write b bytes) Degraded (λ rest V label holds. (
+    steps = λ bytes is. steps_from phase rack a c (Write b bytes) Degraded (λ origin rest V label holds. (
       kept_state phase rack a c (missed_keeps a b c h) rest V,
       still_in phase rack a c rest V label (missed_keeps a b c h) holds,
       (

@@ -8,7 +8,8 @@ use Rattle.dg_model.specs.Steps.{Step}
 use Rattle.dg_model.specs.declared.events.Event.{Event}
 use Rattle.dg_model.specs.declared.replies.Reply.{Reply}
 use Rattle.dg_model.specs.declared.replies.Reply.TheVariants.{Diffused as DiffusedReply, Lost as LostReply, NotSettled as NotSettledReply}
-use Rattle.dg_volume.specs.Volumes.{StandsIn, Tells}
+use Rattle.dg_volume.specs.Volumes.{Known, StandsIn}
+use Rattle.dg_volume.specs.Origins.{Origin, WasHeld}
 use Rattle.dg_volume.specs.declared.copies.AnyDiffuse.{AnyDiffuse}
 use Rattle.dg_volume.specs.declared.copies.AnyDiffuse.TheVariants.{Is, NotSettled}
 use Rattle.dg_volume.specs.declared.phases.InPhase as phases
@@ -25,5 +26,5 @@ any_diffuse_reply NotSettled = NotSettledReply
 -- Whichever state the volume was in, of those in which these files were read last, it made a step from it, to a state that it is in now,
 -- and they were read last in that one too.
 abbrev pub StepsHot : {S T R : Type 0} → phases.Ghosts S → phases.Ghosts T → Ghosts R → List ℕ → Volume S R → Event → Reply → Volume T R → Type 0
-StepsHot from to rack hot old event reply new = (state : State) → StandsIn from rack old state → state.recent ≡ hot →
-    (next : State) × StandsIn to rack new next × Step (Tells rack new) state event reply next × (next.recent ≡ state.recent)
+StepsHot from to rack hot old event reply new = (origin : Origin) (state : State) → StandsIn from rack (WasHeld origin) old state → state.recent ≡ hot →
+    (next : State) × StandsIn to rack (WasHeld origin) new next × Step (Known (WasHeld origin) rack new) state event reply next × (next.recent ≡ state.recent)

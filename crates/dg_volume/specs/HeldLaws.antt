@@ -6,7 +6,7 @@ use Rattle.dg_model.specs.States.{AreFresh, Holds, HoldsAll, State}
 use Rattle.dg_model.specs.declared.shapes.Shape.{Shape}
 use Rattle.dg_store.specs.Leaves.{CallsBelow}
 use Rattle.dg_store.specs.ReadLaws.{own_both, own_none}
-use Rattle.dg_volume.specs.Volumes.{StandsIn, Tells, rack_of, shape_of}
+use Rattle.dg_volume.specs.Volumes.{Known, StandsIn, Tells, rack_of, shape_of}
 use Rattle.dg_volume.specs.declared.phases.InPhase as phases
 use Rattle.dg_volume.specs.declared.volumes.Volume.{Volume}
 
@@ -32,7 +32,7 @@ module _ {S R : Type 0} (rack : Ghosts R) (volume : Volume S R) where
   tells_now law told q below = law (rack_of volume) q (told q below)
 
   -- the members hold a state in which the volume is
-  pub holds_all : (phase : phases.Ghosts S) (state : State) → StandsIn phase rack volume state → Tells rack volume → HoldsAll (rack.bytes (rack_of volume)) state
+  pub holds_all : {P : Type 0} (phase : phases.Ghosts S) (state : State) → StandsIn phase rack P volume state → Known P rack volume → HoldsAll (rack.bytes (rack_of volume)) state
   holds_all phase state stands told = record {
     blocks = subst (λ (s : State). Holds (rack.bytes (rack_of volume)) s) (sym stands.is) (stands.holds told).array;
     label = stands.label.holds;

@@ -3,6 +3,7 @@ pub mod Faults
 pub mod Fronts
 pub mod HeldLaws
 pub mod Opens
+pub mod Origins
 pub mod Phases
 pub mod Planned
 pub mod Refills

@@ -1,16 +1,15 @@
 -- What opening a saved array gives, by its answer.
-use Rattle.std.specs.Prelude.{◌≡◌, ◌⊎◌, ◌+◌, ◌/◌, ◌<◌, ◌≤◌, ℕ, Bool, true, false, List, Option, Some, None, IfSome}
+use Rattle.std.specs.Prelude.{◌≡◌, ◌⊎◌, ◌+◌, ◌/◌, ◌<◌, ◌≤◌, ℕ, Bool, true, false, List, Option, Some, None}
 use Rattle.dg_infer.specs.Meanings.{KeptInference}
 use Rattle.dg_infer.specs.Meanings as inferences
 use Rattle.dg_io.specs.Told.{IsSame, Told}
 use Rattle.dg_io.specs.declared.outside.Rack.{Ghosts}
 use Rattle.dg_model.specs.Marks.{AreLeft}
-use Rattle.dg_model.specs.Members.{MembersFall, is_good}
+use Rattle.dg_model.specs.Members.{MembersFall}
 use Rattle.dg_model.specs.Openings.{Found, IsSource, MayBeGood, Opens, copies_after}
 use Rattle.dg_model.specs.Placed.{IsPlaced}
-use Rattle.dg_model.specs.Saves.{HasBody, Label, SavedState, body_of}
+use Rattle.dg_model.specs.Saves.{Label, SavedState}
 use Rattle.dg_model.specs.States.{State, has_lost}
-use Rattle.dg_model.specs.States as states
 use Rattle.dg_model.specs.declared.homes.Home.{Home}
 use Rattle.dg_model.specs.declared.members.MemberState.{MemberState}
 use Rattle.dg_model.specs.declared.members.MemberState.TheVariants.{Good, Out}
@@ -25,9 +24,10 @@ use Rattle.dg_store.specs.Leaves.{RackStays}
 use Rattle.dg_store.specs.Stores.{TellsAll}
 use Rattle.dg_store.specs.Stores as stores
 use Rattle.dg_store.specs.declared.store.Store.{Store}
+use Rattle.dg_volume.specs.Origins.{WasHeld}
 use Rattle.dg_volume.specs.Phases.{phase_in}
 use Rattle.dg_volume.specs.Planned.{AreWanted, FindsOn, HasReadArray}
-use Rattle.dg_volume.specs.Volumes.{FitsArray, IsWell, StandsIn, Tells, any_phase, given_of, members_of, rack_of, shape_of, table_of}
+use Rattle.dg_volume.specs.Volumes.{FitsArray, IsWell, Known, StandsIn, any_phase, given_of, members_of, rack_of, shape_of, table_of}
 use Rattle.dg_volume.specs.declared.opens.OpenAnswer.{OpenAnswer}
 use Rattle.dg_volume.specs.declared.opens.OpenAnswer.TheVariants.{NoState, Opened, Unclean}
 use Rattle.dg_volume.specs.declared.phases.AnyPhase.{AnyPhase}
@@ -107,9 +107,9 @@ had before None = None
 had before (Some now) = before
 
 -- What was opened of a rack: its members were read as they stood before; nothing was written, and the bytes beside the slots stay; and
--- this is the volume. `first` says what members did before blocks were read: one was good only where it may be. Of each list of blocks that
--- these held before the volume is in a state that the model opens. (Two members that were good at first may hold other blocks: of those
--- nothing is said.)
+-- this is the volume. `first` says what members did before blocks were read: one was good only where it may be. Of each list of blocks the
+-- volume is in a state that the model opens, the content of which is known where these held the blocks before. (Two members that were good
+-- at first may hold other blocks, and then no content is known.)
 pub record HasOpened {R : Type 0} (rack : Ghosts R) (before : R) (volume : Volume AnyPhase R) (hot : List ℕ) : Type 0 where
   pub well : IsWell any_phase rack volume
   pub given_is : given_of volume ≡ None
@@ -128,9 +128,10 @@ pub record HasOpened {R : Type 0} (rack : Ghosts R) (before : R) (volume : Volum
   pub fell : (q : ℕ) → (rack.counts before).faults q < (rack.counts (rack_of volume)).faults q → members_of volume q ≡ Out
   pub others : (q : ℕ) → (shape_of volume).b ≤ q / 2 → Told IsSame (rack.bytes before q) (rack.bytes (rack_of volume) q)
   pub falls : MembersFall (rack.counts before).faults (rack.counts (rack_of volume)).faults first (members_of volume)
-  pub states_are : (V : List (List ℕ)) → (Tells rack volume → states.StandsFor (table_of volume) first (rack.bytes before) V)
-      → (state : State) × (state.blocks ≡ V) × Opens (Tells rack volume) taken None (rack.counts before) state
-      × StandsIn any_phase rack volume state × (state.recent ≡ hot)
+  pub states_are : (V : List (List ℕ)) →
+      let P : Type 0 = WasHeld (Some (record { table = table_of volume; members = first; bytes = rack.bytes before; blocks = V })) in
+      (state : State) × (state.blocks ≡ V) × Opens (Known P rack volume) taken None (rack.counts before) state
+      × StandsIn any_phase rack P volume state × (state.recent ≡ hot)
 
 -- by each answer
 abbrev pub AnswersOpen : {R : Type 0} → Ghosts R → R → OpenAnswer R → Type 0

@@ -28,7 +28,8 @@ use Rattle.dg_store.specs.Stores as stores
 use Rattle.dg_store.specs.Views.{ReadsOn}
 use Rattle.dg_store.specs.declared.store.Store.{Store}
 use Rattle.dg_volume.specs.Faults.{OutsStay, TellsFaults}
-use Rattle.dg_volume.specs.Volumes.{AreWantsBy, IsInPlace, StandsFor, Tells, state_of}
+use Rattle.dg_volume.specs.Origins.{Origin, WasHeld}
+use Rattle.dg_volume.specs.Volumes.{AreWantsBy, IsInPlace, Known, StandsFor, Tells, state_of}
 use Rattle.dg_volume.specs.Volumes as volumes
 use Rattle.dg_volume.specs.declared.phases.InPhase as phases
 use Rattle.dg_volume.specs.declared.plans.PlanAnswer.{PlanAnswer}
@@ -124,7 +125,7 @@ pub record IsPutInPlace {S R : Type 0} (phase : phases.Ghosts S) (rack : Ghosts 
   pub pending_is : new.pending ≡ old.pending
   pub placed : IsInPlace (volumes.table_of new) (phase.kept old.phase) new.homes new.copies
   pub stands : (V : List (List ℕ)) → Tells rack new → StandsFor phase rack old V → StandsFor phase rack new V
-  pub steps : (rest : State) (V : List (List ℕ)) → StandsLabeled rack old.store old.label rest.label → (Tells rack old → StandsFor phase rack old V)
+  pub steps : (origin : Origin) (rest : State) (V : List (List ℕ)) → StandsLabeled rack old.store old.label rest.label → (Known (WasHeld origin) rack old → StandsFor phase rack old V)
       → (last : Option LastLabel) × StandsLabeled rack new.store new.label last
-      × Step (Tells rack new) (state_of phase rack old rest V) Settle SettledReply
+      × Step (Known (WasHeld origin) rack new) (state_of phase rack old rest V) Settle SettledReply
       (record (state_of phase rack new rest V) { phase = SettledPhase; label = last })

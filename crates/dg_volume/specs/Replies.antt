@@ -8,7 +8,8 @@ use Rattle.dg_model.specs.Lists.{AreLines}
 use Rattle.dg_model.specs.States.{State}
 use Rattle.dg_model.specs.declared.replies.Reply.{Reply}
 use Rattle.dg_model.specs.declared.replies.Reply.TheVariants.{Already, Cut, Data, Done, Given, HomeAt, Listed as ListedReply, ListedCut, NoHome, Nodes, NodesCut, NotSettled, Range, Refused, Unavailable, Verdict}
-use Rattle.dg_volume.specs.Volumes.{StandsIn, Tells, shape_of}
+use Rattle.dg_volume.specs.Origins.{Origin, WasHeld}
+use Rattle.dg_volume.specs.Volumes.{Known, StandsIn, shape_of}
 use Rattle.dg_volume.specs.declared.phases.InPhase as phases
 use Rattle.dg_volume.specs.declared.queries.WhoAnswer.{WhoAnswer}
 use Rattle.dg_volume.specs.declared.queries.WhoAnswer.TheVariants.{Is, Range as WhoRange, Unavailable as WhoUnavailable}
@@ -79,7 +80,7 @@ AnswersCat took took_part faults old new l gives holds SinkFault =
 -- Wherever a volume is told in the end, the file at a path had this inode.
 abbrev pub HasFileAt : {S R : Type 0} → phases.Ghosts S → Ghosts R → Volume S R → List ℕ → Volume S R → ℕ → Type 0
 HasFileAt phase rack old path new i =
-    (state : State) → StandsIn phase rack old state → Tells rack new → (file_of (shape_of old).l (shape_of old).n path state.blocks).value ≡ Ok i
+    (origin : Origin) (state : State) → StandsIn phase rack (WasHeld origin) old state → Known (WasHeld origin) rack new → (file_of (shape_of old).l (shape_of old).n path state.blocks).value ≡ Ok i
 
 -- The inode that is told after `cat`: the file's where it was given whole, and else the one that was told before. Where the receiver failed,
 -- it is told as if it had taken all.

@@ -24,6 +24,7 @@ use Rattle.dg_model.specs.declared.wants.Want.{Want}
 use Rattle.dg_store.specs.Leaves.{CallsBelow}
 use Rattle.dg_store.specs.Stores.{IsSound, TellsAll}
 use Rattle.dg_store.specs.Stores as stores
+use Rattle.dg_volume.specs.Origins.{Always, Origin, WasHeld}
 use Rattle.dg_volume.specs.Phases.{kept_in, phase_in}
 use Rattle.dg_volume.specs.declared.phases.AnyPhase.{AnyPhase}
 use Rattle.dg_volume.specs.declared.phases.InPhase as phases
@@ -93,17 +94,22 @@ pub record StandsFor {S R : Type 0} (phase : phases.Ghosts S) (rack : Ghosts R) 
   pub array : stores.StandsFor rack volume.store blocks
   pub inferred : IfSome (phase.kept volume.phase) (λ kept. inferences.StandsFor kept blocks)
 
+-- what is known of its blocks is known where each member of the array tells its bytes, and something else is so
+abbrev pub Known : {S R : Type 0} → Type 0 → Ghosts R → Volume S R → Type 0
+Known P rack volume = Tells rack volume × P
+
 -- The volume is in this state: it keeps the numbers of the state's label, which stands on the members that keep it. Where each member tells
--- its bytes, it stands for the blocks of the state.
-pub record StandsIn {S R : Type 0} (phase : phases.Ghosts S) (rack : Ghosts R) (volume : Volume S R) (state : State) : Type 0 where
+-- its bytes, and where something else is so, it stands for the blocks of the state.
+pub record StandsIn {S R : Type 0} (phase : phases.Ghosts S) (rack : Ghosts R) (P : Type 0) (volume : Volume S R) (state : State) : Type 0 where
   pub is : state ≡ state_of phase rack volume state state.blocks
   pub label : StandsLabeled rack volume.store volume.label state.label
-  pub holds : Tells rack volume → StandsFor phase rack volume state.blocks
+  pub holds : Known P rack volume → StandsFor phase rack volume state.blocks
 
--- Whichever state the volume was in, it made a step from it, to a state that it is in now, in which so changed inodes were read last.
+-- Whichever state the volume was in, it made a step from it, to a state that it is in now, in which so changed inodes were read last. That the
+-- volume stood for the state's blocks may rest on what its members held when it was opened: then the content of the step does.
 abbrev pub StepsBy : {S T R : Type 0} → phases.Ghosts S → phases.Ghosts T → Ghosts R → (List ℕ → List ℕ) → Volume S R → Event → Reply → Volume T R → Type 0
-StepsBy from to rack touch old event reply new = (state : State) → StandsIn from rack old state →
-    (next : State) × StandsIn to rack new next × Step (Tells rack new) state event reply next × (next.recent ≡ touch state.recent)
+StepsBy from to rack touch old event reply new = (origin : Origin) (state : State) → StandsIn from rack (WasHeld origin) old state →
+    (next : State) × StandsIn to rack (WasHeld origin) new next × Step (Known (WasHeld origin) rack new) state event reply next × (next.recent ≡ touch state.recent)
 
 -- the same of a step that reads no file
 abbrev pub StepsTo : {S T R : Type 0} → phases.Ghosts S → phases.Ghosts T → Ghosts R → Volume S R → Event → Reply → Volume T R → Type 0
@@ -111,8 +117,8 @@ StepsTo from to rack old event reply new = StepsBy from to rack (λ recent. rece
 
 -- The same, but said of states that have a block for each of the array's alone: what becomes of blocks then counts them.
 abbrev pub StepsSized : {S T R : Type 0} → phases.Ghosts S → phases.Ghosts T → Ghosts R → Volume S R → Event → Reply → Volume T R → Type 0
-StepsSized from to rack old event reply new = (state : State) → StandsIn from rack old state → length state.blocks ≡ (shape_of old).n →
-    (next : State) × StandsIn to rack new next × Step (Tells rack new) state event reply next × (next.recent ≡ state.recent)
+StepsSized from to rack old event reply new = (origin : Origin) (state : State) → StandsIn from rack (WasHeld origin) old state → length state.blocks ≡ (shape_of old).n →
+    (next : State) × StandsIn to rack (WasHeld origin) new next × Step (Known (WasHeld origin) rack new) state event reply next × (next.recent ≡ state.recent)
 
 -- the inodes that were read last, once the file of this inode was given in a phase
 abbrev pub touched_by : Phase → Option ℕ → List ℕ → List ℕ
@@ -168,7 +174,7 @@ pub record Leaves {S T R : Type 0} (from : phases.Ghosts S) (to : phases.Ghosts 
 -- It is in each state that the other was in: it is the same volume, and only what is known of its phase may be another.
 pub record IsSame {S T R : Type 0} (from : phases.Ghosts S) (to : phases.Ghosts T) (rack : Ghosts R) (old : Volume S R) (new : Volume T R) : Type 0 where
   pub leaves : Leaves from to rack old new
-  pub stands : (state : State) → StandsIn from rack old state → StandsIn to rack new state
+  pub stands : (origin : Origin) (state : State) → StandsIn from rack (WasHeld origin) old state → StandsIn to rack (WasHeld origin) new state
   pub rack_is : rack_of new ≡ rack_of old
   pub given_is : new.given ≡ old.given
 
@@ -199,6 +205,6 @@ pub record IsBlankVolume {R : Type 0} (rack : Ghosts R) (shape : Shape) (before 
   pub same_rack : rack.name (rack_of volume) ≡ rack.name before
   pub state : State
   pub blank : IsBlank shape (rack.counts before) state
-  pub stands : StandsIn loose_phase rack volume state
+  pub stands : StandsIn loose_phase rack Always volume state
   pub given_is : given_of volume ≡ None
   pub few : (rack.counts (rack_of volume)).calls ≤ (rack.counts before).calls + 2 * shape.b

@@ -10,6 +10,7 @@ use Rattle.dg_model.specs.declared.events.Event.TheVariants.{Settle}
 use Rattle.dg_model.specs.declared.replies.Reply.{Reply}
 use Rattle.dg_model.specs.declared.shapes.Shape.{Shape}
 use Rattle.dg_trace.specs.Traces.{writes_of}
+use Rattle.dg_volume.specs.Origins.{Always}
 use Rattle.dg_volume.specs.Volumes.{IsBlankVolume, StandsIn, StepsTo, any_phase}
 use Rattle.dg_words.specs.declared.commands.Order.TheVariants.{Late}
 use Rattle.ufs_build.specs.Traces.{trace_of}
@@ -38,7 +39,7 @@ returns-clause-drilled g c = λ taken given.
     let same : c.deref-3.result.now ≡ trace_of Late c.args.made.now.geometry c.args.made.now.image.items =
     c.deref-3.ensures.value ∙ c.in_ok-blocks.ensures ∙ ap (λ (l : List ℕ). trace_of Late c.args.made.now.geometry l) c.deref.ensures.value in
     let blank = subst (λ (s : Shape). IsBlankVolume g.R.Rack s c.args.rack c.in_ok-loose.loose) c.drill_shape.ensures.is c.in_ok-loose.ensures in
-    let Writes : List ℕ → List ℕ → Type 0 = λ image blocks. (state : State) → StandsIn any_phase g.R.Rack c.into_any-volume.result state → AreUnwritten state.table blocks
+    let Writes : List ℕ → List ℕ → Type 0 = λ image blocks. (state : State) → StandsIn any_phase g.R.Rack Always c.into_any-volume.result state → AreUnwritten state.table blocks
     → HasWritten g.R.Rack state (writes_of c.args.made.now.geometry.fsize image blocks) [] c.in_ok-written.written c.write_blocks.new.volume in
     let writes = subst (λ (blocks : List ℕ). Writes c.args.made.now.image.items blocks) same
     (subst (λ (image : List ℕ). Writes image c.deref-3.result.now) c.deref-2.ensures.value c.in_ok-written.ensures.runs) in

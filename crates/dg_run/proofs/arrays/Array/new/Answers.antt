@@ -1,4 +1,5 @@
 use Rattle.std.proofs.Common.{◌∙◌, ◌≤◌, ◌/◌, ap, length, subst, sym}
+use Rattle.std.specs.Prelude.{None}
 use Rattle.std.proofs.lemmas.List.{length-replicate}
 use Rattle.dg_model.specs.Blocks.{zeros}
 use Rattle.dg_io.specs.MadeLaws.{same_both}
@@ -19,7 +20,7 @@ returns g c =
       state = made.state;
       blank = made.blank;
       stands = record {
-        volume = into.stands made.state made.stands;
+        volume = into.stands None made.state made.stands;
         recent = ap (λ (s : State). s.recent) made.blank.is ∙ sym c.in_ok-hot.ensures;
         sized = ap (λ (s : State). length s.blocks) made.blank.is ∙ length-replicate c.args.shape.n (zeros c.args.shape.l)
             ∙ ap (λ (s : State). s.table.shape.n) (sym made.blank.is);
