@@ -1,7 +1,7 @@
 -- What an array without its lost boundaries stands for.
-use Rattle.std.proofs.Common.{◌≡◌, ◌≢◌, ◌==◌, inl, inr, ℕ, zero, suc, ◌+◌, ◌*◌, ◌/◌, ◌%◌, ◌≤◌, ◌<◌, ◌∷◌, ◌&&◌, Bool, true, false, cond, List, [], length, get_or, map, refl, sym, ◌∙◌, ap, subst, arith}
-use Rattle.std.specs.Prelude.{Option, not, nat_lt, slice_index, if◌then◌else◌}
-use Rattle.std.specs.List.{All, Contains, filter, range_with_len}
+use Rattle.std.proofs.Common.{◌≡◌, ◌≢◌, inl, inr, ℕ, zero, suc, ◌+◌, ◌*◌, ◌/◌, ◌%◌, ◌≤◌, ◌<◌, ◌∷◌, ◌&&◌, Bool, true, false, cond, List, [], length, get_or, map, refl, sym, ◌∙◌, ap, subst, arith}
+use Rattle.std.specs.Prelude.{Option, not, if◌then◌else◌}
+use Rattle.std.specs.List.{All, Contains, filter}
 use Rattle.std.proofs.lemmas.Bool.{and_from, and_parts, cases_Bool, cases_lt, false≢true, le-ltb, lt-ltb}
 use Rattle.std.proofs.lemmas.List.Elements.{All-head, All-tail, Contains-get_or}
 use Rattle.std.proofs.lemmas.List.FromFn.{get_or-map-range_with_len, length-map-range_with_len}
@@ -9,7 +9,6 @@ use Rattle.dg_model.specs.Blocks.{block_in, zeros}
 use Rattle.dg_model.specs.Lives.{left_of, place_in}
 use Rattle.dg_model.specs.Members.{is_good, is_lost, serves, SlotHolds, SlotOf}
 use Rattle.dg_model.specs.Regroups.{is_left, member_before, members_left, shape_left, site_left, sites_left, state_left, table_left}
-use Rattle.dg_model.specs.Shapes.{IsShape}
 use Rattle.dg_model.specs.Sites.{all_lost, has_site, is_gone}
 use Rattle.dg_model.specs.States.{StandsFor, has_lost}
 use Rattle.dg_model.specs.Tables.{IsTable, Table, sites_in}
@@ -20,7 +19,7 @@ use Rattle.dg_model.specs.declared.sites.Site.{Site}
 use Rattle.dg_model.proofs.MemberLaws.{whole_from}
 use Rattle.dg_model.proofs.RegroupLaws.{place_at, sites_of_left, was_site}
 use Rattle.dg_store.specs.Reduced.{blocks_left}
-use Rattle.dg_store.proofs.LeftPlaces.{left_below, left_has, left_passes, place_within}
+use Rattle.dg_store.proofs.LeftPlaces.{left_has, left_passes, place_within}
 use Rattle.dg_store.proofs.TableLemmas.{are_slots}
 
 -- ---- members

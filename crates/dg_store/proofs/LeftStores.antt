@@ -1,27 +1,25 @@
 -- A store without its lost boundaries.
-use Rattle.std.proofs.Common.{◌≡◌, ◌≢◌, ◌==◌, ◌↔◌, inl, inr, ℕ, zero, suc, ◌+◌, ◌*◌, ◌-◌, ◌/◌, ◌%◌, ◌^◌, ◌≤◌, ◌<◌, Bool, true, false, cond, List, length, get_or, refl, sym, ◌∙◌, ap, subst, arith}
+use Rattle.std.proofs.Common.{◌≡◌, ◌≢◌, ◌==◌, ◌↔◌, inl, inr, ℕ, zero, suc, ◌+◌, ◌*◌, ◌-◌, ◌/◌, ◌%◌, ◌^◌, ◌≤◌, ◌<◌, Bool, true, false, List, length, get_or, sym, ◌∙◌, ap, subst, arith}
 use Rattle.std.specs.Prelude.{Option, Some, None, IfSome, IsSome, not, if◌then◌else◌}
 use Rattle.std.specs.Int.{bit_at}
-use Rattle.std.specs.List.{filter, range_with_len}
 use Rattle.std.proofs.Math.Nat.{mul-le-mul_right, pow-le-pow_right}
 use Rattle.std.proofs.lemmas.Bool.{cases_eq, false≢true}
-use Rattle.std.proofs.lemmas.Nat.Bits.{bit_at_above, bit_at_cat_high, bit_at_cat_low, bit_at-zero}
-use Rattle.dg_io.specs.Kept.{Kept}
+use Rattle.std.proofs.lemmas.Nat.Bits.{bit_at_above, bit_at_cat_high, bit_at_cat_low}
 use Rattle.dg_io.specs.Reduced.{LeavesLeft, places_left}
 use Rattle.dg_io.specs.Reduced as racks
 use Rattle.dg_io.specs.declared.outside.Rack.{Ghosts}
 use Rattle.dg_model.specs.Lives.{left_of}
 use Rattle.dg_model.specs.Members.{is_good, is_lost}
-use Rattle.dg_model.specs.Regroups.{member_before, members_left, shape_left, table_left}
+use Rattle.dg_model.specs.Regroups.{member_before, members_left, shape_left}
 use Rattle.dg_model.specs.Saves.{member_length}
 use Rattle.dg_model.specs.States.{StandsFor, has_lost}
 use Rattle.dg_model.specs.Tables.{IsTable, Table}
 use Rattle.dg_model.specs.declared.members.MemberState.{MemberState}
 use Rattle.dg_model.specs.declared.members.MemberState.TheVariants.{Good, Out}
 use Rattle.dg_model.specs.declared.shapes.Shape.{Shape}
-use Rattle.dg_model.proofs.SiteLists.{apart_test, same_test}
+use Rattle.dg_model.proofs.SiteLists.{same_test}
 use Rattle.dg_store.specs.Reduced.{blocks_left, IsReduced, left_in, reduced}
-use Rattle.dg_store.specs.Rows.{AreLong, IsRow, RowStands, members_in}
+use Rattle.dg_store.specs.Rows.{IsRow, RowStands, members_in}
 use Rattle.dg_store.specs.Stores.{IsSound, lost_bits}
 use Rattle.dg_store.specs.declared.store.Store.{Store}
 use Rattle.dg_store.proofs.Bits.{bits_below}

@@ -1,5 +1,5 @@
 -- A store whose rack is another one, in which its members have the bytes that they had, where it tells them.
-use Rattle.std.proofs.Common.{◌≡◌, ◌≢◌, ◌⊎◌, inl, inr, ℕ, ◌+◌, ◌*◌, ◌≤◌, Bool, true, false, List, length, refl, sym, ◌∙◌, ap, subst}
+use Rattle.std.proofs.Common.{◌≡◌, ◌≢◌, ◌⊎◌, inl, inr, ℕ, ◌*◌, ◌≤◌, Bool, true, false, List, length, refl, sym, ◌∙◌, ap, subst}
 use Rattle.std.specs.Prelude.{Option, Some, None, IfSome, IsSome}
 use Rattle.std.proofs.lemmas.Bool.{cases_eq, false≢true}
 use Rattle.dg_io.specs.Commits.{fell_in, is_marked, LeavesCommit}
@@ -73,13 +73,13 @@ module _ {R : Type 0} (rack : Ghosts R) (told : (s : R) (q : ℕ) → rack.tells
 
   -- ---- a commit
 
-  pub commit_leaves : (room : R → Option ℕ) (keep : ℕ) (extra : List ℕ) (answer : CommitAnswer) → LeavesCommit rack room keep extra answer store.rack r → IsWhole rack store
+  pub commit_leaves : (room : R → Option ℕ) (keep : ℕ) (extra : List ℕ) (answer : CommitAnswer) → LeavesCommit rack room keep extra answer store.rack r
       → CommitLeaves rack room keep extra answer store (record store { rack = r })
-  commit_leaves room keep extra answer leaves whole = record {
+  commit_leaves room keep extra answer leaves = record {
     table = refl;
     members = refl;
     leaves = leaves;
-    whole = whole_with (λ q called. leaves.same q) whole;
+    whole = whole_with (λ q called. leaves.same q);
     blocks = blocks_with (λ q called. leaves.same q);
     stand = λ sound q unnamed called. leaves.stand_on q unnamed ∙ sound.stand q called;
     sound = λ sound out. sound_with (λ q called. leaves.same q) (λ q called. elim (true_or_false (is_marked (fell_in keep answer) q)) [

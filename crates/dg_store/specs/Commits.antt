@@ -12,7 +12,7 @@ pub record CommitLeaves {R : Type 0} (rack : Ghosts R) (room : R → Option ℕ)
   pub table : table_of new ≡ table_of old
   pub members : members_of new ≡ members_of old
   pub leaves : LeavesCommit rack room keep extra answer (rack_of old) (rack_of new)
-  pub whole : IsWhole rack new
+  pub whole : IsWhole rack old → IsWhole rack new
   pub blocks : KeepsBlocks rack old new
   -- each member that isn't out stands on, but for those that the answer names
   pub stand : IsSound rack old → (q : ℕ) → is_marked (fell_in keep answer) q ≡ false → members_of old q ≢ Out → rack.stands (rack_of new) q ≡ true

@@ -1,5 +1,5 @@
 -- A store that goes on without its lost boundaries: those that are left have new places.
-use Rattle.std.specs.Prelude.{◌<◌, ◌≤◌, Option, Some, not, slice_get, slice_index, ◌≡◌, ◌+◌, ◌*◌, ◌/◌, ◌%◌, ℕ, false, List, length, map, if◌then◌else◌}
+use Rattle.std.specs.Prelude.{◌<◌, ◌≤◌, Some, not, slice_get, slice_index, ◌≡◌, ◌+◌, ◌*◌, ◌/◌, ◌%◌, ℕ, false, List, length, map, if◌then◌else◌}
 use Rattle.std.specs.List.{filter, range_with_len}
 use Rattle.dg_io.specs.Reduced.{LeavesLeft}
 use Rattle.dg_io.specs.declared.outside.Rack.{Ghosts}

@@ -11,6 +11,7 @@ mod sites;
 mod store;
 mod views;
 
+pub use checkpoints::standing_is_sound;
 pub use dg_io::Fetched;
 pub use dg_map::Map;
 pub use dg_model::{Shape, Site};
