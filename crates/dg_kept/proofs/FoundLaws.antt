@@ -1,9 +1,9 @@
 -- What is taken of members on which a save is found: those with the greatest number have what was saved.
-use Rattle.std.proofs.Common.{◌≡◌, ◌∙◌, ℕ, ◌/◌, ◌%◌, ◌<◌, ◌≤◌, ◌⊎◌, inl, inr, true, false, List, length, refl, sym, ap, subst, arith}
+use Rattle.std.proofs.Common.{◌≡◌, ◌∙◌, ℕ, ◌/◌, ◌%◌, ◌<◌, ◌≤◌, ◌⊎◌, inl, inr, List, refl, sym, ap, subst, arith}
 use Rattle.std.specs.Prelude.{Option, Some, None}
 use Rattle.std.proofs.lemmas.Bool.{cases_lt, false≢true}
-use Rattle.dg_model.specs.Openings.{Found, HasNoState, HasOwnLabel, IsNewest, IsSource, IsUnclean, Says, body_in}
-use Rattle.dg_model.specs.Saves.{IsBody, Label, SavedState, body_of}
+use Rattle.dg_model.specs.Openings.{Found, HasNoState, HasOwnLabel, IsNewest, IsSource, IsUnclean, Says}
+use Rattle.dg_model.specs.Saves.{Label, SavedState}
 use Rattle.dg_model.specs.Seals.{label_on}
 use Rattle.dg_save.specs.Laws.{BodiesAreUnique, LabelsAreUnique}
 use Rattle.dg_kept.proofs.ToldLaws.{some_and, some_if}

@@ -5,13 +5,12 @@ use Rattle.std.proofs.lemmas.Bool.{false≢true}
 use Rattle.std.proofs.lemmas.List.Sums.{sum_by-cons}
 use Rattle.dg_model.specs.Blocks.{block_in, zeros}
 use Rattle.dg_model.specs.Members.{slot_of}
-use Rattle.dg_model.specs.Openings.{Found, HasOwnLabel, Says}
-use Rattle.dg_model.specs.Saves.{BeginsWith, HasBody, HasLength, IsLabel, Label, SavedState, body_of, front_of_body, label_bytes, member_length, rest_of_body}
-use Rattle.dg_model.specs.Seals.{LastLabel, label_on}
+use Rattle.dg_model.specs.Openings.{Found, HasOwnLabel}
+use Rattle.dg_model.specs.Saves.{IsLabel, SavedState, body_of, front_of_body, label_bytes, member_length, rest_of_body}
+use Rattle.dg_model.specs.Seals.{label_on}
 use Rattle.dg_model.specs.Shapes.{IsShape}
 use Rattle.dg_model.specs.Sites.{has_site}
 use Rattle.dg_model.specs.Tables.{IsTable, StandsIn, Table, count_on, sites_in}
-use Rattle.dg_model.specs.declared.homes.Home.{Home}
 use Rattle.dg_model.specs.declared.phases.Phase.TheVariants.{Loose}
 use Rattle.dg_model.specs.declared.shapes.Shape.{Shape}
 use Rattle.dg_model.specs.declared.sites.Site.{Site}

@@ -4,5 +4,6 @@ pub mod FoundLaws
 pub mod OpenedLaws
 pub mod SaveLaws
 pub mod RunEnds
+pub mod InUseLaws
 pub mod Readings
 mod FoundRows

@@ -1,25 +1,23 @@
 -- What an array is that was opened from members on which a save is found.
-use Rattle.std.proofs.Common.{◌≡◌, ◌∙◌, ℕ, ◌/◌, ◌%◌, ◌<◌, ◌≤◌, ◌⊎◌, inl, inr, get_or, Bool, true, false, List, length, refl, sym, ap, subst, arith}
-use Rattle.std.specs.Prelude.{Contains, IfSome, IsSome, IsSomeAnd, Option, Some, None, ◌==◌, ◌&&◌}
+use Rattle.std.proofs.Common.{◌≡◌, ◌∙◌, ℕ, ◌/◌, ◌%◌, ◌<◌, ◌≤◌, inl, inr, get_or, Bool, true, List, refl, sym, ap, subst, arith}
+use Rattle.std.specs.Prelude.{Contains, IsSome, Option, Some, ◌==◌, ◌&&◌}
 use Rattle.std.proofs.lemmas.Bool.{false≢true}
 use Rattle.std.proofs.lemmas.List.Elements.{Contains-get_or}
 use Rattle.dg_model.specs.Blocks.{block_in}
 use Rattle.dg_model.specs.Causes.{NoneRose}
 use Rattle.dg_model.specs.Changes.{IsInOrder}
-use Rattle.dg_model.specs.Homes.{Ascend}
 use Rattle.dg_model.specs.Marks.{AreNext, is_marked}
 use Rattle.dg_model.specs.Members.{SlotOf, is_good, serves, slot_of}
 use Rattle.dg_model.specs.Openings.{Found, IsReopened, IsSource, MayBeGood, Opens, Reduced, copies_after}
 use Rattle.dg_model.specs.Placed.{IsPlaced}
 use Rattle.dg_model.specs.Saves.{Label, SavedState, body_of}
 use Rattle.dg_model.specs.Seals.{LastLabel, label_on}
-use Rattle.dg_model.specs.Sites.{is_gone}
 use Rattle.dg_model.specs.States.{Counts, StandsFor, State, is_broken}
 use Rattle.dg_model.specs.Tables.{IsTable, StandsIn, Table, sites_in}
 use Rattle.dg_model.specs.Wants.{AreWants, FitWants}
 use Rattle.dg_model.specs.declared.homes.Home.{Home}
 use Rattle.dg_model.specs.declared.members.MemberState.{MemberState}
-use Rattle.dg_model.specs.declared.members.MemberState.TheVariants.{Good, Out}
+use Rattle.dg_model.specs.declared.members.MemberState.TheVariants.{Good}
 use Rattle.dg_model.specs.declared.phases.Phase.{Phase}
 use Rattle.dg_model.specs.declared.phases.Phase.TheVariants.{Loose, Settled, Worn}
 use Rattle.dg_model.specs.declared.sites.Site.{Site}

@@ -1,5 +1,5 @@
 -- Runs by their last event.
-use Rattle.std.proofs.Common.{◌≡◌, ◌++◌, ℕ, List, [], ◌∷◌, refl, sym, subst}
+use Rattle.std.proofs.Common.{◌++◌, ℕ, List, [], ◌∷◌, refl, sym, subst}
 use Rattle.std.specs.Prelude.{Option}
 use Rattle.dg_model.specs.Moments.{Happens, History, HistoryOf, Kind, Moment}
 use Rattle.dg_model.specs.Moments.Kind.{double, parity, plain}

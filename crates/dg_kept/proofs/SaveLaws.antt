@@ -1,13 +1,13 @@
 -- What a step that saves an array leaves on its members, and what is found of it on those that are left.
-use Rattle.std.proofs.Common.{◌≡◌, ◌∙◌, ℕ, ◌+◌, ◌*◌, ◌/◌, ◌<◌, ◌≤◌, ◌≢◌, ◌⊎◌, inl, inr, Bool, true, false, List, [], ◌∷◌, length, refl, sym, ap, subst, arith}
-use Rattle.std.specs.Prelude.{Contains, IfSome, IsSome, IsSomeAnd, Option, Some, None, slice_index, take}
+use Rattle.std.proofs.Common.{◌≡◌, ◌∙◌, ℕ, ◌*◌, ◌/◌, ◌<◌, ◌≢◌, ◌⊎◌, inl, inr, true, false, List, [], length, refl, sym, ap, subst, arith}
+use Rattle.std.specs.Prelude.{IfSome, IsSomeAnd, Option, Some, None, slice_index, take}
 use Rattle.std.proofs.lemmas.Bool.{cases_Bool, false≢true}
 use Rattle.std.proofs.lemmas.List.Elements.{All-contains}
 use Rattle.dg_model.specs.Blocks.{block_in, zeros}
 use Rattle.dg_model.specs.Changes.{Saves}
 use Rattle.dg_model.specs.Members.{SlotHolds, SlotOf, is_filling, is_good, serves, slot_of}
 use Rattle.dg_model.specs.Openings.{HasOwnLabel}
-use Rattle.dg_model.specs.Saves.{BeginsWith, CanBeSaved, HasBody, HasLength, Label, body_of, label_bytes, member_length, room_of}
+use Rattle.dg_model.specs.Saves.{BeginsWith, CanBeSaved, HasBody, HasLength, Label, body_of, label_bytes}
 use Rattle.dg_model.specs.Seals.{HoldsLabel, LastLabel, keeps_label, label_on}
 use Rattle.dg_model.specs.States.{HoldsAll, StandsFor, State, saved_of}
 use Rattle.dg_model.specs.Tables.{StandsIn, Table, sites_in}

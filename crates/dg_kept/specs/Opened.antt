@@ -7,7 +7,7 @@ use Rattle.dg_model.specs.Members.{is_good}
 use Rattle.dg_model.specs.Openings.{Found, IsReopened, MayBeGood}
 use Rattle.dg_model.specs.Saves.{Label, SavedState}
 use Rattle.dg_model.specs.Sites.{is_gone}
-use Rattle.dg_model.specs.States.{Holds, StandsFor, State, is_broken, plain_state}
+use Rattle.dg_model.specs.States.{Holds, State, is_broken, plain_state}
 use Rattle.dg_model.specs.declared.members.MemberState.{MemberState}
 use Rattle.dg_model.specs.declared.members.MemberState.TheVariants.{Good, Out}
 use Rattle.dg_model.specs.declared.phases.Phase.TheVariants.{Settled}
@@ -46,7 +46,8 @@ pub record IsAsSaved (save : Save) (images : ℕ → Option (List ℕ)) (state :
 -- The blocks that an opened array holds: those of the save are such; and whichever they are, each that isn't gone has its value of the save.
 pub record HoldsSaved (save : Save) (images : ℕ → Option (List ℕ)) (state : State) : Type 0 where
   pub held : Holds images (record state { blocks = save.blocks })
-  pub blocks : Holds images state → (b : ℕ) → b < state.table.shape.n → is_gone state.table state.members b ≡ false → block_in state.blocks b ≡ block_in save.blocks b
+  pub blocks : Holds images state → (b : ℕ) → b < state.table.shape.n → is_gone state.table state.members b ≡ false
+      → block_in state.blocks b ≡ block_in save.blocks b
   pub whole : Holds images state → is_broken state ≡ false → state.blocks ≡ save.blocks
 
 -- the save as the state of an array of which nothing else is known

@@ -83,7 +83,8 @@ pub record IsResumed (old : State) (save : Save) (images : ℕ → Option (List 
   pub good : (q : ℕ) → (state.members q ≡ Good) ↔ IsKept save images q
   pub out : (q : ℕ) → (state.members q ≡ Good) ⊎ (state.members q ≡ Out)
   pub held : Holds images (record state { blocks = old.blocks })
-  pub blocks : Holds images state → (b : ℕ) → b < old.table.shape.n → is_gone state.table state.members b ≡ false → block_in state.blocks b ≡ block_in old.blocks b
+  pub blocks : Holds images state → (b : ℕ) → b < old.table.shape.n → is_gone state.table state.members b ≡ false
+      → block_in state.blocks b ≡ block_in old.blocks b
   pub whole : Holds images state → is_broken state ≡ false → state.blocks ≡ old.blocks
   pub settled : old.phase ≡ Settled → IsInOrder AreTold old → is_broken state ≡ false → state.blocks ≡ old.blocks
       → (state.phase ≡ Settled) × (state.copies ≡ old.copies)

@@ -10,7 +10,9 @@ mod saves;
 mod tests;
 
 pub use crate::openings::{newest_saves_are_found, saved_arrays_are_opened};
-pub use crate::runs::{runs_end_with_saves, saved_blocks_are_read, saved_states_are_resumed};
+pub use crate::runs::{
+    boundaries_stay_in_use, runs_end_with_saves, saved_blocks_are_read, saved_states_are_resumed,
+};
 pub use crate::saves::{
     blank_members_are_older, saves_are_found_on_what_is_left, saves_leave_the_state,
 };

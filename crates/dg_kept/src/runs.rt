@@ -1,5 +1,5 @@
 // Runs that end with a save, and runs on what it left.
-ghost use Rattle.std.specs.Prelude.{◌≡◌, ◌<◌, ◌++◌, ℕ, false, List, [], ◌∷◌, All, Option, None};
+ghost use Rattle.std.specs.Prelude.{◌≡◌, ◌≢◌, ◌<◌, ◌++◌, ℕ, false, List, [], ◌∷◌, All, Option, None};
 ghost use Rattle.dg_model.specs.Causes.{NoneRose};
 ghost use Rattle.dg_model.specs.Moments.{HistoryOf, Moment};
 ghost use Rattle.dg_model.specs.Openings.{Found, HasNoState, IsUnclean, Opens};
@@ -7,7 +7,7 @@ ghost use Rattle.dg_model.specs.Runs.{Run, Trace};
 ghost use Rattle.dg_model.specs.States.{Counts, Holds, HoldsAll, State, gone_in};
 ghost use Rattle.dg_model.specs.Steps.{Step};
 ghost use Rattle.dg_model.specs.declared.events.Event.{Event};
-ghost use Rattle.dg_model.specs.declared.events.Event.TheVariants.{Read, Save as SaveEvent};
+ghost use Rattle.dg_model.specs.declared.events.Event.TheVariants.{Read, Regroup, Save as SaveEvent};
 ghost use Rattle.dg_model.specs.declared.replies.Reply.{Reply};
 ghost use Rattle.dg_model.specs.declared.replies.Reply.TheVariants.{Saved};
 ghost use Rattle.dg_kept.specs.Opened.{AreTold};
@@ -62,3 +62,12 @@ pub fn saved_blocks_are_read()
 {
     saved_states_are_resumed();
 }
+
+/// In a run in which no boundaries are taken out of use all stay in use: in one from the blank array, and in one from an opening beside which
+/// nothing else was saved.
+pub fn boundaries_stay_in_use()
+    ensures traced { (before : Counts) (events : List Event) (replies : List Reply) (last : State) → All (λ event. event ≢ Regroup) events
+        → Trace AreTold before events replies last → AreAllInUse last }
+    ensures resumed { (taken : ℕ → Option Found) (before : Counts) (first : State) (events : List Event) (replies : List Reply) (last : State)
+        → All (λ event. event ≢ Regroup) events → Opens AreTold taken None before first → Run AreTold first events replies last → AreAllInUse last }
+{}
