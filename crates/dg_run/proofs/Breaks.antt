@@ -14,7 +14,7 @@ use Rattle.dg_model.specs.declared.events.Event.{Event}
 use Rattle.dg_model.specs.declared.events.Event.TheVariants.{Tree}
 use Rattle.dg_model.specs.declared.replies.Reply.TheVariants.{Nodes}
 use Rattle.dg_run.specs.declared.arrays.Array.{Array}
-use Rattle.dg_run.specs.Steps.{AnsweredBefore, ListedBefore, VolumeStepsTo, WantedFor, rack_of, shape_of}
+use Rattle.dg_run.specs.Steps.{AnsweredBefore, ListedBefore, VolumeStepsTo, WantedFor, shape_of}
 use Rattle.dg_text.specs.Lines.{line_of, input_of, IsInPlace}
 use Rattle.dg_text.specs.Replies.{nodes_text, output_of, reply_line}
 use Rattle.dg_text.specs.ToldSteps.{took_both}

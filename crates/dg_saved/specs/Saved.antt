@@ -1,5 +1,5 @@
 -- What a command on a saved array found, and what it did, told by the members and the counts of the rack.
-use Rattle.std.specs.Prelude.{◌≡◌, ◌⊎◌, ◌<◌, ◌≤◌, ◌/◌, ℕ, List, Option, Some, None, IfSome, IsSome}
+use Rattle.std.specs.Prelude.{◌≡◌, ◌⊎◌, ◌<◌, ◌≤◌, ◌/◌, ℕ, List, Option, Some, None, IsSome}
 use Rattle.dg_io.specs.Told.{IsSame, Told}
 use Rattle.dg_model.specs.Members.{MembersFall}
 use Rattle.dg_model.specs.Openings.{Found, HasNoState, IsSource, IsUnclean, MayBeGood, Opens}
