@@ -1,0 +1,14 @@
+use Rattle.std.proofs.Common.{◌∙◌, [], refl}
+use Rattle.dg_stop.proofs.PutLemmas.{parts_are, put_next}
+use Rattle.dg_stop.specs.Values.{header_of}
+use Rattle.dg_stop.proofs.headers.fill_header.Goals as goal
+
+pub returns : goal.returns
+returns c =
+    let s1 = put_next _ _ [] _ _ _ c.put-at.ensures.end c.put-at.ensures.bytes (record { is = refl; end = refl }) in
+    let s2 = put_next _ _ _ _ _ _ c.put-at-2.ensures.end c.put-at-2.ensures.bytes s1 in
+    let s3 = put_next _ _ _ _ _ _ c.put-at-3.ensures.end c.put-at-3.ensures.bytes s2 in
+    let s4 = put_next _ _ _ _ _ _ c.put-at-4.ensures.end c.put-at-4.ensures.bytes s3 in
+    let s5 = put_next _ _ _ _ _ _ c.put-at-5.ensures.end c.put-at-5.ensures.bytes s4 in
+    let s6 = put_next _ _ _ _ _ _ c.put.ensures.end c.put.ensures.bytes s5 in
+    s6.is ∙ parts_are (header_of c.args.header.now) _ _ _ _ _ c.mark_of.ensures c.to_le_bytes.ensures c.to_le_bytes-2.ensures c.to_le_bytes-3.ensures c.to_le_bytes-4.ensures

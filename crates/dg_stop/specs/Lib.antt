@@ -1,0 +1,11 @@
+pub mod Changes
+pub mod Commits
+pub mod Headers
+pub mod Layouts
+pub mod Pages
+pub mod Phases
+pub mod Reopens
+pub mod Serving
+pub mod Stops
+pub mod Tries
+pub mod Values

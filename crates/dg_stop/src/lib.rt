@@ -1,0 +1,20 @@
+//! Commits of members that may be stopped at any call: each page of a member has two places, and a commit's table names one of them. A commit
+//! over all members leaves what is reopened, or makes it what the members hold. Beside it stand the laws of what is reopened.
+#![tactic(auto)]
+
+mod commits;
+mod headers;
+mod laws;
+mod pages;
+mod phases;
+mod tries;
+
+pub use commits::table_len;
+pub use headers::{Header, fill_header, write_header};
+pub use laws::{
+    blanks_leave_rest, openings_leave_kept, pages_are_patched, stops_leave_old_or_new,
+    writes_leave_kept,
+};
+pub use pages::write_part;
+pub use phases::{MEMBERS, Places, commit_once, next_after};
+pub use tries::commit_all;
