@@ -132,9 +132,9 @@ pub enough : (lost : ℕ) (table : Table) → IsTable table → (IsTooFew (place
 enough lost table is many =
     let left = places_left lost table.shape.b in
     left_is_table left table is (places_ascend lost table.shape.b) (few lost table.shape.b)
-    (elim (cases_lt (length left) table.shape.m) [ | inl less ↦ absurd (many (inl less)) | inr not ↦ not ])
-    (elim (cases_lt (length left) 2) [ | inl less ↦ absurd (many (inr (inl less))) | inr not ↦ not ])
-    (elim (cases_lt (length left * table.shape.k) table.shape.n) [ | inl less ↦ absurd (many (inr (inr less))) | inr not ↦ not ])
+    (elim (cases_lt (length left) table.shape.m) [ inl less ↦ absurd (many (inl less)) | inr not ↦ not ])
+    (elim (cases_lt (length left) 2) [ inl less ↦ absurd (many (inr (inl less))) | inr not ↦ not ])
+    (elim (cases_lt (length left * table.shape.k) table.shape.n) [ inl less ↦ absurd (many (inr (inr less))) | inr not ↦ not ])
   where
     few : (lost b : ℕ) → length (places_left lost b) ≤ b
     few lost b = let both = length-filter_both (λ s. bit_at lost s == 0) (λ s. not (bit_at lost s == 0)) (λ s. refl) (range_with_len 0 b) in let long = length-range_with_len 0 b in omega (arith, both, long)

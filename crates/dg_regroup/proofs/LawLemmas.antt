@@ -91,9 +91,9 @@ pub cut_same : (lost : ℕ) (table : Table) (members : ℕ → MemberState) → 
 cut_same lost table members is marked = on_range (λ b. falls_out (places_left lost table.shape.b) (sites_in table b)) (λ b. is_gone table members b) table.shape.n one where
   one : (b : ℕ) → b < table.shape.n → falls_out (places_left lost table.shape.b) (sites_in table b) ≡ is_gone table members b
   one b low = ap (λ (t : Bool). has_site (sites_in table b) && t) (none_left (places_left lost table.shape.b) members (sites_in table b) (λ k d within.
-    (let site = get_or (sites_in table b) k d in
-    let here = is.boundaries b site.boundary site.slot (k, within, get_or_default (sites_in table b) k site d within) in
-    left_is lost table.shape.b site.boundary here ∙ stays_of lost table.shape members marked site.boundary here)))
+      (let site = get_or (sites_in table b) k d in
+      let here = is.boundaries b site.boundary site.slot (k, within, get_or_default (sites_in table b) k site d within) in
+      left_is lost table.shape.b site.boundary here ∙ stays_of lost table.shape members marked site.boundary here)))
 
 -- ---- bytes
 

@@ -131,7 +131,7 @@ module _ {R : Type 0} (rack : Ghosts R) where
       without (member_at it.live.items member) keeps.0,
       rests.rest keeps.0 keeps.1 (below keeps.0 kept keeps.2 more),
       rw same (rest_at it.live.items member keeps.0 kept (λ q here. same_member it.live.items member q it.ascend there here) keeps.2
-      (rest_nothing (live_stands rack it) it.live.items member (member_at it.live.items member) keeps.0 kept keeps.2 more)),
+          (rest_nothing (live_stands rack it) it.live.items member (member_at it.live.items member) keeps.0 kept keeps.2 more)),
     );
     any = any;
   } where

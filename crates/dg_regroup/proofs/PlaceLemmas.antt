@@ -75,7 +75,6 @@ no_place lost t b out = elim (cases_lt (place_in (places_left lost b) t) (length
 
 -- ---- the table
 
-
 -- it tells the places of the boundaries below s, and no other ones
 pub record IsTold (lost s count : ℕ) (places : List (Option ℕ)) : Type 0 where
   pub count_is : count ≡ length (places_left lost s)

@@ -59,7 +59,7 @@ calls_counted live [] = refl
 calls_counted live (call ∷ rest) = one (calls_counted live rest) (is_passed live call) where
   one : length (calls_below live rest) + count_absent live rest ≡ length rest → (passed : Bool)
       → length (map (call_below live) (if passed then call ∷ filter (is_passed live) rest else filter (is_passed live) rest))
-        + length (if not passed then call ∷ filter (λ call. not (is_passed live call)) rest else filter (λ call. not (is_passed live call)) rest) ≡ suc (length rest)
+      + length (if not passed then call ∷ filter (λ call. not (is_passed live call)) rest else filter (λ call. not (is_passed live call)) rest) ≡ suc (length rest)
   one h true = omega (arith, h)
   one h false = omega (arith, h)
 

@@ -4,7 +4,7 @@ ghost use Rattle.byteorder.specs.Endian.{little_bytes};
 ghost use Rattle.dg_regroup.specs.ExtraBytes.{HasNoExtra, HasNoFront, HasNoNumbers, SaysFront, SaysNumbers};
 ghost use Rattle.dg_regroup.specs.Extras.{IsExtra, extra_bytes, numbers_bytes};
 
-use crate::lives::{ascend, are_live};
+use crate::lives::{are_live, ascend};
 use dg_model::{Bytes, NoMemory, Numbers};
 use std::alloc::Global;
 
