@@ -1,0 +1,11 @@
+pub mod CutLaws
+pub mod CutViews
+pub mod Cuts
+pub mod ExtraBytes
+pub mod Extras
+pub mod LiveGhosts
+pub mod LiveLaws
+pub mod LiveMade
+pub mod LivePlaces
+pub mod LiveRacks
+pub mod PlaceTables

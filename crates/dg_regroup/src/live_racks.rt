@@ -1,0 +1,201 @@
+// A rack of the boundaries in use.
+ghost use Rattle.std.specs.Prelude.{◌≡◌, ◌≢◌, ◌<◌, ◌≤◌, All, IfNone, IfSome, IsErr, length, slice_index, true, false};
+ghost use Rattle.std.specs.List.Sorted.{IsStrictlyIncreasing};
+ghost use Rattle.dg_model.specs.Causes.{Rose, RoseByOne};
+ghost use Rattle.dg_model.specs.Lives.{member_at};
+
+use crate::lives::drop_marked;
+use dg_io::{Failed, Rack, Reduces};
+
+const MEMBERS: usize = 256;
+
+/// A rack over a rack, of which some boundaries are in use: member `2 * x + j` is member `2 * live[x] + j` of the rack
+/// below. Members behind the last of them are never there: they have no bytes, and a call on one fails but for `attach`.
+#[derive(Drop)]
+pub struct LiveRack<R> {
+    rack: R,
+    /// The boundaries in use.
+    live: Vec<u8>,
+    /// How often each member that isn't there has failed.
+    absent: [u64; MEMBERS],
+    /// Calls on members that aren't there.
+    calls: u64,
+    /// Those of them that write.
+    writes: u64,
+    ghost ascend: { IsStrictlyIncreasing live.items },
+    ghost few: { All (λ s. s < 16) live.items },
+}
+
+impl<R> LiveRack<R> {
+    ghost use Rattle.std.specs.Prelude.{◌≡◌, ◌≢◌, ◌<◌, ◌≤◌, All, IfNone, IfSome, IsErr, length, slice_index, true, false, ℕ};
+    ghost use Rattle.std.specs.List.Sorted.{IsStrictlyIncreasing};
+    ghost use Rattle.dg_model.specs.Causes.{Rose, RoseByOne};
+    ghost use Rattle.dg_model.specs.Lives.{member_at};
+    ghost use Rattle.dg_regroup.specs.LiveRacks.{AreOwn, HasNoneAbsent, is_there, live_in, rack_in};
+
+    /// A rack of these boundaries of a rack, which ascend, each below 16.
+    pub fn new(rack: R, live: Vec<u8>) -> LiveRack<R>
+        requires ascend { IsStrictlyIncreasing live.items }
+        requires few { All (λ s. s < 16) live.items }
+        ensures rack { rack_in result ≡ rack }
+        ensures live { live_in result ≡ live.items }
+        ensures none { HasNoneAbsent result }
+    {
+        LiveRack {
+            rack,
+            live,
+            absent: [0; MEMBERS],
+            calls: 0,
+            writes: 0,
+        }
+    }
+
+    /// The boundaries in use, ascending, by their numbers in the rack below.
+    pub fn live(&self) -> &[u8]
+        ensures live { result.now ≡ live_in self.now }
+        ensures ascend { IsStrictlyIncreasing result.now }
+        ensures few { All (λ s. s < 16) result.now }
+    {
+        &self.live
+    }
+
+    /// The number of a member in the rack below, if it is there.
+    fn number(&self, member: u8) -> Option<u8>
+        ensures there { IfSome result (λ number. (is_there (live_in self.now) member ≡ true) × (number ≡ member_at (live_in self.now) member)) }
+        ensures absent { IfNone result (is_there (live_in self.now) member ≡ false) }
+    {
+        let boundary = *self.live.get(member as usize / 2)?;
+        Some(2 * boundary + member % 2)
+    }
+
+    /// One more call on a member that isn't there.
+    fn count(&mut self)
+        ensures own { AreOwn self.old self.new }
+        ensures absent { self.new.absent ≡ self.old.absent }
+        ensures calls { RoseByOne self.old.calls self.new.calls }
+        ensures writes { self.new.writes ≡ self.old.writes }
+    {
+        self.calls = self.calls.saturating_add(1);
+    }
+
+    /// A call on a member that isn't there fails, and that is counted.
+    fn refuse(&mut self, member: u8) -> Result<(), Failed>
+        ensures err { IsErr result }
+        ensures own { AreOwn self.old self.new }
+        ensures rose { Rose (slice_index self.old.absent member) (slice_index self.new.absent member) }
+        ensures later { slice_index self.old.absent member ≤ slice_index self.new.absent member }
+        ensures others { (q : ℕ) → q ≢ member → slice_index self.new.absent q ≡ slice_index self.old.absent q }
+        ensures calls { RoseByOne self.old.calls self.new.calls }
+        ensures writes { self.new.writes ≡ self.old.writes }
+    {
+        let count = self.absent[member as usize];
+        self.absent[member as usize] = count.saturating_add(1);
+        self.count();
+        Err(Failed)
+    }
+
+    /// The same of a call that writes.
+    fn refuse_write(&mut self, member: u8) -> Result<(), Failed>
+        ensures err { IsErr result }
+        ensures own { AreOwn self.old self.new }
+        ensures rose { Rose (slice_index self.old.absent member) (slice_index self.new.absent member) }
+        ensures later { slice_index self.old.absent member ≤ slice_index self.new.absent member }
+        ensures others { (q : ℕ) → q ≢ member → slice_index self.new.absent q ≡ slice_index self.old.absent q }
+        ensures calls { RoseByOne self.old.calls self.new.calls }
+        ensures writes { RoseByOne self.old.writes self.new.writes }
+    {
+        self.writes = self.writes.saturating_add(1);
+        self.refuse(member)
+    }
+}
+
+impl<R: Rack> Rack for LiveRack<R> {
+    ghost use Rattle.dg_regroup.specs.LiveRacks.{live_bytes, live_counts, live_disks, live_keeps, live_name, live_stands, live_steady, live_tells};
+    ghost use Rattle.dg_regroup.specs.LiveMade.{LiveMade};
+    ghost use Rattle.dg_regroup.specs.LiveLaws.{live_after, live_both, live_none, live_told, live_tells_told};
+
+    ghost name = { live_name R.Rack };
+
+    ghost bytes = { live_bytes R.Rack };
+
+    ghost counts = { live_counts R.Rack };
+
+    ghost stands = { live_stands R.Rack };
+
+    ghost steady = { live_steady R.Rack };
+
+    ghost tells = { live_tells R.Rack };
+
+    ghost keeps = { live_keeps R.Rack };
+
+    ghost disks = { live_disks R.Rack };
+
+    ghost made = { LiveMade R.Rack };
+
+    fn blank(&mut self, member: u8, length: u64) -> Result<(), Failed> {
+        match self.number(member) {
+            Some(number) => self.rack.blank(number, length),
+            None => self.refuse_write(member),
+        }
+    }
+
+    fn attach(&mut self, member: u8) -> Result<Option<u64>, Failed> {
+        match self.number(member) {
+            Some(number) => self.rack.attach(number),
+            None => {
+                self.count();
+                Ok(None)
+            }
+        }
+    }
+
+    fn read(&mut self, member: u8, place: u64, buf: &mut [u8]) -> Result<(), Failed> {
+        match self.number(member) {
+            Some(number) => self.rack.read(number, place, buf),
+            None => self.refuse(member),
+        }
+    }
+
+    fn write(&mut self, member: u8, place: u64, buf: &[u8]) -> Result<(), Failed> {
+        match self.number(member) {
+            Some(number) => self.rack.write(number, place, buf),
+            None => self.refuse_write(member),
+        }
+    }
+
+    fn extend(&mut self, member: u8, length: u64) -> Result<(), Failed> {
+        match self.number(member) {
+            Some(number) => self.rack.extend(number, length),
+            None => self.refuse_write(member),
+        }
+    }
+
+    ghost made_none = { λ s. live_none _ R.made_none s };
+
+    ghost made_both = { λ a b c x y first second. live_both _ R.made_both a b c x y first second };
+
+    ghost after = { λ a b calls made. live_after _ R.after a b calls made };
+
+    ghost tells_told = { λ s q h. live_tells_told R.bytes R.tells R.tells_told s q h };
+
+    ghost told = { λ s q h stand. live_told R.bytes R.stands R.tells R.told s q h stand };
+}
+
+impl<R: Rack> Reduces for LiveRack<R> {
+    ghost use Rattle.std.specs.Prelude.{◌≡◌, length};
+    ghost use Rattle.dg_io.specs.Reduced.{places_left, LeavesLeft};
+    ghost use Rattle.dg_regroup.specs.LiveGhosts.{live};
+    ghost use Rattle.dg_regroup.specs.LiveRacks.{live_count, live_in, live_left, rack_in};
+
+    ghost boundaries = { live_count };
+
+    /// Bits behind the last boundary are no one's.
+    fn drop_lost(&mut self, lost: u16)
+        ensures leaves { LeavesLeft (live R.Rack) (places_left lost (live_count self.old)) self.old self.new }
+        ensures boundaries { live_count self.new ≡ length (places_left lost (live_count self.old)) }
+        ensures live { live_in self.new ≡ live_left (places_left lost (live_count self.old)) (live_in self.old) }
+        ensures rack { rack_in self.new ≡ rack_in self.old }
+    {
+        drop_marked(&mut self.live, lost);
+    }
+}
