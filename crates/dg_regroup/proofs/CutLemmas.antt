@@ -1,12 +1,11 @@
 -- What is left of sites, blocks and homes, one after another.
-use Rattle.std.proofs.Common.{◌≡◌, ◌∙◌, ◌+◌, ◌*◌, ◌<◌, ◌≤◌, ◌==◌, ◌⊎◌, inl, inr, ◌↔◌, ℕ, zero, suc, Bool, true, false, not, List, [], ◌∷◌, ◌++◌, Option, None, Some, All, map, filter, get_or, length, take, drop, if◌then◌else◌, append_assoc, refl, sym, ap, subst, arith}
+use Rattle.std.proofs.Common.{◌≡◌, ◌∙◌, ◌+◌, ◌*◌, ◌<◌, ◌≤◌, ◌==◌, inl, inr, ℕ, Bool, true, false, not, List, [], ◌∷◌, ◌++◌, Option, None, Some, map, filter, get_or, length, take, drop, if◌then◌else◌, append_assoc, refl, sym, ap, subst, arith}
 use Rattle.std.specs.Prelude.{flat_map, is_some, option_to_list, ◌&&◌}
 use Rattle.std.specs.Global.{Vec}
 use Rattle.std.specs.List.{range_with_len}
 use Rattle.std.proofs.lemmas.Bool.{cases_lt, false≢true}
-use Rattle.std.proofs.lemmas.Bool.Decides.{nat_tests}
 use Rattle.std.proofs.lemmas.Grind.{flat_map-append}
-use Rattle.std.proofs.lemmas.List.{append-nil, length-map, map-append, map_more, take-append-drop, take_all, take_more}
+use Rattle.std.proofs.lemmas.List.{append-nil, map-append, map_more, take-append-drop, take_all, take_more}
 use Rattle.std.proofs.lemmas.List.Elements.{filter-append}
 use Rattle.std.proofs.lemmas.List.Filters.{length-filter_both}
 use Rattle.std.proofs.lemmas.List.FromFn.{length-range_with_len}
@@ -15,14 +14,14 @@ use Rattle.dg_io.specs.Reduced.{places_left}
 use Rattle.dg_map.specs.Restores.{AreSites, table_with}
 use Rattle.dg_model.proofs.RegroupLaws.{left_is_table}
 use Rattle.dg_model.specs.Lives.{place_in}
-use Rattle.dg_model.specs.Regroups.{home_left, homes_left, is_left, moved_home, shape_left, site_left, sites_left, table_left}
+use Rattle.dg_model.specs.Regroups.{home_left, homes_left, is_left, shape_left, site_left, sites_left, table_left}
 use Rattle.dg_model.specs.Sites.{has_site}
 use Rattle.dg_model.specs.Tables.{IsTable, Table, sites_in}
 use Rattle.dg_model.specs.declared.homes.Home.{Home}
 use Rattle.dg_model.specs.declared.shapes.Shape.{Shape}
 use Rattle.dg_model.specs.declared.sites.Site.{Site}
 use Rattle.dg_regroup.proofs.LeftLemmas.{filter_more, places_ascend}
-use Rattle.dg_regroup.specs.Cuts.{IsTooFew, cut_off, falls_out, moved_site, new_place}
+use Rattle.dg_regroup.specs.Cuts.{IsTooFew, falls_out, moved_site, new_place}
 
 -- ---- sites
 

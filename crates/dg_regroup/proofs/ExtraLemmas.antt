@@ -1,5 +1,5 @@
 -- What bytes say, and that they say one thing alone.
-use Rattle.std.proofs.Common.{◌≡◌, ◌∙◌, ◌+◌, ◌*◌, ◌-◌, ◌<◌, ◌≤◌, ◌^◌, ℕ, zero, suc, Bool, true, false, List, [], ◌∷◌, ◌++◌, All, get_or, length, take, drop, refl, sym, ap, subst, arith, append_assoc, length-append, length-drop, ◌⊎◌, inl, inr}
+use Rattle.std.proofs.Common.{◌≡◌, ◌∙◌, ◌+◌, ◌*◌, ◌<◌, ◌≤◌, ◌^◌, ℕ, zero, suc, List, [], ◌∷◌, ◌++◌, All, get_or, length, take, drop, refl, sym, ap, subst, arith, append_assoc, length-append, length-drop, inl, inr}
 use Rattle.std.specs.Prelude.{flat_map}
 use Rattle.std.specs.List.Sorted.{IsStrictlyIncreasing}
 use Rattle.std.proofs.lemmas.Bool.{cases_lt}
@@ -9,7 +9,6 @@ use Rattle.std.proofs.lemmas.List.{append-nil, take_all}
 use Rattle.std.proofs.lemmas.List.Concat.{flat_map-cons}
 use Rattle.byteorder.specs.Endian.{little_bytes, little_number}
 use Rattle.byteorder.specs.Numbers.{little_number-reads_back}
-use Rattle.dg_model.specs.Lives.{AreLive}
 use Rattle.dg_regroup.specs.ExtraBytes.{SaysFront, SaysNumbers}
 use Rattle.dg_regroup.specs.Extras.{IsExtra, MayBeLive, extra_bytes, front_bytes, numbers_bytes}
 use Rattle.dg_regroup.specs.declared.extras.Extra.{Extra}

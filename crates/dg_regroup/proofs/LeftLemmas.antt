@@ -1,5 +1,5 @@
 -- A rack of the boundaries in use that goes on with fewer of them.
-use Rattle.std.proofs.Common.{◌≡◌, ◌∙◌, ◌↔◌, ◌+◌, ◌-◌, ◌*◌, ◌/◌, ◌%◌, ◌<◌, ◌≤◌, ◌==◌, ℕ, suc, Bool, true, false, List, [], ◌∷◌, ◌++◌, Option, None, Some, All, map, filter, length, get_or, slice_index, nat_lt, if◌then◌else◌, refl, sym, ap, subst, arith, add-one, zero-add}
+use Rattle.std.proofs.Common.{◌≡◌, ◌∙◌, ◌+◌, ◌-◌, ◌*◌, ◌/◌, ◌%◌, ◌<◌, ◌≤◌, ◌==◌, ℕ, Bool, true, false, List, [], ◌∷◌, ◌++◌, None, Some, All, filter, length, get_or, slice_index, nat_lt, if◌then◌else◌, refl, sym, ap, subst, arith, add-one, zero-add}
 use Rattle.std.specs.Int.{bit_at}
 use Rattle.std.specs.List.{range_with_len}
 use Rattle.std.specs.List.Sorted.{IsStrictlyIncreasing}
@@ -8,14 +8,14 @@ use Rattle.std.proofs.lemmas.List.{append-nil, get_or-map, length-map, map-appen
 use Rattle.std.proofs.lemmas.List.Elements.{All-filter, filter-append}
 use Rattle.std.proofs.lemmas.List.FromFn.{get_or-range_with_len, length-range_with_len}
 use Rattle.std.proofs.lemmas.List.Kept.{IsStrictlyIncreasing-filter}
-use Rattle.dg_io.specs.Kept.{IsNothing, Kept}
+use Rattle.dg_io.specs.Kept.{Kept}
 use Rattle.dg_io.specs.Reduced.{IsKeptLeft, LeavesLeft, member_before, places_left}
 use Rattle.dg_io.specs.declared.outside.Rack.{Ghosts}
 use Rattle.dg_model.proofs.ActionLists.{range_last}
 use Rattle.dg_model.proofs.RegroupLaws.{rises}
 use Rattle.dg_model.specs.Lives.{boundary_at, member_at}
 use Rattle.dg_regroup.specs.LiveGhosts.{live}
-use Rattle.dg_regroup.specs.LiveRacks.{IsKeptAt, is_there, live_keeps, live_left, live_tells, passed}
+use Rattle.dg_regroup.specs.LiveRacks.{IsKeptAt, is_there, live_left, passed}
 use Rattle.dg_regroup.specs.declared.live_racks.LiveRack.{LiveRack}
 
 -- ---- the list

@@ -1,21 +1,21 @@
 -- A call on a member that is there leaves of a rack of the boundaries in use what it left of the rack below.
-use Rattle.std.proofs.Common.{◌≡◌, ◌≢◌, ◌∙◌, ◌↔◌, ◌+◌, ◌<◌, ◌≤◌, ◌⊎◌, inl, inr, ℕ, Bool, true, false, List, [], ◌∷◌, Option, None, Some, Result, Ok, Err, IsSome, OnOk, OnErr, length, slice_index, if◌then◌else◌, refl, sym, ap, subst, arith}
-use Rattle.std.specs.Prelude.{not, ◌==◌}
+use Rattle.std.proofs.Common.{◌≡◌, ◌≢◌, ◌∙◌, ◌+◌, ◌≤◌, ◌⊎◌, inl, inr, ℕ, Bool, true, false, List, [], ◌∷◌, Option, None, Some, Result, IsSome, slice_index, if◌then◌else◌, refl, sym, ap, subst, arith}
+use Rattle.std.specs.Prelude.{◌==◌}
 use Rattle.std.proofs.lemmas.Bool.{cases_Bool, false≢true}
 use Rattle.std.proofs.lemmas.Bool.Decides.{nat_tests}
 use Rattle.std.specs.List.Sorted.{IsStrictlyIncreasing}
 use Rattle.dg_model.proofs.SiteLists.{apart_test, same_test}
 use Rattle.dg_io.specs.Calls.{LeavesRack}
 use Rattle.dg_io.specs.Kept.{HasAnother, IsNothing, Kept, KeepsRest, without}
-use Rattle.dg_io.specs.RackCalls.{RackCall, Each, IsNotOn, member_of}
+use Rattle.dg_io.specs.RackCalls.{RackCall, member_of}
 use Rattle.dg_io.specs.RackWords.{Leaves}
 use Rattle.dg_io.specs.Told.{IsSame, Told}
 use Rattle.dg_io.specs.declared.outside.Rack.{Ghosts}
-use Rattle.dg_model.specs.Causes.{Rose, RoseByOne}
+use Rattle.dg_model.specs.Causes.{RoseByOne}
 use Rattle.dg_model.specs.Lives.{member_at}
-use Rattle.dg_regroup.specs.LiveMade.{LiveMade, call_below, calls_below, count_absent, is_passed}
+use Rattle.dg_regroup.specs.LiveMade.{LiveMade, call_below, is_passed}
 use Rattle.dg_regroup.specs.LivePlaces.{by_there, member_differs}
-use Rattle.dg_regroup.specs.LiveRacks.{AreOwn, IsKeptAt, is_there, live_bytes, live_counts, live_keeps, live_name, live_stands, live_steady, named}
+use Rattle.dg_regroup.specs.LiveRacks.{AreOwn, IsKeptAt, is_there, live_bytes, live_counts, live_keeps, live_name, live_stands, live_steady}
 use Rattle.dg_regroup.specs.declared.live_racks.LiveRack.{LiveRack}
 
 rose_more : (before now own : ℕ) → RoseByOne before now → RoseByOne (before + own) (now + own)

@@ -1,5 +1,5 @@
 -- What reading bytes has shown of them.
-use Rattle.std.proofs.Common.{◌≡◌, ◌∙◌, ◌<◌, ◌^◌, ◌++◌, ℕ, List, All, length, refl, sym, ap, subst}
+use Rattle.std.proofs.Common.{◌≡◌, ◌∙◌, ◌++◌, ℕ, List, sym, ap, subst}
 use Rattle.std.specs.List.Sorted.{IsStrictlyIncreasing}
 use Rattle.dg_regroup.proofs.ExtraLemmas.{front_once, numbers_once, says_front, says_numbers}
 use Rattle.dg_regroup.specs.ExtraBytes.{HasNoExtra, HasNoFront, HasNoNumbers, SaysFront, SaysNumbers}

@@ -1,5 +1,5 @@
 -- Fetches of a view of which some blocks were cut, one after another.
-use Rattle.std.proofs.Common.{◌≡◌, ◌∙◌, ℕ, Bool, not, List, ◌++◌, filter, sym, subst}
+use Rattle.std.proofs.Common.{◌≡◌, ◌∙◌, ℕ, Bool, not, List, ◌++◌, sym, subst}
 use Rattle.std.proofs.lemmas.List.Elements.{filter-append}
 use Rattle.dg_model.specs.Marks.{is_marked}
 use Rattle.dg_regroup.specs.CutViews.{uncut}

@@ -1,24 +1,23 @@
 -- Calls of a rack of the boundaries in use leave what each of them leaves.
-use Rattle.std.proofs.Common.{◌≡◌, ◌≢◌, ◌∙◌, ◌↔◌, ◌+◌, ◌/◌, ◌<◌, ◌≤◌, ℕ, Bool, true, false, List, [], ◌∷◌, ◌++◌, Option, None, Some, IsSome, length, slice_index, nat_lt, if◌then◌else◌, refl, sym, ap, subst, arith}
+use Rattle.std.proofs.Common.{◌≡◌, ◌≢◌, ◌∙◌, ◌+◌, ◌/◌, ◌<◌, ◌≤◌, ℕ, Bool, true, false, List, [], ◌++◌, Option, None, Some, IsSome, length, nat_lt, if◌then◌else◌, refl, sym, subst, arith}
 use Rattle.std.specs.Global.{Vec}
 use Rattle.std.specs.List.Sorted.{IsStrictlyIncreasing}
 use Rattle.std.proofs.lemmas.Bool.{false≢true}
 use Rattle.std.proofs.lemmas.Bool.Decides.{nat_tests}
-use Rattle.dg_io.specs.Disks.{DisksAfter, DisksRise, IsGroupSame}
-use Rattle.dg_io.specs.Kept.{Kept, KeepsOn}
+use Rattle.dg_io.specs.Disks.{DisksAfter, IsGroupSame}
+use Rattle.dg_io.specs.Kept.{KeepsOn}
 use Rattle.dg_io.specs.MadeLaws.{each_back, each_front}
-use Rattle.dg_io.specs.RackCalls.{RackCall, Each, IsNoBlank, IsNoBlankAt, IsNotAt, IsNotOn, member_of}
+use Rattle.dg_io.specs.RackCalls.{RackCall, Each, IsNoBlank, IsNoBlankAt, IsNotAt, IsNotOn}
 use Rattle.dg_io.specs.RackCalls.RackCall.{looks, blanks, calls}
 use Rattle.dg_io.specs.RackWords.{After}
 use Rattle.dg_io.specs.Told.{IsSame, Told}
 use Rattle.dg_io.specs.declared.outside.Rack.{Ghosts}
 use Rattle.dg_model.specs.Causes.{Rose}
 use Rattle.dg_model.specs.Lives.{boundary_at, member_at}
-use Rattle.dg_model.specs.States.{CountsRise}
 use Rattle.dg_regroup.specs.LiveGhosts.{live as live_words}
 use Rattle.dg_regroup.specs.LiveMade.{LiveMade, call_below, calls_below, count_absent, is_passed}
 use Rattle.dg_regroup.specs.LivePlaces.{by_there, calls_below_both, calls_counted, count_absent_both, each_below, live_differs, member_differs}
-use Rattle.dg_regroup.specs.LiveRacks.{IsKeptAt, is_there, live_bytes, live_counts, live_disks, live_keeps, live_name, live_stands, live_steady, live_tells, named, passed}
+use Rattle.dg_regroup.specs.LiveRacks.{is_there, live_disks, live_keeps, passed}
 use Rattle.dg_regroup.specs.declared.live_racks.LiveRack.{LiveRack}
 
 -- what tells its bytes, and what that is worth, of members that are there

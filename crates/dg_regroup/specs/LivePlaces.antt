@@ -1,12 +1,12 @@
 -- Members and calls by places.
-use Rattle.std.proofs.Common.{◌≡◌, ◌≢◌, ◌⊎◌, inl, inr, ◌+◌, ◌*◌, ◌/◌, ◌%◌, ◌<◌, ℕ, suc, Bool, true, false, not, List, [], ◌∷◌, ◌++◌, length, slice_index, nat_lt, if◌then◌else◌, AllPairs, refl, sym, ap, subst, arith, filter, map, ◌∙◌, length-append}
+use Rattle.std.proofs.Common.{◌≡◌, ◌≢◌, inl, inr, ◌+◌, ◌*◌, ◌/◌, ◌%◌, ◌<◌, ℕ, suc, Bool, true, false, not, List, [], ◌∷◌, ◌++◌, length, slice_index, if◌then◌else◌, refl, ap, arith, filter, map, ◌∙◌, length-append}
 use Rattle.std.proofs.lemmas.List.{map-append}
 use Rattle.std.proofs.lemmas.List.Elements.{filter-append}
 use Rattle.std.proofs.lemmas.Bool.{cases_order}
 use Rattle.std.proofs.lemmas.Bool.Decides.{nat_tests}
 use Rattle.std.proofs.lemmas.List.Kept.{AllPairs-from_increasing}
 use Rattle.std.specs.List.Sorted.{IsStrictlyIncreasing}
-use Rattle.dg_io.specs.RackCalls.{RackCall, Each, member_of}
+use Rattle.dg_io.specs.RackCalls.{RackCall, Each}
 use Rattle.dg_model.specs.Lives.{member_at}
 use Rattle.dg_regroup.specs.LiveRacks.{is_there}
 use Rattle.dg_regroup.specs.LiveMade.{call_below, calls_below, count_absent, is_passed}

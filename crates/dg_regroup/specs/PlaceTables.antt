@@ -1,5 +1,5 @@
 -- A table of the places that boundaries get.
-use Rattle.std.specs.Prelude.{◌≡◌, ◌≤◌, ℕ, List, None, length, slice_index_or}
+use Rattle.std.specs.Prelude.{◌≡◌, ℕ, List, None, length, slice_index_or}
 use Rattle.dg_io.specs.Reduced.{places_left}
 use Rattle.dg_regroup.specs.Cuts.{new_place}
 use Rattle.dg_regroup.specs.declared.places.Places.TheInside.{Inside}

@@ -1,4 +1,4 @@
-use Rattle.std.proofs.Common.{◌≡◌, ◌∙◌, ◌++◌, ◌<◌, ℕ, List, filter, refl, sym, ap, arith}
+use Rattle.std.proofs.Common.{◌∙◌, ◌++◌, ℕ, List, refl, sym, ap}
 use Rattle.std.specs.Prelude.{option_to_list}
 use Rattle.dg_regroup.proofs.CutLemmas.{cut_more}
 use Rattle.dg_regroup.proofs.cut_overs.cut_off.Goals as goal

@@ -1,4 +1,4 @@
-use Rattle.std.proofs.Common.{◌≡◌, ◌∙◌, ◌<◌, ℕ, Option, sym, ap, arith}
+use Rattle.std.proofs.Common.{◌∙◌, Option, sym, ap, arith}
 use Rattle.std.specs.Prelude.{is_some}
 use Rattle.dg_model.specs.declared.sites.Site.{Site}
 use Rattle.dg_regroup.proofs.CutLemmas.{none_more, stays_in}

@@ -1,6 +1,5 @@
-use Rattle.std.proofs.Common.{◌≡◌, ◌∙◌, ◌++◌, ◌<◌, ℕ, List, Option, length, take, refl, sym, ap, arith}
+use Rattle.std.proofs.Common.{◌∙◌, ◌++◌, List, sym, ap, arith}
 use Rattle.std.specs.Prelude.{option_to_list}
-use Rattle.dg_model.specs.Regroups.{homes_left}
 use Rattle.dg_model.specs.declared.homes.Home.{Home}
 use Rattle.dg_regroup.proofs.CutLemmas.{homes_more}
 use Rattle.dg_regroup.proofs.cut_overs.homes_left.Goals as goal

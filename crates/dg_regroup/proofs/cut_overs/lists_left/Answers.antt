@@ -1,4 +1,4 @@
-use Rattle.std.proofs.Common.{◌≡◌, ◌∙◌, ◌++◌, ◌<◌, ℕ, List, length, map, rules, refl, sym, ap, arith}
+use Rattle.std.proofs.Common.{◌∙◌, ◌<◌, List, length, map, rules, ap}
 use Rattle.std.specs.Global.{Vec}
 use Rattle.dg_model.specs.Regroups.{sites_left}
 use Rattle.dg_model.specs.declared.sites.Site.{Site}

@@ -1,5 +1,5 @@
-use Rattle.std.proofs.Common.{◌≡◌, sym}
-use Rattle.dg_regroup.proofs.CutLemmas.{moved_by, moved_none}
+use Rattle.std.proofs.Common.{sym}
+use Rattle.dg_regroup.proofs.CutLemmas.{moved_by}
 use Rattle.dg_regroup.proofs.cut_overs.moved_site.Goals as goal
 
 pub returns : goal.returns

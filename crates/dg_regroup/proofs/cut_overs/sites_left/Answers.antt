@@ -1,4 +1,4 @@
-use Rattle.std.proofs.Common.{◌≡◌, ◌∙◌, ◌++◌, ◌<◌, ℕ, List, Option, length, take, sym, ap, arith}
+use Rattle.std.proofs.Common.{◌∙◌, ◌++◌, List, Option, take, sym, ap, arith}
 use Rattle.std.specs.Prelude.{option_to_list}
 use Rattle.dg_model.specs.Regroups.{sites_left}
 use Rattle.dg_model.specs.declared.sites.Site.{Site}

@@ -1,4 +1,4 @@
-use Rattle.std.proofs.Common.{◌≡◌, ◌<◌, ◌≤◌, ℕ, List, All, length, take, refl, subst, arith, rules}
+use Rattle.std.proofs.Common.{◌<◌, ℕ, List, All, refl, subst, arith}
 use Rattle.std.proofs.lemmas.List.{take_all}
 use Rattle.std.proofs.lemmas.List.Elements.{All-more}
 use Rattle.dg_regroup.proofs.lives.are_below.Goals as goal

@@ -1,7 +1,6 @@
-use Rattle.std.proofs.Common.{◌≡◌, ◌<◌, ◌≤◌, ℕ, length, get_or, rules, refl, sym, subst, ◌∙◌, arith}
-use Rattle.std.specs.Prelude.{slice_set}
+use Rattle.std.proofs.Common.{◌≡◌, ◌<◌, length, get_or, rules, sym, ◌∙◌}
 use Rattle.std.proofs.lemmas.Grind.{get_or_default_zero}
-use Rattle.dg_regroup.proofs.DropLemmas.{IsDropped, keep_step, skip_step}
+use Rattle.dg_regroup.proofs.DropLemmas.{keep_step, skip_step}
 use Rattle.dg_regroup.proofs.lives.drop_marked.Goals as goal
 use Rattle.dg_regroup.proofs.lives.drop_marked.Goals.{then-not-is_lost, else-not-is_lost}
 

@@ -1,5 +1,4 @@
 use Rattle.std.proofs.Common.{◌≡◌, ◌<◌, ◌≤◌, ◌+◌, ◌-◌, ℕ, length, slice_index, subst, arith, rules}
-use Rattle.std.specs.List.Sorted.{IsStrictlyIncreasing}
 use Rattle.dg_regroup.proofs.lives.in_order.Goals as goal
 
 pub returns-then-live-place : goal.returns-then-live-place

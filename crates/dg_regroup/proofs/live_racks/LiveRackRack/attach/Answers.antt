@@ -1,7 +1,7 @@
-use Rattle.std.proofs.Common.{◌≡◌, ◌≢◌, ◌≤◌, ℕ, [], ◌∷◌, slice_index, refl, subst, arith}
+use Rattle.std.proofs.Common.{[], ◌∷◌, refl, subst}
 use Rattle.dg_io.specs.RackCalls.RackCall.{looks}
 use Rattle.dg_io.specs.RackWords.{Leaves}
-use Rattle.dg_regroup.proofs.LiveCalls.{IsThrough, leaves_through, made_beside, made_through}
+use Rattle.dg_regroup.proofs.LiveCalls.{leaves_through, made_through}
 use Rattle.dg_regroup.proofs.live_racks.LiveRackRack.attach.Goals as goal
 
 pub returns-in-Some-clause-leaves : goal.returns-in-Some-clause-leaves

@@ -1,8 +1,8 @@
-use Rattle.std.proofs.Common.{◌≡◌, ◌≢◌, ◌≤◌, ℕ, [], ◌∷◌, slice_index, refl, subst, arith}
+use Rattle.std.proofs.Common.{[], ◌∷◌, refl, subst}
 use Rattle.dg_io.specs.RackCalls.RackCall.{blanks}
 use Rattle.dg_io.specs.Kept.{KeepsRest}
 use Rattle.dg_io.specs.RackWords.{Leaves}
-use Rattle.dg_regroup.proofs.LiveCalls.{IsThrough, leaves_through, made_beside, made_through, rests_beside, rests_through}
+use Rattle.dg_regroup.proofs.LiveCalls.{leaves_through, made_through, rests_beside, rests_through}
 use Rattle.dg_regroup.proofs.live_racks.LiveRackRack.blank.Goals as goal
 
 pub returns-in-Some-clause-leaves : goal.returns-in-Some-clause-leaves

@@ -1,6 +1,5 @@
-use Rattle.std.proofs.Common.{◌≡◌, ◌<◌, ℕ, List, length, refl, sym, subst}
+use Rattle.std.proofs.Common.{length, refl}
 use Rattle.dg_io.specs.Reduced.{places_left}
-use Rattle.dg_regroup.specs.LiveRacks.{live_left}
 use Rattle.dg_regroup.proofs.LeftLemmas.{leaves_left, left_ascends, left_few, places_ascend, places_low}
 use Rattle.dg_regroup.proofs.live_racks.LiveRackReduces.drop_lost.Goals as goal
 

@@ -1,4 +1,4 @@
-use Rattle.std.proofs.Common.{◌≡◌, ◌<◌, ◌≤◌, ℕ, refl, sym, subst, arith}
+use Rattle.std.proofs.Common.{◌≡◌, ℕ, sym, subst, arith}
 use Rattle.dg_regroup.proofs.PlaceLemmas.{IsTold, told_all, told_more, told_none, told_on}
 use Rattle.dg_regroup.proofs.places.Places.new.Goals as goal
 use Rattle.dg_regroup.proofs.places.Places.new.Goals.{then-not-is_lost, else-not-is_lost}
