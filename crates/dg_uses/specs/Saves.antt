@@ -14,6 +14,7 @@ use Rattle.dg_model.specs.declared.events.Event.{Event}
 use Rattle.dg_model.specs.declared.events.Event.TheVariants.{Read}
 use Rattle.dg_model.specs.declared.replies.Reply.{Reply}
 use Rattle.dg_run.specs.Calls.{Facts}
+use Rattle.dg_saved.specs.Calls.{Facts as SavedFacts}
 use Rattle.dg_text.specs.Lines.{input_of}
 use Rattle.dg_text.specs.Replies.{output_of}
 use Rattle.dg_uses.specs.Answers.{TellsEach}
@@ -67,3 +68,9 @@ pub record HasGoneOn (old : State) (save : Save) (facts : Facts) : Type 0 where
   pub on : GoesOn old save facts.images facts.bytes facts.before facts.now events replies
   pub input : Told (λ b a. (b ≡ input_of events) × (a ≡ [])) facts.left facts.rest
   pub output : Told (Took (output_of replies)) facts.taken facts.given
+
+-- An event was answered by the array that went on, and the text of its reply was printed.
+pub record HasAnswered (old : State) (save : Save) (facts : SavedFacts) (event : Event) (text : Reply → List ℕ) : Type 0 where
+  pub reply : Reply
+  pub on : GoesOn old save facts.images facts.bytes facts.before facts.now (event ∷ []) (reply ∷ [])
+  pub output : Told (Took (text reply)) facts.taken facts.given

@@ -18,6 +18,6 @@ pub use replays::{
     refuse_the_second_line, replay_text,
 };
 pub use saves::{
-    replays_leave_saves, resume_what_is_left, saved_arrays_go_on, saved_blocks_are_read_again,
-    saves_are_found_again,
+    cat_what_is_left, replays_leave_saves, resume_what_is_left, saved_arrays_go_on,
+    saved_blocks_are_read_again, saves_are_found_again,
 };

@@ -1,5 +1,5 @@
 // Of a replay that ends with a save, and a call on what is left of its members.
-ghost use Rattle.std.specs.Prelude.{◌≡◌, ◌<◌, ◌++◌, ◌∷◌, [], All, ℕ, List, Option, map, string_bytes};
+ghost use Rattle.std.specs.Prelude.{◌≡◌, ◌⊎◌, ◌<◌, ◌++◌, ◌∷◌, [], All, ℕ, List, Option, map, string_bytes};
 ghost use Rattle.dg_kept.specs.Opened.{AreTold};
 ghost use Rattle.dg_kept.specs.Saved.{Save};
 ghost use Rattle.dg_kept.specs.SavedRuns.{CanAlwaysBeSaved, EndsWithSave, IsReading};
@@ -8,13 +8,14 @@ ghost use Rattle.dg_model.specs.Runs.{Trace};
 ghost use Rattle.dg_model.specs.States.{Counts, State};
 ghost use Rattle.dg_model.specs.declared.events.Event.{Event};
 ghost use Rattle.dg_model.specs.declared.replies.Reply.{Reply};
-ghost use Rattle.dg_run.specs.Calls.{Facts, facts_of};
+ghost use Rattle.dg_run.specs.Calls.{Facts, facts_of, met_by};
 ghost use Rattle.dg_run.specs.Replays.{Ran};
 ghost use Rattle.dg_run.specs.Resumes.{RanOn};
 ghost use Rattle.dg_saved.specs.Calls.{Facts as SavedFacts};
 ghost use Rattle.dg_saved.specs.Saved.{FoundNoState, FoundUnclean, HasRun};
+ghost use Rattle.dg_saved.specs.Texts.{cat_text};
 ghost use Rattle.dg_uses.specs.Promises.{IsToldAtEnd};
-ghost use Rattle.dg_uses.specs.Saves.{GivesSaved, GoesOn, HasGoneOn, IsFoundAgain};
+ghost use Rattle.dg_uses.specs.Saves.{GivesSaved, GoesOn, HasAnswered, HasGoneOn, IsFoundAgain};
 ghost use Rattle.dg_words.specs.Commands.{IsCommand};
 ghost use Rattle.dg_words.specs.declared.commands.Command.{Command};
 
@@ -93,6 +94,29 @@ pub fn resume_what_is_left<S: Source, K: Sink, R: Rack>(
         → IsFoundAgain old number last held save (R.bytes rack.old) (R.bytes rack.new) → NoneRose (R.counts rack.old).faults (R.counts rack.new).faults
         → result ≡ Status.Done
         → HasGoneOn old save (facts_of S.Source K.Sink R.Rack source.old source.new sink.old sink.new rack.old rack.new) }
+{
+    saves_are_found_again();
+    saved_arrays_go_on();
+    run(alloc, words, source, sink, rack)
+}
+
+/// Asks what is left for a file. Where no count of faults rose, there is a saved array; and it answered from the state that was saved.
+pub fn cat_what_is_left<S: Source, K: Sink, R: Rack>(
+    alloc: Global,
+    words: &Vec<String>,
+    source: &mut S,
+    sink: &mut K,
+    rack: &mut R,
+) -> Status
+    ensures opened { (path : List ℕ) → IsCommand (map string_bytes words.now.items) (Command.Cat path)
+        → (old : State) (number : ℕ) (last : State) (held : ℕ → Option (List ℕ)) (save : Save)
+        → IsFoundAgain old number last held save (R.bytes rack.old) (R.bytes rack.new) → NoneRose (R.counts rack.old).faults (R.counts rack.new).faults
+        → (result ≡ Status.NoState → ⊥) × (result ≡ Status.Unclean → ⊥) }
+    ensures answered { (path : List ℕ) → IsCommand (map string_bytes words.now.items) (Command.Cat path)
+        → (old : State) (number : ℕ) (last : State) (held : ℕ → Option (List ℕ)) (save : Save)
+        → IsFoundAgain old number last held save (R.bytes rack.old) (R.bytes rack.new) → NoneRose (R.counts rack.old).faults (R.counts rack.new).faults
+        → (result ≡ Status.Done) ⊎ (result ≡ Status.Refused)
+        → HasAnswered old save (met_by (facts_of S.Source K.Sink R.Rack source.old source.new sink.old sink.new rack.old rack.new)) (Event.Cat path) cat_text }
 {
     saves_are_found_again();
     saved_arrays_go_on();
