@@ -1,6 +1,6 @@
 -- What is printed of an image of no bytes, and of members without bytes.
-use Rattle.std.proofs.Common.{◌≡◌, ◌≤◌, ◌<◌, ◌+◌, ◌-◌, ◌*◌, ◌^◌, ◌∙◌, ◌++◌, ◌∷◌, [], ℕ, zero, suc, List, ap, arith, inl, inr, length, refl, subst, sym}
-use Rattle.std.specs.Prelude.{◌⊎◌, Option, Some, None, IfSome, IsSome, Result, Ok, Err, codes}
+use Rattle.std.proofs.Common.{◌≡◌, ◌≤◌, ◌<◌, ◌∙◌, ◌∷◌, [], ℕ, zero, suc, List, ap, arith, inl, inr, refl, subst, sym}
+use Rattle.std.specs.Prelude.{◌⊎◌, Option, Some, None, IfSome, IsSome, codes}
 use Rattle.std.specs.Fmt.{digits}
 use Rattle.dg_io.specs.Told.{IsSame, Told, Took}
 use Rattle.dg_model.specs.Causes.{Rose}
@@ -10,7 +10,7 @@ use Rattle.dg_open.specs.Founds.{AreRead, IsRead}
 use Rattle.dg_run.specs.Completes.{IsUnopened}
 use Rattle.dg_run.specs.Ends.{EndsSaved, EndsTrace}
 use Rattle.dg_run.specs.declared.top.Status.{Status}
-use Rattle.dg_run.specs.declared.top.Status.TheVariants.{Done, NoMemory, NoState, Refused, Unclean}
+use Rattle.dg_run.specs.declared.top.Status.TheVariants.{Done, NoMemory, NoState, Refused}
 use Rattle.dg_saved.specs.Calls.{Facts}
 use Rattle.dg_saved.specs.Ends.{EndsStatus}
 use Rattle.dg_saved.specs.Saved.{FoundUnclean, HasShown, had}

@@ -1,5 +1,5 @@
 -- All boundaries of an array are in use and no block was cut: so it stays in each step of the events that have views.
-use Rattle.std.proofs.Common.{◌≡◌, ◌∙◌, ◌<◌, ◌+◌, ◌*◌, ◌||◌, ℕ, Bool, true, false, List, [], ◌∷◌, refl, ap, subst, inl, inr, arith}
+use Rattle.std.proofs.Common.{◌≡◌, ◌∙◌, ◌<◌, ◌+◌, ◌*◌, ◌||◌, ℕ, Bool, false, List, [], ◌∷◌, refl, ap, inl, inr}
 use Rattle.std.specs.Prelude.{All, replicate, slice_set}
 use Rattle.std.specs.List.{list_any}
 use Rattle.std.proofs.lemmas.List.Elements.{All-head, All-tail}

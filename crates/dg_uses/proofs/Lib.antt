@@ -8,7 +8,9 @@ mod Promised
 mod Ran
 mod RefusedRows
 mod Results
+mod ResumedAgain
 mod Rows
+mod SavedAgain
 pub mod Chains
 pub mod Cores
 pub mod OneView

@@ -1,12 +1,12 @@
 -- A run beside the promise of an array.
-use Rattle.std.proofs.Common.{◌≡◌, ◌++◌, suc, List, [], ◌∷◌, subst, arith}
+use Rattle.std.proofs.Common.{◌++◌, suc, List, [], ◌∷◌, subst, arith}
 use Rattle.std.specs.Prelude.{All, Some}
 use Rattle.std.proofs.lemmas.List.Elements.{All-cons, All-nil, All-weaker}
 use Rattle.dg_model.proofs.KnownLaws.{run_less}
 use Rattle.dg_model.specs.Runs.{Trace}
 use Rattle.dg_model.specs.States.{Counts, State}
 use Rattle.dg_model.specs.declared.events.Event.{Event}
-use Rattle.dg_model.specs.declared.events.Event.TheVariants.{Array, Cat, Write}
+use Rattle.dg_model.specs.declared.events.Event.TheVariants.{Array}
 use Rattle.dg_model.specs.declared.replies.Reply.{Reply}
 use Rattle.dg_model.specs.declared.replies.Reply.TheVariants.{Done}
 use Rattle.dg_model.specs.declared.shapes.Shape.{Shape}

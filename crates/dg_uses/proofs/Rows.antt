@@ -1,16 +1,14 @@
 -- What replays of some short texts print.
-use Rattle.std.proofs.Common.{◌≡◌, ◌<◌, ◌+◌, ◌∙◌, ℕ, false, List, [], ◌∷◌, ◌++◌, length, get_or, refl, sym, ap, arith, append_assoc, inl, inr}
-use Rattle.std.specs.Prelude.{Option, Some, None, codes}
+use Rattle.std.proofs.Common.{◌≡◌, ◌<◌, ◌∙◌, ℕ, false, List, [], ◌∷◌, refl, arith, inl, inr}
+use Rattle.std.specs.Prelude.{Some, codes}
 use Rattle.std.specs.Fmt.{digits}
-use Rattle.std.proofs.lemmas.List.Elements.{All-cons, All-head, All-nil}
+use Rattle.std.proofs.lemmas.List.Elements.{All-cons, All-nil}
 use Rattle.hex.specs.Hex.{encode_with}
-use Rattle.dg_io.specs.Racks.{counts_in, member_in}
 use Rattle.dg_io.specs.Sinks.{taken_in}
 use Rattle.dg_model.specs.Shapes.{IsShape}
-use Rattle.dg_model.specs.States.{Counts, State, has_lost}
+use Rattle.dg_model.specs.States.{has_lost}
 use Rattle.dg_model.specs.declared.events.Event.{Event}
-use Rattle.dg_model.specs.declared.events.Event.TheVariants.{Array, Cat, Fail, Ls, Read, Write}
-use Rattle.dg_model.specs.declared.replies.Reply.{Reply}
+use Rattle.dg_model.specs.declared.events.Event.TheVariants.{Array, Fail, Read, Write}
 use Rattle.dg_model.specs.declared.replies.Reply.TheVariants.{Done}
 use Rattle.dg_model.specs.declared.shapes.Shape.{Shape}
 use Rattle.dg_text.specs.Lines.{AreBytes, AreInPlace, IsInPlace, input_of}

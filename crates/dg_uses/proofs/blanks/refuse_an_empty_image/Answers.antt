@@ -1,4 +1,4 @@
-use Rattle.std.proofs.Common.{◌≡◌, ◌∙◌, ap, refl, []}
+use Rattle.std.proofs.Common.{◌∙◌, ap, refl, []}
 use Rattle.std.specs.Prelude.{Some, Err}
 use Rattle.dg_io.specs.Racks.{counts_in}
 use Rattle.dg_io.specs.Sinks.{sure_taken}

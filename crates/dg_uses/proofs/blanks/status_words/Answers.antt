@@ -1,4 +1,4 @@
-use Rattle.std.proofs.Common.{◌≡◌, ◌∙◌, ◌++◌, ◌∷◌, [], ℕ, List, ap, map}
+use Rattle.std.proofs.Common.{◌∙◌, ◌++◌, ◌∷◌, [], ℕ, List, ap, map}
 use Rattle.std.specs.Prelude.{codes, string_bytes}
 use Rattle.dg_uses.proofs.blanks.status_words.Goals as goal
 

@@ -1,0 +1,223 @@
+-- What is taken of members that a save was left on, and an array that goes on from them.
+use Rattle.std.proofs.Common.{◌≡◌, ◌∙◌, ◌++◌, ℕ, List, [], ◌∷◌, inl, inr, Bool, true, false, refl, sym, ap, subst}
+use Rattle.std.specs.Prelude.{◌≢◌, All, Option, Some, None, IfSome, IsSome}
+use Rattle.std.proofs.lemmas.Bool.{false≢true}
+use Rattle.std.proofs.lemmas.List.Elements.{All-cons, All-nil, All-weaker}
+use Rattle.ufs_model.specs.Blocks.{Volume}
+use Rattle.dg_io.specs.Told.{IsSame, Told}
+use Rattle.dg_kept.specs.Opened.{AreTold}
+use Rattle.dg_kept.specs.Saved.{Save}
+use Rattle.dg_kept.specs.SavedRuns.{IsResumed}
+use Rattle.dg_kept.specs.Taken.{AreTaken, IsBodyTaken, IsSpared, IsTaken}
+use Rattle.dg_model.proofs.KnownLaws.{run_less}
+use Rattle.dg_model.specs.Causes.{NoneRose, Rose}
+use Rattle.dg_model.specs.Changes.{IsInOrder}
+use Rattle.dg_model.specs.Marks.{AreNext}
+use Rattle.dg_model.specs.Openings.{Found, IsReopened, Opens, Reduced}
+use Rattle.dg_model.specs.Runs.{Run, Trace}
+use Rattle.dg_model.specs.Saves.{Label, SavedState}
+use Rattle.dg_model.specs.States.{Counts, HoldsAll, State, is_broken}
+use Rattle.dg_model.specs.Steps.{Step}
+use Rattle.dg_model.specs.declared.events.Event.{Event}
+use Rattle.dg_model.specs.declared.events.Event.TheVariants.{Array, Safe, Parity, Regroup}
+use Rattle.dg_model.specs.declared.replies.Reply.{Reply}
+use Rattle.dg_model.specs.declared.replies.Reply.TheVariants.{Done}
+use Rattle.dg_open.specs.Founds.{AreRead, IsBodyRead, IsPassed, IsRead}
+use Rattle.dg_saved.specs.Calls.{Facts}
+use Rattle.dg_saved.specs.Saved.{HasLooked, HasSource, IsKnown, IsOpenedAs, had}
+use Rattle.dg_text.specs.Lines.{AreInPlace, IsInPlace}
+use Rattle.dg_uses.specs.Answers.{TellsEach}
+use Rattle.dg_uses.specs.Saves.{GoesOn}
+
+-- ---- events of a replay
+
+-- a trace whose bytes are told, whatever its first event
+pub trace_told : {K : Type 0} → K → (before : Counts) (events : List Event) (replies : List Reply) (last : State) → Trace K before events replies last
+    → Trace AreTold before events replies last
+trace_told known before [] [] last trace = trace
+trace_told known before (Array shape ∷ events) (Done ∷ replies) last trace = (trace.0, trace.1, run_less (λ _. known) trace.0 events replies last trace.2)
+trace_told known before (Safe shape ∷ events) (Done ∷ replies) last trace = (trace.0, trace.1, run_less (λ _. known) trace.0 events replies last trace.2)
+trace_told known before (Parity shape n ∷ events) (Done ∷ replies) last trace = (trace.0, trace.1, run_less (λ _. known) trace.0 events replies last trace.2)
+trace_told known before events replies last trace = absurd trace
+
+abbrev StaysInUse : Event → Type 0
+StaysInUse event = event ≢ Regroup
+
+-- no line takes boundaries out of use
+pub lines_stay : (events : List Event) → AreInPlace events → All StaysInUse events
+lines_stay [] place = All-nil StaysInUse
+lines_stay (Array shape ∷ events) place =
+    All-cons StaysInUse (Array shape) events (λ is. subst (λ (e : Event). IsInPlace None e) is place.0)
+    (All-weaker (IsInPlace (Some shape)) StaysInUse (λ event at. λ is. subst (λ (e : Event). IsInPlace (Some shape) e) is at) events place.1)
+lines_stay (event ∷ events) place = absurd place
+
+-- ---- what is taken where no count rose
+
+spared : (taken : ℕ → Option Found) (q : ℕ) (label : Label) → IsPassed taken q label → IsSpared taken q label
+spared taken q label (inl older) = inl (record { p = older.p; found = older.found; there = older.there; greater = older.greater })
+spared taken q label (inr (inl unclean)) = inr (inl unclean)
+spared taken q label (inr (inr first)) =
+    inr (inr (record { p = first.p; found = first.found; saved = first.saved; before = first.before; newest = first.newest; says = first.state }))
+
+body_taken : (taken : ℕ → Option Found) (q before now : ℕ) (label : Label) (all : List ℕ) (state : Option SavedState) → (Rose before now → ⊥)
+    → IsBodyRead taken q before now label all state → IsBodyTaken taken q label all state
+body_taken taken q before now label all (Some saved) none read = read
+body_taken taken q before now label all None none (inl says) = inl says
+body_taken taken q before now label all None none (inr (inl rose)) = absurd (none rose)
+body_taken taken q before now label all None none (inr (inr passed)) = inr (spared taken q label passed)
+
+is_taken : (taken : ℕ → Option Found) (q before now : ℕ) (all : List ℕ) (found : Option Found) → (Rose before now → ⊥) → IsRead taken q before now all found
+    → IsTaken taken q all found
+is_taken taken q before now all None none (inl nothing) = nothing
+is_taken taken q before now all None none (inr rose) = absurd (none rose)
+is_taken taken q before now all (Some found) none read = (read.0, body_taken taken q before now found.label all found.state none read.1)
+
+if_told : (P Q : List ℕ → Type 0) (o : Option (List ℕ)) → ((all : List ℕ) → P all → Q all) → IfSome o P → IfSome o Q
+if_told P Q None f h = tt
+if_told P Q (Some all) f h = f all h
+
+pub are_taken : (images : ℕ → Option (List ℕ)) (before now : ℕ → ℕ) (taken : ℕ → Option Found) → NoneRose before now → AreRead images before now taken
+    → AreTaken images taken
+are_taken images before now taken none read = record {
+  each = λ q low. if_told (λ all. IsRead taken q (before q) (now q) all (taken q)) (λ all. IsTaken taken q all (taken q)) (images q)
+      (λ all h. is_taken taken q (before q) (now q) all (taken q) (none q) h) (read.each q low);
+  others = read.others;
+}
+
+-- ---- what a call finds
+
+had_is : (image all : Option (List ℕ)) → IsSome all → had image all ≡ image
+had_is image None told = absurd (false≢true told)
+had_is image (Some all) told = refl
+
+-- what an array was opened from is what the members had
+pub source_taken : (facts : Facts) (opened : Counts) (source : HasSource facts opened) → TellsEach facts.bytes → NoneRose facts.before.faults opened.faults
+    → AreTaken facts.images source.taken
+source_taken facts opened source tells none =
+    let same : (λ (q : ℕ). had (facts.images q) (facts.bytes q)) ≡ facts.images = λ i q. had_is (facts.images q) (facts.bytes q) (tells q) i in
+    subst (λ (f : ℕ → Option (List ℕ)). AreTaken f source.taken) same
+    (are_taken (λ (q : ℕ). had (facts.images q) (facts.bytes q)) facts.before.faults opened.faults source.taken none source.read)
+
+had_before : (P : List ℕ → Type 0) (image all : Option (List ℕ)) → IsSome all → Told IsSame image all → IfSome all P → IfSome image P
+had_before P None all told same h = tt
+had_before P (Some image) None told same h = absurd (false≢true told)
+had_before P (Some image) (Some all) told same h = subst P same h
+
+-- and so is what was looked at in vain
+pub looked_taken : (facts : Facts) (looked : HasLooked facts) → TellsEach facts.bytes → NoneRose facts.before.faults facts.now.faults
+    → AreTaken facts.images looked.taken
+looked_taken facts looked tells none =
+    let found = are_taken facts.bytes facts.before.faults facts.now.faults looked.taken none looked.read in
+    record {
+      each = λ q low. had_before (λ all. IsTaken looked.taken q all (looked.taken q)) (facts.images q) (facts.bytes q) (tells q) (looked.same q) (found.each q low);
+      others = found.others;
+    }
+
+-- ---- an opening whose bytes are told
+
+order_less : {K J : Type 0} → (J → K) → (state : State) → IsInOrder K state → IsInOrder J state
+order_less w state h = record {
+  wants = h.wants;
+  seen = record { fit = h.seen.fit; are = λ j. h.seen.are (w j) };
+  placed = h.placed;
+  sound = λ j. h.sound (w j);
+}
+
+next_told : {K : Type 0} → K → (broken : Bool) (l n : ℕ) (v : Volume) (old new : List Bool) → AreNext broken K l n v old new → AreNext broken AreTold l n v old new
+next_told known true l n v old new h = h
+next_told known false l n v old new h = record { size = h.size; fewer = h.fewer; are = λ _. h.are known }
+
+reopened_told : {K : Type 0} → K → (saved : SavedState) (state : State) → IsReopened K saved state → IsReopened AreTold saved state
+reopened_told known saved state h = record {
+  worn = h.worn;
+  settled = λ is. let was = h.settled is in (was.0, order_less (λ _. known) state was.1);
+  loose = λ is was told order. h.loose is was known (order_less (λ _. tt) (record state { copies = saved.copies }) order);
+  copies = h.copies;
+}
+
+pub opens_told : {K : Type 0} → K → (taken : ℕ → Option Found) (beside : Option Reduced) (before : Counts) (state : State) → Opens K taken beside before state
+    → Opens AreTold taken beside before state
+opens_told known taken beside before state h = record {
+  source = h.source;
+  label = h.label;
+  saved = h.saved;
+  is_source = h.is_source;
+  reduced = h.reduced;
+  reduced_is = h.reduced_is;
+  fits = h.fits;
+  boundaries = h.boundaries;
+  live = h.live;
+  cut = h.cut;
+  table = h.table;
+  homes = h.homes;
+  recent = h.recent;
+  good = h.good;
+  out = h.out;
+  fell = h.fell;
+  pending = next_told known (is_broken state) state.table.shape.l state.table.shape.n state.blocks h.saved.pending state.pending h.pending;
+  phase = reopened_told known h.saved state h.phase;
+  label_is = h.label_is;
+  body = h.body;
+  counts = h.counts;
+}
+
+-- An array that was opened with the blocks of a save goes on from the old state.
+module _ (facts : Facts) (opened : Counts) (source : HasSource facts opened) (old : State) (save : Save) where
+  pub goes_on : (state : State) → IsOpenedAs facts opened source save.blocks state → IsKnown facts opened source save.blocks → save.blocks ≡ old.blocks
+      → AreTaken facts.images source.taken → NoneRose facts.before.faults opened.faults
+      → ((s : State) → Opens AreTold source.taken None facts.before s → NoneRose facts.before.faults s.counts.faults → IsResumed old save facts.images s)
+      → (events : List Event) (replies : List Reply) (final : State) → Run (IsKnown facts opened source save.blocks) state events replies final
+      → (IsKnown facts opened source save.blocks → HoldsAll facts.bytes final) → final.counts ≡ facts.now
+      → GoesOn old save facts.images facts.bytes facts.before facts.now events replies
+  goes_on state is known same taken none resume events replies final run holds counts =
+      let opens = opens_told known source.taken None facts.before state is.opens in
+      let quiet : NoneRose facts.before.faults state.counts.faults = subst (λ (c : Counts). NoneRose facts.before.faults c.faults) (sym is.counts) none in
+      record {
+        state = state;
+        opened = record { taken = source.taken; are = taken; opens = opens; none = quiet };
+        resumed = resume state opens quiet;
+        blocks = is.blocks ∙ same;
+        final = final;
+        run = run_less (λ _. known) state events replies final run;
+        holds = holds known;
+        counts = counts;
+      }
+
+-- ---- the reply to an event among others
+
+pub record IsAnsweredAt (first : State) (front : List Event) (event : Event) (replies : List Reply) : Type 0 where
+  pub answers : List Reply
+  pub reply : Reply
+  pub others : List Reply
+  pub split : replies ≡ answers ++ reply ∷ others
+  pub mid : State
+  pub led : Run AreTold first front answers mid
+  pub new : State
+  pub step : Step AreTold mid event reply new
+
+pub answered_at : (first : State) (front : List Event) (event : Event) (rest : List Event) (replies : List Reply) (last : State)
+    → Run AreTold first (front ++ event ∷ rest) replies last → IsAnsweredAt first front event replies
+answered_at first [] event rest [] last run = absurd run
+answered_at first [] event rest (reply ∷ replies) last run = record {
+  answers = [];
+  reply = reply;
+  others = replies;
+  split = refl;
+  mid = first;
+  led = refl;
+  new = run.0;
+  step = run.1;
+}
+answered_at first (one ∷ front) event rest [] last run = absurd run
+answered_at first (one ∷ front) event rest (reply ∷ replies) last run =
+    let at = answered_at run.0 front event rest replies last run.2 in
+    record {
+      answers = reply ∷ at.answers;
+      reply = at.reply;
+      others = at.others;
+      split = ap (λ (l : List Reply). reply ∷ l) at.split;
+      mid = at.mid;
+      led = (run.0, run.1, at.led);
+      new = at.new;
+      step = at.step;
+    }

@@ -1,0 +1,124 @@
+// Of a replay that ends with a save, and a call on what is left of its members.
+ghost use Rattle.std.specs.Prelude.{◌≡◌, ◌⊎◌, ◌<◌, ◌++◌, ◌∷◌, [], All, ℕ, List, Option, map, string_bytes};
+ghost use Rattle.dg_kept.specs.Opened.{AreTold};
+ghost use Rattle.dg_kept.specs.Saved.{Save};
+ghost use Rattle.dg_kept.specs.SavedRuns.{CanAlwaysBeSaved, EndsWithSave, IsReading};
+ghost use Rattle.dg_model.specs.Causes.{NoneRose};
+ghost use Rattle.dg_model.specs.Runs.{Trace};
+ghost use Rattle.dg_model.specs.States.{Counts, State};
+ghost use Rattle.dg_model.specs.declared.events.Event.{Event};
+ghost use Rattle.dg_model.specs.declared.replies.Reply.{Reply};
+ghost use Rattle.dg_run.specs.Calls.{Facts, facts_of, met_by};
+ghost use Rattle.dg_run.specs.Replays.{Ran};
+ghost use Rattle.dg_run.specs.Resumes.{RanOn};
+ghost use Rattle.dg_saved.specs.Calls.{Facts as SavedFacts};
+ghost use Rattle.dg_saved.specs.Saved.{FoundNoState, FoundUnclean, HasRun};
+ghost use Rattle.dg_saved.specs.Texts.{cat_text};
+ghost use Rattle.dg_uses.specs.Promises.{IsToldAtEnd};
+ghost use Rattle.dg_uses.specs.Saves.{GivesSaved, GoesOn, HasAnswered, HasGoneOn, IsFoundAgain};
+ghost use Rattle.dg_words.specs.Commands.{IsCommand};
+ghost use Rattle.dg_words.specs.declared.commands.Command.{Command};
+
+use dg_io::{Rack, Sink, Source};
+use dg_kept::{
+    boundaries_stay_in_use, newest_saves_are_found, runs_end_with_saves, saved_blocks_are_read,
+    saved_states_are_resumed, saves_are_found_on_what_is_left,
+};
+use dg_run::{Status, run};
+use std::alloc::Global;
+
+/// A replay in which bytes are told, whose last event saved an array that can be saved, led to the state that was saved, and left it on the
+/// members.
+pub fn replays_leave_saves()
+    ensures { (before now : Counts) (images bytes : ℕ → Option (List ℕ)) (events : List Event) (replies : List Reply) (number : ℕ)
+        → (ran : Ran before now images bytes (events ++ Event.Save ∷ []) (replies ++ Reply.Saved number ∷ [])) → IsToldAtEnd bytes ran
+        → CanAlwaysBeSaved ran.final → EndsWithSave (Trace AreTold before events replies) number ran.final bytes }
+{
+    boundaries_stay_in_use();
+    runs_end_with_saves();
+}
+
+/// On what is left a call in which no count of faults rose finds a saved array, and none that was written since.
+pub fn saves_are_found_again()
+    ensures some { (old : State) (number : ℕ) (last : State) (held : ℕ → Option (List ℕ)) (save : Save) (facts : SavedFacts)
+        → IsFoundAgain old number last held save facts.images facts.bytes → NoneRose facts.before.faults facts.now.faults → FoundNoState facts → ⊥ }
+    ensures clean { (old : State) (number : ℕ) (last : State) (held : ℕ → Option (List ℕ)) (save : Save) (facts : SavedFacts)
+        → IsFoundAgain old number last held save facts.images facts.bytes → NoneRose facts.before.faults facts.now.faults → FoundUnclean facts → ⊥ }
+{
+    saves_are_found_on_what_is_left();
+    newest_saves_are_found();
+}
+
+/// Where no count rose in the opening, a resumed array goes on from the state that was saved; and so does an array that is asked for one thing.
+pub fn saved_arrays_go_on()
+    ensures resumed { (old : State) (number : ℕ) (last : State) (held : ℕ → Option (List ℕ)) (save : Save) (facts : Facts) (events : List Event)
+        (replies : List Reply) (ran : RanOn facts events replies) → IsFoundAgain old number last held save facts.images facts.bytes
+        → NoneRose facts.before.faults ran.opened.faults → GoesOn old save facts.images facts.bytes facts.before facts.now events replies }
+    ensures asked { (old : State) (number : ℕ) (last : State) (held : ℕ → Option (List ℕ)) (save : Save) (facts : SavedFacts) (event : Event)
+        (reply : Reply) (ran : HasRun facts event reply) → IsFoundAgain old number last held save facts.images facts.bytes
+        → NoneRose facts.before.faults ran.opened.faults
+        → GoesOn old save facts.images facts.bytes facts.before facts.now (event ∷ []) (reply ∷ []) }
+{
+    saves_are_found_on_what_is_left();
+    newest_saves_are_found();
+    saved_states_are_resumed();
+}
+
+/// After a replay up to a save, each block that is read of the array that goes on, before anything but readings was done, has its value of the
+/// save, if it isn't gone.
+pub fn saved_blocks_are_read_again()
+    ensures { (start : Counts) (done : List Event) (given : List Reply) (number : ℕ) (last : State) (held : ℕ → Option (List ℕ))
+        (end : EndsWithSave (Trace AreTold start done given) number last held) (images bytes : ℕ → Option (List ℕ)) (before now : Counts)
+        (front rest : List Event) (b : ℕ) (replies : List Reply)
+        → IsFoundAgain end.old number last held end.save images bytes → All IsReading front → b < end.old.table.shape.n
+        → (on : GoesOn end.old end.save images bytes before now (front ++ Event.Read b ∷ rest) replies)
+        → GivesSaved end.old on.state front b replies }
+{
+    saved_blocks_are_read();
+}
+
+/// Resumes what is left. Where no count of faults rose, there is a saved array; and where all lines were done, it went on from the state that was
+/// saved.
+pub fn resume_what_is_left<S: Source, K: Sink, R: Rack>(
+    alloc: Global,
+    words: &Vec<String>,
+    source: &mut S,
+    sink: &mut K,
+    rack: &mut R,
+) -> Status
+    requires { IsCommand (map string_bytes words.now.items) Command.Resume }
+    ensures opened { (old : State) (number : ℕ) (last : State) (held : ℕ → Option (List ℕ)) (save : Save)
+        → IsFoundAgain old number last held save (R.bytes rack.old) (R.bytes rack.new) → NoneRose (R.counts rack.old).faults (R.counts rack.new).faults
+        → (result ≡ Status.NoState → ⊥) × (result ≡ Status.Unclean → ⊥) }
+    ensures done { (old : State) (number : ℕ) (last : State) (held : ℕ → Option (List ℕ)) (save : Save)
+        → IsFoundAgain old number last held save (R.bytes rack.old) (R.bytes rack.new) → NoneRose (R.counts rack.old).faults (R.counts rack.new).faults
+        → result ≡ Status.Done
+        → HasGoneOn old save (facts_of S.Source K.Sink R.Rack source.old source.new sink.old sink.new rack.old rack.new) }
+{
+    saves_are_found_again();
+    saved_arrays_go_on();
+    run(alloc, words, source, sink, rack)
+}
+
+/// Asks what is left for a file. Where no count of faults rose, there is a saved array; and it answered from the state that was saved.
+pub fn cat_what_is_left<S: Source, K: Sink, R: Rack>(
+    alloc: Global,
+    words: &Vec<String>,
+    source: &mut S,
+    sink: &mut K,
+    rack: &mut R,
+) -> Status
+    ensures opened { (path : List ℕ) → IsCommand (map string_bytes words.now.items) (Command.Cat path)
+        → (old : State) (number : ℕ) (last : State) (held : ℕ → Option (List ℕ)) (save : Save)
+        → IsFoundAgain old number last held save (R.bytes rack.old) (R.bytes rack.new) → NoneRose (R.counts rack.old).faults (R.counts rack.new).faults
+        → (result ≡ Status.NoState → ⊥) × (result ≡ Status.Unclean → ⊥) }
+    ensures answered { (path : List ℕ) → IsCommand (map string_bytes words.now.items) (Command.Cat path)
+        → (old : State) (number : ℕ) (last : State) (held : ℕ → Option (List ℕ)) (save : Save)
+        → IsFoundAgain old number last held save (R.bytes rack.old) (R.bytes rack.new) → NoneRose (R.counts rack.old).faults (R.counts rack.new).faults
+        → (result ≡ Status.Done) ⊎ (result ≡ Status.Refused)
+        → HasAnswered old save (met_by (facts_of S.Source K.Sink R.Rack source.old source.new sink.old sink.new rack.old rack.new)) (Event.Cat path) cat_text }
+{
+    saves_are_found_again();
+    saved_arrays_go_on();
+    run(alloc, words, source, sink, rack)
+}
