@@ -23,16 +23,15 @@ fn image_files_keep_bytes(rt: HostRuntime) -> Result<(), Fail> {
     let all = fs::read(&rt, "member-15-1.img")?;
     let mut other = ImageRack::new(rt, Purpose::Write, &search)?;
     assert_eq!(rt; other.attach(31), Err(Failed), "in use");
-    rack.close();
+    drop(rack);
     assert_eq!(rt; other.attach(31), Ok(Some(9)));
     other.read(31, 2, &mut bytes)?;
     assert_eq!(rt; bytes, *b"\0hi\0");
     other.blank(31, 4)?;
-    other.close();
+    drop(other);
     let mut last = ImageRack::new(rt, Purpose::Write, &search)?;
     last.blank(30, 4)?;
     assert_eq!(rt; last.attach(31), Ok(None), "set aside");
-    last.close();
     let aside = fs::read(&rt, "member-15-1.img.old")?;
     fs::remove_file(&rt, "member-15-1.img.old")?;
     fs::remove_file(&rt, "member-15-0.img")?;
