@@ -267,7 +267,8 @@ def an_opened_seal(case):
     case.save()
     ended, trace = case.traced("pwrite64,fdatasync,fsync", [], "resume", "write 3 00\nwrite 7 01\nread 3\n")
     want("the run", ("ok\nok\ndata -\n", "", 0), ended)
-    want("the calls on an image", [0, "fdatasync", 512, "fdatasync", 1536], max(calls_in(trace).values(), key=len))
+    # the last one is that of closing
+    want("the calls on an image", [0, "fdatasync", 512, "fdatasync", 1536, "fdatasync"], max(calls_in(trace).values(), key=len))
     ended, trace = case.traced("fdatasync,fsync,sync", [], "resume", "")
     want("an unclean array", ("unclean\n", 7, ""), (ended[0], ended[2], trace))
 
@@ -286,6 +287,26 @@ def a_flush_that_fails(case):
     ended, _ = case.traced("fdatasync", options, "resume", "write 3 00\nsave\n")
     want("the run", ("ok\nsaved 2\n", told, 0), ended)
     want("the boundary", "boundary 3 half 1 1", case.run("status")[0].splitlines()[-1])
+
+
+def an_error_of_closing(case):
+    """The third flush of an image is that of closing: what was written behind its label is flushed then, and a failure is told."""
+    case.save()
+    name = "member-03-0.img"
+    told = lines("close", "Input/output error", [name])
+    options = ["-P", case.path(name), "-e", "inject=fdatasync:error=EIO:when=3"]
+    ended, _ = case.traced("fdatasync", options, "resume", "write 3 00\nwrite 7 01\nread 7\n")
+    want("the run", ("ok\nok\ndata 01\n", told, 0), ended)
+    case.see("status", "", "unclean\n", status=7)
+
+
+def an_error_of_closing_a_replaced_member(case):
+    """The fourth flush is that of the image that is replaced, the fifth that of the new one at the end."""
+    name = "member-03-0.img"
+    events = SMALL + "write 3 6f6c64\nwrite 7 01\nsave\nwrite 7 02\nfail 3 0\nreplace 3 0\nrebuild 3 99\nread 7\n"
+    options = ["-P", case.path(name), "-e", "inject=fdatasync:error=EIO:when=4+"]
+    ended, _ = case.traced("fdatasync", options, "replay", events)
+    want("the run", ("ok\nok\nok\nsaved 1\nok\nok\nok\ncopied 2 0\ndata 02\n", lines("close", "Input/output error", [name] * 2), 0), ended)
 
 
 # ---- calls that are interrupted, and streams that don't block
@@ -456,8 +477,8 @@ def hard_linked_sides(case):
 
 CASES = [
     a_new_array_among_older_images, a_drill_among_older_images, a_first_line_that_is_refused, images_that_cant_be_set_aside, images_of_mode_444, a_read_only_mount, two_runs_at_once,
-    a_new_array_that_is_in_use, two_runs_that_read, the_order_of_a_save, an_opened_seal, no_flush_without_a_save, a_flush_that_fails, interrupted_streams,
-    a_slow_reader, a_slow_writer, a_limit_on_the_length_of_files, a_blank_that_fails, a_replaced_member_that_fails_again,
+    a_new_array_that_is_in_use, two_runs_that_read, the_order_of_a_save, an_opened_seal, no_flush_without_a_save, a_flush_that_fails, an_error_of_closing,
+    an_error_of_closing_a_replaced_member, interrupted_streams, a_slow_reader, a_slow_writer, a_limit_on_the_length_of_files, a_blank_that_fails, a_replaced_member_that_fails_again,
     why_there_is_no_array, bodies_that_say_no_state, a_file_that_says_nostate, links_are_followed, hard_linked_sides,
 ]
 

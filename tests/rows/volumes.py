@@ -68,6 +68,16 @@ def crowded(last):
     return [Item("/d", "dir"), *(Item(f"/d/{name}", "file", b"." * size) for name, size in (("a", 20480), ("b", 20480), ("c", last)))]
 
 
+def thousand_files():
+    """A directory of a thousand empty files, which has 33 blocks and an indirect one, and a file of one byte behind them."""
+    return [Item("/d", "dir"), *(Item(f"/d/{number:03}", "file") for number in range(999)), Item("/d/end", "file", b"e")]
+
+
+def files_in_groups():
+    """A hundred and fifty files of up to 3000 bytes, whose inodes stand in three groups of 64."""
+    return [Item(f"/f{number:03}", "file", bytes((number + at) % 255 + 1 for at in range(20 * number))) for number in range(1, 151)]
+
+
 MAKERS = {
     "E": lambda: Volume(small(), []),
     "F": lambda: Volume(small(), some_files()),
@@ -84,6 +94,13 @@ MAKERS = {
     "F512": lambda: Volume(small(512, 8, 256), some_files()),
     "F2048": lambda: Volume(small(2048, 2, 64), some_files()),
     "F4096": lambda: Volume(small(4096, 1, 64), some_files()),
+    "L16": lambda: Volume(small(2048, 8, 256, 128), some_files()),
+    "L16B": lambda: Volume(small(2048, 8, 256, 128, "big"), some_files()),
+    "L32": lambda: Volume(small(4096, 8, 256, 256), some_files()),
+    "L32B": lambda: Volume(small(4096, 8, 256, 256, "big"), some_files()),
+    "L64M": lambda: Volume(small(4096, 8, 16384, 256), some_files()),
+    "K": lambda: Volume(small(fpg=512, ipg=1024), thousand_files()),
+    "G3": lambda: Volume(Spec(1024, 8, 3, 512, 64, 8, 0xFFFFFFFC, "little"), files_in_groups()),
     "R": lambda: Volume(Spec(1024, 8, 4, 2048, 256, 32, 0xFFFFFFFC, "little"), many_files()),
 }
 

@@ -32,7 +32,7 @@ use Rattle.dg_model.specs.declared.shapes.Shape.{Shape}
 use Rattle.dg_model.specs.declared.sites.Site.{Site}
 use Rattle.dg_trace.specs.Traces.{writes_of}
 use Rattle.dg_volume.specs.Origins.{Always}
-use Rattle.dg_volume.specs.HeldLaws.{TellsTold, holds_all, tells_now}
+use Rattle.dg_volume.specs.HeldLaws.{holds_all}
 use Rattle.dg_volume.specs.Volumes.{IsBlankVolume, IsSame, Known, Leaves, StandsIn, StepsTo, any_phase, loose_phase, rack_of, shape_of}
 use Rattle.dg_volume.specs.declared.phases.AnyPhase.{AnyPhase}
 use Rattle.dg_volume.specs.declared.phases.Loose.{Loose}
@@ -90,7 +90,7 @@ module _ {R : Type 0} (rack : Ghosts R) (before : R) (loose : Volume Loose R) (v
     (loses : (state : State) → StandsIn any_phase rack Always v2 state → HasLost rack state s v3)
     (reads : (state : State) → StandsIn any_phase rack Always v3 state → HasReadAll rack seed state files tally v4)
     (text_is : (replies : List Reply) → IsTally seed replies tally → text ≡ report_text seed files more settled replies)
-    (volume : IsDrillVolume seed files image g) (boundary : s ≡ seed % 4) (law : TellsTold rack) (taken given : Option (List ℕ)) where
+    (volume : IsDrillVolume seed files image g) (boundary : s ≡ seed % 4) (taken given : Option (List ℕ)) where
   table_is : blank.state.table ≡ empty_table drill_shape
   table_is = ap (λ (s : State). s.table) blank.blank.is
 
@@ -106,16 +106,16 @@ module _ {R : Type 0} (rack : Ghosts R) (before : R) (loose : Volume Loose R) (v
   shape_is : read.next.table.shape ≡ shape_of v4
   shape_is = ap (λ (s : State). s.table.shape) read.led.stands.is
 
-  known4 : TellsBoundaries (rack.bytes (rack_of v4)) read.next → Known Always rack v4
-  known4 told = (tells_now rack v4 law (λ q below. told q (subst (λ (t : Shape). q / 2 < t.b) (sym shape_is) below)), tt)
+  known4 : TellsBoundaries (rack.tells (rack_of v4)) read.next → Known Always rack v4
+  known4 told = ((λ q below. told q (subst (λ (t : Shape). q / 2 < t.b) (sym shape_is) below)), tt)
 
-  known3 : TellsBoundaries (rack.bytes (rack_of v4)) read.next → Known Always rack v3
+  known3 : TellsBoundaries (rack.tells (rack_of v4)) read.next → Known Always rack v3
   known3 told = told_before rack v3 v4 l4 (known4 told)
 
-  known2 : TellsBoundaries (rack.bytes (rack_of v4)) read.next → Known Always rack v2
+  known2 : TellsBoundaries (rack.tells (rack_of v4)) read.next → Known Always rack v2
   known2 told = told_before rack v2 v3 l3 (known3 told)
 
-  known1 : TellsBoundaries (rack.bytes (rack_of v4)) read.next → Known Always rack v1
+  known1 : TellsBoundaries (rack.tells (rack_of v4)) read.next → Known Always rack v1
   known1 told = told_before rack v1 v2 l2 (known2 told)
 
   -- the members behind the array's own were left alone
@@ -139,9 +139,9 @@ module _ {R : Type 0} (rack : Ghosts R) (before : R) (loose : Volume Loose R) (v
   count_is : more ≡ written_count written.next.table
   count_is = let none = blank_count blank.state table_is in omega (arith, none, written.count)
 
-  pub has_drilled : HasDrilled (rack_facts rack before (rack_of v4) taken given) seed files text
+  pub has_drilled : HasDrilled (rack.tells (rack_of v4)) (rack_facts rack before (rack_of v4) taken given) seed files text
   has_drilled =
-      let K : Type 0 = TellsBoundaries (rack.bytes (rack_of v4)) read.next in
+      let K : Type 0 = TellsBoundaries (rack.tells (rack_of v4)) read.next in
       let step = settles None written.next written.led.stands in
       let fails = subst (λ (n : ℕ). Run K step.0 (loss_at n) lost.losses lost.next) boundary
       (run_less known3 step.0 (loss_at s) lost.losses lost.next lost.led.run) in
@@ -183,8 +183,8 @@ has_no_volume rack before seed files text taken given refusal refused is = recor
 }
 
 -- by whether the text was printed whole
-pub ends_drill : (facts : Facts) (seed files : ℕ) (end : DrillEnd) (text : List ℕ) → IsDone facts seed files text
+pub ends_drill : (tells : ℕ → Type 0) (facts : Facts) (seed files : ℕ) (end : DrillEnd) (text : List ℕ) → IsDone tells facts seed files text
     → (end ≢ WriteFault → Told (Took text) facts.taken facts.given) → (end ≡ WriteFault → Told (TookPart text) facts.taken facts.given)
-    → EndsDrill facts seed files end
-ends_drill facts seed files DrillDone text done told part = (text, done, told (λ e. cc e))
-ends_drill facts seed files WriteFault text done told part = (text, done, part refl)
+    → EndsDrill tells facts seed files end
+ends_drill tells facts seed files DrillDone text done told part = (text, done, told (λ e. cc e))
+ends_drill tells facts seed files WriteFault text done told part = (text, done, part refl)

@@ -1,5 +1,5 @@
 -- What a drill does to an array, and how it ends.
-use Rattle.std.specs.Prelude.{◌≡◌, ◌⊎◌, ◌<◌, ◌≤◌, ◌/◌, ℕ, List, [], ◌∷◌, ◌++◌, Option, Err, IsSome, map, length, count_by}
+use Rattle.std.specs.Prelude.{◌≡◌, ◌⊎◌, ◌<◌, ◌≤◌, ◌/◌, ℕ, List, [], ◌∷◌, ◌++◌, Option, Err, map, length, count_by}
 use Rattle.std.specs.List.{range_with_len}
 use Rattle.dg_drill.specs.Calls.{Facts}
 use Rattle.dg_drill.specs.Items.{drill_items, file_path}
@@ -48,19 +48,19 @@ written_count table = count_by has_site table.rows
 
 -- ---- what was done
 
--- each member of a state's boundaries tells its bytes
-abbrev pub TellsBoundaries : (ℕ → Option (List ℕ)) → State → Type 0
-TellsBoundaries bytes state = (q : ℕ) → q / 2 < state.table.shape.b → IsSome (bytes q)
+-- of each member of a state's boundaries the rack tells the bytes as long as the member stands
+abbrev pub TellsBoundaries : (ℕ → Type 0) → State → Type 0
+TellsBoundaries tells state = (q : ℕ) → q / 2 < state.table.shape.b → tells q
 
 -- each member behind those of the drill's array has the bytes that it had, where it tells them
 abbrev pub OthersKept : (ℕ → Option (List ℕ)) → (ℕ → Option (List ℕ)) → Type 0
 OthersKept images bytes = (q : ℕ) → drill_shape.b ≤ q / 2 → Told IsSame (images q) (bytes q)
 
 -- The volume was made, and the array went by a chain of steps, whatever the replies were: from nothing to where each block was written, and
--- on to where each file was read. The last state has the counts of the rack, which holds it where each member tells its bytes in the end;
--- its other members have the bytes that they had.
+-- on to where each file was read. The last state has the counts of the rack. Where the rack still tells each of its members in the end
+-- (`tells`), the steps are known in their bytes too, and the members hold the last state. The rack's other members have the bytes that they had.
 -- `text` is what is printed of it.
-pub record HasDrilled (facts : Facts) (seed files : ℕ) (text : List ℕ) : Type 0 where
+pub record HasDrilled (tells : ℕ → Type 0) (facts : Facts) (seed files : ℕ) (text : List ℕ) : Type 0 where
   pub image : List ℕ
   pub geometry : Geometry
   pub volume : IsDrillVolume seed files image geometry
@@ -71,10 +71,10 @@ pub record HasDrilled (facts : Facts) (seed files : ℕ) (text : List ℕ) : Typ
   pub losses : List Reply
   pub cats : List Reply
   pub number : length losses ≡ 2
-  pub led : Trace (TellsBoundaries facts.bytes final) facts.before (write_events geometry image) writes written
-  pub on : Run (TellsBoundaries facts.bytes final) written (later_events seed files) (settled ∷ (losses ++ cats)) final
+  pub led : Trace (TellsBoundaries tells final) facts.before (write_events geometry image) writes written
+  pub on : Run (TellsBoundaries tells final) written (later_events seed files) (settled ∷ (losses ++ cats)) final
   pub counts : final.counts ≡ facts.now
-  pub holds : TellsBoundaries facts.bytes final → HoldsAll facts.bytes final
+  pub holds : TellsBoundaries tells final → HoldsAll facts.bytes final
   pub others : OthersKept facts.images facts.bytes
   pub text_is : text ≡ report_text seed files (written_count written.table) settled cats
 
@@ -86,17 +86,17 @@ pub record HasNoVolume (facts : Facts) (seed files : ℕ) (text : List ℕ) : Ty
   pub text_is : text ≡ refused_text seed files
 
 -- the drill was done, or there is no volume for it
-abbrev pub IsDone : Facts → ℕ → ℕ → List ℕ → Type 0
-IsDone facts seed files text = HasDrilled facts seed files text ⊎ HasNoVolume facts seed files text
+abbrev pub IsDone : (ℕ → Type 0) → Facts → ℕ → ℕ → List ℕ → Type 0
+IsDone tells facts seed files text = HasDrilled tells facts seed files text ⊎ HasNoVolume facts seed files text
 
 -- ---- how it ends
 
 -- it was done, and its text was printed, whole (`Took`) or in part (`TookPart`)
-abbrev pub Prints : Facts → ℕ → ℕ → (List ℕ → List ℕ → List ℕ → Type 0) → Type 0
-Prints facts seed files printed =
-    (text : List ℕ) × IsDone facts seed files text × Told (printed text) facts.taken facts.given
+abbrev pub Prints : (ℕ → Type 0) → Facts → ℕ → ℕ → (List ℕ → List ℕ → List ℕ → Type 0) → Type 0
+Prints tells facts seed files printed =
+    (text : List ℕ) × IsDone tells facts seed files text × Told (printed text) facts.taken facts.given
 
 -- by the end
-abbrev pub EndsDrill : Facts → ℕ → ℕ → DrillEnd → Type 0
-EndsDrill facts seed files Done = Prints facts seed files Took
-EndsDrill facts seed files WriteFault = Prints facts seed files TookPart
+abbrev pub EndsDrill : (ℕ → Type 0) → Facts → ℕ → ℕ → DrillEnd → Type 0
+EndsDrill tells facts seed files Done = Prints tells facts seed files Took
+EndsDrill tells facts seed files WriteFault = Prints tells facts seed files TookPart

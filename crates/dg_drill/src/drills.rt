@@ -87,7 +87,7 @@ fn drill_array<R: Rack + Drop>(
     requires few { files ≤ 2000 }
     ensures name { IfOk result (λ untold. R.name untold.rack ≡ R.name rack) }
     ensures drilled { IfOk result (λ untold. (taken given : Option (List ℕ)) →
-        HasDrilled (rack_facts R.Rack rack untold.rack taken given) seed files untold.text.items) }
+        HasDrilled (R.tells untold.rack) (rack_facts R.Rack rack untold.rack taken given) seed files untold.text.items) }
 {
     let blocks = trace_order(alloc, Order::Late, &made.geometry, &made.image)?;
     let loose = Volume::array(alloc, rack, drill_shape())?;
@@ -113,7 +113,7 @@ fn drill_rack<R: Rack + Drop>(
     requires few { (1 ≤ files) × (files ≤ 2000) }
     ensures name { IfOk result (λ untold. R.name untold.rack ≡ R.name rack) }
     ensures done { IfOk result (λ untold. (taken given : Option (List ℕ)) →
-        IsDone (rack_facts R.Rack rack untold.rack taken given) seed files untold.text.items) }
+        IsDone (R.tells untold.rack) (rack_facts R.Rack rack untold.rack taken given) seed files untold.text.items) }
 {
     match make_volume(alloc, seed, files) {
         Ok(made) => drill_array(alloc, seed, files, &made, rack),
@@ -151,7 +151,8 @@ pub fn run_drill<K: Sink, R: Rack + Drop>(
 ) -> Result<Drilled<R>, NoMemory>
     requires few { (1 ≤ files) × (files ≤ 2000) }
     ensures name { IfOk result (λ drilled. R.name drilled.rack ≡ R.name rack) }
-    ensures ends { IfOk result (λ drilled. EndsDrill (facts_of K.Sink R.Rack sink.old sink.new rack drilled.rack) seed files drilled.end) }
+    ensures ends { IfOk result (λ drilled.
+        EndsDrill (R.tells drilled.rack) (facts_of K.Sink R.Rack sink.old sink.new rack drilled.rack) seed files drilled.end) }
     ensures none { OnErr result (sink.new ≡ sink.old) }
     ensures write { IfOk result (λ drilled. drilled.end ≡ DrillEnd.WriteFault → Rose (K.faults sink.old) (K.faults sink.new)) }
     ensures kept { IfOk result (λ drilled. drilled.end ≢ DrillEnd.WriteFault → K.faults sink.new ≡ K.faults sink.old) }

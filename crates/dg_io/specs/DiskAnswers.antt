@@ -1,5 +1,5 @@
 -- What the calls on single disks answer, and what they leave.
-use Rattle.std.specs.Prelude.{◌≡◌, ◌≢◌, ◌↔◌, ◌+◌, ◌*◌, ◌≤◌, nat_le, ℕ, zero, suc, Bool, true, false, if◌then◌else◌}
+use Rattle.std.specs.Prelude.{◌≡◌, ◌≢◌, ◌↔◌, ◌+◌, ◌≤◌, nat_le, ℕ, zero, suc, Bool, true, false, if◌then◌else◌}
 use Rattle.dg_model.specs.Causes.{Rose}
 use Rattle.dg_io.specs.Disks.{DiskStates}
 use Rattle.dg_io.specs.Kept.{KeepsOn}
@@ -39,14 +39,13 @@ pub record MendsDisk (n s j : ℕ) (old new : DiskStates) (answer : MendAnswer) 
   -- where it wasn't out, it goes out only by a fault of its own
   pub cause : old.out s j ≡ false → new.out s j ≡ true → Rose (old.faults s j) (new.faults s j)
 
--- What the call leaves of the rack: no count of the rack changes, each member stands on, and the bytes of each member whose group isn't lost
--- are as they were.
-pub record LeavesMembers {S : Type 0} (rack : Ghosts S) (n s : ℕ) (old new : S) : Type 0 where
+-- What the call leaves of the rack: no count of the rack changes, each member stands on, and the bytes of each are as they were, where they are
+-- told. A group of which two disks are out tells none.
+pub record LeavesMembers {S : Type 0} (rack : Ghosts S) (old new : S) : Type 0 where
   pub same_rack : rack.name new ≡ rack.name old
   pub steady_on : rack.steady old ↔ rack.steady new
   pub counts_stay : rack.counts new ≡ rack.counts old
   pub stand : (q : ℕ) → rack.stands new q ≡ rack.stands old q
-  pub others : (q : ℕ) → q ≢ 2 * s → Told IsSame (rack.bytes old q) (rack.bytes new q)
-  pub own : is_group_lost n (rack.disks new).out s ≡ false → Told IsSame (rack.bytes old (2 * s)) (rack.bytes new (2 * s))
+  pub same : (q : ℕ) → Told IsSame (rack.bytes old q) (rack.bytes new q)
   pub told_before : (q : ℕ) → rack.tells new q → rack.tells old q
   pub keeps_on : KeepsOn rack.keeps old new

@@ -45,7 +45,7 @@ pub trait Disks: Rack {
         ensures idle { width self.old ≡ None → self.new ≡ self.old }
         ensures answer { IfSome (width self.old) (λ n. DropsDisk n s j (Self.disks self.old) (Self.disks self.new) result) }
         ensures disks { OneDisk s j (Self.disks self.old) (Self.disks self.new) }
-        ensures leaves { IfSome (width self.old) (λ n. LeavesMembers Self.Rack n s self.old self.new) }
+        ensures leaves { LeavesMembers Self.Rack self.old self.new }
         ensures width { width self.new ≡ width self.old }
         ensures groups { groups self.new ≡ groups self.old };
 
@@ -56,7 +56,7 @@ pub trait Disks: Rack {
         ensures idle { width self.old ≡ None → self.new ≡ self.old }
         ensures answer { IfSome (width self.old) (λ n. MendsDisk n s j (Self.disks self.old) (Self.disks self.new) result) }
         ensures disks { OneDisk s j (Self.disks self.old) (Self.disks self.new) }
-        ensures leaves { IfSome (width self.old) (λ n. LeavesMembers Self.Rack n s self.old self.new) }
+        ensures leaves { LeavesMembers Self.Rack self.old self.new }
         ensures width { width self.new ≡ width self.old }
         ensures groups { groups self.new ≡ groups self.old };
 

@@ -12,7 +12,7 @@ use Rattle.dg_model.specs.declared.replies.Reply.{Reply}
 use Rattle.dg_model.specs.declared.replies.Reply.TheVariants.{Done, Saved}
 use Rattle.dg_kept.specs.Opened.{AreTold}
 use Rattle.dg_kept.specs.Saved.{Save}
-use Rattle.dg_kept.specs.SavedRuns.{AreAllInUse, CanAlwaysBeSaved, EndsWithSave, LeavesSave, WasLed}
+use Rattle.dg_kept.specs.SavedRuns.{AreAllInUse, EndsWithSave, LeavesSave, WasLed}
 
 -- ---- the last event
 
@@ -90,10 +90,10 @@ led_last before events replies number new run = absurd run
 -- what is said of a step that saves
 abbrev pub SavesLeave : Type 0
 SavesLeave = (old : State) (number : ℕ) (new : State) (bytes : ℕ → Option (List ℕ)) → Step AreTold old SaveEvent (Saved number) new
-    → CanAlwaysBeSaved new → AreAllInUse new → HoldsAll bytes new → (save : Save) × LeavesSave old number new bytes save
+    → AreAllInUse new → HoldsAll bytes new → (save : Save) × LeavesSave old number new bytes save
 
 pub ends_with : SavesLeave → (Led : State → Type 0) (number : ℕ) (last : State) (bytes : ℕ → Option (List ℕ)) → RunsLast Led SaveEvent (Saved number) last
-    → CanAlwaysBeSaved last → AreAllInUse last → HoldsAll bytes last → EndsWithSave Led number last bytes
-ends_with law Led number last bytes run can in_use holds =
-    let save = law run.old number last bytes run.step can in_use holds in
+    → AreAllInUse last → HoldsAll bytes last → EndsWithSave Led number last bytes
+ends_with law Led number last bytes run in_use holds =
+    let save = law run.old number last bytes run.step in_use holds in
     record { old = run.old; led = run.led; step = run.step; save = save.0; left = save.1 }

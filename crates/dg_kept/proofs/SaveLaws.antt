@@ -7,7 +7,7 @@ use Rattle.dg_model.specs.Blocks.{block_in, zeros}
 use Rattle.dg_model.specs.Changes.{Saves}
 use Rattle.dg_model.specs.Members.{SlotHolds, SlotOf, is_filling, is_good, serves, slot_of}
 use Rattle.dg_model.specs.Openings.{HasOwnLabel}
-use Rattle.dg_model.specs.Saves.{BeginsWith, CanBeSaved, HasBody, HasLength, Label, body_of, label_bytes}
+use Rattle.dg_model.specs.Saves.{BeginsWith, HasBody, HasLength, Label, body_of, label_bytes}
 use Rattle.dg_model.specs.Seals.{HoldsLabel, LastLabel, keeps_label, label_on}
 use Rattle.dg_model.specs.States.{HoldsAll, StandsFor, State, saved_of}
 use Rattle.dg_model.specs.Tables.{StandsIn, Table, sites_in}
@@ -16,7 +16,7 @@ use Rattle.dg_model.specs.declared.members.MemberState.TheVariants.{Good, Fillin
 use Rattle.dg_model.specs.declared.sites.Site.{Site}
 use Rattle.dg_kept.proofs.ToldLaws.{some_if, some_more, told_from}
 use Rattle.dg_kept.specs.Saved.{HasSaved, IsFoundOn, IsOlder, IsSave, Save}
-use Rattle.dg_kept.specs.SavedRuns.{AreAllInUse, AreTakenAway, CanAlwaysBeSaved, IsLeft, LeavesSave, StandsStill}
+use Rattle.dg_kept.specs.SavedRuns.{AreAllInUse, AreTakenAway, IsLeft, LeavesSave, StandsStill}
 
 -- ---- members without a label
 
@@ -57,7 +57,7 @@ in_filling Out stands bad = absurd (stands refl)
 
 -- ---- a save
 
-module _ (old : State) (number : ℕ) (new : State) (bytes : ℕ → Option (List ℕ)) (h : Saves old number new) (can : CanAlwaysBeSaved new) (in_use : AreAllInUse new)
+module _ (old : State) (number : ℕ) (new : State) (bytes : ℕ → Option (List ℕ)) (h : Saves old number new) (in_use : AreAllInUse new)
     (holds : HoldsAll bytes new) where
   abbrev last : LastLabel
   last = record {
@@ -84,10 +84,6 @@ module _ (old : State) (number : ℕ) (new : State) (bytes : ℕ → Option (Lis
   stands = subst (λ (t : Table). StandsFor t new.members bytes old.blocks) table_is
       (subst (λ (v : List (List ℕ)). StandsFor new.table new.members bytes v) (ap (λ (s : State). s.blocks) h.rest) holds.blocks)
 
-  can_be : CanBeSaved (saved_of old h.marks)
-  can_be = subst (λ (s : State). CanBeSaved (saved_of s h.marks)) h.rest
-      (can h.marks (h.marks_are.size ∙ ap (λ (t : Table). 2 * t.shape.b) (sym table_is)))
-
   two_not_one : ◌≡◌ {A = ℕ} 2 1 → ⊥
   two_not_one e = omega (arith, e)
 
@@ -95,7 +91,7 @@ module _ (old : State) (number : ℕ) (new : State) (bytes : ℕ → Option (Lis
   is_save = record {
     sealed = refl;
     numbers = λ q. refl;
-    form = record { can = can_be; formats = inr refl; no_copies = λ e. absurd (two_not_one e); no_recent = λ e. absurd (two_not_one e) };
+    form = record { can = h.form; formats = inr refl; no_copies = λ e. absurd (two_not_one e); no_recent = λ e. absurd (two_not_one e) };
     shape = refl;
     body = refl;
     size = stands.size;

@@ -6,7 +6,6 @@ use Rattle.dg_model.specs.Marks.{AreNext}
 use Rattle.dg_model.specs.Moments.{HistoryOf, Moment}
 use Rattle.dg_model.specs.Members.{is_filling, is_good}
 use Rattle.dg_model.specs.Openings.{IsReopened}
-use Rattle.dg_model.specs.Saves.{CanBeSaved}
 use Rattle.dg_model.specs.Sites.{is_gone}
 use Rattle.dg_model.specs.States.{Counts, Holds, State, is_broken, saved_of}
 use Rattle.dg_model.specs.Steps.{Step}
@@ -20,10 +19,6 @@ use Rattle.dg_kept.specs.Opened.{AreTold, IsKept}
 use Rattle.dg_kept.specs.Saved.{HasSaved, IsOlder, IsSave, Save}
 
 -- ---- the state that is saved
-
--- the state can be saved, whichever members count as good
-abbrev pub CanAlwaysBeSaved : State → Type 0
-CanAlwaysBeSaved state = (good : List Bool) → length good ≡ 2 * state.table.shape.b → CanBeSaved (saved_of state good)
 
 -- all boundaries of the first line are in use
 abbrev pub AreAllInUse : State → Type 0

@@ -12,7 +12,7 @@ ghost use Rattle.dg_model.specs.declared.replies.Reply.{Reply};
 ghost use Rattle.dg_model.specs.declared.replies.Reply.TheVariants.{Saved};
 ghost use Rattle.dg_kept.specs.Opened.{AreTold};
 ghost use Rattle.dg_kept.specs.Saved.{Save};
-ghost use Rattle.dg_kept.specs.SavedRuns.{AreAllInUse, AreTakenAway, CanAlwaysBeSaved, EndsWithSave, GivesBlock, IsReading, IsResumed, LeavesSave, WasLed};
+ghost use Rattle.dg_kept.specs.SavedRuns.{AreAllInUse, AreTakenAway, EndsWithSave, GivesBlock, IsReading, IsResumed, LeavesSave, WasLed};
 ghost use Rattle.dg_kept.specs.Taken.{AreTaken};
 
 use crate::openings::{newest_saves_are_found, saved_arrays_are_opened};
@@ -22,13 +22,13 @@ use crate::saves::{saves_are_found_on_what_is_left, saves_leave_the_state};
 /// opened, or one of an array of any kind.
 pub fn runs_end_with_saves()
     ensures traced { (before : Counts) (events : List Event) (replies : List Reply) (number : ℕ) (last : State) (bytes : ℕ → Option (List ℕ))
-        → Trace AreTold before (events ++ SaveEvent ∷ []) (replies ++ Saved number ∷ []) last → CanAlwaysBeSaved last → AreAllInUse last
+        → Trace AreTold before (events ++ SaveEvent ∷ []) (replies ++ Saved number ∷ []) last → AreAllInUse last
         → HoldsAll bytes last → EndsWithSave (Trace AreTold before events replies) number last bytes }
     ensures resumed { (first : State) (events : List Event) (replies : List Reply) (number : ℕ) (last : State) (bytes : ℕ → Option (List ℕ))
-        → Run AreTold first (events ++ SaveEvent ∷ []) (replies ++ Saved number ∷ []) last → CanAlwaysBeSaved last → AreAllInUse last
+        → Run AreTold first (events ++ SaveEvent ∷ []) (replies ++ Saved number ∷ []) last → AreAllInUse last
         → HoldsAll bytes last → EndsWithSave (Run AreTold first events replies) number last bytes }
     ensures of_kinds { (before : Counts) (events : List Event) (replies : List Reply) (number : ℕ) (last : Moment) (bytes : ℕ → Option (List ℕ))
-        → HistoryOf AreTold before (events ++ SaveEvent ∷ []) (replies ++ Saved number ∷ []) last → CanAlwaysBeSaved last.state
+        → HistoryOf AreTold before (events ++ SaveEvent ∷ []) (replies ++ Saved number ∷ []) last
         → AreAllInUse last.state → HoldsAll bytes last.state → EndsWithSave (WasLed before events replies) number last.state bytes }
 {
     saves_leave_the_state();

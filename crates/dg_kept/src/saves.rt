@@ -7,13 +7,13 @@ ghost use Rattle.dg_model.specs.declared.events.Event.TheVariants.{Save as SaveE
 ghost use Rattle.dg_model.specs.declared.replies.Reply.TheVariants.{Saved};
 ghost use Rattle.dg_kept.specs.Opened.{AreTold};
 ghost use Rattle.dg_kept.specs.Saved.{IsFoundOn, IsOlder, Save};
-ghost use Rattle.dg_kept.specs.SavedRuns.{AreAllInUse, AreTakenAway, CanAlwaysBeSaved, LeavesSave};
+ghost use Rattle.dg_kept.specs.SavedRuns.{AreAllInUse, AreTakenAway, LeavesSave};
 
-/// Where a state that can be saved was, with all its boundaries in use, each member that is good in the end has what was saved: the label with
+/// Where a state was saved with all its boundaries in use, each member that is good in the end has what was saved: the label with
 /// the number of the reply, the state, and the blocks. One that is refilled then has no label.
 pub fn saves_leave_the_state()
     ensures { (old : State) (number : ℕ) (new : State) (bytes : ℕ → Option (List ℕ)) → Step AreTold old SaveEvent (Saved number) new
-        → CanAlwaysBeSaved new → AreAllInUse new → HoldsAll bytes new → (save : Save) × LeavesSave old number new bytes save }
+        → AreAllInUse new → HoldsAll bytes new → (save : Save) × LeavesSave old number new bytes save }
 {}
 
 /// A member without bytes has no label, nor has one that begins with 512 zeros: it is older than any save.

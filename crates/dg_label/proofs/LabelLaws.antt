@@ -5,8 +5,9 @@ use Rattle.std.proofs.lemmas.Bool.{and_from, and_parts, both_ways, cases_Bool, c
 use Rattle.dg_io.specs.Told.{Extended, FitsIn, IsSame, Patched, Told}
 use Rattle.dg_io.specs.declared.outside.Rack.{Ghosts}
 use Rattle.dg_label.specs.Labels.{AreFresh, AreNumbers, AreNumbersOf, HasLength, IsLabeled, IsOfArray, StandsLabeled, is_sealed, next_number, unsealed}
-use Rattle.dg_label.specs.Passes.{AreWhole, FillingStay, Passes, numbered}
-use Rattle.dg_label.specs.Seals.{HasGood, HasNoGood, KeepsArray, OpensSeal, saved_label}
+use Rattle.dg_label.specs.Pages.{LeavesFallen, OpensMember, PageFails, numbered, page_of}
+use Rattle.dg_label.specs.Passes.{AreWhole, FillingStay, Passes}
+use Rattle.dg_label.specs.Seals.{HasGood, HasNoGood, KeepsArray, OpensMembers, OpensSeal, saved_label}
 use Rattle.dg_label.specs.declared.labels.KeptLabel.{KeptLabel}
 use Rattle.dg_label.proofs.ByteLaws.{body_stays, body_there, extended_long, front_there, label_long, patched_long}
 use Rattle.dg_label.proofs.PassLaws.{filling_bad, filling_kept, good_kept, good_or_filling, keeps_none, stood_kept, told_is}
@@ -54,6 +55,23 @@ unflipped false e = refl
 unsealed_same : (label : Option KeptLabel) → is_sealed label ≡ false → label ≡ unsealed label
 unsealed_same None none = refl
 unsealed_same (Some kept) none = ap (λ (b : Bool). Some (record kept { sealed = b })) none
+
+-- a member whose seal was opened, or fell in that
+opened_done : (steady : Type 0) (page : List ℕ) (good : Bool) → good ≡ true → (a b : Option (List ℕ)) → Told (Patched 0 page) a b → Told (OpensMember steady page good) a b
+opened_done steady page good is a None put = tt
+opened_done steady page good is None (Some y) put = absurd put
+opened_done steady page good is (Some x) (Some y) put = record { done = λ e. put; failed = λ e. absurd (both_ways good e is) }
+
+opened_failed : (steady : Type 0) (page : List ℕ) (good : Bool) → good ≡ false → (a b : Option (List ℕ)) → Told (PageFails steady page) a b
+    → Told (OpensMember steady page good) a b
+opened_failed steady page good is a None fails = tt
+opened_failed steady page good is None (Some y) fails = absurd fails
+opened_failed steady page good is (Some x) (Some y) fails = record { done = λ e. absurd (both_ways good is e); failed = λ e. fails }
+
+-- the label that there is
+abbrev kept_in : KeptLabel → Option KeptLabel → KeptLabel
+kept_in other None = other
+kept_in other (Some kept) = kept
 
 -- ---- numbers
 
@@ -103,14 +121,14 @@ kept_none true true z bad = bad
 module _ {R : Type 0} (rack : Ghosts R) where
   -- ---- which members there are
 
-  good_within : (a : Store R) (q : ℕ) → IsSound rack a → is_good (members_of a q) ≡ true → q / 2 < (shape_of a).b
+  pub good_within : (a : Store R) (q : ℕ) → IsSound rack a → is_good (members_of a q) ≡ true → q / 2 < (shape_of a).b
   good_within a q sound good = elim (cases_lt (q / 2) (shape_of a).b) [
     | inl low ↦ low
     | inr high ↦ absurd (false≢true (sym (ap is_good (sound.others q high)) ∙ good))
   ]
 
   -- a good member stands
-  good_stands : (a : Store R) (q : ℕ) → is_good (members_of a q) ≡ true → members_of a q ≢ Out
+  pub good_stands : (a : Store R) (q : ℕ) → is_good (members_of a q) ≡ true → members_of a q ≢ Out
   good_stands a q good out = false≢true (sym (ap is_good out) ∙ good)
 
   filling_stands : (a : Store R) (q : ℕ) → is_filling (members_of a q) ≡ true → members_of a q ≢ Out
@@ -230,6 +248,7 @@ module _ {R : Type 0} (rack : Ghosts R) where
     after_is = unsealed_same label none;
     quiet = λ other. refl;
     stands = λ last sealed. absurd (both_ways (is_sealed label) none sealed);
+    members = λ kept is sealed. absurd (both_ways (is_sealed label) none (ap is_sealed is ∙ sealed));
     wrote = λ sealed. absurd (both_ways (is_sealed label) none sealed);
     most = omega arith;
   }
@@ -333,9 +352,29 @@ module _ {R : Type 0} (rack : Ghosts R) where
               (fresh_on a b passes.array passes.filling (filling_fresh a (Some kept) (Some last) sound stands));
         }
 
+    -- a failed page with the opened seal of each member
+    abbrev UnsealFails : KeptLabel → ℕ → List ℕ → List ℕ → Type 0
+    UnsealFails kept q = PageFails (rack.steady (rack_of a)) (page_of (shape_of a) (record kept { sealed = false }) q)
+
+    opens_members : (kept : KeptLabel) → Labels (record kept { sealed = false }) → LeavesFallen rack (UnsealFails kept) a b → OpensMembers rack kept a b
+    opens_members kept passes fallen = record { good = each; bad = fallen.bad }
+      where
+        each : (q : ℕ) → is_good (members_of a q) ≡ true
+            → Told (OpensMember (rack.steady (rack_of a)) (page_of (shape_of a) (record kept { sealed = false }) q) (is_good (members_of b q)))
+            (rack.bytes (rack_of a) q) (rack.bytes (rack_of b) q)
+        each q was = elim (cases_Bool (is_good (members_of b q))) [
+          | inl good ↦
+              let within = good_within a q sound was in
+              opened_done (rack.steady (rack_of a)) (page_of (shape_of a) (record kept { sealed = false }) q) (is_good (members_of b q)) good
+              (rack.bytes (rack_of a) q) (rack.bytes (rack_of b) q) (passes.done q (omega (arith, within)) good)
+          | inr gone ↦
+              opened_failed (rack.steady (rack_of a)) (page_of (shape_of a) (record kept { sealed = false }) q) (is_good (members_of b q)) gone
+              (rack.bytes (rack_of a) q) (rack.bytes (rack_of b) q) (fallen.fell q was gone)
+        ]
+
     pub opens_seal : (kept : KeptLabel) → kept.sealed ≡ true → IsLabeled rack a (Some kept) → Labels (record kept { sealed = false })
-        → (HasGood a → HasWritten rack a b) → OpensSeal rack a b (Some kept) (Some (record kept { sealed = false }))
-    opens_seal kept is labeled passes wrote =
+        → LeavesFallen rack (UnsealFails kept) a b → (HasGood a → HasWritten rack a b) → OpensSeal rack a b (Some kept) (Some (record kept { sealed = false }))
+    opens_seal kept is labeled passes fallen wrote =
         let n = labeled.numbers in
         let next : KeptLabel = record kept { sealed = false } in
         let next_numbers : AreNumbers (shape_of a) next = record { formats = n.formats; first = n.first; last = n.last; body = n.body } in
@@ -345,6 +384,8 @@ module _ {R : Type 0} (rack : Ghosts R) where
           after_is = refl;
           quiet = λ other. absurd (false≢true (sym other ∙ is));
           stands = λ last sealed stands. at_last last stands;
+          members = λ same is_same sealed.
+              subst (λ (k : KeptLabel). OpensMembers rack k a b) (ap (kept_in kept) is_same) (opens_members kept passes fallen);
           wrote = λ sealed has. wrote has;
           most = passes.most;
         }

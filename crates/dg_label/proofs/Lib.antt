@@ -1,3 +1,6 @@
 mod ByteLaws
+mod FallenLaws
 mod LabelLaws
+mod LeftLaws
 mod PassLaws
+mod SaveLaws

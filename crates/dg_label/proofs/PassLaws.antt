@@ -71,7 +71,7 @@ good_or_filling Good stands = inl refl
 good_or_filling (Filling have) stands = inr refl
 good_or_filling Out stands = absurd (stands refl)
 
-good_fills : (m : MemberState) → is_good m ≡ true → is_filling m ≡ true → ⊥
+pub good_fills : (m : MemberState) → is_good m ≡ true → is_filling m ≡ true → ⊥
 good_fills Good good filling = false≢true filling
 good_fills (Filling have) good filling = false≢true good
 good_fills Out good filling = false≢true good
@@ -278,7 +278,7 @@ module _ {R : Type 0} (rack : Ghosts R) where
     }
 
   -- a member that isn't good stays so
-  bad_stays : (a b : Store R) (q : ℕ) → KeepsArray rack a b → is_good (members_of a q) ≡ false → is_good (members_of b q) ≡ false
+  pub bad_stays : (a b : Store R) (q : ℕ) → KeepsArray rack a b → is_good (members_of a q) ≡ false → is_good (members_of b q) ≡ false
   bad_stays a b q keeps bad = elim (cases_Bool (is_good (members_of b q))) [
     | inl good ↦ absurd (false≢true (sym bad ∙ good_kept a b q keeps good))
     | inr still ↦ still

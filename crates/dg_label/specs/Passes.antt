@@ -1,28 +1,14 @@
 -- What calls beside the slots leave of an array: one on a member, and one on each good member in turn.
-use Rattle.std.specs.Prelude.{◌≡◌, ◌≢◌, ◌≤◌, ◌<◌, ◌/◌, ◌%◌, ℕ, true, List, IfSome, length}
+use Rattle.std.specs.Prelude.{◌≡◌, ◌≢◌, ◌≤◌, ◌<◌, ℕ, true, List, IfSome, length}
 use Rattle.dg_io.specs.Told.{IsSame}
 use Rattle.dg_io.specs.declared.outside.Rack.{Ghosts}
 use Rattle.dg_label.specs.Seals.{KeepsArray}
-use Rattle.dg_label.specs.declared.labels.KeptLabel.{KeptLabel}
 use Rattle.dg_model.specs.Members.{is_filling, is_good}
-use Rattle.dg_model.specs.Saves.{Label, member_length}
+use Rattle.dg_model.specs.Saves.{member_length}
 use Rattle.dg_model.specs.declared.members.MemberState.TheVariants.{Out}
-use Rattle.dg_model.specs.declared.shapes.Shape.{Shape}
 use Rattle.dg_store.specs.Leaves.{BytesChange, CallsAtMost, OnlyBytesOf}
 use Rattle.dg_store.specs.Stores.{members_of, rack_of, shape_of}
 use Rattle.dg_store.specs.declared.store.Store.{Store}
-
--- the label of these numbers, as it stands on member q
-abbrev pub numbered : Shape → KeptLabel → ℕ → Label
-numbered shape kept q = record {
-  format = kept.format;
-  sequence = kept.sequence;
-  sealed = kept.sealed;
-  boundary = q / 2;
-  side = q % 2;
-  shape = shape;
-  body = kept.body;
-}
 
 -- the bytes of each member that is refilled are as they were
 abbrev pub FillingStay : {R : Type 0} → Ghosts R → Store R → Store R → Type 0

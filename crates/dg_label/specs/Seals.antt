@@ -1,14 +1,16 @@
 -- What opening a seal, and saving, leave of an array and its label.
 use Rattle.std.specs.Prelude.{◌≡◌, ◌*◌, ℕ, true, false, List, Option, Some}
+use Rattle.dg_io.specs.Told.{IsSame}
 use Rattle.dg_io.specs.declared.outside.Rack.{Ghosts}
 use Rattle.dg_label.specs.Labels.{IsLabeled, StandsLabeled, is_sealed, next_number, unsealed}
+use Rattle.dg_label.specs.Pages.{OpensMember, page_of}
 use Rattle.dg_label.specs.declared.labels.KeptLabel.{KeptLabel}
 use Rattle.dg_label.specs.declared.saves.SaveAnswer.{SaveAnswer}
 use Rattle.dg_label.specs.declared.saves.SaveAnswer.TheVariants.{Lost, Saved}
 use Rattle.dg_model.specs.Members.{MembersFall, is_good}
 use Rattle.dg_model.specs.Seals.{LastLabel, label_after}
 use Rattle.dg_model.specs.States.{IsLeastLost}
-use Rattle.dg_store.specs.Leaves.{CallsAtMost, HasWritten, KeepsOut, PutsOut, Stays}
+use Rattle.dg_store.specs.Leaves.{BytesChange, CallsAtMost, HasWritten, KeepsOut, PutsOut, Stays}
 use Rattle.dg_store.specs.Stores.{IsSound, KeepsBlocks, members_of, rack_of, shape_of, table_of}
 use Rattle.dg_store.specs.declared.store.Store.{Store}
 
@@ -30,6 +32,13 @@ pub record KeepsArray {R : Type 0} (rack : Ghosts R) (old new : Store R) : Type 
   pub falls : MembersFall (rack.counts (rack_of old)).faults (rack.counts (rack_of new)).faults (members_of old) (members_of new)
   pub stands : KeepsBlocks rack old new
 
+-- The seal of this label was opened: what that leaves of the members that were good, and of the others.
+pub record OpensMembers {R : Type 0} (rack : Ghosts R) (kept : KeptLabel) (old new : Store R) : Type 0 where
+  pub good : (q : ℕ) → is_good (members_of old q) ≡ true
+      → BytesChange rack old new q
+      (OpensMember (rack.steady (rack_of old)) (page_of (shape_of old) (record kept { sealed = false }) q) (is_good (members_of new q)))
+  pub bad : (q : ℕ) → is_good (members_of old q) ≡ false → BytesChange rack old new q IsSame
+
 -- The seal was opened: on each member that was good and still is, the label stands with its seal opened. Where it wasn't sealed, nothing
 -- was done. Where some member was good, a call that writes was made, also where it failed.
 pub record OpensSeal {R : Type 0} (rack : Ghosts R) (old new : Store R) (before after : Option KeptLabel) : Type 0 where
@@ -39,6 +48,7 @@ pub record OpensSeal {R : Type 0} (rack : Ghosts R) (old new : Store R) (before 
   pub quiet : is_sealed before ≡ false → new ≡ old
   pub stands : (last : Option LastLabel) → is_sealed before ≡ true → StandsLabeled rack old before last
       → StandsLabeled rack new after (label_after true (members_of old) (members_of new) last)
+  pub members : (kept : KeptLabel) → before ≡ Some kept → kept.sealed ≡ true → OpensMembers rack kept old new
   pub wrote : is_sealed before ≡ true → HasGood old → HasWritten rack old new
   pub most : CallsAtMost rack old new (2 * (shape_of old).b)
 

@@ -1,12 +1,14 @@
 // Calls beside the slots on each good member, in ascending order.
-ghost use Rattle.std.specs.Prelude.{◌≡◌, ◌+◌, ◌*◌, ◌<◌, ◌≤◌, ℕ, IfSome, length, false, true};
-ghost use Rattle.dg_io.specs.Told.{Extended, FitsIn, Patched};
+ghost use Rattle.std.specs.Prelude.{◌≡◌, ◌+◌, ◌*◌, ◌<◌, ◌≤◌, ℕ, IfSome, if◌then◌else◌, length, false, true};
+ghost use Rattle.dg_io.specs.Told.{Extended, FitsIn, IsSame, KeepsFront, Patched, Torn};
 ghost use Rattle.dg_label.specs.Labels.{AreNumbers, IsLabeled};
-ghost use Rattle.dg_label.specs.Passes.{AreWhole, FillingStay, Passes, Touches, numbered};
+ghost use Rattle.dg_label.specs.Pages.{LeavesFallen, PageFails, numbered, page_of};
+ghost use Rattle.dg_label.specs.Passes.{AreWhole, FillingStay, Passes, Touches};
+ghost use Rattle.dg_label.specs.Saves.{is_short};
 ghost use Rattle.dg_label.specs.Seals.{HasGood, HasNoGood, KeepsArray};
 ghost use Rattle.dg_model.specs.Members.{is_good};
 ghost use Rattle.dg_model.specs.Saves.{body_place as place_of_body, label_bytes, member_length as length_of, room_of};
-ghost use Rattle.dg_store.specs.Leaves.{HasWritten};
+ghost use Rattle.dg_store.specs.Leaves.{BytesChange, CallsAtMost, HasWritten};
 ghost use Rattle.dg_store.specs.Stores.{IsSound, members_of, rack_of, shape_of};
 
 use crate::labels::KeptLabel;
@@ -20,6 +22,7 @@ fn write_label_on<R: Rack>(store: &mut Store<R>, member: u8, kept: &KeptLabel) -
     requires member { member < 2 * (shape_of store.old).b }
     requires numbers { AreNumbers (shape_of store.old) kept.now }
     ensures touches { Touches R.Rack member (Patched 0 (label_bytes (numbered (shape_of store.old) kept.now member))) store.old store.new }
+    ensures fallen { LeavesFallen R.Rack (λ q. PageFails (R.steady (rack_of store.old)) (page_of (shape_of store.old) kept.now q)) store.old store.new }
     ensures good { is_good (members_of store.new member) ≡ result }
     ensures wrote { is_good (members_of store.old member) ≡ true → HasWritten R.Rack store.old store.new }
 {
@@ -46,6 +49,7 @@ pub fn write_labels<R: Rack>(store: &mut Store<R>, kept: &KeptLabel) -> bool
     requires numbers { AreNumbers (shape_of store.old) kept.now }
     ensures passes { Passes R.Rack (2 * (shape_of store.old).b) (λ q. Patched 0 (label_bytes (numbered (shape_of store.old) kept.now q)))
         store.old store.new }
+    ensures fallen { LeavesFallen R.Rack (λ q. PageFails (R.steady (rack_of store.old)) (page_of (shape_of store.old) kept.now q)) store.old store.new }
     ensures some { result ≡ true → HasGood store.new }
     ensures none { result ≡ false → HasNoGood store.new }
     ensures wrote { HasGood store.old → HasWritten R.Rack store.old store.new }
@@ -65,7 +69,8 @@ fn write_body_on<R: Rack>(store: &mut Store<R>, member: u8, body: &[u8])
     requires member { member < 2 * (shape_of store.old).b }
     requires fits { is_good (members_of store.old member) ≡ true
         → IfSome (R.bytes (rack_of store.old) member) (λ all. place_of_body (shape_of store.old) + length body.now ≤ length all) }
-    ensures { Touches R.Rack member (Patched (place_of_body (shape_of store.old)) body.now) store.old store.new }
+    ensures touches { Touches R.Rack member (Patched (place_of_body (shape_of store.old)) body.now) store.old store.new }
+    ensures fallen { LeavesFallen R.Rack (λ q. Torn (place_of_body (shape_of store.old)) (length body.now)) store.old store.new }
 {
     let place = body_place(store.shape());
     let _ = store.note(member / 2, member % 2, place, body);
@@ -76,7 +81,8 @@ pub fn write_bodies<R: Rack>(store: &mut Store<R>, body: &[u8])
     requires sound { IsSound R.Rack store.old }
     requires whole { AreWhole R.Rack store.old }
     requires room { length body.now ≤ room_of 2 (shape_of store.old) }
-    ensures { Passes R.Rack (2 * (shape_of store.old).b) (λ q. Patched (place_of_body (shape_of store.old)) body.now) store.old store.new }
+    ensures passes { Passes R.Rack (2 * (shape_of store.old).b) (λ q. Patched (place_of_body (shape_of store.old)) body.now) store.old store.new }
+    ensures fallen { LeavesFallen R.Rack (λ q. Torn (place_of_body (shape_of store.old)) (length body.now)) store.old store.new }
 {
     for member in 0..2 * store.shape().b {
         write_body_on(store, member, body);
@@ -88,7 +94,8 @@ fn extend_one<R: Rack>(store: &mut Store<R>, member: u8, size: u64)
     requires sound { IsSound R.Rack store.old }
     requires member { member < 2 * (shape_of store.old).b }
     requires longer { is_good (members_of store.old member) ≡ true → IfSome (R.bytes (rack_of store.old) member) (FitsIn size) }
-    ensures { Touches R.Rack member (Extended size) store.old store.new }
+    ensures touches { Touches R.Rack member (Extended size) store.old store.new }
+    ensures fallen { LeavesFallen R.Rack (λ q. KeepsFront) store.old store.new }
 {
     let _ = store.extend(member / 2, member % 2, size);
 }
@@ -97,7 +104,8 @@ fn extend_one<R: Rack>(store: &mut Store<R>, member: u8, size: u64)
 fn extend_each<R: Rack>(store: &mut Store<R>, size: u64)
     requires sound { IsSound R.Rack store.old }
     requires longer { (q : ℕ) → is_good (members_of store.old q) ≡ true → IfSome (R.bytes (rack_of store.old) q) (FitsIn size) }
-    ensures { Passes R.Rack (2 * (shape_of store.old).b) (λ q. Extended size) store.old store.new }
+    ensures passes { Passes R.Rack (2 * (shape_of store.old).b) (λ q. Extended size) store.old store.new }
+    ensures fallen { LeavesFallen R.Rack (λ q. KeepsFront) store.old store.new }
 {
     for member in 0..2 * store.shape().b {
         extend_one(store, member, size);
@@ -111,6 +119,9 @@ pub fn lengthen<R: Rack>(store: &mut Store<R>, label: &Option<KeptLabel>)
     ensures array { KeepsArray R.Rack store.old store.new }
     ensures filling { FillingStay R.Rack store.old store.new }
     ensures whole { AreWhole R.Rack store.new }
+    ensures fronts { (q : ℕ) → BytesChange R.Rack store.old store.new q KeepsFront }
+    ensures untouched { (q : ℕ) → is_good (members_of store.old q) ≡ false → BytesChange R.Rack store.old store.new q IsSame }
+    ensures most { CallsAtMost R.Rack store.old store.new (if is_short label.now then 2 * (shape_of store.old).b else 0) }
 {
     let Some(kept) = label else {
         return;

@@ -1,9 +1,13 @@
 // Saving a body.
-ghost use Rattle.std.specs.Prelude.{◌≡◌, ◌≤◌, length, IfOk, OnErr};
+ghost use Rattle.std.specs.Prelude.{◌≡◌, ◌≤◌, ℕ, false, length, IfOk, OnErr};
+ghost use Rattle.dg_io.specs.Told.{IsSame};
 ghost use Rattle.dg_label.specs.Labels.{IsLabeled};
+ghost use Rattle.dg_label.specs.Saves.{LeavesMembers, save_calls};
 ghost use Rattle.dg_label.specs.Seals.{AnswersSave, KeepsArray};
+ghost use Rattle.dg_model.specs.Members.{is_good};
 ghost use Rattle.dg_model.specs.Saves.{room_of};
-ghost use Rattle.dg_store.specs.Stores.{IsSound, shape_of};
+ghost use Rattle.dg_store.specs.Leaves.{BytesChange, CallsAtMost};
+ghost use Rattle.dg_store.specs.Stores.{IsSound, members_of, shape_of};
 
 use crate::labels::{KeptLabel, number_after};
 use crate::passes::{lengthen, write_bodies, write_labels};
@@ -24,7 +28,9 @@ pub enum SaveAnswer {
 const PAST_NUMBERS: u64 = 1 << 63;
 
 /// Writes a body of format 2 to each good member, and then the label, sealed, with the next number. The seal is opened first where it is
-/// sealed, and a member that is too short is made longer. A number that is no label's (2^63) is answered as want of memory, and nothing is done.
+/// sealed, and a member that is too short is made longer. On each member this is the order, also on one that falls: the new label stands above
+/// the new body alone, and the sealed one stays only where its opening failed and nothing else was written. The slots stay. A number that is no
+/// label's (2^63) is answered as want of memory, and nothing is done.
 pub fn save<R: Rack>(
     store: &mut Store<R>,
     label: &mut Option<KeptLabel>,
@@ -36,6 +42,9 @@ pub fn save<R: Rack>(
     ensures array { KeepsArray R.Rack store.old store.new }
     ensures labeled { IsLabeled R.Rack store.new label.new }
     ensures answer { IfOk result (AnswersSave R.Rack body.now store.old store.new label.old label.new) }
+    ensures members { IfOk result (λ answer. LeavesMembers R.Rack body.now label.old store.old store.new) }
+    ensures untouched { (q : ℕ) → is_good (members_of store.old q) ≡ false → BytesChange R.Rack store.old store.new q IsSame }
+    ensures most { CallsAtMost R.Rack store.old store.new (save_calls (shape_of store.old).b label.old) }
     ensures err { OnErr result (store.new ≡ store.old) × OnErr result (label.new ≡ label.old) }
 {
     let sequence = number_after(label);

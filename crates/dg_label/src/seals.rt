@@ -8,7 +8,8 @@ use crate::passes::write_labels;
 use dg_io::Rack;
 use dg_store::Store;
 
-/// Opens the seal of the label on each good member, where it is sealed. A member whose call fails goes out.
+/// Opens the seal of the label on each good member, where it is sealed. A member whose call fails goes out, and nothing behind its first page
+/// has changed.
 pub fn open_seal<R: Rack>(store: &mut Store<R>, label: &mut Option<KeptLabel>)
     requires sound { IsSound R.Rack store.old }
     requires labeled { IsLabeled R.Rack store.old label.old }

@@ -1,7 +1,7 @@
 -- Where all boundaries are in use and no block was cut: places are numbers, and what is gone is gone by its sites. A library for the crates
 -- above.
-use Rattle.std.proofs.Common.{get_or, set, ◌≡◌, ◌+◌, ◌<◌, ◌≤◌, ◌==◌, ℕ, Bool, true, false, List, length, refl, sym, ap, subst, arith, ◌∙◌, ◌||◌, replicate}
-use Rattle.std.specs.List.{list_any, range_with_len}
+use Rattle.std.proofs.Common.{◌≡◌, ◌+◌, ◌<◌, ◌≤◌, ◌==◌, ℕ, Bool, true, false, refl, sym, subst, arith, ◌||◌, replicate}
+use Rattle.std.specs.List.{range_with_len}
 use Rattle.std.specs.Prelude.{nat_lt, slice_set}
 use Rattle.std.proofs.lemmas.Bool.{ltb-false, ltb-true}
 use Rattle.std.proofs.lemmas.Bool.Decides.{nat_tests}

@@ -1,5 +1,5 @@
 -- What is left of a table without some of its boundaries is a table. A library for the crates above.
-use Rattle.std.proofs.Common.{◌≡◌, ◌≢◌, ◌<◌, ◌≤◌, ◌+◌, ◌*◌, ◌==◌, ◌⊎◌, inl, inr, ℕ, zero, suc, Bool, true, false, cond, List, [], ◌∷◌, get_or, map, filter, not, length, refl, sym, ◌∙◌, ap, subst, arith}
+use Rattle.std.proofs.Common.{◌≡◌, ◌≢◌, ◌<◌, ◌≤◌, ◌+◌, ◌*◌, ◌==◌, inl, inr, ℕ, zero, suc, true, false, cond, List, [], ◌∷◌, get_or, map, filter, not, length, refl, sym, ◌∙◌, ap, subst, arith}
 use Rattle.std.specs.List.{Contains, range_with_len, sum_by}
 use Rattle.std.specs.List.Sorted.{IsStrictlyIncreasing}
 use Rattle.std.proofs.Math.ListN.{get_or-map}

@@ -1,5 +1,5 @@
 -- Steps of a settled array of two blocks over members that tell nothing, and what is no step. Both blocks are of file 3.
-use Rattle.std.proofs.Common.{◌≡◌, ◌≢◌, inl, inr, ℕ, zero, suc, Bool, true, false, List, [], ◌∷◌, ap, refl, arith, sym, ◌∙◌, length}
+use Rattle.std.proofs.Common.{◌≡◌, ◌≢◌, ◌<◌, ◌^◌, inl, inr, ℕ, zero, suc, Bool, true, false, List, [], ◌∷◌, ap, refl, arith, sym, ◌∙◌, length, get_or}
 use Rattle.std.proofs.lemmas.Bool.{false≢true}
 use Rattle.std.specs.Prelude.{Option, Some, None, Result, Ok, Err, cond, is_some, ◌==◌}
 use Rattle.std.specs.List.{list_any}
@@ -20,12 +20,13 @@ use Rattle.dg_model.specs.Marks.{is_marked}
 use Rattle.dg_model.specs.Members.{is_filling, is_good, partner_of}
 use Rattle.dg_model.specs.Moves.{missing, moves, round, tidying}
 use Rattle.dg_model.specs.Plans.{place_kept, place_stray, place_with, plan, roomiest, stay, targets_of}
-use Rattle.dg_model.specs.Saves.{body_of}
+use Rattle.dg_model.specs.Saves.{CanBeSaved, body_of}
+use Rattle.dg_model.specs.Shapes.{IsShape}
 use Rattle.dg_model.specs.Seals.{LastLabel}
 use Rattle.dg_model.specs.States.{State, gone_in, saved_of}
 use Rattle.dg_model.specs.Steps.{Step}
 use Rattle.dg_model.specs.Sites.{has_site}
-use Rattle.dg_model.specs.Tables.{Table, lowest_free, sites_in}
+use Rattle.dg_model.specs.Tables.{IsFree, IsTable, Table, empty_table, lowest_free, sites_in}
 use Rattle.dg_model.specs.Wants.{want_of}
 use Rattle.dg_model.specs.declared.events.Event.TheVariants.{Diffuse, Home as HomeEvent, Pending, Rebuild, Replace, Save, Settle, Tree, Who}
 use Rattle.dg_model.specs.declared.members.MemberState.{MemberState}
@@ -33,9 +34,12 @@ use Rattle.dg_model.specs.declared.members.MemberState.TheVariants.{Good, Fillin
 use Rattle.dg_model.specs.declared.phases.Phase.TheVariants.{Loose, Settled, Worn}
 use Rattle.dg_model.specs.declared.replies.Reply.TheVariants.{Blocks, Copied, Diffused, Done, HomeAt, Nodes, Lost, Refused, Saved, Settled as SettledReply, Unavailable, Verdict}
 use Rattle.dg_model.specs.declared.verdicts.Who.TheVariants.{Dead, Pending as IsPending}
+use Rattle.dg_model.specs.declared.homes.Home.{Home}
+use Rattle.dg_model.specs.declared.sites.Site.{Site}
 use Rattle.dg_model.specs.declared.wants.Want.{Want}
 use Rattle.dg_model.specs.declared.wants.Want.TheVariants.{File}
 use Rattle.dg_model.proofs.PlanRows.{home, on}
+use Rattle.dg_model.proofs.PutLaws.{IsTable-empty, IsTable-put}
 use Rattle.dg_model.proofs.StepRows.{Rest, all_good, array_read, array_with, before, both_on_1, goes, is_loose, not_filling, nothing, reads, shape, table_with}
 use Rattle.dg_model.proofs.VerdictRows.{blocks, not_dead, plain}
 
@@ -234,6 +238,61 @@ marks_good (suc (suc zero)) = refl
 marks_good (suc (suc (suc zero))) = refl
 marks_good (suc (suc (suc (suc q)))) = refl
 
+valid : IsShape shape
+valid = record {
+  block = inl refl;
+  least_blocks = omega arith;
+  most_blocks = omega arith;
+  least_boundaries = omega arith;
+  most_boundaries = omega arith;
+  least_slots = omega arith;
+  most_slots = omega arith;
+  room = omega arith;
+  sites = omega arith;
+  least_places = omega arith;
+  most_places = omega arith;
+}
+
+nothing_below : (k : ℕ) → k < 0 → ⊥
+nothing_below k low = omega (arith, low)
+
+free_at_first : IsFree (empty_table shape) 0 0
+free_at_first zero (x, low, is) = nothing_below x low
+free_at_first (suc zero) (x, low, is) = nothing_below x low
+free_at_first (suc (suc b)) (x, low, is) = nothing_below x low
+
+free_behind : IsFree (table_with (on 0 0 ∷ []) []) 0 1
+free_behind zero (zero, low, is) = omega (arith, ap (λ (x : Site). x.slot) is)
+free_behind zero (suc x, low, is) = omega (arith, low)
+free_behind (suc zero) (x, low, is) = nothing_below x low
+free_behind (suc (suc b)) (x, low, is) = nothing_below x low
+
+stands : IsTable both_on_0
+stands =
+    IsTable-put (table_with (on 0 0 ∷ []) []) 1 (record { boundary = 0; slot = 1 }) (omega arith)
+    (IsTable-put (empty_table shape) 0 (record { boundary = 0; slot = 0 }) (omega arith) (IsTable-empty shape valid) (omega arith) (omega arith) free_at_first refl (omega arith))
+    (omega arith) (omega arith) free_behind refl (omega arith)
+
+low_home : (k : ℕ) (d : Home) → k < 1 → (let home = get_or (home 3 0 ∷ []) k d in (home.inode < 2 ^ 32) × (home.boundary < 2))
+low_home zero d low = (omega arith, omega arith)
+low_home (suc k) d low = absurd (omega (arith, low))
+
+can_be_saved : CanBeSaved (saved_of (array_with both_on_0 at_home 5) all_marks)
+unfolding all_marks
+can_be_saved = record {
+  members = refl;
+  table = stands;
+  marks = refl;
+  homes = ((λ k low. absurd (omega (arith, low))), low_home);
+  few_homes = omega arith;
+  copies = ((λ k low. absurd (omega (arith, low))), (λ k d low. absurd (nothing_below k low)));
+  settled = λ some. refl;
+  elsewhere = λ i t e. absurd (false≢true (ap (λ (o : Option ℕ). is_some o) e));
+  few_recent = omega arith;
+  recent = λ k d low. absurd (nothing_below k low);
+  once = λ i j d less low. absurd (nothing_below j low);
+}
+
 saved : Step ⊥ (array_with both_on_0 at_home 5) Save (Saved 1) (record (array_with both_on_0 at_home 9) { label = Some first_label })
 unfolding all_good all_marks
 saved = record {
@@ -247,6 +306,7 @@ saved = record {
   some = (0, refl);
   marks = all_marks;
   marks_are = record { size = refl; still = λ q e. marks_good q ∙ e; before = λ q e. sym (marks_good q) ∙ e };
+  form = can_be_saved;
   next = refl;
   rest = refl;
 }

@@ -1,6 +1,6 @@
 -- Going on after a loss: the lost boundaries are taken out of use, and the blocks that stood on them alone are cut. The rules are this
 -- project's own.
-use Rattle.std.specs.Prelude.{◌≡◌, ◌⊎◌, ◌+◌, ◌*◌, ◌/◌, ◌%◌, ◌<◌, ◌&&◌, ◌||◌, ℕ, Bool, true, false, not, nat_lt, List, [], Option, Some, None, IfSome, length, map, filter, flat_map, slice_index, option_to_list, if◌then◌else◌}
+use Rattle.std.specs.Prelude.{◌≡◌, ◌⊎◌, ◌+◌, ◌*◌, ◌/◌, ◌%◌, ◌<◌, ◌&&◌, ◌||◌, ℕ, Bool, true, not, nat_lt, List, [], Option, Some, None, length, map, filter, flat_map, slice_index, option_to_list, if◌then◌else◌}
 use Rattle.std.specs.List.{range_with_len}
 use Rattle.std.specs.Option.{option_map}
 use Rattle.dg_model.specs.Blocks.{block_in, zeros}

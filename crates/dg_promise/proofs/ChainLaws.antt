@@ -14,18 +14,18 @@ use Rattle.dg_promise.specs.Chains.{ReadsInRun}
 use Rattle.dg_promise.specs.Promises.{AreTold, FewLost, IsAsPromised, LosesNone}
 
 -- the states around one of the events
-record SplitsAt (Known : Type 0) (old : State) (front : List Event) (event : Event) (rest : List Event) (replies : List Reply) (last : State) : Type 0 where
-  before : State
-  after : State
-  reply : Reply
-  earlier : List Reply
-  later : List Reply
-  replies_are : replies ≡ earlier ++ reply ∷ later
-  led : Run Known old front earlier before
-  step : Step Known before event reply after
-  on : Run Known after rest later last
+pub record SplitsAt (Known : Type 0) (old : State) (front : List Event) (event : Event) (rest : List Event) (replies : List Reply) (last : State) : Type 0 where
+  pub before : State
+  pub after : State
+  pub reply : Reply
+  pub earlier : List Reply
+  pub later : List Reply
+  pub replies_are : replies ≡ earlier ++ reply ∷ later
+  pub led : Run Known old front earlier before
+  pub step : Step Known before event reply after
+  pub on : Run Known after rest later last
 
-split_at : (Known : Type 0) (old : State) (front : List Event) (event : Event) (rest : List Event) (replies : List Reply) (last : State)
+pub split_at : (Known : Type 0) (old : State) (front : List Event) (event : Event) (rest : List Event) (replies : List Reply) (last : State)
     → Run Known old (front ++ event ∷ rest) replies last → SplitsAt Known old front event rest replies last
 split_at Known old [] event rest replies last run =
     let first = run_more Known old event rest replies last run in

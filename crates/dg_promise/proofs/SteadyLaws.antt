@@ -163,7 +163,7 @@ module _ (facts : Volumes) (plans : PlansAreTargets) (whole : (l n : ℕ) (v : V
 
 -- ---- the bytes of a block
 
-same_l : (Known : Type 0) (old : State) (event : Event) (new : State) → HasEffect Known old event new → new.table.shape.l ≡ old.table.shape.l
+pub same_l : (Known : Type 0) (old : State) (event : Event) (new : State) → HasEffect Known old event new → new.table.shape.l ≡ old.table.shape.l
 same_l Known old event new (keeps kept) = ap (λ (table : Table). table.shape.l) kept.table
 same_l Known old event new (writes b bytes is low h) = ap (λ (x : Shape). x.l) (sited_sized old.table b new.table h.sited).shape
 same_l Known old event new (passes s low high h) = ap (λ (x : Shape). x.l) h.reaps.shape

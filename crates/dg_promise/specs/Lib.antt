@@ -6,3 +6,7 @@ pub mod Promises
 pub mod Steady
 -- A file that is read in the middle of a run.
 pub mod Chains
+-- A file that is read in a run from any state, and between a `settle` and the next write.
+pub mod Readings
+-- Volumes of which some blocks were cut.
+pub mod Uncut

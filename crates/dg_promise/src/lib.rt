@@ -5,15 +5,18 @@
 #![tactic(auto)]
 
 mod chains;
+mod cut_blocks;
 mod needs;
 mod orders;
 mod promises;
 mod regroups;
+mod resumes;
 mod steady;
 #[cfg(test)]
 mod tests;
 
 pub use crate::chains::{reads_keep_their_promise, runs_keep_their_promise};
+pub use crate::cut_blocks::{cut_blocks_leave_paths, uncut_blocks_stay};
 pub use crate::needs::{
     blocks_have_one_owner, files_are_read, files_need_their_blocks, needed_blocks_have_reasons,
 };
@@ -23,4 +26,7 @@ pub use crate::promises::{
     homes_are_of_owners,
 };
 pub use crate::regroups::uncut_files_stay;
+pub use crate::resumes::{
+    opened_arrays_are_steady, settled_arrays_keep_their_promise, steady_runs_keep_their_promise,
+};
 pub use crate::steady::{blank_arrays_are_steady, steps_keep_steady};

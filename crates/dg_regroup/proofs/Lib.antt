@@ -1,8 +1,14 @@
 mod CutLemmas
 mod DropLemmas
 mod ExtraLemmas
+mod FrontBytes
+mod FrontCommits
+mod FrontLists
 mod LawLemmas
 mod LeftLemmas
 mod LiveCalls
+mod LiveCommits
+mod LiveDisks
+mod MarkLemmas
 mod PlaceLemmas
 mod ReadLemmas

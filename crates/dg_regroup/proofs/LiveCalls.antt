@@ -26,11 +26,11 @@ rose_more before now own rose = record {
 }
 
 -- what is one thing of a member that is there, and of no other one, is so below
-here_only : (there : Bool) (b : Bool) → (if there then b else false) ≡ true → there ≡ true
+pub here_only : (there : Bool) (b : Bool) → (if there then b else false) ≡ true → there ≡ true
 here_only true b is = refl
 here_only false b is = is
 
-here_is : (there : Bool) (b : Bool) → (if there then b else false) ≡ true → b ≡ true
+pub here_is : (there : Bool) (b : Bool) → (if there then b else false) ≡ true → b ≡ true
 here_is true b is = is
 here_is false b is = absurd (false≢true is)
 

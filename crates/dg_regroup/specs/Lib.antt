@@ -3,9 +3,14 @@ pub mod CutViews
 pub mod Cuts
 pub mod ExtraBytes
 pub mod Extras
+pub mod FrontGhosts
+pub mod FrontLaws
+pub mod FrontMade
+pub mod FrontRacks
 pub mod LiveGhosts
 pub mod LiveLaws
 pub mod LiveMade
 pub mod LivePlaces
 pub mod LiveRacks
+pub mod Marks
 pub mod PlaceTables

@@ -1,7 +1,8 @@
 -- A rack of the boundaries in use. The rules are this project's own.
-use Rattle.std.specs.Prelude.{◌≡◌, ◌+◌, ◌*◌, ◌/◌, nat_lt, ℕ, Bool, true, false, List, [], ◌∷◌, Option, Some, None, if◌then◌else◌, length, map, slice_index}
+use Rattle.std.specs.Prelude.{◌≡◌, ◌+◌, ◌*◌, ◌/◌, nat_lt, ℕ, Bool, true, false, List, [], ◌∷◌, Option, Some, None, if◌then◌else◌, filter, length, map, slice_index}
 use Rattle.dg_io.specs.Disks.{DiskStates}
 use Rattle.dg_io.specs.Kept.{Kept, IsNothing}
+use Rattle.dg_io.specs.Reduced.{places_left}
 use Rattle.dg_io.specs.declared.outside.Rack.{Ghosts}
 use Rattle.dg_model.specs.Lives.{boundary_at, member_at}
 use Rattle.dg_model.specs.States.{Counts}
@@ -41,6 +42,11 @@ pub record HasNoneAbsent {R : Type 0} (it : LiveRack R) : Type 0 where
 pub record AreOwn {R : Type 0} (old new : LiveRack R) : Type 0 where
   pub rack : new.rack ≡ old.rack
   pub live : new.live ≡ old.live
+
+-- The boundaries with these bits were taken out of use, and nothing was done to the rack below. Bits behind the last boundary are no one's.
+pub record DropsBoundaries {R : Type 0} (old : LiveRack R) (lost : ℕ) (new : LiveRack R) : Type 0 where
+  pub live : new.live.items ≡ live_left (places_left lost (length old.live.items)) old.live.items
+  pub rack : new.rack ≡ old.rack
 
 -- ---- what it means as a rack. The first argument is what the rack below means.
 
@@ -89,3 +95,16 @@ live_disks rack it = record {
   out = λ s j. if nat_lt s (length it.live.items) then (rack.disks it.rack).out (boundary_at it.live.items s) j else false;
   faults = λ s j. if nat_lt s (length it.live.items) then (rack.disks it.rack).faults (boundary_at it.live.items s) j else 0;
 }
+
+-- ---- the checkpoint's room, and the groups of disks
+
+abbrev pub live_room : {R : Type 0} → (R → Option ℕ) → LiveRack R → Option ℕ
+live_room room it = room it.rack
+
+-- how many disks a group has
+abbrev pub live_width : {R : Type 0} → (R → Option ℕ) → LiveRack R → Option ℕ
+live_width width it = width it.rack
+
+-- how many of the boundaries in use are groups of the rack below. They are the first of them
+abbrev pub live_groups : {R : Type 0} → (R → ℕ) → LiveRack R → ℕ
+live_groups groups it = length (filter (λ s. nat_lt s (groups it.rack)) it.live.items)

@@ -4,8 +4,10 @@ ghost use Rattle.std.specs.List.Sorted.{IsStrictlyIncreasing};
 ghost use Rattle.dg_model.specs.Causes.{Rose, RoseByOne};
 ghost use Rattle.dg_model.specs.Lives.{member_at};
 
+use crate::FrontRack;
 use crate::lives::drop_marked;
-use dg_io::{Failed, Rack, Reduces};
+use crate::marks::{answer_here, marks_below, number_at};
+use dg_io::{Checkpoint, CommitAnswer, Disks, DropAnswer, Failed, MendAnswer, Rack, Reduces};
 
 const MEMBERS: usize = 256;
 
@@ -31,6 +33,7 @@ impl<R> LiveRack<R> {
     ghost use Rattle.std.specs.List.Sorted.{IsStrictlyIncreasing};
     ghost use Rattle.dg_model.specs.Causes.{Rose, RoseByOne};
     ghost use Rattle.dg_model.specs.Lives.{member_at};
+    ghost use Rattle.dg_regroup.specs.FrontRacks.{front_length, HasNoneRefused, is_front, rack_behind};
     ghost use Rattle.dg_regroup.specs.LiveRacks.{AreOwn, HasNoneAbsent, is_there, live_in, rack_in};
 
     /// A rack of these boundaries of a rack, which ascend, each below 16.
@@ -50,6 +53,21 @@ impl<R> LiveRack<R> {
         }
     }
 
+    /// The same of a rack whose members may be longer than the array on them says. Each shows its first bytes alone, as many as are told
+    /// here, and one that has fewer isn't found, until it is made anew.
+    pub fn opened(rack: R, live: Vec<u8>, length: u64) -> LiveRack<FrontRack<R>>
+        requires ascend { IsStrictlyIncreasing live.items }
+        requires few { All (λ s. s < 16) live.items }
+        ensures rack { rack_behind (rack_in result) ≡ rack }
+        ensures length { front_length (rack_in result) ≡ length }
+        ensures fronts { (q : ℕ) → q < 256 → is_front (rack_in result) q ≡ true }
+        ensures refused { HasNoneRefused (rack_in result) }
+        ensures live { live_in result ≡ live.items }
+        ensures none { HasNoneAbsent result }
+    {
+        LiveRack::new(FrontRack::new(rack, length), live)
+    }
+
     /// The boundaries in use, ascending, by their numbers in the rack below.
     pub fn live(&self) -> &[u8]
         ensures live { result.now ≡ live_in self.now }
@@ -64,8 +82,7 @@ impl<R> LiveRack<R> {
         ensures there { IfSome result (λ number. (is_there (live_in self.now) member ≡ true) × (number ≡ member_at (live_in self.now) member)) }
         ensures absent { IfNone result (is_there (live_in self.now) member ≡ false) }
     {
-        let boundary = *self.live.get(member as usize / 2)?;
-        Some(2 * boundary + member % 2)
+        number_at(&self.live, member)
     }
 
     /// One more call on a member that isn't there.
@@ -185,17 +202,60 @@ impl<R: Rack> Reduces for LiveRack<R> {
     ghost use Rattle.std.specs.Prelude.{◌≡◌, length};
     ghost use Rattle.dg_io.specs.Reduced.{places_left, LeavesLeft};
     ghost use Rattle.dg_regroup.specs.LiveGhosts.{live};
-    ghost use Rattle.dg_regroup.specs.LiveRacks.{live_count, live_in, live_left, rack_in};
+    ghost use Rattle.dg_regroup.specs.LiveRacks.{DropsBoundaries, live_count};
 
     ghost boundaries = { live_count };
+
+    ghost dropped = { DropsBoundaries };
 
     /// Bits behind the last boundary are no one's.
     fn drop_lost(&mut self, lost: u16)
         ensures leaves { LeavesLeft (live R.Rack) (places_left lost (live_count self.old)) self.old self.new }
+        ensures dropped { DropsBoundaries self.old lost self.new }
         ensures boundaries { live_count self.new ≡ length (places_left lost (live_count self.old)) }
-        ensures live { live_in self.new ≡ live_left (places_left lost (live_count self.old)) (live_in self.old) }
-        ensures rack { rack_in self.new ≡ rack_in self.old }
     {
         drop_marked(&mut self.live, lost);
+    }
+}
+
+impl<R: Checkpoint> Checkpoint for LiveRack<R> {
+    ghost use Rattle.dg_regroup.specs.LiveRacks.{live_room};
+
+    ghost room_of = { live_room R.room_of };
+
+    fn commit(&mut self, keep: u32, extra: &[u8]) -> CommitAnswer {
+        let below = marks_below(&self.live, keep);
+        let answer = self.rack.commit(below, extra);
+        answer_here(&self.live, answer)
+    }
+
+    fn room(&self) -> Option<u32> {
+        self.rack.room()
+    }
+}
+
+impl<R: Disks> Disks for LiveRack<R> {
+    ghost use Rattle.dg_regroup.specs.LiveRacks.{live_groups, live_width};
+
+    ghost width = { live_width R.width };
+
+    ghost groups = { live_groups R.groups };
+
+    fn drop_disk(&mut self, s: u8, j: u8) -> DropAnswer {
+        match self.live.get(s as usize) {
+            Some(group) => self.rack.drop_disk(*group, j),
+            None => DropAnswer::Plain,
+        }
+    }
+
+    fn mend(&mut self, s: u8, j: u8) -> MendAnswer {
+        match self.live.get(s as usize) {
+            Some(group) => self.rack.mend(*group, j),
+            None => MendAnswer::Plain,
+        }
+    }
+
+    fn disks(&self) -> Option<u8> {
+        self.rack.disks()
     }
 }

@@ -29,31 +29,31 @@ use Rattle.ufs_model.specs.declared.geometries.Geometry.{Geometry}
 abbrev pub NoFault : Status → Type 0
 NoFault status = (status ≡ ReadFault → ⊥) × (status ≡ WriteFault → ⊥)
 
-replay_done : (f : Facts) (status : Status) → EndsReplay f status → NoFault status → CompletesReplay f status
-replay_done f Done ends none events input text = inl refl
-replay_done f BadLine ends none events input (is, some) =
+replay_done : (tells : ℕ → Type 0) (f : Facts) (status : Status) → EndsReplay tells f status → NoFault status → CompletesReplay f status
+replay_done tells f Done ends none events input text = inl refl
+replay_done tells f BadLine ends none events input (is, some) =
     let front = told_front _ f.left f.rest (input_of events) is some ends.input in
     absurd (front.1.3 events input refl)
-replay_done f ReadFault ends none events input text = absurd (none.0 refl)
-replay_done f WriteFault ends none events input text = absurd (none.1 refl)
-replay_done f NoMemory ends none events input text = inr refl
-replay_done f Usage ends none events input text = absurd ends
-replay_done f NoState ends none events input text = absurd ends
-replay_done f Unclean ends none events input text = absurd ends
-replay_done f Refused ends none events input text = absurd ends
+replay_done tells f ReadFault ends none events input text = absurd (none.0 refl)
+replay_done tells f WriteFault ends none events input text = absurd (none.1 refl)
+replay_done tells f NoMemory ends none events input text = inr refl
+replay_done tells f Usage ends none events input text = absurd ends
+replay_done tells f NoState ends none events input text = absurd ends
+replay_done tells f Unclean ends none events input text = absurd ends
+replay_done tells f Refused ends none events input text = absurd ends
 
-resume_done : (f : Facts) (status : Status) → EndsResume f status → NoFault status → CompletesResume f status
-resume_done f Done ends none events lines text = inl refl
-resume_done f BadLine ends none events lines (is, some) =
+resume_done : (tells : ℕ → Type 0) (f : Facts) (status : Status) → EndsResume tells f status → NoFault status → CompletesResume f status
+resume_done tells f Done ends none events lines text = inl refl
+resume_done tells f BadLine ends none events lines (is, some) =
     let front = told_front _ f.left f.rest (input_of events) is some ends.input in
     absurd (front.1.1.none events (lines ends.ran.opened ends.ran.source) refl)
-resume_done f ReadFault ends none events lines text = absurd (none.0 refl)
-resume_done f WriteFault ends none events lines text = absurd (none.1 refl)
-resume_done f NoMemory ends none events lines text = inr (inr refl)
-resume_done f Usage ends none events lines text = absurd ends
-resume_done f NoState ends none events lines text = inr (inl (inl refl))
-resume_done f Unclean ends none events lines text = inr (inl (inr refl))
-resume_done f Refused ends none events lines text = absurd ends
+resume_done tells f ReadFault ends none events lines text = absurd (none.0 refl)
+resume_done tells f WriteFault ends none events lines text = absurd (none.1 refl)
+resume_done tells f NoMemory ends none events lines text = inr (inr refl)
+resume_done tells f Usage ends none events lines text = absurd ends
+resume_done tells f NoState ends none events lines text = inr (inl (inl refl))
+resume_done tells f Unclean ends none events lines text = inr (inl (inr refl))
+resume_done tells f Refused ends none events lines text = absurd ends
 
 -- a file or a listing
 saved_done : (ends : SavedEnd → Type 0) (taken given : Option (List ℕ)) (status : Status) → EndsSaved ends taken given status → NoFault status
@@ -69,16 +69,16 @@ saved_done ends taken given Usage is none = absurd is
 saved_done ends taken given BadLine is none = absurd is
 
 -- the state
-pub shown_done : (f : Facts) (status : Status) → Ends f StatusCommand status → NoFault status → Completes f StatusCommand status
-shown_done f Done is none = inl refl
-shown_done f Refused is none = absurd is
-shown_done f NoState is none = inr (inl (inl refl))
-shown_done f Unclean is none = inr (inl (inr refl))
-shown_done f NoMemory is none = inr (inr refl)
-shown_done f ReadFault is none = absurd (none.0 refl)
-shown_done f WriteFault is none = absurd (none.1 refl)
-shown_done f Usage is none = absurd is
-shown_done f BadLine is none = absurd is
+pub shown_done : (tells : ℕ → Type 0) (f : Facts) (status : Status) → Ends tells f StatusCommand status → NoFault status → Completes f StatusCommand status
+shown_done tells f Done is none = inl refl
+shown_done tells f Refused is none = absurd is
+shown_done tells f NoState is none = inr (inl (inl refl))
+shown_done tells f Unclean is none = inr (inl (inr refl))
+shown_done tells f NoMemory is none = inr (inr refl)
+shown_done tells f ReadFault is none = absurd (none.0 refl)
+shown_done tells f WriteFault is none = absurd (none.1 refl)
+shown_done tells f Usage is none = absurd is
+shown_done tells f BadLine is none = absurd is
 
 -- ---- images
 
@@ -143,11 +143,11 @@ drill_done ends taken given Refused is none = absurd is
 
 -- ---- each command
 
-pub completes : OneAnswer → (f : Facts) (command : Command) (status : Status) → Ends f command status → NoFault status → Completes f command status
-completes one f Replay status ends none = replay_done f status ends none
-completes one f Resume status ends none = resume_done f status ends none
-completes one f (Cat path) status ends none = saved_done (EndsCat (met_by f) path) f.taken f.given status ends none
-completes one f (Ls path) status ends none = saved_done (EndsLs (met_by f) path) f.taken f.given status ends none
-completes one f StatusCommand status ends none = shown_done f status ends none
-completes one f (Trace order b k m) status ends none = trace_done one (streams_of f) (asked_by order b k m) status ends none
-completes one f (Drill seed files) status ends none = drill_done (EndsDrill (drill_met f) seed files) f.taken f.given status ends none
+pub completes : OneAnswer → (tells : ℕ → Type 0) (f : Facts) (command : Command) (status : Status) → Ends tells f command status → NoFault status → Completes f command status
+completes one tells f Replay status ends none = replay_done tells f status ends none
+completes one tells f Resume status ends none = resume_done tells f status ends none
+completes one tells f (Cat path) status ends none = saved_done (EndsCat tells (met_by f) path) f.taken f.given status ends none
+completes one tells f (Ls path) status ends none = saved_done (EndsLs tells (met_by f) path) f.taken f.given status ends none
+completes one tells f StatusCommand status ends none = shown_done tells f status ends none
+completes one tells f (Trace order b k m) status ends none = trace_done one (streams_of f) (asked_by order b k m) status ends none
+completes one tells f (Drill seed files) status ends none = drill_done (EndsDrill tells (drill_met f) seed files) f.taken f.given status ends none

@@ -30,19 +30,19 @@ use Rattle.dg_words.specs.declared.commands.WordsRefused.{WordsRefused}
 use Rattle.dg_words.specs.declared.commands.WordsRefused.TheVariants.{Usage as NotWords, NoMemory as WordsNoMemory}
 
 -- a replay ended, by its status
-pub ends_replay : (f : Facts) (status : Status) → (status ≡ Done → Replayed f.before f.now f.images f.bytes f.left f.rest f.taken f.given)
-    → (status ≡ BadLine → Stopped f.before f.now f.images f.bytes f.left f.rest f.taken f.given) → (status ≡ ReadFault → BrokeOff f.before f.now f.images f.bytes f.left f.rest f.taken f.given)
-    → (status ≡ WriteFault → IsCut f.before f.now f.images f.bytes f.left f.rest f.taken f.given) → (status ≡ NoMemory → RanOut f.before f.bytes f.left f.rest f.taken f.given)
-    → IsOfReplay status → EndsReplay f status
-ends_replay f Done all stopped broken cut wanting never = all refl
-ends_replay f BadLine all stopped broken cut wanting never = stopped refl
-ends_replay f ReadFault all stopped broken cut wanting never = broken refl
-ends_replay f WriteFault all stopped broken cut wanting never = cut refl
-ends_replay f NoMemory all stopped broken cut wanting never = wanting refl
-ends_replay f Usage all stopped broken cut wanting never = absurd never
-ends_replay f NoState all stopped broken cut wanting never = absurd never
-ends_replay f Unclean all stopped broken cut wanting never = absurd never
-ends_replay f Refused all stopped broken cut wanting never = absurd never
+pub ends_replay : (tells : ℕ → Type 0) (f : Facts) (status : Status) → (status ≡ Done → Replayed f.before f.now f.images f.bytes tells f.left f.rest f.taken f.given)
+    → (status ≡ BadLine → Stopped f.before f.now f.images f.bytes tells f.left f.rest f.taken f.given) → (status ≡ ReadFault → BrokeOff f.before f.now f.images f.bytes tells f.left f.rest f.taken f.given)
+    → (status ≡ WriteFault → IsCut f.before f.now f.images f.bytes tells f.left f.rest f.taken f.given) → (status ≡ NoMemory → RanOut f.before tells f.left f.rest f.taken f.given)
+    → IsOfReplay status → EndsReplay tells f status
+ends_replay tells f Done all stopped broken cut wanting never = all refl
+ends_replay tells f BadLine all stopped broken cut wanting never = stopped refl
+ends_replay tells f ReadFault all stopped broken cut wanting never = broken refl
+ends_replay tells f WriteFault all stopped broken cut wanting never = cut refl
+ends_replay tells f NoMemory all stopped broken cut wanting never = wanting refl
+ends_replay tells f Usage all stopped broken cut wanting never = absurd never
+ends_replay tells f NoState all stopped broken cut wanting never = absurd never
+ends_replay tells f Unclean all stopped broken cut wanting never = absurd never
+ends_replay tells f Refused all stopped broken cut wanting never = absurd never
 
 -- words that are no command, by the status
 pub ends_usage : (f : Facts) (status : Status) → (status ≡ Usage) ⊎ (status ≡ WriteFault) → (status ≡ Usage → Told (Took usage) f.taken f.given)
@@ -79,14 +79,14 @@ unread : (left rest : Option (List ℕ)) → rest ≡ left → Told GavePart lef
 unread left rest same = subst (λ (o : Option (List ℕ)). Told GavePart left o) (sym same) (Told-refl GavePart none_read left)
 
 -- memory was wanting before anything was done
-pub wanted_first : (f : Facts) (command : Command) → f.rest ≡ f.left → f.given ≡ f.taken → Ends f command NoMemory
-wanted_first f Replay left taken = ran_out_first f.before f.bytes f.left f.rest f.taken f.given (subst (λ (o : Option (List ℕ)). Told AreAny f.left o) (sym left) (Told-refl AreAny (λ b. tt) f.left)) taken
-wanted_first f Resume left taken = inl (subst (λ (o : Option (List ℕ)). Told AreAny f.left o) (sym left) (Told-refl AreAny (λ b. tt) f.left), taken)
-wanted_first f (Cat path) left taken = taken
-wanted_first f (Ls path) left taken = taken
-wanted_first f StatusCommand left taken = taken
-wanted_first f (Trace order b k m) left taken = inl (record { read = unread f.left f.rest left; output = taken })
-wanted_first f (Drill seed files) left taken = taken
+pub wanted_first : (tells : ℕ → Type 0) (f : Facts) (command : Command) → f.rest ≡ f.left → f.given ≡ f.taken → Ends tells f command NoMemory
+wanted_first tells f Replay left taken = ran_out_first f.before tells f.left f.rest f.taken f.given (subst (λ (o : Option (List ℕ)). Told AreAny f.left o) (sym left) (Told-refl AreAny (λ b. tt) f.left)) taken
+wanted_first tells f Resume left taken = inl (subst (λ (o : Option (List ℕ)). Told AreAny f.left o) (sym left) (Told-refl AreAny (λ b. tt) f.left), taken)
+wanted_first tells f (Cat path) left taken = taken
+wanted_first tells f (Ls path) left taken = taken
+wanted_first tells f StatusCommand left taken = taken
+wanted_first tells f (Trace order b k m) left taken = inl (record { read = unread f.left f.rest left; output = taken })
+wanted_first tells f (Drill seed files) left taken = taken
 
 -- ---- the words
 

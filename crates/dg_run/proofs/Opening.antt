@@ -20,7 +20,7 @@ use Rattle.dg_run.specs.declared.top.Status.TheVariants.{NoState, Unclean, Write
 use Rattle.dg_saved.specs.OpeningLaws.{AtFirst, at_first, found_no_state, found_unclean, is_opened, known_now, origin, source}
 use Rattle.dg_saved.specs.Saved.{HasSource, IsKnown}
 use Rattle.dg_saved.specs.Texts.{nostate_text, unclean_text}
-use Rattle.dg_volume.specs.HeldLaws.{TellsTold, holds_all}
+use Rattle.dg_volume.specs.HeldLaws.{holds_all}
 use Rattle.dg_volume.specs.Opens.{HasOpened}
 use Rattle.dg_volume.specs.Origins.{Origin, WasHeld}
 use Rattle.dg_volume.specs.Volumes.{any_phase}
@@ -28,7 +28,7 @@ use Rattle.dg_volume.specs.Volumes as volumes
 
 -- ---- steps from an opened array
 
-module _ {R : Type 0} (rack : Ghosts R) (before : R) (a b : Array R) (opened : HasOpened rack before a.volume a.hot) (goes : GoesOn rack a b) (law : TellsTold rack) (left rest taken given : Option (List ℕ)) where
+module _ {R : Type 0} (rack : Ghosts R) (before : R) (a b : Array R) (opened : HasOpened rack before a.volume a.hot) (goes : GoesOn rack a b) (left rest taken given : Option (List ℕ)) where
   -- what the call met
   abbrev pub met : Facts
   met = record {
@@ -42,6 +42,10 @@ module _ {R : Type 0} (rack : Ghosts R) (before : R) (a b : Array R) (opened : H
     given = given;
   }
 
+  -- what the rack tells in the end
+  abbrev pub told_now : ℕ → Type 0
+  told_now = rack.tells (rack_of b)
+
   -- what the array was opened from
   abbrev pub from : HasSource (met_by met) (rack.counts (rack_of a))
   from = source rack before a.volume b.volume a.hot taken given opened goes
@@ -52,8 +56,8 @@ module _ {R : Type 0} (rack : Ghosts R) (before : R) (a b : Array R) (opened : H
     was = origin rack before a.volume b.volume a.hot taken given opened goes V
 
     -- where the blocks are known at the end, they are known of the array
-    told_end : IsKnown (met_by met) (rack.counts (rack_of a)) from V → Known (WasHeld was) rack b
-    told_end = known_now rack before a.volume b.volume a.hot taken given opened goes law V
+    told_end : IsKnown told_now (met_by met) (rack.counts (rack_of a)) from V → Known (WasHeld was) rack b
+    told_end = known_now rack before a.volume b.volume a.hot taken given opened goes V
 
     -- the state that the array is in, once it was opened
     abbrev at : AtFirst rack before a.volume b.volume a.hot taken given opened goes V
@@ -67,20 +71,20 @@ module _ {R : Type 0} (rack : Ghosts R) (before : R) (a b : Array R) (opened : H
     }
 
     resumed_to : (events : List Event) (replies : List Reply) (final : State) → Run (Known (WasHeld was) rack b) at.state events replies final
-        → Resumed met (rack.counts (rack_of a)) from V events replies
+        → Resumed told_now met (rack.counts (rack_of a)) from V events replies
     resumed_to events replies final run = record {
       state = at.state;
-      is = is_opened rack before a.volume b.volume a.hot taken given opened goes V law;
+      is = is_opened rack before a.volume b.volume a.hot taken given opened goes V;
       final = final;
       run = run_less told_end at.state events replies final run;
     }
 
-    pub resumed : (events : List Event) (replies : List Reply) → RunsBefore rack a events replies b → Resumed met (rack.counts (rack_of a)) from V events replies
+    pub resumed : (events : List Event) (replies : List Reply) → RunsBefore rack a events replies b → Resumed told_now met (rack.counts (rack_of a)) from V events replies
     resumed events replies runs =
         let one = runs was at.state stands in
         resumed_to events replies one.0 one.2
 
-    pub reached : (events : List Event) (replies : List Reply) → VolumeRunsTo rack a events replies b → Reached met (rack.counts (rack_of a)) from V events replies
+    pub reached : (events : List Event) (replies : List Reply) → VolumeRunsTo rack a events replies b → Reached told_now met (rack.counts (rack_of a)) from V events replies
     unfolding resumed_to
     reached events replies runs =
         let one = runs was at.state stands in
@@ -95,6 +99,9 @@ module _ {R : Type 0} (rack : Ghosts R) (before : R) (a b : Array R) (opened : H
 -- ---- no array was opened
 
 module _ {R : Type 0} (rack : Ghosts R) (before now : R) (left taken given : Option (List ℕ)) where
+  abbrev told_still : ℕ → Type 0
+  told_still = rack.tells now
+
   abbrev pub met_still : Facts
   met_still = record {
     before = rack.counts before;
@@ -108,15 +115,15 @@ module _ {R : Type 0} (rack : Ghosts R) (before now : R) (left taken given : Opt
   }
 
   pub ends_no_state : (status : Status) → (status ≡ NoState) ⊎ (status ≡ WriteFault) → (status ≡ NoState → Told (Took nostate_text) taken given)
-      → (status ≡ WriteFault → Told (TookPart nostate_text) taken given) → FindsNoState rack before now → EndsResume met_still status
+      → (status ≡ WriteFault → Told (TookPart nostate_text) taken given) → FindsNoState rack before now → EndsResume told_still met_still status
   ends_no_state status (inl is) all part found =
-      subst (λ (s : Status). EndsResume met_still s) (sym is) (refl, found_no_state rack before now taken given found, all is)
+      subst (λ (s : Status). EndsResume told_still met_still s) (sym is) (refl, found_no_state rack before now taken given found, all is)
   ends_no_state status (inr is) all part found =
-      subst (λ (s : Status). EndsResume met_still s) (sym is) (inl (refl, inl (found_no_state rack before now taken given found, part is)))
+      subst (λ (s : Status). EndsResume told_still met_still s) (sym is) (inl (refl, inl (found_no_state rack before now taken given found, part is)))
 
   pub ends_unclean : (status : Status) → (status ≡ Unclean) ⊎ (status ≡ WriteFault) → (status ≡ Unclean → Told (Took unclean_text) taken given)
-      → (status ≡ WriteFault → Told (TookPart unclean_text) taken given) → FindsUnclean rack before now → EndsResume met_still status
+      → (status ≡ WriteFault → Told (TookPart unclean_text) taken given) → FindsUnclean rack before now → EndsResume told_still met_still status
   ends_unclean status (inl is) all part found =
-      subst (λ (s : Status). EndsResume met_still s) (sym is) (refl, found_unclean rack before now taken given found, all is)
+      subst (λ (s : Status). EndsResume told_still met_still s) (sym is) (refl, found_unclean rack before now taken given found, all is)
   ends_unclean status (inr is) all part found =
-      subst (λ (s : Status). EndsResume met_still s) (sym is) (inl (refl, inr (found_unclean rack before now taken given found, part is)))
+      subst (λ (s : Status). EndsResume told_still met_still s) (sym is) (inl (refl, inr (found_unclean rack before now taken given found, part is)))

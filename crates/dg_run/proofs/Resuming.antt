@@ -30,7 +30,6 @@ use Rattle.dg_text.specs.Lines.{IsInPlace, input_of, line_of}
 use Rattle.dg_text.specs.Replies.{output_of, refusal}
 use Rattle.dg_text.specs.declared.lines.BadLine.{BadLine as Kind}
 use Rattle.dg_saved.specs.OpeningLaws.{others}
-use Rattle.dg_volume.specs.HeldLaws.{TellsTold}
 use Rattle.dg_volume.specs.Opens.{HasOpened}
 
 module _ (shape : Shape) where
@@ -53,7 +52,7 @@ module _ (shape : Shape) where
     none = λ others lines made. let had = begins.only others lines.in_place made in past events kind text refused others had.0 lines had.1 had.2;
   }
 
-module _ {R : Type 0} (rack : Ghosts R) (before : R) (a b : Array R) (opened : HasOpened rack before a.volume a.hot) (goes : GoesOn rack a b) (law : TellsTold rack) (unread kept : List ℕ) (fresh : unread ≡ [])
+module _ {R : Type 0} (rack : Ghosts R) (before : R) (a b : Array R) (opened : HasOpened rack before a.volume a.hot) (goes : GoesOn rack a b) (unread kept : List ℕ) (fresh : unread ≡ [])
     (left rest taken given : Option (List ℕ)) where
   abbrev pub first_left : Option (List ℕ)
   first_left = option_map (λ more. unread ++ more) left
@@ -66,24 +65,24 @@ module _ {R : Type 0} (rack : Ghosts R) (before : R) (a b : Array R) (opened : H
   lines_on events placed budget = subst (λ (t : Table). AreLines t.shape events) opened.table (record { in_place = placed; budget = budget })
 
   abbrev ran_on : (events : List Event) (replies : List Reply) → All (IsInPlace (Some (shape_of a))) events → length (input_of events) ≤ 2 ^ 40 → VolumeRunsTo rack a events replies b
-      → RanOn (met rack before a b opened goes law left rest taken given) events replies
+      → RanOn (rack.tells (rack_of b)) (met rack before a b opened goes left rest taken given) events replies
   ran_on events replies placed budget runs = record {
     opened = rack.counts (rack_of a);
-    source = from rack before a b opened goes law left rest taken given;
+    source = from rack before a b opened goes left rest taken given;
     rise = goes.rise;
     others = others rack before a.volume b.volume a.hot taken given opened goes;
     lines = lines_on events placed budget;
-    runs = λ V size. reached rack before a b opened goes law left rest taken given V size events replies runs;
+    runs = λ V size. reached rack before a b opened goes left rest taken given V size events replies runs;
   }
 
   abbrev wanted_on : (events : List Event) (replies : List Reply) → All (IsInPlace (Some (shape_of a))) events → length (input_of events) ≤ 2 ^ 40 → RunsBefore rack a events replies b
-      → WantedOn (met rack before a b opened goes law left rest taken given) events replies
+      → WantedOn (rack.tells (rack_of b)) (met rack before a b opened goes left rest taken given) events replies
   wanted_on events replies placed budget runs = record {
     opened = rack.counts (rack_of a);
-    source = from rack before a b opened goes law left rest taken given;
+    source = from rack before a b opened goes left rest taken given;
     rise = goes.rise;
     lines = lines_on events placed budget;
-    runs = λ V size. resumed rack before a b opened goes law left rest taken given V size events replies runs;
+    runs = λ V size. resumed rack before a b opened goes left rest taken given V size events replies runs;
   }
 
   served_to : (number : ℕ) (kind : Kind) (z w : Option (List ℕ)) → (s : ServedTo rack (shape_of a) 0 1 number kind first_left last_left z w a b)
@@ -98,7 +97,7 @@ module _ {R : Type 0} (rack : Ghosts R) (before : R) (a b : Array R) (opened : H
       (fresh_told (λ p q. (text : List ℕ) × StopsOn (shape_of a) s.events kind p text) unread left last_left fresh both))
 
   abbrev Cut : Type 0
-  Cut = ResumeCut (met rack before a b opened goes law left rest taken given) ⊎ ResumeCutRefusal (met rack before a b opened goes law left rest taken given)
+  Cut = ResumeCut (rack.tells (rack_of b)) (met rack before a b opened goes left rest taken given) ⊎ ResumeCutRefusal (rack.tells (rack_of b)) (met rack before a b opened goes left rest taken given)
 
   cut_by : LinesCut rack [] (shape_of a) 0 first_left rest taken given a b ⊎ RefusedInPart rack 0 1 first_left last_left taken given a b → Cut
   cut_by (inl h) = inl (record {
@@ -124,7 +123,7 @@ module _ {R : Type 0} (rack : Ghosts R) (before : R) (a b : Array R) (opened : H
   abbrev Wanting : Type 0
   Wanting =
       (Told AreAny left rest × (given ≡ taken))
-      ⊎ (ResumeWanted (met rack before a b opened goes law left rest taken given) ⊎ ResumeListed (met rack before a b opened goes law left rest taken given))
+      ⊎ (ResumeWanted (rack.tells (rack_of b)) (met rack before a b opened goes left rest taken given) ⊎ ResumeListed (rack.tells (rack_of b)) (met rack before a b opened goes left rest taken given))
 
   wanted_by : (Told AreAny first_left rest × (given ≡ taken)) ⊎ LinesRanOut rack [] (shape_of a) 0 first_left rest taken given a b → Wanting
   wanted_by (inl h) = inl (fresh_told AreAny unread left rest fresh h.0, h.1)
@@ -149,7 +148,7 @@ module _ {R : Type 0} (rack : Ghosts R) (before : R) (a b : Array R) (opened : H
       → (status ≡ BadLine → RefusedBehind rack 0 1 first_left last_left taken given a b) → (status ≡ ReadFault → LinesBrokeOff rack [] (shape_of a) 0 first_left rest taken given a b)
       → (status ≡ WriteFault → LinesCut rack [] (shape_of a) 0 first_left rest taken given a b ⊎ RefusedInPart rack 0 1 first_left last_left taken given a b)
       → (status ≡ NoMemory → (Told AreAny first_left rest × (given ≡ taken)) ⊎ LinesRanOut rack [] (shape_of a) 0 first_left rest taken given a b)
-      → IsOfReplay status → EndsResume (met rack before a b opened goes law left rest taken given) status
+      → IsOfReplay status → EndsResume (rack.tells (rack_of b)) (met rack before a b opened goes left rest taken given) status
   ends_resume Done all bad broken cut wanting never =
       let h = all refl in
       record {

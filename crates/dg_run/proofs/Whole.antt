@@ -32,7 +32,7 @@ use Rattle.dg_run.specs.Arrays.{AllAnswered, AnsweredTo, ArrayReplayed, ArraySto
 use Rattle.dg_run.proofs.Inputs.{All-head, All-right, no_line}
 use Rattle.dg_run.proofs.Runs.{volume_runs}
 use Rattle.dg_volume.specs.Origins.{Always}
-use Rattle.dg_volume.specs.HeldLaws.{TellsTold, holds_all, tells_now}
+use Rattle.dg_volume.specs.HeldLaws.{holds_all}
 use Rattle.dg_volume.specs.Volumes.{any_phase}
 use Rattle.dg_volume.specs.Volumes as volumes
 use Rattle.std.specs.Option.{option_map}
@@ -47,7 +47,7 @@ pub took_last : (text last : List ℕ) (t m v : Option (List ℕ)) → Told (Too
 took_last text last t m v p q = Told-then _ _ (Took (text ++ last)) (λ a b c f s. s ∙ ap (λ (l : List ℕ). l ++ last) f ∙ append_assoc a text last) t m v p q
 
 module _ {R : Type 0} (ghosts : Ghosts R) (shape : Shape) (first : ℕ) (rack : R) (a b : Array R) (is : first ≡ length (line_of (MakeArray shape))) (well : IsShape shape)
-    (blank : IsBlankArray ghosts shape rack a) (law : TellsTold ghosts) (goes : GoesOn ghosts a b) where
+    (blank : IsBlankArray ghosts shape rack a) (goes : GoesOn ghosts a b) where
   pub same_shape : shape_of a ≡ shape
   same_shape = blank.shape_is
 
@@ -71,13 +71,13 @@ module _ {R : Type 0} (ghosts : Ghosts R) (shape : Shape) (first : ℕ) (rack : 
       subst Others (sym numbers) at
 
   pub ran_of : (events : List Event) (replies : List Reply) → VolumeRunsTo ghosts a events replies b → All (IsInPlace (Some (shape_of a))) events → first + length (input_of events) ≤ 2 ^ 40
-      → Ran (ghosts.counts rack) (ghosts.counts (rack_of b)) (ghosts.bytes rack) (ghosts.bytes (rack_of b)) (MakeArray shape ∷ events) (Done ∷ replies)
+      → Ran (ghosts.counts rack) (ghosts.counts (rack_of b)) (ghosts.bytes rack) (ghosts.bytes (rack_of b)) (ghosts.tells (rack_of b)) (MakeArray shape ∷ events) (Done ∷ replies)
   ran_of events replies runs placed budget =
       let W = runs None blank.state blank.stands in
       let final = W.0 in
       let stands : volumes.StandsIn any_phase ghosts Always b.volume final = W.1 in
-      let known : TellsBoundaries (ghosts.bytes (rack_of b)) final → Known Always ghosts b =
-      λ told. (tells_now ghosts b.volume law (λ q below. told q (subst (λ (n : ℕ). q / 2 < n) (sym (ap (λ (s : State). s.table.shape.b) stands.is)) below)), tt) in
+      let known : TellsBoundaries (ghosts.tells (rack_of b)) final → Known Always ghosts b =
+      λ told. ((λ q below. told q (subst (λ (n : ℕ). q / 2 < n) (sym (ap (λ (s : State). s.table.shape.b) stands.is)) below)), tt) in
       record {
         in_place = (well, subst (λ (s : Shape). All (IsInPlace (Some s)) events) same_shape placed);
         budget = omega (arith, length-append (line_of (MakeArray shape)) (input_of events));
@@ -89,10 +89,10 @@ module _ {R : Type 0} (ghosts : Ghosts R) (shape : Shape) (first : ℕ) (rack : 
       }
 
   ran : (events : List Event) (x z t v : Option (List ℕ)) → (served : Served ghosts (shape_of a) events x z t v a b) → first + length (input_of events) ≤ 2 ^ 40
-      → Ran (ghosts.counts rack) (ghosts.counts (rack_of b)) (ghosts.bytes rack) (ghosts.bytes (rack_of b)) (MakeArray shape ∷ events) (Done ∷ served.replies)
+      → Ran (ghosts.counts rack) (ghosts.counts (rack_of b)) (ghosts.bytes rack) (ghosts.bytes (rack_of b)) (ghosts.tells (rack_of b)) (MakeArray shape ∷ events) (Done ∷ served.replies)
   ran events x z t v served budget = ran_of events served.replies (volume_runs ghosts a b events served.replies served.runs) served.in_place budget
 
-  pub array_replayed : (x z t v : Option (List ℕ)) → AllAnswered ghosts first x z t v a b → ArrayReplayed (ghosts.counts rack) (ghosts.counts (rack_of b)) (ghosts.bytes rack) (ghosts.bytes (rack_of b)) shape x z t v
+  pub array_replayed : (x z t v : Option (List ℕ)) → AllAnswered ghosts first x z t v a b → ArrayReplayed (ghosts.counts rack) (ghosts.counts (rack_of b)) (ghosts.bytes rack) (ghosts.bytes (rack_of b)) (ghosts.tells (rack_of b)) shape x z t v
   array_replayed x z t v all = record {
     events = all.served.events;
     replies = all.served.served.replies;
@@ -113,7 +113,7 @@ module _ {R : Type 0} (ghosts : Ghosts R) (shape : Shape) (first : ℕ) (rack : 
         },
       )) x s.middle z s.served.input s.refused
 
-  pub array_stopped : (x z t v : Option (List ℕ)) → AnsweredTo ghosts first x z t v a b → ArrayStopped (ghosts.counts rack) (ghosts.counts (rack_of b)) (ghosts.bytes rack) (ghosts.bytes (rack_of b)) shape x z t v
+  pub array_stopped : (x z t v : Option (List ℕ)) → AnsweredTo ghosts first x z t v a b → ArrayStopped (ghosts.counts rack) (ghosts.counts (rack_of b)) (ghosts.bytes rack) (ghosts.bytes (rack_of b)) (ghosts.tells (rack_of b)) shape x z t v
   array_stopped x z t v to =
       let s = to.served in
       record {
@@ -127,8 +127,8 @@ module _ {R : Type 0} (ghosts : Ghosts R) (shape : Shape) (first : ℕ) (rack : 
             (subst (λ (n : ℕ). Told (Took (refusal n to.kind)) to.before v) s.count to.refused);
       }
 
-module _ (before now : Counts) (images bytes : ℕ → Option (List ℕ)) (shape : Shape) (well : IsShape shape) where
-  pub replayed : (x y z t v : Option (List ℕ)) → Told (Begins None (MakeArray shape)) x y → ArrayReplayed before now images bytes shape y z t v → Replayed before now images bytes x z t v
+module _ (before now : Counts) (images bytes : ℕ → Option (List ℕ)) (tells : ℕ → Type 0) (shape : Shape) (well : IsShape shape) where
+  pub replayed : (x y z t v : Option (List ℕ)) → Told (Begins None (MakeArray shape)) x y → ArrayReplayed before now images bytes tells shape y z t v → Replayed before now images bytes tells x z t v
   replayed x y z t v line rest = record {
     events = MakeArray shape ∷ rest.events;
     replies = Done ∷ rest.replies;
@@ -171,7 +171,7 @@ module _ (before now : Counts) (images bytes : ℕ → Option (List ℕ)) (shape
     no_input events kind p q s.0 f s.1,
   )) x y z line cut
 
-  pub stopped : (x y z t v : Option (List ℕ)) → Told (Begins None (MakeArray shape)) x y → ArrayStopped before now images bytes shape y z t v → Stopped before now images bytes x z t v
+  pub stopped : (x y z t v : Option (List ℕ)) → Told (Begins None (MakeArray shape)) x y → ArrayStopped before now images bytes tells shape y z t v → Stopped before now images bytes tells x z t v
   stopped x y z t v line rest = record {
     events = MakeArray shape ∷ rest.events;
     replies = Done ∷ rest.replies;
@@ -201,9 +201,9 @@ first_stops : (kind : Kind) (text : List ℕ) → IsNoFirst kind text → StopsA
 first_stops kind text first = record { by_kind = first.by_kind; some = λ e. refl; none = first.none }
 
 -- nothing was done
-pub ran_nothing : (now : Counts) (bytes : ℕ → Option (List ℕ)) → Ran now now bytes bytes [] []
+pub ran_nothing : (now : Counts) (bytes : ℕ → Option (List ℕ)) (tells : ℕ → Type 0) → Ran now now bytes bytes tells [] []
 unfolding unmade
-ran_nothing now bytes = record {
+ran_nothing now bytes tells = record {
   in_place = tt;
   budget = omega arith;
   final = unmade now;
@@ -219,23 +219,23 @@ ran_nothing now bytes = record {
 }
 
 -- the first line is refused, or there is none
-pub stopped_first : (now : Counts) (bytes : ℕ → Option (List ℕ)) (kind : Kind) (x z t v : Option (List ℕ)) → Told (λ before after. IsNoFirst kind before) x z → Told (Took (refusal 1 kind)) t v → Stopped now now bytes bytes x z t v
-stopped_first now bytes kind x z t v refused output = record {
+pub stopped_first : (now : Counts) (bytes : ℕ → Option (List ℕ)) (tells : ℕ → Type 0) (kind : Kind) (x z t v : Option (List ℕ)) → Told (λ before after. IsNoFirst kind before) x z → Told (Took (refusal 1 kind)) t v → Stopped now now bytes bytes tells x z t v
+stopped_first now bytes tells kind x z t v refused output = record {
   events = [];
   replies = [];
   kind = kind;
-  ran = ran_nothing now bytes;
+  ran = ran_nothing now bytes tells;
   input = Told-each _ _ (λ a b first. (a, refl, first_stops kind a first, first_no_input kind a first)) x z refused;
   output = output;
 }
 
 -- the same, but its refusal was written in part
-pub cut_first : (now : Counts) (bytes : ℕ → Option (List ℕ)) (kind : Kind) (x z t v : Option (List ℕ)) → Told (λ before after. IsNoFirst kind before) x z → Told (TookPart (refusal 1 kind)) t v → CutRefusal now now bytes bytes x z t v
-cut_first now bytes kind x z t v refused output = record {
+pub cut_first : (now : Counts) (bytes : ℕ → Option (List ℕ)) (tells : ℕ → Type 0) (kind : Kind) (x z t v : Option (List ℕ)) → Told (λ before after. IsNoFirst kind before) x z → Told (TookPart (refusal 1 kind)) t v → CutRefusal now now bytes bytes tells x z t v
+cut_first now bytes tells kind x z t v refused output = record {
   events = [];
   replies = [];
   kind = kind;
-  ran = ran_nothing now bytes;
+  ran = ran_nothing now bytes tells;
   input = Told-each _ _ (λ a b first. (a, refl, first_stops kind a first)) x z refused;
   output = Told-each (TookPart (refusal 1 kind)) (TookUpTo [] (refusal 1 kind)) (λ p q s. record { n = s.0; is = s.1 }) t v output;
 }
@@ -271,11 +271,11 @@ rest_ended P unread x None told = tt
 rest_ended P unread None (Some b) told = absurd told
 rest_ended P unread (Some a) (Some b) told = (told.0, none_left unread b told.1)
 
-module _ (before now : Counts) (images bytes : ℕ → Option (List ℕ)) (unread kept : List ℕ) (fresh : unread ≡ []) (left rest taken given : Option (List ℕ)) where
+module _ (before now : Counts) (images bytes : ℕ → Option (List ℕ)) (tells : ℕ → Type 0) (unread kept : List ℕ) (fresh : unread ≡ []) (left rest taken given : Option (List ℕ)) where
   pub replay_done : (shape : Shape) (y : Option (List ℕ)) → IsShape shape → Told (Begins None (MakeArray shape)) (option_map (λ more. unread ++ more) left) y
-      → ArrayReplayed before now images bytes shape y (option_map (λ more. kept ++ more) rest) taken given → Replayed before now images bytes left rest taken given
+      → ArrayReplayed before now images bytes tells shape y (option_map (λ more. kept ++ more) rest) taken given → Replayed before now images bytes tells left rest taken given
   replay_done shape y well line all =
-      let whole = replayed before now images bytes shape well left y (option_map (λ more. kept ++ more) rest) taken given (fresh_told _ unread left y fresh line) all in
+      let whole = replayed before now images bytes tells shape well left y (option_map (λ more. kept ++ more) rest) taken given (fresh_told _ unread left y fresh line) all in
       record {
         events = whole.events;
         replies = whole.replies;
@@ -286,9 +286,9 @@ module _ (before now : Counts) (images bytes : ℕ → Option (List ℕ)) (unrea
       }
 
   pub replay_stopped : (shape : Shape) (y : Option (List ℕ)) → IsShape shape → Told (Begins None (MakeArray shape)) (option_map (λ more. unread ++ more) left) y
-      → ArrayStopped before now images bytes shape y (option_map (λ more. kept ++ more) rest) taken given → Stopped before now images bytes left rest taken given
+      → ArrayStopped before now images bytes tells shape y (option_map (λ more. kept ++ more) rest) taken given → Stopped before now images bytes tells left rest taken given
   replay_stopped shape y well line all =
-      let whole = stopped before now images bytes shape well left y (option_map (λ more. kept ++ more) rest) taken given (fresh_told _ unread left y fresh line) all in
+      let whole = stopped before now images bytes tells shape well left y (option_map (λ more. kept ++ more) rest) taken given (fresh_told _ unread left y fresh line) all in
       record {
         events = whole.events;
         replies = whole.replies;
@@ -304,17 +304,17 @@ module _ (before now : Counts) (images bytes : ℕ → Option (List ℕ)) (unrea
   first_empty : Told (λ b a. (b ≡ []) × (a ≡ [])) (option_map (λ more. unread ++ more) left) (option_map (λ more. kept ++ more) rest) → Told (λ b a. IsNoFirst Cut b) left rest
   first_empty empty = rest_told (IsNoFirst Cut) kept left rest (fresh_told (λ b a. IsNoFirst Cut b) unread left _ fresh (none_at_all _ _ empty))
 
-  pub replay_refused : (kind : Kind) → Told (λ b a. IsRefused None (2 ^ 40) b kind) (option_map (λ more. unread ++ more) left) (option_map (λ more. kept ++ more) rest) → Told (Took (refusal 1 kind)) taken given → Stopped before before bytes bytes left rest taken given
-  replay_refused kind refused output = stopped_first before bytes kind left rest taken given (first_refused kind refused) output
+  pub replay_refused : (kind : Kind) → Told (λ b a. IsRefused None (2 ^ 40) b kind) (option_map (λ more. unread ++ more) left) (option_map (λ more. kept ++ more) rest) → Told (Took (refusal 1 kind)) taken given → Stopped before before bytes bytes tells left rest taken given
+  replay_refused kind refused output = stopped_first before bytes tells kind left rest taken given (first_refused kind refused) output
 
-  pub replay_empty : Told (λ b a. (b ≡ []) × (a ≡ [])) (option_map (λ more. unread ++ more) left) (option_map (λ more. kept ++ more) rest) → Told (Took (refusal 1 Cut)) taken given → Stopped before before bytes bytes left rest taken given
-  replay_empty empty output = stopped_first before bytes Cut left rest taken given (first_empty empty) output
+  pub replay_empty : Told (λ b a. (b ≡ []) × (a ≡ [])) (option_map (λ more. unread ++ more) left) (option_map (λ more. kept ++ more) rest) → Told (Took (refusal 1 Cut)) taken given → Stopped before before bytes bytes tells left rest taken given
+  replay_empty empty output = stopped_first before bytes tells Cut left rest taken given (first_empty empty) output
 
-  pub refused_part : (kind : Kind) → Told (λ b a. IsRefused None (2 ^ 40) b kind) (option_map (λ more. unread ++ more) left) (option_map (λ more. kept ++ more) rest) → Told (TookPart (refusal 1 kind)) taken given → IsCut before before bytes bytes left rest taken given
-  refused_part kind refused output = inr (cut_first before bytes kind left rest taken given (first_refused kind refused) output)
+  pub refused_part : (kind : Kind) → Told (λ b a. IsRefused None (2 ^ 40) b kind) (option_map (λ more. unread ++ more) left) (option_map (λ more. kept ++ more) rest) → Told (TookPart (refusal 1 kind)) taken given → IsCut before before bytes bytes tells left rest taken given
+  refused_part kind refused output = inr (cut_first before bytes tells kind left rest taken given (first_refused kind refused) output)
 
-  pub empty_part : Told (λ b a. (b ≡ []) × (a ≡ [])) (option_map (λ more. unread ++ more) left) (option_map (λ more. kept ++ more) rest) → Told (TookPart (refusal 1 Cut)) taken given → IsCut before before bytes bytes left rest taken given
-  empty_part empty output = inr (cut_first before bytes Cut left rest taken given (first_empty empty) output)
+  pub empty_part : Told (λ b a. (b ≡ []) × (a ≡ [])) (option_map (λ more. unread ++ more) left) (option_map (λ more. kept ++ more) rest) → Told (TookPart (refusal 1 Cut)) taken given → IsCut before before bytes bytes tells left rest taken given
+  empty_part empty output = inr (cut_first before bytes tells Cut left rest taken given (first_empty empty) output)
 
 pub IfOk-map : {T E : Type 0} (result : Result T E) (P Q : T → Type 0) → ((x : T) → P x → Q x) → IfOk result P → IfOk result Q
 IfOk-map (Ok x) P Q h p = h x p

@@ -71,10 +71,11 @@ IsOfReplay Unclean = ⊥
 IsOfReplay Refused = ⊥
 
 -- The array of this shape was made by a first line, and all lines behind it were served.
-pub record ArrayReplayed (before now : Counts) (images bytes : ℕ → Option (List ℕ)) (shape : Shape) (left rest taken given : Option (List ℕ)) : Type 0 where
+pub record ArrayReplayed (before now : Counts) (images bytes : ℕ → Option (List ℕ)) (tells : ℕ → Type 0) (shape : Shape)
+    (left rest taken given : Option (List ℕ)) : Type 0 where
   pub events : List Event
   pub replies : List Reply
-  pub ran : Ran before now images bytes (MakeArray shape ∷ events) (Done ∷ replies)
+  pub ran : Ran before now images bytes tells (MakeArray shape ∷ events) (Done ∷ replies)
   pub input : Told (λ b a. (b ≡ input_of events) × (a ≡ [])) left rest
   pub output : Told (Took (output_of (Done ∷ replies))) taken given
 
@@ -86,10 +87,11 @@ pub record IsCutAt (shape : Shape) (events : List Event) (kind : Kind) (whole te
   pub only : (others : List Event) → All (IsInPlace (Some shape)) others → whole ≡ input_of others → (more : List Event) × (others ≡ events ++ more) × (text ≡ input_of more)
 
 -- the same up to a line that is refused
-pub record ArrayStopped (before now : Counts) (images bytes : ℕ → Option (List ℕ)) (shape : Shape) (left rest taken given : Option (List ℕ)) : Type 0 where
+pub record ArrayStopped (before now : Counts) (images bytes : ℕ → Option (List ℕ)) (tells : ℕ → Type 0) (shape : Shape)
+    (left rest taken given : Option (List ℕ)) : Type 0 where
   pub events : List Event
   pub replies : List Reply
   pub kind : Kind
-  pub ran : Ran before now images bytes (MakeArray shape ∷ events) (Done ∷ replies)
+  pub ran : Ran before now images bytes tells (MakeArray shape ∷ events) (Done ∷ replies)
   pub input : Told (λ b a. (text : List ℕ) × IsCutAt shape events kind b text) left rest
   pub output : Told (Took (output_of (Done ∷ replies) ++ refusal (length events + 2) kind)) taken given

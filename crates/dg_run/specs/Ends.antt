@@ -34,13 +34,13 @@ EndsUsage facts NoMemory = facts.given ≡ facts.taken
 EndsUsage facts status = ⊥
 
 -- a replay: all lines were done, or those before one that is refused, or before a fault
-abbrev pub EndsReplay : Facts → Status → Type 0
-EndsReplay facts Done = Replayed facts.before facts.now facts.images facts.bytes facts.left facts.rest facts.taken facts.given
-EndsReplay facts BadLine = Stopped facts.before facts.now facts.images facts.bytes facts.left facts.rest facts.taken facts.given
-EndsReplay facts ReadFault = BrokeOff facts.before facts.now facts.images facts.bytes facts.left facts.rest facts.taken facts.given
-EndsReplay facts WriteFault = IsCut facts.before facts.now facts.images facts.bytes facts.left facts.rest facts.taken facts.given
-EndsReplay facts NoMemory = RanOut facts.before facts.bytes facts.left facts.rest facts.taken facts.given
-EndsReplay facts status = ⊥
+abbrev pub EndsReplay : (ℕ → Type 0) → Facts → Status → Type 0
+EndsReplay tells facts Done = Replayed facts.before facts.now facts.images facts.bytes tells facts.left facts.rest facts.taken facts.given
+EndsReplay tells facts BadLine = Stopped facts.before facts.now facts.images facts.bytes tells facts.left facts.rest facts.taken facts.given
+EndsReplay tells facts ReadFault = BrokeOff facts.before facts.now facts.images facts.bytes tells facts.left facts.rest facts.taken facts.given
+EndsReplay tells facts WriteFault = IsCut facts.before facts.now facts.images facts.bytes tells facts.left facts.rest facts.taken facts.given
+EndsReplay tells facts NoMemory = RanOut facts.before tells facts.left facts.rest facts.taken facts.given
+EndsReplay tells facts status = ⊥
 
 -- the status of a command that only reads the saved array
 abbrev pub status_by : SavedEnd → Status
@@ -93,15 +93,15 @@ EndsDrilled ends taken given WriteFault = ends DrillCut
 EndsDrilled ends taken given NoMemory = given ≡ taken
 EndsDrilled ends taken given status = ⊥
 
--- each command by its own rules
-abbrev pub Ends : Facts → Command → Status → Type 0
-Ends facts Replay status = EndsReplay facts status
-Ends facts Resume status = EndsResume facts status
-Ends facts (Cat path) status = EndsSaved (EndsCat (met_by facts) path) facts.taken facts.given status
-Ends facts (Ls path) status = EndsSaved (EndsLs (met_by facts) path) facts.taken facts.given status
-Ends facts StatusCommand status = EndsSaved (EndsStatus (met_by facts)) facts.taken facts.given status
-Ends facts (Trace order b k m) status = EndsTrace (streams_of facts) (asked_by order b k m) status
-Ends facts (Drill seed files) status = EndsDrilled (EndsDrill (drill_met facts) seed files) facts.taken facts.given status
+-- Each command by its own rules. What is known of blocks is known where the rack tells the members in the end (`tells`).
+abbrev pub Ends : (ℕ → Type 0) → Facts → Command → Status → Type 0
+Ends tells facts Replay status = EndsReplay tells facts status
+Ends tells facts Resume status = EndsResume tells facts status
+Ends tells facts (Cat path) status = EndsSaved (EndsCat tells (met_by facts) path) facts.taken facts.given status
+Ends tells facts (Ls path) status = EndsSaved (EndsLs tells (met_by facts) path) facts.taken facts.given status
+Ends tells facts StatusCommand status = EndsSaved (EndsStatus tells (met_by facts)) facts.taken facts.given status
+Ends tells facts (Trace order b k m) status = EndsTrace (streams_of facts) (asked_by order b k m) status
+Ends tells facts (Drill seed files) status = EndsDrilled (EndsDrill tells (drill_met facts) seed files) facts.taken facts.given status
 
 -- the commands that read the input
 abbrev pub reads_input : Command → Bool

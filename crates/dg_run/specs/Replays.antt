@@ -1,5 +1,5 @@
 -- What a whole replay means: the events of its input, their replies, and what the rack holds at the end.
-use Rattle.std.specs.Prelude.{◌≡◌, ◌⊎◌, ◌≤◌, ◌<◌, ◌+◌, ◌-◌, ◌/◌, ◌^◌, ◌++◌, [], ◌∷◌, ℕ, List, length, Option, Some, None, IsSome}
+use Rattle.std.specs.Prelude.{◌≡◌, ◌⊎◌, ◌≤◌, ◌<◌, ◌+◌, ◌-◌, ◌/◌, ◌^◌, ◌++◌, [], ◌∷◌, ℕ, List, length, Option, Some, None}
 use Rattle.dg_model.specs.States.{Counts, HoldsAll, State}
 use Rattle.dg_model.specs.Runs.{Trace}
 use Rattle.dg_model.specs.declared.shapes.Shape.{Shape}
@@ -21,9 +21,9 @@ shape_after [] = None
 shape_after (Array shape ∷ events) = Some shape
 shape_after (event ∷ events) = None
 
--- each member of a state's boundaries tells its bytes
-abbrev pub TellsBoundaries : (ℕ → Option (List ℕ)) → State → Type 0
-TellsBoundaries bytes state = (q : ℕ) → q / 2 < state.table.shape.b → IsSome (bytes q)
+-- of each member of a state's boundaries the rack tells the bytes as long as the member stands
+abbrev pub TellsBoundaries : (ℕ → Type 0) → State → Type 0
+TellsBoundaries tells state = (q : ℕ) → q / 2 < state.table.shape.b → tells q
 
 -- The members behind those of an array of this shape were left alone: each has the bytes that it had (`images`), where it tells them, and
 -- the count of faults that it had.
@@ -32,24 +32,24 @@ pub record OthersKept (shape : Shape) (before now : Counts) (images bytes : ℕ 
   pub faults : (q : ℕ) → shape.b ≤ q / 2 → now.faults q ≡ before.faults q
 
 -- The events are in their places, and their lines keep to the budget of 2^40 bytes. They had these replies, in steps of the array
--- from nothing to a final state, which has the counts of the rack. Where each member of the array tells its bytes at the end, the
--- steps are known in their bytes too, and the members hold the blocks of the final state, and the last label where they keep it. The members
--- behind the array's own were left alone.
-pub record Ran (before now : Counts) (images bytes : ℕ → Option (List ℕ)) (events : List Event) (replies : List Reply) : Type 0 where
+-- from nothing to a final state, which has the counts of the rack. Where the rack still tells each member of the array at the end (`tells`),
+-- of which some may have fallen by then, the steps are known in their bytes too, and the members hold the blocks of the final state, and the
+-- last label where they keep it. The members behind the array's own were left alone.
+pub record Ran (before now : Counts) (images bytes : ℕ → Option (List ℕ)) (tells : ℕ → Type 0) (events : List Event) (replies : List Reply) : Type 0 where
   pub in_place : AreInPlace events
   pub budget : length (input_of events) ≤ 2 ^ 40
   pub final : State
-  pub trace : Trace (TellsBoundaries bytes final) before events replies final
-  pub holds : TellsBoundaries bytes final → HoldsAll bytes final
+  pub trace : Trace (TellsBoundaries tells final) before events replies final
+  pub holds : TellsBoundaries tells final → HoldsAll bytes final
   pub others : OthersKept final.table.shape before now images bytes
   pub counts : final.counts ≡ now
 
 -- the input was read to its end, and is the lines of these events; the output is the text of their replies
-pub record Replayed (before now : Counts) (images bytes : ℕ → Option (List ℕ)) (left rest taken given : Option (List ℕ)) : Type 0 where
+pub record Replayed (before now : Counts) (images bytes : ℕ → Option (List ℕ)) (tells : ℕ → Type 0) (left rest taken given : Option (List ℕ)) : Type 0 where
   pub events : List Event
   pub replies : List Reply
   pub some : events ≡ [] → ⊥
-  pub ran : Ran before now images bytes events replies
+  pub ran : Ran before now images bytes tells events replies
   pub input : Told (λ b a. (b ≡ input_of events) × (a ≡ [])) left rest
   pub output : Told (Took (output_of replies)) taken given
 
@@ -73,63 +73,63 @@ IsNoInput text = (events : List Event) → IsInput events → text ≡ input_of 
 
 -- the input is the lines of these events and then a line that is refused; the output is the text of their replies and
 -- then the refusal with that line's number and kind
-pub record Stopped (before now : Counts) (images bytes : ℕ → Option (List ℕ)) (left rest taken given : Option (List ℕ)) : Type 0 where
+pub record Stopped (before now : Counts) (images bytes : ℕ → Option (List ℕ)) (tells : ℕ → Type 0) (left rest taken given : Option (List ℕ)) : Type 0 where
   pub events : List Event
   pub replies : List Reply
   pub kind : BadLine
-  pub ran : Ran before now images bytes events replies
+  pub ran : Ran before now images bytes tells events replies
   pub input : Told (λ b a. (text : List ℕ) × (b ≡ input_of events ++ text) × StopsAt events kind text × IsNoInput b) left rest
   pub output : Told (Took (output_of replies ++ refusal (length events + 1) kind)) taken given
 
 -- The source failed: the lines that it gave whole are those of these events, and the output is the text of their replies.
-pub record BrokeOff (before now : Counts) (images bytes : ℕ → Option (List ℕ)) (left rest taken given : Option (List ℕ)) : Type 0 where
+pub record BrokeOff (before now : Counts) (images bytes : ℕ → Option (List ℕ)) (tells : ℕ → Type 0) (left rest taken given : Option (List ℕ)) : Type 0 where
   pub events : List Event
   pub replies : List Reply
-  pub ran : Ran before now images bytes events replies
+  pub ran : Ran before now images bytes tells events replies
   pub input : Told (GaveLines (input_of events)) left rest
   pub output : Told (Took (output_of replies)) taken given
 
 -- The sink failed at a reply: the input begins with the lines of these events, all of which were done. The output is the text of
 -- the replies before, and a part of the last one.
-pub record CutReply (before now : Counts) (images bytes : ℕ → Option (List ℕ)) (left rest taken given : Option (List ℕ)) : Type 0 where
+pub record CutReply (before now : Counts) (images bytes : ℕ → Option (List ℕ)) (tells : ℕ → Type 0) (left rest taken given : Option (List ℕ)) : Type 0 where
   pub events : List Event
   pub replies : List Reply
   pub last : Reply
-  pub ran : Ran before now images bytes events (replies ++ last ∷ [])
+  pub ran : Ran before now images bytes tells events (replies ++ last ∷ [])
   pub input : Told (StartsWith (input_of events)) left rest
   pub output : Told (TookUpTo (output_of replies) (reply_line last)) taken given
 
 -- The sink failed at the refusal of a line: the input is the lines of these events and then a line that is refused. The output is the
 -- text of their replies, and a part of the refusal.
-pub record CutRefusal (before now : Counts) (images bytes : ℕ → Option (List ℕ)) (left rest taken given : Option (List ℕ)) : Type 0 where
+pub record CutRefusal (before now : Counts) (images bytes : ℕ → Option (List ℕ)) (tells : ℕ → Type 0) (left rest taken given : Option (List ℕ)) : Type 0 where
   pub events : List Event
   pub replies : List Reply
   pub kind : BadLine
-  pub ran : Ran before now images bytes events replies
+  pub ran : Ran before now images bytes tells events replies
   pub input : Told (λ b a. (text : List ℕ) × (b ≡ input_of events ++ text) × StopsAt events kind text) left rest
   pub output : Told (TookUpTo (output_of replies) (refusal (length events + 1) kind)) taken given
 
 -- the sink failed at a reply, or at the refusal of a line
-abbrev pub IsCut : Counts → Counts → (ℕ → Option (List ℕ)) → (ℕ → Option (List ℕ)) → Option (List ℕ) → Option (List ℕ) → Option (List ℕ) → Option (List ℕ)
-    → Type 0
-IsCut before now images bytes left rest taken given =
-    CutReply before now images bytes left rest taken given ⊎ CutRefusal before now images bytes left rest taken given
+abbrev pub IsCut : Counts → Counts → (ℕ → Option (List ℕ)) → (ℕ → Option (List ℕ)) → (ℕ → Type 0) → Option (List ℕ) → Option (List ℕ) → Option (List ℕ)
+    → Option (List ℕ) → Type 0
+IsCut before now images bytes tells left rest taken given =
+    CutReply before now images bytes tells left rest taken given ⊎ CutRefusal before now images bytes tells left rest taken given
 
 -- Memory was wanting before a reply, or behind one: the input begins with the lines of these events, and the output is the text of their
 -- replies. Nothing is said of what the rack holds, nor of the counts that it has.
-pub record RanOutBetween (before : Counts) (bytes : ℕ → Option (List ℕ)) (left rest taken given : Option (List ℕ)) : Type 0 where
+pub record RanOutBetween (before : Counts) (tells : ℕ → Type 0) (left rest taken given : Option (List ℕ)) : Type 0 where
   pub events : List Event
   pub replies : List Reply
   pub in_place : AreInPlace events
   pub budget : length (input_of events) ≤ 2 ^ 40
   pub final : State
-  pub trace : Trace (TellsBoundaries bytes final) before events replies final
+  pub trace : Trace (TellsBoundaries tells final) before events replies final
   pub input : Told (StartsWith (input_of events)) left rest
   pub output : Told (Took (output_of replies)) taken given
 
 -- Memory was wanting within a listing of all directories: the input begins with the lines of these events and then a `tree`. The output is
 -- the text of their replies, and then the lines of the first entries of a listing with which the `tree` may be answered in the next step.
-pub record RanOutWithin (before : Counts) (bytes : ℕ → Option (List ℕ)) (left rest taken given : Option (List ℕ)) : Type 0 where
+pub record RanOutWithin (before : Counts) (tells : ℕ → Type 0) (left rest taken given : Option (List ℕ)) : Type 0 where
   pub events : List Event
   pub replies : List Reply
   pub entries : List Listed
@@ -137,10 +137,10 @@ pub record RanOutWithin (before : Counts) (bytes : ℕ → Option (List ℕ)) (l
   pub in_place : AreInPlace (events ++ Tree ∷ [])
   pub budget : length (input_of (events ++ Tree ∷ [])) ≤ 2 ^ 40
   pub final : State
-  pub trace : Trace (TellsBoundaries bytes final) before (events ++ Tree ∷ []) (replies ++ Nodes (entries ++ others) ∷ []) final
+  pub trace : Trace (TellsBoundaries tells final) before (events ++ Tree ∷ []) (replies ++ Nodes (entries ++ others) ∷ []) final
   pub input : Told (StartsWith (input_of (events ++ Tree ∷ []))) left rest
   pub output : Told (Took (output_of replies ++ nodes_text entries)) taken given
 
 -- memory was wanting: no reply was written in part, or a listing was, to the end of an entry
-abbrev pub RanOut : Counts → (ℕ → Option (List ℕ)) → Option (List ℕ) → Option (List ℕ) → Option (List ℕ) → Option (List ℕ) → Type 0
-RanOut before bytes left rest taken given = RanOutBetween before bytes left rest taken given ⊎ RanOutWithin before bytes left rest taken given
+abbrev pub RanOut : Counts → (ℕ → Type 0) → Option (List ℕ) → Option (List ℕ) → Option (List ℕ) → Option (List ℕ) → Type 0
+RanOut before tells left rest taken given = RanOutBetween before tells left rest taken given ⊎ RanOutWithin before tells left rest taken given

@@ -29,27 +29,27 @@ pub record AreLines (shape : Shape) (events : List Event) : Type 0 where
 -- A saved array was opened, and no count fell from then on; the members behind its own have the bytes that they had. These events are in
 -- their places, and had these replies: of whichever blocks, one for each of the array's, in steps from the state opened with them. What these
 -- say of the blocks is known where the members held them, and then the rack holds the last state.
-pub record RanOn (facts : Facts) (events : List Event) (replies : List Reply) : Type 0 where
+pub record RanOn (tells : ℕ → Type 0) (facts : Facts) (events : List Event) (replies : List Reply) : Type 0 where
   pub opened : Counts
   pub source : HasSource (met_by facts) opened
   pub rise : CountsRise opened facts.now
   pub others : OthersKept (met_by facts) source.saved.table
   pub lines : AreLines source.saved.table.shape events
-  pub runs : (V : List (List ℕ)) → length V ≡ source.saved.table.shape.n → Reached facts opened source V events replies
+  pub runs : (V : List (List ℕ)) → length V ≡ source.saved.table.shape.n → Reached tells facts opened source V events replies
 
 -- the same, but nothing is said of what the rack holds
-pub record WantedOn (facts : Facts) (events : List Event) (replies : List Reply) : Type 0 where
+pub record WantedOn (tells : ℕ → Type 0) (facts : Facts) (events : List Event) (replies : List Reply) : Type 0 where
   pub opened : Counts
   pub source : HasSource (met_by facts) opened
   pub rise : CountsRise opened facts.now
   pub lines : AreLines source.saved.table.shape events
-  pub runs : (V : List (List ℕ)) → length V ≡ source.saved.table.shape.n → Resumed facts opened source V events replies
+  pub runs : (V : List (List ℕ)) → length V ≡ source.saved.table.shape.n → Resumed tells facts opened source V events replies
 
 -- the input was read to its end, and is the lines of these events, of which there may be none; the output is the text of their replies
-pub record AllResumed (facts : Facts) : Type 0 where
+pub record AllResumed (tells : ℕ → Type 0) (facts : Facts) : Type 0 where
   pub events : List Event
   pub replies : List Reply
-  pub ran : RanOn facts events replies
+  pub ran : RanOn tells facts events replies
   pub input : Told (λ b a. (b ≡ input_of events) × (a ≡ [])) facts.left facts.rest
   pub output : Told (Took (output_of replies)) facts.taken facts.given
 
@@ -61,65 +61,65 @@ pub record StopsOn (shape : Shape) (events : List Event) (kind : Kind) (whole te
 
 -- the input is the lines of these events and then a line that is refused; the output is the text of their replies and then the refusal, with
 -- that line's number, counted from 1, and kind
-pub record ResumeStopped (facts : Facts) : Type 0 where
+pub record ResumeStopped (tells : ℕ → Type 0) (facts : Facts) : Type 0 where
   pub events : List Event
   pub replies : List Reply
   pub kind : Kind
-  pub ran : RanOn facts events replies
+  pub ran : RanOn tells facts events replies
   pub input : Told (λ b a. (text : List ℕ) × StopsOn ran.source.saved.table.shape events kind b text) facts.left facts.rest
   pub output : Told (Took (output_of replies ++ refusal (length events + 1) kind)) facts.taken facts.given
 
 -- the source failed: the lines that it gave whole are those of these events
-pub record ResumeBrokeOff (facts : Facts) : Type 0 where
+pub record ResumeBrokeOff (tells : ℕ → Type 0) (facts : Facts) : Type 0 where
   pub events : List Event
   pub replies : List Reply
-  pub ran : RanOn facts events replies
+  pub ran : RanOn tells facts events replies
   pub input : Told (GaveLines (input_of events)) facts.left facts.rest
   pub output : Told (Took (output_of replies)) facts.taken facts.given
 
 -- the sink failed at the last reply
-pub record ResumeCut (facts : Facts) : Type 0 where
+pub record ResumeCut (tells : ℕ → Type 0) (facts : Facts) : Type 0 where
   pub events : List Event
   pub replies : List Reply
   pub last : Reply
-  pub ran : RanOn facts events (replies ++ last ∷ [])
+  pub ran : RanOn tells facts events (replies ++ last ∷ [])
   pub input : Told (StartsWith (input_of events)) facts.left facts.rest
   pub output : Told (TookUpTo (output_of replies) (reply_line last)) facts.taken facts.given
 
 -- the sink failed at the refusal of a line
-pub record ResumeCutRefusal (facts : Facts) : Type 0 where
+pub record ResumeCutRefusal (tells : ℕ → Type 0) (facts : Facts) : Type 0 where
   pub events : List Event
   pub replies : List Reply
   pub kind : Kind
-  pub ran : RanOn facts events replies
+  pub ran : RanOn tells facts events replies
   pub input : Told (λ b a. (text : List ℕ) × StopsOn ran.source.saved.table.shape events kind b text) facts.left facts.rest
   pub output : Told (TookUpTo (output_of replies) (refusal (length events + 1) kind)) facts.taken facts.given
 
 -- memory was wanting before a reply, or behind one
-pub record ResumeWanted (facts : Facts) : Type 0 where
+pub record ResumeWanted (tells : ℕ → Type 0) (facts : Facts) : Type 0 where
   pub events : List Event
   pub replies : List Reply
-  pub ran : WantedOn facts events replies
+  pub ran : WantedOn tells facts events replies
   pub input : Told (StartsWith (input_of events)) facts.left facts.rest
   pub output : Told (Took (output_of replies)) facts.taken facts.given
 
 -- memory was wanting within a listing of all directories, of which the first entries were written
-pub record ResumeListed (facts : Facts) : Type 0 where
+pub record ResumeListed (tells : ℕ → Type 0) (facts : Facts) : Type 0 where
   pub events : List Event
   pub replies : List Reply
   pub entries : List Listed
   pub others : List Listed
-  pub ran : WantedOn facts (events ++ Tree ∷ []) (replies ++ Nodes (entries ++ others) ∷ [])
+  pub ran : WantedOn tells facts (events ++ Tree ∷ []) (replies ++ Nodes (entries ++ others) ∷ [])
   pub input : Told (StartsWith (input_of (events ++ Tree ∷ []))) facts.left facts.rest
   pub output : Told (Took (output_of replies ++ nodes_text entries)) facts.taken facts.given
 
 -- By the status: all lines were done, or those before one that is refused, or before a fault; or no array was opened, and no input was read.
-abbrev pub EndsResume : Facts → Status → Type 0
-EndsResume facts Done = AllResumed facts
-EndsResume facts BadLine = ResumeStopped facts
-EndsResume facts ReadFault = ResumeBrokeOff facts
-EndsResume facts WriteFault = (ReadsNothing facts × CutUnopened (met_by facts)) ⊎ (ResumeCut facts ⊎ ResumeCutRefusal facts)
-EndsResume facts NoMemory = (Told AreAny facts.left facts.rest × (facts.given ≡ facts.taken)) ⊎ (ResumeWanted facts ⊎ ResumeListed facts)
-EndsResume facts NoState = ReadsNothing facts × FoundNoState (met_by facts) × Printed (met_by facts) nostate_text
-EndsResume facts Unclean = ReadsNothing facts × FoundUnclean (met_by facts) × Printed (met_by facts) unclean_text
-EndsResume facts status = ⊥
+abbrev pub EndsResume : (ℕ → Type 0) → Facts → Status → Type 0
+EndsResume tells facts Done = AllResumed tells facts
+EndsResume tells facts BadLine = ResumeStopped tells facts
+EndsResume tells facts ReadFault = ResumeBrokeOff tells facts
+EndsResume tells facts WriteFault = (ReadsNothing facts × CutUnopened (met_by facts)) ⊎ (ResumeCut tells facts ⊎ ResumeCutRefusal tells facts)
+EndsResume tells facts NoMemory = (Told AreAny facts.left facts.rest × (facts.given ≡ facts.taken)) ⊎ (ResumeWanted tells facts ⊎ ResumeListed tells facts)
+EndsResume tells facts NoState = ReadsNothing facts × FoundNoState (met_by facts) × Printed (met_by facts) nostate_text
+EndsResume tells facts Unclean = ReadsNothing facts × FoundUnclean (met_by facts) × Printed (met_by facts) unclean_text
+EndsResume tells facts status = ⊥

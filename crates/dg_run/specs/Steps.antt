@@ -27,11 +27,7 @@ shape_of array = volumes.shape_of array.volume
 abbrev pub rack_of : {R : Type 0} → Array R → R
 rack_of array = volumes.rack_of array.volume
 
--- each member of the array tells its bytes
-abbrev pub Tells : {R : Type 0} → Ghosts R → Array R → Type 0
-Tells rack array = volumes.Tells rack array.volume
-
--- what is known of its blocks is known where each does, and something else is so
+-- what is known of its blocks is known where the rack tells each of its members, and something else is so
 abbrev pub Known : {R : Type 0} → Type 0 → Ghosts R → Array R → Type 0
 Known P rack array = volumes.Known P rack array.volume
 

@@ -33,7 +33,8 @@ pub fn serve_drill<K: Sink, R: Rack>(
     rack: &mut R,
 ) -> Status
     requires few { (1 ≤ files) × (files ≤ 2000) }
-    ensures ends { EndsDrilled (EndsDrill (facts_of K.Sink R.Rack sink.old sink.new rack.old rack.new) seed files) (K.taken sink.old) (K.taken sink.new) result }
+    ensures ends { EndsDrilled (EndsDrill (R.tells rack.new) (facts_of K.Sink R.Rack sink.old sink.new rack.old rack.new) seed files)
+        (K.taken sink.old) (K.taken sink.new) result }
     ensures write { result ≡ Status.WriteFault → Rose (K.faults sink.old) (K.faults sink.new) }
     ensures kept { (result ≡ Status.WriteFault → ⊥) → K.faults sink.new ≡ K.faults sink.old }
     ensures read { result ≡ Status.ReadFault → ⊥ }

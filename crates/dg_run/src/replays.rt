@@ -128,22 +128,22 @@ fn replay_array<S: Source, K: Sink, R: Rack + Drop>(
     requires budget { first ≤ 2 ^ 40 }
     ensures name { IfOk result (λ end. R.name end.rack ≡ R.name rack) }
     ensures done { IfOk result (λ end. end.status ≡ Status.Done
-        → ArrayReplayed (R.counts rack) (R.counts end.rack) (R.bytes rack) (R.bytes end.rack) shape (ahead input.old (S.left source.old))
+        → ArrayReplayed (R.counts rack) (R.counts end.rack) (R.bytes rack) (R.bytes end.rack) (R.tells end.rack) shape (ahead input.old (S.left source.old))
         (ahead input.new (S.left source.new)) (K.taken sink.old) (K.taken sink.new)) }
     ensures bad_line { IfOk result (λ end. end.status ≡ Status.BadLine
-        → ArrayStopped (R.counts rack) (R.counts end.rack) (R.bytes rack) (R.bytes end.rack) shape (ahead input.old (S.left source.old))
+        → ArrayStopped (R.counts rack) (R.counts end.rack) (R.bytes rack) (R.bytes end.rack) (R.tells end.rack) shape (ahead input.old (S.left source.old))
         (ahead input.new (S.left source.new)) (K.taken sink.old) (K.taken sink.new)) }
     ensures broken { IfOk result (λ end. end.status ≡ Status.ReadFault → (text : Option (List ℕ))
         → Told (Begins None (Event.Array shape)) text (ahead input.old (S.left source.old))
-        → BrokeOff (R.counts rack) (R.counts end.rack) (R.bytes rack) (R.bytes end.rack) text (S.left source.new) (K.taken sink.old)
+        → BrokeOff (R.counts rack) (R.counts end.rack) (R.bytes rack) (R.bytes end.rack) (R.tells end.rack) text (S.left source.new) (K.taken sink.old)
         (K.taken sink.new)) }
     ensures part { IfOk result (λ end. end.status ≡ Status.WriteFault → (text : Option (List ℕ))
         → Told (Begins None (Event.Array shape)) text (ahead input.old (S.left source.old))
-        → IsCut (R.counts rack) (R.counts end.rack) (R.bytes rack) (R.bytes end.rack) text (S.left source.new) (K.taken sink.old)
+        → IsCut (R.counts rack) (R.counts end.rack) (R.bytes rack) (R.bytes end.rack) (R.tells end.rack) text (S.left source.new) (K.taken sink.old)
         (K.taken sink.new)) }
     ensures wanting { IfOk result (λ end. end.status ≡ Status.NoMemory → (text : Option (List ℕ))
         → Told (Begins None (Event.Array shape)) text (ahead input.old (S.left source.old))
-        → RanOut (R.counts rack) (R.bytes end.rack) text (S.left source.new) (K.taken sink.old) (K.taken sink.new)) }
+        → RanOut (R.counts rack) (R.tells end.rack) text (S.left source.new) (K.taken sink.old) (K.taken sink.new)) }
     ensures none { OnErr result (Told AreAny (ahead input.old (S.left source.old)) (S.left source.new) × (K.taken sink.new ≡ K.taken sink.old)) }
     ensures read { IfOk result (λ end. end.status ≡ Status.ReadFault → Rose (S.faults source.old) (S.faults source.new)) }
     ensures write { IfOk result (λ end. end.status ≡ Status.WriteFault → Rose (K.faults sink.old) (K.faults sink.new)) }
@@ -173,19 +173,19 @@ fn replay<S: Source, K: Sink, R: Rack + Drop>(
 ) -> Result<Ended<R>, NoMemory>
     ensures name { IfOk result (λ end. R.name end.rack ≡ R.name rack) }
     ensures done { IfOk result (λ end. end.status ≡ Status.Done
-        → Replayed (R.counts rack) (R.counts end.rack) (R.bytes rack) (R.bytes end.rack) (S.left source.old) (S.left source.new) (K.taken sink.old)
-        (K.taken sink.new)) }
+        → Replayed (R.counts rack) (R.counts end.rack) (R.bytes rack) (R.bytes end.rack) (R.tells end.rack) (S.left source.old) (S.left source.new)
+        (K.taken sink.old) (K.taken sink.new)) }
     ensures bad_line { IfOk result (λ end. end.status ≡ Status.BadLine
-        → Stopped (R.counts rack) (R.counts end.rack) (R.bytes rack) (R.bytes end.rack) (S.left source.old) (S.left source.new) (K.taken sink.old)
-        (K.taken sink.new)) }
+        → Stopped (R.counts rack) (R.counts end.rack) (R.bytes rack) (R.bytes end.rack) (R.tells end.rack) (S.left source.old) (S.left source.new)
+        (K.taken sink.old) (K.taken sink.new)) }
     ensures broken { IfOk result (λ end. end.status ≡ Status.ReadFault
-        → BrokeOff (R.counts rack) (R.counts end.rack) (R.bytes rack) (R.bytes end.rack) (S.left source.old) (S.left source.new) (K.taken sink.old)
-        (K.taken sink.new)) }
+        → BrokeOff (R.counts rack) (R.counts end.rack) (R.bytes rack) (R.bytes end.rack) (R.tells end.rack) (S.left source.old) (S.left source.new)
+        (K.taken sink.old) (K.taken sink.new)) }
     ensures part { IfOk result (λ end. end.status ≡ Status.WriteFault
-        → IsCut (R.counts rack) (R.counts end.rack) (R.bytes rack) (R.bytes end.rack) (S.left source.old) (S.left source.new) (K.taken sink.old)
-        (K.taken sink.new)) }
+        → IsCut (R.counts rack) (R.counts end.rack) (R.bytes rack) (R.bytes end.rack) (R.tells end.rack) (S.left source.old) (S.left source.new)
+        (K.taken sink.old) (K.taken sink.new)) }
     ensures wanting { IfOk result (λ end. end.status ≡ Status.NoMemory
-        → RanOut (R.counts rack) (R.bytes end.rack) (S.left source.old) (S.left source.new) (K.taken sink.old) (K.taken sink.new)) }
+        → RanOut (R.counts rack) (R.tells end.rack) (S.left source.old) (S.left source.new) (K.taken sink.old) (K.taken sink.new)) }
     ensures none { OnErr result (Told AreAny (S.left source.old) (S.left source.new) × (K.taken sink.new ≡ K.taken sink.old)) }
     ensures read { IfOk result (λ end. end.status ≡ Status.ReadFault → Rose (S.faults source.old) (S.faults source.new)) }
     ensures write { IfOk result (λ end. end.status ≡ Status.WriteFault → Rose (K.faults sink.old) (K.faults sink.new)) }
@@ -223,7 +223,7 @@ pub fn serve_replay<S: Source, K: Sink, R: Rack>(
     sink: &mut K,
     rack: &mut R,
 ) -> Status
-    ensures ends { EndsReplay (facts_of S.Source K.Sink R.Rack source.old source.new sink.old sink.new rack.old rack.new) result }
+    ensures ends { EndsReplay (R.tells rack.new) (facts_of S.Source K.Sink R.Rack source.old source.new sink.old sink.new rack.old rack.new) result }
     ensures read { result ≡ Status.ReadFault → Rose (S.faults source.old) (S.faults source.new) }
     ensures write { result ≡ Status.WriteFault → Rose (K.faults sink.old) (K.faults sink.new) }
     ensures source_kept { (result ≡ Status.ReadFault → ⊥) → S.faults source.new ≡ S.faults source.old }

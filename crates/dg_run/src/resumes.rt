@@ -98,7 +98,8 @@ fn resume<S: Source, K: Sink, R: Rack + Drop>(
     rack: R,
 ) -> Result<Ended<R>, NoMemory>
     ensures name { IfOk result (λ end. R.name end.rack ≡ R.name rack) }
-    ensures ends { IfOk result (λ end. EndsResume (facts_of S.Source K.Sink R.Rack source.old source.new sink.old sink.new rack end.rack) end.status) }
+    ensures ends { IfOk result (λ end. EndsResume (R.tells end.rack)
+        (facts_of S.Source K.Sink R.Rack source.old source.new sink.old sink.new rack end.rack) end.status) }
     ensures none { OnErr result ((source.new ≡ source.old) × (sink.new ≡ sink.old)) }
     ensures read { IfOk result (λ end. end.status ≡ Status.ReadFault → Rose (S.faults source.old) (S.faults source.new)) }
     ensures write { IfOk result (λ end. end.status ≡ Status.WriteFault → Rose (K.faults sink.old) (K.faults sink.new)) }
@@ -134,7 +135,7 @@ pub fn serve_resume<S: Source, K: Sink, R: Rack>(
     sink: &mut K,
     rack: &mut R,
 ) -> Status
-    ensures ends { EndsResume (facts_of S.Source K.Sink R.Rack source.old source.new sink.old sink.new rack.old rack.new) result }
+    ensures ends { EndsResume (R.tells rack.new) (facts_of S.Source K.Sink R.Rack source.old source.new sink.old sink.new rack.old rack.new) result }
     ensures read { result ≡ Status.ReadFault → Rose (S.faults source.old) (S.faults source.new) }
     ensures write { result ≡ Status.WriteFault → Rose (K.faults sink.old) (K.faults sink.new) }
     ensures source_kept { (result ≡ Status.ReadFault → ⊥) → S.faults source.new ≡ S.faults source.old }

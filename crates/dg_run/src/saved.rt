@@ -36,7 +36,8 @@ pub fn serve_file<K: Sink, R: Rack>(
     rack: &mut R,
 ) -> Status
     requires path { is_path path.now ≡ true }
-    ensures ends { EndsSaved (EndsCat (facts_of K.Sink R.Rack sink.old sink.new rack.old rack.new) path.now) (K.taken sink.old) (K.taken sink.new) result }
+    ensures ends { EndsSaved (EndsCat (R.tells rack.new) (facts_of K.Sink R.Rack sink.old sink.new rack.old rack.new) path.now)
+        (K.taken sink.old) (K.taken sink.new) result }
     ensures write { result ≡ Status.WriteFault → Rose (K.faults sink.old) (K.faults sink.new) }
     ensures kept { (result ≡ Status.WriteFault → ⊥) → K.faults sink.new ≡ K.faults sink.old }
     ensures read { result ≡ Status.ReadFault → ⊥ }
@@ -56,7 +57,8 @@ pub fn serve_directory<K: Sink, R: Rack>(
     rack: &mut R,
 ) -> Status
     requires path { is_path path.now ≡ true }
-    ensures ends { EndsSaved (EndsLs (facts_of K.Sink R.Rack sink.old sink.new rack.old rack.new) path.now) (K.taken sink.old) (K.taken sink.new) result }
+    ensures ends { EndsSaved (EndsLs (R.tells rack.new) (facts_of K.Sink R.Rack sink.old sink.new rack.old rack.new) path.now)
+        (K.taken sink.old) (K.taken sink.new) result }
     ensures write { result ≡ Status.WriteFault → Rose (K.faults sink.old) (K.faults sink.new) }
     ensures kept { (result ≡ Status.WriteFault → ⊥) → K.faults sink.new ≡ K.faults sink.old }
     ensures read { result ≡ Status.ReadFault → ⊥ }
@@ -70,7 +72,8 @@ pub fn serve_directory<K: Sink, R: Rack>(
 
 /// Prints what the array is like.
 pub fn serve_status<K: Sink, R: Rack>(alloc: Global, sink: &mut K, rack: &mut R) -> Status
-    ensures ends { EndsSaved (EndsStatus (facts_of K.Sink R.Rack sink.old sink.new rack.old rack.new)) (K.taken sink.old) (K.taken sink.new) result }
+    ensures ends { EndsSaved (EndsStatus (R.tells rack.new) (facts_of K.Sink R.Rack sink.old sink.new rack.old rack.new))
+        (K.taken sink.old) (K.taken sink.new) result }
     ensures write { result ≡ Status.WriteFault → Rose (K.faults sink.old) (K.faults sink.new) }
     ensures kept { (result ≡ Status.WriteFault → ⊥) → K.faults sink.new ≡ K.faults sink.old }
     ensures read { result ≡ Status.ReadFault → ⊥ }

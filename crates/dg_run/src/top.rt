@@ -86,7 +86,7 @@ fn serve_command<S: Source, K: Sink, R: Rack>(
     rack: &mut R,
 ) -> Status
     requires values { HasValues asked.now }
-    ensures ends { Ends (facts_of S.Source K.Sink R.Rack source.old source.new sink.old sink.new rack.old rack.new) asked.now result }
+    ensures ends { Ends (R.tells rack.new) (facts_of S.Source K.Sink R.Rack source.old source.new sink.old sink.new rack.old rack.new) asked.now result }
     ensures usage { result ≡ Status.Usage → ⊥ }
     ensures quiet { reads_input asked.now ≡ false → source.new ≡ source.old }
     ensures idle { uses_array asked.now ≡ false → rack.new ≡ rack.old }
@@ -124,7 +124,7 @@ pub fn run<S: Source, K: Sink, R: Rack>(
 ) -> Status
     // Each command ends by its own rules.
     ensures ends { (command : Command) → IsCommand (map string_bytes words.now.items) command
-        → Ends (facts_of S.Source K.Sink R.Rack source.old source.new sink.old sink.new rack.old rack.new) command result }
+        → Ends (R.tells rack.new) (facts_of S.Source K.Sink R.Rack source.old source.new sink.old sink.new rack.old rack.new) command result }
 
     // The usage line is printed exactly where the words are no command, and nothing else is done then.
     ensures usage { result ≡ Status.Usage → AreNoCommand (map string_bytes words.now.items) }

@@ -6,6 +6,8 @@ mod cat_tests;
 #[cfg(test)]
 mod fault_tests;
 #[cfg(test)]
+mod left_tests;
+#[cfg(test)]
 mod list_tests;
 #[cfg(test)]
 mod runs;

@@ -15,7 +15,7 @@ use Rattle.dg_saved.specs.Serves.{EndsServed, Steps}
 use Rattle.dg_saved.specs.Texts.{array_text, status_text}
 use Rattle.dg_saved.specs.declared.ends.SavedEnd.{SavedEnd}
 use Rattle.dg_saved.specs.declared.ends.SavedEnd.TheVariants.{Done, NoState, Refused, Unclean, WriteFault}
-use Rattle.dg_volume.specs.HeldLaws.{TellsTold, holds_all, own_still}
+use Rattle.dg_volume.specs.HeldLaws.{holds_all, own_still}
 use Rattle.dg_volume.specs.Opens.{HasOpened}
 use Rattle.dg_volume.specs.Volumes.{Leaves, any_phase, members_of, phase_of, rack_of, table_of}
 use Rattle.dg_volume.specs.declared.phases.AnyPhase.{AnyPhase}
@@ -24,10 +24,13 @@ use Rattle.dg_volume.specs.declared.volumes.Volume.{Volume}
 -- ---- one event
 
 module _ {R : Type 0} (rack : Ghosts R) (before : R) (volume new : Volume AnyPhase R) (hot : List ℕ) (taken given : Option (List ℕ))
-    (opened : HasOpened rack before volume hot) (leaves : Leaves any_phase any_phase rack volume new) (law : TellsTold rack) where
-  -- what was met outside, and what it was opened from
+    (opened : HasOpened rack before volume hot) (leaves : Leaves any_phase any_phase rack volume new) where
+  -- what was met outside, what the rack tells in the end, and what it was opened from
   abbrev was : Facts
   was = facts rack before volume new hot taken given opened leaves
+
+  abbrev told : ℕ → Type 0
+  told = rack.tells (rack_of new)
 
   abbrev from : HasSource was (rack.counts (rack_of volume))
   from = source rack before volume new hot taken given opened leaves
@@ -36,26 +39,26 @@ module _ {R : Type 0} (rack : Ghosts R) (before : R) (volume new : Volume AnyPha
   kept = others rack before volume new hot taken given opened leaves
 
   -- with these blocks
-  runs_from : (event : Event) (reply : Reply) → Steps rack volume event reply new → (V : List (List ℕ)) → RunsFrom was (rack.counts (rack_of volume)) from event reply V
+  runs_from : (event : Event) (reply : Reply) → Steps rack volume event reply new → (V : List (List ℕ)) → RunsFrom told was (rack.counts (rack_of volume)) from event reply V
   runs_from event reply steps V =
       let at = at_first rack before volume new hot taken given opened leaves V in
       let one = steps (origin rack before volume new hot taken given opened leaves V) at.state at.stands in
-      let all = known_now rack before volume new hot taken given opened leaves law V in
+      let all = known_now rack before volume new hot taken given opened leaves V in
       record {
         state = at.state;
-        is = is_opened rack before volume new hot taken given opened leaves V law;
+        is = is_opened rack before volume new hot taken given opened leaves V;
         next = one.0;
         step = step_less all at.state event reply one.0 one.2;
         counts = ap (λ (s : State). s.counts) one.1.is;
-        holds = λ told. holds_all rack new any_phase one.0 one.1 (all told);
+        holds = λ known. holds_all rack new any_phase one.0 one.1 (all known);
       }
 
-  has_run : (event : Event) (reply : Reply) → Steps rack volume event reply new → HasRun was event reply
+  has_run : (event : Event) (reply : Reply) → Steps rack volume event reply new → HasRun told was event reply
   has_run event reply steps = record { opened = rack.counts (rack_of volume); source = from; rise = leaves.rise; others = kept; runs = runs_from event reply steps }
 
   -- the end of a command that is one event
   pub ends_event : (event : Event) (text : Reply → List ℕ) (gives : Reply → Bool) (end : SavedEnd) → EndsServed rack volume event text gives taken given new end
-      → EndsEvent was event text gives end
+      → EndsEvent told was event text gives end
   ends_event event text gives Done h = record { reply = h.reply; ran = has_run event h.reply h.steps; kind = h.kind_is; output = h.output }
   ends_event event text gives Refused h = record { reply = h.reply; ran = has_run event h.reply h.steps; kind = h.kind_is; output = h.output }
   ends_event event text gives NoState h = absurd h
@@ -65,7 +68,7 @@ module _ {R : Type 0} (rack : Ghosts R) (before : R) (volume new : Volume AnyPha
 -- ---- the state of an array that was opened
 
 module _ {R : Type 0} (rack : Ghosts R) (before : R) (volume : Volume AnyPhase R) (hot : List ℕ) (taken given : Option (List ℕ))
-    (opened : HasOpened rack before volume hot) (law : TellsTold rack) where
+    (opened : HasOpened rack before volume hot) where
   pub stays : Leaves any_phase any_phase rack volume volume
   stays = record {
     well = opened.well;
@@ -79,7 +82,7 @@ module _ {R : Type 0} (rack : Ghosts R) (before : R) (volume : Volume AnyPhase R
 
   -- the text of its parts tells of its state
   pub has_shown : (text : List ℕ) → text ≡ array_text (table_of volume) (members_of volume) (phase_of any_phase volume)
-      → HasShown (facts rack before volume volume hot taken given opened stays) text
+      → HasShown (rack.tells (rack_of volume)) (facts rack before volume volume hot taken given opened stays) text
   has_shown text is = record {
     source = source rack before volume volume hot taken given opened stays;
     phase = phase_of any_phase volume;
@@ -89,17 +92,17 @@ module _ {R : Type 0} (rack : Ghosts R) (before : R) (volume : Volume AnyPhase R
         let at = at_first rack before volume volume hot taken given opened stays V in
         record {
           state = at.state;
-          is = is_opened rack before volume volume hot taken given opened stays V law;
+          is = is_opened rack before volume volume hot taken given opened stays V;
           text_is = is ∙ sym (ap status_text at.stands.is);
-          holds = λ told. holds_all rack volume any_phase at.state at.stands (known_now rack before volume volume hot taken given opened stays law V told);
+          holds = λ known. holds_all rack volume any_phase at.state at.stands (known_now rack before volume volume hot taken given opened stays V known);
         };
   }
 
 -- the end of a command that tells of the state
-pub shown_ends : (facts : Facts) (end : SavedEnd) (text : List ℕ) → (end ≡ Done) ⊎ (end ≡ WriteFault) → (end ≢ WriteFault → Printed facts text)
-    → (end ≡ WriteFault → PrintedPart facts text) → HasShown facts text → EndsStatus facts end
-shown_ends facts Done text is told part shown = (text, shown, told (λ e. cc e))
-shown_ends facts Refused text is told part shown = elim is [ inl e ↦ absurd (cc e) | inr e ↦ absurd (cc e) ]
-shown_ends facts NoState text is told part shown = elim is [ inl e ↦ absurd (cc e) | inr e ↦ absurd (cc e) ]
-shown_ends facts Unclean text is told part shown = elim is [ inl e ↦ absurd (cc e) | inr e ↦ absurd (cc e) ]
-shown_ends facts WriteFault text is told part shown = inr (text, shown, part refl)
+pub shown_ends : (tells : ℕ → Type 0) (facts : Facts) (end : SavedEnd) (text : List ℕ) → (end ≡ Done) ⊎ (end ≡ WriteFault) → (end ≢ WriteFault → Printed facts text)
+    → (end ≡ WriteFault → PrintedPart facts text) → HasShown tells facts text → EndsStatus tells facts end
+shown_ends tells facts Done text is told part shown = (text, shown, told (λ e. cc e))
+shown_ends tells facts Refused text is told part shown = elim is [ inl e ↦ absurd (cc e) | inr e ↦ absurd (cc e) ]
+shown_ends tells facts NoState text is told part shown = elim is [ inl e ↦ absurd (cc e) | inr e ↦ absurd (cc e) ]
+shown_ends tells facts Unclean text is told part shown = elim is [ inl e ↦ absurd (cc e) | inr e ↦ absurd (cc e) ]
+shown_ends tells facts WriteFault text is told part shown = inr (text, shown, part refl)

@@ -34,16 +34,16 @@ unclean_ends facts NoState is told part found = elim is [ inl e ↦ absurd (cc e
 unclean_ends facts Unclean is told part found = (found, told (λ e. cc e))
 unclean_ends facts WriteFault is told part found = inr (found, part refl)
 
-pub event_unopened : (facts : Facts) (event : Event) (text : Reply → List ℕ) (gives : Reply → Bool) (end : SavedEnd) → EndsUnopened facts end → EndsEvent facts event text gives end
-event_unopened facts event text gives Done h = absurd h
-event_unopened facts event text gives Refused h = absurd h
-event_unopened facts event text gives NoState h = h
-event_unopened facts event text gives Unclean h = h
-event_unopened facts event text gives WriteFault h = inl h
+pub event_unopened : (tells : ℕ → Type 0) (facts : Facts) (event : Event) (text : Reply → List ℕ) (gives : Reply → Bool) (end : SavedEnd) → EndsUnopened facts end → EndsEvent tells facts event text gives end
+event_unopened tells facts event text gives Done h = absurd h
+event_unopened tells facts event text gives Refused h = absurd h
+event_unopened tells facts event text gives NoState h = h
+event_unopened tells facts event text gives Unclean h = h
+event_unopened tells facts event text gives WriteFault h = inl h
 
-pub status_unopened : (facts : Facts) (end : SavedEnd) → EndsUnopened facts end → EndsStatus facts end
-status_unopened facts Done h = absurd h
-status_unopened facts Refused h = absurd h
-status_unopened facts NoState h = h
-status_unopened facts Unclean h = h
-status_unopened facts WriteFault h = inl h
+pub status_unopened : (tells : ℕ → Type 0) (facts : Facts) (end : SavedEnd) → EndsUnopened facts end → EndsStatus tells facts end
+status_unopened tells facts Done h = absurd h
+status_unopened tells facts Refused h = absurd h
+status_unopened tells facts NoState h = h
+status_unopened tells facts Unclean h = h
+status_unopened tells facts WriteFault h = inl h

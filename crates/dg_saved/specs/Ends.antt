@@ -1,4 +1,4 @@
--- How each command on a saved array ends.
+-- How each command on a saved array ends. What is known of blocks is known where the rack tells the members in the end (`tells`).
 use Rattle.std.specs.Prelude.{◌≡◌, ◌⊎◌, ℕ, Bool, true, false, List}
 use Rattle.dg_io.specs.Told.{Told, Took, TookPart}
 use Rattle.dg_model.specs.declared.events.Event.{Event}
@@ -27,39 +27,39 @@ CutUnopened facts = (FoundNoState facts × PrintedPart facts nostate_text) ⊎ (
 -- ---- one event
 
 -- the event was answered by a reply that gives what was asked for, or by one that doesn't, and its text was printed
-pub record Answered (facts : Facts) (event : Event) (text : Reply → List ℕ) (gives : Reply → Bool) (given : Bool) : Type 0 where
+pub record Answered (tells : ℕ → Type 0) (facts : Facts) (event : Event) (text : Reply → List ℕ) (gives : Reply → Bool) (given : Bool) : Type 0 where
   pub reply : Reply
-  pub ran : HasRun facts event reply
+  pub ran : HasRun tells facts event reply
   pub kind : gives reply ≡ given
   pub output : Printed facts (text reply)
 
 -- the event was answered, and a part of the reply's text was printed
-pub record AnsweredPart (facts : Facts) (event : Event) (text : Reply → List ℕ) : Type 0 where
+pub record AnsweredPart (tells : ℕ → Type 0) (facts : Facts) (event : Event) (text : Reply → List ℕ) : Type 0 where
   pub reply : Reply
-  pub ran : HasRun facts event reply
+  pub ran : HasRun tells facts event reply
   pub output : PrintedPart facts (text reply)
 
 -- by the end
-abbrev pub EndsEvent : Facts → Event → (Reply → List ℕ) → (Reply → Bool) → SavedEnd → Type 0
-EndsEvent facts event text gives Done = Answered facts event text gives true
-EndsEvent facts event text gives Refused = Answered facts event text gives false
-EndsEvent facts event text gives NoState = FoundNoState facts × Printed facts nostate_text
-EndsEvent facts event text gives Unclean = FoundUnclean facts × Printed facts unclean_text
-EndsEvent facts event text gives WriteFault = CutUnopened facts ⊎ AnsweredPart facts event text
+abbrev pub EndsEvent : (ℕ → Type 0) → Facts → Event → (Reply → List ℕ) → (Reply → Bool) → SavedEnd → Type 0
+EndsEvent tells facts event text gives Done = Answered tells facts event text gives true
+EndsEvent tells facts event text gives Refused = Answered tells facts event text gives false
+EndsEvent tells facts event text gives NoState = FoundNoState facts × Printed facts nostate_text
+EndsEvent tells facts event text gives Unclean = FoundUnclean facts × Printed facts unclean_text
+EndsEvent tells facts event text gives WriteFault = CutUnopened facts ⊎ AnsweredPart tells facts event text
 
 -- the file at a path
-abbrev pub EndsCat : Facts → List ℕ → SavedEnd → Type 0
-EndsCat facts path end = EndsEvent facts (Cat path) cat_text gives_file end
+abbrev pub EndsCat : (ℕ → Type 0) → Facts → List ℕ → SavedEnd → Type 0
+EndsCat tells facts path end = EndsEvent tells facts (Cat path) cat_text gives_file end
 
 -- the directory at a path
-abbrev pub EndsLs : Facts → List ℕ → SavedEnd → Type 0
-EndsLs facts path end = EndsEvent facts (Ls path) ls_text gives_listing end
+abbrev pub EndsLs : (ℕ → Type 0) → Facts → List ℕ → SavedEnd → Type 0
+EndsLs tells facts path end = EndsEvent tells facts (Ls path) ls_text gives_listing end
 
 -- ---- the state
 
-abbrev pub EndsStatus : Facts → SavedEnd → Type 0
-EndsStatus facts Done = (text : List ℕ) × HasShown facts text × Printed facts text
-EndsStatus facts Refused = ⊥
-EndsStatus facts NoState = FoundNoState facts × Printed facts nostate_text
-EndsStatus facts Unclean = FoundUnclean facts × Printed facts unclean_text
-EndsStatus facts WriteFault = CutUnopened facts ⊎ ((text : List ℕ) × HasShown facts text × PrintedPart facts text)
+abbrev pub EndsStatus : (ℕ → Type 0) → Facts → SavedEnd → Type 0
+EndsStatus tells facts Done = (text : List ℕ) × HasShown tells facts text × Printed facts text
+EndsStatus tells facts Refused = ⊥
+EndsStatus tells facts NoState = FoundNoState facts × Printed facts nostate_text
+EndsStatus tells facts Unclean = FoundUnclean facts × Printed facts unclean_text
+EndsStatus tells facts WriteFault = CutUnopened facts ⊎ ((text : List ℕ) × HasShown tells facts text × PrintedPart facts text)

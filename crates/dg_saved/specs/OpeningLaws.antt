@@ -15,7 +15,6 @@ use Rattle.dg_open.specs.Founds.{IsRead}
 use Rattle.dg_open.specs.Reopenings.{FindsNoState, FindsUnclean}
 use Rattle.dg_saved.specs.Calls.{Facts}
 use Rattle.dg_saved.specs.Saved.{FoundNoState, FoundUnclean, HasSource, IsKnown, IsOpenedAs, OthersKept, TellsArray, had}
-use Rattle.dg_volume.specs.HeldLaws.{TellsTold, tells_now}
 use Rattle.dg_volume.specs.Opens.{HasOpened}
 use Rattle.dg_volume.specs.Opens as openings
 use Rattle.dg_volume.specs.Origins.{Origin, WasHeld}
@@ -158,25 +157,27 @@ module _ {R : Type 0} (rack : Ghosts R) (before : R) (volume new : Volume AnyPha
       let behind : (shape_of volume).b ≤ q / 2 = subst (λ (t : Table). t.shape.b ≤ q / 2) (sym opened.table) past in
       same_both (rack.bytes before q) (rack.bytes (rack_of volume) q) (rack.bytes (rack_of new) q) (opened.others q behind) (leaves.own.other_bytes q behind)
 
-  -- where each member of its source's array tells its bytes in the end, so it did each time
-  pub known : TellsTold rack → TellsArray (rack.bytes (rack_of new)) opened.saved.table → Tells rack new
-  known law told =
-      tells_now rack new law
-      (λ q below. told q (subst (λ (t : Table). q / 2 < t.shape.b) opened.table (subst (λ (s : Shape). q / 2 < s.b) leaves.shape below)))
+  -- what the rack tells in the end
+  abbrev pub told_now : ℕ → Type 0
+  told_now = rack.tells (rack_of new)
 
-  known_volume : TellsTold rack → TellsArray (rack.bytes (rack_of new)) opened.saved.table → Tells rack volume
-  known_volume law told q below = leaves.told_before q (known law told q (subst (λ (s : Shape). q / 2 < s.b) (sym leaves.shape) below))
+  -- where it tells each member of its source's array, so it did each time
+  known : TellsArray told_now opened.saved.table → Tells rack new
+  known told q below = told q (subst (λ (t : Table). q / 2 < t.shape.b) opened.table (subst (λ (s : Shape). q / 2 < s.b) leaves.shape below))
+
+  known_volume : TellsArray told_now opened.saved.table → Tells rack volume
+  known_volume told q below = leaves.told_before q (known told q (subst (λ (s : Shape). q / 2 < s.b) (sym leaves.shape) below))
 
   -- what its members may have held
   abbrev pub origin : List (List ℕ) → Origin
   origin V = Some (record { table = table_of volume; members = opened.first; bytes = rack.bytes before; blocks = V })
 
   -- where the blocks are known in the end, they are known of the volume now, and when it was opened
-  pub known_now : TellsTold rack → (V : List (List ℕ)) → IsKnown facts (rack.counts (rack_of volume)) source V → Known (WasHeld (origin V)) rack new
-  known_now law V k = (known law (k.0), subst (λ (t : Table). StandsFor t opened.first (rack.bytes before) V) (sym opened.table) (k.1))
+  pub known_now : (V : List (List ℕ)) → IsKnown told_now facts (rack.counts (rack_of volume)) source V → Known (WasHeld (origin V)) rack new
+  known_now V k = (known (k.0), subst (λ (t : Table). StandsFor t opened.first (rack.bytes before) V) (sym opened.table) (k.1))
 
-  known_first : TellsTold rack → (V : List (List ℕ)) → IsKnown facts (rack.counts (rack_of volume)) source V → Known (WasHeld (origin V)) rack volume
-  known_first law V k = (known_volume law (k.0), subst (λ (t : Table). StandsFor t opened.first (rack.bytes before) V) (sym opened.table) (k.1))
+  known_first : (V : List (List ℕ)) → IsKnown told_now facts (rack.counts (rack_of volume)) source V → Known (WasHeld (origin V)) rack volume
+  known_first V k = (known_volume (k.0), subst (λ (t : Table). StandsFor t opened.first (rack.bytes before) V) (sym opened.table) (k.1))
 
   -- the state in which it was opened, with these blocks
   pub record AtFirst (V : List (List ℕ)) : Type 0 where
@@ -190,10 +191,10 @@ module _ {R : Type 0} (rack : Ghosts R) (before : R) (volume new : Volume AnyPha
     pub at_first : AtFirst V
     at_first = let at = opened.states_are V in record { state = at.0; blocks = at.1; opens = at.2; stands = at.3; recent = at.4 }
 
-    pub is_opened : TellsTold rack → IsOpenedAs facts (rack.counts (rack_of volume)) source V at_first.state
-    is_opened law = record {
+    pub is_opened : IsOpenedAs told_now facts (rack.counts (rack_of volume)) source V at_first.state
+    is_opened = record {
       blocks = at_first.blocks;
-      opens = opens_less (known_first law V) opened.taken None (rack.counts before) at_first.state at_first.opens;
+      opens = opens_less (known_first V) opened.taken None (rack.counts before) at_first.state at_first.opens;
       table = ap (λ (s : State). s.table) at_first.stands.is ∙ opened.table;
       members = ap (λ (s : State). s.members) at_first.stands.is;
       counts = ap (λ (s : State). s.counts) at_first.stands.is;

@@ -1,5 +1,5 @@
 -- What a command on a saved array found, and what it did, told by the members and the counts of the rack.
-use Rattle.std.specs.Prelude.{◌≡◌, ◌⊎◌, ◌<◌, ◌≤◌, ◌/◌, ℕ, List, Option, Some, None, IsSome}
+use Rattle.std.specs.Prelude.{◌≡◌, ◌⊎◌, ◌<◌, ◌≤◌, ◌/◌, ℕ, List, Option, Some, None}
 use Rattle.dg_io.specs.Told.{IsSame, Told}
 use Rattle.dg_model.specs.Members.{MembersFall}
 use Rattle.dg_model.specs.Openings.{Found, HasNoState, IsSource, IsUnclean, MayBeGood, Opens}
@@ -44,9 +44,9 @@ abbrev pub had : Option (List ℕ) → Option (List ℕ) → Option (List ℕ)
 had before None = None
 had before (Some now) = before
 
--- each member of an array with these sites tells its bytes
-abbrev pub TellsArray : (ℕ → Option (List ℕ)) → Table → Type 0
-TellsArray bytes table = (q : ℕ) → q / 2 < table.shape.b → IsSome (bytes q)
+-- of each member of an array with these sites the rack tells the bytes as long as the member stands
+abbrev pub TellsArray : (ℕ → Type 0) → Table → Type 0
+TellsArray tells table = (q : ℕ) → q / 2 < table.shape.b → tells q
 
 -- each member behind those of an array with these sites has the bytes that it had, where it tells them
 abbrev pub OthersKept : Facts → Table → Type 0
@@ -74,50 +74,52 @@ pub record HasSource (facts : Facts) (opened : Counts) : Type 0 where
 abbrev pub IsHeld : (facts : Facts) (opened : Counts) → HasSource facts opened → List (List ℕ) → Type 0
 IsHeld facts opened source V = StandsFor source.saved.table source.first facts.images V
 
--- What is said of the array with these blocks is said of them where each of its members tells its bytes in the end, and the members held
--- these blocks before. Two of them may disagree, and then it is said of no blocks; all else stands.
-abbrev pub IsKnown : (facts : Facts) (opened : Counts) → HasSource facts opened → List (List ℕ) → Type 0
-IsKnown facts opened source V = TellsArray facts.bytes source.saved.table × IsHeld facts opened source V
+-- What is said of the array with these blocks is said of them where the rack still tells each of its members in the end (`tells`), of which
+-- some may have fallen by then, and the members held these blocks before. Two of them may disagree, and then it is said of no blocks; all
+-- else stands.
+abbrev pub IsKnown : (tells : ℕ → Type 0) (facts : Facts) (opened : Counts) → HasSource facts opened → List (List ℕ) → Type 0
+IsKnown tells facts opened source V = TellsArray tells source.saved.table × IsHeld facts opened source V
 
 -- The array was opened in this state, with these blocks and the sites of its source.
-pub record IsOpenedAs (facts : Facts) (opened : Counts) (source : HasSource facts opened) (V : List (List ℕ)) (state : State) : Type 0 where
+pub record IsOpenedAs (tells : ℕ → Type 0) (facts : Facts) (opened : Counts) (source : HasSource facts opened) (V : List (List ℕ)) (state : State) : Type 0 where
   pub blocks : state.blocks ≡ V
-  pub opens : Opens (IsKnown facts opened source V) source.taken None facts.before state
+  pub opens : Opens (IsKnown tells facts opened source V) source.taken None facts.before state
   pub table : state.table ≡ source.saved.table
   pub members : state.members ≡ source.members
   pub counts : state.counts ≡ opened
 
 -- With these blocks, the event was one step from the opened state, to one that has the counts of the rack; and where the blocks are known the
 -- members hold it.
-pub record RunsFrom (facts : Facts) (opened : Counts) (source : HasSource facts opened) (event : Event) (reply : Reply) (V : List (List ℕ)) : Type 0 where
+pub record RunsFrom (tells : ℕ → Type 0) (facts : Facts) (opened : Counts) (source : HasSource facts opened) (event : Event) (reply : Reply)
+    (V : List (List ℕ)) : Type 0 where
   pub state : State
-  pub is : IsOpenedAs facts opened source V state
+  pub is : IsOpenedAs tells facts opened source V state
   pub next : State
-  pub step : Step (IsKnown facts opened source V) state event reply next
+  pub step : Step (IsKnown tells facts opened source V) state event reply next
   pub counts : next.counts ≡ facts.now
-  pub holds : IsKnown facts opened source V → HoldsAll facts.bytes next
+  pub holds : IsKnown tells facts opened source V → HoldsAll facts.bytes next
 
 -- A saved array was opened, and the event was answered by this reply, whichever blocks it is said of. No count fell from then on, and the
 -- members behind the array's own have the bytes that they had.
-pub record HasRun (facts : Facts) (event : Event) (reply : Reply) : Type 0 where
+pub record HasRun (tells : ℕ → Type 0) (facts : Facts) (event : Event) (reply : Reply) : Type 0 where
   pub opened : Counts
   pub source : HasSource facts opened
   pub rise : CountsRise opened facts.now
   pub others : OthersKept facts source.saved.table
-  pub runs : (V : List (List ℕ)) → RunsFrom facts opened source event reply V
+  pub runs : (V : List (List ℕ)) → RunsFrom tells facts opened source event reply V
 
 -- With these blocks, the array was opened in a state of which this text tells, and the members hold it where the blocks are known.
-pub record ShowsFrom (facts : Facts) (source : HasSource facts facts.now) (text : List ℕ) (V : List (List ℕ)) : Type 0 where
+pub record ShowsFrom (tells : ℕ → Type 0) (facts : Facts) (source : HasSource facts facts.now) (text : List ℕ) (V : List (List ℕ)) : Type 0 where
   pub state : State
-  pub is : IsOpenedAs facts facts.now source V state
+  pub is : IsOpenedAs tells facts facts.now source V state
   pub text_is : text ≡ status_text state
-  pub holds : IsKnown facts facts.now source V → HoldsAll facts.bytes state
+  pub holds : IsKnown tells facts facts.now source V → HoldsAll facts.bytes state
 
 -- A saved array was opened, and this text tells of its state, whichever blocks that is said of. It has the sites that its source says, and
 -- its members; those behind them have the bytes that they had.
-pub record HasShown (facts : Facts) (text : List ℕ) : Type 0 where
+pub record HasShown (tells : ℕ → Type 0) (facts : Facts) (text : List ℕ) : Type 0 where
   pub source : HasSource facts facts.now
   pub phase : Phase
   pub others : OthersKept facts source.saved.table
   pub text_is : text ≡ array_text source.saved.table source.members phase
-  pub shows : (V : List (List ℕ)) → ShowsFrom facts source text V
+  pub shows : (V : List (List ℕ)) → ShowsFrom tells facts source text V

@@ -55,7 +55,7 @@ pub fn ls_saved<K: Sink, R: Rack + Drop>(
 ) -> Result<Ended<R>, NoMemory>
     requires path { is_path path.now ≡ true }
     ensures name { IfOk result (λ ended. R.name ended.rack ≡ R.name rack) }
-    ensures ends { IfOk result (λ ended. EndsLs (facts_of K.Sink R.Rack sink.old sink.new rack ended.rack) path.now ended.end) }
+    ensures ends { IfOk result (λ ended. EndsLs (R.tells ended.rack) (facts_of K.Sink R.Rack sink.old sink.new rack ended.rack) path.now ended.end) }
     ensures none { OnErr result (sink.new ≡ sink.old) }
     ensures write { IfOk result (λ ended. ended.end ≡ SavedEnd.WriteFault → Rose (K.faults sink.old) (K.faults sink.new)) }
     ensures kept { IfOk result (λ ended. ended.end ≢ SavedEnd.WriteFault → K.faults sink.new ≡ K.faults sink.old) }

@@ -17,7 +17,7 @@ pub fn show_status<K: Sink, R: Rack + Drop>(
     rack: R,
 ) -> Result<Ended<R>, NoMemory>
     ensures name { IfOk result (λ ended. R.name ended.rack ≡ R.name rack) }
-    ensures ends { IfOk result (λ ended. EndsStatus (facts_of K.Sink R.Rack sink.old sink.new rack ended.rack) ended.end) }
+    ensures ends { IfOk result (λ ended. EndsStatus (R.tells ended.rack) (facts_of K.Sink R.Rack sink.old sink.new rack ended.rack) ended.end) }
     ensures none { OnErr result (sink.new ≡ sink.old) }
     ensures write { IfOk result (λ ended. ended.end ≡ SavedEnd.WriteFault → Rose (K.faults sink.old) (K.faults sink.new)) }
     ensures kept { IfOk result (λ ended. ended.end ≢ SavedEnd.WriteFault → K.faults sink.new ≡ K.faults sink.old) }

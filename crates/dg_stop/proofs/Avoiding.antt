@@ -93,7 +93,7 @@ pub low_place : (b : Bool) → (if b then 512 else 0) ≤ 512
 low_place true = omega arith
 low_place false = omega arith
 
-other_places : (b s : Bool) → b ≢ s → ((if b then 512 else 0) + 512 ≤ (if s then 512 else 0)) ⊎ ((if s then 512 else 0) + 512 ≤ (if b then 512 else 0))
+pub other_places : (b s : Bool) → b ≢ s → ((if b then 512 else 0) + 512 ≤ (if s then 512 else 0)) ⊎ ((if s then 512 else 0) + 512 ≤ (if b then 512 else 0))
 other_places true true apart = absurd (apart refl)
 other_places false false apart = absurd (apart refl)
 other_places true false apart = inr (omega arith)

@@ -9,18 +9,18 @@ use Rattle.dg_stop.specs.Changes.{Completes, Spares}
 use Rattle.dg_stop.specs.Reopens.{KeptBy, Leads, Reopened, IsAttached, IsCommitted, IsLast}
 use Rattle.dg_stop.specs.Stops.{AreOfOne, BlanksLeaveRest}
 
-choose : (x q : ℕ) (b : Bool) → (x == q) ≡ b → (e : Option (List ℕ)) → x ≢ q → (if b then None else e) ≡ e
+pub choose : (x q : ℕ) (b : Bool) → (x == q) ≡ b → (e : Option (List ℕ)) → x ≢ q → (if b then None else e) ≡ e
 choose x q true is e apart = absurd (apart ((Decides-eqb x q).0 is))
 choose x q false is e apart = refl
 
-entry_else : (x q : ℕ) (e : Option (List ℕ)) → x ≢ q → (if x == q then None else e) ≡ e
+pub entry_else : (x q : ℕ) (e : Option (List ℕ)) → x ≢ q → (if x == q then None else e) ≡ e
 entry_else x q e apart = choose x q (x == q) refl e apart
 
-entry_own : (q : ℕ) (e : Option (List ℕ)) → ◌≡◌ {A = Option (List ℕ)} (if q == q then None else e) None
+pub entry_own : (q : ℕ) (e : Option (List ℕ)) → ◌≡◌ {A = Option (List ℕ)} (if q == q then None else e) None
 entry_own q e = ap (λ (b : Bool). if b then None else e) ((Decides-eqb q q).1 refl)
 
-module _ (c first q r : ℕ) (lead k : Header) (before after : ℕ → List ℕ) (last : IsLast before c) (leads : Leads before c first lead)
-    (kept : Kept) (had : Reopened before kept) (one : AreOfOne c lead kept.extra before)
+module _ (c q r : ℕ) (lead k : Header) (before after : ℕ → List ℕ) (last : IsLast before c)
+    (kept : Kept) (old : KeptBy before c lead kept) (one : AreOfOne c lead kept.extra before)
     (bare : (h : Header) → HasHeader q (after q) h → ⊥) (same : (x : ℕ) → x ≢ q → after x ≡ before x) (apart : r ≢ q) (other : IsCommitted before c r k) where
   not_q : (x : ℕ) (h : Header) → HasHeader x (after x) h → x ≢ q
   not_q x h has e = bare h (subst (λ (y : ℕ). HasHeader y (after y) h) e has)
@@ -28,10 +28,10 @@ module _ (c first q r : ℕ) (lead k : Header) (before after : ℕ → List ℕ)
   was : (x : ℕ) (h : Header) → HasHeader x (after x) h → HasHeader x (before x) h
   was x h has = subst (λ (l : List ℕ). HasHeader x l h) (same x (not_q x h has)) has
 
-  still : (x : ℕ) (h : Header) → x ≢ q → HasHeader x (before x) h → HasHeader x (after x) h
+  pub still : (x : ℕ) (h : Header) → x ≢ q → HasHeader x (before x) h → HasHeader x (after x) h
   still x h far has = subst (λ (l : List ℕ). HasHeader x l h) (sym (same x far)) has
 
-  next : IsLast after c
+  pub next : IsLast after c
   next = record {
     member = r;
     header = k;
@@ -47,24 +47,34 @@ module _ (c first q r : ℕ) (lead k : Header) (before after : ℕ → List ℕ)
     extra = one.count_is x h (was x h at.has) at.sequence;
   }
 
+  pub by_of : (new : Header) → new.room ≡ lead.room → new.extra ≡ lead.extra → KeptBy after c new (without q kept)
+  by_of new rooms counts = record {
+    attached = λ x h at.
+        let far = not_q x h at.has in
+        entry_else x q (kept.entries x) far ∙ old.attached x h (attached new x h at) ∙ ap (λ (l : List ℕ). Some (entry_of h l)) (sym (same x far));
+    others = λ x none. elim (same_or_not x q) [
+      | inl e ↦ subst (λ (z : ℕ). ◌≡◌ {A = Option (List ℕ)} (if z == q then None else kept.entries z) None) (sym e) (entry_own q (kept.entries q))
+      | inr far ↦ entry_else x q (kept.entries x) far ∙ old.others x (λ h at. none h (record {
+        has = still x h far at.has;
+        sequence = at.sequence;
+        room = at.room ∙ sym rooms;
+        extra = at.extra ∙ sym counts;
+      }))
+    ];
+    extra = λ x h at least. sym (one.bytes x h (was x h at.has) at.sequence) ∙ ap (extra_of h) (sym (same x (not_q x h at.has)));
+  }
+
   by : (y : ℕ) (new : Header) → Leads after c y new → KeptBy after c new (without q kept)
   by y new leads_new =
-      let old = had.last c first lead last leads in
-      record {
-        attached = λ x h at.
-            let far = not_q x h at.has in
-            entry_else x q (kept.entries x) far ∙ old.attached x h (attached new x h at) ∙ ap (λ (l : List ℕ). Some (entry_of h l)) (sym (same x far));
-        others = λ x none. elim (same_or_not x q) [
-          | inl e ↦ subst (λ (z : ℕ). ◌≡◌ {A = Option (List ℕ)} (if z == q then None else kept.entries z) None) (sym e) (entry_own q (kept.entries q))
-          | inr far ↦ entry_else x q (kept.entries x) far ∙ old.others x (λ h at. none h (record {
-            has = still x h far at.has;
-            sequence = at.sequence;
-            room = at.room ∙ sym (one.room_is y new (was y new leads_new.is.has) leads_new.is.sequence);
-            extra = at.extra ∙ sym (one.count_is y new (was y new leads_new.is.has) leads_new.is.sequence);
-          }))
-        ];
-        extra = λ x h at least. sym (one.bytes x h (was x h at.has) at.sequence) ∙ ap (extra_of h) (sym (same x (not_q x h at.has)));
-      }
+      let has = was y new leads_new.is.has in
+      by_of new (one.room_is y new has leads_new.is.sequence) (one.count_is y new has leads_new.is.sequence)
+
+  pub one_after : AreOfOne c lead kept.extra after
+  one_after = record {
+    room_is = λ x h has e. one.room_is x h (was x h has) e;
+    count_is = λ x h has e. one.count_is x h (was x h has) e;
+    bytes = λ x h has e. ap (extra_of h) (same x (not_q x h has)) ∙ one.bytes x h (was x h has) e;
+  }
 
   pub rest_kept : IsLast after c × Reopened after (without q kept)
   rest_kept = (
@@ -81,7 +91,7 @@ module _ (c first q r : ℕ) (lead k : Header) (before after : ℕ → List ℕ)
 
 pub blanks_leave_rest : BlanksLeaveRest
 blanks_leave_rest c first q r lead k before after last leads kept had one bare same apart other =
-    rest_kept c first q r lead k before after last leads kept had one bare same apart other
+    rest_kept c q r lead k before after last kept (had.last c first lead last leads) one bare same apart other
 
 -- ---- headers of one commit
 

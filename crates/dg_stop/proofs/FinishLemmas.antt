@@ -15,7 +15,7 @@ use Rattle.dg_stop.specs.Headers.{Header}
 use Rattle.dg_stop.specs.Commits.{PutsHeader, WritesHeader, as_committed}
 use Rattle.dg_stop.specs.Layouts.{header_place, table_size}
 use Rattle.dg_stop.specs.Phases.{Finished, FinishedBelow, IsOnServed, IsServed, LeavesOthers, Sized, flag_in, head_of, size_in, size_of}
-use Rattle.dg_stop.specs.declared.phases.Places.{Places}
+use Rattle.dg_stop.specs.declared.places.Places.{Places}
 
 module _ {S : Type 0} (rack : Ghosts S) (members : List Places) where
   pub finished_on : (s room : ℕ) (extra : List ℕ) (q : ℕ) (served serves later : Bool) (old mid new : S) → later ≡ serves

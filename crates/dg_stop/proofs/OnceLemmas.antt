@@ -11,7 +11,7 @@ use Rattle.dg_stop.proofs.Frames.{told_both_pages, told_same_pages}
 use Rattle.dg_stop.proofs.OneCommit.{all_or_some, lt_or, sized_passed}
 use Rattle.dg_stop.specs.Layouts.{table_size}
 use Rattle.dg_stop.specs.Phases.{FinishedBelow, IsFewer, IsServed, LeavesOnce, PassedBelow, Reaches, Sized, flag_in, size_in}
-use Rattle.dg_stop.specs.declared.phases.Places.{Places}
+use Rattle.dg_stop.specs.declared.places.Places.{Places}
 
 reach_rest : {S : Type 0} (rack : Ghosts S) (t q : ℕ) (served serves : Bool) (old mid : S) → serves ≡ served → (rack.counts mid).faults q ≡ (rack.counts old).faults q
     → Told IsSame (rack.bytes old q) (rack.bytes mid q) → Reaches rack t q served serves old mid

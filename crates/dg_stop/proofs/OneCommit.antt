@@ -16,7 +16,7 @@ use Rattle.dg_stop.specs.Commits.{AreBelow, AreGuarded, ArePrepared, HasNone, Is
 use Rattle.dg_stop.specs.Phases.{FinishedBelow, KeepsOrCommits, LeavesKept, PassedBelow, Sized, StandsAfter, TellsAll, all_kept, bits_in, bytes_or, flag_in, head_of, size_in, known_at, view_of}
 use Rattle.dg_stop.specs.Reopens.{IsCommitted, Reopened}
 use Rattle.dg_stop.specs.Stops.{AreOfOne, HasLanded, IsStopped, NamedOrNone, entry_by, new_kept}
-use Rattle.dg_stop.specs.declared.phases.Places.{Places}
+use Rattle.dg_stop.specs.declared.places.Places.{Places}
 
 pub told_both : (f : List ℕ → List ℕ → Type 0) (x y : Option (List ℕ)) → Told f x y → IsSome y → f (bytes_or x) (bytes_or y)
 told_both f x None h is = absurd (false≢true is)

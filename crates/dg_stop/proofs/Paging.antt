@@ -12,11 +12,11 @@ use Rattle.dg_stop.proofs.Ranges.{patch_at, patch_torn, torn_at}
 use Rattle.dg_stop.specs.Layouts.{page_place, seen, spot}
 use Rattle.dg_stop.specs.Pages.{PagesArePatched, moved}
 
-at_seen : (t size : ℕ) (places : ℕ → Bool) (all : List ℕ) (o : ℕ) → o < size → slice_index (seen t places size all) o ≡ slice_index all (spot t places o)
+pub at_seen : (t size : ℕ) (places : ℕ → Bool) (all : List ℕ) (o : ℕ) → o < size → slice_index (seen t places size all) o ≡ slice_index all (spot t places o)
 unfolding seen
 at_seen t size places all o low = get_or-map-range_with_len (λ (x : ℕ). slice_index all (spot t places x)) 0 size o o 0 low (omega arith)
 
-size_seen : (t size : ℕ) (places : ℕ → Bool) (all : List ℕ) → length (seen t places size all) ≡ size
+pub size_seen : (t size : ℕ) (places : ℕ → Bool) (all : List ℕ) → length (seen t places size all) ≡ size
 unfolding seen
 size_seen t size places all = length-map-range_with_len (λ (x : ℕ). slice_index all (spot t places x)) 0 size
 

@@ -16,7 +16,7 @@ use Rattle.dg_stop.specs.Layouts.{SamePages, bit_in, double_size, seen, table_si
 use Rattle.dg_stop.specs.Commits.{AreBelow, IsNamed, IsNamedOrNone, IsOpenTo, IsPlaced, Prepares}
 use Rattle.dg_stop.specs.Serving.{Serves}
 use Rattle.dg_stop.specs.Phases.{IsOnServed, IsServed, LeavesOthers, Reaches, Sized, SoFar, PassedBelow, bits_in, bits_of_held, flag_in, size_in, size_of}
-use Rattle.dg_stop.specs.declared.phases.Places.{Places}
+use Rattle.dg_stop.specs.declared.places.Places.{Places}
 
 pub told_right : (f : List ℕ → List ℕ → Type 0) (x y z : Option (List ℕ)) → Told f x y → Told IsSame y z → Told f x z
 told_right f x y None p q = tt

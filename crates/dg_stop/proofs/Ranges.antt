@@ -47,16 +47,16 @@ module _ (all : List ℕ) (place : ℕ) (piece : List ℕ) (within : place + len
   front_size : length (take place all) ≡ place
   front_size = simp length-take (omega arith)
 
-  parts : patch all place piece ≡ take place all ++ (piece ++ drop (place + length piece) all)
+  pub parts : patch all place piece ≡ take place all ++ (piece ++ drop (place + length piece) all)
   parts = append_assoc (take place all) piece (drop (place + length piece) all)
 
   from_place : drop place (patch all place piece) ≡ piece ++ drop (place + length piece) all
   from_place = ap (λ (l : List ℕ). drop place l) parts ∙ drop_at (take place all) (piece ++ drop (place + length piece) all) place front_size
 
-  patch-front : take place (patch all place piece) ≡ take place all
+  pub patch-front : take place (patch all place piece) ≡ take place all
   patch-front = ap (λ (l : List ℕ). take place l) parts ∙ take_at (take place all) (piece ++ drop (place + length piece) all) place front_size
 
-  patch-back : drop (place + length piece) (patch all place piece) ≡ drop (place + length piece) all
+  pub patch-back : drop (place + length piece) (patch all place piece) ≡ drop (place + length piece) all
   patch-back =
       sym (drop-drop (length piece) place (patch all place piece))
       ∙ ap (λ (l : List ℕ). drop (length piece) l) from_place

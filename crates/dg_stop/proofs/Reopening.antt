@@ -6,7 +6,7 @@ use Rattle.dg_stop.specs.Headers.{Header, HasHeader}
 use Rattle.dg_stop.specs.Reopens.{Reopened, IsLast, Leads, KeptBy, IsAttached, IsCommitted, NoneCommitted}
 use Rattle.dg_stop.specs.Changes.{Spares, Completes, Names}
 
-committed_on : (c : ℕ) (before after : ℕ → List ℕ) → Spares c before after → (q : ℕ) (h : Header) → IsCommitted before c q h → IsCommitted after c q h
+pub committed_on : (c : ℕ) (before after : ℕ → List ℕ) → Spares c before after → (q : ℕ) (h : Header) → IsCommitted before c q h → IsCommitted after c q h
 committed_on c before after s q h is = record { has = s.on q h is.has is.sequence; sequence = is.sequence; mark = is.mark }
 
 committed_back : (c : ℕ) (before after : ℕ → List ℕ) → Spares c before after → (q : ℕ) (h : Header) → IsCommitted after c q h → IsCommitted before c q h
@@ -20,7 +20,7 @@ spares_last c before after s last = record {
   most = λ q h has mark. last.most q h (s.committed q h has mark) mark;
 }
 
-same_last : (c : ℕ) (before after : ℕ → List ℕ) → Spares c before after → IsLast before c → (d : ℕ) → IsLast after d → d ≡ c
+pub same_last : (c : ℕ) (before after : ℕ → List ℕ) → Spares c before after → IsLast before c → (d : ℕ) → IsLast after d → d ≡ c
 same_last c before after s last d next =
     let up : d ≤ c = omega (arith, last.most next.member next.header (s.committed next.member next.header next.is.has next.is.mark) next.is.mark, next.is.sequence) in
     let now = committed_on c before after s last.member last.header last.is in
@@ -35,7 +35,7 @@ attached_back : (c : ℕ) (before after : ℕ → List ℕ) → Spares c before 
     → IsAttached after c lead q h → IsAttached before c lead q h
 attached_back c before after s lead q h is = record { has = s.back q h is.has is.sequence; sequence = is.sequence; room = is.room; extra = is.extra }
 
-kept_on : (c : ℕ) (before after : ℕ → List ℕ) → Spares c before after → (lead : Header) (kept : Kept) → KeptBy before c lead kept → KeptBy after c lead kept
+pub kept_on : (c : ℕ) (before after : ℕ → List ℕ) → Spares c before after → (lead : Header) (kept : Kept) → KeptBy before c lead kept → KeptBy after c lead kept
 kept_on c before after s lead kept by = record {
   attached = λ q h is.
       let was = attached_back c before after s lead q h is in

@@ -18,7 +18,7 @@ use Rattle.dg_stop.specs.Phases.{IsFewer, IsServed, LeavesKept, LeavesOnce, Leav
 use Rattle.dg_stop.specs.Reopens.{Reopened}
 use Rattle.dg_stop.specs.Stops.{AreOfOne}
 use Rattle.dg_stop.specs.Tries.{IsCommitOf, TriesKeep, TriesSpare, count_in}
-use Rattle.dg_stop.specs.declared.phases.Places.{Places}
+use Rattle.dg_stop.specs.declared.places.Places.{Places}
 
 -- ---- how many serve
 

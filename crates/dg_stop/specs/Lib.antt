@@ -1,11 +1,16 @@
+pub mod Anchors
 pub mod Changes
 pub mod Commits
+pub mod DoubleLaws
+pub mod Doubles
 pub mod Headers
 pub mod Layouts
 pub mod Pages
 pub mod Phases
 pub mod Reopens
 pub mod Serving
+pub mod StopLaws
+pub mod StopRacks
 pub mod Stops
 pub mod Tries
 pub mod Values

@@ -12,7 +12,7 @@ use Rattle.dg_stop.specs.Layouts.{SamePages, bit_in, bits_of, double_size, seen,
 use Rattle.dg_stop.specs.Reopens.{Reopened}
 use Rattle.dg_stop.specs.Commits.{AreBelow, AreGuarded, IsFresh, IsNamed, IsNamedOrNone, IsOpenTo, IsPlaced, Prepares, PutsHeader, WritesHeader, as_committed}
 use Rattle.dg_stop.specs.Stops.{AreOfOne}
-use Rattle.dg_stop.specs.declared.phases.Places.{Places}
+use Rattle.dg_stop.specs.declared.places.Places.{Places}
 
 abbrev pub flag_in : List Bool → ℕ → Bool
 flag_in flags q = slice_index_or flags q false

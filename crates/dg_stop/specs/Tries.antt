@@ -8,7 +8,7 @@ use Rattle.dg_stop.specs.Layouts.{bit_in}
 use Rattle.dg_stop.specs.Phases.{StandsAfter, TellsAll, all_kept, bits_in, flag_in, known_at, size_in}
 use Rattle.dg_stop.specs.Reopens.{Reopened}
 use Rattle.dg_stop.specs.Stops.{AreOfOne}
-use Rattle.dg_stop.specs.declared.phases.Places.{Places}
+use Rattle.dg_stop.specs.declared.places.Places.{Places}
 
 -- how many members serve
 abbrev pub count_in : List Bool → ℕ

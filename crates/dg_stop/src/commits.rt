@@ -9,15 +9,8 @@ ghost use Rattle.dg_stop.specs.Serving.{IsOn, Serves};
 ghost use Rattle.dg_stop.specs.Values.{header_of};
 
 use crate::headers::{Header, PAGE, write_header};
+use crate::places::bits_len;
 use dg_io::{Failed, Rack};
-
-/// Bytes of the bits of a table.
-pub fn bits_len(size: u64) -> u64
-    requires { size < 2 ^ 48 }
-    ensures { result ≡ bits_of size }
-{
-    ((size + 511) / 512 + 7) / 8
-}
 
 /// Bytes of a table.
 pub fn table_len(size: u64, room: u32) -> u64

@@ -3,18 +3,30 @@
 #![tactic(auto)]
 
 mod commits;
+mod doubles;
+mod flags;
 mod headers;
 mod laws;
+mod member_calls;
+mod memories;
+mod new_memories;
+mod page_calls;
 mod pages;
 mod phases;
+mod places;
+mod stop_racks;
+mod tallies;
 mod tries;
 
 pub use commits::table_len;
+pub use doubles::DoubleRack;
 pub use headers::{Header, fill_header, write_header};
 pub use laws::{
     blanks_leave_rest, openings_leave_kept, pages_are_patched, stops_leave_old_or_new,
     writes_leave_kept,
 };
 pub use pages::write_part;
-pub use phases::{MEMBERS, Places, commit_once, next_after};
+pub use phases::{MEMBERS, commit_once, next_after};
+pub use places::Places;
+pub use stop_racks::StopRack;
 pub use tries::commit_all;

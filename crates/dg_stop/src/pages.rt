@@ -37,6 +37,7 @@ fn put_part<R: Rack>(
     ensures made { Makes R.Rack (IsOn number) rack.old rack.new }
     ensures serves { Serves R.Rack number result rack.old rack.new }
     ensures torn { Told (Torn (page_place table page second) 512) (R.bytes rack.old number) (R.bytes rack.new number) }
+    ensures part { Told (Torn (page_place table page second + k) (length piece.now)) (R.bytes rack.old number) (R.bytes rack.new number) }
     ensures done { OnOk result (Told (Patched (page_place table page second + k) piece.now) (R.bytes rack.old number) (R.bytes rack.new number)) }
 {
     let place = place_of_page(table, page, second) + k;
@@ -71,6 +72,7 @@ pub fn write_part<R: Rack>(
     ensures made { Makes R.Rack (IsOn number) rack.old rack.new }
     ensures serves { Serves R.Rack number result rack.old rack.new }
     ensures torn { Told (Torn (page_place table page second) 512) (R.bytes rack.old number) (R.bytes rack.new number) }
+    ensures part { stands ≡ second → Told (Torn (page_place table page second + k) (length piece.now)) (R.bytes rack.old number) (R.bytes rack.new number) }
     ensures done { OnOk result (Told (PutsPart table page stands second k piece.now) (R.bytes rack.old number) (R.bytes rack.new number)) }
 {
     if stands == second || piece.len() == PAGE {

@@ -5,16 +5,8 @@ ghost use Rattle.dg_stop.specs.Phases.{IsOnServed, CanPrepare, Finished, Finishe
 
 use crate::commits::prepare;
 use crate::headers::{Header, write_header};
+use crate::places::Places;
 use dg_io::Rack;
-
-/// What is kept in memory of where a member's pages stand.
-#[derive(Drop)]
-pub struct Places {
-    /// Its bytes.
-    pub size: u64,
-    /// A bit for each page: whether it stands in its second place.
-    pub bits: Vec<u8>,
-}
 
 /// The most members.
 pub const MEMBERS: usize = 32;

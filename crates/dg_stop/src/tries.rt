@@ -4,7 +4,8 @@ ghost use Rattle.std.specs.List.{Contains};
 ghost use Rattle.dg_stop.specs.Phases.{LeavesTries, Sized, flag_in};
 ghost use Rattle.dg_stop.specs.Tries.{TriesKeep};
 
-use crate::phases::{MEMBERS, Places, commit_once, next_after};
+use crate::phases::{MEMBERS, commit_once, next_after};
+use crate::places::Places;
 use dg_io::Rack;
 
 /// Whether some member serves.

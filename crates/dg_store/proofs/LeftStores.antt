@@ -127,14 +127,15 @@ weaker small large None less long = tt
 weaker small large (Some all) less long = omega (arith, less, long)
 
 module _ {R : Type 0} (rack : Ghosts R) (told : (s : R) (q : ℕ) → rack.tells s q → rack.stands s q ≡ true → IsSome (rack.bytes s q)) where
-  pub reduced_is : (boundaries : R → ℕ) (old new : Store R) → IsSound rack old → old.map.shape.b ≤ boundaries old.rack
+  pub reduced_is : (boundaries : R → ℕ) (dropped : R → ℕ → R → Type 0) (old new : Store R) → IsSound rack old → old.map.shape.b ≤ boundaries old.rack
       → new.map ≡ reduced old → IsTable new.map → length new.block.items ≡ length old.block.items → new.given_up.items ≡ old.given_up.items
       → length new.row.items ≡ length (left_in old) → RowStands old.map.shape.l (old.map.shape.k + 1) new.row.items
       → ((q : ℕ) → members_in new.row.items q ≡ members_left (left_in old) (members_in old.row.items) q)
       → LeavesLeft rack (places_left (lost_bits (members_in old.row.items) old.map.shape.b) (boundaries old.rack)) old.rack new.rack
+      → dropped old.rack (lost_bits (members_in old.row.items) old.map.shape.b) new.rack
       → boundaries new.rack ≡ length (places_left (lost_bits (members_in old.row.items) old.map.shape.b) (boundaries old.rack))
-      → IsReduced rack boundaries old new
-  reduced_is boundaries old new sound wide table is_table block given_up count stands members leaves rest =
+      → IsReduced rack boundaries dropped old new
+  reduced_is boundaries dropped old new sound wide table is_table block given_up count stands members leaves below rest =
       let mine = leaves_front rack (places_left (lost_bits (members_in old.row.items) old.map.shape.b) (boundaries old.rack)) (left_in old)
       (rack_front old.map.shape (members_in old.row.items) (boundaries old.rack) wide) old.rack new.rack leaves in
       let good : (q : ℕ) → members_in new.row.items q ≢ Out → (q / 2 < length (left_in old)) × (members_in old.row.items (member_before (left_in old) q) ≡ Good) =
@@ -159,6 +160,7 @@ module _ {R : Type 0} (rack : Ghosts R) (told : (s : R) (q : ℕ) → rack.tells
         leaves = mine;
         rest = (let fewer : new.map.shape.b ≡ length (left_in old) = ap (λ (t : Table). t.shape.b) table in
             omega (arith, rest, fewer, rack_rest old.map.shape (members_in old.row.items) (boundaries old.rack) wide));
+        below = below;
         blocks = λ V st. subst (λ (t : Table). StandsFor t (members_in new.row.items) (rack.bytes new.rack) (blocks_left old.map (members_in old.row.items) V)) (sym table)
             (blocks_stand old.map (members_in old.row.items) (members_in new.row.items) (rack.bytes old.rack) (rack.bytes new.rack) sound.table members mine.bytes V st);
       }

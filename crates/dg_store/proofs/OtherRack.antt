@@ -1,9 +1,9 @@
 -- A store whose rack is another one, in which its members have the bytes that they had, where it tells them.
-use Rattle.std.proofs.Common.{◌≡◌, ◌≢◌, ◌⊎◌, inl, inr, ℕ, ◌*◌, ◌≤◌, Bool, true, false, List, length, refl, sym, ◌∙◌, ap, subst}
+use Rattle.std.proofs.Common.{◌≡◌, ◌≢◌, ◌⊎◌, inl, inr, ℕ, ◌≤◌, Bool, true, false, List, length, refl, sym, ◌∙◌, ap, subst}
 use Rattle.std.specs.Prelude.{Option, Some, None, IfSome, IsSome}
-use Rattle.std.proofs.lemmas.Bool.{cases_eq, false≢true}
+use Rattle.std.proofs.lemmas.Bool.{false≢true}
 use Rattle.dg_io.specs.Commits.{fell_in, is_marked, LeavesCommit}
-use Rattle.dg_io.specs.DiskAnswers.{LeavesMembers, OneDisk, is_group_lost}
+use Rattle.dg_io.specs.DiskAnswers.{LeavesMembers, OneDisk}
 use Rattle.dg_io.specs.Told.{Told, IsSame}
 use Rattle.dg_io.specs.declared.checkpoints.CommitAnswer.{CommitAnswer}
 use Rattle.dg_io.specs.declared.outside.Rack.{Ghosts}
@@ -13,17 +13,13 @@ use Rattle.dg_model.specs.declared.members.MemberState.TheVariants.{Out}
 use Rattle.dg_model.specs.declared.shapes.Shape.{Shape}
 use Rattle.dg_pair.specs.Boundaries.{MembersStand}
 use Rattle.dg_store.specs.Commits.{CommitLeaves}
-use Rattle.dg_store.specs.DiskCalls.{DiskLeaves, IsUntold}
+use Rattle.dg_store.specs.DiskCalls.{DiskLeaves}
 use Rattle.dg_store.specs.Rows.{AreLong, members_in}
 use Rattle.dg_store.specs.Slots.{KeepsSlots}
 use Rattle.dg_store.specs.Stores.{IsSound, IsWhole, KeepsBlocks}
 use Rattle.dg_store.specs.declared.store.Store.{Store}
 use Rattle.dg_store.proofs.Blocks.{stands_kept}
 use Rattle.dg_store.proofs.Sound.{sound_of, whole_of}
-
-told_same : (o : Option (List ℕ)) → Told IsSame o o
-told_same None = tt
-told_same (Some all) = refl
 
 still_long : (size : ℕ) (old new : Option (List ℕ)) → Told IsSame old new → IfSome old (λ all. size ≤ length all) → IfSome new (λ all. size ≤ length all)
 still_long size old None same long = tt
@@ -90,28 +86,7 @@ module _ {R : Type 0} (rack : Ghosts R) (told : (s : R) (q : ℕ) → rack.tells
 
   -- ---- a call on a disk
 
-  same_disk : (n s : ℕ) → LeavesMembers rack n s store.rack r → IsUntold rack n s (record store { rack = r }) → AreSame (members_in store.row.items) (rack.bytes store.rack) (rack.bytes r)
-  same_disk n s leaves untold q called = elim (cases_eq q (2 * s)) [
-    | inr other ↦ leaves.others q other
-    | inl own ↦ subst (λ (p : ℕ). Told IsSame (rack.bytes store.rack p) (rack.bytes r p)) (sym own) (elim (true_or_false (is_group_lost n (rack.disks r).out s)) [
-      | inr served ↦ leaves.own served
-      | inl lost ↦ elim (untold lost) [
-        | inl out ↦ absurd (called (ap (members_in store.row.items) own ∙ out))
-        | inr none ↦ subst (λ (o : Option (List ℕ)). Told IsSame (rack.bytes store.rack (2 * s)) o) (sym none) tt
-      ]
-    ])
-  ]
-
-  same_by : (width : Option ℕ) (s : ℕ) → (width ≡ None → r ≡ store.rack) → IfSome width (λ n. LeavesMembers rack n s store.rack r) → IfSome width (λ n. IsUntold rack n s (record store { rack = r }))
-      → AreSame (members_in store.row.items) (rack.bytes store.rack) (rack.bytes r)
-  same_by None s idle leaves untold q called = subst (λ (x : R). Told IsSame (rack.bytes store.rack q) (rack.bytes x q)) (sym (idle refl)) (told_same (rack.bytes store.rack q))
-  same_by (Some n) s idle leaves untold q called = same_disk n s leaves untold q called
-
-  stands_by : (width : Option ℕ) (s : ℕ) → (width ≡ None → r ≡ store.rack) → IfSome width (λ n. LeavesMembers rack n s store.rack r) → (q : ℕ) → rack.stands r q ≡ rack.stands store.rack q
-  stands_by None s idle leaves q = ap (λ (x : R). rack.stands x q) (idle refl)
-  stands_by (Some n) s idle leaves q = leaves.stand q
-
-  pub disk_leaves : (width : R → Option ℕ) (groups : R → ℕ) (s j : ℕ) → OneDisk s j (rack.disks store.rack) (rack.disks r) → IfSome (width store.rack) (λ n. LeavesMembers rack n s store.rack r)
+  pub disk_leaves : (width : R → Option ℕ) (groups : R → ℕ) (s j : ℕ) → OneDisk s j (rack.disks store.rack) (rack.disks r) → LeavesMembers rack store.rack r
       → width r ≡ width store.rack → groups r ≡ groups store.rack → (width store.rack ≡ None → r ≡ store.rack) → DiskLeaves rack width groups s j store (record store { rack = r })
   disk_leaves width groups s j disks leaves width_is groups_is idle = record {
     table = refl;
@@ -121,7 +96,7 @@ module _ {R : Type 0} (rack : Ghosts R) (told : (s : R) (q : ℕ) → rack.tells
     width_is = width_is;
     groups_is = groups_is;
     idle = λ none. ap (λ (x : R). record store { rack = x }) (idle none);
-    whole = λ w untold. whole_with (same_by (width store.rack) s idle leaves untold) w;
-    sound = λ sound untold. sound_with (same_by (width store.rack) s idle leaves untold) (λ q called. stands_by (width store.rack) s idle leaves q ∙ sound.stand q called) sound;
-    blocks = λ untold. blocks_with (same_by (width store.rack) s idle leaves untold);
+    whole = whole_with (λ q called. leaves.same q);
+    sound = λ sound. sound_with (λ q called. leaves.same q) (λ q called. leaves.stand q ∙ sound.stand q called) sound;
+    blocks = blocks_with (λ q called. leaves.same q);
   }

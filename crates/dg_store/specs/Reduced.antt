@@ -15,7 +15,7 @@ use Rattle.dg_pair.specs.Boundaries.{members_of as boundary_members, number_of, 
 use Rattle.dg_pair.specs.Calls.{IsPair}
 use Rattle.dg_pair.specs.declared.boundaries.Boundary.{Boundary}
 use Rattle.dg_store.specs.Rows.{members_in}
-use Rattle.dg_store.specs.Stores.{IsSound, StandsFor, members_of, rack_of, shape_of, table_of}
+use Rattle.dg_store.specs.Stores.{IsSound, StandsFor, lost_bits, members_of, rack_of, shape_of, table_of}
 use Rattle.dg_store.specs.declared.store.Store.{Store}
 
 -- the old places of the boundaries that aren't lost
@@ -53,8 +53,9 @@ pub record IsKept (l slots : ℕ) (was now : List Boundary) (n kept : ℕ) : Typ
   pub done : (i : ℕ) (x : Boundary) → i < kept → slice_get now i ≡ Some x → IsGoodOf l slots was (slice_index (live_upto was n) i) i x
   pub rest : (i : ℕ) → kept ≤ i → slice_get now i ≡ slice_get was i
 
--- What is left of a store without its lost boundaries. `boundaries` is how many boundaries the rack has, which may be more than the array's.
-pub record IsReduced {R : Type 0} (rack : Ghosts R) (boundaries : R → ℕ) (old new : Store R) : Type 0 where
+-- What is left of a store without its lost boundaries. `boundaries` is how many boundaries the rack has, which may be more than the array's,
+-- and `dropped` what may have become of what stands beneath the rack.
+pub record IsReduced {R : Type 0} (rack : Ghosts R) (boundaries : R → ℕ) (dropped : R → ℕ → R → Type 0) (old new : Store R) : Type 0 where
   pub sound : IsSound rack new
   pub table : table_of new ≡ reduced old
   pub members : (q : ℕ) → members_of new q ≡ members_left (left_in old) (members_of old) q
@@ -63,5 +64,6 @@ pub record IsReduced {R : Type 0} (rack : Ghosts R) (boundaries : R → ℕ) (ol
   -- it is the same rack under the new places, and no call was made of it
   pub leaves : LeavesLeft rack (left_in old) (rack_of old) (rack_of new)
   pub rest : boundaries (rack_of new) + (shape_of old).b ≡ boundaries (rack_of old) + (shape_of new).b
+  pub below : dropped (rack_of old) (lost_bits (members_of old) (shape_of old).b) (rack_of new)
   -- the blocks that it stands for
   pub blocks : (V : List (List ℕ)) → StandsFor rack old V → StandsFor rack new (blocks_left (table_of old) (members_of old) V)

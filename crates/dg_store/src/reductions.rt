@@ -26,7 +26,7 @@ impl<R: Reduces> Store<R> {
         requires boundaries { (shape_of self.old).b ≤ R.boundaries (rack_of self.old) }
         requires map { map ≡ reduced self.old }
         requires table { IsTable map }
-        ensures { IsReduced R.Rack R.boundaries self.old self.new }
+        ensures { IsReduced R.Rack R.boundaries R.dropped self.old self.new }
     {
         let lost = self.lost();
         keep_live(&mut self.row, self.map.shape());

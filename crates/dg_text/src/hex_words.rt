@@ -49,20 +49,21 @@ pub fn read_hex(alloc: Global, word: &[u8], most: usize) -> Result<Option<Bytes>
     Ok(Some(Bytes::new(bytes)))
 }
 
-// Puts the bytes that pairs of digits spell into their places, in one pass. Where not all are digits in lower case, the
-// answer is no, and what stands in the places is of no use.
+// Puts the bytes that pairs of digits spell into their places, in one pass without a branch. Where not all are digits in lower
+// case, the answer is no, and what stands in the places is of no use.
 fn decode(word: &[u8], bytes: &mut [u8]) -> bool
     requires { length word.now ≡ 2 * length bytes.old }
     ensures found { IsTrue result → (word.now ≡ encode_lower bytes.new) × AreBytes bytes.new }
     ensures none { result ≡ false → (spelled : List ℕ) → AreBytes spelled → word.now ≡ encode_lower spelled → ⊥ }
 {
+    let mut values = 0;
     for i in 0..bytes.len() {
-        let Some(byte) = byte_of(word[2 * i], word[2 * i + 1]) else {
-            return false;
-        };
-        bytes[i] = byte;
+        let first = value_of(word[2 * i]);
+        let second = value_of(word[2 * i + 1]);
+        values |= first | second;
+        bytes[i] = first.wrapping_mul(16).wrapping_add(second);
     }
-    true
+    values < 16
 }
 
 /// The byte that two hex digits in lower case spell.

@@ -1,8 +1,8 @@
 -- An image has one answer.
-use Rattle.std.proofs.Common.{◌≡◌, ◌<◌, ◌≤◌, ◌*◌, ℕ, List, length, refl, sym, ◌∙◌, ap, subst, inl, inr, arith}
+use Rattle.std.proofs.Common.{◌≡◌, ◌<◌, ◌*◌, ℕ, List, length, refl, ap, subst, inl, inr, arith}
 use Rattle.std.specs.Prelude.{Result, Ok, Err}
 use Rattle.dg_model.specs.Shapes.{IsShape}
-use Rattle.dg_trace.specs.Answers.{HasVolume, HasWhole, IsAccepted, IsAnswer, IsInSize, IsRefused}
+use Rattle.dg_trace.specs.Answers.{HasWhole, IsAccepted, IsAnswer, IsRefused}
 use Rattle.dg_trace.specs.Volumes.{shape_for, volume_on}
 use Rattle.dg_trace.specs.declared.asked.Asked.{Asked}
 use Rattle.dg_trace.specs.declared.asked.TraceRefusal.{TraceRefusal}

@@ -1,12 +1,12 @@
 -- How a trace ends.
-use Rattle.std.proofs.Common.{◌≡◌, ℕ, List, [], ◌++◌, refl, sym, ◌∙◌, ap, subst, inl, inr}
+use Rattle.std.proofs.Common.{◌≡◌, ℕ, List, refl, ◌∙◌, ap, subst, inr}
 use Rattle.std.specs.Prelude.{Option, Result, Ok, Err}
 use Rattle.dg_io.specs.Told.{Told, Took, TookPart}
 use Rattle.dg_text.specs.Lines.{AreBytes, input_of}
 use Rattle.dg_model.specs.declared.shapes.Shape.{Shape}
 use Rattle.dg_trace.specs.Answers.{IsAccepted, IsRefused, events_of, refusal_text, volume_bytes}
 use Rattle.dg_trace.specs.Calls.{Facts}
-use Rattle.dg_trace.specs.Ends.{Answered, Ends, EndsImage}
+use Rattle.dg_trace.specs.Ends.{Ends, EndsImage}
 use Rattle.dg_trace.specs.Images.{GaveImage}
 use Rattle.dg_trace.specs.Traces.{trace_events}
 use Rattle.dg_trace.specs.Volumes.{shape_for}

@@ -1,11 +1,9 @@
 -- The events of a trace are in their places.
-use Rattle.std.proofs.Common.{◌≡◌, ◌<◌, ◌≤◌, ◌*◌, ◌+◌, ◌^◌, ℕ, List, [], ◌∷◌, length, take, drop, refl, sym, ◌∙◌, ap, subst, arith}
-use Rattle.std.specs.Prelude.{All, Some, map}
+use Rattle.std.proofs.Common.{◌≡◌, ◌<◌, ◌≤◌, ◌*◌, ◌^◌, ℕ, List, length, drop, arith}
+use Rattle.std.specs.Prelude.{Some}
 use Rattle.std.proofs.lemmas.List.{length-take-le}
 use Rattle.std.proofs.lemmas.List.Elements.{All-drop, All-map, All-take, All-weaker}
 use Rattle.dg_model.specs.Blocks.{stripped}
-use Rattle.dg_model.specs.declared.events.Event.{Event}
-use Rattle.dg_model.specs.declared.shapes.Shape.{Shape}
 use Rattle.dg_text.specs.Lines.{AreBytes, AreInPlace, IsInPlace}
 use Rattle.dg_trace.specs.Answers.{IsAccepted, events_of, volume_bytes}
 use Rattle.dg_trace.specs.Traces.{write_of}

@@ -1,17 +1,17 @@
 -- A trace that is replayed without a fault.
-use Rattle.std.proofs.Common.{◌≡◌, ◌<◌, ◌≤◌, ◌+◌, ◌*◌, ◌/◌, ◌&&◌, ℕ, Bool, true, false, List, [], ◌∷◌, length, refl, sym, ◌∙◌, ap, subst, inl, inr, arith}
-use Rattle.std.specs.Prelude.{◌⊎◌, All, cond, map, nat_lt, replicate, slice_set}
+use Rattle.std.proofs.Common.{◌≡◌, ◌<◌, ◌*◌, ◌/◌, ◌&&◌, ℕ, Bool, true, false, List, [], ◌∷◌, length, refl, sym, ◌∙◌, ap, subst, inl, inr, arith}
+use Rattle.std.specs.Prelude.{All, cond, map, nat_lt, slice_set}
 use Rattle.std.proofs.lemmas.Bool.{false≢true, cases_Bool, cases_eq, and_left, lt-ltb, le-ltb, cases_lt}
 use Rattle.std.proofs.lemmas.List.{length-set, length-replicate, get_or-replicate, get_or-set_same, get_or-set_other}
 use Rattle.std.proofs.lemmas.List.Elements.{All-cons, All-head, All-nil, All-tail}
 use Rattle.dg_model.proofs.FirstSites.{AreBelow, IsInside, empty_inside, sited_inside}
-use Rattle.dg_model.proofs.MemberLaws.{none_back, none_front, none_lost, stays_where_none, whole_from}
+use Rattle.dg_model.proofs.MemberLaws.{none_back, none_front, stays_where_none, whole_from}
 use Rattle.dg_model.proofs.RunLaws.{run_more, run_none, trace_more}
 use Rattle.dg_model.proofs.StepLaws.{StayInUse, run_keeps, step_keeps}
 use Rattle.dg_model.specs.Blocks.{block_in, padded, stripped, zeros}
 use Rattle.dg_model.specs.Causes.{NoneRose}
-use Rattle.dg_model.specs.Changes.{LosesSites, Stays, Writes}
-use Rattle.dg_model.specs.Members.{MembersFall, is_filling, is_good, is_lost}
+use Rattle.dg_model.specs.Changes.{LosesSites, Writes}
+use Rattle.dg_model.specs.Members.{MembersFall, is_filling, is_lost}
 use Rattle.dg_model.specs.Runs.{Run, Trace}
 use Rattle.dg_model.specs.Sites.{all_lost, has_site}
 use Rattle.dg_model.specs.States.{Counts, IsBlank, State, has_lost, is_broken}

@@ -1,11 +1,12 @@
 // The image, read from a source.
-ghost use Rattle.std.specs.Prelude.{◌≡◌, ◌+◌, ◌<◌, ◌≤◌, [], length, slice_range, IfOk, OnErr};
+ghost use Rattle.std.specs.Prelude.{◌≡◌, ◌+◌, ◌<◌, ◌≤◌, ◌++◌, [], length, slice_range, IfOk, OnErr, OnOk};
 ghost use Rattle.dg_io.specs.Faults.{HasCause};
 ghost use Rattle.dg_io.specs.Told.{Gave, IsSame, Told};
 ghost use Rattle.dg_model.specs.Causes.{Rose};
 ghost use Rattle.dg_trace.specs.Images.{GaveImage, GavePart};
 
 use crate::asked::TraceFault;
+use crate::volumes::{LEAST_BYTES, volume_bytes};
 use dg_io::{Failed, NoMemory, Source};
 use std::alloc::Global;
 
@@ -38,6 +39,32 @@ fn read_behind<S: Source>(source: &mut S, piece: &mut Vec<u8>, at: usize) -> Res
     source.read(&mut piece[at..])
 }
 
+/// Takes room for the whole volume, if its superblock is one. So an image is held once, and not once more while it grows.
+fn make_room(image: &mut Vec<u8>) -> Result<(), NoMemory>
+    requires { 9568 ≤ length image.old.items }
+    ensures { OnOk result (image.new.items ≡ image.old.items) }
+{
+    let volume = volume_bytes(image).min(MOST_BYTES);
+    match image.reserve_exact(volume.saturating_sub(image.len())) {
+        Ok(()) => Ok(()),
+        Err(_) => Err(NoMemory),
+    }
+}
+
+/// Appends bytes to an image, and takes room for the rest once its superblock is there.
+fn append(image: &mut Vec<u8>, piece: &[u8]) -> Result<(), NoMemory>
+    ensures { OnOk result (image.new.items ≡ image.old.items ++ piece.now) }
+{
+    let before = image.len();
+    if image.extend_from_slice(piece).is_err() {
+        return Err(NoMemory);
+    }
+    if before < LEAST_BYTES && image.len() >= LEAST_BYTES {
+        make_room(image)?;
+    }
+    Ok(())
+}
+
 /// Reads an image to the end of the source. Of one with more than the most bytes it reads one byte past them, and no more.
 pub fn read_image<S: Source>(alloc: Global, source: &mut S) -> Result<Vec<u8>, TraceFault>
     ensures image { IfOk result (λ image. Told (GaveImage image.items) (S.left source.old) (S.left source.new)) }
@@ -60,7 +87,7 @@ pub fn read_image<S: Source>(alloc: Global, source: &mut S) -> Result<Vec<u8>, T
         if n == 0 {
             return Ok(image);
         }
-        let Ok(()) = image.extend_from_slice(&piece[at..at + n]) else {
+        let Ok(()) = append(&mut image, &piece[at..at + n]) else {
             return Err(TraceFault::NoMemory);
         };
         count += n;

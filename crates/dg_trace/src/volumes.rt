@@ -14,7 +14,7 @@ use ufs_super::read_super;
 /// Where the superblock begins (`SBOFF`), and ends.
 const SUPER_AT: usize = 8192;
 
-const LEAST_BYTES: usize = 9568;
+pub const LEAST_BYTES: usize = 9568;
 
 /// The magic number of a superblock (`FS_MAGIC`).
 const MAGIC: u32 = 0x0001_1954;
@@ -54,6 +54,16 @@ fn volume_on(image: &[u8]) -> Result<Geometry, BadSuper>
     let endian = endian_of(superblock);
     let l = block_bytes_for(u32_at(superblock, 52, endian));
     read_super(superblock, l, u32_at(superblock, 36, endian))
+}
+
+/// How many bytes the volume on an image has, or 0 where its superblock is none.
+pub fn volume_bytes(image: &[u8]) -> usize
+    requires { 9568 ≤ length image.now }
+{
+    match volume_on(image) {
+        Ok(geometry) => geometry.size as usize * geometry.fsize as usize,
+        Err(_) => 0,
+    }
 }
 
 /// A volume of which a trace can be made, and the array for it.

@@ -126,8 +126,8 @@ module _ (facts : Facts) (blank : AreBlank facts) where
   same_none None (Some now) is some same = absurd same
   same_none image None is some same = absurd (cc some)
 
-  no_source : (text : List ℕ) → HasShown facts text → ⊥
-  no_source text shown =
+  no_source : (tells : ℕ → Type 0) (text : List ℕ) → HasShown tells facts text → ⊥
+  no_source tells text shown =
       let source = shown.source in
       none_at (λ (q : ℕ). had (facts.images q) (facts.bytes q)) facts.before.faults facts.now.faults source.taken source.read
       (λ q. had_none (facts.images q) (facts.bytes q) (blank.empty q) (blank.told q)) source.source _ source.is_source.newest.there
@@ -139,20 +139,20 @@ module _ (facts : Facts) (blank : AreBlank facts) where
       (λ q. same_none (facts.images q) (facts.bytes q) (blank.empty q) (blank.told q) (looked.same q)) found.unclean.q _ found.unclean.newest.there
 
 -- so there is no array
-pub blank_answer : (facts : Facts) (taken given : Option (List ℕ)) (status : Status) → AreBlank facts → EndsSaved (EndsStatus facts) taken given status
+pub blank_answer : (tells : ℕ → Type 0) (facts : Facts) (taken given : Option (List ℕ)) (status : Status) → AreBlank facts → EndsSaved (EndsStatus tells facts) taken given status
     → (status ≡ Done) ⊎ (IsUnopened status ⊎ (status ≡ NoMemory)) → (status ≡ NoState) ⊎ (status ≡ NoMemory)
-blank_answer facts taken given status blank ends (inl done) =
-    let shown = subst (λ (s : Status). EndsSaved (EndsStatus facts) taken given s) done ends in
-    absurd (no_source facts blank shown.0 shown.1)
-blank_answer facts taken given status blank ends (inr (inl (inl none))) = inl none
-blank_answer facts taken given status blank ends (inr (inl (inr unclean))) =
-    let found = subst (λ (s : Status). EndsSaved (EndsStatus facts) taken given s) unclean ends in
+blank_answer tells facts taken given status blank ends (inl done) =
+    let shown = subst (λ (s : Status). EndsSaved (EndsStatus tells facts) taken given s) done ends in
+    absurd (no_source facts blank tells shown.0 shown.1)
+blank_answer tells facts taken given status blank ends (inr (inl (inl none))) = inl none
+blank_answer tells facts taken given status blank ends (inr (inl (inr unclean))) =
+    let found = subst (λ (s : Status). EndsSaved (EndsStatus tells facts) taken given s) unclean ends in
     absurd (not_unclean facts blank found.0)
-blank_answer facts taken given status blank ends (inr (inr memory)) = inr memory
+blank_answer tells facts taken given status blank ends (inr (inr memory)) = inr memory
 
 -- and this is printed, where the sink tells its bytes
-pub no_state_printed : (facts : Facts) (status : Status) (printed : List ℕ) → facts.taken ≡ Some [] → status ≡ NoState
-    → EndsSaved (EndsStatus facts) facts.taken facts.given status → facts.given ≡ Some printed → printed ≡ codes "nostate\n"
-no_state_printed facts status printed empty none ends is =
-    let found = subst (λ (s : Status). EndsSaved (EndsStatus facts) facts.taken facts.given s) none ends in
+pub no_state_printed : (tells : ℕ → Type 0) (facts : Facts) (status : Status) (printed : List ℕ) → facts.taken ≡ Some [] → status ≡ NoState
+    → EndsSaved (EndsStatus tells facts) facts.taken facts.given status → facts.given ≡ Some printed → printed ≡ codes "nostate\n"
+no_state_printed tells facts status printed empty none ends is =
+    let found = subst (λ (s : Status). EndsSaved (EndsStatus tells facts) facts.taken facts.given s) none ends in
     took facts.given nostate_text printed (subst (λ (t : Option (List ℕ)). Told (Took nostate_text) t facts.given) empty found.1) is

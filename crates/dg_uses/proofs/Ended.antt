@@ -1,5 +1,5 @@
 -- How a replay between objects in memory ended, by its status.
-use Rattle.std.proofs.Common.{◌≡◌, subst}
+use Rattle.std.proofs.Common.{◌≡◌, ℕ, subst}
 use Rattle.std.specs.Prelude.{Some}
 use Rattle.dg_io.specs.Racks.{counts_in, member_in}
 use Rattle.dg_io.specs.Sinks.{taken_in}
@@ -24,5 +24,5 @@ met source source_now sink sink_now old new = record {
   given = Some (taken_in sink_now);
 }
 
-pub ended : (f : Facts) (status other : Status) → EndsReplay f status → status ≡ other → EndsReplay f other
-ended f status other ends is = subst (λ (s : Status). EndsReplay f s) is ends
+pub ended : (tells : ℕ → Type 0) (f : Facts) (status other : Status) → EndsReplay tells f status → status ≡ other → EndsReplay tells f other
+ended tells f status other ends is = subst (λ (s : Status). EndsReplay tells f s) is ends

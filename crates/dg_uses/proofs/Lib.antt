@@ -9,8 +9,10 @@ mod Ran
 mod RefusedRows
 mod Results
 mod ResumedAgain
+mod ResumedPromises
 mod Rows
 mod SavedAgain
+mod TakenAway
 pub mod Chains
 pub mod Cores
 pub mod OneView

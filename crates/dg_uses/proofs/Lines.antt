@@ -1,7 +1,6 @@
 -- What a replay prints.
 use Rattle.std.proofs.Common.{◌≡◌, ◌∙◌, ℕ, List, ◌∷◌, refl, sym, ap, subst}
-use Rattle.std.specs.Prelude.{Option}
-use Rattle.dg_io.specs.Racks.{counts_in, member_in}
+use Rattle.dg_io.specs.Racks.{counts_in, member_in, told_in}
 use Rattle.dg_io.specs.Sinks.{taken_in}
 use Rattle.dg_model.specs.Causes.{NoneRose}
 use Rattle.dg_model.specs.States.{Counts}
@@ -13,8 +12,7 @@ use Rattle.dg_model.specs.declared.shapes.Shape.{Shape}
 use Rattle.dg_run.specs.Replays.{Ran}
 use Rattle.dg_text.specs.Lines.{AreInPlace, input_of}
 use Rattle.dg_text.specs.Replies.{output_of}
-use Rattle.dg_uses.specs.Answers.{TellsEach}
-use Rattle.dg_uses.specs.Replays.{AreNone, HasReplayed, IsSmooth, NeverFailed, RanSmoothly}
+use Rattle.dg_uses.specs.Replays.{AreNone, HasReplayed, NeverFailed, RanSmoothly}
 use Rattle.dg_uses.specs.declared.replays.Replay.{Replay}
 
 -- that an input spells its events in one way: a law of lines, which is handed in
@@ -22,28 +20,26 @@ abbrev pub OneInput : Type 0
 OneInput = (events others : List Event) → AreInPlace events → AreInPlace others → input_of events ≡ input_of others → events ≡ others
 
 -- of events behind an array of this shape these are the replies, where the run is smooth
-abbrev pub AreReplies : Shape → List Event → List Reply → Type 0
-AreReplies shape events promised = (replies : List Reply) → RanSmoothly (Array shape ∷ events) replies → replies ≡ Done ∷ promised
+abbrev pub AreReplies : (ℕ → Type 0) → Shape → List Event → List Reply → Type 0
+AreReplies tells shape events promised = (replies : List Reply) → RanSmoothly tells (Array shape ∷ events) replies → replies ≡ Done ∷ promised
 
-smooth_from : (before now : Counts) (bytes : ℕ → Option (List ℕ)) → AreNone before → NoneRose (λ q. 0) now.faults → TellsEach bytes → IsSmooth before now bytes
-smooth_from before now bytes fresh none tells = record {
-  tells = tells;
-  none = subst (λ (f : ℕ → ℕ). NoneRose f now.faults) (λ i q. sym (fresh.faults q) i) none;
-}
+none_from : (before now : Counts) → AreNone before → NoneRose (λ q. 0) now.faults → NoneRose before.faults now.faults
+none_from before now fresh none = subst (λ (f : ℕ → ℕ). NoneRose f now.faults) (λ i q. sym (fresh.faults q) i) none
 
-pub prints : OneInput → (shape : Shape) (events : List Event) (promised : List Reply) → AreInPlace (Array shape ∷ events) → AreReplies shape events promised
-    → (text : List ℕ) → text ≡ input_of (Array shape ∷ events) → (end : Replay) → HasReplayed text end → NeverFailed end
+pub prints : OneInput → (shape : Shape) (events : List Event) (promised : List Reply) → AreInPlace (Array shape ∷ events)
+    → (text : List ℕ) → text ≡ input_of (Array shape ∷ events) → (end : Replay) → AreReplies (told_in end.rack) shape events promised → HasReplayed text end → NeverFailed end
     → taken_in end.sink ≡ output_of (Done ∷ promised)
-prints one shape events promised places are text spelled end did never =
+prints one shape events promised places text spelled end are did never =
     let replayed = did.replayed in
     let same : replayed.events ≡ Array shape ∷ events =
     one replayed.events (Array shape ∷ events) replayed.ran.in_place places (sym replayed.input.0 ∙ spelled) in
-    let smoothly : RanSmoothly (Array shape ∷ events) replayed.replies = record {
+    let smoothly : RanSmoothly (told_in end.rack) (Array shape ∷ events) replayed.replies = record {
       before = did.before;
       now = counts_in end.rack;
       images = did.images;
       bytes = member_in end.rack;
-      smooth = smooth_from did.before (counts_in end.rack) (member_in end.rack) did.fresh never (λ q. refl);
-      ran = subst (λ (es : List Event). Ran did.before (counts_in end.rack) did.images (member_in end.rack) es replayed.replies) same replayed.ran;
+      ran = subst (λ (es : List Event). Ran did.before (counts_in end.rack) did.images (member_in end.rack) (told_in end.rack) es replayed.replies) same replayed.ran;
+      told = λ q below. refl;
+      none = none_from did.before (counts_in end.rack) did.fresh never;
     } in
     replayed.output ∙ ap output_of (are replayed.replies smoothly)

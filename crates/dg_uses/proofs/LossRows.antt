@@ -5,6 +5,7 @@ use Rattle.std.specs.Fmt.{digits}
 use Rattle.std.proofs.lemmas.Bool.{cond-false, false≢true, ne_eqb}
 use Rattle.std.proofs.lemmas.List.Elements.{All-cons, All-nil}
 use Rattle.hex.specs.Hex.{encode_with}
+use Rattle.dg_io.specs.Racks.{told_in}
 use Rattle.dg_io.specs.Sinks.{taken_in}
 use Rattle.dg_model.specs.Blocks.{padded}
 use Rattle.dg_model.specs.Members.{IsStruck, is_good}
@@ -118,6 +119,6 @@ pub prints_lost : OneInput → (end : Replay)
     → HasReplayed (codes "array 1024 64 4 32 2\nwrite 3 aa\nfail 3 0\nfail 3 1\nread 3\nwrite 2 00\n") end → NeverFailed end
     → taken_in end.sink ≡ codes "ok\nok\nok\nok\nunavailable\ndegraded\n"
 prints_lost one end did never =
-    prints one shape_here lost lost_replies lost_placed (λ replies run. ran_views shape_here lost replies lost_replies core_none run lost_views)
-    (codes "array 1024 64 4 32 2\nwrite 3 aa\nfail 3 0\nfail 3 1\nread 3\nwrite 2 00\n") lost_text end did never
+    prints one shape_here lost lost_replies lost_placed (codes "array 1024 64 4 32 2\nwrite 3 aa\nfail 3 0\nfail 3 1\nread 3\nwrite 2 00\n") lost_text
+    end (λ replies run. ran_views (told_in end.rack) shape_here lost replies lost_replies core_none run lost_views) did never
     ∙ lost_output

@@ -1,5 +1,5 @@
--- Runs over members that tell their bytes, in which no count of faults rose.
-use Rattle.std.proofs.Common.{◌≡◌, false, List, [], ◌∷◌, sym, subst}
+-- Runs in which no count of faults rose, and after which the rack still tells each member of the array.
+use Rattle.std.proofs.Common.{◌≡◌, false, ℕ, List, [], ◌∷◌, sym, subst}
 use Rattle.std.specs.Prelude.{All}
 use Rattle.std.proofs.lemmas.List.Elements.{All-cons, All-nil}
 use Rattle.dg_model.specs.Causes.{NoneRose}
@@ -31,29 +31,25 @@ views_viewed old (event ∷ events) [] new views = absurd views
 views_viewed old (event ∷ events) (reply ∷ replies) new views =
     All-cons IsViewed event events (view_viewed old event reply views.0 views.1) (views_viewed views.0 events replies new views.2)
 
-module _ (events : List Event) (replies : List Reply) (run : RanSmoothly events replies) where
-  -- the bytes are told
-  told : TellsBoundaries run.bytes run.ran.final
-  told q below = run.smooth.tells q
-
+module _ (tells : ℕ → Type 0) (events : List Event) (replies : List Reply) (run : RanSmoothly tells events replies) where
   none_at_end : NoneRose run.before.faults run.ran.final.counts.faults
-  none_at_end = subst (λ (c : Counts). NoneRose run.before.faults c.faults) (sym run.ran.counts) run.smooth.none
+  none_at_end = subst (λ (c : Counts). NoneRose run.before.faults c.faults) (sym run.ran.counts) run.none
 
-pub ran_views : (shape : Shape) (events : List Event) (replies chain : List Reply) (end : Core) → RanSmoothly (Array shape ∷ events) replies
+pub ran_views : (tells : ℕ → Type 0) (shape : Shape) (events : List Event) (replies chain : List Reply) (end : Core) → RanSmoothly tells (Array shape ∷ events) replies
     → Views (blank_core shape) events chain end → replies ≡ Done ∷ chain
-ran_views shape events replies chain end run views =
-    trace_views (TellsBoundaries run.bytes run.ran.final) (told (Array shape ∷ events) replies run) shape events run.before replies chain run.ran.final end
-    run.ran.in_place.0 (views_viewed (blank_core shape) events chain end views) (none_at_end (Array shape ∷ events) replies run) run.ran.trace views
+ran_views tells shape events replies chain end run views =
+    trace_views (TellsBoundaries tells run.ran.final) run.told shape events run.before replies chain run.ran.final end
+    run.ran.in_place.0 (views_viewed (blank_core shape) events chain end views) (none_at_end tells (Array shape ∷ events) replies run) run.ran.trace views
 
-pub ran_same : (shape : Shape) (events : List Event) (replies others : List Reply) → All IsViewed events → RanSmoothly (Array shape ∷ events) replies
-    → RanSmoothly (Array shape ∷ events) others → replies ≡ others
-ran_same shape events replies others viewed x y =
-    traces_same (TellsBoundaries x.bytes x.ran.final) (TellsBoundaries y.bytes y.ran.final) (told (Array shape ∷ events) replies x)
-    (told (Array shape ∷ events) others y) shape events x.before y.before replies others x.ran.final y.ran.final x.ran.in_place.0
-    viewed (none_at_end (Array shape ∷ events) replies x) (none_at_end (Array shape ∷ events) others y) x.ran.trace y.ran.trace
+pub ran_same : (tells told : ℕ → Type 0) (shape : Shape) (events : List Event) (replies others : List Reply) → All IsViewed events
+    → RanSmoothly tells (Array shape ∷ events) replies → RanSmoothly told (Array shape ∷ events) others → replies ≡ others
+ran_same tells told shape events replies others viewed x y =
+    traces_same (TellsBoundaries tells x.ran.final) (TellsBoundaries told y.ran.final) x.told y.told shape events x.before y.before replies others x.ran.final y.ran.final x.ran.in_place.0
+    viewed (none_at_end tells (Array shape ∷ events) replies x) (none_at_end told (Array shape ∷ events) others y) x.ran.trace y.ran.trace
 
-pub ran_answers : (shape : Shape) (events : List Event) (replies : List Reply) → StaysWhole shape (λ q. false) events → RanSmoothly (Array shape ∷ events) replies
+pub ran_answers : (tells : ℕ → Type 0) (shape : Shape) (events : List Event) (replies : List Reply) → StaysWhole shape (λ q. false) events
+    → RanSmoothly tells (Array shape ∷ events) replies
     → replies ≡ Done ∷ answers shape (λ q. false) (λ b. []) events
-ran_answers shape events replies whole run =
-    trace_answers (TellsBoundaries run.bytes run.ran.final) (told (Array shape ∷ events) replies run) run.before shape events replies run.ran.final
-    run.ran.in_place.0 whole (none_at_end (Array shape ∷ events) replies run) run.ran.trace
+ran_answers tells shape events replies whole run =
+    trace_answers (TellsBoundaries tells run.ran.final) run.told run.before shape events replies run.ran.final
+    run.ran.in_place.0 whole (none_at_end tells (Array shape ∷ events) replies run) run.ran.trace

@@ -7,7 +7,7 @@ use Rattle.std.proofs.lemmas.Bool.{false≢true}
 use Rattle.std.proofs.lemmas.List.{append-nil}
 use Rattle.std.proofs.lemmas.List.Elements.{All-cons, All-head, All-nil}
 use Rattle.std.proofs.lemmas.Slice.Eq.{bytes_eq-Decides}
-use Rattle.dg_io.specs.Racks.{counts_in, member_in}
+use Rattle.dg_io.specs.Racks.{counts_in, member_in, told_in}
 use Rattle.dg_io.specs.Sinks.{taken_in}
 use Rattle.dg_io.specs.Sources.{left_in}
 use Rattle.dg_model.proofs.RunLaws.{run_none, trace_more}
@@ -145,30 +145,30 @@ reed_kind shape room kind wide (inr (n1, inr (n2, inl cut))) = absurd (cut.1.non
 reed_kind shape room kind wide (inr (n1, inr (n2, inr (n3, inl word)))) = word.0
 reed_kind shape room kind wide (inr (n1, inr (n2, inr (n3, inr rest)))) = absurd (rest.0 (codes "reed 3", reed_line, no_event))
 
-stops : OneLine → (before now : Counts) (images bytes : ℕ → Option (List ℕ)) (events : List Event) (replies : List Reply) (kind : BadLine) (text taken : List ℕ) → Ran before now images bytes events replies
+stops : OneLine → (before now : Counts) (images bytes : ℕ → Option (List ℕ)) (tells : ℕ → Type 0) (events : List Event) (replies : List Reply) (kind : BadLine) (text taken : List ℕ) → Ran before now images bytes tells events replies
     → refused ≡ input_of events ++ text → StopsAt events kind text → taken ≡ output_of replies ++ refusal (length events + 1) kind → taken ≡ codes "ok\nline 2 word\n"
-stops one before now images bytes [] replies kind text taken ran is stop took =
+stops one before now images bytes tells [] replies kind text taken ran is stop took =
     let over = stop.none (Array shape_here) (codes "reed 3\n") shape_is (sym is ∙ refused_text) in
     absurd (omega (arith, over, line_short))
-stops one before now images bytes (Array s ∷ []) replies kind text taken ran is stop took =
+stops one before now images bytes tells (Array s ∷ []) replies kind text taken ran is stop took =
     let split = one None (Array shape_here) (Array s) (codes "reed 3\n") text shape_is ran.in_place.0
     (sym refused_text ∙ is ∙ ap (λ (l : List ℕ). l ++ text) (append-nil (line_of (Array s)))) in
     let size : length (line_of (Array s) ++ []) ≡ 21 = ap length (append-nil (line_of (Array s))) ∙ ap (λ (event : Event). length (line_of event)) (sym split.0) ∙ line_short in
     let by = subst (λ (t : List ℕ). IsRefusedBy (Some s) (2 ^ 40 - length (input_of (Array s ∷ []))) t kind) (sym split.1) stop.by_kind in
     let word : kind ≡ Word = reed_kind s (2 ^ 40 - length (input_of (Array s ∷ []))) kind (omega (arith, size)) by in
-    took ∙ ap (λ (l : List Reply). output_of l ++ refusal 2 kind) (array_alone (TellsBoundaries bytes ran.final) before s replies ran.final ran.trace)
+    took ∙ ap (λ (l : List Reply). output_of l ++ refusal 2 kind) (array_alone (TellsBoundaries tells ran.final) before s replies ran.final ran.trace)
     ∙ ap (λ (k : BadLine). output_of (Done ∷ []) ++ refusal 2 k) word ∙ refused_output
-stops one before now images bytes (Array s ∷ event ∷ es) replies kind text taken ran is stop took =
+stops one before now images bytes tells (Array s ∷ event ∷ es) replies kind text taken ran is stop took =
     let split = one None (Array shape_here) (Array s) (codes "reed 3\n") (input_of (event ∷ es) ++ text) shape_is ran.in_place.0
     (sym refused_text ∙ is ∙ append_assoc (line_of (Array s)) (input_of (event ∷ es)) text) in
     absurd (no_reed s event (input_of es ++ text) (All-head (IsInPlace (Some s)) event es ran.in_place.1) (split.1 ∙ append_assoc (line_of event) (input_of es) text))
-stops one before now images bytes (event ∷ es) replies kind text taken ran is stop took = absurd ran.in_place
+stops one before now images bytes tells (event ∷ es) replies kind text taken ran is stop took = absurd ran.in_place
 
 pub prints_refused : OneLine → (end : Replay) → HasStopped (codes "array 1024 64 4 32 2\nreed 3\n") end → taken_in end.sink ≡ codes "ok\nline 2 word\n"
 prints_refused one end did =
     let stopped = did.stopped in
     let input = stopped.input in
-    stops one did.before (counts_in end.rack) did.images (member_in end.rack) stopped.events stopped.replies stopped.kind input.0 (taken_in end.sink) stopped.ran input.1 input.2 stopped.output
+    stops one did.before (counts_in end.rack) did.images (member_in end.rack) (told_in end.rack) stopped.events stopped.replies stopped.kind input.0 (taken_in end.sink) stopped.ran input.1 input.2 stopped.output
 
 -- ---- the sink fails
 
@@ -207,33 +207,33 @@ no_line (event ∷ es) more e =
     let none : length (input_of (event ∷ es) ++ more) ≡ 0 = sym (ap length e) in
     absurd (omega (arith, length-append (input_of (event ∷ es)) more, length-append (line_of event) (input_of es), length-append (spelling event) (codes "\n")))
 
-reply_cut : OneLine → (before now : Counts) (images bytes : ℕ → Option (List ℕ)) (events : List Event) (replies : List Reply) (last : Reply) (more taken : List ℕ) (n : ℕ)
-    → Ran before now images bytes events (replies ++ last ∷ []) → alone ≡ input_of events ++ more → taken ≡ output_of replies ++ take n (reply_line last) → IsFront taken (codes "ok\n")
-reply_cut one before now images bytes [] replies last more taken n ran is took =
-    absurd (no_push replies last (trace_none (TellsBoundaries bytes ran.final) before (replies ++ last ∷ []) ran.final ran.trace))
-reply_cut one before now images bytes (Array s ∷ es) replies last more taken n ran is took =
+reply_cut : OneLine → (before now : Counts) (images bytes : ℕ → Option (List ℕ)) (tells : ℕ → Type 0) (events : List Event) (replies : List Reply) (last : Reply) (more taken : List ℕ) (n : ℕ)
+    → Ran before now images bytes tells events (replies ++ last ∷ []) → alone ≡ input_of events ++ more → taken ≡ output_of replies ++ take n (reply_line last) → IsFront taken (codes "ok\n")
+reply_cut one before now images bytes tells [] replies last more taken n ran is took =
+    absurd (no_push replies last (trace_none (TellsBoundaries tells ran.final) before (replies ++ last ∷ []) ran.final ran.trace))
+reply_cut one before now images bytes tells (Array s ∷ es) replies last more taken n ran is took =
     let only : es ≡ [] = no_line es more (behind one s es more ran.in_place.0 is) in
-    let trace = subst (λ (l : List Event). Trace (TellsBoundaries bytes ran.final) before (Array s ∷ l) (replies ++ last ∷ []) ran.final) only ran.trace in
-    let first = no_front replies last Done (array_alone (TellsBoundaries bytes ran.final) before s (replies ++ last ∷ []) ran.final trace) in
+    let trace = subst (λ (l : List Event). Trace (TellsBoundaries tells ran.final) before (Array s ∷ l) (replies ++ last ∷ []) ran.final) only ran.trace in
+    let first = no_front replies last Done (array_alone (TellsBoundaries tells ran.final) before s (replies ++ last ∷ []) ran.final trace) in
     let text : taken ≡ take n (reply_line Done) =
     took ∙ ap (λ (l : List Reply). output_of l ++ take n (reply_line last)) first.0 ∙ ap (λ (r : Reply). take n (reply_line r)) first.1 in
     subst (λ (l : List ℕ). IsFront l (codes "ok\n")) (sym text) (part_is_front n (codes "ok\n"))
-reply_cut one before now images bytes (event ∷ es) replies last more taken n ran is took = absurd ran.in_place
+reply_cut one before now images bytes tells (event ∷ es) replies last more taken n ran is took = absurd ran.in_place
 
-no_refusal : OneLine → (before now : Counts) (images bytes : ℕ → Option (List ℕ)) (events : List Event) (replies : List Reply) (kind : BadLine) (text : List ℕ) → Ran before now images bytes events replies
+no_refusal : OneLine → (before now : Counts) (images bytes : ℕ → Option (List ℕ)) (tells : ℕ → Type 0) (events : List Event) (replies : List Reply) (kind : BadLine) (text : List ℕ) → Ran before now images bytes tells events replies
     → alone ≡ input_of events ++ text → StopsAt events kind text → ⊥
-no_refusal one before now images bytes [] replies kind text ran is stop =
+no_refusal one before now images bytes tells [] replies kind text ran is stop =
     let over = stop.none (Array shape_here) [] shape_is (sym is ∙ alone_text) in
     absurd (omega (arith, over, line_short))
-no_refusal one before now images bytes (Array s ∷ es) replies kind text ran is stop =
+no_refusal one before now images bytes tells (Array s ∷ es) replies kind text ran is stop =
     let empty = stop.some (none_behind (input_of es) text (behind one s es text ran.in_place.0 is)) in
     absurd (cc empty)
-no_refusal one before now images bytes (event ∷ es) replies kind text ran is stop = absurd ran.in_place
+no_refusal one before now images bytes tells (event ∷ es) replies kind text ran is stop = absurd ran.in_place
 
-cut_front : OneLine → (before now : Counts) (images bytes : ℕ → Option (List ℕ)) (left taken : List ℕ) → IsCut before now images bytes (Some alone) (Some left) (Some []) (Some taken) → IsFront taken (codes "ok\n")
-cut_front one before now images bytes left taken (inl cut) =
-    reply_cut one before now images bytes cut.events cut.replies cut.last cut.input.more taken cut.output.n cut.ran cut.input.split cut.output.is
-cut_front one before now images bytes left taken (inr cut) = absurd (no_refusal one before now images bytes cut.events cut.replies cut.kind cut.input.0 cut.ran cut.input.1 cut.input.2)
+cut_front : OneLine → (before now : Counts) (images bytes : ℕ → Option (List ℕ)) (tells : ℕ → Type 0) (left taken : List ℕ) → IsCut before now images bytes tells (Some alone) (Some left) (Some []) (Some taken) → IsFront taken (codes "ok\n")
+cut_front one before now images bytes tells left taken (inl cut) =
+    reply_cut one before now images bytes tells cut.events cut.replies cut.last cut.input.more taken cut.output.n cut.ran cut.input.split cut.output.is
+cut_front one before now images bytes tells left taken (inr cut) = absurd (no_refusal one before now images bytes tells cut.events cut.replies cut.kind cut.input.0 cut.ran cut.input.1 cut.input.2)
 
 pub prints_front : OneLine → (end : Replay) → HasBeenCut (codes "array 1024 64 4 32 2\n") end → IsFront (taken_in end.sink) (codes "ok\n")
-prints_front one end did = cut_front one did.before (counts_in end.rack) did.images (member_in end.rack) (left_in end.source) (taken_in end.sink) did.cut
+prints_front one end did = cut_front one did.before (counts_in end.rack) did.images (member_in end.rack) (told_in end.rack) (left_in end.source) (taken_in end.sink) did.cut

@@ -14,23 +14,23 @@ use Rattle.dg_saved.specs.Ends.{Answered, EndsCat}
 use Rattle.dg_saved.specs.Texts.{cat_text, gives_file}
 use Rattle.dg_uses.specs.Saves.{GoesOn, HasAnswered, HasGoneOn}
 
-pub resumed_as : (facts : Facts) (status other : Status) → EndsResume facts status → status ≡ other → EndsResume facts other
-resumed_as facts status other ends is = subst (λ (s : Status). EndsResume facts s) is ends
+pub resumed_as : (tells : ℕ → Type 0) (facts : Facts) (status other : Status) → EndsResume tells facts status → status ≡ other → EndsResume tells facts other
+resumed_as tells facts status other ends is = subst (λ (s : Status). EndsResume tells facts s) is ends
 
 -- a count that didn't rise in the call didn't in the opening
 pub none_in_opening : (before opened now : Counts) → CountsRise opened now → NoneRose before.faults now.faults → NoneRose before.faults opened.faults
 none_in_opening before opened now rise none = none_front before.faults opened.faults now.faults rise.faults none
 
-pub has_gone_on : (facts : Facts) (old : State) (save : Save) (all : AllResumed facts)
+pub has_gone_on : (tells : ℕ → Type 0) (facts : Facts) (old : State) (save : Save) (all : AllResumed tells facts)
     → GoesOn old save facts.images facts.bytes facts.before facts.now all.events all.replies → HasGoneOn old save facts
-has_gone_on facts old save all on = record { events = all.events; replies = all.replies; on = on; input = all.input; output = all.output }
+has_gone_on tells facts old save all on = record { events = all.events; replies = all.replies; on = on; input = all.input; output = all.output }
 
 -- ---- a file that is asked for
 
-pub asked_as : (facts : SavedFacts) (path : List ℕ) (status other : Status) → EndsSaved (EndsCat facts path) facts.taken facts.given status → status ≡ other
-    → EndsSaved (EndsCat facts path) facts.taken facts.given other
-asked_as facts path status other ends is = subst (λ (s : Status). EndsSaved (EndsCat facts path) facts.taken facts.given s) is ends
+pub asked_as : (tells : ℕ → Type 0) (facts : SavedFacts) (path : List ℕ) (status other : Status) → EndsSaved (EndsCat tells facts path) facts.taken facts.given status → status ≡ other
+    → EndsSaved (EndsCat tells facts path) facts.taken facts.given other
+asked_as tells facts path status other ends is = subst (λ (s : Status). EndsSaved (EndsCat tells facts path) facts.taken facts.given s) is ends
 
-pub has_answered : (facts : SavedFacts) (old : State) (save : Save) (path : List ℕ) (given : Bool) (one : Answered facts (Cat path) cat_text gives_file given)
+pub has_answered : (tells : ℕ → Type 0) (facts : SavedFacts) (old : State) (save : Save) (path : List ℕ) (given : Bool) (one : Answered tells facts (Cat path) cat_text gives_file given)
     → GoesOn old save facts.images facts.bytes facts.before facts.now (Cat path ∷ []) (one.reply ∷ []) → HasAnswered old save facts (Cat path) cat_text
-has_answered facts old save path given one on = record { reply = one.reply; on = on; output = one.output }
+has_answered tells facts old save path given one on = record { reply = one.reply; on = on; output = one.output }

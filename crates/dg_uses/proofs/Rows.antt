@@ -4,6 +4,7 @@ use Rattle.std.specs.Prelude.{Some, codes}
 use Rattle.std.specs.Fmt.{digits}
 use Rattle.std.proofs.lemmas.List.Elements.{All-cons, All-nil}
 use Rattle.hex.specs.Hex.{encode_with}
+use Rattle.dg_io.specs.Racks.{told_in}
 use Rattle.dg_io.specs.Sinks.{taken_in}
 use Rattle.dg_model.specs.Shapes.{IsShape}
 use Rattle.dg_model.specs.States.{has_lost}
@@ -70,7 +71,8 @@ pub prints_written : OneInput → (end : Replay) → HasReplayed (codes "array 1
     → taken_in end.sink ≡ codes "ok\nok\ndata 6869\n"
 prints_written one end did never =
     prints one shape_here written (answers shape_here (λ q. false) (λ b. []) written) written_placed
-    (λ replies run. ran_answers shape_here written replies tt run) (codes "array 1024 64 4 32 2\nwrite 3 6869\nread 3\n") written_text end did never
+    (codes "array 1024 64 4 32 2\nwrite 3 6869\nread 3\n") written_text end
+    (λ replies run. ran_answers (told_in end.rack) shape_here written replies tt run) did never
     ∙ written_output
 
 -- ---- a member fails between two writes
@@ -106,6 +108,6 @@ pub prints_failed : OneInput → (end : Replay) → HasReplayed (codes "array 10
     → taken_in end.sink ≡ codes "ok\nok\nok\nok\ndata bb\n"
 prints_failed one end did never =
     prints one shape_here failed (answers shape_here (λ q. false) (λ b. []) failed) failed_placed
-    (λ replies run. ran_answers shape_here failed replies failed_whole run) (codes "array 1024 64 4 32 2\nwrite 3 aa\nfail 3 0\nwrite 3 bb\nread 3\n")
-    failed_text end did never
+    (codes "array 1024 64 4 32 2\nwrite 3 aa\nfail 3 0\nwrite 3 bb\nread 3\n") failed_text end
+    (λ replies run. ran_answers (told_in end.rack) shape_here failed replies failed_whole run) did never
     ∙ failed_output

@@ -162,12 +162,12 @@ opens_told known taken beside before state h = record {
 }
 
 -- An array that was opened with the blocks of a save goes on from the old state.
-module _ (facts : Facts) (opened : Counts) (source : HasSource facts opened) (old : State) (save : Save) where
-  pub goes_on : (state : State) → IsOpenedAs facts opened source save.blocks state → IsKnown facts opened source save.blocks → save.blocks ≡ old.blocks
+module _ (tells : ℕ → Type 0) (facts : Facts) (opened : Counts) (source : HasSource facts opened) (old : State) (save : Save) where
+  pub goes_on : (state : State) → IsOpenedAs tells facts opened source save.blocks state → IsKnown tells facts opened source save.blocks → save.blocks ≡ old.blocks
       → AreTaken facts.images source.taken → NoneRose facts.before.faults opened.faults
       → ((s : State) → Opens AreTold source.taken None facts.before s → NoneRose facts.before.faults s.counts.faults → IsResumed old save facts.images s)
-      → (events : List Event) (replies : List Reply) (final : State) → Run (IsKnown facts opened source save.blocks) state events replies final
-      → (IsKnown facts opened source save.blocks → HoldsAll facts.bytes final) → final.counts ≡ facts.now
+      → (events : List Event) (replies : List Reply) (final : State) → Run (IsKnown tells facts opened source save.blocks) state events replies final
+      → (IsKnown tells facts opened source save.blocks → HoldsAll facts.bytes final) → final.counts ≡ facts.now
       → GoesOn old save facts.images facts.bytes facts.before facts.now events replies
   goes_on state is known same taken none resume events replies final run holds counts =
       let opens = opens_told known source.taken None facts.before state is.opens in

@@ -5,7 +5,7 @@ use Rattle.dg_model.specs.declared.events.Event.{Event}
 use Rattle.dg_model.specs.declared.replies.Reply.{Reply}
 use Rattle.dg_run.specs.Replays.{Ran, TellsBoundaries}
 
--- each member of the array tells its bytes at the end of the run
-abbrev pub IsToldAtEnd : {before now : Counts} {images : ℕ → Option (List ℕ)} {events : List Event} {replies : List Reply}
-    (bytes : ℕ → Option (List ℕ)) → Ran before now images bytes events replies → Type 0
-IsToldAtEnd bytes ran = TellsBoundaries bytes ran.final
+-- of each member of the array the rack still tells the bytes, as long as the member stands, at the end of the run
+abbrev pub IsToldAtEnd : {before now : Counts} {images bytes : ℕ → Option (List ℕ)} {events : List Event} {replies : List Reply}
+    (tells : ℕ → Type 0) → Ran before now images bytes tells events replies → Type 0
+IsToldAtEnd tells ran = TellsBoundaries tells ran.final

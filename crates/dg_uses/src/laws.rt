@@ -1,4 +1,4 @@
-// Laws of runs in which no count of faults rose, and of which bytes are told.
+// Laws of runs in which no count of faults rose, and after which the rack still tells each member of the array.
 ghost use Rattle.std.specs.Prelude.{◌≡◌, ◌∷◌, [], All, false, List};
 ghost use Rattle.dg_model.specs.declared.events.Event.{Event};
 ghost use Rattle.dg_model.specs.declared.replies.Reply.{Reply};
@@ -7,20 +7,23 @@ ghost use Rattle.dg_uses.specs.Answers.{StaysWhole, answers};
 ghost use Rattle.dg_uses.specs.Replays.{RanSmoothly};
 ghost use Rattle.dg_uses.specs.Views.{Core, IsViewed, Views, blank_core};
 
+use dg_io::Rack;
+
 /// The replies to events on blocks and members, and to reads by path, are a function of the events.
-pub fn replies_are_a_function()
-    ensures { (shape : Shape) (events : List Event) (replies others : List Reply) → All IsViewed events
-        → RanSmoothly (Event.Array shape ∷ events) replies → RanSmoothly (Event.Array shape ∷ events) others → replies ≡ others }
+pub fn replies_are_a_function<R: Rack, Q: Rack>()
+    ensures { (end : R) (other : Q) (shape : Shape) (events : List Event) (replies others : List Reply) → All IsViewed events
+        → RanSmoothly (R.tells end) (Event.Array shape ∷ events) replies → RanSmoothly (Q.tells other) (Event.Array shape ∷ events) others
+        → replies ≡ others }
 {}
 
 /// The replies are those of each chain of views of the events.
-pub fn replies_by_views()
-    ensures { (shape : Shape) (events : List Event) (replies chain : List Reply) (end : Core) → RanSmoothly (Event.Array shape ∷ events) replies
-        → Views (blank_core shape) events chain end → replies ≡ Reply.Done ∷ chain }
+pub fn replies_by_views<R: Rack>()
+    ensures { (end : R) (shape : Shape) (events : List Event) (replies chain : List Reply) (last : Core)
+        → RanSmoothly (R.tells end) (Event.Array shape ∷ events) replies → Views (blank_core shape) events chain last → replies ≡ Reply.Done ∷ chain }
 {}
 
 /// Where no boundary is lost, the replies to writes, reads and failures are computed from them.
-pub fn answers_are_promised()
-    ensures { (shape : Shape) (events : List Event) (replies : List Reply) → StaysWhole shape (λ q. false) events
-        → RanSmoothly (Event.Array shape ∷ events) replies → replies ≡ Reply.Done ∷ answers shape (λ q. false) (λ b. []) events }
+pub fn answers_are_promised<R: Rack>()
+    ensures { (end : R) (shape : Shape) (events : List Event) (replies : List Reply) → StaysWhole shape (λ q. false) events
+        → RanSmoothly (R.tells end) (Event.Array shape ∷ events) replies → replies ≡ Reply.Done ∷ answers shape (λ q. false) (λ b. []) events }
 {}

@@ -6,17 +6,21 @@ mod answers;
 mod blanks;
 mod laws;
 mod promises;
+mod removals;
 mod replays;
+mod resumed;
 mod saves;
 
 pub use answers::{answer_an_image, replay_lines};
 pub use blanks::{Answer, find_no_array, refuse_an_empty_image};
 pub use laws::{answers_are_promised, replies_are_a_function, replies_by_views};
 pub use promises::cats_keep_their_promise;
+pub use removals::{all_stand_at_first, take_away};
 pub use replays::{
     Replay, fail_at_the_first_reply, lose_a_block, read_past_a_failure, read_what_was_written,
     refuse_the_second_line, replay_text,
 };
+pub use resumed::resumed_cats_keep_their_promise;
 pub use saves::{
     cat_what_is_left, replays_leave_saves, resume_what_is_left, saved_arrays_go_on,
     saved_blocks_are_read_again, saves_are_found_again,

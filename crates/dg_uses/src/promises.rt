@@ -8,14 +8,16 @@ ghost use Rattle.dg_promise.specs.Chains.{ReadsInRun};
 ghost use Rattle.dg_run.specs.Replays.{Ran};
 ghost use Rattle.dg_uses.specs.Promises.{IsToldAtEnd};
 
+use dg_io::Rack;
 use dg_promise::reads_keep_their_promise;
 
-/// Each `cat` of a run, in which the bytes are told at the end: where the array is settled then, and fewer than m boundaries are lost, and
+/// Each `cat` of a run after which the rack still tells each member of the array: where the array is settled then, and fewer than m boundaries are lost, and
 /// none is lost while the file is read, all of a regular file is given exactly where it has no home, or its home or its copy isn't lost;
 /// it is unavailable exactly where that isn't so; and a path to none is refused.
-pub fn cats_keep_their_promise()
-    ensures { (before now : Counts) (images bytes : ℕ → Option (List ℕ)) (shape : Shape) (front rest : List Event) (path : List ℕ) (replies : List Reply)
-        → (ran : Ran before now images bytes (Event.Array shape ∷ (front ++ Event.Cat path ∷ rest)) (Reply.Done ∷ replies)) → IsToldAtEnd bytes ran
+pub fn cats_keep_their_promise<R: Rack>()
+    ensures { (end : R) (before now : Counts) (images bytes : ℕ → Option (List ℕ)) (shape : Shape) (front rest : List Event) (path : List ℕ)
+        (replies : List Reply) → (ran : Ran before now images bytes (R.tells end) (Event.Array shape ∷ (front ++ Event.Cat path ∷ rest))
+        (Reply.Done ∷ replies)) → IsToldAtEnd (R.tells end) ran
         → ReadsInRun before shape front path rest replies ran.final }
 {
     reads_keep_their_promise();

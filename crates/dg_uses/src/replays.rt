@@ -1,6 +1,6 @@
 // Replays between objects in memory.
 ghost use Rattle.std.specs.Prelude.{◌≡◌, IfOk, Some, codes, map, string_bytes};
-ghost use Rattle.dg_io.specs.Racks.{counts_in, member_in};
+ghost use Rattle.dg_io.specs.Racks.{counts_in, member_in, told_in};
 ghost use Rattle.dg_io.specs.Sinks.{taken_in};
 ghost use Rattle.dg_io.specs.Sources.{left_in};
 ghost use Rattle.dg_run.specs.Replays.{IsCut, Replayed, Stopped};
@@ -50,11 +50,11 @@ fn run_replay(
     rack: &mut MemRack,
 ) -> Status
     requires { IsCommand (map string_bytes words.now.items) Command.Replay }
-    ensures done { result ≡ Status.Done → Replayed (counts_in rack.old) (counts_in rack.new) (member_in rack.old) (member_in rack.new)
+    ensures done { result ≡ Status.Done → Replayed (counts_in rack.old) (counts_in rack.new) (member_in rack.old) (member_in rack.new) (told_in rack.new)
         (Some (left_in source.old)) (Some (left_in source.new)) (Some (taken_in sink.old)) (Some (taken_in sink.new)) }
-    ensures bad_line { result ≡ Status.BadLine → Stopped (counts_in rack.old) (counts_in rack.new) (member_in rack.old) (member_in rack.new)
+    ensures bad_line { result ≡ Status.BadLine → Stopped (counts_in rack.old) (counts_in rack.new) (member_in rack.old) (member_in rack.new) (told_in rack.new)
         (Some (left_in source.old)) (Some (left_in source.new)) (Some (taken_in sink.old)) (Some (taken_in sink.new)) }
-    ensures part { result ≡ Status.WriteFault → IsCut (counts_in rack.old) (counts_in rack.new) (member_in rack.old) (member_in rack.new)
+    ensures part { result ≡ Status.WriteFault → IsCut (counts_in rack.old) (counts_in rack.new) (member_in rack.old) (member_in rack.new) (told_in rack.new)
         (Some (left_in source.old)) (Some (left_in source.new)) (Some (taken_in sink.old)) (Some (taken_in sink.new)) }
 {
     run(alloc, words, source, sink, rack)

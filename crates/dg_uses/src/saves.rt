@@ -2,7 +2,7 @@
 ghost use Rattle.std.specs.Prelude.{◌≡◌, ◌⊎◌, ◌<◌, ◌++◌, ◌∷◌, [], All, ℕ, List, Option, map, string_bytes};
 ghost use Rattle.dg_kept.specs.Opened.{AreTold};
 ghost use Rattle.dg_kept.specs.Saved.{Save};
-ghost use Rattle.dg_kept.specs.SavedRuns.{CanAlwaysBeSaved, EndsWithSave, IsReading};
+ghost use Rattle.dg_kept.specs.SavedRuns.{EndsWithSave, IsReading};
 ghost use Rattle.dg_model.specs.Causes.{NoneRose};
 ghost use Rattle.dg_model.specs.Runs.{Trace};
 ghost use Rattle.dg_model.specs.States.{Counts, State};
@@ -12,7 +12,7 @@ ghost use Rattle.dg_run.specs.Calls.{Facts, facts_of, met_by};
 ghost use Rattle.dg_run.specs.Replays.{Ran};
 ghost use Rattle.dg_run.specs.Resumes.{RanOn};
 ghost use Rattle.dg_saved.specs.Calls.{Facts as SavedFacts};
-ghost use Rattle.dg_saved.specs.Saved.{FoundNoState, FoundUnclean, HasRun};
+ghost use Rattle.dg_saved.specs.Saved.{FoundNoState, FoundUnclean, HasRun, TellsArray};
 ghost use Rattle.dg_saved.specs.Texts.{cat_text};
 ghost use Rattle.dg_uses.specs.Promises.{IsToldAtEnd};
 ghost use Rattle.dg_uses.specs.Saves.{GivesSaved, GoesOn, HasAnswered, HasGoneOn, IsFoundAgain};
@@ -27,12 +27,13 @@ use dg_kept::{
 use dg_run::{Status, run};
 use std::alloc::Global;
 
-/// A replay in which bytes are told, whose last event saved an array that can be saved, led to the state that was saved, and left it on the
-/// members.
-pub fn replays_leave_saves()
-    ensures { (before now : Counts) (images bytes : ℕ → Option (List ℕ)) (events : List Event) (replies : List Reply) (number : ℕ)
-        → (ran : Ran before now images bytes (events ++ Event.Save ∷ []) (replies ++ Reply.Saved number ∷ [])) → IsToldAtEnd bytes ran
-        → CanAlwaysBeSaved ran.final → EndsWithSave (Trace AreTold before events replies) number ran.final bytes }
+/// A replay after which the rack still tells each member of the array, and whose last event saved the array, led to the state that was saved,
+/// and left it on the members.
+pub fn replays_leave_saves<R: Rack>()
+    ensures { (end : R) (before now : Counts) (images bytes : ℕ → Option (List ℕ)) (events : List Event) (replies : List Reply) (number : ℕ)
+        → (ran : Ran before now images bytes (R.tells end) (events ++ Event.Save ∷ []) (replies ++ Reply.Saved number ∷ []))
+        → IsToldAtEnd (R.tells end) ran
+        → EndsWithSave (Trace AreTold before events replies) number ran.final bytes }
 {
     boundaries_stay_in_use();
     runs_end_with_saves();
@@ -49,13 +50,16 @@ pub fn saves_are_found_again()
     newest_saves_are_found();
 }
 
-/// Where no count rose in the opening, a resumed array goes on from the state that was saved; and so does an array that is asked for one thing.
-pub fn saved_arrays_go_on()
-    ensures resumed { (old : State) (number : ℕ) (last : State) (held : ℕ → Option (List ℕ)) (save : Save) (facts : Facts) (events : List Event)
-        (replies : List Reply) (ran : RanOn facts events replies) → IsFoundAgain old number last held save facts.images facts.bytes
+/// Where no count rose in the opening, a resumed array goes on from the state that was saved; and so does an array that is asked for one
+/// thing. The rack still tells each of its members at the end.
+pub fn saved_arrays_go_on<R: Rack>()
+    ensures resumed { (end : R) (old : State) (number : ℕ) (last : State) (held : ℕ → Option (List ℕ)) (save : Save) (facts : Facts)
+        (events : List Event) (replies : List Reply) (ran : RanOn (R.tells end) facts events replies) → TellsArray (R.tells end) ran.source.saved.table
+        → IsFoundAgain old number last held save facts.images facts.bytes
         → NoneRose facts.before.faults ran.opened.faults → GoesOn old save facts.images facts.bytes facts.before facts.now events replies }
-    ensures asked { (old : State) (number : ℕ) (last : State) (held : ℕ → Option (List ℕ)) (save : Save) (facts : SavedFacts) (event : Event)
-        (reply : Reply) (ran : HasRun facts event reply) → IsFoundAgain old number last held save facts.images facts.bytes
+    ensures asked { (end : R) (old : State) (number : ℕ) (last : State) (held : ℕ → Option (List ℕ)) (save : Save) (facts : SavedFacts)
+        (event : Event) (reply : Reply) (ran : HasRun (R.tells end) facts event reply) → TellsArray (R.tells end) ran.source.saved.table
+        → IsFoundAgain old number last held save facts.images facts.bytes
         → NoneRose facts.before.faults ran.opened.faults
         → GoesOn old save facts.images facts.bytes facts.before facts.now (event ∷ []) (reply ∷ []) }
 {
@@ -96,7 +100,7 @@ pub fn resume_what_is_left<S: Source, K: Sink, R: Rack>(
         → HasGoneOn old save (facts_of S.Source K.Sink R.Rack source.old source.new sink.old sink.new rack.old rack.new) }
 {
     saves_are_found_again();
-    saved_arrays_go_on();
+    saved_arrays_go_on::<R>();
     run(alloc, words, source, sink, rack)
 }
 
@@ -119,6 +123,6 @@ pub fn cat_what_is_left<S: Source, K: Sink, R: Rack>(
         → HasAnswered old save (met_by (facts_of S.Source K.Sink R.Rack source.old source.new sink.old sink.new rack.old rack.new)) (Event.Cat path) cat_text }
 {
     saves_are_found_again();
-    saved_arrays_go_on();
+    saved_arrays_go_on::<R>();
     run(alloc, words, source, sink, rack)
 }

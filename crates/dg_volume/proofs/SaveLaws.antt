@@ -19,7 +19,7 @@ use Rattle.dg_model.specs.Homes.{home_of}
 use Rattle.dg_model.specs.Lives.{all_live}
 use Rattle.dg_model.specs.Marks.{is_marked}
 use Rattle.dg_model.specs.Members.{is_good, partner_of}
-use Rattle.dg_model.specs.Saves.{AreHomes, HasForm, SavedState, body_of, room_of}
+use Rattle.dg_model.specs.Saves.{AreHomes, CanBeSaved, HasForm, SavedState, body_of, room_of}
 use Rattle.dg_model.specs.Seals.{HoldsLabel, LastLabel, forgotten, keeps_label as has_label, next_sequence}
 use Rattle.dg_model.specs.States.{State, has_lost}
 use Rattle.dg_model.specs.Steps.{Step}
@@ -110,6 +110,11 @@ saved_parts phase a shape now good rows pending homes copies numbers recent e0 e
   copies = sym e6 i;
   recent = sym e7 i;
 }
+
+-- what is so whatever the value of a result is
+pub of_any : {T E P : Type 0} (result : Result T E) → P → IfOk result (λ x. P)
+of_any (Ok x) p = p
+of_any (Err e) p = tt
 
 -- a body is no longer than its room
 pub bodies_fit : {E : Type 0} (state : SavedState) (shape : Shape) (result : Result (Vec ℕ) E) → state.table.shape ≡ shape → length (body_of 2 state) ≤ room_of 2 state.table.shape
@@ -252,9 +257,9 @@ module _ {S R : Type 0} (phase : phases.Ghosts S) (rack : Ghosts R) where
         subst (λ (s : State). (next : State) × StandsIn phase rack (WasHeld origin) after next × Step (Known (WasHeld origin) rack after) s Save reply next × (next.recent ≡ s.recent)) (sym st.is)
         (goes origin state state.blocks st.label st.holds recent)
 
-    saves : (hot body : List ℕ) (sequence : ℕ) → IsSound rack a.store → body ≡ body_of 2 (saved_by phase a hot)
+    saves : (hot body : List ℕ) (sequence : ℕ) → IsSound rack a.store → body ≡ body_of 2 (saved_by phase a hot) → CanBeSaved (saved_by phase a hot)
         → AnswersSave rack body a.store store a.label label (Saved sequence) → StepsHot phase phase rack hot a Save (SavedReply sequence) after
-    saves hot body sequence sound says answer = by_state hot (SavedReply sequence) goes
+    saves hot body sequence sound says can answer = by_state hot (SavedReply sequence) goes
       where
         goes : (origin : Origin) (rest : State) (V : List (List ℕ)) → StandsLabeled rack a.store a.label rest.label → (Known (WasHeld origin) rack a → StandsFor phase rack a V) → rest.recent ≡ hot
             → Goes (WasHeld origin) rest V (SavedReply sequence)
@@ -268,6 +273,7 @@ module _ {S R : Type 0} (phase : phases.Ghosts S) (rack : Ghosts R) where
                 some = answer.0;
                 marks = good_marks a.store;
                 marks_are = marks_are sound rest V last;
+                form = subst (λ (r : List ℕ). CanBeSaved (saved_by phase a r)) (sym recent) can;
                 next = answer.1 ∙ next_of rest.label a.label stands.kept;
                 rest = λ i. record rest {
                   boundaries = (keeps.table i).shape.b;
@@ -367,11 +373,11 @@ module _ {S R : Type 0} (phase : phases.Ghosts S) (rack : Ghosts R) where
               refl,
             )
 
-    pub save_steps : {E : Type 0} (hot body : List ℕ) (result : Result SaveAnswer E) → IsSound rack a.store → body ≡ body_of 2 (saved_by phase a hot)
+    pub save_steps : {E : Type 0} (hot body : List ℕ) (result : Result SaveAnswer E) → IsSound rack a.store → body ≡ body_of 2 (saved_by phase a hot) → CanBeSaved (saved_by phase a hot)
         → IfOk result (AnswersSave rack body a.store store a.label label) → IfOk result (λ answer. StepsHot phase phase rack hot a Save (save_reply answer) after)
-    save_steps hot body (Ok (Saved sequence)) sound says answer = saves hot body sequence sound says answer
-    save_steps hot body (Ok (Lost s)) sound says answer = saves_none hot body s answer
-    save_steps hot body (Err e) sound says answer = tt
+    save_steps hot body (Ok (Saved sequence)) sound says can answer = saves hot body sequence sound says can answer
+    save_steps hot body (Ok (Lost s)) sound says can answer = saves_none hot body s answer
+    save_steps hot body (Err e) sound says can answer = tt
 
     pub save_keeps : {E : Type 0} (result : Result SaveAnswer E) → OnErr result (settles.KeepsArray rack a after)
     save_keeps (Ok answer) = tt

@@ -1,5 +1,5 @@
 -- What a write of a block leaves of a volume, by its answer.
-use Rattle.std.specs.Prelude.{◌≡◌, ℕ, List, slice_set}
+use Rattle.std.specs.Prelude.{◌≡◌, ◌⊎◌, ℕ, List, slice_set}
 use Rattle.dg_infer.specs.Meanings.{KeptInference}
 use Rattle.dg_infer.specs.Meanings as inferences
 use Rattle.dg_io.specs.declared.outside.Rack.{Ghosts}
@@ -12,7 +12,7 @@ use Rattle.dg_store.specs.Leaves.{CallsAtMost, NoFault}
 use Rattle.dg_store.specs.Stores.{TellsAll}
 use Rattle.dg_store.specs.Stores as stores
 use Rattle.dg_store.specs.declared.store.Store.{Store}
-use Rattle.dg_volume.specs.Volumes.{Leaves, StepsTo, given_of, loose_phase, shape_of, worn_phase}
+use Rattle.dg_volume.specs.Volumes.{Leaves, StepsTo, Tells, given_of, loose_phase, shape_of, worn_phase}
 use Rattle.dg_volume.specs.declared.writes.WriteAnswer.{WriteAnswer}
 use Rattle.dg_volume.specs.declared.writes.WriteAnswer.TheVariants.{Degraded as AnyDegraded, Range as AnyRange, Written}
 use Rattle.dg_volume.specs.declared.phases.InPhase as phases
@@ -32,6 +32,12 @@ AnswersWrite phase rack old b block (Loose new) = WritesTo phase loose_phase rac
 AnswersWrite phase rack old b block (Worn new) = WritesTo phase worn_phase rack old b block Done new
 AnswersWrite phase rack old b block (Range new) = WritesTo phase phase rack old b block RangeReply new
 AnswersWrite phase rack old b block (Degraded new) = WritesTo phase phase rack old b block DegradedReply new
+
+-- What the array stood for it stands for still, or for what a write of block b made of that, where each member tells its bytes.
+abbrev pub KeepsOrWrites : {S T R : Type 0} → Ghosts R → ℕ → List ℕ → Volume S R → Volume T R → Type 0
+KeepsOrWrites rack b block old new =
+    Tells rack new → (V : List (List ℕ)) → stores.StandsFor rack old.store V
+    → stores.StandsFor rack new.store V ⊎ stores.StandsFor rack new.store (slice_set V b block)
 
 -- the replies, where the phase is told only when the program runs
 abbrev pub write_reply : WriteAnswer → Reply

@@ -2,7 +2,7 @@
 ghost use Rattle.std.specs.Prelude.{◌≡◌, ◌≢◌, ◌*◌, ◌^◌, ◌<◌, ◌≤◌, IfOk, OnErr, length};
 ghost use Rattle.std.specs.List.{All, AllPairs};
 ghost use Rattle.dg_model.specs.Members.{is_good};
-ghost use Rattle.dg_model.specs.Saves.{HasForm, body_of, room_of};
+ghost use Rattle.dg_model.specs.Saves.{CanBeSaved, HasForm, body_of, room_of};
 ghost use Rattle.dg_model.specs.declared.events.Event.{Event};
 ghost use Rattle.dg_save.specs.States.{state_of as saved_of};
 ghost use Rattle.dg_store.specs.Stores.{IsSound, members_of as stored_members, shape_of as stored_shape};
@@ -116,6 +116,7 @@ impl<S: InPhase, R: Rack> Volume<S, R> {
     fn body(&self, alloc: Global, hot: &Hot) -> Result<Vec<u8>, NoMemory>
         requires well { IsWell S.InPhase R.Rack self.now }
         ensures says { IfOk result (λ body. body.items ≡ body_of 2 (saved_by S.InPhase self.now hot.now)) }
+        ensures form { IfOk result (λ body. CanBeSaved (saved_by S.InPhase self.now hot.now)) }
         ensures room { IfOk result (λ body. length body.items ≤ room_of 2 (shape_of self.now)) }
     {
         bodies_have_room();

@@ -1,5 +1,5 @@
 // A write of a block, which leads to the next phase.
-ghost use Rattle.std.specs.Prelude.{◌≡◌, ◌≢◌, ◌<◌, IfOk, List, MatchOption, None, Some, false, true, length, slice_set, ℕ};
+ghost use Rattle.std.specs.Prelude.{◌≡◌, ◌≢◌, ◌<◌, IfOk, List, MatchOption, None, OnErr, Some, false, true, length, slice_set, ℕ};
 ghost use Rattle.dg_infer.specs.Meanings as inferences;
 ghost use Rattle.dg_model.specs.Marks.{AreLeft, with_mark};
 ghost use Rattle.dg_model.specs.States.{has_lost};
@@ -9,7 +9,7 @@ ghost use Rattle.dg_store.specs.Stores as stores;
 ghost use Rattle.dg_store.specs.Views.{ReadsOn};
 ghost use Rattle.dg_volume.specs.Phases.{kept_in, phase_in};
 ghost use Rattle.dg_volume.specs.Volumes.{FitsArray, IsWell, Leaves, given_of, any_phase, shape_of};
-ghost use Rattle.dg_volume.specs.Writes.{AnswersWrite, IsFollowed, RereadsFew, WritesTo, write_reply};
+ghost use Rattle.dg_volume.specs.Writes.{AnswersWrite, IsFollowed, KeepsOrWrites, RereadsFew, WritesTo, write_reply};
 
 use crate::phases::{AnyPhase, InPhase, Loose, Worn};
 use crate::seals::write_opened;
@@ -186,7 +186,7 @@ impl<S: InPhase + Drop, R: Rack + Drop> Volume<S, R> {
 
 impl<R: Rack> Volume<AnyPhase, R> {
     /// Writes a block of L bytes to its sites, behind the opening of a seal, and follows what blocks belong to. After want of memory the volume
-    /// is loose, and it isn't known what its blocks belong to.
+    /// is loose, and it isn't known what its blocks belong to; each block has its last value then, the written one its old or its new one.
     pub fn write_block(
         &mut self,
         alloc: Global,
@@ -197,6 +197,7 @@ impl<R: Rack> Volume<AnyPhase, R> {
         requires size { length buf.now ≡ (shape_of self.old).l }
         ensures leaves { Leaves any_phase any_phase R.Rack self.old self.new }
         ensures steps { IfOk result (λ answer. WritesTo any_phase any_phase R.Rack self.old block buf.now (write_reply answer) self.new) }
+        ensures err { OnErr result (KeepsOrWrites R.Rack block buf.now self.old self.new) }
         ensures given { given_of self.new ≡ given_of self.old }
     {
         if block >= self.store.shape().n {

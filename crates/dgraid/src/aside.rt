@@ -1,7 +1,7 @@
 // Setting aside the images that a new array would stand among.
 use crate::members::Members;
 use crate::names::{MEMBERS, name_of, old_name_of, path_of};
-use crate::reports::report;
+use crate::reports::report_member;
 use std::{fs, io};
 
 /// Why images weren't set aside was told.
@@ -67,8 +67,6 @@ fn rename(rt: HostRuntime, from: &[u8], to: &[u8]) -> io::Result<()> {
 
 /// Tells that a call on a member's image failed.
 fn tell(rt: HostRuntime, member: u8, call: &str, error: &io::Error) -> Told {
-    if let Ok(name) = path_of(&name_of(member)) {
-        report(rt, name, call, error);
-    }
+    report_member(rt, member, call, error);
     Told
 }

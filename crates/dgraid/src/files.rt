@@ -174,15 +174,14 @@ impl Image {
     /// them in this order.
     pub fn write(&mut self, place: u64, buf: &[u8]) -> io::Result<()> {
         self.check_access()?;
-        if !self.is_header(place) {
-            self.is_dirty = true;
-            return self.file.write_all_at(buf, place);
+        let is_header = self.is_header(place);
+        if is_header {
+            self.flush()?;
+            self.has_label = true;
         }
-        self.flush()?;
-        self.has_label = true;
         self.is_dirty = true;
         self.file.write_all_at(buf, place)?;
-        self.flush()
+        if is_header { self.flush() } else { Ok(()) }
     }
 
     /// Makes it so many bytes long.
@@ -205,11 +204,11 @@ impl Image {
         }
     }
 
-    // Has what was written to it on the disk.
-    fn flush(&mut self) -> io::Result<()> {
+    /// Has what was written to it on the disk. Where that fails the system gives the error once, so it isn't tried again.
+    pub fn flush(&mut self) -> io::Result<()> {
         if self.is_dirty {
-            self.file.sync_data()?;
             self.is_dirty = false;
+            self.file.sync_data()?;
         }
         Ok(())
     }

@@ -7,8 +7,7 @@ ghost use Rattle.dgraid.specs.Images.{bytes_in, counts_in, disks_in, keeps_in, m
 
 use crate::files::Purpose;
 use crate::members::Members;
-use crate::names::{name_of, path_of};
-use crate::reports::report;
+use crate::reports::report_member;
 use crate::searches::Search;
 use dg_io::{Failed, NoMemory, Rack};
 use std::io;
@@ -78,6 +77,11 @@ impl<'a> ImageRack<'a> {
         })
     }
 
+    /// Closes all images. No call is made of them any more.
+    pub fn close(&mut self) {
+        self.members.let_all_go();
+    }
+
     // Tells that the call failed, where that wasn't told of this member and call before.
     fn tell(&mut self, member: u8, call: Call, error: &io::Error)
         ensures calls { self.new.calls ≡ self.old.calls }
@@ -87,9 +91,7 @@ impl<'a> ImageRack<'a> {
         let told = self.told[member as usize];
         if told & call.bit() == 0 {
             self.told[member as usize] = told | call.bit();
-            if let Ok(name) = path_of(&name_of(member)) {
-                report(self.rt, name, call.word(), error);
-            }
+            report_member(self.rt, member, call.word(), error);
         }
     }
 

@@ -74,7 +74,9 @@ fn serve(rt: HostRuntime) -> Status {
     };
     let mut source = StandardInput::new(rt);
     let mut sink = StandardOutput::new(rt, &search);
-    run(rt.alloc(), &words, &mut source, &mut sink, &mut rack)
+    let status = run(rt.alloc(), &words, &mut source, &mut sink, &mut rack);
+    rack.close();
+    status
 }
 
 fn main(rt: HostRuntime) -> ExitCode {

@@ -2,6 +2,7 @@
 use crate::aside::set_aside;
 use crate::files::{Image, Lock, Node, Part, Purpose};
 use crate::names::{MEMBERS, name_of, path_of};
+use crate::reports::report_member;
 use crate::searches::Search;
 use crate::system::longest_file;
 use dg_io::NoMemory;
@@ -43,6 +44,8 @@ pub struct Members<'a> {
     longest: u64,
     /// Whether files were made or renamed since the folder was flushed.
     has_new_names: bool,
+    /// Whether a label was written, and with it an image flushed.
+    has_labels: bool,
     search: &'a Search,
     /// Whether a saved array is looked for, and none is opened yet.
     is_searching: bool,
@@ -84,6 +87,7 @@ impl<'a> Members<'a> {
             start: Start::Fresh,
             longest: longest_file(rt),
             has_new_names: false,
+            has_labels: false,
             search,
             is_searching: false,
         })
@@ -139,9 +143,9 @@ impl<'a> Members<'a> {
     /// Writes at a place. New names are on the disk before the first label.
     pub fn write(&mut self, member: u8, place: u64, buf: &[u8]) -> io::Result<()> {
         self.check_length(place.saturating_add(buf.len() as u64))?;
-        if place == 0 && self.has_new_names {
-            File::open(&self.rt, ".")?.sync_all()?;
-            self.has_new_names = false;
+        if place == 0 {
+            self.flush_names()?;
+            self.has_labels = true;
         }
         self.image_mut(member)?.write(place, buf)
     }
@@ -167,10 +171,19 @@ impl<'a> Members<'a> {
         matches!(self.images.get(member as usize), Some(Some(_)))
     }
 
-    /// Closes a member's image, if it is open.
+    /// Closes a member's image, if it is open. In a run that wrote a label, what was written to it since its last flush is flushed before,
+    /// and a failure is told: so an error that comes as late as this isn't lost.
     pub fn let_go(&mut self, member: u8) {
-        if let Some(place) = self.images.get_mut(member as usize) {
-            *place = None;
+        let Some(place) = self.images.get_mut(member as usize) else {
+            return;
+        };
+        let Some(mut image) = place.take() else {
+            return;
+        };
+        if self.has_labels {
+            if let Err(error) = image.flush() {
+                report_member(self.rt, member, "close", &error);
+            }
         }
     }
 
@@ -179,6 +192,15 @@ impl<'a> Members<'a> {
         for member in 0..MEMBERS {
             self.let_go(member);
         }
+    }
+
+    // Has the names of new files on the disk.
+    fn flush_names(&mut self) -> io::Result<()> {
+        if self.has_new_names {
+            File::open(&self.rt, ".")?.sync_all()?;
+            self.has_new_names = false;
+        }
+        Ok(())
     }
 
     // Sets aside what is there, if that is still to be done.

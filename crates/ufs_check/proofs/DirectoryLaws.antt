@@ -1,10 +1,10 @@
 -- Looking at the file blocks of a directory, one after the other.
 use Rattle.std.proofs.Common.{◌≡◌, ◌∙◌, ℕ, suc, ◌+◌, ◌/◌, Bool, true, false, List, [], ◌∷◌, ◌++◌, Option, Some, None, Result, Ok, Err, refl, sym, ap, subst, add-one}
-use Rattle.std.specs.Prelude.{◌||◌, ◌&&◌}
+use Rattle.std.specs.Prelude.{◌||◌, ◌&&◌, map}
 use Rattle.std.specs.List.{list_any}
 use Rattle.std.specs.Option.{is_some, ok_or}
 use Rattle.std.specs.Result.{is_ok}
-use Rattle.std.proofs.lemmas.List.Folds.{list_any-append}
+use Rattle.std.proofs.lemmas.List.{map-append}
 use Rattle.ufs_model.specs.Blocks.{Reading, Volume, bind, known}
 use Rattle.ufs_model.specs.Chunks.{DirEntry, chunk_in, entries_in, fault_in}
 use Rattle.ufs_model.specs.Paths.{block_of, bytes_in_block, chunks_in, chunks_of, entries_before, entries_then, entries_through}
@@ -18,11 +18,11 @@ use Rattle.ufs_model.specs.declared.reads.BadRead.TheVariants.{Hole as BadHole, 
 use Rattle.ufs_model.specs.declared.reads.PathRefusal.{PathRefusal}
 use Rattle.ufs_model.specs.declared.reads.PathRefusal.TheVariants.{Bad}
 use Rattle.ufs_check.specs.Directories.{SaysEntries, ScannedBelow, ScansBlock, chunks_said, entries_said, hole_at, hole_said, refused_at, refused_said}
-use Rattle.ufs_check.specs.Entries.{AddsEntries, entries_all, is_mistyped, is_refused, names_none}
+use Rattle.ufs_check.specs.Entries.{entries_all, is_refused}
+use Rattle.ufs_check.specs.OwnedEntries.{Sees, seen_all, seen_in}
 use Rattle.ufs_check.specs.declared.directories.Scan.{Scan}
-use Rattle.ufs_check.specs.declared.entries.EntryFaults.{EntryFaults}
+use Rattle.ufs_check.specs.declared.owned_entries.OwnedEntry.{OwnedEntry}
 use Rattle.ufs_check.proofs.ChunkLaws.{not_some, or_first}
-use Rattle.ufs_check.proofs.EntryLaws.{or_end}
 
 -- ---- the entries of chunks
 
@@ -55,30 +55,61 @@ and_all : (a : Bool) → (a && true) ≡ a
 and_all true = refl
 and_all false = refl
 
+or_end : (a : Bool) → (a || false) ≡ a
+or_end true = refl
+or_end false = refl
+
 or_all : (a : Bool) → (a || true) ≡ true
 or_all true = refl
 or_all false = refl
 
-pub data_refused : (g : Geometry) (v : Volume) (k : ℕ) (bytes : List ℕ) (scan : Scan) → list_any (is_refused g.endian) (chunks_in k bytes) ≡ true
-    → ScansBlock g v k (Ok (Some bytes)) scan (record { hole = scan.hole; chunk = true; read = false; entries = scan.entries })
-data_refused g v k bytes scan some = record {
-  hole = sym (or_end scan.hole);
-  chunk = rw some (sym (or_all scan.chunk));
-  read = rw (through_refused g.endian (chunks_in k bytes) some) (sym (and_none scan.read));
-  entries = λ entries is. let no : Err (Bad BadChunk) ≡ Ok entries = sym (through_refused g.endian (chunks_in k bytes) some) ∙ is in cc;
+pub scans_hole : (g : Geometry) (v : Volume) (k : ℕ) (block : Result (Option (List ℕ)) PathRefusal) (old new : Scan) → Ok None ≡ block
+    → new.hole ≡ true → new.chunk ≡ old.chunk → new.read ≡ false → ScansBlock g v k block old new
+scans_hole g v k block old new is hole chunk read = subst (λ block. ScansBlock g v k block old new) is (record {
+  hole = hole ∙ sym (or_all old.hole);
+  chunk = chunk ∙ sym (or_end old.chunk);
+  read = read ∙ sym (and_none old.read);
+  entries = λ was entries said. let no : Err (Bad BadHole) ≡ Ok entries = said in cc;
+})
+
+pub scans_wild : (g : Geometry) (v : Volume) (k : ℕ) (refusal : PathRefusal) (block : Result (Option (List ℕ)) PathRefusal) (old new : Scan) → Err refusal ≡ block
+    → new.hole ≡ old.hole → new.chunk ≡ old.chunk → new.read ≡ false → ScansBlock g v k block old new
+scans_wild g v k refusal block old new is hole chunk read = subst (λ block. ScansBlock g v k block old new) is (record {
+  hole = hole ∙ sym (or_end old.hole);
+  chunk = chunk ∙ sym (or_end old.chunk);
+  read = read ∙ sym (and_none old.read);
+  entries = λ was entries said. let no : Err refusal ≡ Ok entries = said in cc;
+})
+
+pub data_refused : (g : Geometry) (v : Volume) (k : ℕ) (bytes : List ℕ) (old new : Scan) → list_any (is_refused g.endian) (chunks_in k bytes) ≡ true
+    → new.hole ≡ old.hole → new.chunk ≡ true → new.read ≡ false → ScansBlock g v k (Ok (Some bytes)) old new
+data_refused g v k bytes old new some hole chunk read = record {
+  hole = hole ∙ sym (or_end old.hole);
+  chunk = rw some (chunk ∙ sym (or_all old.chunk));
+  read = rw (through_refused g.endian (chunks_in k bytes) some) (read ∙ sym (and_none old.read));
+  entries = λ was entries is. let no : Err (Bad BadChunk) ≡ Ok entries = sym (through_refused g.endian (chunks_in k bytes) some) ∙ is in cc;
 }
 
-pub data_whole : (g : Geometry) (v : Volume) (k : ℕ) (bytes : List ℕ) (scan : Scan) (faults : EntryFaults) → list_any (is_refused g.endian) (chunks_in k bytes) ≡ false
-    → AddsEntries g v (entries_all g.endian (chunks_in k bytes)) scan.entries faults
-    → ScansBlock g v k (Ok (Some bytes)) scan (record { hole = scan.hole; chunk = scan.chunk; read = scan.read; entries = faults })
-data_whole g v k bytes scan faults none adds = record {
+pub data_passed : (g : Geometry) (v : Volume) (k : ℕ) (bytes : List ℕ) (scan : Scan) → list_any (is_refused g.endian) (chunks_in k bytes) ≡ false → scan.read ≡ false
+    → ScansBlock g v k (Ok (Some bytes)) scan scan
+data_passed g v k bytes scan none unread = record {
   hole = sym (or_end scan.hole);
   chunk = rw none (sym (or_end scan.chunk));
-  read = rw (through_whole g.endian (chunks_in k bytes) none) (sym (and_all scan.read));
-  entries = λ entries is.
+  read = rw unread refl;
+  entries = λ was entries is. let no : false ≡ true = sym unread ∙ was in cc;
+}
+
+pub data_whole : (g : Geometry) (v : Volume) (k : ℕ) (bytes : List ℕ) (old new : Scan) → list_any (is_refused g.endian) (chunks_in k bytes) ≡ false
+    → new.hole ≡ old.hole → new.chunk ≡ old.chunk → new.read ≡ old.read → Sees g v (entries_all g.endian (chunks_in k bytes)) old.entries.items new.entries.items
+    → ScansBlock g v k (Ok (Some bytes)) old new
+data_whole g v k bytes old new none hole chunk read sees = record {
+  hole = hole ∙ sym (or_end old.hole);
+  chunk = rw none (chunk ∙ sym (or_end old.chunk));
+  read = rw (through_whole g.endian (chunks_in k bytes) none) (read ∙ sym (and_all old.read));
+  entries = λ was entries is.
       let both : Ok (entries_all g.endian (chunks_in k bytes)) ≡ Ok entries = sym (through_whole g.endian (chunks_in k bytes) none) ∙ is in
       let same : entries_all g.endian (chunks_in k bytes) ≡ entries = cc in
-      subst (λ es. AddsEntries g v es scan.entries faults) same adds;
+      subst (λ es. Sees g v es old.entries.items new.entries.items) same sees;
 }
 
 -- ---- the entries of one more file block
@@ -122,16 +153,15 @@ before_next g inode n v = front_part g.endian v ((entries_before g inode n v).va
 
 -- ---- what is found in one more file block
 
-says_joined : (g : Geometry) (v : Volume) (front entries : Result (List DirEntry) PathRefusal) (old_read new_read : Bool) (old new : EntryFaults)
-    → SaysEntries g v old_read old front → new_read ≡ (old_read && is_ok entries) → ((es : List DirEntry) → entries ≡ Ok es → AddsEntries g v es old new) → SaysEntries g v new_read new (joined front entries)
-says_joined g v (Err refusal) entries old_read new_read old new says read adds = read ∙ ap (λ b. b && is_ok entries) says
-says_joined g v (Ok front) (Err refusal) old_read new_read old new says read adds = read ∙ and_none old_read
-says_joined g v (Ok front) (Ok es) old_read new_read old new says read adds =
-    let added = adds es refl in (
-      read ∙ ap (λ b. b && true) says.0,
-      added.entry ∙ ap (λ b. b || list_any (names_none g v) es) says.1 ∙ sym (list_any-append (names_none g v) front es),
-      added.entry_type ∙ ap (λ b. b || list_any (is_mistyped g v) es) says.2 ∙ sym (list_any-append (is_mistyped g v) front es),
-    )
+says_joined : (g : Geometry) (v : Volume) (front entries : Result (List DirEntry) PathRefusal) (old_read new_read : Bool) (old new : List OwnedEntry)
+    → SaysEntries g v old_read old front → new_read ≡ (old_read && is_ok entries) → (old_read ≡ true → (es : List DirEntry) → entries ≡ Ok es → Sees g v es old new)
+    → SaysEntries g v new_read new (joined front entries)
+says_joined g v (Err refusal) entries old_read new_read old new says read sees = read ∙ ap (λ b. b && is_ok entries) says
+says_joined g v (Ok front) (Err refusal) old_read new_read old new says read sees = read ∙ and_none old_read
+says_joined g v (Ok front) (Ok es) old_read new_read old new says read sees = (
+  read ∙ ap (λ b. b && true) says.0,
+  sees says.0 es refl ∙ ap (λ x. x ++ map (seen_in g v) es) says.1 ∙ sym (map-append (seen_in g v) front es),
+)
 
 pub scanned_next : (g : Geometry) (inode : Inode) (v : Volume) (n : ℕ) (old new : Scan) → ScannedBelow g inode v n old
     → ScansBlock g v (bytes_in_block g inode n / 512) ((block_of g inode n v).value) old new → ScannedBelow g inode v (n + 1) new
@@ -139,14 +169,13 @@ unfolding hole_at refused_at
 scanned_next g inode v n old new so_far one = rw add-one (record {
   hole = one.hole ∙ ap (λ b. b || hole_said ((block_of g inode n v).value)) so_far.hole;
   chunk = one.chunk ∙ ap (λ b. b || refused_said g.endian (chunks_said (bytes_in_block g inode n / 512) ((block_of g inode n v).value))) so_far.chunk;
-  entries = subst (λ entries. SaysEntries g v new.read new.entries entries)
+  entries = subst (λ entries. SaysEntries g v new.read new.entries.items entries)
       (sym (before_next g inode n v ∙ ap (λ chunks. joined ((entries_before g inode n v).value) (entries_said g.endian chunks)) (chunks_value g inode n v)))
       (says_joined g v ((entries_before g inode n v).value) (entries_said g.endian (chunks_said (bytes_in_block g inode n / 512) ((block_of g inode n v).value)))
-      old.read new.read old.entries new.entries so_far.entries one.read one.entries);
+      old.read new.read old.entries.items new.entries.items so_far.entries one.read one.entries);
 })
 
 -- nothing is found in no file block
-pub scanned_none : (g : Geometry) (inode : Inode) (v : Volume)
-    → ScannedBelow g inode v 0 (record { hole = false; chunk = false; read = true; entries = record { entry = false; entry_type = false } })
+pub scanned_none : (g : Geometry) (inode : Inode) (v : Volume) (scan : Scan) → scan.hole ≡ false → scan.chunk ≡ false → scan.read ≡ true → scan.entries.items ≡ [] → ScannedBelow g inode v 0 scan
 unfolding entries_before
-scanned_none g inode v = record { hole = refl; chunk = refl; entries = (refl, refl, refl) }
+scanned_none g inode v scan hole chunk read none = record { hole = hole; chunk = chunk; entries = (read, ap seen_all none) }

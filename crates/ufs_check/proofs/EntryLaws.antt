@@ -1,38 +1,33 @@
--- Looking at entries, one after the other.
-use Rattle.std.proofs.Common.{◌≡◌, ◌∙◌, Bool, true, false, List, [], ◌∷◌, ◌++◌, Option, refl, sym, ap}
-use Rattle.std.specs.Prelude.{◌||◌, filter, if◌then◌else◌}
-use Rattle.std.specs.List.{list_any}
-use Rattle.std.specs.Option.{is_none}
-use Rattle.std.proofs.lemmas.List.Folds.{list_any-append}
+-- Gathering entries, one after the other.
+use Rattle.std.proofs.Common.{◌≡◌, ◌∙◌, Bool, true, false, List, [], ◌∷◌, ◌++◌, Option, refl, sym, ap, append_assoc, append-nil}
+use Rattle.std.specs.Prelude.{filter, if◌then◌else◌, map}
+use Rattle.std.proofs.lemmas.List.{map-append}
 use Rattle.ufs_model.specs.Blocks.{Volume}
 use Rattle.ufs_model.specs.Chunks.{DirEntry, is_used_entry, used_entries}
 use Rattle.ufs_model.specs.Malformations.{inode_at}
 use Rattle.ufs_model.specs.declared.geometries.Geometry.{Geometry}
 use Rattle.ufs_model.specs.declared.inodes.Inode.{Inode}
-use Rattle.ufs_check.specs.Entries.{AddsEntries, Completes, is_mistyped, mistyped_in, names_none}
-use Rattle.ufs_check.specs.declared.entries.EntryFaults.{EntryFaults}
-
-pub or_end : (a : Bool) → (a || false) ≡ a
-or_end true = refl
-or_end false = refl
-
-or_over : (a b c : Bool) → (a || (b || c)) ≡ ((a || b) || c)
-or_over true b c = refl
-or_over false b c = refl
+use Rattle.ufs_check.specs.OwnedEntries.{Completes, Sees, kind_in, seen_all, seen_in}
+use Rattle.ufs_check.specs.declared.owned_entries.OwnedEntry.{OwnedEntry}
 
 -- ---- one entry
 
-adds_used : (test : DirEntry → Bool) (entry : DirEntry) (used : Bool) (old new : Bool) → used ≡ true → new ≡ (old || test entry) → new ≡ (old || list_any test (if used then entry ∷ [] else []))
-adds_used test entry true old new used is = is ∙ ap (λ b. old || b) (sym (or_end (test entry)))
-adds_used test entry false old new used is = let no : false ≡ true = used in cc
+sees_used : (g : Geometry) (v : Volume) (entry : DirEntry) (named : Option Inode) (used : Bool) (old new : List OwnedEntry) → used ≡ true → named ≡ inode_at g v entry.inode
+    → seen_all new ≡ seen_all old ++ (entry, kind_in named) ∷ [] → seen_all new ≡ seen_all old ++ map (seen_in g v) (if used then entry ∷ [] else [])
+sees_used g v entry named true old new used is one = one ∙ ap (λ o. seen_all old ++ (entry, kind_in o) ∷ []) is
+sees_used g v entry named false old new used is one = let no : false ≡ true = used in cc
 
-pub adds_one : (g : Geometry) (v : Volume) (entry : DirEntry) (named : Option Inode) (old new : EntryFaults) → is_used_entry entry ≡ true → named ≡ inode_at g v entry.inode
-    → new.entry ≡ (old.entry || is_none named) → new.entry_type ≡ (old.entry_type || mistyped_in entry.kind named) → AddsEntries g v (used_entries (entry ∷ [])) old new
-unfolding names_none is_mistyped
-adds_one g v entry named old new used is one two = record {
-  entry = adds_used (names_none g v) entry (is_used_entry entry) old.entry new.entry used (one ∙ ap (λ o. old.entry || is_none o) is);
-  entry_type = adds_used (is_mistyped g v) entry (is_used_entry entry) old.entry_type new.entry_type used (two ∙ ap (λ o. old.entry_type || mistyped_in entry.kind o) is);
-}
+pub sees_one : (g : Geometry) (v : Volume) (entry : DirEntry) (named : Option Inode) (old new : List OwnedEntry) → is_used_entry entry ≡ true → named ≡ inode_at g v entry.inode
+    → seen_all new ≡ seen_all old ++ (entry, kind_in named) ∷ [] → Sees g v (used_entries (entry ∷ [])) old new
+sees_one g v entry named old new used is one = sees_used g v entry named (is_used_entry entry) old new used is one
+
+sees_unused : (g : Geometry) (v : Volume) (entry : DirEntry) (used : Bool) (old : List OwnedEntry) → used ≡ false
+    → seen_all old ≡ seen_all old ++ map (seen_in g v) (if used then entry ∷ [] else [])
+sees_unused g v entry true old unused = let no : true ≡ false = unused in cc
+sees_unused g v entry false old unused = sym (append-nil (seen_all old))
+
+pub sees_none : (g : Geometry) (v : Volume) (entry : DirEntry) (old : List OwnedEntry) → is_used_entry entry ≡ false → Sees g v (used_entries (entry ∷ [])) old old
+sees_none g v entry old unused = sees_unused g v entry (is_used_entry entry) old unused
 
 -- ---- some entries, and then the others
 
@@ -43,13 +38,16 @@ used_first entry entries false = refl
 pub used_cons : (entry : DirEntry) (entries : List DirEntry) → used_entries (entry ∷ entries) ≡ used_entries (entry ∷ []) ++ used_entries entries
 used_cons entry entries = used_first entry entries (is_used_entry entry)
 
-further : (test : DirEntry → Bool) (some rest : List DirEntry) (now new whole : Bool) → (now || list_any test (some ++ rest)) ≡ whole → new ≡ (now || list_any test some) → (new || list_any test rest) ≡ whole
-further test some rest now new whole so_far one =
-    ap (λ b. b || list_any test rest) one ∙ sym (or_over now (list_any test some) (list_any test rest)) ∙ ap (λ b. now || b) (sym (list_any-append test some rest)) ∙ so_far
+append_next : {A : Type 0} (now new some rest whole here : List A) → here ≡ some ++ rest → new ≡ now ++ some → now ++ here ≡ whole → new ++ rest ≡ whole
+append_next now new some rest whole here here_is new_is so_far =
+    ap (λ x. x ++ rest) new_is ∙ append_assoc now some rest ∙ ap (λ x. now ++ x) (sym here_is) ∙ so_far
 
-pub completes_next : (g : Geometry) (v : Volume) (all here some rest : List DirEntry) (old now new : EntryFaults) → here ≡ some ++ rest
-    → Completes g v all here old now → AddsEntries g v some now new → Completes g v all rest old new
-completes_next g v all here some rest old now new is so_far one = record {
-  entry = further (names_none g v) some rest now.entry new.entry _ (ap (λ es. now.entry || list_any (names_none g v) es) (sym is) ∙ so_far.entry) one.entry;
-  entry_type = further (is_mistyped g v) some rest now.entry_type new.entry_type _ (ap (λ es. now.entry_type || list_any (is_mistyped g v) es) (sym is) ∙ so_far.entry_type) one.entry_type;
-}
+pub completes_next : (g : Geometry) (v : Volume) (all here some rest : List DirEntry) (old now new : List OwnedEntry) → here ≡ some ++ rest
+    → Completes g v all here old now → Sees g v some now new → Completes g v all rest old new
+completes_next g v all here some rest old now new is so_far one =
+    append_next (seen_all now) (seen_all new) (map (seen_in g v) some) (map (seen_in g v) rest) (seen_all old ++ map (seen_in g v) all) (map (seen_in g v) here)
+    (ap (map (seen_in g v)) is ∙ map-append (seen_in g v) some rest) one so_far
+
+-- nothing is left
+pub completes_end : (g : Geometry) (v : Volume) (all rest : List DirEntry) (old now : List OwnedEntry) → rest ≡ [] → Completes g v all rest old now → Sees g v all old now
+completes_end g v all rest old now none so_far = sym (append-nil (seen_all now)) ∙ ap (λ es. seen_all now ++ map (seen_in g v) es) (sym none) ∙ so_far

@@ -1,5 +1,5 @@
 -- What is found in a directory tells what is wrong with it.
-use Rattle.std.proofs.Common.{◌≡◌, ◌≢◌, ◌∙◌, ℕ, zero, suc, ◌+◌, ◌*◌, ◌%◌, ◌^◌, ◌<◌, ◌≤◌, inl, inr, ◌⊎◌, length, Bool, true, false, List, Option, Some, None, Result, Ok, Err, refl, sym, ap, subst, arith}
+use Rattle.std.proofs.Common.{◌≡◌, ◌≢◌, ◌∙◌, ℕ, zero, suc, ◌+◌, ◌*◌, ◌%◌, ◌^◌, ◌<◌, ◌≤◌, inl, inr, ◌⊎◌, length, Bool, true, false, List, [], Option, Some, None, Result, Ok, Err, refl, sym, ap, subst, arith}
 use Rattle.std.specs.Prelude.{◌==◌, ◌||◌, ◌&&◌, Contains, MatchOption, not, if◌then◌else◌, slice_get, nat_le, nat_lt}
 use Rattle.std.specs.Bool.{Decides}
 use Rattle.std.specs.List.{list_any}
@@ -18,21 +18,23 @@ use Rattle.ufs_model.specs.declared.chunks.BadEntry.{BadEntry}
 use Rattle.ufs_model.specs.declared.geometries.Geometry.{Geometry}
 use Rattle.ufs_model.specs.declared.inodes.Inode.{Inode}
 use Rattle.ufs_model.specs.declared.inodes.Kind.TheVariants.{Directory}
-use Rattle.ufs_model.specs.declared.malformations.BadKind.TheVariants.{Hole as HoleIn, Chunk, Entry, EntryType, Filesize}
+use Rattle.ufs_model.specs.declared.malformations.BadKind.TheVariants.{Hole as HoleIn, Chunk, Entry, EntryType, Names, RootNamed}
 use Rattle.ufs_model.specs.declared.numbers.Endian.{Endian}
 use Rattle.ufs_model.specs.declared.pointers.Address.{Address}
 use Rattle.ufs_model.specs.declared.pointers.Address.TheVariants.{Hole, Wild, At}
 use Rattle.ufs_model.specs.declared.reads.BadRead.TheVariants.{Chunk as BadChunk, Filesize as BadFilesize}
 use Rattle.ufs_model.specs.declared.reads.PathRefusal.{PathRefusal}
 use Rattle.ufs_model.specs.declared.reads.PathRefusal.TheVariants.{Bad}
-use Rattle.ufs_check.specs.Directories.{AreDirectoryFaults, AreDirectoryFaultsBelow, HasNoHole, SaysEntries, ScannedBelow, ScannedWhole, any_below, hole_at, hole_said, refused_at, refused_said}
-use Rattle.ufs_check.specs.Entries.{is_mistyped, is_refused, mistyped_in, names_none, type_differs}
-use Rattle.ufs_check.specs.Least.{IsLeast, IsLeastBelow}
+use Rattle.ufs_check.specs.Directories.{AreBlockFaultsBelow, AreDirectoryFaults, AreDirectoryFaultsBelow, AreEntryFaultsBelow, SaysEntries, ScannedWhole, any_below, hole_at, hole_said, refused_at, refused_said}
+use Rattle.ufs_check.specs.Entries.{is_refused, mistyped_in, type_differs}
+use Rattle.ufs_check.specs.Names.{is_mistyped, names_none}
+use Rattle.ufs_check.specs.OwnedEntries.{AreOwned, kind_in}
 use Rattle.ufs_check.specs.declared.directories.Scan.{Scan}
-use Rattle.ufs_check.specs.declared.entries.EntryFaults.{EntryFaults}
+use Rattle.ufs_check.specs.declared.owned_entries.OwnedEntry.{OwnedEntry}
 use Rattle.ufs_check.specs.declared.verdicts.DirectoryFaults.{DirectoryFaults}
 use Rattle.ufs_check.proofs.DirectoryLaws.{chunks_value}
-use Rattle.ufs_check.proofs.LeastLaws.{least_all, least_passed}
+use Rattle.ufs_check.proofs.NoteLaws.{all_all, all_empty, all_passed}
+use Rattle.ufs_check.proofs.OwnedLaws.{any_decides, kind_none, owned_are}
 
 -- ---- a file block below a bound
 
@@ -51,13 +53,6 @@ below_here test (suc m) n lt is = elim (cases_order n m) [
 ]
 
 -- ---- holes
-
--- the first hole was met
-pub scanned_hole : (g : Geometry) (inode : Inode) (v : Volume) (n : ℕ) (scan : Scan) → n < block_count g inode → scan.hole ≡ true → ScannedBelow g inode v n scan → ScannedWhole g inode v scan
-scanned_hole g inode v n scan lt has so_far = record {
-  hole = has ∙ sym (let found = below_found (hole_at g inode v) n (sym so_far.hole ∙ has) in below_here (hole_at g inode v) (block_count g inode) found.0 (let low = found.1 in omega arith) found.2);
-  below = λ none. let no : true ≡ false = sym has ∙ none in cc;
-}
 
 pub block_value : (g : Geometry) (inode : Inode) (n : ℕ) (v : Volume) → (block_of g inode n v).value ≡ (bytes_at g ((file_block_of g inode n v).value) v).value
 unfolding block_of bind
@@ -172,138 +167,96 @@ pub torn_entries : (g : Geometry) (inode : Inode) (v : Volume) → kind_of inode
 unfolding entries_of directory_refusal
 torn_entries g inode v kind small torn = let fits : nat_le (2 ^ 32) inode.size ≡ false = grind (arith, nat_tests) in rw (kind, fits, torn) refl
 
--- the entries that are read, with their faults
-pub record AreRead (g : Geometry) (v : Volume) (inode : Inode) (faults : EntryFaults) : Type 0 where
-  pub entries : List DirEntry
-  pub are : (entries_of g inode v).value ≡ Ok entries
-  pub entry : faults.entry ≡ list_any (names_none g v) entries
-  pub entry_type : faults.entry_type ≡ list_any (is_mistyped g v) entries
-
-said_read : (g : Geometry) (v : Volume) (inode : Inode) (entries : Result (List DirEntry) PathRefusal) (read : Bool) (faults : EntryFaults) → SaysEntries g v read faults entries → read ≡ true
-    → (entries_of g inode v).value ≡ entries → AreRead g v inode faults
-said_read g v inode (Err refusal) read faults says is value = let no : false ≡ true = sym says ∙ is in cc
-said_read g v inode (Ok entries) read faults says is value = record { entries = entries; are = value; entry = says.1; entry_type = says.2 }
-
-said_unread : (g : Geometry) (v : Volume) (entries : Result (List DirEntry) PathRefusal) (read : Bool) (faults : EntryFaults) (es : List DirEntry) → SaysEntries g v read faults entries → read ≡ false
-    → entries ≡ Ok es → ⊥
-said_unread g v (Err refusal) read faults es says is value = let no : Err refusal ≡ Ok es = value in cc
-said_unread g v (Ok entries) read faults es says is value = let no : true ≡ false = sym says.0 ∙ is in cc
-
-pub entries_read : (g : Geometry) (inode : Inode) (v : Volume) (read : Bool) (faults : EntryFaults) → kind_of inode.mode ≡ Directory → inode.size < 2 ^ 32 → ((inode.size % 512 == 0) && read) ≡ true
-    → SaysEntries g v read faults ((entries_before g inode (block_count g inode) v).value) → AreRead g v inode faults
-entries_read g inode v read faults kind small is says =
-    let parts = and_parts (inode.size % 512 == 0) read is in
-    said_read g v inode ((entries_before g inode (block_count g inode) v).value) read faults says parts.1 (whole_entries g inode v kind small parts.0)
-
-unread_by : (g : Geometry) (inode : Inode) (v : Volume) (whole read : Bool) (faults : EntryFaults) (es : List DirEntry) → kind_of inode.mode ≡ Directory → inode.size < 2 ^ 32 → (inode.size % 512 == 0) ≡ whole
-    → (whole && read) ≡ false → SaysEntries g v read faults ((entries_before g inode (block_count g inode) v).value) → (entries_of g inode v).value ≡ Ok es → ⊥
-unread_by g inode v true read faults es kind small whole is says value =
-    said_unread g v ((entries_before g inode (block_count g inode) v).value) read faults es says is (sym (whole_entries g inode v kind small whole) ∙ value)
-unread_by g inode v false read faults es kind small whole is says value = let no : Err (Bad BadChunk) ≡ Ok es = sym (torn_entries g inode v kind small whole) ∙ value in cc
-
-pub entries_unread : (g : Geometry) (inode : Inode) (v : Volume) (read : Bool) (faults : EntryFaults) (es : List DirEntry) → kind_of inode.mode ≡ Directory → inode.size < 2 ^ 32 → ((inode.size % 512 == 0) && read) ≡ false
-    → SaysEntries g v read faults ((entries_before g inode (block_count g inode) v).value) → (entries_of g inode v).value ≡ Ok es → ⊥
-entries_unread g inode v read faults es kind small is says value = unread_by g inode v (inode.size % 512 == 0) read faults es kind small refl is says value
-
--- ---- entries
-
-record HasEntry (P : DirEntry → Type 0) (entries : List DirEntry) : Type 0 where
-  k : ℕ
-  entry : DirEntry
-  here : slice_get entries k ≡ Some entry
-  is : P entry
-
-entry_decides : (test : DirEntry → Bool) (P : DirEntry → Type 0) → ((entry : DirEntry) → Decides (test entry) (P entry)) → (entries : List DirEntry) → Decides (list_any test entries) (HasEntry P entries)
-entry_decides test P each entries = (
-  λ h. let any = Any-from_list_any test entries h in
-      record { k = any.0; entry = any.1; here = slice_get_read entries (length entries) any.0 any.1 refl any.2 (sym any.3); is = (each any.1).0 any.4 },
-  λ h. list_any-from_Any test entries (h.k, h.entry, slice_get_within entries h.k h.entry h.here, get_or_from_slice_get entries h.k h.entry h.entry h.here, (each h.entry).1 h.is),
-)
-
-none_is : (named : Option Inode) → Decides (is_none named) (named ≡ None)
-none_is None = (λ h. refl, λ h. refl)
-none_is (Some inode) = (λ h. let no : false ≡ true = h in cc, λ h. let no : Some inode ≡ None = h in cc)
-
-none_decides : (g : Geometry) (v : Volume) (entry : DirEntry) → Decides (names_none g v entry) (inode_at g v entry.inode ≡ None)
-unfolding names_none
-none_decides g v entry = none_is (inode_at g v entry.inode)
-
-type_decides : (kind : ℕ) (type : Option ℕ) → Decides (type_differs kind type) (type ≢ Some kind)
-type_decides kind None = (λ h e. let no : None ≡ Some kind = e in cc, λ h. refl)
-type_decides kind (Some type) = Decides-not (type == kind) (Decides-like (type == kind) (λ e. ap Some e) (λ e. let both : Some type ≡ Some kind = e in cc) (Decides-eqb type kind))
-
-mistyped_is : (kind : ℕ) (named : Option Inode) → Decides (mistyped_in kind named) ((kind ≢ 0) × MatchOption named ⊥ (λ inode. entry_type_of (kind_of inode.mode) ≢ Some kind))
-mistyped_is kind None = (λ h. let no : false ≡ true = h in cc, λ h. absurd h.1)
-mistyped_is kind (Some inode) = Decides-and (not (kind == 0)) (type_differs kind (entry_type_of (kind_of inode.mode))) (Decides-not (kind == 0) (Decides-eqb kind 0)) (type_decides kind (entry_type_of (kind_of inode.mode)))
-
-mistyped_decides : (g : Geometry) (v : Volume) (entry : DirEntry)
-    → Decides (is_mistyped g v entry) ((entry.kind ≢ 0) × IsInode g v entry.inode (λ inode. entry_type_of (kind_of inode.mode) ≢ Some entry.kind))
-unfolding is_mistyped
-mistyped_decides g v entry = mistyped_is entry.kind (inode_at g v entry.inode)
-
 -- the entries of a directory are these
 pub entries_are : (g : Geometry) (v : Volume) (i : ℕ) (inode : Inode) (entries : List DirEntry) → inode_at g v i ≡ Some inode → kind_of inode.mode ≡ Directory
     → (entries_of g inode v).value ≡ Ok entries → HasEntries g v i entries
 entries_are g v i inode entries is kind value = subst (λ o. MatchOption o ⊥ (λ inode. (kind_of inode.mode ≡ Directory) × ((entries_of g inode v).value ≡ Ok entries))) (sym is) (kind, value)
 
-pub entries_same : (g : Geometry) (v : Volume) (i : ℕ) (inode : Inode) (entries others : List DirEntry) → inode_at g v i ≡ Some inode
-    → (entries_of g inode v).value ≡ Ok entries → HasEntries g v i others → others ≡ entries
-entries_same g v i inode entries others is value has =
-    let other = directory_is g v i (λ inode. (entries_of g inode v).value ≡ Ok others) inode is has in
-    let both : Ok others ≡ Ok entries = sym other.1 ∙ value in cc
+said_owned : (g : Geometry) (v : Volume) (i : ℕ) (inode : Inode) (said : Result (List DirEntry) PathRefusal) (read : Bool) (owned : List OwnedEntry) → SaysEntries g v read owned said → read ≡ true
+    → inode_at g v i ≡ Some inode → kind_of inode.mode ≡ Directory → (entries_of g inode v).value ≡ said → AreOwned g v i owned
+said_owned g v i inode (Err refusal) read owned says is there kind value = let no : false ≡ true = sym says ∙ is in cc
+said_owned g v i inode (Ok entries) read owned says is there kind value = owned_are g v i owned entries says.1 (entries_are g v i inode entries there kind value)
 
-pub bad_entry_decides : (g : Geometry) (v : Volume) (i : ℕ) (inode : Inode) (faults : EntryFaults) → inode_at g v i ≡ Some inode → kind_of inode.mode ≡ Directory
-    → AreRead g v inode faults → Decides faults.entry (HasBadEntry g v i)
-bad_entry_decides g v i inode faults is kind read =
-    let decides = entry_decides (names_none g v) (λ entry. inode_at g v entry.inode ≡ None) (none_decides g v) (read.entries) in (
-      λ h. let found = decides.0 (sym read.entry ∙ h) in
-          record { k = found.k; entry = found.entry; here = record { entries = read.entries; are = entries_are g v i inode (read.entries) is kind read.are; here = found.here }; none = found.is },
-      λ h. read.entry ∙ decides.1 (record { k = h.k; entry = h.entry; here = subst (λ es. slice_get es h.k ≡ Some h.entry) (entries_same g v i inode (read.entries) (h.here.entries) is read.are h.here.are) h.here.here; is = h.none }),
-    )
+-- the entries that are found are those of the directory
+pub scanned_owned : (g : Geometry) (v : Volume) (i : ℕ) (inode : Inode) (scan : Scan) → inode_at g v i ≡ Some inode → kind_of inode.mode ≡ Directory → inode.size < 2 ^ 32
+    → ((inode.size % 512 == 0) && scan.read) ≡ true → ScannedWhole g inode v scan → AreOwned g v i scan.entries.items
+scanned_owned g v i inode scan there kind small is whole =
+    let parts = and_parts (inode.size % 512 == 0) scan.read is in
+    said_owned g v i inode ((entries_before g inode (block_count g inode) v).value) scan.read scan.entries.items whole.entries parts.1 there kind (whole_entries g inode v kind small parts.0)
 
-pub bad_type_decides : (g : Geometry) (v : Volume) (i : ℕ) (inode : Inode) (faults : EntryFaults) → inode_at g v i ≡ Some inode → kind_of inode.mode ≡ Directory
-    → AreRead g v inode faults → Decides faults.entry_type (HasBadType g v i)
-bad_type_decides g v i inode faults is kind read =
-    let decides = entry_decides (is_mistyped g v) (λ entry. (entry.kind ≢ 0) × IsInode g v entry.inode (λ inode. entry_type_of (kind_of inode.mode) ≢ Some entry.kind)) (mistyped_decides g v) (read.entries) in (
-      λ h. let found = decides.0 (sym read.entry_type ∙ h) in
-          record { k = found.k; entry = found.entry; here = record { entries = read.entries; are = entries_are g v i inode (read.entries) is kind read.are; here = found.here }; typed = found.is.0; other = found.is.1 },
-      λ h. read.entry_type ∙ decides.1 (record { k = h.k; entry = h.entry; here = subst (λ es. slice_get es h.k ≡ Some h.entry) (entries_same g v i inode (read.entries) (h.here.entries) is read.are h.here.are) h.here.here; is = (h.typed, h.other) }),
-    )
+said_unread : (g : Geometry) (v : Volume) (said : Result (List DirEntry) PathRefusal) (read : Bool) (owned : List OwnedEntry) (es : List DirEntry) → SaysEntries g v read owned said → read ≡ false
+    → said ≡ Ok es → ⊥
+said_unread g v (Err refusal) read owned es says is value = let no : Err refusal ≡ Ok es = value in cc
+said_unread g v (Ok entries) read owned es says is value = let no : true ≡ false = sym says.0 ∙ is in cc
 
--- a directory has no more bytes than it may
-pub not_too_long : (g : Geometry) (v : Volume) (i : ℕ) (inode : Inode) → inode_at g v i ≡ Some inode → kind_of inode.mode ≡ Directory → 2 ^ 32 ≤ inode.size
-    → (IsBad g v Filesize i → ⊥) → ⊥
-not_too_long g v i inode is kind long none =
-    none (subst (λ o. MatchOption o ⊥ (λ inode. (has_pointers g inode ≡ true) × (2 ^ 32 ≤ inode.size))) (sym is) (rw kind refl, long))
+unread_by : (g : Geometry) (inode : Inode) (v : Volume) (whole read : Bool) (owned : List OwnedEntry) (es : List DirEntry) → kind_of inode.mode ≡ Directory → inode.size < 2 ^ 32 → (inode.size % 512 == 0) ≡ whole
+    → (whole && read) ≡ false → SaysEntries g v read owned ((entries_before g inode (block_count g inode) v).value) → (entries_of g inode v).value ≡ Ok es → ⊥
+unread_by g inode v true read owned es kind small whole is says value =
+    said_unread g v ((entries_before g inode (block_count g inode) v).value) read owned es says is (sym (whole_entries g inode v kind small whole) ∙ value)
+unread_by g inode v false read owned es kind small whole is says value = let no : Err (Bad BadChunk) ≡ Ok es = sym (torn_entries g inode v kind small whole) ∙ value in cc
 
-not_true : (b : Bool) → (b ≡ true → ⊥) → b ≡ false
-not_true true none = absurd (none refl)
-not_true false none = refl
+-- where not all are found, they aren't read
+pub scanned_unread : (g : Geometry) (v : Volume) (i : ℕ) (inode : Inode) (scan : Scan) → inode_at g v i ≡ Some inode → kind_of inode.mode ≡ Directory → inode.size < 2 ^ 32
+    → ((inode.size % 512 == 0) && scan.read) ≡ false → ScannedWhole g inode v scan → (entries : List DirEntry) → HasEntries g v i entries → ⊥
+scanned_unread g v i inode scan there kind small is whole entries has =
+    unread_by g inode v (inode.size % 512 == 0) scan.read scan.entries.items entries kind small refl is whole.entries
+    ((directory_is g v i (λ inode. (entries_of g inode v).value ≡ Ok entries) inode there has).1)
 
--- no hole is found where there is none
-pub scanned_clear : (g : Geometry) (v : Volume) (i : ℕ) (inode : Inode) (scan : Scan) → inode_at g v i ≡ Some inode → kind_of inode.mode ≡ Directory → inode.size < 2 ^ 32 → HasNoHole g v
-    → ScannedWhole g inode v scan → ScannedBelow g inode v (block_count g inode) scan
-scanned_clear g v i inode scan is kind small none whole =
-    whole.below (not_true scan.hole (λ has. none i (directory_there g v i (HasSmallHole g v) inode is kind (small, (has_hole_decides g inode v scan.hole whole.hole).0 has))))
+-- ---- entries
 
--- an inode that is no directory is passed
-pub directory_passed : (g : Geometry) (v : Volume) (i : ℕ) (faults : DirectoryFaults) → ((holds : Inode → Type 0) → IsDirectory g v i holds → ⊥)
-    → AreDirectoryFaultsBelow g v i faults → AreDirectoryFaultsBelow g v (i + 1) faults
-directory_passed g v i faults none so_far = record {
-  hole = least_passed (IsBad g v HoleIn) i faults.hole (none (HasSmallHole g v)) so_far.hole;
-  chunk = λ holes. least_passed (IsBad g v Chunk) i faults.chunk (none (HasSmallChunk g v)) (so_far.chunk holes);
-  entry = λ holes. least_passed (IsBad g v Entry) i faults.entry (λ h. none (λ inode. (entries_of g inode v).value ≡ Ok (h.here.entries)) h.here.are) (so_far.entry holes);
-  entry_type = λ holes. least_passed (IsBad g v EntryType) i faults.entry_type (λ h. none (λ inode. (entries_of g inode v).value ≡ Ok (h.here.entries)) h.here.are) (so_far.entry_type holes);
+type_decides : (kind : ℕ) (type : Option ℕ) → Decides (type_differs kind type) (type ≢ Some kind)
+type_decides kind None = (λ h e. let no : None ≡ Some kind = e in cc, λ h. refl)
+type_decides kind (Some type) = Decides-not (type == kind) (Decides-like (type == kind) (λ e. ap Some e) (λ e. let both : Some type ≡ Some kind = e in cc) (Decides-eqb type kind))
+
+mistyped_is : (kind : ℕ) (named : Option Inode) → Decides (mistyped_in kind (kind_in named)) ((kind ≢ 0) × MatchOption named ⊥ (λ inode. entry_type_of (kind_of inode.mode) ≢ Some kind))
+mistyped_is kind None = (λ h. let no : false ≡ true = h in cc, λ h. absurd h.1)
+mistyped_is kind (Some inode) = Decides-and (not (kind == 0)) (type_differs kind (entry_type_of (kind_of inode.mode))) (Decides-not (kind == 0) (Decides-eqb kind 0)) (type_decides kind (entry_type_of (kind_of inode.mode)))
+
+pub bad_entry_decides : (g : Geometry) (v : Volume) (i : ℕ) (entries : List OwnedEntry) → AreOwned g v i entries → Decides (list_any names_none entries) (IsBad g v Entry i)
+bad_entry_decides g v i entries all =
+    Decides-like (list_any names_none entries)
+    (λ h. record { k = h.k; entry = h.entry; here = h.here; none = h.is })
+    (λ h. record { k = h.k; entry = h.entry; here = h.here; is = h.none })
+    (any_decides g v i entries names_none (λ entry. inode_at g v entry.inode ≡ None) all
+    (λ owned is. subst (λ o. Decides (is_none o) (inode_at g v owned.inode ≡ None)) (sym is) (kind_none (inode_at g v owned.inode))))
+
+pub bad_type_decides : (g : Geometry) (v : Volume) (i : ℕ) (entries : List OwnedEntry) → AreOwned g v i entries
+    → Decides (list_any is_mistyped entries) (IsBad g v EntryType i)
+bad_type_decides g v i entries all =
+    Decides-like (list_any is_mistyped entries)
+    (λ h. record { k = h.k; entry = h.entry; here = h.here; typed = h.is.0; other = h.is.1 })
+    (λ h. record { k = h.k; entry = h.entry; here = h.here; is = (h.typed, h.other) })
+    (any_decides g v i entries is_mistyped
+    (λ entry. (entry.kind ≢ 0) × IsInode g v entry.inode (λ inode. entry_type_of (kind_of inode.mode) ≢ Some entry.kind)) all
+    (λ owned is. subst (λ o. Decides (mistyped_in owned.kind o) ((owned.kind ≢ 0) × IsInode g v owned.inode (λ inode. entry_type_of (kind_of inode.mode) ≢ Some owned.kind))) (sym is)
+    (mistyped_is owned.kind (inode_at g v owned.inode))))
+
+-- ---- what isn't noted
+
+-- a directory whose entries aren't read
+pub entries_passed : (g : Geometry) (v : Volume) (i : ℕ) (faults : DirectoryFaults) → ((entries : List DirEntry) → HasEntries g v i entries → ⊥)
+    → AreEntryFaultsBelow g v i faults → AreEntryFaultsBelow g v (i + 1) faults
+entries_passed g v i faults none so_far = record {
+  entry = all_passed (IsBad g v Entry) i faults.entry.items (λ h. none (h.here.entries) h.here.are) so_far.entry;
+  entry_type = all_passed (IsBad g v EntryType) i faults.entry_type.items (λ h. none (h.here.entries) h.here.are) so_far.entry_type;
+  names = all_passed (IsBad g v Names) i faults.names.items (λ h. none (h.first.entries) h.first.are) so_far.names;
+  root_named = all_passed (IsBad g v RootNamed) i faults.root_named.items (λ h. none (h.1.1.here.entries) h.1.1.here.are) so_far.root_named;
 }
 
--- of a directory that is too large neither holes nor chunks are judged, and its entries aren't read
-pub long_passed : (g : Geometry) (v : Volume) (i : ℕ) (inode : Inode) (faults : DirectoryFaults) → inode_at g v i ≡ Some inode → kind_of inode.mode ≡ Directory → 2 ^ 32 ≤ inode.size
-    → AreDirectoryFaultsBelow g v i faults → AreDirectoryFaultsBelow g v (i + 1) faults
-long_passed g v i inode faults is kind long so_far = record {
-  hole = least_passed (IsBad g v HoleIn) i faults.hole (λ h. let small = (directory_is g v i (HasSmallHole g v) inode is h).1.0 in absurd (omega arith)) so_far.hole;
-  chunk = λ holes. least_passed (IsBad g v Chunk) i faults.chunk (λ h. let small = (directory_is g v i (HasSmallChunk g v) inode is h).1.0 in absurd (omega arith)) (so_far.chunk holes);
-  entry = λ holes. least_passed (IsBad g v Entry) i faults.entry (λ h. long_unread g v i inode is kind long (h.here.entries) h.here.are) (so_far.entry holes);
-  entry_type = λ holes. least_passed (IsBad g v EntryType) i faults.entry_type (λ h. long_unread g v i inode is kind long (h.here.entries) h.here.are) (so_far.entry_type holes);
+-- an inode that is no directory
+pub blocks_passed : (g : Geometry) (v : Volume) (i : ℕ) (faults : DirectoryFaults) → ((holds : Inode → Type 0) → IsDirectory g v i holds → ⊥)
+    → AreBlockFaultsBelow g v i faults → AreBlockFaultsBelow g v (i + 1) faults
+blocks_passed g v i faults none so_far = record {
+  hole = all_passed (IsBad g v HoleIn) i faults.hole.items (none (HasSmallHole g v)) so_far.hole;
+  chunk = all_passed (IsBad g v Chunk) i faults.chunk.items (none (HasSmallChunk g v)) so_far.chunk;
+}
+
+-- of a directory that is too large neither holes nor chunks are judged
+pub long_passed : (g : Geometry) (v : Volume) (i : ℕ) (inode : Inode) (faults : DirectoryFaults) → inode_at g v i ≡ Some inode → 2 ^ 32 ≤ inode.size
+    → AreBlockFaultsBelow g v i faults → AreBlockFaultsBelow g v (i + 1) faults
+long_passed g v i inode faults is long so_far = record {
+  hole = all_passed (IsBad g v HoleIn) i faults.hole.items (λ h. let small = (directory_is g v i (HasSmallHole g v) inode is h).1.0 in absurd (omega arith)) so_far.hole;
+  chunk = all_passed (IsBad g v Chunk) i faults.chunk.items (λ h. let small = (directory_is g v i (HasSmallChunk g v) inode is h).1.0 in absurd (omega arith)) so_far.chunk;
 }
 
 -- ---- all inodes
@@ -319,25 +272,36 @@ within g v i false false holds low high h = absurd h
 pub inode_within : (g : Geometry) (v : Volume) (i : ℕ) (holds : Inode → Type 0) → IsInode g v i holds → (2 ≤ i) × (i < g.ncg * g.ipg)
 inode_within g v i holds h = within g v i (nat_le 2 i) (nat_lt i (g.ncg * g.ipg)) holds refl refl h
 
-directory_within : (g : Geometry) (v : Volume) (i : ℕ) (holds : Inode → Type 0) → IsDirectory g v i holds → (2 ≤ i) × (i < g.ncg * g.ipg)
+pub directory_within : (g : Geometry) (v : Volume) (i : ℕ) (holds : Inode → Type 0) → IsDirectory g v i holds → (2 ≤ i) × (i < g.ncg * g.ipg)
 directory_within g v i holds h = inode_within g v i (λ inode. (kind_of inode.mode ≡ Directory) × holds inode) h
 
-hole_all : (g : Geometry) (v : Volume) (bound : ℕ) (faults : DirectoryFaults) → g.ncg * g.ipg ≤ bound → IsLeastBelow (IsBad g v HoleIn) bound faults.hole → IsLeast (IsBad g v HoleIn) faults.hole
-hole_all g v bound faults last so_far = least_all (IsBad g v HoleIn) bound faults.hole (λ m h. let low = (directory_within g v m (HasSmallHole g v) h).1 in omega arith) so_far
+pub entries_within : (g : Geometry) (v : Volume) (d : ℕ) (entries : List DirEntry) → HasEntries g v d entries → (2 ≤ d) × (d < g.ncg * g.ipg)
+entries_within g v d entries has = directory_within g v d (λ inode. (entries_of g inode v).value ≡ Ok entries) has
 
--- no hole was found
-no_hole : (g : Geometry) (v : Volume) (r : Option ℕ) → IsLeast (IsBad g v HoleIn) r → r ≡ None → HasNoHole g v
-no_hole g v r least none = subst (IsLeast (IsBad g v HoleIn)) none least
+-- nothing is noted below the root
+pub directories_none : (g : Geometry) (v : Volume) (faults : DirectoryFaults) → faults.hole.items ≡ [] → faults.chunk.items ≡ [] → faults.entry.items ≡ [] → faults.entry_type.items ≡ []
+    → faults.names.items ≡ [] → faults.root_named.items ≡ [] → AreDirectoryFaultsBelow g v 2 faults
+directories_none g v faults hole chunk entry entry_type names root_named = record {
+  blocks = record {
+    hole = all_empty (IsBad g v HoleIn) 2 _ hole (λ m low h. let high = (directory_within g v m (HasSmallHole g v) h).0 in absurd (omega arith));
+    chunk = all_empty (IsBad g v Chunk) 2 _ chunk (λ m low h. let high = (directory_within g v m (HasSmallChunk g v) h).0 in absurd (omega arith));
+  };
+  entries = record {
+    entry = all_empty (IsBad g v Entry) 2 _ entry (λ m low h. let high = (entries_within g v m (h.here.entries) h.here.are).0 in absurd (omega arith));
+    entry_type = all_empty (IsBad g v EntryType) 2 _ entry_type (λ m low h. let high = (entries_within g v m (h.here.entries) h.here.are).0 in absurd (omega arith));
+    names = all_empty (IsBad g v Names) 2 _ names (λ m low h. let high = (entries_within g v m (h.first.entries) h.first.are).0 in absurd (omega arith));
+    root_named = all_empty (IsBad g v RootNamed) 2 _ root_named (λ m low h. let high = (entries_within g v m (h.1.1.here.entries) h.1.1.here.are).0 in absurd (omega arith));
+  };
+}
 
--- the least of all are those below the last
+-- those below the last are all
 pub directories_all : (g : Geometry) (v : Volume) (bound : ℕ) (faults : DirectoryFaults) → g.ncg * g.ipg ≤ bound → AreDirectoryFaultsBelow g v bound faults → AreDirectoryFaults g v faults
-directories_all g v bound faults last so_far =
-    let hole = hole_all g v bound faults last so_far.hole in record {
-      hole = hole;
-      chunk = λ none. least_all (IsBad g v Chunk) bound faults.chunk
-          (λ m h. let low = (directory_within g v m (HasSmallChunk g v) h).1 in omega arith) (so_far.chunk (no_hole g v faults.hole hole none));
-      entry = λ none. least_all (IsBad g v Entry) bound faults.entry
-          (λ m h. let low = (directory_within g v m (λ inode. (entries_of g inode v).value ≡ Ok (h.here.entries)) h.here.are).1 in omega arith) (so_far.entry (no_hole g v faults.hole hole none));
-      entry_type = λ none. least_all (IsBad g v EntryType) bound faults.entry_type
-          (λ m h. let low = (directory_within g v m (λ inode. (entries_of g inode v).value ≡ Ok (h.here.entries)) h.here.are).1 in omega arith) (so_far.entry_type (no_hole g v faults.hole hole none));
-    }
+directories_all g v bound faults last so_far = record {
+  hole = all_all (IsBad g v HoleIn) bound faults.hole.items (λ m h. let low = (directory_within g v m (HasSmallHole g v) h).1 in omega arith) so_far.blocks.hole;
+  chunk = all_all (IsBad g v Chunk) bound faults.chunk.items (λ m h. let low = (directory_within g v m (HasSmallChunk g v) h).1 in omega arith) so_far.blocks.chunk;
+  entry = all_all (IsBad g v Entry) bound faults.entry.items (λ m h. let low = (entries_within g v m (h.here.entries) h.here.are).1 in omega arith) so_far.entries.entry;
+  entry_type = all_all (IsBad g v EntryType) bound faults.entry_type.items (λ m h. let low = (entries_within g v m (h.here.entries) h.here.are).1 in omega arith) so_far.entries.entry_type;
+  names = all_all (IsBad g v Names) bound faults.names.items (λ m h. let low = (entries_within g v m (h.first.entries) h.first.are).1 in omega arith) so_far.entries.names;
+  root_named = all_all (IsBad g v RootNamed) bound faults.root_named.items
+      (λ m h. let low = (entries_within g v m (h.1.1.here.entries) h.1.1.here.are).1 in omega arith) so_far.entries.root_named;
+}

@@ -1,4 +1,4 @@
-pub mod LeastLaws
+pub mod NoteLaws
 pub mod PassLaws
 pub mod GroupLaws
 pub mod InodeLaws
@@ -13,8 +13,10 @@ pub mod RunLaws
 pub mod ReachLaws
 pub mod OwnedLaws
 pub mod NameLaws
-pub mod WildLaws
 pub mod FirstLaws
 pub mod CheckLaws
 pub mod ParentLaws
 pub mod LinkLaws
+pub mod UnnamedLaws
+pub mod UnclaimedLaws
+pub mod SurveyLaws

@@ -1,33 +1,25 @@
--- Gathering the entries of a directory.
-use Rattle.std.proofs.Common.{◌≡◌, ◌∙◌, ℕ, zero, suc, ◌+◌, ◌/◌, ◌%◌, ◌^◌, ◌<◌, ◌≤◌, inl, inr, true, false, List, [], ◌++◌, Option, Some, Result, Ok, Err, refl, sym, ap, subst, add-one, append_assoc, append-nil, arith}
-use Rattle.std.specs.Prelude.{◌==◌, IfOk, OnOk}
+-- Entries in memory, and what they name on the volume.
+use Rattle.std.proofs.Common.{◌≡◌, ◌≢◌, ◌∙◌, ℕ, ◌<◌, inl, inr, Bool, true, false, List, [], ◌∷◌, Option, Some, None, Result, Ok, Err, length, get_or, refl, sym, ap, subst}
+use Rattle.std.specs.Prelude.{map, IfOk, MatchOption, OnOk, slice_get}
+use Rattle.std.specs.Bool.{Decides}
 use Rattle.std.specs.List.{list_any}
-use Rattle.std.proofs.lemmas.Bool.{cases_order}
+use Rattle.std.specs.Option.{is_none, is_some, option_map}
+use Rattle.std.proofs.lemmas.Bool.Decides.{Decides-like}
+use Rattle.std.proofs.lemmas.List.Folds.{Any-from_list_any, list_any-from_Any}
+use Rattle.std.proofs.lemmas.Option.{get_or_from_slice_get, slice_get-map, slice_get_read, slice_get_within}
 use Rattle.ufs_model.specs.Blocks.{Volume}
 use Rattle.ufs_model.specs.Chunks.{DirEntry}
-use Rattle.ufs_model.specs.Inodes.{block_count, kind_of}
-use Rattle.ufs_model.specs.Malformations.{HasEntries, inode_at}
-use Rattle.ufs_model.specs.Paths.{block_of, bytes_in_block, chunks_in, entries_before, entries_of, entries_through}
+use Rattle.ufs_model.specs.Inodes.{kind_of}
+use Rattle.ufs_model.specs.Malformations.{EntryAt, HasEntries, IsDirectory, IsInode, inode_at}
+use Rattle.ufs_model.specs.Paths.{entries_of}
 use Rattle.ufs_model.specs.declared.geometries.Geometry.{Geometry}
 use Rattle.ufs_model.specs.declared.inodes.Inode.{Inode}
+use Rattle.ufs_model.specs.declared.inodes.Kind.{Kind}
 use Rattle.ufs_model.specs.declared.inodes.Kind.TheVariants.{Directory}
-use Rattle.ufs_model.specs.declared.numbers.Endian.{Endian}
-use Rattle.ufs_model.specs.declared.reads.BadRead.TheVariants.{Chunk as BadChunk}
-use Rattle.ufs_model.specs.declared.reads.PathRefusal.{PathRefusal}
-use Rattle.ufs_model.specs.declared.reads.PathRefusal.TheVariants.{Bad}
-use Rattle.ufs_check.specs.Directories.{chunks_said, entries_said}
-use Rattle.ufs_check.specs.Entries.{is_refused}
-use Rattle.ufs_check.specs.OwnedEntries.{Gathers, GathersAll, GathersAt, IfGone}
-use Rattle.ufs_check.specs.declared.owned_entries.Gathered.{Gathered}
-use Rattle.ufs_check.specs.declared.owned_entries.Gathered.TheVariants.{All, Unread, Gone}
-use Rattle.ufs_check.proofs.DirectoryLaws.{before_next, chunks_value, joined, through_refused}
-use Rattle.ufs_check.proofs.FaultLaws.{directory_is, entries_are, torn_entries, whole_entries}
+use Rattle.ufs_check.specs.OwnedEntries.{AreOwned, kind_in, owned_all, owned_of, seen_all, seen_in, seen_of}
+use Rattle.ufs_check.specs.declared.owned_entries.OwnedEntry.{OwnedEntry}
 
--- ---- lists and answers
-
-pub append_next : {A : Type 0} (now new some rest whole here : List A) → here ≡ some ++ rest → new ≡ now ++ some → now ++ here ≡ whole → new ++ rest ≡ whole
-append_next now new some rest whole here here_is new_is so_far =
-    ap (λ x. x ++ rest) new_is ∙ append_assoc now some rest ∙ ap (λ x. now ++ x) (sym here_is) ∙ so_far
+-- ---- answers
 
 pub if_ok : {A E : Type 0} (r : Result A E) (P Q : A → Type 0) → ((a : A) → P a → Q a) → IfOk r P → IfOk r Q
 if_ok (Ok a) P Q more h = more a h
@@ -37,87 +29,141 @@ pub on_ok : {A E : Type 0} (r : Result A E) (P Q : Type 0) → (P → Q) → OnO
 on_ok (Ok a) P Q more h = more h
 on_ok (Err e) P Q more h = tt
 
-pub if_gone : (gathered : Gathered) (P Q : Type 0) → (P → Q) → IfGone gathered P → IfGone gathered Q
-if_gone All P Q more h = tt
-if_gone Unread P Q more h = tt
-if_gone Gone P Q more h = more h
+-- ---- entries in memory
 
--- ---- one file block
+pub owned_read : (entries : List OwnedEntry) (k : ℕ) (owned : OwnedEntry) → k < length entries → owned ≡ get_or entries k owned → slice_get entries k ≡ Some owned
+owned_read entries k owned below is = slice_get_read entries (length entries) k owned refl below is
 
-pub refused_unread : (endian : Endian) (chunks : List (List ℕ)) → list_any (is_refused endian) chunks ≡ true → (entries : List DirEntry) → entries_through endian chunks ≡ Ok entries → ⊥
-refused_unread endian chunks some entries is = let no : Err (Bad BadChunk) ≡ Ok entries = sym (through_refused endian chunks some) ∙ is in cc
+-- an entry in memory at a place, of which this is said
+pub record IsOwned (entries : List OwnedEntry) (k : ℕ) (entry : DirEntry) : Type 0 where
+  pub owned : OwnedEntry
+  pub here : slice_get entries k ≡ Some owned
+  pub is : owned_of owned ≡ entry
 
-pub block_gathers : (endian : Endian) (k : ℕ) (bytes : List ℕ) (value : Result (Option (List ℕ)) PathRefusal) (gathered : Gathered) (old new : List DirEntry) → Ok (Some bytes) ≡ value
-    → Gathers gathered (entries_through endian (chunks_in k bytes)) old new → Gathers gathered (entries_said endian (chunks_said k value)) old new
-block_gathers endian k bytes value gathered old new is h = subst (λ value. Gathers gathered (entries_said endian (chunks_said k value)) old new) is h
+mapped_some : (entries : List OwnedEntry) (k : ℕ) (o : Option OwnedEntry) (entry : DirEntry) → slice_get entries k ≡ o → option_map owned_of o ≡ Some entry → IsOwned entries k entry
+mapped_some entries k (Some owned) entry here is = record { owned = owned; here = here; is = let both : Some (owned_of owned) ≡ Some entry = is in cc }
+mapped_some entries k None entry here is = let no : None ≡ Some entry = is in cc
 
--- ---- one file block after the other
+pub owned_from : (entries : List OwnedEntry) (k : ℕ) (entry : DirEntry) → slice_get (owned_all entries) k ≡ Some entry → IsOwned entries k entry
+owned_from entries k entry is = mapped_some entries k (slice_get entries k) entry refl (sym (slice_get-map owned_of entries k) ∙ is)
 
-pub gathers_none : (g : Geometry) (inode : Inode) (v : Volume) (old : List DirEntry) → GathersAll ((entries_before g inode 0 v).value) old old
-unfolding entries_before
-gathers_none g inode v old = record { added = []; said_is = refl; new_is = sym (append-nil old) }
+pub owned_to : (entries : List OwnedEntry) (k : ℕ) (owned : OwnedEntry) → slice_get entries k ≡ Some owned → slice_get (owned_all entries) k ≡ Some (owned_of owned)
+owned_to entries k owned here = slice_get-map owned_of entries k ∙ ap (option_map owned_of) here
 
-said_next : (g : Geometry) (inode : Inode) (n : ℕ) (v : Volume)
-    → (entries_before g inode (suc n) v).value
-    ≡ joined ((entries_before g inode n v).value) (entries_said g.endian (chunks_said (bytes_in_block g inode n / 512) ((block_of g inode n v).value)))
-said_next g inode n v = before_next g inode n v ∙ ap (λ chunks. joined ((entries_before g inode n v).value) (entries_said g.endian chunks)) (chunks_value g inode n v)
+pub owned_within : (entries : List OwnedEntry) (k : ℕ) (entry : DirEntry) → slice_get (owned_all entries) k ≡ Some entry → k < length entries
+owned_within entries k entry is = let found = owned_from entries k entry is in slice_get_within entries k (found.owned) found.here
 
-joined_ok : (front said : Result (List DirEntry) PathRefusal) (some more : List DirEntry) → front ≡ Ok some → said ≡ Ok more → joined front said ≡ Ok (some ++ more)
-joined_ok front said some more one two = rw (one, two) refl
+-- ---- the entries of a directory
 
-joined_front : (front said : Result (List DirEntry) PathRefusal) (entries : List DirEntry) → joined front said ≡ Ok entries → ((some : List DirEntry) → front ≡ Ok some → ⊥) → ⊥
-joined_front (Ok some) said entries is none = none some refl
-joined_front (Err refusal) said entries is none = let no : Err refusal ≡ Ok entries = is in cc
+same_read : (g : Geometry) (v : Volume) (o : Option Inode) (entries others : List DirEntry)
+    → MatchOption o ⊥ (λ inode. (kind_of inode.mode ≡ Directory) × ((entries_of g inode v).value ≡ Ok entries))
+    → MatchOption o ⊥ (λ inode. (kind_of inode.mode ≡ Directory) × ((entries_of g inode v).value ≡ Ok others)) → others ≡ entries
+same_read g v (Some inode) entries others one other = let both : Ok others ≡ Ok entries = sym other.1 ∙ one.1 in cc
+same_read g v None entries others one other = absurd one
 
-joined_said : (front said : Result (List DirEntry) PathRefusal) (entries : List DirEntry) → joined front said ≡ Ok entries → ((more : List DirEntry) → said ≡ Ok more → ⊥) → ⊥
-joined_said (Ok some) (Ok more) entries is none = none more refl
-joined_said (Ok some) (Err refusal) entries is none = let no : Err refusal ≡ Ok entries = is in cc
-joined_said (Err refusal) said entries is none = let no : Err refusal ≡ Ok entries = is in cc
+-- a directory has one list of entries
+pub same_entries : (g : Geometry) (v : Volume) (i : ℕ) (entries others : List DirEntry) → HasEntries g v i entries → HasEntries g v i others → others ≡ entries
+same_entries g v i entries others one other = same_read g v (inode_at g v i) entries others one other
 
-pub gathers_next : (g : Geometry) (inode : Inode) (n : ℕ) (v : Volume) (old now new : List DirEntry) → GathersAll ((entries_before g inode n v).value) old now
-    → GathersAll (entries_said g.endian (chunks_said (bytes_in_block g inode n / 512) ((block_of g inode n v).value))) now new
-    → GathersAll ((entries_before g inode (n + 1) v).value) old new
-gathers_next g inode n v old now new so_far one = rw add-one (record {
-  added = so_far.added ++ one.added;
-  said_is = said_next g inode n v ∙ joined_ok _ _ (so_far.added) (one.added) so_far.said_is one.said_is;
-  new_is = one.new_is ∙ ap (λ x. x ++ one.added) so_far.new_is ∙ append_assoc old (so_far.added) (one.added);
-})
+pub entry_here : (g : Geometry) (v : Volume) (i k : ℕ) (entries : List DirEntry) (entry : DirEntry) → HasEntries g v i entries → EntryAt g v i k entry → slice_get entries k ≡ Some entry
+entry_here g v i k entries entry has at = subst (λ es. slice_get es k ≡ Some entry) (same_entries g v i entries (at.entries) has at.are) at.here
 
--- the entries of a front aren't read
-abbrev Unreadable : Geometry → Inode → Volume → ℕ → Type 0
-Unreadable g inode v n = (entries : List DirEntry) → (entries_before g inode n v).value ≡ Ok entries → ⊥
+-- ---- what is gathered
 
-unread_more : (g : Geometry) (inode : Inode) (v : Volume) (n m : ℕ) → n ≤ m → Unreadable g inode v n → Unreadable g inode v m
-unread_more g inode v n zero le none = let same : n ≡ zero = omega arith in subst (Unreadable g inode v) same none
-unread_more g inode v n (suc m) le none = elim (cases_order n (suc m)) [
-  | inl same ↦ subst (Unreadable g inode v) same none
-  | inr other ↦ elim other [
-    | inl less ↦ λ entries is. joined_front _ _ entries (sym (said_next g inode m v) ∙ is) (unread_more g inode v n m (omega arith) none)
-    | inr greater ↦ absurd (omega arith)
-  ]
-]
+seen_heads : (g : Geometry) (v : Volume) (owned : OwnedEntry) (entry : DirEntry) → seen_of owned ≡ seen_in g v entry → owned_of owned ≡ entry
+seen_heads g v owned entry is = ap (λ (seen : DirEntry × Option Kind). seen.0) is
 
-pub unread_from : (g : Geometry) (inode : Inode) (v : Volume) (n m : ℕ) → n < m
-    → ((entries : List DirEntry) → entries_said g.endian (chunks_said (bytes_in_block g inode n / 512) ((block_of g inode n v).value)) ≡ Ok entries → ⊥)
-    → (entries : List DirEntry) → (entries_before g inode m v).value ≡ Ok entries → ⊥
-unread_from g inode v n m lt none =
-    unread_more g inode v (suc n) m (omega arith) (λ entries is. joined_said _ _ entries (sym (said_next g inode n v) ∙ is) none)
+seen_first : {A : Type 0} (x y : A) (xs ys : List A) → x ∷ xs ≡ y ∷ ys → x ≡ y
+seen_first x y xs ys is = cc
 
--- ---- a directory
+seen_rest : {A : Type 0} (x y : A) (xs ys : List A) → x ∷ xs ≡ y ∷ ys → xs ≡ ys
+seen_rest x y xs ys is = cc
 
-pub torn_unread : (g : Geometry) (v : Volume) (i : ℕ) (inode : Inode) → inode_at g v i ≡ Some inode → kind_of inode.mode ≡ Directory → inode.size < 2 ^ 32
-    → (inode.size % 512 == 0) ≡ false → (entries : List DirEntry) → HasEntries g v i entries → ⊥
-torn_unread g v i inode is kind small torn entries has =
-    let value = (directory_is g v i (λ inode. (entries_of g inode v).value ≡ Ok entries) inode is has).1 in
-    let no : Err (Bad BadChunk) ≡ Ok entries = sym (torn_entries g inode v kind small torn) ∙ value in cc
+pub seen_entries : (g : Geometry) (v : Volume) (owned : List OwnedEntry) (entries : List DirEntry) → seen_all owned ≡ map (seen_in g v) entries → owned_all owned ≡ entries
+seen_entries g v [] [] is = refl
+seen_entries g v [] (entry ∷ entries) is = let no : [] ≡ seen_in g v entry ∷ map (seen_in g v) entries = is in cc
+seen_entries g v (one ∷ owned) [] is = let no : seen_of one ∷ seen_all owned ≡ [] = is in cc
+seen_entries g v (one ∷ owned) (entry ∷ entries) is =
+    let first = seen_heads g v one entry (seen_first _ _ _ _ is) in
+    let rest = seen_entries g v owned entries (seen_rest _ _ _ _ is) in
+    ap (λ (e : DirEntry). e ∷ owned_all owned) first ∙ ap (λ es. entry ∷ es) rest
 
-pub gathers_at : (g : Geometry) (v : Volume) (i : ℕ) (inode : Inode) (gathered : Gathered) (old new : List DirEntry) → inode_at g v i ≡ Some inode → kind_of inode.mode ≡ Directory
-    → inode.size < 2 ^ 32 → (inode.size % 512 == 0) ≡ true → Gathers gathered ((entries_before g inode (block_count g inode) v).value) old new → GathersAt g v i gathered old new
-gathers_at g v i inode All old new is kind small whole h = record {
-  entries = h.added;
-  are = entries_are g v i inode (h.added) is kind (whole_entries g inode v kind small whole ∙ h.said_is);
-  new_is = h.new_is;
+seen_by : (g : Geometry) (v : Volume) (owned : OwnedEntry) (entry : Option DirEntry) → Some (seen_of owned) ≡ option_map (seen_in g v) entry → owned.named ≡ kind_in (inode_at g v owned.inode)
+seen_by g v owned None is = let no : Some (seen_of owned) ≡ None = is in cc
+seen_by g v owned (Some entry) is =
+    let both : Some (seen_of owned) ≡ Some (seen_in g v entry) = is in
+    let same : seen_of owned ≡ seen_in g v entry = cc in
+    let kind : owned.named ≡ kind_in (inode_at g v entry.inode) = ap (λ (seen : DirEntry × Option Kind). seen.1) same in
+    kind ∙ ap (λ (e : DirEntry). kind_in (inode_at g v e.inode)) (sym (seen_heads g v owned entry same))
+
+seen_named : (g : Geometry) (v : Volume) (entries : List OwnedEntry) (said : List DirEntry) (k : ℕ) (owned : OwnedEntry) → seen_all entries ≡ map (seen_in g v) said
+    → slice_get entries k ≡ Some owned → owned.named ≡ kind_in (inode_at g v owned.inode)
+seen_named g v entries said k owned seen here =
+    seen_by g v owned (slice_get said k)
+    (sym (slice_get-map seen_of entries k ∙ ap (option_map seen_of) here) ∙ ap (λ list. slice_get list k) seen ∙ slice_get-map (seen_in g v) said k)
+
+-- the entries that were gathered are those of the directory
+pub owned_are : (g : Geometry) (v : Volume) (i : ℕ) (owned : List OwnedEntry) (entries : List DirEntry) → seen_all owned ≡ map (seen_in g v) entries → HasEntries g v i entries → AreOwned g v i owned
+owned_are g v i owned entries seen has = record {
+  are = subst (HasEntries g v i) (sym (seen_entries g v owned entries seen)) has;
+  named = λ k one here. seen_named g v owned entries k one seen here;
 }
-gathers_at g v i inode Unread old new is kind small whole h = λ entries has.
-    h entries (sym (whole_entries g inode v kind small whole) ∙ (directory_is g v i (λ inode. (entries_of g inode v).value ≡ Ok entries) inode is has).1)
-gathers_at g v i inode Gone old new is kind small whole h = tt
+
+-- ---- entries of the volume
+
+pub owned_at : (g : Geometry) (v : Volume) (i k : ℕ) (entries : List OwnedEntry) (owned : OwnedEntry) → AreOwned g v i entries → slice_get entries k ≡ Some owned → EntryAt g v i k (owned_of owned)
+owned_at g v i k entries owned all here = record { entries = owned_all entries; are = all.are; here = owned_to entries k owned here }
+
+pub at_owned : (g : Geometry) (v : Volume) (i k : ℕ) (entries : List OwnedEntry) (entry : DirEntry) → AreOwned g v i entries → EntryAt g v i k entry → IsOwned entries k entry
+at_owned g v i k entries entry all at = owned_from entries k entry (entry_here g v i k (owned_all entries) entry all.are at)
+
+-- ---- what an entry names
+
+pub kind_some : (o : Option Inode) → Decides (is_some (kind_in o)) (MatchOption o ⊥ (λ _. Unit {0}))
+kind_some None = (λ h. let no : false ≡ true = h in cc, λ h. absurd h)
+kind_some (Some inode) = (λ h. tt, λ h. refl)
+
+pub kind_none : (o : Option Inode) → Decides (is_none (kind_in o)) (o ≡ None)
+kind_none None = (λ h. refl, λ h. refl)
+kind_none (Some inode) = (λ h. let no : false ≡ true = h in cc, λ h. let no : Some inode ≡ None = h in cc)
+
+pub kind_there : (o : Option Inode) → (kind_in o ≢ None) → MatchOption o ⊥ (λ _. Unit {0})
+kind_there None h = h refl
+kind_there (Some inode) h = tt
+
+pub kind_missing : (o : Option Inode) → kind_in o ≡ None → MatchOption o ⊥ (λ _. Unit {0}) → ⊥
+kind_missing None none h = absurd h
+kind_missing (Some inode) none h = let no : Some (kind_of inode.mode) ≡ None = none in cc
+
+pub kind_directory : (o : Option Inode) → kind_in o ≡ Some Directory → MatchOption o ⊥ (λ inode. (kind_of inode.mode ≡ Directory) × Unit {0})
+kind_directory None is = let no : None ≡ Some Directory = is in cc
+kind_directory (Some inode) is = (let both : Some (kind_of inode.mode) ≡ Some Directory = is in cc, tt)
+
+pub directory_kind : (o : Option Inode) → MatchOption o ⊥ (λ inode. (kind_of inode.mode ≡ Directory) × Unit {0}) → kind_in o ≡ Some Directory
+directory_kind None h = absurd h
+directory_kind (Some inode) h = ap Some h.0
+
+-- ---- one of the entries
+
+-- an entry of a directory of which something holds
+pub record HasEntryOf (g : Geometry) (v : Volume) (i : ℕ) (holds : DirEntry → Type 0) : Type 0 where
+  pub k : ℕ
+  pub entry : DirEntry
+  pub here : EntryAt g v i k entry
+  pub is : holds entry
+
+-- what a test of each entry in memory tells
+pub any_decides : (g : Geometry) (v : Volume) (i : ℕ) (entries : List OwnedEntry) (test : OwnedEntry → Bool) (holds : DirEntry → Type 0) → AreOwned g v i entries
+    → ((owned : OwnedEntry) → owned.named ≡ kind_in (inode_at g v owned.inode) → Decides (test owned) (holds (owned_of owned))) → Decides (list_any test entries) (HasEntryOf g v i holds)
+any_decides g v i entries test holds all each = (
+  λ h.
+      let any = Any-from_list_any test entries h in
+      let here = slice_get_read entries (length entries) any.0 any.1 refl any.2 (sym any.3) in
+      record { k = any.0; entry = owned_of any.1; here = owned_at g v i any.0 entries any.1 all here; is = (each any.1 (all.named any.0 any.1 here)).0 any.4 },
+  λ h.
+      let k = h.k in
+      let found = at_owned g v i (h.k) entries (h.entry) all h.here in
+      let is : test (found.owned) ≡ true = (each (found.owned) (all.named (h.k) (found.owned) found.here)).1 (subst holds (sym found.is) h.is) in
+      list_any-from_Any test entries
+      (k, found.owned, slice_get_within entries k (found.owned) found.here, get_or_from_slice_get entries k (found.owned) (found.owned) found.here, is),
+)

@@ -1,5 +1,5 @@
 -- What is wrong with the pointers of a fragment of an indirect block, by its bytes.
-use Rattle.std.proofs.Common.{◌≡◌, ◌≢◌, ℕ, suc, inl, inr, length, ◌+◌, ◌<◌, ◌≤◌, List, Bool, Option, None, Some, sym, subst, add-one, arith}
+use Rattle.std.proofs.Common.{◌≡◌, ◌≢◌, ℕ, suc, inl, inr, length, ◌+◌, ◌/◌, ◌<◌, ◌≤◌, List, Bool, true, Option, None, Some, nat_le, sym, subst, add-one, arith}
 use Rattle.std.specs.Prelude.{Contains}
 use Rattle.std.specs.Bool.{Decides}
 use Rattle.std.proofs.lemmas.Bool.{cases_order}
@@ -13,14 +13,13 @@ use Rattle.ufs_model.specs.declared.pointers.Address.TheVariants.{Wild, At}
 use Rattle.dg_claims.specs.Kept.{size_in}
 use Rattle.dg_claims.specs.Tables.{ClaimTable}
 use Rattle.ufs_check.proofs.ClaimLaws.{claim_inside, upper_in, upper_of}
-use Rattle.ufs_check.proofs.ReachLaws.{pointer_owner, reach_upper}
-use Rattle.ufs_check.proofs.LeastLaws.{least_all, least_same}
+use Rattle.ufs_check.proofs.NoteLaws.{all_all, all_passed}
+use Rattle.ufs_check.proofs.ReachLaws.{reach_upper}
+use Rattle.std.proofs.lemmas.Bool.Decides.{nat_tests}
 use Rattle.ufs_check.specs.Fragments.{AreFragmentFaults, AreFragmentFaultsBelow, ArePointerFaultsBelow, HasClaimsOf, IsUpperIn}
 use Rattle.ufs_frames.specs.Frames.{HasWholeUppers}
-use Rattle.ufs_check.specs.Least.{IsLeast, IsLeastBelow}
 use Rattle.ufs_check.specs.Limits.{IsLimit}
 use Rattle.ufs_check.specs.Pointers.{HasMisalignedPointer, HasPastPointer, HasWildPointer}
-use Rattle.ufs_check.specs.Reaches.{HasNoTwice}
 use Rattle.ufs_check.specs.declared.limits.Limit.{Limit}
 use Rattle.ufs_check.specs.declared.verdicts.FragmentFaults.{FragmentFaults}
 
@@ -66,12 +65,9 @@ misaligned_decides g table v f bytes b has upper is decides =
       }),
     )
 
-least_next : (f : ℕ) (holds : ℕ → Type 0) (r : Option ℕ) → (holds f → ⊥) → IsLeastBelow holds f r → IsLeastBelow holds (f + 1) r
-least_next f holds r none so_far = rw add-one (least_same holds f r none so_far)
-
-pub past_decides : (g : Geometry) (v : Volume) (f : ℕ) (bytes : List ℕ) (limit : Option Limit) (b : Bool) → HasNoTwice g v → bytes ≡ block_at g.fsize v f → IsLimit g v f limit
+pub past_decides : (g : Geometry) (v : Volume) (f : ℕ) (bytes : List ℕ) (limit : Option Limit) (b : Bool) → bytes ≡ block_at g.fsize v f → IsLimit g v f limit
     → Decides b (HasPastPointer g bytes limit) → Decides b (HasPastIn g v f)
-past_decides g v f bytes limit b once is limits decides = (
+past_decides g v f bytes limit b is limits decides = (
   λ test.
       let one = decides.0 test in
       let past = (limits.past (one.at)).1 one.past in record {
@@ -80,7 +76,7 @@ past_decides g v f bytes limit b once is limits decides = (
         i = past.i;
         inode = past.inode;
         block = past.block;
-        owned = pointer_owner g v f (past.level) (one.at) (past.i) (past.block) once past.reaches;
+        owned = past.owned;
         is = one.is;
         some = subst (λ bytes. pointer_in g.endian bytes (one.at) ≢ 0) is one.some;
         reaches = past.reaches;
@@ -91,7 +87,8 @@ past_decides g v f bytes limit b once is limits decides = (
     at = one.at;
     is = one.is;
     some = subst (λ bytes. pointer_in g.endian bytes (one.at) ≢ 0) (sym is) one.some;
-    past = (limits.past (one.at)).0 (record { level = one.level; i = one.i; inode = one.inode; block = one.block; reaches = one.reaches; owner = one.owner; past = one.past });
+    past = (limits.past (one.at)).0
+        (record { level = one.level; i = one.i; inode = one.inode; block = one.block; owned = one.owned; reaches = one.reaches; owner = one.owner; past = one.past });
   }),
 )
 
@@ -99,13 +96,10 @@ past_decides g v f bytes limit b once is limits decides = (
 pub no_pointers : (g : Geometry) (table : ClaimTable) (v : Volume) (f : ℕ) (faults : FragmentFaults) → HasClaimsOf g table v → (IsUpperIn table f → ⊥)
     → ArePointerFaultsBelow g v f faults → ArePointerFaultsBelow g v (f + 1) faults
 no_pointers g table v f faults has lower so_far = record {
-  wild_in = least_next f (IsBad g v WildIn) faults.wild_in (λ one. lower (upper_in g table v f (one.level) has one.upper)) so_far.wild_in;
-  align_in = least_next f (IsBad g v AlignIn) faults.align_in (λ one. lower (upper_in g table v f (one.level) has one.upper)) so_far.align_in;
-  past_in = λ once. least_next f (IsBad g v PastIn) faults.past_in (λ one. lower (reach_upper g table v f (one.level) (one.at) (one.i) (one.block) has one.reaches)) (so_far.past_in once);
+  wild_in = all_passed (IsBad g v WildIn) f faults.wild_in.items (λ one. lower (upper_in g table v f (one.level) has one.upper)) so_far.wild_in;
+  align_in = all_passed (IsBad g v AlignIn) f faults.align_in.items (λ one. lower (upper_in g table v f (one.level) has one.upper)) so_far.align_in;
+  past_in = all_passed (IsBad g v PastIn) f faults.past_in.items (λ one. lower (reach_upper g table v f (one.level) (one.at) (one.i) (one.block) has one.reaches)) so_far.past_in;
 }
-
-least_none_at : (holds : ℕ → Type 0) (r : Option ℕ) → r ≡ None → IsLeast holds r → (n : ℕ) → holds n → ⊥
-least_none_at holds r empty least = subst (IsLeast holds) empty least
 
 -- no fault is past the volume's end
 pub faults_all : (g : Geometry) (table : ClaimTable) (v : Volume) (bound : ℕ) (faults : FragmentFaults) → HasClaimsOf g table v → table.geometry ≡ Some g
@@ -113,17 +107,14 @@ pub faults_all : (g : Geometry) (table : ClaimTable) (v : Volume) (bound : ℕ) 
     → AreFragmentFaultsBelow g v bound faults → AreFragmentFaults g v faults
 faults_all g table v bound faults has is inside end so_far =
     let below = λ (f : ℕ) (source : ClaimSource). claim_inside g table v f source has is inside in record {
-      wild_in = least_all (IsBad g v WildIn) bound faults.wild_in (λ f one. let lt = below f (one.upper.source) one.upper.claim in omega arith) so_far.pointers.wild_in;
-      align_in = least_all (IsBad g v AlignIn) bound faults.align_in (λ f one. let lt = below f (one.upper.source) one.upper.claim in omega arith) so_far.pointers.align_in;
-      twice = least_all (IsBad g v Twice) bound faults.twice (λ f two. let lt = below f (two.one) two.first in omega arith) so_far.claimed.twice;
-      past_in = λ none.
-          let once : HasNoTwice g v = least_none_at (IsBad g v Twice) faults.twice none
-          (least_all (IsBad g v Twice) bound faults.twice (λ f two. let lt = below f (two.one) two.first in omega arith) so_far.claimed.twice) in
-          least_all (IsBad g v PastIn) bound faults.past_in
+      wild_in = all_all (IsBad g v WildIn) bound faults.wild_in.items (λ f one. let lt = below f (one.upper.source) one.upper.claim in omega arith) so_far.pointers.wild_in;
+      align_in = all_all (IsBad g v AlignIn) bound faults.align_in.items (λ f one. let lt = below f (one.upper.source) one.upper.claim in omega arith) so_far.pointers.align_in;
+      twice = all_all (IsBad g v Twice) bound faults.twice.items (λ f two. let lt = below f (two.one) two.first in omega arith) so_far.claimed.twice;
+      past_in = all_all (IsBad g v PastIn) bound faults.past_in.items
           (λ f one. let upper = reach_upper g table v f (one.level) (one.at) (one.i) (one.block) has one.reaches in
           let lt : f < g.size = subst (λ geometry. f < size_in geometry) is (inside f (upper.0) (upper.2)) in omega arith)
-          (so_far.pointers.past_in once);
-      free = least_all (IsBad g v Free) bound faults.free (λ f one. let lt = below f (one.source) one.claim in omega arith) so_far.claimed.free;
+          so_far.pointers.past_in;
+      free = all_all (IsBad g v Free) bound faults.free.items (λ f one. let lt = below f (one.source) one.claim in omega arith) so_far.claimed.free;
     }
 
 -- ---- fragments of indirect blocks have their bytes

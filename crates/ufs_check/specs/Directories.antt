@@ -1,7 +1,8 @@
 -- What is wrong with the directories of a volume, each of which is looked at by itself.
-use Rattle.std.specs.Prelude.{◌≡◌, ℕ, zero, suc, ◌/◌, ◌^◌, ◌<◌, ◌||◌, ◌&&◌, Bool, true, false, List, Option, Some, None, Result, Ok, Err, Contains}
+use Rattle.std.specs.Prelude.{◌≡◌, ℕ, zero, suc, ◌/◌, ◌^◌, ◌<◌, ◌||◌, ◌&&◌, Bool, true, false, List, Option, Some, None, Result, Ok, Err, Contains, map}
 use Rattle.std.specs.List.{list_any}
 use Rattle.std.specs.Result.{is_ok}
+use Rattle.ufs_model.specs.Audits.{AreAll}
 use Rattle.ufs_model.specs.Blocks.{Volume}
 use Rattle.ufs_model.specs.Chunks.{DirEntry}
 use Rattle.ufs_model.specs.Inodes.{block_count}
@@ -10,40 +11,45 @@ use Rattle.ufs_model.specs.Metadata.{IsMetadataBy}
 use Rattle.ufs_model.specs.Paths.{block_of, bytes_in_block, chunks_in, entries_before, entries_through}
 use Rattle.ufs_model.specs.declared.geometries.Geometry.{Geometry}
 use Rattle.ufs_model.specs.declared.inodes.Inode.{Inode}
-use Rattle.ufs_model.specs.declared.malformations.BadKind.TheVariants.{Hole as HoleIn, Chunk, Entry, EntryType, Filesize}
+use Rattle.ufs_model.specs.declared.malformations.BadKind.TheVariants.{Hole as HoleIn, Chunk, Entry, EntryType, Names, RootNamed}
 use Rattle.ufs_model.specs.declared.numbers.Endian.{Endian}
 use Rattle.ufs_model.specs.declared.reads.BadRead.TheVariants.{Hole as BadHole}
 use Rattle.ufs_model.specs.declared.reads.PathRefusal.{PathRefusal}
 use Rattle.ufs_model.specs.declared.reads.PathRefusal.TheVariants.{Bad}
-use Rattle.ufs_check.specs.Entries.{AddsEntries, is_mistyped, is_refused, names_none}
-use Rattle.ufs_check.specs.Least.{IsLeast, IsLeastBelow}
+use Rattle.ufs_check.specs.Entries.{is_refused}
+use Rattle.ufs_check.specs.Notes.{AreAllBelow}
+use Rattle.ufs_check.specs.OwnedEntries.{Sees, seen_all, seen_in}
 use Rattle.ufs_check.specs.declared.directories.Scan.{Scan}
-use Rattle.ufs_check.specs.declared.entries.EntryFaults.{EntryFaults}
+use Rattle.ufs_check.specs.declared.owned_entries.OwnedEntry.{OwnedEntry}
 use Rattle.ufs_check.specs.declared.verdicts.DirectoryFaults.{DirectoryFaults}
 
 -- ---- the pass
 
--- no directory has a hole
-abbrev pub HasNoHole : Geometry → Volume → Type 0
-HasNoHole g v = (m : ℕ) → IsBad g v HoleIn m → ⊥
-
--- Each kind has its least inode. A directory with a hole isn't looked at behind that, so the other kinds are told where there is none.
+-- of each kind all directories
 pub record AreDirectoryFaults (g : Geometry) (v : Volume) (faults : DirectoryFaults) : Type 0 where
-  pub hole : IsLeast (IsBad g v HoleIn) faults.hole
-  pub chunk : faults.hole ≡ None → IsLeast (IsBad g v Chunk) faults.chunk
-  pub entry : faults.hole ≡ None → IsLeast (IsBad g v Entry) faults.entry
-  pub entry_type : faults.hole ≡ None → IsLeast (IsBad g v EntryType) faults.entry_type
+  pub hole : AreAll (IsBad g v HoleIn) faults.hole.items
+  pub chunk : AreAll (IsBad g v Chunk) faults.chunk.items
+  pub entry : AreAll (IsBad g v Entry) faults.entry.items
+  pub entry_type : AreAll (IsBad g v EntryType) faults.entry_type.items
+  pub names : AreAll (IsBad g v Names) faults.names.items
+  pub root_named : AreAll (IsBad g v RootNamed) faults.root_named.items
 
--- its least below a bound
+-- those below a bound, of the kinds that speak of blocks
+pub record AreBlockFaultsBelow (g : Geometry) (v : Volume) (bound : ℕ) (faults : DirectoryFaults) : Type 0 where
+  pub hole : AreAllBelow (IsBad g v HoleIn) bound faults.hole.items
+  pub chunk : AreAllBelow (IsBad g v Chunk) bound faults.chunk.items
+
+-- those below a bound, of the kinds that speak of entries
+pub record AreEntryFaultsBelow (g : Geometry) (v : Volume) (bound : ℕ) (faults : DirectoryFaults) : Type 0 where
+  pub entry : AreAllBelow (IsBad g v Entry) bound faults.entry.items
+  pub entry_type : AreAllBelow (IsBad g v EntryType) bound faults.entry_type.items
+  pub names : AreAllBelow (IsBad g v Names) bound faults.names.items
+  pub root_named : AreAllBelow (IsBad g v RootNamed) bound faults.root_named.items
+
+-- the same of all kinds
 pub record AreDirectoryFaultsBelow (g : Geometry) (v : Volume) (bound : ℕ) (faults : DirectoryFaults) : Type 0 where
-  pub hole : IsLeastBelow (IsBad g v HoleIn) bound faults.hole
-  pub chunk : HasNoHole g v → IsLeastBelow (IsBad g v Chunk) bound faults.chunk
-  pub entry : HasNoHole g v → IsLeastBelow (IsBad g v Entry) bound faults.entry
-  pub entry_type : HasNoHole g v → IsLeastBelow (IsBad g v EntryType) bound faults.entry_type
-
--- no inode with pointers has 2^32 bytes or more
-abbrev pub HasFilesizes : Geometry → Volume → Type 0
-HasFilesizes g v = (m : ℕ) → IsBad g v Filesize m → ⊥
+  pub blocks : AreBlockFaultsBelow g v bound faults
+  pub entries : AreEntryFaultsBelow g v bound faults
 
 -- A block that is read to look at a file of this inode as a directory: of the metadata, for the inodes that are named; or one that
 -- is consulted for a file block.
@@ -84,12 +90,13 @@ abbrev pub entries_said : Endian → Result (List (List ℕ)) PathRefusal → Re
 entries_said endian (Ok chunks) = entries_through endian chunks
 entries_said endian (Err refusal) = Err refusal
 
--- what a file block with k chunks adds, of which this is read
+-- what a file block with k chunks adds, of which this is read; its entries, where those of all blocks before are read
 pub record ScansBlock (g : Geometry) (v : Volume) (k : ℕ) (block : Result (Option (List ℕ)) PathRefusal) (old new : Scan) : Type 0 where
   pub hole : new.hole ≡ (old.hole || hole_said block)
   pub chunk : new.chunk ≡ (old.chunk || refused_said g.endian (chunks_said k block))
   pub read : new.read ≡ (old.read && is_ok (entries_said g.endian (chunks_said k block)))
-  pub entries : (entries : List DirEntry) → entries_said g.endian (chunks_said k block) ≡ Ok entries → AddsEntries g v entries old.entries new.entries
+  pub entries : old.read ≡ true → (entries : List DirEntry) → entries_said g.endian (chunks_said k block) ≡ Ok entries
+      → Sees g v entries old.entries.items new.entries.items
 
 -- ---- file blocks one after the other
 
@@ -106,19 +113,17 @@ hole_at g inode v n = hole_said ((block_of g inode n v).value)
 unfoldable pub refused_at : Geometry → Inode → Volume → ℕ → Bool
 refused_at g inode v n = refused_said g.endian (chunks_said (bytes_in_block g inode n / 512) ((block_of g inode n v).value))
 
--- the faults of entries, where these are read
-abbrev pub SaysEntries : Geometry → Volume → Bool → EntryFaults → Result (List DirEntry) PathRefusal → Type 0
-SaysEntries g v read faults (Err refusal) = read ≡ false
-SaysEntries g v read faults (Ok entries) =
-    (read ≡ true) × (faults.entry ≡ list_any (names_none g v) entries) × (faults.entry_type ≡ list_any (is_mistyped g v) entries)
+-- the entries in memory, where these are read
+abbrev pub SaysEntries : Geometry → Volume → Bool → List OwnedEntry → Result (List DirEntry) PathRefusal → Type 0
+SaysEntries g v read owned (Err refusal) = read ≡ false
+SaysEntries g v read owned (Ok entries) = (read ≡ true) × (seen_all owned ≡ map (seen_in g v) entries)
 
 -- what is found in the first n file blocks
 pub record ScannedBelow (g : Geometry) (inode : Inode) (v : Volume) (n : ℕ) (scan : Scan) : Type 0 where
   pub hole : scan.hole ≡ any_below (hole_at g inode v) n
   pub chunk : scan.chunk ≡ any_below (refused_at g inode v) n
-  pub entries : SaysEntries g v scan.read scan.entries ((entries_before g inode n v).value)
+  pub entries : SaysEntries g v scan.read scan.entries.items ((entries_before g inode n v).value)
 
--- what is found in a directory: whether it has a hole, and all of it where it has none
-pub record ScannedWhole (g : Geometry) (inode : Inode) (v : Volume) (scan : Scan) : Type 0 where
-  pub hole : scan.hole ≡ any_below (hole_at g inode v) (block_count g inode)
-  pub below : scan.hole ≡ false → ScannedBelow g inode v (block_count g inode) scan
+-- what is found in a directory
+abbrev pub ScannedWhole : Geometry → Inode → Volume → Scan → Type 0
+ScannedWhole g inode v scan = ScannedBelow g inode v (block_count g inode) scan

@@ -1,5 +1,5 @@
 -- What is wrong with the fragments of a volume.
-use Rattle.std.specs.Prelude.{◌≡◌, ◌<◌, ℕ, None, Contains}
+use Rattle.std.specs.Prelude.{◌≡◌, ◌<◌, ℕ, Contains}
 use Rattle.ufs_model.specs.Blocks.{Volume}
 use Rattle.ufs_model.specs.Claims.{level_of}
 use Rattle.ufs_model.specs.Malformations.{Claims, IsBad}
@@ -7,8 +7,8 @@ use Rattle.ufs_model.specs.declared.claims.ClaimSource.{ClaimSource}
 use Rattle.ufs_model.specs.declared.geometries.Geometry.{Geometry}
 use Rattle.ufs_model.specs.declared.malformations.BadKind.TheVariants.{WildIn, AlignIn, Twice, PastIn, Free}
 use Rattle.dg_claims.specs.Tables.{ClaimTable, HasClaims}
-use Rattle.ufs_check.specs.Reaches.{HasNoTwice}
-use Rattle.ufs_check.specs.Least.{IsLeast, IsLeastBelow}
+use Rattle.ufs_model.specs.Audits.{AreAll}
+use Rattle.ufs_check.specs.Notes.{AreAllBelow}
 use Rattle.ufs_check.specs.declared.verdicts.FragmentFaults.{FragmentFaults}
 
 -- a table has the claims of a volume with this geometry
@@ -23,24 +23,24 @@ IsClaimedBy stands g table v = stands v × HasClaimsOf g table v
 abbrev pub IsUpperIn : ClaimTable → ℕ → Type 0
 IsUpperIn table f = (source : ClaimSource) × (0 < level_of source) × Contains (table.claimed source) f
 
--- Each kind has its least fragment. What is reached through a pointer is told where no fragment has two claims.
+-- of each kind all fragments
 pub record AreFragmentFaults (g : Geometry) (v : Volume) (faults : FragmentFaults) : Type 0 where
-  pub wild_in : IsLeast (IsBad g v WildIn) faults.wild_in
-  pub align_in : IsLeast (IsBad g v AlignIn) faults.align_in
-  pub twice : IsLeast (IsBad g v Twice) faults.twice
-  pub past_in : faults.twice ≡ None → IsLeast (IsBad g v PastIn) faults.past_in
-  pub free : IsLeast (IsBad g v Free) faults.free
+  pub wild_in : AreAll (IsBad g v WildIn) faults.wild_in.items
+  pub align_in : AreAll (IsBad g v AlignIn) faults.align_in.items
+  pub twice : AreAll (IsBad g v Twice) faults.twice.items
+  pub past_in : AreAll (IsBad g v PastIn) faults.past_in.items
+  pub free : AreAll (IsBad g v Free) faults.free.items
 
--- its least below a bound, of the kinds that speak of pointers
+-- those below a bound, of the kinds that speak of pointers
 pub record ArePointerFaultsBelow (g : Geometry) (v : Volume) (bound : ℕ) (faults : FragmentFaults) : Type 0 where
-  pub wild_in : IsLeastBelow (IsBad g v WildIn) bound faults.wild_in
-  pub align_in : IsLeastBelow (IsBad g v AlignIn) bound faults.align_in
-  pub past_in : HasNoTwice g v → IsLeastBelow (IsBad g v PastIn) bound faults.past_in
+  pub wild_in : AreAllBelow (IsBad g v WildIn) bound faults.wild_in.items
+  pub align_in : AreAllBelow (IsBad g v AlignIn) bound faults.align_in.items
+  pub past_in : AreAllBelow (IsBad g v PastIn) bound faults.past_in.items
 
--- its least below a bound, of the kinds that speak of all claims
+-- those below a bound, of the kinds that speak of all claims
 pub record AreClaimFaultsBelow (g : Geometry) (v : Volume) (bound : ℕ) (faults : FragmentFaults) : Type 0 where
-  pub twice : IsLeastBelow (IsBad g v Twice) bound faults.twice
-  pub free : IsLeastBelow (IsBad g v Free) bound faults.free
+  pub twice : AreAllBelow (IsBad g v Twice) bound faults.twice.items
+  pub free : AreAllBelow (IsBad g v Free) bound faults.free.items
 
 -- the same of all kinds
 pub record AreFragmentFaultsBelow (g : Geometry) (v : Volume) (bound : ℕ) (faults : FragmentFaults) : Type 0 where

@@ -1,4 +1,4 @@
-pub mod Least
+pub mod Notes
 pub mod Groups
 pub mod Inodes
 pub mod Entries
@@ -11,4 +11,5 @@ pub mod OwnedEntries
 pub mod Names
 pub mod Links
 pub mod Verdicts
+pub mod Surveys
 pub mod ViewWords

@@ -1,8 +1,9 @@
--- Which pointers of a fragment reach no block of their file, where no fragment has two claims.
+-- Which pointers of a fragment that an inode owns reach no block of its file.
 use Rattle.std.specs.Prelude.{◌≡◌, ◌↔◌, ◌+◌, ◌*◌, ◌^◌, ◌≤◌, ℕ, Option, Some, None}
 use Rattle.ufs_model.specs.Blocks.{Volume}
 use Rattle.ufs_model.specs.Inodes.{block_count}
-use Rattle.ufs_model.specs.Malformations.{FirstBlock, inode_at}
+use Rattle.ufs_model.specs.Malformations.{Claims, FirstBlock, inode_at}
+use Rattle.ufs_model.specs.Owners.{IsOwner}
 use Rattle.ufs_model.specs.declared.claims.ClaimSource.TheVariants.{Pointer}
 use Rattle.ufs_model.specs.declared.geometries.Geometry.{Geometry}
 use Rattle.ufs_model.specs.declared.inodes.Inode.{Inode}
@@ -14,6 +15,7 @@ pub record IsPastAt (g : Geometry) (v : Volume) (f at : ℕ) : Type 0 where
   pub i : ℕ
   pub inode : Inode
   pub block : ℕ
+  pub owned : IsOwner (Claims g v) f i level
   pub reaches : FirstBlock g v (Pointer f level at) i block
   pub owner : inode_at g v i ≡ Some inode
   pub past : block_count g inode ≤ block

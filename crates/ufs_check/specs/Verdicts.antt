@@ -1,6 +1,5 @@
 -- The first malformation of a volume, by what the passes over it found.
 use Rattle.std.specs.Prelude.{◌≡◌, ℕ, ◌<◌, ◌&&◌, Bool, true, List, [], ◌∷◌, Option, Some, None, Ok}
-use Rattle.std.specs.Option.{is_none}
 use Rattle.ufs_model.specs.Blocks.{Volume}
 use Rattle.ufs_model.specs.Malformations.{IsBad, order_of}
 use Rattle.ufs_model.specs.Superblocks.{geometry_of}
@@ -13,11 +12,11 @@ use Rattle.ufs_check.specs.Directories.{AreDirectoryFaults}
 use Rattle.ufs_check.specs.Fragments.{AreFragmentFaults, HasClaimsOf}
 use Rattle.ufs_check.specs.Groups.{AreGroupFaults}
 use Rattle.ufs_check.specs.Inodes.{AreInodeFaults}
-use Rattle.ufs_check.specs.Links.{AreLinkFaults, HasAllEntries}
-use Rattle.ufs_check.specs.Names.{HasNamed}
+use Rattle.ufs_check.specs.Links.{AreLinkFaults}
+use Rattle.ufs_check.specs.Notes.{first_in, has_none}
 use Rattle.ufs_check.specs.declared.faults.Faults.{Faults}
 use Rattle.ufs_check.specs.declared.faults.MetadataFaults.{MetadataFaults}
-use Rattle.ufs_check.specs.declared.verdicts.DirectoryFaults.{DirectoryFaults}
+use Rattle.ufs_check.specs.declared.faults.TreeFaults.{TreeFaults}
 use Rattle.ufs_check.specs.declared.verdicts.FragmentFaults.{FragmentFaults}
 use Rattle.ufs_check.specs.declared.verdicts.GroupFaults.{GroupFaults}
 use Rattle.ufs_check.specs.declared.verdicts.InodeFaults.{InodeFaults}
@@ -41,57 +40,67 @@ pub record AreMetadataFaults (g : Geometry) (v : Volume) (faults : MetadataFault
   pub fragments : AreFragmentFaults g v faults.fragments
   pub whole : HasWholeUppers g v
 
--- nothing is found
+-- what is found in directories
+pub record AreTreeFaults (g : Geometry) (v : Volume) (faults : TreeFaults) : Type 0 where
+  pub directories : AreDirectoryFaults g v faults.directories
+  pub links : AreLinkFaults g v faults.links
+
+-- all of it
+pub record AreAllFaults (g : Geometry) (v : Volume) (faults : Faults) : Type 0 where
+  pub metadata : AreMetadataFaults g v faults.metadata
+  pub tree : AreTreeFaults g v faults.tree
+
+-- nothing is found by metadata
 abbrev pub no_group_fault : GroupFaults → Bool
-no_group_fault faults = is_none faults.magic && is_none faults.map
+no_group_fault faults = has_none faults.magic.items && has_none faults.map.items
 
 abbrev pub no_slot_fault : InodeFaults → Bool
-no_slot_fault faults = ((is_none faults.past && is_none faults.wild) && is_none faults.align) && is_none faults.run
+no_slot_fault faults = ((has_none faults.past.items && has_none faults.wild.items) && has_none faults.align.items) && has_none faults.run.items
 
 abbrev pub no_inode_fault : InodeFaults → Bool
-no_inode_fault faults = ((is_none faults.wrong_type && is_none faults.filesize) && no_slot_fault faults) && is_none faults.unused
+no_inode_fault faults = ((has_none faults.wrong_type.items && has_none faults.filesize.items) && no_slot_fault faults) && has_none faults.unused.items
 
 abbrev pub no_fragment_fault : FragmentFaults → Bool
-no_fragment_fault faults = (((is_none faults.wild_in && is_none faults.align_in) && is_none faults.twice) && is_none faults.past_in) && is_none faults.free
+no_fragment_fault faults =
+    (((has_none faults.wild_in.items && has_none faults.align_in.items) && has_none faults.twice.items) && has_none faults.past_in.items) && has_none faults.free.items
 
 abbrev pub no_metadata_fault : MetadataFaults → Bool
 no_metadata_fault faults = (no_group_fault faults.groups && no_inode_fault faults.inodes) && no_fragment_fault faults.fragments
 
-abbrev pub no_directory_fault : DirectoryFaults → Bool
-no_directory_fault faults = ((is_none faults.hole && is_none faults.chunk) && is_none faults.entry) && is_none faults.entry_type
-
--- what is found in all; of directories where nothing else is found before, and it can be told
+-- all of it, but for what is found in directories where something is found before
 pub record AreFaults (g : Geometry) (v : Volume) (faults : Faults) : Type 0 where
   pub metadata : AreMetadataFaults g v faults.metadata
-  pub directories : no_metadata_fault faults.metadata ≡ true → AreDirectoryFaults g v faults.directories
-  pub links : no_metadata_fault faults.metadata ≡ true → no_directory_fault faults.directories ≡ true → HasAllEntries g v → HasNamed g v
-      → AreLinkFaults g v faults.links
+  pub tree : no_metadata_fault faults.metadata ≡ true → AreTreeFaults g v faults.tree
 
--- the least number that is found of a kind
-abbrev pub found_in : Faults → BadKind → Option ℕ
-found_in faults (Super bad) = None
-found_in faults GroupMagic = faults.metadata.groups.magic
-found_in faults GroupMap = faults.metadata.groups.map
-found_in faults WrongType = faults.metadata.inodes.wrong_type
-found_in faults Filesize = faults.metadata.inodes.filesize
-found_in faults Past = faults.metadata.inodes.past
-found_in faults Wild = faults.metadata.inodes.wild
-found_in faults WildIn = faults.metadata.fragments.wild_in
-found_in faults Align = faults.metadata.inodes.align
-found_in faults AlignIn = faults.metadata.fragments.align_in
-found_in faults Run = faults.metadata.inodes.run
-found_in faults Twice = faults.metadata.fragments.twice
-found_in faults PastIn = faults.metadata.fragments.past_in
-found_in faults Free = faults.metadata.fragments.free
-found_in faults Unused = faults.metadata.inodes.unused
-found_in faults Hole = faults.directories.hole
-found_in faults Chunk = faults.directories.chunk
-found_in faults Entry = faults.directories.entry
-found_in faults EntryType = faults.directories.entry_type
-found_in faults Dots = faults.links.dots
-found_in faults Names = faults.links.names
-found_in faults DirTwice = faults.links.dir_twice
-found_in faults RootNamed = faults.links.root_named
+-- the numbers that are found of a kind
+abbrev pub found_in : Faults → BadKind → List ℕ
+found_in faults (Super bad) = []
+found_in faults GroupMagic = faults.metadata.groups.magic.items
+found_in faults GroupMap = faults.metadata.groups.map.items
+found_in faults WrongType = faults.metadata.inodes.wrong_type.items
+found_in faults Filesize = faults.metadata.inodes.filesize.items
+found_in faults Past = faults.metadata.inodes.past.items
+found_in faults Wild = faults.metadata.inodes.wild.items
+found_in faults WildIn = faults.metadata.fragments.wild_in.items
+found_in faults Align = faults.metadata.inodes.align.items
+found_in faults AlignIn = faults.metadata.fragments.align_in.items
+found_in faults Run = faults.metadata.inodes.run.items
+found_in faults Twice = faults.metadata.fragments.twice.items
+found_in faults PastIn = faults.metadata.fragments.past_in.items
+found_in faults Free = faults.metadata.fragments.free.items
+found_in faults Unused = faults.metadata.inodes.unused.items
+found_in faults Hole = faults.tree.directories.hole.items
+found_in faults Chunk = faults.tree.directories.chunk.items
+found_in faults Entry = faults.tree.directories.entry.items
+found_in faults EntryType = faults.tree.directories.entry_type.items
+found_in faults Dots = faults.tree.links.dots.items
+found_in faults Names = faults.tree.directories.names.items
+found_in faults DirTwice = faults.tree.links.dir_twice.items
+found_in faults RootNamed = faults.tree.directories.root_named.items
+
+-- the least of them
+abbrev pub first_found : Faults → BadKind → Option ℕ
+first_found faults kind = first_in (found_in faults kind)
 
 -- ---- the first of it
 

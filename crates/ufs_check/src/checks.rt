@@ -9,16 +9,20 @@ ghost use Rattle.ufs_model.specs.Metadata.{IsMetadataBy};
 ghost use Rattle.ufs_model.specs.Superblocks.{geometry_of};
 ghost use Rattle.dg_claims.specs.Kept.{table_of};
 ghost use Rattle.dg_claims.specs.Tables.{accepted};
-ghost use Rattle.ufs_check.specs.Verdicts.{AreFaults, AreMetadataFaults};
+ghost use Rattle.ufs_check.specs.Directories.{IsDirectoryRead};
+ghost use Rattle.ufs_check.specs.Links.{AreLinks};
+ghost use Rattle.ufs_check.specs.Verdicts.{AreFaults, AreMetadataFaults, AreTreeFaults};
 ghost use Rattle.ufs_check.specs.ViewWords.{FetchesOn, IsClaimed, IsOfGeometry, IsOfTable, IsStructureOf, LosesOn};
+ghost use Rattle.ufs_pointer.specs.ViewWords.{FetchesKind, LosesKind};
 
 use crate::directories::{check_directories, directories_are_structure};
-use crate::faults::{Faults, MetadataFaults, verdict_of};
+use crate::faults::{Faults, MetadataFaults, TreeFaults, no_tree, verdict_of};
 use crate::fragments::check_fragments;
 use crate::groups::check_groups;
 use crate::inodes::check_inodes;
-use crate::links::{NO_LINK_FAULTS, check_links};
-use crate::verdicts::{NO_DIRECTORY_FAULTS, Verdict};
+use crate::links::judge_links;
+use crate::parents::LinkTable;
+use crate::verdicts::Verdict;
 use dg_claims::Claims;
 use dg_io::{NoMemory, View};
 use std::alloc::Global;
@@ -34,36 +38,69 @@ fn is_of(claims: &Claims, g: &Geometry) -> bool
 
 /// What is wrong by metadata alone, by the claims of the volume. There is no answer where a block of it
 /// is gone.
-fn check_metadata<V: View>(
+pub fn check_metadata<V: View>(
+    alloc: Global,
     view: &mut V,
     g: &Geometry,
     levels: &mut Levels,
     claims: &Claims,
-) -> Option<MetadataFaults>
+) -> Result<Option<MetadataFaults>, NoMemory>
     requires sound { V.is_sound view.old }
     requires geometry { IsGeometryOn (V.size view.old) (V.count view.old) g.now }
     requires levels { levels.old.fragment ≡ V.size view.old }
     requires table { (table_of claims.now).geometry ≡ Some g.now }
     ensures keeps { Keeps V.View view.old view.new }
     ensures levels { levels.new.fragment ≡ levels.old.fragment }
-    ensures found { IfSome result (λ faults. V.tells view.new → (v : Volume) → IsClaimed V.View view.old g.now (table_of claims.now) v
-        → AreMetadataFaults g.now v faults) }
-    ensures gone { IfNone result (LosesOn V.View view.old view.new (IsClaimed V.View view.old g.now (table_of claims.now)) (IsMetadataBy g.now)) }
+    ensures found { IfOk result (λ answer. IfSome answer (λ faults. V.tells view.new → (v : Volume) → IsClaimed V.View view.old g.now (table_of claims.now) v
+        → AreMetadataFaults g.now v faults)) }
+    ensures gone { IfOk result (λ answer. IfNone answer
+        (LosesOn V.View view.old view.new (IsClaimed V.View view.old g.now (table_of claims.now)) (IsMetadataBy g.now))) }
     ensures fetched { FetchesOn V.View view.old view.new (IsClaimed V.View view.old g.now (table_of claims.now)) (IsMetadataBy g.now) }
 {
-    let groups = check_groups(view, g, levels)?;
-    let inodes = check_inodes(view, g, levels)?;
-    let fragments = check_fragments(view, g, levels, claims)?;
-    Some(MetadataFaults {
+    let Some(groups) = check_groups(alloc, view, g, levels)? else {
+        return Ok(None);
+    };
+    let Some(inodes) = check_inodes(alloc, view, g, levels)? else {
+        return Ok(None);
+    };
+    let Some(fragments) = check_fragments(alloc, view, g, levels, claims)? else {
+        return Ok(None);
+    };
+    Ok(Some(MetadataFaults {
         groups,
         inodes,
         fragments,
-    })
+    }))
 }
 
-/// What the passes find, by the claims of the volume, up to the first that finds something: so the blocks
-/// of directories are gone over only where no fragment has two claims. There is no answer where a block
-/// with the volume's structure is gone.
+/// What is wrong in directories, and what their entries say of inodes. There is no answer where a block
+/// that is read for it is gone.
+pub fn check_tree<V: View>(
+    alloc: Global,
+    view: &mut V,
+    g: &Geometry,
+    levels: &mut Levels,
+) -> Result<Option<(TreeFaults, LinkTable)>, NoMemory>
+    requires sound { V.is_sound view.old }
+    requires geometry { IsGeometryOn (V.size view.old) (V.count view.old) g.now }
+    requires levels { levels.old.fragment ≡ V.size view.old }
+    ensures keeps { Keeps V.View view.old view.new }
+    ensures levels { levels.new.fragment ≡ levels.old.fragment }
+    ensures found { IfOk result (λ answer. IfSome answer (λ found. V.tells view.new → (v : Volume) → V.stands_for view.old v
+        → AreTreeFaults g.now v (found.0) × AreLinks g.now v (found.1))) }
+    ensures gone { IfOk result (λ answer. IfNone answer (LosesKind V.View view.old view.new (IsDirectoryRead g.now))) }
+    ensures fetched { FetchesKind V.View view.old view.new (IsDirectoryRead g.now) }
+{
+    let Some(found) = check_directories(alloc, view, g, levels)? else {
+        return Ok(None);
+    };
+    let (directories, table) = found;
+    let links = judge_links(alloc, g, &table)?;
+    Ok(Some((TreeFaults { directories, links }, table)))
+}
+
+/// What the passes find, by the claims of the volume: in directories only where nothing is found by
+/// metadata. There is no answer where a block with the volume's structure is gone.
 fn check_volume<V: View>(
     alloc: Global,
     view: &mut V,
@@ -84,34 +121,18 @@ fn check_volume<V: View>(
     ensures fetched { FetchesOn V.View view.old view.new (IsOfGeometry V.View view.old g.now (table_of claims.now)) (IsStructureOf V.View view.old) }
 {
     directories_are_structure();
-    let Some(metadata) = check_metadata(view, g, levels, claims) else {
+    let Some(metadata) = check_metadata(alloc, view, g, levels, claims)? else {
         return Ok(None);
     };
     if !metadata.is_none() {
-        return Ok(Some(Faults {
-            metadata,
-            directories: NO_DIRECTORY_FAULTS,
-            links: NO_LINK_FAULTS,
-        }));
+        let tree = no_tree(alloc);
+        return Ok(Some(Faults { metadata, tree }));
     }
-    let Some(directories) = check_directories(view, g, levels) else {
+    let Some(found) = check_tree(alloc, view, g, levels)? else {
         return Ok(None);
     };
-    if !directories.is_none() {
-        return Ok(Some(Faults {
-            metadata,
-            directories,
-            links: NO_LINK_FAULTS,
-        }));
-    }
-    let Some(links) = check_links(alloc, view, g, levels)? else {
-        return Ok(None);
-    };
-    Ok(Some(Faults {
-        metadata,
-        directories,
-        links,
-    }))
+    let (tree, _table) = found;
+    Ok(Some(Faults { metadata, tree }))
 }
 
 /// The first malformation of the volume on a view, where the table has the volume's claims. A table of

@@ -1,5 +1,5 @@
 // The pass over the inodes.
-ghost use Rattle.std.specs.Prelude.{◌≡◌, ◌+◌, ◌*◌, ◌/◌, ◌%◌, ◌<◌, ◌≤◌, ℕ, List, Some, true, false, not, IfNone, IfSome, length};
+ghost use Rattle.std.specs.Prelude.{◌≡◌, ◌+◌, ◌*◌, ◌/◌, ◌%◌, ◌<◌, ◌≤◌, ℕ, List, Some, true, false, not, IfNone, IfOk, IfSome, OnOk, length};
 ghost use Rattle.dg_io.specs.ViewWords.{Keeps};
 ghost use Rattle.ufs_model.specs.Blocks.{Volume, block_at};
 ghost use Rattle.ufs_model.specs.Geometries.{IsGeometry, IsGeometryOn};
@@ -13,7 +13,8 @@ ghost use Rattle.ufs_pointer.specs.ViewWords.{FetchesKind, LosesKind};
 use crate::notes::note;
 use crate::slots::{has_crossing, has_misaligned, has_past, has_wild};
 use crate::verdicts::InodeFaults;
-use dg_io::View;
+use dg_io::{NoMemory, View};
+use std::alloc::Global;
 use ufs_group::{group_block, is_used, read_group};
 use ufs_inode::{has_pointers, inode_at, place_of};
 use ufs_model::{Geometry, Inode, Kind, ROOT_INODE};
@@ -23,37 +24,50 @@ use ufs_pointer::Levels;
 pub const TOO_LONG: u64 = 1 << 32;
 
 /// Notes what is wrong with inode `i`, which has pointers, of the kinds that only such inodes have.
-fn note_pointed(g: &Geometry, i: u32, inode: &Inode, faults: &mut InodeFaults)
+fn note_pointed(
+    g: &Geometry,
+    i: u32,
+    inode: &Inode,
+    faults: &mut InodeFaults,
+) -> Result<(), NoMemory>
     requires geometry { IsGeometry g.now }
     requires pointers { has_pointers g.now inode.now ≡ true }
     ensures wrong_type { faults.new.wrong_type ≡ faults.old.wrong_type }
     ensures unused { faults.new.unused ≡ faults.old.unused }
-    ensures pointed { (v : Volume) → inode_at g.now v i ≡ Some inode.now → ArePointedFaultsBelow g.now v i faults.old
-        → ArePointedFaultsBelow g.now v (i + 1) faults.new }
+    ensures pointed { OnOk result ((v : Volume) → inode_at g.now v i ≡ Some inode.now → ArePointedFaultsBelow g.now v i faults.old
+        → ArePointedFaultsBelow g.now v (i + 1) faults.new) }
 {
-    note(&mut faults.filesize, i, TOO_LONG <= inode.size);
-    note(&mut faults.past, i, has_past(g, inode));
-    note(&mut faults.wild, i, has_wild(g, inode));
-    note(&mut faults.align, i, has_misaligned(g, inode));
-    note(&mut faults.run, i, has_crossing(g, inode));
+    note(&mut faults.filesize, i, TOO_LONG <= inode.size)?;
+    note(&mut faults.past, i, has_past(g, inode))?;
+    note(&mut faults.wild, i, has_wild(g, inode))?;
+    note(&mut faults.align, i, has_misaligned(g, inode))?;
+    note(&mut faults.run, i, has_crossing(g, inode))?;
+    Ok(())
 }
 
 /// Notes what is wrong with inode `i`, if it is allocated, where what is wrong with inodes of lower numbers
 /// is noted.
-fn note_inode(g: &Geometry, i: u32, inode: Option<Inode>, unused: bool, faults: &mut InodeFaults)
+fn note_inode(
+    g: &Geometry,
+    i: u32,
+    inode: Option<Inode>,
+    unused: bool,
+    faults: &mut InodeFaults,
+) -> Result<(), NoMemory>
     requires geometry { IsGeometry g.now }
-    ensures { (v : Volume) → inode_at g.now v i ≡ inode → (is_marked_unused g.now i v).value ≡ unused
-        → AreInodeFaultsBelow g.now v i faults.old → AreInodeFaultsBelow g.now v (i + 1) faults.new }
+    ensures { OnOk result ((v : Volume) → inode_at g.now v i ≡ inode → (is_marked_unused g.now i v).value ≡ unused
+        → AreInodeFaultsBelow g.now v i faults.old → AreInodeFaultsBelow g.now v (i + 1) faults.new) }
 {
     let Some(inode) = inode else {
-        return;
+        return Ok(());
     };
-    note(&mut faults.wrong_type, i, inode.kind() == Kind::Unknown);
-    note(&mut faults.unused, i, unused);
+    note(&mut faults.wrong_type, i, inode.kind() == Kind::Unknown)?;
+    note(&mut faults.unused, i, unused)?;
     if !has_pointers(g, &inode) {
-        return;
+        return Ok(());
     }
-    note_pointed(g, i, &inode, faults);
+    note_pointed(g, i, &inode, faults)?;
+    Ok(())
 }
 
 /// Inode `i` is marked unused by the map of its group, whose block has the bytes. Where that is refused,
@@ -132,38 +146,44 @@ fn hold_inodes<V: View>(
 }
 
 /// What is wrong with the inodes. There is no answer where a block of inodes is gone, or one of a group.
-pub fn check_inodes<V: View>(view: &mut V, g: &Geometry, levels: &mut Levels) -> Option<InodeFaults>
+pub fn check_inodes<V: View>(
+    alloc: Global,
+    view: &mut V,
+    g: &Geometry,
+    levels: &mut Levels,
+) -> Result<Option<InodeFaults>, NoMemory>
     requires sound { V.is_sound view.old }
     requires geometry { IsGeometryOn (V.size view.old) (V.count view.old) g.now }
     requires levels { levels.old.fragment ≡ V.size view.old }
     ensures keeps { Keeps V.View view.old view.new }
     ensures levels { levels.new.fragment ≡ levels.old.fragment }
-    ensures found { IfSome result (λ faults. V.tells view.new → (v : Volume) → V.stands_for view.old v → AreInodeFaults g.now v faults) }
-    ensures gone { IfNone result (LosesKind V.View view.old view.new (IsMetadataBy g.now)) }
+    ensures found { IfOk result (λ answer. IfSome answer (λ faults. V.tells view.new → (v : Volume) → V.stands_for view.old v
+        → AreInodeFaults g.now v faults)) }
+    ensures gone { IfOk result (λ answer. IfNone answer (LosesKind V.View view.old view.new (IsMetadataBy g.now))) }
     ensures fetched { FetchesKind V.View view.old view.new (IsMetadataBy g.now) }
 {
     let mut faults = InodeFaults {
-        wrong_type: None,
-        filesize: None,
-        past: None,
-        wild: None,
-        align: None,
-        run: None,
-        unused: None,
+        wrong_type: Vec::new(alloc),
+        filesize: Vec::new(alloc),
+        past: Vec::new(alloc),
+        wild: Vec::new(alloc),
+        align: Vec::new(alloc),
+        run: Vec::new(alloc),
+        unused: Vec::new(alloc),
     };
     let mut group = None;
     let mut inodes = None;
     for i in ROOT_INODE..g.ncg * g.ipg {
         let (block, byte) = place_of(g, i);
         if !hold_group(view, g, i / g.ipg, levels, &mut group) {
-            return None;
+            return Ok(None);
         }
         if !hold_inodes(view, g, block, levels, &mut inodes) {
-            return None;
+            return Ok(None);
         }
         let unused = is_marked_unused(g, i, levels.block());
         let inode = inode_at(levels.aside(), byte, g.endian);
-        note_inode(g, i, inode, unused, &mut faults);
+        note_inode(g, i, inode, unused, &mut faults)?;
     }
-    Some(faults)
+    Ok(Some(faults))
 }

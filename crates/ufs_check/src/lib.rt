@@ -1,7 +1,8 @@
-//! The first malformation of a UFS1 volume, from a view of its blocks some of which may be gone.
+//! What is wrong with a UFS1 volume, from a view of its blocks some of which may be gone: the first
+//! malformation, or all, with what is noted beside them.
 //!
-//! Each pass goes once over one kind of structure, and keeps the least number of each kind of fault that
-//! it looks for. The passes over directories are made only where those before find nothing.
+//! Each pass goes once over one kind of structure, and keeps the numbers of each kind of fault that it
+//! looks for. The pass over directories is made only where those before find nothing.
 #![tactic(auto)]
 
 mod checks;
@@ -20,9 +21,15 @@ mod parents;
 mod pointers;
 mod reaches;
 mod slots;
+mod surveys;
+mod unclaimed;
+mod unnamed;
 mod verdicts;
 
 pub use crate::checks::check;
-pub use crate::verdicts::Verdict;
+pub use crate::faults::{Faults, MetadataFaults, TreeFaults};
+pub use crate::links::LinkFaults;
+pub use crate::surveys::{Notes, survey};
+pub use crate::verdicts::{DirectoryFaults, FragmentFaults, GroupFaults, InodeFaults, Verdict};
 pub use ufs_model::{BadKind, BadSuper, Geometry};
 pub use ufs_pointer::Levels;

@@ -10,7 +10,7 @@ ghost use Rattle.dg_claims.specs.Kept.{table_of};
 ghost use Rattle.ufs_check.specs.Fragments.{HasClaimsOf};
 ghost use Rattle.ufs_check.specs.Limits.{IsInLimits, IsLimit, IsPastLimit};
 ghost use Rattle.ufs_pointer.specs.ViewWords.{FetchesKind, LosesKind};
-ghost use Rattle.ufs_check.specs.Reaches.{HasNoTwice, IsReach};
+ghost use Rattle.ufs_check.specs.Reaches.{IsReach};
 
 use crate::entries::read_named;
 use crate::reaches::{Reach, reach_of, width};
@@ -73,7 +73,7 @@ pub fn read_limit<V: View>(
     ensures levels { levels.new.fragment ≡ levels.old.fragment }
     ensures block { levels.new.block ≡ levels.old.block }
     ensures found { IfSome result (λ limit. V.tells view.new → (v : Volume) → V.stands_for view.old v → HasClaimsOf g.now (table_of claims.now) v
-        → HasNoTwice g.now v → IsLimit g.now v f limit) }
+        → IsLimit g.now v f limit) }
     ensures fits { IfSome result (λ limit. IfSome limit IsInLimits) }
     ensures gone { IfNone result (LosesKind V.View view.old view.new (IsMetadataBy g.now)) }
     ensures fetched { FetchesKind V.View view.old view.new (IsMetadataBy g.now) }

@@ -1,11 +1,21 @@
-ghost use Rattle.std.specs.Prelude.{◌≡◌};
-ghost use Rattle.ufs_check.specs.Least.{kept};
+ghost use Rattle.std.specs.Prelude.{◌≡◌, OnOk, slice_get};
+ghost use Rattle.ufs_check.specs.Notes.{noted};
 
-/// Keeps the first number of which something holds, where the numbers come in ascending order.
-pub fn note(first: &mut Option<u32>, number: u32, holds: bool)
-    ensures { first.new ≡ kept first.old number holds }
+use dg_io::NoMemory;
+
+/// Puts a number last among those of which something holds, if it holds of this one too.
+pub fn note(numbers: &mut Vec<u32>, number: u32, holds: bool) -> Result<(), NoMemory>
+    ensures { OnOk result (numbers.new.items ≡ noted numbers.old.items number holds) }
 {
-    if holds && first.is_none() {
-        *first = Some(number);
+    if holds {
+        return numbers.push(number).map_err(|_| NoMemory);
     }
+    Ok(())
+}
+
+/// The first of some numbers.
+pub fn first_of(numbers: &[u32]) -> Option<u32>
+    ensures { result ≡ slice_get numbers.now 0 }
+{
+    numbers.first().copied()
 }

@@ -1,16 +1,18 @@
 // What the entries of directories say of inodes: the directory that each stands in, and where `..` leads.
-ghost use Rattle.std.specs.Prelude.{◌≡◌, ◌+◌, OnOk};
+ghost use Rattle.std.specs.Prelude.{◌≡◌, ◌+◌, OnOk, Some};
+ghost use Rattle.std.specs.Bool.{Decides};
 ghost use Rattle.ufs_model.specs.Blocks.{Volume};
-ghost use Rattle.ufs_model.specs.Malformations.{HasEntries};
 ghost use Rattle.ufs_model.specs.declared.geometries.Geometry.{Geometry};
-ghost use Rattle.ufs_check.specs.Links.{AddsLink, IsEmptyTable, IsUpOf, ParentsBefore, SetsUp, TableBelow, are_dots, linked};
-ghost use Rattle.ufs_check.specs.OwnedEntries.{owned_all, owned_of};
+ghost use Rattle.ufs_model.specs.declared.inodes.Kind.TheVariants.{Directory};
+ghost use Rattle.ufs_check.specs.Links.{AddsEntry, AreLinks, FitsOwn, IsEmptyTable, IsEntered, ParentsBefore, SaysDots, SaysUp, SetsUp, TableBelow, linked};
+ghost use Rattle.ufs_check.specs.OwnedEntries.{AreOwned};
 
 use crate::names::{is_named, is_plain};
 use crate::owned_entries::OwnedEntry;
 use dg_io::NoMemory;
 use std::alloc::Global;
 use std::collections::BTreeMap;
+use ufs_model::Kind;
 
 /// What is kept of an inode's entries that are neither `.` nor `..`.
 #[derive(Clone, Copy)]
@@ -19,13 +21,26 @@ pub struct Parent {
     pub directory: u32,
     /// There are two or more.
     pub twice: bool,
+    /// The inode is a directory.
+    pub of_directory: bool,
+}
+
+/// What is kept of the first two entries of a directory.
+#[derive(Clone, Copy)]
+pub enum Up {
+    /// They aren't `.` for itself and `..` for a directory, as far as they name inodes.
+    Wrong,
+    /// They are, and `..` names no inode.
+    Unjudged,
+    /// They are, and `..` names this directory.
+    Leads(u32),
 }
 
 /// What is kept of the entries of directories, until all are read.
 #[derive(Drop)]
 pub struct LinkTable {
-    /// Of each directory the inode that `..` names, where its first entries are `.` for itself and `..`.
-    pub ups: BTreeMap<u32, Option<u32>>,
+    /// Of each directory whose entries are read the first two.
+    pub ups: BTreeMap<u32, Up>,
     /// The parents of inodes.
     pub parents: BTreeMap<u32, Parent>,
 }
@@ -40,30 +55,47 @@ pub fn empty_table(alloc: Global) -> LinkTable
     }
 }
 
+/// An entry that is neither `.` nor `..` is for inode `i`, where all entries are kept.
+pub fn is_entered(table: &LinkTable, i: u32) -> bool
+    ensures { (g : Geometry) (v : Volume) → AreLinks g v table.now → Decides result (IsEntered g v i) }
+{
+    table.parents.contains_key(&i)
+}
+
 /// What is kept of an inode with one more entry, of directory `i`.
-fn linked(parent: Option<Parent>, i: u32) -> Parent
-    ensures { result ≡ linked parent i }
+fn linked(parent: Option<Parent>, i: u32, of_directory: bool) -> Parent
+    ensures { result ≡ linked parent i of_directory }
 {
     match parent {
         None => Parent {
             directory: i,
             twice: false,
+            of_directory,
         },
         Some(parent) => Parent {
             directory: parent.directory,
             twice: true,
+            of_directory: parent.of_directory,
         },
     }
 }
 
+/// The entry names a directory.
+fn names_directory(entry: &OwnedEntry) -> bool
+    ensures { Decides result (entry.now.named ≡ Some Directory) }
+{
+    entry.named == Some(Kind::Directory)
+}
+
 /// Keeps an entry of directory `i`, if it is neither `.` nor `..`.
 fn add_link(parents: &mut BTreeMap<u32, Parent>, i: u32, entry: &OwnedEntry) -> Result<(), NoMemory>
-    ensures { OnOk result (AddsLink parents.old parents.new i (owned_of entry.now)) }
+    ensures { OnOk result (AddsEntry parents.old parents.new i entry.now) }
 {
+    let of_directory = names_directory(entry);
     if !is_plain(entry) {
         return Ok(());
     }
-    let parent = linked(parents.get(&entry.inode).copied(), i);
+    let parent = linked(parents.get(&entry.inode).copied(), i, of_directory);
     if parents.insert(entry.inode, parent).is_err() {
         return Err(NoMemory);
     }
@@ -76,7 +108,7 @@ fn add_links(
     i: u32,
     entries: &[OwnedEntry],
 ) -> Result<(), NoMemory>
-    ensures { OnOk result ((g : Geometry) (v : Volume) → HasEntries g v i (owned_all entries.now)
+    ensures { OnOk result ((g : Geometry) (v : Volume) → AreOwned g v i entries.now
         → ParentsBefore g v i 0 parents.old → ParentsBefore g v (i + 1) 0 parents.new) }
 {
     for entry in entries {
@@ -85,30 +117,41 @@ fn add_links(
     Ok(())
 }
 
-/// Two entries are `.` for directory `i` and `..`.
-fn are_dots(i: u32, own: &OwnedEntry, up: &OwnedEntry) -> bool
-    ensures { result ≡ are_dots i (owned_of own.now) (owned_of up.now) }
+/// The entry is `.` for directory `i`, or names no inode.
+fn fits_own(i: u32, own: &OwnedEntry) -> bool
+    ensures { Decides result (FitsOwn i own.now) }
 {
-    is_named(own, b".") && own.inode == i && is_named(up, b"..")
+    own.named.is_none() || (is_named(own, b".") && own.inode == i)
 }
 
-/// The inode that `..` of directory `i` names, if its first two entries are `.` for itself and `..`.
-fn up_of(i: u32, entries: &[OwnedEntry]) -> Option<u32>
-    ensures { IsUpOf i (owned_all entries.now) result }
+/// What the second entry says by itself.
+fn up_by(up: &OwnedEntry) -> Up
+    ensures { SaysUp up.now result }
+{
+    if up.named.is_none() {
+        return Up::Unjudged;
+    }
+    if names_directory(up) && is_named(up, b"..") {
+        return Up::Leads(up.inode);
+    }
+    Up::Wrong
+}
+
+/// What the first two entries of directory `i` say.
+fn up_of(i: u32, entries: &[OwnedEntry]) -> Up
+    ensures { (g : Geometry) (v : Volume) → AreOwned g v i entries.now → SaysDots g v i result }
 {
     if entries.len() < 2 {
-        return None;
+        return Up::Wrong;
     }
-    let own = &entries[0];
-    let up = &entries[1];
-    if !are_dots(i, own, up) {
-        return None;
+    if !fits_own(i, &entries[0]) {
+        return Up::Wrong;
     }
-    Some(up.inode)
+    up_by(&entries[1])
 }
 
-/// Keeps where `..` of directory `i` leads.
-fn add_up(ups: &mut BTreeMap<u32, Option<u32>>, i: u32, up: Option<u32>) -> Result<(), NoMemory>
+/// Keeps what the first two entries of directory `i` say.
+fn add_up(ups: &mut BTreeMap<u32, Up>, i: u32, up: Up) -> Result<(), NoMemory>
     ensures { OnOk result (SetsUp ups.old ups.new i up) }
 {
     if ups.insert(i, up).is_err() {
@@ -119,7 +162,7 @@ fn add_up(ups: &mut BTreeMap<u32, Option<u32>>, i: u32, up: Option<u32>) -> Resu
 
 /// Keeps what the entries of directory `i` say, where those of lower directories are kept.
 pub fn add_directory(table: &mut LinkTable, i: u32, entries: &[OwnedEntry]) -> Result<(), NoMemory>
-    ensures { OnOk result ((g : Geometry) (v : Volume) → HasEntries g v i (owned_all entries.now)
+    ensures { OnOk result ((g : Geometry) (v : Volume) → AreOwned g v i entries.now
         → TableBelow g v i table.old → TableBelow g v (i + 1) table.new) }
 {
     add_up(&mut table.ups, i, up_of(i, entries))?;

@@ -3,13 +3,12 @@ ghost use Rattle.std.specs.Prelude.{◌≡◌, ◌+◌, ◌-◌, ◌*◌, ◌/�
 ghost use Rattle.std.specs.Bool.{Decides};
 ghost use Rattle.ufs_model.specs.Blocks.{Volume};
 ghost use Rattle.ufs_model.specs.Claims.{level_of};
-ghost use Rattle.ufs_model.specs.Owners.{IsOnlyClaim};
 ghost use Rattle.ufs_model.specs.declared.claims.ClaimSource.{ClaimSource};
 ghost use Rattle.ufs_model.specs.Geometries.{IsGeometry};
 ghost use Rattle.dg_claims.specs.Kept.{table_of};
 ghost use Rattle.dg_claims.specs.Tables.{IsSource, TableClaims};
 ghost use Rattle.ufs_check.specs.Fragments.{HasClaimsOf};
-ghost use Rattle.ufs_check.specs.Reaches.{HasNoTwice, IsBefore, IsPlaceIn, IsReach, ReachesAs};
+ghost use Rattle.ufs_check.specs.Reaches.{IsInRow, IsPlaceIn, IsReach, ReachesAs};
 
 use crate::slots::first_block;
 use dg_claims::{ClaimSource, Claims};
@@ -29,34 +28,17 @@ pub struct Reach {
     pub first: u64,
 }
 
-/// The one claim of a fragment is by the source.
-fn is_claimed_by(claims: &Claims, f: u32, source: ClaimSource) -> bool
-    ensures { Decides result (IsOnlyClaim (TableClaims (table_of claims.now)) f source) }
+/// The place of a fragment among those that a source claims.
+fn place_in(claims: &Claims, source: ClaimSource, f: u32) -> u32
+    requires claimed { TableClaims (table_of claims.now) f source }
+    ensures place { IsPlaceIn ((table_of claims.now).claimed source) f result }
+    ensures row { IsInRow ((table_of claims.now).claimed source) }
+    ensures few { result < 8 }
 {
-    match claims.only_claim(f) {
-        Some(other) => other == source,
-        None => false,
+    match claims.run(&source) {
+        Some(run) => f - run.first,
+        None => unreachable!(),
     }
-}
-
-/// The one claim of a fragment, `k` and one more before fragment `f`, is by the source.
-fn is_before(claims: &Claims, source: ClaimSource, f: u32, k: u32) -> bool
-    ensures { Decides result (IsBefore (TableClaims (table_of claims.now)) source f k) }
-{
-    k < f && is_claimed_by(claims, f - k - 1, source)
-}
-
-/// The place of a fragment among those of its source, which are `most` at most: how many fragments in a
-/// row before it have their one claim by the source.
-fn place_in(claims: &Claims, source: ClaimSource, f: u32, most: u32) -> Option<u32>
-    ensures { IsPlaceIn (TableClaims (table_of claims.now)) source f most result }
-{
-    for place in 0..most {
-        if !is_before(claims, source, f, place) {
-            return Some(place);
-        }
-    }
-    None
 }
 
 /// File blocks from one pointer of an indirect block to the next.
@@ -81,7 +63,7 @@ fn blocks_before(g: &Geometry, level: u8, place: u32, at: u32) -> u64
     requires geometry { IsGeometry g.now }
     requires low { 1 ≤ level }
     requires high { level ≤ 3 }
-    requires place { place < g.now.frag }
+    requires place { place < 8 }
     requires index { at < g.now.fsize / 4 }
     ensures value { result ≡ (place * (g.now.fsize / 4) + at) * g.now.nindir ^ (level - 1) }
     ensures most { result ≤ 2 ^ 46 }
@@ -90,13 +72,13 @@ fn blocks_before(g: &Geometry, level: u8, place: u32, at: u32) -> u64
     u64::from(number) * width(g, level)
 }
 
-/// The inode and the first file block that are reached through a source. There is no answer where a
-/// fragment on the way up has no claim at its level, or more than one claim.
+/// The inode that owns a source, and the first file block that is reached through it. There is no answer
+/// where a fragment on the way up has no claim at its level, or more than one claim.
 fn first_through(claims: &Claims, g: &Geometry, source: ClaimSource) -> Option<(u32, u64)>
     requires geometry { IsGeometry g.now }
     requires table { (table_of claims.now).geometry ≡ Some g.now }
     requires source { IsSource (Some g.now) source }
-    ensures reaches { (v : Volume) → HasClaimsOf g.now (table_of claims.now) v → HasNoTwice g.now v → ReachesAs g.now v source result }
+    ensures reaches { (v : Volume) → HasClaimsOf g.now (table_of claims.now) v → ReachesAs g.now v source result }
     ensures inode { IfSome result (λ first. (2 ≤ first.0) × (first.0 < g.now.ncg * g.now.ipg)) }
     ensures most { IfSome result (λ first. first.1 + level_of source * 2 ^ 46 ≤ 2 ^ 48) }
 {
@@ -111,7 +93,7 @@ fn first_through(claims: &Claims, g: &Geometry, source: ClaimSource) -> Option<(
             if upper.level() != level {
                 return None;
             }
-            let place = place_in(claims, upper, fragment, g.frag)?;
+            let place = place_in(claims, upper, fragment);
             let (inode, first) = first_through(claims, g, upper)?;
             Some((inode, first + blocks_before(g, level, place, at)))
         }
@@ -123,7 +105,7 @@ fn first_through(claims: &Claims, g: &Geometry, source: ClaimSource) -> Option<(
 pub fn reach_of(claims: &Claims, g: &Geometry, f: u32) -> Option<Reach>
     requires geometry { IsGeometry g.now }
     requires table { (table_of claims.now).geometry ≡ Some g.now }
-    ensures reaches { (v : Volume) → HasClaimsOf g.now (table_of claims.now) v → HasNoTwice g.now v → IsReach g.now v f result }
+    ensures reaches { (v : Volume) → HasClaimsOf g.now (table_of claims.now) v → IsReach g.now v f result }
     ensures level { IfSome result (λ reach. (1 ≤ reach.level) × (reach.level ≤ 3)) }
     ensures inode { IfSome result (λ reach. (2 ≤ reach.inode) × (reach.inode < g.now.ncg * g.now.ipg)) }
     ensures most { IfSome result (λ reach. reach.first ≤ 2 ^ 48) }

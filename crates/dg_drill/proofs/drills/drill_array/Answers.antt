@@ -44,7 +44,7 @@ returns-clause-drilled g c = λ taken given.
     let writes = subst (λ (blocks : List ℕ). Writes c.args.made.now.image.items blocks) same
     (subst (λ (image : List ℕ). Writes image c.deref-3.result.now) c.deref-2.ensures.value c.in_ok-written.ensures.runs) in
     let settles = subst (λ (r : Reply). StepsTo any_phase any_phase g.R.Rack c.write_blocks.new.volume Settle r c.settle.new.self) (sym c.settle_reply-settled.ensures) c.in_ok-settle.ensures.steps in
-    subst (λ (r : g.row.R.Denot). HasDrilled (rack_facts g.R.Rack c.args.rack r taken given) c.args.seed c.args.files c.in_ok-text.text.items) (sym c.into_rack.ensures)
+    subst (λ (r : g.row.R.Denot). HasDrilled (g.R.Rack.tells r) (rack_facts g.R.Rack c.args.rack r taken given) c.args.seed c.args.files c.in_ok-text.text.items) (sym c.into_rack.ensures)
     (has_drilled g.R.Rack c.args.rack c.in_ok-loose.loose v0 v1 v2 c.lose.new.volume v4 c.args.seed c.args.files (c.args.seed % 4) more made.image.items made.geometry
     c.settle_reply-settled.result c.read_files-tally.result c.in_ok-text.text.items blank c.into_any-volume.ensures c.write_blocks.ensures.leaves c.settle.ensures.leaves
-    c.lose.ensures.leaves c.read_files-tally.ensures.leaves writes settles c.lose.ensures.runs c.read_files-tally.ensures.runs c.in_ok-text.ensures c.requires.volume refl g.met.R.Rack.tells_told taken given)
+    c.lose.ensures.leaves c.read_files-tally.ensures.leaves writes settles c.lose.ensures.runs c.read_files-tally.ensures.runs c.in_ok-text.ensures c.requires.volume refl taken given)

@@ -2,9 +2,12 @@ use Rattle.std.proofs.Common.{◌≡◌, ◌+◌, ◌*◌, ◌/◌, ◌%◌, Lis
 use Rattle.dg_io.specs.Told.{Patched}
 use Rattle.dg_model.specs.Saves.{label_bytes}
 use Rattle.dg_store.specs.Leaves.{BytesChange}
-use Rattle.dg_store.specs.Stores.{shape_of}
-use Rattle.dg_label.specs.Passes.{numbered}
+use Rattle.dg_store.specs.Stores.{rack_of, shape_of}
+use Rattle.dg_label.specs.Pages.{PageFails, numbered, page_of}
 use Rattle.dg_label.specs.Seals.{KeepsArray}
+use Rattle.dg_label.proofs.ByteLaws.{label_long}
+use Rattle.dg_label.proofs.FallenLaws.{fallen_by_note}
+use Rattle.dg_label.proofs.LeftLaws.{page_failed}
 use Rattle.dg_label.proofs.PassLaws.{bad_by_note, good_by_note, touched_by_note, wrote_by_note}
 use Rattle.dg_label.proofs.passes.write_label_on.Goals as goal
 
@@ -21,6 +24,10 @@ returns-in_default g c =
     record {
       touches = touched_by_note g.R.Rack q change a b array e.other_bytes e.most c.note.result e.not_good e.kept e.fell
           (λ is. subst (λ (xs : List ℕ). BytesChange g.R.Rack a b q (Patched 0 xs)) page (e.patched is)) e.quiet;
+      fallen = fallen_by_note g.R.Rack q (λ (p : ℕ). PageFails (g.R.Rack.steady (rack_of a)) (page_of (shape_of a) c.args.kept.now p)) a b e.other_bytes c.note.result
+          e.not_good e.kept e.fell
+          (λ is. page_failed (g.R.Rack.steady (rack_of a)) c.write_label.new.buf (page_of (shape_of a) c.args.kept.now q) (label_long (numbered (shape_of a) c.args.kept.now q)) page
+          (g.R.Rack.bytes (rack_of a) q) (g.R.Rack.bytes (rack_of b) q) (e.torn is) (e.whole is)) e.quiet;
       good = bad_by_note g.R.Rack q change a b array e.other_bytes e.most c.note.result c.in_default.not-Noted e.not_good e.kept e.fell;
       wrote = wrote_by_note g.R.Rack q change a b array e.other_bytes e.most c.note.result e.not_good e.written e.tried;
     }
@@ -38,6 +45,10 @@ returns-in-Noted g c =
     record {
       touches = touched_by_note g.R.Rack q change a b array e.other_bytes e.most c.note.result e.not_good e.kept e.fell
           (λ is. subst (λ (xs : List ℕ). BytesChange g.R.Rack a b q (Patched 0 xs)) page (e.patched is)) e.quiet;
+      fallen = fallen_by_note g.R.Rack q (λ (p : ℕ). PageFails (g.R.Rack.steady (rack_of a)) (page_of (shape_of a) c.args.kept.now p)) a b e.other_bytes c.note.result
+          e.not_good e.kept e.fell
+          (λ is. page_failed (g.R.Rack.steady (rack_of a)) c.write_label.new.buf (page_of (shape_of a) c.args.kept.now q) (label_long (numbered (shape_of a) c.args.kept.now q)) page
+          (g.R.Rack.bytes (rack_of a) q) (g.R.Rack.bytes (rack_of b) q) (e.torn is) (e.whole is)) e.quiet;
       good = good_by_note g.R.Rack q change a b array e.other_bytes e.most c.note.result c.in-Noted.is e.not_good e.kept;
       wrote = wrote_by_note g.R.Rack q change a b array e.other_bytes e.most c.note.result e.not_good e.written e.tried;
     }

@@ -1,11 +1,13 @@
-use Rattle.std.proofs.Common.{◌≡◌, ◌∙◌, ◌≤◌, ◌*◌, ℕ, ap, arith, subst, sym}
+use Rattle.std.proofs.Common.{◌≡◌, ◌∙◌, ◌≤◌, ◌*◌, ℕ, List, ap, arith, subst, sym}
 use Rattle.std.proofs.lemmas.Bool.{false≢true}
 use Rattle.dg_io.specs.Told.{Patched}
 use Rattle.dg_model.specs.Saves.{label_bytes}
 use Rattle.dg_model.specs.declared.shapes.Shape.{Shape}
 use Rattle.dg_store.specs.Leaves.{HasWritten}
-use Rattle.dg_store.specs.Stores.{shape_of}
-use Rattle.dg_label.specs.Passes.{Passes, Touches, numbered}
+use Rattle.dg_store.specs.Stores.{rack_of, shape_of}
+use Rattle.dg_label.specs.Pages.{LeavesFallen, PageFails, numbered, page_of}
+use Rattle.dg_label.specs.Passes.{Passes, Touches}
+use Rattle.dg_label.proofs.FallenLaws.{fallen_more, fallen_none, pages_failed}
 use Rattle.dg_label.proofs.LabelLaws.{none_past, some_wrote}
 use Rattle.dg_label.proofs.PassLaws.{bad_more, passes_more, passes_none, wrote_more}
 use Rattle.dg_label.proofs.passes.write_labels.Goals as goal
@@ -23,15 +25,21 @@ loop-member-preserved g c =
     subst (λ (sh : Shape). Touches g.R.Rack n (Patched 0 (label_bytes (numbered sh c.args.kept.now n))) b d) first.array.stays.shape c.write_label_on.ensures.touches in
     let more = passes_more g.R.Rack (λ (q : ℕ). Patched 0 (label_bytes (numbered (shape_of a) c.args.kept.now q))) n a b d first touches in
     let wrote = wrote_more g.R.Rack (λ (q : ℕ). Patched 0 (label_bytes (numbered (shape_of a) c.args.kept.now q))) n a b d first touches.array old.wrote c.write_label_on.ensures.wrote in
+    let fails : ℕ → List ℕ → List ℕ → Type 0 = λ (q : ℕ). PageFails (g.R.Rack.steady (rack_of a)) (page_of (shape_of a) c.args.kept.now q) in
+    let next : LeavesFallen g.R.Rack fails b d = pages_failed g.R.Rack c.args.kept.now a b d first.array.stays c.write_label_on.ensures.fallen in
+    let fallen =
+    fallen_more g.R.Rack fails (λ (q : ℕ). Patched 0 (label_bytes (numbered (shape_of a) c.args.kept.now q))) n a b d first touches old.fallen next in
     elim c.if-write_label_on.branch [
       | then-write_label_on w ↦ record {
         passes = more;
+        fallen = fallen;
         some = λ is. (n, omega arith, c.write_label_on.ensures.good ∙ w.if-write_label_on.true);
         none = λ is. absurd (false≢true (sym is ∙ w.some-is));
         wrote = wrote;
       }
       | else-write_label_on w ↦ record {
         passes = more;
+        fallen = fallen;
         some = λ is. let had = old.some (sym w.some-is ∙ is) in
             (had.0, omega (arith, had.1), touches.stay_good had.0 (let low = had.1 in λ e. omega (arith, low, e)) had.2);
         none = λ is. bad_more g.R.Rack n b d touches.array (old.none (sym w.some-is ∙ is)) (c.write_label_on.ensures.good ∙ w.if-write_label_on.false);
@@ -66,6 +74,7 @@ returns-clause-wrote g c =
 pub loop-member-init : goal.loop-member-init
 loop-member-init g c = record {
   passes = passes_none g.R.Rack (λ (q : ℕ). Patched 0 (label_bytes (numbered (shape_of c.args.store.now) c.args.kept.now q))) c.args.store.now c.requires.sound;
+  fallen = fallen_none g.R.Rack (λ (q : ℕ). PageFails (g.R.Rack.steady (rack_of c.args.store.now)) (page_of (shape_of c.args.store.now) c.args.kept.now q)) c.args.store.now;
   some = λ is. absurd (false≢true is);
   none = λ is q low. absurd (omega (arith, low));
   wrote = λ q low good. absurd (omega (arith, low));

@@ -12,7 +12,7 @@ returns g c =
     let kept = c.in-Some.kept in
     let labeled = subst (λ (label : Option KeptLabel). IsLabeled g.R.Rack a label) c.in-Some.is c.requires.labeled in
     subst (λ (label : Option KeptLabel). OpensSeal g.R.Rack a b label (Some (record kept { sealed = false }))) (sym c.in-Some.is)
-    (opens_seal g.R.Rack a b c.requires.sound kept (flipped kept.sealed c.if-not-kept.false) labeled c.write_labels.ensures.passes c.write_labels.ensures.wrote)
+    (opens_seal g.R.Rack a b c.requires.sound kept (flipped kept.sealed c.if-not-kept.false) labeled c.write_labels.ensures.passes c.write_labels.ensures.fallen c.write_labels.ensures.wrote)
 
 pub returns-in_default : goal.returns-in_default
 returns-in_default g c = opens_none g.R.Rack c.args.store.now c.args.label.now c.requires.sound c.requires.labeled (ap is_sealed c.in_default.is)

@@ -16,6 +16,6 @@ returns-in-Ok-clause-ends g c =
     let same : drilled.rack.now ≡ c.rack-1.given.0 = search rules in
     let taken = g.K.Sink.taken c.args.sink.now in
     let given = g.K.Sink.taken c.run_drill.new.sink in
-    let ends = subst (λ (r : g.row.R.Denot). EndsDrill (facts_of g.K.Sink g.R.Rack c.args.sink.now c.run_drill.new.sink c.args.rack.now r) c.args.seed c.args.files drilled.end) same c.in-Ok.ensures.ends in
-    subst (λ (s : Status). EndsDrilled (λ (end : DrillEnd). EndsDrill (facts_of g.K.Sink g.R.Rack c.args.sink.now c.run_drill.new.sink c.args.rack.now c.rack-1.given.0) c.args.seed c.args.files end) taken given s) (sym c.drill_status.ensures.is)
-    (ends_drill (λ (end : DrillEnd). EndsDrill (facts_of g.K.Sink g.R.Rack c.args.sink.now c.run_drill.new.sink c.args.rack.now c.rack-1.given.0) c.args.seed c.args.files end) taken given drilled.end ends)
+    let ends = subst (λ (r : g.row.R.Denot). EndsDrill (g.R.Rack.tells r) (facts_of g.K.Sink g.R.Rack c.args.sink.now c.run_drill.new.sink c.args.rack.now r) c.args.seed c.args.files drilled.end) same c.in-Ok.ensures.ends in
+    subst (λ (s : Status). EndsDrilled (λ (end : DrillEnd). EndsDrill (g.R.Rack.tells c.rack-1.given.0) (facts_of g.K.Sink g.R.Rack c.args.sink.now c.run_drill.new.sink c.args.rack.now c.rack-1.given.0) c.args.seed c.args.files end) taken given s) (sym c.drill_status.ensures.is)
+    (ends_drill (λ (end : DrillEnd). EndsDrill (g.R.Rack.tells c.rack-1.given.0) (facts_of g.K.Sink g.R.Rack c.args.sink.now c.run_drill.new.sink c.args.rack.now c.rack-1.given.0) c.args.seed c.args.files end) taken given drilled.end ends)

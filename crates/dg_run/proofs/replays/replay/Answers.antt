@@ -17,7 +17,7 @@ returns-in-Ok-Event-Array-default-clause-done g c =
     let e = rw arm.field-0-is at arm.ensures in
     let well = subst (λ (event : Event). IsInPlace None event) arm.field-0-0-is e.is.0 in
     let line = subst (λ (event : Event). Told (Begins None event) (ahead c.in_ok-input.input (g.S.Source.left c.args.source.now)) (ahead c.take_event.new.input (g.S.Source.left c.take_event.new.source))) arm.field-0-0-is e.took in
-    IfOk-map c.replay_array.result _ _ (λ end h is. replay_done (g.R.Rack.counts c.args.rack) (g.R.Rack.counts end.rack) (g.R.Rack.bytes c.args.rack) (g.R.Rack.bytes end.rack) (unread c.in_ok-input.input) (unread c.replay_array.new.input) c.in_ok-input.ensures
+    IfOk-map c.replay_array.result _ _ (λ end h is. replay_done (g.R.Rack.counts c.args.rack) (g.R.Rack.counts end.rack) (g.R.Rack.bytes c.args.rack) (g.R.Rack.bytes end.rack) (g.R.Rack.tells end.rack) (unread c.in_ok-input.input) (unread c.replay_array.new.input) c.in_ok-input.ensures
     (g.S.Source.left c.args.source.now) (g.S.Source.left c.replay_array.new.source) (g.K.Sink.taken c.args.sink.now) (g.K.Sink.taken c.replay_array.new.sink) arm.shape _ well line (h is)) c.replay_array.ensures.done
 
 pub returns-in-Ok-Event-Array-default-clause-bad_line : goal.returns-in-Ok-Event-Array-default-clause-bad_line
@@ -26,19 +26,19 @@ returns-in-Ok-Event-Array-default-clause-bad_line g c =
     let e = rw arm.field-0-is at arm.ensures in
     let well = subst (λ (event : Event). IsInPlace None event) arm.field-0-0-is e.is.0 in
     let line = subst (λ (event : Event). Told (Begins None event) (ahead c.in_ok-input.input (g.S.Source.left c.args.source.now)) (ahead c.take_event.new.input (g.S.Source.left c.take_event.new.source))) arm.field-0-0-is e.took in
-    IfOk-map c.replay_array.result _ _ (λ end h is. replay_stopped (g.R.Rack.counts c.args.rack) (g.R.Rack.counts end.rack) (g.R.Rack.bytes c.args.rack) (g.R.Rack.bytes end.rack) (unread c.in_ok-input.input) (unread c.replay_array.new.input) c.in_ok-input.ensures
+    IfOk-map c.replay_array.result _ _ (λ end h is. replay_stopped (g.R.Rack.counts c.args.rack) (g.R.Rack.counts end.rack) (g.R.Rack.bytes c.args.rack) (g.R.Rack.bytes end.rack) (g.R.Rack.tells end.rack) (unread c.in_ok-input.input) (unread c.replay_array.new.input) c.in_ok-input.ensures
     (g.S.Source.left c.args.source.now) (g.S.Source.left c.replay_array.new.source) (g.K.Sink.taken c.args.sink.now) (g.K.Sink.taken c.replay_array.new.sink) arm.shape _ well line (h is)) c.replay_array.ensures.bad_line
 
 pub returns-in-Ok-End-clause-bad_line : goal.returns-in-Ok-End-clause-bad_line
 returns-in-Ok-End-clause-bad_line g c is =
     let took = rw c.in-Ok-End.field-0-is at c.in-Ok-End.ensures.took in
-    replay_empty (g.R.Rack.counts c.args.rack) (g.R.Rack.counts c.args.rack) (g.R.Rack.bytes c.args.rack) (g.R.Rack.bytes c.args.rack) (unread c.in_ok-input.input) (unread c.take_event.new.input) c.in_ok-input.ensures
+    replay_empty (g.R.Rack.counts c.args.rack) (g.R.Rack.counts c.args.rack) (g.R.Rack.bytes c.args.rack) (g.R.Rack.bytes c.args.rack) (g.R.Rack.tells c.args.rack) (unread c.in_ok-input.input) (unread c.take_event.new.input) c.in_ok-input.ensures
     (g.S.Source.left c.args.source.now) (g.S.Source.left c.take_event.new.source) (g.K.Sink.taken c.args.sink.now) (g.K.Sink.taken c.refuse.new.sink) took (c.refuse.ensures.bad is)
 
 pub returns-in-Ok-Refused-clause-bad_line : goal.returns-in-Ok-Refused-clause-bad_line
 returns-in-Ok-Refused-clause-bad_line g c is =
     let took = rw c.in-Ok-Refused.field-0-is at c.in-Ok-Refused.ensures.took in
-    replay_refused (g.R.Rack.counts c.args.rack) (g.R.Rack.counts c.args.rack) (g.R.Rack.bytes c.args.rack) (g.R.Rack.bytes c.args.rack) (unread c.in_ok-input.input) (unread c.take_event.new.input) c.in_ok-input.ensures
+    replay_refused (g.R.Rack.counts c.args.rack) (g.R.Rack.counts c.args.rack) (g.R.Rack.bytes c.args.rack) (g.R.Rack.bytes c.args.rack) (g.R.Rack.tells c.args.rack) (unread c.in_ok-input.input) (unread c.take_event.new.input) c.in_ok-input.ensures
     (g.S.Source.left c.args.source.now) (g.S.Source.left c.take_event.new.source) (g.K.Sink.taken c.args.sink.now) (g.K.Sink.taken c.refuse-in-Ok-Refused.new.sink) c.in-Ok-Refused.kind took (c.refuse-in-Ok-Refused.ensures.bad is)
 
 pub returns-in-Ok-Event-Array-default-clause-broken : goal.returns-in-Ok-Event-Array-default-clause-broken
@@ -46,7 +46,7 @@ returns-in-Ok-Event-Array-default-clause-broken g c =
     let arm = c.in-Ok-Event-Array-default in
     let e = rw arm.field-0-is at arm.ensures in
     let line = subst (λ (event : Event). Told (Begins None event) (ahead c.in_ok-input.input (g.S.Source.left c.args.source.now)) (ahead c.take_event.new.input (g.S.Source.left c.take_event.new.source))) arm.field-0-0-is e.took in
-    IfOk-map c.replay_array.result _ _ (λ end h is. subst (λ (x : Option (List ℕ)). BrokeOff (g.R.Rack.counts c.args.rack) (g.R.Rack.counts end.rack) (g.R.Rack.bytes c.args.rack) (g.R.Rack.bytes end.rack) x (g.S.Source.left c.replay_array.new.source) (g.K.Sink.taken c.args.sink.now) (g.K.Sink.taken c.replay_array.new.sink))
+    IfOk-map c.replay_array.result _ _ (λ end h is. subst (λ (x : Option (List ℕ)). BrokeOff (g.R.Rack.counts c.args.rack) (g.R.Rack.counts end.rack) (g.R.Rack.bytes c.args.rack) (g.R.Rack.bytes end.rack) (g.R.Rack.tells end.rack) x (g.S.Source.left c.replay_array.new.source) (g.K.Sink.taken c.args.sink.now) (g.K.Sink.taken c.replay_array.new.sink))
     (fresh_is (unread c.in_ok-input.input) (g.S.Source.left c.args.source.now) c.in_ok-input.ensures) (h is (ahead c.in_ok-input.input (g.S.Source.left c.args.source.now)) line)) c.replay_array.ensures.broken
 
 pub returns-in-Ok-Event-Array-default-clause-part : goal.returns-in-Ok-Event-Array-default-clause-part
@@ -54,7 +54,7 @@ returns-in-Ok-Event-Array-default-clause-part g c =
     let arm = c.in-Ok-Event-Array-default in
     let e = rw arm.field-0-is at arm.ensures in
     let line = subst (λ (event : Event). Told (Begins None event) (ahead c.in_ok-input.input (g.S.Source.left c.args.source.now)) (ahead c.take_event.new.input (g.S.Source.left c.take_event.new.source))) arm.field-0-0-is e.took in
-    IfOk-map c.replay_array.result _ _ (λ end h is. subst (λ (x : Option (List ℕ)). IsCut (g.R.Rack.counts c.args.rack) (g.R.Rack.counts end.rack) (g.R.Rack.bytes c.args.rack) (g.R.Rack.bytes end.rack) x (g.S.Source.left c.replay_array.new.source) (g.K.Sink.taken c.args.sink.now) (g.K.Sink.taken c.replay_array.new.sink))
+    IfOk-map c.replay_array.result _ _ (λ end h is. subst (λ (x : Option (List ℕ)). IsCut (g.R.Rack.counts c.args.rack) (g.R.Rack.counts end.rack) (g.R.Rack.bytes c.args.rack) (g.R.Rack.bytes end.rack) (g.R.Rack.tells end.rack) x (g.S.Source.left c.replay_array.new.source) (g.K.Sink.taken c.args.sink.now) (g.K.Sink.taken c.replay_array.new.sink))
     (fresh_is (unread c.in_ok-input.input) (g.S.Source.left c.args.source.now) c.in_ok-input.ensures) (h is (ahead c.in_ok-input.input (g.S.Source.left c.args.source.now)) line)) c.replay_array.ensures.part
 
 pub returns-in-Ok-Event-Array-default-clause-wanting : goal.returns-in-Ok-Event-Array-default-clause-wanting
@@ -62,31 +62,31 @@ returns-in-Ok-Event-Array-default-clause-wanting g c =
     let arm = c.in-Ok-Event-Array-default in
     let e = rw arm.field-0-is at arm.ensures in
     let line = subst (λ (event : Event). Told (Begins None event) (ahead c.in_ok-input.input (g.S.Source.left c.args.source.now)) (ahead c.take_event.new.input (g.S.Source.left c.take_event.new.source))) arm.field-0-0-is e.took in
-    IfOk-map c.replay_array.result _ _ (λ end h is. subst (λ (x : Option (List ℕ)). RanOut (g.R.Rack.counts c.args.rack) (g.R.Rack.bytes end.rack) x (g.S.Source.left c.replay_array.new.source) (g.K.Sink.taken c.args.sink.now) (g.K.Sink.taken c.replay_array.new.sink))
+    IfOk-map c.replay_array.result _ _ (λ end h is. subst (λ (x : Option (List ℕ)). RanOut (g.R.Rack.counts c.args.rack) (g.R.Rack.tells end.rack) x (g.S.Source.left c.replay_array.new.source) (g.K.Sink.taken c.args.sink.now) (g.K.Sink.taken c.replay_array.new.sink))
     (fresh_is (unread c.in_ok-input.input) (g.S.Source.left c.args.source.now) c.in_ok-input.ensures) (h is (ahead c.in_ok-input.input (g.S.Source.left c.args.source.now)) line)) c.replay_array.ensures.wanting
 
 pub returns-in-Ok-End-clause-part : goal.returns-in-Ok-End-clause-part
 returns-in-Ok-End-clause-part g c is =
     let took = rw c.in-Ok-End.field-0-is at c.in-Ok-End.ensures.took in
-    empty_part (g.R.Rack.counts c.args.rack) (g.R.Rack.counts c.args.rack) (g.R.Rack.bytes c.args.rack) (g.R.Rack.bytes c.args.rack) (unread c.in_ok-input.input) (unread c.take_event.new.input) c.in_ok-input.ensures
+    empty_part (g.R.Rack.counts c.args.rack) (g.R.Rack.counts c.args.rack) (g.R.Rack.bytes c.args.rack) (g.R.Rack.bytes c.args.rack) (g.R.Rack.tells c.args.rack) (unread c.in_ok-input.input) (unread c.take_event.new.input) c.in_ok-input.ensures
     (g.S.Source.left c.args.source.now) (g.S.Source.left c.take_event.new.source) (g.K.Sink.taken c.args.sink.now) (g.K.Sink.taken c.refuse.new.sink) took (c.refuse.ensures.part is)
 
 pub returns-in-Ok-Refused-clause-part : goal.returns-in-Ok-Refused-clause-part
 returns-in-Ok-Refused-clause-part g c is =
     let took = rw c.in-Ok-Refused.field-0-is at c.in-Ok-Refused.ensures.took in
-    refused_part (g.R.Rack.counts c.args.rack) (g.R.Rack.counts c.args.rack) (g.R.Rack.bytes c.args.rack) (g.R.Rack.bytes c.args.rack) (unread c.in_ok-input.input) (unread c.take_event.new.input) c.in_ok-input.ensures
+    refused_part (g.R.Rack.counts c.args.rack) (g.R.Rack.counts c.args.rack) (g.R.Rack.bytes c.args.rack) (g.R.Rack.bytes c.args.rack) (g.R.Rack.tells c.args.rack) (unread c.in_ok-input.input) (unread c.take_event.new.input) c.in_ok-input.ensures
     (g.S.Source.left c.args.source.now) (g.S.Source.left c.take_event.new.source) (g.K.Sink.taken c.args.sink.now) (g.K.Sink.taken c.refuse-in-Ok-Refused.new.sink) c.in-Ok-Refused.kind took (c.refuse-in-Ok-Refused.ensures.part is)
 
 pub returns-clause-broken : goal.returns-clause-broken
 returns-clause-broken g c = λ is.
     let fault : c.in-Err.fault ≡ FaultRead = c.status_of.ensures.read.0 is in
     let told = c.take_event.ensures.broken (c.in-Err.is ∙ ap Err fault) in
-    subst (λ (x : Option (List ℕ)). BrokeOff (g.R.Rack.counts c.args.rack) (g.R.Rack.counts c.args.rack) (g.R.Rack.bytes c.args.rack) (g.R.Rack.bytes c.args.rack) x (g.S.Source.left c.take_event.new.source) (g.K.Sink.taken c.args.sink.now) (g.K.Sink.taken c.args.sink.now))
-    (fresh_is (unread c.in_ok-input.input) (g.S.Source.left c.args.source.now) c.in_ok-input.ensures) (broke_off_first _ _ _ _ _ _ told refl)
+    subst (λ (x : Option (List ℕ)). BrokeOff (g.R.Rack.counts c.args.rack) (g.R.Rack.counts c.args.rack) (g.R.Rack.bytes c.args.rack) (g.R.Rack.bytes c.args.rack) (g.R.Rack.tells c.args.rack) x (g.S.Source.left c.take_event.new.source) (g.K.Sink.taken c.args.sink.now) (g.K.Sink.taken c.args.sink.now))
+    (fresh_is (unread c.in_ok-input.input) (g.S.Source.left c.args.source.now) c.in_ok-input.ensures) (broke_off_first _ _ _ _ _ _ _ told refl)
 
 pub returns-clause-wanting : goal.returns-clause-wanting
 returns-clause-wanting g c = λ is.
     let fault : c.in-Err.fault ≡ FaultNoMemory = c.status_of.ensures.memory.0 is in
     let told = c.take_event.ensures.wanting (c.in-Err.is ∙ ap Err fault) in
-    subst (λ (x : Option (List ℕ)). RanOut (g.R.Rack.counts c.args.rack) (g.R.Rack.bytes c.args.rack) x (g.S.Source.left c.take_event.new.source) (g.K.Sink.taken c.args.sink.now) (g.K.Sink.taken c.args.sink.now))
+    subst (λ (x : Option (List ℕ)). RanOut (g.R.Rack.counts c.args.rack) (g.R.Rack.tells c.args.rack) x (g.S.Source.left c.take_event.new.source) (g.K.Sink.taken c.args.sink.now) (g.K.Sink.taken c.args.sink.now))
     (fresh_is (unread c.in_ok-input.input) (g.S.Source.left c.args.source.now) c.in_ok-input.ensures) (ran_out_first _ _ _ _ _ _ told refl)

@@ -10,33 +10,33 @@ pub returns-clause-done : goal.returns-clause-done
 returns-clause-done g c is =
     let n = c.in_ok-array.ensures in
     let s = c.serve_array-status in
-    let all = array_replayed g.R.Rack c.args.shape c.args.first c.args.rack c.in_ok-array.array s.new.array c.requires.first c.requires.shape n g.met.R.Rack.tells_told s.ensures.goes _ _ _ _ (s.ensures.done is) in
-    subst (λ r. ArrayReplayed (g.R.Rack.counts c.args.rack) (g.R.Rack.counts r) (g.R.Rack.bytes c.args.rack) (g.R.Rack.bytes r) c.args.shape (ahead c.args.input.now (g.S.Source.left c.args.source.now)) (ahead s.new.input (g.S.Source.left s.new.source)) (g.K.Sink.taken c.args.sink.now) (g.K.Sink.taken s.new.sink)) (sym c.into_rack.ensures) all
+    let all = array_replayed g.R.Rack c.args.shape c.args.first c.args.rack c.in_ok-array.array s.new.array c.requires.first c.requires.shape n s.ensures.goes _ _ _ _ (s.ensures.done is) in
+    subst (λ r. ArrayReplayed (g.R.Rack.counts c.args.rack) (g.R.Rack.counts r) (g.R.Rack.bytes c.args.rack) (g.R.Rack.bytes r) (g.R.Rack.tells r) c.args.shape (ahead c.args.input.now (g.S.Source.left c.args.source.now)) (ahead s.new.input (g.S.Source.left s.new.source)) (g.K.Sink.taken c.args.sink.now) (g.K.Sink.taken s.new.sink)) (sym c.into_rack.ensures) all
 
 pub returns-clause-bad_line : goal.returns-clause-bad_line
 returns-clause-bad_line g c is =
     let n = c.in_ok-array.ensures in
     let s = c.serve_array-status in
-    let all = array_stopped g.R.Rack c.args.shape c.args.first c.args.rack c.in_ok-array.array s.new.array c.requires.first c.requires.shape n g.met.R.Rack.tells_told s.ensures.goes _ _ _ _ (s.ensures.bad_line is) in
-    subst (λ r. ArrayStopped (g.R.Rack.counts c.args.rack) (g.R.Rack.counts r) (g.R.Rack.bytes c.args.rack) (g.R.Rack.bytes r) c.args.shape (ahead c.args.input.now (g.S.Source.left c.args.source.now)) (ahead s.new.input (g.S.Source.left s.new.source)) (g.K.Sink.taken c.args.sink.now) (g.K.Sink.taken s.new.sink)) (sym c.into_rack.ensures) all
+    let all = array_stopped g.R.Rack c.args.shape c.args.first c.args.rack c.in_ok-array.array s.new.array c.requires.first c.requires.shape n s.ensures.goes _ _ _ _ (s.ensures.bad_line is) in
+    subst (λ r. ArrayStopped (g.R.Rack.counts c.args.rack) (g.R.Rack.counts r) (g.R.Rack.bytes c.args.rack) (g.R.Rack.bytes r) (g.R.Rack.tells r) c.args.shape (ahead c.args.input.now (g.S.Source.left c.args.source.now)) (ahead s.new.input (g.S.Source.left s.new.source)) (g.K.Sink.taken c.args.sink.now) (g.K.Sink.taken s.new.sink)) (sym c.into_rack.ensures) all
 
 pub returns-clause-broken : goal.returns-clause-broken
 returns-clause-broken g c is text line =
     let n = c.in_ok-array.ensures in
     let s = c.serve_array-status in
-    let all = array_broke_off g.R.Rack c.args.shape c.args.first c.args.rack c.in_ok-array.array s.new.array c.requires.first c.requires.shape n g.met.R.Rack.tells_told s.ensures.goes text _ _ _ _ line (s.ensures.broken is) in
-    subst (λ r. BrokeOff (g.R.Rack.counts c.args.rack) (g.R.Rack.counts r) (g.R.Rack.bytes c.args.rack) (g.R.Rack.bytes r) text (g.S.Source.left s.new.source) (g.K.Sink.taken c.args.sink.now) (g.K.Sink.taken s.new.sink)) (sym c.into_rack.ensures) all
+    let all = array_broke_off g.R.Rack c.args.shape c.args.first c.args.rack c.in_ok-array.array s.new.array c.requires.first c.requires.shape n s.ensures.goes text _ _ _ _ line (s.ensures.broken is) in
+    subst (λ r. BrokeOff (g.R.Rack.counts c.args.rack) (g.R.Rack.counts r) (g.R.Rack.bytes c.args.rack) (g.R.Rack.bytes r) (g.R.Rack.tells r) text (g.S.Source.left s.new.source) (g.K.Sink.taken c.args.sink.now) (g.K.Sink.taken s.new.sink)) (sym c.into_rack.ensures) all
 
 pub returns-clause-part : goal.returns-clause-part
 returns-clause-part g c is text line =
     let n = c.in_ok-array.ensures in
     let s = c.serve_array-status in
-    let all = array_cut g.R.Rack c.args.shape c.args.first c.args.rack c.in_ok-array.array s.new.array c.requires.first c.requires.shape n g.met.R.Rack.tells_told s.ensures.goes (unread s.new.input) text _ _ _ _ c.requires.budget line (s.ensures.part is) in
-    subst (λ r. IsCut (g.R.Rack.counts c.args.rack) (g.R.Rack.counts r) (g.R.Rack.bytes c.args.rack) (g.R.Rack.bytes r) text (g.S.Source.left s.new.source) (g.K.Sink.taken c.args.sink.now) (g.K.Sink.taken s.new.sink)) (sym c.into_rack.ensures) all
+    let all = array_cut g.R.Rack c.args.shape c.args.first c.args.rack c.in_ok-array.array s.new.array c.requires.first c.requires.shape n s.ensures.goes (unread s.new.input) text _ _ _ _ c.requires.budget line (s.ensures.part is) in
+    subst (λ r. IsCut (g.R.Rack.counts c.args.rack) (g.R.Rack.counts r) (g.R.Rack.bytes c.args.rack) (g.R.Rack.bytes r) (g.R.Rack.tells r) text (g.S.Source.left s.new.source) (g.K.Sink.taken c.args.sink.now) (g.K.Sink.taken s.new.sink)) (sym c.into_rack.ensures) all
 
 pub returns-clause-wanting : goal.returns-clause-wanting
 returns-clause-wanting g c is text line =
     let n = c.in_ok-array.ensures in
     let s = c.serve_array-status in
-    let all = array_ran_out g.R.Rack c.args.shape c.args.first c.args.rack c.in_ok-array.array s.new.array c.requires.first c.requires.shape n g.met.R.Rack.tells_told s.ensures.goes text _ _ _ _ line (s.ensures.wanting is) in
-    subst (λ r. RanOut (g.R.Rack.counts c.args.rack) (g.R.Rack.bytes r) text (g.S.Source.left s.new.source) (g.K.Sink.taken c.args.sink.now) (g.K.Sink.taken s.new.sink)) (sym c.into_rack.ensures) all
+    let all = array_ran_out g.R.Rack c.args.shape c.args.first c.args.rack c.in_ok-array.array s.new.array c.requires.first c.requires.shape n s.ensures.goes text _ _ _ _ line (s.ensures.wanting is) in
+    subst (λ r. RanOut (g.R.Rack.counts c.args.rack) (g.R.Rack.tells r) text (g.S.Source.left s.new.source) (g.K.Sink.taken c.args.sink.now) (g.K.Sink.taken s.new.sink)) (sym c.into_rack.ensures) all

@@ -16,6 +16,6 @@ returns-in-Ok-clause-ends g c =
     let same : ended.rack.now ≡ c.rack-1.given.0 = search rules in
     let taken = g.K.Sink.taken c.args.sink.now in
     let given = g.K.Sink.taken c.show_status.new.sink in
-    let ends = subst (λ (r : g.row.R.Denot). EndsStatus (facts_of g.K.Sink g.R.Rack c.args.sink.now c.show_status.new.sink c.args.rack.now r) ended.end) same c.in-Ok.ensures.ends in
-    subst (λ (s : Status). EndsSaved (λ (end : SavedEnd). EndsStatus (facts_of g.K.Sink g.R.Rack c.args.sink.now c.show_status.new.sink c.args.rack.now c.rack-1.given.0) end) taken given s) (sym c.status_by.ensures.is)
-    (ends_saved (λ (end : SavedEnd). EndsStatus (facts_of g.K.Sink g.R.Rack c.args.sink.now c.show_status.new.sink c.args.rack.now c.rack-1.given.0) end) taken given ended.end ends)
+    let ends = subst (λ (r : g.row.R.Denot). EndsStatus (g.R.Rack.tells r) (facts_of g.K.Sink g.R.Rack c.args.sink.now c.show_status.new.sink c.args.rack.now r) ended.end) same c.in-Ok.ensures.ends in
+    subst (λ (s : Status). EndsSaved (λ (end : SavedEnd). EndsStatus (g.R.Rack.tells c.rack-1.given.0) (facts_of g.K.Sink g.R.Rack c.args.sink.now c.show_status.new.sink c.args.rack.now c.rack-1.given.0) end) taken given s) (sym c.status_by.ensures.is)
+    (ends_saved (λ (end : SavedEnd). EndsStatus (g.R.Rack.tells c.rack-1.given.0) (facts_of g.K.Sink g.R.Rack c.args.sink.now c.show_status.new.sink c.args.rack.now c.rack-1.given.0) end) taken given ended.end ends)

@@ -10,48 +10,48 @@ use Rattle.dg_run.proofs.top.serve_command.Goals as goal
 pub returns-in-Replay-clause-ends : goal.returns-in-Replay-clause-ends
 returns-in-Replay-clause-ends g c =
     let s = c.serve_replay in
-    subst (λ (d : Command). Ends (facts_of g.S.Source g.K.Sink g.R.Rack c.args.source.now s.new.source c.args.sink.now s.new.sink c.args.rack.now s.new.rack) d s.result) (sym c.in-Replay.is) s.ensures.ends
+    subst (λ (d : Command). Ends (g.R.Rack.tells s.new.rack) (facts_of g.S.Source g.K.Sink g.R.Rack c.args.source.now s.new.source c.args.sink.now s.new.sink c.args.rack.now s.new.rack) d s.result) (sym c.in-Replay.is) s.ensures.ends
 
 pub returns-in-Resume-clause-ends : goal.returns-in-Resume-clause-ends
 returns-in-Resume-clause-ends g c =
     let s = c.serve_resume in
-    subst (λ (d : Command). Ends (facts_of g.S.Source g.K.Sink g.R.Rack c.args.source.now s.new.source c.args.sink.now s.new.sink c.args.rack.now s.new.rack) d s.result) (sym c.in-Resume.is) s.ensures.ends
+    subst (λ (d : Command). Ends (g.R.Rack.tells s.new.rack) (facts_of g.S.Source g.K.Sink g.R.Rack c.args.source.now s.new.source c.args.sink.now s.new.sink c.args.rack.now s.new.rack) d s.result) (sym c.in-Resume.is) s.ensures.ends
 
 pub returns-in-Cat-clause-ends : goal.returns-in-Cat-clause-ends
 returns-in-Cat-clause-ends g c =
     let s = c.serve_file in
     let met = facts_of g.S.Source g.K.Sink g.R.Rack c.args.source.now c.args.source.now c.args.sink.now s.new.sink c.args.rack.now s.new.rack in
-    let at = subst (λ (p : List ℕ). Ends met (Cat p) s.result) c.as_slice.ensures s.ensures.ends in
-    subst (λ (d : Command). Ends met d s.result) (sym c.in-Cat.is) at
+    let at = subst (λ (p : List ℕ). Ends (g.R.Rack.tells s.new.rack) met (Cat p) s.result) c.as_slice.ensures s.ensures.ends in
+    subst (λ (d : Command). Ends (g.R.Rack.tells s.new.rack) met d s.result) (sym c.in-Cat.is) at
 
 pub returns-in-Ls-clause-ends : goal.returns-in-Ls-clause-ends
 returns-in-Ls-clause-ends g c =
     let s = c.serve_directory in
     let met = facts_of g.S.Source g.K.Sink g.R.Rack c.args.source.now c.args.source.now c.args.sink.now s.new.sink c.args.rack.now s.new.rack in
-    let at = subst (λ (p : List ℕ). Ends met (Ls p) s.result) c.as_slice-in-Ls.ensures s.ensures.ends in
-    subst (λ (d : Command). Ends met d s.result) (sym c.in-Ls.is) at
+    let at = subst (λ (p : List ℕ). Ends (g.R.Rack.tells s.new.rack) met (Ls p) s.result) c.as_slice-in-Ls.ensures s.ensures.ends in
+    subst (λ (d : Command). Ends (g.R.Rack.tells s.new.rack) met d s.result) (sym c.in-Ls.is) at
 
 pub returns-in-Status-clause-ends : goal.returns-in-Status-clause-ends
 returns-in-Status-clause-ends g c =
     let s = c.serve_status in
-    subst (λ (d : Command). Ends (facts_of g.S.Source g.K.Sink g.R.Rack c.args.source.now c.args.source.now c.args.sink.now s.new.sink c.args.rack.now s.new.rack) d s.result) (sym c.in-Status.is) s.ensures.ends
+    subst (λ (d : Command). Ends (g.R.Rack.tells s.new.rack) (facts_of g.S.Source g.K.Sink g.R.Rack c.args.source.now c.args.source.now c.args.sink.now s.new.sink c.args.rack.now s.new.rack) d s.result) (sym c.in-Status.is) s.ensures.ends
 
 pub returns-in-Trace-clause-ends : goal.returns-in-Trace-clause-ends
 returns-in-Trace-clause-ends g c =
     let s = c.serve_trace in
-    subst (λ (d : Command). Ends (facts_of g.S.Source g.K.Sink g.R.Rack c.args.source.now s.new.source c.args.sink.now s.new.sink c.args.rack.now c.args.rack.now) d s.result) (sym c.in-Trace.is) s.ensures.ends
+    subst (λ (d : Command). Ends (g.R.Rack.tells c.args.rack.now) (facts_of g.S.Source g.K.Sink g.R.Rack c.args.source.now s.new.source c.args.sink.now s.new.sink c.args.rack.now c.args.rack.now) d s.result) (sym c.in-Trace.is) s.ensures.ends
 
 pub returns-in-Drill-clause-ends : goal.returns-in-Drill-clause-ends
 returns-in-Drill-clause-ends g c =
     let s = c.serve_drill in
-    subst (λ (d : Command). Ends (facts_of g.S.Source g.K.Sink g.R.Rack c.args.source.now c.args.source.now c.args.sink.now s.new.sink c.args.rack.now s.new.rack) d s.result) (sym c.in-Drill.is) s.ensures.ends
+    subst (λ (d : Command). Ends (g.R.Rack.tells s.new.rack) (facts_of g.S.Source g.K.Sink g.R.Rack c.args.source.now c.args.source.now c.args.sink.now s.new.sink c.args.rack.now s.new.rack) d s.result) (sym c.in-Drill.is) s.ensures.ends
 
 pub returns-in-Replay-clause-usage : goal.returns-in-Replay-clause-usage
 returns-in-Replay-clause-usage g c = λ is.
     let s = c.serve_replay in
-    absurd (subst (λ (status : Status). EndsReplay (facts_of g.S.Source g.K.Sink g.R.Rack c.args.source.now s.new.source c.args.sink.now s.new.sink c.args.rack.now s.new.rack) status) is s.ensures.ends)
+    absurd (subst (λ (status : Status). EndsReplay (g.R.Rack.tells s.new.rack) (facts_of g.S.Source g.K.Sink g.R.Rack c.args.source.now s.new.source c.args.sink.now s.new.sink c.args.rack.now s.new.rack) status) is s.ensures.ends)
 
 pub returns-in-Resume-clause-usage : goal.returns-in-Resume-clause-usage
 returns-in-Resume-clause-usage g c = λ is.
     let s = c.serve_resume in
-    absurd (subst (λ (status : Status). EndsResume (facts_of g.S.Source g.K.Sink g.R.Rack c.args.source.now s.new.source c.args.sink.now s.new.sink c.args.rack.now s.new.rack) status) is s.ensures.ends)
+    absurd (subst (λ (status : Status). EndsResume (g.R.Rack.tells s.new.rack) (facts_of g.S.Source g.K.Sink g.R.Rack c.args.source.now s.new.source c.args.sink.now s.new.sink c.args.rack.now s.new.rack) status) is s.ensures.ends)

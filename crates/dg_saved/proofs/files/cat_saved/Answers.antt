@@ -13,20 +13,20 @@ pub returns-in-NoState-clause-ends : goal.returns-in-NoState-clause-ends
 returns-in-NoState-clause-ends g c =
     let facts = facts_of g.K.Sink g.R.Rack c.args.sink.now c.tell.new.sink c.args.rack c.in-NoState.rack in
     let finds = subst (λ a. AnswersOpen g.R.Rack c.args.rack a) c.in-NoState.is c.in_ok-rack.ensures in
-    event_unopened facts (Cat c.args.path.now) cat_text gives_file c.tell.result
+    event_unopened _ facts (Cat c.args.path.now) cat_text gives_file c.tell.result
     (no_state_ends facts c.tell.result c.tell.ensures.is c.tell.ensures.told c.tell.ensures.part (found_no_state g.R.Rack c.args.rack c.in-NoState.rack _ _ finds))
 
 pub returns-in-Unclean-clause-ends : goal.returns-in-Unclean-clause-ends
 returns-in-Unclean-clause-ends g c =
     let facts = facts_of g.K.Sink g.R.Rack c.args.sink.now c.tell-in-Unclean.new.sink c.args.rack c.in-Unclean.rack in
     let finds = subst (λ a. AnswersOpen g.R.Rack c.args.rack a) c.in-Unclean.is c.in_ok-rack.ensures in
-    event_unopened facts (Cat c.args.path.now) cat_text gives_file c.tell-in-Unclean.result
+    event_unopened _ facts (Cat c.args.path.now) cat_text gives_file c.tell-in-Unclean.result
     (unclean_ends facts c.tell-in-Unclean.result c.tell-in-Unclean.ensures.is c.tell-in-Unclean.ensures.told c.tell-in-Unclean.ensures.part
     (found_unclean g.R.Rack c.args.rack c.in-Unclean.rack _ _ finds))
 
 pub returns-clause-ends : goal.returns-clause-ends
 returns-clause-ends g c =
     let opened = subst (λ a. AnswersOpen g.R.Rack c.args.rack a) c.in-Opened.is c.in_ok-rack.ensures in
-    let ends = ends_event g.R.Rack c.args.rack c.in-Opened.volume c.serve_cat-end.new.volume c.in-Opened.field-1 _ _ opened c.serve_cat-end.ensures.leaves g.met.R.Rack.tells_told
+    let ends = ends_event g.R.Rack c.args.rack c.in-Opened.volume c.serve_cat-end.new.volume c.in-Opened.field-1 _ _ opened c.serve_cat-end.ensures.leaves
     (Cat c.args.path.now) cat_text gives_file c.serve_cat-end.result c.serve_cat-end.ensures.ends in
-    subst (λ r. EndsCat (facts_of g.K.Sink g.R.Rack c.args.sink.now c.serve_cat-end.new.sink c.args.rack r) c.args.path.now c.serve_cat-end.result) (sym c.into_rack.ensures) ends
+    subst (λ r. EndsCat (g.R.Rack.tells r) (facts_of g.K.Sink g.R.Rack c.args.sink.now c.serve_cat-end.new.sink c.args.rack r) c.args.path.now c.serve_cat-end.result) (sym c.into_rack.ensures) ends

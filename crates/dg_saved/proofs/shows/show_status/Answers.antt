@@ -12,14 +12,14 @@ pub returns-in-NoState-clause-ends : goal.returns-in-NoState-clause-ends
 returns-in-NoState-clause-ends g c =
     let facts = facts_of g.K.Sink g.R.Rack c.args.sink.now c.tell.new.sink c.args.rack c.in-NoState.rack in
     let finds = subst (λ a. AnswersOpen g.R.Rack c.args.rack a) c.in-NoState.is c.in_ok-rack.ensures in
-    status_unopened facts c.tell.result
+    status_unopened _ facts c.tell.result
     (no_state_ends facts c.tell.result c.tell.ensures.is c.tell.ensures.told c.tell.ensures.part (found_no_state g.R.Rack c.args.rack c.in-NoState.rack _ _ finds))
 
 pub returns-in-Unclean-clause-ends : goal.returns-in-Unclean-clause-ends
 returns-in-Unclean-clause-ends g c =
     let facts = facts_of g.K.Sink g.R.Rack c.args.sink.now c.tell-in-Unclean.new.sink c.args.rack c.in-Unclean.rack in
     let finds = subst (λ a. AnswersOpen g.R.Rack c.args.rack a) c.in-Unclean.is c.in_ok-rack.ensures in
-    status_unopened facts c.tell-in-Unclean.result
+    status_unopened _ facts c.tell-in-Unclean.result
     (unclean_ends facts c.tell-in-Unclean.result c.tell-in-Unclean.ensures.is c.tell-in-Unclean.ensures.told c.tell-in-Unclean.ensures.part
     (found_unclean g.R.Rack c.args.rack c.in-Unclean.rack _ _ finds))
 
@@ -28,8 +28,8 @@ returns-clause-ends g c =
     let volume = c.in-Opened.volume in
     let opened = subst (λ a. AnswersOpen g.R.Rack c.args.rack a) c.in-Opened.is c.in_ok-rack.ensures in
     let text = c.deref.result.now in
-    let shown = has_shown g.R.Rack c.args.rack volume c.in-Opened.field-1 (g.K.Sink.taken c.args.sink.now) (g.K.Sink.taken c.tell-end.new.sink) opened g.met.R.Rack.tells_told text
+    let shown = has_shown g.R.Rack c.args.rack volume c.in-Opened.field-1 (g.K.Sink.taken c.args.sink.now) (g.K.Sink.taken c.tell-end.new.sink) opened text
     (c.deref.ensures.value ∙ c.in_ok-text-in-Opened.ensures) in
-    let ends = shown_ends (facts_of g.K.Sink g.R.Rack c.args.sink.now c.tell-end.new.sink c.args.rack (rack_of volume)) c.tell-end.result text c.tell-end.ensures.is c.tell-end.ensures.told
+    let ends = shown_ends (g.R.Rack.tells (rack_of volume)) (facts_of g.K.Sink g.R.Rack c.args.sink.now c.tell-end.new.sink c.args.rack (rack_of volume)) c.tell-end.result text c.tell-end.ensures.is c.tell-end.ensures.told
     c.tell-end.ensures.part shown in
-    subst (λ r. EndsStatus (facts_of g.K.Sink g.R.Rack c.args.sink.now c.tell-end.new.sink c.args.rack r) c.tell-end.result) (sym c.into_rack.ensures) ends
+    subst (λ r. EndsStatus (g.R.Rack.tells r) (facts_of g.K.Sink g.R.Rack c.args.sink.now c.tell-end.new.sink c.args.rack r) c.tell-end.result) (sym c.into_rack.ensures) ends

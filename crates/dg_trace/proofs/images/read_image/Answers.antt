@@ -26,8 +26,8 @@ returns-then-n-eq0-clause-image g c =
     image_end c.loop-count.image.items _ _ _ _ (omega (arith, inv.count, inv.most)) inv.gave c.in-Ok-read_behind.ensures.gave
     (c.in-Ok-read_behind.ensures.end c.if-n-eq0.true)
 
-pub returns-in_default-extend_from_slice-clause-part : goal.returns-in_default-extend_from_slice-clause-part
-returns-in_default-extend_from_slice-clause-part g c =
+pub returns-in_default-append-clause-part : goal.returns-in_default-append-clause-part
+returns-in_default-append-clause-part g c =
     let inv = c.loop-count.invariant in
     let at : ℕ = 65536 - c.min-room.result in
     let n : ℕ = c.in-Ok-read_behind.n in
@@ -44,7 +44,7 @@ loop-count-preserved g c =
     let n : ℕ = c.in-Ok-read_behind.n in
     let within : at + n ≤ length c.read_behind.new.piece.items = c.in-Ok-read_behind.ensures.within in
     let size = size_both c.loop-count.image.items c.read_behind.new.piece.items at n within in
-    let grown : c.extend_from_slice.new.self.items ≡ c.loop-count.image.items ++ slice_range c.read_behind.new.piece.items at (at + n) = search rules in
+    let grown : c.append.new.image.items ≡ c.loop-count.image.items ++ slice_range c.read_behind.new.piece.items at (at + n) = search rules in
     record {
       count = ap (λ (k : ℕ). k + n) inv.count ∙ sym (ap length grown ∙ size);
       most = omega (arith, within, inv.piece, c.read_behind.ensures.size, c.min-room.ensures, c.loop-count-test.true);

@@ -1,5 +1,5 @@
 use Rattle.std.proofs.Common.{refl}
-use Rattle.dg_io.specs.Racks.{counts_in, member_in}
+use Rattle.dg_io.specs.Racks.{counts_in, member_in, told_in}
 use Rattle.dg_io.specs.Sinks.{sure_taken}
 use Rattle.dg_io.specs.declared.racks.MemRack.{MemRack}
 use Rattle.dg_io.specs.declared.sinks.SureSink.{SureSink}
@@ -22,12 +22,12 @@ met sink sink_now rack rack_now = record {
 pub returns-clause-answer : goal.returns-clause-answer
 returns-clause-answer c =
     let s = c.run-status in
-    blank_answer (met c.in_ok-sink.sink s.new.sink c.in_ok-rack.rack s.new.rack) (sure_taken c.in_ok-sink.sink) (sure_taken s.new.sink) s.result
+    blank_answer (told_in s.new.rack) (met c.in_ok-sink.sink s.new.sink c.in_ok-rack.rack s.new.rack) (sure_taken c.in_ok-sink.sink) (sure_taken s.new.sink) s.result
     (record { empty = c.in_ok-rack.ensures.empty; told = λ q. refl }) (s.ensures.ends StatusCommand c.in_ok-words.ensures)
     (s.ensures.complete StatusCommand c.in_ok-words.ensures none_rose none_rose)
 
 pub returns-clause-printed : goal.returns-clause-printed
 returns-clause-printed c none text is =
     let s = c.run-status in
-    no_state_printed (met c.in_ok-sink.sink s.new.sink c.in_ok-rack.rack s.new.rack) s.result text c.in_ok-sink.ensures.taken none
+    no_state_printed (told_in s.new.rack) (met c.in_ok-sink.sink s.new.sink c.in_ok-rack.rack s.new.rack) s.result text c.in_ok-sink.ensures.taken none
     (s.ensures.ends StatusCommand c.in_ok-words.ensures) is

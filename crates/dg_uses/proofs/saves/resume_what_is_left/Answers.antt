@@ -8,16 +8,19 @@ pub returns-clause-opened : goal.returns-clause-opened
 returns-clause-opened g c = λ old number last held save again none.
     let s = c.run in
     let met = facts_of g.S.Source g.K.Sink g.R.Rack c.args.source.now s.new.source c.args.sink.now s.new.sink c.args.rack.now s.new.rack in
+    let tells = g.R.Rack.tells s.new.rack in
     let ends = s.ensures.ends Resume c.requires in (
-      (λ is. c.saves_are_found_again.ensures.some old number last held save (met_by met) again none (resumed_as met s.result NoState ends is).1),
-      (λ is. c.saves_are_found_again.ensures.clean old number last held save (met_by met) again none (resumed_as met s.result Unclean ends is).1),
+      (λ is. c.saves_are_found_again.ensures.some old number last held save (met_by met) again none (resumed_as tells met s.result NoState ends is).1),
+      (λ is. c.saves_are_found_again.ensures.clean old number last held save (met_by met) again none (resumed_as tells met s.result Unclean ends is).1),
     )
 
 pub returns-clause-done : goal.returns-clause-done
 returns-clause-done g c = λ old number last held save again none is.
     let s = c.run in
     let met = facts_of g.S.Source g.K.Sink g.R.Rack c.args.source.now s.new.source c.args.sink.now s.new.sink c.args.rack.now s.new.rack in
-    let all = resumed_as met s.result Done (s.ensures.ends Resume c.requires) is in
-    has_gone_on met old save all
-    (c.saved_arrays_go_on.ensures.resumed old number last held save met all.events all.replies all.ran again
+    let tells = g.R.Rack.tells s.new.rack in
+    let all = resumed_as tells met s.result Done (s.ensures.ends Resume c.requires) is in
+    has_gone_on tells met old save all
+    (c.saved_arrays_go_on.ensures.resumed s.new.rack old number last held save met all.events all.replies all.ran
+    (λ q low. g.met.R.Rack.tells_told s.new.rack q (again.tells q)) again
     (none_in_opening met.before all.ran.opened met.now all.ran.rise none))

@@ -95,11 +95,10 @@ returns-in-Some-clause-is_sound g c =
     let first = c.read_geometry.ensures.keeps in
     let second = c.check_volume.ensures.keeps in
     let reads = rw c.in-Some-Ok.field-0-is at c.in-Some-Ok.ensures.rule in
-    let geometry = rw c.in-Some-Ok.field-0-is at c.in-Some-Ok.ensures.geometry in
     let found = rw c.in-Some.is at c.in_ok-check_volume.ensures.found in
     λ same told v tabled.
     let is = sym ((reads.rule (second.told told) v (tabled.0)).answer) in
-    let judged = c.verdict_of.ensures.judges gg v geometry.tests (found told v (first.stands v (tabled.0), table_claims l n gg v table is (tabled.1))) in
+    let judged = c.verdict_of.ensures.judges gg v (found told v (first.stands v (tabled.0), table_claims l n gg v table is (tabled.1))) in
     let verdict : c.verdict_of.result ≡ Sound = cc in
     sound_volume l n gg v is (subst (Judges gg v) verdict judged)
 
@@ -112,11 +111,10 @@ returns-in-Some-clause-malformed g c =
     let first = c.read_geometry.ensures.keeps in
     let second = c.check_volume.ensures.keeps in
     let reads = rw c.in-Some-Ok.field-0-is at c.in-Some-Ok.ensures.rule in
-    let geometry = rw c.in-Some-Ok.field-0-is at c.in-Some-Ok.ensures.geometry in
     let found = rw c.in-Some.is at c.in_ok-check_volume.ensures.found in
     λ kind m same told v tabled.
     let is = sym ((reads.rule (second.told told) v (tabled.0)).answer) in
-    let judged = c.verdict_of.ensures.judges gg v geometry.tests (found told v (first.stands v (tabled.0), table_claims l n gg v table is (tabled.1))) in
+    let judged = c.verdict_of.ensures.judges gg v (found told v (first.stands v (tabled.0), table_claims l n gg v table is (tabled.1))) in
     let verdict : c.verdict_of.result ≡ Malformed kind m = cc in
     first_volume l n gg v kind m is (subst (Judges gg v) verdict judged)
 

@@ -1,4 +1,5 @@
-use Rattle.std.proofs.Common.{◌∙◌, refl}
+use Rattle.std.proofs.Common.{◌≡◌, ◌∙◌, false, true, refl, sym}
+use Rattle.dg_io.specs.ViewLaws.{keeps_both}
 use Rattle.ufs_model.specs.Metadata.{IsMetadataBy, IsStructure}
 use Rattle.dg_claims.specs.Kept.{table_of}
 use Rattle.ufs_check.specs.Directories.{IsDirectoryRead}
@@ -11,26 +12,35 @@ returns-in_default-clause-gone g c =
     let gg = c.args.g.now in
     let l = g.V.View.size c.args.view.now in
     let n = g.V.View.count c.args.view.now in
-    lost_told (IsMetadataBy gg) (IsStructure l n) refl (λ told v on. ((on.0, on.1), λ block is. metadata_structure l n gg v block (on.2) is)) c.in_default.ensures.gone
+    let gone = rw c.in_default.is at c.in_ok-metadata.ensures.gone in
+    lost_told (IsMetadataBy gg) (IsStructure l n) refl (λ told v on. ((on.0, on.1), λ block is. metadata_structure l n gg v block (on.2) is)) gone
 
-pub returns-in_default-check_directories-clause-gone : goal.returns-in_default-check_directories-clause-gone
-returns-in_default-check_directories-clause-gone g c =
+pub returns-in_default-2-clause-gone : goal.returns-in_default-2-clause-gone
+returns-in_default-2-clause-gone g c =
     let gg = c.args.g.now in
     let l = g.V.View.size c.args.view.now in
     let n = g.V.View.count c.args.view.now in
     let first = c.check_metadata.ensures.keeps in
-    let second = c.check_directories.ensures.keeps in
+    let second = c.check_tree.ensures.keeps in
+    let metadata = rw c.in-Some.is at c.in_ok-metadata.ensures.found in
+    let gone = rw c.in_default-2.is at c.in_ok-found.ensures.gone in
     lost_told (IsDirectoryRead gg) (IsStructure l n) first.blocks (λ told v on. (
       first.stands v (on.0),
-      λ block read. c.directories_are_structure.ensures l n gg v block (on.2) ((c.in-Some.ensures.found (second.told told) v (on.0, on.1)).whole) read,
-    )) c.in_default-check_directories.ensures.gone
+      λ block read. c.directories_are_structure.ensures l n gg v block (on.2) ((metadata (second.told told) v (on.0, on.1)).whole) read,
+    )) gone
+
+pub returns-in_err-metadata-clause-fetched : goal.returns-in_err-metadata-clause-fetched
+returns-in_err-metadata-clause-fetched g c =
+    let gg = c.args.g.now in
+    let l = g.V.View.size c.args.view.now in
+    let n = g.V.View.count c.args.view.now in
+    metadata_only l n gg (table_of c.args.claims.now) c.check_metadata.ensures.fetched
 
 pub returns-in_default-clause-fetched : goal.returns-in_default-clause-fetched
 returns-in_default-clause-fetched g c =
     let gg = c.args.g.now in
     let l = g.V.View.size c.args.view.now in
     let n = g.V.View.count c.args.view.now in
-    let first = c.check_metadata.ensures.keeps in
     metadata_only l n gg (table_of c.args.claims.now) c.check_metadata.ensures.fetched
 
 pub returns-then-not-is_none-clause-fetched : goal.returns-then-not-is_none-clause-fetched
@@ -40,41 +50,17 @@ returns-then-not-is_none-clause-fetched g c =
     let n = g.V.View.count c.args.view.now in
     metadata_only l n gg (table_of c.args.claims.now) c.check_metadata.ensures.fetched
 
-pub returns-then-not-is_none-2-clause-fetched : goal.returns-then-not-is_none-2-clause-fetched
-returns-then-not-is_none-2-clause-fetched g c =
+pub returns-in_err-found-clause-fetched : goal.returns-in_err-found-clause-fetched
+returns-in_err-found-clause-fetched g c =
     let gg = c.args.g.now in
     let l = g.V.View.size c.args.view.now in
     let n = g.V.View.count c.args.view.now in
     let first = c.check_metadata.ensures.keeps in
-    let second = c.check_directories.ensures.keeps in
+    let second = c.check_tree.ensures.keeps in
+    let metadata = rw c.in-Some.is at c.in_ok-metadata.ensures.found in
     only_both g.met.V.View.fetched_both (λ v on. on) second.told
     (metadata_only l n gg (table_of c.args.claims.now) c.check_metadata.ensures.fetched)
-    (directories_only l n gg (table_of c.args.claims.now) c.directories_are_structure.ensures first.stands (λ told v on. (c.in-Some.ensures.found (second.told told) v (on.0, on.1)).whole) c.check_directories.ensures.fetched)
-
-pub returns-in_default-check_directories-clause-fetched : goal.returns-in_default-check_directories-clause-fetched
-returns-in_default-check_directories-clause-fetched g c =
-    let gg = c.args.g.now in
-    let l = g.V.View.size c.args.view.now in
-    let n = g.V.View.count c.args.view.now in
-    let first = c.check_metadata.ensures.keeps in
-    let second = c.check_directories.ensures.keeps in
-    only_both g.met.V.View.fetched_both (λ v on. on) second.told
-    (metadata_only l n gg (table_of c.args.claims.now) c.check_metadata.ensures.fetched)
-    (directories_only l n gg (table_of c.args.claims.now) c.directories_are_structure.ensures first.stands (λ told v on. (c.in-Some.ensures.found (second.told told) v (on.0, on.1)).whole) c.check_directories.ensures.fetched)
-
-pub returns-in_err-links-clause-fetched : goal.returns-in_err-links-clause-fetched
-returns-in_err-links-clause-fetched g c =
-    let gg = c.args.g.now in
-    let l = g.V.View.size c.args.view.now in
-    let n = g.V.View.count c.args.view.now in
-    let first = c.check_metadata.ensures.keeps in
-    let second = c.check_directories.ensures.keeps in
-    let third = c.check_links.ensures.keeps in
-    only_both g.met.V.View.fetched_both (λ v on. on) third.told
-    (only_both g.met.V.View.fetched_both (λ v on. on) second.told
-    (metadata_only l n gg (table_of c.args.claims.now) c.check_metadata.ensures.fetched)
-    (directories_only l n gg (table_of c.args.claims.now) c.directories_are_structure.ensures first.stands (λ told v on. (c.in-Some.ensures.found (second.told told) v (on.0, on.1)).whole) c.check_directories.ensures.fetched))
-    (directories_only l n gg (table_of c.args.claims.now) c.directories_are_structure.ensures (λ v stands. second.stands v (first.stands v stands)) (λ told v on. (c.in-Some.ensures.found (second.told (third.told told)) v (on.0, on.1)).whole) c.check_links.ensures.fetched)
+    (directories_only l n gg (table_of c.args.claims.now) c.directories_are_structure.ensures first.stands (λ told v on. (metadata (second.told told) v (on.0, on.1)).whole) c.check_tree.ensures.fetched)
 
 pub returns-in_default-2-clause-fetched : goal.returns-in_default-2-clause-fetched
 returns-in_default-2-clause-fetched g c =
@@ -82,13 +68,11 @@ returns-in_default-2-clause-fetched g c =
     let l = g.V.View.size c.args.view.now in
     let n = g.V.View.count c.args.view.now in
     let first = c.check_metadata.ensures.keeps in
-    let second = c.check_directories.ensures.keeps in
-    let third = c.check_links.ensures.keeps in
-    only_both g.met.V.View.fetched_both (λ v on. on) third.told
-    (only_both g.met.V.View.fetched_both (λ v on. on) second.told
+    let second = c.check_tree.ensures.keeps in
+    let metadata = rw c.in-Some.is at c.in_ok-metadata.ensures.found in
+    only_both g.met.V.View.fetched_both (λ v on. on) second.told
     (metadata_only l n gg (table_of c.args.claims.now) c.check_metadata.ensures.fetched)
-    (directories_only l n gg (table_of c.args.claims.now) c.directories_are_structure.ensures first.stands (λ told v on. (c.in-Some.ensures.found (second.told told) v (on.0, on.1)).whole) c.check_directories.ensures.fetched))
-    (directories_only l n gg (table_of c.args.claims.now) c.directories_are_structure.ensures (λ v stands. second.stands v (first.stands v stands)) (λ told v on. (c.in-Some.ensures.found (second.told (third.told told)) v (on.0, on.1)).whole) c.check_links.ensures.fetched)
+    (directories_only l n gg (table_of c.args.claims.now) c.directories_are_structure.ensures first.stands (λ told v on. (metadata (second.told told) v (on.0, on.1)).whole) c.check_tree.ensures.fetched)
 
 pub returns-clause-fetched : goal.returns-clause-fetched
 returns-clause-fetched g c =
@@ -96,39 +80,31 @@ returns-clause-fetched g c =
     let l = g.V.View.size c.args.view.now in
     let n = g.V.View.count c.args.view.now in
     let first = c.check_metadata.ensures.keeps in
-    let second = c.check_directories.ensures.keeps in
-    let third = c.check_links.ensures.keeps in
-    only_both g.met.V.View.fetched_both (λ v on. on) third.told
-    (only_both g.met.V.View.fetched_both (λ v on. on) second.told
+    let second = c.check_tree.ensures.keeps in
+    let metadata = rw c.in-Some.is at c.in_ok-metadata.ensures.found in
+    only_both g.met.V.View.fetched_both (λ v on. on) second.told
     (metadata_only l n gg (table_of c.args.claims.now) c.check_metadata.ensures.fetched)
-    (directories_only l n gg (table_of c.args.claims.now) c.directories_are_structure.ensures first.stands (λ told v on. (c.in-Some.ensures.found (second.told told) v (on.0, on.1)).whole) c.check_directories.ensures.fetched))
-    (directories_only l n gg (table_of c.args.claims.now) c.directories_are_structure.ensures (λ v stands. second.stands v (first.stands v stands)) (λ told v on. (c.in-Some.ensures.found (second.told (third.told told)) v (on.0, on.1)).whole) c.check_links.ensures.fetched)
-
-pub returns-in_default-2-clause-gone : goal.returns-in_default-2-clause-gone
-returns-in_default-2-clause-gone g c =
-    let gg = c.args.g.now in
-    let l = g.V.View.size c.args.view.now in
-    let n = g.V.View.count c.args.view.now in
-    let first = c.check_metadata.ensures.keeps in
-    let second = c.check_directories.ensures.keeps in
-    let third = c.check_links.ensures.keeps in
-    let gone = rw c.in_default-2.is at c.in_ok-links.ensures.gone in
-    lost_told (IsDirectoryRead gg) (IsStructure l n) (second.blocks ∙ first.blocks) (λ told v on. (
-      second.stands v (first.stands v (on.0)),
-      λ block read. c.directories_are_structure.ensures l n gg v block (on.2) ((c.in-Some.ensures.found (second.told (third.told told)) v (on.0, on.1)).whole) read,
-    )) gone
+    (directories_only l n gg (table_of c.args.claims.now) c.directories_are_structure.ensures first.stands (λ told v on. (metadata (second.told told) v (on.0, on.1)).whole) c.check_tree.ensures.fetched)
 
 pub returns-clause-found : goal.returns-clause-found
 returns-clause-found g c =
-    let gg = c.args.g.now in
-    let l = g.V.View.size c.args.view.now in
-    let n = g.V.View.count c.args.view.now in
     let first = c.check_metadata.ensures.keeps in
-    let second = c.check_directories.ensures.keeps in
-    let third = c.check_links.ensures.keeps in
-    let links = rw c.in-Some-2.is at c.in_ok-links.ensures.found in
+    let second = c.check_tree.ensures.keeps in
+    let metadata = rw c.in-Some.is at c.in_ok-metadata.ensures.found in
+    let tree = rw c.in-Some-2.is at c.in_ok-found.ensures.found in
     λ told v claimed. record {
-      metadata = c.in-Some.ensures.found (second.told (third.told told)) v claimed;
-      directories = λ nothing. c.in-Some-check_directories.ensures.found (third.told told) v (first.stands v (claimed.0));
-      links = λ nothing no_more all named. links told v (second.stands v (first.stands v (claimed.0))) all named;
+      metadata = metadata (second.told told) v claimed;
+      tree = λ nothing. (tree told v (first.stands v (claimed.0))).0;
     }
+
+pub returns-then-not-is_none-clause-found : goal.returns-then-not-is_none-clause-found
+returns-then-not-is_none-clause-found g c =
+    let metadata = rw c.in-Some.is at c.in_ok-metadata.ensures.found in
+    λ told v claimed. record {
+      metadata = metadata told v claimed;
+      tree = λ nothing. absurd (let no : false ≡ true = sym c.if-not-is_none.true ∙ c.is_none.ensures ∙ nothing in cc);
+    }
+
+pub returns-clause-keeps : goal.returns-clause-keeps
+returns-clause-keeps g c =
+    keeps_both g.met.V.View.further c.args.view.now c.check_metadata.new.view c.check_tree.new.view c.check_metadata.ensures.keeps c.check_tree.ensures.keeps

@@ -1,8 +1,14 @@
-use Rattle.std.proofs.Common.{◌≡◌, ◌∙◌, ◌^◌, ◌<◌, true, false, sym, arith}
+use Rattle.std.proofs.Common.{◌≡◌, ◌∙◌, ◌^◌, ◌<◌, ◌≤◌, Ok, true, false, sym, arith}
+use Rattle.dg_io.specs.ViewLaws.{keeps_both}
 use Rattle.ufs_model.specs.Metadata.{IsMetadataBy}
+use Rattle.ufs_model.specs.Malformations.{IsDirectory}
+use Rattle.ufs_model.specs.Paths.{entries_of}
+use Rattle.ufs_model.specs.declared.inodes.Inode.{Inode}
 use Rattle.ufs_check.specs.Directories.{IsDirectoryRead, IsFileRead, IsSmallRead}
 use Rattle.ufs_check.specs.Directories.IsDirectoryRead.{by_directory, by_metadata}
-use Rattle.ufs_check.proofs.FaultLaws.{directory_is, directory_none, directory_passed, directory_there, long_passed}
+use Rattle.ufs_check.proofs.FaultLaws.{directory_is, directory_none, directory_there, entries_passed, long_passed, long_unread}
+use Rattle.ufs_check.proofs.LinkLaws.{links_passed}
+use Rattle.ufs_check.proofs.ParentLaws.{table_passed}
 use Rattle.ufs_check.proofs.PassLaws.{lost_told, lost_wider, only_after, only_wider}
 use Rattle.ufs_check.proofs.directories.scan_inode.Goals as goal
 
@@ -15,45 +21,82 @@ returns-in_default-clause-fetched g c = only_wider (IsMetadataBy c.args.g.now) (
 
 pub returns-in_default-named-clause-found : goal.returns-in_default-named-clause-found
 returns-in_default-named-clause-found g c = λ could told v stands so_far.
-    directory_passed c.args.g.now v c.args.i _ (λ holds. directory_none c.args.g.now v c.args.i holds (sym (c.in-Some.ensures.found told v stands) ∙ c.in_default-named.is)) so_far
+    let gg = c.args.g.now in
+    let none : (holds : Inode → Type 0) → IsDirectory c.args.g.now v c.args.i holds → ⊥ =
+    λ holds. directory_none c.args.g.now v c.args.i holds (sym (c.in-Some.ensures.found told v stands) ∙ c.in_default-named.is) in
+    links_passed gg v c.args.i _ _ none (λ entries. none (λ inode. (entries_of gg inode v).value ≡ Ok entries)) so_far
 
 pub returns-in_default-named-clause-fetched : goal.returns-in_default-named-clause-fetched
 returns-in_default-named-clause-fetched g c = only_wider (IsMetadataBy c.args.g.now) (IsDirectoryRead c.args.g.now) (λ told v stands block is. by_metadata is) c.read_named.ensures.fetched
 
 pub returns-then-not-is_directory-clause-found : goal.returns-then-not-is_directory-clause-found
 returns-then-not-is_directory-clause-found g c = λ could told v stands so_far.
-    directory_passed c.args.g.now v c.args.i _
-    (λ holds h.
+    let gg = c.args.g.now in
     let there = sym (c.in-Some.ensures.found told v stands) ∙ c.in-Some-named.is in
-    let kind = (directory_is c.args.g.now v c.args.i holds c.in-Some-named.inode there h).0 in
-    let no : true ≡ false = sym (c.is_directory.ensures.1 kind) ∙ c.if-not-is_directory.true in cc)
-    so_far
+    let none : (holds : Inode → Type 0) → IsDirectory c.args.g.now v c.args.i holds → ⊥ =
+    λ holds h. (let kind = (directory_is gg v c.args.i holds c.in-Some-named.inode there h).0 in
+    let no : true ≡ false = sym (c.is_directory.ensures.1 kind) ∙ c.if-not-is_directory.true in cc) in
+    links_passed gg v c.args.i _ _ none (λ entries. none (λ inode. (entries_of gg inode v).value ≡ Ok entries)) so_far
 
 pub returns-then-not-is_directory-clause-fetched : goal.returns-then-not-is_directory-clause-fetched
 returns-then-not-is_directory-clause-fetched g c = only_wider (IsMetadataBy c.args.g.now) (IsDirectoryRead c.args.g.now) (λ told v stands block is. by_metadata is) c.read_named.ensures.fetched
 
 pub returns-then-inode-ge-TOO_LONG-clause-found : goal.returns-then-inode-ge-TOO_LONG-clause-found
 returns-then-inode-ge-TOO_LONG-clause-found g c = λ could told v stands so_far.
-    long_passed c.args.g.now v c.args.i c.in-Some-named.inode _ (sym (c.in-Some.ensures.found told v stands) ∙ c.in-Some-named.is) (c.is_directory.ensures.0 c.if-not-is_directory.false) (omega arith) so_far
+    let gg = c.args.g.now in
+    let there = sym (c.in-Some.ensures.found told v stands) ∙ c.in-Some-named.is in
+    let long : 2 ^ 32 ≤ c.in-Some-named.inode.size = omega arith in
+    let unread = long_unread gg v c.args.i c.in-Some-named.inode there (c.is_directory.ensures.0 c.if-not-is_directory.false) long in record {
+      kept = table_passed gg v c.args.i c.args.table.now unread so_far.kept;
+      noted = record {
+        blocks = long_passed gg v c.args.i c.in-Some-named.inode _ there long so_far.noted.blocks;
+        entries = entries_passed gg v c.args.i _ unread so_far.noted.entries;
+      };
+    }
 
 pub returns-then-inode-ge-TOO_LONG-clause-fetched : goal.returns-then-inode-ge-TOO_LONG-clause-fetched
 returns-then-inode-ge-TOO_LONG-clause-fetched g c = only_wider (IsMetadataBy c.args.g.now) (IsDirectoryRead c.args.g.now) (λ told v stands block is. by_metadata is) c.read_named.ensures.fetched
 
-pub returns-in_default-scan_directory-clause-gone : goal.returns-in_default-scan_directory-clause-gone
-returns-in_default-scan_directory-clause-gone g c = λ missed.
+pub returns-in_default-2-clause-gone : goal.returns-in_default-2-clause-gone
+returns-in_default-2-clause-gone g c = λ missed.
     let first = c.read_named.ensures.keeps in
     let second = c.scan_directory.ensures.keeps in
     let kind = c.is_directory.ensures.0 c.if-not-is_directory.false in
     let small : c.in-Some-named.inode.size < 2 ^ 32 = omega arith in
+    let gone = rw c.in_default-2.is at c.in_ok-scan.ensures.gone in
     lost_told (IsFileRead c.args.g.now c.in-Some-named.inode) (IsDirectoryRead c.args.g.now) first.blocks
     (λ told v stands. (
       first.stands v stands,
       λ block is. by_directory c.args.i (directory_there c.args.g.now v c.args.i (IsSmallRead c.args.g.now v block) c.in-Some-named.inode
           (sym (c.in-Some.ensures.found (second.told told) v stands) ∙ c.in-Some-named.is) kind (record { small = small; read = is })),
-    )) c.in_default-scan_directory.ensures.gone
+    )) gone
 
-pub returns-in_default-scan_directory-clause-fetched : goal.returns-in_default-scan_directory-clause-fetched
-returns-in_default-scan_directory-clause-fetched g c =
+pub returns-in_err-scan-clause-fetched : goal.returns-in_err-scan-clause-fetched
+returns-in_err-scan-clause-fetched g c =
+    let first = c.read_named.ensures.keeps in
+    let second = c.scan_directory.ensures.keeps in
+    let kind = c.is_directory.ensures.0 c.if-not-is_directory.false in
+    let small : c.in-Some-named.inode.size < 2 ^ 32 = omega arith in
+    only_after g.met.V.View.fetched_both first.stands second.told
+    (only_wider (IsMetadataBy c.args.g.now) (IsDirectoryRead c.args.g.now) (λ told v stands block is. by_metadata is) c.read_named.ensures.fetched)
+    c.scan_directory.ensures.fetched
+    (λ told v stands block is. by_directory c.args.i (directory_there c.args.g.now v c.args.i (IsSmallRead c.args.g.now v block) c.in-Some-named.inode
+    (sym (c.in-Some.ensures.found (second.told told) v stands) ∙ c.in-Some-named.is) kind (record { small = small; read = is })))
+
+pub returns-in_default-2-clause-fetched : goal.returns-in_default-2-clause-fetched
+returns-in_default-2-clause-fetched g c =
+    let first = c.read_named.ensures.keeps in
+    let second = c.scan_directory.ensures.keeps in
+    let kind = c.is_directory.ensures.0 c.if-not-is_directory.false in
+    let small : c.in-Some-named.inode.size < 2 ^ 32 = omega arith in
+    only_after g.met.V.View.fetched_both first.stands second.told
+    (only_wider (IsMetadataBy c.args.g.now) (IsDirectoryRead c.args.g.now) (λ told v stands block is. by_metadata is) c.read_named.ensures.fetched)
+    c.scan_directory.ensures.fetched
+    (λ told v stands block is. by_directory c.args.i (directory_there c.args.g.now v c.args.i (IsSmallRead c.args.g.now v block) c.in-Some-named.inode
+    (sym (c.in-Some.ensures.found (second.told told) v stands) ∙ c.in-Some-named.is) kind (record { small = small; read = is })))
+
+pub returns-in_err-note_directory-clause-fetched : goal.returns-in_err-note_directory-clause-fetched
+returns-in_err-note_directory-clause-fetched g c =
     let first = c.read_named.ensures.keeps in
     let second = c.scan_directory.ensures.keeps in
     let kind = c.is_directory.ensures.0 c.if-not-is_directory.false in
@@ -75,3 +118,27 @@ returns-clause-fetched g c =
     c.scan_directory.ensures.fetched
     (λ told v stands block is. by_directory c.args.i (directory_there c.args.g.now v c.args.i (IsSmallRead c.args.g.now v block) c.in-Some-named.inode
     (sym (c.in-Some.ensures.found (second.told told) v stands) ∙ c.in-Some-named.is) kind (record { small = small; read = is })))
+
+pub returns-clause-found : goal.returns-clause-found
+returns-clause-found g c = λ could told v stands so_far.
+    let first = c.read_named.ensures.keeps in
+    let second = c.scan_directory.ensures.keeps in
+    let there = sym (c.in-Some.ensures.found (second.told told) v stands) ∙ c.in-Some-named.is in
+    let found = rw c.in-Some-2.is at c.in_ok-scan.ensures.found in
+    c.in_ok-note_directory.ensures c.args.g.now v there (c.is_directory.ensures.0 c.if-not-is_directory.false) (found told v (first.stands v stands)) so_far
+
+pub returns-in_err-scan-clause-keeps : goal.returns-in_err-scan-clause-keeps
+returns-in_err-scan-clause-keeps g c =
+    keeps_both g.met.V.View.further c.args.view.now c.read_named.new.view c.scan_directory.new.view c.read_named.ensures.keeps c.scan_directory.ensures.keeps
+
+pub returns-in_default-2-clause-keeps : goal.returns-in_default-2-clause-keeps
+returns-in_default-2-clause-keeps g c =
+    keeps_both g.met.V.View.further c.args.view.now c.read_named.new.view c.scan_directory.new.view c.read_named.ensures.keeps c.scan_directory.ensures.keeps
+
+pub returns-in_err-note_directory-clause-keeps : goal.returns-in_err-note_directory-clause-keeps
+returns-in_err-note_directory-clause-keeps g c =
+    keeps_both g.met.V.View.further c.args.view.now c.read_named.new.view c.scan_directory.new.view c.read_named.ensures.keeps c.scan_directory.ensures.keeps
+
+pub returns-clause-keeps : goal.returns-clause-keeps
+returns-clause-keeps g c =
+    keeps_both g.met.V.View.further c.args.view.now c.read_named.new.view c.scan_directory.new.view c.read_named.ensures.keeps c.scan_directory.ensures.keeps

@@ -13,8 +13,8 @@ returns-then-not-hold_group-clause-fetched g c =
     let so_far = c.loop-f.invariant.keeps in
     only_both g.met.V.View.fetched_both (λ v claimed. so_far.stands v (claimed.0)) c.hold_group.ensures.keeps.told c.loop-f.invariant.fetched c.hold_group.ensures.fetched
 
-pub returns-then-not-check_pointers-clause-fetched : goal.returns-then-not-check_pointers-clause-fetched
-returns-then-not-check_pointers-clause-fetched g c =
+pub returns-then-not-branch-clause-fetched : goal.returns-then-not-branch-clause-fetched
+returns-then-not-branch-clause-fetched g c =
     let so_far = c.loop-f.invariant.keeps in
     let first = c.hold_group.ensures.keeps in
     let second = c.check_pointers.ensures.keeps in
@@ -39,18 +39,18 @@ loop-f-preserved g c =
       found = λ told v claimed.
           let before = invariant.found (two.told told) v claimed in
           let stands = first.stands v (so_far.stands v (claimed.0)) in
-          let own = c.note_claims.ensures.claimed v (claimed.1) (c.block.ensures ∙ holds told v (claimed.0)) before.claimed in
+          let own = c.in_ok-note_claims.ensures.claimed v (claimed.1) (c.block.ensures ∙ holds told v (claimed.0)) before.claimed in
           record {
             claimed = record { twice = rw c.check_pointers.ensures.twice own.twice; free = rw c.check_pointers.ensures.free own.free };
-            pointers = c.check_pointers.ensures.found c.if-not-check_pointers.false told v (stands, claimed.1)
+            pointers = c.in_ok-check_pointers.ensures.found c.if-not-branch.false told v (stands, claimed.1)
                 (record {
                   wild_in = rw c.note_claims.ensures.wild_in before.pointers.wild_in;
                   align_in = rw c.note_claims.ensures.align_in before.pointers.align_in;
-                  past_in = λ once. rw c.note_claims.ensures.past_in (before.pointers.past_in once);
+                  past_in = rw c.note_claims.ensures.past_in before.pointers.past_in;
                 });
           };
       whole = λ told v stands. rw add-one (uppers_more c.args.g.now (table_of c.args.claims.now) v c.loop-f.f (invariant.whole (two.told told) v stands)
-          (c.check_pointers.ensures.whole c.if-not-check_pointers.false told v (first.stands v (so_far.stands v stands))));
+          (c.in_ok-check_pointers.ensures.whole c.if-not-branch.false told v (first.stands v (so_far.stands v stands))));
       fetched = only_both g.met.V.View.fetched_both (λ v claimed. (first.stands v (so_far.stands v (claimed.0)), claimed.1)) second.told
           (only_both g.met.V.View.fetched_both (λ v claimed. so_far.stands v (claimed.0)) first.told invariant.fetched c.hold_group.ensures.fetched)
           c.check_pointers.ensures.fetched;
@@ -71,8 +71,40 @@ returns-then-not-hold_group-clause-gone g c =
     let so_far = c.loop-f.invariant.keeps in
     loses_fewer c.args.g.now (table_of c.args.claims.now) so_far.blocks so_far.stands (c.hold_group.ensures.gone c.if-not-hold_group.true)
 
-pub returns-then-not-check_pointers-clause-gone : goal.returns-then-not-check_pointers-clause-gone
-returns-then-not-check_pointers-clause-gone g c =
+pub returns-then-not-branch-clause-gone : goal.returns-then-not-branch-clause-gone
+returns-then-not-branch-clause-gone g c =
     let so_far = c.loop-f.invariant.keeps in
     let first = c.hold_group.ensures.keeps in
-    lost_later (first.blocks ∙ so_far.blocks) (λ v claimed. (first.stands v (so_far.stands v (claimed.0)), claimed.1)) (c.check_pointers.ensures.gone c.if-not-check_pointers.true)
+    lost_later (first.blocks ∙ so_far.blocks) (λ v claimed. (first.stands v (so_far.stands v (claimed.0)), claimed.1)) (c.in_ok-check_pointers.ensures.gone c.if-not-branch.true)
+
+pub returns-in_err-note_claims-clause-fetched : goal.returns-in_err-note_claims-clause-fetched
+returns-in_err-note_claims-clause-fetched g c =
+    let so_far = c.loop-f.invariant.keeps in
+    only_both g.met.V.View.fetched_both (λ v claimed. so_far.stands v (claimed.0)) c.hold_group.ensures.keeps.told c.loop-f.invariant.fetched c.hold_group.ensures.fetched
+
+pub returns-in_err-check_pointers-clause-fetched : goal.returns-in_err-check_pointers-clause-fetched
+returns-in_err-check_pointers-clause-fetched g c =
+    let so_far = c.loop-f.invariant.keeps in
+    let first = c.hold_group.ensures.keeps in
+    let second = c.check_pointers.ensures.keeps in
+    only_both g.met.V.View.fetched_both (λ v claimed. (first.stands v (so_far.stands v (claimed.0)), claimed.1)) second.told
+    (only_both g.met.V.View.fetched_both (λ v claimed. so_far.stands v (claimed.0)) first.told c.loop-f.invariant.fetched c.hold_group.ensures.fetched)
+    c.check_pointers.ensures.fetched
+
+pub returns-then-not-hold_group-clause-keeps : goal.returns-then-not-hold_group-clause-keeps
+returns-then-not-hold_group-clause-keeps g c =
+    keeps_both g.met.V.View.further c.args.view.now c.loop-f.view c.hold_group.new.view c.loop-f.invariant.keeps c.hold_group.ensures.keeps
+
+pub returns-in_err-note_claims-clause-keeps : goal.returns-in_err-note_claims-clause-keeps
+returns-in_err-note_claims-clause-keeps g c =
+    keeps_both g.met.V.View.further c.args.view.now c.loop-f.view c.hold_group.new.view c.loop-f.invariant.keeps c.hold_group.ensures.keeps
+
+pub returns-in_err-check_pointers-clause-keeps : goal.returns-in_err-check_pointers-clause-keeps
+returns-in_err-check_pointers-clause-keeps g c =
+    keeps_both g.met.V.View.further c.args.view.now c.hold_group.new.view c.check_pointers.new.view
+    (keeps_both g.met.V.View.further c.args.view.now c.loop-f.view c.hold_group.new.view c.loop-f.invariant.keeps c.hold_group.ensures.keeps) c.check_pointers.ensures.keeps
+
+pub returns-then-not-branch-clause-keeps : goal.returns-then-not-branch-clause-keeps
+returns-then-not-branch-clause-keeps g c =
+    keeps_both g.met.V.View.further c.args.view.now c.hold_group.new.view c.check_pointers.new.view
+    (keeps_both g.met.V.View.further c.args.view.now c.loop-f.view c.hold_group.new.view c.loop-f.invariant.keeps c.hold_group.ensures.keeps) c.check_pointers.ensures.keeps

@@ -1,5 +1,6 @@
 use Rattle.std.proofs.Common.{◌∙◌, ◌<◌, arith, refl}
 use Rattle.std.proofs.lemmas.Bool.Decides.{not_from_Decides}
+use Rattle.dg_io.specs.ViewLaws.{keeps_both}
 use Rattle.ufs_model.specs.Metadata.{IsMetadataBy}
 use Rattle.dg_claims.specs.Kept.{table_of}
 use Rattle.ufs_check.specs.Fragments.{IsClaimedBy}
@@ -36,10 +37,10 @@ returns-then-not-read_aside-clause-fetched g c =
 pub returns-clause-found : goal.returns-clause-found
 returns-clause-found g c = λ is told v claimed so_far.
     let before = c.read_limit.ensures.keeps in
-    c.note_pointers.ensures.pointers v (claimed.1)
+    c.in_ok-note_pointers.ensures.pointers v (claimed.1)
     (c.aside.ensures ∙ rw (c.requires.geometry.fsize, ← before.bytes)
     (read_value c.read_aside.result _ (rw one_block at c.read_aside.ensures.rule) c.if-not-read_aside.false told v (before.stands v (claimed.0))))
-    (λ once. c.in-Some.ensures.found (c.read_aside.ensures.keeps.told told) v (claimed.0) (claimed.1) once)
+    (c.in-Some.ensures.found (c.read_aside.ensures.keeps.told told) v (claimed.0) (claimed.1))
     so_far
 
 pub returns-then-not-is_upper-clause-whole : goal.returns-then-not-is_upper-clause-whole
@@ -59,3 +60,20 @@ returns-clause-fetched g c =
     only_both {still = IsClaimedBy (g.V.View.stands_for c.read_limit.new.view) c.args.g.now table} g.met.V.View.fetched_both (λ v claimed. (c.read_limit.ensures.keeps.stands v (claimed.0), claimed.1)) c.read_aside.ensures.keeps.told
     (fetches_fewer c.args.g.now table c.read_limit.ensures.fetched)
     (only_once (IsMetadataBy c.args.g.now) (λ v claimed. upper_metadata c.args.g.now table v c.args.f upper (claimed.1)) c.read_aside.ensures.once)
+
+pub returns-in_err-note_pointers-clause-fetched : goal.returns-in_err-note_pointers-clause-fetched
+returns-in_err-note_pointers-clause-fetched g c =
+    let table = table_of c.args.claims.now in
+    let upper = c.is_upper.ensures.0 c.if-not-is_upper.false in
+    only_both {still = IsClaimedBy (g.V.View.stands_for c.read_limit.new.view) c.args.g.now table} g.met.V.View.fetched_both (λ v claimed. (c.read_limit.ensures.keeps.stands v (claimed.0), claimed.1)) c.read_aside.ensures.keeps.told
+    (fetches_fewer c.args.g.now table c.read_limit.ensures.fetched)
+    (only_once (IsMetadataBy c.args.g.now) (λ v claimed. upper_metadata c.args.g.now table v c.args.f upper (claimed.1)) c.read_aside.ensures.once)
+
+pub returns-then-not-read_aside-clause-keeps : goal.returns-then-not-read_aside-clause-keeps
+returns-then-not-read_aside-clause-keeps g c = keeps_both g.met.V.View.further c.args.view.now c.read_limit.new.view c.read_aside.new.view c.read_limit.ensures.keeps c.read_aside.ensures.keeps
+
+pub returns-in_err-note_pointers-clause-keeps : goal.returns-in_err-note_pointers-clause-keeps
+returns-in_err-note_pointers-clause-keeps g c = keeps_both g.met.V.View.further c.args.view.now c.read_limit.new.view c.read_aside.new.view c.read_limit.ensures.keeps c.read_aside.ensures.keeps
+
+pub returns-clause-keeps : goal.returns-clause-keeps
+returns-clause-keeps g c = keeps_both g.met.V.View.further c.args.view.now c.read_limit.new.view c.read_aside.new.view c.read_limit.ensures.keeps c.read_aside.ensures.keeps

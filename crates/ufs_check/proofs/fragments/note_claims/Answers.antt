@@ -4,7 +4,7 @@ use Rattle.ufs_model.specs.Malformations.{IsBad, IsFree}
 use Rattle.ufs_model.specs.declared.malformations.BadKind.TheVariants.{Twice, Free}
 use Rattle.dg_claims.specs.Kept.{table_of}
 use Rattle.ufs_check.proofs.ClaimLaws.{free_claimed, free_there, free_unclaimed, twice_decides}
-use Rattle.ufs_check.proofs.LeastLaws.{least_noted}
+use Rattle.ufs_check.proofs.NoteLaws.{all_noted}
 use Rattle.ufs_check.proofs.fragments.note_claims.Goals.{then-number-ge1, else-number-ge1}
 use Rattle.ufs_check.proofs.fragments.note_claims.Goals as goal
 
@@ -18,6 +18,6 @@ returns-clause-claimed c = λ v has is so_far.
       | then-number-ge1 w ↦ rw w.note-is (free_claimed g table v f number _ has c.claims_on-number.ensures w.if-number-ge1.true (free_there g v f _ is ∙ sym w.is_marked_free.ensures))
       | else-number-ge1 w ↦ rw w.note-is (free_unclaimed g table v f number has c.claims_on-number.ensures w.if-number-ge1.false)
     ] in record {
-      twice = least_noted (IsBad g v Twice) f _ _ _ c.note.ensures (twice_decides g table v f number has c.claims_on-number.ensures) so_far.twice;
-      free = least_noted (IsBad g v Free) f _ _ _ c.note-2.ensures free so_far.free;
+      twice = all_noted (IsBad g v Twice) f _ _ _ c.in_ok-note.ensures (twice_decides g table v f number has c.claims_on-number.ensures) so_far.twice;
+      free = all_noted (IsBad g v Free) f _ _ _ c.in_ok-note-2.ensures free so_far.free;
     }

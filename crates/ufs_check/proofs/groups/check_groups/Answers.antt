@@ -1,7 +1,7 @@
 use Rattle.std.proofs.Common.{◌∙◌, ◌+◌, ◌≤◌, arith, sym}
 use Rattle.dg_io.specs.ViewLaws.{keeps_both}
 use Rattle.ufs_model.specs.Metadata.{IsMetadataBy}
-use Rattle.ufs_check.proofs.GroupLaws.{group_area, group_need}
+use Rattle.ufs_check.proofs.GroupLaws.{group_area, group_need, groups_all}
 use Rattle.ufs_check.proofs.PassLaws.{area_lost, lost_later, only_both, only_needs}
 use Rattle.ufs_check.proofs.groups.check_groups.Goals as goal
 
@@ -28,9 +28,19 @@ loop-c-preserved g c =
     let read = rw area at c.if-not-read_block.ensures.rule in record {
       keeps = keeps_both g.met.V.View.further c.args.view.now c.loop-c.view c.read_block.new.view so_far c.read_block.ensures.keeps;
       levels = c.read_block.ensures.fragment ∙ c.loop-c.invariant.levels;
-      found = λ told v stands. c.note_group.ensures v (c.block.ensures ∙ (read.rule told v (so_far.stands v stands)).answer)
+      found = λ told v stands. c.in_ok-note_group.ensures v (c.block.ensures ∙ (read.rule told v (so_far.stands v stands)).answer)
           (c.loop-c.invariant.found (c.read_block.ensures.keeps.told told) v stands);
       fetched = only_both g.met.V.View.fetched_both so_far.stands c.read_block.ensures.keeps.told c.loop-c.invariant.fetched
           (only_needs (IsMetadataBy c.args.g.now) (group_need c.args.g.now c.loop-c.c _ _ c.loop-c-test.true (c.requires.geometry.fsize ∙ sym so_far.bytes) c.group_block.ensures.value)
           c.if-not-read_block.ensures.fetched);
     }
+
+pub returns-in_err-note_group-clause-fetched : goal.returns-in_err-note_group-clause-fetched
+returns-in_err-note_group-clause-fetched g c =
+    let so_far = c.loop-c.invariant.keeps in
+    only_both g.met.V.View.fetched_both so_far.stands c.read_block.ensures.keeps.told c.loop-c.invariant.fetched
+    (only_needs (IsMetadataBy c.args.g.now) (group_need c.args.g.now c.loop-c.c _ _ c.loop-c-test.true (c.requires.geometry.fsize ∙ sym so_far.bytes) c.group_block.ensures.value)
+    c.if-not-read_block.ensures.fetched)
+
+pub returns-clause-found : goal.returns-clause-found
+returns-clause-found g c = λ told v stands. groups_all c.args.g.now v c.loop-c.c c.loop-c.faults c.loop-c-test.false (c.loop-c.invariant.found told v stands)

@@ -4,7 +4,7 @@ use Rattle.ufs_model.specs.Blocks.{Volume, block_at}
 use Rattle.ufs_model.specs.GroupMaps.{group_bytes}
 use Rattle.ufs_model.specs.Inodes.{inode_block}
 use Rattle.ufs_model.specs.Metadata.IsMetadataBy.{of_inode}
-use Rattle.ufs_check.proofs.InodeLaws.{inode_there, marked_there}
+use Rattle.ufs_check.proofs.InodeLaws.{inode_there, inodes_all, marked_there}
 use Rattle.ufs_check.proofs.PassLaws.{lost_later, only_both}
 use Rattle.ufs_check.proofs.inodes.check_inodes.Goals as goal
 
@@ -44,7 +44,7 @@ loop-i-preserved g c =
       room_inodes = rw c.hold_inodes.ensures.held c.hold_inodes.ensures.room;
       holds_group = λ told v stands. rw c.hold_group.ensures.held (holds_group told v stands);
       holds_inodes = λ told v stands. rw (c.hold_inodes.ensures.held, c.place_of-block.ensures.block) (holds_inodes told v stands);
-      found = λ told v stands. c.note_inode.ensures v
+      found = λ told v stands. c.in_ok-note_inode.ensures v
           (inode_there c.args.g.now v c.loop-i.i _ _ c.loop-i.auto.i c.loop-i-test.true c.place_of-block.ensures.byte (c.aside.ensures ∙ holds_inodes told v stands) ∙ sym c.inode_at-inode.ensures)
           (marked_there c.args.g.now v c.loop-i.i _ (c.block.ensures ∙ holds_group told v stands) ∙ sym c.is_marked_unused-unused.ensures)
           (invariant.found (two.told told) v stands);
@@ -62,3 +62,28 @@ returns-then-not-hold_inodes-clause-gone g c =
     let so_far = c.loop-i.invariant.keeps in
     let first = c.hold_group.ensures.keeps in
     lost_later (first.blocks ∙ so_far.blocks) (λ v stands. first.stands v (so_far.stands v stands)) (c.hold_inodes.ensures.gone c.if-not-hold_inodes.true)
+
+pub returns-in_err-note_inode-clause-fetched : goal.returns-in_err-note_inode-clause-fetched
+returns-in_err-note_inode-clause-fetched g c =
+    let so_far = c.loop-i.invariant.keeps in
+    let first = c.hold_group.ensures.keeps in
+    let second = c.hold_inodes.ensures.keeps in
+    only_both g.met.V.View.fetched_both so_far.stands (λ told. first.told (second.told told)) c.loop-i.invariant.fetched
+    (only_both g.met.V.View.fetched_both first.stands second.told c.hold_group.ensures.fetched c.hold_inodes.ensures.fetched)
+
+pub returns-clause-found : goal.returns-clause-found
+returns-clause-found g c = λ told v stands. inodes_all c.args.g.now v c.loop-i.i c.loop-i.faults c.loop-i-test.false (c.loop-i.invariant.found told v stands)
+
+pub returns-then-not-hold_group-clause-keeps : goal.returns-then-not-hold_group-clause-keeps
+returns-then-not-hold_group-clause-keeps g c =
+    keeps_both g.met.V.View.further c.args.view.now c.loop-i.view c.hold_group.new.view c.loop-i.invariant.keeps c.hold_group.ensures.keeps
+
+pub returns-then-not-hold_inodes-clause-keeps : goal.returns-then-not-hold_inodes-clause-keeps
+returns-then-not-hold_inodes-clause-keeps g c =
+    keeps_both g.met.V.View.further c.args.view.now c.hold_group.new.view c.hold_inodes.new.view
+    (keeps_both g.met.V.View.further c.args.view.now c.loop-i.view c.hold_group.new.view c.loop-i.invariant.keeps c.hold_group.ensures.keeps) c.hold_inodes.ensures.keeps
+
+pub returns-in_err-note_inode-clause-keeps : goal.returns-in_err-note_inode-clause-keeps
+returns-in_err-note_inode-clause-keeps g c =
+    keeps_both g.met.V.View.further c.args.view.now c.hold_group.new.view c.hold_inodes.new.view
+    (keeps_both g.met.V.View.further c.args.view.now c.loop-i.view c.hold_group.new.view c.loop-i.invariant.keeps c.hold_group.ensures.keeps) c.hold_inodes.ensures.keeps

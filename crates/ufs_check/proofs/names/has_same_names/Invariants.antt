@@ -4,12 +4,11 @@ use Rattle.std.specs.BTreeSet.{contains}
 use Rattle.std.specs.Cmp.Lexicographic.{slice_cmp}
 use Rattle.std.specs.Ordering.{nat_cmp}
 use denote.Ref.{Bor}
-use Rattle.ufs_check.specs.OwnedEntries.{owned_all}
 use Rattle.ufs_check.proofs.NameLaws.{AreDistinct, IsMet}
 use Rattle.ufs_check.proofs.names.has_same_names.Given as goal
 
 abbrev pub invariant-loop-entry : goal.invariant-loop-entry
 invariant-loop-entry l = record {
-  met : (q : Bor (List ℕ)) → Decides (contains (λ (x y : Bor (List ℕ)). slice_cmp nat_cmp x.now y.now) l.names q) (IsMet (owned_all l.entries) l.entry-index q.now);
-  distinct : AreDistinct (owned_all l.entries) l.entry-index;
+  met : (q : Bor (List ℕ)) → Decides (contains (λ (x y : Bor (List ℕ)). slice_cmp nat_cmp x.now y.now) l.names q) (IsMet l.entries l.entry-index q.now);
+  distinct : AreDistinct l.entries l.entry-index;
 }

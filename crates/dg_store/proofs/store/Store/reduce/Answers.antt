@@ -15,5 +15,5 @@ pub returns : goal.returns
 returns g c =
     let kept = rw c.shape.ensures.shape at c.keep_live.ensures in
     let dropped = rw c.lost-lost.ensures at c.drop_lost.ensures in
-    reduced_is g.R.Rack g.met.R.Rack.told g.R.Reduces.boundaries c.args.self.now _ c.requires.sound c.requires.boundaries c.requires.map c.requires.table refl refl
-    kept.count kept.stands kept.members dropped.leaves dropped.boundaries
+    reduced_is g.R.Rack g.met.R.Rack.told g.R.Reduces.boundaries g.R.Reduces.dropped c.args.self.now _ c.requires.sound c.requires.boundaries c.requires.map c.requires.table refl refl
+    kept.count kept.stands kept.members dropped.leaves dropped.dropped dropped.boundaries

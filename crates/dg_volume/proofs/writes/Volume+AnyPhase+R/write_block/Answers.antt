@@ -1,4 +1,5 @@
-use Rattle.std.proofs.Common.{◌≡◌, ◌∙◌, ◌<◌, false, refl, sym, ap, arith}
+use Rattle.std.proofs.Common.{◌≡◌, ◌∙◌, ◌<◌, false, inr, refl, sym, ap, arith}
+use Rattle.std.specs.Prelude.{slice_set}
 use Rattle.dg_model.specs.Marks.{with_mark}
 use Rattle.dg_model.specs.States.{has_lost}
 use Rattle.dg_model.specs.declared.shapes.Shape.{Shape}
@@ -135,3 +136,8 @@ returns-then-is_degraded-clause-steps g c =
     let a = c.args.self.now in
     let n : c.shape.result.now.n ≡ (shape_of a).n = ap (λ (x : Shape). x.n) c.shape.ensures in
     lost_before any_phase g.R.Rack a c.args.block c.args.buf.now c.requires.well (omega arith) (sym c.is_degraded.ensures ∙ c.if-is_degraded.true)
+
+pub returns-in_default-followed-clause-err : goal.returns-in_default-followed-clause-err
+returns-in_default-followed-clause-err g c = λ told V stands.
+    let stored = c.in-Ok.ensures.stored c.in_default-written.is in
+    inr (c.in_default-followed.ensures.stands (slice_set V c.args.block c.args.buf.now) (stored.sets V stands))

@@ -1,0 +1,28 @@
+use Rattle.std.proofs.Common.{arith}
+use Rattle.dg_parity.proofs.GroupLemmas.{leaves-then}
+use Rattle.dg_parity.proofs.CallLemmas.{told-back, holds-then, even-later}
+use Rattle.dg_parity.proofs.parts.read_part.Goals as goal
+
+pub returns-then-not-make_part-clause-leaves : goal.returns-then-not-make_part-clause-leaves
+returns-then-not-make_part-clause-leaves g c = leaves-then g.R.Rack _ _ _ _ _ _ c.read_disk.ensures.leaves c.make_part-2.ensures.leaves
+
+pub returns-then-not-make_part-clause-holds : goal.returns-then-not-make_part-clause-holds
+returns-then-not-make_part-clause-holds g c = holds-then g.R.Rack _ _ _ _ _ _ c.make_part-2.ensures.leaves c.read_disk.ensures.holds c.make_part-2.ensures.holds
+
+pub returns-clause-leaves : goal.returns-clause-leaves
+returns-clause-leaves g c = leaves-then g.R.Rack _ _ _ _ _ _ c.read_disk.ensures.leaves c.make_part-2.ensures.leaves
+
+pub returns-clause-holds : goal.returns-clause-holds
+returns-clause-holds g c = holds-then g.R.Rack _ _ _ _ _ _ c.make_part-2.ensures.leaves c.read_disk.ensures.holds c.make_part-2.ensures.holds
+
+pub returns-clause-got : goal.returns-clause-got
+returns-clause-got g c has all held even k lt =
+    c.if-not-make_part.ensures.got has all
+    (c.read_disk.ensures.holds has (told-back g.R.Rack _ _ _ _ c.make_part-2.ensures.leaves all) held)
+    (even-later _ _ has c.read_disk.ensures.leaves.later even) k lt
+
+pub returns-then-not-make_part-clause-calls : goal.returns-then-not-make_part-clause-calls
+returns-then-not-make_part-clause-calls g c = omega (arith, c.read_disk.ensures.calls, c.make_part-2.ensures.calls, c.read_disk.ensures.leaves.later.disks)
+
+pub returns-clause-calls : goal.returns-clause-calls
+returns-clause-calls g c = omega (arith, c.read_disk.ensures.calls, c.make_part-2.ensures.calls, c.read_disk.ensures.leaves.later.disks)

@@ -1,0 +1,32 @@
+use Rattle.std.proofs.Common.{ℕ, List, refl, arith, sym, ◌∙◌}
+use Rattle.dg_io.specs.Told.{Reads, IsSame}
+use Rattle.std.proofs.lemmas.Bool.{false≢true}
+use Rattle.dg_parity.proofs.MemberSteps.{stands-length, not-true}
+use Rattle.dg_parity.proofs.KeptSteps.{kept-along, told-along, reads-from}
+use Rattle.dg_parity.proofs.told.read_told.Goals as goal
+
+pub returns-clause-kept : goal.returns-clause-kept
+returns-clause-kept g c =
+    kept-along g.R.Rack c.args.group.now c.read_noted.new.group c.args.rack.now c.read_noted.new.rack c.requires.alive c.requires.kept c.read_noted.ensures.leaves
+    (λ (l : List ℕ). l) (λ in0 bytes all h. c.read_noted.ensures.stands bytes all h)
+
+pub returns-clause-same : goal.returns-clause-same
+returns-clause-same g c =
+    told-along g.R.Rack c.args.group.now c.read_noted.new.group c.args.rack.now c.read_noted.new.rack IsSame c.args.group.now.least c.requires.alive
+    (not-true _ c.if-not-read_noted.ensures.alive) c.requires.kept c.read_noted.ensures.leaves c.read_noted.ensures.leaves.later.told
+    (λ (l : List ℕ). l) (λ bytes all h. c.read_noted.ensures.stands bytes all h) (λ bytes all h. refl)
+
+pub returns-clause-ok : goal.returns-clause-ok
+returns-clause-ok g c =
+    told-along g.R.Rack c.args.group.now c.read_noted.new.group c.args.rack.now c.read_noted.new.rack (Reads c.args.place c.read_noted.new.buf) c.args.group.now.least c.requires.alive
+    (not-true _ c.if-not-read_noted.ensures.alive) c.requires.kept c.read_noted.ensures.leaves c.read_noted.ensures.leaves.later.told
+    (λ (l : List ℕ). l) (λ bytes all h. c.read_noted.ensures.stands bytes all h)
+    (λ bytes all h. reads-from c.args.place c.read_noted.new.buf bytes
+    (omega (arith, stands-length g.R.Rack c.args.group.now c.args.rack.now bytes h, c.if-not-is_inside.ensures.0 refl))
+    (λ k lt. c.if-not-read_noted.ensures.got bytes all h k lt))
+
+pub returns-clause-silent : goal.returns-clause-silent
+returns-clause-silent g c lost = absurd (false≢true (sym (not-true _ c.if-not-read_noted.ensures.alive) ∙ lost))
+
+pub returns-then-not-is_inside-clause-silent : goal.returns-then-not-is_inside-clause-silent
+returns-then-not-is_inside-clause-silent g c lost = absurd (false≢true (sym c.requires.alive ∙ lost))

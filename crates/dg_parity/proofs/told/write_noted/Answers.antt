@@ -1,0 +1,54 @@
+use Rattle.std.proofs.Common.{◌+◌, ◌≤◌, ℕ, length, sym, subst, ◌∙◌, arith}
+use Rattle.dg_parity.specs.Stripes.{chunks_in}
+use Rattle.dg_parity.proofs.CountLemmas.{calls-written, calls-first}
+use Rattle.dg_io.specs.Told.{patch}
+use Rattle.dg_parity.proofs.GroupLemmas.{leaves-then}
+use Rattle.dg_parity.proofs.CallLemmas.{told-back}
+use Rattle.dg_parity.proofs.MemberSteps.{stands-noted}
+use Rattle.dg_parity.proofs.told.write_noted.Goals as goal
+
+pub write_member-requires : goal.write_member-requires
+write_member-requires g c = record {
+  ready = c.note.ensures.leaves.ready;
+  alive = sym c.is_lost.ensures ∙ c.if-is_lost.false;
+  noted = c.note.ensures.noted (sym c.is_lost.ensures ∙ c.if-is_lost.false);
+  range = subst (λ (n : ℕ). c.args.place + length c.args.piece.now ≤ n) (sym c.note.ensures.leaves.later.size) c.requires.range;
+}
+
+pub returns-then-not-write_member-clause-leaves : goal.returns-then-not-write_member-clause-leaves
+returns-then-not-write_member-clause-leaves g c = leaves-then g.R.Rack _ _ _ _ _ _ c.note.ensures.leaves c.write_member.ensures.leaves
+
+pub returns-then-is_lost-2-clause-leaves : goal.returns-then-is_lost-2-clause-leaves
+returns-then-is_lost-2-clause-leaves g c =
+    leaves-then g.R.Rack _ _ _ _ _ _ (leaves-then g.R.Rack _ _ _ _ _ _ c.note.ensures.leaves c.write_member.ensures.leaves) c.note-2.ensures.leaves
+
+pub returns-clause-leaves : goal.returns-clause-leaves
+returns-clause-leaves g c =
+    leaves-then g.R.Rack _ _ _ _ _ _ (leaves-then g.R.Rack _ _ _ _ _ _ c.note.ensures.leaves c.write_member.ensures.leaves) c.note-2.ensures.leaves
+
+pub returns-clause-put : goal.returns-clause-put
+returns-clause-put g c bytes all h =
+    let mid = told-back g.R.Rack _ _ _ _ c.note-2.ensures.leaves all in
+    let first = told-back g.R.Rack _ _ _ _ c.write_member.ensures.leaves mid in
+    stands-noted g.R.Rack c.write_member.new.group c.note-2.new.group c.write_member.new.rack c.note-2.new.rack c.note-2.ensures.leaves c.note-2.ensures.holds
+    (patch bytes c.args.place c.args.piece.now) all
+    (c.if-not-write_member.ensures.put bytes mid
+    (stands-noted g.R.Rack c.args.group.now c.note.new.group c.args.rack.now c.note.new.rack c.note.ensures.leaves c.note.ensures.holds bytes first h))
+
+pub returns-then-is_lost-clause-calls : goal.returns-then-is_lost-clause-calls
+returns-then-is_lost-clause-calls g c = calls-first _ _ _ _ c.note.ensures.calls
+
+pub returns-then-not-write_member-clause-calls : goal.returns-then-not-write_member-clause-calls
+returns-then-not-write_member-clause-calls g c =
+    calls-written _ _ _ _ _ _ _ (chunks_in c.args.place (length c.args.piece.now)) c.note.ensures.leaves.later.disks c.note.ensures.leaves.later.disks
+    c.note.ensures.calls c.write_member.ensures.calls (omega arith)
+
+pub returns-then-is_lost-2-clause-calls : goal.returns-then-is_lost-2-clause-calls
+returns-then-is_lost-2-clause-calls g c =
+    calls-written _ _ _ _ _ _ _ (chunks_in c.args.place (length c.args.piece.now)) c.note.ensures.leaves.later.disks
+    (c.write_member.ensures.leaves.later.disks ∙ c.note.ensures.leaves.later.disks) c.note.ensures.calls c.write_member.ensures.calls c.note-2.ensures.calls
+
+pub returns-clause-calls : goal.returns-clause-calls
+returns-clause-calls g c =
+    calls-written _ _ _ _ _ _ _ (chunks_in c.args.place (length c.args.piece.now)) c.note.ensures.leaves.later.disks
+    (c.write_member.ensures.leaves.later.disks ∙ c.note.ensures.leaves.later.disks) c.note.ensures.calls c.write_member.ensures.calls c.note-2.ensures.calls

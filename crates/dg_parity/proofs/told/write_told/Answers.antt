@@ -1,0 +1,23 @@
+use Rattle.std.proofs.Common.{ℕ, List, refl, sym, ◌∙◌}
+use Rattle.dg_io.specs.Told.{Patched, patch}
+use Rattle.std.proofs.lemmas.Bool.{false≢true}
+use Rattle.dg_parity.proofs.MemberSteps.{not-true}
+use Rattle.dg_parity.proofs.KeptSteps.{kept-along, told-along}
+use Rattle.dg_parity.proofs.told.write_told.Goals as goal
+
+pub returns-clause-kept : goal.returns-clause-kept
+returns-clause-kept g c =
+    kept-along g.R.Rack c.args.group.now c.write_noted.new.group c.args.rack.now c.write_noted.new.rack c.requires.alive c.requires.kept c.write_noted.ensures.leaves
+    (λ (l : List ℕ). patch l c.args.place c.args.piece.now) (λ in0 bytes all h. c.if-not-write_noted.ensures.put bytes all h)
+
+pub returns-clause-ok : goal.returns-clause-ok
+returns-clause-ok g c =
+    told-along g.R.Rack c.args.group.now c.write_noted.new.group c.args.rack.now c.write_noted.new.rack (Patched c.args.place c.args.piece.now) c.args.group.now.least c.requires.alive
+    (not-true _ c.if-not-write_noted.ensures.alive) c.requires.kept c.write_noted.ensures.leaves c.write_noted.ensures.leaves.later.told
+    (λ (l : List ℕ). patch l c.args.place c.args.piece.now) (λ bytes all h. c.if-not-write_noted.ensures.put bytes all h) (λ bytes all h. refl)
+
+pub returns-clause-silent : goal.returns-clause-silent
+returns-clause-silent g c lost = absurd (false≢true (sym (not-true _ c.if-not-write_noted.ensures.alive) ∙ lost))
+
+pub returns-then-not-is_inside-clause-silent : goal.returns-then-not-is_inside-clause-silent
+returns-then-not-is_inside-clause-silent g c lost = absurd (false≢true (sym c.requires.alive ∙ lost))

@@ -1,0 +1,36 @@
+-- What a group tells of its member, and what is kept so that it does. The rules are this project's own.
+use Rattle.std.specs.Prelude.{◌≡◌, ◌+◌, ◌*◌, ◌&&◌, ℕ, zero, suc, List, Bool, true, false, Option, None, Some, is_some, if◌then◌else◌}
+use Rattle.dg_io.specs.declared.outside.Rack.{Ghosts}
+use Rattle.dg_parity.specs.Stripes.{chunks_in, IsEven, member_by, made_up}
+use Rattle.dg_parity.specs.Groups.{disk_number, is_out, is_lost, disk_in, AllTold, IsReady}
+use Rattle.dg_parity.specs.declared.groups.Group.{Group}
+
+-- whether a test holds of each number below n
+abbrev pub all_upto : (ℕ → Bool) → ℕ → Bool
+all_upto p zero = true
+all_upto p (suc n) = all_upto p n && p n
+
+-- whether each disk tells its bytes
+abbrev pub all_told : {S : Type 0} → Ghosts S → Group → S → Bool
+all_told rack group now = all_upto (λ j. is_some (rack.bytes now (disk_number group.number j))) group.disks
+
+-- what the disks have, one that is out by the others
+abbrev pub made_by : {S : Type 0} → Ghosts S → Group → S → ℕ → ℕ → ℕ
+made_by rack group now = made_up group.disks (is_out group) (disk_in rack group now)
+
+-- the bytes of its member, where it tells them
+abbrev pub bytes_in : {S : Type 0} → Ghosts S → Group → S → Option (List ℕ)
+bytes_in rack group now = if group.told && all_told rack group now then Some (member_by group.disks group.length (made_by rack group now)) else None
+
+-- what is kept of a group
+pub record IsKept {S : Type 0} (rack : Ghosts S) (group : Group) (now : S) : Type 0 where
+  pub ready : is_lost group ≡ false → IsReady rack group now
+  pub even : is_lost group ≡ false → AllTold rack group now → IsEven group.disks group.length (made_by rack group now)
+
+-- how many calls a read of so many bytes from a place on takes at most: for each chunk those of all disks and one, and two rounds of headers
+abbrev pub calls_to_read : ℕ → ℕ → ℕ → ℕ
+calls_to_read n place count = (n + 1) * chunks_in place count + 2 * n
+
+-- and a write: for each chunk those of all disks and four, and twice two rounds of headers
+abbrev pub calls_to_write : ℕ → ℕ → ℕ → ℕ
+calls_to_write n place count = (n + 4) * chunks_in place count + 4 * n

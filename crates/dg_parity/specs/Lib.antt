@@ -1,0 +1,7 @@
+pub mod Blanks
+pub mod Exclusive
+pub mod Groups
+pub mod Headers
+pub mod Kept
+pub mod Mends
+pub mod Stripes

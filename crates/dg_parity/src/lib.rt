@@ -1,0 +1,24 @@
+//! Groups of disks with one parity chunk a stripe, over any rack. A group stands for the bytes of one member, also while one of its disks is out;
+//! a disk goes out where a call on it fails. With two disks out it is lost, and tells nothing.
+#![tactic(auto)]
+
+mod blanks;
+mod disks;
+mod drops;
+mod groups;
+mod headers;
+mod members;
+mod mends;
+mod parts;
+mod returns;
+mod stripes;
+mod told;
+mod xors;
+
+pub use blanks::blank;
+pub use drops::drop_disk;
+pub use groups::Group;
+pub use headers::{Header, fill_header, is_counted, read_header};
+pub use returns::mend;
+pub use stripes::{Spot, disk_length, locate};
+pub use told::{read, write};

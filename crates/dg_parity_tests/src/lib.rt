@@ -1,0 +1,5 @@
+//! Tests of groups of disks with parity. They stand apart from the crate, so that both are proved side by side, and it only once.
+#![tactic(auto)]
+
+#[cfg(test)]
+mod tests;

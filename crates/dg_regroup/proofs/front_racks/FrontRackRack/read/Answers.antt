@@ -1,0 +1,15 @@
+use Rattle.std.proofs.Common.{◌≡◌, ℕ, length, rules, sym, subst}
+use Rattle.dg_io.specs.Told.{Reads}
+use Rattle.dg_regroup.specs.FrontRacks.{front_of, is_front}
+use Rattle.dg_regroup.proofs.FrontBytes.{Covers, ok_more, reads_shown, told_shown}
+use Rattle.dg_regroup.proofs.front_racks.FrontRackRack.read.Goals as goal
+
+pub returns-clause-ok : goal.returns-clause-ok
+returns-clause-ok g c =
+    let it = c.args.self.now in
+    let size : length c.read.new.buf ≡ length c.args.buf.now = search rules in
+    ok_more _ _ c.read.result
+    (told_shown (is_front it c.args.member) it.length (Covers c.args.place (length c.args.buf.now)) (Reads c.args.place c.read.new.buf)
+    (λ b a covers. reads_shown it.length c.args.place c.read.new.buf b a (subst (λ (n : ℕ). Covers c.args.place n (front_of it.length b)) (sym size) covers))
+    (g.R.Rack.bytes it.rack c.args.member) (g.R.Rack.bytes c.read.new.self c.args.member) c.requires.range)
+    c.read.ensures.ok

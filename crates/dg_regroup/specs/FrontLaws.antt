@@ -1,0 +1,103 @@
+-- Calls of a rack of which some members show their first bytes alone leave what each of them leaves.
+use Rattle.std.proofs.Common.{◌≡◌, ◌∙◌, ℕ, Bool, true, false, List, [], ◌++◌, Option, None, Some, IsSome, refl, sym, ap, subst, arith}
+use Rattle.dg_io.specs.Kept.{KeepsOn}
+use Rattle.dg_io.specs.MadeLaws.{each_back, each_front}
+use Rattle.dg_io.specs.RackCalls.{RackCall}
+use Rattle.dg_io.specs.RackWords.{After}
+use Rattle.dg_io.specs.Told.{IsSame, Told}
+use Rattle.dg_io.specs.declared.outside.Rack.{Ghosts}
+use Rattle.dg_regroup.specs.FrontGhosts.{front}
+use Rattle.dg_regroup.specs.FrontMade.{FrontMade}
+use Rattle.dg_regroup.specs.FrontRacks.{front_keeps, front_of, is_front, shown}
+use Rattle.dg_regroup.specs.declared.front_racks.FrontRack.{FrontRack}
+
+-- ---- what a member shows
+
+pub same_shown : (cut : Bool) (n : ℕ) (old new : Option (List ℕ)) → Told IsSame old new → Told IsSame (shown cut n old) (shown cut n new)
+same_shown true n old None told = tt
+same_shown true n None (Some b) told = absurd told
+same_shown true n (Some a) (Some b) told = ap (front_of n) told
+same_shown false n old new told = told
+
+pub is_shown : (cut : Bool) (n : ℕ) (bytes : Option (List ℕ)) → IsSome bytes → IsSome (shown cut n bytes)
+is_shown true n None some = some
+is_shown true n (Some all) some = refl
+is_shown false n bytes some = some
+
+pub was_shown : (cut : Bool) (n : ℕ) (bytes : Option (List ℕ)) → IsSome (shown cut n bytes) → IsSome bytes
+was_shown true n None some = some
+was_shown true n (Some all) some = refl
+was_shown false n bytes some = some
+
+pub front_tells_told : {R : Type 0} (bytes : R → ℕ → Option (List ℕ)) (tells : R → ℕ → Type 0) → ((s : R) (q : ℕ) → IsSome (bytes s q) → tells s q)
+    → (s : FrontRack R) (q : ℕ) → IsSome (shown (is_front s q) s.length (bytes s.rack q)) → tells s.rack q
+front_tells_told bytes tells law s q told = law s.rack q (was_shown (is_front s q) s.length (bytes s.rack q) told)
+
+pub front_told : {R : Type 0} (bytes : R → ℕ → Option (List ℕ)) (stands : R → ℕ → Bool) (tells : R → ℕ → Type 0)
+    → ((s : R) (q : ℕ) → tells s q → stands s q ≡ true → IsSome (bytes s q)) → (s : FrontRack R) (q : ℕ) → tells s.rack q → stands s.rack q ≡ true
+    → IsSome (shown (is_front s q) s.length (bytes s.rack q))
+front_told bytes stands tells law s q told stand = is_shown (is_front s q) s.length (bytes s.rack q) (law s.rack q told stand)
+
+module _ {R : Type 0} (rack : Ghosts R) where
+  pub front_none : ((s : R) → rack.made s [] s) → (s : FrontRack R) → FrontMade rack s [] s
+  front_none none s = record {
+    length = refl;
+    below = none s.rack;
+    same_front = λ q each. refl;
+    same_fronts = λ each q. refl;
+    rise = λ q. omega arith;
+    others = λ q each. refl;
+    writes = omega arith;
+  }
+
+  pub front_both : ((a b c : R) (x y : List RackCall) → rack.made a x b → rack.made b y c → rack.made a (x ++ y) c)
+      → (a b c : FrontRack R) (x y : List RackCall) → FrontMade rack a x b → FrontMade rack b y c → FrontMade rack a (x ++ y) c
+  front_both both a b c x y first second = record {
+    length = second.length ∙ first.length;
+    below = both a.rack b.rack c.rack x y first.below second.below;
+    same_front = λ q each. second.same_front q (each_back _ x y each) ∙ first.same_front q (each_front _ x y each);
+    same_fronts = λ each q. second.same_fronts (each_back _ x y each) q ∙ first.same_fronts (each_front _ x y each) q;
+    rise = λ q. omega (arith, first.rise q, second.rise q);
+    others = λ q each. second.others q (each_back _ x y each) ∙ first.others q (each_front _ x y each);
+    writes = omega (arith, first.writes, second.writes);
+  }
+
+  -- what is kept below stays, and so does what members show of it
+  pub keeps_shown : (a b : FrontRack R) → b.length ≡ a.length → ((q : ℕ) → is_front b q ≡ is_front a q) → KeepsOn rack.keeps a.rack b.rack → KeepsOn (front_keeps rack) a b
+  keeps_shown a b long same on None keeps = (keeps.0, on keeps.0 keeps.1)
+  keeps_shown a b long same on (Some kept) keeps = (
+    keeps.0,
+    on (Some keeps.0) keeps.1,
+    record {
+      entries = λ q. keeps.2.entries q
+          ∙ ap (λ (n : ℕ). shown (is_front a q) n (keeps.0.entries q)) (sym long) ∙ ap (λ (cut : Bool). shown cut b.length (keeps.0.entries q)) (sym (same q));
+      extra = keeps.2.extra;
+    },
+  )
+
+  pub shows_same : (a b : FrontRack R) (q : ℕ) → b.length ≡ a.length → is_front b q ≡ is_front a q → Told IsSame (rack.bytes a.rack q) (rack.bytes b.rack q)
+      → Told IsSame ((front rack).bytes a q) ((front rack).bytes b q)
+  shows_same a b q long same told =
+      subst (λ (n : ℕ). Told IsSame (shown (is_front a q) a.length (rack.bytes a.rack q)) (shown (is_front b q) n (rack.bytes b.rack q))) (sym long)
+      (subst (λ (cut : Bool). Told IsSame (shown (is_front a q) a.length (rack.bytes a.rack q)) (shown cut a.length (rack.bytes b.rack q))) (sym same)
+      (same_shown (is_front a q) a.length (rack.bytes a.rack q) (rack.bytes b.rack q) told))
+
+  pub front_after : ((s t : R) (made : List RackCall) → rack.made s made t → After rack made s t)
+      → (a b : FrontRack R) (made : List RackCall) → FrontMade rack a made b → After (front rack) made a b
+  front_after law a b made done =
+      let under = law a.rack b.rack made done.below in record {
+        same_rack = under.same_rack;
+        steady_on = under.steady_on;
+        rise = record {
+          faults = λ q. (let up = under.rise.faults q in let own = done.rise q in omega (arith, up, own));
+          calls = under.rise.calls;
+          writes = let up = under.rise.writes in omega (arith, up, done.writes);
+        };
+        most = under.most;
+        other_bytes = λ q each. shows_same a b q done.length (done.same_front q each) (under.other_bytes q each);
+        other_faults = λ q each. (let up = under.other_faults q each in let own = done.others q each in omega (arith, up, own));
+        others_stand = under.others_stand;
+        told_before = under.told_before;
+        keeps_on = λ each. keeps_shown a b done.length (done.same_fronts each) (under.keeps_on each);
+        disks_after = under.disks_after;
+      }

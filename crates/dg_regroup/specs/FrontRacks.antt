@@ -1,0 +1,84 @@
+-- A rack of members of which some show their first bytes alone. The rules are this project's own.
+use Rattle.std.specs.Prelude.{◌≡◌, ◌+◌, nat_le, ℕ, Bool, true, false, List, [], Option, Some, None, if◌then◌else◌, length, slice_index, slice_index_or, take}
+use Rattle.dg_io.specs.Kept.{Kept}
+use Rattle.dg_io.specs.declared.outside.Rack.{Ghosts}
+use Rattle.dg_model.specs.States.{Counts}
+use Rattle.dg_regroup.specs.declared.front_racks.FrontRack.{FrontRack}
+
+-- the first n of the bytes, or none where there are fewer
+abbrev pub front_of : ℕ → List ℕ → List ℕ
+front_of n all = if nat_le n (length all) then take n all else []
+
+-- the bytes that a member shows: its first n alone, or all
+abbrev pub shown : Bool → ℕ → Option (List ℕ) → Option (List ℕ)
+shown true n None = None
+shown true n (Some all) = Some (front_of n all)
+shown false n bytes = bytes
+
+-- the length that is found of it
+abbrev pub seen : Bool → ℕ → Option ℕ → Option ℕ
+seen true n None = None
+seen true n (Some size) = if nat_le n size then Some n else None
+seen false n size = size
+
+-- member q shows its first bytes alone
+abbrev pub is_front : {R : Type 0} → FrontRack R → ℕ → Bool
+is_front it q = slice_index_or it.fronts q false
+
+-- how many these are
+abbrev pub front_length : {R : Type 0} → FrontRack R → ℕ
+front_length it = it.length
+
+-- the rack below
+abbrev pub rack_behind : {R : Type 0} → FrontRack R → R
+rack_behind it = it.rack
+
+-- no call was refused
+pub record HasNoneRefused {R : Type 0} (it : FrontRack R) : Type 0 where
+  pub faults : (q : ℕ) → slice_index it.refused q ≡ 0
+  pub writes : it.writes ≡ 0
+
+-- ---- what it means as a rack. The first argument is what the rack below means.
+
+abbrev pub front_name : {R : Type 0} → Ghosts R → FrontRack R → ℕ
+front_name rack it = rack.name it.rack
+
+abbrev pub front_bytes : {R : Type 0} → Ghosts R → FrontRack R → ℕ → Option (List ℕ)
+front_bytes rack it q = shown (is_front it q) it.length (rack.bytes it.rack q)
+
+-- the counts of the rack below, and the refused calls
+abbrev pub front_counts : {R : Type 0} → Ghosts R → FrontRack R → Counts
+front_counts rack it = record {
+  faults = λ q. (rack.counts it.rack).faults q + slice_index it.refused q;
+  calls = (rack.counts it.rack).calls;
+  writes = (rack.counts it.rack).writes + it.writes;
+}
+
+abbrev pub front_stands : {R : Type 0} → Ghosts R → FrontRack R → ℕ → Bool
+front_stands rack it = rack.stands it.rack
+
+abbrev pub front_steady : {R : Type 0} → Ghosts R → FrontRack R → Type 0
+front_steady rack it = rack.steady it.rack
+
+abbrev pub front_tells : {R : Type 0} → Ghosts R → FrontRack R → ℕ → Type 0
+front_tells rack it = rack.tells it.rack
+
+-- the checkpoint of the rack below, as far as members show it
+pub record IsKeptShown {R : Type 0} (it : FrontRack R) (below kept : Kept) : Type 0 where
+  pub entries : (q : ℕ) → kept.entries q ≡ shown (is_front it q) it.length (below.entries q)
+  pub extra : kept.extra ≡ below.extra
+
+abbrev pub front_keeps : {R : Type 0} → Ghosts R → FrontRack R → Option Kept → Type 0
+front_keeps rack it None = (below : Option Kept) × rack.keeps it.rack below
+front_keeps rack it (Some kept) = (below : Kept) × rack.keeps it.rack (Some below) × IsKeptShown it below kept
+
+-- ---- the checkpoint's room, and the groups of disks
+
+abbrev pub front_room : {R : Type 0} → (R → Option ℕ) → FrontRack R → Option ℕ
+front_room room it = room it.rack
+
+abbrev pub front_width : {R : Type 0} → (R → Option ℕ) → FrontRack R → Option ℕ
+front_width width it = width it.rack
+
+abbrev pub front_groups : {R : Type 0} → (R → ℕ) → FrontRack R → ℕ
+front_groups groups it = groups it.rack

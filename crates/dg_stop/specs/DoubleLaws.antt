@@ -1,0 +1,44 @@
+-- Calls of a double rack leave what each of them leaves.
+use Rattle.std.specs.Prelude.{◌≡◌, ◌&&◌, ◌++◌, ℕ, Bool, true, false, List, [], Option, Some, None, IsSome, refl}
+use Rattle.std.proofs.lemmas.Bool.{false≢true}
+use Rattle.dg_io.specs.MadeLaws.{after_both, after_none}
+use Rattle.dg_io.specs.RackCalls.{RackCall}
+use Rattle.dg_io.specs.RackWords.{After}
+use Rattle.dg_io.specs.declared.outside.Rack.{Ghosts}
+use Rattle.dg_stop.specs.Doubles.{Double, DoubleMade, double_bytes, double_counts, double_disks, double_keeps, double_name, double_stands, double_steady, double_tells, double_words, seen_in, stands_in}
+use Rattle.dg_stop.specs.declared.memories.Memory.{Memory}
+
+pub seen_some : (m : Memory) (q : ℕ) (x : Option (List ℕ)) → IsSome (seen_in m q x) → IsSome x
+seen_some m q None is = is
+seen_some m q (Some all) is = refl
+
+pub some_seen : (m : Memory) (q : ℕ) (x : Option (List ℕ)) → IsSome x → IsSome (seen_in m q x)
+some_seen m q None is = is
+some_seen m q (Some all) is = refl
+
+pub both_of : (a b : Bool) → a && b ≡ true → (a ≡ true) × (b ≡ true)
+both_of true b is = (refl, is)
+both_of false b is = absurd (false≢true is)
+
+pub double_tells_told : {R : Type 0} (bytes : R → ℕ → Option (List ℕ)) (tells : R → ℕ → Type 0) → ((s : R) (q : ℕ) → IsSome (bytes s q) → tells s q)
+    → (s : Double R) (q : ℕ) → IsSome (seen_in s.memory q (bytes s.rack q)) → tells s.rack q
+double_tells_told bytes tells law s q told = law s.rack q (seen_some s.memory q (bytes s.rack q) told)
+
+pub double_told : {R : Type 0} (bytes : R → ℕ → Option (List ℕ)) (stands : R → ℕ → Bool) (tells : R → ℕ → Type 0) → ((s : R) (q : ℕ) → tells s q → stands s q ≡ true → IsSome (bytes s q))
+    → (s : Double R) (q : ℕ) → tells s.rack q → (stands_in s.memory q && stands s.rack q) ≡ true → IsSome (seen_in s.memory q (bytes s.rack q))
+double_told bytes stands tells law s q told stand = some_seen s.memory q (bytes s.rack q) (law s.rack q told (both_of (stands_in s.memory q) (stands s.rack q) stand).1)
+
+module _ {R : Type 0} (rack : Ghosts R) where
+  pub double_none : (s : Double R) → DoubleMade rack s [] s
+  double_none s = record {
+    after = after_none (double_name rack) (double_bytes rack) (double_counts rack) (double_stands rack) (double_steady rack) (double_tells rack) (double_keeps rack) (double_disks rack) s;
+  }
+
+  pub double_both : (a b c : Double R) (x y : List RackCall) → DoubleMade rack a x b → DoubleMade rack b y c → DoubleMade rack a (x ++ y) c
+  double_both a b c x y first second = record {
+    after = after_both (double_name rack) (double_bytes rack) (double_counts rack) (double_stands rack) (double_steady rack) (double_tells rack) (double_keeps rack) (double_disks rack) a b c x y
+        first.after second.after;
+  }
+
+  pub double_after : (a b : Double R) (calls : List RackCall) → DoubleMade rack a calls b → After (double_words rack) calls a b
+  double_after a b calls made = made.after

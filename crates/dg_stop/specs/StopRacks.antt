@@ -1,0 +1,80 @@
+-- What a rack over a rack means that is plain, or keeps two places for each page. A plain one is the rack behind, and keeps no checkpoint.
+use Rattle.std.specs.Prelude.{◌≡◌, ◌&&◌, ℕ, Bool, List, Option}
+use Rattle.dg_io.specs.Disks.{DiskStates}
+use Rattle.dg_io.specs.Kept.{Kept}
+use Rattle.dg_io.specs.RackCalls.{RackCall}
+use Rattle.dg_io.specs.declared.outside.Rack.{Ghosts}
+use Rattle.dg_model.specs.States.{Counts}
+use Rattle.dg_stop.specs.Doubles.{DoubleMade, HasNoCalls, IsBlank, double_counts, double_disks, double_keeps, double_name, double_steady, seen_in, stands_in}
+use Rattle.dg_stop.specs.declared.stop_racks.StopRack.{StopRack}
+use Rattle.dg_stop.specs.declared.stop_racks.StopRack.TheVariants.{Plain, Doubled}
+
+abbrev pub stop_name : {R : Type 0} → Ghosts R → StopRack R → ℕ
+stop_name rack (Plain it) = rack.name it
+stop_name rack (Doubled it) = double_name rack it
+
+-- the bytes, by what the rack behind tells
+abbrev pub bytes_by : {R : Type 0} → (R → ℕ → Option (List ℕ)) → StopRack R → ℕ → Option (List ℕ)
+bytes_by bytes (Plain it) q = bytes it q
+bytes_by bytes (Doubled it) q = seen_in it.memory q (bytes it.rack q)
+
+abbrev pub stands_by : {R : Type 0} → (R → ℕ → Bool) → StopRack R → ℕ → Bool
+stands_by stands (Plain it) q = stands it q
+stands_by stands (Doubled it) q = stands_in it.memory q && stands it.rack q
+
+abbrev pub tells_by : {R : Type 0} → (R → ℕ → Type 0) → StopRack R → ℕ → Type 0
+tells_by tells (Plain it) q = tells it q
+tells_by tells (Doubled it) q = tells it.rack q
+
+abbrev pub stop_bytes : {R : Type 0} → Ghosts R → StopRack R → ℕ → Option (List ℕ)
+stop_bytes rack = bytes_by rack.bytes
+
+abbrev pub stop_counts : {R : Type 0} → Ghosts R → StopRack R → Counts
+stop_counts rack (Plain it) = rack.counts it
+stop_counts rack (Doubled it) = double_counts rack it
+
+abbrev pub stop_stands : {R : Type 0} → Ghosts R → StopRack R → ℕ → Bool
+stop_stands rack = stands_by rack.stands
+
+abbrev pub stop_steady : {R : Type 0} → Ghosts R → StopRack R → Type 0
+stop_steady rack (Plain it) = rack.steady it
+stop_steady rack (Doubled it) = double_steady rack it
+
+abbrev pub stop_tells : {R : Type 0} → Ghosts R → StopRack R → ℕ → Type 0
+stop_tells rack = tells_by rack.tells
+
+abbrev pub stop_keeps : {R : Type 0} → Ghosts R → StopRack R → Option Kept → Type 0
+stop_keeps rack (Plain it) kept = ⊥
+stop_keeps rack (Doubled it) kept = double_keeps rack it kept
+
+abbrev pub stop_disks : {R : Type 0} → Ghosts R → StopRack R → DiskStates
+stop_disks rack (Plain it) = rack.disks it
+stop_disks rack (Doubled it) = double_disks rack it
+
+-- it stays plain or double, and what was made of it was made of that
+abbrev pub made_by : {R : Type 0} → Ghosts R → StopRack R → List RackCall → StopRack R → Type 0
+made_by rack (Plain old) made (Plain new) = rack.made old made new
+made_by rack (Plain old) made (Doubled new) = ⊥
+made_by rack (Doubled old) made (Plain new) = ⊥
+made_by rack (Doubled old) made (Doubled new) = DoubleMade rack old made new
+
+pub record StopMade {R : Type 0} (rack : Ghosts R) (old : StopRack R) (made : List RackCall) (new : StopRack R) : Type 0 where
+  pub by : made_by rack old made new
+
+abbrev pub stop_words : {R : Type 0} → Ghosts R → Ghosts (StopRack R)
+stop_words rack = record {
+  name = stop_name rack;
+  bytes = stop_bytes rack;
+  counts = stop_counts rack;
+  stands = stop_stands rack;
+  steady = stop_steady rack;
+  tells = stop_tells rack;
+  keeps = stop_keeps rack;
+  disks = stop_disks rack;
+  made = StopMade rack;
+}
+
+-- it is double over this rack, and no member was ever there
+abbrev pub IsNew : {R : Type 0} → R → ℕ → ℕ → ℕ → StopRack R → Type 0
+IsNew rack members most room (Plain it) = ⊥
+IsNew rack members most room (Doubled it) = (it.rack ≡ rack) × IsBlank members most room it.memory × HasNoCalls it.tally

@@ -1,0 +1,119 @@
+// A rack over a rack that is plain, or keeps two places for each page.
+use crate::doubles::DoubleRack;
+use dg_io::{Failed, NoMemory, Rack};
+use std::alloc::Global;
+
+/// A rack over a rack.
+#[derive(Drop)]
+pub enum StopRack<R: Rack> {
+    /// Each call is passed on.
+    Plain(R),
+    /// Each page has two places.
+    Doubled(DoubleRack<R>),
+}
+
+impl<R: Rack> StopRack<R> {
+    ghost use Rattle.std.specs.Prelude.{◌≡◌};
+    ghost use Rattle.dg_stop.specs.declared.stop_racks.StopRack.TheVariants.{Plain};
+
+    /// A plain rack over a rack.
+    pub fn plain(rack: R) -> StopRack<R>
+        ensures { result ≡ Plain rack }
+    {
+        StopRack::Plain(rack)
+    }
+}
+
+impl<R: Rack + Drop> StopRack<R> {
+    ghost use Rattle.std.specs.Prelude.{◌≤◌, ◌<◌, ◌^◌, IfOk, Some};
+    ghost use Rattle.dg_stop.specs.Doubles.{nothing_kept};
+    ghost use Rattle.dg_stop.specs.StopRacks.{IsNew, stop_keeps};
+
+    /// A blank double rack of so many members, each with memory for a member of so many bytes, and room for so many extra bytes. It takes its
+    /// memory here.
+    pub fn new(
+        alloc: Global,
+        rack: R,
+        members: u8,
+        length: u64,
+        room: u32,
+    ) -> Result<StopRack<R>, NoMemory>
+        requires small { length < 2 ^ 48 }
+        requires few { members ≤ 32 }
+        ensures new { IfOk result (λ it. IsNew rack members length room it) }
+        ensures keeps { IfOk result (λ it. R.steady rack → stop_keeps R.Rack it (Some nothing_kept)) }
+    {
+        match DoubleRack::new(alloc, rack, members, length, room) {
+            Ok(double) => Ok(StopRack::Doubled(double)),
+            Err(_) => Err(NoMemory),
+        }
+    }
+}
+
+impl<R: Rack> Rack for StopRack<R> {
+    ghost use Rattle.dg_stop.specs.StopRacks.{StopMade, stop_bytes, stop_counts, stop_disks, stop_keeps, stop_name, stop_stands, stop_steady, stop_tells};
+    ghost use Rattle.dg_stop.specs.StopLaws.{stop_after, stop_both, stop_none, stop_tells_told, stop_told};
+
+    ghost name = { stop_name R.Rack };
+
+    ghost bytes = { stop_bytes R.Rack };
+
+    ghost counts = { stop_counts R.Rack };
+
+    ghost stands = { stop_stands R.Rack };
+
+    ghost steady = { stop_steady R.Rack };
+
+    ghost tells = { stop_tells R.Rack };
+
+    ghost keeps = { stop_keeps R.Rack };
+
+    ghost disks = { stop_disks R.Rack };
+
+    ghost made = { StopMade R.Rack };
+
+    fn blank(&mut self, member: u8, length: u64) -> Result<(), Failed> {
+        match self {
+            StopRack::Plain(rack) => rack.blank(member, length),
+            StopRack::Doubled(double) => double.blank(member, length),
+        }
+    }
+
+    fn attach(&mut self, member: u8) -> Result<Option<u64>, Failed> {
+        match self {
+            StopRack::Plain(rack) => rack.attach(member),
+            StopRack::Doubled(double) => double.attach(member),
+        }
+    }
+
+    fn read(&mut self, member: u8, place: u64, buf: &mut [u8]) -> Result<(), Failed> {
+        match self {
+            StopRack::Plain(rack) => rack.read(member, place, buf),
+            StopRack::Doubled(double) => double.read(member, place, buf),
+        }
+    }
+
+    fn write(&mut self, member: u8, place: u64, buf: &[u8]) -> Result<(), Failed> {
+        match self {
+            StopRack::Plain(rack) => rack.write(member, place, buf),
+            StopRack::Doubled(double) => double.write(member, place, buf),
+        }
+    }
+
+    fn extend(&mut self, member: u8, length: u64) -> Result<(), Failed> {
+        match self {
+            StopRack::Plain(rack) => rack.extend(member, length),
+            StopRack::Doubled(double) => double.extend(member, length),
+        }
+    }
+
+    ghost made_none = { λ s. stop_none _ R.made_none s };
+
+    ghost made_both = { λ a b c x y first second. stop_both _ R.made_both a b c x y first second };
+
+    ghost after = { λ a b calls made. stop_after _ R.after a b calls made };
+
+    ghost tells_told = { λ s q h. stop_tells_told R.bytes R.tells R.tells_told s q h };
+
+    ghost told = { λ s q h stand. stop_told R.bytes R.stands R.tells R.told s q h stand };
+}

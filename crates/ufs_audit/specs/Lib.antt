@@ -1,0 +1,4 @@
+pub mod Images
+pub mod Listed
+pub mod Audits
+pub mod Refusals

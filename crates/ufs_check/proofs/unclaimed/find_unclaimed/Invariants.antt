@@ -1,0 +1,22 @@
+use Rattle.std.proofs.Common.{◌≡◌, ◌≤◌, length}
+use Rattle.std.specs.Prelude.{IfSome}
+use Rattle.dg_io.specs.Views.{KeepsView}
+use Rattle.ufs_model.specs.Audits.{IsUnclaimed}
+use Rattle.ufs_model.specs.Blocks.{Volume}
+use Rattle.ufs_model.specs.GroupMaps.{group_bytes}
+use Rattle.ufs_model.specs.Metadata.{IsMetadataBy}
+use Rattle.dg_claims.specs.Kept.{table_of}
+use Rattle.ufs_check.specs.Fragments.{IsClaimedBy}
+use Rattle.ufs_check.specs.Notes.{AreAllBelow}
+use Rattle.ufs_pointer.specs.Fetches.{FetchesOnly}
+use Rattle.ufs_check.proofs.unclaimed.find_unclaimed.Given as goal
+
+abbrev pub invariant-loop-f : goal.invariant-loop-f
+invariant-loop-f g l = record {
+  keeps : KeepsView g.V.View.stands_for g.V.View.tells g.V.View.is_gone g.V.View.count g.V.View.size g.V.View.is_sound g.V.View.goes_on l.fn.view l.view;
+  levels : l.levels.fragment ≡ g.V.View.size l.fn.view;
+  room_group : IfSome l.group (λ c. l.g.bsize ≤ length l.levels.block);
+  holds_group : g.V.View.tells l.view → (v : Volume) → g.V.View.stands_for l.fn.view v → IfSome l.group (λ c. l.levels.block ≡ (group_bytes l.g c v).value);
+  found : g.V.View.tells l.view → (v : Volume) → IsClaimedBy (g.V.View.stands_for l.fn.view) l.g (table_of l.claims) v → AreAllBelow (IsUnclaimed l.g v) l.f l.unclaimed.items;
+  fetched : FetchesOnly g.V.View.fetched (g.V.View.stands_for l.fn.view) (g.V.View.tells l.view) (IsMetadataBy l.g) l.fn.view l.view;
+}

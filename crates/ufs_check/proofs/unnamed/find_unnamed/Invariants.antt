@@ -1,0 +1,17 @@
+use Rattle.std.proofs.Common.{◌≡◌}
+use Rattle.dg_io.specs.Views.{KeepsView}
+use Rattle.ufs_model.specs.Audits.{IsUnnamed}
+use Rattle.ufs_model.specs.Blocks.{Volume}
+use Rattle.ufs_model.specs.Metadata.{IsMetadataBy}
+use Rattle.ufs_check.specs.Links.{AreLinks}
+use Rattle.ufs_check.specs.Notes.{AreAllBelow}
+use Rattle.ufs_pointer.specs.Fetches.{FetchesOnly}
+use Rattle.ufs_check.proofs.unnamed.find_unnamed.Given as goal
+
+abbrev pub invariant-loop-i : goal.invariant-loop-i
+invariant-loop-i g l = record {
+  keeps : KeepsView g.V.View.stands_for g.V.View.tells g.V.View.is_gone g.V.View.count g.V.View.size g.V.View.is_sound g.V.View.goes_on l.fn.view l.view;
+  levels : l.levels.fragment ≡ g.V.View.size l.fn.view;
+  found : g.V.View.tells l.view → (v : Volume) → g.V.View.stands_for l.fn.view v → AreLinks l.g v l.table → AreAllBelow (IsUnnamed l.g v) l.i l.unnamed.items;
+  fetched : FetchesOnly g.V.View.fetched (g.V.View.stands_for l.fn.view) (g.V.View.tells l.view) (IsMetadataBy l.g) l.fn.view l.view;
+}
