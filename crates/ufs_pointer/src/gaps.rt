@@ -27,8 +27,7 @@ fn is_nowhere(address: Address) -> bool
     }
 }
 
-/// As many file blocks as are found through a pointer, where it leads nowhere, and
-/// else one.
+/// As many file blocks as are found through a pointer, where it leads nowhere, and else one.
 fn gap_through(reach: u32, address: Address) -> u32
     requires { 1 ≤ reach }
     ensures value { result ≡ gap_through reach address }
@@ -37,8 +36,8 @@ fn gap_through(reach: u32, address: Address) -> u32
     if is_nowhere(address) { reach } else { 1 }
 }
 
-/// This is the first file block that is found through the double indirect block, where
-/// its slot leads nowhere.
+/// This is the first file block that is found through the double indirect block, where its slot leads
+/// nowhere.
 fn is_long(g: &Geometry, inode: &Inode, i: u32, j: u32) -> bool
     requires { IsGeometry g.now }
     ensures { result ≡ is_long g.now inode.now i j }
@@ -113,5 +112,6 @@ pub fn gap_length<V: View>(
 pub fn gaps_read_the_same()
     ensures same { (g : Geometry) (inode : Inode) (v : Volume) (n m : ℕ) → IsGeometry g → n ≤ m → m < n + (gap_length g inode n v).value
         → (block_of g inode m v).value ≡ (block_of g inode n v).value }
-    ensures needs { (g : Geometry) (inode : Inode) (v : Volume) (n block : ℕ) → IsNeeded (gap_length g inode n) v block → IsNeeded (block_of g inode n) v block }
+    ensures needs { (g : Geometry) (inode : Inode) (v : Volume) (n block : ℕ) → IsNeeded (gap_length g inode n) v block
+        → IsNeeded (block_of g inode n) v block }
 {}
