@@ -69,10 +69,10 @@ one_quiet rack start mid now table m found size within quiet reads here = record
   later = λ q high. reads.other_faults q (λ e. omega (arith, e)) ∙ quiet.later q (omega arith);
 }
 
-pub one_measured : {R : Type 0} (rack : Ghosts R) (start mid now : R) (table : List (Option Label)) (m old new : ℕ) (found : Option Label) → length table ≡ 32 → m < 32
+pub one_measured : {R : Type 0} (rack : Ghosts R) (mid now : R) (table : List (Option Label)) (m old new : ℕ) (found : Option Label) → length table ≡ 32 → m < 32
     → AreMeasured rack mid table old m → ReadsOne rack m mid now → IfSome found (IsMeasured rack now m (has_bit new m))
     → ((q : ℕ) → q ≢ m → has_bit new q ≡ has_bit old q) → AreMeasured rack now (slice_set table m found) new (m + 1)
-one_measured rack start mid now table m old new found size within measured reads here others q low = elim (cases_eq q m) [
+one_measured rack mid now table m old new found size within measured reads here others q low = elim (cases_eq q m) [
   | inl same ↦
       let e : label_at (slice_set table m found) q ≡ found = ap (λ (p : ℕ). label_at (slice_set table m found) p) same ∙ set_here table m found (omega arith) in
       subst (λ (o : Option Label). IfSome o (IsMeasured rack now q (has_bit new q))) (sym e)
