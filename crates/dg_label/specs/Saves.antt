@@ -1,6 +1,6 @@
 -- What a save leaves of the bytes of the members, and how many calls it makes. In which order it writes is this project's own: on each member the
 -- opened label, then the body, then the new label. So a label with the seal of a save is above the body of that save, and above no other.
-use Rattle.std.specs.Prelude.{◌≡◌, ◌⊎◌, ◌+◌, ◌*◌, ℕ, Bool, true, false, not, List, Option, None, Some, drop, if◌then◌else◌, length, slice_range, take}
+use Rattle.std.specs.Prelude.{◌≡◌, ◌⊎◌, ◌+◌, ◌*◌, ℕ, Bool, true, false, not, List, Option, drop, if◌then◌else◌, length, slice_range, take}
 use Rattle.dg_io.specs.DiskAnswers.{count_upto}
 use Rattle.dg_io.specs.declared.outside.Rack.{Ghosts}
 use Rattle.dg_label.specs.Labels.{is_long, is_sealed, next_number}

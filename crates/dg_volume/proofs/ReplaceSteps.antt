@@ -30,8 +30,19 @@ use Rattle.dg_store.specs.Stores as stores
 use Rattle.dg_store.specs.declared.store.Store.{Store}
 use Rattle.dg_volume.proofs.FaultLaws.{array_outs, array_tells, own_then}
 use Rattle.dg_volume.proofs.LineLaws.{lost_in, lost_of, own_member}
-use Rattle.dg_volume.proofs.LabelLaws.{HasNone, good_falls, good_live, length_stays, noted_numbers, out_falls, relabels_noted, relabels_where, same_bytes, same_numbers,
-    torn_none}
+use Rattle.dg_volume.proofs.LabelLaws.{
+  HasNone,
+  good_falls,
+  good_live,
+  length_stays,
+  noted_numbers,
+  out_falls,
+  relabels_noted,
+  relabels_where,
+  same_bytes,
+  same_numbers,
+  torn_none,
+}
 use Rattle.dg_volume.proofs.VolumeLaws.{IsBeside, Keeps, Labels, kept_state, label_by, leaves, on_label, quiet_in, stays, steps_from, still_in}
 use Rattle.dg_volume.proofs.VolumeSteps.{false_of}
 use Rattle.dg_volume.specs.Faults.{OutsStay, TellsFaults, faults_of}

@@ -1,11 +1,9 @@
-use Rattle.std.proofs.Common.{◌≡◌, ◌∙◌, ◌*◌, ℕ, List, ap, arith, subst, sym}
+use Rattle.std.proofs.Common.{◌≡◌, ◌*◌, ℕ, List, ap, arith, subst}
 use Rattle.dg_io.specs.Told.{Extended, KeepsFront}
-use Rattle.dg_label.specs.Labels.{HasLength}
-use Rattle.dg_label.specs.Pages.{LeavesFallen}
 use Rattle.dg_label.specs.Passes.{Passes, Touches}
 use Rattle.dg_label.specs.Saves.{short_members}
 use Rattle.dg_label.proofs.FallenLaws.{fallen_more, fallen_none}
-use Rattle.dg_label.proofs.LabelLaws.{length_on, whole_extended}
+use Rattle.dg_label.proofs.LabelLaws.{whole_extended}
 use Rattle.dg_label.proofs.PassLaws.{passes_more, passes_none}
 use Rattle.dg_label.proofs.SaveLaws.{extended_fronts, short_more, uncalled_more, uncalled_none}
 use Rattle.dg_model.specs.Saves.{member_length}

@@ -4,7 +4,7 @@ use Rattle.std.specs.Prelude.{if◌then◌else◌}
 use Rattle.dg_io.specs.Told.{Extended, KeepsFront}
 use Rattle.dg_label.specs.Labels.{is_long}
 use Rattle.dg_label.proofs.FallenLaws.{fallen_by_extend, fallen_none}
-use Rattle.dg_label.proofs.LabelLaws.{fits_one, touched_long}
+use Rattle.dg_label.proofs.LabelLaws.{touched_long}
 use Rattle.dg_label.proofs.PassLaws.{touched_by_extend}
 use Rattle.dg_label.proofs.SaveLaws.{uncalled_by_extend, uncalled_none}
 use Rattle.dg_model.specs.Saves.{member_length}
