@@ -1,4 +1,3 @@
-use Rattle.std.proofs.Common.{◌≡◌}
 use Rattle.dg_io.specs.Commits.{is_marked}
 use Rattle.dg_open.proofs.FoundLemmas.{is_measured, seen_shape}
 use Rattle.dg_open.proofs.labels.find_member.Goals as goal
