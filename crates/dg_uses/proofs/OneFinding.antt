@@ -71,11 +71,13 @@ module _ (l n : ℕ) (v : Volume) where
   -- one number, and one kind
   pub one_malformation : (kind other : BadKind) (a b : ℕ) → IsFirstMalformation l n v kind a → IsFirstMalformation l n v other b → (kind ≡ other) × (a ≡ b)
   one_malformation kind other a b h g =
-      let same = one_kind kind other a b h.here g.here (one_order kind other a b h g) in
-      (same, elim (cases_order a b) [
-        | inl one ↦ one
-        | inr apart ↦ elim apart [
-          | inl low ↦ absurd (g.least a low (subst (λ (k : BadKind). IsMalformed l n v k a) same h.here))
-          | inr high ↦ absurd (h.least b high (subst (λ (k : BadKind). IsMalformed l n v k b) (sym same) g.here))
-        ]
-      ])
+      let same = one_kind kind other a b h.here g.here (one_order kind other a b h g) in (
+        same,
+        elim (cases_order a b) [
+          | inl one ↦ one
+          | inr apart ↦ elim apart [
+            | inl low ↦ absurd (g.least a low (subst (λ (k : BadKind). IsMalformed l n v k a) same h.here))
+            | inr high ↦ absurd (h.least b high (subst (λ (k : BadKind). IsMalformed l n v k b) (sym same) g.here))
+          ]
+        ],
+      )

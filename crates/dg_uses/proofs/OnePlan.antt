@@ -169,8 +169,7 @@ module _ (c : Seen) (ok : IsPlain c) (l : Option LastLabel) (n : Counts) (x : St
   save_lost : (s : ℕ) → Step AreTold (state_of c l n) Save (Lost s) x → IsLeastAt c ok s × (seen_of x ≡ c) × ((q : ℕ) → is_good (c.members q) ≡ false)
   save_lost s h =
       let members = saves_members c ok l n x none shape h.1.passes.members in
-      let seen : seen_of x ≡ c = ap seen_of h.1.rest ∙ ap (λ (f : ℕ → MemberState). record c { members = f }) members in
-      (
+      let seen : seen_of x ≡ c = ap seen_of h.1.rest ∙ ap (λ (f : ℕ → MemberState). record c { members = f }) members in (
         subst (λ (d : Seen). IsLeastLost d.table.shape d.members (place_in d.live s)) seen h.0,
         seen,
         λ q. subst (λ (f : ℕ → MemberState). is_good (f q) ≡ false) members (h.1.none q),
@@ -234,7 +233,7 @@ module _ (c : Seen) (ok : IsPlain c) (l k : Option LastLabel) (n m : Counts) (x 
   tends_one limit a b i j h g =
       let p = one_plan c l k n m h.wants g.wants h.found g.found h.planned g.planned in
       let seen : seen_of x ≡ seen_of y = tends_seen c ok l n x none shape limit a b h ∙ ap (λ (w : List (Option Want)). moved_by c c.members (Some limit) w h.found) p.0
-          ∙ ap (moved_by c c.members (Some limit) g.wants) p.1 ∙ sym (tends_seen c ok k m y never other limit i j g) in
+      ∙ ap (moved_by c c.members (Some limit) g.wants) p.1 ∙ sym (tends_seen c ok k m y never other limit i j g) in
       let targets : targets_of c.table.shape h.wants h.found ≡ targets_of c.table.shape g.wants g.found = ap (λ (w : List (Option Want)). targets_of c.table.shape w h.found) p.0 ∙ ap (targets_of c.table.shape g.wants) p.1 in
       let met : a ≡ i = h.met ∙ ap (λ (t : ℕ → ℕ → Bool). min limit (missing_in t c.table)) targets ∙ sym g.met in
       let left : b ≡ j = h.left ∙ ap (λ (t : ℕ → ℕ → Bool). missing_in t x.table) targets ∙ ap (λ (s : Seen). missing_in (targets_of c.table.shape g.wants g.found) s.table) seen ∙ sym g.left in

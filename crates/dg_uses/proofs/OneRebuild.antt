@@ -155,13 +155,12 @@ module _ (c : Seen) (ok : IsPlain c) (l k : Option LastLabel) (n m : Counts) (x 
       let low : g.low ≡ h.low = filled_same c ok p h.q g.low h.low (subst (λ (z : ℕ). IsRefilled c.members p z g.low) member g.filling) h.filling in
       let dead : ℕ → Type 0 = IsDead c.table c.blocks c.pending in
       let one = one_refill (Spares c) dead c.table c.blocks p h.low limit h.high g.high x.table y.table x.blocks y.blocks a i b j (rebuilt c ok l n x none p limit a b h)
-          (subst (λ (z : ℕ). Reaped (Spares c) dead c.table c.blocks p z g.high y.table y.blocks) low (rebuilt c ok k m y never p limit i j g))
-          h.refills (subst (λ (z : ℕ). Refills y.table p z g.high limit i j) low g.refills) in
+      (subst (λ (z : ℕ). Reaped (Spares c) dead c.table c.blocks p z g.high y.table y.blocks) low (rebuilt c ok k m y never p limit i j g))
+      h.refills (subst (λ (z : ℕ). Refills y.table p z g.high limit i j) low g.refills) in
       let members : (q : ℕ) → x.members q ≡ y.members q = λ q. elim (cases_eq q h.q) [
         | inl here ↦ ap x.members here ∙ h.member ∙ ap (refilled_to (c.table.shape.k + 1)) one.end ∙ sym g.member ∙ ap y.members (member ∙ sym here)
         | inr apart ↦ others c ok l n x none p limit a b h q apart ∙ sym (others c ok k m y never p limit i j g q (λ (e : q ≡ g.q). apart (e ∙ member)))
-      ] in
-      (
+      ] in (
         ap (λ (z : ℕ). Copied z b) one.copied ∙ ap (Copied i) one.rest,
         rebuilt_seen c ok l n x none p limit a b h
             ∙ ap (λ (t : Table). refilled_by c t x.blocks x.members) one.table ∙ ap (λ (v : List (List ℕ)). refilled_by c y.table v x.members) one.volume

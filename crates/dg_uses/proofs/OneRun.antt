@@ -158,10 +158,10 @@ module _ (law : StepsKeepSteady) (shape : Shape) where
       let like : point.table.shape ≡ old.table.shape = held.table.shape ∙ ap (λ (s : Seen). s.table.shape) (sym same) in
       let one = step_one (seen_of old) (led_plain shape old led) old other mid point refl (sym same) front before number kept.table.shape like event reply answer first h.1 g.1 in
       let next : next_sequence mid.label ≡ next_sequence point.label =
-          step_number AreTold old mid event reply first h.1 ∙ ap (λ (z : Reply). next_after z (next_sequence old.label)) one.0 ∙ ap (next_after answer) number
-          ∙ sym (step_number AreTold other point event answer first g.1) in
+      step_number AreTold old mid event reply first h.1 ∙ ap (λ (z : Reply). next_after z (next_sequence old.label)) one.0 ∙ ap (next_after answer) number
+      ∙ sym (step_number AreTold other point event answer first g.1) in
       let rest = run_one events mid point x y r q later (All-tail (FitsBlock shape.l) event events fits)
-          (led_on old event reply mid led (All-head (FitsBlock shape.l) event events fits) first h.1) one.1 next back behind h.2 g.2 in
+      (led_on old event reply mid led (All-head (FitsBlock shape.l) event events fits) first h.1) one.1 next back behind h.2 g.2 in
       ap (λ (z : Reply). z ∷ r) one.0 ∙ ap (λ (zs : List Reply). answer ∷ zs) rest
 
 -- ---- traces
@@ -196,5 +196,5 @@ traces_one steps blanks shape events before after r q x y is served fits none ne
     let last = none_back after.faults u.blank.counts.faults y.counts.faults u.is_blank.counts.faults never in
     let number : next_sequence t.blank.label ≡ next_sequence u.blank.label = ap (λ (s : State). next_sequence s.label) t.is_blank.is ∙ sym (ap (λ (s : State). next_sequence s.label) u.is_blank.is) in
     let rest = run_one steps shape events t.blank u.blank x y t.rest u.rest served fits (blank_led blanks shape before t.blank is front t.is_blank)
-        (blank_seen shape before after t.blank u.blank front first t.is_blank u.is_blank) number back last t.run u.run in
+    (blank_seen shape before after t.blank u.blank front first t.is_blank u.is_blank) number back last t.run u.run in
     t.is ∙ ap (λ (l : List Reply). Done ∷ l) rest ∙ sym u.is

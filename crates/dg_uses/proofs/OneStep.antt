@@ -190,7 +190,6 @@ module _ (c : Seen) (ok : IsPlain c) (l k : Option LastLabel) (n m : Counts) (x 
   fail_one s j Done q h g = absurd g
   fail_one s j r q h g = absurd h
 
-
   -- boundary s is lost by its place
   abbrev pub IsLostAt : ℕ → Type 0
   IsLostAt s = is_lost c.members (place_in c.live s) ≡ true

@@ -133,9 +133,9 @@ next_number_is opens old new None = refl
 next_number_is opens old new (Some last) = by (last.sealed && not opens)
   where
     by : (b : Bool) → next_sequence (Some (if b then last else record last {
-          sealed = false;
-          keepers = λ q. (last.sealed || last.keepers q) && (is_good (old q) && is_good (new q));
-        })) ≡ last.sequence + 1
+      sealed = false;
+      keepers = λ q. (last.sealed || last.keepers q) && (is_good (old q) && is_good (new q));
+    })) ≡ last.sequence + 1
     by true = refl
     by false = refl
 
