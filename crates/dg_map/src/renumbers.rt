@@ -50,7 +50,8 @@ fn push_some(sites: &mut Vec<Site>, site: Option<Site>) -> Result<(), NoMemory>
 /// Puts the block into the slots of these sites.
 pub fn take_slots(boundaries: &mut Vec<Slots>, block: u32, sites: &[Site])
     requires { (table : Table) × AreSlotsOf table boundaries.old.items × CanHave table block sites.now }
-    ensures { (table : Table) → AreSlotsOf table boundaries.old.items → CanHave table block sites.now → AreSlotsOf (set_sites table block sites.now) boundaries.new.items }
+    ensures { (table : Table) → AreSlotsOf table boundaries.old.items → CanHave table block sites.now
+        → AreSlotsOf (set_sites table block sites.now) boundaries.new.items }
 {
     for site in sites {
         let slots = &mut boundaries[site.boundary as usize];
