@@ -7,6 +7,7 @@ use Rattle.std.proofs.lemmas.List.Kept.{AllPairs-cons}
 use Rattle.std.specs.Int.{div_ceil}
 use Rattle.std.specs.List.{AllPairs}
 use Rattle.std.specs.Prelude.{min, slice_set}
+use Rattle.dg_io.specs.ViewWords.{Keeps}
 use Rattle.dg_io.specs.declared.views.View.{Ghosts}
 use Rattle.dg_model.specs.Rereads.{AreOfGroup, ClaimPlace, IsAreaOf, IsBeside, IsChangedAt, of_areas, of_group, of_group_block, of_inodes, of_superblock}
 use Rattle.dg_model.specs.Volumes.{geometry_on}
@@ -23,15 +24,17 @@ use Rattle.ufs_pointer.specs.Superblocks.{superblock_blocks}
 use Rattle.dg_claims.specs.Kept.{table_of}
 use Rattle.dg_claims.specs.Tables.{ClaimTable, IsTableOf, accepted}
 use Rattle.dg_infer.proofs.AreaLaws.{area_needs, area_needed}
-use Rattle.dg_infer.proofs.FetchedLaws.{begun_along, fetches_both, fetches_none, places_none}
+use Rattle.dg_infer.proofs.FetchedLaws.{begun_along, fetches_both, fetches_none, fresh_along, places_none}
 use Rattle.dg_infer.proofs.ListLaws.{below_cases, contains_front, contains_map, contains_none, once_both}
 use Rattle.dg_infer.proofs.TargetLaws.{this_block}
 use Rattle.dg_infer.proofs.VolumeLaws.{accepted_some, to_accepted}
 use Rattle.dg_infer.proofs.WriteLaws.{TableLaws, claims_by}
 use Rattle.dg_infer.specs.Areas.{IsAreaRest, IsFrom, IsGroupRest, IsRest}
+use Rattle.dg_infer.specs.AtHand.{OnVolumes}
+use Rattle.dg_infer.specs.Writes.{IsKnownWrite, IsWriteTo}
 use Rattle.dg_infer.specs.Bounds.{FetchesFollowing, FetchesKept, FetchesReread, IsGroupRestBy, dropped, fresh, kept}
 use Rattle.dg_infer.specs.Claimed.{IsOnce}
-use Rattle.dg_infer.specs.Fetched.{FetchesOnce, FetchesPlaces, IsBegun, fragments_of}
+use Rattle.dg_infer.specs.Fetched.{FetchesFresh, FetchesOnce, FetchesPlaces, IsBegun, fragments_of}
 use Rattle.dg_infer.specs.Meanings.{KeptInference}
 use Rattle.dg_infer.specs.Places.{IsClaimedAfter, IsClaimedBehind, IsClaimedIn, IsClaimedOn, IsClaimedRead}
 
@@ -198,7 +201,7 @@ begun_anew l n v w before Claims block place changed claimed begun =
     record { above = begun.above; changed = inr (inr (record { geometry = changed; claimed = claimed begun.some })) }
 
 -- what was read anew is claimed behind the write that made the volume
-pub claimed_anew : {S : Type 0} (view : Ghosts S) (had : KeptInference) (g : Geometry) (geometry : Option Geometry) (block : ℕ) (bytes : List ℕ) (old new : S) (place : ClaimPlace) → geometry ≡ Some g
+claimed_anew : {S : Type 0} (view : Ghosts S) (had : KeptInference) (g : Geometry) (geometry : Option Geometry) (block : ℕ) (bytes : List ℕ) (old new : S) (place : ClaimPlace) → geometry ≡ Some g
     → IsClaimedRead view old new g block bytes place → IsClaimedBehind view old new had geometry block bytes place
 claimed_anew view had g geometry block bytes old new place is claimed v h =
     let write = h.0 in
@@ -216,18 +219,29 @@ claimed_kept laws view had g block bytes old middle new place is has told claime
     (claimed (told write.tells) v write.inside write.stands (claims_by laws had.l had.n v g (table_of had.claims) has write.was.claims))
 
 -- where the geometry stays, first the claims and then the group block
-pub kept_fetched : {S : Type 0} (laws : TableLaws) (view : Ghosts S) (had : KeptInference) (g : Geometry) (block : ℕ) (bytes : List ℕ) (old middle new : S)
-    → had.geometry ≡ Some g → (table_of had.claims).geometry ≡ Some g → (view.tells new → view.tells middle)
-    → FetchesPlaces view.fetched (IsBegun ((table_of had.claims).claimed) (IsClaimedAfter view old middle g block bytes ((table_of had.claims).claimed)) 0 block) old middle
+pub kept_fetched : {S : Type 0} (laws : TableLaws) (view : Ghosts S) (inner had : KeptInference) (g : Geometry) (block : ℕ) (bytes : List ℕ) (old middle new : S)
+    → inner ≡ had → (table_of inner.claims).geometry ≡ inner.geometry → had.geometry ≡ Some g → (view.tells new → view.tells middle)
+    → FetchesPlaces view.fetched (IsBegun ((table_of inner.claims).claimed) (IsClaimedAfter view old middle g block bytes ((table_of inner.claims).claimed)) 0 block) old middle
     → FetchesOnce view.fetched (IsGroupRest g block) middle new
     → FetchesKept view.fetched had.geometry block ((table_of had.claims).claimed) (IsClaimedBehind view old new had had.geometry block bytes) old new
-kept_fetched laws view had g block bytes old middle new is has told levels group = record {
-  middle = middle;
-  levels = begun_along view.fetched ((table_of had.claims).claimed) (IsClaimedAfter view old middle g block bytes ((table_of had.claims).claimed))
-      (IsClaimedBehind view old new had had.geometry block bytes) 0 block old middle
-      (λ place claimed. claimed_kept laws view had g block bytes old middle new place is has told claimed) levels;
-  group = subst (λ (o : Option Geometry). FetchesOnce view.fetched (IsGroupRestBy o block) middle new) (sym is) group;
-}
+kept_fetched laws view inner had g block bytes old middle new shown has is told levels group =
+    let known = ap (λ (k : KeptInference). k.geometry) shown ∙ is in
+    subst (λ (k : KeptInference). FetchesKept view.fetched k.geometry block ((table_of k.claims).claimed) (IsClaimedBehind view old new k k.geometry block bytes) old new) shown
+    (record {
+      middle = middle;
+      levels = begun_along view.fetched ((table_of inner.claims).claimed) (IsClaimedAfter view old middle g block bytes ((table_of inner.claims).claimed))
+          (IsClaimedBehind view old new inner inner.geometry block bytes) 0 block old middle
+          (λ place claimed. claimed_kept laws view inner g block bytes old middle new place known (has ∙ known) told claimed) levels;
+      group = subst (λ (o : Option Geometry). FetchesOnce view.fetched (IsGroupRestBy o block) middle new) (sym known) group;
+    })
+
+-- where it is another one, what is read anew
+pub following_anew : {S : Type 0} (view : Ghosts S) (had : KeptInference) (g : Geometry) (next : Option Geometry) (block : ℕ) (bytes : List ℕ) (old new : S) → (had.geometry ≡ next → ⊥) → next ≡ Some g
+    → FetchesFresh view.fetched g block (IsClaimedRead view old new g block bytes) old new
+    → FetchesFollowing view.fetched had.geometry next block ((table_of had.claims).claimed) (IsClaimedBehind view old new had next block bytes) old new
+following_anew view had g next block bytes old new apart is one =
+    fresh apart g is (fresh_along view.fetched g block (IsClaimedRead view old new g block bytes) (IsClaimedBehind view old new had next block bytes) old new
+    (λ place. claimed_anew view had g next block bytes old new place is) one)
 
 -- ---- all that a write fetched
 
@@ -304,3 +318,33 @@ bound_on view Known l n v w block geometry next before Claims s t x both none fr
     (λ known b rest. absurd rest)
     (λ known place begun. begun_anew l n v w (λ source. []) Claims block place (changed_volumes l n v w geometry next before changed (told known)) (claimed known place) begun) claimed
     (λ b either. elim either [ inl early ↦ early.other | inr late ↦ late.other ]) (λ b rest. absurd rest)
+
+-- A write of a block of the superblock, whose other blocks were read first; then the inference followed it.
+pub bound_write : {S : Type 0} (view : Ghosts S) → ((s t u : S) (x y : List ℕ) → view.fetched s x t → view.fetched t y u → view.fetched s (x ++ y) u) → ((s : S) → view.fetched s [] s)
+    → (had : KeptInference) (v : Volume) (block : ℕ) (bytes : List ℕ) (found : Result Geometry BadSuper) (next : Option Geometry) (old middle new : S)
+    → had.l ≡ view.size old → had.n ≡ view.count old → IsFrom (8192 / had.l) (div_ceil 1376 had.l) block → block < had.n
+    → next ≡ accepted found → IfSome next (IsGeometryOn (view.size old) (view.count old))
+    → OnVolumes view old middle block bytes (λ w. found ≡ geometry_on (view.size old) (view.count old) w) → Keeps view old middle → (view.tells new → view.tells middle)
+    → FetchesOnce view.fetched (IsRest (8192 / had.l) (superblock_blocks had.l had.n) block) old middle
+    → FetchesFollowing view.fetched had.geometry next block ((table_of had.claims).claimed) (IsClaimedBehind view middle new had next block bytes) middle new
+    → FetchesReread view old new (IsKnownWrite view old new had block bytes v) had.l had.n v (slice_set v block bytes) block
+bound_write view both none had v block bytes found next old middle new size count from inside by on read first told super one =
+    let w = slice_set v block bytes in
+    let Known = IsKnownWrite view old new had block bytes v in
+    let behind : Known → IsWriteTo view middle new had next block bytes v = λ h. (
+      record { tells = h.tells; inside = h.inside; stands = first.stands w h.stands; was = h.was },
+      by ∙ ap accepted (read (told h.tells) w h.stands (this_block (view.size old) v block bytes h.inside))
+          ∙ ap (λ (x : ℕ). accepted (geometry_on x (view.count old) w)) (sym size) ∙ ap (λ (x : ℕ). accepted (geometry_on had.l x w)) (sym count),
+    ) in
+    let on_kept : IfSome next (IsGeometryOn had.l had.n) =
+    subst (λ (x : ℕ). IfSome next (IsGeometryOn had.l x)) (sym count) (subst (λ (x : ℕ). IfSome next (IsGeometryOn x (view.count old))) (sym size) on) in
+    bound_on view Known had.l had.n v w block had.geometry next (table_of had.claims) (IsClaimedBehind view middle new had next block bytes) old middle new both none from inside on_kept super one
+    (λ h. record { first = h.was.geometry; second = (behind h).1; were = h.was.claims }) (λ h place claimed. claimed v (behind h))
+
+-- the other blocks of the superblock, by the size of the view's blocks
+pub super_by : {S : Type 0} (view : Ghosts S) (l n block : ℕ) (old new : S) → l ≡ view.size old → n ≡ view.count old
+    → FetchesOnce view.fetched (IsRest (8192 / view.size old) (superblock_blocks (view.size old) (view.count old)) block) old new
+    → FetchesOnce view.fetched (IsRest (8192 / l) (superblock_blocks l n) block) old new
+super_by view l n block old new size count super =
+    subst (λ (x : ℕ). FetchesOnce view.fetched (IsRest (8192 / l) (superblock_blocks l x) block) old new) (sym count)
+    (subst (λ (x : ℕ). FetchesOnce view.fetched (IsRest (8192 / x) (superblock_blocks x (view.count old)) block) old new) (sym size) super)

@@ -1,12 +1,18 @@
 -- What was fetched, each block once.
 use Rattle.std.proofs.Common.{◌≡◌, ◌≢◌, ◌∙◌, ℕ, ◌+◌, ◌<◌, ◌≤◌, List, [], ◌∷◌, ◌++◌, length, inl, inr, Option, Some, None, IfSome, Result, Ok, Err, IfOk, OnOk, refl, sym, ap, subst, arith, Contains}
 use Rattle.std.proofs.lemmas.Bool.{false≢true}
+use Rattle.dg_io.specs.declared.views.View.{Ghosts}
 use Rattle.dg_model.specs.Rereads.{ClaimPlace}
+use Rattle.ufs_model.specs.Claims.{source_fragments}
 use Rattle.ufs_model.specs.declared.claims.ClaimSource.{ClaimSource}
 use Rattle.dg_infer.specs.Claimed.{IsClaimedBy}
 use Rattle.dg_infer.specs.Claimed.{IsOnce}
 use Rattle.dg_infer.proofs.ListLaws.{contains_cons, contains_front, contains_none, once_both}
 use Rattle.dg_infer.specs.Fetched.{Begins, FetchesFresh, FetchesOnce, FetchesPlaces, IsBegun, IsNewAt, fragments_of}
+use Rattle.dg_infer.proofs.ChangeLaws.{claimed_right}
+use Rattle.dg_infer.specs.AtHand.{OnVolumes}
+use Rattle.dg_infer.specs.Changes.{IsReady, IsRightDownTo}
+use Rattle.dg_infer.specs.Places.{IsClaimedReady}
 use Rattle.dg_infer.specs.Areas.{IsAreaRest, IsGroupRest, IsInGroupBlock, IsRest}
 use Rattle.ufs_model.specs.Geometries.{cgstart}
 use Rattle.ufs_model.specs.declared.geometries.Geometry.{Geometry}
@@ -108,7 +114,7 @@ pub places_along : {S : Type 0} (fetched : S → List ℕ → S → Type 0) (kin
 places_along fetched kind all s t along one = record { places = one.places; were = one.were; once = one.once; each = λ place has. along place (one.each place has) }
 
 -- places of the levels down to one, and then those of the next
-pub begun_more : {S : Type 0} (fetched : S → List ℕ → S → Type 0) (before now : ClaimSource → List ℕ) (First Next : ClaimPlace → Type 0) (touches : List Touch) (level less block : ℕ) (s t u : S)
+begun_more : {S : Type 0} (fetched : S → List ℕ → S → Type 0) (before now : ClaimSource → List ℕ) (First Next : ClaimPlace → Type 0) (touches : List Touch) (level less block : ℕ) (s t u : S)
     → ((s t u : S) (x y : List ℕ) → fetched s x t → fetched t y u → fetched s (x ++ y) u) → less < level → IsWatched before now touches
     → ((place : ClaimPlace) → First place → Next place) → ((f : ℕ) → IsClaimedBy now level f → Next (record { fragment = f; level = level }))
     → FetchesPlaces fetched (IsBegun before First level block) s t → FetchesOnce fetched (Begins touches now level block (length touches)) t u
@@ -137,6 +143,20 @@ begun_more fetched before now First Next touches level less block s t u both low
         }
   ];
 }
+
+-- the same of a view, by what is right down to the level
+pub levels_more : {S : Type 0} (view : Ghosts S) → ((s t u : S) (x y : List ℕ) → view.fetched s x t → view.fetched t y u → view.fetched s (x ++ y) u)
+    → (before first now : ClaimSource → List ℕ) (watched touches : List Touch) (level less : ℕ) (g : Geometry) (block : ℕ) (bytes : List ℕ) (old middle new : S)
+    → less < level → IsWatched before now touches → (view.tells new → view.tells middle)
+    → OnVolumes view old middle block bytes (λ v. (sources before : ClaimSource → List ℕ) → IsReady (source_fragments g v) sources before first block watched
+    → IsRightDownTo (source_fragments g v) before now level)
+    → FetchesPlaces view.fetched (IsBegun before (IsClaimedReady view old middle g block bytes first watched) level block) old middle
+    → FetchesOnce view.fetched (Begins touches now level block (length touches)) middle new
+    → FetchesPlaces view.fetched (IsBegun before (IsClaimedReady view old new g block bytes first watched) less block) old new
+levels_more view both before first now watched touches level less g block bytes old middle new lower is told right one two =
+    begun_more view.fetched before now (IsClaimedReady view old middle g block bytes first watched) (IsClaimedReady view old new g block bytes first watched) touches level less block old middle new
+    both lower is (λ place claimed tells. claimed (told tells))
+    (λ f at tells v holds has ready. claimed_right (source_fragments g v) (ready.1) now level f (right (told tells) v holds has (ready.0) (ready.1) (ready.2)) (omega (arith, lower)) at) one two
 
 pub begun_cut : {S : Type 0} (fetched : S → List ℕ → S → Type 0) (before : ClaimSource → List ℕ) (Claims : ClaimPlace → Type 0) (most less block : ℕ) (s t : S) → less ≤ most
     → FetchesPlaces fetched (IsBegun before Claims most block) s t → FetchesPlaces fetched (IsBegun before Claims less block) s t

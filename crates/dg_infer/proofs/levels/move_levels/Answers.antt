@@ -3,8 +3,8 @@ use Rattle.dg_io.specs.ViewLaws.{keeps_both, keeps_same}
 use Rattle.ufs_model.specs.Blocks.{block_at}
 use Rattle.ufs_model.specs.Claims.{source_fragments}
 use Rattle.dg_claims.specs.Kept.{claimed_by}
-use Rattle.dg_infer.proofs.ChangeLaws.{claimed_right, is_indirect, right_in_the_end}
-use Rattle.dg_infer.proofs.FetchedLaws.{begun_cut, begun_more, places_none}
+use Rattle.dg_infer.proofs.ChangeLaws.{is_indirect, right_in_the_end}
+use Rattle.dg_infer.proofs.FetchedLaws.{begun_cut, levels_more, places_none}
 use Rattle.dg_infer.proofs.WatchLaws.{grows_both, grows_same, touched_grows}
 use Rattle.dg_infer.specs.Changes.{IsRightDownTo}
 use Rattle.dg_infer.specs.Places.{IsClaimedReady}
@@ -40,15 +40,9 @@ loop-done-preserved g c =
           (touched_grows c.args.watch.now c.loop-done.watch level c.args.block so_far.grows (ready.touched level (omega (arith, c.loop-done-test.true)) (omega arith)))
           (so_far.watched before ready.watched) (so_far.right (one.keeps.told is) v holds has sources before ready));
       fetched = λ before is.
-          begun_more g.V.View.fetched before (claimed_by c.loop-done.claims.runs)
-          (IsClaimedReady g.V.View c.args.view.now c.loop-done.view c.args.g.now c.args.block c.args.bytes.now (claimed_by c.args.claims.now.runs) c.args.watch.now)
-          (IsClaimedReady g.V.View c.args.view.now c.move_level.new.view c.args.g.now c.args.block c.args.bytes.now (claimed_by c.args.claims.now.runs) c.args.watch.now)
-          c.loop-done.watch (3 - c.loop-done.done) (3 - (c.loop-done.done + 1)) c.args.block c.args.view.now c.loop-done.view c.move_level.new.view g.met.V.View.fetched_both
-          (omega (arith, c.loop-done-test.true)) (so_far.watched before is) (λ place claimed told. claimed (c.move_level.ensures.keeps.told told))
-          (λ f at told v holds has ready.
-          claimed_right (source_fragments c.args.g.now v) (ready.1) (claimed_by c.loop-done.claims.runs) (3 - c.loop-done.done) f
-          (so_far.right (c.move_level.ensures.keeps.told told) v holds has (ready.0) (ready.1) (ready.2)) (omega (arith, c.loop-done-test.true)) at)
-          (so_far.fetched before is) c.move_level.ensures.fetched;
+          levels_more g.V.View g.met.V.View.fetched_both before (claimed_by c.args.claims.now.runs) (claimed_by c.loop-done.claims.runs) c.args.watch.now c.loop-done.watch
+          (3 - c.loop-done.done) (3 - (c.loop-done.done + 1)) c.args.g.now c.args.block c.args.bytes.now c.args.view.now c.loop-done.view c.move_level.new.view (omega (arith, c.loop-done-test.true))
+          (so_far.watched before is) c.move_level.ensures.keeps.told so_far.right (so_far.fetched before is) c.move_level.ensures.fetched;
     }
 
 pub returns-then-not-branch-clause-lost : goal.returns-then-not-branch-clause-lost
@@ -75,28 +69,16 @@ returns-clause-right g c = λ got is v holds has sources before ready.
 pub returns-in_err-move_level-clause-fetched : goal.returns-in_err-move_level-clause-fetched
 returns-in_err-move_level-clause-fetched g c = λ before is.
     let so_far = c.loop-done.invariant in
-    begun_more g.V.View.fetched before (claimed_by c.loop-done.claims.runs)
-    (IsClaimedReady g.V.View c.args.view.now c.loop-done.view c.args.g.now c.args.block c.args.bytes.now (claimed_by c.args.claims.now.runs) c.args.watch.now)
-    (IsClaimedReady g.V.View c.args.view.now c.move_level.new.view c.args.g.now c.args.block c.args.bytes.now (claimed_by c.args.claims.now.runs) c.args.watch.now)
-    c.loop-done.watch (3 - c.loop-done.done) 0 c.args.block c.args.view.now c.loop-done.view c.move_level.new.view g.met.V.View.fetched_both
-    (omega (arith, c.loop-done-test.true)) (so_far.watched before is) (λ place claimed told. claimed (c.move_level.ensures.keeps.told told))
-    (λ f at told v holds has ready.
-    claimed_right (source_fragments c.args.g.now v) (ready.1) (claimed_by c.loop-done.claims.runs) (3 - c.loop-done.done) f
-    (so_far.right (c.move_level.ensures.keeps.told told) v holds has (ready.0) (ready.1) (ready.2)) (omega (arith, c.loop-done-test.true)) at)
-    (so_far.fetched before is) c.move_level.ensures.fetched
+    levels_more g.V.View g.met.V.View.fetched_both before (claimed_by c.args.claims.now.runs) (claimed_by c.loop-done.claims.runs) c.args.watch.now c.loop-done.watch
+    (3 - c.loop-done.done) 0 c.args.g.now c.args.block c.args.bytes.now c.args.view.now c.loop-done.view c.move_level.new.view (omega (arith, c.loop-done-test.true))
+    (so_far.watched before is) c.move_level.ensures.keeps.told so_far.right (so_far.fetched before is) c.move_level.ensures.fetched
 
 pub returns-then-not-branch-clause-fetched : goal.returns-then-not-branch-clause-fetched
 returns-then-not-branch-clause-fetched g c = λ before is.
     let so_far = c.loop-done.invariant in
-    begun_more g.V.View.fetched before (claimed_by c.loop-done.claims.runs)
-    (IsClaimedReady g.V.View c.args.view.now c.loop-done.view c.args.g.now c.args.block c.args.bytes.now (claimed_by c.args.claims.now.runs) c.args.watch.now)
-    (IsClaimedReady g.V.View c.args.view.now c.move_level.new.view c.args.g.now c.args.block c.args.bytes.now (claimed_by c.args.claims.now.runs) c.args.watch.now)
-    c.loop-done.watch (3 - c.loop-done.done) 0 c.args.block c.args.view.now c.loop-done.view c.move_level.new.view g.met.V.View.fetched_both
-    (omega (arith, c.loop-done-test.true)) (so_far.watched before is) (λ place claimed told. claimed (c.move_level.ensures.keeps.told told))
-    (λ f at told v holds has ready.
-    claimed_right (source_fragments c.args.g.now v) (ready.1) (claimed_by c.loop-done.claims.runs) (3 - c.loop-done.done) f
-    (so_far.right (c.move_level.ensures.keeps.told told) v holds has (ready.0) (ready.1) (ready.2)) (omega (arith, c.loop-done-test.true)) at)
-    (so_far.fetched before is) c.move_level.ensures.fetched
+    levels_more g.V.View g.met.V.View.fetched_both before (claimed_by c.args.claims.now.runs) (claimed_by c.loop-done.claims.runs) c.args.watch.now c.loop-done.watch
+    (3 - c.loop-done.done) 0 c.args.g.now c.args.block c.args.bytes.now c.args.view.now c.loop-done.view c.move_level.new.view (omega (arith, c.loop-done-test.true))
+    (so_far.watched before is) c.move_level.ensures.keeps.told so_far.right (so_far.fetched before is) c.move_level.ensures.fetched
 
 pub returns-clause-fetched : goal.returns-clause-fetched
 returns-clause-fetched g c = λ before is.

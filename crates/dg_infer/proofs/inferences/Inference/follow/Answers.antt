@@ -6,13 +6,12 @@ use Rattle.ufs_model.specs.Metadata.{by_geometry}
 use Rattle.ufs_model.specs.declared.geometries.Geometry.{Geometry}
 use Rattle.ufs_pointer.specs.KindLaws.{loses_along}
 use Rattle.dg_claims.specs.Kept.{table_of}
-use Rattle.dg_infer.proofs.BoundLaws.{claimed_anew}
-use Rattle.dg_infer.proofs.FetchedLaws.{fresh_along}
+use Rattle.dg_infer.proofs.BoundLaws.{following_anew}
 use Rattle.dg_infer.proofs.TargetLaws.{this_block}
 use Rattle.dg_infer.proofs.VolumeLaws.{accepted_some, length_mark}
 use Rattle.dg_infer.proofs.WriteLaws.{TableLaws, follows_anew, shown_is}
-use Rattle.dg_infer.specs.Bounds.{FetchesKept, dropped, fresh, kept}
-use Rattle.dg_infer.specs.Places.{IsClaimedBehind, IsClaimedRead}
+use Rattle.dg_infer.specs.Bounds.{FetchesKept, dropped, kept}
+use Rattle.dg_infer.specs.Places.{IsClaimedBehind}
 use Rattle.dg_infer.specs.Meanings.{KeptInference}
 use Rattle.dg_infer.specs.Moves.{Follows}
 use Rattle.dg_infer.specs.declared.watches.Touch.{Touch}
@@ -74,32 +73,14 @@ returns-in-Some-2-clause-stands g c = λ v h.
 pub returns-in_err-parts-2-clause-fetched : goal.returns-in_err-parts-2-clause-fetched
 returns-in_err-parts-2-clause-fetched g c =
     let apart : c.args.self.now.geometry ≡ c.args.geometry → ⊥ = λ e. false≢true (sym c.if-is_same.false ∙ c.is_same.ensures.1 (ap (λ (k : KeptInference). k.geometry) c.self.view_is ∙ e)) in
-    let view = g.V.View in
-    let old = c.args.view.now in
-    let new = c.read_parts.new.view in
-    fresh apart c.in-Some.g c.in-Some.is
-    (fresh_along view.fetched c.in-Some.g c.args.block (IsClaimedRead view old new c.in-Some.g c.args.block c.args.bytes.now)
-    (IsClaimedBehind view old new c.args.self.now c.args.geometry c.args.block c.args.bytes.now) old new
-    (λ place. claimed_anew view c.args.self.now c.in-Some.g c.args.geometry c.args.block c.args.bytes.now old new place c.in-Some.is) c.read_parts.ensures.fetched)
+    following_anew g.V.View c.args.self.now c.in-Some.g c.args.geometry c.args.block c.args.bytes.now c.args.view.now c.read_parts.new.view apart c.in-Some.is c.read_parts.ensures.fetched
 
 pub returns-in-None-clause-fetched : goal.returns-in-None-clause-fetched
 returns-in-None-clause-fetched g c =
     let apart : c.args.self.now.geometry ≡ c.args.geometry → ⊥ = λ e. false≢true (sym c.if-is_same.false ∙ c.is_same.ensures.1 (ap (λ (k : KeptInference). k.geometry) c.self.view_is ∙ e)) in
-    let view = g.V.View in
-    let old = c.args.view.now in
-    let new = c.read_parts.new.view in
-    fresh apart c.in-Some.g c.in-Some.is
-    (fresh_along view.fetched c.in-Some.g c.args.block (IsClaimedRead view old new c.in-Some.g c.args.block c.args.bytes.now)
-    (IsClaimedBehind view old new c.args.self.now c.args.geometry c.args.block c.args.bytes.now) old new
-    (λ place. claimed_anew view c.args.self.now c.in-Some.g c.args.geometry c.args.block c.args.bytes.now old new place c.in-Some.is) c.read_parts.ensures.fetched)
+    following_anew g.V.View c.args.self.now c.in-Some.g c.args.geometry c.args.block c.args.bytes.now c.args.view.now c.read_parts.new.view apart c.in-Some.is c.read_parts.ensures.fetched
 
 pub returns-in-Some-2-clause-fetched : goal.returns-in-Some-2-clause-fetched
 returns-in-Some-2-clause-fetched g c =
     let apart : c.args.self.now.geometry ≡ c.args.geometry → ⊥ = λ e. false≢true (sym c.if-is_same.false ∙ c.is_same.ensures.1 (ap (λ (k : KeptInference). k.geometry) c.self.view_is ∙ e)) in
-    let view = g.V.View in
-    let old = c.args.view.now in
-    let new = c.read_parts.new.view in
-    fresh apart c.in-Some.g c.in-Some.is
-    (fresh_along view.fetched c.in-Some.g c.args.block (IsClaimedRead view old new c.in-Some.g c.args.block c.args.bytes.now)
-    (IsClaimedBehind view old new c.args.self.now c.args.geometry c.args.block c.args.bytes.now) old new
-    (λ place. claimed_anew view c.args.self.now c.in-Some.g c.args.geometry c.args.block c.args.bytes.now old new place c.in-Some.is) c.read_parts.ensures.fetched)
+    following_anew g.V.View c.args.self.now c.in-Some.g c.args.geometry c.args.block c.args.bytes.now c.args.view.now c.read_parts.new.view apart c.in-Some.is c.read_parts.ensures.fetched

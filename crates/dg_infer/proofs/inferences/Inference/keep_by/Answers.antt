@@ -13,11 +13,9 @@ use Rattle.dg_infer.proofs.BoundLaws.{kept_fetched}
 use Rattle.dg_infer.proofs.FetchedLaws.{fetches_none, places_none}
 use Rattle.dg_infer.proofs.WriteLaws.{TableLaws, claims_by, kept_by, shown}
 use Rattle.dg_infer.specs.Areas.{IsGroupRest}
-use Rattle.dg_infer.specs.Bounds.{FetchesKept}
 use Rattle.dg_infer.specs.Inferences.{kept_in}
 use Rattle.dg_infer.specs.Meanings.{KeptInference, StandsFor}
 use Rattle.dg_infer.specs.Moves.{Follows}
-use Rattle.dg_infer.specs.Places.{IsClaimedBehind}
 use Rattle.dg_infer.proofs.inferences.Inference.keep_by.Goals as goal
 
 pub returns-in_err-move_free-clause-keeps : goal.returns-in_err-move_free-clause-keeps
@@ -95,65 +93,35 @@ returns-in_err-watch-clause-fetched g c =
 pub returns-in_err-move_claims-clause-fetched : goal.returns-in_err-move_claims-clause-fetched
 returns-in_err-move_claims-clause-fetched g c =
     let laws : TableLaws = record { accepted = c.tables_of_volumes.ensures.accepted; refused = c.tables_of_volumes.ensures.refused; claims = c.tables_of_volumes.ensures.claims } in
-    let view = g.V.View in
-    let known = ap (λ (k : KeptInference). k.geometry) c.self.view_is ∙ c.requires.known in
-    let new = c.move_claims.new.view in
-    subst (λ (k : KeptInference). FetchesKept view.fetched k.geometry c.args.block (table_of k.claims).claimed (IsClaimedBehind view c.args.view.now new k k.geometry c.args.block c.args.bytes.now) c.args.view.now new)
-    c.self.view_is
-    (kept_fetched laws view (kept_in c.self.inside) c.args.g.now c.args.block c.args.bytes.now c.args.view.now c.move_claims.new.view new known (c.self.invariant.same ∙ known)
-    (λ told. told) c.move_claims.ensures.fetched (fetches_none view.fetched (IsGroupRest c.args.g.now c.args.block) new (g.met.V.View.fetched_none new)))
+    kept_fetched laws g.V.View (kept_in c.self.inside) c.args.self.now c.args.g.now c.args.block c.args.bytes.now c.args.view.now c.move_claims.new.view c.move_claims.new.view
+    c.self.view_is c.self.invariant.same c.requires.known (λ told. told) c.move_claims.ensures.fetched (fetches_none g.V.View.fetched (IsGroupRest c.args.g.now c.args.block) c.move_claims.new.view (g.met.V.View.fetched_none c.move_claims.new.view))
 
 pub returns-then-not-branch-clause-fetched : goal.returns-then-not-branch-clause-fetched
 returns-then-not-branch-clause-fetched g c =
     let laws : TableLaws = record { accepted = c.tables_of_volumes.ensures.accepted; refused = c.tables_of_volumes.ensures.refused; claims = c.tables_of_volumes.ensures.claims } in
-    let view = g.V.View in
-    let known = ap (λ (k : KeptInference). k.geometry) c.self.view_is ∙ c.requires.known in
-    let new = c.move_claims.new.view in
-    subst (λ (k : KeptInference). FetchesKept view.fetched k.geometry c.args.block (table_of k.claims).claimed (IsClaimedBehind view c.args.view.now new k k.geometry c.args.block c.args.bytes.now) c.args.view.now new)
-    c.self.view_is
-    (kept_fetched laws view (kept_in c.self.inside) c.args.g.now c.args.block c.args.bytes.now c.args.view.now c.move_claims.new.view new known (c.self.invariant.same ∙ known)
-    (λ told. told) c.move_claims.ensures.fetched (fetches_none view.fetched (IsGroupRest c.args.g.now c.args.block) new (g.met.V.View.fetched_none new)))
+    kept_fetched laws g.V.View (kept_in c.self.inside) c.args.self.now c.args.g.now c.args.block c.args.bytes.now c.args.view.now c.move_claims.new.view c.move_claims.new.view
+    c.self.view_is c.self.invariant.same c.requires.known (λ told. told) c.move_claims.ensures.fetched (fetches_none g.V.View.fetched (IsGroupRest c.args.g.now c.args.block) c.move_claims.new.view (g.met.V.View.fetched_none c.move_claims.new.view))
 
 pub returns-in_err-move_kinds-clause-fetched : goal.returns-in_err-move_kinds-clause-fetched
 returns-in_err-move_kinds-clause-fetched g c =
     let laws : TableLaws = record { accepted = c.tables_of_volumes.ensures.accepted; refused = c.tables_of_volumes.ensures.refused; claims = c.tables_of_volumes.ensures.claims } in
-    let view = g.V.View in
-    let known = ap (λ (k : KeptInference). k.geometry) c.self.view_is ∙ c.requires.known in
-    let new = c.move_claims.new.view in
-    subst (λ (k : KeptInference). FetchesKept view.fetched k.geometry c.args.block (table_of k.claims).claimed (IsClaimedBehind view c.args.view.now new k k.geometry c.args.block c.args.bytes.now) c.args.view.now new)
-    c.self.view_is
-    (kept_fetched laws view (kept_in c.self.inside) c.args.g.now c.args.block c.args.bytes.now c.args.view.now c.move_claims.new.view new known (c.self.invariant.same ∙ known)
-    (λ told. told) c.move_claims.ensures.fetched (fetches_none view.fetched (IsGroupRest c.args.g.now c.args.block) new (g.met.V.View.fetched_none new)))
+    kept_fetched laws g.V.View (kept_in c.self.inside) c.args.self.now c.args.g.now c.args.block c.args.bytes.now c.args.view.now c.move_claims.new.view c.move_claims.new.view
+    c.self.view_is c.self.invariant.same c.requires.known (λ told. told) c.move_claims.ensures.fetched (fetches_none g.V.View.fetched (IsGroupRest c.args.g.now c.args.block) c.move_claims.new.view (g.met.V.View.fetched_none c.move_claims.new.view))
 
 pub returns-in_err-move_free-clause-fetched : goal.returns-in_err-move_free-clause-fetched
 returns-in_err-move_free-clause-fetched g c =
     let laws : TableLaws = record { accepted = c.tables_of_volumes.ensures.accepted; refused = c.tables_of_volumes.ensures.refused; claims = c.tables_of_volumes.ensures.claims } in
-    let view = g.V.View in
-    let known = ap (λ (k : KeptInference). k.geometry) c.self.view_is ∙ c.requires.known in
-    let new = c.move_free.new.view in
-    subst (λ (k : KeptInference). FetchesKept view.fetched k.geometry c.args.block (table_of k.claims).claimed (IsClaimedBehind view c.args.view.now new k k.geometry c.args.block c.args.bytes.now) c.args.view.now new)
-    c.self.view_is
-    (kept_fetched laws view (kept_in c.self.inside) c.args.g.now c.args.block c.args.bytes.now c.args.view.now c.move_claims.new.view new known (c.self.invariant.same ∙ known)
-    c.move_free.ensures.keeps.told c.move_claims.ensures.fetched c.move_free.ensures.fetched)
+    kept_fetched laws g.V.View (kept_in c.self.inside) c.args.self.now c.args.g.now c.args.block c.args.bytes.now c.args.view.now c.move_claims.new.view c.move_free.new.view
+    c.self.view_is c.self.invariant.same c.requires.known c.move_free.ensures.keeps.told c.move_claims.ensures.fetched c.move_free.ensures.fetched
 
 pub returns-then-not-branch-2-clause-fetched : goal.returns-then-not-branch-2-clause-fetched
 returns-then-not-branch-2-clause-fetched g c =
     let laws : TableLaws = record { accepted = c.tables_of_volumes.ensures.accepted; refused = c.tables_of_volumes.ensures.refused; claims = c.tables_of_volumes.ensures.claims } in
-    let view = g.V.View in
-    let known = ap (λ (k : KeptInference). k.geometry) c.self.view_is ∙ c.requires.known in
-    let new = c.move_free.new.view in
-    subst (λ (k : KeptInference). FetchesKept view.fetched k.geometry c.args.block (table_of k.claims).claimed (IsClaimedBehind view c.args.view.now new k k.geometry c.args.block c.args.bytes.now) c.args.view.now new)
-    c.self.view_is
-    (kept_fetched laws view (kept_in c.self.inside) c.args.g.now c.args.block c.args.bytes.now c.args.view.now c.move_claims.new.view new known (c.self.invariant.same ∙ known)
-    c.move_free.ensures.keeps.told c.move_claims.ensures.fetched c.move_free.ensures.fetched)
+    kept_fetched laws g.V.View (kept_in c.self.inside) c.args.self.now c.args.g.now c.args.block c.args.bytes.now c.args.view.now c.move_claims.new.view c.move_free.new.view
+    c.self.view_is c.self.invariant.same c.requires.known c.move_free.ensures.keeps.told c.move_claims.ensures.fetched c.move_free.ensures.fetched
 
 pub returns-clause-fetched : goal.returns-clause-fetched
 returns-clause-fetched g c =
     let laws : TableLaws = record { accepted = c.tables_of_volumes.ensures.accepted; refused = c.tables_of_volumes.ensures.refused; claims = c.tables_of_volumes.ensures.claims } in
-    let view = g.V.View in
-    let known = ap (λ (k : KeptInference). k.geometry) c.self.view_is ∙ c.requires.known in
-    let new = c.move_free.new.view in
-    subst (λ (k : KeptInference). FetchesKept view.fetched k.geometry c.args.block (table_of k.claims).claimed (IsClaimedBehind view c.args.view.now new k k.geometry c.args.block c.args.bytes.now) c.args.view.now new)
-    c.self.view_is
-    (kept_fetched laws view (kept_in c.self.inside) c.args.g.now c.args.block c.args.bytes.now c.args.view.now c.move_claims.new.view new known (c.self.invariant.same ∙ known)
-    c.move_free.ensures.keeps.told c.move_claims.ensures.fetched c.move_free.ensures.fetched)
+    kept_fetched laws g.V.View (kept_in c.self.inside) c.args.self.now c.args.g.now c.args.block c.args.bytes.now c.args.view.now c.move_claims.new.view c.move_free.new.view
+    c.self.view_is c.self.invariant.same c.requires.known c.move_free.ensures.keeps.told c.move_claims.ensures.fetched c.move_free.ensures.fetched

@@ -1,21 +1,18 @@
 use Rattle.std.proofs.Common.{◌≡◌, ◌∙◌, ◌/◌, ℕ, refl, sym, ap, subst}
 use Rattle.std.proofs.lemmas.Bool.{false≢true}
 use Rattle.std.specs.Int.{div_ceil}
-use Rattle.std.specs.Prelude.{slice_set, IfSome}
-use Rattle.ufs_model.specs.Geometries.{IsGeometryOn}
-use Rattle.ufs_pointer.specs.Superblocks.{superblock_blocks}
+use Rattle.std.specs.Prelude.{slice_set}
 use Rattle.dg_infer.proofs.TargetLaws.{this_block}
-use Rattle.dg_infer.specs.Fetched.{FetchesOnce}
 use Rattle.dg_model.specs.Volumes.{geometry_on}
 use Rattle.ufs_model.specs.Blocks.{Volume, block_at}
 use Rattle.ufs_model.specs.Metadata.{IsMetadata, of_superblock}
 use Rattle.ufs_pointer.specs.KindLaws.{loses_along}
 use Rattle.dg_claims.specs.Kept.{table_of}
 use Rattle.dg_claims.specs.Tables.{accepted}
-use Rattle.dg_infer.proofs.BoundLaws.{bound_off, bound_on, bound_super, in_superblock}
+use Rattle.dg_infer.proofs.BoundLaws.{bound_off, bound_super, bound_write, in_superblock, super_by}
 use Rattle.dg_infer.proofs.VolumeLaws.{super_off}
 use Rattle.dg_infer.proofs.WriteLaws.{loses_off}
-use Rattle.dg_infer.specs.Areas.{IsFrom, IsRest}
+use Rattle.dg_infer.specs.Areas.{IsFrom}
 use Rattle.dg_infer.specs.Places.{IsClaimedBehind}
 use Rattle.dg_infer.specs.Writes.{IsKnownWrite, IsWriteTo}
 use Rattle.dg_infer.proofs.inferences.Inference.written.Goals as goal
@@ -69,28 +66,20 @@ returns-then-not-is_in_superblock-clause-fetched g c = λ moved is v. returns-th
 
 pub returns-in_err-found-clause-reread : goal.returns-in_err-found-clause-reread
 returns-in_err-found-clause-reread g c = λ v.
-    let l = c.args.self.now.l in
-    let n = c.args.self.now.n in
+    let kept = c.args.self.now in
     let size = c.fragment_bytes.ensures.value ∙ c.requires.levels ∙ sym c.requires.size in
-    let from : IsFrom (8192 / l) (div_ceil 1376 l) c.args.block = subst (λ (x : ℕ). IsFrom (8192 / x) (div_ceil 1376 x) c.args.block) size (c.is_in_superblock.ensures.0 c.if-not-is_in_superblock.false) in
-    let super : FetchesOnce g.V.View.fetched (IsRest (8192 / l) (superblock_blocks l n) c.args.block) c.args.view.now c.read_superblock.new.view =
-    subst (λ (x : ℕ). FetchesOnce g.V.View.fetched (IsRest (8192 / l) (superblock_blocks l x) c.args.block) c.args.view.now c.read_superblock.new.view) (sym c.requires.count)
-    (subst (λ (x : ℕ). FetchesOnce g.V.View.fetched (IsRest (8192 / x) (superblock_blocks x (g.V.View.count c.args.view.now)) c.args.block) c.args.view.now c.read_superblock.new.view)
-    (sym c.requires.size) c.read_superblock.ensures.fetched) in
-    bound_super g.V.View (IsKnownWrite g.V.View c.args.view.now c.read_superblock.new.view c.args.self.now c.args.block c.args.new.now v) l n v (slice_set v c.args.block c.args.new.now)
+    let from : IsFrom (8192 / kept.l) (div_ceil 1376 kept.l) c.args.block = subst (λ (x : ℕ). IsFrom (8192 / x) (div_ceil 1376 x) c.args.block) size (c.is_in_superblock.ensures.0 c.if-not-is_in_superblock.false) in
+    let super = super_by g.V.View kept.l kept.n c.args.block c.args.view.now c.read_superblock.new.view c.requires.size c.requires.count c.read_superblock.ensures.fetched in
+    bound_super g.V.View (IsKnownWrite g.V.View c.args.view.now c.read_superblock.new.view kept c.args.block c.args.new.now v) kept.l kept.n v (slice_set v c.args.block c.args.new.now)
     c.args.block c.args.view.now c.read_superblock.new.view g.met.V.View.fetched_both g.met.V.View.fetched_none from c.requires.inside super
 
 pub returns-in-None-clause-reread : goal.returns-in-None-clause-reread
 returns-in-None-clause-reread g c = λ v.
-    let l = c.args.self.now.l in
-    let n = c.args.self.now.n in
+    let kept = c.args.self.now in
     let size = c.fragment_bytes.ensures.value ∙ c.requires.levels ∙ sym c.requires.size in
-    let from : IsFrom (8192 / l) (div_ceil 1376 l) c.args.block = subst (λ (x : ℕ). IsFrom (8192 / x) (div_ceil 1376 x) c.args.block) size (c.is_in_superblock.ensures.0 c.if-not-is_in_superblock.false) in
-    let super : FetchesOnce g.V.View.fetched (IsRest (8192 / l) (superblock_blocks l n) c.args.block) c.args.view.now c.read_superblock.new.view =
-    subst (λ (x : ℕ). FetchesOnce g.V.View.fetched (IsRest (8192 / l) (superblock_blocks l x) c.args.block) c.args.view.now c.read_superblock.new.view) (sym c.requires.count)
-    (subst (λ (x : ℕ). FetchesOnce g.V.View.fetched (IsRest (8192 / x) (superblock_blocks x (g.V.View.count c.args.view.now)) c.args.block) c.args.view.now c.read_superblock.new.view)
-    (sym c.requires.size) c.read_superblock.ensures.fetched) in
-    bound_super g.V.View (IsKnownWrite g.V.View c.args.view.now c.read_superblock.new.view c.args.self.now c.args.block c.args.new.now v) l n v (slice_set v c.args.block c.args.new.now)
+    let from : IsFrom (8192 / kept.l) (div_ceil 1376 kept.l) c.args.block = subst (λ (x : ℕ). IsFrom (8192 / x) (div_ceil 1376 x) c.args.block) size (c.is_in_superblock.ensures.0 c.if-not-is_in_superblock.false) in
+    let super = super_by g.V.View kept.l kept.n c.args.block c.args.view.now c.read_superblock.new.view c.requires.size c.requires.count c.read_superblock.ensures.fetched in
+    bound_super g.V.View (IsKnownWrite g.V.View c.args.view.now c.read_superblock.new.view kept c.args.block c.args.new.now v) kept.l kept.n v (slice_set v c.args.block c.args.new.now)
     c.args.block c.args.view.now c.read_superblock.new.view g.met.V.View.fetched_both g.met.V.View.fetched_none from c.requires.inside super
 
 pub returns-in-None-clause-gone : goal.returns-in-None-clause-gone
@@ -140,65 +129,25 @@ returns-in_ok-got-in-Some-clause-gone g c = λ is.
 
 pub returns-in_err-got-in-Some-clause-reread : goal.returns-in_err-got-in-Some-clause-reread
 returns-in_err-got-in-Some-clause-reread g c = λ v.
-    let l = c.args.self.now.l in
-    let n = c.args.self.now.n in
-    let size = c.fragment_bytes.ensures.value ∙ c.requires.levels ∙ sym c.requires.size in
-    let from : IsFrom (8192 / l) (div_ceil 1376 l) c.args.block = subst (λ (x : ℕ). IsFrom (8192 / x) (div_ceil 1376 x) c.args.block) size (c.is_in_superblock.ensures.0 c.if-not-is_in_superblock.false) in
-    let super : FetchesOnce g.V.View.fetched (IsRest (8192 / l) (superblock_blocks l n) c.args.block) c.args.view.now c.read_superblock.new.view =
-    subst (λ (x : ℕ). FetchesOnce g.V.View.fetched (IsRest (8192 / l) (superblock_blocks l x) c.args.block) c.args.view.now c.read_superblock.new.view) (sym c.requires.count)
-    (subst (λ (x : ℕ). FetchesOnce g.V.View.fetched (IsRest (8192 / x) (superblock_blocks x (g.V.View.count c.args.view.now)) c.args.block) c.args.view.now c.read_superblock.new.view)
-    (sym c.requires.size) c.read_superblock.ensures.fetched) in
-    let first = c.read_superblock.ensures.keeps in
-    let old = c.args.view.now in
-    let new = c.follow.new.view in
     let kept = c.args.self.now in
-    let block = c.args.block in
-    let w = slice_set v block c.args.new.now in
-    let Known = IsKnownWrite g.V.View old new kept block c.args.new.now v in
-    let behind : Known → IsWriteTo g.V.View c.read_superblock.new.view new kept c.accepted.result block c.args.new.now v = λ h. (
-      record { tells = h.tells; inside = h.inside; stands = first.stands w h.stands; was = h.was },
-      c.accepted.ensures.value
-          ∙ ap accepted ((rw c.in-Some.is at c.in_ok-found.ensures.geometry) (c.follow.ensures.keeps.told h.tells) w h.stands (this_block (g.V.View.size old) v block c.args.new.now h.inside))
-          ∙ ap (λ (x : ℕ). accepted (geometry_on x (g.V.View.count old) w)) (sym c.requires.size) ∙ ap (λ (x : ℕ). accepted (geometry_on l x w)) (sym c.requires.count),
-    ) in
-    let on_view = c.accepted.ensures.on (g.V.View.size old) (g.V.View.count old) (rw c.in-Some.is at c.in_ok-found.ensures.on) in
-    let on : IfSome c.accepted.result (IsGeometryOn l n) = subst (λ (x : ℕ). IfSome c.accepted.result (IsGeometryOn l x)) (sym c.requires.count)
-    (subst (λ (x : ℕ). IfSome c.accepted.result (IsGeometryOn x (g.V.View.count old))) (sym c.requires.size) on_view) in
-    bound_on g.V.View Known l n v w block kept.geometry c.accepted.result (table_of kept.claims)
-    (IsClaimedBehind g.V.View c.read_superblock.new.view new kept c.accepted.result block c.args.new.now) old c.read_superblock.new.view new
-    g.met.V.View.fetched_both g.met.V.View.fetched_none from c.requires.inside on super c.follow.ensures.fetched
-    (λ h. record { first = h.was.geometry; second = (behind h).1; were = h.was.claims }) (λ h place claimed. claimed v (behind h))
+    let size = c.fragment_bytes.ensures.value ∙ c.requires.levels ∙ sym c.requires.size in
+    let from : IsFrom (8192 / kept.l) (div_ceil 1376 kept.l) c.args.block = subst (λ (x : ℕ). IsFrom (8192 / x) (div_ceil 1376 x) c.args.block) size (c.is_in_superblock.ensures.0 c.if-not-is_in_superblock.false) in
+    let super = super_by g.V.View kept.l kept.n c.args.block c.args.view.now c.read_superblock.new.view c.requires.size c.requires.count c.read_superblock.ensures.fetched in
+    bound_write g.V.View g.met.V.View.fetched_both g.met.V.View.fetched_none kept v c.args.block c.args.new.now c.in-Some.found c.accepted.result c.args.view.now c.read_superblock.new.view
+    c.follow.new.view c.requires.size c.requires.count from c.requires.inside c.accepted.ensures.value
+    (c.accepted.ensures.on (g.V.View.size c.args.view.now) (g.V.View.count c.args.view.now) (rw c.in-Some.is at c.in_ok-found.ensures.on))
+    (rw c.in-Some.is at c.in_ok-found.ensures.geometry) c.read_superblock.ensures.keeps c.follow.ensures.keeps.told super c.follow.ensures.fetched
 
 pub returns-in_ok-got-in-Some-clause-reread : goal.returns-in_ok-got-in-Some-clause-reread
 returns-in_ok-got-in-Some-clause-reread g c = λ v.
-    let l = c.args.self.now.l in
-    let n = c.args.self.now.n in
-    let size = c.fragment_bytes.ensures.value ∙ c.requires.levels ∙ sym c.requires.size in
-    let from : IsFrom (8192 / l) (div_ceil 1376 l) c.args.block = subst (λ (x : ℕ). IsFrom (8192 / x) (div_ceil 1376 x) c.args.block) size (c.is_in_superblock.ensures.0 c.if-not-is_in_superblock.false) in
-    let super : FetchesOnce g.V.View.fetched (IsRest (8192 / l) (superblock_blocks l n) c.args.block) c.args.view.now c.read_superblock.new.view =
-    subst (λ (x : ℕ). FetchesOnce g.V.View.fetched (IsRest (8192 / l) (superblock_blocks l x) c.args.block) c.args.view.now c.read_superblock.new.view) (sym c.requires.count)
-    (subst (λ (x : ℕ). FetchesOnce g.V.View.fetched (IsRest (8192 / x) (superblock_blocks x (g.V.View.count c.args.view.now)) c.args.block) c.args.view.now c.read_superblock.new.view)
-    (sym c.requires.size) c.read_superblock.ensures.fetched) in
-    let first = c.read_superblock.ensures.keeps in
-    let old = c.args.view.now in
-    let new = c.follow.new.view in
     let kept = c.args.self.now in
-    let block = c.args.block in
-    let w = slice_set v block c.args.new.now in
-    let Known = IsKnownWrite g.V.View old new kept block c.args.new.now v in
-    let behind : Known → IsWriteTo g.V.View c.read_superblock.new.view new kept c.accepted.result block c.args.new.now v = λ h. (
-      record { tells = h.tells; inside = h.inside; stands = first.stands w h.stands; was = h.was },
-      c.accepted.ensures.value
-          ∙ ap accepted ((rw c.in-Some.is at c.in_ok-found.ensures.geometry) (c.follow.ensures.keeps.told h.tells) w h.stands (this_block (g.V.View.size old) v block c.args.new.now h.inside))
-          ∙ ap (λ (x : ℕ). accepted (geometry_on x (g.V.View.count old) w)) (sym c.requires.size) ∙ ap (λ (x : ℕ). accepted (geometry_on l x w)) (sym c.requires.count),
-    ) in
-    let on_view = c.accepted.ensures.on (g.V.View.size old) (g.V.View.count old) (rw c.in-Some.is at c.in_ok-found.ensures.on) in
-    let on : IfSome c.accepted.result (IsGeometryOn l n) = subst (λ (x : ℕ). IfSome c.accepted.result (IsGeometryOn l x)) (sym c.requires.count)
-    (subst (λ (x : ℕ). IfSome c.accepted.result (IsGeometryOn x (g.V.View.count old))) (sym c.requires.size) on_view) in
-    bound_on g.V.View Known l n v w block kept.geometry c.accepted.result (table_of kept.claims)
-    (IsClaimedBehind g.V.View c.read_superblock.new.view new kept c.accepted.result block c.args.new.now) old c.read_superblock.new.view new
-    g.met.V.View.fetched_both g.met.V.View.fetched_none from c.requires.inside on super c.follow.ensures.fetched
-    (λ h. record { first = h.was.geometry; second = (behind h).1; were = h.was.claims }) (λ h place claimed. claimed v (behind h))
+    let size = c.fragment_bytes.ensures.value ∙ c.requires.levels ∙ sym c.requires.size in
+    let from : IsFrom (8192 / kept.l) (div_ceil 1376 kept.l) c.args.block = subst (λ (x : ℕ). IsFrom (8192 / x) (div_ceil 1376 x) c.args.block) size (c.is_in_superblock.ensures.0 c.if-not-is_in_superblock.false) in
+    let super = super_by g.V.View kept.l kept.n c.args.block c.args.view.now c.read_superblock.new.view c.requires.size c.requires.count c.read_superblock.ensures.fetched in
+    bound_write g.V.View g.met.V.View.fetched_both g.met.V.View.fetched_none kept v c.args.block c.args.new.now c.in-Some.found c.accepted.result c.args.view.now c.read_superblock.new.view
+    c.follow.new.view c.requires.size c.requires.count from c.requires.inside c.accepted.ensures.value
+    (c.accepted.ensures.on (g.V.View.size c.args.view.now) (g.V.View.count c.args.view.now) (rw c.in-Some.is at c.in_ok-found.ensures.on))
+    (rw c.in-Some.is at c.in_ok-found.ensures.geometry) c.read_superblock.ensures.keeps c.follow.ensures.keeps.told super c.follow.ensures.fetched
 
 pub returns-in_ok-got-in-Some-clause-fetched : goal.returns-in_ok-got-in-Some-clause-fetched
 returns-in_ok-got-in-Some-clause-fetched g c = λ moved is v. returns-in_ok-got-in-Some-clause-reread g c v
