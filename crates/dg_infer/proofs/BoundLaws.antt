@@ -11,7 +11,7 @@ use Rattle.dg_io.specs.ViewWords.{Keeps}
 use Rattle.dg_io.specs.declared.views.View.{Ghosts}
 use Rattle.dg_model.specs.Rereads.{AreOfGroup, ClaimPlace, IsAreaOf, IsBeside, IsChangedAt, of_areas, of_group, of_group_block, of_inodes, of_superblock}
 use Rattle.dg_model.specs.Volumes.{geometry_on}
-use Rattle.ufs_model.specs.Blocks.{Volume, area_of, area_within, bind}
+use Rattle.ufs_model.specs.Blocks.{Volume, area_of, area_within, bind, block_at}
 use Rattle.ufs_model.specs.Claims.{IsClaim, IsClaimedAt, VolumeClaims, source_fragments_in, volume_fragments}
 use Rattle.ufs_model.specs.Geometries.{IsGeometry, IsGeometryOn, cgstart}
 use Rattle.ufs_model.specs.GroupMaps.{group_bytes}
@@ -24,10 +24,11 @@ use Rattle.ufs_pointer.specs.Superblocks.{superblock_blocks}
 use Rattle.dg_claims.specs.Kept.{table_of}
 use Rattle.dg_claims.specs.Tables.{ClaimTable, IsTableOf, accepted}
 use Rattle.dg_infer.proofs.AreaLaws.{area_needs, area_needed}
-use Rattle.dg_infer.proofs.FetchedLaws.{begun_along, fetches_both, fetches_none, fresh_along, places_none}
+use Rattle.dg_infer.proofs.FetchedLaws.{begun_along, begun_fresh, fetches_both, fetches_none, fresh_along, places_none}
 use Rattle.dg_infer.proofs.ListLaws.{below_cases, contains_front, contains_map, contains_none, once_both}
-use Rattle.dg_infer.proofs.TargetLaws.{this_block}
-use Rattle.dg_infer.proofs.VolumeLaws.{accepted_some, to_accepted}
+use Rattle.dg_infer.proofs.TargetLaws.{ready_when_fresh, this_block}
+use Rattle.dg_infer.proofs.VolumeLaws.{accepted_some, super_off, to_accepted}
+use Rattle.dg_infer.proofs.WatchLaws.{touched_grows}
 use Rattle.dg_infer.proofs.WriteLaws.{TableLaws, claims_by}
 use Rattle.dg_infer.specs.Areas.{IsAreaRest, IsFrom, IsGroupRest, IsRest}
 use Rattle.dg_infer.specs.AtHand.{OnVolumes}
@@ -36,7 +37,10 @@ use Rattle.dg_infer.specs.Bounds.{FetchesFollowing, FetchesKept, FetchesReread, 
 use Rattle.dg_infer.specs.Claimed.{IsOnce}
 use Rattle.dg_infer.specs.Fetched.{FetchesFresh, FetchesOnce, FetchesPlaces, IsBegun, fragments_of}
 use Rattle.dg_infer.specs.Meanings.{KeptInference}
-use Rattle.dg_infer.specs.Places.{IsClaimedAfter, IsClaimedBehind, IsClaimedIn, IsClaimedOn, IsClaimedRead}
+use Rattle.dg_infer.specs.Places.{IsClaimedAfter, IsClaimedBehind, IsClaimedIn, IsClaimedOn, IsClaimedRead, IsClaimedReady}
+use Rattle.dg_infer.specs.Sweeps.{AreSlotsBefore}
+use Rattle.dg_infer.specs.Watches.{Grows, IsTouched, IsWatched, KeepsWatch}
+use Rattle.dg_infer.specs.declared.watches.Touch.{Touch}
 
 -- ---- lists
 
@@ -218,6 +222,29 @@ claimed_kept laws view had g block bytes old middle new place is has told claime
     volume_claimed had.l had.n w g place (accepted_some (geometry_on had.l had.n w) g (sym is ∙ h.1))
     (claimed (told write.tells) v write.inside write.stands (claims_by laws had.l had.n v g (table_of had.claims) has write.was.claims))
 
+-- what is read anew, where the sweep has made all ready for the levels
+pub swept_fetched : {S : Type 0} (view : Ghosts S) (g : Geometry) (block : ℕ) (bytes : List ℕ) (empty now : ClaimSource → List ℕ) (first touches : List Touch) (old swept new : S)
+    → IsGeometry g → ((inode : ℕ) → inode < g.ncg * g.ipg → inode_block g inode < g.size) → ((source : ClaimSource) → empty source ≡ []) → ((v : Volume) → AreSlotsBefore g v 0 empty)
+    → ((level : ℕ) → 1 ≤ level → level ≤ 3 → IsTouched first level block) → IsWatched empty empty first → Grows first touches → KeepsWatch empty first now touches
+    → OnVolumes view old swept block bytes (λ v. AreSlotsBefore g v 0 empty → AreSlotsBefore g v g.size now) → Keeps view old swept → (view.tells new → view.tells swept)
+    → FetchesOnce view.fetched (IsAreaRest g g.size block) old swept
+    → ((before : ClaimSource → List ℕ) → IsWatched before now touches → FetchesPlaces view.fetched (IsBegun before (IsClaimedReady view swept new g block bytes now touches) 0 block) swept new)
+    → FetchesFresh view.fetched g block (IsClaimedRead view old new g block bytes) old new
+swept_fetched view g block bytes empty now first touches old swept new is inside none slots touched watched grows watch more keeps told areas levels = record {
+  middle = swept;
+  areas = areas;
+  levels = begun_fresh view.fetched empty (IsClaimedRead view old new g block bytes) 0 block swept new
+      (begun_along view.fetched empty (IsClaimedReady view swept new g block bytes now touches) (IsClaimedRead view old new g block bytes) 0 block swept new
+      (λ place claimed tells v holds has.
+      claimed tells v (keeps.stands v holds) (has ∙ ap (λ (l : ℕ). block_at l v block) (sym keeps.bytes)) (
+        empty,
+        empty,
+        ready_when_fresh g v block empty now touches is none (more (told tells) v holds has (slots v)) inside
+            (λ level low high. touched_grows first touches level block grows (touched level low high)) (watch empty watched),
+      ))
+      (levels empty (watch empty watched)));
+}
+
 -- where the geometry stays, first the claims and then the group block
 pub kept_fetched : {S : Type 0} (laws : TableLaws) (view : Ghosts S) (inner had : KeptInference) (g : Geometry) (block : ℕ) (bytes : List ℕ) (old middle new : S)
     → inner ≡ had → (table_of inner.claims).geometry ≡ inner.geometry → had.geometry ≡ Some g → (view.tells new → view.tells middle)
@@ -259,7 +286,7 @@ pub record IsTold (l n : ℕ) (v w : Volume) (geometry next : Option Geometry) (
   pub second : next ≡ accepted (geometry_on l n w)
   pub were : IsTableOf l n v before
 
-pub bound_off : {S : Type 0} (view : Ghosts S) (Known : Type 0) (l n : ℕ) (v w : Volume) (block : ℕ) (geometry : Option Geometry) (before : ClaimTable) (Claims : ClaimPlace → Type 0) (s x : S)
+bound_off : {S : Type 0} (view : Ghosts S) (Known : Type 0) (l n : ℕ) (v w : Volume) (block : ℕ) (geometry : Option Geometry) (before : ClaimTable) (Claims : ClaimPlace → Type 0) (s x : S)
     → ((s t u : S) (x y : List ℕ) → view.fetched s x t → view.fetched t y u → view.fetched s (x ++ y) u) → ((s : S) → view.fetched s [] s)
     → FetchesKept view.fetched geometry block before.claimed Claims s x → (Known → IsTold l n v w geometry geometry before) → (Known → (place : ClaimPlace) → Claims place → IsClaimedIn l n w place)
     → FetchesReread view s x Known l n v w block
@@ -293,7 +320,7 @@ bound_kept view Known l n v w block geometry next before Claims s t x both from 
 changed_volumes : (l n : ℕ) (v w : Volume) (geometry next : Option Geometry) (before : ClaimTable) → (geometry ≡ next → ⊥) → IsTold l n v w geometry next before → geometry_on l n v ≢ geometry_on l n w
 changed_volumes l n v w geometry next before changed told e = changed (told.first ∙ ap accepted e ∙ sym told.second)
 
-pub bound_on : {S : Type 0} (view : Ghosts S) (Known : Type 0) (l n : ℕ) (v w : Volume) (block : ℕ) (geometry next : Option Geometry) (before : ClaimTable) (Claims : ClaimPlace → Type 0) (s t x : S)
+bound_on : {S : Type 0} (view : Ghosts S) (Known : Type 0) (l n : ℕ) (v w : Volume) (block : ℕ) (geometry next : Option Geometry) (before : ClaimTable) (Claims : ClaimPlace → Type 0) (s t x : S)
     → ((s t u : S) (x y : List ℕ) → view.fetched s x t → view.fetched t y u → view.fetched s (x ++ y) u) → ((s : S) → view.fetched s [] s)
     → IsFrom (8192 / l) (div_ceil 1376 l) block → block < n → IfSome next (IsGeometryOn l n)
     → FetchesOnce view.fetched (IsRest (8192 / l) (superblock_blocks l n) block) s t → FetchesFollowing view.fetched geometry next block before.claimed Claims t x
@@ -318,6 +345,18 @@ bound_on view Known l n v w block geometry next before Claims s t x both none fr
     (λ known b rest. absurd rest)
     (λ known place begun. begun_anew l n v w (λ source. []) Claims block place (changed_volumes l n v w geometry next before changed (told known)) (claimed known place) begun) claimed
     (λ b either. elim either [ inl early ↦ early.other | inr late ↦ late.other ]) (λ b rest. absurd rest)
+
+-- A write of a block that is none of the superblock's.
+pub bound_outside : {S : Type 0} (view : Ghosts S) → ((s t u : S) (x y : List ℕ) → view.fetched s x t → view.fetched t y u → view.fetched s (x ++ y) u) → ((s : S) → view.fetched s [] s)
+    → (had : KeptInference) (v : Volume) (block : ℕ) (bytes : List ℕ) (old new : S) → (IsFrom (8192 / had.l) (div_ceil 1376 had.l) block → ⊥)
+    → FetchesKept view.fetched had.geometry block ((table_of had.claims).claimed) (IsClaimedBehind view old new had had.geometry block bytes) old new
+    → FetchesReread view old new (IsKnownWrite view old new had block bytes v) had.l had.n v (slice_set v block bytes) block
+bound_outside view both none had v block bytes old new out one =
+    let w = slice_set v block bytes in
+    let Known = IsKnownWrite view old new had block bytes v in
+    let same : Known → had.geometry ≡ accepted (geometry_on had.l had.n w) = λ h. h.was.geometry ∙ ap accepted (super_off had.l had.n v block bytes out) in
+    bound_off view Known had.l had.n v w block had.geometry (table_of had.claims) (IsClaimedBehind view old new had had.geometry block bytes) old new both none one
+    (λ h. record { first = h.was.geometry; second = same h; were = h.was.claims }) (λ h place claimed. claimed v (h, same h))
 
 -- A write of a block of the superblock, whose other blocks were read first; then the inference followed it.
 pub bound_write : {S : Type 0} (view : Ghosts S) → ((s t u : S) (x y : List ℕ) → view.fetched s x t → view.fetched t y u → view.fetched s (x ++ y) u) → ((s : S) → view.fetched s [] s)

@@ -5,12 +5,12 @@ use Rattle.ufs_model.specs.Inodes.{inode_block}
 use Rattle.ufs_model.specs.Metadata.{of_indirect}
 use Rattle.ufs_pointer.specs.KindLaws.{loses_along}
 use Rattle.dg_claims.specs.Kept.{claimed_by}
-use Rattle.dg_infer.proofs.FetchedLaws.{begun_along, begun_fresh, fetches_none, places_none}
+use Rattle.dg_infer.proofs.BoundLaws.{swept_fetched}
+use Rattle.dg_infer.proofs.FetchedLaws.{fetches_none, places_none}
 use Rattle.dg_infer.proofs.SweepLaws.{free_swept, kinds_swept}
 use Rattle.dg_infer.proofs.TargetLaws.{ready_when_fresh}
 use Rattle.dg_infer.proofs.WatchLaws.{touched_grows}
 use Rattle.dg_infer.specs.Changes.{IsReadyOn}
-use Rattle.dg_infer.specs.Places.{IsClaimedRead, IsClaimedReady}
 use Rattle.dg_infer.proofs.fresh.read_parts.Goals as goal
 
 pub returns-in_err-move_levels-clause-keeps : goal.returns-in_err-move_levels-clause-keeps
@@ -80,77 +80,26 @@ returns-then-not-branch-clause-fetched g c = record {
 pub returns-in_err-move_levels-clause-fetched : goal.returns-in_err-move_levels-clause-fetched
 returns-in_err-move_levels-clause-fetched g c =
     let first = c.in_ok-read_places.ensures in
-    let empty = claimed_by c.in_ok-sweep.sweep.claims.runs in
-    let now = claimed_by c.read_places.new.sweep.claims.runs in
-    let swept = c.read_places.new.view in
-    let new = c.move_levels.new.view in
-    record {
-      middle = swept;
-      areas = c.read_places.ensures.fetched;
-      levels = begun_fresh g.V.View.fetched empty (IsClaimedRead g.V.View c.args.view.now new c.args.g.now c.args.block c.args.bytes.now) 0 c.args.block swept new
-          (begun_along g.V.View.fetched empty (IsClaimedReady g.V.View swept new c.args.g.now c.args.block c.args.bytes.now now c.read_places.new.sweep.watch)
-          (IsClaimedRead g.V.View c.args.view.now new c.args.g.now c.args.block c.args.bytes.now) 0 c.args.block swept new
-          (λ place claimed is v holds has.
-          claimed is v (first.keeps.stands v holds) (has ∙ ap (λ (l : ℕ). block_at l v c.args.block) (sym first.keeps.bytes)) (
-            empty,
-            empty,
-            ready_when_fresh c.args.g.now v c.args.block empty now c.read_places.new.sweep.watch c.requires.geometry.tests
-                c.in_ok-sweep.ensures.none (first.slots c.if-not-branch.false (c.move_levels.ensures.keeps.told is) v holds has (c.in_ok-sweep.ensures.slots v))
-                (λ inode high. c.inodes_inside.ensures c.args.g.now inode c.requires.geometry.tests high)
-                (λ level low high. touched_grows c.in_ok-sweep.sweep.watch c.read_places.new.sweep.watch level c.args.block first.grows (c.in_ok-sweep.ensures.touched level low high))
-                (first.watched empty c.in_ok-sweep.ensures.watched),
-          ))
-          (c.move_levels.ensures.fetched empty (first.watched empty c.in_ok-sweep.ensures.watched)));
-    }
+    let sweep = c.in_ok-sweep.ensures in
+    swept_fetched g.V.View c.args.g.now c.args.block c.args.bytes.now (claimed_by c.in_ok-sweep.sweep.claims.runs) (claimed_by c.read_places.new.sweep.claims.runs) c.in_ok-sweep.sweep.watch
+    c.read_places.new.sweep.watch c.args.view.now c.read_places.new.view c.move_levels.new.view c.requires.geometry.tests
+    (λ inode high. c.inodes_inside.ensures c.args.g.now inode c.requires.geometry.tests high) sweep.none sweep.slots sweep.touched sweep.watched first.grows first.watched
+    (first.slots c.if-not-branch.false) first.keeps c.move_levels.ensures.keeps.told c.read_places.ensures.fetched c.move_levels.ensures.fetched
 
 pub returns-then-not-branch-2-clause-fetched : goal.returns-then-not-branch-2-clause-fetched
 returns-then-not-branch-2-clause-fetched g c =
     let first = c.in_ok-read_places.ensures in
-    let empty = claimed_by c.in_ok-sweep.sweep.claims.runs in
-    let now = claimed_by c.read_places.new.sweep.claims.runs in
-    let swept = c.read_places.new.view in
-    let new = c.move_levels.new.view in
-    record {
-      middle = swept;
-      areas = c.read_places.ensures.fetched;
-      levels = begun_fresh g.V.View.fetched empty (IsClaimedRead g.V.View c.args.view.now new c.args.g.now c.args.block c.args.bytes.now) 0 c.args.block swept new
-          (begun_along g.V.View.fetched empty (IsClaimedReady g.V.View swept new c.args.g.now c.args.block c.args.bytes.now now c.read_places.new.sweep.watch)
-          (IsClaimedRead g.V.View c.args.view.now new c.args.g.now c.args.block c.args.bytes.now) 0 c.args.block swept new
-          (λ place claimed is v holds has.
-          claimed is v (first.keeps.stands v holds) (has ∙ ap (λ (l : ℕ). block_at l v c.args.block) (sym first.keeps.bytes)) (
-            empty,
-            empty,
-            ready_when_fresh c.args.g.now v c.args.block empty now c.read_places.new.sweep.watch c.requires.geometry.tests
-                c.in_ok-sweep.ensures.none (first.slots c.if-not-branch.false (c.move_levels.ensures.keeps.told is) v holds has (c.in_ok-sweep.ensures.slots v))
-                (λ inode high. c.inodes_inside.ensures c.args.g.now inode c.requires.geometry.tests high)
-                (λ level low high. touched_grows c.in_ok-sweep.sweep.watch c.read_places.new.sweep.watch level c.args.block first.grows (c.in_ok-sweep.ensures.touched level low high))
-                (first.watched empty c.in_ok-sweep.ensures.watched),
-          ))
-          (c.move_levels.ensures.fetched empty (first.watched empty c.in_ok-sweep.ensures.watched)));
-    }
+    let sweep = c.in_ok-sweep.ensures in
+    swept_fetched g.V.View c.args.g.now c.args.block c.args.bytes.now (claimed_by c.in_ok-sweep.sweep.claims.runs) (claimed_by c.read_places.new.sweep.claims.runs) c.in_ok-sweep.sweep.watch
+    c.read_places.new.sweep.watch c.args.view.now c.read_places.new.view c.move_levels.new.view c.requires.geometry.tests
+    (λ inode high. c.inodes_inside.ensures c.args.g.now inode c.requires.geometry.tests high) sweep.none sweep.slots sweep.touched sweep.watched first.grows first.watched
+    (first.slots c.if-not-branch.false) first.keeps c.move_levels.ensures.keeps.told c.read_places.ensures.fetched c.move_levels.ensures.fetched
 
 pub returns-clause-fetched : goal.returns-clause-fetched
 returns-clause-fetched g c =
     let first = c.in_ok-read_places.ensures in
-    let empty = claimed_by c.in_ok-sweep.sweep.claims.runs in
-    let now = claimed_by c.read_places.new.sweep.claims.runs in
-    let swept = c.read_places.new.view in
-    let new = c.move_levels.new.view in
-    record {
-      middle = swept;
-      areas = c.read_places.ensures.fetched;
-      levels = begun_fresh g.V.View.fetched empty (IsClaimedRead g.V.View c.args.view.now new c.args.g.now c.args.block c.args.bytes.now) 0 c.args.block swept new
-          (begun_along g.V.View.fetched empty (IsClaimedReady g.V.View swept new c.args.g.now c.args.block c.args.bytes.now now c.read_places.new.sweep.watch)
-          (IsClaimedRead g.V.View c.args.view.now new c.args.g.now c.args.block c.args.bytes.now) 0 c.args.block swept new
-          (λ place claimed is v holds has.
-          claimed is v (first.keeps.stands v holds) (has ∙ ap (λ (l : ℕ). block_at l v c.args.block) (sym first.keeps.bytes)) (
-            empty,
-            empty,
-            ready_when_fresh c.args.g.now v c.args.block empty now c.read_places.new.sweep.watch c.requires.geometry.tests
-                c.in_ok-sweep.ensures.none (first.slots c.if-not-branch.false (c.move_levels.ensures.keeps.told is) v holds has (c.in_ok-sweep.ensures.slots v))
-                (λ inode high. c.inodes_inside.ensures c.args.g.now inode c.requires.geometry.tests high)
-                (λ level low high. touched_grows c.in_ok-sweep.sweep.watch c.read_places.new.sweep.watch level c.args.block first.grows (c.in_ok-sweep.ensures.touched level low high))
-                (first.watched empty c.in_ok-sweep.ensures.watched),
-          ))
-          (c.move_levels.ensures.fetched empty (first.watched empty c.in_ok-sweep.ensures.watched)));
-    }
+    let sweep = c.in_ok-sweep.ensures in
+    swept_fetched g.V.View c.args.g.now c.args.block c.args.bytes.now (claimed_by c.in_ok-sweep.sweep.claims.runs) (claimed_by c.read_places.new.sweep.claims.runs) c.in_ok-sweep.sweep.watch
+    c.read_places.new.sweep.watch c.args.view.now c.read_places.new.view c.move_levels.new.view c.requires.geometry.tests
+    (λ inode high. c.inodes_inside.ensures c.args.g.now inode c.requires.geometry.tests high) sweep.none sweep.slots sweep.touched sweep.watched first.grows first.watched
+    (first.slots c.if-not-branch.false) first.keeps c.move_levels.ensures.keeps.told c.read_places.ensures.fetched c.move_levels.ensures.fetched

@@ -7,13 +7,11 @@ use Rattle.dg_model.specs.Volumes.{geometry_on}
 use Rattle.ufs_model.specs.Blocks.{Volume, block_at}
 use Rattle.ufs_model.specs.Metadata.{IsMetadata, of_superblock}
 use Rattle.ufs_pointer.specs.KindLaws.{loses_along}
-use Rattle.dg_claims.specs.Kept.{table_of}
 use Rattle.dg_claims.specs.Tables.{accepted}
-use Rattle.dg_infer.proofs.BoundLaws.{bound_off, bound_super, bound_write, in_superblock, super_by}
+use Rattle.dg_infer.proofs.BoundLaws.{bound_outside, bound_super, bound_write, in_superblock, super_by}
 use Rattle.dg_infer.proofs.VolumeLaws.{super_off}
 use Rattle.dg_infer.proofs.WriteLaws.{loses_off}
 use Rattle.dg_infer.specs.Areas.{IsFrom}
-use Rattle.dg_infer.specs.Places.{IsClaimedBehind}
 use Rattle.dg_infer.specs.Writes.{IsKnownWrite, IsWriteTo}
 use Rattle.dg_infer.proofs.inferences.Inference.written.Goals as goal
 
@@ -36,30 +34,14 @@ returns-in_err-keep-clause-reread g c = λ v.
     let size = c.fragment_bytes.ensures.value ∙ c.requires.levels ∙ sym c.requires.size in
     let out : IsFrom (8192 / c.args.self.now.l) (div_ceil 1376 c.args.self.now.l) c.args.block → ⊥ = λ from.
     false≢true (sym c.if-not-is_in_superblock.true ∙ c.is_in_superblock.ensures.1 (subst (λ (l : ℕ). IsFrom (8192 / l) (div_ceil 1376 l) c.args.block) (sym size) from)) in
-    let kept = c.args.self.now in
-    let block = c.args.block in
-    let w = slice_set v block c.args.new.now in
-    let new = c.keep.new.view in
-    let Known = IsKnownWrite g.V.View c.args.view.now new kept block c.args.new.now v in
-    let same : Known → kept.geometry ≡ accepted (geometry_on kept.l kept.n w) = λ h. h.was.geometry ∙ ap accepted (super_off kept.l kept.n v block c.args.new.now out) in
-    bound_off g.V.View Known kept.l kept.n v w block kept.geometry (table_of kept.claims) (IsClaimedBehind g.V.View c.args.view.now new kept kept.geometry block c.args.new.now) c.args.view.now new
-    g.met.V.View.fetched_both g.met.V.View.fetched_none c.keep.ensures.fetched (λ h. record { first = h.was.geometry; second = same h; were = h.was.claims })
-    (λ h place claimed. claimed v (h, same h))
+    bound_outside g.V.View g.met.V.View.fetched_both g.met.V.View.fetched_none c.args.self.now v c.args.block c.args.new.now c.args.view.now c.keep.new.view out c.keep.ensures.fetched
 
 pub returns-then-not-is_in_superblock-clause-reread : goal.returns-then-not-is_in_superblock-clause-reread
 returns-then-not-is_in_superblock-clause-reread g c = λ v.
     let size = c.fragment_bytes.ensures.value ∙ c.requires.levels ∙ sym c.requires.size in
     let out : IsFrom (8192 / c.args.self.now.l) (div_ceil 1376 c.args.self.now.l) c.args.block → ⊥ = λ from.
     false≢true (sym c.if-not-is_in_superblock.true ∙ c.is_in_superblock.ensures.1 (subst (λ (l : ℕ). IsFrom (8192 / l) (div_ceil 1376 l) c.args.block) (sym size) from)) in
-    let kept = c.args.self.now in
-    let block = c.args.block in
-    let w = slice_set v block c.args.new.now in
-    let new = c.keep.new.view in
-    let Known = IsKnownWrite g.V.View c.args.view.now new kept block c.args.new.now v in
-    let same : Known → kept.geometry ≡ accepted (geometry_on kept.l kept.n w) = λ h. h.was.geometry ∙ ap accepted (super_off kept.l kept.n v block c.args.new.now out) in
-    bound_off g.V.View Known kept.l kept.n v w block kept.geometry (table_of kept.claims) (IsClaimedBehind g.V.View c.args.view.now new kept kept.geometry block c.args.new.now) c.args.view.now new
-    g.met.V.View.fetched_both g.met.V.View.fetched_none c.keep.ensures.fetched (λ h. record { first = h.was.geometry; second = same h; were = h.was.claims })
-    (λ h place claimed. claimed v (h, same h))
+    bound_outside g.V.View g.met.V.View.fetched_both g.met.V.View.fetched_none c.args.self.now v c.args.block c.args.new.now c.args.view.now c.keep.new.view out c.keep.ensures.fetched
 
 pub returns-then-not-is_in_superblock-clause-fetched : goal.returns-then-not-is_in_superblock-clause-fetched
 returns-then-not-is_in_superblock-clause-fetched g c = λ moved is v. returns-then-not-is_in_superblock-clause-reread g c v
