@@ -1,19 +1,19 @@
 -- A call on one group of a rack of groups.
-use Rattle.std.proofs.Common.{◌≡◌, ◌≢◌, ℕ, zero, suc, ◌+◌, ◌*◌, ◌/◌, ◌%◌, ◌<◌, ◌≤◌, ◌⊎◌, inl, inr, Bool, true, false, List, [], ◌∷◌, length, get_or, set, refl, sym, ap, subst, ◌∙◌, arith, eq-eqb}
-use Rattle.std.specs.Prelude.{Option, None, Some, IsSome, IfSome, is_some, slice_get, slice_index, nat_lt, not, ◌&&◌, ◌==◌, if◌then◌else◌}
+use Rattle.std.proofs.Common.{◌≡◌, ◌≢◌, ℕ, zero, suc, ◌/◌, ◌%◌, ◌<◌, ◌≤◌, ◌⊎◌, inl, inr, Bool, true, false, List, [], ◌∷◌, length, get_or, set, refl, sym, ap, subst, ◌∙◌, arith, eq-eqb}
+use Rattle.std.specs.Prelude.{Option, None, Some, IsSome, slice_get, slice_index, nat_lt, not, ◌&&◌, ◌==◌, if◌then◌else◌}
 use Rattle.std.proofs.lemmas.Bool.{cases_eq, cases_Bool, false≢true, and_parts}
 use Rattle.std.proofs.lemmas.Bool.Decides.{nat_tests}
 use Rattle.std.proofs.lemmas.List.{length-set}
 use Rattle.std.proofs.lemmas.Option.{slice_get_read}
 use Rattle.dg_model.specs.Causes.{Rose}
 use Rattle.dg_model.specs.States.{Counts, CountsRise}
-use Rattle.dg_io.specs.Disks.{DiskStates, DisksRise, IsGroupSame}
+use Rattle.dg_io.specs.Disks.{IsGroupSame}
 use Rattle.dg_io.specs.Told.{Told, IsSame}
 use Rattle.dg_io.specs.declared.outside.Rack.{Ghosts}
 use Rattle.dg_parity.specs.Arrays.{AreKept, IsGroupOf, NoneBack, Steps, faults_of, group_at, is_served, out_of, serves, size_at, size_of, states_in, told_at, told_of, width_at, width_of}
 use Rattle.dg_parity.specs.Blanks.{IsForeign, LeavesOthers}
-use Rattle.dg_parity.specs.Exclusive.{xor_upto, with_at}
-use Rattle.dg_parity.specs.Stripes.{InStripes, IsClear, IsEven, made_up, member_by, spot_of}
+use Rattle.dg_parity.specs.Exclusive.{with_at}
+use Rattle.dg_parity.specs.Stripes.{made_up, spot_of}
 use Rattle.dg_parity.specs.Groups.{disk_number, disk_in, header_in, is_lost, is_out, length_of, AllTold, IsStill, LeavesGroup}
 use Rattle.dg_parity.specs.Headers.{header_bytes}
 use Rattle.dg_parity.specs.Kept.{all_told, bytes_in, made_by, IsKept}

@@ -1,5 +1,5 @@
 -- The calls of a rack of groups, with its own counts.
-use Rattle.std.proofs.Common.{◌≡◌, ◌≢◌, ◌/◌, ◌≤◌, ◌<◌, ◌+◌, ◌%◌, ◌∷◌, ◌++◌, ℕ, zero, suc, Bool, true, false, List, [], inl, inr, refl, sym, ap, subst, ◌∙◌, arith}
+use Rattle.std.proofs.Common.{◌≡◌, ◌≢◌, ◌/◌, ◌≤◌, ◌<◌, ◌%◌, ◌∷◌, ◌++◌, ℕ, zero, suc, Bool, true, false, List, [], inl, inr, refl, sym, ap, subst, ◌∙◌, arith}
 use Rattle.std.specs.Prelude.{Option, None, Some, Result, Ok, Err, IfOk, IfSome, OnOk, OnErr, is_err, length, nat_lt, not, ◌&&◌, slice_get, slice_index, take, if◌then◌else◌, IsSome}
 use Rattle.std.proofs.lemmas.Bool.{and_parts, cases_eq, false≢true}
 use Rattle.std.proofs.lemmas.List.{take_all}
@@ -9,7 +9,6 @@ use Rattle.dg_model.specs.States.{Counts}
 use Rattle.dg_io.specs.DiskAnswers.{LeavesMembers}
 use Rattle.dg_io.specs.Faults.{HasCause}
 use Rattle.dg_io.specs.RackCalls.{RackCall, IsNoBlankAt, member_of}
-use Rattle.dg_io.specs.RackCalls.RackCall.{looks, blanks, calls}
 use Rattle.dg_io.specs.RackWords.{Leaves}
 use Rattle.dg_io.specs.Told.{IsEmpty, IsSame, KeepsFront, Measures, Told}
 use Rattle.dg_io.specs.declared.outside.Rack.{Ghosts}

@@ -1,6 +1,6 @@
 -- A group whose member gets longer.
-use Rattle.std.proofs.Common.{◌≡◌, ◌≢◌, ℕ, zero, suc, ◌+◌, ◌-◌, ◌*◌, ◌<◌, ◌≤◌, ◌++◌, inl, inr, Bool, true, false, List, length, get_or, refl, sym, ap, subst, ◌∙◌, arith, length-append}
-use Rattle.std.specs.Prelude.{Option, None, Some, IsSome, IfSome, slice_index, replicate, bit_xor, nat_lt, ◌&&◌, if◌then◌else◌}
+use Rattle.std.proofs.Common.{◌≡◌, ◌≢◌, ℕ, ◌+◌, ◌-◌, ◌*◌, ◌<◌, ◌≤◌, ◌++◌, inl, inr, Bool, true, false, List, length, get_or, refl, sym, ap, subst, ◌∙◌, arith, length-append}
+use Rattle.std.specs.Prelude.{Option, None, Some, IsSome, IfSome, slice_index, replicate, nat_lt, ◌&&◌, if◌then◌else◌}
 use Rattle.std.proofs.Math.Nat.{div-mul-le_self}
 use Rattle.std.proofs.lemmas.Bool.{cases_eq, cases_lt, cases_Bool, false≢true, and_parts}
 use Rattle.std.proofs.lemmas.Bool.Decides.{nat_tests}
@@ -10,16 +10,15 @@ use Rattle.dg_model.specs.Causes.{Rose}
 use Rattle.dg_io.specs.Told.{Told, IsSame, Extended, FitsIn}
 use Rattle.dg_io.specs.declared.outside.Rack.{Ghosts}
 use Rattle.dg_parity.specs.Blanks.{IsForeign, LeavesOthers}
-use Rattle.dg_parity.specs.Exclusive.{xor_upto}
 use Rattle.dg_parity.specs.Extends.{ExtendsOne, IsExtended, GrowsTo, stretched}
-use Rattle.dg_parity.specs.Stripes.{InStripes, IsClear, IsEven, chunks_of, stripes_of, disk_length, member_by, spot_of}
+use Rattle.dg_parity.specs.Stripes.{IsClear, IsEven, chunks_of, stripes_of, disk_length, member_by, spot_of}
 use Rattle.dg_parity.specs.Groups.{disk_number, is_out, is_lost, length_of, bytes_of, disk_in, AllTold, IsReady, Holds, StandsFor, IsRestarted, LeavesGroup}
 use Rattle.dg_parity.specs.Kept.{all_told, bytes_in, made_by, IsKept}
 use Rattle.dg_parity.specs.declared.groups.Group.{Group}
 use Rattle.dg_parity.proofs.BlankLemmas.{no-xor, zero-at, others-none, others-then, others-named, others-of}
 use Rattle.dg_parity.proofs.CallLemmas.{told-back}
 use Rattle.dg_parity.proofs.ExclusiveLemmas.{xor-same}
-use Rattle.dg_parity.proofs.GroupLemmas.{in-before, later-same, later-then, other-disk, rise-then, rose-later, rose-sooner, same-self, same-then, told-at}
+use Rattle.dg_parity.proofs.GroupLemmas.{in-before, later-same, later-then, other-disk, rose-later, rose-sooner, same-self, same-then, told-at}
 use Rattle.dg_parity.proofs.HoldLemmas.{length-told}
 use Rattle.dg_parity.proofs.KeptLemmas.{kept-of, kept-stands, stands-is, told-each}
 use Rattle.dg_parity.proofs.KeptSteps.{both-true, each-told, told-if}

@@ -1,11 +1,11 @@
 -- What a rack over a rack means that is plain, or of groups of disks. A plain one is the rack behind, and has no disks.
-use Rattle.std.specs.Prelude.{◌≡◌, ℕ, Bool, List, Option, None, Some, length}
+use Rattle.std.specs.Prelude.{◌≡◌, ◌<◌, ℕ, Bool, true, false, List, Option, None, Some, length}
 use Rattle.dg_io.specs.Disks.{DiskStates, no_disks}
 use Rattle.dg_io.specs.Kept.{Kept}
 use Rattle.dg_io.specs.RackCalls.{RackCall}
 use Rattle.dg_io.specs.declared.outside.Rack.{Ghosts}
 use Rattle.dg_model.specs.States.{Counts}
-use Rattle.dg_parity.specs.Arrays.{Grouped, GroupedMade, IsNewOver, grouped_bytes, grouped_counts, grouped_disks, grouped_keeps, grouped_name, grouped_stands, grouped_steady, grouped_tells}
+use Rattle.dg_parity.specs.Arrays.{Grouped, GroupedMade, IsNewOver, group_at, grouped_bytes, grouped_counts, grouped_disks, grouped_keeps, grouped_name, grouped_stands, grouped_steady, grouped_tells, is_fallen, serves, size_at}
 use Rattle.dg_parity.specs.declared.parity_racks.ParityRack.{ParityRack}
 use Rattle.dg_parity.specs.declared.parity_racks.ParityRack.TheVariants.{Plain, OfGroups}
 
@@ -68,6 +68,30 @@ width_in = either (λ it. None) (λ it. Some it.width)
 -- how many groups it has
 abbrev pub groups_in : {R : Type 0} → ParityRack R → ℕ
 groups_in = either (λ it. 0) (λ it. length it.groups)
+
+-- how many groups it has, and how many disks each of them, is for good
+pub record IsShaped {R : Type 0} (old new : ParityRack R) : Type 0 where
+  pub width : width_in new ≡ width_in old
+  pub groups : groups_in new ≡ groups_in old
+
+-- fewer than two disks of the member's group are out. Of a plain rack this says nothing
+abbrev pub IsServed : {R : Type 0} → ParityRack R → ℕ → Type 0
+IsServed = either (λ it q. Unit {0}) (λ it q. serves it.groups q ≡ true)
+
+-- two disks of the member's group are out, or it has none
+abbrev pub IsUnserved : {R : Type 0} → ParityRack R → ℕ → Type 0
+IsUnserved = either (λ it q. Unit {0}) (λ it q. serves it.groups q ≡ false)
+
+-- two disks of the member's group went out
+abbrev pub IsFallen : {R : Type 0} → ParityRack R → ℕ → Type 0
+IsFallen = either (λ it q. Unit {0}) (λ it q. is_fallen (group_at it.groups q) ≡ true)
+
+-- the member of a group has fewer bytes, or more
+abbrev pub IsPast : {R : Type 0} → ParityRack R → ℕ → ℕ → Type 0
+IsPast = either (λ it q n. Unit {0}) (λ it q n. size_at it.groups q < n)
+
+abbrev pub IsShort : {R : Type 0} → ParityRack R → ℕ → ℕ → Type 0
+IsShort = either (λ it q n. Unit {0}) (λ it q n. n < size_at it.groups q)
 
 -- it is of so many groups of n disks over this rack, none of which was made yet
 abbrev pub IsNew : {R : Type 0} → R → ℕ → ℕ → ParityRack R → Type 0

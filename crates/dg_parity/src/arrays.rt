@@ -68,7 +68,14 @@ impl<R: Rack + Drop> GroupRack<R> {
 }
 
 impl<R: Rack> Rack for GroupRack<R> {
-    ghost use Rattle.dg_parity.specs.Arrays.{GroupedMade, grouped_bytes, grouped_counts, grouped_disks, grouped_keeps, grouped_name, grouped_stands, grouped_steady, grouped_tells};
+    ghost use Rattle.std.specs.Prelude.{◌≡◌, ◌⊎◌, ◌+◌, ◌≤◌, ◌<◌, ◌∷◌, [], true, false, length, None, IfOk, IfSome, IsSome, OnErr, OnOk};
+    ghost use Rattle.dg_model.specs.Causes.{RoseByOne};
+    ghost use Rattle.dg_io.specs.RackWords.{Leaves};
+    ghost use Rattle.dg_io.specs.Kept.{KeepsRest};
+    ghost use Rattle.dg_io.specs.RackCalls.{RackCall};
+    ghost use Rattle.dg_io.specs.Told.{Told, IsSame, IsZeros, Measures, IsEmpty, Reads, Patched, Torn, FitsIn, Extended, KeepsFront, IsHeader, OldOrNew};
+    ghost use Rattle.dg_parity.specs.Arrays.{IsShaped, group_at, is_fallen, serves, size_at};
+    ghost use Rattle.dg_parity.specs.Arrays.{GroupedMade, grouped_bytes, grouped_counts, grouped_disks, grouped_keeps, grouped_name, grouped_stands, grouped_steady, grouped_tells, grouped_words};
     ghost use Rattle.dg_parity.specs.ArrayLaws.{grouped_after, grouped_both, grouped_none};
 
     ghost name = { grouped_name R.Rack };
@@ -89,31 +96,91 @@ impl<R: Rack> Rack for GroupRack<R> {
 
     ghost made = { GroupedMade R.Rack };
 
-    fn blank(&mut self, member: u8, length: u64) -> Result<(), Failed> {
+    /// It fails exactly where two disks of the group are out at its end.
+    fn blank(&mut self, member: u8, length: u64) -> Result<(), Failed>
+        ensures ok { OnOk result (Told (IsZeros length) (grouped_bytes R.Rack self.old member) (grouped_bytes R.Rack self.new member)) }
+        ensures leaves { Leaves (grouped_words R.Rack) member result self.old self.new }
+        ensures stands { OnOk result (grouped_stands R.Rack self.new member ≡ true) }
+        ensures keeps { KeepsRest (grouped_keeps R.Rack) (grouped_stands R.Rack) member self.old self.new }
+        ensures made { GroupedMade R.Rack self.old (RackCall.blanks member ∷ []) self.new }
+        ensures writes { RoseByOne (grouped_counts R.Rack self.old).writes (grouped_counts R.Rack self.new).writes }
+        ensures shape { IsShaped self.old self.new }
+        ensures alive { OnOk result (serves self.new.groups member ≡ true) }
+        ensures fails { OnErr result (serves self.new.groups member ≡ false) }
+    {
         let result = blank_at(&mut self.groups, &mut self.rack, member, length);
         self.tally.note_write(member, result.is_err());
         result
     }
 
-    fn attach(&mut self, member: u8) -> Result<Option<u64>, Failed> {
+    /// It fails exactly where two disks of the group went out. A group that was never made isn't there. It makes no call behind.
+    fn attach(&mut self, member: u8) -> Result<Option<u64>, Failed>
+        ensures found { IfOk result (λ found. IfSome found (λ n. Told (Measures n) (grouped_bytes R.Rack self.old member) (grouped_bytes R.Rack self.new member))) }
+        ensures absent { IfOk result (λ found. found ≡ None → Told IsEmpty (grouped_bytes R.Rack self.old member) (grouped_bytes R.Rack self.new member)) }
+        ensures same { Told IsSame (grouped_bytes R.Rack self.old member) (grouped_bytes R.Rack self.new member) }
+        ensures leaves { Leaves (grouped_words R.Rack) member result self.old self.new }
+        ensures stands { IfOk result (λ found. IsSome found → grouped_stands R.Rack self.new member ≡ true) }
+        ensures made { GroupedMade R.Rack self.old (RackCall.looks member ∷ []) self.new }
+        ensures writes { (grouped_counts R.Rack self.new).writes ≡ (grouped_counts R.Rack self.old).writes }
+        ensures shape { IsShaped self.old self.new }
+        ensures fails { OnErr result (is_fallen (group_at self.new.groups member) ≡ true) }
+    {
         let result = find_at(&self.groups, member);
         self.tally.note(member, result.is_err());
         result
     }
 
-    fn read(&mut self, member: u8, place: u64, buf: &mut [u8]) -> Result<(), Failed> {
+    /// It fails exactly where two disks of the group are out at its end, or the range is past the member.
+    fn read(&mut self, member: u8, place: u64, buf: &mut [u8]) -> Result<(), Failed>
+        requires stands { grouped_stands R.Rack self.old member ≡ true }
+        requires range { IfSome (grouped_bytes R.Rack self.old member) (λ all. place + length buf.old ≤ length all) }
+        ensures ok { OnOk result (Told (Reads place buf.new) (grouped_bytes R.Rack self.old member) (grouped_bytes R.Rack self.new member)) }
+        ensures same { Told IsSame (grouped_bytes R.Rack self.old member) (grouped_bytes R.Rack self.new member) }
+        ensures made { GroupedMade R.Rack self.old (RackCall.calls member ∷ []) self.new }
+        ensures leaves { Leaves (grouped_words R.Rack) member result self.old self.new }
+        ensures writes { (grouped_counts R.Rack self.new).writes ≡ (grouped_counts R.Rack self.old).writes }
+        ensures shape { IsShaped self.old self.new }
+        ensures alive { OnOk result (serves self.new.groups member ≡ true) }
+        ensures fails { OnErr result ((serves self.new.groups member ≡ false) ⊎ (size_at self.old.groups member < place + length buf.old)) }
+    {
         let result = read_at(&mut self.groups, &mut self.rack, member, place, buf);
         self.tally.note(member, result.is_err());
         result
     }
 
-    fn write(&mut self, member: u8, place: u64, buf: &[u8]) -> Result<(), Failed> {
+    /// It fails exactly where two disks of the group are out at its end, or the range is past the member.
+    fn write(&mut self, member: u8, place: u64, buf: &[u8]) -> Result<(), Failed>
+        requires stands { grouped_stands R.Rack self.old member ≡ true }
+        requires range { IfSome (grouped_bytes R.Rack self.old member) (λ all. place + length buf.now ≤ length all) }
+        ensures ok { OnOk result (Told (Patched place buf.now) (grouped_bytes R.Rack self.old member) (grouped_bytes R.Rack self.new member)) }
+        ensures err { OnErr result (Told (Torn place (length buf.now)) (grouped_bytes R.Rack self.old member) (grouped_bytes R.Rack self.new member)) }
+        ensures whole { OnErr result (grouped_steady R.Rack self.old → IsHeader place buf.now
+            → Told (OldOrNew place buf.now) (grouped_bytes R.Rack self.old member) (grouped_bytes R.Rack self.new member)) }
+        ensures made { GroupedMade R.Rack self.old (RackCall.calls member ∷ []) self.new }
+        ensures leaves { Leaves (grouped_words R.Rack) member result self.old self.new }
+        ensures writes { RoseByOne (grouped_counts R.Rack self.old).writes (grouped_counts R.Rack self.new).writes }
+        ensures shape { IsShaped self.old self.new }
+        ensures alive { OnOk result (serves self.new.groups member ≡ true) }
+        ensures fails { OnErr result ((serves self.new.groups member ≡ false) ⊎ (size_at self.old.groups member < place + length buf.now)) }
+    {
         let result = write_at(&mut self.groups, &mut self.rack, member, place, buf);
         self.tally.note_write(member, result.is_err());
         result
     }
 
-    fn extend(&mut self, member: u8, length: u64) -> Result<(), Failed> {
+    /// It fails exactly where two disks of the group are out at its end, or the member is longer.
+    fn extend(&mut self, member: u8, length: u64) -> Result<(), Failed>
+        requires stands { grouped_stands R.Rack self.old member ≡ true }
+        requires longer { IfSome (grouped_bytes R.Rack self.old member) (FitsIn length) }
+        ensures ok { OnOk result (Told (Extended length) (grouped_bytes R.Rack self.old member) (grouped_bytes R.Rack self.new member)) }
+        ensures err { OnErr result (Told KeepsFront (grouped_bytes R.Rack self.old member) (grouped_bytes R.Rack self.new member)) }
+        ensures made { GroupedMade R.Rack self.old (RackCall.calls member ∷ []) self.new }
+        ensures leaves { Leaves (grouped_words R.Rack) member result self.old self.new }
+        ensures writes { RoseByOne (grouped_counts R.Rack self.old).writes (grouped_counts R.Rack self.new).writes }
+        ensures shape { IsShaped self.old self.new }
+        ensures alive { OnOk result (serves self.new.groups member ≡ true) }
+        ensures fails { OnErr result ((serves self.new.groups member ≡ false) ⊎ (length < size_at self.old.groups member)) }
+    {
         let result = extend_at(&mut self.groups, &mut self.rack, member, length);
         self.tally.note_write(member, result.is_err());
         result

@@ -1,5 +1,4 @@
-use Rattle.std.proofs.Common.{◌≡◌, ◌⊎◌, ◌<◌, inl, inr, true, false, sym, ◌∙◌, arith}
-use Rattle.std.proofs.lemmas.Bool.{false≢true}
+use Rattle.std.proofs.Common.{sym, ◌∙◌, arith}
 use Rattle.dg_parity.proofs.ExtendLemmas.{longer-kept, longer-told, longer-leaves, longer-cause}
 use Rattle.dg_parity.proofs.extends.extend.Goals as goal
 

@@ -1,12 +1,12 @@
 use Rattle.std.proofs.Common.{◌≡◌, List, [], ◌∷◌, true, refl, subst}
-use Rattle.std.specs.Prelude.{IfOk, IfSome, None}
+use Rattle.std.specs.Prelude.{IfOk, IfSome, None, OnErr}
 use Rattle.dg_io.specs.RackCalls.RackCall.{looks}
 use Rattle.dg_io.specs.RackWords.{Leaves}
 use Rattle.dg_io.specs.Told.{IsEmpty, IsSame, Measures, Told}
 use Rattle.dg_parity.proofs.ArrayLemmas.{steps-none}
 use Rattle.dg_parity.proofs.ArraySteps.{absent_empty, found_measures, found_stands, leaves_grouped, made_grouped, tally_of}
 use Rattle.dg_parity.proofs.GroupLemmas.{same-self}
-use Rattle.dg_parity.specs.Arrays.{Grouped, GroupedMade, group_at, grouped_bytes, grouped_words, is_unmade, serves, size_at}
+use Rattle.dg_parity.specs.Arrays.{Grouped, GroupedMade, group_at, grouped_bytes, grouped_words, is_unmade, serves, size_at, IsShaped, is_fallen}
 use Rattle.dg_parity.specs.declared.groups.Group.{Group}
 use Rattle.dg_parity.proofs.arrays.GroupRackRack.attach.Goals as goal
 
@@ -68,3 +68,14 @@ returns-clause-stands g c =
     let old : Grouped g.row.R.Denot = record { rack = c.self.inside.rack; width = c.self.inside.width; groups = c.self.inside.groups.items; tally = c.self.inside.tally } in
     let new : Grouped g.row.R.Denot = record { rack = c.self.inside.rack; width = c.self.inside.width; groups = c.self.inside.groups.items; tally = c.note.new.self } in
     found_stands r
+
+pub returns-clause-shape : goal.returns-clause-shape
+returns-clause-shape g c =
+    let old : Grouped g.row.R.Denot = record { rack = c.self.inside.rack; width = c.self.inside.width; groups = c.self.inside.groups.items; tally = c.self.inside.tally } in
+    let new : Grouped g.row.R.Denot = record { rack = c.self.inside.rack; width = c.self.inside.width; groups = c.self.inside.groups.items; tally = c.note.new.self } in
+    let h : IsShaped old new = record { width = refl; groups = refl } in
+    subst (λ (s : Grouped g.row.R.Denot). IsShaped s new) c.self.view_is h
+
+pub returns-clause-fails : goal.returns-clause-fails
+returns-clause-fails g c =
+    subst (λ (l : List Group). OnErr c.find_at-result.result (is_fallen (group_at l c.args.member) ≡ true)) c.deref.ensures.value c.find_at-result.ensures.fails

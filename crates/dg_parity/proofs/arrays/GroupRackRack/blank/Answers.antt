@@ -6,7 +6,7 @@ use Rattle.dg_io.specs.RackWords.{Leaves}
 use Rattle.dg_io.specs.Told.{IsZeros, Told}
 use Rattle.dg_model.specs.Causes.{RoseByOne}
 use Rattle.dg_parity.proofs.ArraySteps.{blank_back, ok_on, held_after, leaves_grouped, made_grouped, tally_of}
-use Rattle.dg_parity.specs.Arrays.{Grouped, GroupedMade, grouped_bytes, grouped_keeps, grouped_stands, grouped_words}
+use Rattle.dg_parity.specs.Arrays.{Grouped, GroupedMade, grouped_bytes, grouped_keeps, grouped_stands, grouped_words, IsShaped}
 use Rattle.dg_parity.proofs.arrays.GroupRackRack.blank.Goals as goal
 
 pub blank_at-result-requires : goal.blank_at-result-requires
@@ -68,3 +68,10 @@ returns-clause-stands g c =
     let old : Grouped g.row.R.Denot = record { rack = c.self.inside.rack; width = c.self.inside.width; groups = c.self.inside.groups.items; tally = c.self.inside.tally } in
     let new : Grouped g.row.R.Denot = record { rack = c.blank_at-result.new.rack; width = c.self.inside.width; groups = c.blank_at-result.new.groups.items; tally = c.note_write.new.self } in
     ok_on r (true ≡ true) refl
+
+pub returns-clause-shape : goal.returns-clause-shape
+returns-clause-shape g c =
+    let old : Grouped g.row.R.Denot = record { rack = c.self.inside.rack; width = c.self.inside.width; groups = c.self.inside.groups.items; tally = c.self.inside.tally } in
+    let new : Grouped g.row.R.Denot = record { rack = c.blank_at-result.new.rack; width = c.self.inside.width; groups = c.blank_at-result.new.groups.items; tally = c.note_write.new.self } in
+    let h : IsShaped old new = record { width = refl; groups = c.blank_at-result.ensures.steps.count } in
+    subst (λ (s : Grouped g.row.R.Denot). IsShaped s new) c.self.view_is h

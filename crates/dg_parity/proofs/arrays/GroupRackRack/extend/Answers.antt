@@ -1,11 +1,11 @@
-use Rattle.std.proofs.Common.{◌≡◌, [], ◌∷◌, refl, subst}
+use Rattle.std.proofs.Common.{◌≡◌, [], ◌∷◌, refl, subst, ◌⊎◌, ◌<◌, false}
 use Rattle.std.specs.Prelude.{OnErr, OnOk}
 use Rattle.dg_io.specs.RackCalls.RackCall.{calls}
 use Rattle.dg_io.specs.RackWords.{Leaves}
 use Rattle.dg_io.specs.Told.{Extended, KeepsFront, Told}
 use Rattle.dg_model.specs.Causes.{RoseByOne}
 use Rattle.dg_parity.proofs.ArraySteps.{front_of, held_after, leaves_grouped, made_grouped, tally_of}
-use Rattle.dg_parity.specs.Arrays.{Grouped, GroupedMade, grouped_bytes, grouped_words}
+use Rattle.dg_parity.specs.Arrays.{Grouped, GroupedMade, grouped_bytes, grouped_words, IsShaped, serves, size_at}
 use Rattle.dg_parity.proofs.arrays.GroupRackRack.extend.Goals as goal
 
 pub extend_at-result-requires : goal.extend_at-result-requires
@@ -59,3 +59,15 @@ returns-clause-err g c =
     let new : Grouped g.row.R.Denot = record { rack = c.extend_at-result.new.rack; width = c.self.inside.width; groups = c.extend_at-result.new.groups.items; tally = c.note_write.new.self } in
     subst (λ (s : Grouped g.row.R.Denot). OnErr r (Told KeepsFront (grouped_bytes g.R.Rack s m) (grouped_bytes g.R.Rack new m))) c.self.view_is
     (front_of r (grouped_bytes g.R.Rack old m) (grouped_bytes g.R.Rack new m) c.extend_at-result.ensures.err)
+
+pub returns-clause-shape : goal.returns-clause-shape
+returns-clause-shape g c =
+    let old : Grouped g.row.R.Denot = record { rack = c.self.inside.rack; width = c.self.inside.width; groups = c.self.inside.groups.items; tally = c.self.inside.tally } in
+    let new : Grouped g.row.R.Denot = record { rack = c.extend_at-result.new.rack; width = c.self.inside.width; groups = c.extend_at-result.new.groups.items; tally = c.note_write.new.self } in
+    let h : IsShaped old new = record { width = refl; groups = c.extend_at-result.ensures.steps.count } in
+    subst (λ (s : Grouped g.row.R.Denot). IsShaped s new) c.self.view_is h
+
+pub returns-clause-fails : goal.returns-clause-fails
+returns-clause-fails g c =
+    subst (λ (s : Grouped g.row.R.Denot). OnErr c.extend_at-result.result ((serves c.extend_at-result.new.groups.items c.args.member ≡ false) ⊎ (c.args.length < size_at s.groups c.args.member))) c.self.view_is
+    c.extend_at-result.ensures.fails

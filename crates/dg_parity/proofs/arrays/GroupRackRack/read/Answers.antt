@@ -1,10 +1,10 @@
-use Rattle.std.proofs.Common.{◌≡◌, [], ◌∷◌, refl, subst}
-use Rattle.std.specs.Prelude.{OnOk}
+use Rattle.std.proofs.Common.{◌≡◌, [], ◌∷◌, refl, subst, ◌⊎◌, ◌+◌, ◌<◌, false, length}
+use Rattle.std.specs.Prelude.{OnOk, OnErr}
 use Rattle.dg_io.specs.RackCalls.RackCall.{calls}
 use Rattle.dg_io.specs.RackWords.{Leaves}
 use Rattle.dg_io.specs.Told.{IsSame, Reads, Told}
 use Rattle.dg_parity.proofs.ArraySteps.{held_after, leaves_grouped, made_grouped, tally_of}
-use Rattle.dg_parity.specs.Arrays.{Grouped, GroupedMade, grouped_bytes, grouped_words}
+use Rattle.dg_parity.specs.Arrays.{Grouped, GroupedMade, grouped_bytes, grouped_words, IsShaped, serves, size_at}
 use Rattle.dg_parity.proofs.arrays.GroupRackRack.read.Goals as goal
 
 pub read_at-result-requires : goal.read_at-result-requires
@@ -58,3 +58,15 @@ returns-clause-same g c =
     let new : Grouped g.row.R.Denot = record { rack = c.read_at-result.new.rack; width = c.self.inside.width; groups = c.read_at-result.new.groups.items; tally = c.note.new.self } in
     subst (λ (s : Grouped g.row.R.Denot). Told IsSame (grouped_bytes g.R.Rack s m) (grouped_bytes g.R.Rack new m)) c.self.view_is
     (c.read_at-result.ensures.same)
+
+pub returns-clause-shape : goal.returns-clause-shape
+returns-clause-shape g c =
+    let old : Grouped g.row.R.Denot = record { rack = c.self.inside.rack; width = c.self.inside.width; groups = c.self.inside.groups.items; tally = c.self.inside.tally } in
+    let new : Grouped g.row.R.Denot = record { rack = c.read_at-result.new.rack; width = c.self.inside.width; groups = c.read_at-result.new.groups.items; tally = c.note.new.self } in
+    let h : IsShaped old new = record { width = refl; groups = c.read_at-result.ensures.steps.count } in
+    subst (λ (s : Grouped g.row.R.Denot). IsShaped s new) c.self.view_is h
+
+pub returns-clause-fails : goal.returns-clause-fails
+returns-clause-fails g c =
+    subst (λ (s : Grouped g.row.R.Denot). OnErr c.read_at-result.result ((serves c.read_at-result.new.groups.items c.args.member ≡ false) ⊎ (size_at s.groups c.args.member < c.args.place + length c.args.buf.now))) c.self.view_is
+    c.read_at-result.ensures.fails

@@ -1,11 +1,11 @@
-use Rattle.std.proofs.Common.{◌≡◌, [], ◌∷◌, refl, subst}
+use Rattle.std.proofs.Common.{◌≡◌, [], ◌∷◌, refl, subst, ◌⊎◌, ◌+◌, ◌<◌, false, length}
 use Rattle.std.specs.Prelude.{OnErr, OnOk, length}
 use Rattle.dg_io.specs.RackCalls.RackCall.{calls}
 use Rattle.dg_io.specs.RackWords.{Leaves}
 use Rattle.dg_io.specs.Told.{IsHeader, OldOrNew, Patched, Told, Torn}
 use Rattle.dg_model.specs.Causes.{RoseByOne}
 use Rattle.dg_parity.proofs.ArraySteps.{err_on, held_after, leaves_grouped, made_grouped, tally_of}
-use Rattle.dg_parity.specs.Arrays.{Grouped, GroupedMade, grouped_bytes, grouped_words}
+use Rattle.dg_parity.specs.Arrays.{Grouped, GroupedMade, grouped_bytes, grouped_words, IsShaped, serves, size_at}
 use Rattle.dg_parity.proofs.arrays.GroupRackRack.write.Goals as goal
 
 pub write_at-result-requires : goal.write_at-result-requires
@@ -68,3 +68,15 @@ returns-clause-whole g c =
     let new : Grouped g.row.R.Denot = record { rack = c.write_at-result.new.rack; width = c.self.inside.width; groups = c.write_at-result.new.groups.items; tally = c.note_write.new.self } in
     subst (λ (s : Grouped g.row.R.Denot). OnErr r (⊥ → IsHeader c.args.place c.args.buf.now → Told (OldOrNew c.args.place c.args.buf.now) (grouped_bytes g.R.Rack s m) (grouped_bytes g.R.Rack new m))) c.self.view_is
     (err_on r _ (λ no. absurd no))
+
+pub returns-clause-shape : goal.returns-clause-shape
+returns-clause-shape g c =
+    let old : Grouped g.row.R.Denot = record { rack = c.self.inside.rack; width = c.self.inside.width; groups = c.self.inside.groups.items; tally = c.self.inside.tally } in
+    let new : Grouped g.row.R.Denot = record { rack = c.write_at-result.new.rack; width = c.self.inside.width; groups = c.write_at-result.new.groups.items; tally = c.note_write.new.self } in
+    let h : IsShaped old new = record { width = refl; groups = c.write_at-result.ensures.steps.count } in
+    subst (λ (s : Grouped g.row.R.Denot). IsShaped s new) c.self.view_is h
+
+pub returns-clause-fails : goal.returns-clause-fails
+returns-clause-fails g c =
+    subst (λ (s : Grouped g.row.R.Denot). OnErr c.write_at-result.result ((serves c.write_at-result.new.groups.items c.args.member ≡ false) ⊎ (size_at s.groups c.args.member < c.args.place + length c.args.buf.now))) c.self.view_is
+    c.write_at-result.ensures.fails

@@ -1,12 +1,13 @@
-use Rattle.std.proofs.Common.{◌≡◌, [], ◌∷◌, sym, subst}
-use Rattle.std.specs.Prelude.{IfOk, IfSome, None}
+use Rattle.std.proofs.Common.{◌≡◌, [], ◌∷◌, sym, subst, refl, ap}
+use Rattle.std.specs.Prelude.{IfOk, IfSome, None, Some, OnErr}
 use Rattle.dg_io.specs.RackCalls.RackCall.{looks}
 use Rattle.dg_io.specs.RackWords.{Leaves}
 use Rattle.dg_io.specs.Told.{IsEmpty, IsSame, Measures, Told}
 use Rattle.dg_parity.specs.ParityLaws.{grouped_leaves, grouped_made, plain_made, plain_leaves}
-use Rattle.dg_parity.specs.ParityRacks.{ParityMade, parity_bytes, parity_counts, parity_words}
+use Rattle.dg_parity.specs.ParityRacks.{ParityMade, parity_bytes, parity_counts, parity_words, IsShaped, IsFallen}
 use Rattle.dg_parity.specs.declared.parity_racks.ParityRack.{ParityRack}
 use Rattle.dg_parity.specs.declared.parity_racks.ParityRack.TheVariants.{Plain, OfGroups}
+use Rattle.dg_parity.proofs.ArraySteps.{err_on}
 use Rattle.dg_parity.proofs.parity_racks.ParityRackRack.attach.Goals as goal
 
 pub returns-in-Plain-clause-found : goal.returns-in-Plain-clause-found
@@ -50,3 +51,22 @@ returns-in-OfGroups-clause-made g c = subst (λ (s : ParityRack g.row.R.Denot). 
 
 pub returns-in-OfGroups-clause-writes : goal.returns-in-OfGroups-clause-writes
 returns-in-OfGroups-clause-writes g c = subst (λ (s : ParityRack g.row.R.Denot). (parity_counts g.R.Rack (OfGroups c.attach-in-OfGroups.new.self)).writes ≡ (parity_counts g.R.Rack s).writes) (sym c.in-OfGroups.is) c.attach-in-OfGroups.ensures.writes
+
+pub returns-in-Plain-clause-shape : goal.returns-in-Plain-clause-shape
+returns-in-Plain-clause-shape g c =
+    let h : IsShaped (Plain c.in-Plain.rack) (Plain c.attach.new.self) = record { width = refl; groups = refl } in
+    subst (λ (s : ParityRack g.row.R.Denot). IsShaped s (Plain c.attach.new.self)) (sym c.in-Plain.is) h
+
+pub returns-in-OfGroups-clause-shape : goal.returns-in-OfGroups-clause-shape
+returns-in-OfGroups-clause-shape g c =
+    let h : IsShaped (OfGroups c.in-OfGroups.grouped) (OfGroups c.attach-in-OfGroups.new.self) = record { width = ap Some c.attach-in-OfGroups.ensures.shape.width; groups = c.attach-in-OfGroups.ensures.shape.groups } in
+    subst (λ (s : ParityRack g.row.R.Denot). IsShaped s (OfGroups c.attach-in-OfGroups.new.self)) (sym c.in-OfGroups.is) h
+
+pub returns-in-Plain-clause-fails : goal.returns-in-Plain-clause-fails
+returns-in-Plain-clause-fails g c =
+    subst (λ (s : ParityRack g.row.R.Denot). OnErr c.attach.result (IsFallen (Plain c.attach.new.self) c.args.member)) (sym c.in-Plain.is)
+    (err_on c.attach.result (IsFallen (Plain c.attach.new.self) c.args.member) (tt))
+
+pub returns-in-OfGroups-clause-fails : goal.returns-in-OfGroups-clause-fails
+returns-in-OfGroups-clause-fails g c =
+    subst (λ (s : ParityRack g.row.R.Denot). OnErr c.attach-in-OfGroups.result (IsFallen (OfGroups c.attach-in-OfGroups.new.self) c.args.member)) (sym c.in-OfGroups.is) c.attach-in-OfGroups.ensures.fails

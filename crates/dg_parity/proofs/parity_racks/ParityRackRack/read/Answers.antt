@@ -1,12 +1,13 @@
-use Rattle.std.proofs.Common.{◌≡◌, ◌≤◌, ◌+◌, [], ◌∷◌, true, sym, subst}
-use Rattle.std.specs.Prelude.{IfSome, OnOk, length}
+use Rattle.std.proofs.Common.{◌≡◌, ◌≤◌, ◌+◌, [], ◌∷◌, true, sym, subst, ◌⊎◌, inl, refl, ap}
+use Rattle.std.specs.Prelude.{IfSome, OnOk, length, Some, OnErr}
 use Rattle.dg_io.specs.RackCalls.RackCall.{calls}
 use Rattle.dg_io.specs.RackWords.{Leaves}
 use Rattle.dg_io.specs.Told.{IsSame, Reads, Told}
 use Rattle.dg_parity.specs.ParityLaws.{grouped_leaves, grouped_made, plain_made, plain_leaves}
-use Rattle.dg_parity.specs.ParityRacks.{ParityMade, parity_bytes, parity_counts, parity_stands, parity_words}
+use Rattle.dg_parity.specs.ParityRacks.{ParityMade, parity_bytes, parity_counts, parity_stands, parity_words, IsServed, IsShaped, IsUnserved, IsPast}
 use Rattle.dg_parity.specs.declared.parity_racks.ParityRack.{ParityRack}
 use Rattle.dg_parity.specs.declared.parity_racks.ParityRack.TheVariants.{Plain, OfGroups}
+use Rattle.dg_parity.proofs.ArraySteps.{ok_on, err_on}
 use Rattle.dg_parity.proofs.parity_racks.ParityRackRack.read.Goals as goal
 
 pub read-requires-clause-stands : goal.read-requires-clause-stands
@@ -50,3 +51,28 @@ returns-in-OfGroups-clause-leaves g c = subst (λ (s : ParityRack g.row.R.Denot)
 
 pub returns-in-OfGroups-clause-writes : goal.returns-in-OfGroups-clause-writes
 returns-in-OfGroups-clause-writes g c = subst (λ (s : ParityRack g.row.R.Denot). (parity_counts g.R.Rack (OfGroups c.read-in-OfGroups.new.self)).writes ≡ (parity_counts g.R.Rack s).writes) (sym c.in-OfGroups.is) c.read-in-OfGroups.ensures.writes
+
+pub returns-in-Plain-clause-shape : goal.returns-in-Plain-clause-shape
+returns-in-Plain-clause-shape g c =
+    let h : IsShaped (Plain c.in-Plain.rack) (Plain c.read.new.self) = record { width = refl; groups = refl } in
+    subst (λ (s : ParityRack g.row.R.Denot). IsShaped s (Plain c.read.new.self)) (sym c.in-Plain.is) h
+
+pub returns-in-OfGroups-clause-shape : goal.returns-in-OfGroups-clause-shape
+returns-in-OfGroups-clause-shape g c =
+    let h : IsShaped (OfGroups c.in-OfGroups.grouped) (OfGroups c.read-in-OfGroups.new.self) = record { width = ap Some c.read-in-OfGroups.ensures.shape.width; groups = c.read-in-OfGroups.ensures.shape.groups } in
+    subst (λ (s : ParityRack g.row.R.Denot). IsShaped s (OfGroups c.read-in-OfGroups.new.self)) (sym c.in-OfGroups.is) h
+
+pub returns-in-Plain-clause-alive : goal.returns-in-Plain-clause-alive
+returns-in-Plain-clause-alive g c = ok_on c.read.result (IsServed (Plain c.read.new.self) c.args.member) tt
+
+pub returns-in-OfGroups-clause-alive : goal.returns-in-OfGroups-clause-alive
+returns-in-OfGroups-clause-alive g c = c.read-in-OfGroups.ensures.alive
+
+pub returns-in-Plain-clause-fails : goal.returns-in-Plain-clause-fails
+returns-in-Plain-clause-fails g c =
+    subst (λ (s : ParityRack g.row.R.Denot). OnErr c.read.result (IsUnserved (Plain c.read.new.self) c.args.member ⊎ IsPast s c.args.member (c.args.place + length c.args.buf.now))) (sym c.in-Plain.is)
+    (err_on c.read.result (IsUnserved (Plain c.read.new.self) c.args.member ⊎ IsPast (Plain c.in-Plain.rack) c.args.member (c.args.place + length c.args.buf.now)) (inl tt))
+
+pub returns-in-OfGroups-clause-fails : goal.returns-in-OfGroups-clause-fails
+returns-in-OfGroups-clause-fails g c =
+    subst (λ (s : ParityRack g.row.R.Denot). OnErr c.read-in-OfGroups.result (IsUnserved (OfGroups c.read-in-OfGroups.new.self) c.args.member ⊎ IsPast s c.args.member (c.args.place + length c.args.buf.now))) (sym c.in-OfGroups.is) c.read-in-OfGroups.ensures.fails

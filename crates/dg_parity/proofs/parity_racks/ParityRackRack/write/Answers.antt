@@ -1,13 +1,14 @@
-use Rattle.std.proofs.Common.{◌≡◌, ◌≤◌, ◌+◌, [], ◌∷◌, true, sym, subst}
-use Rattle.std.specs.Prelude.{IfSome, OnErr, OnOk, length}
+use Rattle.std.proofs.Common.{◌≡◌, ◌≤◌, ◌+◌, [], ◌∷◌, true, sym, subst, ◌⊎◌, inl, refl, ap}
+use Rattle.std.specs.Prelude.{IfSome, OnErr, OnOk, length, Some}
 use Rattle.dg_io.specs.RackCalls.RackCall.{calls}
 use Rattle.dg_io.specs.RackWords.{Leaves}
 use Rattle.dg_io.specs.Told.{IsHeader, OldOrNew, Patched, Told, Torn}
 use Rattle.dg_model.specs.Causes.{RoseByOne}
 use Rattle.dg_parity.specs.ParityLaws.{grouped_leaves, grouped_made, plain_made, plain_leaves}
-use Rattle.dg_parity.specs.ParityRacks.{ParityMade, parity_bytes, parity_counts, parity_stands, parity_steady, parity_words}
+use Rattle.dg_parity.specs.ParityRacks.{ParityMade, parity_bytes, parity_counts, parity_stands, parity_steady, parity_words, IsServed, IsShaped, IsUnserved, IsPast}
 use Rattle.dg_parity.specs.declared.parity_racks.ParityRack.{ParityRack}
 use Rattle.dg_parity.specs.declared.parity_racks.ParityRack.TheVariants.{Plain, OfGroups}
+use Rattle.dg_parity.proofs.ArraySteps.{ok_on, err_on}
 use Rattle.dg_parity.proofs.parity_racks.ParityRackRack.write.Goals as goal
 
 pub write-requires-clause-stands : goal.write-requires-clause-stands
@@ -57,3 +58,28 @@ returns-in-OfGroups-clause-leaves g c = subst (λ (s : ParityRack g.row.R.Denot)
 
 pub returns-in-OfGroups-clause-writes : goal.returns-in-OfGroups-clause-writes
 returns-in-OfGroups-clause-writes g c = subst (λ (s : ParityRack g.row.R.Denot). RoseByOne (parity_counts g.R.Rack s).writes (parity_counts g.R.Rack (OfGroups c.write-in-OfGroups.new.self)).writes) (sym c.in-OfGroups.is) c.write-in-OfGroups.ensures.writes
+
+pub returns-in-Plain-clause-shape : goal.returns-in-Plain-clause-shape
+returns-in-Plain-clause-shape g c =
+    let h : IsShaped (Plain c.in-Plain.rack) (Plain c.write.new.self) = record { width = refl; groups = refl } in
+    subst (λ (s : ParityRack g.row.R.Denot). IsShaped s (Plain c.write.new.self)) (sym c.in-Plain.is) h
+
+pub returns-in-OfGroups-clause-shape : goal.returns-in-OfGroups-clause-shape
+returns-in-OfGroups-clause-shape g c =
+    let h : IsShaped (OfGroups c.in-OfGroups.grouped) (OfGroups c.write-in-OfGroups.new.self) = record { width = ap Some c.write-in-OfGroups.ensures.shape.width; groups = c.write-in-OfGroups.ensures.shape.groups } in
+    subst (λ (s : ParityRack g.row.R.Denot). IsShaped s (OfGroups c.write-in-OfGroups.new.self)) (sym c.in-OfGroups.is) h
+
+pub returns-in-Plain-clause-alive : goal.returns-in-Plain-clause-alive
+returns-in-Plain-clause-alive g c = ok_on c.write.result (IsServed (Plain c.write.new.self) c.args.member) tt
+
+pub returns-in-OfGroups-clause-alive : goal.returns-in-OfGroups-clause-alive
+returns-in-OfGroups-clause-alive g c = c.write-in-OfGroups.ensures.alive
+
+pub returns-in-Plain-clause-fails : goal.returns-in-Plain-clause-fails
+returns-in-Plain-clause-fails g c =
+    subst (λ (s : ParityRack g.row.R.Denot). OnErr c.write.result (IsUnserved (Plain c.write.new.self) c.args.member ⊎ IsPast s c.args.member (c.args.place + length c.args.buf.now))) (sym c.in-Plain.is)
+    (err_on c.write.result (IsUnserved (Plain c.write.new.self) c.args.member ⊎ IsPast (Plain c.in-Plain.rack) c.args.member (c.args.place + length c.args.buf.now)) (inl tt))
+
+pub returns-in-OfGroups-clause-fails : goal.returns-in-OfGroups-clause-fails
+returns-in-OfGroups-clause-fails g c =
+    subst (λ (s : ParityRack g.row.R.Denot). OnErr c.write-in-OfGroups.result (IsUnserved (OfGroups c.write-in-OfGroups.new.self) c.args.member ⊎ IsPast s c.args.member (c.args.place + length c.args.buf.now))) (sym c.in-OfGroups.is) c.write-in-OfGroups.ensures.fails
