@@ -1,8 +1,12 @@
+pub mod ArrayLemmas
+pub mod ArraySteps
 pub mod BlankLemmas
 pub mod BytesLemmas
 pub mod CallLemmas
 pub mod CountLemmas
+pub mod DiskLemmas
 pub mod ExclusiveLemmas
+pub mod ExtendLemmas
 pub mod FallLemmas
 pub mod GroupLemmas
 pub mod HoldLemmas

@@ -22,6 +22,7 @@ pub struct Group {
     ghost number_fits: { number < 16 },
     ghost least: { 3 ≤ disks },
     ghost most: { disks ≤ 8 },
+    ghost beyond: { (j : ℕ) → disks ≤ j → slice_index_or out j false ≡ false },
 }
 
 impl Group {
@@ -134,6 +135,17 @@ impl Group {
     {
         self.length = size;
         self.epoch = 0;
+        self.noted = false;
+    }
+
+    /// The member is to have so many bytes.
+    pub(crate) fn grow(&mut self, size: u64)
+        ensures same { IsRestarted self.old self.new }
+        ensures size { self.new.length ≡ size }
+        ensures epoch { self.new.epoch ≡ self.old.epoch }
+        ensures noted { self.new.noted ≡ false }
+    {
+        self.length = size;
         self.noted = false;
     }
 

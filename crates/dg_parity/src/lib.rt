@@ -2,23 +2,31 @@
 //! a disk goes out where a call on it fails. With two disks out it is lost, and tells nothing.
 #![tactic(auto)]
 
+mod arrays;
 mod blanks;
 mod disks;
 mod drops;
+mod extends;
+mod group_calls;
 mod groups;
 mod headers;
 mod members;
 mod mends;
+mod parity_racks;
 mod parts;
 mod returns;
 mod stripes;
+mod tallies;
 mod told;
 mod xors;
 
+pub use arrays::GroupRack;
 pub use blanks::blank;
 pub use drops::drop_disk;
+pub use extends::extend;
 pub use groups::Group;
 pub use headers::{Header, fill_header, is_counted, read_header};
+pub use parity_racks::ParityRack;
 pub use returns::mend;
 pub use stripes::{Spot, disk_length, locate};
 pub use told::{read, write};

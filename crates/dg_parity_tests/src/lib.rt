@@ -2,4 +2,6 @@
 #![tactic(auto)]
 
 #[cfg(test)]
+mod racks;
+#[cfg(test)]
 mod tests;
