@@ -22,10 +22,10 @@ upto-each p (suc n) j h lt =
 pub told-each : {S : Type 0} (rack : Ghosts S) (group : Group) (now : S) → all_told rack group now ≡ true → AllTold rack group now
 told-each rack group now h j lt = upto-each (λ i. is_some (rack.bytes now (disk_number group.number i))) group.disks j h lt
 
-out-made : (n : ℕ) (out : ℕ → Bool) (disks : ℕ → List ℕ) (j x : ℕ) → out j ≡ true → made_up n out disks j x ≡ xor_upto (with_at (λ i. slice_index (disks i) x) j 0) n
+pub out-made : (n : ℕ) (out : ℕ → Bool) (disks : ℕ → List ℕ) (j x : ℕ) → out j ≡ true → made_up n out disks j x ≡ xor_upto (with_at (λ i. slice_index (disks i) x) j 0) n
 out-made n out disks j x e = ap (λ (b : Bool). if b then xor_upto (with_at (λ i. slice_index (disks i) x) j 0) n else slice_index (disks j) x) e
 
-in-made : (n : ℕ) (out : ℕ → Bool) (disks : ℕ → List ℕ) (j x : ℕ) → out j ≡ false → made_up n out disks j x ≡ slice_index (disks j) x
+pub in-made : (n : ℕ) (out : ℕ → Bool) (disks : ℕ → List ℕ) (j x : ℕ) → out j ≡ false → made_up n out disks j x ≡ slice_index (disks j) x
 in-made n out disks j x e = ap (λ (b : Bool). if b then xor_upto (with_at (λ i. slice_index (disks i) x) j 0) n else slice_index (disks j) x) e
 
 with-pointwise : (f h : ℕ → ℕ) (a i : ℕ) → (i ≢ a → f i ≡ h i) → with_at f a 0 i ≡ with_at h a 0 i

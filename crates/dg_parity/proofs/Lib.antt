@@ -1,6 +1,7 @@
 pub mod BlankLemmas
 pub mod BytesLemmas
 pub mod CallLemmas
+pub mod ChiefLemmas
 pub mod CountLemmas
 pub mod ExclusiveLemmas
 pub mod FallLemmas
@@ -12,6 +13,8 @@ pub mod MemberLemmas
 pub mod MemberSteps
 pub mod MendLemmas
 pub mod NoteLemmas
+pub mod OpenedLemmas
+pub mod OpeningLemmas
 pub mod PageLemmas
 pub mod PartLemmas
 pub mod ReturnLemmas

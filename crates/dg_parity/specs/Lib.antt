@@ -4,4 +4,5 @@ pub mod Groups
 pub mod Headers
 pub mod Kept
 pub mod Mends
+pub mod Openings
 pub mod Stripes

@@ -3,12 +3,14 @@
 #![tactic(auto)]
 
 mod blanks;
+mod chiefs;
 mod disks;
 mod drops;
 mod groups;
 mod headers;
 mod members;
 mod mends;
+mod openings;
 mod parts;
 mod returns;
 mod stripes;
@@ -16,9 +18,11 @@ mod told;
 mod xors;
 
 pub use blanks::blank;
+pub use chiefs::group_of;
 pub use drops::drop_disk;
 pub use groups::Group;
 pub use headers::{Header, fill_header, is_counted, read_header};
+pub use openings::{open_group, read_fronts};
 pub use returns::mend;
 pub use stripes::{Spot, disk_length, locate};
 pub use told::{read, write};

@@ -1,0 +1,128 @@
+-- A group that an opening made: its disks that are in stand, with their headers, and it stands for what they say.
+use Rattle.std.proofs.Common.{◌≡◌, ◌≢◌, ◌⊎◌, ℕ, zero, suc, ◌+◌, ◌<◌, ◌≤◌, inl, inr, Bool, true, false, List, length, take, refl, sym, ap, subst, ◌∙◌, arith}
+use Rattle.std.specs.Prelude.{Option, None, Some, IfSome, slice_index, bit_xor}
+use Rattle.std.proofs.lemmas.Bool.{cases_eq, cases_Bool, false≢true}
+use Rattle.std.proofs.lemmas.Nat.{xor_comm}
+use Rattle.std.specs.Int.Bits.{xor_self, xor_zero_r}
+use Rattle.dg_model.specs.Causes.{Rose}
+use Rattle.dg_io.specs.declared.outside.Rack.{Ghosts}
+use Rattle.dg_parity.specs.Exclusive.{xor_upto, with_at}
+use Rattle.dg_parity.specs.Stripes.{disk_length, IsEven, made_up}
+use Rattle.dg_parity.specs.Headers.{header_bytes, marks_of}
+use Rattle.dg_parity.specs.Groups.{disk_number, is_out, is_lost, length_of, disk_in, AllTold, header_in, HasHead, IsReady}
+use Rattle.dg_parity.specs.Kept.{made_by, IsKept}
+use Rattle.dg_parity.specs.Openings.{HasFront, IsFront, IsFound, HasWidth, IsChief, IsIn, IsOpened, IsEvenWhole}
+use Rattle.dg_parity.specs.declared.groups.Group.{Group}
+use Rattle.dg_parity.specs.declared.headers.Header.{Header}
+use Rattle.dg_parity.proofs.ExclusiveLemmas.{xor-same, xor-with, xor-twice, with-same, with-other}
+use Rattle.dg_parity.proofs.KeptLemmas.{out-made, in-made}
+use Rattle.dg_parity.proofs.PageLemmas.{same_fields}
+use Rattle.dg_parity.proofs.PartLemmas.{others-in}
+
+pub some-map : (o : Option (List ℕ)) (P Q : List ℕ → Type 0) → ((all : List ℕ) → P all → Q all) → IfSome o P → IfSome o Q
+some-map None P Q f h = tt
+some-map (Some all) P Q f h = f all h
+
+some-not : (h : Header) → Some h ≡ None → ⊥
+some-not h e = false≢true (sym (ap is_there e)) where
+  is_there : Option Header → Bool
+  is_there None = false
+  is_there (Some h) = true
+
+-- a disk that has a header: what it says stands in its bytes
+pub front-there : {S : Type 0} (rack : Ghosts S) (before now : S) (s j : ℕ) (front : Option Header) (h : Header) → front ≡ Some h → IsFound rack before now s j front
+    → IfSome (rack.bytes now (disk_number s j)) (λ all. HasFront s j all h)
+front-there rack before now s j front h is found = there (subst (λ (o : Option Header). IsFound rack before now s j o) is found).front_is where
+  there : IfSome (rack.bytes now (disk_number s j)) (λ all. IsFront s j all (Some h))
+      ⊎ ((Some h ≡ None) × Rose ((rack.counts before).faults (disk_number s j)) ((rack.counts now).faults (disk_number s j)))
+      → IfSome (rack.bytes now (disk_number s j)) (λ all. HasFront s j all h)
+  there (inl is) = is
+  there (inr fell) = absurd (some-not h fell.0)
+
+stands-there : {S : Type 0} (rack : Ghosts S) (before now : S) (s j : ℕ) (front : Option Header) (h : Header) → front ≡ Some h → IsFound rack before now s j front → rack.stands now (disk_number s j) ≡ true
+stands-there rack before now s j front h is found = (subst (λ (o : Option Header). IsFound rack before now s j o) is found).stands refl
+
+-- the header of a disk that is in is the one that the group gives it, where the group says that its headers stand
+own-header : (s j : ℕ) (all : List ℕ) (n : ℕ) (group : Group) (chief h : Header) → HasFront s j all h → group.number ≡ s → group.disks ≡ n → h.disks ≡ n → group.epoch ≡ chief.epoch
+    → h.epoch ≡ chief.epoch → group.length ≡ chief.size → h.size ≡ chief.size → h.marks ≡ chief.marks → marks_of (is_out group) 8 ≡ 0 → chief.marks ≡ 0 → h ≡ header_in group j
+own-header s j all n group chief h has number disks width epoch own size long marks none clear =
+    same_fields h.epoch group.epoch h.group group.number h.place j h.disks group.disks h.marks (marks_of (is_out group) 8) h.size group.length
+    (own ∙ sym epoch) (has.counted.group ∙ sym number) has.counted.place (width ∙ sym disks) (marks ∙ clear ∙ sym none) (long ∙ sym size)
+
+pub opened-ready : {S : Type 0} (rack : Ghosts S) (fronts : ℕ → Option Header) (n s : ℕ) (group : Group) (before now : S) → n ≤ 8
+    → ((j : ℕ) → j < 8 → IsFound rack before now s j (fronts j)) → IsOpened fronts n s group → IsReady rack group now
+opened-ready rack fronts n s group before now most found open0 =
+    let below : (j : ℕ) → j < group.disks → j < n = λ j lt. subst (λ (k : ℕ). j < k) open0.disks lt in
+    record {
+      stands = λ j lt in0. let i = (open0.ins j (below j lt)).0 in0 in
+          subst (λ (k : ℕ). rack.stands now (disk_number k j) ≡ true) (sym open0.number)
+          (stands-there rack before now s j (fronts j) i.header i.has.found (found j (omega (arith, below j lt, most))));
+      room = λ j lt in0. let i = (open0.ins j (below j lt)).0 in0 in
+          subst (λ (k : ℕ). IfSome (rack.bytes now (disk_number k j)) (λ all. length all ≡ length_of group)) (sym open0.number)
+          (some-map (rack.bytes now (disk_number s j)) (λ all. HasFront s j all i.header) (λ all. length all ≡ length_of group)
+          (λ all has. has.counted.size ∙ ap (λ (k : ℕ). disk_length k i.header.size) (i.has.width ∙ sym open0.disks) ∙ ap (disk_length group.disks) (i.size ∙ sym open0.size))
+          (front-there rack before now s j (fronts j) i.header i.has.found (found j (omega (arith, below j lt, most)))));
+      heads = λ noted j lt in0. let i = (open0.ins j (below j lt)).0 in0 in
+          subst (λ (k : ℕ). IfSome (rack.bytes now (disk_number k j)) (λ all. take 512 all ≡ header_bytes (header_in group j))) (sym open0.number)
+          (some-map (rack.bytes now (disk_number s j)) (λ all. HasFront s j all i.header) (λ all. take 512 all ≡ header_bytes (header_in group j))
+          (λ all has. has.bytes ∙ ap header_bytes (own-header s j all n group open0.chief i.header has open0.number open0.disks i.has.width open0.epoch i.epoch open0.size i.size i.marks
+          (open0.noted.0 noted).0 (open0.noted.0 noted).1))
+          (front-there rack before now s j (fronts j) i.header i.has.found (found j (omega (arith, below j lt, most)))));
+    }
+
+-- ---- the parity
+
+-- one of the first n is out, or none is
+out-or-none : (out : ℕ → Bool) (n : ℕ) → ((j : ℕ) → j < n → out j ≡ false) ⊎ ((a : ℕ) × (a < n) × (out a ≡ true))
+out-or-none out zero = inl (λ j lt. absurd (omega arith))
+out-or-none out (suc n) = elim (cases_Bool (out n)) [
+  | inl is ↦ inr (n, omega arith, is)
+  | inr not ↦ elim (out-or-none out n) [
+    | inr some ↦ inr (some.0, omega (arith, some.1), some.2)
+    | inl none ↦ inl (λ j lt. elim (cases_eq j n) [ inl e ↦ ap out e ∙ not | inr ne ↦ none j (omega (arith, lt, ne)) ])
+  ]
+]
+
+xor-back : (x y : ℕ) → bit_xor x (bit_xor y (bit_xor x (bit_xor y 0))) ≡ 0
+xor-back x y =
+    ap (λ (v : ℕ). bit_xor x (bit_xor y (bit_xor x v))) (xor_zero_r y) ∙ ap (λ (v : ℕ). bit_xor x (bit_xor y v)) (xor_comm x y)
+    ∙ ap (bit_xor x) (xor-twice y x) ∙ xor_self x
+
+-- with one of them in place of the exclusive or of the others, the exclusive or of all is zero
+xor-filled : (g : ℕ → ℕ) (a n : ℕ) → a < n → xor_upto (with_at g a (xor_upto (with_at g a 0) n)) n ≡ 0
+xor-filled g a n lt =
+    xor-with g a (xor_upto (with_at g a 0) n) n lt ∙ ap (λ (v : ℕ). bit_xor (xor_upto g n) (bit_xor (g a) v)) (xor-with g a 0 n lt) ∙ xor-back (xor_upto g n) (g a)
+
+-- where one disk is out, the others say what it has
+pub even-out : (n size : ℕ) (out : ℕ → Bool) (disks : ℕ → List ℕ) (a : ℕ) → a < n → out a ≡ true → ((i : ℕ) → i ≢ a → out i ≡ false) → IsEven n size (made_up n out disks)
+even-out n size out disks a lt is others x range =
+    let g : ℕ → ℕ = λ i. slice_index (disks i) x in
+    xor-same (λ j. made_up n out disks j x) (with_at g a (xor_upto (with_at g a 0) n)) n (λ j below. elim (cases_eq j a) [
+      | inl e ↦ ap (λ (k : ℕ). made_up n out disks k x) e ∙ out-made n out disks a x is ∙ sym (ap (with_at g a (xor_upto (with_at g a 0) n)) e ∙ with-same g a (xor_upto (with_at g a 0) n))
+      | inr ne ↦ in-made n out disks j x (others j ne) ∙ sym (with-other g a (xor_upto (with_at g a 0) n) j ne)
+    ])
+    ∙ xor-filled g a n lt
+
+pub even-in : (n size : ℕ) (out : ℕ → Bool) (disks : ℕ → List ℕ) → ((j : ℕ) → j < n → out j ≡ false) → IsEven n size (λ j x. slice_index (disks j) x) → IsEven n size (made_up n out disks)
+even-in n size out disks none even x range =
+    xor-same (λ j. made_up n out disks j x) (λ j. slice_index (disks j) x) n (λ j below. in-made n out disks j x (none j below)) ∙ even x range
+
+pub kept-ready : {S : Type 0} (rack : Ghosts S) (group : Group) (now : S) → IsReady rack group now → IsEvenWhole rack group now → IsKept rack group now
+kept-ready rack group now ready even = record {
+  ready = λ alive. ready;
+  even = λ alive all. elim (out-or-none (is_out group) group.disks) [
+    | inl none ↦ even-in group.disks group.length (is_out group) (disk_in rack group now) none (even none all)
+    | inr some ↦ even-out group.disks group.length (is_out group) (disk_in rack group now) some.0 some.1 some.2 (λ i ne. others-in group some.0 i alive some.2 ne)
+  ];
+}
+
+pub some-ready : {S : Type 0} (rack : Ghosts S) (fronts : ℕ → Option Header) (n s : ℕ) (answer : Option Group) (before now : S) → n ≤ 8
+    → ((j : ℕ) → j < 8 → IsFound rack before now s j (fronts j)) → IfSome answer (λ group. IsOpened fronts n s group) → IfSome answer (λ group. IsReady rack group now)
+some-ready rack fronts n s None before now most found open0 = tt
+some-ready rack fronts n s (Some group) before now most found open0 = opened-ready rack fronts n s group before now most found open0
+
+pub some-kept : {S : Type 0} (rack : Ghosts S) (fronts : ℕ → Option Header) (n s : ℕ) (answer : Option Group) (before now : S) → n ≤ 8
+    → ((j : ℕ) → j < 8 → IsFound rack before now s j (fronts j)) → IfSome answer (λ group. IsOpened fronts n s group)
+    → IfSome answer (λ group. IsEvenWhole rack group now → IsKept rack group now)
+some-kept rack fronts n s None before now most found open0 = tt
+some-kept rack fronts n s (Some group) before now most found open0 = kept-ready rack group now (opened-ready rack fronts n s group before now most found open0)
