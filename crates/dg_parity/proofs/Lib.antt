@@ -3,6 +3,7 @@ pub mod BytesLemmas
 pub mod CallLemmas
 pub mod ChiefLemmas
 pub mod CountLemmas
+pub mod EpochLemmas
 pub mod ExclusiveLemmas
 pub mod FallLemmas
 pub mod GroupLemmas

@@ -23,7 +23,7 @@ pub some-map : (o : Option (List ℕ)) (P Q : List ℕ → Type 0) → ((all : L
 some-map None P Q f h = tt
 some-map (Some all) P Q f h = f all h
 
-some-not : (h : Header) → Some h ≡ None → ⊥
+pub some-not : (h : Header) → Some h ≡ None → ⊥
 some-not h e = false≢true (sym (ap is_there e)) where
   is_there : Option Header → Bool
   is_there None = false

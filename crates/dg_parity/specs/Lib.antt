@@ -1,4 +1,5 @@
 pub mod Blanks
+pub mod Epochs
 pub mod Exclusive
 pub mod Groups
 pub mod Headers

@@ -22,6 +22,7 @@ pub struct Group {
     ghost number_fits: { number < 16 },
     ghost least: { 3 ≤ disks },
     ghost most: { disks ≤ 8 },
+    ghost beyond: { (j : ℕ) → disks ≤ j → slice_index_or out j false ≡ false },
 }
 
 impl Group {
