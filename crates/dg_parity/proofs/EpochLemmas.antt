@@ -229,19 +229,19 @@ reopened rack group next before now fronts alive finds o alive2 =
       ];
       cause = λ j lt in1 out2. in-again j lt in1 out2 epoch marks size bit (finds.ins j lt in1);
     } where
-  in-again : (j : ℕ) → j < group.disks → is_out group j ≡ false → is_out next j ≡ true
-      → o.chief.epoch ≡ group.epoch → o.chief.marks ≡ marks_of (is_out group) 8 → o.chief.size ≡ group.length → ((j : ℕ) → j < group.disks → is_marked o.chief.marks j ≡ is_out group j)
-      → ((fronts j ≡ Some (header_in group j)) ⊎ ((fronts j ≡ None) × Rose ((rack.counts before).faults (disk_number group.number j)) ((rack.counts now).faults (disk_number group.number j))))
-      → Rose ((rack.counts before).faults (disk_number group.number j)) ((rack.counts now).faults (disk_number group.number j))
-  in-again j lt in1 out2 epoch marks size bit (inl is) = absurd (false≢true (sym ((o.ins j lt).1 (record {
-    header = header_in group j;
-    has = record { found = is; width = refl };
-    epoch = sym epoch;
-    marks = sym marks;
-    size = sym size;
-    unmarked = bit j lt ∙ in1;
-  })) ∙ out2))
-  in-again j lt in1 out2 epoch marks size bit (inr fell) = fell.1
+      in-again : (j : ℕ) → j < group.disks → is_out group j ≡ false → is_out next j ≡ true
+          → o.chief.epoch ≡ group.epoch → o.chief.marks ≡ marks_of (is_out group) 8 → o.chief.size ≡ group.length → ((j : ℕ) → j < group.disks → is_marked o.chief.marks j ≡ is_out group j)
+          → ((fronts j ≡ Some (header_in group j)) ⊎ ((fronts j ≡ None) × Rose ((rack.counts before).faults (disk_number group.number j)) ((rack.counts now).faults (disk_number group.number j))))
+          → Rose ((rack.counts before).faults (disk_number group.number j)) ((rack.counts now).faults (disk_number group.number j))
+      in-again j lt in1 out2 epoch marks size bit (inl is) = absurd (false≢true (sym ((o.ins j lt).1 (record {
+        header = header_in group j;
+        has = record { found = is; width = refl };
+        epoch = sym epoch;
+        marks = sym marks;
+        size = sym size;
+        unmarked = bit j lt ∙ in1;
+      })) ∙ out2))
+      in-again j lt in1 out2 epoch marks size bit (inr fell) = fell.1
 
 -- ---- what the group stands for then
 
@@ -280,7 +280,8 @@ reads-on rack group next left before now alive kept told is h ready alive2 same 
     let later = later-again rack group next before now h same in
     let bytes : List ℕ = member_by group.disks group.length (made_by rack group left) in
     let stands : StandsFor rack next now bytes = stands-again rack group next left now bytes is later (kept-stands rack group left alive kept told) in
-    let all = told-again rack group next now later is.told in
-    (record { ready = λ e. ready; even = λ e all2. stands-even rack next now bytes alive2 stands },
-    some-if next.told (all_told rack next now) group.told (all_told rack group left) (member_by next.disks next.length (made_by rack next now)) bytes same (each-told rack next now all)
-    (each-told rack group left told) (sym (stands-is rack next now bytes next.least alive2 stands)))
+    let all = told-again rack group next now later is.told in (
+      record { ready = λ e. ready; even = λ e all2. stands-even rack next now bytes alive2 stands },
+      some-if next.told (all_told rack next now) group.told (all_told rack group left) (member_by next.disks next.length (made_by rack next now)) bytes same (each-told rack next now all)
+          (each-told rack group left told) (sym (stands-is rack next now bytes next.least alive2 stands)),
+    )

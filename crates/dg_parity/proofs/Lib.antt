@@ -1,3 +1,4 @@
+pub mod ArrayOpeningLemmas
 pub mod BlankLemmas
 pub mod BytesLemmas
 pub mod CallLemmas

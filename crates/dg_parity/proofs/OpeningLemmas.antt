@@ -1,11 +1,13 @@
 -- What an opening finds on disks, one after the other.
 use Rattle.std.proofs.Common.{◌≡◌, ◌≢◌, ◌⊎◌, ℕ, ◌+◌, ◌-◌, ◌<◌, ◌≤◌, inl, inr, List, length, take, drop, refl, sym, ap, subst, ◌∙◌, arith}
 use Rattle.std.specs.Prelude.{Option, None, Some, IsSome, IfSome, slice_set}
-use Rattle.std.proofs.lemmas.Bool.{cases_eq}
+use Rattle.std.proofs.lemmas.Bool.{cases_eq, false≢true}
 use Rattle.std.proofs.lemmas.List.{get_or-set_same, get_or-set_other}
 use Rattle.dg_model.specs.Causes.{Rose}
 use Rattle.dg_io.specs.Told.{Told, IsSame, Reads, Measures}
 use Rattle.dg_io.specs.declared.outside.Rack.{Ghosts}
+use Rattle.dg_parity.specs.Headers.{IsCounted}
+use Rattle.dg_parity.specs.Stripes.{disk_length}
 use Rattle.dg_parity.specs.Groups.{disk_number}
 use Rattle.dg_parity.specs.Openings.{IsFront, IsFound, LeavesRead, fronts_in}
 use Rattle.dg_parity.specs.declared.headers.Header.{Header}
@@ -73,6 +75,7 @@ pub found-later : {S : Type 0} (rack : Ghosts S) (a b c : S) (s j low high : ℕ
 found-later rack a b c s j low high front out leaves found = record {
   front_is = later found.front_is;
   stands = λ h. leaves.others_stand (disk_number s j) out (found.stands h);
+  counted = found.counted;
 } where
   later : IfSome (rack.bytes b (disk_number s j)) (λ all. IsFront s j all front)
       ⊎ ((front ≡ None) × Rose ((rack.counts a).faults (disk_number s j)) ((rack.counts b).faults (disk_number s j)))
@@ -82,7 +85,7 @@ found-later rack a b c s j low high front out leaves found = record {
   later (inr fell) = inr (fell.0, rose-later _ _ _ fell.1 (leaves.rise.faults (disk_number s j)))
 
 pub found-sooner : {S : Type 0} (rack : Ghosts S) (a b c : S) (s j low high : ℕ) (front : Option Header) → LeavesRead rack low high a b → IsFound rack b c s j front → IsFound rack a c s j front
-found-sooner rack a b c s j low high front leaves found = record { front_is = sooner found.front_is; stands = found.stands } where
+found-sooner rack a b c s j low high front leaves found = record { front_is = sooner found.front_is; stands = found.stands; counted = found.counted } where
   sooner : IfSome (rack.bytes c (disk_number s j)) (λ all. IsFront s j all front)
       ⊎ ((front ≡ None) × Rose ((rack.counts b).faults (disk_number s j)) ((rack.counts c).faults (disk_number s j)))
       → IfSome (rack.bytes c (disk_number s j)) (λ all. IsFront s j all front)
@@ -104,3 +107,21 @@ fronts-more rack a b c s j row front room first second before own i lt = elim (c
       subst (λ (o : Option Header). IsFound rack a c s i o) at
       (found-later rack a b c s i (disk_number s j) (disk_number s j + 1) (fronts_in row i) (inl (omega (arith, lt, ne))) second (before i (omega (arith, lt, ne))))
 ]
+
+abbrev nothing : Option Header
+nothing = None
+
+-- a disk without a page, or on which a call failed
+pub found-none : {S : Type 0} (rack : Ghosts S) (before now : S) (s j q : ℕ) → q ≡ disk_number s j
+    → IfSome (rack.bytes now q) (λ all. length all < 512) ⊎ Rose ((rack.counts before).faults q) ((rack.counts now).faults q) → IsFound rack before now s j None
+found-none rack before now s j q is none = record { front_is = front none; stands = λ h. absurd (false≢true h); counted = tt } where
+  front : IfSome (rack.bytes now q) (λ all. length all < 512) ⊎ Rose ((rack.counts before).faults q) ((rack.counts now).faults q)
+      → IfSome (rack.bytes now (disk_number s j)) (λ all. IsFront s j all None)
+      ⊎ ((nothing ≡ None) × Rose ((rack.counts before).faults (disk_number s j)) ((rack.counts now).faults (disk_number s j)))
+  front (inl short) = inl (subst (λ (k : ℕ). IfSome (rack.bytes now k) (λ all. IsFront s j all None)) is (short-front s j (rack.bytes now q) short))
+  front (inr rose) = inr (refl, subst (λ (k : ℕ). Rose ((rack.counts before).faults k) ((rack.counts now).faults k)) is rose)
+
+-- a header counts on a disk of the length that its numbers give
+pub counts-anyway : (s j long : ℕ) (front : Option Header) → IfSome front (λ h. IsCounted s j long h) → IfSome front (λ h. IsCounted s j (disk_length h.disks h.size) h)
+counts-anyway s j long None is = tt
+counts-anyway s j long (Some h) is = record { group = is.group; place = is.place; least = is.least; most = is.most; first = is.first; last = is.last; size = refl }

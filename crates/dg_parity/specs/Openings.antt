@@ -1,10 +1,10 @@
 -- What an opening takes from the pages at the front of the disks. The rules are this project's own.
-use Rattle.std.specs.Prelude.{◌≡◌, ◌⊎◌, ◌↔◌, ◌+◌, ◌/◌, ◌%◌, ◌<◌, ◌≤◌, ◌^◌, ◌==◌, ℕ, List, Bool, true, false, not, Option, None, Some, IsSome, IfSome, length, take, slice_index, slice_index_or}
+use Rattle.std.specs.Prelude.{◌≡◌, ◌⊎◌, ◌↔◌, ◌+◌, ◌/◌, ◌%◌, ◌<◌, ◌≤◌, ◌^◌, ◌==◌, ℕ, List, [], Bool, true, false, not, Option, None, Some, IsSome, IfSome, length, take, slice_get, slice_index, slice_index_or}
 use Rattle.dg_model.specs.Causes.{Rose}
 use Rattle.dg_model.specs.States.{CountsRise}
 use Rattle.dg_io.specs.Told.{Told, IsSame, StillTold}
 use Rattle.dg_io.specs.declared.outside.Rack.{Ghosts}
-use Rattle.dg_parity.specs.Stripes.{IsEven}
+use Rattle.dg_parity.specs.Stripes.{IsEven, disk_length}
 use Rattle.dg_parity.specs.Groups.{disk_number, is_out, is_lost, disk_in, AllTold}
 use Rattle.dg_parity.specs.Headers.{header_bytes, marks_of, IsHeader, IsCounted}
 use Rattle.dg_parity.specs.declared.groups.Group.{Group}
@@ -22,11 +22,12 @@ IsFront s j all None = (h : Header) → HasFront s j all h → ⊥
 IsFront s j all (Some h) = HasFront s j all h
 
 -- What an opening knows of disk j of group s after its calls: what it takes from the disk's bytes, or none where a call on the disk failed. A disk of
--- which it has a header stands.
+-- which it has a header stands, and that counts, whatever is told.
 pub record IsFound {S : Type 0} (rack : Ghosts S) (before now : S) (s j : ℕ) (front : Option Header) : Type 0 where
   pub front_is : IfSome (rack.bytes now (disk_number s j)) (λ all. IsFront s j all front)
       ⊎ ((front ≡ None) × Rose ((rack.counts before).faults (disk_number s j)) ((rack.counts now).faults (disk_number s j)))
   pub stands : IsSome front → rack.stands now (disk_number s j) ≡ true
+  pub counted : IfSome front (λ h. IsCounted s j (disk_length h.disks h.size) h)
 
 -- What calls leave that look at members from one number up to another, and read them: no byte has changed, and no call writes.
 pub record LeavesRead {S : Type 0} (rack : Ghosts S) (low high : ℕ) (before now : S) : Type 0 where
@@ -103,3 +104,57 @@ pub record OpensGroup {S : Type 0} (rack : Ghosts S) (before now : S) (s n : ℕ
 abbrev pub IsEvenWhole : {S : Type 0} → Ghosts S → Group → S → Type 0
 IsEvenWhole rack group now =
     ((j : ℕ) → j < group.disks → is_out group j ≡ false) → AllTold rack group now → IsEven group.disks group.length (λ j x. slice_index (disk_in rack group now j) x)
+
+-- The width of a row of headers: that of the least disk that has one.
+pub record IsFirst (fronts : ℕ → Option Header) (n : ℕ) : Type 0 where
+  pub place : ℕ
+  pub within : place < 8
+  pub header : Header
+  pub found : fronts place ≡ Some header
+  pub width : header.disks ≡ n
+  pub least : (j : ℕ) → j < place → fronts j ≡ None
+
+-- The width of an array: that of the least group one of whose disks has a header.
+pub record IsWidth (fronts : ℕ → ℕ → Option Header) (n : ℕ) : Type 0 where
+  pub group : ℕ
+  pub within : group < 16
+  pub first : IsFirst (fronts group) n
+  pub least : (s j : ℕ) → s < group → j < 8 → fronts s j ≡ None
+
+-- group s of n disks of which none has a header: it was never made
+pub record IsUnmade (n s : ℕ) (group : Group) : Type 0 where
+  pub number : group.number ≡ s
+  pub disks : group.disks ≡ n
+  pub size : group.length ≡ 0
+  pub lost : is_lost group ≡ true
+  pub told : group.told ≡ true
+
+-- what an opening makes of group s: the group by its headers, or one that was never made
+abbrev pub IsOpenedOr : (ℕ → Option Header) → ℕ → ℕ → Group → Type 0
+IsOpenedOr fronts n s group = IsOpened fronts n s group ⊎ (HasNone fronts n n × IsUnmade n s group)
+
+-- the groups of n disks that an opening makes, in order
+abbrev pub AreOpened : (ℕ → ℕ → Option Header) → ℕ → List Group → Type 0
+AreOpened fronts n groups = (s : ℕ) → IfSome (slice_get groups s) (λ group. IsOpenedOr (fronts s) n s group)
+
+-- what an opening found on the disks of sixteen groups, after its calls
+abbrev pub AreFound : {S : Type 0} → Ghosts S → S → S → (ℕ → ℕ → Option Header) → Type 0
+AreFound rack before now fronts = (s j : ℕ) → s < 16 → j < 8 → IsFound rack before now s j (fronts s j)
+
+-- A rack that an opening found to have groups: sixteen of them, of the width of the array.
+pub record OpensGroups {S : Type 0} (rack : Ghosts S) (before now : S) (n : ℕ) (groups : List Group) : Type 0 where
+  pub fronts : ℕ → ℕ → Option Header
+  pub found : AreFound rack before now fronts
+  pub width : IsWidth fronts n
+  pub count : length groups ≡ 16
+  pub opened : AreOpened fronts n groups
+
+-- A rack that an opening found to be plain: no disk has a header.
+pub record OpensPlain {S : Type 0} (rack : Ghosts S) (before now : S) : Type 0 where
+  pub fronts : ℕ → ℕ → Option Header
+  pub found : AreFound rack before now fronts
+  pub none : (s j : ℕ) → s < 16 → j < 8 → fronts s j ≡ None
+
+-- rows of what was found, by group and disk
+abbrev pub fronts_by : List (List (Option Header)) → ℕ → ℕ → Option Header
+fronts_by rows s = fronts_in (slice_index_or rows s [])

@@ -2,6 +2,7 @@
 //! a disk goes out where a call on it fails. With two disks out it is lost, and tells nothing.
 #![tactic(auto)]
 
+mod array_openings;
 mod blanks;
 mod chiefs;
 mod disks;
@@ -18,6 +19,7 @@ mod stripes;
 mod told;
 mod xors;
 
+pub use array_openings::{FoundGroups, open_groups};
 pub use blanks::blank;
 pub use chiefs::group_of;
 pub use drops::drop_disk;

@@ -2,6 +2,7 @@
 ghost use Rattle.std.specs.Prelude.{◌≡◌, ◌⊎◌, ◌↔◌, ◌+◌, ◌*◌, ◌<◌, ◌≤◌, ℕ, List, Bool, true, false, None, IfSome, IsTrue, length, take, slice_index_or};
 ghost use Rattle.dg_model.specs.Causes.{Rose};
 ghost use Rattle.dg_parity.specs.Groups.{disk_number, IsReady, MostCalls};
+ghost use Rattle.dg_parity.specs.Headers.{IsCounted};
 ghost use Rattle.dg_parity.specs.Kept.{IsKept};
 ghost use Rattle.dg_parity.specs.Openings.{IsFront, IsFound, LeavesRead, OpensGroup, IsEvenWhole, fronts_in};
 
@@ -36,7 +37,8 @@ fn read_page<R: Rack>(rack: &mut R, member: u8, page: &mut [u8; CHUNK]) -> Optio
 
 /// The header of disk j of group s, which has so many bytes and begins with this page, where it counts.
 fn judge(page: &[u8; CHUNK], s: u8, j: u8, long: u64) -> Option<Header>
-    ensures { (all : List ℕ) → take 512 all ≡ page.now → length all ≡ long → IsFront s j all result }
+    ensures front { (all : List ℕ) → take 512 all ≡ page.now → length all ≡ long → IsFront s j all result }
+    ensures counted { IfSome result (λ h. IsCounted s j long h) }
 {
     let Some(header) = read_header(page) else {
         return None;
