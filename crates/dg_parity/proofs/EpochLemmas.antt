@@ -15,7 +15,7 @@ use Rattle.dg_parity.specs.declared.groups.Group.{Group}
 use Rattle.dg_parity.specs.declared.headers.Header.{Header}
 use Rattle.dg_parity.proofs.GroupLemmas.{told-at, in-before}
 use Rattle.dg_parity.proofs.HoldLemmas.{range-before}
-use Rattle.dg_parity.proofs.KeptLemmas.{kept-stands, stands-even, stands-is}
+use Rattle.dg_parity.proofs.KeptLemmas.{kept-of, kept-stands, stands-is}
 use Rattle.dg_parity.proofs.KeptSteps.{each-told, both-true}
 use Rattle.dg_parity.proofs.MemberSteps.{stands-along}
 use Rattle.dg_parity.proofs.OpenedLemmas.{some-not, front-there}
@@ -281,7 +281,7 @@ reads-on rack group next left before now alive kept told is h ready alive2 same 
     let bytes : List ℕ = member_by group.disks group.length (made_by rack group left) in
     let stands : StandsFor rack next now bytes = stands-again rack group next left now bytes is later (kept-stands rack group left alive kept told) in
     let all = told-again rack group next now later is.told in (
-      record { ready = λ e. ready; even = λ e all2. stands-even rack next now bytes alive2 stands },
+      kept-of rack next now bytes (λ e. ready) (λ e all2. stands),
       some-if next.told (all_told rack next now) group.told (all_told rack group left) (member_by next.disks next.length (made_by rack next now)) bytes same (each-told rack next now all)
           (each-told rack group left told) (sym (stands-is rack next now bytes next.least alive2 stands)),
     )

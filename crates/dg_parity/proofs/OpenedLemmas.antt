@@ -1,23 +1,17 @@
 -- A group that an opening made: its disks that are in stand, with their headers, and it stands for what they say.
 use Rattle.std.proofs.Common.{◌≡◌, ◌≢◌, ◌⊎◌, ℕ, zero, suc, ◌+◌, ◌<◌, ◌≤◌, inl, inr, Bool, true, false, List, length, take, refl, sym, ap, subst, ◌∙◌, arith}
-use Rattle.std.specs.Prelude.{Option, None, Some, IfSome, slice_index, bit_xor}
-use Rattle.std.proofs.lemmas.Bool.{cases_eq, cases_Bool, false≢true}
-use Rattle.std.proofs.lemmas.Nat.{xor_comm}
-use Rattle.std.specs.Int.Bits.{xor_self, xor_zero_r}
+use Rattle.std.specs.Prelude.{Option, None, Some, IfSome}
+use Rattle.std.proofs.lemmas.Bool.{false≢true}
 use Rattle.dg_model.specs.Causes.{Rose}
 use Rattle.dg_io.specs.declared.outside.Rack.{Ghosts}
-use Rattle.dg_parity.specs.Exclusive.{xor_upto, with_at}
-use Rattle.dg_parity.specs.Stripes.{disk_length, IsEven, made_up}
+use Rattle.dg_parity.specs.Stripes.{disk_length}
 use Rattle.dg_parity.specs.Headers.{header_bytes, marks_of}
-use Rattle.dg_parity.specs.Groups.{disk_number, is_out, is_lost, length_of, disk_in, AllTold, header_in, HasHead, IsReady}
-use Rattle.dg_parity.specs.Kept.{made_by, IsKept}
-use Rattle.dg_parity.specs.Openings.{HasFront, IsFront, IsFound, HasWidth, IsChief, IsIn, IsOpened, IsEvenWhole}
+use Rattle.dg_parity.specs.Groups.{disk_number, is_out, is_lost, length_of, header_in, HasHead, IsReady}
+use Rattle.dg_parity.specs.Kept.{IsKept}
+use Rattle.dg_parity.specs.Openings.{HasFront, IsFront, IsFound, HasWidth, IsChief, IsIn, IsOpened, AreSound}
 use Rattle.dg_parity.specs.declared.groups.Group.{Group}
 use Rattle.dg_parity.specs.declared.headers.Header.{Header}
-use Rattle.dg_parity.proofs.ExclusiveLemmas.{xor-same, xor-with, xor-twice, with-same, with-other}
-use Rattle.dg_parity.proofs.KeptLemmas.{out-made, in-made}
 use Rattle.dg_parity.proofs.PageLemmas.{same_fields}
-use Rattle.dg_parity.proofs.PartLemmas.{others-in}
 
 pub some-map : (o : Option (List ℕ)) (P Q : List ℕ → Type 0) → ((all : List ℕ) → P all → Q all) → IfSome o P → IfSome o Q
 some-map None P Q f h = tt
@@ -70,51 +64,10 @@ opened-ready rack fronts n s group before now most found open0 =
           (front-there rack before now s j (fronts j) i.header i.has.found (found j (omega (arith, below j lt, most)))));
     }
 
--- ---- the parity
+-- ---- what is kept
 
--- one of the first n is out, or none is
-out-or-none : (out : ℕ → Bool) (n : ℕ) → ((j : ℕ) → j < n → out j ≡ false) ⊎ ((a : ℕ) × (a < n) × (out a ≡ true))
-out-or-none out zero = inl (λ j lt. absurd (omega arith))
-out-or-none out (suc n) = elim (cases_Bool (out n)) [
-  | inl is ↦ inr (n, omega arith, is)
-  | inr not ↦ elim (out-or-none out n) [
-    | inr some ↦ inr (some.0, omega (arith, some.1), some.2)
-    | inl none ↦ inl (λ j lt. elim (cases_eq j n) [ inl e ↦ ap out e ∙ not | inr ne ↦ none j (omega (arith, lt, ne)) ])
-  ]
-]
-
-xor-back : (x y : ℕ) → bit_xor x (bit_xor y (bit_xor x (bit_xor y 0))) ≡ 0
-xor-back x y =
-    ap (λ (v : ℕ). bit_xor x (bit_xor y (bit_xor x v))) (xor_zero_r y) ∙ ap (λ (v : ℕ). bit_xor x (bit_xor y v)) (xor_comm x y)
-    ∙ ap (bit_xor x) (xor-twice y x) ∙ xor_self x
-
--- with one of them in place of the exclusive or of the others, the exclusive or of all is zero
-xor-filled : (g : ℕ → ℕ) (a n : ℕ) → a < n → xor_upto (with_at g a (xor_upto (with_at g a 0) n)) n ≡ 0
-xor-filled g a n lt =
-    xor-with g a (xor_upto (with_at g a 0) n) n lt ∙ ap (λ (v : ℕ). bit_xor (xor_upto g n) (bit_xor (g a) v)) (xor-with g a 0 n lt) ∙ xor-back (xor_upto g n) (g a)
-
--- where one disk is out, the others say what it has
-pub even-out : (n size : ℕ) (out : ℕ → Bool) (disks : ℕ → List ℕ) (a : ℕ) → a < n → out a ≡ true → ((i : ℕ) → i ≢ a → out i ≡ false) → IsEven n size (made_up n out disks)
-even-out n size out disks a lt is others x range =
-    let g : ℕ → ℕ = λ i. slice_index (disks i) x in
-    xor-same (λ j. made_up n out disks j x) (with_at g a (xor_upto (with_at g a 0) n)) n (λ j below. elim (cases_eq j a) [
-      | inl e ↦ ap (λ (k : ℕ). made_up n out disks k x) e ∙ out-made n out disks a x is ∙ sym (ap (with_at g a (xor_upto (with_at g a 0) n)) e ∙ with-same g a (xor_upto (with_at g a 0) n))
-      | inr ne ↦ in-made n out disks j x (others j ne) ∙ sym (with-other g a (xor_upto (with_at g a 0) n) j ne)
-    ])
-    ∙ xor-filled g a n lt
-
-pub even-in : (n size : ℕ) (out : ℕ → Bool) (disks : ℕ → List ℕ) → ((j : ℕ) → j < n → out j ≡ false) → IsEven n size (λ j x. slice_index (disks j) x) → IsEven n size (made_up n out disks)
-even-in n size out disks none even x range =
-    xor-same (λ j. made_up n out disks j x) (λ j. slice_index (disks j) x) n (λ j below. in-made n out disks j x (none j below)) ∙ even x range
-
-pub kept-ready : {S : Type 0} (rack : Ghosts S) (group : Group) (now : S) → IsReady rack group now → IsEvenWhole rack group now → IsKept rack group now
-kept-ready rack group now ready even = record {
-  ready = λ alive. ready;
-  even = λ alive all. elim (out-or-none (is_out group) group.disks) [
-    | inl none ↦ even-in group.disks group.length (is_out group) (disk_in rack group now) none (even none all)
-    | inr some ↦ even-out group.disks group.length (is_out group) (disk_in rack group now) some.0 some.1 some.2 (λ i ne. others-in group some.0 i alive some.2 ne)
-  ];
-}
+kept-ready : {S : Type 0} (rack : Ghosts S) (group : Group) (now : S) → IsReady rack group now → AreSound rack group now → IsKept rack group now
+kept-ready rack group now ready sound = record { ready = λ alive. ready; even = λ alive all. (sound all).0; clear = λ alive all. (sound all).1 }
 
 pub some-ready : {S : Type 0} (rack : Ghosts S) (fronts : ℕ → Option Header) (n s : ℕ) (answer : Option Group) (before now : S) → n ≤ 8
     → ((j : ℕ) → j < 8 → IsFound rack before now s j (fronts j)) → IfSome answer (λ group. IsOpened fronts n s group) → IfSome answer (λ group. IsReady rack group now)
@@ -123,6 +76,6 @@ some-ready rack fronts n s (Some group) before now most found open0 = opened-rea
 
 pub some-kept : {S : Type 0} (rack : Ghosts S) (fronts : ℕ → Option Header) (n s : ℕ) (answer : Option Group) (before now : S) → n ≤ 8
     → ((j : ℕ) → j < 8 → IsFound rack before now s j (fronts j)) → IfSome answer (λ group. IsOpened fronts n s group)
-    → IfSome answer (λ group. IsEvenWhole rack group now → IsKept rack group now)
+    → IfSome answer (λ group. AreSound rack group now → IsKept rack group now)
 some-kept rack fronts n s None before now most found open0 = tt
 some-kept rack fronts n s (Some group) before now most found open0 = kept-ready rack group now (opened-ready rack fronts n s group before now most found open0)

@@ -1,11 +1,12 @@
 -- What an opening takes from the pages at the front of the disks. The rules are this project's own.
-use Rattle.std.specs.Prelude.{◌≡◌, ◌⊎◌, ◌↔◌, ◌+◌, ◌/◌, ◌%◌, ◌<◌, ◌≤◌, ◌^◌, ◌==◌, ℕ, List, [], Bool, true, false, not, Option, None, Some, IsSome, IfSome, length, take, slice_get, slice_index, slice_index_or}
+use Rattle.std.specs.Prelude.{◌≡◌, ◌⊎◌, ◌↔◌, ◌+◌, ◌/◌, ◌%◌, ◌<◌, ◌≤◌, ◌^◌, ◌==◌, ℕ, List, [], Bool, true, false, not, Option, None, Some, IsSome, IfSome, length, take, slice_get, slice_index_or}
 use Rattle.dg_model.specs.Causes.{Rose}
 use Rattle.dg_model.specs.States.{CountsRise}
 use Rattle.dg_io.specs.Told.{Told, IsSame, StillTold}
 use Rattle.dg_io.specs.declared.outside.Rack.{Ghosts}
-use Rattle.dg_parity.specs.Stripes.{IsEven, disk_length}
-use Rattle.dg_parity.specs.Groups.{disk_number, is_out, is_lost, disk_in, AllTold}
+use Rattle.dg_parity.specs.Stripes.{IsClear, IsEven, disk_length}
+use Rattle.dg_parity.specs.Groups.{disk_number, is_out, is_lost, AllTold}
+use Rattle.dg_parity.specs.Kept.{made_by}
 use Rattle.dg_parity.specs.Headers.{header_bytes, marks_of, IsHeader, IsCounted}
 use Rattle.dg_parity.specs.declared.groups.Group.{Group}
 use Rattle.dg_parity.specs.declared.headers.Header.{Header}
@@ -100,10 +101,9 @@ pub record OpensGroup {S : Type 0} (rack : Ghosts S) (before now : S) (s n : ℕ
   pub opened : IfSome answer (λ group. IsOpened fronts n s group)
   pub none : answer ≡ None → HasNone fronts n n
 
--- the parity is right on the disks themselves, where none is out and each is told
-abbrev pub IsEvenWhole : {S : Type 0} → Ghosts S → Group → S → Type 0
-IsEvenWhole rack group now =
-    ((j : ℕ) → j < group.disks → is_out group j ≡ false) → AllTold rack group now → IsEven group.disks group.length (λ j x. slice_index (disk_in rack group now j) x)
+-- the disks of a group are sound, where all of them are told: the parity is right, and no byte stands behind the member's end
+abbrev pub AreSound : {S : Type 0} → Ghosts S → Group → S → Type 0
+AreSound rack group now = AllTold rack group now → IsEven group.disks group.length (made_by rack group now) × IsClear group.disks group.length (made_by rack group now)
 
 -- The width of a row of headers: that of the least disk that has one.
 pub record IsFirst (fronts : ℕ → Option Header) (n : ℕ) : Type 0 where

@@ -138,6 +138,17 @@ impl Group {
         self.noted = false;
     }
 
+    /// The member is to have so many bytes.
+    pub(crate) fn grow(&mut self, size: u64)
+        ensures same { IsRestarted self.old self.new }
+        ensures size { self.new.length ≡ size }
+        ensures epoch { self.new.epoch ≡ self.old.epoch }
+        ensures noted { self.new.noted ≡ false }
+    {
+        self.length = size;
+        self.noted = false;
+    }
+
     /// The headers say all of it.
     pub(crate) fn settle(&mut self)
         ensures same { IsAlike self.old self.new }

@@ -4,7 +4,7 @@ ghost use Rattle.dg_model.specs.Causes.{Rose};
 ghost use Rattle.dg_parity.specs.Groups.{disk_number, IsReady, MostCalls};
 ghost use Rattle.dg_parity.specs.Headers.{IsCounted};
 ghost use Rattle.dg_parity.specs.Kept.{IsKept};
-ghost use Rattle.dg_parity.specs.Openings.{IsFront, IsFound, LeavesRead, OpensGroup, IsEvenWhole, fronts_in};
+ghost use Rattle.dg_parity.specs.Openings.{IsFront, IsFound, LeavesRead, OpensGroup, AreSound, fronts_in};
 
 use crate::chiefs::group_of;
 use crate::groups::Group;
@@ -85,7 +85,7 @@ pub fn open_group<R: Rack>(rack: &mut R, s: u8, n: u8) -> Option<Group>
     requires most { n ≤ 8 }
     ensures opened { OpensGroup R.Rack rack.old rack.new s n result }
     ensures ready { IfSome result (λ group. IsReady R.Rack group rack.new) }
-    ensures kept { IfSome result (λ group. IsEvenWhole R.Rack group rack.new → IsKept R.Rack group rack.new) }
+    ensures kept { IfSome result (λ group. AreSound R.Rack group rack.new → IsKept R.Rack group rack.new) }
     ensures leaves { LeavesRead R.Rack (disk_number s 0) (disk_number s 8) rack.old rack.new }
     ensures calls { MostCalls R.Rack 16 rack.old rack.new }
 {

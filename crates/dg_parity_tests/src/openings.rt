@@ -3,7 +3,8 @@ ghost use Rattle.std.specs.Prelude.{◌≤◌};
 
 use dg_io::{DropAnswer, Failed, MemRack, Rack};
 use dg_parity::{
-    FoundGroups, Group, Header, blank, disk_length, drop_disk, fill_header, open_group, open_groups, read, write,
+    FoundGroups, Group, Header, blank, disk_length, drop_disk, fill_header, open_group,
+    open_groups, write,
 };
 use std::alloc::Global;
 use std::test::Fail;
@@ -94,7 +95,9 @@ fn headers_by_hand(rt: HostRuntime) -> Result<(), Fail> {
     assert!(rt; opens_with(a, &[first, second, header(5, 2, 3, 0, 2999)])? == Opening::Without(2));
     assert!(rt; opens_with(a, &[first, second, header(5, 2, 3, 0, 5000)])? == Opening::Without(2));
     assert!(rt; opens_with(a, &[first, second, header(5, 2, 4, 0, 4600)])? == Opening::Without(2));
-    assert!(rt; opens_with(a, &[first, second, header(1 << 63, 2, 3, 0, 3000)])? == Opening::Without(2));
+    assert!(rt;
+        opens_with(a, &[first, second, header(1 << 63, 2, 3, 0, 3000)])? == Opening::Without(2)
+    );
     assert!(rt; opens_with(a, &[first, second, header(5, 2, 3, 1, 3000)])? == Opening::Without(2));
     let marked = [
         header(7, 0, 3, 2, 3000),
@@ -135,76 +138,6 @@ fn a_disk_that_comes_back(rt: HostRuntime) -> Result<(), Fail> {
     assert!(rt; opens(&mut other) == Opening::Without(2));
     other.remove(32);
     assert!(rt; opens(&mut other) == Opening::Lost);
-    Ok(())
-}
-
-/// What is read of a group that was opened twice.
-#[derive(Clone, Copy, Debug, PartialEq, Eq)]
-enum Reading {
-    /// Two disks were out, or none had a header.
-    Lost,
-    /// These bytes.
-    Read([u8; 1500]),
-}
-
-// Opens a group and writes to it.
-fn goes_on<R: Rack>(rack: &mut R) -> bool {
-    let Some(group) = open_group(rack, 0, 3) else {
-        return false;
-    };
-    let mut group = group;
-    write(&mut group, rack, 700, &[0x2f; 900])
-}
-
-// Opens a group and reads it.
-fn reads<R: Rack>(rack: &mut R) -> Reading {
-    let Some(group) = open_group(rack, 0, 3) else {
-        return Reading::Lost;
-    };
-    let mut group = group;
-    let mut got = [0; 1500];
-    if !read(&mut group, rack, 100, &mut got) {
-        return Reading::Lost;
-    }
-    Reading::Read(got)
-}
-
-// A group is made and written, opened and written, and opened and read, where these calls fail.
-fn sessions(alloc: Global, fails: &[u64]) -> Result<Reading, Fail> {
-    let mut rack = MemRack::new(alloc, 64, 512 * 9, Vec::from_slice(alloc, fails)?)?;
-    if !leave(&mut rack, false) || !goes_on(&mut rack) {
-        return Ok(Reading::Lost);
-    }
-    Ok(reads(&mut rack))
-}
-
-// What is read where no byte is lost.
-fn expected() -> Reading {
-    let mut bytes = [0x2f; 1500];
-    for byte in &mut bytes[..600] {
-        *byte = 0x11;
-    }
-    Reading::Read(bytes)
-}
-
-// One call fails, whichever it is: nothing is lost. So a disk that an opening misses doesn't count at the next one, for the group was written.
-#[test]
-fn one_call_fails(rt: HostRuntime) -> Result<(), Fail> {
-    for call in 0..100 {
-        assert!(rt; sessions(rt.alloc(), &[call])? == expected());
-    }
-    Ok(())
-}
-
-// Two calls fail from the first opening on: the bytes are those that were written last, or two disks are out.
-#[test]
-fn two_calls_fail(rt: HostRuntime) -> Result<(), Fail> {
-    for second in 18..60 {
-        for first in 18..second {
-            let found = sessions(rt.alloc(), &[first, second])?;
-            assert!(rt; found == Reading::Lost || found == expected());
-        }
-    }
     Ok(())
 }
 
