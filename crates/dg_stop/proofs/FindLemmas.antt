@@ -1,22 +1,21 @@
 -- Calls that look for a member's headers.
-use Rattle.std.proofs.Common.{◌≡◌, ◌≢◌, ◌≤◌, ◌<◌, ◌+◌, ◌-◌, ◌*◌, ◌%◌, ◌⊎◌, ◌↔◌, ℕ, Bool, true, false, List, [], ◌∷◌, length, take, drop, set, refl, sym, ◌∙◌, ap, arith, inl, inr, subst, get_or-set_same, get_or-set_other, get_or-take, get_or-drop, length-take, length-drop}
+use Rattle.std.proofs.Common.{◌≡◌, ◌≢◌, ◌≤◌, ◌<◌, ◌+◌, ◌*◌, ◌%◌, ◌⊎◌, ℕ, Bool, true, false, List, [], ◌∷◌, length, take, drop, set, refl, sym, ◌∙◌, ap, arith, inl, inr, subst, get_or-set_same, get_or-set_other, get_or-take, get_or-drop, length-take, length-drop}
 use Rattle.std.proofs.lemmas.Bool.{false≢true}
 use Rattle.std.proofs.lemmas.List.{ext_get_or}
-use Rattle.std.specs.Prelude.{Option, Some, None, IfSome, Result, Ok, Err, IsErr, IsOk, OnErr, OnOk, is_some, slice_range, slice_index_or}
+use Rattle.std.specs.Prelude.{Option, Some, None, IfSome, Result, Ok, Err, IsErr, IsOk, is_some, slice_range}
 use Rattle.dg_io.specs.Makes.{Makes}
 use Rattle.dg_io.specs.MakesLaws.{makes_both, makes_none, makes_only, makes_such}
 use Rattle.dg_io.specs.OnlyLaws.{only_one}
-use Rattle.dg_io.specs.RackCalls.{RackCall}
 use Rattle.dg_io.specs.RackCalls.RackCall.{looks, calls}
 use Rattle.dg_io.specs.RackWords.{Leaves}
-use Rattle.dg_io.specs.Told.{IsSame, Reads, StillTold, Told}
+use Rattle.dg_io.specs.Told.{IsSame, Reads, Told}
 use Rattle.dg_io.specs.declared.outside.Rack.{Ghosts}
 use Rattle.dg_model.specs.Causes.{Rose}
 use Rattle.dg_stop.proofs.Committing.{same_or_not}
 use Rattle.dg_stop.proofs.PhaseLemmas.{told_itself, told_right}
 use Rattle.dg_stop.proofs.PieceLemmas.{serves_done, serves_none, serves_ok, serves_then}
-use Rattle.dg_stop.specs.FoundHeaders.{AreFound, AreHeadersOf, AreOn, Bears, IsCounted, IsFound, IsIn, IsLook, IsOpening, IsPage, IsPassed, IsReading, LooksAt, found_at, no_headers}
-use Rattle.dg_stop.specs.Headers.{HasHeader, header_bytes}
+use Rattle.dg_stop.specs.FoundHeaders.{AreFound, AreHeadersOf, AreOn, Bears, IsFound, IsIn, IsLook, IsOpening, IsPage, IsPassed, IsReading, LooksAt, found_at, no_headers}
+use Rattle.dg_stop.specs.Headers.{HasHeader}
 use Rattle.dg_stop.specs.Layouts.{double_size, header_place}
 use Rattle.dg_stop.specs.Phases.{flag_in}
 use Rattle.dg_stop.specs.Serving.{Serves}

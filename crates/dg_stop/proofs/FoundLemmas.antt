@@ -1,5 +1,5 @@
 -- Headers that are read of bytes.
-use Rattle.std.proofs.Common.{◌≡◌, ◌<◌, ◌^◌, ℕ, Bool, List, drop, refl, sym, ◌∙◌, ap, arith, subst, true, false}
+use Rattle.std.proofs.Common.{◌≡◌, ℕ, Bool, List, drop, refl, sym, ◌∙◌, ap, arith, subst, true, false}
 use Rattle.std.proofs.lemmas.Bool.Decides.{Decides-eqb}
 use Rattle.std.specs.Prelude.{◌==◌, Some, slice_index}
 use Rattle.byteorder.specs.Endian.{little_from}

@@ -1,11 +1,11 @@
 -- The header that leads, found by one pass.
-use Rattle.std.proofs.Common.{◌≡◌, ◌≤◌, ◌<◌, ◌+◌, ◌⊎◌, ℕ, true, false, List, refl, sym, ◌∙◌, ap, arith, inl, inr, subst}
+use Rattle.std.proofs.Common.{◌≡◌, ◌≤◌, ◌+◌, ◌⊎◌, ℕ, true, false, List, refl, sym, ◌∙◌, ap, arith, inl, inr, subst}
 use Rattle.std.proofs.lemmas.Bool.{false≢true}
-use Rattle.std.specs.Prelude.{Option, Some, None, is_some}
+use Rattle.std.specs.Prelude.{Option, Some, None}
 use Rattle.dg_stop.proofs.Committing.{same_or_not}
 use Rattle.dg_stop.proofs.FindLemmas.{none_some}
 use Rattle.dg_stop.specs.FoundHeaders.{IsIn, found_at}
-use Rattle.dg_stop.specs.Leads.{IsAfter, IsAttained, IsBelow, IsBest, IsBestOf, IsLater, IsNotAfter, IsRaised, IsTop, Stays, Takes}
+use Rattle.dg_stop.specs.Leads.{IsAfter, IsBelow, IsBest, IsBestOf, IsLater, IsNotAfter, IsRaised, IsTop}
 use Rattle.dg_stop.specs.declared.found_headers.Found.{Found}
 use Rattle.dg_stop.specs.declared.headers.Header.{Header}
 

@@ -2,17 +2,17 @@
 use Rattle.std.proofs.Common.{◌≡◌, ◌≤◌, ◌<◌, ◌/◌, ◌%◌, ◌⊎◌, ℕ, Bool, true, List, refl, sym, ◌∙◌, ap, arith, inl, inr, subst}
 use Rattle.std.specs.Prelude.{Some, slice_index}
 use Rattle.dg_io.specs.Kept.{Kept}
-use Rattle.dg_stop.proofs.Committing.{has_written, names_stay}
+use Rattle.dg_stop.proofs.Committing.{names_stay}
 use Rattle.dg_stop.proofs.HeaderLemmas.{one_header}
 use Rattle.dg_stop.proofs.Opening.{WasOf, kept_after, last_after, openings_leave_kept, was}
 use Rattle.dg_stop.proofs.Ranges.{seen_same}
 use Rattle.dg_stop.proofs.Stopping.{committed_is}
 use Rattle.dg_stop.specs.Anchors.{IsAnchored, IsHeldBy}
-use Rattle.dg_stop.specs.Commits.{AreGuarded, IsFresh, WritesHeader, as_committed}
-use Rattle.dg_stop.specs.Headers.{Header, HasHeader, entry_of, extra_of, header_table}
+use Rattle.dg_stop.specs.Commits.{AreGuarded, WritesHeader, as_committed}
+use Rattle.dg_stop.specs.Headers.{Header, HasHeader, header_table}
 use Rattle.dg_stop.specs.Layouts.{names_second, seen, spot, table_place, table_size}
 use Rattle.dg_stop.specs.Openings.{HoldsOpened, IsTaken, OpeningsHold}
-use Rattle.dg_stop.specs.Reopens.{IsAttached, IsCommitted, IsLast, KeptBy, Leads, Reopened}
+use Rattle.dg_stop.specs.Reopens.{IsAttached, IsLast, Leads, Reopened}
 use Rattle.dg_stop.specs.Stops.{AreOfOne, Upgrades}
 
 -- a table is as it was

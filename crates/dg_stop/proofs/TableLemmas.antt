@@ -1,5 +1,5 @@
 -- The tables that an opening reads, member by member.
-use Rattle.std.proofs.Common.{◌≡◌, ◌≢◌, ◌≤◌, ◌<◌, ◌+◌, ◌⊎◌, ℕ, Bool, true, false, List, length, set, refl, sym, ◌∙◌, ap, arith, inl, inr, subst, get_or-set_same, get_or-set_other, zero, suc, [], ◌∷◌, ◌++◌}
+use Rattle.std.proofs.Common.{◌≡◌, ◌≤◌, ◌<◌, ◌+◌, ◌⊎◌, ℕ, List, length, set, refl, sym, ◌∙◌, ap, arith, inl, inr, subst, get_or-set_same, get_or-set_other, zero, suc, [], ◌∷◌, ◌++◌}
 use Rattle.std.proofs.lemmas.Bool.{false≢true}
 use Rattle.std.proofs.lemmas.List.{get_or_past}
 use Rattle.std.specs.Prelude.{Option, Some, None, IfSome, IsOk, Result, is_some, slice_get}
@@ -10,7 +10,7 @@ use Rattle.dg_stop.proofs.Avoiding.{bits_fit, tables_end}
 use Rattle.dg_stop.proofs.Frames.{some_map}
 use Rattle.dg_stop.specs.FoundHeaders.{Bears, LooksAt, found_at}
 use Rattle.dg_stop.specs.Commits.{IsPlaced}
-use Rattle.dg_stop.specs.Layouts.{bit_in, bits_of, double_size, table_place, table_size}
+use Rattle.dg_stop.specs.Layouts.{bit_in, bits_of, table_place, table_size}
 use Rattle.dg_io.specs.declared.outside.Rack.{Ghosts}
 use Rattle.dg_stop.specs.Leads.{IsAttachedBy}
 use Rattle.dg_stop.specs.Tables.{AreBorne, AreHeads, AreShort, FindsOn, HoldsAt, HoldsTable, head_at}

@@ -1,13 +1,11 @@
 -- The tables that an opening reads.
-use Rattle.std.specs.Prelude.{◌≡◌, ◌≤◌, ◌<◌, ◌+◌, ◌/◌, ◌^◌, ℕ, false, List, Option, Some, None, Bool, IfSome, length, slice_get, slice_index_or, slice_set}
+use Rattle.std.specs.Prelude.{◌≡◌, ◌≤◌, ◌<◌, ◌^◌, ℕ, false, List, Option, Some, None, Bool, IfSome, length, slice_get, slice_index_or, slice_set}
 use Rattle.dg_io.specs.declared.outside.Rack.{Ghosts}
 use Rattle.dg_stop.specs.Commits.{IsPlaced}
-use Rattle.dg_stop.specs.Doubles.{most_of}
 use Rattle.dg_stop.specs.FoundHeaders.{AreFound, Bears, found_at, no_headers}
 use Rattle.dg_stop.specs.Headers.{extra_of}
 use Rattle.dg_stop.specs.Layouts.{bit_in, bits_of}
 use Rattle.dg_stop.specs.Leads.{IsAttachedBy}
-use Rattle.dg_stop.specs.Phases.{bits_in, size_in}
 use Rattle.dg_stop.specs.Values.{header_of}
 use Rattle.dg_stop.specs.declared.found_headers.Found.{Found}
 use Rattle.dg_stop.specs.declared.headers.Header.{Header}

@@ -1,4 +1,4 @@
-use Rattle.std.proofs.Common.{arith, refl, sym, ap, subst, length, length-set, set, false}
+use Rattle.std.proofs.Common.{arith, refl, sym, ap, subst, length, length-set, false}
 use Rattle.std.specs.Prelude.{IsErr, IsOk}
 use Rattle.dg_stop.proofs.FindLemmas.{found_none, turn_found, turn_lost}
 use Rattle.dg_stop.proofs.found_headers.find_all.Goals as goal

@@ -1,4 +1,4 @@
-use Rattle.std.proofs.Common.{rules, arith, ◌≡◌, ◌≢◌, refl, sym, ◌∙◌, slice_index_or}
+use Rattle.std.proofs.Common.{rules, ◌≡◌, ◌≢◌, refl, sym, ◌∙◌, slice_index_or}
 use Rattle.std.specs.Prelude.{◌==◌}
 use Rattle.dg_stop.specs.declared.headers.Header.{Header}
 use Rattle.dg_stop.proofs.FoundLemmas.{ReadsAs, is_mark, mark_is, read_some, read_none}

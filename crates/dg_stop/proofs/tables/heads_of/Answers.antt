@@ -1,4 +1,4 @@
-use Rattle.std.proofs.Common.{◌∙◌, arith, length-set, subst}
+use Rattle.std.proofs.Common.{◌∙◌, length-set, subst}
 use Rattle.dg_stop.proofs.TableLemmas.{heads_more}
 use Rattle.dg_stop.specs.Leads.{IsAttachedBy}
 use Rattle.dg_stop.proofs.tables.heads_of.Goals as goal

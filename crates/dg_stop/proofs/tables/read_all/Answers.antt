@@ -1,4 +1,4 @@
-use Rattle.std.proofs.Common.{◌≡◌, ◌+◌, ◌∙◌, ◌++◌, ◌∷◌, [], ℕ, List, arith, length, length-append, refl, sym, ap, subst}
+use Rattle.std.proofs.Common.{◌+◌, ◌∙◌, ◌∷◌, [], ℕ, List, length, length-append, refl, sym, ap, subst}
 use Rattle.std.specs.Prelude.{IfOk, IsErr, IsOk}
 use Rattle.dg_stop.proofs.FindLemmas.{finds_lose, loses_on}
 use Rattle.dg_stop.proofs.TableLemmas.{borne_on, finds_more, holds_more}
