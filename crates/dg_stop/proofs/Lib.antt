@@ -2,6 +2,8 @@ mod Avoiding
 mod BlankLemmas
 mod CallLemmas
 mod Blanking
+mod CommitDouble
+mod CommitMembers
 mod Committing
 mod FinishLemmas
 mod Frames
@@ -23,6 +25,7 @@ mod PutLemmas
 mod Ranges
 mod Renewing
 mod Reopening
+mod SettleLemmas
 mod StepLemmas
 mod Stopping
 mod TriesLemmas

@@ -3,10 +3,12 @@
 #![tactic(auto)]
 
 mod commits;
+mod double_commits;
 mod doubles;
 mod flags;
 mod headers;
 mod laws;
+mod marks;
 mod member_calls;
 mod memories;
 mod new_memories;
@@ -14,6 +16,7 @@ mod page_calls;
 mod pages;
 mod phases;
 mod places;
+mod settles;
 mod stop_racks;
 mod tallies;
 mod tries;
