@@ -13,7 +13,7 @@ use Rattle.dg_stop.proofs.Committing.{same_or_not}
 use Rattle.dg_stop.proofs.OneCommit.{same_at, told_both}
 use Rattle.dg_stop.proofs.Paging.{at_seen, size_seen}
 use Rattle.dg_stop.proofs.Renewing.{IsElsewhere, renewed_guards, renewed_keeps}
-use Rattle.dg_stop.proofs.StepLemmas.{if_known, long_same, ok_on, same_known, seen_others, seen_told}
+use Rattle.dg_stop.proofs.StepLemmas.{if_known, long_same, ok_on, seen_others, seen_told}
 use Rattle.dg_stop.specs.DoubleLaws.{seen_some, some_seen}
 use Rattle.dg_stop.specs.Doubles.{AreHeld, IsBeside, Joins, KeepsOthers, Lays, Loses, Steps, fell_in, keeps_in, known_in, seen_in, sizes_in, stands_in}
 use Rattle.dg_stop.specs.Headers.{Header, HasHeader, header_bytes}

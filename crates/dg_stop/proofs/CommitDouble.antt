@@ -1,5 +1,5 @@
 -- A commit of a double rack, as a rack that keeps a checkpoint, and of one that is plain or double.
-use Rattle.std.proofs.Common.{◌≡◌, ◌⊎◌, ℕ, Bool, true, false, List, [], refl, sym, ◌∙◌, ap, arith, inl, inr, subst}
+use Rattle.std.proofs.Common.{◌≡◌, ◌⊎◌, ℕ, Bool, true, false, List, refl, sym, ◌∙◌, ap, arith, inl, inr}
 use Rattle.std.specs.Prelude.{◌==◌, ◌&&◌, ◌↔◌, not, if◌then◌else◌, Option, Some, None, IsSome}
 use Rattle.std.specs.List.{Contains}
 use Rattle.std.proofs.lemmas.Bool.{false≢true}
@@ -13,11 +13,10 @@ use Rattle.dg_io.specs.declared.outside.Rack.{Ghosts}
 use Rattle.dg_stop.proofs.CommitMembers.{not_fallen}
 use Rattle.dg_stop.proofs.TriesLemmas.{none_of}
 use Rattle.dg_stop.specs.DoubleCommits.{Faults, KeepsCommit, LeavesMembers, answer_in, double_rack, double_room, fell_now, tried_kept}
-use Rattle.dg_stop.specs.Doubles.{Double, double_bytes, double_stands, stands_in}
+use Rattle.dg_stop.specs.Doubles.{Double, double_bytes, stands_in}
 use Rattle.dg_stop.specs.Phases.{flag_in}
 use Rattle.dg_stop.specs.StopRacks.{stop_room, stop_words}
 use Rattle.dg_stop.specs.Tries.{AreTried}
-use Rattle.dg_stop.specs.declared.stop_racks.StopRack.{StopRack}
 use Rattle.dg_stop.specs.declared.stop_racks.StopRack.TheVariants.{Plain, Doubled}
 
 none_marked : (q : ℕ) → is_marked 0 q ≡ false

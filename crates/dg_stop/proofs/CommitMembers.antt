@@ -1,8 +1,7 @@
 -- A commit of members of a double rack: what it leaves of the rack behind and of what is kept in memory.
-use Rattle.std.proofs.Common.{◌≡◌, ◌≢◌, ◌≤◌, ◌<◌, ◌+◌, ◌^◌, ◌/◌, ◌++◌, ◌⊎◌, ℕ, zero, suc, Bool, true, false, List, [], length, replicate, refl, sym, ◌∙◌, ap, arith, inl, inr, subst}
-use Rattle.std.specs.Prelude.{◌&&◌, not, if◌then◌else◌, Option, Some, None, IfSome, IsSome, is_some}
+use Rattle.std.proofs.Common.{◌≡◌, ◌≤◌, ◌<◌, ◌+◌, ◌^◌, ◌/◌, ◌++◌, ◌⊎◌, ℕ, zero, suc, Bool, true, false, List, [], length, replicate, refl, sym, ◌∙◌, ap, arith, inl, inr, subst}
+use Rattle.std.specs.Prelude.{◌&&◌, not, if◌then◌else◌, Option, Some, None, IsSome, is_some}
 use Rattle.std.proofs.lemmas.Bool.{false≢true}
-use Rattle.dg_io.specs.Disks.{DisksFall}
 use Rattle.dg_io.specs.Kept.{Kept}
 use Rattle.dg_io.specs.MadeLaws.{each_such}
 use Rattle.dg_io.specs.MakesLaws.{makes_made}
@@ -10,17 +9,16 @@ use Rattle.dg_io.specs.RackCalls.{Each, IsNoBlankAt, IsNotOn, RackCall}
 use Rattle.dg_io.specs.RackWords.{After, MadeOnly}
 use Rattle.dg_io.specs.Told.{IsSame, Told}
 use Rattle.dg_io.specs.declared.outside.Rack.{Ghosts}
-use Rattle.dg_model.specs.Causes.{Rose}
 use Rattle.dg_stop.proofs.Keeping.{Narrows}
 use Rattle.dg_stop.proofs.OneCommit.{all_or_some, held_same}
 use Rattle.dg_stop.proofs.StepLemmas.{known_same, long_same, seen_told, still_keeps}
 use Rattle.dg_stop.proofs.TriesLemmas.{view_same}
-use Rattle.dg_stop.specs.Anchors.{Holds, IsAnchored, Stays}
+use Rattle.dg_stop.specs.Anchors.{Holds, IsAnchored}
 use Rattle.dg_stop.specs.Commits.{AreGuarded, IsFresh}
 use Rattle.dg_stop.specs.DoubleCommits.{IsSettled, KeepsCommit, LeavesMembers, Settles, fell_now, tried_kept}
-use Rattle.dg_stop.specs.Doubles.{AreHeld, GuardsAll, IsDue, KeepsAll, fell_in, keeps_in, known_in, last_in, now_in, seen_in, sizes_in, stands_in}
-use Rattle.dg_stop.specs.Headers.{Header, HasHeader, header_table}
-use Rattle.dg_stop.specs.Layouts.{SamePages, bit_in, bits_of, double_size, names_second, table_place, table_size}
+use Rattle.dg_stop.specs.Doubles.{AreHeld, GuardsAll, KeepsAll, fell_in, keeps_in, known_in, last_in, seen_in, sizes_in, stands_in}
+use Rattle.dg_stop.specs.Headers.{Header, HasHeader}
+use Rattle.dg_stop.specs.Layouts.{SamePages, bit_in, bits_of, double_size, table_size}
 use Rattle.dg_stop.specs.Phases.{IsServed, LeavesTries, Sized, StandsAfter, TellsAll, TellsKnown, all_kept, bits_in, bytes_or, flag_in, known_at, size_in, view_of}
 use Rattle.dg_stop.specs.Reopens.{Reopened}
 use Rattle.dg_stop.specs.Tries.{AreTried, GuardsTries, KeepsTries, TriesKeep}

@@ -15,7 +15,7 @@ use Rattle.dg_stop.specs.Layouts.{bit_in, names_second, table_place}
 use Rattle.dg_stop.specs.Headers.{Header, HasHeader, header_table}
 use Rattle.dg_stop.specs.Commits.{AreBelow, AreGuarded, ArePrepared, HasNone, IsFresh, IsNamed, IsOpenTo, IsPlaced, Prepares, PutsHeader, WritesHeader, as_committed}
 use Rattle.dg_stop.specs.Phases.{FinishedBelow, KeepsOrCommits, LeavesKept, PassedBelow, Sized, StandsAfter, TellsKnown, all_kept, bits_in, bytes_or, flag_in, head_of, size_in, known_at, view_of}
-use Rattle.dg_stop.specs.Anchors.{Holds, IsAnchored, IsHeldBy, Stays}
+use Rattle.dg_stop.specs.Anchors.{Holds, IsHeldBy, Stays}
 use Rattle.dg_stop.specs.Reopens.{IsCommitted, KeptBy, Reopened}
 use Rattle.dg_stop.specs.Stops.{AreOfOne, HasLanded, IsStopped, NamedOrNone, entry_by, new_kept}
 use Rattle.dg_stop.specs.declared.places.Places.{Places}

@@ -1,5 +1,5 @@
 -- Turns of members after a commit: their marks, what is kept in memory of them, and their counts.
-use Rattle.std.proofs.Common.{◌≡◌, ◌≢◌, ◌≤◌, ◌<◌, ◌+◌, ◌^◌, ◌⊎◌, ℕ, Bool, true, false, List, length, refl, sym, ◌∙◌, ap, arith, inl, inr, subst}
+use Rattle.std.proofs.Common.{◌≡◌, ◌≤◌, ◌<◌, ◌+◌, ◌^◌, ℕ, Bool, true, false, List, length, refl, sym, ◌∙◌, ap, arith, inl, inr, subst}
 use Rattle.std.specs.Prelude.{◌==◌, ◌&&◌, ◌||◌, not, if◌then◌else◌, slice_index, slice_set}
 use Rattle.std.proofs.lemmas.Bool.{false≢true}
 use Rattle.std.proofs.lemmas.List.{get_or-set_other, get_or-set_same, get_or_past, length-set}
@@ -8,7 +8,6 @@ use Rattle.dg_io.specs.Commits.{is_marked}
 use Rattle.dg_stop.proofs.Committing.{same_or_not}
 use Rattle.dg_stop.proofs.OneCommit.{lt_or}
 use Rattle.dg_stop.specs.DoubleCommits.{Faults, FaultsBelow, FaultsOne, IsFaulted, IsMarkedWith, IsSettled, IsSettledBeside, Settles, SettlesBelow, SettlesOne, fell_now}
-use Rattle.dg_stop.specs.Doubles.{stands_in}
 use Rattle.dg_stop.specs.Phases.{bits_in, flag_in}
 use Rattle.dg_stop.specs.declared.memories.Memory.{Memory}
 use Rattle.dg_stop.specs.declared.places.Places.{Places}

@@ -1,5 +1,5 @@
-use Rattle.std.proofs.Common.{◌≡◌, ◌≤◌, ◌+◌, ◌^◌, ℕ, Bool, List, true, false, replicate, refl, sym, ◌∙◌, arith, subst}
-use Rattle.std.specs.Prelude.{Option, Some, None}
+use Rattle.std.proofs.Common.{Bool, List, false, replicate, refl, sym, ◌∙◌, arith, subst}
+use Rattle.std.specs.Prelude.{Some, None}
 use Rattle.std.proofs.lemmas.Bool.{false≢true}
 use Rattle.dg_stop.proofs.CommitMembers.{Commits, commits_past, keeps_lost, keeps_made, keeps_past, leaves_members, leaves_past, none_flag, same_idle}
 use Rattle.dg_stop.proofs.TriesLemmas.{none_of, serving_of}

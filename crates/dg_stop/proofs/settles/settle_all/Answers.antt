@@ -1,6 +1,6 @@
 use Rattle.std.proofs.Common.{◌≡◌, ℕ, Bool, arith, subst}
 use Rattle.dg_stop.proofs.SettleLemmas.{settles_all, settles_next, settles_none}
-use Rattle.dg_stop.specs.DoubleCommits.{SettlesBelow, SettlesOne, fell_now}
+use Rattle.dg_stop.specs.DoubleCommits.{SettlesBelow, SettlesOne}
 use Rattle.dg_stop.specs.Phases.{flag_in}
 use Rattle.dg_stop.proofs.settles.settle_all.Goals as goal
 
