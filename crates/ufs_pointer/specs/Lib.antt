@@ -5,5 +5,6 @@ pub mod Fetches
 pub mod FetchLaws
 pub mod KindLaws
 pub mod FileBlocks
+pub mod Gaps
 pub mod Superblocks
 pub mod ViewWords
