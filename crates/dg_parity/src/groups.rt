@@ -193,7 +193,7 @@ fn bit(is_set: bool, value: u8) -> u8
 }
 
 /// Bit j for each disk j that is out.
-fn marks(out: &[bool; 8]) -> u8
+pub(crate) fn marks(out: &[bool; 8]) -> u8
     ensures { result ≡ marks_of (λ j. slice_index_or out.now j false) 8 }
 {
     bit(out[0], 1)

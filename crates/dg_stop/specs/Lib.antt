@@ -1,10 +1,14 @@
 pub mod Anchors
 pub mod Changes
 pub mod Commits
+pub mod DoubleCommits
 pub mod DoubleLaws
 pub mod Doubles
+pub mod FoundHeaders
 pub mod Headers
 pub mod Layouts
+pub mod Leads
+pub mod Openings
 pub mod Pages
 pub mod Phases
 pub mod Reopens
@@ -12,5 +16,6 @@ pub mod Serving
 pub mod StopLaws
 pub mod StopRacks
 pub mod Stops
+pub mod Tables
 pub mod Tries
 pub mod Values
