@@ -1,15 +1,16 @@
 """Makes what is left of arrays of 2^12, 2^16 and 2^20 blocks without one of four boundaries, and prints what that takes.
 
-The time of one is the difference of runs with more and with one, divided by how many more, in the least of five runs. With `count` the
-instructions are counted, too, by valgrind. The exit status is 1 where what a block takes grows by more than a factor of 1.3 from 2^12 to
-2^20.
+The time of one is the difference of runs with more and with four, divided by how many more, each in the least of 31 runs: the first ones take
+memory from the system, and the later ones have it at hand, whatever the size. With `count` the instructions are counted, too, by valgrind. The
+exit status is 1 where what a block takes grows by more than a factor of 1.3 from 2^12 to 2^20.
 """
 import os
 import re
 import subprocess
 import sys
 
-ROUNDS = 5
+ROUNDS = 31
+FIRST = 4
 SIZES = (12, 16, 20)
 MOST = 1.3
 
@@ -42,8 +43,8 @@ def instructions(program, blocks, times):
 def time_of(program, blocks):
     """The seconds of one."""
     more = max(4, (1 << 23) // blocks)
-    once, often = (min(seconds(program, blocks, count) for _ in range(ROUNDS)) for count in (1, 1 + more))
-    return (often - once) / more
+    few, often = (min(seconds(program, blocks, count) for _ in range(ROUNDS)) for count in (FIRST, FIRST + more))
+    return (often - few) / more
 
 
 def count_of(program, blocks):

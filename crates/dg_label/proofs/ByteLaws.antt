@@ -1,5 +1,5 @@
 -- Bytes in which a label, or a body, was put.
-use Rattle.std.proofs.Common.{◌≡◌, ◌∙◌, ◌≤◌, ◌+◌, ◌-◌, ◌++◌, ℕ, List, length, take, drop, refl, sym, ap, arith, append_assoc, length-append, length-drop, length-take}
+use Rattle.std.proofs.Common.{◌≡◌, ◌∙◌, ◌≤◌, ◌+◌, ◌-◌, ◌++◌, ℕ, List, length, take, drop, refl, sym, ap, arith, append-nil, append_assoc, length-append, length-drop, length-take}
 use Rattle.std.specs.Prelude.{replicate, slice_range}
 use Rattle.std.proofs.lemmas.List.{drop-drop, drop-take, drop_at, length-replicate, take-take, take_all, take_at}
 use Rattle.dg_io.specs.Told.{Extended, KeepsFront, Patched, patch}
@@ -26,6 +26,11 @@ patched_long place piece before after is fits =
 pub extended_long : (n : ℕ) (before after : List ℕ) → Extended n before after → length before ≤ n → length after ≡ n
 extended_long n before after is fits =
     ap length is ∙ omega (arith, length-append before (replicate (n - length before) 0), length-replicate {A = ℕ} (n - length before) 0, fits)
+
+pub extended_none : (n : ℕ) (all : List ℕ) → length all ≡ n → Extended n all all
+extended_none n all size =
+    let none : n - length all ≡ 0 = omega (arith, size) in
+    sym (append-nil all) ∙ ap (λ (k : ℕ). all ++ replicate k 0) (sym none)
 
 -- ---- at the front
 

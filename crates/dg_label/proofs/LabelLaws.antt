@@ -1,16 +1,17 @@
 -- What passes over the members leave of a label and a body.
 use Rattle.std.proofs.Common.{◌≡◌, ◌≢◌, ◌⊎◌, ◌∙◌, ◌<◌, ◌≤◌, ◌+◌, ◌*◌, ◌/◌, ◌%◌, ◌^◌, ◌&&◌, ◌||◌, ℕ, Bool, true, false, not, List, length, inl, inr, refl, sym, ap, subst, take, arith}
-use Rattle.std.specs.Prelude.{Err, IfOk, IfSome, IsSomeAnd, None, Ok, Option, Result, Some, replicate, if◌then◌else◌}
+use Rattle.std.specs.Prelude.{◌==◌, Err, IfOk, IfSome, None, Ok, Option, Result, Some, replicate, if◌then◌else◌}
 use Rattle.std.proofs.lemmas.Bool.{and_from, and_parts, both_ways, cases_Bool, cases_lt, false≢true, or_left}
 use Rattle.dg_io.specs.Told.{Extended, FitsIn, IsSame, Patched, Told}
 use Rattle.dg_io.specs.declared.outside.Rack.{Ghosts}
-use Rattle.dg_label.specs.Labels.{AreFresh, AreNumbers, AreNumbersOf, HasLength, IsLabeled, IsOfArray, StandsLabeled, is_sealed, next_number, unsealed}
+use Rattle.dg_label.specs.Labels.{AreFresh, AreNumbers, AreNumbersOf, HasLength, IsLabeled, IsOfArray, StandsLabeled, is_long, is_sealed, next_number, unsealed}
+use Rattle.dg_io.specs.Commits.{is_marked}
 use Rattle.dg_label.specs.Pages.{LeavesFallen, OpensMember, PageFails, numbered, page_of}
-use Rattle.dg_label.specs.Passes.{AreWhole, FillingStay, Passes}
+use Rattle.dg_label.specs.Passes.{AreWhole, FillingStay, Passes, Touches}
 use Rattle.dg_label.specs.Seals.{HasGood, HasNoGood, KeepsArray, OpensMembers, OpensSeal, saved_label}
 use Rattle.dg_label.specs.declared.labels.KeptLabel.{KeptLabel}
-use Rattle.dg_label.proofs.ByteLaws.{body_stays, body_there, extended_long, front_there, label_long, patched_long}
-use Rattle.dg_label.proofs.PassLaws.{filling_bad, filling_kept, good_kept, good_or_filling, keeps_none, stood_kept, told_is}
+use Rattle.dg_label.proofs.ByteLaws.{body_stays, body_there, extended_long, extended_none, front_there, label_long, patched_long}
+use Rattle.dg_label.proofs.PassLaws.{filling_bad, filling_kept, good_kept, good_or_filling, keeps_none, rest_is, stood_kept, told_is, told_same}
 use Rattle.dg_model.specs.Blocks.{zeros}
 use Rattle.dg_model.specs.Members.{is_filling, is_good, partner_of}
 use Rattle.dg_model.specs.Saves.{BeginsWith, HasBody, IsLabel, Label, body_place, label_bytes, member_length, room_of}
@@ -101,15 +102,35 @@ label_same shape last kept q same of_array = λ i. record {
   body = sym same.body i;
 }
 
+-- each member is long beneath a label of format 2
+long_by : (kept : KeptLabel) (q : ℕ) → kept.format ≡ 2 → is_long (Some kept) q ≡ true
+long_by kept q two = ap (λ (f : ℕ). (f == 2) || is_marked kept.long q) two
+
+-- how long a member is, by whether it is long
+length_when : (shape : Shape) (label : Option KeptLabel) (q size : ℕ) (long : Bool) → is_long label q ≡ long → HasLength shape label q size
+    → size ≡ member_length (if long then 2 else 1) shape
+length_when shape label q size long is has = subst (λ (b : Bool). size ≡ member_length (if b then 2 else 1) shape) is has
+
+length_long : (shape : Shape) (label : Option KeptLabel) (q size : ℕ) → is_long label q ≡ true → size ≡ member_length 2 shape → HasLength shape label q size
+length_long shape label q size is long = subst (λ (b : Bool). size ≡ member_length (if b then 2 else 1) shape) (sym is) long
+
+-- no member is longer than format 2 says
+length_fits : (shape : Shape) (long : Bool) (size : ℕ) → size ≡ member_length (if long then 2 else 1) shape → size ≤ member_length 2 shape
+length_fits shape true size is = omega (arith, is)
+length_fits shape false size is = omega (arith, is)
+
 -- a member as long as the array's label says is so as the model's label says
 size_is : (shape : Shape) (last : LastLabel) (kept : KeptLabel) (q size : ℕ) → AreNumbersOf last kept → IsOfArray shape last → (kept.format ≡ 1) ⊎ (kept.format ≡ 2)
-    → HasLength shape (Some kept) size → saves.HasLength (label_on last q) size
+    → HasLength shape (Some kept) q size → saves.HasLength (label_on last q) size
 size_is shape last kept q size same of_array formats has = subst (λ (l : Label). saves.HasLength l size) (label_same shape last kept q same of_array) numbered_size
   where
     numbered_size : saves.HasLength (numbered shape kept q) size
-    numbered_size = elim has [
-      | inl new ↦ elim formats [ inl one ↦ inr (one, new) | inr two ↦ inl (new ∙ ap (λ (f : ℕ). member_length f shape) (sym two)) ]
-      | inr old ↦ inl (old.1 ∙ ap (λ (f : ℕ). member_length f shape) (sym old.0))
+    numbered_size = elim formats [
+      | inr two ↦ inl (length_when shape (Some kept) q size true (long_by kept q two) has ∙ ap (λ (f : ℕ). member_length f shape) (sym two))
+      | inl one ↦ elim (cases_Bool (is_long (Some kept) q)) [
+        | inl long ↦ inr (one, length_when shape (Some kept) q size true long has)
+        | inr short ↦ inl (length_when shape (Some kept) q size false short has ∙ ap (λ (f : ℕ). member_length f shape) (sym one))
+      ]
     ]
 
 -- a member that isn't good keeps no label once its seal is opened
@@ -225,20 +246,43 @@ module _ {R : Type 0} (rack : Ghosts R) where
         (λ x y same h. subst (λ (xs : List ℕ). P (length xs)) (sym same) h) (passes.filling q filling) had
   ]
 
-  -- no good member is longer than format 2 says
-  pub fits_whole : (a : Store R) (kept : Option KeptLabel) → IsLabeled rack a kept → (q : ℕ) → is_good (members_of a q) ≡ true
-      → IfSome (rack.bytes (rack_of a) q) (FitsIn (member_length 2 (shape_of a)))
-  fits_whole a kept labeled q good =
-      weaker (λ all. HasLength (shape_of a) kept (length all)) (FitsIn (member_length 2 (shape_of a))) (rack.bytes (rack_of a) q)
-      (λ all long. elim long [ inl same ↦ omega (arith, same) | inr old ↦ let size = old.1 in omega (arith, size) ])
-      (labeled.lengths q (good_stands a q good))
+  -- so long is a good member whose turn hasn't come, where members are made longer
+  pub length_on : (a b : Store R) (kept : Option KeptLabel) (n : ℕ) → IsLabeled rack a kept
+      → Passes rack n (λ (q : ℕ). Extended (member_length 2 (shape_of a))) a b → is_good (members_of b n) ≡ true
+      → IfSome (rack.bytes (rack_of b) n) (λ all. HasLength (shape_of b) kept n (length all))
+  length_on a b kept n labeled passes good =
+      subst (λ (sh : Shape). IfSome (rack.bytes (rack_of b) n) (λ all. HasLength sh kept n (length all))) (sym passes.array.stays.shape)
+      (rest_is rack (λ all. HasLength (shape_of a) kept n (length all)) (λ (q : ℕ). Extended (member_length 2 (shape_of a))) n a b passes
+      (labeled.lengths n (good_stands a n (good_kept rack a b n passes.array good))))
 
-  -- members are whole beneath a label that isn't of format 1
-  pub whole_by : (a : Store R) (kept : Option KeptLabel) → IsLabeled rack a kept → (IsSomeAnd kept (λ k. k.format ≡ 1) → ⊥) → AreWhole rack a
-  whole_by a kept labeled other q stands =
-      weaker (λ all. HasLength (shape_of a) kept (length all)) (λ all. length all ≡ member_length 2 (shape_of a)) (rack.bytes (rack_of a) q)
-      (λ all long. elim long [ inl same ↦ same | inr old ↦ absurd (other old.0) ])
-      (labeled.lengths q stands)
+  -- no good member is longer than format 2 says
+  pub fits_one : (a : Store R) (kept : Option KeptLabel) (q : ℕ) → IfSome (rack.bytes (rack_of a) q) (λ all. HasLength (shape_of a) kept q (length all))
+      → IfSome (rack.bytes (rack_of a) q) (FitsIn (member_length 2 (shape_of a)))
+  fits_one a kept q =
+      weaker (λ all. HasLength (shape_of a) kept q (length all)) (FitsIn (member_length 2 (shape_of a))) (rack.bytes (rack_of a) q)
+      (λ all long. length_fits (shape_of a) (is_long kept q) (length all) long)
+
+  fits_whole : (a : Store R) (kept : Option KeptLabel) → IsLabeled rack a kept → (q : ℕ) → is_good (members_of a q) ≡ true
+      → IfSome (rack.bytes (rack_of a) q) (FitsIn (member_length 2 (shape_of a)))
+  fits_whole a kept labeled q good = fits_one a kept q (labeled.lengths q (good_stands a q good))
+
+  -- a good member that is long already is as if it were made longer
+  pub touched_long : (a : Store R) (kept : Option KeptLabel) (q : ℕ) → IsSound rack a → is_long kept q ≡ true
+      → (is_good (members_of a q) ≡ true → IfSome (rack.bytes (rack_of a) q) (λ all. HasLength (shape_of a) kept q (length all)))
+      → Touches rack q (Extended (member_length 2 (shape_of a))) a a
+  touched_long a kept q sound long has = record {
+    array = keeps_none rack a sound;
+    here = λ good. extended_same (rack.bytes (rack_of a) q) (has good);
+    filling = λ filling. told_same (rack.bytes (rack_of a) q);
+    others = λ p other. told_same (rack.bytes (rack_of a) p);
+    stay_good = λ p other good. good;
+    most = omega arith;
+  }
+    where
+      extended_same : (told : Option (List ℕ)) → IfSome told (λ all. HasLength (shape_of a) kept q (length all))
+          → Told (Extended (member_length 2 (shape_of a))) told told
+      extended_same None is = tt
+      extended_same (Some all) is = extended_none (member_length 2 (shape_of a)) all (length_when (shape_of a) kept q (length all) true long is)
 
   -- where there is no seal, none is opened
   pub opens_none : (a : Store R) (label : Option KeptLabel) → IsSound rack a → IsLabeled rack a label → is_sealed label ≡ false → OpensSeal rack a a label label
@@ -289,14 +333,14 @@ module _ {R : Type 0} (rack : Ghosts R) where
         (λ x y changed h. body_stays (shape_of a) body (label_bytes (numbered (shape_of a) kept q)) x y (label_long (numbered (shape_of a) kept q)) changed h)
         (passes.done q (omega (arith, within)) good) (had q was))
 
-    labeled_after : (kept : KeptLabel) (next : KeptLabel) → next.format ≡ kept.format → AreNumbers (shape_of a) next → IsLabeled rack a (Some kept) → Labels next
-        → IsLabeled rack b (Some next)
-    labeled_after kept next format numbers labeled passes = record {
+    labeled_after : (kept : KeptLabel) (next : KeptLabel) → ((q : ℕ) → is_long (Some kept) q ≡ is_long (Some next) q) → AreNumbers (shape_of a) next
+        → IsLabeled rack a (Some kept) → Labels next → IsLabeled rack b (Some next)
+    labeled_after kept next same numbers labeled passes = record {
       numbers = subst (λ (sh : Shape). AreNumbers sh next) (sym passes.array.stays.shape) numbers;
       lengths = λ q stands.
-          subst (λ (sh : Shape). IfSome (rack.bytes (rack_of b) q) (λ all. HasLength sh (Some next) (length all))) (sym passes.array.stays.shape)
-          (label_lengths (HasLength (shape_of a) (Some next)) next passes q stands
-          (subst (λ (f : ℕ). IfSome (rack.bytes (rack_of a) q) (λ all. HasLength (shape_of a) (Some (record kept { format = f })) (length all))) (sym format)
+          subst (λ (sh : Shape). IfSome (rack.bytes (rack_of b) q) (λ all. HasLength sh (Some next) q (length all))) (sym passes.array.stays.shape)
+          (label_lengths (HasLength (shape_of a) (Some next) q) next passes q stands
+          (subst (λ (long : Bool). IfSome (rack.bytes (rack_of a) q) (λ all. length all ≡ member_length (if long then 2 else 1) (shape_of a))) (same q)
           (labeled.lengths q (stood_kept rack a b q passes.array stands))));
       filling = λ q filling.
           subst (λ (sh : Shape). IfSome (rack.bytes (rack_of b) q) (λ all. length all ≡ member_length 2 sh)) (sym passes.array.stays.shape)
@@ -339,7 +383,7 @@ module _ {R : Type 0} (rack : Ghosts R) where
           sizes = λ q keeps.
               let parts = and_parts (last.sealed || last.keepers q) (is_good (members_of a q) && is_good (members_of b q)) keeps in
               let good = (and_parts (is_good (members_of a q)) (is_good (members_of b q)) parts.1).1 in
-              weaker (λ all. HasLength (shape_of b) (Some next) (length all)) (λ all. saves.HasLength (label_on (opened last) q) (length all)) (rack.bytes (rack_of b) q)
+              weaker (λ all. HasLength (shape_of b) (Some next) q (length all)) (λ all. saves.HasLength (label_on (opened last) q) (length all)) (rack.bytes (rack_of b) q)
               (λ all long. size_is (shape_of b) (opened last) next q (length all) of_next of_array numbers.formats long)
               (labeled.lengths q (good_stands b q good));
           of_array = of_array;
@@ -380,7 +424,7 @@ module _ {R : Type 0} (rack : Ghosts R) where
         let next_numbers : AreNumbers (shape_of a) next = record { formats = n.formats; first = n.first; last = n.last; body = n.body } in
         record {
           array = passes.array;
-          labeled = labeled_after kept next refl next_numbers labeled passes;
+          labeled = labeled_after kept next (λ q. refl) next_numbers labeled passes;
           after_is = refl;
           quiet = λ other. absurd (false≢true (sym other ∙ is));
           stands = λ last sealed stands. at_last last stands;
@@ -398,7 +442,7 @@ module _ {R : Type 0} (rack : Ghosts R) where
             let next : KeptLabel = record kept { sealed = false } in
             let next_numbers : AreNumbers (shape_of a) next = record { formats = n.formats; first = n.first; last = n.last; body = n.body } in
             subst (λ (l : LastLabel). StandsLabeled rack b (Some (record kept { sealed = false })) (Some l)) (sym (opens_all last last.sealed))
-            (opened_stands kept last is labeled.numbers passes (labeled_after kept next refl next_numbers labeled passes) stands)
+            (opened_stands kept last is labeled.numbers passes (labeled_after kept next (λ q. refl) next_numbers labeled passes) stands)
 
     -- ---- saving
 
@@ -471,8 +515,8 @@ module _ {R : Type 0} (rack : Ghosts R) where
           record {
             numbers = subst (λ (sh : Shape). AreNumbers sh kept) (sym passes.array.stays.shape) numbers;
             lengths = λ q stands.
-                weaker (λ all. length all ≡ member_length 2 (shape_of b)) (λ all. HasLength (shape_of b) (Some kept) (length all)) (rack.bytes (rack_of b) q)
-                (λ all long. inl long) (is_whole q stands);
+                weaker (λ all. length all ≡ member_length 2 (shape_of b)) (λ all. HasLength (shape_of b) (Some kept) q (length all)) (rack.bytes (rack_of b) q)
+                (λ all long. length_long (shape_of b) (Some kept) q (length all) (long_by kept q format) long) (is_whole q stands);
             filling = λ q filling. is_whole q (filling_stands b q filling);
           },
           λ fresh. record {
@@ -542,9 +586,7 @@ module _ {R : Type 0} (rack : Ghosts R) where
   blank_labeled : (shape : Shape) (before : R) (store : Store R) → IsBlankStore rack shape before store → IsLabeled rack store None
   blank_labeled shape before store blank = record {
     numbers = tt;
-    lengths = λ q stands.
-        weaker (λ all. length all ≡ member_length 2 (shape_of store)) (λ all. HasLength (shape_of store) None (length all)) (rack.bytes (rack_of store) q)
-        (λ all long. inl long) (blank_long shape before store blank q stands);
+    lengths = λ q stands. blank_long shape before store blank q stands;
     filling = λ q filling. blank_long shape before store blank q (filling_stands rack store q filling);
   }
 

@@ -1,6 +1,7 @@
 mod ByteLaws
 mod FallenLaws
 mod LabelLaws
+mod LengthLaws
 mod LeftLaws
 mod PassLaws
 mod SaveLaws

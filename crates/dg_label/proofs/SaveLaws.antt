@@ -1,24 +1,26 @@
 -- What a save leaves of the bytes of each member.
-use Rattle.std.proofs.Common.{◌≡◌, ◌⊎◌, ◌∙◌, ◌≤◌, ◌+◌, ◌*◌, ◌==◌, ℕ, Bool, true, false, List, length, inl, inr, refl, sym, ap, subst, take, arith}
+use Rattle.std.proofs.Common.{◌≡◌, ◌≢◌, ◌⊎◌, ◌∙◌, ◌≤◌, ◌+◌, ◌*◌, ℕ, suc, Bool, true, false, not, List, length, inl, inr, refl, sym, ap, subst, take, arith}
 use Rattle.std.specs.Prelude.{IfSome, None, Option, Some, if◌then◌else◌}
 use Rattle.std.proofs.lemmas.Bool.{both_ways, cases_Bool}
 use Rattle.dg_io.specs.Told.{Extended, IsSame, KeepsFront, Patched, Told, Torn}
 use Rattle.dg_io.specs.declared.outside.Rack.{Ghosts}
-use Rattle.dg_label.specs.Labels.{is_sealed, unsealed}
+use Rattle.dg_label.specs.Labels.{is_long, is_sealed, unsealed}
 use Rattle.dg_label.specs.Pages.{LeavesFallen, OpensMember, PageFails, numbered, page_of}
-use Rattle.dg_label.specs.Passes.{AreWhole, Passes}
-use Rattle.dg_label.specs.Saves.{LeavesMember, LeavesMembers, is_short, save_calls, saved_numbers}
+use Rattle.dg_label.specs.Passes.{AreWhole, IsUncalled, Passes}
+use Rattle.dg_label.specs.Saves.{LeavesMember, LeavesMembers, save_calls, saved_numbers, short_members}
 use Rattle.dg_label.specs.Seals.{KeepsArray, OpensSeal}
 use Rattle.dg_label.specs.declared.labels.KeptLabel.{KeptLabel}
 use Rattle.dg_label.proofs.ByteLaws.{extended_front, front_longer, front_patched, same_front}
 use Rattle.dg_label.proofs.FallenLaws.{same_more}
 use Rattle.dg_label.proofs.LabelLaws.{good_stands, good_within, has_place, have_bodies}
 use Rattle.dg_label.proofs.LeftLaws.{Opened, Ready, left_early, left_saved, left_torn, left_unopened, opened_by, opened_front, opened_none}
-use Rattle.dg_label.proofs.PassLaws.{bad_stays, told_same, told_then}
-use Rattle.dg_model.specs.Members.{is_good}
+use Rattle.dg_label.proofs.PassLaws.{bad_stays, good_fills, told_same, told_then}
+use Rattle.dg_model.specs.Members.{IsStruck, is_good}
 use Rattle.dg_model.specs.Saves.{HasBody, body_place, label_bytes, member_length, room_of}
 use Rattle.dg_model.specs.declared.shapes.Shape.{Shape}
-use Rattle.dg_store.specs.Leaves.{BytesChange, CallsAtMost}
+use Rattle.dg_pair.specs.declared.boundaries.ExtendAnswer.{ExtendAnswer}
+use Rattle.dg_pair.specs.declared.boundaries.ExtendAnswer.TheVariants as extended
+use Rattle.dg_store.specs.Leaves.{BytesChange, CallsAtMost, OnlyBytesOf, OnlyFaultsOf}
 use Rattle.dg_store.specs.Stores.{IsSound, members_of, rack_of, shape_of}
 use Rattle.dg_store.specs.declared.store.Store.{Store}
 
@@ -47,23 +49,59 @@ sealed_or : (label : Option KeptLabel) → ((kept : KeptLabel) × (label ≡ Som
 sealed_or None = inr refl
 sealed_or (Some kept) = elim (cases_Bool kept.sealed) [ inl is ↦ inl (kept, refl, is) | inr none ↦ inr none ]
 
-pub fronts_none : (a : Option (List ℕ)) → Told KeepsFront a a
-fronts_none None = tt
-fronts_none (Some x) = same_front x x refl
+-- of one member more, it or none
+pub short_more : (label : Option KeptLabel) (n : ℕ) → short_members label (n + 1) ≡ short_members label n + (if not (is_long label n) then 1 else 0)
+short_more label n = let next : n + 1 ≡ suc n = omega arith in ap (short_members label) next
 
--- beneath a label of format 1 there are so many calls more
-short_is : (label : Option KeptLabel) (kept : KeptLabel) (n : ℕ) → label ≡ Some kept → kept.format ≡ 1 → (if is_short label then n else 0) ≡ n
-short_is label kept n is format =
-    ap (λ (l : Option KeptLabel). if is_short l then n else 0) is ∙ ap (λ (f : ℕ). if f == 1 then n else 0) format
-
-short_opened : (label : Option KeptLabel) → is_short (unsealed label) ≡ is_short label
-short_opened None = refl
-short_opened (Some kept) = refl
+-- as many members are to be made longer once the seal is opened
+short_opened : (label : Option KeptLabel) (n : ℕ) → short_members (unsealed label) n ≡ short_members label n
+short_opened None n = refl
+short_opened (Some kept) n = refl
 
 module _ {R : Type 0} (rack : Ghosts R) where
-  pub short_most : (a b : Store R) (label : Option KeptLabel) (kept : KeptLabel) → label ≡ Some kept → kept.format ≡ 1 → CallsAtMost rack a b (2 * (shape_of a).b)
-      → CallsAtMost rack a b (if is_short label then 2 * (shape_of a).b else 0)
-  short_most a b label kept is format most = subst (λ (n : ℕ). CallsAtMost rack a b n) (sym (short_is label kept (2 * (shape_of a).b) is format)) most
+  -- ---- members that aren't called
+
+  pub uncalled_none : (q : ℕ) (a : Store R) → IsUncalled rack q a a
+  uncalled_none q a = record { state = refl; faults = refl; bytes = told_same (rack.bytes (rack_of a) q) }
+
+  pub uncalled_both : (q : ℕ) (a b c : Store R) → IsUncalled rack q a b → IsUncalled rack q b c → IsUncalled rack q a c
+  uncalled_both q a b c first next = record {
+    state = next.state ∙ first.state;
+    faults = next.faults ∙ first.faults;
+    bytes = told_then IsSame _ _ _ first.bytes next.bytes;
+  }
+
+  -- a member that is long isn't called in its turn, nor in that of another one
+  pub uncalled_more : (label : Option KeptLabel) (n : ℕ) (a b c : Store R)
+      → ((q : ℕ) → is_good (members_of a q) ≡ true → is_long label q ≡ true → IsUncalled rack q a b)
+      → ((q : ℕ) → is_good (members_of b q) ≡ true → (q ≡ n → is_long label n ≡ true) → IsUncalled rack q b c)
+      → (q : ℕ) → is_good (members_of a q) ≡ true → is_long label q ≡ true → IsUncalled rack q a c
+  uncalled_more label n a b c before here q good long =
+      let first = before q good long in
+      uncalled_both q a b c first
+      (here q (ap is_good first.state ∙ good) (λ e. subst (λ (k : ℕ). is_long label k ≡ true) e long))
+
+  -- a call on one member is none on another one that is good
+  pub uncalled_by_extend : (n : ℕ) (a b : Store R) (answer : ExtendAnswer) → OnlyBytesOf rack a b n → OnlyFaultsOf rack a b n
+      → (answer ≢ extended.Fell → (p : ℕ) → members_of b p ≡ members_of a p)
+      → (answer ≡ extended.Fell → IsStruck n (members_of a) (members_of b))
+      → (q : ℕ) → q ≢ n → is_good (members_of a q) ≡ true → IsUncalled rack q a b
+  uncalled_by_extend n a b answer bytes faults kept fell q other good = record {
+    state = same_state answer kept fell;
+    faults = faults q other;
+    bytes = bytes q other;
+  }
+    where
+      same_state : (x : ExtendAnswer) → (x ≢ extended.Fell → (p : ℕ) → members_of b p ≡ members_of a p)
+          → (x ≡ extended.Fell → IsStruck n (members_of a) (members_of b)) → members_of b q ≡ members_of a q
+      same_state extended.NotGood still struck = still (λ e. cc e) q
+      same_state extended.Extended still struck = still (λ e. cc e) q
+      same_state extended.Fell still struck = elim ((struck refl).others q other) [
+        | inl same ↦ same
+        | inr left ↦ absurd (good_fills (members_of a q) good left.0)
+      ]
+
+  -- ---- members that are made longer
 
   -- where members are made longer, all that stood on each stands there still
   pub extended_fronts : (a b : Store R) (size : ℕ) → IsSound rack a → Passes rack (2 * (shape_of a).b) (λ (q : ℕ). Extended size) a b
@@ -255,13 +293,14 @@ module _ {R : Type 0} (rack : Ghosts R) where
     ]
 
     -- it makes so many calls
-    pub save_most : after ≡ unsealed before → CallsAtMost rack b c (if is_short after then 2 * (shape_of b).b else 0)
+    pub save_most : after ≡ unsealed before → CallsAtMost rack b c (short_members after (2 * (shape_of b).b))
         → CallsAtMost rack a e (save_calls (shape_of a).b before)
     save_most is lengthened =
-        let short : is_short after ≡ is_short before = ap is_short is ∙ short_opened before in
+        let n : ℕ = 2 * (shape_of a).b in
+        let short : short_members after n ≡ short_members before n = ap (λ (l : Option KeptLabel). short_members l n) is ∙ short_opened before n in
         let first = opened_most a b before after opens in
-        let at_b = subst (λ (sh : Shape). CallsAtMost rack b c (if is_short after then 2 * sh.b else 0)) opens.array.stays.shape lengthened in
-        let next = subst (λ (s : Bool). CallsAtMost rack b c (if s then 2 * (shape_of a).b else 0)) short at_b in
+        let at_b = subst (λ (sh : Shape). CallsAtMost rack b c (short_members after (2 * sh.b))) opens.array.stays.shape lengthened in
+        let next = subst (λ (m : ℕ). CallsAtMost rack b c m) short at_b in
         let third = subst (λ (sh : Shape). CallsAtMost rack c d (2 * sh.b)) shape_c bodies.most in
         let fourth = subst (λ (sh : Shape). CallsAtMost rack d e (2 * sh.b)) shape_d labels.most in
         omega (arith, first, next, third, fourth)

@@ -1,5 +1,6 @@
 -- What is kept of the last label of an array, beside the label of the model and the bytes of the members.
-use Rattle.std.specs.Prelude.{◌≡◌, ◌≢◌, ◌⊎◌, ◌+◌, ◌^◌, ◌<◌, ◌≤◌, ◌/◌, ℕ, Bool, take, true, false, Option, Some, None, IfSome, IsSomeAnd, length}
+use Rattle.std.specs.Prelude.{◌≡◌, ◌≢◌, ◌⊎◌, ◌+◌, ◌^◌, ◌<◌, ◌≤◌, ◌/◌, ◌==◌, ◌||◌, ℕ, Bool, take, true, false, Option, Some, None, IfSome, if◌then◌else◌, length}
+use Rattle.dg_io.specs.Commits.{is_marked}
 use Rattle.dg_io.specs.declared.outside.Rack.{Ghosts}
 use Rattle.dg_label.specs.declared.labels.KeptLabel.{KeptLabel}
 use Rattle.dg_model.specs.Blocks.{zeros}
@@ -52,16 +53,34 @@ next_number (Some kept) = kept.sequence + 1
 
 -- ---- members
 
--- how long a member is that isn't out: as a label of format 2 says, or, beneath one of format 1, also as that says
-abbrev pub HasLength : Shape → Option KeptLabel → ℕ → Type 0
-HasLength shape label size =
-    (size ≡ member_length 2 shape) ⊎ (IsSomeAnd label (λ kept. kept.format ≡ 1) × (size ≡ member_length 1 shape))
+-- Whether member q is as long as format 2 says: each one is where there is no label, or one of that format; beneath one of format 1 those are
+-- whose bits are set.
+abbrev pub is_long : Option KeptLabel → ℕ → Bool
+is_long None q = true
+is_long (Some kept) q = (kept.format == 2) || is_marked kept.long q
+
+-- how long member q is, if it isn't out: as format 2 says, or else as format 1 says
+abbrev pub HasLength : Shape → Option KeptLabel → ℕ → ℕ → Type 0
+HasLength shape label q size = size ≡ member_length (if is_long label q then 2 else 1) shape
+
+-- both are none, or the numbers of one label
+abbrev pub HaveSameNumbers : Option KeptLabel → Option KeptLabel → Type 0
+HaveSameNumbers None None = Unit {0}
+HaveSameNumbers None (Some after) = ⊥
+HaveSameNumbers (Some before) None = ⊥
+HaveSameNumbers (Some before) (Some after) = after ≡ record before { long = after.long }
+
+-- member q was noted as one that is as long as format 2 says, and nothing else has changed
+pub record NotesLong (q : ℕ) (before after : Option KeptLabel) : Type 0 where
+  pub here : is_long after q ≡ true
+  pub others : (p : ℕ) → p ≢ q → is_long after p ≡ is_long before p
+  pub numbers : HaveSameNumbers before after
 
 -- What holds between calls of a label beside an array: its numbers are in range, and each member that isn't out, and tells its bytes, is as
--- long as they say. One that is refilled was blanked by this array, so it is as long as format 2 says.
+-- long as it says. One that is refilled was blanked by this array, so it is as long as format 2 says.
 pub record IsLabeled {R : Type 0} (rack : Ghosts R) (store : Store R) (label : Option KeptLabel) : Type 0 where
   pub numbers : IfSome label (AreNumbers (shape_of store))
-  pub lengths : (q : ℕ) → members_of store q ≢ Out → IfSome (rack.bytes (rack_of store) q) (λ all. HasLength (shape_of store) label (length all))
+  pub lengths : (q : ℕ) → members_of store q ≢ Out → IfSome (rack.bytes (rack_of store) q) (λ all. HasLength (shape_of store) label q (length all))
   pub filling : (q : ℕ) → is_filling (members_of store q) ≡ true
       → IfSome (rack.bytes (rack_of store) q) (λ all. length all ≡ member_length 2 (shape_of store))
 

@@ -32,6 +32,12 @@ pub record Passes {R : Type 0} (rack : Ghosts R) (first : ℕ) (change : ℕ →
   pub stay_good : (q : ℕ) → first ≤ q → is_good (members_of old q) ≡ true → is_good (members_of new q) ≡ true
   pub most : CallsAtMost rack old new first
 
+-- no call was made on member q: its state, its count of faults and its bytes are as they were
+pub record IsUncalled {R : Type 0} (rack : Ghosts R) (q : ℕ) (old new : Store R) : Type 0 where
+  pub state : members_of new q ≡ members_of old q
+  pub faults : (rack.counts (rack_of new)).faults q ≡ (rack.counts (rack_of old)).faults q
+  pub bytes : BytesChange rack old new q IsSame
+
 -- each member that isn't out, and tells its bytes, is as long as format 2 says
 abbrev pub AreWhole : {R : Type 0} → Ghosts R → Store R → Type 0
 AreWhole rack store =

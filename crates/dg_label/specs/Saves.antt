@@ -1,8 +1,9 @@
 -- What a save leaves of the bytes of the members, and how many calls it makes. In which order it writes is this project's own: on each member the
 -- opened label, then the body, then the new label. So a label with the seal of a save is above the body of that save, and above no other.
-use Rattle.std.specs.Prelude.{◌≡◌, ◌⊎◌, ◌+◌, ◌*◌, ◌==◌, ℕ, Bool, true, false, List, Option, None, Some, drop, if◌then◌else◌, length, slice_range, take}
+use Rattle.std.specs.Prelude.{◌≡◌, ◌⊎◌, ◌+◌, ◌*◌, ℕ, Bool, true, false, not, List, Option, drop, if◌then◌else◌, length, slice_range, take}
+use Rattle.dg_io.specs.DiskAnswers.{count_upto}
 use Rattle.dg_io.specs.declared.outside.Rack.{Ghosts}
-use Rattle.dg_label.specs.Labels.{is_sealed, next_number}
+use Rattle.dg_label.specs.Labels.{is_long, is_sealed, next_number}
 use Rattle.dg_label.specs.Pages.{opened_page, page_of}
 use Rattle.dg_label.specs.declared.labels.KeptLabel.{KeptLabel}
 use Rattle.dg_model.specs.Members.{is_good}
@@ -16,7 +17,7 @@ use Rattle.dg_store.specs.declared.store.Store.{Store}
 
 -- the numbers of the label that a save of this body writes
 abbrev pub saved_numbers : Option KeptLabel → List ℕ → KeptLabel
-saved_numbers before body = record { format = 2; sequence = next_number before; sealed = true; body = length body }
+saved_numbers before body = record { format = 2; sequence = next_number before; sealed = true; body = length body; long = 0 }
 
 -- member q has that label, above the body
 abbrev pub IsSaved : Shape → Option KeptLabel → List ℕ → ℕ → List ℕ → Type 0
@@ -45,12 +46,11 @@ LeavesMembers rack body before old new =
 
 -- ---- calls
 
--- beneath a label of format 1 members are made longer
-abbrev pub is_short : Option KeptLabel → Bool
-is_short None = false
-is_short (Some kept) = kept.format == 1
+-- how many of the first n members aren't as long as format 2 says
+abbrev pub short_members : Option KeptLabel → ℕ → ℕ
+short_members label n = count_upto (λ q. not (is_long label q)) n
 
 -- The most calls that a save makes on an array of b boundaries: one on each member for its body, one for its label, one more where a seal is opened,
--- and one more beneath a label of format 1.
+-- and one on each member that is to be made longer.
 abbrev pub save_calls : ℕ → Option KeptLabel → ℕ
-save_calls b before = 2 * (2 * b) + (if is_sealed before then 2 * b else 0) + (if is_short before then 2 * b else 0)
+save_calls b before = 2 * (2 * b) + (if is_sealed before then 2 * b else 0) + short_members before (2 * b)

@@ -10,6 +10,6 @@ mod seals;
 mod tests;
 
 pub use dg_io::NoMemory;
-pub use labels::KeptLabel;
+pub use labels::{KeptLabel, note_long, with_bit};
 pub use saves::{SaveAnswer, save};
 pub use seals::open_seal;

@@ -1,17 +1,18 @@
 // Calls beside the slots on each good member, in ascending order.
-ghost use Rattle.std.specs.Prelude.{◌≡◌, ◌+◌, ◌*◌, ◌<◌, ◌≤◌, ℕ, IfSome, if◌then◌else◌, length, false, true};
-ghost use Rattle.dg_io.specs.Told.{Extended, FitsIn, IsSame, KeepsFront, Patched, Torn};
-ghost use Rattle.dg_label.specs.Labels.{AreNumbers, IsLabeled};
+ghost use Rattle.std.specs.Prelude.{◌≡◌, ◌+◌, ◌*◌, ◌<◌, ◌≤◌, ℕ, IfSome, if◌then◌else◌, length, not, false, true};
+ghost use Rattle.dg_io.specs.Told.{Extended, IsSame, KeepsFront, Patched, Torn};
+ghost use Rattle.dg_label.specs.Labels.{AreNumbers, HasLength, IsLabeled};
+ghost use Rattle.dg_label.specs.Labels.{is_long as is_long_under};
 ghost use Rattle.dg_label.specs.Pages.{LeavesFallen, PageFails, numbered, page_of};
-ghost use Rattle.dg_label.specs.Passes.{AreWhole, FillingStay, Passes, Touches};
-ghost use Rattle.dg_label.specs.Saves.{is_short};
+ghost use Rattle.dg_label.specs.Passes.{AreWhole, FillingStay, IsUncalled, Passes, Touches};
+ghost use Rattle.dg_label.specs.Saves.{short_members};
 ghost use Rattle.dg_label.specs.Seals.{HasGood, HasNoGood, KeepsArray};
 ghost use Rattle.dg_model.specs.Members.{is_good};
 ghost use Rattle.dg_model.specs.Saves.{body_place as place_of_body, label_bytes, member_length as length_of, room_of};
 ghost use Rattle.dg_store.specs.Leaves.{BytesChange, CallsAtMost, HasWritten};
 ghost use Rattle.dg_store.specs.Stores.{IsSound, members_of, rack_of, shape_of};
 
-use crate::labels::KeptLabel;
+use crate::labels::{KeptLabel, is_long};
 use dg_io::Rack;
 use dg_save::{LABEL_BYTES, Label, body_place, member_length, write_label};
 use dg_store::{NoteAnswer, Store};
@@ -89,30 +90,26 @@ pub fn write_bodies<R: Rack>(store: &mut Store<R>, body: &[u8])
     }
 }
 
-/// Makes a member so many bytes long, where it is good.
-fn extend_one<R: Rack>(store: &mut Store<R>, member: u8, size: u64)
+/// Makes a member as long as format 2 says, where it is good. One that is so long already isn't called.
+fn lengthen_one<R: Rack>(store: &mut Store<R>, label: &Option<KeptLabel>, member: u8)
     requires sound { IsSound R.Rack store.old }
     requires member { member < 2 * (shape_of store.old).b }
-    requires longer { is_good (members_of store.old member) ≡ true → IfSome (R.bytes (rack_of store.old) member) (FitsIn size) }
-    ensures touches { Touches R.Rack member (Extended size) store.old store.new }
+    requires length { is_good (members_of store.old member) ≡ true
+        → IfSome (R.bytes (rack_of store.old) member) (λ all. HasLength (shape_of store.old) label.now member (length all)) }
+    ensures touches { Touches R.Rack member (Extended (length_of 2 (shape_of store.old))) store.old store.new }
     ensures fallen { LeavesFallen R.Rack (λ q. KeepsFront) store.old store.new }
+    ensures uncalled { (q : ℕ) → is_good (members_of store.old q) ≡ true → (q ≡ member → is_long_under label.now member ≡ true)
+        → IsUncalled R.Rack q store.old store.new }
+    ensures most { CallsAtMost R.Rack store.old store.new (if not (is_long_under label.now member) then 1 else 0) }
 {
+    if is_long(label, member) {
+        return;
+    }
+    let size = member_length(store.shape(), 2);
     let _ = store.extend(member / 2, member % 2, size);
 }
 
-/// Makes each good member so many bytes long.
-fn extend_each<R: Rack>(store: &mut Store<R>, size: u64)
-    requires sound { IsSound R.Rack store.old }
-    requires longer { (q : ℕ) → is_good (members_of store.old q) ≡ true → IfSome (R.bytes (rack_of store.old) q) (FitsIn size) }
-    ensures passes { Passes R.Rack (2 * (shape_of store.old).b) (λ q. Extended size) store.old store.new }
-    ensures fallen { LeavesFallen R.Rack (λ q. KeepsFront) store.old store.new }
-{
-    for member in 0..2 * store.shape().b {
-        extend_one(store, member, size);
-    }
-}
-
-/// Makes each good member as long as a member with a label of format 2, beneath a label of format 1.
+/// Makes each good member as long as format 2 says. Those that are so long already aren't called.
 pub fn lengthen<R: Rack>(store: &mut Store<R>, label: &Option<KeptLabel>)
     requires sound { IsSound R.Rack store.old }
     requires labeled { IsLabeled R.Rack store.old label.now }
@@ -121,13 +118,10 @@ pub fn lengthen<R: Rack>(store: &mut Store<R>, label: &Option<KeptLabel>)
     ensures whole { AreWhole R.Rack store.new }
     ensures fronts { (q : ℕ) → BytesChange R.Rack store.old store.new q KeepsFront }
     ensures untouched { (q : ℕ) → is_good (members_of store.old q) ≡ false → BytesChange R.Rack store.old store.new q IsSame }
-    ensures most { CallsAtMost R.Rack store.old store.new (if is_short label.now then 2 * (shape_of store.old).b else 0) }
+    ensures uncalled { (q : ℕ) → is_good (members_of store.old q) ≡ true → is_long_under label.now q ≡ true → IsUncalled R.Rack q store.old store.new }
+    ensures most { CallsAtMost R.Rack store.old store.new (short_members label.now (2 * (shape_of store.old).b)) }
 {
-    let Some(kept) = label else {
-        return;
-    };
-    if kept.format == 1 {
-        let size = member_length(store.shape(), 2);
-        extend_each(store, size);
+    for member in 0..2 * store.shape().b {
+        lengthen_one(store, label, member);
     }
 }

@@ -56,6 +56,7 @@ pub fn save<R: Rack>(
         sequence,
         sealed: true,
         body: body.len() as u32,
+        long: 0,
     };
     let mut opened = *label;
     open_seal(store, &mut opened);

@@ -20,6 +20,22 @@ fn array<R: Rack + Drop>(alloc: Global, rack: R, shape: Shape) -> Result<Store<R
     Store::new(alloc, rack, shape)
 }
 
+// A label of format 1, beneath which each member is as long as format 2 says.
+fn first_form<R: Rack>(store: &Store<R>) -> Option<KeptLabel>
+    requires sound { IsSound R.Rack store.now }
+    requires labeled { IsLabeled R.Rack store.now None }
+    ensures { IsLabeled R.Rack store.now result }
+{
+    let _shape = store.shape();
+    Some(KeptLabel {
+        format: 1,
+        sequence: 1,
+        sealed: false,
+        body: 0,
+        long: u32::MAX,
+    })
+}
+
 // Saves a body of four bytes.
 fn save_four<R: Rack>(
     store: &mut Store<R>,
@@ -145,5 +161,34 @@ fn calls_fail(rt: HostRuntime) -> Result<(), Fail> {
     // No member has a body: the label stays none.
     let (answer, label, _) = run(rt.alloc(), Until::Saved, from_to(rt.alloc(), 4, 8)?)?;
     assert_eq!(rt; (answer, label), (Some(SaveAnswer::Lost(0)), None));
+    Ok(())
+}
+
+// The answer of a save beneath a label of format 1, and the rack, where the listed calls fail.
+fn run_first(alloc: Global, fails: Vec<u64>) -> Result<(Option<SaveAnswer>, MemRack), Fail> {
+    let shape = Shape::check(512, 4, 2, 2, 1).ok_or("shape")?;
+    let rack = MemRack::new(alloc, 4, 4096, fails).ok().ok_or("rack")?;
+    let Ok(mut store) = array(alloc, rack, shape) else {
+        return Err("store".into());
+    };
+    let mut label = first_form(&store);
+    let answer = save_four(&mut store, &mut label, b"kept");
+    Ok((answer, store.into_rack()))
+}
+
+#[test]
+fn long_members_are_not_extended(rt: HostRuntime) -> Result<(), Fail> {
+    // No call makes members longer that are long: calls 4 to 7 write bodies, and calls 8 to 11 labels. Where the last one fails, its member has the body.
+    let (answer, mut rack) = run_first(rt.alloc(), from_to(rt.alloc(), 11, 12)?)?;
+    assert_eq!(rt; answer, Some(SaveAnswer::Saved(2)));
+    assert_eq!(rt;
+        twenty_at(&mut rack, 2, 0),
+        Some(*b"DGRAID-2\x02\0\0\0\0\0\0\0S\x01\x00\0")
+    );
+    assert_eq!(rt; twenty_at(&mut rack, 3, 0), Some([0; 20]));
+    assert_eq!(rt;
+        twenty_at(&mut rack, 3, 2048),
+        Some(*b"kept\0\0\0\0\0\0\0\0\0\0\0\0\0\0\0\0")
+    );
     Ok(())
 }

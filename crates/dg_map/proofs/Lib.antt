@@ -1,9 +1,11 @@
 pub mod AgreeLemmas
+pub mod BegunLemmas
 pub mod BitLemmas
 pub mod CountLemmas
 pub mod FitLemmas
 pub mod FlatLemmas
 pub mod ListLemmas
 pub mod MapLemmas
+pub mod RenumberLemmas
 pub mod RestoreLemmas
 pub mod SlotLemmas

@@ -49,7 +49,7 @@ abbrev pub with_slots : Inside → SiteLists → ℕ → Slots → Inside
 with_slots old lists s slots = record { shape = old.shape; lists = lists; boundaries = with_item old.boundaries s slots }
 
 -- what holds of each boundary's slots holds once those of boundary s have changed
-each_set : (P : ℕ → Slots → Type 0) (items : List Slots) (s : ℕ) (slots : Slots) → s < length items → P s slots → ((t : ℕ) (d : Slots) → t < length items → s ≢ t → P t (get_or items t d)) → (t : ℕ) (d : Slots) → t < length items → P t (get_or (set items s slots) t d)
+pub each_set : (P : ℕ → Slots → Type 0) (items : List Slots) (s : ℕ) (slots : Slots) → s < length items → P s slots → ((t : ℕ) (d : Slots) → t < length items → s ≢ t → P t (get_or items t d)) → (t : ℕ) (d : Slots) → t < length items → P t (get_or (set items s slots) t d)
 each_set P items s slots lt here others t d within =
     ⊎_elim
     (λ e. subst (λ q. P q (get_or (set items s slots) q d)) e (subst (P s) (sym (get_or-set_same items s slots d lt)) here))

@@ -1,6 +1,8 @@
+pub mod Begun
 pub mod Bits
 pub mod Maps
 pub mod Refusals
+pub mod Renumbers
 pub mod Restores
 pub mod Rows
 pub mod Slots

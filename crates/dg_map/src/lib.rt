@@ -9,6 +9,7 @@ mod bits;
 mod boundary_slots;
 mod faults;
 mod maps;
+mod renumbers;
 mod restores;
 mod site_lists;
 

@@ -1,6 +1,7 @@
 ghost use Rattle.std.specs.Prelude.{◌≡◌, ◌+◌, ◌-◌, ◌^◌, ◌++◌, ◌<◌, ◌≤◌, ℕ, List, [], ◌∷◌, length, IsOk, IsSome, IfErr, IfOk, IfSome, OnErr, OnOk, MatchOption};
 ghost use Rattle.std.specs.List.{All};
 ghost use Rattle.dg_model.specs.Shapes.{IsShape};
+ghost use Rattle.dg_map.specs.Renumbers.{renumbered};
 ghost use Rattle.dg_map.specs.Restores.{AreSites, table_with};
 ghost use Rattle.dg_map.specs.Rows.{Appends, IsLists, row_of};
 ghost use Rattle.dg_map.specs.Spreads.{HasNoSpread, IsLeastSpread};
@@ -12,6 +13,7 @@ ghost use Rattle.dg_model.specs.Tables.{IsFree, IsLowestFree, IsTable, StandsIn,
 
 use crate::boundary_slots::Slots;
 use crate::faults::TakeFault;
+use crate::renumbers::{push_renumbered, take_slots};
 use crate::restores::take_all;
 use crate::site_lists::SiteLists;
 use dg_model::{NoMemory, Shape, Site};
@@ -67,6 +69,35 @@ impl Map {
             take_all(&mut map, block, &sites[block as usize])?;
         }
         Ok(map)
+    }
+
+    /// The map of this shape in which each site stands in its slot of the boundary that `numbers` has for its own. A site
+    /// whose boundary has no such number is left out. Beside the new map it takes memory for the sites of one block alone.
+    pub fn renumbered(
+        &self,
+        alloc: Global,
+        shape: Shape,
+        numbers: &[Option<u8>],
+    ) -> Result<Map, NoMemory>
+        requires { AreSites (renumbered shape numbers.now self.now) }
+        ensures sites { IfOk result (λ map. map ≡ renumbered shape numbers.now self.now) }
+        ensures table { IfOk result IsTable }
+    {
+        let _ = self.shape();
+        let mut lists = SiteLists::begun(alloc, shape.n, shape.b)?;
+        let mut boundaries = free_boundaries(alloc, shape.b, shape.k + 1)?;
+        let mut sites = Vec::new(alloc);
+        for block in 0..shape.n {
+            sites.clear();
+            push_renumbered(&mut sites, self.sites(block), numbers)?;
+            lists.append(&sites)?;
+            take_slots(&mut boundaries, block, &sites);
+        }
+        Ok(Map {
+            shape,
+            lists,
+            boundaries,
+        })
     }
 
     /// The shape that the map was made with.

@@ -1,5 +1,7 @@
-ghost use Rattle.std.specs.Prelude.{◌≡◌, ◌+◌, ◌*◌, ◌<◌, ◌≤◌, ◌^◌, ℕ, IfOk, MatchOption, length};
+ghost use Rattle.std.specs.Prelude.{◌≡◌, ◌+◌, ◌*◌, ◌++◌, ◌∷◌, [], ◌<◌, ◌≤◌, ◌^◌, ℕ, false, IfOk, MatchOption, OnOk, length};
 ghost use Rattle.std.specs.List.{Contains};
+ghost use Rattle.dg_map.specs.Begun.{AddsRow, AreFirst, AreNone, GoesOn};
+ghost use Rattle.dg_map.specs.Bits.{IsBits, Sets, has};
 ghost use Rattle.dg_map.specs.Rows.{Appends, IsBare, IsFirstSpread, IsLists, IsUnspread, KeepsOff, SetsCount, SetsRow, count_of, row_of};
 ghost use Rattle.dg_model.specs.Tables.{count_on, sites_off};
 
@@ -45,6 +47,42 @@ impl SiteLists {
             counts,
             spread: Bits::none(alloc, blocks)?,
         })
+    }
+
+    /// No block so far, where there are to be so many, for so many boundaries.
+    pub fn begun(alloc: Global, blocks: u32, boundaries: u8) -> Result<SiteLists, NoMemory>
+        requires blocks { blocks ≤ 2 ^ 20 }
+        requires boundaries { boundaries ≤ 16 }
+        ensures { IfOk result (AreNone blocks boundaries) }
+    {
+        let Ok(sites) = Vec::with_capacity(alloc, blocks as usize * boundaries as usize) else {
+            return Err(NoMemory);
+        };
+        let Ok(counts) = Vec::with_capacity(alloc, blocks as usize) else {
+            return Err(NoMemory);
+        };
+        Ok(SiteLists {
+            width: boundaries,
+            sites,
+            counts,
+            spread: Bits::none(alloc, blocks)?,
+        })
+    }
+
+    /// One more block, which has these sites.
+    pub fn append(&mut self, sites: &[Site]) -> Result<(), NoMemory>
+        requires sound { AreFirst self.old }
+        requires left { length self.old.counts.items < self.old.spread.bound }
+        requires few { length sites.now ≤ self.old.width }
+        ensures { OnOk result (AddsRow self.old self.new sites.now) }
+    {
+        let block = self.counts.len();
+        append_row(&mut self.sites, sites, self.width)?;
+        let Ok(()) = self.counts.push(sites.len() as u8) else {
+            return Err(NoMemory);
+        };
+        set_spread(&mut self.spread, block as u32, sites.len() > 1);
+        Ok(())
     }
 
     /// The sites of the block.
@@ -118,6 +156,46 @@ impl SiteLists {
         } else if self.spread.has(block) {
             self.spread.remove(block);
         }
+    }
+}
+
+/// Puts these sites last, and then as many others as a row of so many places lacks.
+fn append_row(rows: &mut Vec<Site>, sites: &[Site], width: u8) -> Result<(), NoMemory>
+    requires { length sites.now ≤ width }
+    ensures { OnOk result (GoesOn rows.old.items rows.new.items sites.now width) }
+{
+    for site in sites {
+        push(rows, *site)?;
+    }
+    let nowhere = Site {
+        boundary: 0,
+        slot: 0,
+    };
+    for _ in sites.len()..width as usize {
+        push(rows, nowhere)?;
+    }
+    Ok(())
+}
+
+/// Puts a site last.
+fn push(sites: &mut Vec<Site>, site: Site) -> Result<(), NoMemory>
+    ensures { OnOk result (sites.new.items ≡ sites.old.items ++ site ∷ []) }
+{
+    match sites.push(site) {
+        Ok(()) => Ok(()),
+        Err(_) => Err(NoMemory),
+    }
+}
+
+/// Puts a block that isn't there into the set, if it is to be.
+fn set_spread(spread: &mut Bits, block: u32, to_be: bool)
+    requires sound { IsBits spread.old }
+    requires within { block < spread.old.bound }
+    requires none { has spread.old block ≡ false }
+    ensures { Sets spread.old spread.new block to_be }
+{
+    if to_be {
+        spread.insert(block);
     }
 }
 

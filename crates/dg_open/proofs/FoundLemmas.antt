@@ -1,15 +1,16 @@
 -- What is found of one member.
 use Rattle.std.proofs.Common.{◌≡◌, ◌⊎◌, inl, inr, ℕ, ◌+◌, ◌≤◌, ◌<◌, Bool, true, false, List, length, take, refl, sym, ◌∙◌, ap, subst, arith}
-use Rattle.std.specs.Prelude.{◌↔◌, Option, Some, None, IfSome, IsSome, IsSomeAnd, IsTrue, MatchOption, slice_range}
+use Rattle.std.specs.Prelude.{◌↔◌, ◌==◌, Option, Some, None, IfSome, IsSome, IsSomeAnd, IsTrue, MatchOption, slice_range}
 use Rattle.std.proofs.lemmas.Bool.{false≢true}
 use Rattle.std.proofs.lemmas.Grind.{common_steps}
 use Rattle.std.proofs.lemmas.List.{length-take}
 use Rattle.dg_io.specs.Told.{IsEmpty, IsSame, Measures, Reads, Told}
 use Rattle.dg_io.specs.declared.outside.Rack.{Ghosts}
 use Rattle.dg_model.specs.Openings.{HasOwnLabel}
-use Rattle.dg_model.specs.Saves.{HasLength, Label as LabelValue, label_bytes}
+use Rattle.dg_model.specs.Saves.{HasLength, Label as LabelValue, label_bytes, member_length}
+use Rattle.dg_model.specs.Shapes.{IsShape}
 use Rattle.dg_open.proofs.ReadLemmas.{if_both, if_some, told_by, told_on}
-use Rattle.dg_open.specs.Seen.{HasHead, IsAttached, IsNoLabel, IsOwnLabel, IsSeen, IsShort}
+use Rattle.dg_open.specs.Seen.{HasHead, IsAsLong, IsAttached, IsMeasured, IsNoLabel, IsOwnLabel, IsSeen, IsShort}
 use Rattle.dg_save.specs.Labels.{IsOwn, SaysLabel, label_of}
 use Rattle.dg_save.specs.Laws.{LabelsAreUnique}
 use Rattle.dg_save.specs.declared.labels.Label.{Label}
@@ -89,6 +90,21 @@ has_head rack old new member size head attached same reads length_is stands = re
 }
 
 -- ---- its label
+
+-- the array of a label that was seen has a shape
+pub seen_shape : {R : Type 0} (rack : Ghosts R) (old new : R) (member : ℕ) (found : Option Label) → IsSeen rack old new member found
+    → IfSome found (λ label. IsShape label.shape)
+seen_shape rack old new member None seen = tt
+seen_shape rack old new member (Some label) seen = seen.is.shape
+
+-- a bit by a member's length tells whether it is as long as format 2 says
+pub is_measured : {R : Type 0} (rack : Ghosts R) (now : R) (member size : ℕ) (long : Bool) (found : Option Label)
+    → (IsSome found → IsAsLong rack now member size) → IfSome found (λ label. long ≡ (size == member_length 2 label.shape))
+    → IfSome found (IsMeasured rack now member long)
+is_measured rack now member size long None sized is = tt
+is_measured rack now member size long (Some label) sized is =
+    if_some (λ all. length all ≡ size) (λ all. long ≡ (length all == member_length 2 label.shape)) (rack.bytes now member) (sized refl)
+    (λ all same. is ∙ ap (λ (n : ℕ). n == member_length 2 label.shape) (sym same))
 
 pub seen_short : {R : Type 0} (rack : Ghosts R) (old new : R) (member : ℕ) → IsShort rack old new member → IsSeen rack old new member None
 seen_short rack old new member is = elim is [

@@ -1,9 +1,10 @@
 -- The label of an array that was opened, and the whole of what an opening gives.
-use Rattle.std.proofs.Common.{◌≡◌, ◌≢◌, ◌⊎◌, inl, inr, ℕ, ◌+◌, ◌*◌, ◌/◌, ◌%◌, ◌<◌, Bool, true, List, length, refl, sym, ◌∙◌, ap, subst, arith, eqb}
-use Rattle.std.specs.Prelude.{◌==◌, Option, Some, IfSome, IsSome, slice_range}
-use Rattle.std.proofs.lemmas.Bool.{and_parts, both_ways, cases_Bool, false≢true}
+use Rattle.std.proofs.Common.{◌≡◌, ◌≢◌, ◌⊎◌, inl, inr, ℕ, ◌+◌, ◌*◌, ◌/◌, ◌%◌, ◌<◌, ◌||◌, Bool, true, false, List, length, refl, sym, ◌∙◌, ap, subst, arith, eqb}
+use Rattle.std.specs.Prelude.{◌==◌, Option, Some, IfSome, IsSome, if◌then◌else◌, slice_range}
+use Rattle.std.proofs.lemmas.Bool.{and_parts, both_ways, cases_Bool, cases_eq, eq-eqb, false≢true, ne_eqb}
 use Rattle.dg_io.specs.declared.outside.Rack.{Ghosts}
-use Rattle.dg_label.specs.Labels.{AreNumbers, AreNumbersOf, HasLength, IsLabeled, StandsLabeled}
+use Rattle.dg_label.specs.Labels.{AreNumbers, AreNumbersOf, HasLength, IsLabeled, StandsLabeled, is_long}
+use Rattle.dg_io.specs.Commits.{is_marked as has_bit}
 use Rattle.dg_label.specs.declared.labels.KeptLabel.{KeptLabel}
 use Rattle.dg_model.specs.Members.{is_filling, is_good}
 use Rattle.dg_model.specs.Openings.{Found, HasOwnLabel, MayBeGood, Says}
@@ -16,11 +17,11 @@ use Rattle.dg_model.specs.declared.members.MemberState.TheVariants.{Good, Fillin
 use Rattle.dg_model.specs.declared.shapes.Shape.{Shape}
 use Rattle.dg_model.specs.Marks.{is_marked}
 use Rattle.dg_open.proofs.OpenLemmas.{counted_may, may_counted, seen_after, seen_labeled, source_is, source_read, state_from}
-use Rattle.dg_open.proofs.ReadLemmas.{failed_before, if_some, quiet_both, reads_both}
+use Rattle.dg_open.proofs.ReadLemmas.{failed_before, if_both, if_some, measured_on, quiet_both, reads_both}
 use Rattle.dg_open.proofs.RowLemmas.{counted_labeled, counted_low}
 use Rattle.dg_open.specs.Reopenings.{HasReopened, LeavesRead, opened_label}
-use Rattle.dg_open.specs.Seen.{AreCounted, AreFailed, AreLabeled, AreQuiet, AreSealed, AreSeen, HasFailed, HasNotFailed, IsCounted, IsFirst, IsGreatest, IsLabeledBy, OpensFrom, QuietBut}
-use Rattle.dg_open.specs.Seen.{kept_of, taken_in}
+use Rattle.dg_open.specs.Seen.{AreCounted, AreFailed, AreLabeled, AreMeasured, AreQuiet, AreSealed, AreSeen, HasFailed, HasNotFailed, IsCounted, IsFirst, IsGreatest, IsLabeledBy, IsMeasured, OpensFrom, QuietBut}
+use Rattle.dg_open.specs.Seen.{kept_of, label_at, taken_in}
 use Rattle.dg_open.specs.declared.bodies.Source.{Source}
 use Rattle.dg_open.specs.declared.reopens.Reopened.{Reopened}
 use Rattle.dg_save.specs.Labels.{label_of}
@@ -57,23 +58,33 @@ never_filling P member is filling = elim is [
 same_value : (l : LabelValue) (body : ℕ) → l.sealed ≡ true → l.body ≡ body → l ≡ record l { sealed = true; body = body }
 same_value l body sealed size = ap (λ (b : Bool). record l { sealed = b }) sealed ∙ ap (λ (n : ℕ). record l { sealed = true; body = n }) size
 
-length_is : (label : LabelValue) (kept : KeptLabel) (shape : Shape) (size : ℕ) → IsLabel label → kept.format ≡ label.format → shape ≡ label.shape
-    → saves.HasLength label size → HasLength shape (Some kept) size
-length_is label kept shape size is format shaped has = subst (λ (s : Shape). HasLength s (Some kept) size) (sym shaped) (elim has [
-  | inl same ↦ elim is.formats [
-    | inl one ↦ inr (format ∙ one, same ∙ ap (λ (f : ℕ). member_length f label.shape) one)
-    | inr two ↦ inl (same ∙ ap (λ (f : ℕ). member_length f label.shape) two)
-  ]
-  | inr other ↦ inl other.1
+-- a member whose bit tells how long it is
+length_is : (label : LabelValue) (kept : KeptLabel) (shape : Shape) (q size : ℕ) → IsLabel label → kept.format ≡ label.format → shape ≡ label.shape
+    → has_bit kept.long q ≡ (size == member_length 2 label.shape) → saves.HasLength label size → HasLength shape (Some kept) q size
+length_is label kept shape q size is format shaped bit has = subst (λ (s : Shape). HasLength s (Some kept) q size) (sym shaped) (elim is.formats [
+  | inr two ↦
+      let long : is_long (Some kept) q ≡ true = ap (λ (f : ℕ). (f == 2) || has_bit kept.long q) (format ∙ two) in
+      by_bit true long (elim has [ inl same ↦ same ∙ ap (λ (f : ℕ). member_length f label.shape) two | inr other ↦ other.1 ])
+  | inl one ↦
+      let told : is_long (Some kept) q ≡ (size == member_length 2 label.shape) = ap (λ (f : ℕ). (f == 2) || has_bit kept.long q) (format ∙ one) ∙ bit in
+      elim (cases_eq size (member_length 2 label.shape)) [
+        | inl same ↦ by_bit true (told ∙ eq-eqb size (member_length 2 label.shape) same) same
+        | inr apart ↦
+            by_bit false (told ∙ ne_eqb size (member_length 2 label.shape) apart)
+            (elim has [ inl same ↦ same ∙ ap (λ (f : ℕ). member_length f label.shape) one | inr other ↦ absurd (apart other.1) ])
+      ]
 ])
+  where
+    by_bit : (long : Bool) → is_long (Some kept) q ≡ long → size ≡ member_length (if long then 2 else 1) label.shape → HasLength label.shape (Some kept) q size
+    by_bit long told size_is = subst (λ (b : Bool). size ≡ member_length (if b then 2 else 1) label.shape) (sym told) size_is
 
-module _ {R : Type 0} (rack : Ghosts R) (before start : R) (table : List (Option Label)) (failed : List Bool) (greatest : ℕ) (label : Label) (reopened : Reopened R)
+module _ {R : Type 0} (rack : Ghosts R) (before start : R) (table : List (Option Label)) (failed : List Bool) (long greatest : ℕ) (label : Label) (reopened : Reopened R)
     (seen : AreSeen rack before start table 32) (is_greatest : IsGreatest table 32 greatest) (sealed : AreSealed table greatest 32)
     (leaves : LeavesRead rack start (rack_of reopened.store)) (first : IsFirst rack start (rack_of reopened.store) table greatest (record { label = label; saved = reopened.saved }))
     (fails : AreFailed rack start (rack_of reopened.store) failed)
     (quiet_start : AreQuiet rack before start table 32) (quiet : QuietBut rack start (rack_of reopened.store) failed)
     (table_is : table_of reopened.store ≡ (state_of reopened.saved).table) (members : AreCounted table failed label reopened.saved.good (members_of reopened.store))
-    (label_is : reopened.label ≡ kept_of label) (sound : IsSound rack reopened.store) where
+    (label_is : reopened.label ≡ kept_of label long) (sound : IsSound rack reopened.store) (measures : AreMeasured rack start table long 32) where
   abbrev now : R
   now = rack_of reopened.store
 
@@ -131,7 +142,7 @@ module _ {R : Type 0} (rack : Ghosts R) (before start : R) (table : List (Option
       first.says.says
       (λ all is_body. ap (λ (n : ℕ). slice_range all (body_place label.shape) (body_place label.shape + n)) first.says.size ∙ is_body.says))
 
-  numbers_of : AreNumbersOf last (kept_of label)
+  numbers_of : AreNumbersOf last (kept_of label long)
   numbers_of = record { format = refl; sequence = refl; sealed = sym is_sealed; body = first.says.size }
 
   kept : AreNumbersOf last reopened.label
@@ -139,16 +150,24 @@ module _ {R : Type 0} (rack : Ghosts R) (before start : R) (table : List (Option
 
   numbers : AreNumbers (shape_of reopened.store) reopened.label
   numbers = subst (λ (k : KeptLabel). AreNumbers (shape_of reopened.store) k) (sym label_is)
-      (subst (λ (s : Shape). AreNumbers s (kept_of label)) (sym shape_is)
+      (subst (λ (s : Shape). AreNumbers s (kept_of label long)) (sym shape_is)
       (record { formats = is_label.formats; first = is_label.first; last = is_label.last; body = is_label.body }))
+
+  -- its bit tells how long it is
+  measured : (q : ℕ) → IsCounted table failed label reopened.saved.good q → IfSome (rack.bytes now q) (λ all. has_bit long q ≡ (length all == member_length 2 label.shape))
+  measured q counted =
+      subst (λ (found : Option Label). IfSome found (IsMeasured rack now q (has_bit long q))) counted.there
+      (measured_on rack start now q (has_bit long q) (label_at table q) (measures q (low q counted)) leaves)
 
   is_labeled : IsLabeled rack reopened.store (Some reopened.label)
   is_labeled = record {
     numbers = numbers;
     lengths = λ q not.
         let counted = when_in _ (members_of reopened.store q) (members q) not in
-        if_some (λ all. HasOwnLabel q all (label_of (record label { boundary = q / 2; side = q % 2 }))) (λ all. HasLength (shape_of reopened.store) (Some reopened.label) (length all)) (rack.bytes now q) (own q counted).own
-        (λ all h. length_is (label_of (record label { boundary = q / 2; side = q % 2 })) reopened.label (shape_of reopened.store) (length all) (own q counted).is (ap (λ (k : KeptLabel). k.format) label_is) shape_is h.size);
+        if_both (λ all. HasOwnLabel q all (label_of (record label { boundary = q / 2; side = q % 2 }))) (λ all. has_bit long q ≡ (length all == member_length 2 label.shape))
+        (λ all. HasLength (shape_of reopened.store) (Some reopened.label) q (length all)) (rack.bytes now q) (own q counted).own (measured q counted)
+        (λ all h bit. length_is (label_of (record label { boundary = q / 2; side = q % 2 })) reopened.label (shape_of reopened.store) q (length all) (own q counted).is
+        (ap (λ (k : KeptLabel). k.format) label_is) shape_is (ap (λ (k : KeptLabel). has_bit k.long q) label_is ∙ bit) h.size);
     filling = λ q filling. absurd (never_filling _ (members_of reopened.store q) (members q) filling);
   }
 
@@ -213,12 +232,12 @@ module _ {R : Type 0} (rack : Ghosts R) (before start : R) (table : List (Option
     leaves = reads_both rack before start now seen.leaves leaves;
   }
 
-pub opens : {R : Type 0} (rack : Ghosts R) (before start now : R) (table : List (Option Label)) (failed : List Bool) (greatest : ℕ) (source : Source) (reopened : Reopened R)
+pub opens : {R : Type 0} (rack : Ghosts R) (before start now : R) (table : List (Option Label)) (failed : List Bool) (long greatest : ℕ) (source : Source) (reopened : Reopened R)
     → AreSeen rack before start table 32 → IsGreatest table 32 greatest → AreSealed table greatest 32 → LeavesRead rack start now → IsFirst rack start now table greatest source
     → AreFailed rack start now failed → AreQuiet rack before start table 32 → QuietBut rack start now failed
-    → OpensFrom rack now table failed source reopened → HasReopened rack before reopened
-opens rack before start now table failed greatest source reopened seen is_greatest sealed leaves first fails quiet_start quiet opened =
-    has_reopened rack before start table failed greatest source.label reopened seen is_greatest sealed
+    → AreMeasured rack start table long 32 → OpensFrom rack now table failed long source reopened → HasReopened rack before reopened
+opens rack before start now table failed long greatest source reopened seen is_greatest sealed leaves first fails quiet_start quiet measures opened =
+    has_reopened rack before start table failed long greatest source.label reopened seen is_greatest sealed
     (subst (λ s. LeavesRead rack start s) (sym opened.rack_is) leaves)
     (subst (λ s. IsFirst rack start s table greatest (record source { saved = reopened.saved })) (sym opened.rack_is)
     (subst (λ (v : SavedState). IsFirst rack start now table greatest (record source { saved = v })) (sym opened.saved_is) first))
@@ -229,3 +248,4 @@ opens rack before start now table failed greatest source reopened seen is_greate
     (subst (λ (v : SavedState). AreCounted table failed source.label v.good (members_of reopened.store)) (sym opened.saved_is) opened.members)
     opened.label_is
     opened.sound
+    measures

@@ -1,6 +1,6 @@
 -- What reading members leaves of a rack, call after call.
-use Rattle.std.proofs.Common.{◌≡◌, inl, inr, ℕ, ◌≤◌, List, refl, sym, ◌∙◌, subst, arith}
-use Rattle.std.specs.Prelude.{Option, Some, None, Result, IfSome, IsSome}
+use Rattle.std.proofs.Common.{◌≡◌, inl, inr, ℕ, ◌≤◌, Bool, List, length, refl, sym, ◌∙◌, subst, arith}
+use Rattle.std.specs.Prelude.{◌==◌, Option, Some, None, Result, IfSome, IsSome}
 use Rattle.std.proofs.lemmas.Bool.{cases_eq, false≢true}
 use Rattle.dg_io.specs.RackCalls.{RackCall}
 use Rattle.dg_io.specs.RackWords.{After, Leaves}
@@ -8,7 +8,8 @@ use Rattle.dg_io.specs.Told.{IsSame, Told}
 use Rattle.dg_io.specs.declared.outside.Rack.{Ghosts}
 use Rattle.dg_model.specs.Causes.{Rose}
 use Rattle.dg_open.specs.Reopenings.{LeavesRead}
-use Rattle.dg_open.specs.Seen.{HasFailed, HasNotFailed, IsLabeledBy, IsSeen, ReadsOne}
+use Rattle.dg_open.specs.Seen.{HasFailed, HasNotFailed, IsLabeledBy, IsMeasured, IsSeen, ReadsOne}
+use Rattle.dg_model.specs.Saves.{member_length}
 use Rattle.dg_save.specs.declared.labels.Label.{Label}
 
 -- ---- bytes that are told
@@ -146,3 +147,10 @@ module _ {R : Type 0} (rack : Ghosts R) where
     | inr none ↦ inr none
   ]
   seen_before a b c q (Some label) leaves seen = seen
+
+  -- as long as a member is, it stays
+  pub measured_on : (b c : R) (q : ℕ) (long : Bool) (found : Option Label) → IfSome found (IsMeasured rack b q long) → LeavesRead rack b c
+      → IfSome found (IsMeasured rack c q long)
+  measured_on b c q long None measured leaves = tt
+  measured_on b c q long (Some label) measured leaves =
+      told_on (λ all. long ≡ (length all == member_length 2 label.shape)) (rack.bytes b q) (rack.bytes c q) (leaves.same q) measured

@@ -1,14 +1,16 @@
 -- Tables of labels, and passes over them.
-use Rattle.std.proofs.Common.{◌≡◌, ◌≢◌, ◌⊎◌, inl, inr, ℕ, ◌+◌, ◌<◌, Bool, true, false, List, length, refl, sym, ◌∙◌, ap, subst, arith}
-use Rattle.std.specs.Prelude.{Option, Some, None, IfSome, IsSome, IsSomeAnd, max, replicate, slice_set}
+use Rattle.std.proofs.Common.{◌≡◌, ◌≢◌, ◌⊎◌, inl, inr, ℕ, ◌+◌, ◌<◌, ◌≤◌, Bool, true, false, List, length, refl, sym, ◌∙◌, ap, subst, arith}
+use Rattle.std.specs.Prelude.{◌==◌, Option, Some, None, IfSome, IsSome, IsSomeAnd, max, replicate, slice_set}
 use Rattle.std.proofs.lemmas.Bool.{cases_Bool, cases_eq, cases_lt, false≢true}
 use Rattle.std.proofs.Math.ListN.{length-set}
 use Rattle.std.proofs.lemmas.List.{get_or-replicate, get_or-set_other, get_or-set_same, get_or_past, length-replicate}
+use Rattle.std.proofs.lemmas.Nat.Bits.{bit_at-zero}
+use Rattle.dg_io.specs.Commits.{is_marked as has_bit}
 use Rattle.dg_io.specs.declared.outside.Rack.{Ghosts}
 use Rattle.dg_model.specs.Marks.{is_marked}
-use Rattle.dg_open.proofs.ReadLemmas.{failed_before, failed_on, labeled_on, reads_both, seen_before, seen_on, told_on}
+use Rattle.dg_open.proofs.ReadLemmas.{failed_before, failed_on, labeled_on, measured_on, reads_both, seen_before, seen_on, told_on}
 use Rattle.dg_open.specs.Reopenings.{LeavesRead}
-use Rattle.dg_open.specs.Seen.{AllStand, AreFailed, AreLabeled, AreQuiet, AreSealed, AreSeen, HasFailed, HasNotFailed, HasNumber, HasOpened, IsFirst, IsGreatestOf, IsLabeledBy, IsLater, IsSeen}
+use Rattle.dg_open.specs.Seen.{AllStand, AreFailed, AreLabeled, AreMeasured, AreQuiet, AreSealed, AreSeen, HasFailed, HasNotFailed, HasNumber, HasOpened, IsFirst, IsGreatestOf, IsLabeledBy, IsLater, IsMeasured, IsSeen}
 use Rattle.dg_open.specs.Seen.{Marks, NoneMarked, QuietBut, ReadsOne, SayNone, SaysAt, SaysNone, StandBut, label_at}
 use Rattle.dg_open.specs.declared.bodies.Source.{Source}
 use Rattle.dg_save.specs.declared.labels.Label.{Label}
@@ -66,6 +68,28 @@ one_quiet rack start mid now table m found size within quiet reads here = record
   ];
   later = λ q high. reads.other_faults q (λ e. omega (arith, e)) ∙ quiet.later q (omega arith);
 }
+
+pub one_measured : {R : Type 0} (rack : Ghosts R) (mid now : R) (table : List (Option Label)) (m old new : ℕ) (found : Option Label) → length table ≡ 32 → m < 32
+    → AreMeasured rack mid table old m → ReadsOne rack m mid now → IfSome found (IsMeasured rack now m (has_bit new m))
+    → ((q : ℕ) → q ≢ m → has_bit new q ≡ has_bit old q) → AreMeasured rack now (slice_set table m found) new (m + 1)
+one_measured rack mid now table m old new found size within measured reads here others q low = elim (cases_eq q m) [
+  | inl same ↦
+      let e : label_at (slice_set table m found) q ≡ found = ap (λ (p : ℕ). label_at (slice_set table m found) p) same ∙ set_here table m found (omega arith) in
+      subst (λ (o : Option Label). IfSome o (IsMeasured rack now q (has_bit new q))) (sym e)
+      (subst (λ (p : ℕ). IfSome found (IsMeasured rack now p (has_bit new p))) (sym same) here)
+  | inr other ↦
+      subst (λ (o : Option Label). IfSome o (IsMeasured rack now q (has_bit new q))) (sym (set_there table m q found other))
+      (subst (λ (b : Bool). IfSome (label_at table q) (IsMeasured rack now q b)) (sym (others q other))
+      (measured_on rack mid now q (has_bit old q) (label_at table q) (measured q (omega (arith, low, other))) reads.leaves))
+]
+
+-- the bits of the members that come next are clear
+pub one_clear : (m old new : ℕ) → ((q : ℕ) → m ≤ q → has_bit old q ≡ false) → ((q : ℕ) → q ≢ m → has_bit new q ≡ has_bit old q)
+    → (q : ℕ) → m + 1 ≤ q → has_bit new q ≡ false
+one_clear m old new clear others q high = others q (λ e. omega (arith, e, high)) ∙ clear q (omega (arith, high))
+
+pub none_has : (q : ℕ) → has_bit 0 q ≡ false
+none_has q = ap (λ (n : ℕ). n == 1) (bit_at-zero q)
 
 -- ---- the greatest number
 

@@ -1,12 +1,13 @@
 -- What is known of the members of a rack while an array is opened from it: the own label of each member that has one.
-use Rattle.std.specs.Prelude.{◌≡◌, ◌≢◌, ◌⊎◌, ◌/◌, ◌%◌, ◌<◌, ◌≤◌, ℕ, Bool, true, false, List, Option, Some, None, IfSome, IsSome, length, slice_index_or, slice_set, take, max}
+use Rattle.std.specs.Prelude.{◌≡◌, ◌≢◌, ◌⊎◌, ◌/◌, ◌%◌, ◌<◌, ◌≤◌, ◌==◌, ℕ, Bool, true, false, List, Option, Some, None, IfSome, IsSome, length, slice_index_or, slice_set, take, max}
 use Rattle.std.specs.Option.{option_map}
+use Rattle.dg_io.specs.Commits.{is_marked as has_bit}
 use Rattle.dg_io.specs.Faults.{OnlyMember}
 use Rattle.dg_io.specs.declared.outside.Rack.{Ghosts}
 use Rattle.dg_model.specs.Causes.{Rose}
 use Rattle.dg_model.specs.Marks.{is_marked}
 use Rattle.dg_model.specs.Openings.{Found, HasOwnLabel, Says, body_in}
-use Rattle.dg_model.specs.Saves.{CanBeSaved, IsLabel, Label as LabelValue, SavedState as SavedValue, body_of, label_bytes}
+use Rattle.dg_model.specs.Saves.{CanBeSaved, IsLabel, Label as LabelValue, SavedState as SavedValue, body_of, label_bytes, member_length}
 use Rattle.dg_model.specs.declared.members.MemberState.{MemberState}
 use Rattle.dg_model.specs.declared.members.MemberState.TheVariants.{Good, Out}
 use Rattle.dg_label.specs.declared.labels.KeptLabel.{KeptLabel}
@@ -132,11 +133,23 @@ pub record ReadsOne {R : Type 0} (rack : Ghosts R) (member : ℕ) (before now : 
   pub other_faults : OnlyMember member (rack.counts before).faults (rack.counts now).faults
   pub others_stand : (q : ℕ) → q ≢ member → rack.stands before q ≡ true → rack.stands now q ≡ true
 
+-- the member has so many bytes
+abbrev pub IsAsLong : {R : Type 0} → Ghosts R → R → ℕ → ℕ → Type 0
+IsAsLong rack now member size = IfSome (rack.bytes now member) (λ all. length all ≡ size)
+
+-- whether it is as long as format 2 says of an array with this label
+abbrev pub IsMeasured : {R : Type 0} → Ghosts R → R → ℕ → Bool → Label → Type 0
+IsMeasured rack now member long label = IfSome (rack.bytes now member) (λ all. long ≡ (length all == member_length 2 label.shape))
+
+-- the bits of the first members tell that of each one with a label
+abbrev pub AreMeasured : {R : Type 0} → Ghosts R → R → List (Option Label) → ℕ → ℕ → Type 0
+AreMeasured rack now table long count = (q : ℕ) → q < count → IfSome (label_at table q) (IsMeasured rack now q (has_bit long q))
+
 -- the member stands, and has so many bytes, room for a label among them
 pub record IsAttached {R : Type 0} (rack : Ghosts R) (now : R) (member size : ℕ) : Type 0 where
   pub stands : rack.stands now member ≡ true
   pub room : 512 ≤ size
-  pub size_is : IfSome (rack.bytes now member) (λ all. length all ≡ size)
+  pub size_is : IsAsLong rack now member size
 
 -- a call on the member failed, or it has no room for a label
 abbrev pub IsShort : {R : Type 0} → Ghosts R → R → R → ℕ → Type 0
@@ -145,7 +158,7 @@ IsShort rack before now member = HasFailed rack before now member ⊎ IfSome (ra
 -- the member stands, has so many bytes, and begins with these
 pub record HasHead {R : Type 0} (rack : Ghosts R) (now : R) (member size : ℕ) (head : List ℕ) : Type 0 where
   pub stands : rack.stands now member ≡ true
-  pub size_is : IfSome (rack.bytes now member) (λ all. length all ≡ size)
+  pub size_is : IsAsLong rack now member size
   pub begins : IfSome (rack.bytes now member) (λ all. head ≡ take 512 all)
 
 -- these bytes are a label of the member's own
@@ -227,16 +240,16 @@ abbrev pub AreCounted : List (Option Label) → List Bool → Label → List Boo
 AreCounted table failed source marks members = (q : ℕ)
     → ((members q ≡ Good) × IsCounted table failed source marks q) ⊎ ((members q ≡ Out) × (IsCounted table failed source marks q → ⊥))
 
--- the numbers of a label
-abbrev pub kept_of : Label → KeptLabel
-kept_of label = record { format = label.format; sequence = label.sequence; sealed = label.sealed; body = label.body }
+-- the numbers of a label, with these bits
+abbrev pub kept_of : Label → ℕ → KeptLabel
+kept_of label long = record { format = label.format; sequence = label.sequence; sealed = label.sealed; body = label.body; long = long }
 
 -- the array that the source says, over this rack
-pub record OpensFrom {R : Type 0} (rack : Ghosts R) (now : R) (table : List (Option Label)) (failed : List Bool) (source : Source)
+pub record OpensFrom {R : Type 0} (rack : Ghosts R) (now : R) (table : List (Option Label)) (failed : List Bool) (long : ℕ) (source : Source)
     (reopened : Reopened R) : Type 0 where
   pub rack_is : rack_of reopened.store ≡ now
   pub saved_is : reopened.saved ≡ source.saved
   pub table_is : table_of reopened.store ≡ (state_of source.saved).table
   pub members : AreCounted table failed source.label source.saved.good (members_of reopened.store)
   pub sound : IsSound rack reopened.store
-  pub label_is : reopened.label ≡ kept_of source.label
+  pub label_is : reopened.label ≡ kept_of source.label long

@@ -1,10 +1,14 @@
 // The labels of the members of a rack.
-ghost use Rattle.std.specs.Prelude.{◌≡◌, ◌≢◌, ◌⊎◌, ◌≤◌, ◌<◌, ◌↔◌, None, true, false, IfSome, IsSome, IsSomeAnd, IsTrue, MatchOption, Some};
-ghost use Rattle.dg_open.specs.Seen.{AllStand, AreQuiet, AreSealed, AreSeen, HasFailed, HasHead, HasNotFailed, HasOpened, IsAttached, IsGreatestOf};
-ghost use Rattle.dg_open.specs.Seen.{IsLater, IsNoLabel, IsOwnLabel, IsSeen, IsShort, ReadsOne};
+ghost use Rattle.std.specs.Prelude.{◌≡◌, ◌≢◌, ◌⊎◌, ◌≤◌, ◌<◌, ◌↔◌, ◌==◌, ℕ, None, true, false, IfSome, IsSome, IsSomeAnd, IsTrue, MatchOption, Some};
+ghost use Rattle.dg_io.specs.Commits.{is_marked};
+ghost use Rattle.dg_model.specs.Saves.{member_length as member_length_of};
+ghost use Rattle.dg_model.specs.Shapes.{IsShape};
+ghost use Rattle.dg_open.specs.Seen.{AllStand, AreMeasured, AreQuiet, AreSealed, AreSeen, HasFailed, HasHead, HasNotFailed, HasOpened, IsAttached, IsGreatestOf};
+ghost use Rattle.dg_open.specs.Seen.{IsAsLong, IsLater, IsMeasured, IsNoLabel, IsOwnLabel, IsSeen, IsShort, ReadsOne};
 
 use dg_io::Rack;
-use dg_save::{LABEL_BYTES, Label, is_own_label, labels_are_unique, read_label};
+use dg_label::with_bit;
+use dg_save::{LABEL_BYTES, Label, is_own_label, labels_are_unique, member_length, read_label};
 
 /// How many members an array has at most.
 pub const MEMBERS: usize = 32;
@@ -12,29 +16,55 @@ pub const MEMBERS: usize = 32;
 /// By member: the label that it has of its own, if it has one.
 pub type Labels = [Option<Label>; MEMBERS];
 
-/// Finds the members of a rack, ascending by number, and reads their labels.
-pub fn find_all<R: Rack>(rack: &mut R) -> Labels
+/// Finds the members of a rack, ascending by number, and reads their labels. The bits of those are set that are as long as format 2 says.
+pub fn find_all<R: Rack>(rack: &mut R, long: &mut u32) -> Labels
+    requires none { long.old ≡ 0 }
     ensures seen { AreSeen R.Rack rack.old rack.new result 32 }
+    ensures measured { AreMeasured R.Rack rack.new result long.new 32 }
     ensures stand { AllStand R.Rack rack.new result 32 }
     ensures quiet { AreQuiet R.Rack rack.old rack.new result 32 }
 {
     let mut labels = [None; MEMBERS];
     for member in 0..MEMBERS {
-        labels[member] = find_member(rack, member as u8);
+        labels[member] = find_member(rack, member as u8, long);
     }
     labels
 }
 
-/// The label that a member has of its own. `None` where it has none, and where a call fails.
-fn find_member<R: Rack>(rack: &mut R, member: u8) -> Option<Label>
+/// The label that a member has of its own; where it is as long as format 2 says, its bit is set. `None` where it has none, and where a call fails.
+fn find_member<R: Rack>(rack: &mut R, member: u8, long: &mut u32) -> Option<Label>
+    requires within { member < 32 }
+    requires clear { is_marked long.old member ≡ false }
     ensures reads { ReadsOne R.Rack member rack.old rack.new }
     ensures seen { IsSeen R.Rack rack.old rack.new member result }
+    ensures measured { IfSome result (IsMeasured R.Rack rack.new member (is_marked long.new member)) }
+    ensures others { (q : ℕ) → q ≢ member → is_marked long.new q ≡ is_marked long.old q }
     ensures stands { IsSome result → R.stands rack.new member ≡ true }
     ensures quiet { IsSome result → HasNotFailed R.Rack rack.old rack.new member }
 {
     match attach(rack, member) {
-        Some(length) => label_on(rack, member, length),
+        Some(length) => {
+            let found = label_on(rack, member, length);
+            note_length(&found, member, length, long);
+            found
+        }
         None => None,
+    }
+}
+
+/// Sets the bit of a member of this length if that is what format 2 says of an array with its label.
+fn note_length(found: &Option<Label>, member: u8, length: u64, long: &mut u32)
+    requires within { member < 32 }
+    requires clear { is_marked long.old member ≡ false }
+    requires shape { IfSome found.now (λ label. IsShape label.shape) }
+    ensures here { IfSome found.now (λ label. is_marked long.new member ≡ (length == member_length_of 2 label.shape)) }
+    ensures others { (q : ℕ) → q ≢ member → is_marked long.new q ≡ is_marked long.old q }
+{
+    let Some(label) = found else {
+        return;
+    };
+    if length == member_length(&label.shape, 2) {
+        *long = with_bit(*long, member);
     }
 }
 
@@ -72,6 +102,7 @@ fn label_on<R: Rack>(rack: &mut R, member: u8, length: u64) -> Option<Label>
     requires { IsAttached R.Rack rack.old member length }
     ensures reads { ReadsOne R.Rack member rack.old rack.new }
     ensures seen { IsSeen R.Rack rack.old rack.new member result }
+    ensures long { IsSome result → IsAsLong R.Rack rack.new member length }
     ensures stands { IsSome result → R.stands rack.new member ≡ true }
     ensures quiet { IsSome result → HasNotFailed R.Rack rack.old rack.new member }
 {

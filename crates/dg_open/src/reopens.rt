@@ -42,7 +42,8 @@ pub fn reopen<R: Rack + Drop>(alloc: Global, rack: R) -> Result<ReopenAnswer<R>,
     ensures { IfOk result (AnswersReopen R.Rack rack) }
 {
     let mut rack = rack;
-    let labels = find_all(&mut rack);
+    let mut long = 0;
+    let labels = find_all(&mut rack, &mut long);
     let Some(greatest) = greatest_of(&labels) else {
         return Ok(ReopenAnswer::NoState(rack));
     };
@@ -53,24 +54,25 @@ pub fn reopen<R: Rack + Drop>(alloc: Global, rack: R) -> Result<ReopenAnswer<R>,
     let Some(source) = first_state(alloc, &mut rack, &labels, greatest, &mut failed)? else {
         return Ok(ReopenAnswer::NoState(rack));
     };
-    let reopened = open_from(alloc, rack, source, &labels, &failed)?;
+    let reopened = open_from(alloc, rack, source, &labels, &failed, long)?;
     Ok(ReopenAnswer::Found(reopened))
 }
 
-/// The array that the source says, over the members that are good by it.
+/// The array that the source says, over the members that are good by it. Its label has these bits.
 fn open_from<R: Rack + Drop>(
     alloc: Global,
     rack: R,
     source: Source,
     labels: &Labels,
     failed: &Failures,
+    long: u32,
 ) -> Result<Reopened<R>, NoMemory>
     requires label { IsLabel (label_of source.label) }
     requires form { CanBeSaved (state_of source.saved) }
     requires numbers { source.saved.shape ≡ source.label.shape }
     requires labeled { AreLabeled R.Rack rack labels.now }
     requires stand { StandBut R.Rack rack labels.now failed.now }
-    ensures { IfOk result (OpensFrom R.Rack rack labels.now failed.now source) }
+    ensures { IfOk result (OpensFrom R.Rack rack labels.now failed.now long source) }
 {
     let Source { label, saved } = source;
     let map = Map::restored(alloc, label.shape, saved.sites.as_vec())?;
@@ -84,6 +86,7 @@ fn open_from<R: Rack + Drop>(
             sequence: label.sequence,
             sealed: label.sealed,
             body: label.body,
+            long,
         },
     })
 }

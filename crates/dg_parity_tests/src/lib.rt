@@ -4,4 +4,6 @@
 #[cfg(test)]
 mod openings;
 #[cfg(test)]
+mod racks;
+#[cfg(test)]
 mod tests;

@@ -2,8 +2,9 @@ ghost use Rattle.std.specs.Prelude.{◌+◌, ◌≤◌, length};
 ghost use Rattle.dg_store.specs.Stores.{IsSound};
 
 use dg_io::{Failed, MemRack, Rack};
+use dg_label::save;
 use dg_model::MemberState;
-use dg_open::{NoMemory, ReopenAnswer, reopen};
+use dg_open::{NoMemory, ReopenAnswer, Reopened, reopen};
 use dg_store::Store;
 use std::alloc::Global;
 use std::test::Fail;
@@ -24,6 +25,11 @@ const BODY: [u8; 56] = [
 const PLACE: usize = 2048;
 
 const LENGTH: usize = 2195;
+
+/// How long they are in format 1, and its body, which is the front of the other one.
+const FIRST_LENGTH: usize = 2111;
+
+const FIRST_BODY: u8 = 38;
 
 const NO_STATE: u8 = 0;
 
@@ -46,9 +52,19 @@ fn copy_to(bytes: &mut [u8], at: usize, piece: &[u8])
     bytes[at..at + piece.len()].copy_from_slice(piece);
 }
 
-/// The bytes of a member, with the front of a label and a body.
-fn image(alloc: Global, front: &[u8; 44]) -> Result<Vec<u8>, NoMemory> {
-    let Ok(mut bytes) = vec![in alloc; 0; LENGTH] else {
+/// The same in format 1.
+fn first_front_of(member: u8) -> [u8; 44] {
+    let mut front = front_of(member);
+    front[7] = b'1';
+    front[40] = FIRST_BODY;
+    front
+}
+
+/// So many bytes of a member, with the front of a label and a body.
+fn image(alloc: Global, front: &[u8; 44], size: usize) -> Result<Vec<u8>, NoMemory>
+    requires { 2104 ≤ size }
+{
+    let Ok(mut bytes) = vec![in alloc; 0; size] else {
         return Err(NoMemory);
     };
     copy_to(&mut bytes, 0, front);
@@ -88,7 +104,7 @@ fn outcome<R: Rack + Drop>(alloc: Global, rack: R) -> Result<u8, NoMemory> {
 fn opened(alloc: Global, call: u64) -> Result<u8, Fail> {
     let mut rack = MemRack::new(alloc, 4, LENGTH as u64, Vec::from_slice(alloc, &[call])?)?;
     for q in 0..4 {
-        let bytes = image(alloc, &front_of(q))?;
+        let bytes = image(alloc, &front_of(q), LENGTH)?;
         put(&mut rack, q, &bytes)?;
     }
     Ok(outcome(alloc, rack)?)
@@ -113,6 +129,59 @@ fn calls_that_fail(rt: HostRuntime) -> Result<(), Fail> {
     for (name, call, goods) in rows {
         let found = opened(rt.alloc(), call)?;
         assert!(rt; found == FOUND | goods, "{name}");
+    }
+    Ok(())
+}
+
+/// An array of format 1, of which member 1 is as long as format 2 says, where a call of the rack fails. The calls below 8 make its members.
+fn first_array(alloc: Global, call: u64) -> Result<MemRack, Fail> {
+    let mut rack = MemRack::new(alloc, 4, LENGTH as u64, Vec::from_slice(alloc, &[call])?)?;
+    for (member, size) in [
+        (0, FIRST_LENGTH),
+        (1, LENGTH),
+        (2, FIRST_LENGTH),
+        (3, FIRST_LENGTH),
+    ] {
+        let bytes = image(alloc, &first_front_of(member), size)?;
+        put(&mut rack, member, &bytes)?;
+    }
+    Ok(rack)
+}
+
+/// Which members are good, by bits, where the array of a rack was opened and saved.
+fn saved<R: Rack + Drop>(alloc: Global, rack: R) -> Result<u8, NoMemory> {
+    let ReopenAnswer::Found(reopened) = reopen(alloc, rack)? else {
+        return Ok(NO_STATE);
+    };
+    let Reopened {
+        mut store,
+        label,
+        ..
+    } = reopened;
+    let mut label = Some(label);
+    save(&mut store, &mut label, &[0; 4])?;
+    Ok(goods(&store))
+}
+
+#[test]
+fn members_made_longer(rt: HostRuntime) -> Result<(), Fail> {
+    // Calls 8 to 44 open the array; member 2 is out.
+    let rows = [
+        ("the seal of member 0", 45, 10),
+        ("of member 3", 47, 3),
+        ("member 0 made longer", 48, 10),
+        ("member 3, since member 1 isn't called", 49, 3),
+        ("the body of member 0", 50, 10),
+        ("of member 1", 51, 9),
+        ("of member 3", 52, 3),
+        ("the label of member 0", 53, 10),
+        ("of member 1", 54, 9),
+        ("of member 3", 55, 3),
+        ("no call", 56, 11),
+    ];
+    for (name, call, goods) in rows {
+        let found = saved(rt.alloc(), first_array(rt.alloc(), call)?)?;
+        assert!(rt; found == goods, "{name}");
     }
     Ok(())
 }

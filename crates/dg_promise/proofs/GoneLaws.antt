@@ -5,6 +5,7 @@ use Rattle.std.specs.List.{list_any}
 use Rattle.std.proofs.lemmas.Bool.{and_from, and_parts, cases_Bool, false≢true}
 use Rattle.std.proofs.lemmas.Bool.Decides.{nat_tests}
 use Rattle.std.proofs.lemmas.List.Elements.{Contains-append_cases, Contains-append_right}
+use Rattle.ufs_frames.proofs.FragmentLaws.{in_one}
 use Rattle.dg_model.specs.Members.{is_lost}
 use Rattle.dg_model.specs.Sites.{all_lost, has_site, is_gone}
 use Rattle.dg_model.specs.Tables.{Table, is_on, sites_in, stands_on}
@@ -87,10 +88,7 @@ any_found test [] x has is = let low = has.1 in absurd (omega arith)
 any_found test (y ∷ ys) x has is = elim (cases_Bool (test y)) [
   | inl here ↦ rw here refl
   | inr there ↦ elim (Contains-append_cases (y ∷ []) ys x has) [
-    | inl first ↦ absurd (false≢true (sym there ∙ ap test (only y x first) ∙ is))
+    | inl first ↦ absurd (false≢true (sym there ∙ ap test (sym (in_one y x first)) ∙ is))
     | inr later ↦ rw there (any_found test ys x later is)
   ]
 ]
-  where
-    only : (y x : ℕ) → Contains (y ∷ []) x → y ≡ x
-    only y x h = let first : h.0 ≡ 0 = let low = h.1 in omega arith in rw first at h.2

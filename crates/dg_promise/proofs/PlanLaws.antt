@@ -15,6 +15,7 @@ use Rattle.dg_model.specs.declared.wants.NoRoom.TheVariants.{Inode}
 use Rattle.dg_model.specs.declared.wants.Want.{Want}
 use Rattle.dg_model.specs.declared.wants.Want.TheVariants.{File, Kept, Stray}
 use Rattle.dg_model.proofs.HomeLaws.{AscendFrom, Ascending, ascending_from, home_others, with_ascends}
+use Rattle.dg_model.proofs.NumberLists.{head_in}
 use Rattle.dg_promise.proofs.WantLaws.{block_counts}
 
 -- ---- results
@@ -44,9 +45,6 @@ head_or_tail x y ys h = elim (Contains-append_cases (y ∷ []) ys x h) [
 
 in_tail : (x y : ℕ) (ys : List ℕ) → Contains ys x → Contains (y ∷ ys) x
 in_tail x y ys h = Contains-append_right (y ∷ []) ys x h
-
-at_head : (y : ℕ) (ys : List ℕ) → Contains (y ∷ ys) y
-at_head y ys = (0, omega arith, refl)
 
 rise_lower : (n m : ℕ) (is : List ℕ) → n ≤ m → RiseFrom m is → RiseFrom n is
 unfolding RiseFrom
@@ -80,7 +78,7 @@ with_has j x (i ∷ is) has = elim (cases_Bool (j == i)) [
   | inr apart ↦ elim (cases_Bool (nat_lt j i)) [
     | inl less ↦ head_or_tail x j (i ∷ is) (rw (apart, less) at has)
     | inr more ↦ elim (head_or_tail x i (with_number j is) (rw (apart, more) at has)) [
-      | inl first ↦ inr (subst (λ (k : ℕ). Contains (i ∷ is) k) (sym first) (at_head i is))
+      | inl first ↦ inr (subst (λ (k : ℕ). Contains (i ∷ is) k) (sym first) (head_in i is))
       | inr later ↦ elim (with_has j x is later) [
         | inl own ↦ inl own
         | inr old ↦ inr (in_tail x i is old)
@@ -123,7 +121,7 @@ pub in_filter : (test : ℕ → Bool) (x : ℕ) (is : List ℕ) → Contains (fi
 in_filter test x [] has = let low = has.1 in absurd (omega arith)
 in_filter test x (i ∷ is) has = elim (cases_Bool (test i)) [
   | inl passes ↦ elim (head_or_tail x i (filter test is) (rw passes at has)) [
-    | inl here ↦ (subst (λ (k : ℕ). Contains (i ∷ is) k) (sym here) (at_head i is), ap test here ∙ passes)
+    | inl here ↦ (subst (λ (k : ℕ). Contains (i ∷ is) k) (sym here) (head_in i is), ap test here ∙ passes)
     | inr later ↦ let rest = in_filter test x is later in (in_tail x i is rest.0, rest.1)
   ]
   | inr fails ↦ let rest = in_filter test x is (rw fails at has) in (in_tail x i is rest.0, rest.1)
@@ -214,7 +212,7 @@ unfolding RiseFrom
 good_files wants parents n [] placed new rise some none is good = subst (AreGood wants) (ok_is placed new is) good
 good_files wants parents n (i ∷ files) placed new rise some none is good =
     let parts = then_parts (place_file wants parents i placed) (each_ok (place_file wants parents) files) new is in
-    let next = good_file wants parents i placed parts.0 (some i (at_head i files)) (none i (at_head i files)) parts.1 good in
+    let next = good_file wants parents i placed parts.0 (some i (head_in i files)) (none i (head_in i files)) parts.1 good in
     good_files wants parents (suc i) files parts.0 new rise.1 (λ j has. some j (in_tail j i files has))
     (λ j has. next.1 j (λ (same : i ≡ j). let high = rise_above (suc i) j files rise.1 has in absurd (omega arith)) (none j (in_tail j i files has)))
     parts.2 next.0

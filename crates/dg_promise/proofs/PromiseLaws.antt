@@ -24,6 +24,7 @@ use Rattle.dg_model.specs.declared.shapes.Shape.{Shape}
 use Rattle.dg_model.specs.declared.wants.Want.{Want}
 use Rattle.dg_model.specs.declared.wants.Want.TheVariants.{File, Kept, Stray}
 use Rattle.dg_model.proofs.ClaimSearch.{number_found}
+use Rattle.dg_model.proofs.RowLaws.{same_from_test}
 use Rattle.dg_promise.proofs.CountLaws.{places_count}
 use Rattle.dg_promise.proofs.GoneLaws.{any_found, any_there, gone_each, gone_from, gone_written}
 use Rattle.dg_promise.proofs.PathLaws.{alone, needed, no_system, own_needed}
@@ -50,20 +51,17 @@ on_home (Some t) copy s (inr is) = elim (cases_Bool (t == s)) [
   | inr there ↦ let same : (s == s) ≡ true = grind (arith, nat_tests) in rw (there, is, same) refl
 ]
 
-number_is : (t s : ℕ) → (t == s) ≡ true → t ≡ s
-number_is t s h = grind (arith, nat_tests)
-
 of_one : (copy : Option ℕ) (s : ℕ) → list_any (λ t. t == s) (option_to_list copy) ≡ true → copy ≡ Some s
 of_one None s on = absurd (false≢true on)
 of_one (Some t) s on = elim (cases_Bool (t == s)) [
-  | inl here ↦ ap Some (number_is t s here)
+  | inl here ↦ ap Some (same_from_test t s here)
   | inr there ↦ absurd (false≢true (rw there at on))
 ]
 
 home_on : (home copy : Option ℕ) (s : ℕ) → list_any (λ t. t == s) (option_to_list home ++ option_to_list copy) ≡ true → (home ≡ Some s) ⊎ (copy ≡ Some s)
 home_on None copy s on = inr (of_one copy s on)
 home_on (Some t) copy s on = elim (cases_Bool (t == s)) [
-  | inl here ↦ inl (ap Some (number_is t s here))
+  | inl here ↦ inl (ap Some (same_from_test t s here))
   | inr there ↦ inr (of_one copy s (rw there at on))
 ]
 

@@ -19,7 +19,7 @@ use Rattle.dg_model.specs.declared.replies.Reply.{Reply}
 use Rattle.dg_model.specs.declared.replies.Reply.TheVariants.{Degraded, Done, Range, Settled as SettledReply}
 use Rattle.dg_promise.proofs.ChainLaws.{split_at}
 use Rattle.dg_promise.proofs.Effects.{effect_of}
-use Rattle.dg_promise.proofs.SteadyLaws.{same_l}
+use Rattle.dg_promise.proofs.SteadyLaws.{StepsStaySteady, run_steady, same_l}
 use Rattle.dg_promise.specs.Promises.{AreTold, FewLost, IsAsPromised, LosesNone}
 use Rattle.dg_promise.specs.Readings.{IsChange, NoneChanges, ReadsFrom}
 use Rattle.dg_promise.specs.Steady.{FitsBlock, IsSteady}
@@ -45,9 +45,6 @@ opened_steady taken beside before state size opens can = record {
 -- ---- runs
 
 -- what is known of each step
-abbrev pub StepsStaySteady : Type 0
-StepsStaySteady = (old : State) (event : Event) (reply : Reply) (new : State) → FitsBlock old.table.shape.l event → IsSteady old → Step AreTold old event reply new → IsSteady new
-
 abbrev pub OrderIsKept : Type 0
 OrderIsKept = (old : State) (event : Event) (reply : Reply) (new : State) → IsTable old.table → All (λ block. length block ≡ old.table.shape.l) old.blocks → old.phase ≡ Settled
     → IsInOrder AreTold old → ((b : ℕ) (bytes : List ℕ) → event ≢ Write b bytes) → event ≢ Regroup → Step AreTold old event reply new → IsInOrder AreTold new × (new.phase ≡ Settled)
@@ -60,20 +57,11 @@ same_size : (old : State) (event : Event) (reply : Reply) (new : State) → Step
 same_size old event reply new step = same_l AreTold old event new (effect_of AreTold old event reply new step)
 
 module _ (stays : StepsStaySteady) where
-  run_steady : (l : ℕ) (old : State) (events : List Event) (replies : List Reply) (new : State) → old.table.shape.l ≡ l → All (FitsBlock l) events → IsSteady old
-      → Run AreTold old events replies new → IsSteady new
-  run_steady l old [] [] new same fit steady is = subst IsSteady (sym is) steady
-  run_steady l old (event ∷ events) (reply ∷ replies) new same fit steady (mid, step, more) =
-      let fits = subst (λ (k : ℕ). FitsBlock k event) (sym same) (fit 0 event (omega arith)) in
-      run_steady l mid events replies new (same_size old event reply mid step ∙ same) (λ k d low. fit (suc k) d (omega arith)) (stays old event reply mid fits steady step) more
-  run_steady l old [] (reply ∷ replies) new same fit steady none = absurd none
-  run_steady l old (event ∷ events) [] new same fit steady none = absurd none
-
   pub reads_from : CatsAreKept → (first : State) (front : List Event) (path : List ℕ) (rest : List Event) (replies : List Reply) (last : State) → IsSteady first
       → All (FitsBlock first.table.shape.l) front → Run AreTold first (front ++ Cat path ∷ rest) replies last → ReadsFrom first front path rest replies last
   reads_from kept first front path rest replies last steady fit run =
       let split = split_at AreTold first front (Cat path) rest replies last run in
-      let before = run_steady first.table.shape.l first front split.earlier split.before refl fit steady split.led in
+      let before = run_steady stays first.table.shape.l first front split.earlier split.before refl fit steady split.led in
       record {
         old = split.before;
         new = split.after;

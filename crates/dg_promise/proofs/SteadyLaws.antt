@@ -189,20 +189,24 @@ blank_steady shape before state is blank = subst IsSteady (sym blank.is) (record
 
 -- ---- runs
 
-module _ (facts : Volumes) (plans : PlansAreTargets) (whole : (l n : ℕ) (v : Volume) → All (λ block. length block ≡ l) v → HasWholeIndirects l n v) where
-  run_steady : (l : ℕ) (old : State) (events : List Event) (replies : List Reply) (new : State) → old.table.shape.l ≡ l → All (FitsBlock l) events → IsSteady old
+-- each step of a steady array leaves it steady
+abbrev pub StepsStaySteady : Type 0
+StepsStaySteady = (old : State) (event : Event) (reply : Reply) (new : State) → FitsBlock old.table.shape.l event → IsSteady old → Step AreTold old event reply new → IsSteady new
+
+module _ (stays : StepsStaySteady) where
+  pub run_steady : (l : ℕ) (old : State) (events : List Event) (replies : List Reply) (new : State) → old.table.shape.l ≡ l → All (FitsBlock l) events → IsSteady old
       → Run AreTold old events replies new → IsSteady new
   run_steady l old [] [] new same fit steady is = subst IsSteady (sym is) steady
   run_steady l old (event ∷ events) (reply ∷ replies) new same fit steady (mid, step, more) =
       let fits = subst (λ (k : ℕ). FitsBlock k event) (sym same) (fit 0 event (omega arith)) in
-      let next = step_steady facts plans whole old event reply mid fits steady step in
       let size : mid.table.shape.l ≡ l = same_l AreTold old event mid (effect_of AreTold old event reply mid step) ∙ same in
-      run_steady l mid events replies new size (λ k d low. fit (suc k) d (omega arith)) next more
+      run_steady l mid events replies new size (λ k d low. fit (suc k) d (omega arith)) (stays old event reply mid fits steady step) more
   run_steady l old [] (reply ∷ replies) new same fit steady none = absurd none
   run_steady l old (event ∷ events) [] new same fit steady none = absurd none
 
+module _ (facts : Volumes) (plans : PlansAreTargets) (whole : (l n : ℕ) (v : Volume) → All (λ block. length block ≡ l) v → HasWholeIndirects l n v) where
   pub trace_steady : (before : Counts) (shape : Shape) (events : List Event) (replies : List Reply) (new : State) → IsShape shape → All (FitsBlock shape.l) events
       → Trace AreTold before (Array shape ∷ events) (Done ∷ replies) new → IsSteady new
   trace_steady before shape events replies new is fit (blank, made, run) =
       let size : blank.table.shape.l ≡ shape.l = ap (λ (state : State). state.table.shape.l) made.is in
-      run_steady shape.l blank events replies new size fit (blank_steady shape before blank is made) run
+      run_steady (step_steady facts plans whole) shape.l blank events replies new size fit (blank_steady shape before blank is made) run

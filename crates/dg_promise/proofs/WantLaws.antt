@@ -6,6 +6,7 @@ use Rattle.std.proofs.lemmas.Bool.{cases_Bool, cases_lt, false≢true}
 use Rattle.std.proofs.lemmas.Bool.Decides.{nat_tests}
 use Rattle.std.proofs.lemmas.List.{get_or_past}
 use Rattle.std.proofs.lemmas.List.Elements.{Contains-append_cases}
+use Rattle.ufs_frames.proofs.FragmentLaws.{in_one}
 use Rattle.dg_model.specs.Plans.{count_of, is_file}
 use Rattle.dg_model.specs.Wants.{want_of}
 use Rattle.dg_model.specs.declared.wants.Want.{Want}
@@ -26,13 +27,10 @@ filtered_some test [] x has is = let low = has.1 in absurd (omega arith)
 filtered_some test (y ∷ ys) x has is = elim (cases_Bool (test y)) [
   | inl passes ↦ rw passes (omega arith)
   | inr fails ↦ elim (Contains-append_cases (y ∷ []) ys x has) [
-    | inl first ↦ absurd (false≢true (sym fails ∙ ap test (only y x first) ∙ is))
+    | inl first ↦ absurd (false≢true (sym fails ∙ ap test (sym (in_one y x first)) ∙ is))
     | inr later ↦ rw fails (filtered_some test ys x later is)
   ]
 ]
-  where
-    only : (y x : ℕ) → Contains (y ∷ []) x → y ≡ x
-    only y x h = let first : h.0 ≡ 0 = let low = h.1 in omega arith in rw first at h.2
 
 -- ---- files
 

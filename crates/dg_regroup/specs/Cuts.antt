@@ -4,7 +4,7 @@ use Rattle.std.specs.Int.{bit_at}
 use Rattle.std.specs.List.{range_with_len}
 use Rattle.dg_model.specs.Lives.{place_in}
 use Rattle.dg_model.specs.Members.{is_lost}
-use Rattle.dg_model.specs.Regroups.{homes_left, is_left, shape_left, site_left, sites_left, table_left}
+use Rattle.dg_model.specs.Regroups.{homes_left, is_left, shape_left, sites_left, table_left}
 use Rattle.dg_model.specs.Sites.{has_site}
 use Rattle.dg_model.specs.Tables.{IsTable, Table, sites_in}
 use Rattle.dg_model.specs.declared.homes.Home.{Home}
@@ -17,10 +17,6 @@ use Rattle.dg_regroup.specs.declared.cut_overs.CutOver.{CutOver}
 abbrev pub new_place : List ℕ → ℕ → Option ℕ
 new_place left s = if is_left left s then Some (place_in left s) else None
 
--- a site under its new place, if its boundary is left
-abbrev pub moved_site : List ℕ → Site → Option Site
-moved_site left site = if is_left left site.boundary then Some (site_left left site) else None
-
 -- those that are left are fewer than m, fewer than 2, or have fewer than N counted slots
 abbrev pub IsTooFew : List ℕ → Shape → Type 0
 IsTooFew left shape = (length left < shape.m) ⊎ (length left < 2) ⊎ (length left * shape.k < shape.n)
@@ -32,6 +28,14 @@ falls_out left sites = has_site sites && not (has_site (sites_left left sites))
 -- the blocks that fall out, ascending
 abbrev pub cut_off : List ℕ → Table → List ℕ
 cut_off left table = filter (λ b. falls_out left (sites_in table b)) (range_with_len 0 table.shape.n)
+
+-- whether a block has sites in the one table and none in the other
+abbrev pub loses_sites : Table → Table → ℕ → Bool
+loses_sites old new b = has_site (sites_in old b) && not (has_site (sites_in new b))
+
+-- the blocks that have sites in the one table alone, ascending
+abbrev pub cut_between : Table → Table → List ℕ
+cut_between old new = filter (loses_sites old new) (range_with_len 0 old.shape.n)
 
 -- The numbers, sites and homes that are left, under the new places, and the blocks that fall out.
 pub record IsCutOver (left : List ℕ) (table : Table) (homes copies : List Home) (over : CutOver) : Type 0 where

@@ -1,16 +1,14 @@
 // What is left of an array's sites and homes.
 ghost use Rattle.std.specs.Prelude.{◌≡◌, ◌↔◌, ◌<◌, ◌++◌, ◌∷◌, [], IfOk, IfSome, None, OnOk, if◌then◌else◌, option_to_list};
 ghost use Rattle.dg_io.specs.Reduced.{places_left};
-ghost use Rattle.dg_map.specs.Restores.{table_with};
 ghost use Rattle.dg_model.specs.Homes.{Ascend};
-ghost use Rattle.dg_model.specs.Regroups.{home_left, homes_left, moved_home, shape_left, sites_left, table_left};
+ghost use Rattle.dg_model.specs.Regroups.{home_left, homes_left, moved_home, shape_left};
 ghost use Rattle.dg_model.specs.Shapes.{IsShape};
-ghost use Rattle.dg_model.specs.Tables.{sites_in};
-ghost use Rattle.dg_regroup.specs.Cuts.{IsCutOver, IsTooFew, cut_off, falls_out, moved_site};
+ghost use Rattle.dg_regroup.specs.Cuts.{IsCutOver, IsTooFew, cut_between, loses_sites};
 
 use crate::places::Places;
 use dg_map::Map;
-use dg_model::{Home, NoMemory, Shape, Site};
+use dg_model::{Home, NoMemory, Shape};
 use dg_plan::Homes;
 use std::alloc::Global;
 
@@ -48,12 +46,13 @@ pub fn cut_over(
     let Some(left) = shape_left(&places, &shape) else {
         return Ok(None);
     };
-    let lists = lists_left(alloc, &places, map)?;
+    let now = map.renumbered(alloc, left, places.as_slice())?;
+    let cut = cut_off(alloc, map, &now)?;
     Ok(Some(CutOver {
         shape: left,
-        map: Map::restored(alloc, left, &lists)?,
+        map: now,
         homes: homes_left(alloc, &places, homes, copies)?,
-        cut: cut_off(alloc, &places, map)?,
+        cut,
     }))
 }
 
@@ -89,73 +88,27 @@ fn push_some<T: Drop>(items: &mut Vec<T>, item: Option<T>) -> Result<(), NoMemor
     }
 }
 
-/// A site under the new place of its boundary, if that is left.
-fn moved_site(places: &Places, site: Site) -> Option<Site>
-    ensures { result ≡ moved_site places.now site }
+/// A block, if it had sites and has none now.
+fn cut_block(map: &Map, now: &Map, block: u32) -> Option<u32>
+    requires before { block < map.now.shape.n }
+    requires after { block < now.now.shape.n }
+    ensures { option_to_list result ≡ (if loses_sites map.now now.now block then block ∷ [] else []) }
 {
-    let boundary = places.place(site.boundary)?;
-    Some(Site {
-        boundary,
-        slot: site.slot,
-    })
-}
-
-/// The sites of a block that are left, in their order.
-fn sites_left(alloc: Global, places: &Places, sites: &[Site]) -> Result<Vec<Site>, NoMemory>
-    ensures { IfOk result (λ left. left.items ≡ sites_left places.now sites.now) }
-{
-    let mut left = Vec::new(alloc);
-    for site in sites {
-        push_some(&mut left, moved_site(places, *site))?;
-    }
-    Ok(left)
-}
-
-/// The sites that are left of each block.
-fn lists_left(alloc: Global, places: &Places, map: &Map) -> Result<Vec<Vec<Site>>, NoMemory>
-    ensures { IfOk result (λ lists. table_with (shape_left places.now map.now.shape) lists.items ≡ table_left places.now map.now) }
-{
-    let mut lists = Vec::new(alloc);
-    for block in 0..map.shape().n {
-        let left = sites_left(alloc, places, map.sites(block))?;
-        let Ok(()) = lists.push(left) else {
-            return Err(NoMemory);
-        };
-    }
-    Ok(lists)
-}
-
-/// Whether a block with these sites falls out: it has some, and none is left.
-fn falls_out(places: &Places, sites: &[Site]) -> bool
-    ensures { result ≡ falls_out places.now sites.now }
-{
-    for site in sites {
-        if moved_site(places, *site).is_some() {
-            return false;
-        }
-    }
-    !sites.is_empty()
-}
-
-/// A block, if it falls out.
-fn cut_block(places: &Places, map: &Map, block: u32) -> Option<u32>
-    requires { block < map.now.shape.n }
-    ensures { option_to_list result ≡ (if falls_out places.now (sites_in map.now block) then block ∷ [] else []) }
-{
-    if falls_out(places, map.sites(block)) {
+    if !map.sites(block).is_empty() && now.sites(block).is_empty() {
         Some(block)
     } else {
         None
     }
 }
 
-/// The blocks that fall out, ascending.
-fn cut_off(alloc: Global, places: &Places, map: &Map) -> Result<Vec<u32>, NoMemory>
-    ensures { IfOk result (λ cut. cut.items ≡ cut_off places.now map.now) }
+/// The blocks that had sites and have none now, ascending.
+fn cut_off(alloc: Global, map: &Map, now: &Map) -> Result<Vec<u32>, NoMemory>
+    requires { now.now.shape.n ≡ map.now.shape.n }
+    ensures { IfOk result (λ cut. cut.items ≡ cut_between map.now now.now) }
 {
     let mut cut = Vec::new(alloc);
     for block in 0..map.shape().n {
-        push_some(&mut cut, cut_block(places, map, block))?;
+        push_some(&mut cut, cut_block(map, now, block))?;
     }
     Ok(cut)
 }

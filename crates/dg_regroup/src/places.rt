@@ -29,7 +29,7 @@ impl Model for Places {
 }
 
 impl Places {
-    ghost use Rattle.std.specs.Prelude.{◌≡◌, ◌≤◌, length};
+    ghost use Rattle.std.specs.Prelude.{◌≡◌, ◌≤◌, ℕ, None, length, slice_index_or};
     ghost use Rattle.dg_io.specs.Reduced.{places_left};
     ghost use Rattle.dg_regroup.specs.Cuts.{new_place};
 
@@ -52,6 +52,13 @@ impl Places {
             places,
             count,
         }
+    }
+
+    /// The new place of each boundary, if it is left.
+    pub fn as_slice(&self) -> &[Option<u8>]
+        ensures { (s : ℕ) → slice_index_or result.now s None ≡ new_place self.now s }
+    {
+        &self.places
     }
 
     /// How many boundaries are left.

@@ -18,9 +18,9 @@ use Rattle.dg_model.proofs.FirstSites.{empty_inside}
 use Rattle.dg_model.proofs.MemberLaws.{none_back, none_front}
 use Rattle.dg_model.proofs.RunLaws.{trace_more}
 use Rattle.dg_model.proofs.StepLaws.{run_keeps, step_keeps}
-use Rattle.dg_uses.specs.Views.{Core, IsViewed, Views, blank_core, core_of}
+use Rattle.dg_uses.specs.Views.{Core, Views, blank_core, core_of}
 use Rattle.dg_uses.proofs.Cores.{Sound, core_is}
-use Rattle.dg_uses.proofs.InUse.{InUse, in_use_blank, in_use_next, viewed_stay, viewed_stays}
+use Rattle.dg_uses.proofs.InUse.{InUse, IsViewed, in_use_blank, in_use_next, viewed_stay, viewed_stays}
 use Rattle.dg_uses.proofs.OneView.{view_same, view_sound}
 use Rattle.dg_uses.proofs.StepViews.{view_of}
 
@@ -60,7 +60,7 @@ module _ (Known : Type 0) (known : Known) (shape : Shape) where
 
 -- ---- traces
 
-blank_at : (shape : Shape) (before : Counts) (s : State) → NoneRose before.faults s.counts.faults → IsBlank shape before s
+pub blank_at : (shape : Shape) (before : Counts) (s : State) → NoneRose before.faults s.counts.faults → IsBlank shape before s
     → (q : ℕ) → s.members q ≡ (blank_core shape).members q
 blank_at shape before s none blank q = elim (cases_lt (q / 2) shape.b) [
   | inl low ↦ elim (blank.members q low) [
@@ -75,7 +75,7 @@ blank_is shape before s none blank =
     core_is (core_of s) (blank_core shape) (ap (λ (t : State). t.table) blank.is) (ap (λ (t : State). t.blocks) blank.is)
     (λ i q. blank_at shape before s none blank q i)
 
-blank_whole : (shape : Shape) (q : ℕ) → is_filling ((blank_core shape).members q) ≡ false
+pub blank_whole : (shape : Shape) (q : ℕ) → is_filling ((blank_core shape).members q) ≡ false
 blank_whole shape q = elim (cases_lt (q / 2) shape.b) [
   | inl low ↦ ap is_filling (cond-true (nat_lt (q / 2) shape.b) Good Out (lt-ltb (q / 2) shape.b low))
   | inr high ↦ ap is_filling (cond-false (nat_lt (q / 2) shape.b) Good Out (le-ltb (q / 2) shape.b high))
@@ -114,11 +114,3 @@ pub trace_views : (Known : Type 0) → Known → (shape : Shape) (events : List 
 trace_views Known known shape events before replies chain final end is served none trace views =
     let found = trace_chain Known known shape events before replies final is served none trace in
     found.is ∙ ap (λ (l : List Reply). Done ∷ l) (views_same shape events (blank_core shape) (core_of final) end found.rest chain (blank_sound shape is) found.views views).0
-
--- two such traces of the same events have the same replies
-pub traces_same : (K J : Type 0) → K → J → (shape : Shape) (events : List Event) (before after : Counts) (r q : List Reply) (x y : State) → IsShape shape
-    → All IsViewed events → NoneRose before.faults x.counts.faults → NoneRose after.faults y.counts.faults → Trace K before (Array shape ∷ events) r x
-    → Trace J after (Array shape ∷ events) q y → r ≡ q
-traces_same K J k j shape events before after r q x y is served none never trace other =
-    let found = trace_chain J j shape events after q y is served never other in
-    trace_views K k shape events before r found.rest x (core_of y) is served none trace found.views ∙ sym found.is

@@ -16,7 +16,16 @@ use Rattle.dg_model.specs.declared.events.Event.TheVariants.{Write, Read, Fail, 
 use Rattle.dg_model.specs.declared.replies.Reply.{Reply}
 use Rattle.dg_model.specs.declared.replies.Reply.TheVariants.{Done, Range, Degraded, Unavailable, Already, Data, Given, Cut, Listed as ListedReply, ListedCut, Refused}
 use Rattle.dg_model.specs.declared.shapes.Shape.{Shape}
-use Rattle.dg_uses.specs.Views.{IsViewed, any_gone_in, core_of, is_gone_in}
+use Rattle.dg_uses.specs.Views.{any_gone_in, core_of, is_gone_in}
+
+-- the events that have views
+abbrev pub IsViewed : Event → Type 0
+IsViewed (Write b bytes) = Unit {0}
+IsViewed (Read b) = Unit {0}
+IsViewed (Fail s j) = Unit {0}
+IsViewed (Cat path) = Unit {0}
+IsViewed (Ls path) = Unit {0}
+IsViewed event = ⊥
 
 -- all boundaries of an array of this shape are in use, and no block was cut
 pub record InUse (shape : Shape) (state : State) : Type 0 where

@@ -46,23 +46,23 @@ abbrev kind : {A E : Type 0} → Result A E → ℕ
 kind (Ok a) = 0
 kind (Err e) = 1
 
-apart : {A E : Type 0} (a : A) (e : E) (r : Result A E) → Ok a ≡ r → Err e ≡ r → ⊥
+pub apart : {A E : Type 0} (a : A) (e : E) (r : Result A E) → Ok a ≡ r → Err e ≡ r → ⊥
 apart a e r one other = absurd (omega (arith, ap kind (one ∙ sym other)))
 
-ok_same : {A E : Type 0} (a b : A) (r : Result A E) → Ok a ≡ r → Ok b ≡ r → a ≡ b
+pub ok_same : {A E : Type 0} (a b : A) (r : Result A E) → Ok a ≡ r → Ok b ≡ r → a ≡ b
 ok_same {A} {E} a b r one other = inside (one ∙ sym other)
   where
     inside : ◌≡◌ {A = Result A E} (Ok a) (Ok b) → a ≡ b
     inside e = cc e
 
-err_same : {A E : Type 0} (a b : E) (r : Result A E) → Err a ≡ r → Err b ≡ r → a ≡ b
+pub err_same : {A E : Type 0} (a b : E) (r : Result A E) → Err a ≡ r → Err b ≡ r → a ≡ b
 err_same {A} {E} a b r one other = inside (one ∙ sym other)
   where
     inside : ◌≡◌ {A = Result A E} (Err a) (Err b) → a ≡ b
     inside e = cc e
 
 -- it can't be both
-both : (x : Bool) → x ≡ true → x ≡ false → ⊥
+pub both : (x : Bool) → x ≡ true → x ≡ false → ⊥
 both x yes' no' = false≢true (sym no' ∙ yes')
 
 -- ---- one event

@@ -1,8 +1,9 @@
 -- A run beside the promise of an array.
-use Rattle.std.proofs.Common.{◌++◌, suc, List, [], ◌∷◌, subst, arith}
+use Rattle.std.proofs.Common.{◌++◌, suc, List, [], ◌∷◌, sym, subst, arith}
 use Rattle.std.specs.Prelude.{All, Some}
 use Rattle.std.proofs.lemmas.List.Elements.{All-cons, All-nil, All-weaker}
 use Rattle.dg_model.proofs.KnownLaws.{run_less}
+use Rattle.dg_model.proofs.RunLaws.{trace_more}
 use Rattle.dg_model.specs.Runs.{Trace}
 use Rattle.dg_model.specs.States.{Counts, State}
 use Rattle.dg_model.specs.declared.events.Event.{Event}
@@ -30,3 +31,10 @@ all_front P (event ∷ front) rest all =
 pub told_trace : {K : Type 0} (before : Counts) (shape : Shape) (events : List Event) (replies : List Reply) (last : State) → K
     → Trace K before (Array shape ∷ events) (Done ∷ replies) last → Trace AreTold before (Array shape ∷ events) (Done ∷ replies) last
 told_trace before shape events replies last told trace = (trace.0, trace.1, run_less (λ _. told) trace.0 events replies last trace.2)
+
+-- the same of one whose first reply isn't named
+pub trace_told : {K : Type 0} (before : Counts) (shape : Shape) (events : List Event) (replies : List Reply) (last : State) → K
+    → Trace K before (Array shape ∷ events) replies last → Trace AreTold before (Array shape ∷ events) replies last
+trace_told {K} before shape events replies last told trace =
+    let t = trace_more K before shape events replies last trace in
+    subst (λ (r : List Reply). Trace AreTold before (Array shape ∷ events) r last) (sym t.is) (told_trace before shape events t.rest last told (t.blank, t.is_blank, t.run))

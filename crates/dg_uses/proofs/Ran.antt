@@ -1,20 +1,25 @@
 -- Runs in which no count of faults rose, and after which the rack still tells each member of the array.
 use Rattle.std.proofs.Common.{◌≡◌, false, ℕ, List, [], ◌∷◌, sym, subst}
-use Rattle.std.specs.Prelude.{All}
-use Rattle.std.proofs.lemmas.List.Elements.{All-cons, All-nil}
+use Rattle.std.specs.Prelude.{All, Some}
+use Rattle.std.proofs.lemmas.List.Elements.{All-cons, All-nil, All-weaker}
 use Rattle.dg_model.specs.Causes.{NoneRose}
 use Rattle.dg_model.specs.States.{Counts}
 use Rattle.dg_model.specs.declared.shapes.Shape.{Shape}
 use Rattle.dg_model.specs.declared.events.Event.{Event}
-use Rattle.dg_model.specs.declared.events.Event.TheVariants.{Array, Write, Read, Fail, Cat, Ls}
+use Rattle.dg_model.specs.declared.events.Event.TheVariants.{Array, Write, Read, Fail, Replace, Rebuild, Settle, Tend, Diffuse, Who, Pending, Cat, Ls, Tree, Home, Save}
 use Rattle.dg_model.specs.declared.replies.Reply.{Reply}
 use Rattle.dg_model.specs.declared.replies.Reply.TheVariants.{Done}
 use Rattle.dg_run.specs.Replays.{TellsBoundaries}
+use Rattle.dg_text.specs.Lines.{IsInPlace}
 use Rattle.dg_uses.specs.Replays.{RanSmoothly}
-use Rattle.dg_uses.specs.Views.{Core, IsViewed, View, Views, blank_core}
+use Rattle.dg_uses.specs.Views.{Core, View, Views, blank_core}
 use Rattle.dg_uses.specs.Answers.{StaysWhole, answers}
-use Rattle.dg_uses.proofs.Chains.{trace_views, traces_same}
+use Rattle.dg_uses.proofs.Chains.{trace_views}
 use Rattle.dg_uses.proofs.Flat.{trace_answers}
+use Rattle.dg_uses.proofs.InUse.{IsViewed}
+use Rattle.dg_uses.proofs.NextNumbers.{IsServed}
+use Rattle.dg_uses.proofs.OneRun.{BlanksAreSteady, StepsKeepSteady, traces_one}
+use Rattle.dg_uses.proofs.Promised.{all_fit, trace_told}
 
 -- events that have views are among those of which they are told
 view_viewed : (old : Core) (event : Event) (reply : Reply) (new : Core) → View old event reply new → IsViewed event
@@ -41,11 +46,33 @@ ran_views tells shape events replies chain end run views =
     trace_views (TellsBoundaries tells run.ran.final) run.told shape events run.before replies chain run.ran.final end
     run.ran.in_place.0 (views_viewed (blank_core shape) events chain end views) (none_at_end tells (Array shape ∷ events) replies run) run.ran.trace views
 
-pub ran_same : (tells told : ℕ → Type 0) (shape : Shape) (events : List Event) (replies others : List Reply) → All IsViewed events
+-- a line in its place has an event that a replay serves
+place_served : (shape : Shape) (event : Event) → IsInPlace (Some shape) event → IsServed event
+place_served shape (Array s) place = absurd place
+place_served shape (Write b bytes) place = tt
+place_served shape (Read b) place = tt
+place_served shape (Fail s j) place = tt
+place_served shape (Replace s j) place = tt
+place_served shape (Rebuild s n) place = tt
+place_served shape Settle place = tt
+place_served shape (Tend n) place = tt
+place_served shape Diffuse place = tt
+place_served shape (Who b) place = tt
+place_served shape Pending place = tt
+place_served shape (Cat path) place = tt
+place_served shape (Ls path) place = tt
+place_served shape Tree place = tt
+place_served shape (Home path) place = tt
+place_served shape Save place = tt
+place_served shape event place = absurd place
+
+pub ran_same : StepsKeepSteady → BlanksAreSteady → (tells told : ℕ → Type 0) (shape : Shape) (events : List Event) (replies others : List Reply)
     → RanSmoothly tells (Array shape ∷ events) replies → RanSmoothly told (Array shape ∷ events) others → replies ≡ others
-ran_same tells told shape events replies others viewed x y =
-    traces_same (TellsBoundaries tells x.ran.final) (TellsBoundaries told y.ran.final) x.told y.told shape events x.before y.before replies others x.ran.final y.ran.final x.ran.in_place.0
-    viewed (none_at_end tells (Array shape ∷ events) replies x) (none_at_end told (Array shape ∷ events) others y) x.ran.trace y.ran.trace
+ran_same steps blanks tells told shape events replies others x y =
+    traces_one steps blanks shape events x.before y.before replies others x.ran.final y.ran.final x.ran.in_place.0
+    (All-weaker (IsInPlace (Some shape)) IsServed (place_served shape) events x.ran.in_place.1) (all_fit shape events x.ran.in_place.1)
+    (none_at_end tells (Array shape ∷ events) replies x) (none_at_end told (Array shape ∷ events) others y)
+    (trace_told x.before shape events replies x.ran.final x.told x.ran.trace) (trace_told y.before shape events others y.ran.final y.told y.ran.trace)
 
 pub ran_answers : (tells : ℕ → Type 0) (shape : Shape) (events : List Event) (replies : List Reply) → StaysWhole shape (λ q. false) events
     → RanSmoothly tells (Array shape ∷ events) replies

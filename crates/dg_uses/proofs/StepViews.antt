@@ -17,8 +17,8 @@ use Rattle.dg_model.specs.declared.events.Event.{Event}
 use Rattle.dg_model.specs.declared.events.Event.TheVariants.{Write, Read, Fail, Cat, Ls}
 use Rattle.dg_model.specs.declared.replies.Reply.{Reply}
 use Rattle.dg_model.specs.declared.replies.Reply.TheVariants.{Done, Range, Degraded, Unavailable, Already, Data, Given, Cut, Listed as ListedReply, ListedCut, Refused}
-use Rattle.dg_uses.specs.Views.{Core, HasMember, IsViewed, View, any_gone_in, core_of, is_gone_in}
-use Rattle.dg_uses.proofs.InUse.{InUse, any_gone_is, gone_is, in_use_as, in_use_stays, member_here}
+use Rattle.dg_uses.specs.Views.{Core, HasMember, View, any_gone_in, core_of, is_gone_in}
+use Rattle.dg_uses.proofs.InUse.{InUse, IsViewed, any_gone_is, gone_is, in_use_as, in_use_stays, member_here}
 use Rattle.dg_uses.proofs.Cores.{Sound, core_is, goes_members, keeps_sites, same_core, stays_core}
 
 not_true : (x : Bool) → (x ≡ true → ⊥) → x ≡ false

@@ -71,15 +71,6 @@ listing_in core path = ls_of core.table.shape.l core.table.shape.n path core.blo
 
 -- ---- one event
 
--- the events of which this is said
-abbrev pub IsViewed : Event → Type 0
-IsViewed (Write b bytes) = Unit {0}
-IsViewed (Read b) = Unit {0}
-IsViewed (Fail s j) = Unit {0}
-IsViewed (Cat path) = Unit {0}
-IsViewed (Ls path) = Unit {0}
-IsViewed event = ⊥
-
 -- block b was written: it keeps its sites or has its first one, its value is these bytes with zeros for their missing end, and members
 -- stay
 pub record Wrote (old : Core) (b : ℕ) (bytes : List ℕ) (new : Core) : Type 0 where

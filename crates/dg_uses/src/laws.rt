@@ -1,20 +1,24 @@
 // Laws of runs in which no count of faults rose, and after which the rack still tells each member of the array.
-ghost use Rattle.std.specs.Prelude.{◌≡◌, ◌∷◌, [], All, false, List};
+ghost use Rattle.std.specs.Prelude.{◌≡◌, ◌∷◌, [], false, List};
 ghost use Rattle.dg_model.specs.declared.events.Event.{Event};
 ghost use Rattle.dg_model.specs.declared.replies.Reply.{Reply};
 ghost use Rattle.dg_model.specs.declared.shapes.Shape.{Shape};
 ghost use Rattle.dg_uses.specs.Answers.{StaysWhole, answers};
 ghost use Rattle.dg_uses.specs.Replays.{RanSmoothly};
-ghost use Rattle.dg_uses.specs.Views.{Core, IsViewed, Views, blank_core};
+ghost use Rattle.dg_uses.specs.Views.{Core, Views, blank_core};
 
 use dg_io::Rack;
+use dg_promise::{blank_arrays_are_steady, steps_keep_steady};
 
-/// The replies to events on blocks and members, and to reads by path, are a function of the events.
+/// The replies are a function of the events, whichever these are.
 pub fn replies_are_a_function<R: Rack, Q: Rack>()
-    ensures { (end : R) (other : Q) (shape : Shape) (events : List Event) (replies others : List Reply) → All IsViewed events
+    ensures { (end : R) (other : Q) (shape : Shape) (events : List Event) (replies others : List Reply)
         → RanSmoothly (R.tells end) (Event.Array shape ∷ events) replies → RanSmoothly (Q.tells other) (Event.Array shape ∷ events) others
         → replies ≡ others }
-{}
+{
+    blank_arrays_are_steady();
+    steps_keep_steady();
+}
 
 /// The replies are those of each chain of views of the events.
 pub fn replies_by_views<R: Rack>()

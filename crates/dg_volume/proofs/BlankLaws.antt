@@ -31,7 +31,7 @@ no_homes shape = search rules
 
 -- No label was written on a blank array: a member that isn't out is good, and as long as it was blanked.
 module _ {R : Type 0} (rack : Ghosts R) (shape : Shape) (before : R) (store : Store R) (blank : IsBlankStore rack shape before store) where
-  lengths : (q : ℕ) → stores.members_of store q ≢ Out → IfSome (rack.bytes (stores.rack_of store) q) (λ all. HasLength (stores.shape_of store) None (length all))
+  lengths : (q : ℕ) → stores.members_of store q ≢ Out → IfSome (rack.bytes (stores.rack_of store) q) (λ all. HasLength (stores.shape_of store) None q (length all))
   lengths q here = elim (cases_lt (q / 2) shape.b) [
     | inl within ↦ elim (blank.members.begins q within) [
       | inl good ↦ long (rack.bytes (stores.rack_of store) q) (blank.blanked q good)
@@ -40,9 +40,9 @@ module _ {R : Type 0} (rack : Ghosts R) (shape : Shape) (before : R) (store : St
     | inr past ↦ absurd (here (blank.members.others q (omega (arith, past))))
   ]
     where
-      long : (told : Option (List ℕ)) → IsZeroed (member_length 2 shape) told → IfSome told (λ all. HasLength (stores.shape_of store) None (length all))
+      long : (told : Option (List ℕ)) → IsZeroed (member_length 2 shape) told → IfSome told (λ all. HasLength (stores.shape_of store) None q (length all))
       long None zeroed = tt
-      long (Some all) zeroed = inl (ap length zeroed ∙ length-replicate (member_length 2 shape) 0 ∙ sym (ap (λ (t : Table). member_length 2 t.shape) blank.table))
+      long (Some all) zeroed = ap length zeroed ∙ length-replicate (member_length 2 shape) 0 ∙ sym (ap (λ (t : Table). member_length 2 t.shape) blank.table)
 
   -- none is refilled
   none_filling : (q : ℕ) → is_filling (stores.members_of store q) ≡ true → IfSome (rack.bytes (stores.rack_of store) q) (λ all. length all ≡ member_length 2 (stores.shape_of store))

@@ -4,7 +4,7 @@ use Rattle.std.specs.Prelude.{IfSome, None, Option, Some, drop, if◌then◌else
 use Rattle.std.proofs.lemmas.Bool.{and_parts, false≢true, le-ltb, lt-ltb}
 use Rattle.dg_io.specs.Told.{IsSame, Told, Torn}
 use Rattle.dg_io.specs.declared.outside.Rack.{Ghosts}
-use Rattle.dg_label.specs.Labels.{AreFresh, AreNumbers, AreSized, HasLength, IsKeptOf, IsLabeled, IsOfArray, StandsLabeled, is_sealed, unsealed}
+use Rattle.dg_label.specs.Labels.{AreFresh, AreNumbers, AreNumbersOf, AreSized, HasLength, HaveSameNumbers, IsKeptOf, IsLabeled, IsOfArray, StandsLabeled, is_sealed, unsealed}
 use Rattle.dg_label.specs.Seals.{HasGood, OpensSeal}
 use Rattle.dg_label.specs.declared.labels.KeptLabel.{KeptLabel}
 use Rattle.dg_model.proofs.MemberLaws.{none_lost}
@@ -128,6 +128,28 @@ sealed_of last (Some k) s is kept = sym kept.sealed ∙ is
 kept_opened : (old new : ℕ → MemberState) (last : LastLabel) (kept : Option KeptLabel) → is_sealed kept ≡ false → IsKeptOf (Some last) kept → IsKeptOf (Some (opened old new last)) kept
 kept_opened old new last None is kept = absurd kept
 kept_opened old new last (Some k) is kept = record { format = kept.format; sequence = kept.sequence; sealed = sym is; body = kept.body }
+
+-- ---- labels that differ in the bits of members alone
+
+pub same_numbers : (label : Option KeptLabel) → HaveSameNumbers label label
+same_numbers None = tt
+same_numbers (Some k) = refl
+
+noted_kept : (last : Option LastLabel) (mid after : Option KeptLabel) → HaveSameNumbers mid after → IsKeptOf last mid → IsKeptOf last after
+noted_kept None None None same kept = tt
+noted_kept None None (Some k) same kept = absurd same
+noted_kept None (Some m) after same kept = absurd kept
+noted_kept (Some l) None after same kept = absurd kept
+noted_kept (Some l) (Some m) None same kept = absurd same
+noted_kept (Some l) (Some m) (Some k) same kept =
+    subst (λ (x : KeptLabel). AreNumbersOf l x) (sym same) (record { format = kept.format; sequence = kept.sequence; sealed = kept.sealed; body = kept.body })
+
+pub noted_numbers : (shape : Shape) (mid after : Option KeptLabel) → HaveSameNumbers mid after → IfSome mid (AreNumbers shape) → IfSome after (AreNumbers shape)
+noted_numbers shape None None same numbers = tt
+noted_numbers shape None (Some k) same numbers = absurd same
+noted_numbers shape (Some m) None same numbers = absurd same
+noted_numbers shape (Some m) (Some k) same numbers =
+    subst (λ (x : KeptLabel). AreNumbers shape x) (sym same) (record { formats = numbers.formats; first = numbers.first; last = numbers.last; body = numbers.body })
 
 -- one that isn't sealed is the same where it is opened
 unsealed_same : (kept : Option KeptLabel) → is_sealed kept ≡ false → unsealed kept ≡ kept
@@ -366,12 +388,23 @@ module _ {R : Type 0} (rack : Ghosts R) where
       again None is = absurd is
       again (Some k) is = record { format = is.format; sequence = is.sequence; sealed = is.sealed; body = is.body }
 
-  pub relabels_on : (a m c : Store R) (before after : Option KeptLabel) (first : Relabels rack a m before after) → IsLabeled rack c after → LeavesLabel a m c first.opens
-      → (first.opens ≡ false → writes_of c ≡ writes_of m) → Relabels rack a c before after
-  relabels_on a m c before after first labeled h stood = record {
+  -- the label that stands is the one with other bits
+  noted_stands : (c : Store R) (mid after : Option KeptLabel) (last : Option LastLabel) → HaveSameNumbers mid after → StandsLabeled rack c mid last → StandsLabeled rack c after last
+  noted_stands c mid after last same stands = record {
+    kept = noted_kept last mid after same stands.kept;
+    holds = stands.holds;
+    sizes = stands.sizes;
+    of_array = stands.of_array;
+    filling = stands.filling;
+    fresh = stands.fresh;
+  }
+
+  pub relabels_noted : (a m c : Store R) (before mid after : Option KeptLabel) (first : Relabels rack a m before mid) → HaveSameNumbers mid after → IsLabeled rack c after
+      → LeavesLabel a m c first.opens → (first.opens ≡ false → writes_of c ≡ writes_of m) → Relabels rack a c before after
+  relabels_noted a m c before mid after first same labeled h stood = record {
     labeled = labeled;
     opens = first.opens;
-    stands = λ last stands. at_last last (first.stands last stands);
+    stands = λ last stands. noted_stands c mid after (label_after first.opens (members_of a) (members_of c) last) same (at_last last (first.stands last stands));
     wrote = λ sealed opens. rose_on (writes_of a) (writes_of m) (writes_of c) (first.wrote sealed opens) h.rise;
     stood = λ sealed opens. stood opens ∙ first.stood sealed opens;
   }
@@ -379,8 +412,8 @@ module _ {R : Type 0} (rack : Ghosts R) where
       rose_on : (x y z : ℕ) → Rose x y → y ≤ z → Rose x z
       rose_on x y z rose up = omega (arith, rose, up)
 
-      at_last : (last : Option LastLabel) → StandsLabeled rack m after (label_after first.opens (members_of a) (members_of m) last)
-          → StandsLabeled rack c after (label_after first.opens (members_of a) (members_of c) last)
+      at_last : (last : Option LastLabel) → StandsLabeled rack m mid (label_after first.opens (members_of a) (members_of m) last)
+          → StandsLabeled rack c mid (label_after first.opens (members_of a) (members_of c) last)
       at_last None stands = record {
         kept = stands.kept;
         holds = tt;
@@ -389,7 +422,12 @@ module _ {R : Type 0} (rack : Ghosts R) where
         filling = λ q fills. refl;
         fresh = λ q below here lacks. fresh_on a m c first.opens None h stands.fresh q below here (λ stood. refl);
       }
-      at_last (Some last) stands = still_or_opened a m c first.opens after last (last.sealed && not first.opens) refl h stands
+      at_last (Some last) stands = still_or_opened a m c first.opens mid last (last.sealed && not first.opens) refl h stands
+
+  -- the same where no bit has changed
+  relabels_on : (a m c : Store R) (before after : Option KeptLabel) (first : Relabels rack a m before after) → IsLabeled rack c after → LeavesLabel a m c first.opens
+      → (first.opens ≡ false → writes_of c ≡ writes_of m) → Relabels rack a c before after
+  relabels_on a m c before after first labeled h stood = relabels_noted a m c before after after first (same_numbers after) labeled h stood
 
   -- ---- calls on slots
 
@@ -406,8 +444,8 @@ module _ {R : Type 0} (rack : Ghosts R) where
   labeled_on a m c kept labeled h = record {
     numbers = subst (λ (s : Shape). IfSome kept (AreNumbers s)) (sym h.shape) labeled.numbers;
     lengths = λ q here.
-        subst (λ (s : Shape). IfSome (rack.bytes (rack_of c) q) (λ all. HasLength s kept (length all))) (sym h.shape)
-        (length_stays (((shape_of m).k + 1) * (shape_of m).l) (λ size. HasLength (shape_of m) kept size) (rack.bytes (rack_of m) q) (rack.bytes (rack_of c) q) (h.beside q)
+        subst (λ (s : Shape). IfSome (rack.bytes (rack_of c) q) (λ all. HasLength s kept q (length all))) (sym h.shape)
+        (length_stays (((shape_of m).k + 1) * (shape_of m).l) (λ size. HasLength (shape_of m) kept q size) (rack.bytes (rack_of m) q) (rack.bytes (rack_of c) q) (h.beside q)
         (labeled.lengths q (λ out. here (h.outs q out))));
     filling = λ q fills.
         subst (λ (s : Shape). IfSome (rack.bytes (rack_of c) q) (λ all. length all ≡ member_length 2 s)) (sym h.shape)
@@ -623,13 +661,13 @@ module _ {R : Type 0} (rack : Ghosts R) where
 
   pub then_opens : (a m c : Store R) (before after : Option KeptLabel) (first : Relabels rack a m before after) (h : CallsOnSlots a m c) (stood : first.opens ≡ false → writes_of c ≡ writes_of m)
       → (relabels_then a m c before after first h stood).opens ≡ first.opens
-  unfolding relabels_then relabels_on
+  unfolding relabels_then relabels_on relabels_noted
   then_opens a m c before after first h stood = refl
 
   pub quiet_opens : (a m c : Store R) (before after : Option KeptLabel) (first : Relabels rack a m before after) (shape : shape_of c ≡ shape_of m) (same : rack_of c ≡ rack_of m)
       (back : (q : ℕ) → is_good (members_of a q) ≡ true → is_good (members_of c q) ≡ true → is_good (members_of m q) ≡ true) (outs : (q : ℕ) → members_of m q ≡ Out → members_of c q ≡ Out)
       (fills : (q : ℕ) → is_filling (members_of c q) ≡ true → is_filling (members_of m q) ≡ true) → (relabels_quiet a m c before after first shape same back outs fills).opens ≡ first.opens
-  unfolding relabels_quiet relabels_then relabels_on
+  unfolding relabels_quiet relabels_then relabels_on relabels_noted
   quiet_opens a m c before after first shape same back outs fills = refl
 
   pub opened_opens : (a m : Store R) (before after : Option KeptLabel) (good : HasGood a) (h : OpensSeal rack a m before after) → (relabels_opened a m before after good h).opens ≡ true

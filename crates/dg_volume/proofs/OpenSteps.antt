@@ -221,8 +221,8 @@ module _ {R : Type 0} (rack : Ghosts R) where
   labeled_on old new label read is = let keeps = read.reads.keeps in record {
     numbers = subst (λ (s : Shape). IfSome label (AreNumbers s)) (sym keeps.shape) is.numbers;
     lengths = λ q stays.
-        subst (λ (s : Shape). IfSome (rack.bytes (stores.rack_of new) q) (λ all. HasLength s label (length all))) (sym keeps.shape)
-        (length_stays _ (HasLength (stores.shape_of old) label) (rack.bytes (stores.rack_of old) q) (rack.bytes (stores.rack_of new) q) (keeps.beside q)
+        subst (λ (s : Shape). IfSome (rack.bytes (stores.rack_of new) q) (λ all. HasLength s label q (length all))) (sym keeps.shape)
+        (length_stays _ (HasLength (stores.shape_of old) label q) (rack.bytes (stores.rack_of old) q) (rack.bytes (stores.rack_of new) q) (keeps.beside q)
         (is.lengths q (λ out. elim (keeps.falls q) [ inl same ↦ stays (same ∙ out) | inr fallen ↦ stays fallen.out ])));
     filling = λ q fills.
         subst (λ (s : Shape). IfSome (rack.bytes (stores.rack_of new) q) (λ all. length all ≡ member_length 2 s)) (sym keeps.shape)

@@ -5,7 +5,8 @@ use Rattle.std.proofs.lemmas.Bool.{cases_eq, cases_lt, eq-eqb, false≢true, ne_
 use Rattle.std.proofs.lemmas.List.{length-replicate, take-replicate}
 use Rattle.dg_io.specs.Told.{IsZeros, Told, Torn}
 use Rattle.dg_io.specs.declared.outside.Rack.{Ghosts}
-use Rattle.dg_label.specs.Labels.{AreNumbers, HasLength, IsLabeled, StandsLabeled}
+use Rattle.dg_label.specs.Labels.{AreNumbers, HasLength, HaveSameNumbers, IsLabeled, NotesLong, StandsLabeled, is_long}
+use Rattle.dg_label.specs.declared.labels.KeptLabel.{KeptLabel}
 use Rattle.dg_model.proofs.MemberLaws.{NoneRecovers, falls_both, rose_after, rose_before}
 use Rattle.dg_model.specs.Changes.{IsMember, Misses, Passes, Replaces}
 use Rattle.dg_model.specs.Lives.{all_live}
@@ -29,7 +30,19 @@ use Rattle.dg_store.specs.Stores as stores
 use Rattle.dg_store.specs.declared.store.Store.{Store}
 use Rattle.dg_volume.proofs.FaultLaws.{array_outs, array_tells, own_then}
 use Rattle.dg_volume.proofs.LineLaws.{lost_in, lost_of, own_member}
-use Rattle.dg_volume.proofs.LabelLaws.{HasNone, good_falls, good_live, length_stays, out_falls, relabels_on, relabels_where, same_bytes, torn_none}
+use Rattle.dg_volume.proofs.LabelLaws.{
+  HasNone,
+  good_falls,
+  good_live,
+  length_stays,
+  noted_numbers,
+  out_falls,
+  relabels_noted,
+  relabels_where,
+  same_bytes,
+  same_numbers,
+  torn_none,
+}
 use Rattle.dg_volume.proofs.VolumeLaws.{IsBeside, Keeps, Labels, kept_state, label_by, leaves, on_label, quiet_in, stays, steps_from, still_in}
 use Rattle.dg_volume.proofs.VolumeSteps.{false_of}
 use Rattle.dg_volume.specs.Faults.{OutsStay, TellsFaults, faults_of}
@@ -64,6 +77,9 @@ replaced_stood e = cc e
 replaced_lost : Replaced ≡ Lost → ⊥
 replaced_lost e = cc e
 
+replaced_failed : Replaced ≡ Failed → ⊥
+replaced_failed e = cc e
+
 lost_stood : Lost ≡ NotOut → ⊥
 lost_stood e = cc e
 
@@ -78,7 +94,10 @@ module _ {S R : Type 0} (phase : phases.Ghosts S) (rack : Ghosts R) where
     pub beside : IsBeside phase rack a b
     pub levels : b.levels.fragment ≡ a.levels.fragment
     pub labeled : IsLabeled rack a.store a.label
-    pub opening : OpensWhere rack writes a.store m a.label b.label
+    pub mid : Option KeptLabel
+    pub opening : OpensWhere rack writes a.store m a.label mid
+    pub noted : answer ≡ Replaced → NotesLong (2 * s + j) mid b.label
+    pub unnoted : answer ≢ Replaced → b.label ≡ mid
     pub out : writes ≡ true → members_of a (2 * s + j) ≡ Out
     pub live : writes ≡ true → is_lost (members_of a) s ≡ false
     pub other : writes ≡ false → (members_of a (2 * s + j) ≢ Out) ⊎ (is_lost (members_of a) s ≡ true)
@@ -206,8 +225,36 @@ module _ {S R : Type 0} (phase : phases.Ghosts S) (rack : Ghosts R) where
 
     -- ---- the label
 
-    opened_first : (first : Relabels rack a.store m a.label b.label) × (first.opens ≡ writes)
-    opened_first = relabels_where rack writes a.store m a.label b.label h.labeled (λ is. good_live rack a.store s (h.live is)) h.opening
+    opened_first : (first : Relabels rack a.store m a.label h.mid) × (first.opens ≡ writes)
+    opened_first = relabels_where rack writes a.store m a.label h.mid h.labeled (λ is. good_live rack a.store s (h.live is)) h.opening
+
+    not_failed : answer ≡ Failed → answer ≢ Replaced
+    not_failed is anew = replaced_failed (sym anew ∙ is)
+
+    not_quiet : (answer ≡ Lost) ⊎ (answer ≡ NotOut) → answer ≢ Replaced
+    not_quiet (inl is) anew = replaced_lost (sym anew ∙ is)
+    not_quiet (inr is) anew = replaced_stood (sym anew ∙ is)
+
+    -- the label differs in the bit of the member that was made anew, and in no more
+    numbers_noted : HaveSameNumbers h.mid b.label
+    numbers_noted = elim answer_is [
+      | inl is ↦ (h.noted is).numbers
+      | inr (inl is) ↦ unnoted_numbers (h.unnoted (not_failed is))
+      | inr (inr still) ↦ unnoted_numbers (h.unnoted (not_quiet still))
+    ]
+      where
+        unnoted_numbers : b.label ≡ h.mid → HaveSameNumbers h.mid b.label
+        unnoted_numbers same = subst (λ (k : Option KeptLabel). HaveSameNumbers h.mid k) (sym same) (same_numbers h.mid)
+
+    unnoted_long : (q : ℕ) → answer ≢ Replaced → is_long b.label q ≡ is_long h.mid q
+    unnoted_long q other = ap (λ (k : Option KeptLabel). is_long k q) (h.unnoted other)
+
+    long_apart : (q : ℕ) → q ≢ 2 * s + j → is_long b.label q ≡ is_long h.mid q
+    long_apart q apart = elim answer_is [
+      | inl is ↦ (h.noted is).others q apart
+      | inr (inl is) ↦ unnoted_long q (not_failed is)
+      | inr (inr still) ↦ unnoted_long q (not_quiet still)
+    ]
 
     abbrev Beside : ℕ → Type 0
     Beside q = Told (Torn 512 (((stores.shape_of m).k + 1) * (stores.shape_of m).l)) (rack.bytes (stores.rack_of m) q) (rack.bytes (rack_of b) q)
@@ -239,30 +286,37 @@ module _ {S R : Type 0} (phase : phases.Ghosts S) (rack : Ghosts R) where
     shape_is = h.left.shape
 
     abbrev LongEnough : ℕ → Type 0
-    LongEnough q = IfSome (rack.bytes (rack_of b) q) (λ all. HasLength (stores.shape_of m) b.label (length all))
+    LongEnough q = IfSome (rack.bytes (rack_of b) q) (λ all. HasLength (stores.shape_of m) b.label q (length all))
 
-    long_as : (q : ℕ) → stores.members_of m q ≢ Out → Beside q → LongEnough q
-    long_as q stood beside =
-        length_stays (((stores.shape_of m).k + 1) * (stores.shape_of m).l) (λ size. HasLength (stores.shape_of m) b.label size) (rack.bytes (stores.rack_of m) q) (rack.bytes (rack_of b) q) beside
-        (h.opening.labeled.lengths q stood)
+    -- so many bytes
+    abbrev SizedBy : Option (List ℕ) → Bool → Type 0
+    SizedBy told long = IfSome told (λ all. length all ≡ member_length (if long then 2 else 1) (stores.shape_of m))
 
-    long_anew : (before now : Option (List ℕ)) → Told (IsZeros (member_length 2 (stores.shape_of m))) before now → IfSome now (λ all. HasLength (stores.shape_of m) b.label (length all))
-    long_anew None None told = tt
-    long_anew (Some x) None told = tt
-    long_anew None (Some y) told = absurd told
-    long_anew (Some x) (Some y) told = inl (ap length told ∙ length-replicate (member_length 2 (stores.shape_of m)) 0)
+    long_as : (q : ℕ) → is_long b.label q ≡ is_long h.mid q → stores.members_of m q ≢ Out → Beside q → LongEnough q
+    long_as q same stood beside =
+        subst (λ (long : Bool). SizedBy (rack.bytes (rack_of b) q) long) (sym same)
+        (length_stays (((stores.shape_of m).k + 1) * (stores.shape_of m).l) (λ size. HasLength (stores.shape_of m) h.mid q size) (rack.bytes (stores.rack_of m) q) (rack.bytes (rack_of b) q) beside
+        (h.opening.labeled.lengths q stood))
+
+    fills_anew : (before now : Option (List ℕ)) → Told (IsZeros (member_length 2 (stores.shape_of m))) before now → IfSome now (λ all. length all ≡ member_length 2 (stores.shape_of m))
+    fills_anew None None told = tt
+    fills_anew (Some x) None told = tt
+    fills_anew None (Some y) told = absurd told
+    fills_anew (Some x) (Some y) told = ap length told ∙ length-replicate (member_length 2 (stores.shape_of m)) 0
 
     long_at : (q : ℕ) → members_of b q ≢ Out → LongEnough q
     long_at q here = elim (cases_eq q (2 * s + j)) [
       | inl at ↦ elim answer_is [
         | inl is ↦
-            subst (λ (p : ℕ). LongEnough p) (sym at) (long_anew (rack.bytes (stores.rack_of m) (2 * s + j)) (rack.bytes (rack_of b) (2 * s + j)) (h.blank is))
+            subst (λ (p : ℕ). LongEnough p) (sym at)
+            (subst (λ (long : Bool). SizedBy (rack.bytes (rack_of b) (2 * s + j)) long) (sym (h.noted is).here)
+            (fills_anew (rack.bytes (stores.rack_of m) (2 * s + j)) (rack.bytes (rack_of b) (2 * s + j)) (h.blank is)))
         | inr rest ↦ elim rest [
           | inl is ↦ absurd (here (ap (members_of b) at ∙ same_failed is (2 * s + j) ∙ failed_out is))
-          | inr still ↦ long_as q (λ out. here (same_quiet still q ∙ out)) (same_bytes rack m b.store (h.quiet still) q)
+          | inr still ↦ long_as q (unnoted_long q (not_quiet still)) (λ out. here (same_quiet still q ∙ out)) (same_bytes rack m b.store (h.quiet still) q)
         ]
       ]
-      | inr apart ↦ long_as q (λ out. here (stays_at q apart ∙ out)) (other_beside q apart)
+      | inr apart ↦ long_as q (long_apart q apart) (λ out. here (stays_at q apart ∙ out)) (other_beside q apart)
     ]
 
     abbrev FillsWhole : ℕ → Type 0
@@ -272,12 +326,6 @@ module _ {S R : Type 0} (phase : phases.Ghosts S) (rack : Ghosts R) where
     fills_as q fills beside =
         length_stays (((stores.shape_of m).k + 1) * (stores.shape_of m).l) (λ size. size ≡ member_length 2 (stores.shape_of m)) (rack.bytes (stores.rack_of m) q) (rack.bytes (rack_of b) q) beside
         (h.opening.labeled.filling q fills)
-
-    fills_anew : (before now : Option (List ℕ)) → Told (IsZeros (member_length 2 (stores.shape_of m))) before now → IfSome now (λ all. length all ≡ member_length 2 (stores.shape_of m))
-    fills_anew None None told = tt
-    fills_anew (Some x) None told = tt
-    fills_anew None (Some y) told = absurd told
-    fills_anew (Some x) (Some y) told = ap length told ∙ length-replicate (member_length 2 (stores.shape_of m)) 0
 
     fills_at : (q : ℕ) → is_filling (members_of b q) ≡ true → FillsWhole q
     fills_at q fills = elim (cases_eq q (2 * s + j)) [
@@ -294,8 +342,8 @@ module _ {S R : Type 0} (phase : phases.Ghosts S) (rack : Ghosts R) where
 
     labeled_now : IsLabeled rack b.store b.label
     labeled_now = record {
-      numbers = subst (λ (x : Shape). IfSome b.label (AreNumbers x)) (sym shape_is) h.opening.labeled.numbers;
-      lengths = λ q here. subst (λ (x : Shape). IfSome (rack.bytes (rack_of b) q) (λ all. HasLength x b.label (length all))) (sym shape_is) (long_at q here);
+      numbers = subst (λ (x : Shape). IfSome b.label (AreNumbers x)) (sym shape_is) (noted_numbers (stores.shape_of m) h.mid b.label numbers_noted h.opening.labeled.numbers);
+      lengths = λ q here. subst (λ (x : Shape). IfSome (rack.bytes (rack_of b) q) (λ all. HasLength x b.label q (length all))) (sym shape_is) (long_at q here);
       filling = λ q fills. subst (λ (x : Shape). IfSome (rack.bytes (rack_of b) q) (λ all. length all ≡ member_length 2 x)) (sym shape_is) (fills_at q fills);
     }
 
@@ -351,7 +399,7 @@ module _ {S R : Type 0} (phase : phases.Ghosts S) (rack : Ghosts R) where
     labels_now =
         let first = opened_first.0 in
         let opens = opened_first.1 in
-        relabels_on rack a.store m b.store a.label b.label first labeled_now (record {
+        relabels_noted rack a.store m b.store a.label h.mid b.label first numbers_noted labeled_now (record {
           shape = shape_is;
           rise = h.left.stays.rise.writes;
           back = λ q was good. recovers_none q good;
@@ -442,7 +490,8 @@ module _ {S R : Type 0} (phase : phases.Ghosts S) (rack : Ghosts R) where
     same_next : {P : Type 0} → writes ≡ false → (rest : State) (V : List (List ℕ)) → StandsLabeled rack a.store a.label rest.label → (Known P rack a → StandsFor phase rack a V)
         → StandsIn phase rack P b (state_of phase rack b rest V)
     same_next none rest V label holds =
-        quiet_in phase rack a b rest V label replace_keeps (quiet_where none ∙ ap (λ (x : Store R). stores.rack_of x) (h.opening.quiet none).0) (h.opening.quiet none).1
+        quiet_in phase rack a b rest V label replace_keeps (quiet_where none ∙ ap (λ (x : Store R). stores.rack_of x) (h.opening.quiet none).0)
+        (h.unnoted (not_quiet (elim (found none) [ inl stood ↦ inr stood | inr lost ↦ inl lost ])) ∙ (h.opening.quiet none).1)
         (λ q out. same_members none q ∙ out) (λ q fills. ap is_filling (sym (same_members none q)) ∙ fills) holds
 
   pub replace_leaves : (a : Volume S R) (s j : ℕ) (answer : ReplaceAnswer) (writes : Bool) (m : Store R) (b : Volume S R) → IsWell phase rack a → HasReplaced a s j answer writes m b

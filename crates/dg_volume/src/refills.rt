@@ -15,7 +15,7 @@ use crate::seals::open_where;
 use crate::volumes::Volume;
 use dg_infer::Inference;
 use dg_io::{NoMemory, Rack};
-use dg_label::KeptLabel;
+use dg_label::{KeptLabel, note_long};
 use dg_model::MemberState;
 use dg_rebuild::{RebuildAnswer as Refilled, rebuild};
 use dg_store::{ReplaceAnswer as MemberAnswer, Store, member_length};
@@ -209,7 +209,10 @@ impl<S: InPhase, R: Rack> Volume<S, R> {
         open_where(&mut self.store, &mut self.label, opens);
         let size = member_length(self.store.shape());
         match self.store.replace(boundary as u8, side as u8, size) {
-            MemberAnswer::Replaced => ReplaceAnswer::Replaced,
+            MemberAnswer::Replaced => {
+                note_long(&mut self.label, (2 * boundary + side) as u8);
+                ReplaceAnswer::Replaced
+            }
             MemberAnswer::Lost => ReplaceAnswer::Lost,
             MemberAnswer::NotOut => ReplaceAnswer::NotOut,
             MemberAnswer::Failed => ReplaceAnswer::Failed,

@@ -16,7 +16,7 @@ use Rattle.ufs_pointer.specs.Chains.{chain_span}
 pub pointers : (g : Geometry) → IsGeometry g → (1024 ≤ g.nindir) × (g.nindir ≤ 16384)
 pointers g is = let h = is.nindir in let low = is.bsize.1 in let high = is.bsize.2 in (omega arith, omega arith)
 
-two_powers : (n : ℕ) → n ^ 2 ≡ n * n
+pub two_powers : (n : ℕ) → n ^ 2 ≡ n * n
 two_powers n =
     let none : n ^ 0 ≡ 1 = simp unary_clauses in
     let one : n ^ 1 ≡ n = pow-suc n 0 ∙ ap (λ k. k * n) none ∙ one-mul n in

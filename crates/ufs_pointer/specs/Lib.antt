@@ -5,5 +5,6 @@ pub mod Fetches
 pub mod FetchLaws
 pub mod KindLaws
 pub mod FileBlocks
+pub mod Holes
 pub mod Superblocks
 pub mod ViewWords

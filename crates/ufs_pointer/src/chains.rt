@@ -10,7 +10,7 @@ const DIRECT: u32 = 12;
 
 /// The pointers of the blocks behind a double indirect block.
 #[tactic(auto, using(crate::proofs::ChainLaws::square))]
-fn double_count(g: &Geometry) -> u32
+pub fn double_count(g: &Geometry) -> u32
     requires { IsGeometry g.now }
     ensures value { result ≡ g.now.nindir ^ 2 }
     ensures more { 2 ^ 20 ≤ result }

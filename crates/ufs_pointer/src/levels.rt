@@ -4,7 +4,7 @@ ghost use Rattle.dg_io.specs.ViewWords.{Keeps, Reads};
 ghost use Rattle.ufs_model.specs.Blocks.{area_of};
 ghost use Rattle.ufs_model.specs.Geometries.{IsGeometry, IsGeometryOn};
 ghost use Rattle.ufs_model.specs.Inodes.{block_span};
-ghost use Rattle.ufs_model.specs.Pointers.{chain_address, file_block_of};
+ghost use Rattle.ufs_model.specs.Pointers.{chain_address, file_block_of, slot_address, through};
 ghost use Rattle.ufs_pointer.specs.Addresses.{HasSpan, IsInside, address_in};
 ghost use Rattle.ufs_pointer.specs.Buffers.{Buffers};
 ghost use Rattle.ufs_frames.specs.Chains.{IsChain};
@@ -25,9 +25,9 @@ use ufs_model::{Address, Chain, Geometry, Inode};
 const MOST_FRAGMENTS: usize = 8;
 
 /// Slots of the indirect blocks (`NIADDR`).
-const SINGLE: u8 = 12;
+pub const SINGLE: u8 = 12;
 
-const DOUBLE: u8 = 13;
+pub const DOUBLE: u8 = 13;
 
 const TRIPLE: u8 = 14;
 
@@ -260,6 +260,30 @@ impl Levels {
                 through(view, g, k, single, &mut self.single[..size])
             }
         }
+    }
+
+    /// What pointer `i` of the double indirect block leads to. There is no answer where a fragment of this
+    /// block is gone.
+    pub(crate) fn through_double<V: View>(
+        &mut self,
+        view: &mut V,
+        g: &Geometry,
+        inode: &Inode,
+        i: u32,
+    ) -> Option<Address>
+        requires sound { V.is_sound view.old }
+        requires geometry { IsGeometryOn (V.size view.old) (V.count view.old) g.now }
+        requires index { i < g.now.nindir }
+        requires fragment { self.old.fragment ≡ V.size view.old }
+        ensures keeps { Keeps V.View view.old view.new }
+        ensures buffers { self.new ≡ self.old }
+        ensures rule { Reads V.View view.old view.new (through g.now i (slot_address g.now inode.now 13)) result }
+        ensures fetched { FetchesFor V.View view.old view.new (through g.now i (slot_address g.now inode.now 13)) result }
+        ensures lost { IfNone result (LosesNeeded V.View view.old view.new (through g.now i (slot_address g.now inode.now 13))) }
+    {
+        let size = block_bytes(g);
+        let double = indirect_address(g, inode, DOUBLE);
+        through(view, g, i, double, &mut self.double[..size])
     }
 }
 

@@ -1,36 +1,63 @@
+use Rattle.std.proofs.Common.{◌≡◌, ◌*◌, ℕ, List, ap, arith, subst}
+use Rattle.dg_io.specs.Told.{Extended, KeepsFront}
+use Rattle.dg_label.specs.Passes.{Passes, Touches}
+use Rattle.dg_label.specs.Saves.{short_members}
+use Rattle.dg_label.proofs.FallenLaws.{fallen_more, fallen_none}
 use Rattle.dg_label.proofs.LabelLaws.{whole_extended}
-use Rattle.dg_label.proofs.PassLaws.{keeps_none, told_same}
-use Rattle.dg_label.proofs.SaveLaws.{extended_fronts, fronts_none, short_most}
-use Rattle.dg_store.specs.Stores.{rack_of}
+use Rattle.dg_label.proofs.PassLaws.{passes_more, passes_none}
+use Rattle.dg_label.proofs.SaveLaws.{extended_fronts, short_more, uncalled_more, uncalled_none}
+use Rattle.dg_model.specs.Saves.{member_length}
+use Rattle.dg_model.specs.declared.shapes.Shape.{Shape}
+use Rattle.dg_store.specs.Leaves.{CallsAtMost}
+use Rattle.dg_store.specs.Stores.{shape_of}
 use Rattle.dg_label.proofs.passes.lengthen.Goals as goal
 
-pub returns-in_default-clause-array : goal.returns-in_default-clause-array
-returns-in_default-clause-array g c = keeps_none g.R.Rack c.args.store.now c.requires.sound
+pub loop-member-preserved : goal.loop-member-preserved
+loop-member-preserved g c =
+    let old = c.loop-member.invariant in
+    let n = c.loop-member.member in
+    let a = c.args.store.now in
+    let b = c.loop-member.store in
+    let d = c.lengthen_one.new.store in
+    let change : ℕ → List ℕ → List ℕ → Type 0 = λ (q : ℕ). Extended (member_length 2 (shape_of a)) in
+    let fails : ℕ → List ℕ → List ℕ → Type 0 = λ (q : ℕ). KeepsFront in
+    let touches : Touches g.R.Rack n (change n) b d =
+    subst (λ (sh : Shape). Touches g.R.Rack n (Extended (member_length 2 sh)) b d) old.passes.array.stays.shape c.lengthen_one.ensures.touches in
+    record {
+      passes = passes_more g.R.Rack change n a b d old.passes touches;
+      fallen = fallen_more g.R.Rack fails change n a b d old.passes touches old.fallen c.lengthen_one.ensures.fallen;
+      uncalled = uncalled_more g.R.Rack c.args.label.now n a b d old.uncalled c.lengthen_one.ensures.uncalled;
+      most = let first = old.most in let next = c.lengthen_one.ensures.most in omega (arith, first, next, short_more c.args.label.now n);
+    }
 
-pub returns-in_default-clause-fronts : goal.returns-in_default-clause-fronts
-returns-in_default-clause-fronts g c q = fronts_none (g.R.Rack.bytes (rack_of c.args.store.now) q)
+pub loop-member-init : goal.loop-member-init
+loop-member-init g c = record {
+  passes = passes_none g.R.Rack (λ (q : ℕ). Extended (member_length 2 (shape_of c.args.store.now))) c.args.store.now c.requires.sound;
+  fallen = fallen_none g.R.Rack (λ (q : ℕ). KeepsFront) c.args.store.now;
+  uncalled = λ q good long. uncalled_none g.R.Rack q c.args.store.now;
+  most = omega arith;
+}
 
-pub returns-in_default-clause-untouched : goal.returns-in_default-clause-untouched
-returns-in_default-clause-untouched g c q bad = told_same (g.R.Rack.bytes (rack_of c.args.store.now) q)
+pub returns-clause-whole : goal.returns-clause-whole
+returns-clause-whole g c =
+    let a = c.args.store.now in
+    let b = ap (λ (sh : Shape). sh.b) c.shape.ensures in
+    let end : c.loop-member.member ≡ 2 * (shape_of a).b = omega (arith, b) in
+    whole_extended g.R.Rack a c.loop-member.store c.requires.sound c.args.label.now c.requires.labeled
+    (subst (λ (n : ℕ). Passes g.R.Rack n (λ (q : ℕ). Extended (member_length 2 (shape_of a))) a c.loop-member.store) end c.loop-member.invariant.passes)
 
-pub returns-else-kept-eq1-clause-array : goal.returns-else-kept-eq1-clause-array
-returns-else-kept-eq1-clause-array g c = keeps_none g.R.Rack c.args.store.now c.requires.sound
+pub returns-clause-fronts : goal.returns-clause-fronts
+returns-clause-fronts g c =
+    let a = c.args.store.now in
+    let b = ap (λ (sh : Shape). sh.b) c.shape.ensures in
+    let end : c.loop-member.member ≡ 2 * (shape_of a).b = omega (arith, b) in
+    extended_fronts g.R.Rack a c.loop-member.store (member_length 2 (shape_of a)) c.requires.sound
+    (subst (λ (n : ℕ). Passes g.R.Rack n (λ (q : ℕ). Extended (member_length 2 (shape_of a))) a c.loop-member.store) end c.loop-member.invariant.passes)
+    c.loop-member.invariant.fallen
 
-pub returns-else-kept-eq1-clause-fronts : goal.returns-else-kept-eq1-clause-fronts
-returns-else-kept-eq1-clause-fronts g c q = fronts_none (g.R.Rack.bytes (rack_of c.args.store.now) q)
-
-pub returns-else-kept-eq1-clause-untouched : goal.returns-else-kept-eq1-clause-untouched
-returns-else-kept-eq1-clause-untouched g c q bad = told_same (g.R.Rack.bytes (rack_of c.args.store.now) q)
-
-pub returns-then-kept-eq1-clause-whole : goal.returns-then-kept-eq1-clause-whole
-returns-then-kept-eq1-clause-whole g c =
-    whole_extended g.R.Rack c.args.store.now c.extend_each.new.store c.requires.sound c.args.label.now c.requires.labeled
-    (rw (c.member_length-size.ensures, c.shape.ensures) at c.extend_each.ensures.passes)
-
-pub returns-then-kept-eq1-clause-fronts : goal.returns-then-kept-eq1-clause-fronts
-returns-then-kept-eq1-clause-fronts g c =
-    extended_fronts g.R.Rack c.args.store.now c.extend_each.new.store c.member_length-size.result c.requires.sound c.extend_each.ensures.passes c.extend_each.ensures.fallen
-
-pub returns-then-kept-eq1-clause-most : goal.returns-then-kept-eq1-clause-most
-returns-then-kept-eq1-clause-most g c =
-    short_most g.R.Rack c.args.store.now c.extend_each.new.store c.args.label.now c.in-Some.kept c.in-Some.is c.if-kept-eq1.true c.extend_each.ensures.passes.most
+pub returns-clause-most : goal.returns-clause-most
+returns-clause-most g c =
+    let a = c.args.store.now in
+    let b = ap (λ (sh : Shape). sh.b) c.shape.ensures in
+    let end : c.loop-member.member ≡ 2 * (shape_of a).b = omega (arith, b) in
+    subst (λ (n : ℕ). CallsAtMost g.R.Rack a c.loop-member.store (short_members c.args.label.now n)) end c.loop-member.invariant.most

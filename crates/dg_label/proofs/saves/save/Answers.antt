@@ -34,7 +34,7 @@ returns-clause-array g c =
 pub returns-clause-labeled : goal.returns-clause-labeled
 returns-clause-labeled g c =
     let body = c.args.body.now in
-    let kept : KeptLabel = record { format = 2; sequence = c.number_after-sequence.result; sealed = true; body = length body } in
+    let kept : KeptLabel = record { format = 2; sequence = c.number_after-sequence.result; sealed = true; body = length body; long = 0 } in
     let same : shape_of c.lengthen.new.store ≡ shape_of c.args.store.now = c.lengthen.ensures.array.stays.shape ∙ c.open_seal.ensures.array.stays.shape in
     let room : length body ≤ room_of 2 (shape_of c.lengthen.new.store) = subst (λ (sh : Shape). length body ≤ room_of 2 sh) (sym same) c.requires.body in
     let first : 1 ≤ c.number_after-sequence.result = subst (λ n. 1 ≤ n) (sym c.number_after-sequence.ensures) (next_first c.args.label.now) in
@@ -44,7 +44,7 @@ returns-clause-labeled g c =
 pub returns-clause-answer : goal.returns-clause-answer
 returns-clause-answer g c =
     let body = c.args.body.now in
-    let kept : KeptLabel = record { format = 2; sequence = c.number_after-sequence.result; sealed = true; body = length body } in
+    let kept : KeptLabel = record { format = 2; sequence = c.number_after-sequence.result; sealed = true; body = length body; long = 0 } in
     let same : shape_of c.lengthen.new.store ≡ shape_of c.args.store.now = c.lengthen.ensures.array.stays.shape ∙ c.open_seal.ensures.array.stays.shape in
     let room : length body ≤ room_of 2 (shape_of c.lengthen.new.store) = subst (λ (sh : Shape). length body ≤ room_of 2 sh) (sym same) c.requires.body in
     let first : 1 ≤ c.number_after-sequence.result = subst (λ n. 1 ≤ n) (sym c.number_after-sequence.ensures) (next_first c.args.label.now) in (

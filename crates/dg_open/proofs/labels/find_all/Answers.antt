@@ -1,4 +1,4 @@
-use Rattle.dg_open.proofs.TableLemmas.{one_quiet, one_seen, one_stands}
+use Rattle.dg_open.proofs.TableLemmas.{none_has, one_clear, one_measured, one_quiet, one_seen, one_stands}
 use Rattle.dg_open.proofs.labels.find_all.Goals as goal
 
 pub loop-member-preserved : goal.loop-member-preserved
@@ -9,4 +9,7 @@ loop-member-preserved g c =
       seen = one_seen g.R.Rack _ c.loop-member.rack c.find_member.new.rack c.loop-member.labels c.loop-member.member c.find_member.result c.loop-member-test.true inv.seen found.reads found.seen;
       stand = one_stands g.R.Rack c.loop-member.rack c.find_member.new.rack c.loop-member.labels c.loop-member.member c.find_member.result inv.seen.size c.loop-member-test.true inv.stand found.reads found.stands;
       quiet = one_quiet g.R.Rack _ c.loop-member.rack c.find_member.new.rack c.loop-member.labels c.loop-member.member c.find_member.result inv.seen.size c.loop-member-test.true inv.quiet found.reads found.quiet;
+      measured = one_measured g.R.Rack c.loop-member.rack c.find_member.new.rack c.loop-member.labels c.loop-member.member c.loop-member.long c.find_member.new.long c.find_member.result
+          inv.seen.size c.loop-member-test.true inv.measured found.reads found.measured found.others;
+      clear = one_clear c.loop-member.member c.loop-member.long c.find_member.new.long inv.clear found.others;
     }

@@ -33,5 +33,5 @@ pub returns : goal.returns
 returns g c =
     let found = c.find_all-labels in
     let read = c.in_ok-source.ensures in
-    opens g.R.Rack c.args.rack found.new.rack c.first_state.new.rack found.result c.first_state.new.failed c.in-Some.greatest c.in-Some-2.source c.in_ok-reopened.reopened
-    found.ensures.seen c.in-Some.ensures (c.is_unclean.ensures.clean c.if-is_unclean.false) read.leaves (rw c.in-Some-2.is at c.in_ok-source.ensures.says) read.failed found.ensures.quiet read.quiet c.in_ok-reopened.ensures
+    opens g.R.Rack c.args.rack found.new.rack c.first_state.new.rack found.result c.first_state.new.failed found.new.long c.in-Some.greatest c.in-Some-2.source c.in_ok-reopened.reopened
+    found.ensures.seen c.in-Some.ensures (c.is_unclean.ensures.clean c.if-is_unclean.false) read.leaves (rw c.in-Some-2.is at c.in_ok-source.ensures.says) read.failed found.ensures.quiet read.quiet found.ensures.measured c.in_ok-reopened.ensures

@@ -7,4 +7,4 @@ pub loop-block-preserved : goal.loop-block-preserved
 loop-block-preserved c =
     c.in_ok-push_some.ensures
     ∙ ap (λ (xs : List ℕ). xs ++ option_to_list c.cut_block.result) c.loop-block.invariant
-    ∙ rw c.cut_block.ensures (sym (cut_more c.args.places.now c.args.map.now c.loop-block.block _ refl))
+    ∙ rw c.cut_block.ensures (sym (cut_more c.args.map.now c.args.now.now c.loop-block.block _ refl))

@@ -42,8 +42,7 @@ loop-i-preserved c =
 pub returns-clause-found : goal.returns-clause-found
 returns-clause-found c = λ yes.
     let low : c.loop-i.values < 16 = ltb-true c.loop-i.values 16 yes in
-    let whole : take c.loop-i.i c.loop-i.bytes ≡ c.loop-i.bytes = take_all c.loop-i.i c.loop-i.bytes (omega arith) in
-    (
+    let whole : take c.loop-i.i c.loop-i.bytes ≡ c.loop-i.bytes = take_all c.loop-i.i c.loop-i.bytes (omega arith) in (
       all_read c.args.word.now c.loop-i.bytes c.loop-i.i (omega arith) (omega arith) (c.loop-i.invariant.front low),
       subst (λ l. AreBytes l) whole (c.loop-i.invariant.bytes low),
     )

@@ -14,7 +14,7 @@ returns-in-Replaced-clause-leaves g c =
     let a = c.args.self.now in
     let k = c.in-Replaced.ensures in
     let b : c.shape.result.now.b ≡ (shape_of a).b = ap (λ (x : Shape). x.b) c.shape.ensures in
-    replace_leaves g.S.InPhase g.R.Rack a c.args.boundary c.args.side Replaced c.can_replace-opens.result c.open_where.new.store (record a { store = c.replace.new.self; label = c.open_where.new.label }) c.requires.well
+    replace_leaves g.S.InPhase g.R.Rack a c.args.boundary c.args.side Replaced c.can_replace-opens.result c.open_where.new.store (record a { store = c.replace.new.self; label = c.note_long.new.label }) c.requires.well
     (record {
       boundary = omega arith;
       side = omega arith;
@@ -22,7 +22,10 @@ returns-in-Replaced-clause-leaves g c =
       levels = refl;
       sound = k.sound;
       labeled = c.requires.well.labeled;
+      mid = c.open_where.new.label;
       opening = c.open_where.ensures;
+      noted = λ is. c.note_long.ensures;
+      unnoted = λ other. absurd (other refl);
       out = c.can_replace-opens.ensures.out;
       live = c.can_replace-opens.ensures.live;
       other = c.can_replace-opens.ensures.other;
@@ -47,7 +50,7 @@ returns-in-Replaced-clause-steps g c =
     let a = c.args.self.now in
     let k = c.in-Replaced.ensures in
     let b : c.shape.result.now.b ≡ (shape_of a).b = ap (λ (x : Shape). x.b) c.shape.ensures in
-    steps_replaced g.S.InPhase g.R.Rack a c.args.boundary c.args.side c.can_replace-opens.result c.open_where.new.store (record a { store = c.replace.new.self; label = c.open_where.new.label }) c.requires.well
+    steps_replaced g.S.InPhase g.R.Rack a c.args.boundary c.args.side c.can_replace-opens.result c.open_where.new.store (record a { store = c.replace.new.self; label = c.note_long.new.label }) c.requires.well
     (record {
       boundary = omega arith;
       side = omega arith;
@@ -55,7 +58,10 @@ returns-in-Replaced-clause-steps g c =
       levels = refl;
       sound = k.sound;
       labeled = c.requires.well.labeled;
+      mid = c.open_where.new.label;
       opening = c.open_where.ensures;
+      noted = λ is. c.note_long.ensures;
+      unnoted = λ other. absurd (other refl);
       out = c.can_replace-opens.ensures.out;
       live = c.can_replace-opens.ensures.live;
       other = c.can_replace-opens.ensures.other;
@@ -88,7 +94,10 @@ returns-in-Lost-clause-leaves g c =
       levels = refl;
       sound = k.sound;
       labeled = c.requires.well.labeled;
+      mid = c.open_where.new.label;
       opening = c.open_where.ensures;
+      noted = λ is. absurd (let same = is in cc same);
+      unnoted = λ other. refl;
       out = c.can_replace-opens.ensures.out;
       live = c.can_replace-opens.ensures.live;
       other = c.can_replace-opens.ensures.other;
@@ -121,7 +130,10 @@ returns-in-Lost-clause-steps g c =
       levels = refl;
       sound = k.sound;
       labeled = c.requires.well.labeled;
+      mid = c.open_where.new.label;
       opening = c.open_where.ensures;
+      noted = λ is. absurd (let same = is in cc same);
+      unnoted = λ other. refl;
       out = c.can_replace-opens.ensures.out;
       live = c.can_replace-opens.ensures.live;
       other = c.can_replace-opens.ensures.other;
@@ -154,7 +166,10 @@ returns-in-NotOut-clause-leaves g c =
       levels = refl;
       sound = k.sound;
       labeled = c.requires.well.labeled;
+      mid = c.open_where.new.label;
       opening = c.open_where.ensures;
+      noted = λ is. absurd (let same = is in cc same);
+      unnoted = λ other. refl;
       out = c.can_replace-opens.ensures.out;
       live = c.can_replace-opens.ensures.live;
       other = c.can_replace-opens.ensures.other;
@@ -187,7 +202,10 @@ returns-in-NotOut-clause-steps g c =
       levels = refl;
       sound = k.sound;
       labeled = c.requires.well.labeled;
+      mid = c.open_where.new.label;
       opening = c.open_where.ensures;
+      noted = λ is. absurd (let same = is in cc same);
+      unnoted = λ other. refl;
       out = c.can_replace-opens.ensures.out;
       live = c.can_replace-opens.ensures.live;
       other = c.can_replace-opens.ensures.other;
@@ -220,7 +238,10 @@ returns-in-Failed-clause-leaves g c =
       levels = refl;
       sound = k.sound;
       labeled = c.requires.well.labeled;
+      mid = c.open_where.new.label;
       opening = c.open_where.ensures;
+      noted = λ is. absurd (let same = is in cc same);
+      unnoted = λ other. refl;
       out = c.can_replace-opens.ensures.out;
       live = c.can_replace-opens.ensures.live;
       other = c.can_replace-opens.ensures.other;
@@ -253,7 +274,10 @@ returns-in-Failed-clause-steps g c =
       levels = refl;
       sound = k.sound;
       labeled = c.requires.well.labeled;
+      mid = c.open_where.new.label;
       opening = c.open_where.ensures;
+      noted = λ is. absurd (let same = is in cc same);
+      unnoted = λ other. refl;
       out = c.can_replace-opens.ensures.out;
       live = c.can_replace-opens.ensures.live;
       other = c.can_replace-opens.ensures.other;
