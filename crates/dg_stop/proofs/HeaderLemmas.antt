@@ -6,7 +6,7 @@ use Rattle.byteorder.specs.Numbers.{little_number-reads_back}
 use Rattle.dg_stop.specs.Headers.{Header, HasHeader, IsHeader, header_bytes, mark_byte}
 use Rattle.dg_stop.specs.Layouts.{header_place}
 
-record HasNumbers (buf : List ℕ) (h : Header) : Type 0 where
+pub record HasNumbers (buf : List ℕ) (h : Header) : Type 0 where
   pub sequence : little_from 0 8 (drop 8 buf) ≡ h.sequence
   pub mark : slice_index buf 16 ≡ mark_byte h.committed
   pub member : slice_index buf 17 ≡ h.member
@@ -14,7 +14,7 @@ record HasNumbers (buf : List ℕ) (h : Header) : Type 0 where
   pub room : little_from 0 4 (drop 32 buf) ≡ h.room
   pub extra : little_from 0 4 (drop 36 buf) ≡ h.extra
 
-own_numbers : (h : Header) → h.sequence < 2 ^ 64 → h.size < 2 ^ 64 → h.room < 2 ^ 32 → h.extra < 2 ^ 32 → HasNumbers (header_bytes h) h
+pub own_numbers : (h : Header) → h.sequence < 2 ^ 64 → h.size < 2 ^ 64 → h.room < 2 ^ 32 → h.extra < 2 ^ 32 → HasNumbers (header_bytes h) h
 unfolding header_bytes
 own_numbers h s n r x = record {
   sequence = little_number-reads_back 8 h.sequence (drop 16 (header_bytes h)) s;

@@ -11,7 +11,7 @@ use Rattle.dg_stop.specs.Reopens.{KeptBy, Leads, Reopened, IsAttached, IsLast}
 use Rattle.dg_stop.specs.Stops.{OpeningsLeaveKept, Upgrades}
 
 -- a header of c after it, and the one before it of which it was made
-record WasOf (c : ℕ) (lead : Header) (before : ℕ → List ℕ) (q : ℕ) (k : Header) (after : List ℕ) : Type 0 where
+pub record WasOf (c : ℕ) (lead : Header) (before : ℕ → List ℕ) (q : ℕ) (k : Header) (after : List ℕ) : Type 0 where
   pub old : Header
   pub has : HasHeader q (before q) old
   pub sequence : old.sequence ≡ k.sequence
@@ -36,7 +36,7 @@ itself c lead before q k after same has = record {
 }
 
 module _ (c : ℕ) (lead : Header) (before after : ℕ → List ℕ) (up : Upgrades c lead before after) where
-  was : (q : ℕ) (k : Header) → HasHeader q (after q) k → WasOf c lead before q k (after q)
+  pub was : (q : ℕ) (k : Header) → HasHeader q (after q) k → WasOf c lead before q k (after q)
   was q k has = elim (up q) [
     | inl same ↦ itself c lead before q k (after q) same (subst (λ (l : List ℕ). HasHeader q l k) same has)
     | inr wrote ↦ written q k has wrote.0 wrote.1 wrote.2
@@ -97,7 +97,7 @@ module _ (c : ℕ) (lead : Header) (before after : ℕ → List ℕ) (up : Upgra
     | inr has ↦ least p (as_committed h) (record { has = has; sequence = at.sequence; room = at.room; extra = at.extra })
   ]
 
-  kept_after : (kept : Kept) → KeptBy before c lead kept → KeptBy after c lead kept
+  pub kept_after : (kept : Kept) → KeptBy before c lead kept → KeptBy after c lead kept
   kept_after kept by = record {
     attached = λ q k at. let w = was q k at.has in by.attached q w.old (attached_before q k at w) ∙ ap (λ (x : List ℕ). Some x) (sym w.entry);
     others = λ q none. by.others q (none_attached q none);
@@ -113,7 +113,7 @@ module _ (c : ℕ) (lead : Header) (before after : ℕ → List ℕ) (up : Upgra
         | inr at ↦ omega (arith, w.sequence, at.sequence)
       ]
 
-  last_after : IsLast before c → IsLast after c
+  pub last_after : IsLast before c → IsLast after c
   last_after last = elim (still last.member last.header last.is.has last.is.sequence) [
     | inl has ↦ record {
       member = last.member;

@@ -3,8 +3,11 @@ pub mod Changes
 pub mod Commits
 pub mod DoubleLaws
 pub mod Doubles
+pub mod FoundHeaders
 pub mod Headers
 pub mod Layouts
+pub mod Leads
+pub mod Openings
 pub mod Pages
 pub mod Phases
 pub mod Reopens
@@ -12,5 +15,6 @@ pub mod Serving
 pub mod StopLaws
 pub mod StopRacks
 pub mod Stops
+pub mod Tables
 pub mod Tries
 pub mod Values

@@ -29,7 +29,8 @@ pub struct Header {
     pub extra: u32,
 }
 
-const COMMITTED: u8 = 0x43;
+/// The mark of a committed header.
+pub const COMMITTED: u8 = 0x43;
 
 const PREPARED: u8 = 0x50;
 

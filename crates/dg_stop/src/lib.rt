@@ -5,26 +5,32 @@
 mod commits;
 mod doubles;
 mod flags;
+mod found_headers;
 mod headers;
 mod laws;
+mod leads;
 mod member_calls;
 mod memories;
 mod new_memories;
+mod openings;
 mod page_calls;
 mod pages;
 mod phases;
 mod places;
 mod stop_racks;
+mod tables;
 mod tallies;
 mod tries;
 
 pub use commits::table_len;
 pub use doubles::DoubleRack;
+pub use found_headers::read_header;
 pub use headers::{Header, fill_header, write_header};
 pub use laws::{
     blanks_leave_rest, openings_leave_kept, pages_are_patched, stops_leave_old_or_new,
     writes_leave_kept,
 };
+pub use openings::openings_hold;
 pub use pages::write_part;
 pub use phases::{MEMBERS, commit_once, next_after};
 pub use places::Places;

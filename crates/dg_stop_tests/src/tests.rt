@@ -1,4 +1,4 @@
-use dg_stop::{Header, fill_header, next_after, table_len};
+use dg_stop::{Header, fill_header, next_after, read_header, table_len};
 use std::test::Fail;
 
 // Every number has bytes of its own, and they stand in the little-endian order.
@@ -36,5 +36,71 @@ fn the_next_commit_stands_in_the_other_places(rt: HostRuntime) -> Result<(), Fai
     assert_eq!(rt; next_after(1, 1), 2);
     assert_eq!(rt; next_after(1, 2), 4);
     assert_eq!(rt; next_after(4, 6), 7);
+    Ok(())
+}
+
+// The header of a member of 1,000 bytes: two pages, which stand in 4,096 bytes.
+const HEADER: Header = Header {
+    sequence: 5,
+    committed: true,
+    member: 3,
+    size: 1000,
+    room: 10,
+    extra: 7,
+};
+
+fn read_back(header: &Header, place: u64, length: u64) -> Option<Header> {
+    let mut page = [0; 512];
+    fill_header(header, &mut page);
+    read_header(&page, place, 3, length)
+}
+
+#[test]
+fn a_header_is_read_with_either_mark(rt: HostRuntime) -> Result<(), Fail> {
+    let prepared = Header {
+        committed: false,
+        ..HEADER
+    };
+    assert_eq!(rt; read_back(&HEADER, 1, 4096), Some(HEADER));
+    assert_eq!(rt; read_back(&prepared, 1, 4096), Some(prepared));
+    assert_eq!(rt; read_header(&[0; 512], 0, 3, 4096), None);
+    Ok(())
+}
+
+#[test]
+fn a_header_counts_on_its_own_member_alone(rt: HostRuntime) -> Result<(), Fail> {
+    let other = Header {
+        member: 4,
+        ..HEADER
+    };
+    let crowded = Header {
+        extra: 11,
+        ..HEADER
+    };
+    assert_eq!(rt; read_back(&HEADER, 0, 4096), None);
+    assert_eq!(rt; read_back(&HEADER, 1, 4095), None);
+    assert_eq!(rt; read_back(&HEADER, 1, u64::MAX), None);
+    assert_eq!(rt; read_back(&other, 1, 4096), None);
+    assert_eq!(rt; read_back(&crowded, 1, 4096), None);
+    Ok(())
+}
+
+#[test]
+fn sequences_have_bounds(rt: HostRuntime) -> Result<(), Fail> {
+    let none = Header {
+        sequence: 0,
+        ..HEADER
+    };
+    let greatest = Header {
+        sequence: (1 << 62) - 1,
+        ..HEADER
+    };
+    let past = Header {
+        sequence: 1 << 62,
+        ..HEADER
+    };
+    assert_eq!(rt; read_back(&none, 0, 4096), None);
+    assert_eq!(rt; read_back(&greatest, 1, 4096), Some(greatest));
+    assert_eq!(rt; read_back(&past, 0, 4096), None);
     Ok(())
 }
