@@ -2,7 +2,7 @@
 use Rattle.std.proofs.Common.{◌≡◌, ◌∙◌, ◌↔◌, ℕ, ◌+◌, ◌-◌, ◌<◌, ◌≤◌, inl, inr, List, [], Bool, true, false, length, refl, sym, ap, subst, arith, Contains}
 use Rattle.std.proofs.lemmas.Bool.{cases_eq, false≢true}
 use Rattle.std.specs.Bool.{Decides}
-use Rattle.ufs_model.specs.Claims.{IsClaim, by_pointer, by_slot, level_of}
+use Rattle.ufs_model.specs.Claims.{IsClaim, IsClaimedAt, by_pointer, by_slot, level_of}
 use Rattle.ufs_model.specs.declared.claims.ClaimSource.{ClaimSource}
 use Rattle.ufs_model.specs.declared.claims.ClaimSource.TheVariants.{Slot, Pointer}
 use Rattle.dg_infer.specs.Claimed.{IsClaimedBy}
@@ -46,6 +46,10 @@ claim_of t before now level fragment right low h = (h.source, h.is, claim_by t b
 
 pub is_indirect : (t before now : ClaimSource → List ℕ) (level fragment : ℕ) → IsRightDownTo t before now level → 0 < level → IsClaimedBy now level fragment → (source : ClaimSource) × IsClaim t fragment source × (0 < level_of source)
 is_indirect t before now level fragment right low at = let some = claim_of t before now level fragment right low at in (some.0, some.2, omega (arith, some.1, low))
+
+-- a fragment that is claimed at such a level is so by what the sources claim
+pub claimed_right : (t before now : ClaimSource → List ℕ) (level fragment : ℕ) → IsRightDownTo t before now level → 0 < level → IsClaimedBy now level fragment → IsClaimedAt (IsClaim t) level fragment
+claimed_right t before now level fragment right low h = let some = claim_of t before now level fragment right low h in record { source = some.0; claim = some.2; is = some.1 }
 
 -- ---- the pointers of one fragment
 
@@ -239,10 +243,3 @@ moved_still t now block touch has is here was apart = stayed (λ e h. apart e) (
 pub moved_anew : (t now next : ClaimSource → List ℕ) (block : ℕ) (touch : Touch) (has : Bool) → Decides has (IsClaimedBy now touch.level touch.fragment) → has ≡ true
     → ((at : ℕ) → next (Pointer touch.fragment touch.level at) ≡ t (Pointer touch.fragment touch.level at)) → IsMoved t now next block touch
 moved_anew t now next block touch has is here all = anew (is.0 here) all
-
--- claims at a level stay where pointers at a level up to it change
-pub claimed_off : (now next : ClaimSource → List ℕ) (level k fragment : ℕ) → level ≤ k → 1 ≤ level
-    → ((source : ClaimSource) → ((upper at : ℕ) → source ≡ Pointer upper level at → ⊥) → next source ≡ now source) → IsClaimedBy now k fragment → IsClaimedBy next k fragment
-claimed_off now next level k fragment le low others h =
-    claimed_at next k fragment h.source h.is
-    (subst (λ (xs : List ℕ). Contains xs fragment) (sym (others h.source (λ u a e. let lower : level_of h.source ≡ level - 1 = ap level_of e in omega (arith, lower, h.is, le, low)))) h.claim)

@@ -2,7 +2,7 @@
 use Rattle.std.proofs.Common.{◌≡◌, ℕ, zero, suc, ◌+◌, ◌<◌, ◌≤◌, ◌⊎◌, ◌↔◌, inl, inr, List, [], ◌∷◌, ◌++◌, true, false, Contains, length, refl, sym, subst, arith, nat_lt}
 use Rattle.std.proofs.lemmas.Bool.Decides.{nat_tests}
 use Rattle.std.proofs.lemmas.List.Elements.{Contains-append_left, Contains-push, Contains-push_cases}
-use Rattle.std.specs.Prelude.{slice_index_or}
+use Rattle.std.specs.Prelude.{map, slice_index_or}
 use Rattle.ufs_model.specs.Claims.{fragments_from, level_of}
 use Rattle.ufs_model.specs.declared.claims.ClaimSource.{ClaimSource}
 use Rattle.dg_infer.specs.Claimed.{IsClaimedBy, IsOnce}
@@ -48,6 +48,14 @@ contains_front [] ys z has = inr has
 contains_front (x ∷ xs) ys z has = elim ((contains_cons x (xs ++ ys) z).0 has) [
   | inl e ↦ inl ((contains_cons x xs z).1 (inl e))
   | inr h ↦ elim (contains_front xs ys z h) [ inl f ↦ inl ((contains_cons x xs z).1 (inr f)) | inr b ↦ inr b ]
+]
+
+-- what a mapped list has is made of one of the list's
+pub contains_map : {X Y : Type 0} (f : X → Y) (xs : List X) (y : Y) → Contains (map f xs) y → (x : X) × Contains xs x × (f x ≡ y)
+contains_map f [] y has = absurd (contains_none y has)
+contains_map f (x ∷ xs) y has = elim ((contains_cons (f x) (map f xs) y).0 has) [
+  | inl e ↦ (x, (contains_cons x xs x).1 (inl refl), sym e)
+  | inr h ↦ let rest = contains_map f xs y h in (rest.0, (contains_cons x xs (rest.0)).1 (inr (rest.1)), rest.2)
 ]
 
 pub once_both : {X : Type 0} (xs ys : List X) → IsOnce xs → IsOnce ys → ((z : X) → Contains xs z → Contains ys z → ⊥) → IsOnce (xs ++ ys)

@@ -1,10 +1,9 @@
 -- What a block is to the plan by what is kept.
-use Rattle.std.proofs.Common.{◌≡◌, ℕ, Bool, false, List, Option, Some, None, refl, ap}
+use Rattle.std.proofs.Common.{◌≡◌, ℕ, false, Option, Some, None, refl, ap}
 use Rattle.ufs_model.specs.Owners.{IsOwner}
 use Rattle.ufs_model.specs.Owners.IsOwner.{by_own_slot, by_upper}
 use Rattle.ufs_model.specs.Roles.{is_system, role}
 use Rattle.ufs_model.specs.declared.geometries.Geometry.{Geometry}
-use Rattle.ufs_model.specs.declared.roles.Role.{Role}
 use Rattle.ufs_model.specs.declared.roles.Role.TheVariants.{Data}
 use Rattle.dg_claims.specs.Tables.{ClaimTable, TableClaims}
 use Rattle.dg_infer.specs.Known.{HasClaim, is_system_by, role_by}

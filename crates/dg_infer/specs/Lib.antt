@@ -11,6 +11,7 @@ pub mod Inferences
 pub mod Known
 pub mod Meanings
 pub mod Moves
+pub mod Places
 pub mod Seen
 pub mod Spots
 pub mod Sweeps

@@ -10,6 +10,7 @@ ghost use Rattle.dg_claims.specs.Kept.{table_of};
 ghost use Rattle.dg_infer.specs.AtHand.{OnVolumes, StandsWith};
 ghost use Rattle.dg_infer.specs.Fetched.{FetchesFresh};
 ghost use Rattle.dg_infer.specs.Meanings.{AreParts};
+ghost use Rattle.dg_infer.specs.Places.{IsClaimedRead};
 ghost use Rattle.dg_infer.specs.Sweeps.{AreKindsBefore, AreMarksBefore, AreSlotsBefore};
 ghost use Rattle.dg_infer.specs.Writes.{IsKnownWhole, FetchesWholeBy, LosesWholeBy};
 ghost use Rattle.dg_infer.specs.Watches.{IsTouched, IsWatched};
@@ -107,8 +108,7 @@ pub fn read_parts<V: View>(
         AreParts v (Some g.now) (table_of parts.claims) parts.kinds.entries parts.free.items))) }
     ensures lost { IfOk result (λ read. IfNone read (LosesOne (StandsWith V.View view.old block bytes.now)
         (V.tells view.new) (V.count view.old) (IsMetadataBy g.now) (V.is_gone view.new))) }
-    ensures fetched { IfOk result (λ read. IfSome read (λ parts.
-        FetchesFresh V.fetched g.now block (table_of parts.claims).claimed view.old view.new)) }
+    ensures fetched { FetchesFresh V.fetched g.now block (IsClaimedRead V.View view.old view.new g.now block bytes.now) view.old view.new }
 {
     inodes_inside();
     let (_, n) = view.shape();
@@ -162,7 +162,7 @@ pub fn restored_parts<V: View>(
     ensures parts { IfOk result (λ read. IfSome read (λ parts. (v : Volume) → IsKnownWhole V.View view.old view.new v
         → AreParts v geometry (table_of parts.claims) parts.kinds.entries parts.free.items)) }
     ensures lost { IfOk result (λ read. IfNone read (LosesWholeBy V.View view.old view.new geometry)) }
-    ensures fetched { IfOk result (λ read. IfSome read (λ parts. FetchesWholeBy V.View view.old view.new geometry)) }
+    ensures fetched { FetchesWholeBy V.View view.old view.new geometry }
 {
     let (l, n) = view.shape();
     let Some(g) = geometry else {

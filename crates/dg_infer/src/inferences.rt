@@ -13,6 +13,7 @@ ghost use Rattle.dg_claims.specs.Tables.{accepted};
 ghost use Rattle.dg_infer.specs.Bounds.{FetchesFollowing, FetchesKept, FetchesReread};
 ghost use Rattle.dg_infer.specs.Meanings.{StandsFor};
 ghost use Rattle.dg_infer.specs.Moves.{Follows, with_pending};
+ghost use Rattle.dg_infer.specs.Places.{IsClaimedBehind};
 ghost use Rattle.dg_infer.specs.Writes.{FetchesWhole, IsKnownWhole, IsKnownWrite, IsWriteTo, LosesWhole, LosesWritten, LosesWrittenTo};
 ghost use Rattle.dg_infer.specs.declared.watches.Touch.{Touch};
 
@@ -134,7 +135,7 @@ impl Inference {
         ensures pending { IfOk result (λ restored. IfSome restored (λ inference. (v : Volume)
             → AreLeft (IsKnownWhole V.View view.old view.new v) (V.size view.old) (V.count view.old) v pending.now inference.pending)) }
         ensures lost { IfOk result (λ restored. IfNone restored (LosesWhole V.View view.old view.new)) }
-        ensures fetched { IfOk result (λ restored. IfSome restored (λ inference. FetchesWhole V.View view.old view.new)) }
+        ensures fetched { FetchesWhole V.View view.old view.new }
     {
         tables_of_volumes();
         let (l, n) = view.shape();
@@ -181,8 +182,8 @@ impl Inference {
             → IsWriteTo V.View view.old view.new self.old self.old.geometry block bytes.now v → Follows self.new moved (slice_set v block bytes.now))) }
         ensures pending { self.new.pending ≡ self.old.pending }
         ensures lost { IfOk result (λ got. IfNone got (LosesWrittenTo V.View view.old view.new self.old self.old.geometry block bytes.now)) }
-        ensures fetched { IfOk result (λ got. IfSome got (λ moved.
-            FetchesKept V.fetched self.old.geometry block (table_of self.old.claims).claimed (table_of self.new.claims).claimed view.old view.new)) }
+        ensures fetched { FetchesKept V.fetched self.old.geometry block (table_of self.old.claims).claimed
+            (IsClaimedBehind V.View view.old view.new self.old self.old.geometry block bytes.now) view.old view.new }
     {
         tables_of_volumes();
         let mut watch = watch_block(alloc, &self.claims, block)?;
@@ -220,8 +221,8 @@ impl Inference {
             → IsWriteTo V.View view.old view.new self.old self.old.geometry block bytes.now v → Follows self.new moved (slice_set v block bytes.now))) }
         ensures pending { self.new.pending ≡ self.old.pending }
         ensures lost { IfOk result (λ got. IfNone got (LosesWrittenTo V.View view.old view.new self.old self.old.geometry block bytes.now)) }
-        ensures fetched { IfOk result (λ got. IfSome got (λ moved.
-            FetchesKept V.fetched self.old.geometry block (table_of self.old.claims).claimed (table_of self.new.claims).claimed view.old view.new)) }
+        ensures fetched { FetchesKept V.fetched self.old.geometry block (table_of self.old.claims).claimed
+            (IsClaimedBehind V.View view.old view.new self.old self.old.geometry block bytes.now) view.old view.new }
     {
         tables_of_volumes();
         self.claims.claims_inside();
@@ -277,9 +278,8 @@ impl Inference {
             → IsWriteTo V.View view.old view.new self.old geometry block bytes.now v → Follows self.new moved (slice_set v block bytes.now))) }
         ensures pending { self.new.pending ≡ self.old.pending }
         ensures lost { IfOk result (λ got. IfNone got (LosesWrittenTo V.View view.old view.new self.old geometry block bytes.now)) }
-        ensures fetched { IfOk result (λ got. IfSome got (λ moved.
-            FetchesFollowing V.fetched self.old.geometry geometry block (table_of self.old.claims).claimed (table_of self.new.claims).claimed
-            view.old view.new)) }
+        ensures fetched { FetchesFollowing V.fetched self.old.geometry geometry block (table_of self.old.claims).claimed
+            (IsClaimedBehind V.View view.old view.new self.old geometry block bytes.now) view.old view.new }
     {
         tables_of_volumes();
         if is_same(self.geometry, geometry) {
@@ -322,6 +322,9 @@ impl Inference {
         ensures fetched { IfOk result (λ inferred. (moved : Option (List Touch)) → inferred ≡ Inferred.Known moved → (v : Volume)
             → FetchesReread V.View view.old view.new (IsKnownWrite V.View view.old view.new self.old block new.now v) self.old.l self.old.n
             v (slice_set v block new.now) block) }
+        ensures reread { (v : Volume)
+            → FetchesReread V.View view.old view.new (IsKnownWrite V.View view.old view.new self.old block new.now v) self.old.l self.old.n
+            v (slice_set v block new.now) block }
     {
         if !is_in_superblock(levels.fragment_bytes(), block) {
             return Ok(outcome(self.keep(alloc, view, levels, block, new)?));

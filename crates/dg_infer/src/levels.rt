@@ -10,7 +10,8 @@ ghost use Rattle.dg_claims.specs.Tables.{KeepsOffPointers};
 ghost use Rattle.dg_infer.specs.AtHand.{OnVolumes, StandsWith};
 ghost use Rattle.dg_infer.specs.Changes.{AreClaims, IsMoved, IsReady, IsReadyOn, IsRightBelow, KeepsOffLevel};
 ghost use Rattle.dg_infer.specs.Claimed.{IsClaimedBy};
-ghost use Rattle.dg_infer.specs.Fetched.{Begins, FetchesBegun, FetchesOnce, IsNewAt, LosesClaimed};
+ghost use Rattle.dg_infer.specs.Fetched.{Begins, FetchesOnce, FetchesPlaces, IsBegun, IsNewAt, LosesClaimed};
+ghost use Rattle.dg_infer.specs.Places.{IsClaimedReady};
 ghost use Rattle.dg_infer.specs.Watches.{Grows, IsWatched, KeepsWatch, touch_at};
 
 use crate::pointers::{drop_pointers, put_pointers};
@@ -51,7 +52,7 @@ fn move_touch<V: View>(
     ensures watched { OnOk result (KeepsWatch (table_of claims.old).claimed watch.old (table_of claims.new).claimed watch.new) }
     ensures lost { IfOk result (λ got. got ≡ false → IsClaimedBy (table_of claims.old).claimed touch.level touch.fragment
         × (touch.fragment < V.count view.old) × (V.is_gone view.new touch.fragment ≡ true)) }
-    ensures fetched { FetchesOnce V.fetched (IsNewAt touch (table_of claims.old).claimed touch.level) view.old view.new }
+    ensures fetched { FetchesOnce V.fetched (IsNewAt touch (table_of claims.old).claimed touch.level block) view.old view.new }
 {
     claims.claims_inside();
     let now = claims.has_level(touch.fragment, touch.level);
@@ -116,7 +117,7 @@ fn move_number<V: View>(
     ensures watched { OnOk result (KeepsWatch (table_of claims.old).claimed watch.old (table_of claims.new).claimed watch.new) }
     ensures lost { IfOk result (λ got. got ≡ false → IsClaimedBy (table_of claims.old).claimed level (touch_at watch.old k).fragment
         × ((touch_at watch.old k).fragment < V.count view.old) × (V.is_gone view.new (touch_at watch.old k).fragment ≡ true)) }
-    ensures fetched { FetchesOnce V.fetched (IsNewAt (touch_at watch.old k) (table_of claims.old).claimed level) view.old view.new }
+    ensures fetched { FetchesOnce V.fetched (IsNewAt (touch_at watch.old k) (table_of claims.old).claimed level block) view.old view.new }
 {
     let touch = watch.at(k);
     if touch.level != level {
@@ -153,7 +154,7 @@ fn move_level<V: View>(
     ensures others { KeepsOffLevel (table_of claims.old).claimed (table_of claims.new).claimed level }
     ensures watched { OnOk result (KeepsWatch (table_of claims.old).claimed watch.old (table_of claims.new).claimed watch.new) }
     ensures lost { IfOk result (λ got. got ≡ false → LosesClaimed (table_of claims.old).claimed level (V.count view.old) (V.is_gone view.new)) }
-    ensures fetched { FetchesOnce V.fetched (Begins watch.old (table_of claims.old).claimed level (length watch.old)) view.old view.new }
+    ensures fetched { FetchesOnce V.fetched (Begins watch.old (table_of claims.old).claimed level block (length watch.old)) view.old view.new }
 {
     let count = watch.count();
     for k in 0..count {
@@ -192,7 +193,8 @@ pub fn move_levels<V: View>(
         × IsReadyOn g.now v (table_of claims.old).claimed block watch.old)
         (V.tells view.new) (V.count view.old) (IsIndirect g.now) (V.is_gone view.new)) }
     ensures fetched { (before : ClaimSource → List ℕ) → IsWatched before (table_of claims.old).claimed watch.old
-        → FetchesBegun V.fetched before (table_of claims.new).claimed 0 view.old view.new }
+        → FetchesPlaces V.fetched (IsBegun before
+        (IsClaimedReady V.View view.old view.new g.now block bytes.now (table_of claims.old).claimed watch.old) 0 block) view.old view.new }
 {
     for done in 0..HIGHEST {
         if !move_level(view, g, levels, claims, watch, HIGHEST - done, block, bytes)? {

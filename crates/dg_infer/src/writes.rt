@@ -8,7 +8,8 @@ ghost use Rattle.dg_claims.specs.Kept.{table_of};
 ghost use Rattle.dg_claims.specs.Scans.{IsIndirect};
 ghost use Rattle.dg_infer.specs.AtHand.{IsWriteOf, OnWrites};
 ghost use Rattle.dg_infer.specs.Changes.{AreClaims};
-ghost use Rattle.dg_infer.specs.Fetched.{FetchesBegun};
+ghost use Rattle.dg_infer.specs.Fetched.{FetchesPlaces, IsBegun};
+ghost use Rattle.dg_infer.specs.Places.{IsClaimedAfter};
 ghost use Rattle.dg_infer.specs.Watches.{IsTouched, IsWatched};
 
 use crate::inodes::move_inodes;
@@ -59,7 +60,8 @@ pub fn move_claims<V: View>(
     ensures lost { IfOk result (λ got. got ≡ false → LosesOne (λ w. V.stands_for view.old w
         × IsWriteOf block bytes.now (λ v. AreClaims (source_fragments g.now v) (table_of claims.old).claimed) w)
         (V.tells view.new) (V.count view.old) (IsIndirect g.now) (V.is_gone view.new)) }
-    ensures fetched { FetchesBegun V.fetched (table_of claims.old).claimed (table_of claims.new).claimed 0 view.old view.new }
+    ensures fetched { FetchesPlaces V.fetched (IsBegun (table_of claims.old).claimed
+        (IsClaimedAfter V.View view.old view.new g.now block bytes.now (table_of claims.old).claimed) 0 block) view.old view.new }
 {
     move_inodes(claims, watch, g, block, bytes)?;
     move_levels(view, g, levels, claims, watch, block, bytes)

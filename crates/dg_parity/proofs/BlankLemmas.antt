@@ -14,7 +14,7 @@ use Rattle.dg_parity.specs.Groups.{disk_number, is_out, is_lost, length_of, byte
 use Rattle.dg_parity.specs.Kept.{all_told, bytes_in, IsKept}
 use Rattle.dg_parity.specs.declared.groups.Group.{Group}
 use Rattle.dg_parity.proofs.GroupLemmas.{same-then, same-self, rise-then, rose-later, rose-sooner, other-disk}
-use Rattle.dg_parity.proofs.KeptLemmas.{told-each, stands-even, stands-is}
+use Rattle.dg_parity.proofs.KeptLemmas.{told-each, kept-of, stands-is}
 use Rattle.dg_parity.proofs.KeptSteps.{each-told, told-if, both-true}
 use Rattle.dg_parity.proofs.CallLemmas.{told-back}
 use Rattle.dg_parity.proofs.MemberLemmas.{member-length, member-at}
@@ -164,7 +164,7 @@ zeros-long : (o : Option (List ℕ)) (n : ℕ) → IfSome o (λ all. all ≡ rep
 zeros-long None n h = tt
 zeros-long (Some x) n h = ap length h ∙ length-replicate n 0
 
-zero-at : (n i : ℕ) → get_or {A = ℕ} (replicate n 0) i 0 ≡ 0
+pub zero-at : (n i : ℕ) → get_or {A = ℕ} (replicate n 0) i 0 ≡ 0
 zero-at zero i = refl
 zero-at (suc n) zero = refl
 zero-at (suc n) (suc i) = zero-at n i
@@ -186,7 +186,7 @@ blanked-ready rack old new s t h =
       heads = λ noted. absurd (false≢true (sym h.renewed ∙ noted));
     }
 
-no-xor : (n : ℕ) → xor_upto (λ j. 0) n ≡ 0
+pub no-xor : (n : ℕ) → xor_upto (λ j. 0) n ≡ 0
 no-xor zero = refl
 no-xor (suc n) = ap (λ (v : ℕ). bit_xor v 0) (no-xor n)
 
@@ -204,6 +204,7 @@ blanked-stands rack old new s t h = record {
         ∙ zeros-at (rack.bytes t (disk_number old.number j)) (length_of old) x (h.zeros j (subst (λ (n : ℕ). j < n) h.same.disks lt) in0);
   };
   even = λ x range. no-xor new.disks;
+  clear = λ b behind range. refl;
   is = no-bytes new.disks new.length;
 }
 
@@ -250,10 +251,8 @@ anew-of rack size old a b c s t later again is h =
 -- and then its headers were written
 pub anew-kept : {S : Type 0} (rack : Ghosts S) (size : ℕ) (old mid new : Group) (s t u : S) → Anew rack size old mid s t → LeavesGroup rack mid new t u
     → ((has : ℕ → ℕ → ℕ) → AllTold rack new u → Holds rack mid t has → Holds rack new u has) → IsKept rack new u
-anew-kept rack size old mid new s t u h leaves holds = record {
-  ready = λ in0. leaves.ready;
-  even = λ in0 all. stands-even rack new u (replicate size 0) in0 (stands-noted rack mid new t u leaves holds (replicate size 0) all h.stands);
-}
+anew-kept rack size old mid new s t u h leaves holds =
+    kept-of rack new u (replicate size 0) (λ in0. leaves.ready) (λ in0 all. stands-noted rack mid new t u leaves holds (replicate size 0) all h.stands)
 
 pub anew-told : {S : Type 0} (rack : Ghosts S) (size : ℕ) (old mid new : Group) (s t u : S) → 3 ≤ old.disks → is_lost new ≡ false → Anew rack size old mid s t → LeavesGroup rack mid new t u
     → ((has : ℕ → ℕ → ℕ) → AllTold rack new u → Holds rack mid t has → Holds rack new u has) → Told (IsZeros size) (bytes_in rack old s) (bytes_in rack new u)

@@ -4,8 +4,8 @@ use Rattle.std.specs.Prelude.{is_some, slice_index, if◌then◌else◌}
 use Rattle.std.proofs.lemmas.Bool.{cases_eq, cases_Bool, and_parts}
 use Rattle.dg_io.specs.declared.outside.Rack.{Ghosts}
 use Rattle.dg_parity.specs.Exclusive.{xor_upto, with_at}
-use Rattle.dg_parity.specs.Stripes.{InStripes, IsEven, member_by, made_up, spot_of}
-use Rattle.dg_parity.specs.Groups.{disk_number, is_out, is_lost, disk_in, AllTold, Holds, StandsFor}
+use Rattle.dg_parity.specs.Stripes.{InStripes, IsClear, IsEven, member_by, made_up, spot_of}
+use Rattle.dg_parity.specs.Groups.{disk_number, is_out, is_lost, disk_in, AllTold, Holds, IsReady, StandsFor}
 use Rattle.dg_parity.specs.Kept.{all_upto, all_told, made_by, IsKept}
 use Rattle.dg_parity.specs.declared.groups.Group.{Group}
 use Rattle.dg_parity.proofs.ExclusiveLemmas.{xor-same, xor-others, with-same, with-other}
@@ -22,13 +22,13 @@ upto-each p (suc n) j h lt =
 pub told-each : {S : Type 0} (rack : Ghosts S) (group : Group) (now : S) → all_told rack group now ≡ true → AllTold rack group now
 told-each rack group now h j lt = upto-each (λ i. is_some (rack.bytes now (disk_number group.number i))) group.disks j h lt
 
-out-made : (n : ℕ) (out : ℕ → Bool) (disks : ℕ → List ℕ) (j x : ℕ) → out j ≡ true → made_up n out disks j x ≡ xor_upto (with_at (λ i. slice_index (disks i) x) j 0) n
+pub out-made : (n : ℕ) (out : ℕ → Bool) (disks : ℕ → List ℕ) (j x : ℕ) → out j ≡ true → made_up n out disks j x ≡ xor_upto (with_at (λ i. slice_index (disks i) x) j 0) n
 out-made n out disks j x e = ap (λ (b : Bool). if b then xor_upto (with_at (λ i. slice_index (disks i) x) j 0) n else slice_index (disks j) x) e
 
-in-made : (n : ℕ) (out : ℕ → Bool) (disks : ℕ → List ℕ) (j x : ℕ) → out j ≡ false → made_up n out disks j x ≡ slice_index (disks j) x
+pub in-made : (n : ℕ) (out : ℕ → Bool) (disks : ℕ → List ℕ) (j x : ℕ) → out j ≡ false → made_up n out disks j x ≡ slice_index (disks j) x
 in-made n out disks j x e = ap (λ (b : Bool). if b then xor_upto (with_at (λ i. slice_index (disks i) x) j 0) n else slice_index (disks j) x) e
 
-with-pointwise : (f h : ℕ → ℕ) (a i : ℕ) → (i ≢ a → f i ≡ h i) → with_at f a 0 i ≡ with_at h a 0 i
+pub with-pointwise : (f h : ℕ → ℕ) (a i : ℕ) → (i ≢ a → f i ≡ h i) → with_at f a 0 i ≡ with_at h a 0 i
 with-pointwise f h a i e = elim (cases_eq i a) [
   | inl same ↦ subst (λ (k : ℕ). with_at f a 0 k ≡ with_at h a 0 k) (sym same) (with-same f a 0 ∙ sym (with-same h a 0))
   | inr ne ↦ with-other f a 0 i ne ∙ e ne ∙ sym (with-other h a 0 i ne)
@@ -53,6 +53,7 @@ kept-stands rack group now alive kept all = record {
   has = made_by rack group now;
   holds = record { at = λ j x lt in0 range. sym (in-made group.disks (is_out group) (disk_in rack group now) j x in0) };
   even = kept.even alive all;
+  clear = kept.clear alive all;
   is = refl;
 }
 
@@ -60,6 +61,20 @@ pub stands-even : {S : Type 0} (rack : Ghosts S) (group : Group) (now : S) (byte
     → IsEven group.disks group.length (made_by rack group now)
 stands-even rack group now bytes alive h x range =
     xor-same (λ j. made_by rack group now j x) (λ j. h.has j x) group.disks (λ j lt. made-is rack group now h.has j x alive h.holds h.even lt range) ∙ h.even x range
+
+pub stands-clear : {S : Type 0} (rack : Ghosts S) (group : Group) (now : S) (bytes : List ℕ) → is_lost group ≡ false → StandsFor rack group now bytes
+    → IsClear group.disks group.length (made_by rack group now)
+stands-clear rack group now bytes alive h b behind range =
+    made-is rack group now h.has (spot_of group.disks b).disk (spot_of group.disks b).place alive h.holds h.even (disk-below group.disks b group.least) range ∙ h.clear b behind range
+
+-- what is kept of a group that stands for some bytes
+pub kept-of : {S : Type 0} (rack : Ghosts S) (group : Group) (now : S) (bytes : List ℕ) → (is_lost group ≡ false → IsReady rack group now)
+    → (is_lost group ≡ false → AllTold rack group now → StandsFor rack group now bytes) → IsKept rack group now
+kept-of rack group now bytes ready stands = record {
+  ready = ready;
+  even = λ in0 all. stands-even rack group now bytes in0 (stands in0 all);
+  clear = λ in0 all. stands-clear rack group now bytes in0 (stands in0 all);
+}
 
 pub stands-is : {S : Type 0} (rack : Ghosts S) (group : Group) (now : S) (bytes : List ℕ) → 3 ≤ group.disks → is_lost group ≡ false → StandsFor rack group now bytes
     → bytes ≡ member_by group.disks group.length (made_by rack group now)

@@ -13,7 +13,7 @@ use Rattle.dg_parity.proofs.GroupLemmas.{told-before, in-before, same-length, sa
 use Rattle.dg_parity.proofs.HoldLemmas.{range-before}
 use Rattle.dg_parity.proofs.MemberSteps.{stands-along}
 use Rattle.dg_parity.proofs.CallLemmas.{told-back}
-use Rattle.dg_parity.proofs.KeptLemmas.{told-each, kept-stands, stands-even, stands-is}
+use Rattle.dg_parity.proofs.KeptLemmas.{told-each, kept-of, kept-stands, stands-is}
 
 each-upto : (p : ℕ → Bool) (n : ℕ) → ((j : ℕ) → j < n → p j ≡ true) → all_upto p n ≡ true
 each-upto p zero h = refl
@@ -43,12 +43,9 @@ told-sooner rack old new s t leaves told h =
 pub kept-along : {S : Type 0} (rack : Ghosts S) (old new : Group) (s t : S) → is_lost old ≡ false → IsKept rack old s → LeavesGroup rack old new s t
     → (f : List ℕ → List ℕ) → (is_lost new ≡ false → (bytes : List ℕ) → AllTold rack new t → StandsFor rack old s bytes → StandsFor rack new t (f bytes))
     → IsKept rack new t
-kept-along rack old new s t alive kept leaves f stands = record {
-  ready = λ in0. leaves.ready;
-  even = λ in0 all.
-      stands-even rack new t (f (member_by old.disks old.length (made_by rack old s))) in0
-      (stands in0 (member_by old.disks old.length (made_by rack old s)) all (kept-stands rack old s alive kept (told-back rack old new s t leaves all)));
-}
+kept-along rack old new s t alive kept leaves f stands =
+    kept-of rack new t (f (member_by old.disks old.length (made_by rack old s))) (λ in0. leaves.ready) (λ in0 all.
+    stands in0 (member_by old.disks old.length (made_by rack old s)) all (kept-stands rack old s alive kept (told-back rack old new s t leaves all)))
 
 -- what its member's bytes have become
 pub told-along : {S : Type 0} (rack : Ghosts S) (old new : Group) (s t : S) (step : List ℕ → List ℕ → Type 0) → 3 ≤ old.disks → is_lost old ≡ false → is_lost new ≡ false → IsKept rack old s
@@ -104,11 +101,9 @@ marked-ready rack old mid now later noted ready = record {
 }
 
 pub marked-kept : {S : Type 0} (rack : Ghosts S) (old mid : Group) (now : S) → is_lost old ≡ false → IsLater old mid → mid.noted ≡ false → IsKept rack old now → IsKept rack mid now
-marked-kept rack old mid now alive later noted kept = record {
-  ready = λ in0. marked-ready rack old mid now later noted (kept.ready alive);
-  even = λ in0 all. stands-even rack mid now (member_by old.disks old.length (made_by rack old now)) in0
-      (marked-stands rack old mid now (member_by old.disks old.length (made_by rack old now)) later (kept-stands rack old now alive kept (told-number rack old mid now later all)));
-}
+marked-kept rack old mid now alive later noted kept =
+    kept-of rack mid now (member_by old.disks old.length (made_by rack old now)) (λ in0. marked-ready rack old mid now later noted (kept.ready alive)) (λ in0 all.
+    marked-stands rack old mid now (member_by old.disks old.length (made_by rack old now)) later (kept-stands rack old now alive kept (told-number rack old mid now later all)))
 
 pub marked-told : {S : Type 0} (rack : Ghosts S) (old mid : Group) (now : S) → 3 ≤ old.disks → is_lost old ≡ false → is_lost mid ≡ false → IsLater old mid → IsKept rack old now
     → Told IsSame (bytes_in rack old now) (bytes_in rack mid now)

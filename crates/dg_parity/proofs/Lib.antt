@@ -1,8 +1,15 @@
+pub mod ArrayLemmas
+pub mod ArrayOpeningLemmas
+pub mod ArraySteps
 pub mod BlankLemmas
 pub mod BytesLemmas
 pub mod CallLemmas
+pub mod ChiefLemmas
 pub mod CountLemmas
+pub mod DiskLemmas
+pub mod EpochLemmas
 pub mod ExclusiveLemmas
+pub mod ExtendLemmas
 pub mod FallLemmas
 pub mod GroupLemmas
 pub mod HoldLemmas
@@ -12,6 +19,8 @@ pub mod MemberLemmas
 pub mod MemberSteps
 pub mod MendLemmas
 pub mod NoteLemmas
+pub mod OpenedLemmas
+pub mod OpeningLemmas
 pub mod PageLemmas
 pub mod PartLemmas
 pub mod ReturnLemmas

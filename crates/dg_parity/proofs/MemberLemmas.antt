@@ -7,7 +7,7 @@ use Rattle.std.proofs.lemmas.List.FromFn.{get_or-range_with_len, length-range_wi
 use Rattle.std.proofs.lemmas.Bool.{cases_Bool, and_parts}
 use Rattle.std.proofs.lemmas.Bool.Decides.{nat_tests}
 use Rattle.dg_io.specs.Told.{patch}
-use Rattle.dg_parity.specs.Stripes.{spot_of, member_by, written, next_parity}
+use Rattle.dg_parity.specs.Stripes.{spot_of, member_by, written, next_parity, IsClear}
 use Rattle.dg_parity.proofs.BytesLemmas.{is_inside, inside-true, place_is, Before, Inside, Behind, patch-inside, patch-before, patch-behind, patch-length}
 use Rattle.dg_parity.proofs.StripeLemmas.{spot-along, same-spot, never-parity}
 
@@ -92,3 +92,9 @@ member-written n size at has piece fits within =
           ∙ written-inside has (spot_of n at).disk (spot_of n at).parity (spot_of n at).place k piece (omega arith)
           ∙ sym (patch-inside (member_by n size has) piece at b (omega arith) low high)
     ])
+
+-- what is behind the last byte stays zero
+pub clear-written : (n size at : ℕ) (has : ℕ → ℕ → ℕ) (piece : List ℕ) → at % 512 + length piece ≤ 512 → at + length piece ≤ size → IsClear n size has
+    → IsClear n size (written has (spot_of n at).disk (spot_of n at).parity (spot_of n at).place piece)
+clear-written n size at has piece fits within clear b behind range =
+    written-other has n at b piece fits (λ k h e. absurd (omega (arith, within, behind, h, e))) ∙ clear b behind range

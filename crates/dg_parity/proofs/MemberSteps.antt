@@ -5,12 +5,12 @@ use Rattle.std.proofs.lemmas.List.{ext_get_or, get_or-take, get_or-drop, length-
 use Rattle.std.proofs.lemmas.Bool.{cases_lt, false≢true}
 use Rattle.dg_io.specs.Told.{patch}
 use Rattle.dg_io.specs.declared.outside.Rack.{Ghosts}
-use Rattle.dg_parity.specs.Stripes.{spot_of, disk_length, member_by, written, IsEven}
+use Rattle.dg_parity.specs.Stripes.{spot_of, disk_length, member_by, written, IsClear, IsEven}
 use Rattle.dg_parity.specs.Groups.{AllTold, Holds, StandsFor, IsLater, LeavesGroup, IsSpot}
 use Rattle.dg_parity.specs.declared.stripes.Spot.{Spot}
 use Rattle.dg_parity.specs.declared.groups.Group.{Group}
 use Rattle.dg_parity.proofs.BytesLemmas.{patch-inside, patch-before, patch-behind, patch-length, place_is, Before, Inside, Behind}
-use Rattle.dg_parity.proofs.MemberLemmas.{member-written, member-length, member-at}
+use Rattle.dg_parity.proofs.MemberLemmas.{clear-written, member-written, member-length, member-at}
 use Rattle.dg_parity.proofs.PartLemmas.{even-written}
 use Rattle.dg_parity.proofs.StripeLemmas.{disk-below, parity-below, spot-apart, spot-behind, spot-below, spot-along}
 
@@ -21,6 +21,7 @@ stands-along rack a b s t bytes later holds h = record {
   has = h.has;
   holds = holds h.has h.holds;
   even = subst (λ (n : ℕ). IsEven n b.length h.has) (sym later.disks) (subst (λ (z : ℕ). IsEven a.disks z h.has) (sym later.size) h.even);
+  clear = subst (λ (n : ℕ). IsClear n b.length h.has) (sym later.disks) (subst (λ (z : ℕ). IsClear a.disks z h.has) (sym later.size) h.clear);
   is = h.is ∙ ap (λ (n : ℕ). member_by n a.length h.has) (sym later.disks) ∙ ap (λ (z : ℕ). member_by b.disks z h.has) (sym later.size);
 }
 
@@ -37,6 +38,8 @@ stands-written rack a b s t bytes piece at least later chunk range holds h =
       has = new;
       holds = holds h.has h.holds h.even;
       even = subst (λ (n : ℕ). IsEven n b.length new) (sym later.disks) (subst (λ (z : ℕ). IsEven a.disks z new) (sym later.size) even);
+      clear = subst (λ (n : ℕ). IsClear n b.length new) (sym later.disks)
+          (subst (λ (z : ℕ). IsClear a.disks z new) (sym later.size) (clear-written a.disks a.length at h.has piece chunk range h.clear));
       is = ap (λ (l : List ℕ). patch l at piece) h.is ∙ sym (member-written a.disks a.length at h.has piece chunk range)
           ∙ ap (λ (n : ℕ). member_by n a.length new) (sym later.disks) ∙ ap (λ (z : ℕ). member_by b.disks z new) (sym later.size);
     }

@@ -4,13 +4,13 @@ use Rattle.std.specs.Prelude.{IsSome, ◌&&◌}
 use Rattle.std.proofs.lemmas.Bool.{and_parts}
 use Rattle.dg_io.specs.Told.{Told, IsSame}
 use Rattle.dg_io.specs.declared.outside.Rack.{Ghosts}
-use Rattle.dg_parity.specs.Stripes.{IsEven, member_by, stripes_of}
+use Rattle.dg_parity.specs.Stripes.{IsClear, IsEven, member_by, stripes_of}
 use Rattle.dg_parity.specs.Groups.{disk_number, is_lost, AllTold, Holds, StandsFor, LeavesGroup}
 use Rattle.dg_parity.specs.Kept.{all_told, made_by, bytes_in, IsKept}
 use Rattle.dg_parity.specs.Mends.{FilledTo, LeavesBut}
 use Rattle.dg_parity.specs.declared.groups.Group.{Group}
 use Rattle.dg_parity.proofs.CallLemmas.{told-back}
-use Rattle.dg_parity.proofs.KeptLemmas.{told-each, kept-stands, stands-even, stands-is}
+use Rattle.dg_parity.proofs.KeptLemmas.{told-each, kept-of, kept-stands, stands-is}
 use Rattle.dg_parity.proofs.KeptSteps.{each-told, told-if, both-true}
 use Rattle.dg_parity.proofs.MemberSteps.{stands-along}
 use Rattle.dg_parity.proofs.MendLemmas.{Unmarks, mended-holds, but-back}
@@ -42,15 +42,14 @@ returned-stands rack j old mid new s t u bytes h all stands =
       has = stands.has;
       holds = h.heads stands.has all (mended-holds rack old mid t j stands.has h.unmarks (h.filled stands.has allt stands.holds stands.even) (h.holds stands.has allt stands.holds));
       even = subst (λ (n : ℕ). IsEven n new.length stands.has) (sym disks) (subst (λ (z : ℕ). IsEven old.disks z stands.has) (sym size) stands.even);
+      clear = subst (λ (n : ℕ). IsClear n new.length stands.has) (sym disks) (subst (λ (z : ℕ). IsClear old.disks z stands.has) (sym size) stands.clear);
       is = stands.is ∙ ap (λ (n : ℕ). member_by n old.length stands.has) (sym disks) ∙ ap (λ (z : ℕ). member_by new.disks z stands.has) (sym size);
     }
 
 pub returned-kept : {S : Type 0} (rack : Ghosts S) (j : ℕ) (old mid new : Group) (s t u : S) → is_lost old ≡ false → Returned rack j old mid new s t u → IsKept rack old s → IsKept rack new u
-returned-kept rack j old mid new s t u alive h kept = record {
-  ready = λ in0. h.leaves.ready;
-  even = λ in0 all. stands-even rack new u (member_by old.disks old.length (made_by rack old s)) in0
-      (returned-stands rack j old mid new s t u (member_by old.disks old.length (made_by rack old s)) h all (kept-stands rack old s alive kept (returned-told rack j old mid new s t u h all)));
-}
+returned-kept rack j old mid new s t u alive h kept =
+    kept-of rack new u (member_by old.disks old.length (made_by rack old s)) (λ in0. h.leaves.ready) (λ in0 all.
+    returned-stands rack j old mid new s t u (member_by old.disks old.length (made_by rack old s)) h all (kept-stands rack old s alive kept (returned-told rack j old mid new s t u h all)))
 
 pub returned-same : {S : Type 0} (rack : Ghosts S) (j : ℕ) (old mid new : Group) (s t u : S) → 3 ≤ old.disks → is_lost old ≡ false → is_lost new ≡ false → mid.told ≡ old.told
     → Returned rack j old mid new s t u → IsKept rack old s → Told IsSame (bytes_in rack old s) (bytes_in rack new u)
@@ -87,12 +86,10 @@ returned-of rack j count old g mid new s t u is all fill holds filled unmarks le
 -- a call failed before the disk was filled
 pub unfilled-kept : {S : Type 0} (rack : Ghosts S) (j : ℕ) (old new : Group) (s t : S) → is_lost old ≡ false → LeavesBut rack j old new s t
     → ((has : ℕ → ℕ → ℕ) → AllTold rack new t → Holds rack old s has → Holds rack new t has) → IsKept rack old s → IsKept rack new t
-unfilled-kept rack j old new s t alive leaves holds kept = record {
-  ready = λ in0. leaves.ready;
-  even = λ in0 all. stands-even rack new t (member_by old.disks old.length (made_by rack old s)) in0
-      (stands-along rack old new s t (member_by old.disks old.length (made_by rack old s)) leaves.later (λ has held. holds has all held)
-      (kept-stands rack old s alive kept (but-back rack j old new s t leaves all)));
-}
+unfilled-kept rack j old new s t alive leaves holds kept =
+    kept-of rack new t (member_by old.disks old.length (made_by rack old s)) (λ in0. leaves.ready) (λ in0 all.
+    stands-along rack old new s t (member_by old.disks old.length (made_by rack old s)) leaves.later (λ has held. holds has all held)
+    (kept-stands rack old s alive kept (but-back rack j old new s t leaves all)))
 
 pub unfilled-same : {S : Type 0} (rack : Ghosts S) (j : ℕ) (old new : Group) (s t : S) → 3 ≤ old.disks → is_lost old ≡ false → is_lost new ≡ false → LeavesBut rack j old new s t
     → ((has : ℕ → ℕ → ℕ) → AllTold rack new t → Holds rack old s has → Holds rack new t has) → IsKept rack old s → Told IsSame (bytes_in rack old s) (bytes_in rack new t)

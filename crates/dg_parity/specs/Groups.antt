@@ -6,7 +6,7 @@ use Rattle.dg_model.specs.States.{CountsRise}
 use Rattle.dg_io.specs.Told.{Told, IsSame, StillTold}
 use Rattle.dg_io.specs.declared.outside.Rack.{Ghosts}
 use Rattle.dg_parity.specs.Headers.{header_bytes, marks_of}
-use Rattle.dg_parity.specs.Stripes.{disk_length, InStripes, IsEven, member_by}
+use Rattle.dg_parity.specs.Stripes.{disk_length, InStripes, IsClear, IsEven, member_by}
 use Rattle.dg_parity.specs.declared.groups.Group.{Group}
 use Rattle.dg_parity.specs.declared.headers.Header.{Header}
 use Rattle.dg_parity.specs.declared.stripes.Spot.{Spot}
@@ -105,6 +105,7 @@ pub record StandsFor {S : Type 0} (rack : Ghosts S) (group : Group) (now : S) (b
   pub has : ℕ → ℕ → ℕ
   pub holds : Holds rack group now has
   pub even : IsEven group.disks group.length has
+  pub clear : IsClear group.disks group.length has
   pub is : bytes ≡ member_by group.disks group.length has
 
 -- whatever the disks that aren't out had, they have
@@ -137,6 +138,12 @@ pub record IsRestarted (old new : Group) : Type 0 where
   pub disks : new.disks ≡ old.disks
   pub out : new.out ≡ old.out
   pub told : new.told ≡ old.told
+
+-- the same group, which tells only if it told
+pub record IsStill (old new : Group) : Type 0 where
+  pub number : new.number ≡ old.number
+  pub disks : new.disks ≡ old.disks
+  pub told : new.told ≡ true → old.told ≡ true
 
 -- a disk went out
 pub record FellOne (old new : Group) : Type 0 where

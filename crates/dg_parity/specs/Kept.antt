@@ -1,7 +1,7 @@
 -- What a group tells of its member, and what is kept so that it does. The rules are this project's own.
 use Rattle.std.specs.Prelude.{◌≡◌, ◌+◌, ◌*◌, ◌&&◌, ℕ, zero, suc, List, Bool, true, false, Option, None, Some, is_some, if◌then◌else◌}
 use Rattle.dg_io.specs.declared.outside.Rack.{Ghosts}
-use Rattle.dg_parity.specs.Stripes.{chunks_in, IsEven, member_by, made_up}
+use Rattle.dg_parity.specs.Stripes.{chunks_in, IsClear, IsEven, member_by, made_up}
 use Rattle.dg_parity.specs.Groups.{disk_number, is_out, is_lost, disk_in, AllTold, IsReady}
 use Rattle.dg_parity.specs.declared.groups.Group.{Group}
 
@@ -26,6 +26,7 @@ bytes_in rack group now = if group.told && all_told rack group now then Some (me
 pub record IsKept {S : Type 0} (rack : Ghosts S) (group : Group) (now : S) : Type 0 where
   pub ready : is_lost group ≡ false → IsReady rack group now
   pub even : is_lost group ≡ false → AllTold rack group now → IsEven group.disks group.length (made_by rack group now)
+  pub clear : is_lost group ≡ false → AllTold rack group now → IsClear group.disks group.length (made_by rack group now)
 
 -- how many calls a read of so many bytes from a place on takes at most: for each chunk those of all disks and one, and two rounds of headers
 abbrev pub calls_to_read : ℕ → ℕ → ℕ → ℕ

@@ -1,7 +1,14 @@
+pub mod ArrayLaws
+pub mod Arrays
 pub mod Blanks
+pub mod Epochs
 pub mod Exclusive
+pub mod Extends
 pub mod Groups
 pub mod Headers
 pub mod Kept
 pub mod Mends
+pub mod Openings
+pub mod ParityLaws
+pub mod ParityRacks
 pub mod Stripes

@@ -82,6 +82,10 @@ written has a p place piece i x =
 abbrev pub IsEven : ℕ → ℕ → (ℕ → ℕ → ℕ) → Type 0
 IsEven n size has = (x : ℕ) → InStripes n size x → xor_upto (λ j. has j x) n ≡ 0
 
+-- where a chunk has places behind the last byte they are zero
+abbrev pub IsClear : ℕ → ℕ → (ℕ → ℕ → ℕ) → Type 0
+IsClear n size has = (b : ℕ) → size ≤ b → InStripes n size (spot_of n b).place → has (spot_of n b).disk (spot_of n b).place ≡ 0
+
 -- a row of bytes is the parity that a piece brings about at a place
 abbrev pub IsParity : (ℕ → ℕ → ℕ) → Spot → List ℕ → List ℕ → Type 0
 IsParity has spot piece row = (k : ℕ) → k < length piece → slice_index row k ≡ next_parity has spot.disk spot.parity (spot.place + k) (slice_index piece k)

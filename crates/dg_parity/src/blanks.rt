@@ -4,7 +4,7 @@ ghost use Rattle.std.specs.Bool.{OnTrue};
 ghost use Rattle.dg_model.specs.Causes.{Rose};
 ghost use Rattle.dg_io.specs.Told.{Told, IsZeros};
 ghost use Rattle.dg_parity.specs.Blanks.{BlanksOne, IsBlanked, LeavesOthers};
-ghost use Rattle.dg_parity.specs.Groups.{disk_number, is_out, is_lost, length_of};
+ghost use Rattle.dg_parity.specs.Groups.{disk_number, is_out, is_lost, length_of, IsStill};
 ghost use Rattle.dg_parity.specs.Kept.{bytes_in, IsKept};
 
 use crate::disks::note;
@@ -44,6 +44,7 @@ pub fn blank<R: Rack>(group: &mut Group, rack: &mut R, size: u64) -> bool
     ensures alive { result ≡ not (is_lost group.new) }
     ensures ok { OnTrue result (Told (IsZeros size) (bytes_in R.Rack group.old rack.old) (bytes_in R.Rack group.new rack.new)) }
     ensures size { group.new.length ≡ size }
+    ensures still { IsStill group.old group.new }
     ensures noted { OnTrue result (group.new.noted ≡ true) }
     ensures cause { (j : ℕ) → j < group.old.disks → is_out group.new j ≡ true
         → Rose ((R.counts rack.old).faults (disk_number group.old.number j)) ((R.counts rack.new).faults (disk_number group.old.number j)) }

@@ -1,6 +1,7 @@
 // Calls on one disk of a group.
 ghost use Rattle.std.specs.Prelude.{◌≡◌, ◌≢◌, ◌⊎◌, ◌+◌, ◌*◌, ◌<◌, ◌≤◌, ℕ, Bool, true, false, length, slice_index};
 ghost use Rattle.std.specs.Bool.{OnTrue, OnFalse};
+ghost use Rattle.dg_model.specs.Causes.{Rose};
 ghost use Rattle.dg_parity.specs.Stripes.{put};
 ghost use Rattle.dg_parity.specs.Groups.{is_out, is_lost, length_of, HasHead, FellOne, IsReady, Holds, AllTold, LeavesGroup, MostCalls, KeepsHeld};
 
@@ -59,6 +60,7 @@ fn write_round<R: Rack>(group: &mut Group, rack: &mut R)
     requires ready { IsReady R.Rack group.old rack.old }
     ensures leaves { LeavesGroup R.Rack group.old group.new rack.old rack.new }
     ensures noted { (group.new.noted ≡ true) ⊎ FellOne group.old group.new }
+    ensures raised { Rose group.old.epoch group.new.epoch }
     ensures holds { KeepsHeld R.Rack group.old group.new rack.old rack.new }
     ensures calls { MostCalls R.Rack group.old.disks rack.old rack.new }
 {
@@ -75,6 +77,7 @@ fn write_rounds<R: Rack>(group: &mut Group, rack: &mut R)
     requires ready { IsReady R.Rack group.old rack.old }
     ensures leaves { LeavesGroup R.Rack group.old group.new rack.old rack.new }
     ensures noted { is_lost group.new ≡ false → group.new.noted ≡ true }
+    ensures raised { is_lost group.old ≡ false → Rose group.old.epoch group.new.epoch }
     ensures holds { KeepsHeld R.Rack group.old group.new rack.old rack.new }
     ensures calls { MostCalls R.Rack (2 * group.old.disks) rack.old rack.new }
 {
@@ -96,6 +99,7 @@ pub(crate) fn note<R: Rack>(group: &mut Group, rack: &mut R)
     requires ready { IsReady R.Rack group.old rack.old }
     ensures leaves { LeavesGroup R.Rack group.old group.new rack.old rack.new }
     ensures noted { is_lost group.new ≡ false → group.new.noted ≡ true }
+    ensures raised { group.old.noted ≡ false → is_lost group.old ≡ false → Rose group.old.epoch group.new.epoch }
     ensures idle { group.old.noted ≡ true → (group.new ≡ group.old) × (rack.new ≡ rack.old) }
     ensures holds { KeepsHeld R.Rack group.old group.new rack.old rack.new }
     ensures calls { MostCalls R.Rack (2 * group.old.disks) rack.old rack.new }

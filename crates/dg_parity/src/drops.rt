@@ -2,7 +2,7 @@
 ghost use Rattle.std.specs.Prelude.{◌≡◌, ◌≢◌, ◌↔◌, ◌<◌, ℕ, Bool, true, false};
 ghost use Rattle.dg_io.specs.Told.{Told, IsSame};
 ghost use Rattle.dg_parity.specs.Blanks.{LeavesOthers};
-ghost use Rattle.dg_parity.specs.Groups.{is_out, is_lost};
+ghost use Rattle.dg_parity.specs.Groups.{is_out, is_lost, IsStill};
 ghost use Rattle.dg_parity.specs.Kept.{bytes_in, IsKept};
 ghost use Rattle.dg_parity.specs.Mends.{FallBut};
 
@@ -18,6 +18,8 @@ pub fn drop_disk<R: Rack>(group: &mut Group, rack: &mut R, j: u8) -> DropAnswer
     ensures out { is_out group.new j ≡ true }
     ensures already { (result ≡ DropAnswer.Already) ↔ (is_out group.old j ≡ true) }
     ensures lost { (b : Bool) → result ≡ DropAnswer.Dropped b → b ≡ is_lost group.new }
+    ensures still { IsStill group.old group.new }
+    ensures idle { is_out group.old j ≡ true → (group.new ≡ group.old) × (rack.new ≡ rack.old) }
     ensures fall { FallBut R.Rack j group.old group.new rack.old rack.new }
     ensures leaves { LeavesOthers R.Rack group.old rack.old rack.new }
     ensures same { is_lost group.new ≡ false → Told IsSame (bytes_in R.Rack group.old rack.old) (bytes_in R.Rack group.new rack.new) }

@@ -22,6 +22,7 @@ pub struct Group {
     ghost number_fits: { number < 16 },
     ghost least: { 3 ≤ disks },
     ghost most: { disks ≤ 8 },
+    ghost beyond: { (j : ℕ) → disks ≤ j → slice_index_or out j false ≡ false },
 }
 
 impl Group {
@@ -137,6 +138,17 @@ impl Group {
         self.noted = false;
     }
 
+    /// The member is to have so many bytes.
+    pub(crate) fn grow(&mut self, size: u64)
+        ensures same { IsRestarted self.old self.new }
+        ensures size { self.new.length ≡ size }
+        ensures epoch { self.new.epoch ≡ self.old.epoch }
+        ensures noted { self.new.noted ≡ false }
+    {
+        self.length = size;
+        self.noted = false;
+    }
+
     /// The headers say all of it.
     pub(crate) fn settle(&mut self)
         ensures same { IsAlike self.old self.new }
@@ -181,7 +193,7 @@ fn bit(is_set: bool, value: u8) -> u8
 }
 
 /// Bit j for each disk j that is out.
-fn marks(out: &[bool; 8]) -> u8
+pub(crate) fn marks(out: &[bool; 8]) -> u8
     ensures { result ≡ marks_of (λ j. slice_index_or out.now j false) 8 }
 {
     bit(out[0], 1)

@@ -2,23 +2,39 @@
 //! a disk goes out where a call on it fails. With two disks out it is lost, and tells nothing.
 #![tactic(auto)]
 
+mod array_openings;
+mod arrays;
 mod blanks;
+mod chiefs;
 mod disks;
 mod drops;
+mod epochs;
+mod extends;
+mod group_calls;
 mod groups;
 mod headers;
 mod members;
 mod mends;
+mod openings;
+mod parity_racks;
 mod parts;
 mod returns;
 mod stripes;
+mod tallies;
 mod told;
 mod xors;
 
+pub use array_openings::{FoundGroups, open_groups};
+pub use arrays::GroupRack;
 pub use blanks::blank;
+pub use chiefs::group_of;
 pub use drops::drop_disk;
+pub use epochs::{opened_is_latest, out_stays_out, reopened_reads_on};
+pub use extends::extend;
 pub use groups::Group;
 pub use headers::{Header, fill_header, is_counted, read_header};
+pub use openings::{open_group, read_fronts};
+pub use parity_racks::ParityRack;
 pub use returns::mend;
 pub use stripes::{Spot, disk_length, locate};
 pub use told::{read, write};

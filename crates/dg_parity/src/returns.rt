@@ -1,9 +1,9 @@
 // A disk that comes back, whole.
-ghost use Rattle.std.specs.Prelude.{◌≡◌, ◌≢◌, ◌↔◌, ◌<◌, ◌≤◌, min, ◌^◌, ◌-◌, ℕ, Bool, true, false};
+ghost use Rattle.std.specs.Prelude.{◌≡◌, ◌≢◌, ◌⊎◌, ◌↔◌, ◌<◌, ◌≤◌, min, ◌^◌, ◌-◌, ℕ, Bool, true, false};
 ghost use Rattle.dg_model.specs.Causes.{Rose};
 ghost use Rattle.dg_io.specs.Told.{Told, IsSame};
 ghost use Rattle.dg_parity.specs.Blanks.{LeavesOthers};
-ghost use Rattle.dg_parity.specs.Groups.{disk_number, is_out, is_lost};
+ghost use Rattle.dg_parity.specs.Groups.{disk_number, is_out, is_lost, IsStill};
 ghost use Rattle.dg_parity.specs.Stripes.{stripes_of};
 ghost use Rattle.dg_parity.specs.Kept.{bytes_in, IsKept};
 ghost use Rattle.dg_parity.specs.Mends.{FallBut};
@@ -27,6 +27,9 @@ pub fn mend<R: Rack>(group: &mut Group, rack: &mut R, j: u8) -> MendAnswer
         → (is_out group.new j ≡ false) × (c ≡ min (stripes_of group.old.disks group.old.length) 0xffff_ffff) }
     ensures parity { result ≢ MendAnswer.Plain }
     ensures silent { is_lost group.old ≡ false → is_lost group.new ≡ true → group.new.told ≡ false }
+    ensures still { IsStill group.old group.new }
+    ensures was_out { (c : ℕ) → result ≡ MendAnswer.Mended c → is_out group.old j ≡ true }
+    ensures idle { ((is_lost group.old ≡ true) ⊎ (is_out group.old j ≡ false)) → (group.new ≡ group.old) × (rack.new ≡ rack.old) }
     ensures fall { FallBut R.Rack j group.old group.new rack.old rack.new }
     ensures leaves { LeavesOthers R.Rack group.old rack.old rack.new }
     ensures noted { (c : ℕ) → result ≡ MendAnswer.Mended c → group.new.noted ≡ true }

@@ -1,6 +1,7 @@
 // Calls on a group, by the bytes that it tells of its member.
 ghost use Rattle.std.specs.Prelude.{◌≡◌, ◌≢◌, ◌⊎◌, ◌↔◌, ◌+◌, ◌*◌, ◌<◌, ◌≤◌, ℕ, List, Bool, true, false, length, slice_index, not, IsTrue};
 ghost use Rattle.std.specs.Bool.{OnTrue, OnFalse};
+ghost use Rattle.dg_model.specs.Causes.{Rose};
 ghost use Rattle.dg_io.specs.Told.{Told, IsSame, Reads, Patched, Torn, patch};
 ghost use Rattle.dg_parity.specs.Groups.{is_lost, IsReady, AllTold, LeavesGroup, StandsFor, MostCalls, KeepsMember};
 ghost use Rattle.dg_parity.specs.Kept.{bytes_in, calls_to_read, calls_to_write, IsKept};
@@ -55,6 +56,7 @@ fn write_noted<R: Rack>(group: &mut Group, rack: &mut R, place: u64, piece: &[u8
     ensures leaves { LeavesGroup R.Rack group.old group.new rack.old rack.new }
     ensures alive { result ≡ not (is_lost group.new) }
     ensures noted { OnTrue result (group.new.noted ≡ true) }
+    ensures raised { group.old.noted ≡ false → Rose group.old.epoch group.new.epoch }
     ensures put { OnTrue result ((bytes : List ℕ) → AllTold R.Rack group.new rack.new → StandsFor R.Rack group.old rack.old bytes
         → StandsFor R.Rack group.new rack.new (patch bytes place piece.now)) }
     ensures calls { MostCalls R.Rack (calls_to_write group.old.disks place (length piece.now)) rack.old rack.new }
@@ -111,6 +113,7 @@ pub(crate) fn write_told<R: Rack>(group: &mut Group, rack: &mut R, place: u64, p
     ensures alive { OnTrue result (is_lost group.new ≡ false) }
     ensures fails { OnFalse result ((is_lost group.new ≡ true) ⊎ (group.old.length < place + length piece.now)) }
     ensures noted { OnTrue result (group.new.noted ≡ true) }
+    ensures raised { OnTrue result (group.old.noted ≡ false → Rose group.old.epoch group.new.epoch) }
     ensures ok { OnTrue result (Told (Patched place piece.now) (bytes_in R.Rack group.old rack.old) (bytes_in R.Rack group.new rack.new)) }
     ensures err { OnFalse result (Told (Torn place (length piece.now)) (bytes_in R.Rack group.old rack.old) (bytes_in R.Rack group.new rack.new)) }
     ensures calls { MostCalls R.Rack (calls_to_write group.old.disks place (length piece.now)) rack.old rack.new }
@@ -159,6 +162,7 @@ pub fn write<R: Rack>(group: &mut Group, rack: &mut R, place: u64, piece: &[u8])
     ensures alive { OnTrue result (is_lost group.new ≡ false) }
     ensures fails { OnFalse result ((is_lost group.new ≡ true) ⊎ (group.old.length < place + length piece.now)) }
     ensures noted { OnTrue result (group.new.noted ≡ true) }
+    ensures raised { OnTrue result (group.old.noted ≡ false → Rose group.old.epoch group.new.epoch) }
     ensures ok { OnTrue result (Told (Patched place piece.now) (bytes_in R.Rack group.old rack.old) (bytes_in R.Rack group.new rack.new)) }
     ensures err { OnFalse result (Told (Torn place (length piece.now)) (bytes_in R.Rack group.old rack.old) (bytes_in R.Rack group.new rack.new)) }
     ensures calls { MostCalls R.Rack (calls_to_write group.old.disks place (length piece.now)) rack.old rack.new }

@@ -2,4 +2,8 @@
 #![tactic(auto)]
 
 #[cfg(test)]
+mod openings;
+#[cfg(test)]
+mod racks;
+#[cfg(test)]
 mod tests;

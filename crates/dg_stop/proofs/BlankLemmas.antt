@@ -10,10 +10,10 @@ use Rattle.dg_io.specs.RackWords.{After, Leaves}
 use Rattle.dg_io.specs.Told.{IsSame, IsZeros, StillTold, Told}
 use Rattle.dg_io.specs.declared.outside.Rack.{Ghosts}
 use Rattle.dg_stop.proofs.Committing.{same_or_not}
-use Rattle.dg_stop.proofs.OneCommit.{told_both}
+use Rattle.dg_stop.proofs.OneCommit.{same_at, told_both}
 use Rattle.dg_stop.proofs.Paging.{at_seen, size_seen}
 use Rattle.dg_stop.proofs.Renewing.{IsElsewhere, renewed_guards, renewed_keeps}
-use Rattle.dg_stop.proofs.StepLemmas.{if_known, long_same, ok_on, same_known, seen_others, seen_told}
+use Rattle.dg_stop.proofs.StepLemmas.{if_known, long_same, ok_on, seen_others, seen_told}
 use Rattle.dg_stop.specs.DoubleLaws.{seen_some, some_seen}
 use Rattle.dg_stop.specs.Doubles.{AreHeld, IsBeside, Joins, KeepsOthers, Lays, Loses, Steps, fell_in, keeps_in, known_in, seen_in, sizes_in, stands_in}
 use Rattle.dg_stop.specs.Headers.{Header, HasHeader, header_bytes}
@@ -65,11 +65,12 @@ blank_seen m n q k size x y is told = seen_told (IsZeros k) (IsZeros size) m n q
 
 -- ---- what is kept of the others
 
-pub elsewhere : (q : ℕ) (m n : Memory) → IsBeside q m n → (stands_in n q ≡ true → known_in n q ≡ true) → IsElsewhere q m n
-elsewhere q m n beside own = record {
+pub elsewhere : (q : ℕ) (m n : Memory) → IsBeside q m n → (stands_in n q ≡ true → known_in n q ≡ true) → (known_in n q ≡ true → q < 32) → IsElsewhere q m n
+elsewhere q m n beside own number = record {
   stands = beside.stands;
   known = beside.known;
   own = own;
+  number = number;
   sizes = beside.sizes;
   last = λ r x far. ap (λ (l : List ℕ). bit_in l x) (beside.last r far);
   room = beside.room;
@@ -94,18 +95,18 @@ beside_then q a b c one two = record {
 module _ {S : Type 0} (rack : Ghosts S) (q : ℕ) (m n : Memory) (a b : S) (beside : IsElsewhere q m n)
     (bare : TellsAll (rack.bytes b) → (h : Header) → HasHeader q (known_at (known_in n) (rack.bytes b) q) h → ⊥)
     (others : (r : ℕ) → r ≢ q → Told IsSame (rack.bytes a r) (rack.bytes b r)) (tells : StillTold (rack.bytes a) (rack.bytes b)) (steady_on : rack.steady a ↔ rack.steady b) where
-  same : TellsAll (rack.bytes b) → (r : ℕ) → r ≢ q → known_at (known_in n) (rack.bytes b) r ≡ known_at (known_in m) (rack.bytes a) r
-  same told r far = same_known (known_in m r) (known_in n r) (bytes_or (rack.bytes a r)) (bytes_or (rack.bytes b r)) (beside.known r far)
-      (told_both IsSame (rack.bytes a r) (rack.bytes b r) (others r far) (told r))
+  same : TellsAll (rack.bytes b) → ((r : ℕ) → known_in m r ≡ true → r < 32) → (r : ℕ) → r ≢ q → known_at (known_in n) (rack.bytes b) r ≡ known_at (known_in m) (rack.bytes a) r
+  same told numbers r far = ap (λ (d : Bool). if d then bytes_or (rack.bytes b r) else []) (beside.known r far)
+      ∙ same_at (known_in m) r (rack.bytes a r) (rack.bytes b r) (others r far) (λ at. told r (numbers r at))
 
   pub others_keep : KeepsOthers rack q m n a b
   others_keep = record {
     rest = λ kept keeps case. (
       steady_on.0 (keeps.0),
       λ told.
-          let was = keeps.1 (λ r. tells r (told r)) in (
-            renewed_guards q m n (known_at (known_in m) (rack.bytes a)) (known_at (known_in n) (rack.bytes b)) beside (bare told) (same told) was.0,
-            renewed_keeps q m n (known_at (known_in m) (rack.bytes a)) (known_at (known_in n) (rack.bytes b)) beside (bare told) (same told) kept was.1 case,
+          let was = keeps.1 (λ r low. tells r (told r low)) in (
+            renewed_guards q m n (known_at (known_in m) (rack.bytes a)) (known_at (known_in n) (rack.bytes b)) beside (bare told) (same told was.0.numbers) was.0,
+            renewed_keeps q m n (known_at (known_in m) (rack.bytes a)) (known_at (known_in n) (rack.bytes b)) beside (bare told) (same told was.0.numbers) kept was.1 case,
           ),
     );
     any = any;
@@ -113,11 +114,15 @@ module _ {S : Type 0} (rack : Ghosts S) (q : ℕ) (m n : Memory) (a b : S) (besi
     any : (kept : Option Kept) → keeps_in rack m a kept → keeps_in rack n b None
     any None keeps = (
       steady_on.0 (keeps.0),
-      λ told. renewed_guards q m n (known_at (known_in m) (rack.bytes a)) (known_at (known_in n) (rack.bytes b)) beside (bare told) (same told) (keeps.1 (λ r. tells r (told r))),
+      λ told.
+          let was = keeps.1 (λ r low. tells r (told r low)) in
+          renewed_guards q m n (known_at (known_in m) (rack.bytes a)) (known_at (known_in n) (rack.bytes b)) beside (bare told) (same told was.numbers) was,
     )
     any (Some kept) keeps = (
       steady_on.0 (keeps.0),
-      λ told. renewed_guards q m n (known_at (known_in m) (rack.bytes a)) (known_at (known_in n) (rack.bytes b)) beside (bare told) (same told) (keeps.1 (λ r. tells r (told r))).0,
+      λ told.
+          let was = (keeps.1 (λ r low. tells r (told r low))).0 in
+          renewed_guards q m n (known_at (known_in m) (rack.bytes a)) (known_at (known_in n) (rack.bytes b)) beside (bare told) (same told was.numbers) was,
     )
 
 -- ---- what the call leaves
@@ -142,7 +147,7 @@ gone_bare q n few fell gone = elim (below_or q 32) [
 module _ {S T E : Type 0} (rack : Ghosts S) (q : ℕ) (result : Result T E) (m n : Memory) (a b : S) (held : AreHeld rack m a)
     (leaves : Leaves rack q result a b) (after : After rack (blanks q ∷ []) a b) (beside : IsBeside q m n)
     (own : stands_in n q ≡ true → Sized rack n.current.items n.room q b) (bare : stands_in n q ≡ false → fell_in n q ≡ false → sizes_in n q ≡ 0)
-    (ok : OnOk result (stands_in n q ≡ true)) where
+    (pair : stands_in n q ≡ true → length (bits_in n.last.items q) ≡ bits_of (sizes_in n q)) (ok : OnOk result (stands_in n q ≡ true)) where
   other_sized : (r : ℕ) → r ≢ q → stands_in n r ≡ true → Sized rack n.current.items n.room r b
   other_sized r far at =
       let old : Sized rack m.current.items m.room r a = held.sized r (sym (beside.stands r far) ∙ at) in
@@ -165,6 +170,10 @@ module _ {S T E : Type 0} (rack : Ghosts S) (q : ℕ) (result : Result T E) (m n
       bare = λ r at gone. elim (same_or_not r q) [
         | inl e ↦ subst (λ (x : ℕ). sizes_in n x ≡ 0) (sym e) (bare (subst (λ (x : ℕ). stands_in n x ≡ false) e at) (subst (λ (x : ℕ). fell_in n x ≡ false) e gone))
         | inr far ↦ beside.sizes r far ∙ held.bare r (sym (beside.stands r far) ∙ at) (sym (beside.fell r far) ∙ gone)
+      ];
+      paired = λ r at. elim (same_or_not r q) [
+        | inl e ↦ subst (λ (x : ℕ). length (bits_in n.last.items x) ≡ bits_of (sizes_in n x)) (sym e) (pair (subst (λ (x : ℕ). stands_in n x ≡ true) e at))
+        | inr far ↦ ap (λ (l : List ℕ). length l) (beside.last r far) ∙ held.paired r (sym (beside.stands r far) ∙ at) ∙ ap bits_of (sym (beside.sizes r far))
       ];
       few = omega (arith, held.few, beside.count);
     };
@@ -198,6 +207,10 @@ blank_sized rack q size k m mid n a b lays joins stands is told =
 
 pub laid_size : (q size : ℕ) (m mid n : Memory) → Lays q size m mid → Joins q mid n → sizes_in n q ≡ size
 laid_size q size m mid n lays joins = rw joins.placed.now lays.size
+
+-- there are as many bits of its last places
+pub laid_pair : (q size : ℕ) (m mid n : Memory) → Lays q size m mid → Joins q mid n → length (bits_in n.last.items q) ≡ bits_of (sizes_in n q)
+laid_pair q size m mid n lays joins = rw (joins.placed.now, joins.placed.last) (ap (λ (l : List ℕ). length l) lays.last ∙ length-replicate (bits_of size) 0 ∙ ap bits_of (sym lays.size))
 
 -- one that is lost doesn't stand
 pub loses_stands : (q : ℕ) (m n : Memory) → Loses q m n → (r : ℕ) → stands_in n r ≡ true → stands_in m r ≡ true

@@ -124,6 +124,7 @@ module _ {S : Type 0} (rack : Ghosts S) (members most room : ℕ) (m : Memory) (
   blank_held few = record {
     sized = λ q at. absurd (false≢true (sym (blank.stands q) ∙ at));
     bare = λ q out gone. blank.sizes q;
+    paired = λ q at. absurd (false≢true (sym (blank.stands q) ∙ at));
     few = omega (arith, few, blank.count);
   }
 
@@ -148,6 +149,7 @@ module _ {S : Type 0} (rack : Ghosts S) (members most room : ℕ) (m : Memory) (
         };
         low = omega (arith, blank.commit, blank.top);
         known = λ q at. absurd (false≢true (sym (blank.stands q) ∙ at));
+        numbers = λ q at. absurd (false≢true (sym (blank.known q) ∙ at));
       },
       record {
         fresh = inl none_at;

@@ -84,6 +84,7 @@ module _ (old new : Memory) (before after : ℕ → List ℕ) (less : Narrows ol
     guarded = rw (less.room, less.commit, less.top) (guarded guards.guarded);
     low = omega (arith, guards.low, less.commit, less.top);
     known = λ q at. less.known q ∙ guards.known q (less.only q at);
+    numbers = λ q at. guards.numbers q (sym (less.known q) ∙ at);
   }
 
   fresh : IsFresh before old.commit → IsFresh after new.commit
@@ -125,6 +126,7 @@ module _ (memory : Memory) (q page : ℕ) (before after : ℕ → List ℕ) (gua
     guarded = guarded_after (stands_in memory) (sizes_in memory) memory.room (last_in memory) memory.commit memory.top q page 0 512 before after guards.guarded guards.low stand within (omega arith) torn others;
     low = guards.low;
     known = guards.known;
+    numbers = guards.numbers;
   }
 
   pub page_keeps : (kept : Kept) → KeepsAll memory before kept → KeepsAll memory after kept

@@ -2,6 +2,8 @@ mod Avoiding
 mod BlankLemmas
 mod Blanking
 mod CallLemmas
+mod CommitDouble
+mod CommitMembers
 mod Committing
 mod FindLemmas
 mod FinishLemmas
@@ -27,6 +29,7 @@ mod PutLemmas
 mod Ranges
 mod Renewing
 mod Reopening
+mod SettleLemmas
 mod StepLemmas
 mod Stopping
 mod TableLemmas

@@ -144,7 +144,7 @@ module _ {S : Type 0} (rack : Ghosts S) (q : ℕ) (m n : Memory) (a : S) (held :
   ok_never (Err x) is = tt
 
   pub fall_steps : {T E : Type 0} (call : RackCall) (result : Result T E) → IsErr result → Steps rack call q result m n a a
-  fall_steps call result is = still_steps rack call q result m n a held falls.beside falls.placed.now (falls_stands q m n falls) (ok_never result is) bare
+  fall_steps call result is = still_steps rack call q result m n a held falls.beside falls.placed.now falls.placed.last (falls_stands q m n falls) (ok_never result is) bare
 
   pub fall_keeps : KeepsStill rack m n a a
   fall_keeps = still_keeps rack m n a (falls_less q m n falls)
@@ -178,7 +178,7 @@ module _ {S T E : Type 0} (rack : Ghosts S) (none : (s : S) → rack.made s [] s
   still = flag_same mid.stands m.stands q is.stands ∙ stand
 
   pub done_steps : IsOk result → Steps rack (calls q) q result m mid a b
-  done_steps done = calls_steps rack q result m mid a b held stand only after serves pages is.beside is.size is.bits (ok_of result) (err_of result done) (λ out. absurd (false≢true (sym out ∙ still)))
+  done_steps done = calls_steps rack q result m mid a b held stand only after serves pages is.beside is.size is.bits (ap (λ (v : Vec Places). bits_in v.items q) is.last) (ok_of result) (err_of result done) (λ out. absurd (false≢true (sym out ∙ still)))
     where
       ok_of : (r : Result T E) → OnOk r (stands_in mid q ≡ true)
       ok_of (Ok x) = still
@@ -198,6 +198,7 @@ module _ {S T E : Type 0} (rack : Ghosts S) (none : (s : S) → rack.made s [] s
     pub failed_steps : IsErr result → Steps rack (calls q) q result m n a b
     failed_steps failed = calls_steps rack q result m n a b held stand only after serves pages (beside_then q m mid n is.beside falls.beside)
         (ap (λ (v : Vec Places). size_in v.items q) falls.placed.now ∙ is.size) (ap (λ (v : Vec Places). length (bits_in v.items q)) falls.placed.now ∙ is.bits)
+        (ap (λ (v : Vec Places). bits_in v.items q) (falls.placed.last ∙ is.last))
         (ok_of result failed) (err_of result) (λ out. falls.fell there)
       where
         ok_of : (r : Result T E) → IsErr r → OnOk r (stands_in n q ≡ true)
@@ -258,7 +259,7 @@ module _ {S T E : Type 0} (rack : Ghosts S) (call : RackCall) (q : ℕ) (result 
   same_ok (Err x) = tt
 
   pub idle_steps : Steps rack call q result m m a a
-  idle_steps = still_steps rack call q result m m a held (beside_self q m) refl (λ r at. at) (same_ok result) (held.bare q)
+  idle_steps = still_steps rack call q result m m a held (beside_self q m) refl refl (λ r at. at) (same_ok result) (held.bare q)
 
 pub idle_keeps : {S : Type 0} (rack : Ghosts S) (m : Memory) (a : S) → KeepsStill rack m m a a
 idle_keeps rack m a = still_keeps rack m m a (rewrites_less 0 m m (rewrites_self 0 m))

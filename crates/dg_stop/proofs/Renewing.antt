@@ -1,5 +1,5 @@
 -- What a double rack keeps, where a member was made anew, or has no header that counts any more.
-use Rattle.std.proofs.Common.{◌≡◌, ◌≢◌, ◌≤◌, ◌/◌, ◌⊎◌, ℕ, true, List, refl, sym, ◌∙◌, ap, arith, inl, inr, subst}
+use Rattle.std.proofs.Common.{◌≡◌, ◌≢◌, ◌≤◌, ◌<◌, ◌/◌, ◌⊎◌, ℕ, true, List, refl, sym, ◌∙◌, ap, arith, inl, inr, subst}
 use Rattle.std.proofs.lemmas.Bool.{false≢true}
 use Rattle.std.specs.Prelude.{◌==◌, if◌then◌else◌, is_some, Option, Some, None, IsSome}
 use Rattle.dg_io.specs.Kept.{HasAnother, IsNothing, Kept, without}
@@ -19,6 +19,7 @@ pub record IsElsewhere (q : ℕ) (old new : Memory) : Type 0 where
   pub stands : (r : ℕ) → r ≢ q → stands_in new r ≡ stands_in old r
   pub known : (r : ℕ) → r ≢ q → known_in new r ≡ known_in old r
   pub own : stands_in new q ≡ true → known_in new q ≡ true
+  pub number : known_in new q ≡ true → q < 32
   pub sizes : (r : ℕ) → r ≢ q → sizes_in new r ≡ sizes_in old r
   pub last : (r x : ℕ) → r ≢ q → last_in new r x ≡ last_in old r x
   pub room : new.room ≡ old.room
@@ -67,11 +68,18 @@ module _ (q : ℕ) (old new : Memory) (before after : ℕ → List ℕ) (beside 
     | inr apart ↦ beside.known r apart ∙ guards.known r (stood r apart at)
   ]
 
+  numbers : GuardsAll old before → (r : ℕ) → known_in new r ≡ true → r < 32
+  numbers guards r at = elim (same_or_not r q) [
+    | inl e ↦ subst (λ (x : ℕ). x < 32) (sym e) (beside.number (subst (λ (x : ℕ). known_in new x ≡ true) e at))
+    | inr apart ↦ guards.numbers r (sym (beside.known r apart) ∙ at)
+  ]
+
   pub renewed_guards : GuardsAll old before → GuardsAll new after
   renewed_guards guards = record {
     guarded = rw (beside.room, beside.commit, beside.top) (guarded guards.guarded);
     low = omega (arith, guards.low, beside.commit, beside.top);
     known = knows guards;
+    numbers = numbers guards;
   }
 
   none_after : NoneCommitted before → NoneCommitted after

@@ -69,29 +69,34 @@ none_reopened before after was none kept old = record {
   last = λ d q lead next leads. absurd (none next.member next.header next.is.has next.is.mark);
 }
 
+-- what commit s kept, by any header of it
+pub completes_by : (s room : ℕ) (extra : List ℕ) (count : ℕ) (target : ℕ → List ℕ) (all : ℕ → List ℕ) → Completes s room extra count target all
+    → (kept : Kept) → Names s extra target all kept → (q : ℕ) (lead : Header) → HasHeader q (all q) lead → lead.sequence ≡ s → KeptBy all s lead kept
+completes_by s room extra count target all done kept names q lead there e = record {
+  attached = λ r h at. names.has r h at.has at.sequence ∙ ap (λ (x : List ℕ). Some x) (sym (done.entry r h at.has at.sequence));
+  others = λ r none. names.hasnt r (λ h has sequence. none h (record {
+    has = has;
+    sequence = sequence;
+    room = done.room_is r h has sequence ∙ sym (done.room_is q lead there e);
+    extra = done.count_is r h has sequence ∙ sym (done.count_is q lead there e);
+  }));
+  extra = λ r h at least. names.extra_is ∙ sym (done.extra_is r h at.has at.sequence);
+}
+
+-- where a header of commit s is committed, it is the last one
+pub completes_last : (s room : ℕ) (extra : List ℕ) (count : ℕ) (target : ℕ → List ℕ) (all : ℕ → List ℕ) → Completes s room extra count target all
+    → (p : ℕ) (k : Header) → IsCommitted all s p k → (d : ℕ) → IsLast all d → d ≡ s
+completes_last s room extra count target all done p k is d next =
+    let up : d ≤ s = omega (arith, done.most next.member next.header next.is.has, next.is.sequence) in
+    let down : s ≤ d = omega (arith, next.most p k is.has is.mark, is.sequence) in
+    omega (arith, up, down)
+
 -- where a header of commit s is committed, the members are reopened as what that commit names
 pub completes_reopened : (s room : ℕ) (extra : List ℕ) (count : ℕ) (target : ℕ → List ℕ) (all : ℕ → List ℕ) → Completes s room extra count target all
     → (p : ℕ) (k : Header) → IsCommitted all s p k → (kept : Kept) → Names s extra target all kept → Reopened all kept
 completes_reopened s room extra count target all done p k is kept names = record {
   nothing = λ none. absurd (none p k is.has is.mark);
   last = λ d q lead next leads.
-      let up : d ≤ s = omega (arith, done.most next.member next.header next.is.has, next.is.sequence) in
-      let down : s ≤ d = omega (arith, next.most p k is.has is.mark, is.sequence) in
-      let same : d ≡ s = omega (arith, up, down) in
-      subst (λ (x : ℕ). KeptBy all x lead kept) (sym same) (by lead q (subst (λ (x : ℕ). Leads all x q lead) same leads));
+      let same : d ≡ s = completes_last s room extra count target all done p k is d next in
+      subst (λ (x : ℕ). KeptBy all x lead kept) (sym same) (completes_by s room extra count target all done kept names q lead leads.is.has (leads.is.sequence ∙ same));
 }
-  where
-    attach : (lead : Header) (q : ℕ) → Leads all s q lead → (r : ℕ) (h : Header) → HasHeader r (all r) h → h.sequence ≡ s → IsAttached all s lead r h
-    attach lead q leads r h has sequence = record {
-      has = has;
-      sequence = sequence;
-      room = done.room_is r h has sequence ∙ sym (done.room_is q lead leads.is.has leads.is.sequence);
-      extra = done.count_is r h has sequence ∙ sym (done.count_is q lead leads.is.has leads.is.sequence);
-    }
-
-    by : (lead : Header) (q : ℕ) → Leads all s q lead → KeptBy all s lead kept
-    by lead q leads = record {
-      attached = λ r h at. names.has r h at.has at.sequence ∙ ap (λ (x : List ℕ). Some x) (sym (done.entry r h at.has at.sequence));
-      others = λ r none. names.hasnt r (λ h has sequence. none h (attach lead q leads r h has sequence));
-      extra = λ r h at least. names.extra_is ∙ sym (done.extra_is r h at.has at.sequence);
-    }

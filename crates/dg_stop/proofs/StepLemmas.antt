@@ -13,7 +13,7 @@ use Rattle.dg_io.specs.declared.outside.Rack.{Ghosts}
 use Rattle.dg_model.specs.Causes.{RoseByOne}
 use Rattle.dg_stop.proofs.Committing.{same_or_not}
 use Rattle.dg_stop.proofs.Keeping.{Carries, Narrows, narrows_guards, narrows_keeps, pages_carry}
-use Rattle.dg_stop.proofs.OneCommit.{told_both}
+use Rattle.dg_stop.proofs.OneCommit.{same_at, told_both}
 use Rattle.dg_stop.proofs.PieceLemmas.{torn_pages_size}
 use Rattle.dg_stop.specs.DoubleLaws.{both_of, seen_some, some_seen}
 use Rattle.dg_stop.specs.Doubles.{AreHeld, Double, DoubleMade, GuardsAll, IsBeside, KeepsStill, Steps, double_stands, double_words, fell_in, known_in, last_in, seen_in, sizes_in, stands_in}
@@ -65,8 +65,8 @@ if_known false x is = absurd (false≢true is)
 pub same_known : (b c : Bool) (x y : List ℕ) → c ≡ b → y ≡ x → (if c then y else []) ≡ (if b then x else [])
 same_known b c x y known same = ap (λ (d : Bool). if d then y else []) known ∙ ap (λ (l : List ℕ). if b then l else []) same
 
-pub known_same : (known : ℕ → Bool) (x y : ℕ → Option (List ℕ)) (r : ℕ) → IsSome (y r) → Told IsSame (x r) (y r) → known_at known y r ≡ known_at known x r
-known_same known x y r told same = same_known (known r) (known r) (bytes_or (x r)) (bytes_or (y r)) refl (told_both IsSame (x r) (y r) same told)
+pub known_same : (known : ℕ → Bool) (x y : ℕ → Option (List ℕ)) (r : ℕ) → (known r ≡ true → IsSome (y r)) → Told IsSame (x r) (y r) → known_at known y r ≡ known_at known x r
+known_same known x y r told same = same_at known r (x r) (y r) same told
 
 pub known_other : (m n : Memory) (bytes : ℕ → Option (List ℕ)) → ((r : ℕ) → known_in n r ≡ known_in m r) → (r : ℕ) → known_at (known_in n) bytes r ≡ known_at (known_in m) bytes r
 known_other m n bytes known r = same_known (known_in m r) (known_in n r) (bytes_or (bytes r)) (bytes_or (bytes r)) (known r) refl
@@ -84,20 +84,20 @@ module _ {S : Type 0} (rack : Ghosts S) (q : ℕ) (m n : Memory) (a b : S) (held
   carry guards told =
       let is = guards.known q stand in
       pages_carry m q (known_at (known_in m) (rack.bytes a)) guards stand (bytes_or (rack.bytes a q)) (bytes_or (rack.bytes b q))
-      (told_both (TornPages (table_size (sizes_in m q) m.room) (sizes_in m q) (last_in m q)) (rack.bytes a q) (rack.bytes b q) pages (told q))
+      (told_both (TornPages (table_size (sizes_in m q) m.room) (sizes_in m q) (last_in m q)) (rack.bytes a q) (rack.bytes b q) pages (told q (guards.numbers q is)))
       (sym (if_known (known_in m q) (bytes_or (rack.bytes a q)) is)) (known_at (known_in m) (rack.bytes b)) (if_known (known_in m q) (bytes_or (rack.bytes b q)) is)
-      (λ r far. known_same (known_in m) (rack.bytes a) (rack.bytes b) r (told r) (others r far))
+      (λ r far. known_same (known_in m) (rack.bytes a) (rack.bytes b) r (λ at. told r (guards.numbers r at)) (others r far))
 
   pub pages_keep : KeepsStill rack m n a b
   pages_keep None keeps = (
     steady_on.0 (keeps.0),
     λ told. narrows_guards m n (known_at (known_in m) (rack.bytes b)) (known_at (known_in n) (rack.bytes b)) less (known_other m n (rack.bytes b) less.known)
-        (carry (keeps.1 (λ r. tells r (told r))) told).guards,
+        (carry (keeps.1 (λ r low. tells r (told r low))) told).guards,
   )
   pages_keep (Some kept) keeps = (
     steady_on.0 (keeps.0),
     λ told.
-        let was = keeps.1 (λ r. tells r (told r)) in
+        let was = keeps.1 (λ r low. tells r (told r low)) in
         let carried = carry was.0 told in (
           narrows_guards m n (known_at (known_in m) (rack.bytes b)) (known_at (known_in n) (rack.bytes b)) less (known_other m n (rack.bytes b) less.known) carried.guards,
           narrows_keeps m n (known_at (known_in m) (rack.bytes b)) (known_at (known_in n) (rack.bytes b)) less (known_other m n (rack.bytes b) less.known) kept (carried.keeps kept was.1),
@@ -130,7 +130,7 @@ ok_on (Err x) P Q f is = tt
 module _ {S T E : Type 0} (rack : Ghosts S) (q : ℕ) (result : Result T E) (m n : Memory) (a b : S) (held : AreHeld rack m a) (stand : stands_in m q ≡ true)
     (only : MadeOnly rack (IsOn q) a b) (after : (x y : S) (k : List RackCall) → rack.made x k y → After rack k x y) (serves : Serves rack q result a b)
     (pages : Told (TornPages (table_size (sizes_in m q) m.room) (sizes_in m q) (last_in m q)) (rack.bytes a q) (rack.bytes b q))
-    (beside : IsBeside q m n) (size : sizes_in n q ≡ sizes_in m q) (bits : length (bits_in n.current.items q) ≡ length (bits_in m.current.items q))
+    (beside : IsBeside q m n) (size : sizes_in n q ≡ sizes_in m q) (bits : length (bits_in n.current.items q) ≡ length (bits_in m.current.items q)) (lasts : bits_in n.last.items q ≡ bits_in m.last.items q)
     (ok : OnOk result (stands_in n q ≡ true)) (err : OnErr result (stands_in n q ≡ false)) (fell : stands_in n q ≡ false → fell_in n q ≡ true) where
   was : Sized rack m.current.items m.room q a
   was = held.sized q stand
@@ -171,6 +171,11 @@ module _ {S T E : Type 0} (rack : Ghosts S) (q : ℕ) (result : Result T E) (m n
         | inr far ↦ other_sized r far at
       ];
       bare = bare;
+      paired = λ r at. elim (same_or_not r q) [
+        | inl e ↦ subst (λ (x : ℕ). length (bits_in n.last.items x) ≡ bits_of (sizes_in n x)) (sym e)
+            (ap (λ (l : List ℕ). length l) lasts ∙ held.paired q stand ∙ ap bits_of (sym size))
+        | inr far ↦ ap (λ (l : List ℕ). length l) (beside.last r far) ∙ held.paired r (sym (beside.stands r far) ∙ at) ∙ ap bits_of (sym (beside.sizes r far))
+      ];
       few = omega (arith, held.few, beside.count);
     };
     same_rack = serves.same_rack;
@@ -187,7 +192,7 @@ module _ {S T E : Type 0} (rack : Ghosts S) (q : ℕ) (result : Result T E) (m n
 -- ---- calls that reach nothing behind
 
 module _ {S T E : Type 0} (rack : Ghosts S) (call : RackCall) (q : ℕ) (result : Result T E) (m n : Memory) (a : S) (held : AreHeld rack m a)
-    (beside : IsBeside q m n) (same : n.current ≡ m.current) (only : (r : ℕ) → stands_in n r ≡ true → stands_in m r ≡ true) (ok : OnOk result (stands_in n q ≡ stands_in m q))
+    (beside : IsBeside q m n) (same : n.current ≡ m.current) (lasts : n.last ≡ m.last) (only : (r : ℕ) → stands_in n r ≡ true → stands_in m r ≡ true) (ok : OnOk result (stands_in n q ≡ stands_in m q))
     (bare : stands_in n q ≡ false → fell_in n q ≡ false → sizes_in n q ≡ 0) where
   itself : (x : Option (List ℕ)) → Told IsSame x x
   itself None = tt
@@ -201,6 +206,7 @@ module _ {S T E : Type 0} (rack : Ghosts S) (call : RackCall) (q : ℕ) (result 
         | inl e ↦ subst (λ (x : ℕ). sizes_in n x ≡ 0) (sym e) (bare (subst (λ (x : ℕ). stands_in n x ≡ false) e at) (subst (λ (x : ℕ). fell_in n x ≡ false) e gone))
         | inr far ↦ beside.sizes r far ∙ held.bare r (sym (beside.stands r far) ∙ at) (sym (beside.fell r far) ∙ gone)
       ];
+      paired = λ r at. rw (same, lasts) (held.paired r (only r at));
       few = omega (arith, held.few, beside.count);
     };
     same_rack = refl;

@@ -3,12 +3,12 @@ use Rattle.std.proofs.Common.{◌≡◌, ◌≢◌, ◌≤◌, ◌<◌, ◌/◌,
 use Rattle.std.specs.Prelude.{Some, None}
 use Rattle.dg_io.specs.Kept.{Kept}
 use Rattle.dg_stop.proofs.Committing.{committed_back, commits_ready, has_written, prepared_reopened, same_or_not, was_or_is}
-use Rattle.dg_stop.proofs.Reopening.{completes_reopened}
+use Rattle.dg_stop.proofs.Reopening.{completes_by, completes_last, completes_reopened}
 use Rattle.dg_stop.specs.Headers.{Header, HasHeader, IsHeader, header_table}
 use Rattle.dg_stop.specs.Layouts.{names_second, table_place}
 use Rattle.dg_stop.specs.Changes.{Completes, Names}
 use Rattle.dg_stop.specs.Commits.{AreGuarded, ArePrepared, HasNone, IsFresh, IsNamed, IsReady, Prepares, WritesHeader, as_committed}
-use Rattle.dg_stop.specs.Reopens.{Reopened, IsCommitted}
+use Rattle.dg_stop.specs.Reopens.{Reopened, IsCommitted, IsLast, KeptBy}
 use Rattle.dg_stop.specs.Stops.{HasLanded, IsStopped, NamedOrNone, NotLanded, StopsLeaveOldOrNew, entry_by, new_kept}
 
 pub committed_is : (h : Header) → IsHeader h → IsHeader (as_committed h)
@@ -105,6 +105,12 @@ module _ (stands : ℕ → Bool) (sizes : ℕ → ℕ) (room : ℕ) (places : �
   pub landed_reopened : (q : ℕ) (h : Header) → IsCommitted after s q h → Reopened after (new_kept s heads extra targets middle stopped.named)
   landed_reopened q h is =
       completes_reopened s room extra count targets after completes q h is (new_kept s heads extra targets middle stopped.named) names
+
+  pub landed_kept : (q : ℕ) (h : Header) → IsCommitted after s q h → KeptBy after s h (new_kept s heads extra targets middle stopped.named)
+  landed_kept q h is = completes_by s room extra count targets after completes (new_kept s heads extra targets middle stopped.named) names q h is.has is.sequence
+
+  pub landed_last : (q : ℕ) (h : Header) → IsCommitted after s q h → (d : ℕ) → IsLast after d → d ≡ s
+  landed_last q h is d last = completes_last s room extra count targets after completes q h is d last
 
   pub stopped_reopened : IsFresh before p → HasLanded s middle after → (kept : Kept) → Reopened before kept
       → (Reopened after kept) ⊎ (Reopened after (new_kept s heads extra targets middle stopped.named))

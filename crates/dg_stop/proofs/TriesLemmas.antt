@@ -9,15 +9,16 @@ use Rattle.dg_io.specs.MakesLaws.{makes_both, makes_none, makes_such}
 use Rattle.dg_io.specs.declared.outside.Rack.{Ghosts}
 use Rattle.dg_model.specs.Causes.{Rose}
 use Rattle.dg_stop.proofs.Frames.{itself_pages, told_both_pages}
-use Rattle.dg_stop.proofs.OneCommit.{both_at, guarded_only, lt_or, reopened_same}
+use Rattle.dg_stop.proofs.OneCommit.{both_at, guarded_only, held_same, lt_or}
 use Rattle.dg_stop.proofs.Committing.{same_or_not}
 use Rattle.dg_stop.proofs.Ranges.{seen_same}
+use Rattle.dg_stop.specs.Anchors.{Holds, IsAnchored, IsHeldBy, Stays}
 use Rattle.dg_stop.specs.Commits.{AreGuarded, IsFresh}
 use Rattle.dg_stop.specs.Layouts.{SamePages, bit_in, spot, table_size}
-use Rattle.dg_stop.specs.Phases.{IsFewer, IsServed, LeavesKept, LeavesOnce, LeavesTries, Sized, StandsAfter, TellsAll, all_kept, bits_in, flag_in, known_at, size_in, view_of}
+use Rattle.dg_stop.specs.Phases.{IsFewer, IsServed, LeavesKept, LeavesOnce, LeavesTries, Sized, StandsAfter, TellsKnown, all_kept, bits_in, flag_in, known_at, size_in, view_of}
 use Rattle.dg_stop.specs.Reopens.{Reopened}
 use Rattle.dg_stop.specs.Stops.{AreOfOne}
-use Rattle.dg_stop.specs.Tries.{IsCommitOf, TriesKeep, TriesSpare, count_in}
+use Rattle.dg_stop.specs.Tries.{AreTried, TriesKeep, TriesSpare, count_in}
 use Rattle.dg_stop.specs.declared.places.Places.{Places}
 
 -- ---- how many serve
@@ -129,7 +130,7 @@ not_flag true v only is = absurd (false≢true (sym is ∙ only refl))
 not_flag false v only is = refl
 
 -- pages that stand as they were show the same bytes
-view_same : (members : List Places) (room q : ℕ) (b a : List ℕ) → SamePages (table_size (size_in members q) room) b a → view_of members room q a ≡ view_of members room q b
+pub view_same : (members : List Places) (room q : ℕ) (b a : List ℕ) → SamePages (table_size (size_in members q) room) b a → view_of members room q a ≡ view_of members room q b
 view_same members room q b a same =
     seen_same (table_size (size_in members q) room) (size_in members q) (bit_in (bits_in members q)) (bit_in (bits_in members q)) a b
     (λ o low. same.bytes (spot (table_size (size_in members q) room) (bit_in (bits_in members q)) o) (omega arith))
@@ -138,10 +139,25 @@ some_if : (b : Bool) (x y : List ℕ) → (b ≡ true → x ≡ y) → (if b the
 some_if true x y same = ap (λ (l : List ℕ). Some l) (same refl)
 some_if false x y same = refl
 
+-- what is kept stays, whoever of those that stood stands on
+anchored_less : (stand on : ℕ → Bool) (all : ℕ → List ℕ) (kept : Kept) → ((q : ℕ) → on q ≡ true → stand q ≡ true) → IsAnchored stand all kept → IsAnchored on all kept
+anchored_less stand on all kept only was c last =
+    let held : IsHeldBy stand all c kept = was c last in
+    record { lead = held.lead; by = held.by; one = held.one; on = λ q at. held.on q (only q at) }
+
+stays_none : (stand on : ℕ → Bool) (all : ℕ → List ℕ) (kept : Kept) → ((q : ℕ) → on q ≡ true → stand q ≡ true) → Reopened all kept → Stays stand on all all kept
+stays_none stand on all kept only was = record { reopened = was; anchored = anchored_less stand on all kept only }
+
+stays_then : (stand now on : ℕ → Bool) (before middle after : ℕ → List ℕ) (kept : Kept) → Stays stand now before middle kept → Stays now on middle after kept → Stays stand on before after kept
+stays_then stand now on before middle after kept first second = record { reopened = second.reopened; anchored = λ old. second.anchored (first.anchored old) }
+
+only_after : (stand on : ℕ → Bool) (served serves : List Bool) → ((q : ℕ) → flag_in serves q ≡ true → stand q ≡ true) → StandsAfter stand served serves on → (q : ℕ) → on q ≡ true → stand q ≡ true
+only_after stand on served serves serve_stand after q at = elim (after q at) [ inl is ↦ serve_stand q is | inr out ↦ out.0 ]
+
 pub spare_none : {S : Type 0} (rack : Ghosts S) (members : List Places) (room last top : ℕ) (served : List Bool) (old : S) → TriesSpare rack members room last top top served served old old
-spare_none rack members room last top served old steady told known stand stand_known serve_stand places guarded = (
-  λ on after. guarded_only stand on (size_in members) room places last top (known_at known (rack.bytes old)) guarded (λ q at. elim (after q at) [ inl serves ↦ serve_stand q serves | inr out ↦ out.0 ]),
-  λ low fresh kept was. (was, fresh),
+spare_none rack members room last top served old steady known stand told stand_known serve_stand places guarded = (
+  λ on after. guarded_only stand on (size_in members) room places last top (known_at known (rack.bytes old)) guarded (only_after stand on served served serve_stand after),
+  λ low fresh kept was on after. (stays_none stand on (known_at known (rack.bytes old)) kept (only_after stand on served served serve_stand after) was, fresh),
 )
 
 abbrev number_of : Option ℕ → ℕ
@@ -151,11 +167,11 @@ number_of (Some n) = n
 module _ {S : Type 0} (rack : Ghosts S) (members : List Places) (room : ℕ) (extra : List ℕ) (last top mid_top s : ℕ) (served flags serves : List Bool) (old mid new : S)
     (before : top ≤ mid_top) (above : mid_top < s) (apart : s % 2 ≢ last % 2)
     (first : LeavesTries rack members room served flags old mid) (spare : TriesSpare rack members room last top mid_top served flags old mid) where
-  module _ (second : LeavesTries rack members room flags serves mid new) (steady : rack.steady old) (told : TellsAll (rack.bytes new))
-      (known stand : ℕ → Bool) (stand_known : (q : ℕ) → stand q ≡ true → known q ≡ true) (serve_stand : (q : ℕ) → flag_in served q ≡ true → stand q ≡ true)
+  module _ (second : LeavesTries rack members room flags serves mid new) (steady : rack.steady old)
+      (known stand : ℕ → Bool) (told : TellsKnown known (rack.bytes new)) (stand_known : (q : ℕ) → stand q ≡ true → known q ≡ true) (serve_stand : (q : ℕ) → flag_in served q ≡ true → stand q ≡ true)
       (places : ℕ → ℕ → Bool) (guarded : AreGuarded stand (size_in members) room places last top (known_at known (rack.bytes old))) where
-    told_mid : TellsAll (rack.bytes mid)
-    told_mid q = second.tells q (told q)
+    told_mid : TellsKnown known (rack.bytes mid)
+    told_mid q at = second.tells q (told q at)
 
     now : ℕ → Bool
     now q = stand_now stand served flags q
@@ -179,99 +195,100 @@ module _ {S : Type 0} (rack : Ghosts S) (members : List Places) (room : ℕ) (ex
     ]
 
     guarded_mid : AreGuarded now (size_in members) room places last mid_top (known_at known (rack.bytes mid))
-    guarded_mid = (spare steady told_mid known stand stand_known serve_stand places guarded).0 now now_after
+    guarded_mid = (spare steady known stand told_mid stand_known serve_stand places guarded).0 now now_after
 
     kept_mid : last ≤ top → IsFresh (known_at known (rack.bytes old)) last → (kept : Kept) → Reopened (known_at known (rack.bytes old)) kept
-        → Reopened (known_at known (rack.bytes mid)) kept × IsFresh (known_at known (rack.bytes mid)) last
-    kept_mid = (spare steady told_mid known stand stand_known serve_stand places guarded).1
+        → Stays stand now (known_at known (rack.bytes old)) (known_at known (rack.bytes mid)) kept × IsFresh (known_at known (rack.bytes mid)) last
+    kept_mid low fresh kept was = (spare steady known stand told_mid stand_known serve_stand places guarded).1 low fresh kept was now now_after
 
     -- the bytes of a member that served when the try began are those that it had at first
     views : (q : ℕ) → flag_in flags q ≡ true → view_of members room q (known_at known (rack.bytes mid) q) ≡ view_of members room q (known_at known (rack.bytes old) q)
     views q is = view_same members room q (known_at known (rack.bytes old) q) (known_at known (rack.bytes mid) q)
         (both_at known q (stand_known q (serve_stand q (first.only q is))) (SamePages (table_size (size_in members q) room)) (rack.bytes old q) (rack.bytes mid q) (first.pages q) (told_mid q))
 
-    as_first : (all : ℕ → List ℕ) → Reopened all (all_kept members room extra flags (known_at known (rack.bytes mid))) → Reopened all (all_kept members room extra flags (known_at known (rack.bytes old)))
-    as_first all was = reopened_same all (all_kept members room extra flags (known_at known (rack.bytes mid))) (all_kept members room extra flags (known_at known (rack.bytes old)))
+    as_first : (on : ℕ → Bool) (all : ℕ → List ℕ) → Holds on all (all_kept members room extra flags (known_at known (rack.bytes mid)))
+        → Holds on all (all_kept members room extra flags (known_at known (rack.bytes old)))
+    as_first on all was = held_same on all (all_kept members room extra flags (known_at known (rack.bytes mid))) (all_kept members room extra flags (known_at known (rack.bytes old)))
         (λ q. some_if (flag_in flags q) (view_of members room q (known_at known (rack.bytes old) q)) (view_of members room q (known_at known (rack.bytes mid) q)) (λ is. sym (views q is))) refl was
 
   -- a try that wasn't made
   pub spare_both : (once : LeavesOnce rack members room false flags serves mid new) → LeavesKept rack members s room extra false flags serves mid new → TriesSpare rack members room last top s served serves old new
-  spare_both once kept_by steady told known stand stand_known serve_stand places guarded =
-      let all = kept_by (first.steady_on.0 steady) told known (now once.tries steady told known stand stand_known serve_stand places guarded)
-      (now_known once.tries steady told known stand stand_known serve_stand places guarded) (flag_now once.tries steady told known stand stand_known serve_stand places guarded) places last mid_top
-      (guarded_mid once.tries steady told known stand stand_known serve_stand places guarded) above apart in (
-        λ on after. (all.0 on (after_now once.tries steady told known stand stand_known serve_stand places guarded on after)).untried refl,
-        λ low fresh kept was.
-            let was_mid = kept_mid once.tries steady told known stand stand_known serve_stand places guarded low fresh kept was in
-            let done = all.1 was_mid.1 kept was_mid.0 in
-            (done.untried refl, done.fresh (omega (arith, low, before, above))),
+  spare_both once kept_by steady known stand told stand_known serve_stand places guarded =
+      let all = kept_by (first.steady_on.0 steady) known (now once.tries steady known stand told stand_known serve_stand places guarded) told
+      (now_known once.tries steady known stand told stand_known serve_stand places guarded) (flag_now once.tries steady known stand told stand_known serve_stand places guarded) places last mid_top
+      (guarded_mid once.tries steady known stand told stand_known serve_stand places guarded) above apart in (
+        λ on after. (all.0 on (after_now once.tries steady known stand told stand_known serve_stand places guarded on after)).untried refl,
+        λ low fresh kept was on after.
+            let was_mid = kept_mid once.tries steady known stand told stand_known serve_stand places guarded low fresh kept was in
+            let done = all.1 was_mid.1 kept was_mid.0.reopened on (after_now once.tries steady known stand told stand_known serve_stand places guarded on after) in (
+              stays_then stand (now once.tries steady known stand told stand_known serve_stand places guarded) on (known_at known (rack.bytes old)) (known_at known (rack.bytes mid)) (known_at known (rack.bytes new)) kept
+                  was_mid.0 (done.untried refl),
+              done.fresh (omega (arith, low, before, above)),
+            ),
       )
 
-  commit_of : (once : LeavesOnce rack members room true flags serves mid new) → (steady : rack.steady old) → (told : TellsAll (rack.bytes new)) → (known stand : ℕ → Bool)
+  commit_of : (once : LeavesOnce rack members room true flags serves mid new) → (steady : rack.steady old) → (known stand : ℕ → Bool) → (told : TellsKnown known (rack.bytes new))
       → (stand_known : (q : ℕ) → stand q ≡ true → known q ≡ true) → (serve_stand : (q : ℕ) → flag_in served q ≡ true → stand q ≡ true) → (places : ℕ → ℕ → Bool)
       → (guarded : AreGuarded stand (size_in members) room places last top (known_at known (rack.bytes old)))
-      → Reopened (known_at known (rack.bytes new)) (all_kept members room extra flags (known_at known (rack.bytes mid)))
-      → IsCommitOf members room extra served serves (known_at known (rack.bytes old)) (known_at known (rack.bytes new))
-  commit_of once steady told known stand stand_known serve_stand places guarded was = record {
-    tried = flags;
-    only = first.only;
-    wider = once.tries.only;
-    reopened = as_first once.tries steady told known stand stand_known serve_stand places guarded (known_at known (rack.bytes new)) was;
-  }
+      → (on : ℕ → Bool) → Holds on (known_at known (rack.bytes new)) (all_kept members room extra flags (known_at known (rack.bytes mid)))
+      → Holds on (known_at known (rack.bytes new)) (all_kept members room extra flags (known_at known (rack.bytes old)))
+  commit_of once steady known stand told stand_known serve_stand places guarded on was =
+      as_first once.tries steady known stand told stand_known serve_stand places guarded on (known_at known (rack.bytes new)) was
 
   -- a try that was made
   pub keep_both : (answer : Option ℕ) → ((t : ℕ) → answer ≡ Some t → (t ≡ s) × ((q : ℕ) × (flag_in serves q ≡ true))) → (answer ≡ None → (q : ℕ) → flag_in serves q ≡ false)
       → (once : LeavesOnce rack members room true flags serves mid new) → LeavesKept rack members s room extra true flags serves mid new
-      → TriesKeep rack members room extra last top s answer served serves old new
-  keep_both answer some none once kept_by steady told known stand stand_known serve_stand places guarded =
-      let all = kept_by (first.steady_on.0 steady) told known (now once.tries steady told known stand stand_known serve_stand places guarded)
-      (now_known once.tries steady told known stand stand_known serve_stand places guarded) (flag_now once.tries steady told known stand stand_known serve_stand places guarded) places last mid_top
-      (guarded_mid once.tries steady told known stand stand_known serve_stand places guarded) above apart in (
+      → TriesKeep rack members room extra last top s answer flags served serves old new
+  keep_both answer some none once kept_by steady known stand told stand_known serve_stand places guarded =
+      let all = kept_by (first.steady_on.0 steady) known (now once.tries steady known stand told stand_known serve_stand places guarded) told
+      (now_known once.tries steady known stand told stand_known serve_stand places guarded) (flag_now once.tries steady known stand told stand_known serve_stand places guarded) places last mid_top
+      (guarded_mid once.tries steady known stand told stand_known serve_stand places guarded) above apart in (
         λ on after.
-            let guards = all.0 on (after_now once.tries steady told known stand stand_known serve_stand places guarded on after) in
+            let guards = all.0 on (after_now once.tries steady known stand told stand_known serve_stand places guarded on after) in
             record {
               lost = λ is. guards.lost refl (none is);
               made = λ t is.
                   let found = some t is in
                   let done = guards.made refl found.1.0 found.1.1 in
                   subst (λ (x : ℕ). AreGuarded on (size_in members) room (λ r. bit_in (bits_in members r)) x x (known_at known (rack.bytes new)) × IsFresh (known_at known (rack.bytes new)) x
-                  × IsCommitOf members room extra served serves (known_at known (rack.bytes old)) (known_at known (rack.bytes new))) (sym found.0)
-                  (done.0, done.1, commit_of once steady told known stand stand_known serve_stand places guarded done.2);
+                  × Holds on (known_at known (rack.bytes new)) (all_kept members room extra flags (known_at known (rack.bytes old)))) (sym found.0)
+                  (done.0, done.1, commit_of once steady known stand told stand_known serve_stand places guarded on done.2);
               one = λ t q lead is has at.
                   let same : t ≡ s = (some t is).0 in
                   subst (λ (x : ℕ). AreOfOne x lead extra (known_at known (rack.bytes new))) (sym same) (guards.one refl q lead has (at ∙ same));
             },
-        λ low fresh kept was.
-            let was_mid = kept_mid once.tries steady told known stand stand_known serve_stand places guarded low fresh kept was in
-            let done = all.1 was_mid.1 kept was_mid.0 in
+        λ low fresh kept was on after.
+            let was_mid = kept_mid once.tries steady known stand told stand_known serve_stand places guarded low fresh kept was in
+            let done = all.1 was_mid.1 kept was_mid.0.reopened on (after_now once.tries steady known stand told stand_known serve_stand places guarded on after) in
             record {
               fresh = done.fresh (omega (arith, low, before, above));
               either = elim done.either [
-                | inl old ↦ inl old
-                | inr new_one ↦ inr (commit_of once steady told known stand stand_known serve_stand places guarded new_one)
+                | inl is ↦ inl (stays_then stand (now once.tries steady known stand told stand_known serve_stand places guarded) on (known_at known (rack.bytes old)) (known_at known (rack.bytes mid))
+                    (known_at known (rack.bytes new)) kept was_mid.0 is)
+                | inr is ↦ inr (commit_of once steady known stand told stand_known serve_stand places guarded on is)
               ];
             },
       )
 
   pub keep_some : (q : ℕ) × (flag_in serves q ≡ true) → (once : LeavesOnce rack members room true flags serves mid new) → LeavesKept rack members s room extra true flags serves mid new
-      → TriesKeep rack members room extra last top s (Some s) served serves old new
+      → TriesKeep rack members room extra last top s (Some s) flags served serves old new
   keep_some found once kept_by = keep_both (Some s) (λ t is. (sym (ap number_of is), found)) (λ is. absurd (false≢true (sym (ap is_some is)))) once kept_by
 
   pub keep_lost : ((q : ℕ) → flag_in serves q ≡ false) → (once : LeavesOnce rack members room true flags serves mid new) → LeavesKept rack members s room extra true flags serves mid new
-      → TriesKeep rack members room extra last top s None served serves old new
+      → TriesKeep rack members room extra last top s None flags served serves old new
   keep_lost none once kept_by = keep_both None (λ t is. absurd (false≢true (ap is_some is))) (λ is. none) once kept_by
 
 -- no member serves: nothing more is tried
-pub keep_none : {S : Type 0} (rack : Ghosts S) (members : List Places) (room : ℕ) (extra : List ℕ) (last top next : ℕ) (served serves : List Bool) (old new : S)
-    → TriesSpare rack members room last top next served serves old new → TriesKeep rack members room extra last top next None served serves old new
-keep_none rack members room extra last top next served serves old new spare steady told known stand stand_known serve_stand places guarded =
-    let all = spare steady told known stand stand_known serve_stand places guarded in (
+pub keep_none : {S : Type 0} (rack : Ghosts S) (members : List Places) (room : ℕ) (extra : List ℕ) (last top next : ℕ) (tried served serves : List Bool) (old new : S)
+    → TriesSpare rack members room last top next served serves old new → TriesKeep rack members room extra last top next None tried served serves old new
+keep_none rack members room extra last top next tried served serves old new spare steady known stand told stand_known serve_stand places guarded =
+    let all = spare steady known stand told stand_known serve_stand places guarded in (
       λ on after. record {
         lost = λ is. all.0 on after;
         made = λ s is. absurd (not_some s is);
         one = λ s q lead is. absurd (not_some s is);
       },
-      λ low fresh kept was. let done = all.1 low fresh kept was in record { fresh = done.1; either = inl done.0 },
+      λ low fresh kept was on after. let done = all.1 low fresh kept was on after in record { fresh = done.1; either = inl done.0 },
     )
   where
     not_some : (s : ℕ) → ◌≡◌ {A = Option ℕ} None (Some s) → ⊥
@@ -287,33 +304,36 @@ next_near top last r least = elim (same_or_not ((top + 1) % 2) (last % 2)) [
 ]
 
 -- what holds before each try
-pub record TriesSoFar {S : Type 0} (rack : Ghosts S) (members : List Places) (room last top : ℕ) (served flags : List Bool) (next : ℕ) (old mid : S) : Type 0 where
+pub record TriesSoFar {S : Type 0} (rack : Ghosts S) (members : List Places) (room last top : ℕ) (served flags tried : List Bool) (next : ℕ) (old mid : S) : Type 0 where
   pub low : top ≤ next
   pub budget : next + 2 * count_in flags ≤ top + 64
   pub count : length flags ≡ 32
+  pub tries : AreTried tried served flags
   pub leaves : LeavesTries rack members room served flags old mid
   pub spare : TriesSpare rack members room last top next served flags old mid
 
 pub so_far_none : {S : Type 0} (rack : Ghosts S) (members : List Places) (room last top : ℕ) (served : List Bool) (old : S) → length served ≡ 32
-    → ((q : ℕ) → flag_in served q ≡ true → Sized rack members room q old) → TriesSoFar rack members room last top served served top old old
+    → ((q : ℕ) → flag_in served q ≡ true → Sized rack members room q old) → TriesSoFar rack members room last top served served served top old old
 so_far_none rack members room last top served old count sized = record {
   low = omega arith;
   budget = omega (arith, count, count_most served);
   count = count;
+  tries = record { only = λ q is. is; wider = λ q is. is };
   leaves = tries_none rack members room served old sized;
   spare = spare_none rack members room last top served old;
 }
 
-pub so_far_next : {S : Type 0} (rack : Ghosts S) (members : List Places) (room : ℕ) (extra : List ℕ) (last top next s : ℕ) (served flags serves : List Bool) (old mid new : S)
-    → TriesSoFar rack members room last top served flags next old mid → next < s → s % 2 ≢ last % 2 → s ≤ next + 2 → length serves ≡ 32
+pub so_far_next : {S : Type 0} (rack : Ghosts S) (members : List Places) (room : ℕ) (extra : List ℕ) (last top next s : ℕ) (served flags tried serves : List Bool) (old mid new : S)
+    → TriesSoFar rack members room last top served flags tried next old mid → next < s → s % 2 ≢ last % 2 → s ≤ next + 2 → length serves ≡ 32
     → LeavesOnce rack members room false flags serves mid new → LeavesKept rack members s room extra false flags serves mid new
-    → TriesSoFar rack members room last top served serves s old new
-so_far_next rack members room extra last top next s served flags serves old mid new so above apart near count once kept =
+    → TriesSoFar rack members room last top served serves flags s old new
+so_far_next rack members room extra last top next s served flags tried serves old mid new so above apart near count once kept =
     let fewer : count_in serves < count_in flags = count_fewer flags serves (so.count ∙ sym count) once.tries.only (once.fewer refl) in
     record {
       low = omega (arith, so.low, above);
       budget = omega (arith, so.budget, near, fewer);
       count = count;
+      tries = record { only = so.leaves.only; wider = once.tries.only };
       leaves = tries_both rack members room served flags serves old mid new so.leaves once.tries;
       spare = spare_both rack members room extra last top next s served flags serves old mid new so.low above apart so.leaves so.spare once kept;
     }

@@ -2,7 +2,7 @@
 use Rattle.std.specs.Prelude.{◌≡◌, ◌⊎◌, ℕ, Bool, true, List, None}
 use Rattle.dg_io.specs.Kept.{Kept}
 use Rattle.dg_stop.specs.Headers.{Header}
-use Rattle.dg_stop.specs.Reopens.{IsCommitted, IsLast, KeptBy}
+use Rattle.dg_stop.specs.Reopens.{IsCommitted, IsLast, KeptBy, Reopened}
 use Rattle.dg_stop.specs.Stops.{AreOfOne}
 
 -- Commit c kept it, the headers of c are of one commit, and each standing member has a committed one or no entry.
@@ -15,3 +15,13 @@ pub record IsHeldBy (stands : ℕ → Bool) (all : ℕ → List ℕ) (c : ℕ) (
 -- so it is of the last commit, if there is one
 abbrev pub IsAnchored : (ℕ → Bool) → (ℕ → List ℕ) → Kept → Type 0
 IsAnchored stands all kept = (c : ℕ) → IsLast all c → IsHeldBy stands all c kept
+
+-- the members are reopened as this checkpoint, and it is anchored
+pub record Holds (stands : ℕ → Bool) (all : ℕ → List ℕ) (kept : Kept) : Type 0 where
+  pub reopened : Reopened all kept
+  pub anchored : IsAnchored stands all kept
+
+-- they are reopened so after a change too, and it is anchored if it was
+pub record Stays (stands on : ℕ → Bool) (before after : ℕ → List ℕ) (kept : Kept) : Type 0 where
+  pub reopened : Reopened after kept
+  pub anchored : IsAnchored stands before kept → IsAnchored on after kept

@@ -127,6 +127,8 @@ pub record AreHeld {S : Type 0} (rack : Ghosts S) (memory : Memory) (now : S) : 
   pub sized : (q : ℕ) → stands_in memory q ≡ true → Sized rack memory.current.items memory.room q now
   -- a member that was never there has no bytes
   pub bare : (q : ℕ) → stands_in memory q ≡ false → fell_in memory q ≡ false → sizes_in memory q ≡ 0
+  -- there are as many bits of its last places
+  pub paired : (q : ℕ) → stands_in memory q ≡ true → length (bits_in memory.last.items q) ≡ bits_of (sizes_in memory q)
   pub few : length memory.current.items ≤ 32
 
 -- ---- what it means. The first argument is what the rack behind means.
@@ -164,6 +166,7 @@ pub record GuardsAll (memory : Memory) (all : ℕ → List ℕ) : Type 0 where
   pub guarded : AreGuarded (stands_in memory) (sizes_in memory) memory.room (last_in memory) memory.commit memory.top all
   pub low : memory.commit ≤ memory.top
   pub known : (q : ℕ) → stands_in memory q ≡ true → known_in memory q ≡ true
+  pub numbers : (q : ℕ) → known_in memory q ≡ true → q < 32
 
 -- they are reopened as this checkpoint
 pub record KeepsAll (memory : Memory) (all : ℕ → List ℕ) (kept : Kept) : Type 0 where

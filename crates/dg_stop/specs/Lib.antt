@@ -1,6 +1,7 @@
 pub mod Anchors
 pub mod Changes
 pub mod Commits
+pub mod DoubleCommits
 pub mod DoubleLaws
 pub mod Doubles
 pub mod FoundHeaders

@@ -7,6 +7,7 @@ use Rattle.dg_model.specs.Causes.{Rose}
 use Rattle.dg_io.specs.Makes.{Makes}
 use Rattle.dg_io.specs.RackCalls.{RackCall}
 use Rattle.dg_io.specs.RackCalls.RackCall.{calls}
+use Rattle.dg_stop.specs.Anchors.{Holds, Stays}
 use Rattle.dg_stop.specs.Headers.{Header, HasHeader}
 use Rattle.dg_stop.specs.Layouts.{SamePages, bit_in, bits_of, double_size, seen, table_size}
 use Rattle.dg_stop.specs.Reopens.{Reopened}
@@ -167,8 +168,13 @@ bytes_or (Some bytes) = bytes
 abbrev pub known_at : (ℕ → Bool) → (ℕ → Option (List ℕ)) → ℕ → List ℕ
 known_at known bytes q = if known q then bytes_or (bytes q) else []
 
+-- the bytes of all members are told
 abbrev pub TellsAll : (ℕ → Option (List ℕ)) → Type 0
-TellsAll bytes = (q : ℕ) → IsSome (bytes q)
+TellsAll bytes = (q : ℕ) → q < 32 → IsSome (bytes q)
+
+-- the bytes of the known members are told
+abbrev pub TellsKnown : (ℕ → Bool) → (ℕ → Option (List ℕ)) → Type 0
+TellsKnown known bytes = (q : ℕ) → known q ≡ true → IsSome (bytes q)
 
 -- the checkpoint of a commit: the bytes of each member that served, and the extra bytes
 abbrev pub all_kept : List Places → ℕ → List ℕ → List Bool → (ℕ → List ℕ) → Kept
@@ -177,10 +183,10 @@ all_kept members room extra served before =
 
 -- What a commit leaves of what was kept: not tried, the old checkpoint; else the old one or that of all members that served.
 pub record KeepsOrCommits (members : List Places) (s room : ℕ) (extra : List ℕ) (tried : Bool) (served serves : List Bool) (p : ℕ)
-    (before after : ℕ → List ℕ) (kept : Kept) : Type 0 where
-  pub untried : tried ≡ false → Reopened after kept
+    (stand on : ℕ → Bool) (before after : ℕ → List ℕ) (kept : Kept) : Type 0 where
+  pub untried : tried ≡ false → Stays stand on before after kept
   pub fresh : p ≤ s → IsFresh after p
-  pub either : (Reopened after kept) ⊎ (Reopened after (all_kept members room extra served before))
+  pub either : Stays stand on before after kept ⊎ Holds on after (all_kept members room extra served before)
 
 -- who may stand after a commit: who serves, and who stood and didn't serve
 abbrev pub StandsAfter : (ℕ → Bool) → List Bool → List Bool → (ℕ → Bool) → Type 0
@@ -194,17 +200,18 @@ pub record Guards (members : List Places) (s room : ℕ) (extra : List ℕ) (pla
   pub lost : tried ≡ true → ((q : ℕ) → flag_in serves q ≡ false) → AreGuarded on (size_in members) room places p s after
   pub made : tried ≡ true → (q : ℕ) → flag_in serves q ≡ true
       → AreGuarded on (size_in members) room (λ r. bit_in (bits_in members r)) s s after × IsFresh after s
-      × Reopened after (all_kept members room extra served before)
+      × Holds on after (all_kept members room extra served before)
   pub one : tried ≡ true → (q : ℕ) (lead : Header) → HasHeader q (after q) lead → lead.sequence ≡ s → AreOfOne s lead extra after
 
--- where the rack is steady and tells its bytes at the end, for whatever was kept of the known members, of which are all that stand, and of
+-- where the rack is steady and tells the known members' bytes at the end, for whatever was kept of these, of which are all that stand, and of
 -- these all that serve
 abbrev pub LeavesKept : {S : Type 0} → Ghosts S → List Places → ℕ → ℕ → List ℕ → Bool → List Bool → List Bool → S → S → Type 0
 LeavesKept rack members s room extra tried served serves old new =
-    rack.steady old → TellsAll (rack.bytes new) → (known stand : ℕ → Bool) → ((q : ℕ) → stand q ≡ true → known q ≡ true)
+    rack.steady old → (known stand : ℕ → Bool) → TellsKnown known (rack.bytes new) → ((q : ℕ) → stand q ≡ true → known q ≡ true)
     → ((q : ℕ) → flag_in served q ≡ true → stand q ≡ true)
     → (places : ℕ → ℕ → Bool) (p top : ℕ) → AreGuarded stand (size_in members) room places p top (known_at known (rack.bytes old)) → top < s → s % 2 ≢ p % 2
     → ((on : ℕ → Bool) → StandsAfter stand served serves on
     → Guards members s room extra places p tried served serves on (known_at known (rack.bytes old)) (known_at known (rack.bytes new)))
     × (IsFresh (known_at known (rack.bytes old)) p → (kept : Kept) → Reopened (known_at known (rack.bytes old)) kept
-    → KeepsOrCommits members s room extra tried served serves p (known_at known (rack.bytes old)) (known_at known (rack.bytes new)) kept)
+    → (on : ℕ → Bool) → StandsAfter stand served serves on
+    → KeepsOrCommits members s room extra tried served serves p stand on (known_at known (rack.bytes old)) (known_at known (rack.bytes new)) kept)

@@ -1,10 +1,11 @@
 -- What a rack over a rack means that is plain, or keeps two places for each page. A plain one is the rack behind, and keeps no checkpoint.
-use Rattle.std.specs.Prelude.{◌≡◌, ◌&&◌, ℕ, Bool, List, Option}
+use Rattle.std.specs.Prelude.{◌≡◌, ◌&&◌, ℕ, Bool, List, Option, None}
 use Rattle.dg_io.specs.Disks.{DiskStates}
 use Rattle.dg_io.specs.Kept.{Kept}
 use Rattle.dg_io.specs.RackCalls.{RackCall}
 use Rattle.dg_io.specs.declared.outside.Rack.{Ghosts}
 use Rattle.dg_model.specs.States.{Counts}
+use Rattle.dg_stop.specs.DoubleCommits.{double_room}
 use Rattle.dg_stop.specs.Doubles.{DoubleMade, HasNoCalls, IsBlank, double_counts, double_disks, double_keeps, double_name, double_steady, seen_in, stands_in}
 use Rattle.dg_stop.specs.declared.stop_racks.StopRack.{StopRack}
 use Rattle.dg_stop.specs.declared.stop_racks.StopRack.TheVariants.{Plain, Doubled}
@@ -50,6 +51,11 @@ stop_keeps rack (Doubled it) kept = double_keeps rack it kept
 abbrev pub stop_disks : {R : Type 0} → Ghosts R → StopRack R → DiskStates
 stop_disks rack (Plain it) = rack.disks it
 stop_disks rack (Doubled it) = double_disks rack it
+
+-- a plain one has no room for extra bytes
+abbrev pub stop_room : {R : Type 0} → StopRack R → Option ℕ
+stop_room (Plain it) = None
+stop_room (Doubled it) = double_room it
 
 -- it stays plain or double, and what was made of it was made of that
 abbrev pub made_by : {R : Type 0} → Ghosts R → StopRack R → List RackCall → StopRack R → Type 0

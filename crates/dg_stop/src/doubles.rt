@@ -1,10 +1,12 @@
 // A rack that keeps two places for each page.
 ghost use Rattle.std.specs.Prelude.{◌≡◌, ◌≢◌, ℕ};
 
+use crate::double_commits::{answer_of, commit_members};
+use crate::marks::{flags_of, marks_of_fallen};
 use crate::member_calls::{blank_member, extend_member, find_member, read_member, write_member};
 use crate::memories::Memory;
 use crate::tallies::Tally;
-use dg_io::{Failed, NoMemory, Rack};
+use dg_io::{Checkpoint, CommitAnswer, Failed, NoMemory, Rack};
 use std::alloc::Global;
 use std::marker::Model;
 
@@ -116,4 +118,29 @@ impl<R: Rack> Rack for DoubleRack<R> {
     ghost tells_told = { λ s q h. double_tells_told R.bytes R.tells R.tells_told s q h };
 
     ghost told = { λ s q h stand. double_told R.bytes R.stands R.tells R.told s q h stand };
+}
+
+impl<R: Rack> Checkpoint for DoubleRack<R> {
+    ghost use Rattle.dg_stop.specs.DoubleCommits.{double_room};
+
+    ghost room_of = { double_room };
+
+    fn commit(&mut self, keep: u32, extra: &[u8]) -> CommitAnswer {
+        let served = flags_of(keep);
+        let mut serving = served;
+        let mut tried = served;
+        let made = commit_members(
+            &mut self.rack,
+            &mut self.memory,
+            extra,
+            &mut serving,
+            &mut tried,
+        );
+        self.tally.note_fallen(&served, &serving);
+        answer_of(made, marks_of_fallen(&served, &serving))
+    }
+
+    fn room(&self) -> Option<u32> {
+        Some(self.memory.room)
+    }
 }

@@ -3,12 +3,14 @@
 #![tactic(auto)]
 
 mod commits;
+mod double_commits;
 mod doubles;
 mod flags;
 mod found_headers;
 mod headers;
 mod laws;
 mod leads;
+mod marks;
 mod member_calls;
 mod memories;
 mod new_memories;
@@ -17,6 +19,7 @@ mod page_calls;
 mod pages;
 mod phases;
 mod places;
+mod settles;
 mod stop_racks;
 mod tables;
 mod tallies;

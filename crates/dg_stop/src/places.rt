@@ -99,6 +99,16 @@ impl Places {
         }
     }
 
+    /// The pages stand where these bits say.
+    pub fn follow(&mut self, bits: &[u8])
+        requires { length bits.now ≡ length self.old.bits.items }
+        ensures bits { self.new.bits.items ≡ bits.now }
+        ensures size { self.new.size ≡ self.old.size }
+        ensures most { self.new.most ≡ self.old.most }
+    {
+        self.bits.copy_from_slice(bits);
+    }
+
     /// A member of so many bytes, whose pages stand in their first places.
     pub fn blank(&mut self, size: u64) -> Result<(), Failed>
         ensures fails { IsErr result ↔ (self.old.most < size) }

@@ -1,6 +1,6 @@
 // A rack over a rack that is plain, or keeps two places for each page.
 use crate::doubles::DoubleRack;
-use dg_io::{Failed, NoMemory, Rack};
+use dg_io::{Checkpoint, CommitAnswer, Failed, NoMemory, Rack};
 use std::alloc::Global;
 
 /// A rack over a rack.
@@ -116,4 +116,27 @@ impl<R: Rack> Rack for StopRack<R> {
     ghost tells_told = { λ s q h. stop_tells_told R.bytes R.tells R.tells_told s q h };
 
     ghost told = { λ s q h stand. stop_told R.bytes R.stands R.tells R.told s q h stand };
+}
+
+impl<R: Rack> Checkpoint for StopRack<R> {
+    ghost use Rattle.dg_stop.specs.StopRacks.{stop_room};
+
+    ghost room_of = { stop_room };
+
+    fn commit(&mut self, keep: u32, extra: &[u8]) -> CommitAnswer {
+        match self {
+            StopRack::Plain(_rack) => CommitAnswer::Committed {
+                sequence: 0,
+                fell: 0,
+            },
+            StopRack::Doubled(double) => double.commit(keep, extra),
+        }
+    }
+
+    fn room(&self) -> Option<u32> {
+        match self {
+            StopRack::Plain(_) => None,
+            StopRack::Doubled(double) => double.room(),
+        }
+    }
 }

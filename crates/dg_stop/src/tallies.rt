@@ -1,7 +1,11 @@
 // The own counts of a rack over a rack.
 ghost use Rattle.std.specs.Prelude.{◌≡◌, ℕ, slice_index};
 ghost use Rattle.dg_model.specs.Causes.{RoseByOne};
+ghost use Rattle.dg_stop.specs.DoubleCommits.{Faults, FaultsOne};
 ghost use Rattle.dg_stop.specs.Doubles.{Notes};
+
+use crate::marks::fell_at;
+use crate::phases::MEMBERS;
 
 const NUMBERS: usize = 256;
 
@@ -46,5 +50,24 @@ impl Tally {
     {
         self.writes = self.writes.saturating_add(1);
         self.note(member, failed);
+    }
+
+    /// One more fault of a member, if it fell in a commit.
+    fn note_fault(&mut self, member: u8, fell: bool)
+        ensures { FaultsOne member fell self.old self.new }
+    {
+        if fell {
+            let count = self.faults[member as usize];
+            self.faults[member as usize] = count.saturating_add(1);
+        }
+    }
+
+    /// One more fault of each member that served in a commit and serves no more.
+    pub fn note_fallen(&mut self, served: &[bool; MEMBERS], serves: &[bool; MEMBERS])
+        ensures { Faults served.now serves.now self.old self.new }
+    {
+        for number in 0..MEMBERS as u8 {
+            self.note_fault(number, fell_at(served, serves, number));
+        }
     }
 }

@@ -1,5 +1,5 @@
 -- Looking at the file blocks of a directory, one after the other.
-use Rattle.std.proofs.Common.{◌≡◌, ◌∙◌, ℕ, suc, ◌+◌, ◌/◌, Bool, true, false, List, [], ◌∷◌, ◌++◌, Option, Some, None, Result, Ok, Err, refl, sym, ap, subst, add-one}
+use Rattle.std.proofs.Common.{◌≡◌, ◌∙◌, ℕ, zero, suc, ◌+◌, ◌-◌, ◌/◌, ◌<◌, ◌≤◌, Bool, true, false, List, [], ◌∷◌, ◌++◌, Option, Some, None, Result, Ok, Err, refl, sym, ap, subst, add-one, arith}
 use Rattle.std.specs.Prelude.{◌||◌, ◌&&◌, map}
 use Rattle.std.specs.List.{list_any}
 use Rattle.std.specs.Option.{is_some, ok_or}
@@ -17,7 +17,7 @@ use Rattle.ufs_model.specs.declared.numbers.Endian.{Endian}
 use Rattle.ufs_model.specs.declared.reads.BadRead.TheVariants.{Hole as BadHole, Chunk as BadChunk}
 use Rattle.ufs_model.specs.declared.reads.PathRefusal.{PathRefusal}
 use Rattle.ufs_model.specs.declared.reads.PathRefusal.TheVariants.{Bad}
-use Rattle.ufs_check.specs.Directories.{SaysEntries, ScannedBelow, ScansBlock, chunks_said, entries_said, hole_at, hole_said, refused_at, refused_said}
+use Rattle.ufs_check.specs.Directories.{AreAlike, SaysEntries, ScannedBelow, ScansBlock, chunks_said, entries_said, hole_at, hole_said, refused_at, refused_said}
 use Rattle.ufs_check.specs.Entries.{entries_all, is_refused}
 use Rattle.ufs_check.specs.OwnedEntries.{Sees, seen_all, seen_in}
 use Rattle.ufs_check.specs.declared.directories.Scan.{Scan}
@@ -63,7 +63,7 @@ or_all : (a : Bool) → (a || true) ≡ true
 or_all true = refl
 or_all false = refl
 
-pub scans_hole : (g : Geometry) (v : Volume) (k : ℕ) (block : Result (Option (List ℕ)) PathRefusal) (old new : Scan) → Ok None ≡ block
+scans_hole : (g : Geometry) (v : Volume) (k : ℕ) (block : Result (Option (List ℕ)) PathRefusal) (old new : Scan) → Ok None ≡ block
     → new.hole ≡ true → new.chunk ≡ old.chunk → new.read ≡ false → ScansBlock g v k block old new
 scans_hole g v k block old new is hole chunk read = subst (λ block. ScansBlock g v k block old new) is (record {
   hole = hole ∙ sym (or_all old.hole);
@@ -72,7 +72,7 @@ scans_hole g v k block old new is hole chunk read = subst (λ block. ScansBlock 
   entries = λ was entries said. let no : Err (Bad BadHole) ≡ Ok entries = said in cc;
 })
 
-pub scans_wild : (g : Geometry) (v : Volume) (k : ℕ) (refusal : PathRefusal) (block : Result (Option (List ℕ)) PathRefusal) (old new : Scan) → Err refusal ≡ block
+scans_wild : (g : Geometry) (v : Volume) (k : ℕ) (refusal : PathRefusal) (block : Result (Option (List ℕ)) PathRefusal) (old new : Scan) → Err refusal ≡ block
     → new.hole ≡ old.hole → new.chunk ≡ old.chunk → new.read ≡ false → ScansBlock g v k block old new
 scans_wild g v k refusal block old new is hole chunk read = subst (λ block. ScansBlock g v k block old new) is (record {
   hole = hole ∙ sym (or_end old.hole);
@@ -174,6 +174,41 @@ scanned_next g inode v n old new so_far one = rw add-one (record {
       (says_joined g v ((entries_before g inode n v).value) (entries_said g.endian (chunks_said (bytes_in_block g inode n / 512) ((block_of g inode n v).value)))
       old.read new.read old.entries.items new.entries.items so_far.entries one.read one.entries);
 })
+
+-- file block n adds this
+abbrev pub Scans : Geometry → Inode → Volume → ℕ → Scan → Scan → Type 0
+Scans g inode v n old new = ScansBlock g v (bytes_in_block g inode n / 512) ((block_of g inode n v).value) old new
+
+-- file blocks in which nothing more is found
+scanned_rest : (g : Geometry) (inode : Inode) (v : Volume) (n d : ℕ) (scan : Scan) → ((m : ℕ) → n ≤ m → m < n + d → Scans g inode v m scan scan)
+    → ScannedBelow g inode v n scan → ScannedBelow g inode v (n + d) scan
+scanned_rest g inode v n zero scan more so_far = let same : n ≡ n + 0 = omega arith in subst (λ m. ScannedBelow g inode v m scan) same so_far
+scanned_rest g inode v n (suc d) scan more so_far =
+    let before = scanned_rest g inode v n d scan (λ m low high. more m low (omega arith)) so_far in
+    let same : n + d + 1 ≡ n + suc d = omega arith in
+    subst (λ m. ScannedBelow g inode v m scan) same (scanned_next g inode v (n + d) scan scan before (more (n + d) (omega arith) (omega arith)))
+
+-- a file block, and further ones in which nothing more is found
+scanned_gap : (g : Geometry) (inode : Inode) (v : Volume) (n next : ℕ) (old new : Scan) → n < next → Scans g inode v n old new
+    → ((m : ℕ) → n ≤ m → m < next → Scans g inode v m new new) → ScannedBelow g inode v n old → ScannedBelow g inode v next new
+scanned_gap g inode v n next old new after one more so_far =
+    let end : n + 1 + (next - (n + 1)) ≡ next = omega arith in
+    subst (λ m. ScannedBelow g inode v m new) end
+    (scanned_rest g inode v (n + 1) (next - (n + 1)) new (λ m low high. more m (omega arith) (omega arith)) (scanned_next g inode v n old new so_far one))
+
+-- a hole, and all that reads the same
+pub scanned_hole : (g : Geometry) (inode : Inode) (v : Volume) (n next : ℕ) (old new : Scan) → n < next → Ok None ≡ (block_of g inode n v).value → AreAlike g inode v n next
+    → new.hole ≡ true → new.chunk ≡ old.chunk → new.read ≡ false → ScannedBelow g inode v n old → ScannedBelow g inode v next new
+scanned_hole g inode v n next old new after here alike hole chunk read =
+    scanned_gap g inode v n next old new after (scans_hole g v _ _ old new here hole chunk read)
+    (λ m low high. scans_hole g v _ _ new new (here ∙ sym (alike m low high)) hole refl read)
+
+-- the same of a pointer that is wild
+pub scanned_wild : (g : Geometry) (inode : Inode) (v : Volume) (n next : ℕ) (refusal : PathRefusal) (old new : Scan) → n < next → Err refusal ≡ (block_of g inode n v).value
+    → AreAlike g inode v n next → new.hole ≡ old.hole → new.chunk ≡ old.chunk → new.read ≡ false → ScannedBelow g inode v n old → ScannedBelow g inode v next new
+scanned_wild g inode v n next refusal old new after here alike hole chunk read =
+    scanned_gap g inode v n next old new after (scans_wild g v _ refusal _ old new here hole chunk read)
+    (λ m low high. scans_wild g v _ refusal _ new new (here ∙ sym (alike m low high)) refl refl read)
 
 -- nothing is found in no file block
 pub scanned_none : (g : Geometry) (inode : Inode) (v : Volume) (scan : Scan) → scan.hole ≡ false → scan.chunk ≡ false → scan.read ≡ true → scan.entries.items ≡ [] → ScannedBelow g inode v 0 scan

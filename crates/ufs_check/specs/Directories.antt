@@ -1,5 +1,5 @@
 -- What is wrong with the directories of a volume, each of which is looked at by itself.
-use Rattle.std.specs.Prelude.{◌≡◌, ℕ, zero, suc, ◌/◌, ◌^◌, ◌<◌, ◌||◌, ◌&&◌, Bool, true, false, List, Option, Some, None, Result, Ok, Err, Contains, map}
+use Rattle.std.specs.Prelude.{◌≡◌, ℕ, zero, suc, ◌/◌, ◌^◌, ◌<◌, ◌≤◌, ◌||◌, ◌&&◌, Bool, true, false, List, Option, Some, None, Result, Ok, Err, Contains, map}
 use Rattle.std.specs.List.{list_any}
 use Rattle.std.specs.Result.{is_ok}
 use Rattle.ufs_model.specs.Audits.{AreAll}
@@ -123,6 +123,14 @@ pub record ScannedBelow (g : Geometry) (inode : Inode) (v : Volume) (n : ℕ) (s
   pub hole : scan.hole ≡ any_below (hole_at g inode v) n
   pub chunk : scan.chunk ≡ any_below (refused_at g inode v) n
   pub entries : SaysEntries g v scan.read scan.entries.items ((entries_before g inode n v).value)
+
+-- a number of a file block, or that behind the last, behind file block n
+abbrev pub IsBehind : ℕ → ℕ → ℕ → Type 0
+IsBehind n count next = (n < next) × (next ≤ count)
+
+-- the file blocks from n on, up to another one, read the same
+abbrev pub AreAlike : Geometry → Inode → Volume → ℕ → ℕ → Type 0
+AreAlike g inode v n next = (m : ℕ) → n ≤ m → m < next → (block_of g inode m v).value ≡ (block_of g inode n v).value
 
 -- what is found in a directory
 abbrev pub ScannedWhole : Geometry → Inode → Volume → Scan → Type 0

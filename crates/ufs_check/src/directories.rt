@@ -11,7 +11,7 @@ ghost use Rattle.ufs_model.specs.Paths.{block_of, bytes_in_block};
 ghost use Rattle.ufs_model.specs.Superblocks.{geometry_of};
 ghost use Rattle.ufs_model.specs.declared.geometries.Geometry.{Geometry};
 ghost use Rattle.ufs_model.specs.declared.inodes.Kind.TheVariants.{Directory};
-ghost use Rattle.ufs_check.specs.Directories.{AreBlockFaultsBelow, AreDirectoryFaults, AreEntryFaultsBelow, IsDirectoryRead, IsFileRead, ScannedWhole, ScansBlock};
+ghost use Rattle.ufs_check.specs.Directories.{AreBlockFaultsBelow, AreDirectoryFaults, AreEntryFaultsBelow, AreAlike, IsBehind, IsDirectoryRead, IsFileRead, ScannedBelow, ScannedWhole, ScansBlock};
 ghost use Rattle.ufs_check.specs.Links.{AreLinks, AreLinksBelow, TableBelow};
 ghost use Rattle.ufs_check.specs.OwnedEntries.{AreOwned};
 ghost use Rattle.ufs_frames.specs.Frames.{HasWholeUppers};
@@ -27,9 +27,11 @@ use crate::verdicts::DirectoryFaults;
 use dg_io::{NoMemory, View};
 use std::alloc::Global;
 use ufs_dir::CHUNK_BYTES;
-use ufs_frames::{directories_need_structure, indirects_by_geometry};
+use ufs_frames::{directories_need_structure, file_blocks_are_few, indirects_by_geometry};
 use ufs_model::{Geometry, Inode, Kind, ROOT_INODE};
-use ufs_pointer::{FileBlock, Levels, block_count, bytes_in_block, read_file_block};
+use ufs_pointer::{
+    FileBlock, Levels, block_count, bytes_in_block, gap_length, gaps_read_the_same, read_file_block,
+};
 
 /// What is found in a directory.
 #[derive(Drop)]
@@ -78,7 +80,35 @@ fn scan_data<V: View>(
     gather_chunks(alloc, view, g, count, levels, &mut scan.entries)
 }
 
-/// Looks at file block `n` of a directory, and answers whether all could be read.
+/// The file block to go on with behind file block `n`, which leads nowhere: the first that is found
+/// through another pointer. There is no answer where an indirect block is gone.
+fn behind_gap<V: View>(
+    view: &mut V,
+    g: &Geometry,
+    inode: &Inode,
+    n: u32,
+    levels: &mut Levels,
+) -> Option<u32>
+    requires sound { V.is_sound view.old }
+    requires geometry { IsGeometryOn (V.size view.old) (V.count view.old) g.now }
+    requires levels { levels.old.fragment ≡ V.size view.old }
+    requires small { inode.now.size < 2 ^ 32 }
+    requires block { n < block_count g.now inode.now }
+    ensures keeps { Keeps V.View view.old view.new }
+    ensures levels { levels.new.fragment ≡ levels.old.fragment }
+    ensures order { IfSome result (IsBehind n (block_count g.now inode.now)) }
+    ensures same { IfSome result (λ next. V.tells view.new → (v : Volume) → V.stands_for view.old v → AreAlike g.now inode.now v n next) }
+    ensures gone { IfNone result (LosesKind V.View view.old view.new (IsFileRead g.now inode.now)) }
+    ensures fetched { FetchesKind V.View view.old view.new (IsFileRead g.now inode.now) }
+{
+    gaps_read_the_same();
+    let count = block_count(g, inode);
+    let length = gap_length(view, g, inode, n, levels)?;
+    Some(n + length.min(count - n))
+}
+
+/// Looks at file block `n` of a directory, and at all that are found through the same pointer, where it
+/// leads nowhere. It answers with which file block to go on. There is no answer where a block that is read for it is gone.
 fn scan_block<V: View>(
     alloc: Global,
     view: &mut V,
@@ -87,33 +117,38 @@ fn scan_block<V: View>(
     n: u32,
     levels: &mut Levels,
     scan: &mut Scan,
-) -> Result<bool, NoMemory>
+) -> Result<Option<u32>, NoMemory>
     requires sound { V.is_sound view.old }
     requires geometry { IsGeometryOn (V.size view.old) (V.count view.old) g.now }
     requires levels { levels.old.fragment ≡ V.size view.old }
-    requires few { n < 2 ^ 30 }
+    requires small { inode.now.size < 2 ^ 32 }
     requires block { n < block_count g.now inode.now }
     ensures keeps { Keeps V.View view.old view.new }
     ensures levels { levels.new.fragment ≡ levels.old.fragment }
-    ensures found { IfOk result (λ could. could ≡ true → V.tells view.new → (v : Volume) → V.stands_for view.old v
-        → ScansBlock g.now v (bytes_in_block g.now inode.now n / 512) ((block_of g.now inode.now n v).value) scan.old scan.new) }
-    ensures gone { IfOk result (λ could. could ≡ false → LosesKind V.View view.old view.new (IsFileRead g.now inode.now)) }
+    ensures order { IfOk result (λ answer. IfSome answer (IsBehind n (block_count g.now inode.now))) }
+    ensures found { IfOk result (λ answer. IfSome answer (λ next. V.tells view.new → (v : Volume) → V.stands_for view.old v
+        → ScannedBelow g.now inode.now v n scan.old → ScannedBelow g.now inode.now v next scan.new)) }
+    ensures gone { IfOk result (λ answer. IfNone answer (LosesKind V.View view.old view.new (IsFileRead g.now inode.now))) }
     ensures fetched { FetchesKind V.View view.old view.new (IsFileRead g.now inode.now) }
 {
+    file_blocks_are_few();
     match read_file_block(view, g, inode, n, levels) {
-        None => Ok(false),
+        None => Ok(None),
         Some(FileBlock::Hole) => {
             scan.hole = true;
             scan.read = false;
-            Ok(true)
+            Ok(behind_gap(view, g, inode, n, levels))
         }
         Some(FileBlock::Wild) => {
             scan.read = false;
-            Ok(true)
+            Ok(behind_gap(view, g, inode, n, levels))
         }
         Some(FileBlock::Data) => {
             let count = bytes_in_block(g, inode, n) / CHUNK_BYTES;
-            scan_data(alloc, view, g, count, levels, scan)
+            if !scan_data(alloc, view, g, count, levels, scan)? {
+                return Ok(None);
+            }
+            Ok(Some(n + 1))
         }
     }
 }
@@ -143,10 +178,13 @@ fn scan_directory<V: View>(
         read: true,
         entries: Vec::new(alloc),
     };
-    for n in 0..block_count(g, inode) {
-        if !scan_block(alloc, view, g, inode, n, levels, &mut scan)? {
+    let count = block_count(g, inode);
+    let mut n = 0;
+    while n < count {
+        let Some(next) = scan_block(alloc, view, g, inode, n, levels, &mut scan)? else {
             return Ok(None);
-        }
+        };
+        n = next;
     }
     Ok(Some(scan))
 }

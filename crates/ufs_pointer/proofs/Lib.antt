@@ -5,4 +5,4 @@ pub mod SuperLaws
 pub mod Sizes
 pub mod BlockLaws
 pub mod LossLaws
-pub mod HoleLaws
+pub mod GapLaws

@@ -5,6 +5,6 @@ pub mod Fetches
 pub mod FetchLaws
 pub mod KindLaws
 pub mod FileBlocks
-pub mod Holes
+pub mod Gaps
 pub mod Superblocks
 pub mod ViewWords

@@ -5,7 +5,8 @@ use Rattle.ufs_model.specs.Inodes.{inode_block}
 use Rattle.ufs_model.specs.Metadata.{of_indirect}
 use Rattle.ufs_pointer.specs.KindLaws.{loses_along}
 use Rattle.dg_claims.specs.Kept.{claimed_by}
-use Rattle.dg_infer.proofs.FetchedLaws.{begun_fresh}
+use Rattle.dg_infer.proofs.BoundLaws.{swept_fetched}
+use Rattle.dg_infer.proofs.FetchedLaws.{fetches_none, places_none}
 use Rattle.dg_infer.proofs.SweepLaws.{free_swept, kinds_swept}
 use Rattle.dg_infer.proofs.TargetLaws.{ready_when_fresh}
 use Rattle.dg_infer.proofs.WatchLaws.{touched_grows}
@@ -57,12 +58,48 @@ returns-clause-parts g c = λ is v holds has.
           (first.marks c.if-not-branch.false told v holds has (c.in_ok-sweep.ensures.marks v));
     }
 
+pub returns-in_err-sweep-clause-fetched : goal.returns-in_err-sweep-clause-fetched
+returns-in_err-sweep-clause-fetched g c =
+    let none = g.met.V.View.fetched_none c.args.view.now in
+    record { middle = c.args.view.now; areas = fetches_none g.V.View.fetched _ c.args.view.now none; levels = places_none g.V.View.fetched _ c.args.view.now none }
+
+pub returns-in_err-read_places-clause-fetched : goal.returns-in_err-read_places-clause-fetched
+returns-in_err-read_places-clause-fetched g c = record {
+  middle = c.read_places.new.view;
+  areas = c.read_places.ensures.fetched;
+  levels = places_none g.V.View.fetched _ c.read_places.new.view (g.met.V.View.fetched_none c.read_places.new.view);
+}
+
+pub returns-then-not-branch-clause-fetched : goal.returns-then-not-branch-clause-fetched
+returns-then-not-branch-clause-fetched g c = record {
+  middle = c.read_places.new.view;
+  areas = c.read_places.ensures.fetched;
+  levels = places_none g.V.View.fetched _ c.read_places.new.view (g.met.V.View.fetched_none c.read_places.new.view);
+}
+
+pub returns-in_err-move_levels-clause-fetched : goal.returns-in_err-move_levels-clause-fetched
+returns-in_err-move_levels-clause-fetched g c =
+    let first = c.in_ok-read_places.ensures in
+    let sweep = c.in_ok-sweep.ensures in
+    swept_fetched g.V.View c.args.g.now c.args.block c.args.bytes.now (claimed_by c.in_ok-sweep.sweep.claims.runs) (claimed_by c.read_places.new.sweep.claims.runs) c.in_ok-sweep.sweep.watch
+    c.read_places.new.sweep.watch c.args.view.now c.read_places.new.view c.move_levels.new.view c.requires.geometry.tests
+    (λ inode high. c.inodes_inside.ensures c.args.g.now inode c.requires.geometry.tests high) sweep.none sweep.slots sweep.touched sweep.watched first.grows first.watched
+    (first.slots c.if-not-branch.false) first.keeps c.move_levels.ensures.keeps.told c.read_places.ensures.fetched c.move_levels.ensures.fetched
+
+pub returns-then-not-branch-2-clause-fetched : goal.returns-then-not-branch-2-clause-fetched
+returns-then-not-branch-2-clause-fetched g c =
+    let first = c.in_ok-read_places.ensures in
+    let sweep = c.in_ok-sweep.ensures in
+    swept_fetched g.V.View c.args.g.now c.args.block c.args.bytes.now (claimed_by c.in_ok-sweep.sweep.claims.runs) (claimed_by c.read_places.new.sweep.claims.runs) c.in_ok-sweep.sweep.watch
+    c.read_places.new.sweep.watch c.args.view.now c.read_places.new.view c.move_levels.new.view c.requires.geometry.tests
+    (λ inode high. c.inodes_inside.ensures c.args.g.now inode c.requires.geometry.tests high) sweep.none sweep.slots sweep.touched sweep.watched first.grows first.watched
+    (first.slots c.if-not-branch.false) first.keeps c.move_levels.ensures.keeps.told c.read_places.ensures.fetched c.move_levels.ensures.fetched
+
 pub returns-clause-fetched : goal.returns-clause-fetched
 returns-clause-fetched g c =
-    let empty = claimed_by c.in_ok-sweep.sweep.claims.runs in
-    record {
-      middle = c.read_places.new.view;
-      areas = c.read_places.ensures.fetched;
-      levels = begun_fresh g.V.View.fetched empty (claimed_by c.move_levels.new.claims.runs) 0 c.read_places.new.view c.move_levels.new.view
-          (c.move_levels.ensures.fetched empty (c.in_ok-read_places.ensures.watched empty c.in_ok-sweep.ensures.watched));
-    }
+    let first = c.in_ok-read_places.ensures in
+    let sweep = c.in_ok-sweep.ensures in
+    swept_fetched g.V.View c.args.g.now c.args.block c.args.bytes.now (claimed_by c.in_ok-sweep.sweep.claims.runs) (claimed_by c.read_places.new.sweep.claims.runs) c.in_ok-sweep.sweep.watch
+    c.read_places.new.sweep.watch c.args.view.now c.read_places.new.view c.move_levels.new.view c.requires.geometry.tests
+    (λ inode high. c.inodes_inside.ensures c.args.g.now inode c.requires.geometry.tests high) sweep.none sweep.slots sweep.touched sweep.watched first.grows first.watched
+    (first.slots c.if-not-branch.false) first.keeps c.move_levels.ensures.keeps.told c.read_places.ensures.fetched c.move_levels.ensures.fetched

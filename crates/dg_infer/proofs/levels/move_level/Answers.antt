@@ -23,7 +23,7 @@ loop-k-init g c = record {
   moved = λ is v holds has j lt on. absurd (omega (arith, lt));
   others = λ source off. refl;
   watched = λ before is. is;
-  fetched = fetches_none g.V.View.fetched (Begins c.args.watch.now (claimed_by c.args.claims.now.runs) c.args.level 0) c.args.view.now (g.met.V.View.fetched_none c.args.view.now);
+  fetched = fetches_none g.V.View.fetched (Begins c.args.watch.now (claimed_by c.args.claims.now.runs) c.args.level c.args.block 0) c.args.view.now (g.met.V.View.fetched_none c.args.view.now);
 }
 
 pub loop-k-preserved : goal.loop-k-preserved
@@ -50,7 +50,7 @@ loop-k-preserved g c =
           (has ∙ ap (λ (l : ℕ). block_at l v c.args.block) (sym so_far.keeps.bytes))));
       others = others_more (claimed_by c.args.claims.now.runs) (claimed_by c.loop-k.claims.runs) (claimed_by c.move_number.new.claims.runs) c.args.level touches k _ refl so_far.others others;
       watched = λ before is. one.watched before (so_far.watched before is);
-      fetched = fetches_more g.V.View.fetched touches (touch_at c.loop-k.watch k) (claimed_by c.args.claims.now.runs) (claimed_by c.loop-k.claims.runs) c.args.level k (k + 1)
+      fetched = fetches_more g.V.View.fetched touches (touch_at c.loop-k.watch k) (claimed_by c.args.claims.now.runs) (claimed_by c.loop-k.claims.runs) c.args.level c.args.block k (k + 1)
           c.args.view.now c.loop-k.view c.move_number.new.view g.met.V.View.fetched_both (omega arith) inside same c.count-count.ensures.distinct stays so_far.fetched one.fetched;
     }
 
@@ -62,7 +62,7 @@ returns-in_err-move_number-clause-fetched g c =
     let inside : k < length touches = omega (arith, c.count-count.ensures.value, c.loop-k-test.true) in
     let same : touch_at c.loop-k.watch k ≡ touch_at touches k = so_far.grows.same k inside in
     let stays = (claimed_stays (claimed_by c.args.claims.now.runs) (claimed_by c.loop-k.claims.runs) touches c.args.level k ((touch_at c.loop-k.watch k).fragment) c.requires.low so_far.others).0 in
-    fetches_more g.V.View.fetched touches (touch_at c.loop-k.watch k) (claimed_by c.args.claims.now.runs) (claimed_by c.loop-k.claims.runs) c.args.level k (length touches)
+    fetches_more g.V.View.fetched touches (touch_at c.loop-k.watch k) (claimed_by c.args.claims.now.runs) (claimed_by c.loop-k.claims.runs) c.args.level c.args.block k (length touches)
     c.args.view.now c.loop-k.view c.move_number.new.view g.met.V.View.fetched_both inside inside same c.count-count.ensures.distinct stays so_far.fetched c.move_number.ensures.fetched
 
 pub returns-then-not-branch-clause-fetched : goal.returns-then-not-branch-clause-fetched
@@ -73,7 +73,7 @@ returns-then-not-branch-clause-fetched g c =
     let inside : k < length touches = omega (arith, c.count-count.ensures.value, c.loop-k-test.true) in
     let same : touch_at c.loop-k.watch k ≡ touch_at touches k = so_far.grows.same k inside in
     let stays = (claimed_stays (claimed_by c.args.claims.now.runs) (claimed_by c.loop-k.claims.runs) touches c.args.level k ((touch_at c.loop-k.watch k).fragment) c.requires.low so_far.others).0 in
-    fetches_more g.V.View.fetched touches (touch_at c.loop-k.watch k) (claimed_by c.args.claims.now.runs) (claimed_by c.loop-k.claims.runs) c.args.level k (length touches)
+    fetches_more g.V.View.fetched touches (touch_at c.loop-k.watch k) (claimed_by c.args.claims.now.runs) (claimed_by c.loop-k.claims.runs) c.args.level c.args.block k (length touches)
     c.args.view.now c.loop-k.view c.move_number.new.view g.met.V.View.fetched_both inside inside same c.count-count.ensures.distinct stays so_far.fetched c.move_number.ensures.fetched
 
 pub returns-then-not-branch-clause-lost : goal.returns-then-not-branch-clause-lost
@@ -90,8 +90,8 @@ returns-then-not-branch-clause-lost g c = λ missed.
 
 pub returns-clause-fetched : goal.returns-clause-fetched
 returns-clause-fetched g c =
-    fetches_along g.V.View.fetched (Begins c.args.watch.now (claimed_by c.args.claims.now.runs) c.args.level c.loop-k.k) (Begins c.args.watch.now (claimed_by c.args.claims.now.runs) c.args.level (length c.args.watch.now))
-    c.args.view.now c.loop-k.view (λ b h. begins_more c.args.watch.now (claimed_by c.args.claims.now.runs) c.args.level c.loop-k.k (length c.args.watch.now) b (omega (arith, c.count-count.ensures.value, c.loop-k-test.false)) h) c.loop-k.invariant.fetched
+    fetches_along g.V.View.fetched (Begins c.args.watch.now (claimed_by c.args.claims.now.runs) c.args.level c.args.block c.loop-k.k) (Begins c.args.watch.now (claimed_by c.args.claims.now.runs) c.args.level c.args.block (length c.args.watch.now))
+    c.args.view.now c.loop-k.view (λ b h. begins_more c.args.watch.now (claimed_by c.args.claims.now.runs) c.args.level c.args.block c.loop-k.k (length c.args.watch.now) b (omega (arith, c.count-count.ensures.value, c.loop-k-test.false)) h) c.loop-k.invariant.fetched
 
 pub returns-in_err-move_number-clause-others : goal.returns-in_err-move_number-clause-others
 returns-in_err-move_number-clause-others g c = λ source off.

@@ -21,5 +21,5 @@ invariant-loop-k g l = record {
   others : (source : ClaimSource) → ((j at : ℕ) → j < l.k → (touch_at l.fn.watch j).level ≡ l.level → source ≡ Pointer (touch_at l.fn.watch j).fragment l.level at → ⊥)
       → claimed_by l.claims.runs source ≡ claimed_by l.fn.claims.runs source;
   watched : (before : ClaimSource → List ℕ) → IsWatched before (claimed_by l.fn.claims.runs) l.fn.watch → IsWatched before (claimed_by l.claims.runs) l.watch;
-  fetched : FetchesOnce g.V.View.fetched (Begins l.fn.watch (claimed_by l.fn.claims.runs) l.level l.k) l.fn.view l.view;
+  fetched : FetchesOnce g.V.View.fetched (Begins l.fn.watch (claimed_by l.fn.claims.runs) l.level l.block l.k) l.fn.view l.view;
 }

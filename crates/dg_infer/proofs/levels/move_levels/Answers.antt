@@ -4,9 +4,10 @@ use Rattle.ufs_model.specs.Blocks.{block_at}
 use Rattle.ufs_model.specs.Claims.{source_fragments}
 use Rattle.dg_claims.specs.Kept.{claimed_by}
 use Rattle.dg_infer.proofs.ChangeLaws.{is_indirect, right_in_the_end}
-use Rattle.dg_infer.proofs.FetchedLaws.{begun_cut, begun_first, begun_more}
+use Rattle.dg_infer.proofs.FetchedLaws.{begun_cut, levels_more, places_none}
 use Rattle.dg_infer.proofs.WatchLaws.{grows_both, grows_same, touched_grows}
 use Rattle.dg_infer.specs.Changes.{IsRightDownTo}
+use Rattle.dg_infer.specs.Places.{IsClaimedReady}
 use Rattle.dg_infer.proofs.levels.move_levels.Goals as goal
 
 pub loop-done-init : goal.loop-done-init
@@ -17,7 +18,7 @@ loop-done-init g c = record {
   grows = grows_same c.args.watch.now;
   watched = λ before is. is;
   right = λ is v holds has sources before ready. ready.right;
-  fetched = λ before is. begun_first g.V.View.fetched before (claimed_by c.args.claims.now.runs) 3 c.args.view.now (g.met.V.View.fetched_none c.args.view.now);
+  fetched = λ before is. places_none g.V.View.fetched _ c.args.view.now (g.met.V.View.fetched_none c.args.view.now);
 }
 
 pub loop-done-preserved : goal.loop-done-preserved
@@ -39,9 +40,9 @@ loop-done-preserved g c =
           (touched_grows c.args.watch.now c.loop-done.watch level c.args.block so_far.grows (ready.touched level (omega (arith, c.loop-done-test.true)) (omega arith)))
           (so_far.watched before ready.watched) (so_far.right (one.keeps.told is) v holds has sources before ready));
       fetched = λ before is.
-          begun_more g.V.View.fetched before (claimed_by c.loop-done.claims.runs) (claimed_by c.move_level.new.claims.runs) c.loop-done.watch (3 - c.loop-done.done) (3 - (c.loop-done.done + 1))
-          c.args.view.now c.loop-done.view c.move_level.new.view g.met.V.View.fetched_both (omega (arith, c.loop-done-test.true)) (omega (arith, c.loop-done-test.true)) c.move_level.ensures.others
-          (so_far.watched before is) (so_far.fetched before is) c.move_level.ensures.fetched;
+          levels_more g.V.View g.met.V.View.fetched_both before (claimed_by c.args.claims.now.runs) (claimed_by c.loop-done.claims.runs) c.args.watch.now c.loop-done.watch
+          (3 - c.loop-done.done) (3 - (c.loop-done.done + 1)) c.args.g.now c.args.block c.args.bytes.now c.args.view.now c.loop-done.view c.move_level.new.view (omega (arith, c.loop-done-test.true))
+          (so_far.watched before is) c.move_level.ensures.keeps.told so_far.right (so_far.fetched before is) c.move_level.ensures.fetched;
     }
 
 pub returns-then-not-branch-clause-lost : goal.returns-then-not-branch-clause-lost
@@ -68,19 +69,18 @@ returns-clause-right g c = λ got is v holds has sources before ready.
 pub returns-in_err-move_level-clause-fetched : goal.returns-in_err-move_level-clause-fetched
 returns-in_err-move_level-clause-fetched g c = λ before is.
     let so_far = c.loop-done.invariant in
-    begun_cut g.V.View.fetched before (claimed_by c.move_level.new.claims.runs) (3 - c.loop-done.done - 1) 0 c.args.view.now c.move_level.new.view (omega arith)
-    (begun_more g.V.View.fetched before (claimed_by c.loop-done.claims.runs) (claimed_by c.move_level.new.claims.runs) c.loop-done.watch (3 - c.loop-done.done) (3 - c.loop-done.done - 1)
-    c.args.view.now c.loop-done.view c.move_level.new.view g.met.V.View.fetched_both (omega (arith, c.loop-done-test.true)) (omega (arith, c.loop-done-test.true)) c.move_level.ensures.others
-    (so_far.watched before is) (so_far.fetched before is) c.move_level.ensures.fetched)
+    levels_more g.V.View g.met.V.View.fetched_both before (claimed_by c.args.claims.now.runs) (claimed_by c.loop-done.claims.runs) c.args.watch.now c.loop-done.watch
+    (3 - c.loop-done.done) 0 c.args.g.now c.args.block c.args.bytes.now c.args.view.now c.loop-done.view c.move_level.new.view (omega (arith, c.loop-done-test.true))
+    (so_far.watched before is) c.move_level.ensures.keeps.told so_far.right (so_far.fetched before is) c.move_level.ensures.fetched
 
 pub returns-then-not-branch-clause-fetched : goal.returns-then-not-branch-clause-fetched
 returns-then-not-branch-clause-fetched g c = λ before is.
     let so_far = c.loop-done.invariant in
-    begun_cut g.V.View.fetched before (claimed_by c.move_level.new.claims.runs) (3 - c.loop-done.done - 1) 0 c.args.view.now c.move_level.new.view (omega arith)
-    (begun_more g.V.View.fetched before (claimed_by c.loop-done.claims.runs) (claimed_by c.move_level.new.claims.runs) c.loop-done.watch (3 - c.loop-done.done) (3 - c.loop-done.done - 1)
-    c.args.view.now c.loop-done.view c.move_level.new.view g.met.V.View.fetched_both (omega (arith, c.loop-done-test.true)) (omega (arith, c.loop-done-test.true)) c.move_level.ensures.others
-    (so_far.watched before is) (so_far.fetched before is) c.move_level.ensures.fetched)
+    levels_more g.V.View g.met.V.View.fetched_both before (claimed_by c.args.claims.now.runs) (claimed_by c.loop-done.claims.runs) c.args.watch.now c.loop-done.watch
+    (3 - c.loop-done.done) 0 c.args.g.now c.args.block c.args.bytes.now c.args.view.now c.loop-done.view c.move_level.new.view (omega (arith, c.loop-done-test.true))
+    (so_far.watched before is) c.move_level.ensures.keeps.told so_far.right (so_far.fetched before is) c.move_level.ensures.fetched
 
 pub returns-clause-fetched : goal.returns-clause-fetched
 returns-clause-fetched g c = λ before is.
-    begun_cut g.V.View.fetched before (claimed_by c.loop-done.claims.runs) (3 - c.loop-done.done) 0 c.args.view.now c.loop-done.view (omega (arith, c.loop-done-test.false)) (c.loop-done.invariant.fetched before is)
+    begun_cut g.V.View.fetched before (IsClaimedReady g.V.View c.args.view.now c.loop-done.view c.args.g.now c.args.block c.args.bytes.now (claimed_by c.args.claims.now.runs) c.args.watch.now)
+    (3 - c.loop-done.done) 0 c.args.block c.args.view.now c.loop-done.view (omega (arith, c.loop-done-test.false)) (c.loop-done.invariant.fetched before is)

@@ -5,7 +5,8 @@ use Rattle.ufs_model.specs.Claims.{source_fragments}
 use Rattle.ufs_model.specs.declared.claims.ClaimSource.{ClaimSource}
 use Rattle.dg_claims.specs.Kept.{claimed_by}
 use Rattle.dg_infer.specs.Changes.{IsReady, IsRightDownTo}
-use Rattle.dg_infer.specs.Fetched.{FetchesBegun}
+use Rattle.dg_infer.specs.Fetched.{FetchesPlaces, IsBegun}
+use Rattle.dg_infer.specs.Places.{IsClaimedReady}
 use Rattle.dg_infer.specs.Watches.{Grows, IsWatched}
 use Rattle.dg_infer.proofs.levels.move_levels.Given as goal
 
@@ -20,5 +21,6 @@ invariant-loop-done g l = record {
       → (sources before : ClaimSource → List ℕ) → IsReady (source_fragments l.g v) sources before (claimed_by l.fn.claims.runs) l.block l.fn.watch
       → IsRightDownTo (source_fragments l.g v) before (claimed_by l.claims.runs) (3 - l.done);
   fetched : (before : ClaimSource → List ℕ) → IsWatched before (claimed_by l.fn.claims.runs) l.fn.watch
-      → FetchesBegun g.V.View.fetched before (claimed_by l.claims.runs) (3 - l.done) l.fn.view l.view;
+      → FetchesPlaces g.V.View.fetched
+      (IsBegun before (IsClaimedReady g.V.View l.fn.view l.view l.g l.block l.bytes (claimed_by l.fn.claims.runs) l.fn.watch) (3 - l.done) l.block) l.fn.view l.view;
 }

@@ -18,11 +18,12 @@ pub returns-clause-fetched : goal.returns-clause-fetched
 returns-clause-fetched g c =
     fetches_along g.V.View.fetched _ _ c.args.view.now c.move_touch.new.view
     (λ b h.
-    subst (λ (t : Touch). IsNewAt t (claimed_by c.args.claims.now.runs) c.args.level b) c.at-touch.ensures
+    subst (λ (t : Touch). IsNewAt t (claimed_by c.args.claims.now.runs) c.args.level c.args.block b) c.at-touch.ensures
     (record {
       at = h.at;
       on = c.if-touch-level.false;
       none = h.none;
       some = subst (λ (n : ℕ). IsClaimedBy (claimed_by c.args.claims.now.runs) n c.at-touch.result.fragment) c.if-touch-level.false h.some;
+      other = h.other;
     }))
     c.move_touch.ensures.fetched

@@ -1,6 +1,6 @@
 use Rattle.std.proofs.Common.{◌≤◌, ◌+◌, refl, sym, ◌∙◌, arith}
 use Rattle.std.proofs.lemmas.Bool.{false≢true}
-use Rattle.dg_stop.proofs.TriesLemmas.{count_fewer, count_serving, keep_lost, keep_some, next_near, none_of, serving_of, so_far_next, so_far_none, tries_both, try_within}
+use Rattle.dg_stop.proofs.TriesLemmas.{count_fewer, count_serving, keep_lost, keep_none, keep_some, next_near, none_of, serving_of, so_far_next, so_far_none, tries_both, try_within}
 use Rattle.dg_stop.specs.Tries.{count_in}
 use Rattle.dg_stop.proofs.tries.commit_all.Goals as goal
 
@@ -59,8 +59,18 @@ loop-sequence-smaller g c = omega (
 )
 
 pub loop-sequence-preserved : goal.loop-sequence-preserved
-loop-sequence-preserved g c = so_far_next g.R.Rack c.args.members.now c.args.room c.args.extra.now c.args.last c.args.top.now c.loop-sequence.top c.next_after-sequence.result c.args.serving.now c.loop-sequence.serving c.commit_once.new.serving
+loop-sequence-preserved g c = so_far_next g.R.Rack c.args.members.now c.args.room c.args.extra.now c.args.last c.args.top.now c.loop-sequence.top c.next_after-sequence.result c.args.serving.now c.loop-sequence.serving c.loop-sequence.tried c.commit_once.new.serving
     c.args.rack.now c.loop-sequence.rack c.commit_once.new.rack
     c.loop-sequence.invariant c.next_after-sequence.ensures.above c.next_after-sequence.ensures.apart
     (next_near c.loop-sequence.top c.args.last c.next_after-sequence.result c.next_after-sequence.ensures.least) c.commit_once.array_long
     c.if-commit_once.ensures.leaves c.if-commit_once.ensures.kept
+
+pub returns-clause-kept : goal.returns-clause-kept
+returns-clause-kept g c = keep_none g.R.Rack c.args.members.now c.args.room c.args.extra.now c.args.last c.args.top.now c.loop-sequence.top c.loop-sequence.tried c.args.serving.now
+    c.loop-sequence.serving c.args.rack.now c.loop-sequence.rack c.loop-sequence.invariant.spare
+
+pub returns-then-serves_any-clause-tried : goal.returns-then-serves_any-clause-tried
+returns-then-serves_any-clause-tried g c = record { only = c.loop-sequence.invariant.leaves.only; wider = c.if-commit_once.ensures.leaves.tries.only }
+
+pub returns-else-serves_any-clause-tried : goal.returns-else-serves_any-clause-tried
+returns-else-serves_any-clause-tried g c = record { only = c.loop-sequence.invariant.leaves.only; wider = c.if-commit_once.ensures.leaves.tries.only }

@@ -1,7 +1,7 @@
 use Rattle.std.proofs.Common.{◌≡◌, ◌∙◌, [], refl, subst, rules, arith}
 use Rattle.dg_io.specs.ViewLaws.{keeps_both, keeps_same}
 use Rattle.ufs_check.specs.Directories.{IsFileRead, ScannedBelow}
-use Rattle.ufs_check.proofs.DirectoryLaws.{scanned_next, scanned_none}
+use Rattle.ufs_check.proofs.DirectoryLaws.{scanned_none}
 use Rattle.ufs_pointer.specs.KindLaws.{only_none}
 use Rattle.ufs_check.proofs.PassLaws.{lost_later, only_both}
 use Rattle.ufs_check.proofs.directories.scan_directory.Goals as goal
@@ -9,6 +9,7 @@ use Rattle.ufs_check.proofs.directories.scan_directory.Goals as goal
 pub loop-n-init : goal.loop-n-init
 loop-n-init g c = record {
   keeps = keeps_same c.args.view.now c.requires.sound (g.met.V.View.unchanged c.args.view.now);
+  within = omega arith;
   levels = c.requires.levels;
   found = λ told v stands.
       let none : c.new.result.items ≡ [] = search rules in
@@ -16,13 +17,13 @@ loop-n-init g c = record {
   fetched = only_none (IsFileRead c.args.g.now c.args.inode.now) c.args.view.now (g.met.V.View.fetched_none c.args.view.now);
 }
 
-pub returns-in_err-scan_block-clause-fetched : goal.returns-in_err-scan_block-clause-fetched
-returns-in_err-scan_block-clause-fetched g c =
+pub returns-in_err-next-clause-fetched : goal.returns-in_err-next-clause-fetched
+returns-in_err-next-clause-fetched g c =
     let so_far = c.loop-n.invariant.keeps in
     only_both g.met.V.View.fetched_both so_far.stands c.scan_block.ensures.keeps.told c.loop-n.invariant.fetched c.scan_block.ensures.fetched
 
-pub returns-then-not-branch-clause-fetched : goal.returns-then-not-branch-clause-fetched
-returns-then-not-branch-clause-fetched g c =
+pub returns-in_default-clause-fetched : goal.returns-in_default-clause-fetched
+returns-in_default-clause-fetched g c =
     let so_far = c.loop-n.invariant.keeps in
     only_both g.met.V.View.fetched_both so_far.stands c.scan_block.ensures.keeps.told c.loop-n.invariant.fetched c.scan_block.ensures.fetched
 
@@ -30,23 +31,25 @@ pub loop-n-preserved : goal.loop-n-preserved
 loop-n-preserved g c =
     let invariant = c.loop-n.invariant in
     let so_far = invariant.keeps in
+    let order = rw c.in-Some.is at c.in_ok-next.ensures.order in
+    let most = order.1 in
+    let found = rw c.in-Some.is at c.in_ok-next.ensures.found in
     record {
       keeps = keeps_both g.met.V.View.further c.args.view.now c.loop-n.view c.scan_block.new.view so_far c.scan_block.ensures.keeps;
+      within = omega arith;
       levels = c.scan_block.ensures.levels ∙ invariant.levels;
-      found = λ told v stands.
-          scanned_next c.args.g.now c.args.inode.now v c.loop-n.n c.loop-n.scan c.scan_block.new.scan (invariant.found (c.scan_block.ensures.keeps.told told) v stands)
-          (c.in_ok-scan_block.ensures.found c.if-not-branch.false told v (so_far.stands v stands));
+      found = λ told v stands. found told v (so_far.stands v stands) (invariant.found (c.scan_block.ensures.keeps.told told) v stands);
       fetched = only_both g.met.V.View.fetched_both so_far.stands c.scan_block.ensures.keeps.told invariant.fetched c.scan_block.ensures.fetched;
     }
 
-pub returns-then-not-branch-clause-gone : goal.returns-then-not-branch-clause-gone
-returns-then-not-branch-clause-gone g c =
+pub returns-in_default-clause-gone : goal.returns-in_default-clause-gone
+returns-in_default-clause-gone g c =
     let so_far = c.loop-n.invariant.keeps in
-    lost_later so_far.blocks so_far.stands (c.in_ok-scan_block.ensures.gone c.if-not-branch.true)
+    lost_later so_far.blocks so_far.stands (rw c.in_default.is at c.in_ok-next.ensures.gone)
 
 pub returns-clause-found : goal.returns-clause-found
 returns-clause-found g c = λ told v stands.
     let last = c.loop-n-test.false in
-    let most = c.loop-n.auto.n-end in
-    let at : c.loop-n.n ≡ c.block_count-n-end.result = omega arith in
-    subst (λ n. ScannedBelow c.args.g.now c.args.inode.now v n c.loop-n.scan) (at ∙ c.block_count-n-end.ensures.value) (c.loop-n.invariant.found told v stands)
+    let most = c.loop-n.invariant.within in
+    let at : c.loop-n.n ≡ c.block_count-count.result = omega arith in
+    subst (λ n. ScannedBelow c.args.g.now c.args.inode.now v n c.loop-n.scan) (at ∙ c.block_count-count.ensures.value) (c.loop-n.invariant.found told v stands)

@@ -5,7 +5,7 @@ use Rattle.ufs_model.specs.declared.claims.ClaimSource.{ClaimSource}
 use Rattle.ufs_model.specs.declared.geometries.Geometry.{Geometry}
 use Rattle.dg_claims.specs.Kept.{table_of}
 use Rattle.dg_claims.specs.Tables.{IsSource, TableClaims, accepted}
-use Rattle.dg_infer.proofs.FetchedLaws.{begun_first, fetches_none}
+use Rattle.dg_infer.proofs.FetchedLaws.{fetches_none, places_none}
 use Rattle.dg_infer.proofs.WriteLaws.{TableLaws, kept_bare}
 use Rattle.dg_infer.specs.Inferences.{kept_in}
 use Rattle.dg_infer.specs.Meanings.{KeptInference, StandsFor}
@@ -29,6 +29,6 @@ returns-in_default-clause-stands g c = λ v h.
 pub returns-in_default-clause-fetched : goal.returns-in_default-clause-fetched
 returns-in_default-clause-fetched g c = record {
   middle = c.args.view.now;
-  levels = begun_first g.V.View.fetched _ _ 0 c.args.view.now (g.met.V.View.fetched_none c.args.view.now);
+  levels = places_none g.V.View.fetched _ c.args.view.now (g.met.V.View.fetched_none c.args.view.now);
   group = fetches_none g.V.View.fetched _ c.args.view.now (g.met.V.View.fetched_none c.args.view.now);
 }

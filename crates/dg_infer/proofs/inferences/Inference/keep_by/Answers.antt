@@ -1,18 +1,18 @@
-use Rattle.std.proofs.Common.{◌≡◌, ◌∙◌, List, Bool, Option, Some, length, refl, sym, ap, subst}
+use Rattle.std.proofs.Common.{◌≡◌, ◌∙◌, List, Bool, Some, length, refl, sym, ap, subst}
 use Rattle.std.proofs.lemmas.List.{with_items_is}
 use Rattle.std.specs.Prelude.{slice_set}
 use Rattle.dg_io.specs.ViewLaws.{keeps_both}
 use Rattle.dg_model.specs.Volumes.{geometry_on}
 use Rattle.ufs_model.specs.Metadata.{by_geometry, of_indirect}
-use Rattle.ufs_model.specs.declared.geometries.Geometry.{Geometry}
 use Rattle.ufs_pointer.specs.KindLaws.{loses_along}
-use Rattle.dg_claims.specs.Kept.{claimed_by, table_of}
+use Rattle.dg_claims.specs.Kept.{table_of}
 use Rattle.dg_claims.specs.Tables.{accepted}
 use Rattle.dg_infer.proofs.TargetLaws.{this_block}
 use Rattle.dg_infer.proofs.VolumeLaws.{accepted_some}
+use Rattle.dg_infer.proofs.BoundLaws.{kept_fetched}
+use Rattle.dg_infer.proofs.FetchedLaws.{fetches_none, places_none}
 use Rattle.dg_infer.proofs.WriteLaws.{TableLaws, claims_by, kept_by, shown}
-use Rattle.dg_infer.specs.Bounds.{IsGroupRestBy}
-use Rattle.dg_infer.specs.Fetched.{FetchesBegun, FetchesOnce}
+use Rattle.dg_infer.specs.Areas.{IsGroupRest}
 use Rattle.dg_infer.specs.Inferences.{kept_in}
 use Rattle.dg_infer.specs.Meanings.{KeptInference, StandsFor}
 use Rattle.dg_infer.specs.Moves.{Follows}
@@ -85,10 +85,43 @@ returns-clause-stands g c = λ v h.
     c.in_ok-move_claims.ensures.watched in
     subst (λ (ys : List Bool). Follows (shown old c.move_claims.new.claims c.move_kinds.new.kinds.entries old.pending ys) (Some c.move_claims.new.watch) w) (sym free) kept
 
+pub returns-in_err-watch-clause-fetched : goal.returns-in_err-watch-clause-fetched
+returns-in_err-watch-clause-fetched g c =
+    let none = g.met.V.View.fetched_none c.args.view.now in
+    record { middle = c.args.view.now; levels = places_none g.V.View.fetched _ c.args.view.now none; group = fetches_none g.V.View.fetched _ c.args.view.now none }
+
+pub returns-in_err-move_claims-clause-fetched : goal.returns-in_err-move_claims-clause-fetched
+returns-in_err-move_claims-clause-fetched g c =
+    let laws : TableLaws = record { accepted = c.tables_of_volumes.ensures.accepted; refused = c.tables_of_volumes.ensures.refused; claims = c.tables_of_volumes.ensures.claims } in
+    kept_fetched laws g.V.View (kept_in c.self.inside) c.args.self.now c.args.g.now c.args.block c.args.bytes.now c.args.view.now c.move_claims.new.view c.move_claims.new.view
+    c.self.view_is c.self.invariant.same c.requires.known (λ told. told) c.move_claims.ensures.fetched (fetches_none g.V.View.fetched (IsGroupRest c.args.g.now c.args.block) c.move_claims.new.view (g.met.V.View.fetched_none c.move_claims.new.view))
+
+pub returns-then-not-branch-clause-fetched : goal.returns-then-not-branch-clause-fetched
+returns-then-not-branch-clause-fetched g c =
+    let laws : TableLaws = record { accepted = c.tables_of_volumes.ensures.accepted; refused = c.tables_of_volumes.ensures.refused; claims = c.tables_of_volumes.ensures.claims } in
+    kept_fetched laws g.V.View (kept_in c.self.inside) c.args.self.now c.args.g.now c.args.block c.args.bytes.now c.args.view.now c.move_claims.new.view c.move_claims.new.view
+    c.self.view_is c.self.invariant.same c.requires.known (λ told. told) c.move_claims.ensures.fetched (fetches_none g.V.View.fetched (IsGroupRest c.args.g.now c.args.block) c.move_claims.new.view (g.met.V.View.fetched_none c.move_claims.new.view))
+
+pub returns-in_err-move_kinds-clause-fetched : goal.returns-in_err-move_kinds-clause-fetched
+returns-in_err-move_kinds-clause-fetched g c =
+    let laws : TableLaws = record { accepted = c.tables_of_volumes.ensures.accepted; refused = c.tables_of_volumes.ensures.refused; claims = c.tables_of_volumes.ensures.claims } in
+    kept_fetched laws g.V.View (kept_in c.self.inside) c.args.self.now c.args.g.now c.args.block c.args.bytes.now c.args.view.now c.move_claims.new.view c.move_claims.new.view
+    c.self.view_is c.self.invariant.same c.requires.known (λ told. told) c.move_claims.ensures.fetched (fetches_none g.V.View.fetched (IsGroupRest c.args.g.now c.args.block) c.move_claims.new.view (g.met.V.View.fetched_none c.move_claims.new.view))
+
+pub returns-in_err-move_free-clause-fetched : goal.returns-in_err-move_free-clause-fetched
+returns-in_err-move_free-clause-fetched g c =
+    let laws : TableLaws = record { accepted = c.tables_of_volumes.ensures.accepted; refused = c.tables_of_volumes.ensures.refused; claims = c.tables_of_volumes.ensures.claims } in
+    kept_fetched laws g.V.View (kept_in c.self.inside) c.args.self.now c.args.g.now c.args.block c.args.bytes.now c.args.view.now c.move_claims.new.view c.move_free.new.view
+    c.self.view_is c.self.invariant.same c.requires.known c.move_free.ensures.keeps.told c.move_claims.ensures.fetched c.move_free.ensures.fetched
+
+pub returns-then-not-branch-2-clause-fetched : goal.returns-then-not-branch-2-clause-fetched
+returns-then-not-branch-2-clause-fetched g c =
+    let laws : TableLaws = record { accepted = c.tables_of_volumes.ensures.accepted; refused = c.tables_of_volumes.ensures.refused; claims = c.tables_of_volumes.ensures.claims } in
+    kept_fetched laws g.V.View (kept_in c.self.inside) c.args.self.now c.args.g.now c.args.block c.args.bytes.now c.args.view.now c.move_claims.new.view c.move_free.new.view
+    c.self.view_is c.self.invariant.same c.requires.known c.move_free.ensures.keeps.told c.move_claims.ensures.fetched c.move_free.ensures.fetched
+
 pub returns-clause-fetched : goal.returns-clause-fetched
-returns-clause-fetched g c = record {
-  middle = c.move_claims.new.view;
-  levels = subst (λ (k : KeptInference). FetchesBegun g.V.View.fetched (claimed_by k.claims.runs) (claimed_by c.move_claims.new.claims.runs) 0 c.args.view.now c.move_claims.new.view) c.self.view_is
-      c.move_claims.ensures.fetched;
-  group = subst (λ (o : Option Geometry). FetchesOnce g.V.View.fetched (IsGroupRestBy o c.args.block) c.move_claims.new.view c.move_free.new.view) (sym c.requires.known) c.move_free.ensures.fetched;
-}
+returns-clause-fetched g c =
+    let laws : TableLaws = record { accepted = c.tables_of_volumes.ensures.accepted; refused = c.tables_of_volumes.ensures.refused; claims = c.tables_of_volumes.ensures.claims } in
+    kept_fetched laws g.V.View (kept_in c.self.inside) c.args.self.now c.args.g.now c.args.block c.args.bytes.now c.args.view.now c.move_claims.new.view c.move_free.new.view
+    c.self.view_is c.self.invariant.same c.requires.known c.move_free.ensures.keeps.told c.move_claims.ensures.fetched c.move_free.ensures.fetched

@@ -3,7 +3,7 @@ use Rattle.ufs_pointer.specs.KindLaws.{loses_along}
 use Rattle.dg_model.specs.Volumes.{geometry_on}
 use Rattle.dg_claims.specs.Tables.{accepted}
 use Rattle.dg_infer.proofs.WriteLaws.{TableLaws, loses_whole, stands_anew, stands_shown, super_needed}
-use Rattle.dg_infer.proofs.WholeLaws.{whole_only}
+use Rattle.dg_infer.proofs.WholeLaws.{super_only, whole_only}
 use Rattle.dg_infer.specs.Writes.{IsKnownWhole}
 use Rattle.dg_infer.proofs.inferences.Inference.restored.Goals as goal
 
@@ -56,11 +56,29 @@ returns-clause-pending g c = λ v. record {
       all.1;
 }
 
+pub returns-in_default-clause-fetched : goal.returns-in_default-clause-fetched
+returns-in_default-clause-fetched g c = super_only g.V.View c.args.view.now c.read_geometry.new.view c.read_geometry.result c.read_geometry.ensures.fetched
+
+pub returns-in_err-parts-clause-fetched : goal.returns-in_err-parts-clause-fetched
+returns-in_err-parts-clause-fetched g c =
+    whole_only g.V.View g.met.V.View.fetched_both c.args.view.now c.read_geometry.new.view c.restored_parts.new.view c.in-Some.found c.accepted-geometry.result c.read_geometry.result
+    c.accepted-geometry.ensures.value c.read_geometry.ensures.keeps (rw c.in-Some.is at c.read_geometry.ensures.rule) c.restored_parts.ensures.keeps.told
+    c.read_geometry.ensures.fetched c.restored_parts.ensures.fetched
+
+pub returns-in_default-2-clause-fetched : goal.returns-in_default-2-clause-fetched
+returns-in_default-2-clause-fetched g c =
+    whole_only g.V.View g.met.V.View.fetched_both c.args.view.now c.read_geometry.new.view c.restored_parts.new.view c.in-Some.found c.accepted-geometry.result c.read_geometry.result
+    c.accepted-geometry.ensures.value c.read_geometry.ensures.keeps (rw c.in-Some.is at c.read_geometry.ensures.rule) c.restored_parts.ensures.keeps.told
+    c.read_geometry.ensures.fetched c.restored_parts.ensures.fetched
+
+pub returns-in_err-marks-clause-fetched : goal.returns-in_err-marks-clause-fetched
+returns-in_err-marks-clause-fetched g c =
+    whole_only g.V.View g.met.V.View.fetched_both c.args.view.now c.read_geometry.new.view c.restored_parts.new.view c.in-Some.found c.accepted-geometry.result c.read_geometry.result
+    c.accepted-geometry.ensures.value c.read_geometry.ensures.keeps (rw c.in-Some.is at c.read_geometry.ensures.rule) c.restored_parts.ensures.keeps.told
+    c.read_geometry.ensures.fetched c.restored_parts.ensures.fetched
+
 pub returns-clause-fetched : goal.returns-clause-fetched
 returns-clause-fetched g c =
-    let first = c.read_geometry.ensures.keeps in
-    let reads = rw c.in-Some.is at c.read_geometry.ensures.rule in
-    whole_only g.V.View g.met.V.View.fetched_both c.args.view.now c.read_geometry.new.view c.restored_parts.new.view c.accepted-geometry.result c.read_geometry.result
-    first.stands first.blocks c.restored_parts.ensures.keeps.told
-    (λ told v holds. c.accepted-geometry.ensures.value ∙ ap accepted ((reads.rule (c.restored_parts.ensures.keeps.told told) v holds).answer))
-    c.read_geometry.ensures.fetched (rw c.in-Some-2.is at c.in_ok-parts.ensures.fetched)
+    whole_only g.V.View g.met.V.View.fetched_both c.args.view.now c.read_geometry.new.view c.restored_parts.new.view c.in-Some.found c.accepted-geometry.result c.read_geometry.result
+    c.accepted-geometry.ensures.value c.read_geometry.ensures.keeps (rw c.in-Some.is at c.read_geometry.ensures.rule) c.restored_parts.ensures.keeps.told
+    c.read_geometry.ensures.fetched c.restored_parts.ensures.fetched

@@ -1,0 +1,287 @@
+-- What a group left on its disks is what the next opening makes of them.
+use Rattle.std.proofs.Common.{◌≡◌, ◌≢◌, ◌⊎◌, ℕ, zero, suc, ◌+◌, ◌*◌, ◌/◌, ◌%◌, ◌<◌, ◌≤◌, ◌^◌, inl, inr, Bool, true, false, List, length, take, refl, sym, ap, subst, ◌∙◌, arith}
+use Rattle.std.specs.Prelude.{Option, None, Some, is_some, IfSome, IsSome, slice_index, ◌==◌, ◌&&◌, not, if◌then◌else◌}
+use Rattle.std.proofs.lemmas.Bool.{cases_lt, cases_Bool, false≢true}
+use Rattle.dg_model.specs.Causes.{Rose}
+use Rattle.dg_io.specs.Told.{Told, IsSame}
+use Rattle.dg_io.specs.declared.outside.Rack.{Ghosts}
+use Rattle.dg_parity.specs.Epochs.{IsCountable, IsLeft, IsReopened}
+use Rattle.dg_parity.specs.Headers.{header_bytes, marks_of, IsHeader}
+use Rattle.dg_parity.specs.Stripes.{disk_length, member_by}
+use Rattle.dg_parity.specs.Groups.{disk_number, is_out, is_lost, length_of, bytes_of, AllTold, HasHead, header_in, Holds, IsLater, IsReady, StandsFor}
+use Rattle.dg_parity.specs.Kept.{all_told, bytes_in, made_by, IsKept}
+use Rattle.dg_parity.specs.Openings.{HasFront, IsFront, IsFound, HasWidth, IsChief, IsIn, IsOpened, is_marked}
+use Rattle.dg_parity.specs.declared.groups.Group.{Group}
+use Rattle.dg_parity.specs.declared.headers.Header.{Header}
+use Rattle.dg_parity.proofs.GroupLemmas.{told-at, in-before}
+use Rattle.dg_parity.proofs.HoldLemmas.{range-before}
+use Rattle.dg_parity.proofs.KeptLemmas.{kept-of, kept-stands, stands-is}
+use Rattle.dg_parity.proofs.KeptSteps.{each-told, both-true}
+use Rattle.dg_parity.proofs.MemberSteps.{stands-along}
+use Rattle.dg_parity.proofs.OpenedLemmas.{some-not, front-there}
+use Rattle.dg_parity.proofs.PageLemmas.{own_numbers, HasNumbers, same_fields}
+use Rattle.dg_parity.proofs.PartLemmas.{others-in}
+
+-- ---- a byte of marks
+
+abbrev pub number : Bool → ℕ
+number true = 1
+number false = 0
+
+weight : (b : Bool) (p : ℕ) → (if b then p else 0) ≡ p * number b
+weight true p = omega arith
+weight false p = omega arith
+
+small : (b : Bool) → number b ≤ 1
+small true = omega arith
+small false = omega arith
+
+is-one : (b : Bool) → (number b == 1) ≡ b
+is-one true = refl
+is-one false = refl
+
+pub bit-of : (m v j : ℕ) (b : Bool) → (m / 2 ^ j) % 2 ≡ v → v ≡ number b → is_marked m j ≡ b
+bit-of m v j b is at = ap (λ (k : ℕ). k == 1) (is ∙ at) ∙ is-one b
+
+marks-sum : (out : ℕ → Bool) → marks_of out 8
+    ≡ number (out 0) + 2 * number (out 1) + 4 * number (out 2) + 8 * number (out 3) + 16 * number (out 4) + 32 * number (out 5) + 64 * number (out 6) + 128 * number (out 7)
+marks-sum out =
+    let all : marks_of out 8
+    ≡ 0 + (if out 0 then 1 else 0) + (if out 1 then 2 else 0) + (if out 2 then 4 else 0) + (if out 3 then 8 else 0) + (if out 4 then 16 else 0) + (if out 5 then 32 else 0)
+    + (if out 6 then 64 else 0) + (if out 7 then 128 else 0) = refl in
+    omega (arith, all, weight (out 0) 1, weight (out 1) 2, weight (out 2) 4, weight (out 3) 8, weight (out 4) 16, weight (out 5) 32, weight (out 6) 64, weight (out 7) 128)
+
+bits : (m a b c d e f g h : ℕ) → m ≡ a + 2 * b + 4 * c + 8 * d + 16 * e + 32 * f + 64 * g + 128 * h → a ≤ 1 → b ≤ 1 → c ≤ 1 → d ≤ 1 → e ≤ 1 → f ≤ 1 → g ≤ 1 → h ≤ 1
+    → (m / 1 % 2 ≡ a) × (m / 2 % 2 ≡ b) × (m / 4 % 2 ≡ c) × (m / 8 % 2 ≡ d) × (m / 16 % 2 ≡ e) × (m / 32 % 2 ≡ f) × (m / 64 % 2 ≡ g) × (m / 128 % 2 ≡ h)
+bits m a b c d e f g h is a1 b1 c1 d1 e1 f1 g1 h1 =
+    (omega (arith, is), omega (arith, is), omega (arith, is), omega (arith, is), omega (arith, is), omega (arith, is), omega (arith, is), omega (arith, is))
+
+-- the marks of a header are the disks that are out
+pub marked : (out : ℕ → Bool) (j : ℕ) → j < 8 → is_marked (marks_of out 8) j ≡ out j
+marked out j lt =
+    let all = bits (marks_of out 8) (number (out 0)) (number (out 1)) (number (out 2)) (number (out 3)) (number (out 4)) (number (out 5)) (number (out 6)) (number (out 7)) (marks-sum out)
+    (small (out 0)) (small (out 1)) (small (out 2)) (small (out 3)) (small (out 4)) (small (out 5)) (small (out 6)) (small (out 7)) in
+    at j lt all
+  where
+    at : (j : ℕ) → j < 8 → ((marks_of out 8 / 1 % 2 ≡ number (out 0)) × (marks_of out 8 / 2 % 2 ≡ number (out 1)) × (marks_of out 8 / 4 % 2 ≡ number (out 2)) × (marks_of out 8 / 8 % 2 ≡ number (out 3))
+        × (marks_of out 8 / 16 % 2 ≡ number (out 4)) × (marks_of out 8 / 32 % 2 ≡ number (out 5)) × (marks_of out 8 / 64 % 2 ≡ number (out 6)) × (marks_of out 8 / 128 % 2 ≡ number (out 7)))
+        → is_marked (marks_of out 8) j ≡ out j
+    at zero lt all = bit-of (marks_of out 8) (number (out 0)) 0 (out 0) all.0 refl
+    at (suc zero) lt all = bit-of (marks_of out 8) (number (out 1)) 1 (out 1) all.1 refl
+    at (suc (suc zero)) lt all = bit-of (marks_of out 8) (number (out 2)) 2 (out 2) all.2 refl
+    at (suc (suc (suc zero))) lt all = bit-of (marks_of out 8) (number (out 3)) 3 (out 3) all.3 refl
+    at (suc (suc (suc (suc zero)))) lt all = bit-of (marks_of out 8) (number (out 4)) 4 (out 4) all.4 refl
+    at (suc (suc (suc (suc (suc zero))))) lt all = bit-of (marks_of out 8) (number (out 5)) 5 (out 5) all.5 refl
+    at (suc (suc (suc (suc (suc (suc zero)))))) lt all = bit-of (marks_of out 8) (number (out 6)) 6 (out 6) all.6 refl
+    at (suc (suc (suc (suc (suc (suc (suc zero))))))) lt all = bit-of (marks_of out 8) (number (out 7)) 7 (out 7) all.7 refl
+    at (suc (suc (suc (suc (suc (suc (suc (suc k)))))))) lt all = absurd (omega (arith, lt))
+
+marks-below : (out : ℕ → Bool) → marks_of out 8 < 2 ^ 8
+marks-below out = omega (arith, marks-sum out, small (out 0), small (out 1), small (out 2), small (out 3), small (out 4), small (out 5), small (out 6), small (out 7))
+
+-- ---- what an opening takes from bytes is one header at most
+
+pub front-once : (s j : ℕ) (all : List ℕ) (o : Option Header) (h : Header) → IsFront s j all o → HasFront s j all h → o ≡ Some h
+front-once s j all None h none has = absurd (none h has)
+front-once s j all (Some k) h own has =
+    let same : header_bytes k ≡ header_bytes h = sym own.bytes ∙ has.bytes in
+    let a : HasNumbers (header_bytes h) k = subst (λ (l : List ℕ). HasNumbers l k) same (own_numbers k own.fits) in
+    let b : HasNumbers (header_bytes h) h = own_numbers h has.fits in
+    ap Some (same_fields k.epoch h.epoch k.group h.group k.place h.place k.disks h.disks k.marks h.marks k.size h.size
+    (sym a.epoch ∙ b.epoch) (sym a.group ∙ b.group) (sym a.place ∙ b.place) (sym a.disks ∙ b.disks) (sym a.marks ∙ b.marks) (sym a.size ∙ b.size))
+
+-- the header that a group has noted on disk j counts
+own-front : (group : Group) (j : ℕ) (all : List ℕ) → IsCountable group → group.number < 16 → 3 ≤ group.disks → group.disks ≤ 8 → j < group.disks
+    → take 512 all ≡ header_bytes (header_in group j) → length all ≡ length_of group → HasFront group.number j all (header_in group j)
+own-front group j all range few least most lt bytes size = record {
+  bytes = bytes;
+  fits = record {
+    epochs = omega (arith, range.last);
+    groups = omega (arith, few);
+    places = omega (arith, lt, most);
+    widths = omega (arith, most);
+    marked = marks-below (is_out group);
+    sizes = range.sized;
+  };
+  counted = record { group = refl; place = refl; least = least; most = most; first = range.first; last = range.last; size = size };
+}
+
+-- what the opening found on a disk that was in
+found-in : (s j : ℕ) (o p : Option (List ℕ)) (front : Option Header) (h : Header) (P : Type 0) → Told IsSame o p → IsSome p → IfSome o (λ all. HasFront s j all h)
+    → IfSome p (λ all. IsFront s j all front) ⊎ ((front ≡ None) × P) → (front ≡ Some h) ⊎ ((front ≡ None) × P)
+found-in s j o None front h P same told has found = absurd (false≢true told)
+found-in s j None (Some y) front h P same told has found = absurd same
+found-in s j (Some x) (Some y) front h P same told has (inl is) = inl (front-once s j y front h is (subst (λ (l : List ℕ). HasFront s j l h) (sym same) has))
+found-in s j (Some x) (Some y) front h P same told has (inr fell) = inr fell
+
+head-front : {S : Type 0} (rack : Ghosts S) (group : Group) (left : S) (j : ℕ) → IsCountable group → IsReady rack group left → group.noted ≡ true → j < group.disks → is_out group j ≡ false
+    → IfSome (rack.bytes left (disk_number group.number j)) (λ all. HasFront group.number j all (header_in group j))
+head-front rack group left j range ready noted lt in0 =
+    both (rack.bytes left (disk_number group.number j)) (ready.room j lt in0) (ready.heads noted j lt in0) where
+      both : (o : Option (List ℕ)) → IfSome o (λ all. length all ≡ length_of group) → IfSome o (λ all. take 512 all ≡ header_bytes (header_in group j))
+          → IfSome o (λ all. HasFront group.number j all (header_in group j))
+      both None a b = tt
+      both (Some all) a b = own-front group j all range group.number_fits group.least group.most lt b a
+
+-- what the opening found on a disk that was out
+past-is : (s j n e : ℕ) (o : Option (List ℕ)) (h : Header) → IsSome o → IfSome o (λ all. (k : Header) → HasFront s j all k → k.disks ≡ n → k.epoch < e)
+    → IfSome o (λ all. HasFront s j all h) → h.disks ≡ n → h.epoch < e
+past-is s j n e None h told past has width = absurd (false≢true told)
+past-is s j n e (Some all) h told past has width = past h has width
+
+-- what an opening found on each disk of a group that was left so
+pub record Finds {S : Type 0} (rack : Ghosts S) (group : Group) (before now : S) (fronts : ℕ → Option Header) : Type 0 where
+  pub ins : (j : ℕ) → j < group.disks → is_out group j ≡ false
+      → (fronts j ≡ Some (header_in group j))
+      ⊎ ((fronts j ≡ None) × Rose ((rack.counts before).faults (disk_number group.number j)) ((rack.counts now).faults (disk_number group.number j)))
+  pub outs : (j : ℕ) (h : Header) → j < group.disks → is_out group j ≡ true → fronts j ≡ Some h → h.disks ≡ group.disks → h.epoch < group.epoch
+
+pub finds-left : {S : Type 0} (rack : Ghosts S) (group : Group) (left before now : S) (fronts : ℕ → Option Header) → IsCountable group → IsReady rack group left → group.noted ≡ true
+    → IsLeft rack group left now → ((j : ℕ) → j < 8 → IsFound rack before now group.number j (fronts j)) → Finds rack group before now fronts
+finds-left rack group left before now fronts range ready noted is found = record {
+  ins = λ j lt in0. found-in group.number j (rack.bytes left (disk_number group.number j)) (rack.bytes now (disk_number group.number j)) (fronts j) (header_in group j)
+      (Rose ((rack.counts before).faults (disk_number group.number j)) ((rack.counts now).faults (disk_number group.number j)))
+      (is.same j lt in0) (is.told j lt) (head-front rack group left j range ready noted lt in0) (found j (omega (arith, lt, group.most))).front_is;
+  outs = λ j h lt in1 has width.
+      past-is group.number j group.disks group.epoch (rack.bytes now (disk_number group.number j)) h (is.told j lt) (is.past j lt in1)
+      (front-there rack before now group.number j (fronts j) h has (found j (omega (arith, lt, group.most)))) width;
+}
+
+some-same : (h k : Header) → Some h ≡ Some k → h ≡ k
+some-same h k e = ap (of h) e where
+  of : Header → Option Header → Header
+  of d None = d
+  of d (Some x) = x
+
+both-some : (o : Option Header) (h k : Header) → o ≡ Some h → o ≡ Some k → h ≡ k
+both-some o h k a b = some-same h k (sym a ∙ b)
+
+-- a disk that is in after the opening was in before, or it has the epoch that stands and was out
+in-epoch : {S : Type 0} (rack : Ghosts S) (group : Group) (before now : S) (fronts : ℕ → Option Header) (chief : Header) (j : ℕ) → Finds rack group before now fronts → j < group.disks
+    → is_out group j ≡ false → IsIn fronts group.disks chief j → group.epoch ≡ chief.epoch
+in-epoch rack group before now fronts chief j finds lt in0 i = same (finds.ins j lt in0) where
+  same : ((fronts j ≡ Some (header_in group j)) ⊎ ((fronts j ≡ None) × Rose ((rack.counts before).faults (disk_number group.number j)) ((rack.counts now).faults (disk_number group.number j))))
+      → group.epoch ≡ chief.epoch
+  same (inl is) = ap (λ (h : Header). h.epoch) (both-some (fronts j) (header_in group j) i.header is i.has.found) ∙ i.epoch
+  same (inr fell) = absurd (some-not i.header (sym i.has.found ∙ fell.0))
+
+-- two disks beside p
+pub record Beside (p : ℕ) : Type 0 where
+  pub a : ℕ
+  pub b : ℕ
+  pub low : a < 3
+  pub high : b < 3
+  pub differ : a ≢ b
+  pub not_a : a ≢ p
+  pub not_b : b ≢ p
+
+two-beside : (p : ℕ) → Beside p
+two-beside zero = record { a = 1; b = 2; low = omega arith; high = omega arith; differ = λ e. absurd (omega (arith, e)); not_a = λ e. absurd (omega (arith, e)); not_b = λ e. absurd (omega (arith, e)) }
+two-beside (suc zero) = record { a = 0; b = 2; low = omega arith; high = omega arith; differ = λ e. absurd (omega (arith, e)); not_a = λ e. absurd (omega (arith, e)); not_b = λ e. absurd (omega (arith, e)) }
+two-beside (suc (suc p)) = record { a = 0; b = 1; low = omega arith; high = omega arith; differ = λ e. absurd (omega (arith, e)); not_a = λ e. absurd (omega (arith, e)); not_b = λ e. absurd (omega (arith, e)) }
+
+-- the header that stands is one of the group's own
+chief-in : {S : Type 0} (rack : Ghosts S) (group next : Group) (before now : S) (fronts : ℕ → Option Header) → is_lost group ≡ false → Finds rack group before now fronts
+    → (o : IsOpened fronts group.disks group.number next) → is_lost next ≡ false → is_out group o.place ≡ false
+chief-in rack group next before now fronts alive finds o alive2 = elim (cases_Bool (is_out group o.place)) [
+  | inr in0 ↦ in0
+  | inl in1 ↦
+      let old : o.chief.epoch < group.epoch = finds.outs o.place o.chief o.is.within in1 o.is.has.found o.is.has.width in
+      let two = two-beside o.place in
+      let lta : two.a < group.disks = omega (arith, two.low, group.least) in
+      let ltb : two.b < group.disks = omega (arith, two.high, group.least) in
+      let wrong : group.epoch ≡ o.chief.epoch → is_out group o.place ≡ false = λ e. absurd (omega (arith, e, old)) in
+      elim (cases_Bool (is_out next two.a)) [
+        | inr ina ↦ wrong (in-epoch rack group before now fronts o.chief two.a finds lta (others-in group o.place two.a alive in1 two.not_a) ((o.ins two.a lta).0 ina))
+        | inl outa ↦ wrong (in-epoch rack group before now fronts o.chief two.b finds ltb (others-in group o.place two.b alive in1 two.not_b)
+            ((o.ins two.b ltb).0 (others-in next two.a two.b alive2 outa (λ e. two.differ (sym e)))))
+      ]
+]
+
+chief-is : {S : Type 0} (rack : Ghosts S) (group : Group) (before now : S) (fronts : ℕ → Option Header) (p : ℕ) (chief : Header) → Finds rack group before now fronts → p < group.disks
+    → is_out group p ≡ false → fronts p ≡ Some chief → chief ≡ header_in group p
+chief-is rack group before now fronts p chief finds lt in0 has = same (finds.ins p lt in0) where
+  same : ((fronts p ≡ Some (header_in group p)) ⊎ ((fronts p ≡ None) × Rose ((rack.counts before).faults (disk_number group.number p)) ((rack.counts now).faults (disk_number group.number p))))
+      → chief ≡ header_in group p
+  same (inl is) = both-some (fronts p) chief (header_in group p) has is
+  same (inr fell) = absurd (some-not chief (sym has ∙ fell.0))
+
+pub reopened : {S : Type 0} (rack : Ghosts S) (group next : Group) (before now : S) (fronts : ℕ → Option Header) → is_lost group ≡ false → Finds rack group before now fronts
+    → IsOpened fronts group.disks group.number next → is_lost next ≡ false → IsReopened rack group next before now
+reopened rack group next before now fronts alive finds o alive2 =
+    let in0 : is_out group o.place ≡ false = chief-in rack group next before now fronts alive finds o alive2 in
+    let is : o.chief ≡ header_in group o.place = chief-is rack group before now fronts o.place o.chief finds o.is.within in0 o.is.has.found in
+    let marks : o.chief.marks ≡ marks_of (is_out group) 8 = ap (λ (h : Header). h.marks) is in
+    let epoch : o.chief.epoch ≡ group.epoch = ap (λ (h : Header). h.epoch) is in
+    let size : o.chief.size ≡ group.length = ap (λ (h : Header). h.size) is in
+    let bit : (j : ℕ) → j < group.disks → is_marked o.chief.marks j ≡ is_out group j = λ j lt. ap (λ (m : ℕ). is_marked m j) marks ∙ marked (is_out group) j (omega (arith, lt, group.most)) in
+    record {
+      number = o.number;
+      disks = o.disks;
+      size = o.size ∙ size;
+      epoch = o.epoch ∙ epoch;
+      stays = λ j out. elim (cases_lt j group.disks) [
+        | inl lt ↦ elim (cases_Bool (is_out next j)) [
+          | inl out2 ↦ out2
+          | inr in2 ↦ absurd (false≢true (sym ((o.ins j lt).0 in2).unmarked ∙ bit j lt ∙ out))
+        ]
+        | inr le ↦ absurd (false≢true (sym (group.beyond j le) ∙ out))
+      ];
+      cause = λ j lt in1 out2. in-again j lt in1 out2 epoch marks size bit (finds.ins j lt in1);
+    } where
+      in-again : (j : ℕ) → j < group.disks → is_out group j ≡ false → is_out next j ≡ true
+          → o.chief.epoch ≡ group.epoch → o.chief.marks ≡ marks_of (is_out group) 8 → o.chief.size ≡ group.length → ((j : ℕ) → j < group.disks → is_marked o.chief.marks j ≡ is_out group j)
+          → ((fronts j ≡ Some (header_in group j)) ⊎ ((fronts j ≡ None) × Rose ((rack.counts before).faults (disk_number group.number j)) ((rack.counts now).faults (disk_number group.number j))))
+          → Rose ((rack.counts before).faults (disk_number group.number j)) ((rack.counts now).faults (disk_number group.number j))
+      in-again j lt in1 out2 epoch marks size bit (inl is) = absurd (false≢true (sym ((o.ins j lt).1 (record {
+        header = header_in group j;
+        has = record { found = is; width = refl };
+        epoch = sym epoch;
+        marks = sym marks;
+        size = sym size;
+        unmarked = bit j lt ∙ in1;
+      })) ∙ out2))
+      in-again j lt in1 out2 epoch marks size bit (inr fell) = fell.1
+
+-- ---- what the group stands for then
+
+later-again : {S : Type 0} (rack : Ghosts S) (group next : Group) (before now : S) → IsReopened rack group next before now → next.told ≡ group.told → IsLater group next
+later-again rack group next before now h told = record {
+  number = h.number;
+  disks = h.disks;
+  size = h.size;
+  grows = h.stays;
+  epoch = omega (arith, h.epoch);
+  told = λ e. sym told ∙ e;
+}
+
+pub stands-again : {S : Type 0} (rack : Ghosts S) (group next : Group) (left now : S) (bytes : List ℕ) → IsLeft rack group left now → IsLater group next
+    → StandsFor rack group left bytes → StandsFor rack next now bytes
+stands-again rack group next left now bytes is later h =
+    stands-along rack group next left now bytes later (λ has held. record {
+      at = λ j x lt in0 range.
+          let below : j < group.disks = subst (λ (n : ℕ). j < n) later.disks lt in
+          ap (λ (s : ℕ). slice_index (bytes_of (rack.bytes now (disk_number s j))) x) later.number
+          ∙ ap (λ (l : List ℕ). slice_index l x) (told-at IsSame _ _ (is.same j below (in-before group next j later in0)) (is.told j below))
+          ∙ held.at j x below (in-before group next j later in0) (range-before group next x later range);
+    }) h
+
+told-again : {S : Type 0} (rack : Ghosts S) (group next : Group) (now : S) → IsLater group next → AllTold rack group now → AllTold rack next now
+told-again rack group next now later all j lt =
+    subst (λ (s : ℕ). IsSome (rack.bytes now (disk_number s j))) (sym later.number) (all j (subst (λ (n : ℕ). j < n) later.disks lt))
+
+some-if : (a b c d : Bool) (x y : List ℕ) → a ≡ c → b ≡ true → d ≡ true → x ≡ y → (if a && b then Some x else None) ≡ (if c && d then Some y else None)
+some-if a b c d x y e bt dt same = rw (e, bt, dt, same) refl
+
+pub reads-on : {S : Type 0} (rack : Ghosts S) (group next : Group) (left before now : S) → is_lost group ≡ false → IsKept rack group left → AllTold rack group left → IsLeft rack group left now
+    → IsReopened rack group next before now → IsReady rack next now → is_lost next ≡ false → next.told ≡ group.told
+    → (IsKept rack next now) × (bytes_in rack next now ≡ bytes_in rack group left)
+reads-on rack group next left before now alive kept told is h ready alive2 same =
+    let later = later-again rack group next before now h same in
+    let bytes : List ℕ = member_by group.disks group.length (made_by rack group left) in
+    let stands : StandsFor rack next now bytes = stands-again rack group next left now bytes is later (kept-stands rack group left alive kept told) in
+    let all = told-again rack group next now later is.told in (
+      kept-of rack next now bytes (λ e. ready) (λ e all2. stands),
+      some-if next.told (all_told rack next now) group.told (all_told rack group left) (member_by next.disks next.length (made_by rack next now)) bytes same (each-told rack next now all)
+          (each-told rack group left told) (sym (stands-is rack next now bytes next.least alive2 stands)),
+    )

@@ -1,0 +1,22 @@
+-- Calls of a rack of groups leave what each of them leaves.
+use Rattle.std.specs.Prelude.{◌++◌, List, []}
+use Rattle.dg_io.specs.MadeLaws.{after_both, after_none}
+use Rattle.dg_io.specs.RackCalls.{RackCall}
+use Rattle.dg_io.specs.RackWords.{After}
+use Rattle.dg_io.specs.declared.outside.Rack.{Ghosts}
+use Rattle.dg_parity.specs.Arrays.{Grouped, GroupedMade, grouped_bytes, grouped_counts, grouped_disks, grouped_keeps, grouped_name, grouped_stands, grouped_steady, grouped_tells, grouped_words}
+
+module _ {R : Type 0} (rack : Ghosts R) where
+  pub grouped_none : (s : Grouped R) → GroupedMade rack s [] s
+  grouped_none s = record {
+    after = after_none (grouped_name rack) (grouped_bytes rack) (grouped_counts rack) (grouped_stands rack) (grouped_steady rack) (grouped_tells rack) (grouped_keeps rack) (grouped_disks rack) s;
+  }
+
+  pub grouped_both : (a b c : Grouped R) (x y : List RackCall) → GroupedMade rack a x b → GroupedMade rack b y c → GroupedMade rack a (x ++ y) c
+  grouped_both a b c x y first second = record {
+    after = after_both (grouped_name rack) (grouped_bytes rack) (grouped_counts rack) (grouped_stands rack) (grouped_steady rack) (grouped_tells rack) (grouped_keeps rack) (grouped_disks rack) a b c x y
+        first.after second.after;
+  }
+
+  pub grouped_after : (a b : Grouped R) (calls : List RackCall) → GroupedMade rack a calls b → After (grouped_words rack) calls a b
+  grouped_after a b calls made = made.after

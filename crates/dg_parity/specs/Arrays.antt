@@ -1,0 +1,219 @@
+-- A rack whose members are groups of disks, and what it means as a rack. Member 2s is group s, and member 2s + 1 is never there. The rules are
+-- this project's own.
+use Rattle.std.specs.Prelude.{◌≡◌, ◌≢◌, ◌≤◌, ◌<◌, ◌/◌, ◌%◌, ◌&&◌, ◌==◌, nat_lt, not, ℕ, Bool, true, false, List, [], Option, Some, None, IsSome, length, if◌then◌else◌}
+use Rattle.std.specs.Prelude.{slice_get, slice_index}
+use Rattle.dg_model.specs.Causes.{Rose, RoseByOne}
+use Rattle.dg_model.specs.States.{Counts}
+use Rattle.dg_io.specs.DiskAnswers.{OneDisk}
+use Rattle.dg_io.specs.Disks.{DiskStates, DisksRise, IsGroupSame}
+use Rattle.dg_io.specs.Kept.{Kept}
+use Rattle.dg_io.specs.RackCalls.{RackCall}
+use Rattle.dg_io.specs.RackWords.{After}
+use Rattle.dg_io.specs.Told.{Told, IsSame}
+use Rattle.dg_io.specs.declared.outside.Rack.{Ghosts}
+use Rattle.dg_parity.specs.Groups.{disk_number, is_lost, is_out}
+use Rattle.dg_parity.specs.Kept.{IsKept, bytes_in}
+use Rattle.dg_parity.specs.declared.groups.Group.{Group}
+use Rattle.dg_parity.specs.declared.tallies.Tally.{Tally}
+
+-- the rack behind, how many disks a group has, the groups by their numbers, and the own counts
+pub record Grouped (R : Type 0) : Type 0 where
+  pub rack : R
+  pub width : ℕ
+  pub groups : List Group
+  pub tally : Tally
+
+-- ---- the groups
+
+-- the group of a member, if it has one
+abbrev pub group_at : List Group → ℕ → Option Group
+group_at groups q = if q % 2 == 0 then slice_get groups (q / 2) else None
+
+abbrev pub is_served : Option Group → Bool
+is_served None = false
+is_served (Some group) = not (is_lost group)
+
+-- whether fewer than two disks of the member's group are out
+abbrev pub serves : List Group → ℕ → Bool
+serves groups q = is_served (group_at groups q)
+
+-- whether the member isn't there: it has no group, or one that was never made
+abbrev pub is_unmade : Option Group → Bool
+is_unmade None = true
+is_unmade (Some group) = is_lost group && group.told
+
+-- whether two disks of the member's group went out
+abbrev pub is_fallen : Option Group → Bool
+is_fallen None = false
+is_fallen (Some group) = is_lost group && not group.told
+
+abbrev pub size_of : Option Group → ℕ
+size_of None = 0
+size_of (Some group) = group.length
+
+-- the bytes of the member
+abbrev pub size_at : List Group → ℕ → ℕ
+size_at groups q = size_of (group_at groups q)
+
+abbrev pub width_of : Option Group → ℕ
+width_of None = 0
+width_of (Some group) = group.disks
+
+-- how many disks group s has
+abbrev pub width_at : List Group → ℕ → ℕ
+width_at groups s = width_of (slice_get groups s)
+
+-- ---- the members
+
+abbrev pub told_of : {S : Type 0} → Ghosts S → S → Option Group → Option (List ℕ)
+told_of rack now None = Some []
+told_of rack now (Some group) = bytes_in rack group now
+
+-- the bytes of a member, where they are told. One that is never there has none
+abbrev pub told_at : {S : Type 0} → Ghosts S → List Group → S → ℕ → Option (List ℕ)
+told_at rack groups now q = told_of rack now (group_at groups q)
+
+-- ---- the disks
+
+abbrev pub out_of : Option Group → ℕ → Bool
+out_of None j = false
+out_of (Some group) j = nat_lt j group.disks && is_out group j
+
+abbrev pub faults_of : Counts → Option Group → ℕ → ℕ
+faults_of counts None j = 0
+faults_of counts (Some group) j = if nat_lt j group.disks then counts.faults (disk_number group.number j) else 0
+
+-- which disks of each group are out, and how often each has failed, by the counts of the rack behind
+abbrev pub states_in : {S : Type 0} → Ghosts S → List Group → S → DiskStates
+states_in rack groups now = record {
+  out = λ s j. out_of (slice_get groups s) j;
+  faults = λ s j. faults_of (rack.counts now) (slice_get groups s) j;
+}
+
+-- ---- what is kept between calls
+
+-- A lost group that tells its bytes was never made, so that it has none.
+pub record IsGroupOf {S : Type 0} (rack : Ghosts S) (s : ℕ) (group : Group) (now : S) : Type 0 where
+  pub number : group.number ≡ s
+  pub kept : IsKept rack group now
+  pub bare : is_lost group ≡ true → group.told ≡ true → group.length ≡ 0
+
+pub record AreKept {S : Type 0} (rack : Ghosts S) (groups : List Group) (now : S) : Type 0 where
+  pub each : (s : ℕ) (group : Group) → slice_get groups s ≡ Some group → IsGroupOf rack s group now
+
+-- ---- what a call on member q leaves
+
+pub record Steps {S : Type 0} (rack : Ghosts S) (q : ℕ) (old new : List Group) (before now : S) : Type 0 where
+  pub kept : AreKept rack new now
+  pub count : length new ≡ length old
+  pub widths : (s : ℕ) → width_at new s ≡ width_at old s
+  pub others : (r : ℕ) → r ≢ q → Told IsSame (told_at rack old before r) (told_at rack new now r)
+  pub tells : (r : ℕ) → IsSome (told_at rack new now r) → IsSome (told_at rack old before r)
+  pub rises : DisksRise (states_in rack old before) (states_in rack new now)
+  pub apart : (s : ℕ) → s ≢ q / 2 → IsGroupSame s (states_in rack old before) (states_in rack new now)
+  pub same_rack : rack.name now ≡ rack.name before
+
+-- what a call on disk j of group s leaves
+pub record StepsOn {S : Type 0} (rack : Ghosts S) (s j : ℕ) (old new : List Group) (before now : S) : Type 0 where
+  pub kept : AreKept rack new now
+  pub count : length new ≡ length old
+  pub widths : (t : ℕ) → width_at new t ≡ width_at old t
+  pub same : (q : ℕ) → Told IsSame (told_at rack old before q) (told_at rack new now q)
+  pub tells : (q : ℕ) → IsSome (told_at rack new now q) → IsSome (told_at rack old before q)
+  pub one : OneDisk s j (states_in rack old before) (states_in rack new now)
+  pub same_rack : rack.name now ≡ rack.name before
+
+-- no disk came back
+abbrev pub NoneBack : List Group → List Group → Type 0
+NoneBack old new = (s j : ℕ) → out_of (slice_get old s) j ≡ true → out_of (slice_get new s) j ≡ true
+
+-- the own counts after one more call on member q, which failed or not
+pub record Notes (q : ℕ) (failed : Bool) (old new : Tally) : Type 0 where
+  pub later : slice_index old.faults q ≤ slice_index new.faults q
+  pub rose : failed ≡ true → Rose (slice_index old.faults q) (slice_index new.faults q)
+  pub kept : failed ≡ false → slice_index new.faults q ≡ slice_index old.faults q
+  pub others : (r : ℕ) → r ≢ q → slice_index new.faults r ≡ slice_index old.faults r
+  pub calls : RoseByOne old.calls new.calls
+  pub rise : old.writes ≤ new.writes
+
+-- ---- what it means. The first argument is what the rack behind means.
+
+abbrev pub grouped_name : {R : Type 0} → Ghosts R → Grouped R → ℕ
+grouped_name rack it = rack.name it.rack
+
+abbrev pub grouped_bytes : {R : Type 0} → Ghosts R → Grouped R → ℕ → Option (List ℕ)
+grouped_bytes rack it = told_at rack it.groups it.rack
+
+-- its own counts
+abbrev pub grouped_counts : {R : Type 0} → Ghosts R → Grouped R → Counts
+grouped_counts rack it = record { faults = λ q. slice_index it.tally.faults q; calls = it.tally.calls; writes = it.tally.writes }
+
+-- each member stands, for a call on one that can't serve fails and is told by its count
+abbrev pub grouped_stands : {R : Type 0} → Ghosts R → Grouped R → ℕ → Bool
+grouped_stands rack it q = true
+
+-- a page at the front of a member may be torn
+abbrev pub grouped_steady : {R : Type 0} → Ghosts R → Grouped R → Type 0
+grouped_steady rack it = ⊥
+
+abbrev pub grouped_tells : {R : Type 0} → Ghosts R → Grouped R → ℕ → Type 0
+grouped_tells rack it q = IsSome (grouped_bytes rack it q)
+
+-- it keeps no checkpoint
+abbrev pub grouped_keeps : {R : Type 0} → Ghosts R → Grouped R → Option Kept → Type 0
+grouped_keeps rack it kept = ⊥
+
+abbrev pub grouped_disks : {R : Type 0} → Ghosts R → Grouped R → DiskStates
+grouped_disks rack it = states_in rack it.groups it.rack
+
+-- the words together. What may have become of it by just some calls is what these leave.
+abbrev pub grouped_words : {R : Type 0} → Ghosts R → Ghosts (Grouped R)
+grouped_words rack = record {
+  name = grouped_name rack;
+  bytes = grouped_bytes rack;
+  counts = grouped_counts rack;
+  stands = grouped_stands rack;
+  steady = grouped_steady rack;
+  tells = grouped_tells rack;
+  keeps = grouped_keeps rack;
+  disks = grouped_disks rack;
+  made = λ old calls new. Unit {0};
+}
+
+pub record GroupedMade {R : Type 0} (rack : Ghosts R) (old : Grouped R) (calls : List RackCall) (new : Grouped R) : Type 0 where
+  pub after : After (grouped_words rack) calls old new
+
+-- how many groups it has, and how many disks each of them, is for good
+pub record IsShaped {R : Type 0} (old new : Grouped R) : Type 0 where
+  pub width : new.width ≡ old.width
+  pub groups : length new.groups ≡ length old.groups
+
+-- what holds of it between calls
+pub record IsHeld {R : Type 0} (rack : Ghosts R) (width : ℕ) (groups : List Group) (now : R) : Type 0 where
+  pub kept : AreKept rack groups now
+  pub widths : (s : ℕ) → s < length groups → width_at groups s ≡ width
+
+-- no call was made
+pub record HasNoCalls (tally : Tally) : Type 0 where
+  pub faults : (q : ℕ) → slice_index tally.faults q ≡ 0
+  pub calls : tally.calls ≡ 0
+  pub writes : tally.writes ≡ 0
+
+-- group s of n disks, all of which are out, before it was made: it has no byte
+pub record IsNewGroup (n s : ℕ) (group : Group) : Type 0 where
+  pub number : group.number ≡ s
+  pub disks : group.disks ≡ n
+  pub size : group.length ≡ 0
+  pub told : group.told ≡ true
+  pub out : (j : ℕ) → j < n → is_out group j ≡ true
+  pub lost : is_lost group ≡ true
+
+-- so many groups of n disks over a rack, none of which was made yet
+pub record IsNewOver {R : Type 0} (rack : R) (groups n : ℕ) (it : Grouped R) : Type 0 where
+  pub rack_is : it.rack ≡ rack
+  pub width : it.width ≡ n
+  pub count : length it.groups ≡ groups
+  pub widths : (s : ℕ) → s < groups → width_at it.groups s ≡ n
+  pub served : (q : ℕ) → serves it.groups q ≡ false
+  pub out : (s j : ℕ) → s < groups → j < n → out_of (slice_get it.groups s) j ≡ true
+  pub tally : HasNoCalls it.tally

@@ -1,0 +1,127 @@
+-- Calls of a rack that is plain or of groups leave what each of them leaves.
+use Rattle.std.specs.Prelude.{◌≡◌, ◌++◌, ℕ, Bool, true, List, [], Option, Result, IsSome}
+use Rattle.std.proofs.Common.{◌⊎◌, inl, inr}
+use Rattle.dg_io.specs.Disks.{no_disks}
+use Rattle.dg_io.specs.Kept.{HasAnother, IsNothing, Kept, KeepsRest}
+use Rattle.dg_io.specs.MadeLaws.{disks_same}
+use Rattle.dg_io.specs.RackCalls.{RackCall}
+use Rattle.dg_io.specs.RackWords.{After, Leaves}
+use Rattle.dg_io.specs.declared.outside.Rack.{Ghosts}
+use Rattle.dg_parity.specs.ArrayLaws.{grouped_both, grouped_none}
+use Rattle.dg_parity.specs.Arrays.{Grouped, GroupedMade, grouped_words}
+use Rattle.dg_parity.specs.ParityRacks.{ParityMade, either, made_by, parity_keeps, parity_stands, parity_words}
+use Rattle.dg_parity.specs.declared.parity_racks.ParityRack.{ParityRack}
+use Rattle.dg_parity.specs.declared.parity_racks.ParityRack.TheVariants.{Plain, OfGroups}
+
+module _ {R : Type 0} (rack : Ghosts R) where
+  plain_after : (a b : R) (calls : List RackCall) → After rack calls a b → After (parity_words rack) calls (Plain a) (Plain b)
+  plain_after a b calls after = record {
+    same_rack = after.same_rack;
+    steady_on = after.steady_on;
+    rise = after.rise;
+    most = after.most;
+    other_bytes = after.other_bytes;
+    other_faults = after.other_faults;
+    others_stand = after.others_stand;
+    told_before = after.told_before;
+    keeps_on = after.keeps_on;
+    disks_after = disks_same no_disks calls;
+  }
+
+  grouped_is_after : (a b : Grouped R) (calls : List RackCall) → After (grouped_words rack) calls a b → After (parity_words rack) calls (OfGroups a) (OfGroups b)
+  grouped_is_after a b calls after = record {
+    same_rack = after.same_rack;
+    steady_on = after.steady_on;
+    rise = after.rise;
+    most = after.most;
+    other_bytes = after.other_bytes;
+    other_faults = after.other_faults;
+    others_stand = after.others_stand;
+    told_before = after.told_before;
+    keeps_on = after.keeps_on;
+    disks_after = after.disks_after;
+  }
+
+  pub plain_made : (a b : R) (calls : List RackCall) → rack.made a calls b → ParityMade rack (Plain a) calls (Plain b)
+  plain_made a b calls is = record { by = is }
+
+  pub grouped_made : (a b : Grouped R) (calls : List RackCall) → GroupedMade rack a calls b → ParityMade rack (OfGroups a) calls (OfGroups b)
+  grouped_made a b calls is = record { by = is }
+
+  none_by : ((s : R) → rack.made s [] s) → (s : ParityRack R) → made_by rack s [] s
+  none_by none (Plain s) = none s
+  none_by none (OfGroups s) = grouped_none rack s
+
+  pub parity_none : ((s : R) → rack.made s [] s) → (s : ParityRack R) → ParityMade rack s [] s
+  parity_none none s = record { by = none_by none s }
+
+  both_by : ((a b c : R) (x y : List RackCall) → rack.made a x b → rack.made b y c → rack.made a (x ++ y) c)
+      → (a b c : ParityRack R) (x y : List RackCall) → made_by rack a x b → made_by rack b y c → made_by rack a (x ++ y) c
+  both_by both (Plain a) (Plain b) (Plain c) x y first second = both a b c x y first second
+  both_by both (Plain a) (Plain b) (OfGroups c) x y first second = absurd second
+  both_by both (Plain a) (OfGroups b) c x y first second = absurd first
+  both_by both (OfGroups a) (Plain b) c x y first second = absurd first
+  both_by both (OfGroups a) (OfGroups b) (Plain c) x y first second = absurd second
+  both_by both (OfGroups a) (OfGroups b) (OfGroups c) x y first second = grouped_both rack a b c x y first second
+
+  pub parity_both : ((a b c : R) (x y : List RackCall) → rack.made a x b → rack.made b y c → rack.made a (x ++ y) c)
+      → (a b c : ParityRack R) (x y : List RackCall) → ParityMade rack a x b → ParityMade rack b y c → ParityMade rack a (x ++ y) c
+  parity_both both a b c x y first second = record { by = both_by both a b c x y first.by second.by }
+
+  after_by : ((a b : R) (calls : List RackCall) → rack.made a calls b → After rack calls a b) → (a b : ParityRack R) (calls : List RackCall) → made_by rack a calls b → After (parity_words rack) calls a b
+  after_by after (Plain a) (Plain b) calls is = plain_after a b calls (after a b calls is)
+  after_by after (Plain a) (OfGroups b) calls is = absurd is
+  after_by after (OfGroups a) (Plain b) calls is = absurd is
+  after_by after (OfGroups a) (OfGroups b) calls is = grouped_is_after a b calls is.after
+
+  pub parity_after : ((a b : R) (calls : List RackCall) → rack.made a calls b → After rack calls a b) → (a b : ParityRack R) (calls : List RackCall) → ParityMade rack a calls b
+      → After (parity_words rack) calls a b
+  parity_after after a b calls is = after_by after a b calls is.by
+
+  -- what a call leaves of the rack behind, or of a rack of groups
+  pub plain_leaves : {T E : Type 0} (q : ℕ) (result : Result T E) (a b : R) → Leaves rack q result a b → Leaves (parity_words rack) q result (Plain a) (Plain b)
+  plain_leaves q result a b leaves = record {
+    same_rack = leaves.same_rack;
+    cause = leaves.cause;
+    counted = leaves.counted;
+    rise = leaves.rise;
+    others = leaves.others;
+    other_faults = leaves.other_faults;
+    others_stand = leaves.others_stand;
+    stands_on = leaves.stands_on;
+    tells = leaves.tells;
+    steady_on = leaves.steady_on;
+  }
+
+  pub grouped_leaves : {T E : Type 0} (q : ℕ) (result : Result T E) (a b : Grouped R) → Leaves (grouped_words rack) q result a b → Leaves (parity_words rack) q result (OfGroups a) (OfGroups b)
+  grouped_leaves q result a b leaves = record {
+    same_rack = leaves.same_rack;
+    cause = leaves.cause;
+    counted = leaves.counted;
+    rise = leaves.rise;
+    others = leaves.others;
+    other_faults = leaves.other_faults;
+    others_stand = leaves.others_stand;
+    stands_on = leaves.stands_on;
+    tells = leaves.tells;
+    steady_on = leaves.steady_on;
+  }
+
+  pub plain_rest : (q : ℕ) (a b : R) → KeepsRest rack.keeps rack.stands q a b → KeepsRest (parity_keeps rack) (parity_stands rack) q (Plain a) (Plain b)
+  plain_rest q a b keeps = record { rest = λ kept was case. keeps.rest kept was (case_of kept case); any = λ kept was. keeps.any kept was } where
+    case_of : (kept : Kept) → HasAnother (parity_stands rack (Plain a)) q kept ⊎ IsNothing kept → HasAnother (rack.stands a) q kept ⊎ IsNothing kept
+    case_of kept (inl another) = inl (record { other = another.other; differs = another.differs; stand = another.stand; entry = another.entry })
+    case_of kept (inr nothing) = inr nothing
+
+  pub grouped_rest : (q : ℕ) (a b : Grouped R) → KeepsRest (parity_keeps rack) (parity_stands rack) q (OfGroups a) (OfGroups b)
+  grouped_rest q a b = record { rest = λ kept keeps case. absurd keeps; any = λ kept keeps. absurd keeps }
+
+pub parity_tells_told : {R : Type 0} (bytes : R → ℕ → Option (List ℕ)) (tells : R → ℕ → Type 0) → ((s : R) (q : ℕ) → IsSome (bytes s q) → tells s q) → (grouped : Grouped R → ℕ → Option (List ℕ))
+    → (s : ParityRack R) (q : ℕ) → IsSome (either bytes grouped s q) → either tells (λ it r. IsSome (grouped it r)) s q
+parity_tells_told bytes tells law grouped (Plain s) q told = law s q told
+parity_tells_told bytes tells law grouped (OfGroups s) q told = told
+
+pub parity_told : {R : Type 0} (bytes : R → ℕ → Option (List ℕ)) (stands : R → ℕ → Bool) (tells : R → ℕ → Type 0) → ((s : R) (q : ℕ) → tells s q → stands s q ≡ true → IsSome (bytes s q))
+    → (grouped : Grouped R → ℕ → Option (List ℕ)) → (s : ParityRack R) (q : ℕ) → either tells (λ it r. IsSome (grouped it r)) s q → either stands (λ it r. true) s q ≡ true → IsSome (either bytes grouped s q)
+parity_told bytes stands tells law grouped (Plain s) q told stand = law s q told stand
+parity_told bytes stands tells law grouped (OfGroups s) q told stand = told

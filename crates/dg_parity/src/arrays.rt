@@ -1,0 +1,218 @@
+// A rack whose members are groups of disks.
+ghost use Rattle.std.specs.Prelude.{◌≡◌, ◌≤◌, ℕ, IfOk, Some, length, slice_get};
+ghost use Rattle.dg_parity.specs.Arrays.{IsNewGroup};
+
+use crate::group_calls::{blank_at, drop_at, extend_at, find_at, mend_at, read_at, write_at};
+use crate::groups::Group;
+use crate::tallies::Tally;
+use dg_io::{Disks, DropAnswer, Failed, MendAnswer, NoMemory, Rack};
+use std::alloc::Global;
+use std::marker::Model;
+
+/// Groups so many, whose disks weren't made yet.
+fn new_groups(alloc: Global, count: u8, disks: u8) -> Result<Vec<Group>, NoMemory>
+    requires few { count ≤ 16 }
+    requires least { 3 ≤ disks }
+    requires most { disks ≤ 8 }
+    ensures count { IfOk result (λ all. length all.items ≡ count) }
+    ensures new { IfOk result (λ all. (s : ℕ) (group : Group) → slice_get all.items s ≡ Some group → IsNewGroup disks s group) }
+{
+    let mut groups = Vec::new(alloc);
+    for number in 0..count {
+        let group = Group::new(number, disks);
+        let Ok(()) = groups.push(group) else {
+            return Err(NoMemory);
+        };
+    }
+    Ok(groups)
+}
+
+/// A rack over a rack, whose member 2s is group s of its disks.
+#[derive(Drop)]
+pub struct GroupRack<R: Rack> {
+    rack: R,
+    width: u8,
+    groups: Vec<Group>,
+    tally: Tally,
+}
+
+impl<R: Rack> Model for GroupRack<R> {
+    ghost use Rattle.dg_parity.specs.Arrays.{Grouped, IsHeld};
+
+    ghost Value = { Grouped R };
+
+    ghost view = { λ it. record { rack = it.rack; width = it.width; groups = it.groups.items; tally = it.tally } };
+
+    ghost invariant = { λ it. IsHeld R.Rack it.width it.groups.items it.rack };
+}
+
+impl<R: Rack + Drop> GroupRack<R> {
+    ghost use Rattle.std.specs.Prelude.{◌≤◌, IfOk};
+    ghost use Rattle.dg_parity.specs.Arrays.{IsNewOver};
+
+    /// A rack of so many groups of so many disks, none of which was made yet. It takes its memory here.
+    pub fn new(alloc: Global, rack: R, groups: u8, disks: u8) -> Result<GroupRack<R>, NoMemory>
+        requires few { groups ≤ 16 }
+        requires least { 3 ≤ disks }
+        requires most { disks ≤ 8 }
+        ensures { IfOk result (λ it. IsNewOver rack groups disks it) }
+    {
+        let groups = new_groups(alloc, groups, disks)?;
+        Ok(GroupRack {
+            rack,
+            width: disks,
+            groups,
+            tally: Tally::new(),
+        })
+    }
+}
+
+impl<R: Rack> Rack for GroupRack<R> {
+    ghost use Rattle.std.specs.Prelude.{◌≡◌, ◌⊎◌, ◌+◌, ◌≤◌, ◌<◌, ◌∷◌, [], true, false, length, None, IfOk, IfSome, IsSome, OnErr, OnOk};
+    ghost use Rattle.dg_model.specs.Causes.{RoseByOne};
+    ghost use Rattle.dg_io.specs.RackWords.{Leaves};
+    ghost use Rattle.dg_io.specs.Kept.{KeepsRest};
+    ghost use Rattle.dg_io.specs.RackCalls.{RackCall};
+    ghost use Rattle.dg_io.specs.Told.{Told, IsSame, IsZeros, Measures, IsEmpty, Reads, Patched, Torn, FitsIn, Extended, KeepsFront, IsHeader, OldOrNew};
+    ghost use Rattle.dg_parity.specs.Arrays.{IsShaped, group_at, is_fallen, serves, size_at};
+    ghost use Rattle.dg_parity.specs.Arrays.{GroupedMade, grouped_bytes, grouped_counts, grouped_disks, grouped_keeps, grouped_name, grouped_stands, grouped_steady, grouped_tells, grouped_words};
+    ghost use Rattle.dg_parity.specs.ArrayLaws.{grouped_after, grouped_both, grouped_none};
+
+    ghost name = { grouped_name R.Rack };
+
+    ghost bytes = { grouped_bytes R.Rack };
+
+    ghost counts = { grouped_counts R.Rack };
+
+    ghost stands = { grouped_stands R.Rack };
+
+    ghost steady = { grouped_steady R.Rack };
+
+    ghost tells = { grouped_tells R.Rack };
+
+    ghost keeps = { grouped_keeps R.Rack };
+
+    ghost disks = { grouped_disks R.Rack };
+
+    ghost made = { GroupedMade R.Rack };
+
+    /// It fails exactly where two disks of the group are out at its end.
+    fn blank(&mut self, member: u8, length: u64) -> Result<(), Failed>
+        ensures ok { OnOk result (Told (IsZeros length) (grouped_bytes R.Rack self.old member) (grouped_bytes R.Rack self.new member)) }
+        ensures leaves { Leaves (grouped_words R.Rack) member result self.old self.new }
+        ensures stands { OnOk result (grouped_stands R.Rack self.new member ≡ true) }
+        ensures keeps { KeepsRest (grouped_keeps R.Rack) (grouped_stands R.Rack) member self.old self.new }
+        ensures made { GroupedMade R.Rack self.old (RackCall.blanks member ∷ []) self.new }
+        ensures writes { RoseByOne (grouped_counts R.Rack self.old).writes (grouped_counts R.Rack self.new).writes }
+        ensures shape { IsShaped self.old self.new }
+        ensures alive { OnOk result (serves self.new.groups member ≡ true) }
+        ensures fails { OnErr result (serves self.new.groups member ≡ false) }
+    {
+        let result = blank_at(&mut self.groups, &mut self.rack, member, length);
+        self.tally.note_write(member, result.is_err());
+        result
+    }
+
+    /// It fails exactly where two disks of the group went out. A group that was never made isn't there. It makes no call behind.
+    fn attach(&mut self, member: u8) -> Result<Option<u64>, Failed>
+        ensures found { IfOk result (λ found. IfSome found (λ n. Told (Measures n) (grouped_bytes R.Rack self.old member) (grouped_bytes R.Rack self.new member))) }
+        ensures absent { IfOk result (λ found. found ≡ None → Told IsEmpty (grouped_bytes R.Rack self.old member) (grouped_bytes R.Rack self.new member)) }
+        ensures same { Told IsSame (grouped_bytes R.Rack self.old member) (grouped_bytes R.Rack self.new member) }
+        ensures leaves { Leaves (grouped_words R.Rack) member result self.old self.new }
+        ensures stands { IfOk result (λ found. IsSome found → grouped_stands R.Rack self.new member ≡ true) }
+        ensures made { GroupedMade R.Rack self.old (RackCall.looks member ∷ []) self.new }
+        ensures writes { (grouped_counts R.Rack self.new).writes ≡ (grouped_counts R.Rack self.old).writes }
+        ensures shape { IsShaped self.old self.new }
+        ensures fails { OnErr result (is_fallen (group_at self.new.groups member) ≡ true) }
+    {
+        let result = find_at(&self.groups, member);
+        self.tally.note(member, result.is_err());
+        result
+    }
+
+    /// It fails exactly where two disks of the group are out at its end, or the range is past the member.
+    fn read(&mut self, member: u8, place: u64, buf: &mut [u8]) -> Result<(), Failed>
+        requires stands { grouped_stands R.Rack self.old member ≡ true }
+        requires range { IfSome (grouped_bytes R.Rack self.old member) (λ all. place + length buf.old ≤ length all) }
+        ensures ok { OnOk result (Told (Reads place buf.new) (grouped_bytes R.Rack self.old member) (grouped_bytes R.Rack self.new member)) }
+        ensures same { Told IsSame (grouped_bytes R.Rack self.old member) (grouped_bytes R.Rack self.new member) }
+        ensures made { GroupedMade R.Rack self.old (RackCall.calls member ∷ []) self.new }
+        ensures leaves { Leaves (grouped_words R.Rack) member result self.old self.new }
+        ensures writes { (grouped_counts R.Rack self.new).writes ≡ (grouped_counts R.Rack self.old).writes }
+        ensures shape { IsShaped self.old self.new }
+        ensures alive { OnOk result (serves self.new.groups member ≡ true) }
+        ensures fails { OnErr result ((serves self.new.groups member ≡ false) ⊎ (size_at self.old.groups member < place + length buf.old)) }
+    {
+        let result = read_at(&mut self.groups, &mut self.rack, member, place, buf);
+        self.tally.note(member, result.is_err());
+        result
+    }
+
+    /// It fails exactly where two disks of the group are out at its end, or the range is past the member.
+    fn write(&mut self, member: u8, place: u64, buf: &[u8]) -> Result<(), Failed>
+        requires stands { grouped_stands R.Rack self.old member ≡ true }
+        requires range { IfSome (grouped_bytes R.Rack self.old member) (λ all. place + length buf.now ≤ length all) }
+        ensures ok { OnOk result (Told (Patched place buf.now) (grouped_bytes R.Rack self.old member) (grouped_bytes R.Rack self.new member)) }
+        ensures err { OnErr result (Told (Torn place (length buf.now)) (grouped_bytes R.Rack self.old member) (grouped_bytes R.Rack self.new member)) }
+        ensures whole { OnErr result (grouped_steady R.Rack self.old → IsHeader place buf.now
+            → Told (OldOrNew place buf.now) (grouped_bytes R.Rack self.old member) (grouped_bytes R.Rack self.new member)) }
+        ensures made { GroupedMade R.Rack self.old (RackCall.calls member ∷ []) self.new }
+        ensures leaves { Leaves (grouped_words R.Rack) member result self.old self.new }
+        ensures writes { RoseByOne (grouped_counts R.Rack self.old).writes (grouped_counts R.Rack self.new).writes }
+        ensures shape { IsShaped self.old self.new }
+        ensures alive { OnOk result (serves self.new.groups member ≡ true) }
+        ensures fails { OnErr result ((serves self.new.groups member ≡ false) ⊎ (size_at self.old.groups member < place + length buf.now)) }
+    {
+        let result = write_at(&mut self.groups, &mut self.rack, member, place, buf);
+        self.tally.note_write(member, result.is_err());
+        result
+    }
+
+    /// It fails exactly where two disks of the group are out at its end, or the member is longer.
+    fn extend(&mut self, member: u8, length: u64) -> Result<(), Failed>
+        requires stands { grouped_stands R.Rack self.old member ≡ true }
+        requires longer { IfSome (grouped_bytes R.Rack self.old member) (FitsIn length) }
+        ensures ok { OnOk result (Told (Extended length) (grouped_bytes R.Rack self.old member) (grouped_bytes R.Rack self.new member)) }
+        ensures err { OnErr result (Told KeepsFront (grouped_bytes R.Rack self.old member) (grouped_bytes R.Rack self.new member)) }
+        ensures made { GroupedMade R.Rack self.old (RackCall.calls member ∷ []) self.new }
+        ensures leaves { Leaves (grouped_words R.Rack) member result self.old self.new }
+        ensures writes { RoseByOne (grouped_counts R.Rack self.old).writes (grouped_counts R.Rack self.new).writes }
+        ensures shape { IsShaped self.old self.new }
+        ensures alive { OnOk result (serves self.new.groups member ≡ true) }
+        ensures fails { OnErr result ((serves self.new.groups member ≡ false) ⊎ (length < size_at self.old.groups member)) }
+    {
+        let result = extend_at(&mut self.groups, &mut self.rack, member, length);
+        self.tally.note_write(member, result.is_err());
+        result
+    }
+
+    ghost made_none = { λ s. grouped_none _ s };
+
+    ghost made_both = { λ a b c x y first second. grouped_both _ a b c x y first second };
+
+    ghost after = { λ a b calls made. grouped_after _ a b calls made };
+
+    ghost tells_told = { λ s q h. h };
+
+    ghost told = { λ s q h stand. h };
+}
+
+impl<R: Rack> Disks for GroupRack<R> {
+    ghost use Rattle.std.specs.Prelude.{Some, length};
+
+    ghost width = { λ it. Some it.width };
+
+    ghost groups = { λ it. length it.groups };
+
+    fn drop_disk(&mut self, s: u8, j: u8) -> DropAnswer {
+        drop_at(&mut self.groups, &mut self.rack, s, j)
+    }
+
+    fn mend(&mut self, s: u8, j: u8) -> MendAnswer {
+        mend_at(&mut self.groups, &mut self.rack, s, j)
+    }
+
+    fn disks(&self) -> Option<u8> {
+        Some(self.width)
+    }
+}

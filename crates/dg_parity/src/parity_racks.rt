@@ -1,0 +1,207 @@
+// A rack over a rack that is plain, or whose members are groups of disks.
+use crate::arrays::GroupRack;
+use dg_io::{Disks, DropAnswer, Failed, MendAnswer, NoMemory, Rack};
+use std::alloc::Global;
+
+/// A rack over a rack.
+#[derive(Drop)]
+pub enum ParityRack<R: Rack> {
+    /// Each call is passed on.
+    Plain(R),
+    /// Member 2s is group s of the disks behind, and member 2s + 1 is never there.
+    OfGroups(GroupRack<R>),
+}
+
+impl<R: Rack> ParityRack<R> {
+    ghost use Rattle.std.specs.Prelude.{◌≡◌};
+    ghost use Rattle.dg_parity.specs.declared.parity_racks.ParityRack.TheVariants.{Plain};
+
+    /// A plain rack over a rack.
+    pub fn plain(rack: R) -> ParityRack<R>
+        ensures { result ≡ Plain rack }
+    {
+        ParityRack::Plain(rack)
+    }
+}
+
+impl<R: Rack + Drop> ParityRack<R> {
+    ghost use Rattle.std.specs.Prelude.{◌≤◌, IfOk};
+    ghost use Rattle.dg_parity.specs.ParityRacks.{IsNew};
+
+    /// A rack of so many groups of so many disks, none of which was made yet. It takes its memory here.
+    pub fn new(alloc: Global, rack: R, groups: u8, disks: u8) -> Result<ParityRack<R>, NoMemory>
+        requires few { groups ≤ 16 }
+        requires least { 3 ≤ disks }
+        requires most { disks ≤ 8 }
+        ensures { IfOk result (λ it. IsNew rack groups disks it) }
+    {
+        match GroupRack::new(alloc, rack, groups, disks) {
+            Ok(grouped) => Ok(ParityRack::OfGroups(grouped)),
+            Err(_) => Err(NoMemory),
+        }
+    }
+}
+
+impl<R: Rack> Rack for ParityRack<R> {
+    ghost use Rattle.std.specs.Prelude.{◌≡◌, ◌⊎◌, ◌+◌, ◌≤◌, ◌∷◌, [], true, length, None, IfOk, IfSome, IsSome, OnErr, OnOk};
+    ghost use Rattle.dg_model.specs.Causes.{RoseByOne};
+    ghost use Rattle.dg_io.specs.RackWords.{Leaves};
+    ghost use Rattle.dg_io.specs.Kept.{KeepsRest};
+    ghost use Rattle.dg_io.specs.RackCalls.{RackCall};
+    ghost use Rattle.dg_io.specs.Told.{Told, IsSame, IsZeros, Measures, IsEmpty, Reads, Patched, Torn, FitsIn, Extended, KeepsFront, IsHeader, OldOrNew};
+    ghost use Rattle.dg_parity.specs.ParityRacks.{IsFallen, IsPast, IsServed, IsShaped, IsShort, IsUnserved};
+    ghost use Rattle.dg_parity.specs.ParityRacks.{ParityMade, parity_bytes, parity_counts, parity_disks, parity_keeps, parity_name, parity_stands, parity_steady, parity_tells, parity_words};
+    ghost use Rattle.dg_parity.specs.ParityLaws.{parity_after, parity_both, parity_none, parity_tells_told, parity_told};
+
+    ghost name = { parity_name R.Rack };
+
+    ghost bytes = { parity_bytes R.Rack };
+
+    ghost counts = { parity_counts R.Rack };
+
+    ghost stands = { parity_stands R.Rack };
+
+    ghost steady = { parity_steady R.Rack };
+
+    ghost tells = { parity_tells R.Rack };
+
+    ghost keeps = { parity_keeps R.Rack };
+
+    ghost disks = { parity_disks R.Rack };
+
+    ghost made = { ParityMade R.Rack };
+
+    /// One of groups fails exactly where two disks of the group are out at its end.
+    fn blank(&mut self, member: u8, length: u64) -> Result<(), Failed>
+        ensures ok { OnOk result (Told (IsZeros length) (parity_bytes R.Rack self.old member) (parity_bytes R.Rack self.new member)) }
+        ensures leaves { Leaves (parity_words R.Rack) member result self.old self.new }
+        ensures stands { OnOk result (parity_stands R.Rack self.new member ≡ true) }
+        ensures keeps { KeepsRest (parity_keeps R.Rack) (parity_stands R.Rack) member self.old self.new }
+        ensures made { ParityMade R.Rack self.old (RackCall.blanks member ∷ []) self.new }
+        ensures writes { RoseByOne (parity_counts R.Rack self.old).writes (parity_counts R.Rack self.new).writes }
+        ensures shape { IsShaped self.old self.new }
+        ensures alive { OnOk result (IsServed self.new member) }
+        ensures fails { OnErr result (IsUnserved self.new member) }
+    {
+        match self {
+            ParityRack::Plain(rack) => rack.blank(member, length),
+            ParityRack::OfGroups(grouped) => grouped.blank(member, length),
+        }
+    }
+
+    /// One of groups fails exactly where two disks of the group went out. A group that was never made isn't there. It makes no call behind.
+    fn attach(&mut self, member: u8) -> Result<Option<u64>, Failed>
+        ensures found { IfOk result (λ found. IfSome found (λ n. Told (Measures n) (parity_bytes R.Rack self.old member) (parity_bytes R.Rack self.new member))) }
+        ensures absent { IfOk result (λ found. found ≡ None → Told IsEmpty (parity_bytes R.Rack self.old member) (parity_bytes R.Rack self.new member)) }
+        ensures same { Told IsSame (parity_bytes R.Rack self.old member) (parity_bytes R.Rack self.new member) }
+        ensures leaves { Leaves (parity_words R.Rack) member result self.old self.new }
+        ensures stands { IfOk result (λ found. IsSome found → parity_stands R.Rack self.new member ≡ true) }
+        ensures made { ParityMade R.Rack self.old (RackCall.looks member ∷ []) self.new }
+        ensures writes { (parity_counts R.Rack self.new).writes ≡ (parity_counts R.Rack self.old).writes }
+        ensures shape { IsShaped self.old self.new }
+        ensures fails { OnErr result (IsFallen self.new member) }
+    {
+        match self {
+            ParityRack::Plain(rack) => rack.attach(member),
+            ParityRack::OfGroups(grouped) => grouped.attach(member),
+        }
+    }
+
+    /// One of groups fails exactly where two disks of the group are out at its end, or the range is past the member.
+    fn read(&mut self, member: u8, place: u64, buf: &mut [u8]) -> Result<(), Failed>
+        requires stands { parity_stands R.Rack self.old member ≡ true }
+        requires range { IfSome (parity_bytes R.Rack self.old member) (λ all. place + length buf.old ≤ length all) }
+        ensures ok { OnOk result (Told (Reads place buf.new) (parity_bytes R.Rack self.old member) (parity_bytes R.Rack self.new member)) }
+        ensures same { Told IsSame (parity_bytes R.Rack self.old member) (parity_bytes R.Rack self.new member) }
+        ensures made { ParityMade R.Rack self.old (RackCall.calls member ∷ []) self.new }
+        ensures leaves { Leaves (parity_words R.Rack) member result self.old self.new }
+        ensures writes { (parity_counts R.Rack self.new).writes ≡ (parity_counts R.Rack self.old).writes }
+        ensures shape { IsShaped self.old self.new }
+        ensures alive { OnOk result (IsServed self.new member) }
+        ensures fails { OnErr result (IsUnserved self.new member ⊎ IsPast self.old member (place + length buf.old)) }
+    {
+        match self {
+            ParityRack::Plain(rack) => rack.read(member, place, buf),
+            ParityRack::OfGroups(grouped) => grouped.read(member, place, buf),
+        }
+    }
+
+    /// One of groups fails exactly where two disks of the group are out at its end, or the range is past the member.
+    fn write(&mut self, member: u8, place: u64, buf: &[u8]) -> Result<(), Failed>
+        requires stands { parity_stands R.Rack self.old member ≡ true }
+        requires range { IfSome (parity_bytes R.Rack self.old member) (λ all. place + length buf.now ≤ length all) }
+        ensures ok { OnOk result (Told (Patched place buf.now) (parity_bytes R.Rack self.old member) (parity_bytes R.Rack self.new member)) }
+        ensures err { OnErr result (Told (Torn place (length buf.now)) (parity_bytes R.Rack self.old member) (parity_bytes R.Rack self.new member)) }
+        ensures whole { OnErr result (parity_steady R.Rack self.old → IsHeader place buf.now
+            → Told (OldOrNew place buf.now) (parity_bytes R.Rack self.old member) (parity_bytes R.Rack self.new member)) }
+        ensures made { ParityMade R.Rack self.old (RackCall.calls member ∷ []) self.new }
+        ensures leaves { Leaves (parity_words R.Rack) member result self.old self.new }
+        ensures writes { RoseByOne (parity_counts R.Rack self.old).writes (parity_counts R.Rack self.new).writes }
+        ensures shape { IsShaped self.old self.new }
+        ensures alive { OnOk result (IsServed self.new member) }
+        ensures fails { OnErr result (IsUnserved self.new member ⊎ IsPast self.old member (place + length buf.now)) }
+    {
+        match self {
+            ParityRack::Plain(rack) => rack.write(member, place, buf),
+            ParityRack::OfGroups(grouped) => grouped.write(member, place, buf),
+        }
+    }
+
+    /// One of groups fails exactly where two disks of the group are out at its end, or the member is longer.
+    fn extend(&mut self, member: u8, length: u64) -> Result<(), Failed>
+        requires stands { parity_stands R.Rack self.old member ≡ true }
+        requires longer { IfSome (parity_bytes R.Rack self.old member) (FitsIn length) }
+        ensures ok { OnOk result (Told (Extended length) (parity_bytes R.Rack self.old member) (parity_bytes R.Rack self.new member)) }
+        ensures err { OnErr result (Told KeepsFront (parity_bytes R.Rack self.old member) (parity_bytes R.Rack self.new member)) }
+        ensures made { ParityMade R.Rack self.old (RackCall.calls member ∷ []) self.new }
+        ensures leaves { Leaves (parity_words R.Rack) member result self.old self.new }
+        ensures writes { RoseByOne (parity_counts R.Rack self.old).writes (parity_counts R.Rack self.new).writes }
+        ensures shape { IsShaped self.old self.new }
+        ensures alive { OnOk result (IsServed self.new member) }
+        ensures fails { OnErr result (IsUnserved self.new member ⊎ IsShort self.old member length) }
+    {
+        match self {
+            ParityRack::Plain(rack) => rack.extend(member, length),
+            ParityRack::OfGroups(grouped) => grouped.extend(member, length),
+        }
+    }
+
+    ghost made_none = { λ s. parity_none _ R.made_none s };
+
+    ghost made_both = { λ a b c x y first second. parity_both _ R.made_both a b c x y first second };
+
+    ghost after = { λ a b calls made. parity_after _ R.after a b calls made };
+
+    ghost tells_told = { λ s q h. parity_tells_told R.bytes R.tells R.tells_told _ s q h };
+
+    ghost told = { λ s q h stand. parity_told R.bytes R.stands R.tells R.told _ s q h stand };
+}
+
+impl<R: Rack> Disks for ParityRack<R> {
+    ghost use Rattle.dg_parity.specs.ParityRacks.{groups_in, width_in};
+
+    ghost width = { width_in };
+
+    ghost groups = { groups_in };
+
+    fn drop_disk(&mut self, s: u8, j: u8) -> DropAnswer {
+        match self {
+            ParityRack::Plain(_) => DropAnswer::Plain,
+            ParityRack::OfGroups(grouped) => grouped.drop_disk(s, j),
+        }
+    }
+
+    fn mend(&mut self, s: u8, j: u8) -> MendAnswer {
+        match self {
+            ParityRack::Plain(_) => MendAnswer::Plain,
+            ParityRack::OfGroups(grouped) => grouped.mend(s, j),
+        }
+    }
+
+    fn disks(&self) -> Option<u8> {
+        match self {
+            ParityRack::Plain(_) => None,
+            ParityRack::OfGroups(grouped) => grouped.disks(),
+        }
+    }
+}

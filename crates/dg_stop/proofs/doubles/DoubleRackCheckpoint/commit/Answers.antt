@@ -1,0 +1,37 @@
+use Rattle.std.proofs.Common.{◌≡◌, ◌≤◌, true, sym, ◌∙◌, subst}
+use Rattle.std.specs.Prelude.{IfSome, length}
+use Rattle.dg_io.specs.Commits.{LeavesCommit}
+use Rattle.dg_io.specs.declared.checkpoints.CommitAnswer.{CommitAnswer}
+use Rattle.dg_stop.proofs.CommitDouble.{commit_answer}
+use Rattle.dg_stop.specs.DoubleCommits.{answer_in, double_rack, double_room}
+use Rattle.dg_stop.specs.DoubleLaws.{both_of}
+use Rattle.dg_stop.specs.Doubles.{Double, double_stands, stands_in}
+use Rattle.dg_stop.proofs.doubles.DoubleRackCheckpoint.commit.Goals as goal
+
+pub commit_members-made-requires-clause-held : goal.commit_members-made-requires-clause-held
+commit_members-made-requires-clause-held g c = c.self.invariant
+
+pub commit_members-made-requires-clause-stand : goal.commit_members-made-requires-clause-stand
+commit_members-made-requires-clause-stand g c = λ q on.
+    (both_of (stands_in c.self.inside.memory q) (g.R.Rack.stands c.self.inside.rack q)
+    (subst (λ (s : Double g.row.R.Denot). double_stands g.R.Rack s q ≡ true) (sym c.self.view_is) (c.requires.stand q (sym (c.flags_of-served.ensures q) ∙ on)))).0
+
+pub commit_members-made-requires-clause-fits : goal.commit_members-made-requires-clause-fits
+commit_members-made-requires-clause-fits g c =
+    subst (λ (s : Double g.row.R.Denot). IfSome (double_room s) (λ room. length c.args.extra.now ≤ room)) (sym c.self.view_is) c.requires.fits
+
+pub invariant_of-self : goal.invariant_of-self
+invariant_of-self g c = c.commit_members-made.ensures.leaves.held
+
+pub returns : goal.returns
+returns g c =
+    let old : Double g.row.R.Denot = record { rack = c.self.inside.rack; memory = c.self.inside.memory; tally = c.self.inside.tally } in
+    let new : Double g.row.R.Denot = record { rack = c.commit_members-made.new.rack; memory = c.commit_members-made.new.memory; tally = c.note_fallen.new.self } in
+    record {
+      leaves =
+          subst (λ (a : CommitAnswer). LeavesCommit (double_rack g.R.Rack) double_room c.args.keep c.args.extra.now a c.args.self.now new) (sym c.answer_of.ensures)
+          (subst (λ (s : Double g.row.R.Denot). LeavesCommit (double_rack g.R.Rack) double_room c.args.keep c.args.extra.now (answer_in c.commit_members-made.result c.marks_of_fallen.result) s new) c.self.view_is
+          (commit_answer g.R.Rack c.args.keep c.args.extra.now c.flags_of-served.result c.commit_members-made.new.serving c.commit_members-made.new.tried old new c.flags_of-served.ensures
+          c.commit_members-made.ensures.tried c.commit_members-made.ensures.leaves c.note_fallen.ensures c.commit_members-made.result c.marks_of_fallen.result c.marks_of_fallen.ensures
+          c.commit_members-made.ensures.answer c.commit_members-made.ensures.kept));
+    }
