@@ -170,7 +170,7 @@ class Rescue:
             if name in (b".", b".."):
                 continue
             at, to = f"{path}/{spelled(name)}", os.path.join(folder, name)
-            if b"/" in name or len(at) > LONGEST_PATH:
+            if b"/" in name or len(unspelled(at.encode())) > LONGEST_PATH:
                 self.lose(at, size)
             elif kind == b"d":
                 if inode in self.seen:

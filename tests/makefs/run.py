@@ -4,7 +4,7 @@
 Each round makes a folder of files, directories, links and pipes, and a UFS1 image of it by NetBSD's makefs (Debian's package of that
 name), in either order of bytes, with fragments of 512 to 4096 bytes. `trace`, `replay` and `resume` take it to a settled, saved array.
 Then each file's bytes and each directory's entries are compared with the folder's: with all boundaries, with some lost, and once a member
-was replaced, refilled, and serves alone. With fewer than m boundaries lost, a file must be given whole exactly where its home isn't lost, or its
+was replaced, refilled, and serves alone; and what `tools/rescue.py` brings is compared with the folder, byte by byte. With fewer than m boundaries lost, a file must be given whole exactly where its home isn't lost, or its
 copy isn't, and each directory must be listed; with more, each answer must be right or `unavailable`. The status is 1 where an answer is wrong;
 without makefs nothing is run, which is told.
 """
@@ -19,6 +19,7 @@ import tempfile
 
 HERE = os.path.dirname(os.path.abspath(__file__))
 PROGRAM = os.path.join(HERE, "..", "..", "crates", "dgraid", "out", "dgraid")
+RESCUE = os.path.join(HERE, "..", "..", "tools", "rescue.py")
 PATH = os.environ["PATH"] + os.pathsep + "/usr/sbin"
 KINDS = [(stat.S_ISREG, "r"), (stat.S_ISDIR, "d"), (stat.S_ISLNK, "l"), (stat.S_ISFIFO, "p")]
 NAME_BYTES = bytes(b for b in range(1, 256) if b != ord("/"))
@@ -247,6 +248,43 @@ def refill(array, folder, s, j):
             raise Wrong(f"{path!r} behind a refill of member {s} {j}")
 
 
+def rescue(array, top, folder, lost, places, out):
+    """What `tools/rescue.py` brings of the array without some boundaries, beside the folder; how many files and links."""
+    for s in lost:
+        for j in (0, 1):
+            os.remove(os.path.join(array.folder, f"member-{s:02}-{j}.img"))
+    shutil.rmtree(out, ignore_errors=True)
+    done = subprocess.run([sys.executable, RESCUE, array.folder, out, "--program", array.program], stdout=subprocess.PIPE, stderr=subprocess.PIPE)
+    if not os.listdir(array.folder):
+        if done.returncode != 2:
+            raise Wrong(f"a rescue of no image: status {done.returncode}")
+        return 0
+    told = [line.split(b" ") for line in done.stdout.split(b"\n")[:-2]]
+    unlisted = [unspelled(words[1]).rstrip(b"/") for words in told if words[0] == b"unlisted"]
+    named = {unspelled(words[1]): int(words[2]) for words in told if words[0] == b"lost"}
+    if done.stderr or unlisted and len(lost) < places or done.returncode != bool(named or unlisted):
+        raise Wrong(f"a rescue with {lost} lost: status {done.returncode}, {unlisted[:3]}, {done.stderr[:300]}")
+    brought = 0
+    for here, folders, files in os.walk(top):
+        for name in folders + files:
+            at = os.path.join(here, name)
+            path = b"/" + os.path.relpath(at, top)
+            to, mode = os.fsencode(out) + path, os.lstat(at).st_mode
+            if stat.S_ISLNK(mode):
+                same = os.path.islink(to) and os.readlink(to) == os.readlink(at)
+            elif stat.S_ISREG(mode):
+                same = os.path.isfile(to) and open(to, "rb").read() == folder.files[path]
+            else:
+                continue
+            brought += same
+            below = any(path.startswith(directory + b"/") for directory in unlisted)
+            if not same and (os.path.lexists(to) or not below and named.get(path) != os.lstat(at).st_size):
+                raise Wrong(f"a rescue of {path!r} with {lost} lost")
+            if same and path in named:
+                raise Wrong(f"{path!r} was brought, and is named as lost")
+    return brought
+
+
 def one_round(seed, program, base):
     """One folder, its image, its array, and what it gives; a line about it."""
     rng = random.Random(seed)
@@ -271,7 +309,9 @@ def one_round(seed, program, base):
     for count in sorted({0, 1, places - 1, rng.randint(0, boundaries)}):
         lost = sorted(rng.sample(range(boundaries), count))
         copied = rng.sample(sorted(folder.files), min(len(folder.files), rng.choice([0, 5, 20])))
-        shares.append(f"{compare(array.copied(work), folder, lost, places, copied)}/{len(folder.files)} with {count} lost")
+        given = compare(array.copied(work), folder, lost, places, copied)
+        brought = rescue(array.copied(work), os.fsencode(top), folder, lost, places, os.path.join(base, "out"))
+        shares.append(f"{given}/{len(folder.files)} with {count} lost, and {brought} files and links brought")
     refill(array.copied(work), folder, rng.randrange(boundaries), rng.randrange(2))
     return f"{asked}; trace {' '.join(words)}: {len(events) - 1} writes; " + ", ".join(shares)
 

@@ -38,6 +38,7 @@ def items_of(rng):
     ]
     items[-1].data = items[5].data
     items += [Item(14 + n, 2 + n % 3, b"more%d" % n, "d") for n in range(5)]
+    items += [Item(90, 2, b"\xfe" * 255, "d"), Item(91, 90, b"\x80" * 255, "d"), Item(92, 91, b"deep", "r", data(700))]
     return items + [Item(20 + n, (2, 3, 4, 14, 15, 16, 17, 18)[n % 8], b"file%d" % n, "r", data(rng.randrange(1, 20000))) for n in range(60)]
 
 
