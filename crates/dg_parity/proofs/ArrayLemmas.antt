@@ -47,6 +47,13 @@ pub record SetsAt (s : ℕ) (old new : List Group) (a b : Group) : Type 0 where
   pub others : (r : ℕ) → r ≢ s → slice_get new r ≡ slice_get old r
   pub count : length new ≡ length old
 
+-- The group of member q, which was a, is b after a call on it.
+pub record IsCalled {S : Type 0} (rack : Ghosts S) (q : ℕ) (old new : List Group) (a b : Group) (before now : S) : Type 0 where
+  pub even : q % 2 ≡ 0
+  pub kept : AreKept rack old before
+  pub sets : SetsAt (q / 2) old new a b
+  pub turns : Turns rack a b before now
+
 set-same : (xs : List Group) (i : ℕ) (w : Group) → i < length xs → slice_get (set xs i w) i ≡ Some w
 set-same [] i w h = absurd (omega arith)
 set-same (x ∷ xs) zero w h = refl
@@ -206,8 +213,19 @@ some-told (Some x) (Some y) h some = refl
 
 -- ---- the steps of a call
 
-module _ {S : Type 0} (rack : Ghosts S) (q : ℕ) (old new : List Group) (a b : Group) (before now : S) (even : q % 2 ≡ 0) (kept : AreKept rack old before) (sets : SetsAt (q / 2) old new a b)
-    (turns : Turns rack a b before now) where
+module _ {S : Type 0} {rack : Ghosts S} {q : ℕ} {old new : List Group} {a b : Group} {before now : S} (call : IsCalled rack q old new a b before now) where
+  even : q % 2 ≡ 0
+  even = call.even
+
+  kept : AreKept rack old before
+  kept = call.kept
+
+  sets : SetsAt (q / 2) old new a b
+  sets = call.sets
+
+  turns : Turns rack a b before now
+  turns = call.turns
+
   own : IsGroupOf rack (q / 2) a before
   own = kept.each (q / 2) a sets.was
 
@@ -411,3 +429,34 @@ anew-turns rack a b before now still kept leaves silent = record {
   bare = λ lost told. absurd (false≢true (sym (silent lost) ∙ told));
   leaves = leaves;
 }
+
+-- ---- a call on an element of the list
+
+-- and none of its disks came back
+pub record IsServed {S : Type 0} (rack : Ghosts S) (q : ℕ) (old new : List Group) (a b : Group) (before now : S) : Type 0 where
+  pub call : IsCalled rack q old new a b before now
+  pub cause : RoseWhereOut rack a b before now
+  pub stays : (j : ℕ) → is_out a j ≡ true → is_out b j ≡ true
+
+module _ {S : Type 0} (rack : Ghosts S) (q n : ℕ) (old : List Group) (a b : Group) (before now : S) (even : q % 2 ≡ 0) (kept : AreKept rack old before) (size : n ≡ length old) (lt : q / 2 < n)
+    (is : a ≡ get_or old (q / 2) a) where
+  at-list : SetsAt (q / 2) old (set old (q / 2) b) a b
+  at-list = sets-at (q / 2) old a b (subst (λ (k : ℕ). q / 2 < k) size lt) is
+
+  of-list : IsGroupOf rack (q / 2) a before
+  of-list = kept.each (q / 2) a at-list.was
+
+  pub served-call : IsKept rack b now → (is_lost a ≡ false → LeavesGroup rack a b before now) → (is_lost a ≡ true → (b ≡ a) × (now ≡ before)) → (is_lost a ≡ false → is_lost b ≡ true → b.told ≡ false)
+      → IsServed rack q old (set old (q / 2) b) a b before now
+  served-call stands leaves idle silent = record {
+    call = record { even = even; kept = kept; sets = at-list; turns = served-turns rack (q / 2) a b before now of-list stands leaves idle silent };
+    cause = served-cause rack (q / 2) a b before now of-list stands leaves idle;
+    stays = served-stays rack (q / 2) a b before now of-list stands leaves idle;
+  }
+
+  pub still-call : IsStill a b → IsKept rack b now → LeavesOthers rack a before now → (is_lost a ≡ true → (b ≡ a) × (now ≡ before)) → (is_lost a ≡ false → is_lost b ≡ true → b.told ≡ false)
+      → IsCalled rack q old (set old (q / 2) b) a b before now
+  still-call still stands leaves idle silent = record { even = even; kept = kept; sets = at-list; turns = still-turns rack (q / 2) a b before now of-list still stands leaves idle silent }
+
+  pub anew-call : IsStill a b → IsKept rack b now → LeavesOthers rack a before now → (is_lost b ≡ true → b.told ≡ false) → IsCalled rack q old (set old (q / 2) b) a b before now
+  anew-call still stands leaves silent = record { even = even; kept = kept; sets = at-list; turns = anew-turns rack a b before now still stands leaves silent }

@@ -16,7 +16,7 @@ use Rattle.dg_parity.specs.Kept.{IsKept, bytes_in}
 use Rattle.dg_parity.specs.Blanks.{LeavesOthers}
 use Rattle.dg_parity.specs.Mends.{FallBut}
 use Rattle.dg_parity.specs.declared.groups.Group.{Group}
-use Rattle.dg_parity.proofs.ArrayLemmas.{SetsAt, Turns, cause-at, faults-alike, faults-in, lt-of, lt-true, new-each, others, rise-at, tells, told-own, width-at}
+use Rattle.dg_parity.proofs.ArrayLemmas.{IsCalled, SetsAt, Turns, cause-at, faults-alike, faults-in, lt-of, lt-true, new-each, others, rise-at, tells, told-own, width-at}
 use Rattle.dg_parity.proofs.KeptSteps.{both-true, told-none}
 use Rattle.dg_parity.proofs.GroupLemmas.{same-self}
 use Rattle.dg_parity.proofs.PartLemmas.{count-step}
@@ -76,16 +76,19 @@ module _ {S : Type 0} (rack : Ghosts S) (s j : ℕ) (old new : List Group) (a b 
   at : SetsAt (2 * s / 2) old new a b
   at = subst (λ (k : ℕ). SetsAt k old new a b) (sym half) sets
 
+  called : IsCalled rack (2 * s) old new a b before now
+  called = record { even = even; kept = kept; sets = at; turns = turns }
+
   same-all : Told IsSame (bytes_in rack a before) (bytes_in rack b now) → (r : ℕ) → Told IsSame (told_at rack old before r) (told_at rack new now r)
   same-all told r = elim (cases_eq r (2 * s)) [
-    | inl e ↦ subst (λ (k : ℕ). Told IsSame (told_at rack old before k) (told_at rack new now k)) (sym e) (told-own rack (2 * s) old new a b before now even kept at turns IsSame told)
-    | inr ne ↦ others rack (2 * s) old new a b before now even kept at turns r ne
+    | inl e ↦ subst (λ (k : ℕ). Told IsSame (told_at rack old before k) (told_at rack new now k)) (sym e) (told-own called IsSame told)
+    | inr ne ↦ others called r ne
   ]
 
   one-disk : FallBut rack j a b before now → OneDisk s j (states_in rack old before) (states_in rack new now)
   one-disk fall = record {
-    rise = rise-at rack (2 * s) old new a b before now even kept at turns;
-    cause = λ t i far in0 out. cause-at rack (2 * s) old new a b before now even kept at turns t i
+    rise = rise-at called;
+    cause = λ t i far in0 out. cause-at called t i
         (λ e in1 out1. fall.cause i (below t i (e ∙ half) out) (far (e ∙ half)) in1 out1) in0 out;
     stays = λ t i far out. elim (cases_eq t s) [
       | inr ne ↦ ap (λ (o : Option Group). out_of o i) (sets.others t ne) ∙ out
@@ -101,11 +104,11 @@ module _ {S : Type 0} (rack : Ghosts S) (s j : ℕ) (old new : List Group) (a b 
 
   pub steps-on : FallBut rack j a b before now → Told IsSame (bytes_in rack a before) (bytes_in rack b now) → StepsOn rack s j old new before now
   steps-on fall told = record {
-    kept = record { each = new-each rack (2 * s) old new a b before now even kept at turns };
+    kept = record { each = new-each called };
     count = sets.count;
-    widths = width-at rack (2 * s) old new a b before now even kept at turns;
+    widths = width-at called;
     same = same-all told;
-    tells = tells rack (2 * s) old new a b before now even kept at turns;
+    tells = tells called;
     one = one-disk fall;
     same_rack = turns.leaves.same_rack;
   }

@@ -14,7 +14,7 @@ pub data More (has : ℕ → Header → Type 0) (n : ℕ) (header : Option Heade
   old : has q h → More has n header q h
   new : q ≡ n → header ≡ Some h → More has n header q h
 
-some_is : (a b : Header) → ◌≡◌ {A = Option Header} (Some a) (Some b) → a ≡ b
+pub some_is : (a b : Header) → ◌≡◌ {A = Option Header} (Some a) (Some b) → a ≡ b
 some_is a b e = ap (λ (o : Option Header). elim o [ None ↦ a | Some x ↦ x ]) e
 
 module _ (has : ℕ → Header → Type 0) (n : ℕ) (low : (q : ℕ) (h : Header) → has q h → q ≤ n) where

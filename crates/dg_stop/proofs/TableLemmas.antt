@@ -1,19 +1,20 @@
 -- The tables that an opening reads, member by member.
-use Rattle.std.proofs.Common.{◌≡◌, ◌≤◌, ◌<◌, ◌+◌, ◌⊎◌, ℕ, List, length, set, refl, sym, ◌∙◌, ap, arith, inl, inr, subst, get_or-set_same, get_or-set_other, zero, suc, [], ◌∷◌, ◌++◌}
+use Rattle.std.proofs.Common.{◌^◌, ◌≡◌, ◌≤◌, ◌<◌, ◌+◌, ◌⊎◌, ℕ, List, length, set, refl, sym, ◌∙◌, ap, arith, inl, inr, subst, get_or-set_same, get_or-set_other, zero, suc, [], ◌∷◌, ◌++◌}
 use Rattle.std.proofs.lemmas.Bool.{false≢true}
 use Rattle.std.proofs.lemmas.List.{get_or_past}
-use Rattle.std.specs.Prelude.{Option, Some, None, IfSome, IsOk, Result, is_some, slice_get}
+use Rattle.std.specs.Prelude.{Option, Some, None, IfSome, IsErr, IsOk, IsSome, Result, is_some, slice_get}
 use Rattle.dg_io.specs.Told.{IsSame, Told}
 use Rattle.dg_stop.proofs.Committing.{same_or_not}
-use Rattle.dg_stop.proofs.FindLemmas.{bears_still, finds_on, finds_then, none_some, same_at, some_on}
+use Rattle.dg_stop.proofs.FindLemmas.{bears_still, finds_none, finds_on, finds_then, loses_on, none_some, same_at, some_on}
 use Rattle.dg_stop.proofs.Avoiding.{bits_fit, tables_end}
 use Rattle.dg_stop.proofs.Frames.{some_map}
+use Rattle.dg_stop.proofs.LeadLemmas.{some_is}
 use Rattle.dg_stop.specs.FoundHeaders.{Bears, LooksAt, found_at}
 use Rattle.dg_stop.specs.Commits.{IsPlaced}
 use Rattle.dg_stop.specs.Layouts.{bit_in, bits_of, table_place, table_size}
 use Rattle.dg_io.specs.declared.outside.Rack.{Ghosts}
 use Rattle.dg_stop.specs.Leads.{IsAttachedBy}
-use Rattle.dg_stop.specs.Tables.{AreBorne, AreHeads, AreShort, FindsOn, HoldsAt, HoldsTable, head_at}
+use Rattle.dg_stop.specs.Tables.{AreBorne, AreHeads, AreShort, AreSmall, FindsOn, HasExtra, HasNoHead, HoldsAt, HoldsTable, IsFirstHead, LosesHead, ReadsFirst, head_at}
 use Rattle.dg_stop.specs.Values.{header_of}
 use Rattle.dg_stop.specs.declared.found_headers.Found.{Found}
 use Rattle.dg_stop.specs.declared.headers.Header.{Header}
@@ -91,3 +92,46 @@ module _ {S : Type 0} (rack : Ghosts S) where
 pub holds_start : {S : Type 0} (rack : Ghosts S) (now : S) (heads : List (Option Header)) (all : List Places) → length all ≡ 0 → (q : ℕ) → HoldsAt rack now heads all q
 holds_start rack now heads [] none q held got = absurd (no_places held got)
 holds_start rack now heads (x ∷ all) none q held got = absurd (omega (arith, none))
+
+-- ---- the least member that is attached
+
+pub none_all : (heads : List (Option Header)) (n : ℕ) → length heads ≡ 32 → n ≡ 32 → ((q : ℕ) (k : Header) → q < n → head_at heads q ≡ Some k → ⊥) → HasNoHead heads
+none_all heads n size end so q h is = so q h (omega (arith, end, head_low heads q h size is)) is
+
+one_first : (heads : List (Option Header)) (h k : Header) → IsFirstHead heads h → IsFirstHead heads k → h ≡ k
+one_first heads h k a b =
+    let up : a.member ≤ b.member = a.least b.member k b.at in
+    let down : b.member ≤ a.member = b.least a.member h a.at in
+    let same : a.member ≡ b.member = omega (arith, up, down) in
+    some_is h k (sym a.at ∙ ap (λ (x : ℕ). head_at heads x) same ∙ b.at)
+
+module _ {S : Type 0} (rack : Ghosts S) (heads : List (Option Header)) (old : S) (borne : AreBorne rack heads old) where
+  pub reads_none : (extra : List ℕ) → HasNoHead heads → ReadsFirst rack heads old old extra
+  reads_none extra none = record { finds = finds_none rack old; borne = borne; has = λ h is. absurd (none is.member h is.at) }
+
+  module _ (first : Header) (is : IsFirstHead heads first) where
+    own : first.member ≡ is.member
+    own = (borne is.member first is.at).1.own
+
+    pub first_low : first.member < 32
+    first_low = omega (arith, own, (borne is.member first is.at).0)
+
+    pub first_bears : Bears rack first.member old first
+    first_bears = subst (λ (q : ℕ). Bears rack q old first) (sym own) (borne is.member first is.at).1
+
+    pub first_small : AreSmall heads → first.size < 2 ^ 48
+    first_small small = small is.member first is.at
+
+    module _ {T E : Type 0} (new : S) (r : Result T E) (look : LooksAt rack first.member r old new) where
+      pub reads_first : IsOk r → (extra : List ℕ) → HasExtra rack new first extra → ReadsFirst rack heads old new extra
+      reads_first ok extra has = record {
+        finds = finds_on rack first.member first_low old new r ok look;
+        borne = borne_on rack heads first.member old new r ok first_low look borne;
+        has = λ h other. subst (λ (x : Header). HasExtra rack new x extra) (one_first heads first h is other) has;
+      }
+
+      pub loses_first : IsErr r → LosesHead rack heads old new first.member
+      loses_first err = (loses_on rack first.member first_low old new r err look, some_head (head_at heads first.member) (ap (λ (q : ℕ). head_at heads q) own ∙ is.at))
+        where
+          some_head : (x : Option Header) → x ≡ Some first → IsSome x
+          some_head x e = ap is_some e

@@ -18,7 +18,8 @@ pub record IsTaken (c : ℕ) (lead : Header) (before after : ℕ → List ℕ) (
   pub named : (o : ℕ) → o < header.size → names_second (before q) (table_place (header_table header) c) (o / 512) ≡ places (o / 512)
 
 -- What holds of the members that stand after an opening: what is known of their headers, what they are reopened as, and their bytes.
-pub record HoldsOpened (stands : ℕ → Bool) (sizes : ℕ → ℕ) (places : ℕ → ℕ → Bool) (c top : ℕ) (lead : Header) (before after : ℕ → List ℕ) (kept : Kept) : Type 0 where
+pub record HoldsOpened (stands : ℕ → Bool) (sizes : ℕ → ℕ) (places : ℕ → ℕ → Bool) (c top : ℕ) (lead : Header)
+    (before after : ℕ → List ℕ) (kept : Kept) : Type 0 where
   pub guarded : AreGuarded stands sizes lead.room places c top after
   pub fresh : IsFresh after c
   pub reopened : Reopened after kept

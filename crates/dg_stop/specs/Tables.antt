@@ -1,5 +1,5 @@
 -- The tables that an opening reads.
-use Rattle.std.specs.Prelude.{◌≡◌, ◌≤◌, ◌<◌, ◌^◌, ℕ, false, List, Option, Some, None, Bool, IfSome, length, slice_get, slice_index_or, slice_set}
+use Rattle.std.specs.Prelude.{◌≡◌, ◌≤◌, ◌<◌, ◌^◌, ℕ, false, List, Option, Some, None, Bool, IfSome, IsSome, length, slice_get, slice_index_or, slice_set}
 use Rattle.dg_io.specs.declared.outside.Rack.{Ghosts}
 use Rattle.dg_stop.specs.Commits.{IsPlaced}
 use Rattle.dg_stop.specs.FoundHeaders.{AreFound, Bears, found_at, no_headers}
@@ -60,3 +60,26 @@ ReadsTables rack heads (Some q) all old new = LosesOn rack q old new
 -- the extra bytes of the commit of a header
 abbrev pub HasExtra : {S : Type 0} → Ghosts S → S → Header → List ℕ → Type 0
 HasExtra rack now h extra = (length extra ≡ h.extra) × IfSome (rack.bytes now h.member) (λ all. extra ≡ extra_of (header_of h) all)
+
+-- it is the header of the least member that is attached
+pub record IsFirstHead (heads : List (Option Header)) (h : Header) : Type 0 where
+  pub member : ℕ
+  pub at : head_at heads member ≡ Some h
+  pub least : (q : ℕ) (k : Header) → head_at heads q ≡ Some k → member ≤ q
+
+abbrev pub HasNoHead : List (Option Header) → Type 0
+HasNoHead heads = (q : ℕ) (h : Header) → head_at heads q ≡ Some h → ⊥
+
+-- the least member that is attached has these extra bytes
+pub record ReadsFirst {S : Type 0} (rack : Ghosts S) (heads : List (Option Header)) (old new : S) (extra : List ℕ) : Type 0 where
+  pub finds : FindsOn rack old new
+  pub borne : AreBorne rack heads new
+  pub has : (h : Header) → IsFirstHead heads h → HasExtra rack new h extra
+
+-- a call on a member that is attached failed
+abbrev pub LosesHead : {S : Type 0} → Ghosts S → List (Option Header) → S → S → ℕ → Type 0
+LosesHead rack heads old new q = LosesOn rack q old new × IsSome (head_at heads q)
+
+-- each of them has less than 2^48 bytes
+abbrev pub AreSmall : List (Option Header) → Type 0
+AreSmall heads = (q : ℕ) (h : Header) → head_at heads q ≡ Some h → h.size < 2 ^ 48

@@ -1,7 +1,7 @@
 // The tables that an opening reads: where the pages of each attached member stand, and the extra bytes.
-ghost use Rattle.std.specs.Prelude.{◌≡◌, ◌≤◌, ◌<◌, ◌^◌, ◌++◌, ◌∷◌, [], length, IfOk, IfSome, IsSome, IsTrue, OnOk};
+ghost use Rattle.std.specs.Prelude.{◌≡◌, ◌≤◌, ◌<◌, ◌^◌, ◌++◌, ◌∷◌, [], length, IfErr, IfOk, MatchOption, IfSome, IsSome, IsTrue, OnOk};
 ghost use Rattle.dg_stop.specs.FoundHeaders.{Bears, LooksAt};
-ghost use Rattle.dg_stop.specs.Tables.{AreBorne, AreHeads, AreShort, HasExtra, HasTable, HoldsTable, ReadsTables, head_at};
+ghost use Rattle.dg_stop.specs.Tables.{AreBorne, AreHeads, AreShort, AreSmall, HasExtra, HasNoHead, HasTable, HoldsTable, IsFirstHead, LosesHead, ReadsFirst, ReadsTables, head_at};
 
 use crate::commits::{place_of_table, table_len};
 use crate::found_headers::Found;
@@ -163,5 +163,37 @@ pub fn read_extra<R: Rack>(
     match rack.read(header.member, table + bits_len(header.size), &mut extra) {
         Ok(()) => Ok(Ok(extra)),
         Err(_) => Ok(Err(Failed)),
+    }
+}
+
+/// The header of the least member that is attached.
+fn first_of(heads: &Heads) -> Option<Header>
+    ensures { MatchOption result (HasNoHead heads.now) (IsFirstHead heads.now) }
+{
+    for member in 0..MEMBERS as u8 {
+        if let Some(head) = head_of(heads, member) {
+            return Some(head);
+        }
+    }
+    None
+}
+
+/// Reads the extra bytes of the least member that is attached. Where that fails, the member is answered.
+pub fn read_first<R: Rack>(
+    alloc: Global,
+    rack: &mut R,
+    heads: &Heads,
+) -> Result<Result<Vec<u8>, u8>, NoMemory>
+    requires borne { AreBorne R.Rack heads.now rack.old }
+    requires small { AreSmall heads.now }
+    ensures read { IfOk result (λ read. IfOk read (λ extra. ReadsFirst R.Rack heads.now rack.old rack.new extra.items)) }
+    ensures lost { IfOk result (λ read. IfErr read (LosesHead R.Rack heads.now rack.old rack.new)) }
+{
+    let Some(first) = first_of(heads) else {
+        return Ok(Ok(Vec::new(alloc)));
+    };
+    match read_extra(alloc, rack, &first)? {
+        Ok(extra) => Ok(Ok(extra)),
+        Err(_) => Ok(Err(first.member)),
     }
 }
