@@ -3,11 +3,13 @@
 
     tools/libraries.py prove FOLDER [LANES]        proves all of them, in clones FOLDER/lane0 and on; FOLDER/proved gets each library that is proved
     tools/libraries.py hand FOLDER CLONE [CRATE..] gives CLONE all proved libraries, and of each CRATE what its checks kept, so that only changes are proved
+    tools/libraries.py take GATE CLONE             gives CLONE the libraries that an `rt ci` in the clone GATE has proved so far, where CLONE has the same text
 
 `rt` locks a crate and all below it while it works, so two checks go side by side only in two clones. What is committed at the top is proved. A second `prove`
 proves what has changed since. It isn't the verdict: that is `rt ci`.
 """
 import os
+import shutil
 import subprocess
 import sys
 import threading
@@ -95,6 +97,29 @@ def prove(folder, count):
     sys.exit(not all(lanes.ended.get(it) for it in lanes.below))
 
 
+def take(gate, clone):
+    """Gives a clone the libraries that the gate proved in another one: it leaves them without a stamp, and they fit each other alone."""
+    rt, top = kit.script("rt"), os.getcwd()
+    crates = {}
+    for folder in (gate, clone):
+        os.chdir(folder)
+        crates[folder] = {it: rt.rtlib.Crate(f"{folder}/crates/{it}", folder, {}) for it in kit.libraries_of(clone)}
+    for name, crate in crates[clone].items():
+        made = crates[gate][name]
+        kept = f"{made.rlib}/format"
+        is_whole = os.path.isfile(kept) and time.time() - os.stat(kept).st_mtime > 10
+        if not is_whole or crate.is_built() or crate.stamp() != made.stamp():
+            continue
+        to = f"{crate.folder}/out/rlib"
+        shutil.rmtree(to, ignore_errors=True)
+        os.makedirs(os.path.dirname(to), exist_ok=True)
+        subprocess.run(["cp", "-al", f"{made.folder}/out/rlib", to], check=True)
+        with open(f"{to}/stamp", "w", encoding="utf-8") as it:
+            it.write(crate.stamp())
+        print(name, flush=True)
+    os.chdir(top)
+
+
 def main(verb="", *words):
     if verb == "prove" and len(words) in (1, 2):
         prove(words[0], int(words[1]) if len(words) == 2 else os.cpu_count())
@@ -104,6 +129,8 @@ def main(verb="", *words):
             kit.hand_library(f"{folder}/proved", clone, name)
         for name in crates:
             kit.hand_kept(f"{folder}/proved", clone, name)
+    elif verb == "take" and len(words) == 2:
+        take(*map(os.path.abspath, words))
     elif verb == "one" and len(words) == 2:
         prove_one(*words)
     else:
