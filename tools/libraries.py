@@ -99,8 +99,9 @@ def prove(folder, count):
 
 def take(gate, clone):
     """Gives a clone the libraries that the gate proved in another one: it leaves them without a stamp, and they fit each other alone."""
-    rt, top = kit.script("rt"), os.getcwd()
-    crates = {}
+    rt, top, crates = kit.script("rt"), os.getcwd(), {}
+    if os.path.samefile(gate, clone):
+        sys.exit("a clone can't take its own libraries")
     for folder in (gate, clone):
         os.chdir(folder)
         crates[folder] = {it: rt.rtlib.Crate(f"{folder}/crates/{it}", folder, {}) for it in kit.libraries_of(clone)}
