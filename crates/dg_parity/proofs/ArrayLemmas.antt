@@ -14,7 +14,7 @@ use Rattle.dg_parity.specs.Arrays.{AreKept, IsGroupOf, NoneBack, Steps, faults_o
 use Rattle.dg_parity.specs.Blanks.{IsForeign, LeavesOthers}
 use Rattle.dg_parity.specs.Exclusive.{with_at}
 use Rattle.dg_parity.specs.Stripes.{made_up, spot_of}
-use Rattle.dg_parity.specs.Groups.{disk_number, disk_in, header_in, is_lost, is_out, length_of, AllTold, IsStill, LeavesGroup}
+use Rattle.dg_parity.specs.Groups.{disk_number, disk_in, header_in, is_lost, is_out, is_sure, length_of, AllTold, IsStill, LeavesGroup}
 use Rattle.dg_parity.specs.Headers.{header_bytes}
 use Rattle.dg_parity.specs.Kept.{all_told, bytes_in, made_by, IsKept}
 use Rattle.dg_parity.specs.declared.groups.Group.{Group}
@@ -31,6 +31,7 @@ pub record Turns {S : Type 0} (rack : Ghosts S) (old new : Group) (before now : 
   pub number : new.number ≡ old.number
   pub disks : new.disks ≡ old.disks
   pub told : new.told ≡ true → old.told ≡ true
+  pub sure : is_sure new ≡ is_sure old
   pub kept : IsKept rack new now
   pub bare : is_lost new ≡ true → new.told ≡ true → new.length ≡ 0
   pub leaves : LeavesOthers rack old before now
@@ -93,10 +94,10 @@ module _ {S : Type 0} (rack : Ghosts S) (a g : Group) (before now : S) (ne : a.n
   same-disk j lt = leaves.others (disk_number g.number j) (foreign a g j ne lt)
 
   told-before : AllTold rack g now → AllTold rack g before
-  told-before all j lt = leaves.tells (disk_number g.number j) (all j lt)
+  told-before all = (all.0, λ j lt. leaves.tells (disk_number g.number j) (all.1 j lt))
 
   same-made : AllTold rack g now → (j x : ℕ) → j < g.disks → made_by rack g now j x ≡ made_by rack g before j x
-  same-made all j x lt = made-same g.disks (is_out g) (disk_in rack g before) (disk_in rack g now) j x lt (λ i h. told-at IsSame _ _ (same-disk i h) (all i h))
+  same-made all j x lt = made-same g.disks (is_out g) (disk_in rack g before) (disk_in rack g now) j x lt (λ i h. told-at IsSame _ _ (same-disk i h) (all.1 i h))
 
   other-kept : IsKept rack g before → IsKept rack g now
   other-kept kept = record {
@@ -139,9 +140,12 @@ own-tells rack a b before now turns some =
     some-if (a.told && all_told rack a before) _
     (let parts = and_parts b.told (all_told rack b now) (if-some (b.told && all_told rack b now) _ some) in
     both-true a.told (all_told rack a before) (turns.told parts.0)
-    (each-told rack a before (λ j lt. turns.leaves.tells (disk_number a.number j)
-    (subst (λ (k : ℕ). IsSome (rack.bytes now (disk_number k j))) turns.number
-    (told-each rack b now parts.1 j (subst (λ (k : ℕ). j < k) (sym turns.disks) lt)))))) where
+    (each-told rack a before (
+      sym turns.sure ∙ (told-each rack b now parts.1).0,
+      λ j lt. turns.leaves.tells (disk_number a.number j)
+          (subst (λ (k : ℕ). IsSome (rack.bytes now (disk_number k j))) turns.number
+          ((told-each rack b now parts.1).1 j (subst (λ (k : ℕ). j < k) (sym turns.disks) lt))),
+    ))) where
       some-if : (c : Bool) (x : List ℕ) → c ≡ true → IsSome (if c then Some x else None)
       some-if true x h = refl
       some-if false x h = absurd (false≢true h)
@@ -373,7 +377,7 @@ steps-none rack q groups now kept = record {
 -- ---- what the calls on a group say
 
 turns-same : {S : Type 0} (rack : Ghosts S) (s : ℕ) (group : Group) (now : S) → IsGroupOf rack s group now → Turns rack group group now now
-turns-same rack s group now of = record { number = refl; disks = refl; told = λ h. h; kept = of.kept; bare = of.bare; leaves = others-none rack group now }
+turns-same rack s group now of = record { number = refl; disks = refl; told = λ h. h; sure = refl; kept = of.kept; bare = of.bare; leaves = others-none rack group now }
 
 -- a read or a write: a lost group isn't called
 module _ {S : Type 0} (rack : Ghosts S) (s : ℕ) (a b : Group) (before now : S) (of : IsGroupOf rack s a before) (kept : IsKept rack b now)
@@ -385,6 +389,7 @@ module _ {S : Type 0} (rack : Ghosts S) (s : ℕ) (a b : Group) (before now : S)
       number = (leaves alive).later.number;
       disks = (leaves alive).later.disks;
       told = (leaves alive).later.told;
+      sure = (leaves alive).later.sure;
       kept = kept;
       bare = λ lost told. absurd (false≢true (sym (silent alive lost) ∙ told));
       leaves = others-of rack a b before now (leaves alive);
@@ -410,6 +415,7 @@ still-turns rack s a b before now of still kept leaves idle silent = record {
   number = still.number;
   disks = still.disks;
   told = still.told;
+  sure = still.sure;
   kept = kept;
   bare = λ lost told. elim (cases_Bool (is_lost a)) [
     | inr alive ↦ absurd (false≢true (sym (silent alive lost) ∙ told))
@@ -425,6 +431,7 @@ anew-turns rack a b before now still kept leaves silent = record {
   number = still.number;
   disks = still.disks;
   told = still.told;
+  sure = still.sure;
   kept = kept;
   bare = λ lost told. absurd (false≢true (sym (silent lost) ∙ told));
   leaves = leaves;

@@ -1,6 +1,6 @@
 -- What an opening finds on all disks, group by group.
-use Rattle.std.proofs.Common.{◌≡◌, ◌⊎◌, ℕ, zero, suc, ◌+◌, ◌<◌, ◌≤◌, inl, inr, List, [], ◌∷◌, ◌++◌, length, refl, sym, ap, subst, ◌∙◌, arith}
-use Rattle.std.specs.Prelude.{Option, None, Some, IfSome, slice_get, slice_set, slice_index_or}
+use Rattle.std.proofs.Common.{◌≡◌, ℕ, zero, suc, ◌+◌, ◌<◌, ◌≤◌, inl, inr, List, [], ◌∷◌, ◌++◌, length, sym, ap, subst, ◌∙◌, arith}
+use Rattle.std.specs.Prelude.{Option, IfSome, slice_get, slice_set, slice_index_or}
 use Rattle.std.proofs.lemmas.Bool.{cases_eq}
 use Rattle.std.proofs.lemmas.List.{get_or-set_same, get_or-set_other}
 use Rattle.dg_io.specs.declared.outside.Rack.{Ghosts}
@@ -37,10 +37,10 @@ pushed P [] group before own (suc s) = tt
 pushed P (first ∷ rest) group before own zero = before zero
 pushed P (first ∷ rest) group before own (suc s) = pushed (λ k. P (suc k)) rest group (λ k. before (suc k)) own s
 
-pub opened-push : (fronts : ℕ → ℕ → Option Header) (n s : ℕ) (groups : List Group) (group : Group) → length groups ≡ s → AreOpened fronts n groups → IsOpenedOr (fronts s) n s group
-    → AreOpened fronts n (groups ++ group ∷ [])
-opened-push fronts n s groups group count before own =
-    pushed (λ k g. IsOpenedOr (fronts k) n k g) groups group before (subst (λ (k : ℕ). IsOpenedOr (fronts k) n k group) (sym count) own)
+pub opened-push : {S : Type 0} (rack : Ghosts S) (now : S) (fronts : ℕ → ℕ → Option Header) (n s : ℕ) (groups : List Group) (group : Group) → length groups ≡ s → AreOpened rack now fronts n groups
+    → IsOpenedOr rack now (fronts s) n s group → AreOpened rack now fronts n (groups ++ group ∷ [])
+opened-push rack now fronts n s groups group count before own =
+    pushed (λ k g. IsOpenedOr rack now (fronts k) n k g) groups group before (subst (λ (k : ℕ). IsOpenedOr rack now (fronts k) n k group) (sym count) own)
 
 -- a width is that of a header that counts
 pub width-range : {S : Type 0} (rack : Ghosts S) (before now : S) (fronts : ℕ → ℕ → Option Header) (n : ℕ) → AreFound rack before now fronts → IsWidth fronts n → (3 ≤ n) × (n ≤ 8)

@@ -173,7 +173,7 @@ members_on rack s j old new steps same = record {
 
 -- ---- a new one
 
-some-at : (groups : List Group) (s : ℕ) → s < length groups → (g : Group) × (slice_get groups s ≡ Some g)
+pub some-at : (groups : List Group) (s : ℕ) → s < length groups → (g : Group) × (slice_get groups s ≡ Some g)
 some-at [] s lt = absurd (omega (arith, lt))
 some-at (g ∷ groups) zero lt = (g, refl)
 some-at (g ∷ groups) (suc s) lt = some-at groups s (omega (arith, lt))

@@ -10,7 +10,7 @@ use Rattle.dg_io.specs.declared.outside.Rack.{Ghosts}
 use Rattle.dg_parity.specs.Blanks.{IsForeign, LeavesOthers, BlanksOne, IsBlanked}
 use Rattle.dg_parity.specs.Exclusive.{xor_upto}
 use Rattle.dg_parity.specs.Stripes.{member_by, disk_length}
-use Rattle.dg_parity.specs.Groups.{disk_number, is_out, is_lost, length_of, bytes_of, AllTold, IsReady, Holds, StandsFor, IsLater, IsAlikeBut, IsRestarted, LeavesGroup}
+use Rattle.dg_parity.specs.Groups.{disk_number, is_out, is_sure, is_lost, length_of, bytes_of, AllTold, IsReady, Holds, StandsFor, IsLater, IsAlikeBut, IsRestarted, LeavesGroup}
 use Rattle.dg_parity.specs.Kept.{all_told, bytes_in, IsKept}
 use Rattle.dg_parity.specs.declared.groups.Group.{Group}
 use Rattle.dg_parity.proofs.GroupLemmas.{same-then, same-self, rise-then, rose-later, rose-sooner, other-disk}
@@ -54,7 +54,7 @@ pub blanked-failed : {S T E : Type 0} (rack : Ghosts S) (group : Group) (j q : �
 blanked-failed {T = T} {E = E} rack group j q e before now is call out noted =
     let own : Leaves {T = T} {E = E} rack (disk_number group.number j) (Err e) before now = subst (λ (k : ℕ). Leaves {T = T} {E = E} rack k (Err e) before now) is call in
     record {
-      same = record { number = refl; disks = refl; size = refl; epoch = refl; told = refl };
+      same = record { number = refl; disks = refl; size = refl; epoch = refl; told = refl; sure = refl };
       renewed = noted;
       rest = λ i ne. refl;
       stands = λ h. absurd (false≢true (sym h ∙ out));
@@ -108,7 +108,7 @@ others-one rack group old new j s t lt number h =
 
 pub blanked-none : {S : Type 0} (rack : Ghosts S) (group : Group) (now : S) → group.noted ≡ false → IsBlanked rack group group now now 0
 blanked-none rack group now noted = record {
-  same = record { number = refl; disks = refl; size = refl; epoch = refl; told = refl };
+  same = record { number = refl; disks = refl; size = refl; epoch = refl; told = refl; sure = refl };
   renewed = noted;
   later = λ j h. refl;
   stands = λ j lt. absurd (omega arith);
@@ -134,6 +134,7 @@ blanked-more rack a b c s t u j lt f g =
         size = g.same.size ∙ f.same.size;
         epoch = g.same.epoch ∙ f.same.epoch;
         told = g.same.told ∙ f.same.told;
+        sure = g.same.sure ∙ f.same.sure;
       };
       renewed = g.renewed;
       later = λ i le. g.rest i (λ e. absurd (omega (arith, e, le))) ∙ f.later i (omega arith);
@@ -213,6 +214,7 @@ pub record Anew {S : Type 0} (rack : Ghosts S) (size : ℕ) (old new : Group) (b
   pub number : new.number ≡ old.number
   pub disks : new.disks ≡ old.disks
   pub told : new.told ≡ true → old.told ≡ true
+  pub sure : is_sure new ≡ is_sure old
   pub size_is : new.length ≡ size
   pub ready : IsReady rack new now
   pub stands : StandsFor rack new now (replicate size 0)
@@ -240,6 +242,7 @@ anew-of rack size old a b c s t later again is h =
       number = h.same.number ∙ number;
       disks = h.same.disks ∙ disks;
       told = λ e. later.told (sym again.told ∙ sym h.same.told ∙ e);
+      sure = h.same.sure ∙ again.sure ∙ later.sure;
       size_is = h.same.size ∙ is;
       ready = blanked-ready rack b c s t h;
       stands = subst (λ (n : ℕ). StandsFor rack c t (replicate n 0)) (h.same.size ∙ is) (blanked-stands rack b c s t h);
@@ -261,8 +264,11 @@ anew-told rack size old mid new s t u least alive h leaves holds =
     (λ e. let parts = and_parts new.told (all_told rack new u) e in
     let all = told-back rack mid new t u leaves (told-each rack new u parts.1) in
     both-true old.told (all_told rack old s) (h.told (leaves.later.told parts.0))
-    (each-told rack old s (λ j lt. h.leaves.tells (disk_number old.number j)
-    (subst (λ (k : ℕ). IsSome (rack.bytes t (disk_number k j))) h.number (all j (subst (λ (n : ℕ). j < n) (sym h.disks) lt))))))
+    (each-told rack old s (
+      sym h.sure ∙ all.0,
+      λ j lt. h.leaves.tells (disk_number old.number j)
+          (subst (λ (k : ℕ). IsSome (rack.bytes t (disk_number k j))) h.number (all.1 j (subst (λ (n : ℕ). j < n) (sym h.disks) lt))),
+    )))
     (λ e. let parts = and_parts new.told (all_told rack new u) e in
     sym (stands-is rack new u (replicate size 0) (subst (λ (n : ℕ). 3 ≤ n) (sym (leaves.later.disks ∙ h.disks)) least) alive
     (stands-noted rack mid new t u leaves holds (replicate size 0) (told-each rack new u parts.1) h.stands)))

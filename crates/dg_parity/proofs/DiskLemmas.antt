@@ -176,6 +176,7 @@ drop-turns rack s j a b before now answer of still kept leaves idle already lost
   number = still.number;
   disks = still.disks;
   told = still.told;
+  sure = still.sure;
   kept = kept;
   bare = λ gone told. elim (cases_Bool (is_out a j)) [
     | inl out ↦ ap (λ (k : Group). k.length) (idle out).0

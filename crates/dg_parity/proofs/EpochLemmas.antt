@@ -1,23 +1,21 @@
 -- What a group left on its disks is what the next opening makes of them.
 use Rattle.std.proofs.Common.{◌≡◌, ◌≢◌, ◌⊎◌, ℕ, zero, suc, ◌+◌, ◌*◌, ◌/◌, ◌%◌, ◌<◌, ◌≤◌, ◌^◌, inl, inr, Bool, true, false, List, length, take, refl, sym, ap, subst, ◌∙◌, arith}
-use Rattle.std.specs.Prelude.{Option, None, Some, is_some, IfSome, IsSome, slice_index, ◌==◌, ◌&&◌, not, if◌then◌else◌}
+use Rattle.std.specs.Prelude.{Option, None, Some, IfSome, IsSome, slice_index, ◌==◌, ◌&&◌, if◌then◌else◌}
 use Rattle.std.proofs.lemmas.Bool.{cases_lt, cases_Bool, false≢true}
 use Rattle.dg_model.specs.Causes.{Rose}
 use Rattle.dg_io.specs.Told.{Told, IsSame}
 use Rattle.dg_io.specs.declared.outside.Rack.{Ghosts}
 use Rattle.dg_parity.specs.Epochs.{IsCountable, IsLeft, IsReopened}
-use Rattle.dg_parity.specs.Headers.{header_bytes, marks_of, IsHeader}
-use Rattle.dg_parity.specs.Stripes.{disk_length, member_by}
-use Rattle.dg_parity.specs.Groups.{disk_number, is_out, is_lost, length_of, bytes_of, AllTold, HasHead, header_in, Holds, IsLater, IsReady, StandsFor}
+use Rattle.dg_parity.specs.Headers.{header_bytes, marks_of}
+use Rattle.dg_parity.specs.Stripes.{member_by, InStripes, IsClear, IsEven}
+use Rattle.dg_parity.specs.Groups.{disk_number, disk_in, is_out, is_lost, is_sure, length_of, bytes_of, AllTold, header_in, Holds, IsReady, StandsFor}
 use Rattle.dg_parity.specs.Kept.{all_told, bytes_in, made_by, IsKept}
-use Rattle.dg_parity.specs.Openings.{HasFront, IsFront, IsFound, HasWidth, IsChief, IsIn, IsOpened, is_marked}
+use Rattle.dg_parity.specs.Openings.{HasFront, IsFront, IsFound, IsIn, IsOpened, is_marked}
 use Rattle.dg_parity.specs.declared.groups.Group.{Group}
 use Rattle.dg_parity.specs.declared.headers.Header.{Header}
-use Rattle.dg_parity.proofs.GroupLemmas.{told-at, in-before}
-use Rattle.dg_parity.proofs.HoldLemmas.{range-before}
+use Rattle.dg_parity.proofs.GroupLemmas.{told-at}
 use Rattle.dg_parity.proofs.KeptLemmas.{kept-of, kept-stands, stands-is}
-use Rattle.dg_parity.proofs.KeptSteps.{each-told, both-true}
-use Rattle.dg_parity.proofs.MemberSteps.{stands-along}
+use Rattle.dg_parity.proofs.KeptSteps.{each-told}
 use Rattle.dg_parity.proofs.OpenedLemmas.{some-not, front-there}
 use Rattle.dg_parity.proofs.PageLemmas.{own_numbers, HasNumbers, same_fields}
 use Rattle.dg_parity.proofs.PartLemmas.{others-in}
@@ -245,43 +243,55 @@ reopened rack group next before now fronts alive finds o alive2 =
 
 -- ---- what the group stands for then
 
-later-again : {S : Type 0} (rack : Ghosts S) (group next : Group) (before now : S) → IsReopened rack group next before now → next.told ≡ group.told → IsLater group next
-later-again rack group next before now h told = record {
-  number = h.number;
-  disks = h.disks;
-  size = h.size;
-  grows = h.stays;
-  epoch = omega (arith, h.epoch);
-  told = λ e. sym told ∙ e;
+-- disks that are in have what they had
+pub holds-again : {S : Type 0} (rack : Ghosts S) (group next : Group) (left now : S) (has : ℕ → ℕ → ℕ) → next.number ≡ group.number → next.disks ≡ group.disks → next.length ≡ group.length
+    → ((j : ℕ) → j < group.disks → is_out next j ≡ false → (is_out group j ≡ false) × (disk_in rack group now j ≡ disk_in rack group left j))
+    → Holds rack group left has → Holds rack next now has
+holds-again rack group next left now has number disks size same held = record {
+  at = λ j x lt in0 range.
+      let below : j < group.disks = subst (λ (n : ℕ). j < n) disks lt in
+      let was = same j below in0 in
+      let inside : InStripes group.disks group.length x = subst (λ (n : ℕ). InStripes n group.length x) disks (subst (λ (z : ℕ). InStripes next.disks z x) size range) in
+      ap (λ (s : ℕ). slice_index (bytes_of (rack.bytes now (disk_number s j))) x) number
+      ∙ ap (λ (l : List ℕ). slice_index l x) was.1
+      ∙ held.at j x below was.0 inside;
 }
 
-pub stands-again : {S : Type 0} (rack : Ghosts S) (group next : Group) (left now : S) (bytes : List ℕ) → IsLeft rack group left now → IsLater group next
+pub stands-again : {S : Type 0} (rack : Ghosts S) (group next : Group) (left now : S) (bytes : List ℕ) → next.number ≡ group.number → next.disks ≡ group.disks → next.length ≡ group.length
+    → ((j : ℕ) → j < group.disks → is_out next j ≡ false → (is_out group j ≡ false) × (disk_in rack group now j ≡ disk_in rack group left j))
     → StandsFor rack group left bytes → StandsFor rack next now bytes
-stands-again rack group next left now bytes is later h =
-    stands-along rack group next left now bytes later (λ has held. record {
-      at = λ j x lt in0 range.
-          let below : j < group.disks = subst (λ (n : ℕ). j < n) later.disks lt in
-          ap (λ (s : ℕ). slice_index (bytes_of (rack.bytes now (disk_number s j))) x) later.number
-          ∙ ap (λ (l : List ℕ). slice_index l x) (told-at IsSame _ _ (is.same j below (in-before group next j later in0)) (is.told j below))
-          ∙ held.at j x below (in-before group next j later in0) (range-before group next x later range);
-    }) h
+stands-again rack group next left now bytes number disks size same h = record {
+  has = h.has;
+  holds = holds-again rack group next left now h.has number disks size same h.holds;
+  even = subst (λ (n : ℕ). IsEven n next.length h.has) (sym disks) (subst (λ (z : ℕ). IsEven group.disks z h.has) (sym size) h.even);
+  clear = subst (λ (n : ℕ). IsClear n next.length h.has) (sym disks) (subst (λ (z : ℕ). IsClear group.disks z h.has) (sym size) h.clear);
+  is = h.is ∙ ap (λ (n : ℕ). member_by n group.length h.has) (sym disks) ∙ ap (λ (z : ℕ). member_by next.disks z h.has) (sym size);
+}
 
-told-again : {S : Type 0} (rack : Ghosts S) (group next : Group) (now : S) → IsLater group next → AllTold rack group now → AllTold rack next now
-told-again rack group next now later all j lt =
-    subst (λ (s : ℕ). IsSome (rack.bytes now (disk_number s j))) (sym later.number) (all j (subst (λ (n : ℕ). j < n) later.disks lt))
+-- a disk that is in again was in
+in-left : {S : Type 0} (rack : Ghosts S) (group next : Group) (left before now : S) (j : ℕ) → IsLeft rack group left now → IsReopened rack group next before now → j < group.disks → is_out next j ≡ false
+    → (is_out group j ≡ false) × (disk_in rack group now j ≡ disk_in rack group left j)
+in-left rack group next left before now j is h lt in0 = (was, told-at IsSame _ _ (is.same j lt was) (is.told j lt)) where
+  was : is_out group j ≡ false
+  was = elim (cases_Bool (is_out group j)) [ inr in1 ↦ in1 | inl out ↦ absurd (false≢true (sym in0 ∙ h.stays j out)) ]
 
 some-if : (a b c d : Bool) (x y : List ℕ) → a ≡ c → b ≡ true → d ≡ true → x ≡ y → (if a && b then Some x else None) ≡ (if c && d then Some y else None)
 some-if a b c d x y e bt dt same = rw (e, bt, dt, same) refl
 
+-- a group that is sure tells what another one told, whose bytes it stands for
+pub tells-again : {S : Type 0} (rack : Ghosts S) (group next : Group) (left now : S) → is_lost next ≡ false → next.told ≡ group.told → AllTold rack group left → AllTold rack next now
+    → StandsFor rack next now (member_by group.disks group.length (made_by rack group left)) → bytes_in rack next now ≡ bytes_in rack group left
+tells-again rack group next left now alive same told all stands =
+    some-if next.told (all_told rack next now) group.told (all_told rack group left) (member_by next.disks next.length (made_by rack next now)) (member_by group.disks group.length (made_by rack group left)) same
+    (each-told rack next now all) (each-told rack group left told) (sym (stands-is rack next now (member_by group.disks group.length (made_by rack group left)) next.least alive stands))
+
 pub reads-on : {S : Type 0} (rack : Ghosts S) (group next : Group) (left before now : S) → is_lost group ≡ false → IsKept rack group left → AllTold rack group left → IsLeft rack group left now
     → IsReopened rack group next before now → IsReady rack next now → is_lost next ≡ false → next.told ≡ group.told
-    → (IsKept rack next now) × (bytes_in rack next now ≡ bytes_in rack group left)
+    → (IsKept rack next now) × (is_sure next ≡ true → bytes_in rack next now ≡ bytes_in rack group left)
 reads-on rack group next left before now alive kept told is h ready alive2 same =
-    let later = later-again rack group next before now h same in
     let bytes : List ℕ = member_by group.disks group.length (made_by rack group left) in
-    let stands : StandsFor rack next now bytes = stands-again rack group next left now bytes is later (kept-stands rack group left alive kept told) in
-    let all = told-again rack group next now later is.told in (
+    let stands : StandsFor rack next now bytes = stands-again rack group next left now bytes h.number h.disks h.size (λ j lt in0. in-left rack group next left before now j is h lt in0)
+    (kept-stands rack group left alive kept told) in (
       kept-of rack next now bytes (λ e. ready) (λ e all2. stands),
-      some-if next.told (all_told rack next now) group.told (all_told rack group left) (member_by next.disks next.length (made_by rack next now)) bytes same (each-told rack next now all)
-          (each-told rack group left told) (sym (stands-is rack next now bytes next.least alive2 stands)),
+      λ sure. tells-again rack group next left now alive2 same told (sure, λ j lt. subst (λ (s : ℕ). IsSome (rack.bytes now (disk_number s j))) (sym h.number) (is.told j (subst (λ (n : ℕ). j < n) h.disks lt))) stands,
     )

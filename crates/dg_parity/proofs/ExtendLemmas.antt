@@ -189,6 +189,7 @@ grows-of rack size n old mid new s t again is long le ready h =
       size_is = h.later.size ∙ is;
       grows = λ j e. h.later.grows j (ap (λ (l : List Bool). get_or l j false) again.out ∙ e);
       told = λ e. sym again.told ∙ h.later.told e;
+      sure = h.later.sure ∙ again.sure;
       ready = record {
         stands = λ j lt in0. subst (λ (k : ℕ). rack.stands t (disk_number k j) ≡ true) (sym h.later.number) (h.stands j (subst (λ (k : ℕ). j < k) h.later.disks lt) in0);
         room = λ j lt in0. subst (λ (k : ℕ). IfSome (rack.bytes t (disk_number k j)) (λ all. length all ≡ length_of new)) (sym number)
@@ -204,7 +205,7 @@ grows-of rack size n old mid new s t again is long le ready h =
       holds = λ has all held. record {
         at = λ j x lt in0 range.
             let below : j < old.disks = subst (λ (k : ℕ). j < k) disks lt in
-            let some : IsSome (rack.bytes t (disk_number old.number j)) = subst (λ (k : ℕ). IsSome (rack.bytes t (disk_number k j))) number (all j lt) in
+            let some : IsSome (rack.bytes t (disk_number old.number j)) = subst (λ (k : ℕ). IsSome (rack.bytes t (disk_number k j))) number (all.1 j lt) in
             let told : Told (Extended n) (rack.bytes s (disk_number old.number j)) (rack.bytes t (disk_number old.number j)) =
             subst (λ (k : ℕ). Told (Extended n) (rack.bytes s k) (rack.bytes t k)) (own j) (h.longer j (subst (λ (k : ℕ). j < k) h.later.disks lt) in0) in
             let grown : Extended n (disk_in rack old s j) (disk_in rack old t j) = told-at (Extended n) _ _ told some in
@@ -240,8 +241,12 @@ grown-stands rack size old new s t bytes le h all stands =
 module _ {S : Type 0} (rack : Ghosts S) (size : ℕ) (old mid new : Group) (s t u : S) (le : old.length ≤ size) (alive : is_lost old ≡ false) (kept : IsKept rack old s)
     (grows : GrowsTo rack size old mid s t) (leaves : LeavesGroup rack mid new t u) (heads : (has : ℕ → ℕ → ℕ) → AllTold rack new u → Holds rack mid t has → Holds rack new u has) where
   told-first : AllTold rack new u → AllTold rack old s
-  told-first all j lt = grows.leaves.tells (disk_number old.number j)
-      (subst (λ (k : ℕ). IsSome (rack.bytes t (disk_number k j))) grows.number (told-back rack mid new t u leaves all j (subst (λ (k : ℕ). j < k) (sym grows.disks) lt)))
+  told-first all =
+      let back = told-back rack mid new t u leaves all in (
+        sym grows.sure ∙ back.0,
+        λ j lt. grows.leaves.tells (disk_number old.number j)
+            (subst (λ (k : ℕ). IsSome (rack.bytes t (disk_number k j))) grows.number (back.1 j (subst (λ (k : ℕ). j < k) (sym grows.disks) lt))),
+      )
 
   abbrev bytes : List ℕ
   bytes = member_by old.disks old.length (made_by rack old s)

@@ -71,10 +71,10 @@ rise-then a b c f s = record {
 -- ---- one call, and calls one after the other
 
 pub later-same : (group : Group) → IsLater group group
-later-same group = record { number = refl; disks = refl; size = refl; grows = λ j h. h; epoch = omega arith; told = λ h. h }
+later-same group = record { number = refl; disks = refl; size = refl; grows = λ j h. h; epoch = omega arith; told = λ h. h; sure = refl }
 
 pub later-then : (a b c : Group) → IsLater a b → IsLater b c → IsLater a c
-later-then a b c f s = record { number = s.number ∙ f.number; disks = s.disks ∙ f.disks; size = s.size ∙ f.size; grows = λ j h. s.grows j (f.grows j h); epoch = omega (arith, f.epoch, s.epoch); told = λ h. f.told (s.told h) }
+later-then a b c f s = record { number = s.number ∙ f.number; disks = s.disks ∙ f.disks; size = s.size ∙ f.size; grows = λ j h. s.grows j (f.grows j h); epoch = omega (arith, f.epoch, s.epoch); told = λ h. f.told (s.told h); sure = s.sure ∙ f.sure }
 
 pub same-length : (old new : Group) → IsLater old new → length_of old ≡ length_of new
 same-length old new h = ap (λ (n : ℕ). disk_length n old.length) (sym h.disks) ∙ ap (disk_length new.disks) (sym h.size)
@@ -95,8 +95,10 @@ not-marked old new i j m e same = false≢true (sym e ∙ ap (is_out new) same �
 
 pub told-before : {S : Type 0} (rack : Ghosts S) (old new : Group) (before now : S) → IsLater old new → StillTold (rack.bytes before) (rack.bytes now)
     → AllTold rack new now → AllTold rack old before
-told-before rack old new before now h tells all j lt =
-    tells (disk_number old.number j) (subst (λ (s : ℕ). IsSome (rack.bytes now (disk_number s j))) h.number (all j (subst (λ (n : ℕ). j < n) (sym h.disks) lt)))
+told-before rack old new before now h tells all = (
+  sym h.sure ∙ all.0,
+  λ j lt. tells (disk_number old.number j) (subst (λ (s : ℕ). IsSome (rack.bytes now (disk_number s j))) h.number (all.1 j (subst (λ (n : ℕ). j < n) (sym h.disks) lt))),
+)
 
 -- ---- headers
 
@@ -139,6 +141,7 @@ alike-later old new h epoch = record {
   grows = λ j e. ap (λ (l : List Bool). get_or l j false) h.out ∙ e;
   epoch = epoch;
   told = λ e. sym h.told ∙ e;
+  sure = h.sure;
 }
 
 alike-in : (old new : Group) (j : ℕ) → IsAlike old new → is_out new j ≡ false → is_out old j ≡ false

@@ -50,7 +50,7 @@ pub holds-same : {S : Type 0} (rack : Ghosts S) (group : Group) (before now : S)
     → AllTold rack group now → Holds rack group before has → Holds rack group now has
 holds-same rack group before now has same all held = record {
   at = λ j x lt in0 range.
-      ap (λ (l : List ℕ). slice_index l x) (told-at IsSame _ _ (same j lt) (all j lt)) ∙ held.at j x lt in0 range;
+      ap (λ (l : List ℕ). slice_index l x) (told-at IsSame _ _ (same j lt) (all.1 j lt)) ∙ held.at j x lt in0 range;
 }
 
 -- a call on disk j failed, and the disk went out: what it has doesn't matter any more
@@ -62,7 +62,7 @@ holds-failed rack old new j before now f h m same e all held = record {
       let ne = not-marked old new i j m in0 in
       let lt2 : i < old.disks = subst (λ (n : ℕ). i < n) m.later.disks lt in
       let number : disk_number new.number i ≡ disk_number old.number i = ap (λ (s : ℕ). disk_number s i) m.later.number in
-      let some : IsSome (rack.bytes now (disk_number old.number i)) = subst (λ (q : ℕ). IsSome (rack.bytes now q)) number (all i lt) in
+      let some : IsSome (rack.bytes now (disk_number old.number i)) = subst (λ (q : ℕ). IsSome (rack.bytes now q)) number (all.1 i lt) in
       ap (λ (q : ℕ). slice_index (bytes_of (rack.bytes now q)) x) number
       ∙ ap (λ (l : List ℕ). slice_index l x) (told-at IsSame _ _ (same (disk_number old.number i) (other-disk old.number i j ne)) some)
       ∙ held.at i x lt2 (in-before old new i m.later in0) (range-before old new x m.later range) ∙ e i x ne;
@@ -81,8 +81,8 @@ own : {S : Type 0} (rack : Ghosts S) (group : Group) (j place : ℕ) (before now
     → (i x : ℕ) → i ≡ j → i < group.disks → is_out group i ≡ false → InStripes group.disks group.length x → slice_index (disk_in rack group now i) x ≡ put has j place piece i x
 own rack group j place before now piece has ltj room fits patched all held i x eq lt in0 range =
     let old : List ℕ = disk_in rack group before j in
-    let is : disk_in rack group now j ≡ patch old place piece = told-at (Patched place piece) _ _ patched (all j ltj) in
-    let size : length old ≡ length_of group = length-told _ _ _ _ patched (all j ltj) room in
+    let is : disk_in rack group now j ≡ patch old place piece = told-at (Patched place piece) _ _ patched (all.1 j ltj) in
+    let size : length old ≡ length_of group = length-told _ _ _ _ patched (all.1 j ltj) room in
     let at : slice_index old x ≡ has j x = held.at j x ltj (subst (λ (k : ℕ). is_out group k ≡ false) eq in0) range in
     let stands : slice_index (patch old place piece) x ≡ put has j place piece j x = elim (place_is place (length piece) x) [
       | Before low ↦ patch-before old piece place x (omega arith) low ∙ at ∙ sym (put-outside has j place j x piece (inside-before place (length piece) x low))
@@ -99,7 +99,7 @@ pub holds-written : {S : Type 0} (rack : Ghosts S) (group : Group) (j place : �
     → AllTold rack group now → Holds rack group before has → Holds rack group now (put has j place piece)
 holds-written rack group j place before now piece has ltj room fits patched same all held = record {
   at = λ i x lt in0 range. elim (cases_eq i j) [
-    | inr ne ↦ ap (λ (l : List ℕ). slice_index l x) (told-at IsSame _ _ (same (disk_number group.number i) (other-disk group.number i j ne)) (all i lt))
+    | inr ne ↦ ap (λ (l : List ℕ). slice_index l x) (told-at IsSame _ _ (same (disk_number group.number i) (other-disk group.number i j ne)) (all.1 i lt))
         ∙ held.at i x lt in0 range ∙ sym (put-other has j place i x piece ne)
     | inl eq ↦ own rack group j place before now piece has ltj room fits patched all held i x eq lt in0 range
   ];

@@ -5,7 +5,7 @@ use Rattle.std.proofs.lemmas.Bool.{cases_eq, cases_Bool, and_parts}
 use Rattle.dg_io.specs.declared.outside.Rack.{Ghosts}
 use Rattle.dg_parity.specs.Exclusive.{xor_upto, with_at}
 use Rattle.dg_parity.specs.Stripes.{InStripes, IsClear, IsEven, member_by, made_up, spot_of}
-use Rattle.dg_parity.specs.Groups.{disk_number, is_out, is_lost, disk_in, AllTold, Holds, IsReady, StandsFor}
+use Rattle.dg_parity.specs.Groups.{disk_number, is_out, is_lost, is_sure, disk_in, AllTold, Holds, IsReady, StandsFor}
 use Rattle.dg_parity.specs.Kept.{all_upto, all_told, made_by, IsKept}
 use Rattle.dg_parity.specs.declared.groups.Group.{Group}
 use Rattle.dg_parity.proofs.ExclusiveLemmas.{xor-same, xor-others, with-same, with-other}
@@ -20,7 +20,9 @@ upto-each p (suc n) j h lt =
     elim (cases_eq j n) [ inl e ↦ ap p e ∙ parts.1 | inr ne ↦ upto-each p n j parts.0 (omega arith) ]
 
 pub told-each : {S : Type 0} (rack : Ghosts S) (group : Group) (now : S) → all_told rack group now ≡ true → AllTold rack group now
-told-each rack group now h j lt = upto-each (λ i. is_some (rack.bytes now (disk_number group.number i))) group.disks j h lt
+told-each rack group now h =
+    let parts = and_parts (is_sure group) (all_upto (λ i. is_some (rack.bytes now (disk_number group.number i))) group.disks) h in
+    (parts.0, λ j lt. upto-each (λ i. is_some (rack.bytes now (disk_number group.number i))) group.disks j parts.1 lt)
 
 pub out-made : (n : ℕ) (out : ℕ → Bool) (disks : ℕ → List ℕ) (j x : ℕ) → out j ≡ true → made_up n out disks j x ≡ xor_upto (with_at (λ i. slice_index (disks i) x) j 0) n
 out-made n out disks j x e = ap (λ (b : Bool). if b then xor_upto (with_at (λ i. slice_index (disks i) x) j 0) n else slice_index (disks j) x) e

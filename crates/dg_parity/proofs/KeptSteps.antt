@@ -15,12 +15,14 @@ use Rattle.dg_parity.proofs.MemberSteps.{stands-along}
 use Rattle.dg_parity.proofs.CallLemmas.{told-back}
 use Rattle.dg_parity.proofs.KeptLemmas.{told-each, kept-of, kept-stands, stands-is}
 
-each-upto : (p : ℕ → Bool) (n : ℕ) → ((j : ℕ) → j < n → p j ≡ true) → all_upto p n ≡ true
+pub each-upto : (p : ℕ → Bool) (n : ℕ) → ((j : ℕ) → j < n → p j ≡ true) → all_upto p n ≡ true
 each-upto p zero h = refl
 each-upto p (suc n) h = ap (λ (b : Bool). b && p n) (each-upto p n (λ j lt. h j (omega arith))) ∙ h n (omega arith)
 
 pub each-told : {S : Type 0} (rack : Ghosts S) (group : Group) (now : S) → AllTold rack group now → all_told rack group now ≡ true
-each-told rack group now h = each-upto (λ i. is_some (rack.bytes now (disk_number group.number i))) group.disks h
+each-told rack group now h =
+    ap (λ (b : Bool). b && all_upto (λ i. is_some (rack.bytes now (disk_number group.number i))) group.disks) h.0
+    ∙ each-upto (λ i. is_some (rack.bytes now (disk_number group.number i))) group.disks h.1
 
 pub both-true : (b c : Bool) → b ≡ true → c ≡ true → (b && c) ≡ true
 both-true b c e f = ap (λ (x : Bool). x && c) e ∙ f

@@ -13,6 +13,7 @@ pub mod ExtendLemmas
 pub mod FallLemmas
 pub mod GroupLemmas
 pub mod HoldLemmas
+pub mod JudgedLemmas
 pub mod KeptLemmas
 pub mod KeptSteps
 pub mod MemberLemmas
@@ -23,5 +24,7 @@ pub mod OpenedLemmas
 pub mod OpeningLemmas
 pub mod PageLemmas
 pub mod PartLemmas
+pub mod ReadsOnLemmas
 pub mod ReturnLemmas
+pub mod SoundLemmas
 pub mod StripeLemmas

@@ -9,7 +9,7 @@ use Rattle.dg_io.specs.Told.{Told, IsZeros, IsSame, Patched, patch, OthersSame}
 use Rattle.dg_io.specs.declared.outside.Rack.{Ghosts}
 use Rattle.dg_parity.specs.Exclusive.{xor_upto, with_at}
 use Rattle.dg_parity.specs.Stripes.{IsEven, stripes_of, disk_length}
-use Rattle.dg_parity.specs.Groups.{disk_number, is_out, length_of, disk_in, bytes_of, AllTold, IsReady, Holds, IsLater, IsApart, header_in, LeavesGroup}
+use Rattle.dg_parity.specs.Groups.{disk_number, is_out, is_sure, length_of, disk_in, bytes_of, AllTold, IsReady, Holds, IsLater, IsApart, header_in, LeavesGroup}
 use Rattle.dg_parity.specs.Headers.{header_bytes}
 use Rattle.dg_parity.specs.Mends.{FilledTo, IsRefilled, LeavesBut}
 use Rattle.dg_parity.specs.declared.groups.Group.{Group}
@@ -38,7 +38,7 @@ pub filled-along : {S : Type 0} (rack : Ghosts S) (old new : Group) (s t : S) (j
 filled-along rack old new s t j count has lt out leaves all h = record {
   at = λ x low high.
       let number : disk_number new.number j ≡ disk_number old.number j = ap (λ (k : ℕ). disk_number k j) leaves.later.number in
-      let some : IsSome (rack.bytes t (disk_number old.number j)) = subst (λ (q : ℕ). IsSome (rack.bytes t q)) number (all j (subst (λ (n : ℕ). j < n) (sym leaves.later.disks) lt)) in
+      let some : IsSome (rack.bytes t (disk_number old.number j)) = subst (λ (q : ℕ). IsSome (rack.bytes t q)) number (all.1 j (subst (λ (n : ℕ). j < n) (sym leaves.later.disks) lt)) in
       ap (λ (q : ℕ). slice_index (bytes_of (rack.bytes t q)) x) number
       ∙ ap (λ (l : List ℕ). slice_index l x) (told-at IsSame _ _ (leaves.others (disk_number old.number j) (out-apart old j out)) some)
       ∙ h.at x low high;
@@ -109,7 +109,7 @@ pub holds-out : {S : Type 0} (rack : Ghosts S) (group : Group) (j : ℕ) (before
     → OthersSame (disk_number group.number j) (rack.bytes before) (rack.bytes now) → AllTold rack group now → Holds rack group before has → Holds rack group now has
 holds-out rack group j before now has out same all held = record {
   at = λ i x lt in0 range.
-      ap (λ (l : List ℕ). slice_index l x) (told-at IsSame _ _ (same (disk_number group.number i) (other-disk group.number i j (in-other group i j out in0))) (all i lt))
+      ap (λ (l : List ℕ). slice_index l x) (told-at IsSame _ _ (same (disk_number group.number i) (other-disk group.number i j (in-other group i j out in0))) (all.1 i lt))
       ∙ held.at i x lt in0 range;
 }
 
@@ -122,8 +122,8 @@ pub filled-more : {S : Type 0} (rack : Ghosts S) (group : Group) (j t : ℕ) (be
     → FilledTo rack group before j has t → FilledTo rack group now j has (t + 1)
 filled-more rack group j t before now has page lt size below room patched all right h =
     let old : List ℕ = disk_in rack group before j in
-    let is : disk_in rack group now j ≡ patch old (512 + 512 * t) page = told-at (Patched (512 + 512 * t) page) _ _ patched (all j lt) in
-    let long : length old ≡ length_of group = length-told _ _ _ _ patched (all j lt) room in
+    let is : disk_in rack group now j ≡ patch old (512 + 512 * t) page = told-at (Patched (512 + 512 * t) page) _ _ patched (all.1 j lt) in
+    let long : length old ≡ length_of group = length-told _ _ _ _ patched (all.1 j lt) room in
     record {
       at = λ x low high. ap (λ (l : List ℕ). slice_index l x) is ∙ elim (cases_lt x (512 + 512 * t)) [
         | inl first ↦ patch-before old page (512 + 512 * t) x (omega arith) first ∙ h.at x low first
@@ -202,6 +202,7 @@ pub record Unmarks (old new : Group) (j : ℕ) : Type 0 where
   pub number : new.number ≡ old.number
   pub disks : new.disks ≡ old.disks
   pub size : new.length ≡ old.length
+  pub sure : is_sure new ≡ is_sure old
   pub back : is_out new j ≡ false
   pub noted : new.noted ≡ false
   pub others : (i : ℕ) → i ≢ j → is_out new i ≡ is_out old i

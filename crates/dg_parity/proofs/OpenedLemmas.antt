@@ -1,14 +1,14 @@
 -- A group that an opening made: its disks that are in stand, with their headers, and it stands for what they say.
-use Rattle.std.proofs.Common.{◌≡◌, ◌≢◌, ◌⊎◌, ℕ, zero, suc, ◌+◌, ◌<◌, ◌≤◌, inl, inr, Bool, true, false, List, length, take, refl, sym, ap, subst, ◌∙◌, arith}
+use Rattle.std.proofs.Common.{◌≡◌, ◌⊎◌, ℕ, ◌<◌, ◌≤◌, inl, inr, Bool, true, false, List, length, take, refl, sym, ap, subst, ◌∙◌, arith}
 use Rattle.std.specs.Prelude.{Option, None, Some, IfSome}
 use Rattle.std.proofs.lemmas.Bool.{false≢true}
 use Rattle.dg_model.specs.Causes.{Rose}
 use Rattle.dg_io.specs.declared.outside.Rack.{Ghosts}
 use Rattle.dg_parity.specs.Stripes.{disk_length}
 use Rattle.dg_parity.specs.Headers.{header_bytes, marks_of}
-use Rattle.dg_parity.specs.Groups.{disk_number, is_out, is_lost, length_of, header_in, HasHead, IsReady}
+use Rattle.dg_parity.specs.Groups.{disk_number, is_out, length_of, header_in, IsReady}
 use Rattle.dg_parity.specs.Kept.{IsKept}
-use Rattle.dg_parity.specs.Openings.{HasFront, IsFront, IsFound, HasWidth, IsChief, IsIn, IsOpened, AreSound}
+use Rattle.dg_parity.specs.Openings.{HasFront, IsFront, IsFound, IsOpened, AreSound}
 use Rattle.dg_parity.specs.declared.groups.Group.{Group}
 use Rattle.dg_parity.specs.declared.headers.Header.{Header}
 use Rattle.dg_parity.proofs.PageLemmas.{same_fields}

@@ -22,7 +22,7 @@ use Rattle.dg_parity.proofs.MemberLemmas.{written-outside, written-beside, writt
 pub count-step : (x : Bool) (xs : List Bool) → count_by (λ x. x) (x ∷ xs) ≡ cond x 1 0 + count_by (λ x. x) xs
 count-step x xs = sum_by-cons (λ (y : Bool). cond y 1 0) x xs
 
-one-of : (x : Bool) → x ≡ true → cond {A = ℕ} x 1 0 ≡ 1
+pub one-of : (x : Bool) → x ≡ true → cond {A = ℕ} x 1 0 ≡ 1
 one-of true h = refl
 one-of false h = absurd (false≢true h)
 

@@ -25,9 +25,11 @@ pub record Returned {S : Type 0} (rack : Ghosts S) (j : ℕ) (old mid new : Grou
   pub heads : (has : ℕ → ℕ → ℕ) → AllTold rack new u → Holds rack mid t has → Holds rack new u has
 
 told-mid : {S : Type 0} (rack : Ghosts S) (j : ℕ) (old mid new : Group) (s t u : S) → Returned rack j old mid new s t u → AllTold rack new u → AllTold rack old t
-told-mid rack j old mid new s t u h all i lt =
-    subst (λ (k : ℕ). IsSome (rack.bytes t (disk_number k i))) h.unmarks.number
-    (told-back rack mid new t u h.leaves all i (subst (λ (n : ℕ). i < n) (sym h.unmarks.disks) lt))
+told-mid rack j old mid new s t u h all =
+    let back = told-back rack mid new t u h.leaves all in (
+      sym h.unmarks.sure ∙ back.0,
+      λ i lt. subst (λ (k : ℕ). IsSome (rack.bytes t (disk_number k i))) h.unmarks.number (back.1 i (subst (λ (n : ℕ). i < n) (sym h.unmarks.disks) lt)),
+    )
 
 pub returned-told : {S : Type 0} (rack : Ghosts S) (j : ℕ) (old mid new : Group) (s t u : S) → Returned rack j old mid new s t u → AllTold rack new u → AllTold rack old s
 returned-told rack j old mid new s t u h all = but-back rack j old old s t h.fill (told-mid rack j old mid new s t u h all)

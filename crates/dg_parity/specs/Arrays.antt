@@ -11,7 +11,7 @@ use Rattle.dg_io.specs.RackCalls.{RackCall}
 use Rattle.dg_io.specs.RackWords.{After}
 use Rattle.dg_io.specs.Told.{Told, IsSame}
 use Rattle.dg_io.specs.declared.outside.Rack.{Ghosts}
-use Rattle.dg_parity.specs.Groups.{disk_number, is_lost, is_out}
+use Rattle.dg_parity.specs.Groups.{disk_number, is_lost, is_out, is_sure}
 use Rattle.dg_parity.specs.Kept.{IsKept, bytes_in}
 use Rattle.dg_parity.specs.declared.groups.Group.{Group}
 use Rattle.dg_parity.specs.declared.tallies.Tally.{Tally}
@@ -205,6 +205,7 @@ pub record IsNewGroup (n s : ℕ) (group : Group) : Type 0 where
   pub disks : group.disks ≡ n
   pub size : group.length ≡ 0
   pub told : group.told ≡ true
+  pub sure : is_sure group ≡ true
   pub out : (j : ℕ) → j < n → is_out group j ≡ true
   pub lost : is_lost group ≡ true
 

@@ -1,5 +1,5 @@
 -- A group: the state that is kept of it, and what its disks stand for in the rack.
-use Rattle.std.specs.Prelude.{◌≡◌, ◌≢◌, ◌↔◌, ◌+◌, ◌*◌, ◌<◌, ◌≤◌, nat_le, ℕ, List, [], Bool, true, false, Option, None, Some, IsSome}
+use Rattle.std.specs.Prelude.{◌≡◌, ◌≢◌, ◌↔◌, ◌+◌, ◌*◌, ◌<◌, ◌≤◌, nat_le, ℕ, List, [], ◌∷◌, Bool, true, false, Option, None, Some, IsSome}
 use Rattle.std.specs.Prelude.{IfSome, length, take, slice_index, slice_index_or, count_by}
 use Rattle.dg_model.specs.Causes.{Rose}
 use Rattle.dg_model.specs.States.{CountsRise}
@@ -34,9 +34,17 @@ bytes_of (Some all) = all
 abbrev pub disk_in : {S : Type 0} → Ghosts S → Group → S → ℕ → List ℕ
 disk_in rack group now j = bytes_of (rack.bytes now (disk_number group.number j))
 
--- each disk tells its bytes, those that are out among them
+abbrev pub has_none : List ℕ → Bool
+has_none [] = true
+has_none (first ∷ rest) = false
+
+-- whether nothing was wrong with what its disks had when it was opened. No code knows that
+abbrev pub is_sure : Group → Bool
+is_sure group = has_none group.doubts.numbers
+
+-- each disk tells its bytes, those that are out among them, and nothing was wrong with these when the group was opened
 abbrev pub AllTold : {S : Type 0} → Ghosts S → Group → S → Type 0
-AllTold rack group now = (j : ℕ) → j < group.disks → IsSome (rack.bytes now (disk_number group.number j))
+AllTold rack group now = (is_sure group ≡ true) × ((j : ℕ) → j < group.disks → IsSome (rack.bytes now (disk_number group.number j)))
 
 -- the header of disk j
 abbrev pub header_in : Group → ℕ → Header
@@ -72,6 +80,7 @@ pub record IsLater (old new : Group) : Type 0 where
   pub epoch : old.epoch ≤ new.epoch
   -- what tells now told before
   pub told : new.told ≡ true → old.told ≡ true
+  pub sure : is_sure new ≡ is_sure old
 
 -- q is none of the disks of the group that aren't out
 abbrev pub IsApart : Group → ℕ → Type 0
@@ -123,6 +132,7 @@ pub record IsAlikeBut (old new : Group) : Type 0 where
   pub size : new.length ≡ old.length
   pub epoch : new.epoch ≡ old.epoch
   pub told : new.told ≡ old.told
+  pub sure : is_sure new ≡ is_sure old
 
 -- the same group with the same disks out, whatever its headers say
 pub record IsAlike (old new : Group) : Type 0 where
@@ -131,6 +141,7 @@ pub record IsAlike (old new : Group) : Type 0 where
   pub size : new.length ≡ old.length
   pub out : new.out ≡ old.out
   pub told : new.told ≡ old.told
+  pub sure : is_sure new ≡ is_sure old
 
 -- the same group with the same disks out, for another member
 pub record IsRestarted (old new : Group) : Type 0 where
@@ -138,12 +149,14 @@ pub record IsRestarted (old new : Group) : Type 0 where
   pub disks : new.disks ≡ old.disks
   pub out : new.out ≡ old.out
   pub told : new.told ≡ old.told
+  pub sure : is_sure new ≡ is_sure old
 
 -- the same group, which tells only if it told
 pub record IsStill (old new : Group) : Type 0 where
   pub number : new.number ≡ old.number
   pub disks : new.disks ≡ old.disks
   pub told : new.told ≡ true → old.told ≡ true
+  pub sure : is_sure new ≡ is_sure old
 
 -- a disk went out
 pub record FellOne (old new : Group) : Type 0 where

@@ -2,7 +2,7 @@
 use Rattle.std.specs.Prelude.{◌≡◌, ◌+◌, ◌*◌, ◌&&◌, ℕ, zero, suc, List, Bool, true, false, Option, None, Some, is_some, if◌then◌else◌}
 use Rattle.dg_io.specs.declared.outside.Rack.{Ghosts}
 use Rattle.dg_parity.specs.Stripes.{chunks_in, IsClear, IsEven, member_by, made_up}
-use Rattle.dg_parity.specs.Groups.{disk_number, is_out, is_lost, disk_in, AllTold, IsReady}
+use Rattle.dg_parity.specs.Groups.{disk_number, is_out, is_lost, is_sure, disk_in, AllTold, IsReady}
 use Rattle.dg_parity.specs.declared.groups.Group.{Group}
 
 -- whether a test holds of each number below n
@@ -10,9 +10,9 @@ abbrev pub all_upto : (ℕ → Bool) → ℕ → Bool
 all_upto p zero = true
 all_upto p (suc n) = all_upto p n && p n
 
--- whether each disk tells its bytes
+-- whether each disk tells its bytes, and nothing was wrong with these when the group was opened
 abbrev pub all_told : {S : Type 0} → Ghosts S → Group → S → Bool
-all_told rack group now = all_upto (λ j. is_some (rack.bytes now (disk_number group.number j))) group.disks
+all_told rack group now = is_sure group && all_upto (λ j. is_some (rack.bytes now (disk_number group.number j))) group.disks
 
 -- what the disks have, one that is out by the others
 abbrev pub made_by : {S : Type 0} → Ghosts S → Group → S → ℕ → ℕ → ℕ

@@ -11,4 +11,6 @@ pub mod Mends
 pub mod Openings
 pub mod ParityLaws
 pub mod ParityRacks
+pub mod Reopens
+pub mod Sound
 pub mod Stripes

@@ -1,12 +1,13 @@
 -- What an opening takes from the pages at the front of the disks. The rules are this project's own.
-use Rattle.std.specs.Prelude.{◌≡◌, ◌⊎◌, ◌↔◌, ◌+◌, ◌/◌, ◌%◌, ◌<◌, ◌≤◌, ◌^◌, ◌==◌, ℕ, List, [], Bool, true, false, not, Option, None, Some, IsSome, IfSome, length, take, slice_get, slice_index_or}
+use Rattle.std.specs.Prelude.{◌≡◌, ◌⊎◌, ◌↔◌, ◌/◌, ◌%◌, ◌<◌, ◌≤◌, ◌^◌, ◌==◌, ℕ, List, [], Bool, true, false, not, Option, None, Some, IsSome, IfSome, length, take, slice_get, slice_index_or}
 use Rattle.dg_model.specs.Causes.{Rose}
 use Rattle.dg_model.specs.States.{CountsRise}
 use Rattle.dg_io.specs.Told.{Told, IsSame, StillTold}
 use Rattle.dg_io.specs.declared.outside.Rack.{Ghosts}
 use Rattle.dg_parity.specs.Stripes.{IsClear, IsEven, disk_length}
-use Rattle.dg_parity.specs.Groups.{disk_number, is_out, is_lost, AllTold}
+use Rattle.dg_parity.specs.Groups.{disk_number, is_out, is_lost, is_sure, AllTold}
 use Rattle.dg_parity.specs.Kept.{made_by}
+use Rattle.dg_parity.specs.Sound.{is_sound}
 use Rattle.dg_parity.specs.Headers.{header_bytes, marks_of, IsHeader, IsCounted}
 use Rattle.dg_parity.specs.declared.groups.Group.{Group}
 use Rattle.dg_parity.specs.declared.headers.Header.{Header}
@@ -128,14 +129,20 @@ pub record IsUnmade (n s : ℕ) (group : Group) : Type 0 where
   pub size : group.length ≡ 0
   pub lost : is_lost group ≡ true
   pub told : group.told ≡ true
+  pub sure : is_sure group ≡ true
+
+-- Group s of n disks as an opening makes it from the headers, and whether anything is wrong with what its disks have.
+pub record IsOpenedOver {S : Type 0} (rack : Ghosts S) (now : S) (fronts : ℕ → Option Header) (n s : ℕ) (group : Group) : Type 0 where
+  pub by : IsOpened fronts n s group
+  pub sure : is_sure group ≡ is_sound rack group now
 
 -- what an opening makes of group s: the group by its headers, or one that was never made
-abbrev pub IsOpenedOr : (ℕ → Option Header) → ℕ → ℕ → Group → Type 0
-IsOpenedOr fronts n s group = IsOpened fronts n s group ⊎ (HasNone fronts n n × IsUnmade n s group)
+abbrev pub IsOpenedOr : {S : Type 0} → Ghosts S → S → (ℕ → Option Header) → ℕ → ℕ → Group → Type 0
+IsOpenedOr rack now fronts n s group = IsOpenedOver rack now fronts n s group ⊎ (HasNone fronts n n × IsUnmade n s group)
 
 -- the groups of n disks that an opening makes, in order
-abbrev pub AreOpened : (ℕ → ℕ → Option Header) → ℕ → List Group → Type 0
-AreOpened fronts n groups = (s : ℕ) → IfSome (slice_get groups s) (λ group. IsOpenedOr (fronts s) n s group)
+abbrev pub AreOpened : {S : Type 0} → Ghosts S → S → (ℕ → ℕ → Option Header) → ℕ → List Group → Type 0
+AreOpened rack now fronts n groups = (s : ℕ) → IfSome (slice_get groups s) (λ group. IsOpenedOr rack now (fronts s) n s group)
 
 -- what an opening found on the disks of sixteen groups, after its calls
 abbrev pub AreFound : {S : Type 0} → Ghosts S → S → S → (ℕ → ℕ → Option Header) → Type 0
@@ -147,7 +154,7 @@ pub record OpensGroups {S : Type 0} (rack : Ghosts S) (before now : S) (n : ℕ)
   pub found : AreFound rack before now fronts
   pub width : IsWidth fronts n
   pub count : length groups ≡ 16
-  pub opened : AreOpened fronts n groups
+  pub opened : AreOpened rack now fronts n groups
 
 -- A rack that an opening found to be plain: no disk has a header.
 pub record OpensPlain {S : Type 0} (rack : Ghosts S) (before now : S) : Type 0 where

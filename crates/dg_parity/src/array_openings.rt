@@ -1,5 +1,6 @@
 // What an opening finds on the disks of all groups.
 ghost use Rattle.std.specs.Prelude.{◌≡◌, ◌⊎◌, ◌+◌, ◌<◌, ◌≤◌, ℕ, None, IfOk, IfSome, length};
+ghost use Rattle.dg_parity.specs.Arrays.{IsHeld};
 ghost use Rattle.dg_parity.specs.Groups.{disk_number, MostCalls};
 ghost use Rattle.dg_parity.specs.Openings.{AreFound, AreOpened, IsFirst, IsOpenedOr, IsWidth, LeavesRead, OpensGroups, OpensPlain, fronts_by, fronts_in};
 
@@ -7,6 +8,7 @@ use crate::chiefs::group_of;
 use crate::groups::Group;
 use crate::headers::Header;
 use crate::openings::read_fronts;
+use crate::sureness::judge;
 use dg_io::{NoMemory, Rack};
 use std::alloc::Global;
 
@@ -53,28 +55,28 @@ fn width_of(rows: &Rows) -> Option<u8>
 }
 
 /// Group s of n disks, or one that was never made where no disk has a header.
-fn group_or_new(row: &[Option<Header>; 8], s: u8, n: u8) -> Group
+fn group_or_new<R: Rack>(row: &[Option<Header>; 8], rack: &R, s: u8, n: u8) -> Group
     requires group { s < 16 }
     requires least { 3 ≤ n }
     requires most { n ≤ 8 }
-    ensures { IsOpenedOr (fronts_in row.now) n s result }
+    ensures { IsOpenedOr R.Rack rack.now (fronts_in row.now) n s result }
 {
     match group_of(row, s, n) {
-        Some(group) => group,
+        Some(group) => judge(group, rack),
         None => Group::new(s, n),
     }
 }
 
 /// The groups of n disks, in order.
-fn groups_of(alloc: Global, rows: &Rows, n: u8) -> Result<Vec<Group>, NoMemory>
+fn groups_of<R: Rack>(alloc: Global, rows: &Rows, rack: &R, n: u8) -> Result<Vec<Group>, NoMemory>
     requires least { 3 ≤ n }
     requires most { n ≤ 8 }
     ensures count { IfOk result (λ groups. length groups.items ≡ 16) }
-    ensures opened { IfOk result (λ groups. AreOpened (fronts_by rows.now) n groups.items) }
+    ensures opened { IfOk result (λ groups. AreOpened R.Rack rack.now (fronts_by rows.now) n groups.items) }
 {
     let mut groups = Vec::new(alloc);
     for s in 0..16 {
-        let group = group_or_new(&rows[s as usize], s, n);
+        let group = group_or_new(&rows[s as usize], rack, s, n);
         let Ok(()) = groups.push(group) else {
             return Err(NoMemory);
         };
@@ -84,18 +86,22 @@ fn groups_of(alloc: Global, rows: &Rows, n: u8) -> Result<Vec<Group>, NoMemory>
 
 /// The groups that an opening found.
 #[derive(Drop)]
-pub struct FoundGroups {
+pub(crate) struct FoundGroups {
     /// How many disks each has.
-    pub width: u8,
-    pub groups: Vec<Group>,
-    pub ghost least: { 3 ≤ width },
-    pub ghost most: { width ≤ 8 },
+    pub(crate) width: u8,
+    pub(crate) groups: Vec<Group>,
+    ghost least: { 3 ≤ width },
+    ghost most: { width ≤ 8 },
 }
 
 /// The groups of a rack by the headers of its disks, or `None` where no disk has one: then the rack is a plain one. It only looks and reads, at most
 /// 256 times.
-pub fn open_groups<R: Rack>(alloc: Global, rack: &mut R) -> Result<Option<FoundGroups>, NoMemory>
+pub(crate) fn open_groups<R: Rack>(
+    alloc: Global,
+    rack: &mut R,
+) -> Result<Option<FoundGroups>, NoMemory>
     ensures opened { IfOk result (λ found. IfSome found (λ it. OpensGroups R.Rack rack.old rack.new it.width it.groups.items)) }
+    ensures held { IfOk result (λ found. IfSome found (λ it. IsHeld R.Rack it.width it.groups.items rack.new)) }
     ensures plain { IfOk result (λ found. found ≡ None → OpensPlain R.Rack rack.old rack.new) }
     ensures leaves { LeavesRead R.Rack (disk_number 0 0) (disk_number 16 0) rack.old rack.new }
     ensures calls { MostCalls R.Rack 256 rack.old rack.new }
@@ -104,6 +110,6 @@ pub fn open_groups<R: Rack>(alloc: Global, rack: &mut R) -> Result<Option<FoundG
     let Some(width) = width_of(&rows) else {
         return Ok(None);
     };
-    let groups = groups_of(alloc, &rows, width)?;
+    let groups = groups_of(alloc, &rows, rack, width)?;
     Ok(Some(FoundGroups { width, groups }))
 }

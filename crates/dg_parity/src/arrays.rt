@@ -2,6 +2,7 @@
 ghost use Rattle.std.specs.Prelude.{◌≡◌, ◌≤◌, ℕ, IfOk, Some, length, slice_get};
 ghost use Rattle.dg_parity.specs.Arrays.{IsNewGroup};
 
+use crate::array_openings::FoundGroups;
 use crate::group_calls::{blank_at, drop_at, extend_at, find_at, mend_at, read_at, write_at};
 use crate::groups::Group;
 use crate::tallies::Tally;
@@ -64,6 +65,32 @@ impl<R: Rack + Drop> GroupRack<R> {
             groups,
             tally: Tally::new(),
         })
+    }
+}
+
+impl<R: Rack> GroupRack<R> {
+    ghost use Rattle.std.specs.Prelude.{◌≡◌};
+    ghost use Rattle.dg_parity.specs.Arrays.{HasNoCalls, IsHeld};
+
+    /// A rack of the groups that an opening found. It takes no memory.
+    pub(crate) fn over(rack: R, found: FoundGroups) -> GroupRack<R>
+        requires held { IsHeld R.Rack found.width found.groups.items rack }
+        ensures is { result ≡ record { rack = rack; width = found.width; groups = found.groups.items; tally = result.tally } }
+        ensures tally { HasNoCalls result.tally }
+    {
+        GroupRack {
+            rack,
+            width: found.width,
+            groups: found.groups,
+            tally: Tally::new(),
+        }
+    }
+
+    /// What holds of each rack of groups between calls.
+    pub(crate) fn holds(&self)
+        ensures { IsHeld R.Rack self.now.width self.now.groups self.now.rack }
+    {
+        let _ = &self.rack;
     }
 }
 

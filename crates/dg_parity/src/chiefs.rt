@@ -6,6 +6,7 @@ ghost use Rattle.dg_parity.specs.declared.headers.Header.{Header};
 
 use crate::groups::{Group, marks};
 use crate::headers::Header;
+use boxcar::tag::Tag;
 
 /// The better of the best header so far and that of one more disk: a greater epoch is better.
 fn better(best: Option<Header>, front: Option<Header>, n: u8) -> Option<Header>
@@ -97,6 +98,7 @@ pub fn group_of(fronts: &[Option<Header>; 8], s: u8, n: u8) -> Option<Group>
         length: chief.size,
         told: true,
         noted,
+        doubts: Tag::empty(),
     };
     group.told = !group.is_lost();
     Some(group)

@@ -1,7 +1,7 @@
 // Laws on epochs: what a group left on its disks is what the next opening makes of them.
 ghost use Rattle.std.specs.Prelude.{◌≡◌, ◌<◌, ◌≤◌, ℕ, true, false, Option};
 ghost use Rattle.dg_parity.specs.Epochs.{IsCountable, IsLeft, IsReopened};
-ghost use Rattle.dg_parity.specs.Groups.{is_out, is_lost, AllTold, IsReady};
+ghost use Rattle.dg_parity.specs.Groups.{is_out, is_lost, is_sure, AllTold, IsReady};
 ghost use Rattle.dg_parity.specs.Kept.{bytes_in, IsKept};
 ghost use Rattle.dg_parity.specs.Openings.{HasWidth, IsFound, IsOpened};
 ghost use Rattle.dg_parity.specs.declared.groups.Group.{Group};
@@ -23,7 +23,7 @@ pub fn reopened_reads_on<R: Rack>()
     ensures { (group next : Group) (left before now : R)
         → is_lost group ≡ false → IsKept R.Rack group left → AllTold R.Rack group left → IsLeft R.Rack group left now
         → IsReopened R.Rack group next before now → IsReady R.Rack next now → is_lost next ≡ false → next.told ≡ group.told
-        → (IsKept R.Rack next now) × (bytes_in R.Rack next now ≡ bytes_in R.Rack group left) }
+        → (IsKept R.Rack next now) × (is_sure next ≡ true → bytes_in R.Rack next now ≡ bytes_in R.Rack group left) }
 {}
 
 /// No header of the group's width that an opening found is of a greater epoch than the group. So the epoch that the group gets before its first

@@ -4,6 +4,7 @@ ghost use Rattle.dg_parity.specs.Headers.{marks_of};
 ghost use Rattle.dg_parity.specs.Stripes.{disk_length};
 
 use crate::headers::Header;
+use boxcar::tag::Tag;
 
 /// The state of a group.
 #[derive(Drop)]
@@ -19,6 +20,8 @@ pub struct Group {
     pub(crate) told: bool,
     /// Whether the headers of the disks that aren't out say all this.
     pub(crate) noted: bool,
+    /// What was wrong with the bytes of its disks when it was opened. Clauses alone know it.
+    pub(crate) doubts: Tag,
     ghost number_fits: { number < 16 },
     ghost least: { 3 ≤ disks },
     ghost most: { disks ≤ 8 },
@@ -26,7 +29,7 @@ pub struct Group {
 }
 
 impl Group {
-    ghost use Rattle.dg_parity.specs.Groups.{is_out, is_lost, disk_number, header_in, IsLater, IsAlike, IsAlikeBut, IsRestarted};
+    ghost use Rattle.dg_parity.specs.Groups.{is_out, is_lost, is_sure, disk_number, header_in, IsLater, IsAlike, IsAlikeBut, IsRestarted};
 
     /// Whether disk j is out.
     pub fn is_out(&self, j: u8) -> bool
@@ -74,6 +77,7 @@ impl Group {
         ensures disks { result.disks ≡ disks }
         ensures size { result.length ≡ 0 }
         ensures told { result.told ≡ true }
+        ensures sure { is_sure result ≡ true }
         ensures out { (j : ℕ) → j < disks → is_out result j ≡ true }
         ensures lost { is_lost result ≡ true }
     {
@@ -85,6 +89,7 @@ impl Group {
             length: 0,
             told: true,
             noted: false,
+            doubts: Tag::empty(),
         };
         group.mark_all();
         group

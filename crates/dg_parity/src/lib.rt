@@ -20,11 +20,11 @@ mod parity_racks;
 mod parts;
 mod returns;
 mod stripes;
+mod sureness;
 mod tallies;
 mod told;
 mod xors;
 
-pub use array_openings::{FoundGroups, open_groups};
 pub use arrays::GroupRack;
 pub use blanks::blank;
 pub use chiefs::group_of;

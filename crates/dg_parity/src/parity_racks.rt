@@ -1,4 +1,5 @@
 // A rack over a rack that is plain, or whose members are groups of disks.
+use crate::array_openings::open_groups;
 use crate::arrays::GroupRack;
 use dg_io::{Disks, DropAnswer, Failed, MendAnswer, NoMemory, Rack};
 use std::alloc::Global;
@@ -24,6 +25,20 @@ impl<R: Rack> ParityRack<R> {
     }
 }
 
+impl<R: Rack> ParityRack<R> {
+    ghost use Rattle.dg_parity.specs.Reopens.{parity_held};
+
+    /// What holds of each rack between calls.
+    pub fn holds(&self)
+        ensures { parity_held R.Rack self.now }
+    {
+        match self {
+            ParityRack::Plain(_) => {}
+            ParityRack::OfGroups(grouped) => grouped.holds(),
+        }
+    }
+}
+
 impl<R: Rack + Drop> ParityRack<R> {
     ghost use Rattle.std.specs.Prelude.{◌≤◌, IfOk};
     ghost use Rattle.dg_parity.specs.ParityRacks.{IsNew};
@@ -39,6 +54,29 @@ impl<R: Rack + Drop> ParityRack<R> {
             Ok(grouped) => Ok(ParityRack::OfGroups(grouped)),
             Err(_) => Err(NoMemory),
         }
+    }
+}
+
+impl<R: Rack + Drop> ParityRack<R> {
+    ghost use Rattle.std.specs.Prelude.{◌+◌, ◌*◌, ◌≤◌, IfOk};
+    ghost use Rattle.dg_parity.specs.Groups.{disk_number, MostCalls};
+    ghost use Rattle.dg_parity.specs.Openings.{LeavesRead};
+    ghost use Rattle.dg_parity.specs.Reopens.{Opens, ReadsOn, TellsMembers, behind};
+
+    /// A rack by the headers of the disks: a plain one where no disk has a header that counts, else one of sixteen groups. A disk on which a call fails
+    /// here counts as one without a header. It only looks and reads, at most 256 times, and takes its memory here.
+    pub fn open(alloc: Global, rack: R) -> Result<ParityRack<R>, NoMemory>
+        ensures opens { IfOk result (λ it. Opens R.Rack rack it) }
+        ensures leaves { IfOk result (λ it. LeavesRead R.Rack (disk_number 0 0) (disk_number 16 0) rack (behind it)) }
+        ensures calls { IfOk result (λ it. MostCalls R.Rack 256 rack (behind it)) }
+        ensures tells { IfOk result (λ it. TellsMembers R.Rack it) }
+        ensures reads_on { IfOk result (λ it. ReadsOn R.Rack rack it) }
+    {
+        let mut rack = rack;
+        let Some(found) = open_groups(alloc, &mut rack)? else {
+            return Ok(ParityRack::Plain(rack));
+        };
+        Ok(ParityRack::OfGroups(GroupRack::over(rack, found)))
     }
 }
 

@@ -6,4 +6,6 @@ mod openings;
 #[cfg(test)]
 mod racks;
 #[cfg(test)]
+mod reopenings;
+#[cfg(test)]
 mod tests;

@@ -1,10 +1,9 @@
 // Openings of groups: of disks that were put together by hand, and of those that calls on a group left.
 ghost use Rattle.std.specs.Prelude.{◌≤◌};
 
-use dg_io::{DropAnswer, Failed, MemRack, Rack};
+use dg_io::{Disks, DropAnswer, Failed, MemRack, Rack};
 use dg_parity::{
-    FoundGroups, Group, Header, blank, disk_length, drop_disk, fill_header, open_group,
-    open_groups, write,
+    Group, Header, ParityRack, blank, disk_length, drop_disk, fill_header, open_group, write,
 };
 use std::alloc::Global;
 use std::test::Fail;
@@ -141,12 +140,9 @@ fn a_disk_that_comes_back(rt: HostRuntime) -> Result<(), Fail> {
     Ok(())
 }
 
-// How many disks a group has, if there are sixteen of them.
-fn width(found: &Option<FoundGroups>) -> Option<u8> {
-    match found {
-        Some(it) if it.groups.len() == 16 => Some(it.width),
-        _ => None,
-    }
+// How many disks each group has of a rack that is opened.
+fn width(alloc: Global, rack: &mut MemRack) -> Result<Option<u8>, Fail> {
+    Ok(ParityRack::open(alloc, rack)?.disks())
 }
 
 // The width of an array is that of the least disk, by group and then by place.
@@ -154,11 +150,11 @@ fn width(found: &Option<FoundGroups>) -> Option<u8> {
 fn the_width_of_an_array(rt: HostRuntime) -> Result<(), Fail> {
     let a = rt.alloc();
     let mut rack = MemRack::new(a, 160, 512 * 9, Vec::new(a))?;
-    assert!(rt; width(&open_groups(a, &mut rack)?) == None);
+    assert!(rt; width(a, &mut rack)? == None);
     let four = header(2, 1, 4, 0, 3000);
     assert!(rt; put_disk(&mut rack, 33, 512 * 3, &four).is_ok());
     let three = header(2, 2, 3, 0, 3000);
     assert!(rt; put_disk(&mut rack, 34, 512 * 4, &three).is_ok());
-    assert!(rt; width(&open_groups(a, &mut rack)?) == Some(4));
+    assert!(rt; width(a, &mut rack)? == Some(4));
     Ok(())
 }

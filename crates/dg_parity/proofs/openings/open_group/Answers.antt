@@ -1,4 +1,3 @@
-use Rattle.std.proofs.Common.{ℕ}
 use Rattle.dg_parity.specs.Openings.{fronts_in}
 use Rattle.dg_parity.proofs.OpenedLemmas.{some-ready, some-kept}
 use Rattle.dg_parity.proofs.openings.open_group.Goals as goal

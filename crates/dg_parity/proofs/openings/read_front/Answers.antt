@@ -1,6 +1,6 @@
-use Rattle.std.proofs.Common.{inl, arith}
+use Rattle.std.proofs.Common.{inl}
 use Rattle.dg_parity.specs.Groups.{disk_number}
-use Rattle.dg_parity.proofs.OpeningLemmas.{front-of, found-none, counts-anyway}
+use Rattle.dg_parity.proofs.OpeningLemmas.{front-of, counts-anyway}
 use Rattle.dg_parity.proofs.openings.read_front.Goals as goal
 
 pub returns-clause-found : goal.returns-clause-found

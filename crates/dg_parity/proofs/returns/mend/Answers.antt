@@ -8,7 +8,7 @@ use Rattle.dg_parity.proofs.returns.mend.Goals as goal
 
 pub note-requires : goal.note-requires
 note-requires g c =
-    let m : Unmarks c.fill_disk.new.group c.unmark.new.self c.args.j = record { number = c.unmark.ensures.same.number; disks = c.unmark.ensures.same.disks; size = c.unmark.ensures.same.size; back = c.unmark.ensures.out; others = c.unmark.ensures.others; noted = c.unmark.ensures.noted } in
+    let m : Unmarks c.fill_disk.new.group c.unmark.new.self c.args.j = record { number = c.unmark.ensures.same.number; disks = c.unmark.ensures.same.disks; size = c.unmark.ensures.same.size; sure = c.unmark.ensures.same.sure; back = c.unmark.ensures.out; others = c.unmark.ensures.others; noted = c.unmark.ensures.noted } in
     record { ready = mended-ready g.R.Rack c.fill_disk.new.group c.unmark.new.self c.fill_disk.new.rack c.args.j m c.if-not-fill_disk.ensures.refilled c.fill_disk.ensures.leaves.ready }
 
 pub returns-then-is_out-clause-kept : goal.returns-then-is_out-clause-kept
@@ -17,7 +17,7 @@ returns-then-is_out-clause-kept g c =
     (sym c.is_lost.ensures ∙ c.if-is_lost.false)
     (returned-of g.R.Rack c.args.j c.stripes-count.result c.args.group.now c.fill_disk.new.group c.unmark.new.self c.note.new.group c.args.rack.now c.fill_disk.new.rack c.note.new.rack
     c.if-not-fill_disk.ensures.done c.stripes-count.ensures c.fill_disk.ensures.leaves c.fill_disk.ensures.holds c.if-not-fill_disk.ensures.filled
-    (record { number = c.unmark.ensures.same.number; disks = c.unmark.ensures.same.disks; size = c.unmark.ensures.same.size; back = c.unmark.ensures.out; others = c.unmark.ensures.others; noted = c.unmark.ensures.noted })
+    (record { number = c.unmark.ensures.same.number; disks = c.unmark.ensures.same.disks; size = c.unmark.ensures.same.size; sure = c.unmark.ensures.same.sure; back = c.unmark.ensures.out; others = c.unmark.ensures.others; noted = c.unmark.ensures.noted })
     c.note.ensures.leaves c.note.ensures.holds)
     c.requires.kept
 
@@ -27,7 +27,7 @@ returns-then-is_out-clause-same g c alive =
     (sym c.is_lost.ensures ∙ c.if-is_lost.false) alive (c.unmark.ensures.same.told ∙ ap (λ (k : Group). k.told) c.if-not-fill_disk.ensures.done)
     (returned-of g.R.Rack c.args.j c.stripes-count.result c.args.group.now c.fill_disk.new.group c.unmark.new.self c.note.new.group c.args.rack.now c.fill_disk.new.rack c.note.new.rack
     c.if-not-fill_disk.ensures.done c.stripes-count.ensures c.fill_disk.ensures.leaves c.fill_disk.ensures.holds c.if-not-fill_disk.ensures.filled
-    (record { number = c.unmark.ensures.same.number; disks = c.unmark.ensures.same.disks; size = c.unmark.ensures.same.size; back = c.unmark.ensures.out; others = c.unmark.ensures.others; noted = c.unmark.ensures.noted })
+    (record { number = c.unmark.ensures.same.number; disks = c.unmark.ensures.same.disks; size = c.unmark.ensures.same.size; sure = c.unmark.ensures.same.sure; back = c.unmark.ensures.out; others = c.unmark.ensures.others; noted = c.unmark.ensures.noted })
     c.note.ensures.leaves c.note.ensures.holds)
     c.requires.kept
 
@@ -37,7 +37,7 @@ returns-clause-kept g c =
     (sym c.is_lost.ensures ∙ c.if-is_lost.false)
     (returned-of g.R.Rack c.args.j c.stripes-count.result c.args.group.now c.fill_disk.new.group c.unmark.new.self c.note.new.group c.args.rack.now c.fill_disk.new.rack c.note.new.rack
     c.if-not-fill_disk.ensures.done c.stripes-count.ensures c.fill_disk.ensures.leaves c.fill_disk.ensures.holds c.if-not-fill_disk.ensures.filled
-    (record { number = c.unmark.ensures.same.number; disks = c.unmark.ensures.same.disks; size = c.unmark.ensures.same.size; back = c.unmark.ensures.out; others = c.unmark.ensures.others; noted = c.unmark.ensures.noted })
+    (record { number = c.unmark.ensures.same.number; disks = c.unmark.ensures.same.disks; size = c.unmark.ensures.same.size; sure = c.unmark.ensures.same.sure; back = c.unmark.ensures.out; others = c.unmark.ensures.others; noted = c.unmark.ensures.noted })
     c.note.ensures.leaves c.note.ensures.holds)
     c.requires.kept
 
@@ -47,7 +47,7 @@ returns-clause-same g c alive =
     (sym c.is_lost.ensures ∙ c.if-is_lost.false) alive (c.unmark.ensures.same.told ∙ ap (λ (k : Group). k.told) c.if-not-fill_disk.ensures.done)
     (returned-of g.R.Rack c.args.j c.stripes-count.result c.args.group.now c.fill_disk.new.group c.unmark.new.self c.note.new.group c.args.rack.now c.fill_disk.new.rack c.note.new.rack
     c.if-not-fill_disk.ensures.done c.stripes-count.ensures c.fill_disk.ensures.leaves c.fill_disk.ensures.holds c.if-not-fill_disk.ensures.filled
-    (record { number = c.unmark.ensures.same.number; disks = c.unmark.ensures.same.disks; size = c.unmark.ensures.same.size; back = c.unmark.ensures.out; others = c.unmark.ensures.others; noted = c.unmark.ensures.noted })
+    (record { number = c.unmark.ensures.same.number; disks = c.unmark.ensures.same.disks; size = c.unmark.ensures.same.size; sure = c.unmark.ensures.same.sure; back = c.unmark.ensures.out; others = c.unmark.ensures.others; noted = c.unmark.ensures.noted })
     c.note.ensures.leaves c.note.ensures.holds)
     c.requires.kept
 
@@ -90,30 +90,30 @@ returns-then-not-fill_disk-clause-leaves g c = others-but g.R.Rack c.args.j c.ar
 pub returns-then-is_lost-3-clause-fall : goal.returns-then-is_lost-3-clause-fall
 returns-then-is_lost-3-clause-fall g c =
     let f = returned-fall g.R.Rack c.args.j c.args.group.now c.fill_disk.new.group c.unmark.new.self c.note.new.group c.args.rack.now c.fill_disk.new.rack c.note.new.rack c.requires.disk
-    c.fill_disk.ensures.leaves (record { number = c.unmark.ensures.same.number; disks = c.unmark.ensures.same.disks; size = c.unmark.ensures.same.size; back = c.unmark.ensures.out; others = c.unmark.ensures.others; noted = c.unmark.ensures.noted }) c.note.ensures.leaves in
+    c.fill_disk.ensures.leaves (record { number = c.unmark.ensures.same.number; disks = c.unmark.ensures.same.disks; size = c.unmark.ensures.same.size; sure = c.unmark.ensures.same.sure; back = c.unmark.ensures.out; others = c.unmark.ensures.others; noted = c.unmark.ensures.noted }) c.note.ensures.leaves in
     record { cause = f.cause; stays = f.stays }
 
 pub returns-then-is_lost-3-clause-leaves : goal.returns-then-is_lost-3-clause-leaves
 returns-then-is_lost-3-clause-leaves g c =
     returned-others g.R.Rack c.args.j c.args.group.now c.fill_disk.new.group c.unmark.new.self c.note.new.group c.args.rack.now c.fill_disk.new.rack c.note.new.rack c.requires.disk
-    c.fill_disk.ensures.leaves (record { number = c.unmark.ensures.same.number; disks = c.unmark.ensures.same.disks; size = c.unmark.ensures.same.size; back = c.unmark.ensures.out; others = c.unmark.ensures.others; noted = c.unmark.ensures.noted }) c.note.ensures.leaves
+    c.fill_disk.ensures.leaves (record { number = c.unmark.ensures.same.number; disks = c.unmark.ensures.same.disks; size = c.unmark.ensures.same.size; sure = c.unmark.ensures.same.sure; back = c.unmark.ensures.out; others = c.unmark.ensures.others; noted = c.unmark.ensures.noted }) c.note.ensures.leaves
 
 pub returns-then-is_out-clause-fall : goal.returns-then-is_out-clause-fall
 returns-then-is_out-clause-fall g c =
     returned-fall g.R.Rack c.args.j c.args.group.now c.fill_disk.new.group c.unmark.new.self c.note.new.group c.args.rack.now c.fill_disk.new.rack c.note.new.rack c.requires.disk
-    c.fill_disk.ensures.leaves (record { number = c.unmark.ensures.same.number; disks = c.unmark.ensures.same.disks; size = c.unmark.ensures.same.size; back = c.unmark.ensures.out; others = c.unmark.ensures.others; noted = c.unmark.ensures.noted }) c.note.ensures.leaves
+    c.fill_disk.ensures.leaves (record { number = c.unmark.ensures.same.number; disks = c.unmark.ensures.same.disks; size = c.unmark.ensures.same.size; sure = c.unmark.ensures.same.sure; back = c.unmark.ensures.out; others = c.unmark.ensures.others; noted = c.unmark.ensures.noted }) c.note.ensures.leaves
 
 pub returns-then-is_out-clause-leaves : goal.returns-then-is_out-clause-leaves
 returns-then-is_out-clause-leaves g c =
     returned-others g.R.Rack c.args.j c.args.group.now c.fill_disk.new.group c.unmark.new.self c.note.new.group c.args.rack.now c.fill_disk.new.rack c.note.new.rack c.requires.disk
-    c.fill_disk.ensures.leaves (record { number = c.unmark.ensures.same.number; disks = c.unmark.ensures.same.disks; size = c.unmark.ensures.same.size; back = c.unmark.ensures.out; others = c.unmark.ensures.others; noted = c.unmark.ensures.noted }) c.note.ensures.leaves
+    c.fill_disk.ensures.leaves (record { number = c.unmark.ensures.same.number; disks = c.unmark.ensures.same.disks; size = c.unmark.ensures.same.size; sure = c.unmark.ensures.same.sure; back = c.unmark.ensures.out; others = c.unmark.ensures.others; noted = c.unmark.ensures.noted }) c.note.ensures.leaves
 
 pub returns-clause-fall : goal.returns-clause-fall
 returns-clause-fall g c =
     returned-fall g.R.Rack c.args.j c.args.group.now c.fill_disk.new.group c.unmark.new.self c.note.new.group c.args.rack.now c.fill_disk.new.rack c.note.new.rack c.requires.disk
-    c.fill_disk.ensures.leaves (record { number = c.unmark.ensures.same.number; disks = c.unmark.ensures.same.disks; size = c.unmark.ensures.same.size; back = c.unmark.ensures.out; others = c.unmark.ensures.others; noted = c.unmark.ensures.noted }) c.note.ensures.leaves
+    c.fill_disk.ensures.leaves (record { number = c.unmark.ensures.same.number; disks = c.unmark.ensures.same.disks; size = c.unmark.ensures.same.size; sure = c.unmark.ensures.same.sure; back = c.unmark.ensures.out; others = c.unmark.ensures.others; noted = c.unmark.ensures.noted }) c.note.ensures.leaves
 
 pub returns-clause-leaves : goal.returns-clause-leaves
 returns-clause-leaves g c =
     returned-others g.R.Rack c.args.j c.args.group.now c.fill_disk.new.group c.unmark.new.self c.note.new.group c.args.rack.now c.fill_disk.new.rack c.note.new.rack c.requires.disk
-    c.fill_disk.ensures.leaves (record { number = c.unmark.ensures.same.number; disks = c.unmark.ensures.same.disks; size = c.unmark.ensures.same.size; back = c.unmark.ensures.out; others = c.unmark.ensures.others; noted = c.unmark.ensures.noted }) c.note.ensures.leaves
+    c.fill_disk.ensures.leaves (record { number = c.unmark.ensures.same.number; disks = c.unmark.ensures.same.disks; size = c.unmark.ensures.same.size; sure = c.unmark.ensures.same.sure; back = c.unmark.ensures.out; others = c.unmark.ensures.others; noted = c.unmark.ensures.noted }) c.note.ensures.leaves
