@@ -13,3 +13,4 @@ pub mod ScanLaws
 pub mod SourceLaws
 pub mod SpanLaws
 pub mod SharedLaws
+pub mod ThereScan

@@ -115,7 +115,7 @@ pub is_indirect : (g : Geometry) (v : Volume) (claimed : ClaimSource → List �
 is_indirect g v claimed level fragment low right at =
     let some = indirect_of (source_fragments g v) claimed level fragment low right at in (some.0, some.2, omega (arith, some.1, low))
 
-claimed_of : (t claimed : ClaimSource → List ℕ) (level fragment : ℕ) (source : ClaimSource) → IsRightAbove t claimed level → 0 < level → level_of source ≡ level → IsClaim t fragment source → HasLevel claimed level fragment
+pub claimed_of : (t claimed : ClaimSource → List ℕ) (level fragment : ℕ) (source : ClaimSource) → IsRightAbove t claimed level → 0 < level → level_of source ≡ level → IsClaim t fragment source → HasLevel claimed level fragment
 claimed_of t claimed level fragment (Slot inode slot) right low is (by_slot has) = record { source = Slot inode slot; claim = (right.slots fragment inode slot).1 has; is = is }
 claimed_of t claimed level fragment (Pointer upper above at) right low is claim =
     record { source = Pointer upper above at; claim = (right.pointers fragment upper above at (omega (arith, is, low))).1 claim; is = is }

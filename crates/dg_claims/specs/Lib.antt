@@ -4,3 +4,5 @@ pub mod Places
 pub mod Runs
 pub mod Scans
 pub mod Tables
+pub mod There
+pub mod ThereLaws

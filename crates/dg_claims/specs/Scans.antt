@@ -1,16 +1,18 @@
 -- The state of a scan of a volume.
-use Rattle.std.specs.Prelude.{◌≡◌, ℕ, ◌*◌, ◌<◌, ◌≤◌, ◌↔◌, List, [], Option, Some, None, IfSome}
+use Rattle.std.specs.Prelude.{◌≡◌, ℕ, ◌*◌, ◌<◌, ◌≤◌, ◌↔◌, List, [], Option, Some, None, IfSome, Ok}
 use Rattle.std.specs.List.{Contains}
 use Rattle.dg_io.specs.declared.views.View.{Ghosts}
 use Rattle.ufs_model.specs.Blocks.{Volume, block_at}
 use Rattle.ufs_model.specs.Claims.{IsClaim, level_of, source_fragments}
 use Rattle.ufs_model.specs.Inodes.{inode_block}
+use Rattle.ufs_model.specs.Superblocks.{geometry_of, superblock_of}
 use Rattle.ufs_model.specs.declared.claims.ClaimSource.{ClaimSource}
 use Rattle.ufs_model.specs.declared.claims.ClaimSource.TheVariants.{Slot, Pointer}
 use Rattle.ufs_model.specs.declared.geometries.Geometry.{Geometry}
 use Rattle.ufs_model.specs.declared.inodes.Inode.{Inode}
 use Rattle.ufs_pointer.specs.Fetches.{FetchesOnly, LosesOne}
 use Rattle.dg_claims.specs.Tables.{inode_fragments}
+use Rattle.dg_claims.specs.There.{WasThere}
 
 -- a block in which an inode of the volume stands
 abbrev pub HasInode : Geometry → Volume → ℕ → Type 0
@@ -19,6 +21,24 @@ HasInode g v b = (inode : ℕ) × (inode < g.ncg * g.ipg) × (b ≡ inode_block 
 -- a fragment with a claim at a level above 0
 abbrev pub IsIndirect : Geometry → Volume → ℕ → Type 0
 IsIndirect g v fragment = (source : ClaimSource) × IsClaim (source_fragments g v) fragment source × (0 < level_of source)
+
+-- a fragment with a claim at a level above this one
+abbrev pub IsAbove : Geometry → ℕ → Volume → ℕ → Type 0
+IsAbove g most v fragment = (source : ClaimSource) × IsClaim (source_fragments g v) fragment source × (most < level_of source)
+
+-- a fragment with a claim at this level
+abbrev pub IsAtLevel : Geometry → ℕ → Volume → ℕ → Type 0
+IsAtLevel g level v fragment = (source : ClaimSource) × IsClaim (source_fragments g v) fragment source × (level_of source ≡ level)
+
+-- A block that is read for the claims of a volume v with geometry g: of the inodes, or of an indirect block.
+pub data IsClaimReadBy (g : Geometry) (v : Volume) : ℕ → Type 0 where
+  of_inodes : {b : ℕ} → HasInode g v b → IsClaimReadBy g v b
+  of_indirects : {b : ℕ} → IsIndirect g v b → IsClaimReadBy g v b
+
+-- A block that is read for the claims of a volume of n blocks of l bytes: of the superblock, or one by its geometry, if it has one.
+pub data IsClaimRead (l n : ℕ) (v : Volume) : ℕ → Type 0 where
+  of_superblock : {b : ℕ} → Contains (superblock_of l n v).needs b → IsClaimRead l n v b
+  by_geometry : {b : ℕ} (g : Geometry) → (geometry_of l n v).value ≡ Ok g → IsClaimReadBy g v b → IsClaimRead l n v b
 
 -- one of these fragments
 abbrev pub IsAmong : List ℕ → Volume → ℕ → Type 0
@@ -52,6 +72,14 @@ LosesIndirect view old new g claimed most =
 abbrev pub FetchesIndirect : {S : Type 0} → Ghosts S → S → S → Geometry → (ClaimSource → List ℕ) → ℕ → Type 0
 FetchesIndirect view old new g claimed most =
     FetchesOnly view.fetched (IsScanned (view.stands_for old) g claimed most) (view.tells new) (IsIndirect g) old new
+
+-- no fragment with a claim at this level was gone, where a table was right above it
+abbrev pub HadLevel : {S : Type 0} → Ghosts S → S → S → Geometry → (ClaimSource → List ℕ) → ℕ → Type 0
+HadLevel view old new g claimed level = WasThere (IsScanned (view.stands_for old) g claimed level) (view.tells new) (IsAtLevel g level) (view.is_gone old)
+
+-- no fragment with a claim above a level was gone, where a table has the claims of slots
+abbrev pub HadAbove : {S : Type 0} → Ghosts S → S → S → Geometry → (ClaimSource → List ℕ) → ℕ → Type 0
+HadAbove view old new g claimed most = WasThere (IsScanned (view.stands_for old) g claimed 3) (view.tells new) (IsAbove g most) (view.is_gone old)
 
 -- the buffer has the block of the volume that it holds, if it holds one
 abbrev pub HoldsIn : ℕ → Volume → Option ℕ → List ℕ → Type 0

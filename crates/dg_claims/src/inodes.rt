@@ -2,7 +2,7 @@ ghost use Rattle.std.specs.Prelude.{◌≡◌, ◌+◌, ◌*◌, ◌-◌, ◌<�
 ghost use Rattle.dg_io.specs.ViewWords.{Keeps};
 ghost use Rattle.ufs_model.specs.Blocks.{Volume, block_at};
 ghost use Rattle.ufs_model.specs.Geometries.{IsGeometryOn};
-ghost use Rattle.ufs_model.specs.Inodes.{inode_in};
+ghost use Rattle.ufs_model.specs.Inodes.{inode_block, inode_in};
 ghost use Rattle.ufs_model.specs.declared.claims.ClaimSource.{ClaimSource};
 ghost use Rattle.ufs_model.specs.declared.numbers.Endian.{Endian};
 ghost use Rattle.ufs_pointer.specs.Fetches.{IsJust};
@@ -10,6 +10,7 @@ ghost use Rattle.ufs_pointer.specs.ViewWords.{FetchesKind, LosesKind};
 ghost use Rattle.dg_claims.specs.Kept.{table_of};
 ghost use Rattle.dg_claims.specs.Scans.{ClaimsAsOn, HasInode, HoldsIn, stored_fragments};
 ghost use Rattle.dg_claims.specs.Tables.{KeepsOffInode};
+ghost use Rattle.dg_claims.specs.There.{HadKind, HadThen};
 
 use crate::claims::Claims;
 use dg_io::{NoMemory, View};
@@ -30,6 +31,7 @@ pub fn read_fragment<V: View>(view: &mut V, levels: &mut Levels, fragment: u32) 
         → levels.new.aside ≡ block_at (V.size view.old) v fragment }
     ensures once { V.fetched view.old (fragment ∷ []) view.new }
     ensures gone { result ≡ false → V.is_gone view.new fragment ≡ true }
+    ensures there { result ≡ true → HadKind V.View view.old view.new (IsJust fragment) }
 {
     levels.read_aside(view, fragment)
 }
@@ -46,6 +48,7 @@ fn hold<V: View>(view: &mut V, levels: &mut Levels, held: &mut Option<u32>, bloc
     ensures bytes { result ≡ true → V.tells view.new → (v : Volume) → V.stands_for view.old v → HoldsIn (V.size view.old) v held.old levels.old.aside
         → levels.new.aside ≡ block_at (V.size view.old) v block }
     ensures gone { result ≡ false → V.is_gone view.new block ≡ true }
+    ensures there { result ≡ true → HadThen V.View view.old view.new held.old block }
     ensures fetched { FetchesKind V.View view.old view.new (IsJust block) }
 {
     if *held == Some(block) {
@@ -106,6 +109,8 @@ fn scan_inode<V: View>(
         → HoldsIn (V.size view.old) v held.old levels.old.aside → HoldsIn (V.size view.old) v held.new levels.new.aside
         × ((slot : ℕ) → ClaimsAsOn g.now v (table_of claims.new).claimed (ClaimSource.Slot number slot))) }
     ensures others { KeepsOffInode (table_of claims.old) (table_of claims.new) number }
+    ensures held { IfOk result (λ got. got ≡ true → held.new ≡ Some (inode_block g.now number)) }
+    ensures there { IfOk result (λ got. got ≡ true → HadThen V.View view.old view.new held.old (inode_block g.now number)) }
     ensures lost { IfOk result (λ got. got ≡ false → LosesKind V.View view.old view.new (HasInode g.now)) }
     ensures fetched { FetchesKind V.View view.old view.new (HasInode g.now) }
 {
@@ -136,6 +141,7 @@ pub(crate) fn scan_inodes<V: View>(
         → (number slot : ℕ) → ClaimsAsOn g.now v (table_of claims.new).claimed (ClaimSource.Slot number slot)) }
     ensures pointers { IfOk result (λ got. got ≡ true
         → (fragment level at : ℕ) → (table_of claims.new).claimed (ClaimSource.Pointer fragment level at) ≡ []) }
+    ensures there { IfOk result (λ got. got ≡ true → HadKind V.View view.old view.new (HasInode g.now)) }
     ensures lost { IfOk result (λ got. got ≡ false → LosesKind V.View view.old view.new (HasInode g.now)) }
     ensures fetched { FetchesKind V.View view.old view.new (HasInode g.now) }
 {

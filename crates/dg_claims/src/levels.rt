@@ -8,8 +8,9 @@ ghost use Rattle.ufs_model.specs.declared.claims.ClaimSource.{ClaimSource};
 ghost use Rattle.ufs_pointer.specs.Fetches.{IsJust};
 ghost use Rattle.ufs_pointer.specs.ViewWords.{FetchesKind, LosesKind};
 ghost use Rattle.dg_claims.specs.Kept.{table_of};
-ghost use Rattle.dg_claims.specs.Scans.{ClaimsAsOn, FetchesIndirect, HasNoPointers, IsAmong, IsRightAbove, LosesIndirect};
+ghost use Rattle.dg_claims.specs.Scans.{ClaimsAsOn, FetchesIndirect, HadAbove, HadLevel, HasNoPointers, IsAmong, IsRightAbove, LosesIndirect};
 ghost use Rattle.dg_claims.specs.Tables.{KeepsOffPointers};
+ghost use Rattle.dg_claims.specs.There.{HadKind};
 
 use crate::claims::Claims;
 use crate::inodes::read_fragment;
@@ -45,6 +46,7 @@ fn scan_fragment<V: View>(
         → (at : ℕ) → ClaimsAsOn g.now v (table_of claims.new).claimed (ClaimSource.Pointer fragment level at)) }
     ensures others { KeepsOffPointers (table_of claims.old) (table_of claims.new) fragment level }
     ensures gone { IfOk result (λ got. got ≡ false → V.is_gone view.new fragment ≡ true) }
+    ensures there { IfOk result (λ got. got ≡ true → HadKind V.View view.old view.new (IsJust fragment)) }
     ensures fetched { FetchesKind V.View view.old view.new (IsJust fragment) }
 {
     if !read_fragment(view, levels, fragment) {
@@ -80,6 +82,7 @@ fn scan_fragments<V: View>(
     ensures others { (source : ClaimSource) → ((fragment at : ℕ) → Contains fragments.now fragment → source ≡ ClaimSource.Pointer fragment level at → ⊥)
         → (table_of claims.new).claimed source ≡ (table_of claims.old).claimed source }
     ensures lost { IfOk result (λ got. got ≡ false → LosesKind V.View view.old view.new (IsAmong fragments.now)) }
+    ensures there { IfOk result (λ got. got ≡ true → HadKind V.View view.old view.new (IsAmong fragments.now)) }
     ensures fetched { FetchesKind V.View view.old view.new (IsAmong fragments.now) }
 {
     for fragment in fragments {
@@ -115,6 +118,7 @@ fn scan_level<V: View>(
         → IsRightAbove (source_fragments g.now v) (table_of claims.old).claimed level
         → IsRightAbove (source_fragments g.now v) (table_of claims.new).claimed (level - 1)) }
     ensures lost { IfOk result (λ got. got ≡ false → LosesIndirect V.View view.old view.new g.now (table_of claims.old).claimed level) }
+    ensures there { IfOk result (λ got. got ≡ true → HadLevel V.View view.old view.new g.now (table_of claims.old).claimed level) }
     ensures fetched { FetchesIndirect V.View view.old view.new g.now (table_of claims.old).claimed level }
 {
     let fragments = claims.fragments_at(alloc, level)?;
@@ -142,6 +146,7 @@ pub(crate) fn scan_levels<V: View>(
     ensures right { IfOk result (λ got. got ≡ true → V.tells view.new → (v : Volume) → V.stands_for view.old v
         → IsRightAbove (source_fragments g.now v) (table_of claims.old).claimed 3 → IsRightAbove (source_fragments g.now v) (table_of claims.new).claimed 0) }
     ensures lost { IfOk result (λ got. got ≡ false → LosesIndirect V.View view.old view.new g.now (table_of claims.old).claimed 3) }
+    ensures there { IfOk result (λ got. got ≡ true → HadAbove V.View view.old view.new g.now (table_of claims.old).claimed 0) }
     ensures fetched { FetchesIndirect V.View view.old view.new g.now (table_of claims.old).claimed 3 }
 {
     for done in 0..HIGHEST {

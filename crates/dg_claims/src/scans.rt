@@ -6,7 +6,9 @@ ghost use Rattle.ufs_model.specs.Geometries.{IsGeometryOn};
 ghost use Rattle.ufs_model.specs.Metadata.{IsMetadata, IsMetadataBy};
 ghost use Rattle.ufs_pointer.specs.ViewWords.{FetchesKind, LosesKind};
 ghost use Rattle.dg_claims.specs.Kept.{table_of};
+ghost use Rattle.dg_claims.specs.Scans.{IsClaimRead, IsClaimReadBy};
 ghost use Rattle.dg_claims.specs.Tables.{HasClaims, IsTableOf};
+ghost use Rattle.dg_claims.specs.There.{HadKind};
 
 use crate::claims::Claims;
 use crate::inodes::scan_inodes;
@@ -32,6 +34,7 @@ fn scan_volume<V: View>(
     ensures claims { IfOk result (λ scanned. IfSome scanned (λ claims. V.tells view.new → (v : Volume) → V.stands_for view.old v
         → HasClaims (table_of claims) (IsClaim (source_fragments g.now v)))) }
     ensures lost { IfOk result (λ scanned. IfNone scanned (LosesKind V.View view.old view.new (IsMetadataBy g.now))) }
+    ensures there { IfOk result (λ scanned. IfSome scanned (λ claims. HadKind V.View view.old view.new (IsClaimReadBy g.now))) }
     ensures fetched { FetchesKind V.View view.old view.new (IsMetadataBy g.now) }
 {
     let mut claims = Claims::new(alloc, Some(*g))?;
@@ -60,6 +63,7 @@ pub fn scan<V: View>(
     ensures claims { IfOk result (λ scanned. IfSome scanned (λ claims. V.tells view.new → (v : Volume) → V.stands_for view.old v
         → IsTableOf (V.size view.old) (V.count view.old) v (table_of claims))) }
     ensures lost { IfOk result (λ scanned. IfNone scanned (LosesKind V.View view.old view.new (IsMetadata (V.size view.old) (V.count view.old)))) }
+    ensures there { IfOk result (λ scanned. IfSome scanned (λ claims. HadKind V.View view.old view.new (IsClaimRead (V.size view.old) (V.count view.old)))) }
     ensures fetched { FetchesKind V.View view.old view.new (IsMetadata (V.size view.old) (V.count view.old)) }
 {
     match read_geometry(view, levels) {

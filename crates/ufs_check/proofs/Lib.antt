@@ -1,3 +1,4 @@
+pub mod NeedLaws
 pub mod NoteLaws
 pub mod PassLaws
 pub mod GroupLaws

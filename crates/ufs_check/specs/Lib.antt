@@ -9,6 +9,7 @@ pub mod Pointers
 pub mod Fragments
 pub mod OwnedEntries
 pub mod Names
+pub mod Needs
 pub mod Links
 pub mod Verdicts
 pub mod Surveys

@@ -1,12 +1,13 @@
 -- What the passes say of a view, in one word for a clause. The record of a view's members is the first argument, and then the view before and after.
 use Rattle.std.specs.Prelude.{ℕ}
 use Rattle.ufs_model.specs.Blocks.{Volume}
-use Rattle.ufs_model.specs.Metadata.{IsStructure}
+use Rattle.ufs_model.specs.Metadata.{IsMetadata, IsStructure}
 use Rattle.ufs_model.specs.declared.geometries.Geometry.{Geometry}
 use Rattle.dg_io.specs.declared.views.View.{Ghosts}
 use Rattle.ufs_pointer.specs.Fetches.{FetchesOnly, LosesOne}
 use Rattle.dg_claims.specs.Tables.{ClaimTable}
 use Rattle.ufs_check.specs.Fragments.{IsClaimedBy}
+use Rattle.ufs_check.specs.Needs.{IsNeededOn}
 use Rattle.ufs_check.specs.Verdicts.{IsOnView, IsTabled}
 
 -- a volume of the view, of which the claims are those of a table
@@ -24,6 +25,14 @@ IsOfTable view old table v = IsTabled (view.stands_for old) (view.size old) (vie
 -- a block with a volume's structure, of as many blocks as the view has
 abbrev pub IsStructureOf : {S : Type 0} → Ghosts S → S → Volume → ℕ → Type 0
 IsStructureOf view old v b = IsStructure (view.size old) (view.count old) v b
+
+-- a metadata block of such a volume
+abbrev pub IsMetadataOf : {S : Type 0} → Ghosts S → S → Volume → ℕ → Type 0
+IsMetadataOf view old v b = IsMetadata (view.size old) (view.count old) v b
+
+-- a block that is needed to tell all that is wrong with such a volume
+abbrev pub IsNeededOf : {S : Type 0} → Ghosts S → S → Volume → ℕ → Type 0
+IsNeededOf view old v b = IsNeededOn (view.size old) (view.count old) v b
 
 -- on some volumes, only blocks of a kind were fetched
 abbrev pub FetchesOn : {S : Type 0} → Ghosts S → S → S → (Volume → Type 0) → (Volume → ℕ → Type 0) → Type 0

@@ -1,18 +1,20 @@
 // The first malformation of a volume.
-ghost use Rattle.std.specs.Prelude.{◌≡◌, ℕ, Ok, Some, IfNone, IfOk, IfSome};
+ghost use Rattle.std.specs.Prelude.{◌≡◌, ◌≤◌, true, ℕ, Ok, Some, IfNone, IfOk, IfSome};
 ghost use Rattle.std.specs.Bool.{Decides};
 ghost use Rattle.dg_io.specs.ViewWords.{Keeps};
 ghost use Rattle.ufs_model.specs.Blocks.{Volume};
 ghost use Rattle.ufs_model.specs.Geometries.{IsGeometryOn};
-ghost use Rattle.ufs_model.specs.Malformations.{IsFirstMalformation, IsSoundVolume};
+ghost use Rattle.ufs_model.specs.Malformations.{IsFirstMalformation, IsSoundVolume, order_of};
 ghost use Rattle.ufs_model.specs.Metadata.{IsMetadataBy};
 ghost use Rattle.ufs_model.specs.Superblocks.{geometry_of};
 ghost use Rattle.dg_claims.specs.Kept.{table_of};
 ghost use Rattle.dg_claims.specs.Tables.{accepted};
+ghost use Rattle.dg_claims.specs.There.{HadKind, HadOn};
 ghost use Rattle.ufs_check.specs.Directories.{IsDirectoryRead};
 ghost use Rattle.ufs_check.specs.Links.{AreLinks};
-ghost use Rattle.ufs_check.specs.Verdicts.{AreFaults, AreMetadataFaults, AreTreeFaults};
-ghost use Rattle.ufs_check.specs.ViewWords.{FetchesOn, IsClaimed, IsOfGeometry, IsOfTable, IsStructureOf, LosesOn};
+ghost use Rattle.ufs_check.specs.Needs.{IsDirectoryBlock, IsNeededBy};
+ghost use Rattle.ufs_check.specs.Verdicts.{AreFaults, AreMetadataFaults, AreTreeFaults, no_metadata_fault};
+ghost use Rattle.ufs_check.specs.ViewWords.{FetchesOn, IsClaimed, IsMetadataOf, IsNeededOf, IsOfGeometry, IsOfTable, IsStructureOf, LosesOn};
 ghost use Rattle.ufs_pointer.specs.ViewWords.{FetchesKind, LosesKind};
 
 use crate::directories::{check_directories, directories_are_structure};
@@ -53,6 +55,8 @@ pub fn check_metadata<V: View>(
     ensures levels { levels.new.fragment ≡ levels.old.fragment }
     ensures found { IfOk result (λ answer. IfSome answer (λ faults. V.tells view.new → (v : Volume) → IsClaimed V.View view.old g.now (table_of claims.now) v
         → AreMetadataFaults g.now v faults)) }
+    ensures there { IfOk result (λ answer. IfSome answer (λ faults.
+        HadOn V.View view.old view.new (IsClaimed V.View view.old g.now (table_of claims.now)) (IsMetadataBy g.now))) }
     ensures gone { IfOk result (λ answer. IfNone answer
         (LosesOn V.View view.old view.new (IsClaimed V.View view.old g.now (table_of claims.now)) (IsMetadataBy g.now))) }
     ensures fetched { FetchesOn V.View view.old view.new (IsClaimed V.View view.old g.now (table_of claims.now)) (IsMetadataBy g.now) }
@@ -88,6 +92,7 @@ pub fn check_tree<V: View>(
     ensures levels { levels.new.fragment ≡ levels.old.fragment }
     ensures found { IfOk result (λ answer. IfSome answer (λ found. V.tells view.new → (v : Volume) → V.stands_for view.old v
         → AreTreeFaults g.now v (found.0) × AreLinks g.now v (found.1))) }
+    ensures there { IfOk result (λ answer. IfSome answer (λ found. HadKind V.View view.old view.new (IsDirectoryBlock g.now))) }
     ensures gone { IfOk result (λ answer. IfNone answer (LosesKind V.View view.old view.new (IsDirectoryRead g.now))) }
     ensures fetched { FetchesKind V.View view.old view.new (IsDirectoryRead g.now) }
 {
@@ -116,6 +121,10 @@ fn check_volume<V: View>(
     ensures levels { levels.new.fragment ≡ levels.old.fragment }
     ensures found { IfOk result (λ answer. IfSome answer (λ faults. V.tells view.new → (v : Volume) → IsClaimed V.View view.old g.now (table_of claims.now) v
         → AreFaults g.now v faults)) }
+    ensures metadata { IfOk result (λ answer. IfSome answer (λ faults.
+        HadOn V.View view.old view.new (IsClaimed V.View view.old g.now (table_of claims.now)) (IsMetadataBy g.now))) }
+    ensures there { IfOk result (λ answer. IfSome answer (λ faults. no_metadata_fault faults.metadata ≡ true
+        → HadOn V.View view.old view.new (IsClaimed V.View view.old g.now (table_of claims.now)) (IsNeededBy g.now))) }
     ensures gone { IfOk result (λ answer. IfNone answer
         (LosesOn V.View view.old view.new (IsOfGeometry V.View view.old g.now (table_of claims.now)) (IsStructureOf V.View view.old))) }
     ensures fetched { FetchesOn V.View view.old view.new (IsOfGeometry V.View view.old g.now (table_of claims.now)) (IsStructureOf V.View view.old) }
@@ -154,6 +163,12 @@ pub fn check<V: View>(
         → (table_of claims.now).geometry ≡ accepted ((geometry_of (V.size view.old) (V.count view.old) v).value) }
     ensures malformed { (kind : BadKind) (n : ℕ) → result ≡ Ok (Verdict.Malformed kind n) → V.tells view.new → (v : Volume)
         → IsOfTable V.View view.old (table_of claims.now) v → IsFirstMalformation (V.size view.old) (V.count view.old) v kind n }
+    ensures there { result ≡ Ok Verdict.Sound
+        → HadOn V.View view.old view.new (IsOfTable V.View view.old (table_of claims.now)) (IsNeededOf V.View view.old) }
+    ensures metadata { (kind : BadKind) (n : ℕ) → result ≡ Ok (Verdict.Malformed kind n)
+        → HadOn V.View view.old view.new (IsOfTable V.View view.old (table_of claims.now)) (IsMetadataOf V.View view.old) }
+    ensures directories { (kind : BadKind) (n : ℕ) → result ≡ Ok (Verdict.Malformed kind n) → order_of BadKind.Hole ≤ order_of kind
+        → HadOn V.View view.old view.new (IsOfTable V.View view.old (table_of claims.now)) (IsNeededOf V.View view.old) }
     ensures gone { result ≡ Ok Verdict.Gone
         → LosesOn V.View view.old view.new (IsOfTable V.View view.old (table_of claims.now)) (IsStructureOf V.View view.old) }
     ensures fetched { FetchesOn V.View view.old view.new (IsOfTable V.View view.old (table_of claims.now)) (IsStructureOf V.View view.old) }

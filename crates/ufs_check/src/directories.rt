@@ -11,8 +11,10 @@ ghost use Rattle.ufs_model.specs.Paths.{block_of, bytes_in_block};
 ghost use Rattle.ufs_model.specs.Superblocks.{geometry_of};
 ghost use Rattle.ufs_model.specs.declared.geometries.Geometry.{Geometry};
 ghost use Rattle.ufs_model.specs.declared.inodes.Kind.TheVariants.{Directory};
+ghost use Rattle.dg_claims.specs.There.{HadKind};
 ghost use Rattle.ufs_check.specs.Directories.{AreBlockFaultsBelow, AreDirectoryFaults, AreEntryFaultsBelow, AreAlike, IsBehind, IsDirectoryRead, IsFileRead, ScannedBelow, ScannedWhole, ScansBlock};
 ghost use Rattle.ufs_check.specs.Links.{AreLinks, AreLinksBelow, TableBelow};
+ghost use Rattle.ufs_check.specs.Needs.{IsBlockIn, IsBytesBlock, IsDirectoryBlock};
 ghost use Rattle.ufs_check.specs.OwnedEntries.{AreOwned};
 ghost use Rattle.ufs_frames.specs.Frames.{HasWholeUppers};
 ghost use Rattle.ufs_pointer.specs.ViewWords.{FetchesKind, LosesKind};
@@ -128,6 +130,7 @@ fn scan_block<V: View>(
     ensures order { IfOk result (λ answer. IfSome answer (IsBehind n (block_count g.now inode.now))) }
     ensures found { IfOk result (λ answer. IfSome answer (λ next. V.tells view.new → (v : Volume) → V.stands_for view.old v
         → ScannedBelow g.now inode.now v n scan.old → ScannedBelow g.now inode.now v next scan.new)) }
+    ensures there { IfOk result (λ answer. IfSome answer (λ next. HadKind V.View view.old view.new (IsBytesBlock g.now inode.now n next))) }
     ensures gone { IfOk result (λ answer. IfNone answer (LosesKind V.View view.old view.new (IsFileRead g.now inode.now))) }
     ensures fetched { FetchesKind V.View view.old view.new (IsFileRead g.now inode.now) }
 {
@@ -169,6 +172,7 @@ fn scan_directory<V: View>(
     ensures levels { levels.new.fragment ≡ levels.old.fragment }
     ensures found { IfOk result (λ answer. IfSome answer (λ scan. V.tells view.new → (v : Volume) → V.stands_for view.old v
         → ScannedWhole g.now inode.now v scan)) }
+    ensures there { IfOk result (λ answer. IfSome answer (λ scan. HadKind V.View view.old view.new (IsBytesBlock g.now inode.now 0 (block_count g.now inode.now)))) }
     ensures gone { IfOk result (λ answer. IfNone answer (LosesKind V.View view.old view.new (IsFileRead g.now inode.now))) }
     ensures fetched { FetchesKind V.View view.old view.new (IsFileRead g.now inode.now) }
 {
@@ -293,6 +297,7 @@ fn scan_inode<V: View>(
     ensures levels { levels.new.fragment ≡ levels.old.fragment }
     ensures found { IfOk result (λ could. could ≡ true → V.tells view.new → (v : Volume) → V.stands_for view.old v
         → AreLinksBelow g.now v i table.old faults.old → AreLinksBelow g.now v (i + 1) table.new faults.new) }
+    ensures there { IfOk result (λ could. could ≡ true → HadKind V.View view.old view.new (IsBlockIn g.now i)) }
     ensures gone { IfOk result (λ could. could ≡ false → LosesKind V.View view.old view.new (IsDirectoryRead g.now)) }
     ensures fetched { FetchesKind V.View view.old view.new (IsDirectoryRead g.now) }
 {
@@ -330,6 +335,7 @@ pub fn check_directories<V: View>(
     ensures levels { levels.new.fragment ≡ levels.old.fragment }
     ensures found { IfOk result (λ answer. IfSome answer (λ found. V.tells view.new → (v : Volume) → V.stands_for view.old v
         → AreDirectoryFaults g.now v (found.0) × AreLinks g.now v (found.1))) }
+    ensures there { IfOk result (λ answer. IfSome answer (λ found. HadKind V.View view.old view.new (IsDirectoryBlock g.now))) }
     ensures gone { IfOk result (λ answer. IfNone answer (LosesKind V.View view.old view.new (IsDirectoryRead g.now))) }
     ensures fetched { FetchesKind V.View view.old view.new (IsDirectoryRead g.now) }
 {

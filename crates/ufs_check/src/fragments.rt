@@ -7,6 +7,8 @@ ghost use Rattle.ufs_model.specs.Geometries.{IsGeometry, IsGeometryOn};
 ghost use Rattle.ufs_model.specs.GroupMaps.{by_maps, group_bytes, group_in, is_free};
 ghost use Rattle.ufs_model.specs.Metadata.{IsMetadataBy};
 ghost use Rattle.dg_claims.specs.Kept.{table_of};
+ghost use Rattle.dg_claims.specs.Scans.{IsIndirect};
+ghost use Rattle.dg_claims.specs.There.{HadOn};
 ghost use Rattle.ufs_check.specs.Fragments.{AreClaimFaultsBelow, AreFragmentFaults, AreFragmentFaultsBelow, ArePointerFaultsBelow, HasClaimsOf, IsUpperIn};
 ghost use Rattle.ufs_frames.specs.Frames.{HasWholeUppers};
 ghost use Rattle.ufs_check.specs.ViewWords.{FetchesOn, IsClaimed, LosesOn};
@@ -125,6 +127,8 @@ fn check_pointers<V: View>(
         → ArePointerFaultsBelow g.now v f faults.old → ArePointerFaultsBelow g.now v (f + 1) faults.new) }
     ensures whole { IfOk result (λ could. could ≡ true → V.tells view.new → (v : Volume) → V.stands_for view.old v → IsUpperIn (table_of claims.now) f
         → length (block_at g.now.fsize v f) ≡ g.now.fsize) }
+    ensures there { IfOk result (λ could. could ≡ true → V.tells view.new → (v : Volume) → V.stands_for view.old v → IsUpperIn (table_of claims.now) f
+        → V.is_gone view.old f ≡ false) }
     ensures gone { IfOk result (λ could. could ≡ false
         → LosesOn V.View view.old view.new (IsClaimed V.View view.old g.now (table_of claims.now)) (IsMetadataBy g.now)) }
     ensures fetched { FetchesOn V.View view.old view.new (IsClaimed V.View view.old g.now (table_of claims.now)) (IsMetadataBy g.now) }
@@ -161,6 +165,8 @@ pub fn check_fragments<V: View>(
         → AreFragmentFaults g.now v faults)) }
     ensures whole { IfOk result (λ answer. IfSome answer (λ faults. V.tells view.new → (v : Volume) → IsClaimed V.View view.old g.now (table_of claims.now) v
         → HasWholeUppers g.now v)) }
+    ensures there { IfOk result (λ answer. IfSome answer (λ faults.
+        HadOn V.View view.old view.new (IsClaimed V.View view.old g.now (table_of claims.now)) (IsIndirect g.now))) }
     ensures gone { IfOk result (λ answer. IfNone answer
         (LosesOn V.View view.old view.new (IsClaimed V.View view.old g.now (table_of claims.now)) (IsMetadataBy g.now))) }
     ensures fetched { FetchesOn V.View view.old view.new (IsClaimed V.View view.old g.now (table_of claims.now)) (IsMetadataBy g.now) }

@@ -5,7 +5,9 @@ ghost use Rattle.ufs_model.specs.Blocks.{Volume};
 ghost use Rattle.ufs_model.specs.Geometries.{IsGeometry, IsGeometryOn};
 ghost use Rattle.ufs_model.specs.GroupMaps.{group_bytes};
 ghost use Rattle.ufs_model.specs.Metadata.{IsMetadataBy};
+ghost use Rattle.dg_claims.specs.There.{HadKind};
 ghost use Rattle.ufs_check.specs.Groups.{AreGroupFaults, AreGroupFaultsBelow};
+ghost use Rattle.ufs_check.specs.Needs.{IsGroupBlock};
 ghost use Rattle.ufs_pointer.specs.ViewWords.{FetchesKind, LosesKind};
 
 use crate::notes::note;
@@ -45,6 +47,7 @@ pub fn check_groups<V: View>(
     ensures levels { levels.new.fragment ≡ levels.old.fragment }
     ensures found { IfOk result (λ answer. IfSome answer (λ faults. V.tells view.new → (v : Volume) → V.stands_for view.old v
         → AreGroupFaults g.now v faults)) }
+    ensures there { IfOk result (λ answer. IfSome answer (λ faults. HadKind V.View view.old view.new (IsGroupBlock g.now g.now.ncg))) }
     ensures gone { IfOk result (λ answer. IfNone answer (LosesKind V.View view.old view.new (IsMetadataBy g.now))) }
     ensures fetched { FetchesKind V.View view.old view.new (IsMetadataBy g.now) }
 {

@@ -7,6 +7,8 @@ ghost use Rattle.ufs_model.specs.GroupMaps.{by_maps, group_bytes, group_in, is_m
 ghost use Rattle.ufs_model.specs.Inodes.{has_pointers};
 ghost use Rattle.ufs_model.specs.Malformations.{inode_at};
 ghost use Rattle.ufs_model.specs.Metadata.{IsMetadataBy};
+ghost use Rattle.dg_claims.specs.Scans.{HasInode};
+ghost use Rattle.dg_claims.specs.There.{HadKind, HadThen};
 ghost use Rattle.ufs_check.specs.Inodes.{AreInodeFaults, AreInodeFaultsBelow, ArePointedFaultsBelow};
 ghost use Rattle.ufs_pointer.specs.ViewWords.{FetchesKind, LosesKind};
 
@@ -135,6 +137,7 @@ fn hold_inodes<V: View>(
     ensures room { length levels.new.aside ≡ g.now.fsize }
     ensures holds { result ≡ true → V.tells view.new → (v : Volume) → V.stands_for view.old v
         → IfSome held.old (λ b. levels.old.aside ≡ block_at g.now.fsize v b) → levels.new.aside ≡ block_at g.now.fsize v block }
+    ensures there { result ≡ true → HadThen V.View view.old view.new held.old block }
     ensures gone { result ≡ false → LosesKind V.View view.old view.new (IsMetadataBy g.now) }
     ensures fetched { FetchesKind V.View view.old view.new (IsMetadataBy g.now) }
 {
@@ -159,6 +162,7 @@ pub fn check_inodes<V: View>(
     ensures levels { levels.new.fragment ≡ levels.old.fragment }
     ensures found { IfOk result (λ answer. IfSome answer (λ faults. V.tells view.new → (v : Volume) → V.stands_for view.old v
         → AreInodeFaults g.now v faults)) }
+    ensures there { IfOk result (λ answer. IfSome answer (λ faults. HadKind V.View view.old view.new (HasInode g.now))) }
     ensures gone { IfOk result (λ answer. IfNone answer (LosesKind V.View view.old view.new (IsMetadataBy g.now))) }
     ensures fetched { FetchesKind V.View view.old view.new (IsMetadataBy g.now) }
 {

@@ -5,7 +5,9 @@ ghost use Rattle.ufs_model.specs.Blocks.{Volume};
 ghost use Rattle.ufs_model.specs.Geometries.{IsGeometryOn};
 ghost use Rattle.ufs_model.specs.Metadata.{IsMetadataBy};
 ghost use Rattle.dg_claims.specs.Kept.{table_of};
+ghost use Rattle.dg_claims.specs.There.{HadOn};
 ghost use Rattle.ufs_check.specs.Links.{AreLinks};
+ghost use Rattle.ufs_check.specs.Needs.{IsNeededBy};
 ghost use Rattle.ufs_check.specs.Surveys.{AreNotes, IsSurvey};
 ghost use Rattle.ufs_check.specs.ViewWords.{FetchesOn, IsClaimed, IsOfGeometry, IsStructureOf, LosesOn};
 ghost use Rattle.ufs_pointer.specs.ViewWords.{FetchesKind, LosesKind};
@@ -77,6 +79,8 @@ pub fn survey<V: View>(
     ensures levels { levels.new.fragment ≡ levels.old.fragment }
     ensures found { IfOk result (λ answer. IfSome answer (λ found. V.tells view.new → (v : Volume) → IsClaimed V.View view.old g.now (table_of claims.now) v
         → IsSurvey g.now v (found.0) (found.1))) }
+    ensures there { IfOk result (λ answer. IfSome answer (λ found.
+        HadOn V.View view.old view.new (IsClaimed V.View view.old g.now (table_of claims.now)) (IsNeededBy g.now))) }
     ensures gone { IfOk result (λ answer. IfNone answer
         (LosesOn V.View view.old view.new (IsOfGeometry V.View view.old g.now (table_of claims.now)) (IsStructureOf V.View view.old))) }
     ensures fetched { FetchesOn V.View view.old view.new (IsOfGeometry V.View view.old g.now (table_of claims.now)) (IsStructureOf V.View view.old) }

@@ -31,3 +31,9 @@ returns-in_err-claim_stored-clause-fetched g c =
 pub returns-clause-fetched : goal.returns-clause-fetched
 returns-clause-fetched g c =
     only_along (λ is v holds. (holds, λ b e. has_inode c.args.g.now c.args.number _ b c.requires.high c.place_of-block.ensures.block v e)) c.hold.ensures.fetched
+
+pub returns-clause-held : goal.returns-clause-held
+returns-clause-held g c = λ got. rw (← c.place_of-block.ensures.block) (c.hold.ensures.held c.if-not-hold.false).0
+
+pub returns-clause-there : goal.returns-clause-there
+returns-clause-there g c = λ got. rw (← c.place_of-block.ensures.block) (c.hold.ensures.there c.if-not-hold.false)

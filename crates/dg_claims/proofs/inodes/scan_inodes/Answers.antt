@@ -1,9 +1,12 @@
-use Rattle.std.proofs.Common.{◌∙◌, ℕ, refl, sym, subst, inl, inr, arith}
+use Rattle.std.proofs.Common.{◌≡◌, ◌∙◌, ℕ, IfSome, Option, false, refl, sym, subst, inl, inr, arith}
+use Rattle.std.proofs.lemmas.Bool.{cases_eq}
+use Rattle.ufs_model.specs.Inodes.{inode_block}
 use Rattle.dg_io.specs.ViewLaws.{keeps_both, keeps_same}
 use Rattle.ufs_model.specs.declared.claims.ClaimSource.TheVariants.{Slot, Pointer}
 use Rattle.dg_claims.proofs.ScanLaws.{low_source, past_source, pointer_no_slot, slot_apart, slots_more}
 use Rattle.ufs_pointer.specs.KindLaws.{loses_along, only_both, only_none}
 use Rattle.dg_claims.proofs.ListLaws.{below_cases}
+use Rattle.dg_claims.specs.ThereLaws.{all_blocks}
 use Rattle.dg_claims.specs.Kept.{claimed_by}
 use Rattle.dg_claims.specs.Scans.{HasInode, HoldsIn}
 use Rattle.dg_claims.proofs.inodes.scan_inodes.Goals as goal
@@ -17,6 +20,7 @@ loop-number-init g c = record {
   later = λ number slot le. c.requires.bare (Slot number slot);
   pointers = λ fragment level at. c.requires.bare (Pointer fragment level at);
   slots = λ is v holds. (tt, λ number slot lt. c.requires.bare (Slot number slot) ∙ sym (low_source c.args.g.now v number slot lt));
+  there = λ is v holds. (tt, λ i low lt. absurd (omega (arith, low, lt)));
   fetched = only_none (HasInode c.args.g.now) c.args.view.now (g.met.V.View.fetched_none c.args.view.now);
 }
 
@@ -46,6 +50,15 @@ loop-number-preserved g c =
             subst (λ (l : ℕ). HoldsIn l v c.scan_inode.new.held c.scan_inode.new.levels.aside) so_far.keeps.bytes (now.0),
             slots_more c.args.g.now v (claimed_by c.loop-number.claims.runs) (claimed_by c.scan_inode.new.claims.runs) c.loop-number.number _ refl one.others (now.1) (before.1),
           );
+      there = λ is v holds.
+          let before = so_far.there (one.keeps.told is) v holds in
+          let here = one.there c.if-not-branch.false (g.V.View.is_gone c.args.view.now) so_far.keeps.stays is v (so_far.keeps.stands v holds) (before.0) in (
+            subst (λ (o : Option ℕ). IfSome o (λ b. g.V.View.is_gone c.args.view.now b ≡ false)) (sym (one.held c.if-not-branch.false)) here,
+            λ i low lt. elim (cases_eq i c.loop-number.number) [
+              | inl same ↦ subst (λ k. g.V.View.is_gone c.args.view.now (inode_block c.args.g.now k) ≡ false) (sym same) here
+              | inr apart ↦ before.1 i low (omega (arith, lt, apart))
+            ],
+          );
       fetched = only_both g.met.V.View.fetched_both one.keeps.told (λ is v holds. (so_far.keeps.stands v holds, λ b h. h)) so_far.fetched one.fetched;
     }
 
@@ -59,3 +72,11 @@ pub returns-then-not-branch-clause-lost : goal.returns-then-not-branch-clause-lo
 returns-then-not-branch-clause-lost g c = λ got.
     let so_far = c.loop-number.invariant.keeps in
     loses_along so_far.blocks (λ b h. h) (λ h. h) (λ is v holds. (so_far.stands v holds, λ b h. h)) (c.in_ok-scan_inode.ensures.lost c.if-not-branch.true)
+
+pub returns-clause-there : goal.returns-clause-there
+returns-clause-there g c = λ got. record {
+  each = λ is v holds b has.
+      subst (λ x. g.V.View.is_gone c.args.view.now x ≡ false) (sym (has.2))
+      (all_blocks c.args.g.now (λ x. g.V.View.is_gone c.args.view.now x ≡ false) c.requires.geometry.tests
+      (λ i low high. (c.loop-number.invariant.there is v holds).1 i low (omega (arith, high, c.loop-number-test.false))) (has.0) (has.1));
+}

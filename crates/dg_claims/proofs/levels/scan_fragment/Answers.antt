@@ -18,3 +18,6 @@ returns-in_err-of_pointers-clause-fetched g c = only_once (IsJust c.args.fragmen
 
 pub returns-clause-fetched : goal.returns-clause-fetched
 returns-clause-fetched g c = only_once (IsJust c.args.fragment) (λ v holds. refl) c.read_fragment.ensures.once
+
+pub returns-clause-there : goal.returns-clause-there
+returns-clause-there g c = λ got. c.read_fragment.ensures.there c.if-not-read_fragment.false

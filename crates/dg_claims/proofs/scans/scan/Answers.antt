@@ -1,6 +1,12 @@
 use Rattle.std.proofs.Common.{refl}
 use Rattle.ufs_pointer.specs.KindLaws.{loses_along, only_both, only_of}
+use Rattle.std.proofs.Common.{Err, Ok}
+use Rattle.ufs_model.specs.Superblocks.{geometry_of}
+use Rattle.ufs_pointer.specs.Fetches.{IsNeeded}
 use Rattle.dg_claims.proofs.AnswerLaws.{ok_none, ok_some}
+use Rattle.dg_claims.proofs.ThereScan.{super_cases, super_only}
+use Rattle.dg_claims.specs.Scans.{IsClaimReadBy}
+use Rattle.dg_claims.specs.ThereLaws.{there_along, there_both, there_read}
 use Rattle.dg_claims.proofs.MetadataLaws.{metadata_by, super_needed, table_accepted, table_refused}
 use Rattle.dg_claims.specs.Kept.{table_of}
 use Rattle.ufs_model.specs.Metadata.{IsMetadata}
@@ -57,3 +63,23 @@ pub returns-in-None-clause-fetched : goal.returns-in-None-clause-fetched
 returns-in-None-clause-fetched g c =
     let l = g.V.View.size c.args.view.now in
     only_of (IsMetadata l (g.V.View.count c.args.view.now)) (λ v holds. super_needed l (g.V.View.count c.args.view.now) v) c.read_geometry.ensures.fetched
+
+pub returns-in-Some-Ok-clause-there : goal.returns-in-Some-Ok-clause-there
+returns-in-Some-Ok-clause-there g c =
+    let l = g.V.View.size c.args.view.now in
+    let n = g.V.View.count c.args.view.now in
+    let reads = rw c.in-Some-Ok.field-0-is at c.in-Some-Ok.ensures.rule in
+    let keeps = c.in-Some-Ok.ensures.keeps in
+    let told = c.scan_volume.ensures.keeps.told in
+    ok_some c.scan_volume.result _ _ _ (λ claims there geometry.
+    there_both (λ is v holds b of. super_cases l n v c.in-Some-Ok.g b ((reads.rule (told is) v holds).answer) of)
+    (there_along {other = IsNeeded (geometry_of l n)} (λ b h. h) told (λ is v holds. (holds, λ b h. h)) (there_read (Ok c.in-Some-Ok.g) reads))
+    (there_along {other = IsClaimReadBy c.in-Some-Ok.g} keeps.stays (λ h. h) (λ is v holds. (keeps.stands v holds, λ b h. h)) there)) c.scan_volume.ensures.there c.scan_volume.ensures.geometry
+
+pub returns-in_ok-new-in-Some-Err-clause-there : goal.returns-in_ok-new-in-Some-Err-clause-there
+returns-in_ok-new-in-Some-Err-clause-there g c =
+    let l = g.V.View.size c.args.view.now in
+    let n = g.V.View.count c.args.view.now in
+    let reads = rw c.in-Some-Err.field-0-is at c.in-Some-Err.ensures.rule in
+    there_along {other = IsNeeded (geometry_of l n)} (λ b h. h) (λ h. h)
+    (λ is v holds. (holds, λ b of. super_only l n v c.in-Some-Err.field-0-0 b ((reads.rule is v holds).answer) of)) (there_read (Err c.in-Some-Err.field-0-0) reads)

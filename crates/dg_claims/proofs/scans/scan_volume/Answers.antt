@@ -4,6 +4,9 @@ use Rattle.ufs_model.specs.Claims.{source_fragments}
 use Rattle.ufs_pointer.specs.KindLaws.{loses_along, only_along, only_both}
 use Rattle.dg_claims.proofs.MetadataLaws.{indirect_metadata, inode_metadata, right_above_all}
 use Rattle.dg_claims.proofs.ScanLaws.{right_in_the_end}
+use Rattle.dg_claims.proofs.ThereScan.{read_cases}
+use Rattle.dg_claims.specs.Scans.{HasInode, IsIndirect}
+use Rattle.dg_claims.specs.ThereLaws.{there_along, there_both}
 use Rattle.dg_claims.specs.Kept.{claimed_by}
 use Rattle.dg_claims.proofs.scans.scan_volume.Goals as goal
 
@@ -93,3 +96,20 @@ returns-clause-fetched g c =
 pub returns-then-not-branch-clause-lost : goal.returns-then-not-branch-clause-lost
 returns-then-not-branch-clause-lost g c =
     loses_along refl (λ b h. h) (λ h. h) (λ is v holds. (holds, inode_metadata c.args.g.now v)) (c.in_ok-scan_inodes.ensures.lost c.if-not-branch.true)
+
+pub returns-clause-there : goal.returns-clause-there
+returns-clause-there g c =
+    let first = c.in_ok-scan_inodes.ensures in
+    let second = c.in_ok-scan_levels.ensures in
+    let told = c.scan_levels.ensures.keeps.told in
+    there_both (λ is v holds b by. read_cases c.args.g.now v b by)
+    (there_along {other = HasInode c.args.g.now} (λ b h. h) told (λ is v holds. (holds, λ b h. h)) (first.there c.if-not-branch.false))
+    (there_along {other = IsIndirect c.args.g.now} first.keeps.stays (λ h. h)
+    (λ is v holds. (
+      (
+        first.keeps.stands v holds,
+        right_above_all c.args.g.now v (claimed_by c.scan_inodes.new.claims.runs) (first.slots c.if-not-branch.false (told is) v holds) (first.pointers c.if-not-branch.false),
+      ),
+      λ b h. h,
+    ))
+    (second.there c.if-not-branch-2.false))

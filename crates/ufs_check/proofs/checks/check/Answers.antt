@@ -1,7 +1,14 @@
 use Rattle.std.proofs.Common.{◌≡◌, ◌∙◌, Some, true, false, refl, sym, ap, subst}
 use Rattle.dg_io.specs.ViewLaws.{keeps_both}
 use Rattle.dg_claims.specs.Kept.{table_of}
+use Rattle.std.proofs.Common.{arith}
+use Rattle.ufs_model.specs.Malformations.{order_of}
+use Rattle.ufs_model.specs.Metadata.{IsMetadataBy}
+use Rattle.ufs_model.specs.Superblocks.{geometry_of}
+use Rattle.ufs_pointer.specs.Fetches.{IsNeeded}
 use Rattle.dg_claims.specs.Tables.{accepted}
+use Rattle.dg_claims.specs.ThereLaws.{there_along, there_both, there_read}
+use Rattle.ufs_check.proofs.NeedLaws.{metadata_super_cases, metadata_super_only, needed_all}
 use Rattle.ufs_check.specs.Verdicts.{Judges}
 use Rattle.ufs_check.specs.declared.verdicts.Verdict.TheVariants.{Gone, Malformed, Sound}
 use Rattle.ufs_model.specs.Metadata.{IsStructure}
@@ -135,3 +142,88 @@ returns-then-not-is_of-clause-malformed g c = λ kind m same told v tabled.
     let of = tabled.1 in
     let table : (table_of c.args.claims.now).geometry ≡ Some c.in-Some-Ok.g = of.geometry ∙ ap accepted is in
     let no : true ≡ false = sym (c.is_of.ensures.1 table) ∙ c.if-not-is_of.true in cc
+
+pub returns-in-Some-Err-clause-metadata : goal.returns-in-Some-Err-clause-metadata
+returns-in-Some-Err-clause-metadata g c = λ kind m same.
+    let l = g.V.View.size c.args.view.now in
+    let n = g.V.View.count c.args.view.now in
+    let reads = rw c.in-Some-Err.field-0-is at c.in-Some-Err.ensures.rule in
+    there_along {other = IsNeeded (geometry_of l n)} (λ b h. h) (λ h. h)
+    (λ told v tabled. (tabled.0, λ b of. metadata_super_only l n v c.in-Some-Err.bad b (sym ((reads.rule told v (tabled.0)).answer)) of)) (there_read _ reads)
+
+pub returns-in-Some-Err-clause-directories : goal.returns-in-Some-Err-clause-directories
+returns-in-Some-Err-clause-directories g c = λ kind m same late.
+    let one : Super c.in-Some-Err.bad ≡ kind = cc in
+    let first : order_of kind ≡ 0 = ap order_of (sym one) in
+    absurd (omega (arith, first, late))
+
+pub returns-then-not-is_of-clause-metadata : goal.returns-then-not-is_of-clause-metadata
+returns-then-not-is_of-clause-metadata g c = λ kind m same. record {
+  each = λ told v tabled b of_kind.
+      let reads = rw c.in-Some-Ok.field-0-is at c.in-Some-Ok.ensures.rule in
+      let is = sym ((reads.rule told v (tabled.0)).answer) in
+      let of = tabled.1 in
+      let table : (table_of c.args.claims.now).geometry ≡ Some c.in-Some-Ok.g = of.geometry ∙ ap accepted is in
+      absurd (let no : true ≡ false = sym (c.is_of.ensures.1 table) ∙ c.if-not-is_of.true in cc);
+}
+
+pub returns-then-not-is_of-clause-directories : goal.returns-then-not-is_of-clause-directories
+returns-then-not-is_of-clause-directories g c = λ kind m same late. record {
+  each = λ told v tabled b of_kind.
+      let reads = rw c.in-Some-Ok.field-0-is at c.in-Some-Ok.ensures.rule in
+      let is = sym ((reads.rule told v (tabled.0)).answer) in
+      let of = tabled.1 in
+      let table : (table_of c.args.claims.now).geometry ≡ Some c.in-Some-Ok.g = of.geometry ∙ ap accepted is in
+      absurd (let no : true ≡ false = sym (c.is_of.ensures.1 table) ∙ c.if-not-is_of.true in cc);
+}
+
+pub returns-in-Some-clause-metadata : goal.returns-in-Some-clause-metadata
+returns-in-Some-clause-metadata g c = λ kind m same.
+    let l = g.V.View.size c.args.view.now in
+    let n = g.V.View.count c.args.view.now in
+    let gg = c.in-Some-Ok.g in
+    let table = table_of c.args.claims.now in
+    let first = c.read_geometry.ensures.keeps in
+    let second = c.check_volume.ensures.keeps in
+    let reads = rw c.in-Some-Ok.field-0-is at c.in-Some-Ok.ensures.rule in
+    let there = rw c.in-Some.is at c.in_ok-check_volume.ensures.metadata in
+    there_both (λ told v tabled b of. metadata_super_cases l n v gg b (sym ((reads.rule (second.told told) v (tabled.0)).answer)) of)
+    (there_along {other = IsNeeded (geometry_of l n)} (λ b h. h) second.told (λ told v tabled. (tabled.0, λ b h. h)) (there_read _ reads))
+    (there_along {other = IsMetadataBy gg} first.stays (λ h. h)
+    (λ told v tabled. ((first.stands v (tabled.0), table_claims l n gg v table (sym ((reads.rule (second.told told) v (tabled.0)).answer)) (tabled.1)), λ b h. h)) there)
+
+pub returns-in-Some-clause-there : goal.returns-in-Some-clause-there
+returns-in-Some-clause-there g c = λ same.
+    let l = g.V.View.size c.args.view.now in
+    let n = g.V.View.count c.args.view.now in
+    let gg = c.in-Some-Ok.g in
+    let table = table_of c.args.claims.now in
+    let first = c.read_geometry.ensures.keeps in
+    let second = c.check_volume.ensures.keeps in
+    let reads = rw c.in-Some-Ok.field-0-is at c.in-Some-Ok.ensures.rule in
+    let found = rw c.in-Some.is at c.in_ok-check_volume.ensures.found in
+    let there = rw c.in-Some.is at c.in_ok-check_volume.ensures.there in
+    let verdict : c.verdict_of.result ≡ Sound = cc in
+    needed_all l n gg table c.in-Some.faults first.stays first.stands second.told (λ told v stands. sym ((reads.rule (second.told told) v stands).answer)) (there_read _ reads) found
+    (λ told v tabled kind k low bad.
+    let is = sym ((reads.rule (second.told told) v (tabled.0)).answer) in
+    let judged = c.verdict_of.ensures.judges gg v (found told v (first.stands v (tabled.0), table_claims l n gg v table is (tabled.1))) in
+    (subst (Judges gg v) verdict judged) kind k bad) there
+
+pub returns-in-Some-clause-directories : goal.returns-in-Some-clause-directories
+returns-in-Some-clause-directories g c = λ kind m same late.
+    let l = g.V.View.size c.args.view.now in
+    let n = g.V.View.count c.args.view.now in
+    let gg = c.in-Some-Ok.g in
+    let table = table_of c.args.claims.now in
+    let first = c.read_geometry.ensures.keeps in
+    let second = c.check_volume.ensures.keeps in
+    let reads = rw c.in-Some-Ok.field-0-is at c.in-Some-Ok.ensures.rule in
+    let found = rw c.in-Some.is at c.in_ok-check_volume.ensures.found in
+    let there = rw c.in-Some.is at c.in_ok-check_volume.ensures.there in
+    let verdict : c.verdict_of.result ≡ Malformed kind m = cc in
+    needed_all l n gg table c.in-Some.faults first.stays first.stands second.told (λ told v stands. sym ((reads.rule (second.told told) v stands).answer)) (there_read _ reads) found
+    (λ told v tabled other k low bad.
+    let is = sym ((reads.rule (second.told told) v (tabled.0)).answer) in
+    let judged = c.verdict_of.ensures.judges gg v (found told v (first.stands v (tabled.0), table_claims l n gg v table is (tabled.1))) in
+    (subst (Judges gg v) verdict judged).first other k (omega (arith, low, late)) bad) there

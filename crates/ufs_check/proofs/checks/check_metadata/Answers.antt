@@ -1,6 +1,10 @@
 use Rattle.std.proofs.Common.{◌∙◌, refl}
 use Rattle.dg_io.specs.ViewLaws.{keeps_both}
 use Rattle.dg_claims.specs.Kept.{table_of}
+use Rattle.dg_claims.specs.Scans.{HasInode, IsIndirect}
+use Rattle.dg_claims.specs.ThereLaws.{there_along}
+use Rattle.ufs_check.proofs.NeedLaws.{metadata_there}
+use Rattle.ufs_check.specs.Needs.{IsGroupBlock}
 use Rattle.ufs_check.proofs.ClaimLaws.{fetches_fewer, loses_fewer}
 use Rattle.ufs_check.proofs.PassLaws.{lost_later, only_both}
 use Rattle.ufs_check.proofs.checks.check_metadata.Goals as goal
@@ -71,3 +75,18 @@ returns-clause-found g c =
       fragments = fragments told v (second.stands v (first.stands v (claimed.0)), claimed.1);
       whole = whole told v (second.stands v (first.stands v (claimed.0)), claimed.1);
     }
+
+pub returns-clause-there : goal.returns-clause-there
+returns-clause-there g c =
+    let gg = c.args.g.now in
+    let first = c.check_groups.ensures.keeps in
+    let second = c.check_inodes.ensures.keeps in
+    let third = c.check_fragments.ensures.keeps in
+    let groups = rw c.in-Some.is at c.in_ok-groups.ensures.there in
+    let inodes = rw c.in-Some-2.is at c.in_ok-inodes.ensures.there in
+    let fragments = rw c.in-Some-3.is at c.in_ok-fragments.ensures.there in
+    metadata_there gg
+    (there_along {other = IsGroupBlock gg gg.ncg} (λ b h. h) (λ told. second.told (third.told told)) (λ told v claimed. (claimed.0, λ b h. h)) groups)
+    (there_along {other = HasInode gg} first.stays third.told (λ told v claimed. (first.stands v (claimed.0), λ b h. h)) inodes)
+    (there_along {other = IsIndirect gg} (λ b h. second.stays b (first.stays b h)) (λ h. h)
+    (λ told v claimed. ((second.stands v (first.stands v (claimed.0)), claimed.1), λ b h. h)) fragments)

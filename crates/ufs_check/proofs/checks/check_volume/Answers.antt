@@ -2,6 +2,9 @@ use Rattle.std.proofs.Common.{◌≡◌, ◌∙◌, false, true, refl, sym}
 use Rattle.dg_io.specs.ViewLaws.{keeps_both}
 use Rattle.ufs_model.specs.Metadata.{IsMetadataBy, IsStructure}
 use Rattle.dg_claims.specs.Kept.{table_of}
+use Rattle.dg_claims.specs.ThereLaws.{there_along}
+use Rattle.ufs_check.proofs.NeedLaws.{needed_there}
+use Rattle.ufs_check.specs.Needs.{IsDirectoryBlock}
 use Rattle.ufs_check.specs.Directories.{IsDirectoryRead}
 use Rattle.ufs_check.proofs.CheckLaws.{directories_only, metadata_only, metadata_structure}
 use Rattle.ufs_check.proofs.PassLaws.{lost_told, only_both}
@@ -108,3 +111,24 @@ returns-then-not-is_none-clause-found g c =
 pub returns-clause-keeps : goal.returns-clause-keeps
 returns-clause-keeps g c =
     keeps_both g.met.V.View.further c.args.view.now c.check_metadata.new.view c.check_tree.new.view c.check_metadata.ensures.keeps c.check_tree.ensures.keeps
+
+pub returns-then-not-is_none-clause-metadata : goal.returns-then-not-is_none-clause-metadata
+returns-then-not-is_none-clause-metadata g c = let there = rw c.in-Some.is at c.in_ok-metadata.ensures.there in there
+
+pub returns-then-not-is_none-clause-there : goal.returns-then-not-is_none-clause-there
+returns-then-not-is_none-clause-there g c = λ nothing. absurd (let no : false ≡ true = sym c.if-not-is_none.true ∙ c.is_none.ensures ∙ nothing in cc)
+
+pub returns-clause-metadata : goal.returns-clause-metadata
+returns-clause-metadata g c =
+    let there = rw c.in-Some.is at c.in_ok-metadata.ensures.there in
+    there_along {other = IsMetadataBy c.args.g.now} (λ b h. h) c.check_tree.ensures.keeps.told (λ told v claimed. (claimed, λ b h. h)) there
+
+pub returns-clause-there : goal.returns-clause-there
+returns-clause-there g c = λ nothing.
+    let gg = c.args.g.now in
+    let first = c.check_metadata.ensures.keeps in
+    let metadata = rw c.in-Some.is at c.in_ok-metadata.ensures.there in
+    let tree = rw c.in-Some-2.is at c.in_ok-found.ensures.there in
+    needed_there gg
+    (there_along {other = IsMetadataBy gg} (λ b h. h) c.check_tree.ensures.keeps.told (λ told v claimed. (claimed, λ b h. h)) metadata)
+    (there_along {other = IsDirectoryBlock gg} first.stays (λ h. h) (λ told v claimed. (first.stands v (claimed.0), λ b h. h)) tree)

@@ -1,7 +1,10 @@
-use Rattle.std.proofs.Common.{◌≡◌, ◌∙◌, [], rules}
+use Rattle.std.proofs.Common.{◌≡◌, ◌∙◌, [], inl, inr, subst, rules, arith}
+use Rattle.std.proofs.lemmas.Bool.{cases_eq}
 use Rattle.dg_io.specs.ViewLaws.{keeps_both, keeps_same}
 use Rattle.ufs_check.specs.Directories.{IsDirectoryRead}
-use Rattle.ufs_check.proofs.FaultLaws.{directories_all, directories_none}
+use Rattle.dg_claims.specs.ThereLaws.{not_before}
+use Rattle.ufs_check.specs.Needs.{IsBlockIn, IsOfSmall}
+use Rattle.ufs_check.proofs.FaultLaws.{directories_all, directories_none, directory_within}
 use Rattle.ufs_check.proofs.ParentLaws.{table_empty}
 use Rattle.ufs_pointer.specs.KindLaws.{only_none}
 use Rattle.ufs_check.proofs.PassLaws.{lost_later, only_both}
@@ -15,6 +18,7 @@ loop-i-init g c = record {
     kept = table_empty c.args.g.now v c.empty_table-table.result c.empty_table-table.ensures;
     noted = directories_none c.args.g.now v _ (search rules) (search rules) (search rules) (search rules) (search rules) (search rules);
   };
+  there = λ told v stands m b low of. absurd (let within = (directory_within c.args.g.now v m (IsOfSmall c.args.g.now v b) of).0 in omega (arith, low, within));
   fetched = only_none (IsDirectoryRead c.args.g.now) c.args.view.now (g.met.V.View.fetched_none c.args.view.now);
 }
 
@@ -27,6 +31,11 @@ loop-i-preserved g c =
       levels = c.scan_inode.ensures.levels ∙ invariant.levels;
       found = λ told v stands.
           c.in_ok-scan_inode.ensures.found c.if-not-branch.false told v (so_far.stands v stands) (invariant.found (c.scan_inode.ensures.keeps.told told) v stands);
+      there = λ told v stands m b low of. elim (cases_eq m c.loop-i.i) [
+        | inl same ↦ not_before (g.V.View.is_gone c.args.view.now) (g.V.View.is_gone c.loop-i.view) b so_far.stays
+            ((c.in_ok-scan_inode.ensures.there c.if-not-branch.false).each told v (so_far.stands v stands) b (subst (λ k. IsBlockIn c.args.g.now k v b) same of))
+        | inr apart ↦ invariant.there (c.scan_inode.ensures.keeps.told told) v stands m b (omega (arith, low, apart)) of
+      ];
       fetched = only_both g.met.V.View.fetched_both so_far.stands c.scan_inode.ensures.keeps.told invariant.fetched c.scan_inode.ensures.fetched;
     }
 
@@ -49,3 +58,10 @@ pub returns-then-not-branch-clause-gone : goal.returns-then-not-branch-clause-go
 returns-then-not-branch-clause-gone g c =
     let so_far = c.loop-i.invariant.keeps in
     lost_later so_far.blocks so_far.stands (c.in_ok-scan_inode.ensures.gone c.if-not-branch.true)
+
+pub returns-clause-there : goal.returns-clause-there
+returns-clause-there g c = record {
+  each = λ told v stands b of.
+      let within = (directory_within c.args.g.now v (of.0) (IsOfSmall c.args.g.now v b) (of.1)).1 in
+      c.loop-i.invariant.there told v stands (of.0) b (omega (arith, within, c.loop-i-test.false)) (of.1);
+}

@@ -1,5 +1,9 @@
 use Rattle.std.proofs.Common.{◌/◌, refl, subst}
 use Rattle.ufs_model.specs.Metadata.{IsMetadataBy}
+use Rattle.ufs_model.specs.Paths.{block_of}
+use Rattle.ufs_pointer.specs.Fetches.{IsNeeded}
+use Rattle.dg_claims.specs.ThereLaws.{there_along, there_read}
+use Rattle.ufs_check.proofs.NeedLaws.{bytes_none, bytes_one}
 use Rattle.ufs_model.specs.Paths.{bytes_in_block}
 use Rattle.ufs_check.specs.Directories.{IsFileRead, ScansBlock}
 use Rattle.ufs_check.specs.Directories.IsFileRead.{of_file, of_metadata}
@@ -88,3 +92,29 @@ returns-else-not-branch-clause-found g c = λ told v stands so_far.
     scanned_next gg inode v c.args.n c.args.scan.now c.scan_data.new.scan so_far
     (subst (λ block. ScansBlock gg v (bytes_in_block gg inode c.args.n / 512) block c.args.scan.now c.scan_data.new.scan)
     ((read.rule.rule (second.told told) v stands).answer) (found c.if-not-branch.false told v (first.stands v stands)))
+
+pub returns-in-Some-Hole-clause-there : goal.returns-in-Some-Hole-clause-there
+returns-in-Some-Hole-clause-there g c =
+    let second = c.behind_gap.ensures.keeps in
+    let read = rw c.in-Some-Hole.field-0-is at c.in-Some-Hole.ensures in
+    if_some_both c.behind_gap.result _ _ _ (λ next order same. record {
+      each = λ told v stands b of. absurd (bytes_none c.args.g.now c.args.inode.now c.args.n next v b _ ((read.rule.rule (second.told told) v stands).answer) (λ h. h)
+          (same told v (c.read_file_block.ensures.keeps.stands v stands)) of);
+    }) c.behind_gap.ensures.order c.behind_gap.ensures.same
+
+pub returns-in-Some-Wild-clause-there : goal.returns-in-Some-Wild-clause-there
+returns-in-Some-Wild-clause-there g c =
+    let second = c.behind_gap-in-Some-Wild.ensures.keeps in
+    let read = rw c.in-Some-Wild.field-0-is at c.in-Some-Wild.ensures in
+    if_some_both c.behind_gap-in-Some-Wild.result _ _ _ (λ next order same. record {
+      each = λ told v stands b of. absurd (bytes_none c.args.g.now c.args.inode.now c.args.n next v b _ ((read.rule.rule (second.told told) v stands).answer) (λ h. h)
+          (same told v (c.read_file_block.ensures.keeps.stands v stands)) of);
+    }) c.behind_gap-in-Some-Wild.ensures.order c.behind_gap-in-Some-Wild.ensures.same
+
+pub returns-else-not-branch-clause-there : goal.returns-else-not-branch-clause-there
+returns-else-not-branch-clause-there g c =
+    let gg = c.args.g.now in
+    let inode = c.args.inode.now in
+    let read = rw c.in-Some-Data.field-0-is at c.in-Some-Data.ensures in
+    there_along {other = IsNeeded (block_of gg inode c.args.n)} (λ b h. h) c.scan_data.ensures.keeps.told (λ told v stands. (stands, λ b of. bytes_one gg inode c.args.n v b of))
+    (there_read _ read.rule)

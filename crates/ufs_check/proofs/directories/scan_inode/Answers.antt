@@ -2,10 +2,13 @@ use Rattle.std.proofs.Common.{◌≡◌, ◌∙◌, ◌^◌, ◌<◌, ◌≤◌,
 use Rattle.dg_io.specs.ViewLaws.{keeps_both}
 use Rattle.ufs_model.specs.Metadata.{IsMetadataBy}
 use Rattle.ufs_model.specs.Malformations.{IsDirectory}
+use Rattle.ufs_model.specs.Inodes.{block_count}
 use Rattle.ufs_model.specs.Paths.{entries_of}
 use Rattle.ufs_model.specs.declared.inodes.Inode.{Inode}
 use Rattle.ufs_check.specs.Directories.{IsDirectoryRead, IsFileRead, IsSmallRead}
 use Rattle.ufs_check.specs.Directories.IsDirectoryRead.{by_directory, by_metadata}
+use Rattle.dg_claims.specs.ThereLaws.{there_along}
+use Rattle.ufs_check.specs.Needs.{IsBytesBlock, IsOfSmall}
 use Rattle.ufs_check.proofs.FaultLaws.{directory_is, directory_none, directory_there, entries_passed, long_passed, long_unread}
 use Rattle.ufs_check.proofs.LinkLaws.{links_passed}
 use Rattle.ufs_check.proofs.ParentLaws.{table_passed}
@@ -142,3 +145,40 @@ returns-in_err-note_directory-clause-keeps g c =
 pub returns-clause-keeps : goal.returns-clause-keeps
 returns-clause-keeps g c =
     keeps_both g.met.V.View.further c.args.view.now c.read_named.new.view c.scan_directory.new.view c.read_named.ensures.keeps c.scan_directory.ensures.keeps
+
+pub returns-in_default-named-clause-there : goal.returns-in_default-named-clause-there
+returns-in_default-named-clause-there g c = λ could. record {
+  each = λ told v stands b of. absurd (directory_none c.args.g.now v c.args.i (IsOfSmall c.args.g.now v b) (sym (c.in-Some.ensures.found told v stands) ∙ c.in_default-named.is) of);
+}
+
+pub returns-then-not-is_directory-clause-there : goal.returns-then-not-is_directory-clause-there
+returns-then-not-is_directory-clause-there g c = λ could. record {
+  each = λ told v stands b of.
+      let there = sym (c.in-Some.ensures.found told v stands) ∙ c.in-Some-named.is in
+      let kind = (directory_is c.args.g.now v c.args.i (IsOfSmall c.args.g.now v b) c.in-Some-named.inode there of).0 in
+      absurd (let no : true ≡ false = sym (c.is_directory.ensures.1 kind) ∙ c.if-not-is_directory.true in cc);
+}
+
+pub returns-then-inode-ge-TOO_LONG-clause-there : goal.returns-then-inode-ge-TOO_LONG-clause-there
+returns-then-inode-ge-TOO_LONG-clause-there g c = λ could. record {
+  each = λ told v stands b of.
+      let there = sym (c.in-Some.ensures.found told v stands) ∙ c.in-Some-named.is in
+      let long : 2 ^ 32 ≤ c.in-Some-named.inode.size = omega arith in
+      let small = (directory_is c.args.g.now v c.args.i (IsOfSmall c.args.g.now v b) c.in-Some-named.inode there of).1.small in
+      absurd (omega (arith, long, small));
+}
+
+pub returns-clause-there : goal.returns-clause-there
+returns-clause-there g c = λ could.
+    let gg = c.args.g.now in
+    let inode = c.in-Some-named.inode in
+    let first = c.read_named.ensures.keeps in
+    let second = c.scan_directory.ensures.keeps in
+    let scanned = rw c.in-Some-2.is at c.in_ok-scan.ensures.there in
+    there_along {other = IsBytesBlock gg inode 0 (block_count gg inode)} first.stays (λ h. h)
+    (λ told v stands. (
+      first.stands v stands,
+      λ b of.
+          let there = sym (c.in-Some.ensures.found (second.told told) v stands) ∙ c.in-Some-named.is in
+          (directory_is gg v c.args.i (IsOfSmall gg v b) inode there of).1.read,
+    )) scanned

@@ -3,7 +3,9 @@ use Rattle.dg_io.specs.ViewLaws.{keeps_both}
 use Rattle.ufs_model.specs.Blocks.{Volume}
 use Rattle.ufs_model.specs.GroupMaps.{group_bytes}
 use Rattle.dg_claims.specs.Kept.{table_of}
+use Rattle.dg_claims.specs.ThereLaws.{not_before}
 use Rattle.ufs_check.proofs.ClaimLaws.{loses_fewer}
+use Rattle.ufs_check.proofs.NeedLaws.{indirects_there, uppers_there}
 use Rattle.ufs_check.proofs.PassLaws.{lost_later, only_both}
 use Rattle.ufs_check.proofs.PointerLaws.{faults_all, uppers_all, uppers_more}
 use Rattle.ufs_check.proofs.fragments.check_fragments.Goals as goal
@@ -51,6 +53,9 @@ loop-f-preserved g c =
           };
       whole = λ told v stands. rw add-one (uppers_more c.args.g.now (table_of c.args.claims.now) v c.loop-f.f (invariant.whole (two.told told) v stands)
           (c.in_ok-check_pointers.ensures.whole c.if-not-branch.false told v (first.stands v (so_far.stands v stands))));
+      there = λ told v stands. rw add-one (uppers_there (table_of c.args.claims.now) (g.V.View.is_gone c.args.view.now) c.loop-f.f (invariant.there (two.told told) v stands)
+          (λ upper. not_before (g.V.View.is_gone c.args.view.now) (g.V.View.is_gone c.hold_group.new.view) c.loop-f.f (λ b h. first.stays b (so_far.stays b h))
+          (c.in_ok-check_pointers.ensures.there c.if-not-branch.false told v (first.stands v (so_far.stands v stands)) upper)));
       fetched = only_both g.met.V.View.fetched_both (λ v claimed. (first.stands v (so_far.stands v (claimed.0)), claimed.1)) second.told
           (only_both g.met.V.View.fetched_both (λ v claimed. so_far.stands v (claimed.0)) first.told invariant.fetched c.hold_group.ensures.fetched)
           c.check_pointers.ensures.fetched;
@@ -108,3 +113,9 @@ pub returns-then-not-branch-clause-keeps : goal.returns-then-not-branch-clause-k
 returns-then-not-branch-clause-keeps g c =
     keeps_both g.met.V.View.further c.args.view.now c.hold_group.new.view c.check_pointers.new.view
     (keeps_both g.met.V.View.further c.args.view.now c.loop-f.view c.hold_group.new.view c.loop-f.invariant.keeps c.hold_group.ensures.keeps) c.check_pointers.ensures.keeps
+
+pub returns-clause-there : goal.returns-clause-there
+returns-clause-there g c = record {
+  each = λ told v claimed. indirects_there c.args.g.now (table_of c.args.claims.now) v (g.V.View.is_gone c.args.view.now) c.loop-f.f (claimed.1) c.requires.table c.claims_inside.ensures.inside
+      c.loop-f-test.false (c.loop-f.invariant.there told v (claimed.0));
+}

@@ -1,4 +1,4 @@
-use Rattle.std.proofs.Common.{◌≡◌, ℕ, ◌<◌, ◌≤◌, length}
+use Rattle.std.proofs.Common.{◌≡◌, ℕ, ◌<◌, ◌≤◌, false, length}
 use Rattle.std.specs.Prelude.{IfSome}
 use Rattle.dg_io.specs.Views.{KeepsView}
 use Rattle.ufs_model.specs.Blocks.{Volume, block_at}
@@ -17,5 +17,6 @@ invariant-loop-f g l = record {
   holds_group : g.V.View.tells l.view → (v : Volume) → g.V.View.stands_for l.fn.view v → IfSome l.group (λ c. l.levels.block ≡ (group_bytes l.g c v).value);
   found : g.V.View.tells l.view → (v : Volume) → IsClaimedBy (g.V.View.stands_for l.fn.view) l.g (table_of l.claims) v → AreFragmentFaultsBelow l.g v l.f l.faults;
   whole : g.V.View.tells l.view → (v : Volume) → g.V.View.stands_for l.fn.view v → (m : ℕ) → m < l.f → IsUpperIn (table_of l.claims) m → length (block_at l.g.fsize v m) ≡ l.g.fsize;
+  there : g.V.View.tells l.view → (v : Volume) → g.V.View.stands_for l.fn.view v → (m : ℕ) → m < l.f → IsUpperIn (table_of l.claims) m → g.V.View.is_gone l.fn.view m ≡ false;
   fetched : FetchesOnly g.V.View.fetched (IsClaimedBy (g.V.View.stands_for l.fn.view) l.g (table_of l.claims)) (g.V.View.tells l.view) (IsMetadataBy l.g) l.fn.view l.view;
 }

@@ -3,6 +3,7 @@ use Rattle.std.proofs.lemmas.Bool.Decides.{not_from_Decides}
 use Rattle.dg_io.specs.ViewLaws.{keeps_both}
 use Rattle.ufs_model.specs.Metadata.{IsMetadataBy}
 use Rattle.dg_claims.specs.Kept.{table_of}
+use Rattle.dg_claims.specs.ThereLaws.{not_before, there_one}
 use Rattle.ufs_check.specs.Fragments.{IsClaimedBy}
 use Rattle.ufs_check.proofs.ClaimLaws.{fetches_fewer, loses_fewer, upper_metadata}
 use Rattle.ufs_check.proofs.InodeLaws.{one_block}
@@ -77,3 +78,13 @@ returns-in_err-note_pointers-clause-keeps g c = keeps_both g.met.V.View.further 
 
 pub returns-clause-keeps : goal.returns-clause-keeps
 returns-clause-keeps g c = keeps_both g.met.V.View.further c.args.view.now c.read_limit.new.view c.read_aside.new.view c.read_limit.ensures.keeps c.read_aside.ensures.keeps
+
+pub returns-then-not-is_upper-clause-there : goal.returns-then-not-is_upper-clause-there
+returns-then-not-is_upper-clause-there g c = λ is told v stands upper.
+    absurd (not_from_Decides c.is_upper.result c.is_upper.ensures c.if-not-is_upper.true upper)
+
+pub returns-clause-there : goal.returns-clause-there
+returns-clause-there g c = λ is told v stands upper.
+    let before = c.read_limit.ensures.keeps in
+    not_before (g.V.View.is_gone c.args.view.now) (g.V.View.is_gone c.read_limit.new.view) c.args.f before.stays
+    ((there_one (g.V.View.size c.read_limit.new.view) c.args.f c.read_aside.result _ c.read_aside.ensures.rule c.if-not-read_aside.false).each told v (before.stands v stands) c.args.f refl)

@@ -1,8 +1,9 @@
-use Rattle.std.proofs.Common.{◌<◌, arith}
+use Rattle.std.proofs.Common.{◌<◌, arith, refl}
 use Rattle.ufs_model.specs.Metadata.{IsMetadataBy}
 use Rattle.ufs_check.proofs.InodeLaws.{one_block}
 use Rattle.ufs_pointer.specs.KindLaws.{loses_once, only_once}
 use Rattle.ufs_check.proofs.PassLaws.{read_value}
+use Rattle.dg_claims.specs.ThereLaws.{not_before, there_one}
 use Rattle.ufs_check.proofs.inodes.hold_inodes.Goals as goal
 
 pub returns-clause-holds : goal.returns-clause-holds
@@ -16,3 +17,8 @@ returns-clause-gone g c = λ missed.
 
 pub returns-clause-fetched : goal.returns-clause-fetched
 returns-clause-fetched g c = only_once (IsMetadataBy c.args.g.now) (λ v stands. c.requires.metadata v) c.read_aside.ensures.once
+
+pub returns-clause-there : goal.returns-clause-there
+returns-clause-there g c = λ could before grows told v stands had.
+    not_before before (g.V.View.is_gone c.args.view.now) c.args.block grows
+    ((there_one (g.V.View.size c.args.view.now) c.args.block c.read_aside.result _ c.read_aside.ensures.rule could).each told v stands c.args.block refl)

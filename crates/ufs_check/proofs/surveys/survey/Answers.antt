@@ -2,6 +2,9 @@ use Rattle.std.proofs.Common.{◌∙◌, refl}
 use Rattle.dg_io.specs.ViewLaws.{keeps_both}
 use Rattle.ufs_model.specs.Metadata.{IsMetadataBy, IsStructure}
 use Rattle.dg_claims.specs.Kept.{table_of}
+use Rattle.dg_claims.specs.ThereLaws.{there_along}
+use Rattle.ufs_check.proofs.NeedLaws.{needed_there}
+use Rattle.ufs_check.specs.Needs.{IsDirectoryBlock}
 use Rattle.ufs_check.specs.Directories.{IsDirectoryRead}
 use Rattle.ufs_check.proofs.CheckLaws.{directories_only, metadata_only, metadata_structure}
 use Rattle.ufs_check.proofs.SurveyLaws.{notes_only}
@@ -160,3 +163,15 @@ pub returns-clause-keeps : goal.returns-clause-keeps
 returns-clause-keeps g c =
     keeps_both g.met.V.View.further c.args.view.now c.check_tree.new.view c.find_notes.new.view
     (keeps_both g.met.V.View.further c.args.view.now c.check_metadata.new.view c.check_tree.new.view c.check_metadata.ensures.keeps c.check_tree.ensures.keeps) c.find_notes.ensures.keeps
+
+pub returns-clause-there : goal.returns-clause-there
+returns-clause-there g c =
+    let gg = c.args.g.now in
+    let first = c.check_metadata.ensures.keeps in
+    let second = c.check_tree.ensures.keeps in
+    let third = c.find_notes.ensures.keeps in
+    let metadata = rw c.in-Some.is at c.in_ok-metadata.ensures.there in
+    let tree = rw c.in-Some-2.is at c.in_ok-found.ensures.there in
+    needed_there gg
+    (there_along {other = IsMetadataBy gg} (λ b h. h) (λ told. second.told (third.told told)) (λ told v claimed. (claimed, λ b h. h)) metadata)
+    (there_along {other = IsDirectoryBlock gg} first.stays third.told (λ told v claimed. (first.stands v (claimed.0), λ b h. h)) tree)
