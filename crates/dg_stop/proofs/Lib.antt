@@ -1,3 +1,4 @@
+mod AttachLemmas
 mod Avoiding
 mod BlankLemmas
 mod Blanking
@@ -7,6 +8,7 @@ mod CommitMembers
 mod Committing
 mod FindLemmas
 mod FinishLemmas
+mod FoundKnown
 mod FoundLemmas
 mod Frames
 mod HeaderLemmas
@@ -16,7 +18,12 @@ mod MadeLemmas
 mod MemberLemmas
 mod OnceLemmas
 mod OneCommit
+mod OpenedAll
+mod OpenedDouble
+mod OpenedKeeps
 mod OpenedLemmas
+mod OpenedNone
+mod OpenedRack
 mod Opening
 mod PageLemmas
 mod Paging
@@ -27,9 +34,12 @@ mod Preparing
 mod PreparingTold
 mod PutLemmas
 mod Ranges
+mod ReadLemmas
 mod Renewing
 mod Reopening
+mod SessionLemmas
 mod SettleLemmas
+mod Sparing
 mod StepLemmas
 mod Stopping
 mod TableLemmas
