@@ -120,6 +120,21 @@ class Volume:
         block[168:168 + len(used) + len(free)] = used + free
         return block
 
+    def mark_free(self, most):
+        """Marks the last used fragments of each group as free, so many in all or as many as there are, and answers how many: they are faults."""
+        left = most
+        for c in range(self.groups):
+            start = self.group_size * c + max(self.data_at, min(self.group_size, self.free - self.group_size * c))
+            taken = min(left, start - self.group_size * c - self.data_at - FRAGMENTS)
+            block = self.group(c)
+            at = struct.unpack_from("<I", block, 96)[0]
+            for number in range(start - taken, start):
+                place = number - self.group_size * c
+                block[at + place // 8] |= 1 << place % 8
+            self.put(self.group_size * c + self.first + 2 * FRAGMENTS, block)
+            left -= taken
+        return most - left
+
     def put(self, at, data):
         """Puts bytes at a fragment and those after it."""
         for start in range(0, len(data), self.fragment):
