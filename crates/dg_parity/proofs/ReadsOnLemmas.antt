@@ -44,7 +44,7 @@ count-le (x ∷ xs) (y ∷ ys) h =
 alive-again : (group next : Group) → ((j : ℕ) → is_out group j ≡ true → is_out next j ≡ true) → is_lost next ≡ false → is_lost group ≡ false
 alive-again group next h alive = let le = count-le group.out next.out h in grind (arith, nat_tests)
 
-out-is : (group : Group) (j : ℕ) → out_of (Some group) j ≡ is_out group j
+pub out-is : (group : Group) (j : ℕ) → out_of (Some group) j ≡ is_out group j
 out-is group j = elim (cases_lt j group.disks) [
   | inl lt ↦ ap (λ (b : Bool). b && is_out group j) (is-below j group.disks lt)
   | inr le ↦ ap (λ (b : Bool). b && is_out group j) (not-below j group.disks le) ∙ sym (group.beyond j le)
@@ -56,7 +56,7 @@ if-some : (b : Bool) (x : List ℕ) → IsSome (if b then Some x else None) → 
 if-some true x h = refl
 if-some false x h = h
 
-not-lost : (b : Bool) → not b ≡ true → b ≡ false
+pub not-lost : (b : Bool) → not b ≡ true → b ≡ false
 not-lost true h = absurd (false≢true h)
 not-lost false h = refl
 
