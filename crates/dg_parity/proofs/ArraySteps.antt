@@ -1,5 +1,5 @@
 -- The calls of a rack of groups, with its own counts.
-use Rattle.std.proofs.Common.{◌≡◌, ◌≢◌, ◌/◌, ◌≤◌, ◌<◌, ◌%◌, ◌∷◌, ◌++◌, ℕ, zero, suc, Bool, true, false, List, [], inl, inr, refl, sym, ap, subst, ◌∙◌, arith}
+use Rattle.std.proofs.Common.{◌≡◌, ◌≢◌, ◌/◌, ◌≤◌, ◌<◌, ◌%◌, ◌∷◌, ◌++◌, ◌*◌, ℕ, zero, suc, Bool, true, false, List, [], inl, inr, refl, sym, ap, subst, ◌∙◌, arith}
 use Rattle.std.specs.Prelude.{Option, None, Some, Result, Ok, Err, IfOk, IfSome, OnOk, OnErr, is_err, length, nat_lt, not, ◌&&◌, slice_get, slice_index, take, if◌then◌else◌, IsSome}
 use Rattle.std.proofs.lemmas.Bool.{and_parts, cases_eq, false≢true}
 use Rattle.std.proofs.lemmas.List.{take_all}
@@ -12,14 +12,14 @@ use Rattle.dg_io.specs.RackCalls.{RackCall, IsNoBlankAt, member_of}
 use Rattle.dg_io.specs.RackWords.{Leaves}
 use Rattle.dg_io.specs.Told.{IsEmpty, IsSame, KeepsFront, Measures, Told}
 use Rattle.dg_io.specs.declared.outside.Rack.{Ghosts}
-use Rattle.dg_parity.specs.Arrays.{AreKept, Grouped, GroupedMade, HasNoCalls, IsHeld, IsNewGroup, IsNewOver, Notes, Steps, StepsOn, group_at, grouped_words, is_served, is_unmade, out_of, serves, size_at, size_of, told_at, told_of, width_at, width_of}
-use Rattle.dg_parity.specs.Groups.{is_lost, is_out}
-use Rattle.dg_parity.specs.Kept.{all_told, made_by}
+use Rattle.dg_parity.specs.Arrays.{AreKept, DisksTell, Grouped, GroupedMade, HasNoCalls, IsHeld, IsNewGroup, IsNewOver, Notes, Steps, StepsOn, group_at, grouped_words, is_served, is_unmade, out_of, serves, size_at, size_of, told_at, told_of, width_at, width_of}
+use Rattle.dg_parity.specs.Groups.{AllTold, disk_number, is_lost, is_out, is_sure}
+use Rattle.dg_parity.specs.Kept.{all_told, bytes_in, made_by}
 use Rattle.dg_parity.specs.Stripes.{member_by}
 use Rattle.dg_parity.specs.declared.groups.Group.{Group}
 use Rattle.dg_parity.specs.declared.tallies.Tally.{Tally}
 use Rattle.dg_parity.proofs.ArrayLemmas.{group-odd, group-or, group-own, lt-true}
-use Rattle.dg_parity.proofs.KeptSteps.{both-true}
+use Rattle.dg_parity.proofs.KeptSteps.{both-true, each-told}
 use Rattle.dg_parity.proofs.MemberLemmas.{member-length}
 
 -- one more call, which failed or not
@@ -192,6 +192,36 @@ none-each P groups none s g is = absurd (none-some g (ap (λ (l : List Group). s
 pub none-length : (groups : List Group) → groups ≡ [] → length groups ≡ 0
 none-length groups none = ap (λ (l : List Group). length l) none
 
+some-of : (b : Bool) (x : List ℕ) → b ≡ true → (if b then Some x else None) ≡ Some x
+some-of true x h = refl
+some-of false x h = absurd (false≢true h)
+
+-- the group of member 2s
+pub member-group : (groups : List Group) (s : ℕ) → group_at groups (2 * s) ≡ slice_get groups s
+member-group groups s =
+    let even : 2 * s % 2 ≡ 0 = omega arith in
+    let half : 2 * s / 2 ≡ s = omega arith in
+    group-own groups (2 * s) even ∙ ap (slice_get groups) half
+
+module _ {S : Type 0} (rack : Ghosts S) where
+  pub member-told : (groups : List Group) (now : S) (s : ℕ) (group : Group) → slice_get groups s ≡ Some group → told_of rack now (group_at groups (2 * s)) ≡ bytes_in rack group now
+  member-told groups now s group is = ap (told_of rack now) (member-group groups s ∙ is)
+
+  pub all-told : (group : Group) (now : S) (s : ℕ) → group.number ≡ s → is_sure group ≡ true → DisksTell rack now group.disks s → AllTold rack group now
+  all-told group now s number sure disks = (sure, λ j lt. subst (λ (k : ℕ). IsSome (rack.bytes now (disk_number k j))) (sym number) (disks j lt))
+
+  pub tells-bytes : (group : Group) (now : S) → group.told ≡ true → AllTold rack group now → bytes_in rack group now ≡ Some (member_by group.disks group.length (made_by rack group now))
+  tells-bytes group now told all =
+      some-of (group.told && all_told rack group now) (member_by group.disks group.length (made_by rack group now)) (both-true group.told (all_told rack group now) told (each-told rack group now all))
+
+  -- a group without a byte
+  pub bare-tells : (now : S) (groups : List Group) (s n : ℕ) (group : Group) → slice_get groups s ≡ Some group → group.number ≡ s → group.disks ≡ n → group.length ≡ 0 → group.told ≡ true → is_sure group ≡ true
+      → DisksTell rack now n s → told_of rack now (group_at groups (2 * s)) ≡ Some []
+  bare-tells now groups s n group is number disks size told sure tell =
+      member-told groups now s group is
+      ∙ tells-bytes group now told (all-told group now s number sure (subst (λ (k : ℕ). DisksTell rack now k s) (sym disks) tell))
+      ∙ ap (λ (n : ℕ). Some (member_by group.disks n (made_by rack group now))) size
+
 module _ {S : Type 0} (rack : Ghosts S) (n : ℕ) (groups : List Group) (now : S) (new : (s : ℕ) (group : Group) → slice_get groups s ≡ Some group → IsNewGroup n s group) where
   new-width : (s : ℕ) → s < length groups → width_at groups s ≡ n
   new-width s lt = let found = some-at groups s lt in ap width_of found.1 ∙ (new s found.0 found.1).disks
@@ -230,7 +260,12 @@ module _ {S : Type 0} (rack : Ghosts S) (n : ℕ) (groups : List Group) (now : S
       let h = new s found.0 found.1 in
       ap (λ (o : Option Group). out_of o j) found.1 ∙ both-true (nat_lt j found.0.disks) (is_out found.0 j) (ap (nat_lt j) h.disks ∙ lt-true j n below) (h.out j below)
 
-  pub new_over : (count : ℕ) (tally : Tally) → length groups ≡ count → HasNoCalls tally → IsNewOver now count n (record { rack = now; width = n; groups = groups; tally = tally })
+  new-unmade : (s : ℕ) → s < length groups → is_unmade (slice_get groups s) ≡ true
+  new-unmade s lt =
+      let found = some-at groups s lt in
+      ap is_unmade found.1 ∙ both-true (is_lost found.0) found.0.told (new s found.0 found.1).lost (new s found.0 found.1).told
+
+  pub new_over : (count : ℕ) (tally : Tally) → length groups ≡ count → HasNoCalls tally → IsNewOver rack now count n (record { rack = now; width = n; groups = groups; tally = tally })
   new_over count tally is none = record {
     rack_is = refl;
     width = refl;
@@ -238,5 +273,10 @@ module _ {S : Type 0} (rack : Ghosts S) (n : ℕ) (groups : List Group) (now : S
     widths = λ s lt. new-width s (omega (arith, lt, is));
     served = new-served;
     out = λ s j lt below. new-out s j (omega (arith, lt, is)) below;
+    unmade = λ s lt. new-unmade s (omega (arith, lt, is));
+    tells = λ s lt unmade disks.
+        let found = some-at groups s lt in
+        let h = new s found.0 found.1 in
+        bare-tells rack now groups s n found.0 found.1 h.number h.disks h.size h.told h.sure disks;
     tally = none;
   }

@@ -70,7 +70,7 @@ opened-width : {S : Type 0} (rack : Ghosts S) (now : S) (fronts : ℕ → Option
 opened-width rack now fronts n s group (inl over) = over.by.disks
 opened-width rack now fronts n s group (inr none) = none.1.disks
 
-some-below : (groups : List Group) (s : ℕ) (group : Group) → slice_get groups s ≡ Some group → s < length groups
+pub some-below : (groups : List Group) (s : ℕ) (group : Group) → slice_get groups s ≡ Some group → s < length groups
 some-below [] s group is = absurd (none-not group is) where
   none-not : (group : Group) → None ≡ Some group → ⊥
   none-not group e = false≢true (ap is_there e) where

@@ -1,6 +1,7 @@
 pub mod ArrayLemmas
 pub mod ArrayOpeningLemmas
 pub mod ArraySteps
+pub mod BackLemmas
 pub mod BlankLemmas
 pub mod BytesLemmas
 pub mod CallLemmas

@@ -1,26 +1,24 @@
 -- A rack that is opened again tells what it told.
-use Rattle.std.proofs.Common.{◌≡◌, ℕ, suc, ◌*◌, ◌/◌, ◌%◌, ◌<◌, ◌≤◌, inl, inr, Bool, true, false, List, [], ◌∷◌, length, get_or, refl, sym, ap, subst, ◌∙◌, arith, cond}
+use Rattle.std.proofs.Common.{◌≡◌, ℕ, suc, ◌*◌, ◌<◌, ◌≤◌, inl, inr, Bool, true, false, List, [], ◌∷◌, length, get_or, refl, sym, ap, subst, ◌∙◌, arith, cond}
 use Rattle.std.specs.Prelude.{Option, None, Some, IsSome, count_by, not, slice_get, ◌&&◌, if◌then◌else◌}
 use Rattle.std.proofs.lemmas.Bool.{and_parts, cases_Bool, cases_lt, false≢true}
 use Rattle.std.proofs.lemmas.Bool.Decides.{nat_tests}
 use Rattle.dg_io.specs.Told.{Told, IsSame}
 use Rattle.dg_io.specs.declared.outside.Rack.{Ghosts}
-use Rattle.dg_parity.specs.Arrays.{Grouped, HasNoCalls, IsGroupOf, IsHeld, group_at, grouped_bytes, is_served, is_unmade, out_of, size_of, told_of, width_of}
+use Rattle.dg_parity.specs.Arrays.{DisksTell, Grouped, HasNoCalls, IsGroupOf, IsHeld, TellsNone, grouped_bytes, is_served, is_unmade, out_of, size_of, width_of}
 use Rattle.dg_parity.specs.Groups.{disk_number, disk_in, bytes_of, is_lost, is_out, is_sure, AllTold, StandsFor}
 use Rattle.dg_parity.specs.Kept.{all_told, bytes_in, made_by}
 use Rattle.dg_parity.specs.Openings.{IsOpenedOr, LeavesRead, OpensGroups}
-use Rattle.dg_parity.specs.Reopens.{DisksTell, IsBack, OpensArray, ReadsOn, TellsNone, TellsSound}
+use Rattle.dg_parity.specs.Reopens.{IsBack, OpensArray, ReadsOn, TellsSound}
 use Rattle.dg_parity.specs.Sound.{is_sound}
 use Rattle.dg_parity.specs.Stripes.{member_by}
 use Rattle.dg_parity.specs.declared.groups.Group.{Group}
 use Rattle.dg_parity.specs.declared.parity_racks.ParityRack.TheVariants.{Plain, OfGroups}
-use Rattle.dg_parity.proofs.ArrayLemmas.{group-own}
-use Rattle.dg_parity.proofs.ArraySteps.{some-at}
+use Rattle.dg_parity.proofs.ArraySteps.{all-told, bare-tells, member-group, member-told, some-at, tells-bytes}
 use Rattle.dg_parity.proofs.EpochLemmas.{stands-again, tells-again}
 use Rattle.dg_parity.proofs.GroupLemmas.{same-then, told-at}
 use Rattle.dg_parity.proofs.JudgedLemmas.{opened-at}
 use Rattle.dg_parity.proofs.KeptLemmas.{kept-stands, stands-clear, stands-even, told-each}
-use Rattle.dg_parity.proofs.KeptSteps.{both-true, each-told}
 use Rattle.dg_parity.proofs.PartLemmas.{count-step, one-of}
 use Rattle.dg_parity.proofs.SoundLemmas.{is-below, not-below, sound-is}
 
@@ -46,7 +44,7 @@ count-le (x ∷ xs) (y ∷ ys) h =
 alive-again : (group next : Group) → ((j : ℕ) → is_out group j ≡ true → is_out next j ≡ true) → is_lost next ≡ false → is_lost group ≡ false
 alive-again group next h alive = let le = count-le group.out next.out h in grind (arith, nat_tests)
 
-out-is : (group : Group) (j : ℕ) → out_of (Some group) j ≡ is_out group j
+pub out-is : (group : Group) (j : ℕ) → out_of (Some group) j ≡ is_out group j
 out-is group j = elim (cases_lt j group.disks) [
   | inl lt ↦ ap (λ (b : Bool). b && is_out group j) (is-below j group.disks lt)
   | inr le ↦ ap (λ (b : Bool). b && is_out group j) (not-below j group.disks le) ∙ sym (group.beyond j le)
@@ -58,7 +56,7 @@ if-some : (b : Bool) (x : List ℕ) → IsSome (if b then Some x else None) → 
 if-some true x h = refl
 if-some false x h = h
 
-not-lost : (b : Bool) → not b ≡ true → b ≡ false
+pub not-lost : (b : Bool) → not b ≡ true → b ≡ false
 not-lost true h = absurd (false≢true h)
 not-lost false h = refl
 
@@ -72,36 +70,6 @@ is-there (Some n) = true
 
 no-width : (n : ℕ) → None ≡ Some n → ⊥
 no-width n e = false≢true (ap is-there e)
-
-some-of : (b : Bool) (x : List ℕ) → b ≡ true → (if b then Some x else None) ≡ Some x
-some-of true x h = refl
-some-of false x h = absurd (false≢true h)
-
--- the group of member 2s
-member-group : (groups : List Group) (s : ℕ) → group_at groups (2 * s) ≡ slice_get groups s
-member-group groups s =
-    let even : 2 * s % 2 ≡ 0 = omega arith in
-    let half : 2 * s / 2 ≡ s = omega arith in
-    group-own groups (2 * s) even ∙ ap (slice_get groups) half
-
-module _ {S : Type 0} (rack : Ghosts S) where
-  member-told : (groups : List Group) (now : S) (s : ℕ) (group : Group) → slice_get groups s ≡ Some group → told_of rack now (group_at groups (2 * s)) ≡ bytes_in rack group now
-  member-told groups now s group is = ap (told_of rack now) (member-group groups s ∙ is)
-
-  all-told : (group : Group) (now : S) (s : ℕ) → group.number ≡ s → is_sure group ≡ true → DisksTell rack now group.disks s → AllTold rack group now
-  all-told group now s number sure disks = (sure, λ j lt. subst (λ (k : ℕ). IsSome (rack.bytes now (disk_number k j))) (sym number) (disks j lt))
-
-  tells-bytes : (group : Group) (now : S) → group.told ≡ true → AllTold rack group now → bytes_in rack group now ≡ Some (member_by group.disks group.length (made_by rack group now))
-  tells-bytes group now told all =
-      some-of (group.told && all_told rack group now) (member_by group.disks group.length (made_by rack group now)) (both-true group.told (all_told rack group now) told (each-told rack group now all))
-
-  -- a group without a byte
-  bare-tells : (now : S) (groups : List Group) (s n : ℕ) (group : Group) → slice_get groups s ≡ Some group → group.number ≡ s → group.disks ≡ n → group.length ≡ 0 → group.told ≡ true → is_sure group ≡ true
-      → DisksTell rack now n s → told_of rack now (group_at groups (2 * s)) ≡ Some []
-  bare-tells now groups s n group is number disks size told sure tell =
-      member-told groups now s group is
-      ∙ tells-bytes group now told (all-told group now s number sure (subst (λ (k : ℕ). DisksTell rack now k s) (sym disks) tell))
-      ∙ ap (λ (n : ℕ). Some (member_by group.disks n (made_by rack group now))) size
 
 module _ {R : Type 0} (rack : Ghosts R) where
   pub tells-sound : (before : R) (it : Grouped R) → OpensArray rack before it → TellsSound rack it

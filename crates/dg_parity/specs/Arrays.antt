@@ -1,6 +1,6 @@
 -- A rack whose members are groups of disks, and what it means as a rack. Member 2s is group s, and member 2s + 1 is never there. The rules are
 -- this project's own.
-use Rattle.std.specs.Prelude.{◌≡◌, ◌≢◌, ◌≤◌, ◌<◌, ◌/◌, ◌%◌, ◌&&◌, ◌==◌, nat_lt, not, ℕ, Bool, true, false, List, [], Option, Some, None, IsSome, length, if◌then◌else◌}
+use Rattle.std.specs.Prelude.{◌≡◌, ◌≢◌, ◌≤◌, ◌<◌, ◌*◌, ◌/◌, ◌%◌, ◌&&◌, ◌==◌, nat_lt, not, ℕ, Bool, true, false, List, [], Option, Some, None, IsSome, length, if◌then◌else◌}
 use Rattle.std.specs.Prelude.{slice_get, slice_index}
 use Rattle.dg_model.specs.Causes.{Rose, RoseByOne}
 use Rattle.dg_model.specs.States.{Counts}
@@ -209,12 +209,22 @@ pub record IsNewGroup (n s : ℕ) (group : Group) : Type 0 where
   pub out : (j : ℕ) → j < n → is_out group j ≡ true
   pub lost : is_lost group ≡ true
 
+-- each disk of group s tells its bytes
+abbrev pub DisksTell : {R : Type 0} → Ghosts R → R → ℕ → ℕ → Type 0
+DisksTell rack now n s = (j : ℕ) → j < n → IsSome (rack.bytes now (disk_number s j))
+
+-- The member of a group that was never made has no byte, where each of the group's disks tells its own.
+abbrev pub TellsNone : {R : Type 0} → Ghosts R → Grouped R → Type 0
+TellsNone rack it = (s : ℕ) → s < length it.groups → is_unmade (slice_get it.groups s) ≡ true → DisksTell rack it.rack it.width s → grouped_bytes rack it (2 * s) ≡ Some []
+
 -- so many groups of n disks over a rack, none of which was made yet
-pub record IsNewOver {R : Type 0} (rack : R) (groups n : ℕ) (it : Grouped R) : Type 0 where
+pub record IsNewOver {R : Type 0} (words : Ghosts R) (rack : R) (groups n : ℕ) (it : Grouped R) : Type 0 where
   pub rack_is : it.rack ≡ rack
   pub width : it.width ≡ n
   pub count : length it.groups ≡ groups
   pub widths : (s : ℕ) → s < groups → width_at it.groups s ≡ n
   pub served : (q : ℕ) → serves it.groups q ≡ false
   pub out : (s j : ℕ) → s < groups → j < n → out_of (slice_get it.groups s) j ≡ true
+  pub unmade : (s : ℕ) → s < groups → is_unmade (slice_get it.groups s) ≡ true
+  pub tells : TellsNone words it
   pub tally : HasNoCalls it.tally

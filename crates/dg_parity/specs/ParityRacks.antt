@@ -94,5 +94,5 @@ abbrev pub IsShort : {R : Type 0} → ParityRack R → ℕ → ℕ → Type 0
 IsShort = either (λ it q n. Unit {0}) (λ it q n. n < size_at it.groups q)
 
 -- it is of so many groups of n disks over this rack, none of which was made yet
-abbrev pub IsNew : {R : Type 0} → R → ℕ → ℕ → ParityRack R → Type 0
-IsNew rack groups n = either (λ it. ⊥) (IsNewOver rack groups n)
+abbrev pub IsNew : {R : Type 0} → Ghosts R → R → ℕ → ℕ → ParityRack R → Type 0
+IsNew words rack groups n = either (λ it. ⊥) (IsNewOver words rack groups n)

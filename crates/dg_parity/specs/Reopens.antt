@@ -1,12 +1,12 @@
 -- What an opening makes of a rack over a rack, and that it reads on where an earlier one left off. The rules are this project's own.
-use Rattle.std.specs.Prelude.{◌≡◌, ◌*◌, ◌<◌, ℕ, [], true, false, Some, IsSome, length, slice_get}
+use Rattle.std.specs.Prelude.{◌≡◌, ◌*◌, ◌<◌, ℕ, true, false, Some, IsSome, slice_get}
 use Rattle.dg_io.specs.Told.{Told, IsSame}
 use Rattle.dg_io.specs.declared.outside.Rack.{Ghosts}
 use Rattle.dg_parity.specs.Stripes.{member_by}
 use Rattle.dg_parity.specs.Groups.{disk_number, is_lost}
 use Rattle.dg_parity.specs.Kept.{made_by}
 use Rattle.dg_parity.specs.Sound.{is_sound}
-use Rattle.dg_parity.specs.Arrays.{Grouped, HasNoCalls, IsHeld, grouped_bytes, is_unmade, size_at}
+use Rattle.dg_parity.specs.Arrays.{DisksTell, Grouped, HasNoCalls, IsHeld, TellsNone, grouped_bytes, size_at}
 use Rattle.dg_parity.specs.Openings.{OpensGroups, OpensPlain}
 use Rattle.dg_parity.specs.ParityRacks.{IsServed, either, groups_in, parity_bytes, parity_disks, width_in}
 use Rattle.dg_parity.specs.declared.groups.Group.{Group}
@@ -29,18 +29,10 @@ pub record OpensArray {R : Type 0} (rack : Ghosts R) (before : R) (it : Grouped 
 abbrev pub Opens : {R : Type 0} → Ghosts R → R → ParityRack R → Type 0
 Opens rack before = either (λ now. OpensPlain rack before now) (λ it. OpensArray rack before it)
 
--- each disk of group s tells its bytes
-abbrev pub DisksTell : {R : Type 0} → Ghosts R → R → ℕ → ℕ → Type 0
-DisksTell rack now n s = (j : ℕ) → j < n → IsSome (rack.bytes now (disk_number s j))
-
 -- A member of which at most one disk is out tells the bytes that the others give, where the disks tell theirs and nothing is wrong with these.
 abbrev pub TellsSound : {R : Type 0} → Ghosts R → Grouped R → Type 0
 TellsSound rack it = (s : ℕ) (group : Group) → slice_get it.groups s ≡ Some group → is_lost group ≡ false → DisksTell rack it.rack group.disks s → is_sound rack group it.rack ≡ true
     → grouped_bytes rack it (2 * s) ≡ Some (member_by group.disks group.length (made_by rack group it.rack))
-
--- The member of a group that was never made has no byte, where each of the group's disks tells its own.
-abbrev pub TellsNone : {R : Type 0} → Ghosts R → Grouped R → Type 0
-TellsNone rack it = (s : ℕ) → s < length it.groups → is_unmade (slice_get it.groups s) ≡ true → DisksTell rack it.rack it.width s → grouped_bytes rack it (2 * s) ≡ Some []
 
 abbrev pub TellsMembers : {R : Type 0} → Ghosts R → ParityRack R → Type 0
 TellsMembers rack = either (λ now. Unit {0}) (λ it. TellsSound rack it × TellsNone rack it)

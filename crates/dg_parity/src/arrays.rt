@@ -56,7 +56,7 @@ impl<R: Rack + Drop> GroupRack<R> {
         requires few { groups ≤ 16 }
         requires least { 3 ≤ disks }
         requires most { disks ≤ 8 }
-        ensures { IfOk result (λ it. IsNewOver rack groups disks it) }
+        ensures { IfOk result (λ it. IsNewOver R.Rack rack groups disks it) }
     {
         let groups = new_groups(alloc, groups, disks)?;
         Ok(GroupRack {

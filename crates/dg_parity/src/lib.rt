@@ -29,7 +29,7 @@ pub use arrays::GroupRack;
 pub use blanks::blank;
 pub use chiefs::group_of;
 pub use drops::drop_disk;
-pub use epochs::{opened_is_latest, out_stays_out, reopened_reads_on};
+pub use epochs::{noted_is_back, opened_is_latest, out_stays_out, reopened_reads_on};
 pub use extends::extend;
 pub use groups::Group;
 pub use headers::{Header, fill_header, is_counted, read_header};

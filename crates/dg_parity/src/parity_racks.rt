@@ -48,7 +48,7 @@ impl<R: Rack + Drop> ParityRack<R> {
         requires few { groups ≤ 16 }
         requires least { 3 ≤ disks }
         requires most { disks ≤ 8 }
-        ensures { IfOk result (λ it. IsNew rack groups disks it) }
+        ensures { IfOk result (λ it. IsNew R.Rack rack groups disks it) }
     {
         match GroupRack::new(alloc, rack, groups, disks) {
             Ok(grouped) => Ok(ParityRack::OfGroups(grouped)),
