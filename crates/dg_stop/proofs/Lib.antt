@@ -2,9 +2,11 @@ mod Avoiding
 mod BlankLemmas
 mod Blanking
 mod CallLemmas
+mod CommitCounts
 mod CommitDouble
 mod CommitMembers
 mod Committing
+mod DoubleCounts
 mod FindLemmas
 mod FinishLemmas
 mod FoundLemmas
@@ -18,6 +20,7 @@ mod OnceLemmas
 mod OneCommit
 mod OpenedLemmas
 mod Opening
+mod PageCounts
 mod PageLemmas
 mod Paging
 mod PartLemmas

@@ -1,4 +1,5 @@
 pub mod Anchors
+pub mod Behind
 pub mod Changes
 pub mod Commits
 pub mod DoubleCommits
@@ -13,6 +14,7 @@ pub mod Pages
 pub mod Phases
 pub mod Reopens
 pub mod Serving
+pub mod StopCalls
 pub mod StopLaws
 pub mod StopRacks
 pub mod Stops
