@@ -5,12 +5,14 @@ use Rattle.std.specs.Prelude.{Option, Some, None, IfSome, Result, Ok, Err, OnOk,
 use Rattle.dg_io.specs.Told.{Told, IsSame, StillTold, Torn}
 use Rattle.dg_io.specs.RackWords.{Leaves}
 use Rattle.dg_io.specs.declared.outside.Rack.{Ghosts}
+use Rattle.dg_stop.proofs.CommitCounts.{finish_calls}
 use Rattle.dg_stop.proofs.Committing.{same_or_not}
 use Rattle.dg_io.specs.Makes.{Makes}
 use Rattle.dg_io.specs.MakesLaws.{makes_none}
 use Rattle.dg_stop.proofs.Frames.{told_torn_pages}
 use Rattle.dg_stop.proofs.PhaseLemmas.{made_turn, reach_left, reach_none, reach_right, sized_on, told_itself, told_left, told_right}
 use Rattle.dg_stop.proofs.PreparingTold.{puts_writes}
+use Rattle.dg_stop.specs.Behind.{MostCalls, one_if}
 use Rattle.dg_stop.specs.Headers.{Header}
 use Rattle.dg_stop.specs.Commits.{PutsHeader, WritesHeader, as_committed}
 use Rattle.dg_stop.specs.Layouts.{header_place, table_size}
@@ -51,10 +53,11 @@ module _ {S : Type 0} (rack : Ghosts S) (members : List Places) where
 
   pub finish_turn : (s room : ℕ) (extra : List ℕ) (n : ℕ) (first now next : List Bool) (old mid new : S)
       → FinishedBelow rack members s room extra n first now old mid
-      → Makes rack (IsOnServed n (flag_in now n)) mid new
+      → Makes rack (IsOnServed n (flag_in now n)) mid new → MostCalls rack (one_if (flag_in now n)) mid new
       → Finished rack members s room extra n (flag_in now n) (flag_in next n) mid new → LeavesOthers rack n now next mid new
       → FinishedBelow rack members s room extra (n + 1) first next old new
-  finish_turn s room extra n first now next old mid new so made own others = record {
+  finish_turn s room extra n first now next old mid new so made calls own others = record {
+    calls = finish_calls rack first (flag_in now n) n old mid new (so.rest n (omega arith)).flag so.calls calls;
     made = made_turn rack n first (flag_in now n) old mid new (so.rest n (omega arith)).flag so.made made;
     steady_on = ((λ h. own.steady_on.0 (so.steady_on.0 h)), (λ h. so.steady_on.1 (own.steady_on.1 h)));
     tells = λ r h. so.tells r (own.tells r h);
@@ -82,6 +85,7 @@ module _ {S : Type 0} (rack : Ghosts S) (members : List Places) where
   finished_none s room extra first old sized = record {
     steady_on = ((λ h. h), (λ h. h));
     tells = λ r h. h;
+    calls = omega arith;
     made = makes_none rack (IsServed first) old;
     below = λ q low. absurd (omega (arith, low));
     rest = λ q high. record { flag = refl; bytes = told_itself (rack.bytes old q); faults = refl; sized = sized q };

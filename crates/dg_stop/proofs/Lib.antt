@@ -3,9 +3,11 @@ mod Avoiding
 mod BlankLemmas
 mod Blanking
 mod CallLemmas
+mod CommitCounts
 mod CommitDouble
 mod CommitMembers
 mod Committing
+mod DoubleCounts
 mod FindLemmas
 mod FinishLemmas
 mod FoundKnown
@@ -25,6 +27,7 @@ mod OpenedLemmas
 mod OpenedNone
 mod OpenedRack
 mod Opening
+mod PageCounts
 mod PageLemmas
 mod Paging
 mod PartLemmas

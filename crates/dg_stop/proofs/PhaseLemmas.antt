@@ -1,5 +1,5 @@
 -- Turns of a pass over the members.
-use Rattle.std.proofs.Common.{◌≡◌, ◌≢◌, ◌+◌, ◌↔◌, ℕ, Bool, true, false, List, refl, sym, ◌∙◌, ap, arith, inl, inr, subst}
+use Rattle.std.proofs.Common.{◌≡◌, ◌≢◌, ◌+◌, ◌*◌, ◌↔◌, ℕ, Bool, true, false, List, refl, sym, ◌∙◌, ap, arith, inl, inr, subst}
 use Rattle.std.proofs.lemmas.Bool.{false≢true}
 use Rattle.std.specs.Prelude.{Option, Some, None, IfSome}
 use Rattle.dg_io.specs.Told.{Told, IsSame, StillTold}
@@ -7,10 +7,12 @@ use Rattle.dg_io.specs.declared.outside.Rack.{Ghosts}
 use Rattle.dg_io.specs.Makes.{Makes}
 use Rattle.dg_io.specs.MakesLaws.{makes_both, makes_none, makes_such}
 use Rattle.dg_model.specs.Causes.{Rose}
+use Rattle.dg_stop.proofs.CommitCounts.{prepare_calls}
 use Rattle.dg_stop.proofs.Committing.{same_or_not}
 use Rattle.dg_stop.proofs.Frames.{itself_pages, told_both_pages, told_same_pages}
 use Rattle.dg_stop.proofs.MadeLemmas.{as_served}
 use Rattle.std.specs.Prelude.{Result, Ok, Err, OnOk, OnErr, is_err, length, slice_get}
+use Rattle.dg_stop.specs.Behind.{MostCalls, one_if}
 use Rattle.dg_stop.specs.Headers.{Header}
 use Rattle.dg_stop.specs.Layouts.{SamePages, bit_in, double_size, seen, table_size}
 use Rattle.dg_stop.specs.Commits.{AreBelow, IsNamed, IsNamedOrNone, IsOpenTo, IsPlaced, Prepares}
@@ -121,10 +123,11 @@ module _ {S : Type 0} (rack : Ghosts S) (members : List Places) where
   -- one turn
   pub turn : (s room : ℕ) (extra : List ℕ) (n : ℕ) (first now next : List Bool) (old mid new : S)
       → PassedBelow rack members s room extra n first now old mid
-      → Makes rack (IsOnServed n (flag_in now n)) mid new
+      → Makes rack (IsOnServed n (flag_in now n)) mid new → MostCalls rack (3 * one_if (flag_in now n)) mid new
       → SoFar rack members s room extra n (flag_in now n) (flag_in next n) mid new → LeavesOthers rack n now next mid new
       → PassedBelow rack members s room extra (n + 1) first next old new
-  turn s room extra n first now next old mid new so made own others = record {
+  turn s room extra n first now next old mid new so made calls own others = record {
+    calls = prepare_calls rack first (flag_in now n) n old mid new (so.rest n (omega arith)).flag so.calls calls;
     made = made_turn rack n first (flag_in now n) old mid new (so.rest n (omega arith)).flag so.made made;
     steady_on = ((λ h. own.steady_on.0 (so.steady_on.0 h)), (λ h. so.steady_on.1 (own.steady_on.1 h)));
     tells = λ r h. so.tells r (own.tells r h);
@@ -152,6 +155,7 @@ module _ {S : Type 0} (rack : Ghosts S) (members : List Places) where
   passed_none s room extra first old sized = record {
     steady_on = ((λ h. h), (λ h. h));
     tells = λ r h. h;
+    calls = omega arith;
     made = makes_none rack (IsServed first) old;
     below = λ q low. absurd (omega (arith, low));
     rest = λ q high. record { flag = refl; bytes = told_itself (rack.bytes old q); faults = refl; sized = sized q };

@@ -8,11 +8,13 @@ use Rattle.dg_io.specs.Kept.{Kept}
 use Rattle.dg_io.specs.MakesLaws.{makes_both, makes_none, makes_such}
 use Rattle.dg_io.specs.declared.outside.Rack.{Ghosts}
 use Rattle.dg_model.specs.Causes.{Rose}
+use Rattle.dg_stop.proofs.CommitCounts.{TriesCalled, try_again}
 use Rattle.dg_stop.proofs.Frames.{itself_pages, told_both_pages}
 use Rattle.dg_stop.proofs.OneCommit.{both_at, guarded_only, held_same, lt_or}
 use Rattle.dg_stop.proofs.Committing.{same_or_not}
 use Rattle.dg_stop.proofs.Ranges.{seen_same}
 use Rattle.dg_stop.specs.Anchors.{Holds, IsAnchored, IsHeldBy, Stays}
+use Rattle.dg_stop.specs.Behind.{MostCalls, calls_of_try, members_of}
 use Rattle.dg_stop.specs.Commits.{AreGuarded, IsFresh}
 use Rattle.dg_stop.specs.Layouts.{SamePages, bit_in, spot, table_size}
 use Rattle.dg_stop.specs.Phases.{IsFewer, IsServed, LeavesKept, LeavesOnce, LeavesTries, Sized, StandsAfter, TellsKnown, all_kept, bits_in, flag_in, known_at, size_in, view_of}
@@ -311,6 +313,7 @@ pub record TriesSoFar {S : Type 0} (rack : Ghosts S) (members : List Places) (ro
   pub tries : AreTried tried served flags
   pub leaves : LeavesTries rack members room served flags old mid
   pub spare : TriesSpare rack members room last top next served flags old mid
+  pub calls : TriesCalled rack served flags old mid
 
 pub so_far_none : {S : Type 0} (rack : Ghosts S) (members : List Places) (room last top : ℕ) (served : List Bool) (old : S) → length served ≡ 32
     → ((q : ℕ) → flag_in served q ≡ true → Sized rack members room q old) → TriesSoFar rack members room last top served served served top old old
@@ -321,13 +324,15 @@ so_far_none rack members room last top served old count sized = record {
   tries = record { only = λ q is. is; wider = λ q is. is };
   leaves = tries_none rack members room served old sized;
   spare = spare_none rack members room last top served old;
+  calls = omega arith;
 }
 
 pub so_far_next : {S : Type 0} (rack : Ghosts S) (members : List Places) (room : ℕ) (extra : List ℕ) (last top next s : ℕ) (served flags tried serves : List Bool) (old mid new : S)
     → TriesSoFar rack members room last top served flags tried next old mid → next < s → s % 2 ≢ last % 2 → s ≤ next + 2 → length serves ≡ 32
     → LeavesOnce rack members room false flags serves mid new → LeavesKept rack members s room extra false flags serves mid new
+    → MostCalls rack (calls_of_try false (members_of (flag_in flags))) mid new
     → TriesSoFar rack members room last top served serves flags s old new
-so_far_next rack members room extra last top next s served flags tried serves old mid new so above apart near count once kept =
+so_far_next rack members room extra last top next s served flags tried serves old mid new so above apart near count once kept calls =
     let fewer : count_in serves < count_in flags = count_fewer flags serves (so.count ∙ sym count) once.tries.only (once.fewer refl) in
     record {
       low = omega (arith, so.low, above);
@@ -335,6 +340,7 @@ so_far_next rack members room extra last top next s served flags tried serves ol
       count = count;
       tries = record { only = so.leaves.only; wider = once.tries.only };
       leaves = tries_both rack members room served flags serves old mid new so.leaves once.tries;
+      calls = try_again rack served flags serves old mid new so.count so.leaves.only once.tries.only (once.fewer refl) so.calls calls;
       spare = spare_both rack members room extra last top next s served flags serves old mid new so.low above apart so.leaves so.spare once kept;
     }
 

@@ -1,4 +1,5 @@
 pub mod Anchors
+pub mod Behind
 pub mod Changes
 pub mod Commits
 pub mod DoubleCommits
@@ -16,6 +17,7 @@ pub mod Readings
 pub mod Reopens
 pub mod Serving
 pub mod Sessions
+pub mod StopCalls
 pub mod StopLaws
 pub mod StopRacks
 pub mod Stops

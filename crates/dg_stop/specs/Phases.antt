@@ -1,13 +1,15 @@
 -- The first pass of a commit over the members.
-use Rattle.std.specs.Prelude.{◌≡◌, ◌≢◌, ◌≤◌, ◌<◌, ◌^◌, ◌%◌, ◌↔◌, ◌⊎◌, if◌then◌else◌, IsSome, ℕ, Bool, true, false, List, [], Option, Some, None, IfSome, length, slice_get, slice_index_or}
+use Rattle.std.specs.Prelude.{◌≡◌, ◌≢◌, ◌≤◌, ◌<◌, ◌*◌, ◌^◌, ◌%◌, ◌↔◌, ◌⊎◌, if◌then◌else◌, IsSome, ℕ, Bool, true, false, List, [], Option, Some, None, IfSome, length, slice_get, slice_index_or}
 use Rattle.dg_io.specs.Told.{Told, IsSame, StillTold}
 use Rattle.dg_io.specs.declared.outside.Rack.{Ghosts}
 use Rattle.dg_io.specs.Kept.{Kept}
 use Rattle.dg_model.specs.Causes.{Rose}
+use Rattle.dg_model.specs.Moves.{count_upto}
 use Rattle.dg_io.specs.Makes.{Makes}
 use Rattle.dg_io.specs.RackCalls.{RackCall}
 use Rattle.dg_io.specs.RackCalls.RackCall.{calls}
 use Rattle.dg_stop.specs.Anchors.{Holds, Stays}
+use Rattle.dg_stop.specs.Behind.{MostCalls}
 use Rattle.dg_stop.specs.Headers.{Header, HasHeader}
 use Rattle.dg_stop.specs.Layouts.{SamePages, bit_in, bits_of, double_size, seen, table_size}
 use Rattle.dg_stop.specs.Reopens.{Reopened}
@@ -110,6 +112,7 @@ pub record PassedBelow {S : Type 0} (rack : Ghosts S) (members : List Places) (s
     (first now : List Bool) (old mid : S) : Type 0 where
   pub steady_on : rack.steady old ↔ rack.steady mid
   pub tells : StillTold (rack.bytes old) (rack.bytes mid)
+  pub calls : MostCalls rack (3 * count_upto n (flag_in first)) old mid
   pub made : Makes rack (IsServed first) old mid
   pub below : (q : ℕ) → q < n → SoFar rack members s room extra q (flag_in first q) (flag_in now q) old mid
   pub rest : (q : ℕ) → n ≤ q → Untouched rack members room q first now old mid
@@ -131,6 +134,7 @@ pub record FinishedBelow {S : Type 0} (rack : Ghosts S) (members : List Places) 
     (first now : List Bool) (old mid : S) : Type 0 where
   pub steady_on : rack.steady old ↔ rack.steady mid
   pub tells : StillTold (rack.bytes old) (rack.bytes mid)
+  pub calls : MostCalls rack (count_upto n (flag_in first)) old mid
   pub made : Makes rack (IsServed first) old mid
   pub below : (q : ℕ) → q < n → Finished rack members s room extra q (flag_in first q) (flag_in now q) old mid
   pub rest : (q : ℕ) → n ≤ q → Untouched rack members room q first now old mid

@@ -2,6 +2,7 @@
 ghost use Rattle.std.specs.Prelude.{◌≡◌, ◌+◌, ◌*◌, ◌^◌, ◌<◌, ℕ, length, true, false, IfSome, OnErr, OnOk};
 ghost use Rattle.dg_io.specs.Makes.{Makes};
 ghost use Rattle.dg_io.specs.Told.{Told};
+ghost use Rattle.dg_stop.specs.Behind.{MostCalls};
 ghost use Rattle.dg_stop.specs.Headers.{IsHeader, header_table};
 ghost use Rattle.dg_stop.specs.Layouts.{SamePages, bit_in, bits_of, double_size, seen, table_place, table_size};
 ghost use Rattle.dg_stop.specs.Commits.{AreBelow, IsNamed, IsNamedOrNone, IsOpenTo, IsPlaced, Prepares};
@@ -43,6 +44,7 @@ pub fn prepare<R: Rack>(
     requires bits { length bits.now ≡ bits_of header.now.size }
     requires extra { length extra.now ≡ header.now.extra }
     requires long { IfSome (R.bytes rack.old header.now.member) (λ all. length all ≡ double_size header.now.size header.now.room) }
+    ensures calls { MostCalls R.Rack 3 rack.old rack.new }
     ensures made { Makes R.Rack (IsOn header.now.member) rack.old rack.new }
     ensures serves { Serves R.Rack header.now.member result rack.old rack.new }
     ensures pages { Told (SamePages (header_table (header_of header.now))) (R.bytes rack.old header.now.member) (R.bytes rack.new header.now.member) }

@@ -1,7 +1,8 @@
 // A commit of members of a double rack.
 ghost use Rattle.std.specs.Prelude.{◌≡◌, ◌≤◌, ℕ, length, true, ◌↔◌, IsSome};
 ghost use Rattle.std.specs.List.{Contains};
-ghost use Rattle.dg_stop.specs.DoubleCommits.{KeepsCommit, LeavesMembers, answer_in};
+ghost use Rattle.dg_stop.specs.Behind.{MostCalls, calls_of_commit, members_of};
+ghost use Rattle.dg_stop.specs.DoubleCommits.{KeepsCommit, LeavesMembers, answer_in, fell_now};
 ghost use Rattle.dg_stop.specs.Doubles.{AreHeld, stands_in};
 ghost use Rattle.dg_stop.specs.Phases.{flag_in};
 ghost use Rattle.dg_stop.specs.Tries.{AreTried};
@@ -29,6 +30,7 @@ pub fn commit_members<R: Rack>(
     requires fits { length extra.now ≤ memory.old.room }
     ensures answer { IsSome result ↔ Contains serving.new true }
     ensures tried { AreTried tried.new serving.old serving.new }
+    ensures calls { MostCalls R.Rack (calls_of_commit (members_of (flag_in serving.old)) (members_of (fell_now serving.old serving.new))) rack.old rack.new }
     ensures leaves { LeavesMembers R.Rack serving.old serving.new memory.old memory.new rack.old rack.new }
     ensures kept { KeepsCommit R.Rack extra.now result tried.new memory.old memory.new rack.old rack.new }
 {

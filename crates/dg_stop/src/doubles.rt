@@ -77,7 +77,15 @@ impl<R: Rack> DoubleRack<R> {
 }
 
 impl<R: Rack> Rack for DoubleRack<R> {
-    ghost use Rattle.dg_stop.specs.Doubles.{DoubleMade, double_bytes, double_counts, double_disks, double_keeps, double_name, double_stands, double_steady, double_tells};
+    ghost use Rattle.std.specs.Prelude.{◌≡◌, ◌≤◌, ◌+◌, ◌∷◌, [], true, None, length, IfOk, IfSome, IsSome, OnErr, OnOk};
+    ghost use Rattle.dg_io.specs.Kept.{KeepsRest};
+    ghost use Rattle.dg_io.specs.RackCalls.{RackCall};
+    ghost use Rattle.dg_io.specs.RackWords.{Leaves};
+    ghost use Rattle.dg_io.specs.Told.{Told, Extended, FitsIn, IsEmpty, IsHeader, IsSame, IsZeros, KeepsFront, Measures, OldOrNew, Patched, Reads, Torn};
+    ghost use Rattle.dg_model.specs.Causes.{RoseByOne};
+    ghost use Rattle.dg_stop.specs.Behind.{MostCalls, pages_on};
+    ghost use Rattle.dg_stop.specs.StopCalls.{double_writes};
+    ghost use Rattle.dg_stop.specs.Doubles.{DoubleMade, double_bytes, double_counts, double_disks, double_keeps, double_name, double_stands, double_steady, double_tells, double_words};
     ghost use Rattle.dg_stop.specs.DoubleLaws.{double_after, double_both, double_none, double_tells_told, double_told};
 
     ghost name = { double_name R.Rack };
@@ -98,31 +106,83 @@ impl<R: Rack> Rack for DoubleRack<R> {
 
     ghost made = { DoubleMade R.Rack };
 
-    fn blank(&mut self, member: u8, length: u64) -> Result<(), Failed> {
+    /// One call behind.
+    fn blank(&mut self, member: u8, length: u64) -> Result<(), Failed>
+        ensures ok { OnOk result (Told (IsZeros length) (double_bytes R.Rack self.old member) (double_bytes R.Rack self.new member)) }
+        ensures leaves { Leaves (double_words R.Rack) member result self.old self.new }
+        ensures stands { OnOk result (double_stands R.Rack self.new member ≡ true) }
+        ensures keeps { KeepsRest (double_keeps R.Rack) (double_stands R.Rack) member self.old self.new }
+        ensures made { DoubleMade R.Rack self.old (RackCall.blanks member ∷ []) self.new }
+        ensures writes { RoseByOne (double_counts R.Rack self.old).writes (double_counts R.Rack self.new).writes }
+        ensures calls { MostCalls R.Rack 1 self.old.rack self.new.rack }
+    {
         let result = blank_member(&mut self.rack, &mut self.memory, member, length);
         self.tally.note_write(member, result.is_err());
         result
     }
 
-    fn attach(&mut self, member: u8) -> Result<Option<u64>, Failed> {
+    /// It makes no call behind.
+    fn attach(&mut self, member: u8) -> Result<Option<u64>, Failed>
+        ensures found { IfOk result (λ found. IfSome found (λ n.
+            Told (Measures n) (double_bytes R.Rack self.old member) (double_bytes R.Rack self.new member))) }
+        ensures absent { IfOk result (λ found. found ≡ None → Told IsEmpty (double_bytes R.Rack self.old member) (double_bytes R.Rack self.new member)) }
+        ensures same { Told IsSame (double_bytes R.Rack self.old member) (double_bytes R.Rack self.new member) }
+        ensures leaves { Leaves (double_words R.Rack) member result self.old self.new }
+        ensures stands { IfOk result (λ found. IsSome found → double_stands R.Rack self.new member ≡ true) }
+        ensures made { DoubleMade R.Rack self.old (RackCall.looks member ∷ []) self.new }
+        ensures writes { (double_counts R.Rack self.new).writes ≡ (double_counts R.Rack self.old).writes }
+        ensures calls { self.new.rack ≡ self.old.rack }
+    {
         let result = find_member(&self.memory, member);
         self.tally.note(member, result.is_err());
         result
     }
 
-    fn read(&mut self, member: u8, place: u64, buf: &mut [u8]) -> Result<(), Failed> {
+    /// One call behind for each page.
+    fn read(&mut self, member: u8, place: u64, buf: &mut [u8]) -> Result<(), Failed>
+        requires stands { double_stands R.Rack self.old member ≡ true }
+        requires range { IfSome (double_bytes R.Rack self.old member) (λ all. place + length buf.old ≤ length all) }
+        ensures ok { OnOk result (Told (Reads place buf.new) (double_bytes R.Rack self.old member) (double_bytes R.Rack self.new member)) }
+        ensures same { Told IsSame (double_bytes R.Rack self.old member) (double_bytes R.Rack self.new member) }
+        ensures made { DoubleMade R.Rack self.old (RackCall.calls member ∷ []) self.new }
+        ensures leaves { Leaves (double_words R.Rack) member result self.old self.new }
+        ensures writes { (double_counts R.Rack self.new).writes ≡ (double_counts R.Rack self.old).writes }
+        ensures calls { MostCalls R.Rack (pages_on place (length buf.old)) self.old.rack self.new.rack }
+    {
         let result = read_member(&mut self.rack, &mut self.memory, member, place, buf);
         self.tally.note(member, result.is_err());
         result
     }
 
-    fn write(&mut self, member: u8, place: u64, buf: &[u8]) -> Result<(), Failed> {
+    /// One call behind for each page, and one more for each that is written in part for the first time since the last commit.
+    fn write(&mut self, member: u8, place: u64, buf: &[u8]) -> Result<(), Failed>
+        requires stands { double_stands R.Rack self.old member ≡ true }
+        requires range { IfSome (double_bytes R.Rack self.old member) (λ all. place + length buf.now ≤ length all) }
+        ensures ok { OnOk result (Told (Patched place buf.now) (double_bytes R.Rack self.old member) (double_bytes R.Rack self.new member)) }
+        ensures err { OnErr result (Told (Torn place (length buf.now)) (double_bytes R.Rack self.old member) (double_bytes R.Rack self.new member)) }
+        ensures whole { OnErr result (double_steady R.Rack self.old → IsHeader place buf.now
+            → Told (OldOrNew place buf.now) (double_bytes R.Rack self.old member) (double_bytes R.Rack self.new member)) }
+        ensures made { DoubleMade R.Rack self.old (RackCall.calls member ∷ []) self.new }
+        ensures leaves { Leaves (double_words R.Rack) member result self.old self.new }
+        ensures writes { RoseByOne (double_counts R.Rack self.old).writes (double_counts R.Rack self.new).writes }
+        ensures calls { MostCalls R.Rack (double_writes self.old member place (length buf.now)) self.old.rack self.new.rack }
+    {
         let result = write_member(&mut self.rack, &mut self.memory, member, place, buf);
         self.tally.note_write(member, result.is_err());
         result
     }
 
-    fn extend(&mut self, member: u8, length: u64) -> Result<(), Failed> {
+    /// It makes no call behind.
+    fn extend(&mut self, member: u8, length: u64) -> Result<(), Failed>
+        requires stands { double_stands R.Rack self.old member ≡ true }
+        requires longer { IfSome (double_bytes R.Rack self.old member) (FitsIn length) }
+        ensures ok { OnOk result (Told (Extended length) (double_bytes R.Rack self.old member) (double_bytes R.Rack self.new member)) }
+        ensures err { OnErr result (Told KeepsFront (double_bytes R.Rack self.old member) (double_bytes R.Rack self.new member)) }
+        ensures made { DoubleMade R.Rack self.old (RackCall.calls member ∷ []) self.new }
+        ensures leaves { Leaves (double_words R.Rack) member result self.old self.new }
+        ensures writes { RoseByOne (double_counts R.Rack self.old).writes (double_counts R.Rack self.new).writes }
+        ensures calls { self.new.rack ≡ self.old.rack }
+    {
         let result = extend_member(&mut self.memory, member, length);
         self.tally.note_write(member, result.is_err());
         result
@@ -140,11 +200,22 @@ impl<R: Rack> Rack for DoubleRack<R> {
 }
 
 impl<R: Rack> Checkpoint for DoubleRack<R> {
-    ghost use Rattle.dg_stop.specs.DoubleCommits.{double_room};
+    ghost use Rattle.std.specs.Prelude.{◌≡◌, ◌≤◌, ℕ, true, length, IfSome};
+    ghost use Rattle.dg_io.specs.Commits.{LeavesCommit, is_marked};
+    ghost use Rattle.dg_stop.specs.Behind.{MostCalls};
+    ghost use Rattle.dg_stop.specs.DoubleCommits.{double_rack, double_room};
+    ghost use Rattle.dg_stop.specs.Doubles.{double_stands};
+    ghost use Rattle.dg_stop.specs.StopCalls.{double_commits};
 
     ghost room_of = { double_room };
 
-    fn commit(&mut self, keep: u32, extra: &[u8]) -> CommitAnswer {
+    /// Four calls behind on each member of `keep`, and three on each once more for each that fell.
+    fn commit(&mut self, keep: u32, extra: &[u8]) -> CommitAnswer
+        requires stand { (q : ℕ) → is_marked keep q ≡ true → double_stands R.Rack self.old q ≡ true }
+        requires fits { IfSome (double_room self.old) (λ room. length extra.now ≤ room) }
+        ensures leaves { LeavesCommit (double_rack R.Rack) double_room keep extra.now result self.old self.new }
+        ensures calls { MostCalls R.Rack (double_commits keep result) self.old.rack self.new.rack }
+    {
         let served = flags_of(keep);
         let mut serving = served;
         let mut tried = served;

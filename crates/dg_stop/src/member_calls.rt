@@ -3,7 +3,8 @@ ghost use Rattle.std.specs.Prelude.{◌≡◌, ◌≢◌, ◌+◌, ◌^◌, ◌<
 ghost use Rattle.dg_io.specs.Makes.{Makes};
 ghost use Rattle.dg_io.specs.RackCalls.{RackCall};
 ghost use Rattle.dg_io.specs.Told.{Told, IsSame, IsZeros, Patched, Reads, Torn};
-ghost use Rattle.dg_stop.specs.Doubles.{AreHeld, Falls, IsDue, IsTooLong, KeepsOthers, KeepsStill, Steps, fell_in, seen_in, sizes_in, stands_in};
+ghost use Rattle.dg_stop.specs.Behind.{MostCalls, pages_on, parts_on};
+ghost use Rattle.dg_stop.specs.Doubles.{AreHeld, Falls, IsDue, IsTooLong, KeepsOthers, KeepsStill, Steps, fell_in, last_in, now_in, seen_in, sizes_in, stands_in};
 ghost use Rattle.dg_stop.specs.Layouts.{bit_in, double_size, table_size};
 ghost use Rattle.dg_stop.specs.Pages.{PutsPiece, TearsPiece, TornPages};
 ghost use Rattle.dg_stop.specs.Phases.{Sized, bits_in, size_in};
@@ -43,6 +44,7 @@ pub fn read_member<R: Rack>(
 ) -> Result<(), Failed>
     requires held { AreHeld R.Rack memory.old rack.old }
     requires stands { stands_in memory.old member ≡ true }
+    ensures calls { MostCalls R.Rack (pages_on place (length buf.old)) rack.old rack.new }
     ensures steps { Steps R.Rack (RackCall.calls member) member result memory.old memory.new rack.old rack.new }
     ensures keeps { KeepsStill R.Rack memory.old memory.new rack.old rack.new }
     ensures same { Told IsSame (seen_in memory.old member (R.bytes rack.old member)) (seen_in memory.new member (R.bytes rack.new member)) }
@@ -77,6 +79,8 @@ fn write_at<R: Rack>(
 ) -> Result<(), Failed>
     requires sized { Sized R.Rack current.old.items room member rack.old }
     requires range { place + length piece.now ≤ size_in current.old.items member }
+    ensures calls { MostCalls R.Rack (pages_on place (length piece.now)
+        + parts_on (bit_in (bits_in current.old.items member)) (bit_in (bits_in last.now member)) place (length piece.now)) rack.old rack.new }
     ensures made { Makes R.Rack (IsOn member) rack.old rack.new }
     ensures serves { Serves R.Rack member result rack.old rack.new }
     ensures others { (q : ℕ) → q ≢ member → slice_get current.new.items q ≡ slice_get current.old.items q }
@@ -109,6 +113,8 @@ pub fn write_member<R: Rack>(
 ) -> Result<(), Failed>
     requires held { AreHeld R.Rack memory.old rack.old }
     requires stands { stands_in memory.old member ≡ true }
+    ensures calls { MostCalls R.Rack (pages_on place (length piece.now)
+        + parts_on (now_in memory.old member) (last_in memory.old member) place (length piece.now)) rack.old rack.new }
     ensures steps { Steps R.Rack (RackCall.calls member) member result memory.old memory.new rack.old rack.new }
     ensures keeps { KeepsStill R.Rack memory.old memory.new rack.old rack.new }
     ensures ok { OnOk result (Told (Patched place piece.now)
@@ -146,6 +152,7 @@ pub fn blank_member<R: Rack>(
     size: u64,
 ) -> Result<(), Failed>
     requires held { AreHeld R.Rack memory.old rack.old }
+    ensures calls { MostCalls R.Rack 1 rack.old rack.new }
     ensures steps { Steps R.Rack (RackCall.blanks member) member result memory.old memory.new rack.old rack.new }
     ensures keeps { KeepsOthers R.Rack member memory.old memory.new rack.old rack.new }
     ensures ok { OnOk result (Told (IsZeros size) (seen_in memory.old member (R.bytes rack.old member)) (seen_in memory.new member (R.bytes rack.new member))) }

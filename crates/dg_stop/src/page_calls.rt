@@ -1,9 +1,10 @@
 // Reads and writes of any bytes of a double member, page by page.
-ghost use Rattle.std.specs.Prelude.{◌≡◌, ◌≢◌, ◌+◌, ◌%◌, ◌^◌, ◌≤◌, ◌<◌, ℕ, true, length, slice_get, IfSome, OnErr, OnOk};
+ghost use Rattle.std.specs.Prelude.{◌≡◌, ◌≢◌, ◌+◌, ◌/◌, ◌%◌, ◌^◌, ◌≤◌, ◌<◌, ℕ, true, not, length, slice_get, IfSome, OnErr, OnOk};
 ghost use Rattle.dg_io.specs.Makes.{Makes};
 ghost use Rattle.dg_io.specs.Told.{Told, IsSame, Reads};
+ghost use Rattle.dg_stop.specs.Behind.{MostCalls, calls_on_page, pages_on, parts_on};
 ghost use Rattle.dg_stop.specs.Layouts.{bit_in, bits_of, double_size, seen, table_size};
-ghost use Rattle.dg_stop.specs.Pages.{PutsPiece, ReadsPiece, TearsPiece, TornPages};
+ghost use Rattle.dg_stop.specs.Pages.{PutsPiece, ReadsPiece, TearsPiece, TornPages, moved};
 ghost use Rattle.dg_stop.specs.Phases.{Sized, bits_in, size_in};
 ghost use Rattle.dg_stop.specs.Serving.{IsOn, Serves};
 
@@ -18,6 +19,7 @@ fn on_page(at: u64, rest: usize) -> usize
     ensures page { at % 512 + result ≤ 512 }
     ensures rest { result ≤ rest }
     ensures some { 0 < rest → 0 < result }
+    ensures full { result < rest → at % 512 + result ≡ 512 }
 {
     rest.min(PAGE - (at % 512) as usize)
 }
@@ -38,6 +40,7 @@ fn read_page<R: Rack>(
     requires some { 0 < length buf.old }
     requires range { at + length buf.old ≤ size }
     requires long { IfSome (R.bytes rack.old number) (λ all. length all ≡ double_size size room) }
+    ensures calls { MostCalls R.Rack 1 rack.old rack.new }
     ensures made { Makes R.Rack (IsOn number) rack.old rack.new }
     ensures serves { Serves R.Rack number result rack.old rack.new }
     ensures same { Told IsSame (R.bytes rack.old number) (R.bytes rack.new number) }
@@ -64,6 +67,7 @@ pub fn read_pages<R: Rack>(
     requires small { size < 2 ^ 48 }
     requires range { place + length buf.old ≤ size }
     requires long { IfSome (R.bytes rack.old number) (λ all. length all ≡ double_size size room) }
+    ensures calls { MostCalls R.Rack (pages_on place (length buf.old)) rack.old rack.new }
     ensures made { Makes R.Rack (IsOn number) rack.old rack.new }
     ensures serves { Serves R.Rack number result rack.old rack.new }
     ensures same { Told IsSame (R.bytes rack.old number) (R.bytes rack.new number) }
@@ -99,6 +103,9 @@ fn write_page<R: Rack>(
     requires some { 0 < length piece.now }
     requires range { at + length piece.now ≤ now.old.size }
     requires long { IfSome (R.bytes rack.old number) (λ all. length all ≡ double_size now.old.size room) }
+    ensures calls { MostCalls R.Rack
+        (calls_on_page (bit_in now.old.bits.items (at / 512)) (not (bit_in last.now (at / 512))) (length piece.now)) rack.old rack.new }
+    ensures bits { OnOk result ((p : ℕ) → bit_in now.new.bits.items p ≡ moved (at / 512) (not (bit_in last.now (at / 512))) (bit_in now.old.bits.items) p) }
     ensures made { Makes R.Rack (IsOn number) rack.old rack.new }
     ensures serves { Serves R.Rack number result rack.old rack.new }
     ensures size { now.new.size ≡ now.old.size }
@@ -145,6 +152,8 @@ pub fn write_pages<R: Rack>(
     requires bits { length now.old.bits.items ≡ bits_of now.old.size }
     requires range { place + length piece.now ≤ now.old.size }
     requires long { IfSome (R.bytes rack.old number) (λ all. length all ≡ double_size now.old.size room) }
+    ensures calls { MostCalls R.Rack (pages_on place (length piece.now)
+        + parts_on (bit_in now.old.bits.items) (bit_in last.now) place (length piece.now)) rack.old rack.new }
     ensures made { Makes R.Rack (IsOn number) rack.old rack.new }
     ensures serves { Serves R.Rack number result rack.old rack.new }
     ensures size { now.new.size ≡ now.old.size }

@@ -2,6 +2,7 @@
 ghost use Rattle.std.specs.Prelude.{◌≡◌, ◌+◌, ◌*◌, ◌^◌, ◌≤◌, ◌<◌, true, length, IfSome, OnOk};
 ghost use Rattle.dg_io.specs.Makes.{Makes};
 ghost use Rattle.dg_io.specs.Told.{Told, Torn, Patched, patch};
+ghost use Rattle.dg_stop.specs.Behind.{MostCalls, calls_on_page};
 ghost use Rattle.dg_stop.specs.Layouts.{page_place};
 ghost use Rattle.dg_stop.specs.Pages.{PutsPart};
 ghost use Rattle.dg_stop.specs.Serving.{IsOn, Serves};
@@ -34,6 +35,7 @@ fn put_part<R: Rack>(
     requires page { page < 2 ^ 48 }
     requires fits { k + length piece.now ≤ 512 }
     requires long { IfSome (R.bytes rack.old number) (λ all. 1024 + 2 * table + 1024 * (page + 1) ≤ length all) }
+    ensures calls { MostCalls R.Rack 1 rack.old rack.new }
     ensures made { Makes R.Rack (IsOn number) rack.old rack.new }
     ensures serves { Serves R.Rack number result rack.old rack.new }
     ensures torn { Told (Torn (page_place table page second) 512) (R.bytes rack.old number) (R.bytes rack.new number) }
@@ -69,6 +71,7 @@ pub fn write_part<R: Rack>(
     requires page { page < 2 ^ 48 }
     requires fits { k + length piece.now ≤ 512 }
     requires long { IfSome (R.bytes rack.old number) (λ all. 1024 + 2 * table + 1024 * (page + 1) ≤ length all) }
+    ensures calls { MostCalls R.Rack (calls_on_page stands second (length piece.now)) rack.old rack.new }
     ensures made { Makes R.Rack (IsOn number) rack.old rack.new }
     ensures serves { Serves R.Rack number result rack.old rack.new }
     ensures torn { Told (Torn (page_place table page second) 512) (R.bytes rack.old number) (R.bytes rack.new number) }

@@ -1,6 +1,7 @@
 // The two passes of a commit over the members.
-ghost use Rattle.std.specs.Prelude.{◌≡◌, ◌≢◌, ◌≤◌, ◌<◌, ◌^◌, ◌%◌, ℕ, true, false};
+ghost use Rattle.std.specs.Prelude.{◌≡◌, ◌≢◌, ◌≤◌, ◌<◌, ◌*◌, ◌^◌, ◌%◌, ℕ, true, false};
 ghost use Rattle.dg_io.specs.Makes.{Makes};
+ghost use Rattle.dg_stop.specs.Behind.{MostCalls, calls_of_try, members_of, one_if};
 ghost use Rattle.dg_stop.specs.Phases.{IsOnServed, CanPrepare, Finished, FinishedBelow, LeavesKept, LeavesOnce, LeavesOthers, PassedBelow, SoFar, Sized, flag_in};
 
 use crate::commits::prepare;
@@ -24,6 +25,7 @@ pub fn prepare_at<R: Rack>(
     requires number { number < 32 }
     requires can { CanPrepare sequence room extra.now }
     requires sized { (q : ℕ) → flag_in serving.old q ≡ true → Sized R.Rack members.now room q rack.old }
+    ensures calls { MostCalls R.Rack (3 * one_if (flag_in serving.old number)) rack.old rack.new }
     ensures made { Makes R.Rack (IsOnServed number (flag_in serving.old number)) rack.old rack.new }
     ensures own { SoFar R.Rack members.now sequence room extra.now number (flag_in serving.old number) (flag_in serving.new number) rack.old rack.new }
     ensures others { LeavesOthers R.Rack number serving.old serving.new rack.old rack.new }
@@ -75,6 +77,7 @@ pub fn finish_at<R: Rack>(
     requires number { number < 32 }
     requires can { CanPrepare sequence room extra.now }
     requires sized { flag_in serving.old number ≡ true → Sized R.Rack members.now room number rack.old }
+    ensures calls { MostCalls R.Rack (one_if (flag_in serving.old number)) rack.old rack.new }
     ensures made { Makes R.Rack (IsOnServed number (flag_in serving.old number)) rack.old rack.new }
     ensures own { Finished R.Rack members.now sequence room extra.now number (flag_in serving.old number) (flag_in serving.new number) rack.old rack.new }
     ensures others { LeavesOthers R.Rack number serving.old serving.new rack.old rack.new }
@@ -125,6 +128,7 @@ pub fn commit_once<R: Rack>(
 ) -> bool
     requires can { CanPrepare sequence room extra.now }
     requires sized { (q : ℕ) → flag_in serving.old q ≡ true → Sized R.Rack members.now room q rack.old }
+    ensures calls { MostCalls R.Rack (calls_of_try result (members_of (flag_in serving.old))) rack.old rack.new }
     ensures leaves { LeavesOnce R.Rack members.now room result serving.old serving.new rack.old rack.new }
     ensures kept { LeavesKept R.Rack members.now sequence room extra.now result serving.old serving.new rack.old rack.new }
 {

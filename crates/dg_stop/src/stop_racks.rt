@@ -69,7 +69,15 @@ impl<R: Rack + Drop> StopRack<R> {
 }
 
 impl<R: Rack> Rack for StopRack<R> {
-    ghost use Rattle.dg_stop.specs.StopRacks.{StopMade, stop_bytes, stop_counts, stop_disks, stop_keeps, stop_name, stop_stands, stop_steady, stop_tells};
+    ghost use Rattle.std.specs.Prelude.{◌≡◌, ◌≤◌, ◌+◌, ◌∷◌, [], true, None, length, IfOk, IfSome, IsSome, OnErr, OnOk};
+    ghost use Rattle.dg_io.specs.Kept.{KeepsRest};
+    ghost use Rattle.dg_io.specs.RackCalls.{RackCall};
+    ghost use Rattle.dg_io.specs.RackWords.{Leaves};
+    ghost use Rattle.dg_io.specs.Told.{Told, Extended, FitsIn, IsEmpty, IsHeader, IsSame, IsZeros, KeepsFront, Measures, OldOrNew, Patched, Reads, Torn};
+    ghost use Rattle.dg_model.specs.Causes.{RoseByOne};
+    ghost use Rattle.dg_stop.specs.Behind.{MostCalls};
+    ghost use Rattle.dg_stop.specs.StopCalls.{behind, calls_to_look, calls_to_read, calls_to_write};
+    ghost use Rattle.dg_stop.specs.StopRacks.{StopMade, stop_bytes, stop_counts, stop_disks, stop_keeps, stop_name, stop_stands, stop_steady, stop_tells, stop_words};
     ghost use Rattle.dg_stop.specs.StopLaws.{stop_after, stop_both, stop_none, stop_tells_told, stop_told};
 
     ghost name = { stop_name R.Rack };
@@ -90,35 +98,87 @@ impl<R: Rack> Rack for StopRack<R> {
 
     ghost made = { StopMade R.Rack };
 
-    fn blank(&mut self, member: u8, length: u64) -> Result<(), Failed> {
+    /// One call behind.
+    fn blank(&mut self, member: u8, length: u64) -> Result<(), Failed>
+        ensures ok { OnOk result (Told (IsZeros length) (stop_bytes R.Rack self.old member) (stop_bytes R.Rack self.new member)) }
+        ensures leaves { Leaves (stop_words R.Rack) member result self.old self.new }
+        ensures stands { OnOk result (stop_stands R.Rack self.new member ≡ true) }
+        ensures keeps { KeepsRest (stop_keeps R.Rack) (stop_stands R.Rack) member self.old self.new }
+        ensures made { StopMade R.Rack self.old (RackCall.blanks member ∷ []) self.new }
+        ensures writes { RoseByOne (stop_counts R.Rack self.old).writes (stop_counts R.Rack self.new).writes }
+        ensures calls { MostCalls R.Rack 1 (behind self.old) (behind self.new) }
+    {
         match self {
             StopRack::Plain(rack) => rack.blank(member, length),
             StopRack::Doubled(double) => double.blank(member, length),
         }
     }
 
-    fn attach(&mut self, member: u8) -> Result<Option<u64>, Failed> {
+    /// One call behind of a plain one, and none of a double one.
+    fn attach(&mut self, member: u8) -> Result<Option<u64>, Failed>
+        ensures found { IfOk result (λ found. IfSome found (λ n. Told (Measures n) (stop_bytes R.Rack self.old member) (stop_bytes R.Rack self.new member))) }
+        ensures absent { IfOk result (λ found. found ≡ None → Told IsEmpty (stop_bytes R.Rack self.old member) (stop_bytes R.Rack self.new member)) }
+        ensures same { Told IsSame (stop_bytes R.Rack self.old member) (stop_bytes R.Rack self.new member) }
+        ensures leaves { Leaves (stop_words R.Rack) member result self.old self.new }
+        ensures stands { IfOk result (λ found. IsSome found → stop_stands R.Rack self.new member ≡ true) }
+        ensures made { StopMade R.Rack self.old (RackCall.looks member ∷ []) self.new }
+        ensures writes { (stop_counts R.Rack self.new).writes ≡ (stop_counts R.Rack self.old).writes }
+        ensures calls { MostCalls R.Rack (calls_to_look self.old) (behind self.old) (behind self.new) }
+    {
         match self {
             StopRack::Plain(rack) => rack.attach(member),
             StopRack::Doubled(double) => double.attach(member),
         }
     }
 
-    fn read(&mut self, member: u8, place: u64, buf: &mut [u8]) -> Result<(), Failed> {
+    /// One call behind of a plain one, and one for each page of a double one.
+    fn read(&mut self, member: u8, place: u64, buf: &mut [u8]) -> Result<(), Failed>
+        requires stands { stop_stands R.Rack self.old member ≡ true }
+        requires range { IfSome (stop_bytes R.Rack self.old member) (λ all. place + length buf.old ≤ length all) }
+        ensures ok { OnOk result (Told (Reads place buf.new) (stop_bytes R.Rack self.old member) (stop_bytes R.Rack self.new member)) }
+        ensures same { Told IsSame (stop_bytes R.Rack self.old member) (stop_bytes R.Rack self.new member) }
+        ensures made { StopMade R.Rack self.old (RackCall.calls member ∷ []) self.new }
+        ensures leaves { Leaves (stop_words R.Rack) member result self.old self.new }
+        ensures writes { (stop_counts R.Rack self.new).writes ≡ (stop_counts R.Rack self.old).writes }
+        ensures calls { MostCalls R.Rack (calls_to_read self.old place (length buf.old)) (behind self.old) (behind self.new) }
+    {
         match self {
             StopRack::Plain(rack) => rack.read(member, place, buf),
             StopRack::Doubled(double) => double.read(member, place, buf),
         }
     }
 
-    fn write(&mut self, member: u8, place: u64, buf: &[u8]) -> Result<(), Failed> {
+    /// One call behind of a plain one. Of a double one it is one for each page, and one more for each that is written in part for the first time
+    /// since the last commit.
+    fn write(&mut self, member: u8, place: u64, buf: &[u8]) -> Result<(), Failed>
+        requires stands { stop_stands R.Rack self.old member ≡ true }
+        requires range { IfSome (stop_bytes R.Rack self.old member) (λ all. place + length buf.now ≤ length all) }
+        ensures ok { OnOk result (Told (Patched place buf.now) (stop_bytes R.Rack self.old member) (stop_bytes R.Rack self.new member)) }
+        ensures err { OnErr result (Told (Torn place (length buf.now)) (stop_bytes R.Rack self.old member) (stop_bytes R.Rack self.new member)) }
+        ensures whole { OnErr result (stop_steady R.Rack self.old → IsHeader place buf.now
+            → Told (OldOrNew place buf.now) (stop_bytes R.Rack self.old member) (stop_bytes R.Rack self.new member)) }
+        ensures made { StopMade R.Rack self.old (RackCall.calls member ∷ []) self.new }
+        ensures leaves { Leaves (stop_words R.Rack) member result self.old self.new }
+        ensures writes { RoseByOne (stop_counts R.Rack self.old).writes (stop_counts R.Rack self.new).writes }
+        ensures calls { MostCalls R.Rack (calls_to_write self.old member place (length buf.now)) (behind self.old) (behind self.new) }
+    {
         match self {
             StopRack::Plain(rack) => rack.write(member, place, buf),
             StopRack::Doubled(double) => double.write(member, place, buf),
         }
     }
 
-    fn extend(&mut self, member: u8, length: u64) -> Result<(), Failed> {
+    /// One call behind of a plain one, and none of a double one.
+    fn extend(&mut self, member: u8, length: u64) -> Result<(), Failed>
+        requires stands { stop_stands R.Rack self.old member ≡ true }
+        requires longer { IfSome (stop_bytes R.Rack self.old member) (FitsIn length) }
+        ensures ok { OnOk result (Told (Extended length) (stop_bytes R.Rack self.old member) (stop_bytes R.Rack self.new member)) }
+        ensures err { OnErr result (Told KeepsFront (stop_bytes R.Rack self.old member) (stop_bytes R.Rack self.new member)) }
+        ensures made { StopMade R.Rack self.old (RackCall.calls member ∷ []) self.new }
+        ensures leaves { Leaves (stop_words R.Rack) member result self.old self.new }
+        ensures writes { RoseByOne (stop_counts R.Rack self.old).writes (stop_counts R.Rack self.new).writes }
+        ensures calls { MostCalls R.Rack (calls_to_look self.old) (behind self.old) (behind self.new) }
+    {
         match self {
             StopRack::Plain(rack) => rack.extend(member, length),
             StopRack::Doubled(double) => double.extend(member, length),
@@ -137,11 +197,21 @@ impl<R: Rack> Rack for StopRack<R> {
 }
 
 impl<R: Rack> Checkpoint for StopRack<R> {
-    ghost use Rattle.dg_stop.specs.StopRacks.{stop_room};
+    ghost use Rattle.std.specs.Prelude.{◌≡◌, ◌≤◌, ℕ, true, length, IfSome};
+    ghost use Rattle.dg_io.specs.Commits.{LeavesCommit, is_marked};
+    ghost use Rattle.dg_stop.specs.Behind.{MostCalls};
+    ghost use Rattle.dg_stop.specs.StopCalls.{behind, calls_to_commit};
+    ghost use Rattle.dg_stop.specs.StopRacks.{stop_room, stop_stands, stop_words};
 
     ghost room_of = { stop_room };
 
-    fn commit(&mut self, keep: u32, extra: &[u8]) -> CommitAnswer {
+    /// No call behind of a plain one. Of a double one four on each member of `keep`, and three on each once more for each that fell.
+    fn commit(&mut self, keep: u32, extra: &[u8]) -> CommitAnswer
+        requires stand { (q : ℕ) → is_marked keep q ≡ true → stop_stands R.Rack self.old q ≡ true }
+        requires fits { IfSome (stop_room self.old) (λ room. length extra.now ≤ room) }
+        ensures leaves { LeavesCommit (stop_words R.Rack) stop_room keep extra.now result self.old self.new }
+        ensures calls { MostCalls R.Rack (calls_to_commit self.old keep result) (behind self.old) (behind self.new) }
+    {
         match self {
             StopRack::Plain(_rack) => CommitAnswer::Committed {
                 sequence: 0,

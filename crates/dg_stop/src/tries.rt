@@ -1,6 +1,8 @@
 // A commit, tried again until no member falls before it is made.
 ghost use Rattle.std.specs.Prelude.{◌≡◌, ◌≢◌, ◌≤◌, ◌<◌, ◌+◌, ◌^◌, ◌%◌, ◌↔◌, ℕ, length, true, Option, IfSome, IsSome, IsTrue};
 ghost use Rattle.std.specs.List.{Contains};
+ghost use Rattle.dg_stop.specs.Behind.{MostCalls, calls_of_commit, members_of};
+ghost use Rattle.dg_stop.specs.DoubleCommits.{fell_now};
 ghost use Rattle.dg_stop.specs.Phases.{LeavesTries, Sized, flag_in};
 ghost use Rattle.dg_stop.specs.Tries.{AreTried, TriesKeep};
 
@@ -35,6 +37,7 @@ pub fn commit_all<R: Rack>(
     ensures sequence { IfSome result (λ s. (s ≡ top.new) × (top.old < s) × (s % 2 ≢ last % 2)) }
     ensures top { (top.old ≤ top.new) × (top.new ≤ top.old + 64) }
     ensures tried { AreTried tried.new serving.old serving.new }
+    ensures calls { MostCalls R.Rack (calls_of_commit (members_of (flag_in serving.old)) (members_of (fell_now serving.old serving.new))) rack.old rack.new }
     ensures leaves { LeavesTries R.Rack members.now room serving.old serving.new rack.old rack.new }
     ensures kept { TriesKeep R.Rack members.now room extra.now last top.old top.new result tried.new serving.old serving.new rack.old rack.new }
 {

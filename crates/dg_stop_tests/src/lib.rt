@@ -2,4 +2,10 @@
 #![tactic(auto)]
 
 #[cfg(test)]
+mod calls;
+#[cfg(test)]
+mod plain_readings;
+#[cfg(test)]
+mod stops;
+#[cfg(test)]
 mod tests;

@@ -1,4 +1,4 @@
-use Rattle.std.proofs.Common.{◌≡◌, ℕ, ap, sym, ◌∙◌, refl}
+use Rattle.std.proofs.Common.{◌≡◌, ℕ, ap, sym, ◌∙◌, refl, arith}
 use Rattle.dg_stop.specs.Headers.{header_table}
 use Rattle.dg_stop.specs.Layouts.{table_place}
 use Rattle.dg_stop.specs.Values.{header_of}
@@ -141,3 +141,12 @@ returns-clause-pages g c =
     (second_fits (header_of c.args.header.now) c.args.bits.now c.args.extra.now (g.R.Rack.bytes c.args.rack.now c.args.header.now.member) (g.R.Rack.bytes c.write.new.self c.args.header.now.member)
     c.requires.is c.requires.bits c.requires.extra c.requires.long (rw (sym at) c.in_ok-write.ensures.ok))
     (rw (sym at, sym c.bits_len.ensures) c.in_ok-write-2.ensures.ok) c.write_header.ensures.torn
+
+pub returns-in_err-write-clause-calls : goal.returns-in_err-write-clause-calls
+returns-in_err-write-clause-calls g c = omega (arith, c.write.ensures.leaves.counted.most)
+
+pub returns-in_err-write-2-clause-calls : goal.returns-in_err-write-2-clause-calls
+returns-in_err-write-2-clause-calls g c = omega (arith, c.write.ensures.leaves.counted.most, c.write-2.ensures.leaves.counted.most)
+
+pub returns-clause-calls : goal.returns-clause-calls
+returns-clause-calls g c = omega (arith, c.write.ensures.leaves.counted.most, c.write-2.ensures.leaves.counted.most, c.write_header.ensures.leaves.counted.most)

@@ -155,3 +155,8 @@ returns-in-None-clause-kept g c =
     n is (none_of serves (λ has. false≢true (c.in-None.ensures.answer.1 has)))
     (subst (λ (l : List Places). TriesKeep g.R.Rack l m.room c.args.extra.now m.commit m.top next None c.commit_all-made.new.tried served serves c.args.rack.now c.commit_all-made.new.rack)
     c.deref.ensures.value c.in-None.ensures.kept)
+
+pub settle_all-requires-2 : goal.settle_all-requires-2
+settle_all-requires-2 g c = λ q on.
+    let stands = c.requires.stand q (c.commit_all-made.ensures.leaves.only q on) in
+    c.requires.held.paired q stands ∙ sym (c.requires.held.sized q stands).bits

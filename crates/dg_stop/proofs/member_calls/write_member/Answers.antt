@@ -1,4 +1,4 @@
-use Rattle.std.proofs.Common.{List, length, refl, subst}
+use Rattle.std.proofs.Common.{List, length, refl, subst, ◌+◌}
 use Rattle.dg_io.specs.RackCalls.RackCall.{calls}
 use Rattle.dg_stop.proofs.MemberLemmas.{done_keeps, done_steps, failed_keeps, failed_steps, fall_keeps, fall_steps, puts_seen, rewrites_current, torn_none, torn_seen}
 use Rattle.dg_io.specs.Told.{Told}
@@ -6,6 +6,8 @@ use Rattle.dg_stop.specs.Layouts.{bit_in, table_size}
 use Rattle.dg_stop.specs.Pages.{TornPages}
 use Rattle.dg_stop.specs.Phases.{bits_in, size_in}
 use Rattle.dg_stop.specs.declared.places.Places.{Places}
+use Rattle.dg_stop.specs.Behind.{MostCalls, pages_on, parts_on}
+use Rattle.dg_stop.specs.Doubles.{now_in}
 use Rattle.dg_stop.proofs.member_calls.write_member.Goals as goal
 
 pub returns-then-not-is_inside-clause-steps : goal.returns-then-not-is_inside-clause-steps
@@ -65,3 +67,15 @@ pub returns-in-Err-clause-err : goal.returns-in-Err-clause-err
 returns-in-Err-clause-err g c =
     torn_seen c.args.memory.now (record c.args.memory.now { current = c.write_at.new.current }) _ c.args.member c.args.place (length c.args.piece.now) (g.R.Rack.bytes c.args.rack.now c.args.member) (g.R.Rack.bytes c.write_at.new.rack c.args.member)
     c.fall-in-Err.ensures refl c.write_at.ensures.size c.in-Err.ensures.torn
+
+pub returns-in-Ok-clause-calls : goal.returns-in-Ok-clause-calls
+returns-in-Ok-clause-calls g c =
+    let q = c.args.member in
+    let n = length c.args.piece.now in
+    subst (λ (l : List Places). MostCalls g.R.Rack (pages_on c.args.place n + parts_on (now_in c.args.memory.now q) (bit_in (bits_in l q)) c.args.place n) c.args.rack.now c.write_at.new.rack) c.deref-2.ensures.value c.write_at.ensures.calls
+
+pub returns-in-Err-clause-calls : goal.returns-in-Err-clause-calls
+returns-in-Err-clause-calls g c =
+    let q = c.args.member in
+    let n = length c.args.piece.now in
+    subst (λ (l : List Places). MostCalls g.R.Rack (pages_on c.args.place n + parts_on (now_in c.args.memory.now q) (bit_in (bits_in l q)) c.args.place n) c.args.rack.now c.write_at.new.rack) c.deref-2.ensures.value c.write_at.ensures.calls

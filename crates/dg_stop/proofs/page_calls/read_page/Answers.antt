@@ -28,3 +28,6 @@ returns-clause-done g c =
     (double_size size room) (g.R.Rack.bytes c.args.rack.now c.args.number) (g.R.Rack.bytes c.read.new.self c.args.number) c.requires.long
     (λ a b size_a reads. reads_page size room at (bit_in c.args.bits.now) c.read.new.buf a b size_a (omega (arith, c.requires.page, long)) (omega (arith, c.requires.some, long))
     (omega (arith, c.requires.range, long)) (subst (λ (k : ℕ). Reads (k + at % 512) c.read.new.buf a b) place reads)) told) c.read.ensures.ok
+
+pub returns-clause-calls : goal.returns-clause-calls
+returns-clause-calls g c = omega (arith, c.read.ensures.leaves.counted.most)

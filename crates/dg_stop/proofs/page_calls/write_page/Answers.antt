@@ -4,6 +4,8 @@ use Rattle.dg_io.specs.Told.{Torn}
 use Rattle.dg_stop.proofs.PieceLemmas.{one_page, puts_page, told_long, told_map, told_two, torn_page, OnErr-always}
 use Rattle.dg_stop.specs.Layouts.{bit_in, double_size, page_place, table_size}
 use Rattle.dg_stop.specs.Pages.{PutsPart, PutsPiece, TearsPiece, TornPages}
+use Rattle.dg_stop.specs.Behind.{MostCalls, calls_on_page}
+use Rattle.dg_stop.specs.Pages.{moved}
 use Rattle.dg_stop.proofs.page_calls.write_page.Goals as goal
 
 pub returns-in_err-write_part-clause-pages : goal.returns-in_err-write_part-clause-pages
@@ -58,3 +60,21 @@ returns-clause-done g c =
     c.put_bit.ensures.bits
     (subst (λ (t : ℕ). PutsPart t (at / 512) (bit_in c.args.now.now.bits.items (at / 512)) second (at % 512) c.args.piece.now a b) c.table_len-table.ensures
     (subst (λ (s : Bool). PutsPart c.table_len-table.result (at / 512) s second (at % 512) c.args.piece.now a b) stands put))) c.in_ok-write_part.ensures.done
+
+pub returns-in_err-write_part-clause-calls : goal.returns-in_err-write_part-clause-calls
+returns-in_err-write_part-clause-calls g c =
+    let page = c.args.at / 512 in
+    let stands : c.bit-stands.result ≡ bit_in c.args.now.now.bits.items page = c.bit-stands.ensures ∙ ap (λ (l : List ℕ). bit_in l page) c.deref.ensures.value in
+    subst (λ (s : Bool). MostCalls g.R.Rack (calls_on_page s (not (bit_in c.args.last.now page)) (length c.args.piece.now)) c.args.rack.now c.write_part.new.rack) stands
+    (subst (λ (b : Bool). MostCalls g.R.Rack (calls_on_page c.bit-stands.result (not b) (length c.args.piece.now)) c.args.rack.now c.write_part.new.rack) c.bit-second.ensures c.write_part.ensures.calls)
+
+pub returns-clause-calls : goal.returns-clause-calls
+returns-clause-calls g c =
+    let page = c.args.at / 512 in
+    let stands : c.bit-stands.result ≡ bit_in c.args.now.now.bits.items page = c.bit-stands.ensures ∙ ap (λ (l : List ℕ). bit_in l page) c.deref.ensures.value in
+    subst (λ (s : Bool). MostCalls g.R.Rack (calls_on_page s (not (bit_in c.args.last.now page)) (length c.args.piece.now)) c.args.rack.now c.write_part.new.rack) stands
+    (subst (λ (b : Bool). MostCalls g.R.Rack (calls_on_page c.bit-stands.result (not b) (length c.args.piece.now)) c.args.rack.now c.write_part.new.rack) c.bit-second.ensures c.write_part.ensures.calls)
+
+pub returns-clause-bits : goal.returns-clause-bits
+returns-clause-bits g c =
+    subst (λ (b : Bool). (p : ℕ) → bit_in c.put_bit.new.bits.items p ≡ moved (c.args.at / 512) (not b) (bit_in c.args.now.now.bits.items) p) c.bit-second.ensures c.put_bit.ensures.bits

@@ -1,10 +1,12 @@
-use Rattle.std.proofs.Common.{◌≡◌, ◌≤◌, ◌+◌, ◌-◌, ℕ, length, take, drop, refl, ◌∙◌, ap, arith, subst, sym}
-use Rattle.std.specs.Prelude.{IfSome, is_ok}
+use Rattle.std.proofs.Common.{◌≡◌, ◌≤◌, ◌+◌, ◌-◌, ◌/◌, ℕ, length, take, drop, refl, ◌∙◌, ap, arith, subst, sym}
+use Rattle.std.specs.Prelude.{IfSome, is_ok, not}
 use Rattle.dg_io.specs.Told.{Told}
+use Rattle.dg_stop.proofs.PageCounts.{calls_turn, pages_same, parts_same}
 use Rattle.dg_stop.proofs.PieceLemmas.{serves_done}
 use Rattle.dg_stop.proofs.TurnLemmas.{part_is, part_long, turn_made, turn_pages, turn_serves, turn_torn, wrote_all, wrote_long, wrote_none, wrote_turn}
+use Rattle.dg_stop.specs.Behind.{MostCalls, calls_on_page}
 use Rattle.dg_stop.specs.Layouts.{bit_in, bits_of, double_size, table_size}
-use Rattle.dg_stop.specs.Pages.{PutsPiece, TearsPiece, TornPages}
+use Rattle.dg_stop.specs.Pages.{PutsPiece, TearsPiece, TornPages, moved}
 use Rattle.dg_stop.proofs.page_calls.write_pages.Goals as goal
 
 pub loop-done-init : goal.loop-done-init
@@ -13,6 +15,11 @@ loop-done-init g c = (
   refl,
   refl,
   refl,
+  omega (
+    arith,
+    pages_same (c.args.place + 0) c.args.place (length c.args.piece.now - 0) (length c.args.piece.now) (omega arith) (omega arith),
+    parts_same (bit_in c.args.now.now.bits.items) (bit_in c.args.last.now) (c.args.place + 0) c.args.place (length c.args.piece.now - 0) (length c.args.piece.now) (omega arith) (omega arith),
+  ),
 )
 
 pub write_page-requires-clause-stands : goal.write_page-requires-clause-stands
@@ -116,13 +123,27 @@ loop-done-preserved g c =
     subst (λ (k : ℕ). Told (TornPages (table_size k c.args.room) k (bit_in c.args.last.now)) (g.R.Rack.bytes c.loop-done.rack c.args.number) (g.R.Rack.bytes c.write_page.new.rack c.args.number)) c.loop-done.invariant.1 c.write_page.ensures.pages in
     let puts : Told (PutsPiece t c.args.now.now.size (bit_in c.loop-done.now.bits.items) (bit_in c.write_page.new.now.bits.items) (c.args.place + d) part) (g.R.Rack.bytes c.loop-done.rack c.args.number) (g.R.Rack.bytes c.write_page.new.rack c.args.number) =
     subst (λ (k : ℕ). Told (PutsPiece (table_size k c.args.room) k (bit_in c.loop-done.now.bits.items) (bit_in c.write_page.new.now.bits.items) (c.args.place + d) part)
-    (g.R.Rack.bytes c.loop-done.rack c.args.number) (g.R.Rack.bytes c.write_page.new.rack c.args.number)) c.loop-done.invariant.1 c.in-Ok.ensures.done in (
+    (g.R.Rack.bytes c.loop-done.rack c.args.number) (g.R.Rack.bytes c.write_page.new.rack c.args.number)) c.loop-done.invariant.1 c.in-Ok.ensures.done in
+    let calls = calls_turn (c.args.place + d) n (length c.args.piece.now - d) (bit_in c.loop-done.now.bits.items) (bit_in c.args.last.now) (bit_in c.write_page.new.now.bits.items)
+    (c.on_page-n.ensures.some (omega (arith, c.loop-done-test.true))) (omega (arith, fits)) c.on_page-n.ensures.page c.on_page-n.ensures.full c.in-Ok.ensures.bits in
+    let long : length part ≡ n = part_long d n c.args.piece.now fits in
+    let own : MostCalls g.R.Rack (calls_on_page (bit_in c.loop-done.now.bits.items ((c.args.place + d) / 512)) (not (bit_in c.args.last.now ((c.args.place + d) / 512))) n) c.loop-done.rack c.write_page.new.rack =
+    subst (λ (k : ℕ). MostCalls g.R.Rack (calls_on_page (bit_in c.loop-done.now.bits.items ((c.args.place + d) / 512)) (not (bit_in c.args.last.now ((c.args.place + d) / 512))) k) c.loop-done.rack c.write_page.new.rack) long c.write_page.ensures.calls in (
       wrote_turn g.R.Rack c.args.number t c.args.now.now.size (bit_in c.args.last.now) (bit_in c.args.now.now.bits.items) (bit_in c.loop-done.now.bits.items) (bit_in c.write_page.new.now.bits.items) c.args.place d n
           c.args.piece.now part c.write_page.result c.args.rack.now c.loop-done.rack c.write_page.new.rack (c.loop-done.invariant.0) (part_is d n c.args.piece.now) fits c.requires.range
           c.write_page.ensures.made c.write_page.ensures.serves pages (ap is_ok c.in-Ok.is) puts,
       c.write_page.ensures.size ∙ c.loop-done.invariant.1,
       c.write_page.ensures.length ∙ c.loop-done.invariant.2,
       c.write_page.ensures.most ∙ c.loop-done.invariant.3,
+      omega (
+        arith,
+        calls,
+        c.loop-done.invariant.4,
+        own,
+        pages_same (c.args.place + (d + n)) (c.args.place + d + n) (length c.args.piece.now - (d + n)) (length c.args.piece.now - d - n) (omega arith) (omega arith),
+        parts_same (bit_in c.write_page.new.now.bits.items) (bit_in c.args.last.now) (c.args.place + (d + n)) (c.args.place + d + n) (length c.args.piece.now - (d + n)) (length c.args.piece.now - d - n)
+            (omega arith) (omega arith),
+      ),
     )
 
 pub returns-clause-made : goal.returns-clause-made
@@ -146,3 +167,21 @@ returns-clause-pages g c = (c.loop-done.invariant.0).pages
 pub returns-clause-done : goal.returns-clause-done
 returns-clause-done g c = wrote_all g.R.Rack c.args.number (table_size c.args.now.now.size c.args.room) c.args.now.now.size (bit_in c.args.last.now) (bit_in c.args.now.now.bits.items) (bit_in c.loop-done.now.bits.items)
     c.args.place c.loop-done.done c.args.piece.now c.args.rack.now c.loop-done.rack (c.loop-done.invariant.0) (omega (arith, c.loop-done-test.false))
+
+pub returns-in-Err-clause-calls : goal.returns-in-Err-clause-calls
+returns-in-Err-clause-calls g c =
+    let d = c.loop-done.done in
+    let n = c.on_page-n.result in
+    let part = take (d + n - d) (drop d c.args.piece.now) in
+    let page = (c.args.place + d) / 512 in
+    let fits : d + n ≤ length c.args.piece.now = omega (arith, c.on_page-n.ensures.rest, c.loop-done-test.true) in
+    let calls = calls_turn (c.args.place + d) n (length c.args.piece.now - d) (bit_in c.loop-done.now.bits.items) (bit_in c.args.last.now)
+    (moved page (not (bit_in c.args.last.now page)) (bit_in c.loop-done.now.bits.items))
+    (c.on_page-n.ensures.some (omega (arith, c.loop-done-test.true))) (omega (arith, fits)) c.on_page-n.ensures.page c.on_page-n.ensures.full (λ p. refl) in
+    let long : length part ≡ n = part_long d n c.args.piece.now fits in
+    let own : MostCalls g.R.Rack (calls_on_page (bit_in c.loop-done.now.bits.items page) (not (bit_in c.args.last.now page)) n) c.loop-done.rack c.write_page.new.rack =
+    subst (λ (k : ℕ). MostCalls g.R.Rack (calls_on_page (bit_in c.loop-done.now.bits.items page) (not (bit_in c.args.last.now page)) k) c.loop-done.rack c.write_page.new.rack) long c.write_page.ensures.calls in
+    omega (arith, calls, c.loop-done.invariant.4, own)
+
+pub returns-clause-calls : goal.returns-clause-calls
+returns-clause-calls g c = omega (arith, c.loop-done.invariant.4)

@@ -1,4 +1,4 @@
-use Rattle.std.proofs.Common.{length, sym}
+use Rattle.std.proofs.Common.{length, sym, arith}
 use Rattle.dg_stop.proofs.MadeLemmas.{made_one}
 use Rattle.dg_stop.proofs.PageLemmas.{inside_page, part_torn}
 use Rattle.dg_stop.proofs.pages.put_part.Goals as goal
@@ -17,3 +17,6 @@ returns-clause-made g c = made_one g.R.Rack c.args.number c.args.rack.now c.writ
 
 pub returns-clause-done : goal.returns-clause-done
 returns-clause-done g c = rw (sym c.place_of_page.ensures) c.write.ensures.ok
+
+pub returns-clause-calls : goal.returns-clause-calls
+returns-clause-calls g c = omega (arith, c.write.ensures.leaves.counted.most)

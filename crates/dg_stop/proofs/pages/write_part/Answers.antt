@@ -1,10 +1,11 @@
-use Rattle.std.proofs.Common.{arith}
+use Rattle.std.proofs.Common.{arith, length}
 use Rattle.std.specs.Cmp.{booleans_Decides}
 use Rattle.dg_io.specs.MakesLaws.{makes_both}
 use Rattle.dg_stop.proofs.MadeLemmas.{made_one}
 use Rattle.dg_stop.proofs.PartLemmas.{puts_direct, puts_whole}
 use Rattle.dg_stop.proofs.PreparingTold.{OnOk-map}
 use Rattle.dg_stop.specs.Serving.{IsOn}
+use Rattle.dg_stop.proofs.PageCounts.{one_call, two_calls}
 use Rattle.dg_stop.proofs.pages.write_part.Goals as goal
 use Rattle.dg_stop.proofs.pages.write_part.Goals.{then-stands-second-via-then-stands-second, then-stands-second-via-else-stands-second+then-piece-eq-PAGE}
 
@@ -24,3 +25,12 @@ returns-then-stands-second-clause-done g c = OnOk-map c.put_part.result _ _ (λ 
       (g.R.Rack.bytes c.args.rack.now c.args.number) (g.R.Rack.bytes c.put_part.new.rack c.args.number)
       (omega (arith, w.if-piece-eq-PAGE.true)) c.requires.fits c.requires.long put
 ]) c.put_part.ensures.done
+
+pub returns-then-stands-second-clause-calls : goal.returns-then-stands-second-clause-calls
+returns-then-stands-second-clause-calls g c = omega (arith, c.put_part.ensures.calls, one_call c.args.stands c.args.second (length c.args.piece.now))
+
+pub returns-in_err-read-clause-calls : goal.returns-in_err-read-clause-calls
+returns-in_err-read-clause-calls g c = omega (arith, c.read.ensures.leaves.counted.most, one_call c.args.stands c.args.second (length c.args.piece.now))
+
+pub returns-clause-calls : goal.returns-clause-calls
+returns-clause-calls g c = omega (arith, c.read.ensures.leaves.counted.most, c.put_part-2.ensures.calls, two_calls c.args.stands c.args.second (length c.args.piece.now) c.if-stands-second.false c.if-piece-eq-PAGE.false)

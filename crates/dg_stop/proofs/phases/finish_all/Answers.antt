@@ -6,7 +6,7 @@ use Rattle.dg_stop.proofs.phases.finish_all.Goals as goal
 pub loop-number-preserved : goal.loop-number-preserved
 loop-number-preserved g c =
     finish_turn g.R.Rack c.args.members.now c.args.sequence c.args.room c.args.extra.now c.loop-number.number c.args.serving.now c.loop-number.serving c.finish_at.new.serving
-    c.args.rack.now c.loop-number.rack c.finish_at.new.rack c.loop-number.invariant c.finish_at.ensures.made c.finish_at.ensures.own c.finish_at.ensures.others
+    c.args.rack.now c.loop-number.rack c.finish_at.new.rack c.loop-number.invariant c.finish_at.ensures.made c.finish_at.ensures.calls c.finish_at.ensures.own c.finish_at.ensures.others
 
 pub returns : goal.returns
 returns g c =

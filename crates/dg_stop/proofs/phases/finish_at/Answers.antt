@@ -4,6 +4,7 @@ use Rattle.dg_stop.proofs.FinishLemmas.{finish_done, finish_failed}
 use Rattle.dg_io.specs.MakesLaws.{makes_none}
 use Rattle.dg_stop.proofs.MadeLemmas.{made_one, on_served}
 use Rattle.dg_stop.specs.Phases.{IsOnServed, Finished, flag_in}
+use Rattle.dg_stop.specs.Behind.{MostCalls}
 use Rattle.dg_stop.proofs.phases.finish_at.Goals as goal
 
 pub returns-then-is_err-clause-own : goal.returns-then-is_err-clause-own
@@ -34,3 +35,12 @@ returns-else-is_err-clause-made g c = on_served g.R.Rack c.args.number (flag_in 
 
 pub returns-else-serving-number-clause-made : goal.returns-else-serving-number-clause-made
 returns-else-serving-number-clause-made g c = makes_none g.R.Rack (IsOnServed c.args.number (flag_in c.args.serving.now c.args.number)) c.args.rack.now
+
+pub returns-then-is_err-clause-calls : goal.returns-then-is_err-clause-calls
+returns-then-is_err-clause-calls g c = rw c.if-serving-number.true (let most : MostCalls g.R.Rack 1 c.args.rack.now c.write_header.new.rack = omega (arith, c.write_header.ensures.leaves.counted.most) in most)
+
+pub returns-else-is_err-clause-calls : goal.returns-else-is_err-clause-calls
+returns-else-is_err-clause-calls g c = rw c.if-serving-number.true (let most : MostCalls g.R.Rack 1 c.args.rack.now c.write_header.new.rack = omega (arith, c.write_header.ensures.leaves.counted.most) in most)
+
+pub returns-else-serving-number-clause-calls : goal.returns-else-serving-number-clause-calls
+returns-else-serving-number-clause-calls g c = omega arith

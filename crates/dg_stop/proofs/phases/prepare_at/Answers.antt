@@ -33,3 +33,12 @@ returns-else-is_err-clause-made g c = on_served g.R.Rack c.args.number (flag_in 
 
 pub returns-else-serving-number-clause-made : goal.returns-else-serving-number-clause-made
 returns-else-serving-number-clause-made g c = makes_none g.R.Rack (IsOnServed c.args.number (flag_in c.args.serving.now c.args.number)) c.args.rack.now
+
+pub returns-then-is_err-clause-calls : goal.returns-then-is_err-clause-calls
+returns-then-is_err-clause-calls g c = rw c.if-serving-number.true c.prepare.ensures.calls
+
+pub returns-else-is_err-clause-calls : goal.returns-else-is_err-clause-calls
+returns-else-is_err-clause-calls g c = rw c.if-serving-number.true c.prepare.ensures.calls
+
+pub returns-else-serving-number-clause-calls : goal.returns-else-serving-number-clause-calls
+returns-else-serving-number-clause-calls g c = omega arith

@@ -1,6 +1,7 @@
 use Rattle.std.proofs.Common.{◌≤◌, ◌+◌, refl, sym, ◌∙◌, arith}
 use Rattle.std.proofs.lemmas.Bool.{false≢true}
 use Rattle.dg_stop.proofs.TriesLemmas.{count_fewer, count_serving, keep_lost, keep_none, keep_some, next_near, none_of, serving_of, so_far_next, so_far_none, tries_both, try_within}
+use Rattle.dg_stop.proofs.CommitCounts.{tries_end, try_done}
 use Rattle.dg_stop.specs.Tries.{count_in}
 use Rattle.dg_stop.proofs.tries.commit_all.Goals as goal
 
@@ -63,7 +64,7 @@ loop-sequence-preserved g c = so_far_next g.R.Rack c.args.members.now c.args.roo
     c.args.rack.now c.loop-sequence.rack c.commit_once.new.rack
     c.loop-sequence.invariant c.next_after-sequence.ensures.above c.next_after-sequence.ensures.apart
     (next_near c.loop-sequence.top c.args.last c.next_after-sequence.result c.next_after-sequence.ensures.least) c.commit_once.array_long
-    c.if-commit_once.ensures.leaves c.if-commit_once.ensures.kept
+    c.if-commit_once.ensures.leaves c.if-commit_once.ensures.kept c.if-commit_once.ensures.calls
 
 pub returns-clause-kept : goal.returns-clause-kept
 returns-clause-kept g c = keep_none g.R.Rack c.args.members.now c.args.room c.args.extra.now c.args.last c.args.top.now c.loop-sequence.top c.loop-sequence.tried c.args.serving.now
@@ -74,3 +75,14 @@ returns-then-serves_any-clause-tried g c = record { only = c.loop-sequence.invar
 
 pub returns-else-serves_any-clause-tried : goal.returns-else-serves_any-clause-tried
 returns-else-serves_any-clause-tried g c = record { only = c.loop-sequence.invariant.leaves.only; wider = c.if-commit_once.ensures.leaves.tries.only }
+
+pub returns-then-serves_any-clause-calls : goal.returns-then-serves_any-clause-calls
+returns-then-serves_any-clause-calls g c = try_done g.R.Rack c.args.serving.now c.loop-sequence.serving c.commit_once.new.serving c.args.rack.now c.loop-sequence.rack c.commit_once.new.rack
+    c.loop-sequence.invariant.leaves.only c.if-commit_once.ensures.leaves.tries.only c.loop-sequence.invariant.calls c.if-commit_once.ensures.calls
+
+pub returns-else-serves_any-clause-calls : goal.returns-else-serves_any-clause-calls
+returns-else-serves_any-clause-calls g c = try_done g.R.Rack c.args.serving.now c.loop-sequence.serving c.commit_once.new.serving c.args.rack.now c.loop-sequence.rack c.commit_once.new.rack
+    c.loop-sequence.invariant.leaves.only c.if-commit_once.ensures.leaves.tries.only c.loop-sequence.invariant.calls c.if-commit_once.ensures.calls
+
+pub returns-clause-calls : goal.returns-clause-calls
+returns-clause-calls g c = tries_end g.R.Rack c.args.serving.now c.loop-sequence.serving c.args.rack.now c.loop-sequence.rack c.loop-sequence.invariant.leaves.only c.loop-sequence.invariant.calls

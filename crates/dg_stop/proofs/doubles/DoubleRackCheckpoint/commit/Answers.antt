@@ -1,4 +1,4 @@
-use Rattle.std.proofs.Common.{◌≡◌, ◌≤◌, true, sym, ◌∙◌, subst}
+use Rattle.std.proofs.Common.{◌≡◌, ◌≤◌, true, sym, ◌∙◌, subst, arith}
 use Rattle.std.specs.Prelude.{IfSome, length}
 use Rattle.dg_io.specs.Commits.{LeavesCommit}
 use Rattle.dg_io.specs.declared.checkpoints.CommitAnswer.{CommitAnswer}
@@ -6,6 +6,9 @@ use Rattle.dg_stop.proofs.CommitDouble.{commit_answer}
 use Rattle.dg_stop.specs.DoubleCommits.{answer_in, double_rack, double_room}
 use Rattle.dg_stop.specs.DoubleLaws.{both_of}
 use Rattle.dg_stop.specs.Doubles.{Double, double_stands, stands_in}
+use Rattle.dg_stop.proofs.DoubleCounts.{commit_called}
+use Rattle.dg_stop.specs.Behind.{MostCalls}
+use Rattle.dg_stop.specs.StopCalls.{double_commits}
 use Rattle.dg_stop.proofs.doubles.DoubleRackCheckpoint.commit.Goals as goal
 
 pub commit_members-made-requires-clause-held : goal.commit_members-made-requires-clause-held
@@ -23,15 +26,19 @@ commit_members-made-requires-clause-fits g c =
 pub invariant_of-self : goal.invariant_of-self
 invariant_of-self g c = c.commit_members-made.ensures.leaves.held
 
-pub returns : goal.returns
-returns g c =
+pub returns-clause-leaves : goal.returns-clause-leaves
+returns-clause-leaves g c =
     let old : Double g.row.R.Denot = record { rack = c.self.inside.rack; memory = c.self.inside.memory; tally = c.self.inside.tally } in
     let new : Double g.row.R.Denot = record { rack = c.commit_members-made.new.rack; memory = c.commit_members-made.new.memory; tally = c.note_fallen.new.self } in
-    record {
-      leaves =
-          subst (λ (a : CommitAnswer). LeavesCommit (double_rack g.R.Rack) double_room c.args.keep c.args.extra.now a c.args.self.now new) (sym c.answer_of.ensures)
-          (subst (λ (s : Double g.row.R.Denot). LeavesCommit (double_rack g.R.Rack) double_room c.args.keep c.args.extra.now (answer_in c.commit_members-made.result c.marks_of_fallen.result) s new) c.self.view_is
-          (commit_answer g.R.Rack c.args.keep c.args.extra.now c.flags_of-served.result c.commit_members-made.new.serving c.commit_members-made.new.tried old new c.flags_of-served.ensures
-          c.commit_members-made.ensures.tried c.commit_members-made.ensures.leaves c.note_fallen.ensures c.commit_members-made.result c.marks_of_fallen.result c.marks_of_fallen.ensures
-          c.commit_members-made.ensures.answer c.commit_members-made.ensures.kept));
-    }
+    subst (λ (a : CommitAnswer). LeavesCommit (double_rack g.R.Rack) double_room c.args.keep c.args.extra.now a c.args.self.now new) (sym c.answer_of.ensures)
+    (subst (λ (s : Double g.row.R.Denot). LeavesCommit (double_rack g.R.Rack) double_room c.args.keep c.args.extra.now (answer_in c.commit_members-made.result c.marks_of_fallen.result) s new) c.self.view_is
+    (commit_answer g.R.Rack c.args.keep c.args.extra.now c.flags_of-served.result c.commit_members-made.new.serving c.commit_members-made.new.tried old new c.flags_of-served.ensures
+    c.commit_members-made.ensures.tried c.commit_members-made.ensures.leaves c.note_fallen.ensures c.commit_members-made.result c.marks_of_fallen.result c.marks_of_fallen.ensures
+    c.commit_members-made.ensures.answer c.commit_members-made.ensures.kept))
+
+pub returns-clause-calls : goal.returns-clause-calls
+returns-clause-calls g c =
+    let calls = commit_called c.args.keep c.marks_of_fallen.result c.flags_of-served.result c.commit_members-made.new.serving c.commit_members-made.result c.flags_of-served.ensures c.marks_of_fallen.ensures in
+    subst (λ (a : CommitAnswer). MostCalls g.R.Rack (double_commits c.args.keep a) c.args.self.now.rack c.commit_members-made.new.rack) (sym c.answer_of.ensures)
+    (subst (λ (s : Double g.row.R.Denot). MostCalls g.R.Rack (double_commits c.args.keep (answer_in c.commit_members-made.result c.marks_of_fallen.result)) s.rack c.commit_members-made.new.rack) c.self.view_is
+    (omega (arith, calls, c.commit_members-made.ensures.calls)))

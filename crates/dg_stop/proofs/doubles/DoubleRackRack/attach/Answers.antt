@@ -70,3 +70,6 @@ returns-clause-stands g c =
     let new : Double g.row.R.Denot = record { rack = c.self.inside.rack; memory = c.self.inside.memory; tally = c.note.new.self } in
     found_stands c.self.inside.memory m (g.R.Rack.bytes c.self.inside.rack m) (double_stands g.R.Rack new m ≡ true) r c.find_member-result.ensures.found
     (stand_own g.R.Rack (looks m) m refl r old new (idle_steps g.R.Rack (looks m) m r c.self.inside.memory c.self.inside.rack c.self.invariant) (tally_of m r c.is_err.result c.self.inside.tally c.note.new.self c.is_err.ensures.value c.note.ensures.notes))
+
+pub returns-clause-calls : goal.returns-clause-calls
+returns-clause-calls g c = subst (λ (s : Double g.row.R.Denot). c.self.inside.rack ≡ s.rack) c.self.view_is refl

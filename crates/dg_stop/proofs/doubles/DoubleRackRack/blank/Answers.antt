@@ -8,6 +8,7 @@ use Rattle.dg_model.specs.Causes.{RoseByOne}
 use Rattle.dg_stop.proofs.CallLemmas.{rest_double, tally_of}
 use Rattle.dg_stop.proofs.StepLemmas.{leaves_double, made_double, ok_on, stand_own}
 use Rattle.dg_stop.specs.Doubles.{Double, DoubleMade, double_bytes, double_keeps, double_stands, double_words, stands_in}
+use Rattle.dg_stop.specs.Behind.{MostCalls}
 use Rattle.dg_stop.proofs.doubles.DoubleRackRack.blank.Goals as goal
 
 pub blank_member-result-requires : goal.blank_member-result-requires
@@ -66,3 +67,7 @@ returns-clause-keeps g c =
     let old : Double g.row.R.Denot = record { rack = c.self.inside.rack; memory = c.self.inside.memory; tally = c.self.inside.tally } in
     let new : Double g.row.R.Denot = record { rack = c.blank_member-result.new.rack; memory = c.blank_member-result.new.memory; tally = c.note_write.new.self } in
     subst (λ (s : Double g.row.R.Denot). KeepsRest (double_keeps g.R.Rack) (double_stands g.R.Rack) m s new) c.self.view_is (rest_double g.R.Rack m old new c.blank_member-result.ensures.keeps)
+
+pub returns-clause-calls : goal.returns-clause-calls
+returns-clause-calls g c =
+    subst (λ (s : Double g.row.R.Denot). MostCalls g.R.Rack 1 s.rack c.blank_member-result.new.rack) c.self.view_is c.blank_member-result.ensures.calls

@@ -1,4 +1,4 @@
-use Rattle.std.proofs.Common.{[], ◌∷◌, refl, sym, subst}
+use Rattle.std.proofs.Common.{◌≡◌, [], ◌∷◌, refl, sym, subst}
 use Rattle.std.specs.Prelude.{OnErr, OnOk, IfSome}
 use Rattle.dg_io.specs.RackCalls.RackCall.{calls}
 use Rattle.dg_io.specs.RackWords.{Leaves}
@@ -58,3 +58,6 @@ returns-clause-err g c =
     let new : Double g.row.R.Denot = record { rack = c.self.inside.rack; memory = c.extend_member-result.new.memory; tally = c.note_write.new.self } in
     subst (λ (s : Double g.row.R.Denot). OnErr r (Told KeepsFront (double_bytes g.R.Rack s m) (double_bytes g.R.Rack new m))) c.self.view_is
     (extend_err c.self.inside.memory c.extend_member-result.new.memory m c.args.length (g.R.Rack.bytes c.self.inside.rack m) r c.extend_member-result.ensures.err)
+
+pub returns-clause-calls : goal.returns-clause-calls
+returns-clause-calls g c = subst (λ (s : Double g.row.R.Denot). c.self.inside.rack ≡ s.rack) c.self.view_is refl

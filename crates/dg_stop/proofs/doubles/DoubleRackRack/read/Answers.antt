@@ -1,4 +1,4 @@
-use Rattle.std.proofs.Common.{◌≡◌, [], ◌∷◌, true, refl, sym, subst}
+use Rattle.std.proofs.Common.{◌≡◌, [], ◌∷◌, true, refl, sym, subst, length}
 use Rattle.std.specs.Prelude.{OnOk}
 use Rattle.dg_io.specs.RackCalls.RackCall.{calls}
 use Rattle.dg_io.specs.RackWords.{Leaves}
@@ -7,6 +7,7 @@ use Rattle.dg_stop.proofs.CallLemmas.{tally_of}
 use Rattle.dg_stop.proofs.StepLemmas.{leaves_double, made_double}
 use Rattle.dg_stop.specs.DoubleLaws.{both_of}
 use Rattle.dg_stop.specs.Doubles.{Double, DoubleMade, double_bytes, double_stands, double_words, stands_in}
+use Rattle.dg_stop.specs.Behind.{MostCalls, pages_on}
 use Rattle.dg_stop.proofs.doubles.DoubleRackRack.read.Goals as goal
 
 pub read_member-result-requires-clause-held : goal.read_member-result-requires-clause-held
@@ -63,3 +64,7 @@ returns-clause-same g c =
     let old : Double g.row.R.Denot = record { rack = c.self.inside.rack; memory = c.self.inside.memory; tally = c.self.inside.tally } in
     let new : Double g.row.R.Denot = record { rack = c.read_member-result.new.rack; memory = c.read_member-result.new.memory; tally = c.note.new.self } in
     subst (λ (s : Double g.row.R.Denot). Told IsSame (double_bytes g.R.Rack s m) (double_bytes g.R.Rack new m)) c.self.view_is c.read_member-result.ensures.same
+
+pub returns-clause-calls : goal.returns-clause-calls
+returns-clause-calls g c =
+    subst (λ (s : Double g.row.R.Denot). MostCalls g.R.Rack (pages_on c.args.place (length c.args.buf.now)) s.rack c.read_member-result.new.rack) c.self.view_is c.read_member-result.ensures.calls

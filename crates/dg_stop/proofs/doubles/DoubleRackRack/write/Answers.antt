@@ -9,6 +9,8 @@ use Rattle.dg_stop.proofs.PieceLemmas.{OnErr-always}
 use Rattle.dg_stop.proofs.StepLemmas.{leaves_double, made_double}
 use Rattle.dg_stop.specs.DoubleLaws.{both_of}
 use Rattle.dg_stop.specs.Doubles.{Double, DoubleMade, double_bytes, double_stands, double_words, stands_in}
+use Rattle.dg_stop.specs.Behind.{MostCalls}
+use Rattle.dg_stop.specs.StopCalls.{double_writes}
 use Rattle.dg_stop.proofs.doubles.DoubleRackRack.write.Goals as goal
 
 pub write_member-result-requires-clause-held : goal.write_member-result-requires-clause-held
@@ -73,3 +75,7 @@ returns-clause-whole g c =
     let old : Double g.row.R.Denot = record { rack = c.self.inside.rack; memory = c.self.inside.memory; tally = c.self.inside.tally } in
     let new : Double g.row.R.Denot = record { rack = c.write_member-result.new.rack; memory = c.write_member-result.new.memory; tally = c.note_write.new.self } in
     OnErr-always r _ (λ no. absurd no)
+
+pub returns-clause-calls : goal.returns-clause-calls
+returns-clause-calls g c =
+    subst (λ (s : Double g.row.R.Denot). MostCalls g.R.Rack (double_writes s c.args.member c.args.place (length c.args.buf.now)) s.rack c.write_member-result.new.rack) c.self.view_is c.write_member-result.ensures.calls

@@ -1,4 +1,4 @@
-use Rattle.std.proofs.Common.{◌≡◌, [], ◌∷◌, sym, subst}
+use Rattle.std.proofs.Common.{◌≡◌, [], ◌∷◌, sym, subst, arith, ap}
 use Rattle.std.specs.Prelude.{IfOk, IfSome, None}
 use Rattle.dg_io.specs.RackCalls.RackCall.{looks}
 use Rattle.dg_io.specs.RackWords.{Leaves}
@@ -7,6 +7,8 @@ use Rattle.dg_stop.specs.StopLaws.{doubled_leaves, doubled_made, plain_made, pla
 use Rattle.dg_stop.specs.StopRacks.{StopMade, stop_bytes, stop_counts, stop_words}
 use Rattle.dg_stop.specs.declared.stop_racks.StopRack.{StopRack}
 use Rattle.dg_stop.specs.declared.stop_racks.StopRack.TheVariants.{Plain, Doubled}
+use Rattle.dg_stop.specs.Behind.{MostCalls}
+use Rattle.dg_stop.specs.StopCalls.{behind, calls_to_look}
 use Rattle.dg_stop.proofs.stop_racks.StopRackRack.attach.Goals as goal
 
 pub returns-in-Plain-clause-found : goal.returns-in-Plain-clause-found
@@ -50,3 +52,11 @@ returns-in-Doubled-clause-made g c = subst (λ (s : StopRack g.row.R.Denot). Sto
 
 pub returns-in-Doubled-clause-writes : goal.returns-in-Doubled-clause-writes
 returns-in-Doubled-clause-writes g c = subst (λ (s : StopRack g.row.R.Denot). (stop_counts g.R.Rack (Doubled c.attach-in-Doubled.new.self)).writes ≡ (stop_counts g.R.Rack s).writes) (sym c.in-Doubled.is) c.attach-in-Doubled.ensures.writes
+
+pub returns-in-Plain-clause-calls : goal.returns-in-Plain-clause-calls
+returns-in-Plain-clause-calls g c =
+    subst (λ (s : StopRack g.row.R.Denot). MostCalls g.R.Rack (calls_to_look s) (behind s) c.attach.new.self) (sym c.in-Plain.is) (omega (arith, c.attach.ensures.leaves.counted.most))
+
+pub returns-in-Doubled-clause-calls : goal.returns-in-Doubled-clause-calls
+returns-in-Doubled-clause-calls g c =
+    subst (λ (s : StopRack g.row.R.Denot). MostCalls g.R.Rack (calls_to_look s) (behind s) c.attach-in-Doubled.new.self.rack) (sym c.in-Doubled.is) (let same : (g.R.Rack.counts c.attach-in-Doubled.new.self.rack).calls ≡ (g.R.Rack.counts c.in-Doubled.double.rack).calls = ap (λ (r : g.row.R.Denot). (g.R.Rack.counts r).calls) c.attach-in-Doubled.ensures.calls in omega (arith, same))

@@ -1,4 +1,4 @@
-use Rattle.std.proofs.Common.{[], ◌∷◌, sym, subst}
+use Rattle.std.proofs.Common.{[], ◌∷◌, sym, subst, arith}
 use Rattle.std.specs.Prelude.{OnOk}
 use Rattle.dg_io.specs.Kept.{KeepsRest}
 use Rattle.dg_io.specs.RackCalls.RackCall.{blanks}
@@ -9,6 +9,8 @@ use Rattle.dg_stop.specs.StopLaws.{doubled_leaves, doubled_made, plain_made, dou
 use Rattle.dg_stop.specs.StopRacks.{StopMade, stop_bytes, stop_counts, stop_keeps, stop_stands, stop_words}
 use Rattle.dg_stop.specs.declared.stop_racks.StopRack.{StopRack}
 use Rattle.dg_stop.specs.declared.stop_racks.StopRack.TheVariants.{Plain, Doubled}
+use Rattle.dg_stop.specs.Behind.{MostCalls}
+use Rattle.dg_stop.specs.StopCalls.{behind}
 use Rattle.dg_stop.proofs.stop_racks.StopRackRack.blank.Goals as goal
 
 pub returns-in-Plain-clause-ok : goal.returns-in-Plain-clause-ok
@@ -46,3 +48,11 @@ returns-in-Doubled-clause-made g c = subst (λ (s : StopRack g.row.R.Denot). Sto
 
 pub returns-in-Doubled-clause-writes : goal.returns-in-Doubled-clause-writes
 returns-in-Doubled-clause-writes g c = subst (λ (s : StopRack g.row.R.Denot). RoseByOne (stop_counts g.R.Rack s).writes (stop_counts g.R.Rack (Doubled c.blank-in-Doubled.new.self)).writes) (sym c.in-Doubled.is) c.blank-in-Doubled.ensures.writes
+
+pub returns-in-Plain-clause-calls : goal.returns-in-Plain-clause-calls
+returns-in-Plain-clause-calls g c =
+    subst (λ (s : StopRack g.row.R.Denot). MostCalls g.R.Rack 1 (behind s) c.blank.new.self) (sym c.in-Plain.is) (omega (arith, c.blank.ensures.leaves.counted.most))
+
+pub returns-in-Doubled-clause-calls : goal.returns-in-Doubled-clause-calls
+returns-in-Doubled-clause-calls g c =
+    subst (λ (s : StopRack g.row.R.Denot). MostCalls g.R.Rack 1 (behind s) c.blank-in-Doubled.new.self.rack) (sym c.in-Doubled.is) c.blank-in-Doubled.ensures.calls

@@ -1,4 +1,4 @@
-use Rattle.std.proofs.Common.{◌≡◌, [], ◌∷◌, true, sym, subst}
+use Rattle.std.proofs.Common.{◌≡◌, [], ◌∷◌, true, sym, subst, arith, ap}
 use Rattle.std.specs.Prelude.{IfSome, OnErr, OnOk}
 use Rattle.dg_io.specs.RackCalls.RackCall.{calls}
 use Rattle.dg_io.specs.RackWords.{Leaves}
@@ -8,6 +8,8 @@ use Rattle.dg_stop.specs.StopLaws.{doubled_leaves, doubled_made, plain_made, pla
 use Rattle.dg_stop.specs.StopRacks.{StopMade, stop_bytes, stop_counts, stop_stands, stop_words}
 use Rattle.dg_stop.specs.declared.stop_racks.StopRack.{StopRack}
 use Rattle.dg_stop.specs.declared.stop_racks.StopRack.TheVariants.{Plain, Doubled}
+use Rattle.dg_stop.specs.Behind.{MostCalls}
+use Rattle.dg_stop.specs.StopCalls.{behind, calls_to_look}
 use Rattle.dg_stop.proofs.stop_racks.StopRackRack.extend.Goals as goal
 
 pub extend-requires-clause-stands : goal.extend-requires-clause-stands
@@ -51,3 +53,11 @@ returns-in-Doubled-clause-leaves g c = subst (λ (s : StopRack g.row.R.Denot). L
 
 pub returns-in-Doubled-clause-writes : goal.returns-in-Doubled-clause-writes
 returns-in-Doubled-clause-writes g c = subst (λ (s : StopRack g.row.R.Denot). RoseByOne (stop_counts g.R.Rack s).writes (stop_counts g.R.Rack (Doubled c.extend-in-Doubled.new.self)).writes) (sym c.in-Doubled.is) c.extend-in-Doubled.ensures.writes
+
+pub returns-in-Plain-clause-calls : goal.returns-in-Plain-clause-calls
+returns-in-Plain-clause-calls g c =
+    subst (λ (s : StopRack g.row.R.Denot). MostCalls g.R.Rack (calls_to_look s) (behind s) c.extend.new.self) (sym c.in-Plain.is) (omega (arith, c.extend.ensures.leaves.counted.most))
+
+pub returns-in-Doubled-clause-calls : goal.returns-in-Doubled-clause-calls
+returns-in-Doubled-clause-calls g c =
+    subst (λ (s : StopRack g.row.R.Denot). MostCalls g.R.Rack (calls_to_look s) (behind s) c.extend-in-Doubled.new.self.rack) (sym c.in-Doubled.is) (let same : (g.R.Rack.counts c.extend-in-Doubled.new.self.rack).calls ≡ (g.R.Rack.counts c.in-Doubled.double.rack).calls = ap (λ (r : g.row.R.Denot). (g.R.Rack.counts r).calls) c.extend-in-Doubled.ensures.calls in omega (arith, same))

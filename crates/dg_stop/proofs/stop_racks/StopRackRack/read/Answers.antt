@@ -1,4 +1,4 @@
-use Rattle.std.proofs.Common.{◌≡◌, ◌≤◌, ◌+◌, [], ◌∷◌, true, sym, subst}
+use Rattle.std.proofs.Common.{◌≡◌, ◌≤◌, ◌+◌, [], ◌∷◌, true, sym, subst, arith}
 use Rattle.std.specs.Prelude.{IfSome, OnOk, length}
 use Rattle.dg_io.specs.RackCalls.RackCall.{calls}
 use Rattle.dg_io.specs.RackWords.{Leaves}
@@ -7,6 +7,8 @@ use Rattle.dg_stop.specs.StopLaws.{doubled_leaves, doubled_made, plain_made, pla
 use Rattle.dg_stop.specs.StopRacks.{StopMade, stop_bytes, stop_counts, stop_stands, stop_words}
 use Rattle.dg_stop.specs.declared.stop_racks.StopRack.{StopRack}
 use Rattle.dg_stop.specs.declared.stop_racks.StopRack.TheVariants.{Plain, Doubled}
+use Rattle.dg_stop.specs.Behind.{MostCalls}
+use Rattle.dg_stop.specs.StopCalls.{behind, calls_to_read}
 use Rattle.dg_stop.proofs.stop_racks.StopRackRack.read.Goals as goal
 
 pub read-requires-clause-stands : goal.read-requires-clause-stands
@@ -50,3 +52,11 @@ returns-in-Doubled-clause-leaves g c = subst (λ (s : StopRack g.row.R.Denot). L
 
 pub returns-in-Doubled-clause-writes : goal.returns-in-Doubled-clause-writes
 returns-in-Doubled-clause-writes g c = subst (λ (s : StopRack g.row.R.Denot). (stop_counts g.R.Rack (Doubled c.read-in-Doubled.new.self)).writes ≡ (stop_counts g.R.Rack s).writes) (sym c.in-Doubled.is) c.read-in-Doubled.ensures.writes
+
+pub returns-in-Plain-clause-calls : goal.returns-in-Plain-clause-calls
+returns-in-Plain-clause-calls g c =
+    subst (λ (s : StopRack g.row.R.Denot). MostCalls g.R.Rack (calls_to_read s c.args.place (length c.args.buf.now)) (behind s) c.read.new.self) (sym c.in-Plain.is) (omega (arith, c.read.ensures.leaves.counted.most))
+
+pub returns-in-Doubled-clause-calls : goal.returns-in-Doubled-clause-calls
+returns-in-Doubled-clause-calls g c =
+    subst (λ (s : StopRack g.row.R.Denot). MostCalls g.R.Rack (calls_to_read s c.args.place (length c.args.buf.now)) (behind s) c.read-in-Doubled.new.self.rack) (sym c.in-Doubled.is) c.read-in-Doubled.ensures.calls

@@ -1,4 +1,4 @@
-use Rattle.std.proofs.Common.{◌≡◌, ◌≤◌, ◌+◌, [], ◌∷◌, true, sym, subst}
+use Rattle.std.proofs.Common.{◌≡◌, ◌≤◌, ◌+◌, [], ◌∷◌, true, sym, subst, arith}
 use Rattle.std.specs.Prelude.{IfSome, OnErr, OnOk, length}
 use Rattle.dg_io.specs.RackCalls.RackCall.{calls}
 use Rattle.dg_io.specs.RackWords.{Leaves}
@@ -8,6 +8,8 @@ use Rattle.dg_stop.specs.StopLaws.{doubled_leaves, doubled_made, plain_made, pla
 use Rattle.dg_stop.specs.StopRacks.{StopMade, stop_bytes, stop_counts, stop_stands, stop_steady, stop_words}
 use Rattle.dg_stop.specs.declared.stop_racks.StopRack.{StopRack}
 use Rattle.dg_stop.specs.declared.stop_racks.StopRack.TheVariants.{Plain, Doubled}
+use Rattle.dg_stop.specs.Behind.{MostCalls}
+use Rattle.dg_stop.specs.StopCalls.{behind, calls_to_write}
 use Rattle.dg_stop.proofs.stop_racks.StopRackRack.write.Goals as goal
 
 pub write-requires-clause-stands : goal.write-requires-clause-stands
@@ -57,3 +59,11 @@ returns-in-Doubled-clause-leaves g c = subst (λ (s : StopRack g.row.R.Denot). L
 
 pub returns-in-Doubled-clause-writes : goal.returns-in-Doubled-clause-writes
 returns-in-Doubled-clause-writes g c = subst (λ (s : StopRack g.row.R.Denot). RoseByOne (stop_counts g.R.Rack s).writes (stop_counts g.R.Rack (Doubled c.write-in-Doubled.new.self)).writes) (sym c.in-Doubled.is) c.write-in-Doubled.ensures.writes
+
+pub returns-in-Plain-clause-calls : goal.returns-in-Plain-clause-calls
+returns-in-Plain-clause-calls g c =
+    subst (λ (s : StopRack g.row.R.Denot). MostCalls g.R.Rack (calls_to_write s c.args.member c.args.place (length c.args.buf.now)) (behind s) c.write.new.self) (sym c.in-Plain.is) (omega (arith, c.write.ensures.leaves.counted.most))
+
+pub returns-in-Doubled-clause-calls : goal.returns-in-Doubled-clause-calls
+returns-in-Doubled-clause-calls g c =
+    subst (λ (s : StopRack g.row.R.Denot). MostCalls g.R.Rack (calls_to_write s c.args.member c.args.place (length c.args.buf.now)) (behind s) c.write-in-Doubled.new.self.rack) (sym c.in-Doubled.is) c.write-in-Doubled.ensures.calls
