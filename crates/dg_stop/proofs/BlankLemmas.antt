@@ -40,7 +40,7 @@ no_header_zeros q n h has =
     get_or-take (p + 512 - p) (drop p (replicate n 0)) 0 0 (omega arith) ∙ get_or-drop p (replicate n 0) 0 0 ∙ zeros_at n (p + 0) in
     absurd (omega (arith, sym zero_is ∙ ap (λ (l : List ℕ). slice_index l 0) has.bytes ∙ first_byte h))
 
-no_header_none : (q : ℕ) (all : List ℕ) (h : Header) → all ≡ [] → HasHeader q all h → ⊥
+pub no_header_none : (q : ℕ) (all : List ℕ) (h : Header) → all ≡ [] → HasHeader q all h → ⊥
 no_header_none q all h none has = absurd (omega (arith, has.long, ap (λ (l : List ℕ). length l) none))
 
 pub no_header_unknown : (m : Memory) (bytes : ℕ → Option (List ℕ)) (q : ℕ) → known_in m q ≡ false → (h : Header) → HasHeader q (known_at (known_in m) bytes q) h → ⊥

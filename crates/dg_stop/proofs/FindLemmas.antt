@@ -290,6 +290,12 @@ module _ {S : Type 0} (rack : Ghosts S) where
 -- ---- calls that look again
 
 module _ {S : Type 0} (rack : Ghosts S) where
+  pub same_at : {T E : Type 0} (q : ℕ) (mid new : S) (r : Result T E) → LooksAt rack q r mid new → (p : ℕ) → Told IsSame (rack.bytes mid p) (rack.bytes new p)
+  same_at q mid new r look p = elim (same_or_not p q) [
+    | inl e ↦ subst (λ (x : ℕ). Told IsSame (rack.bytes mid x) (rack.bytes new x)) (sym e) look.same
+    | inr other ↦ look.serves.others p other
+  ]
+
   again_found : {T E : Type 0} (q : ℕ) (found : Found) (known : Bool) (old mid new : S) (r : Result T E) → IsOk r → IsFound rack q found known old mid → LooksAt rack q r mid new → IsFound rack q found known old new
   again_found q found known old mid new (Err e) ok is look = absurd (false≢true ok)
   again_found q found known old mid new (Ok x) ok is look = found_still rack q found known old mid new look.same look.serves.stands_on look.serves.spared is
@@ -323,12 +329,14 @@ module _ {S : Type 0} (rack : Ghosts S) where
 
   pub finds_on : {T E : Type 0} (q : ℕ) → q < 32 → (mid new : S) (r : Result T E) → IsOk r → LooksAt rack q r mid new → FindsOn rack mid new
   finds_on q low mid new r ok look = record {
+    same = same_at q mid new r look;
     on = λ found known old so. turn_with rack 32 32 found found known known old mid new r so (omega arith) q low (λ p other under. under) low look (λ p other. refl) (λ p other. refl)
         (again_found q (found_at found q) (flag_in known q) old mid new r ok (so.below q low) look);
   }
 
   pub loses_on : {T E : Type 0} (q : ℕ) → q < 32 → (mid new : S) (r : Result T E) → IsErr r → LooksAt rack q r mid new → LosesOn rack q mid new
   loses_on q low mid new r err look = record {
+    same = same_at q mid new r look;
     low = low;
     on = λ found known old many all so. turn_with rack 32 32 found (set found q no_headers) known (set known q false) old mid new r so (omega arith) q low (λ p other under. under) low look
         (λ p other. get_or-set_other found q p no_headers no_headers other) (λ p other. get_or-set_other known q p false false other)
@@ -337,13 +345,20 @@ module _ {S : Type 0} (rack : Ghosts S) where
   }
 
   pub finds_none : (a : S) → FindsOn rack a a
-  finds_none a = record { on = λ found known old so. so }
+  finds_none a = record { same = λ q. told_itself (rack.bytes a q); on = λ found known old so. so }
 
   pub finds_then : (a b c : S) → FindsOn rack a b → FindsOn rack b c → FindsOn rack a c
-  finds_then a b c one two = record { on = λ found known old so. two.on found known old (one.on found known old so) }
+  finds_then a b c one two = record {
+    same = λ q. told_right IsSame (rack.bytes a q) (rack.bytes b q) (rack.bytes c q) (one.same q) (two.same q);
+    on = λ found known old so. two.on found known old (one.on found known old so);
+  }
 
   pub finds_lose : (q : ℕ) (a b c : S) → FindsOn rack a b → LosesOn rack q b c → LosesOn rack q a c
-  finds_lose q a b c one two = record { low = two.low; on = λ found known old many all so. two.on found known old many all (one.on found known old so) }
+  finds_lose q a b c one two = record {
+    same = λ p. told_right IsSame (rack.bytes a p) (rack.bytes b p) (rack.bytes c p) (one.same p) (two.same p);
+    low = two.low;
+    on = λ found known old many all so. two.on found known old many all (one.on found known old so);
+  }
 
   bears_on : (q : ℕ) (h : Header) (mid new : S) → Told IsSame (rack.bytes mid q) (rack.bytes new q) → (rack.stands mid q ≡ true → rack.stands new q ≡ true) → Bears rack q mid h → Bears rack q new h
   bears_on q h mid new same stand was = record {
@@ -362,10 +377,4 @@ module _ {S : Type 0} (rack : Ghosts S) where
   bears_still q mid new r ok look p h was = elim (same_or_not p q) [
     | inl e ↦ subst (λ (x : ℕ). Bears rack x new h) (sym e) (bears_on q h mid new look.same (stand_ok q mid new r ok look) (subst (λ (x : ℕ). Bears rack x mid h) e was))
     | inr other ↦ bears_on p h mid new (look.serves.others p other) (look.serves.others_stand p other) was
-  ]
-
-  pub same_at : {T E : Type 0} (q : ℕ) (mid new : S) (r : Result T E) → LooksAt rack q r mid new → (p : ℕ) → Told IsSame (rack.bytes mid p) (rack.bytes new p)
-  same_at q mid new r look p = elim (same_or_not p q) [
-    | inl e ↦ subst (λ (x : ℕ). Told IsSame (rack.bytes mid x) (rack.bytes new x)) (sym e) look.same
-    | inr other ↦ look.serves.others p other
   ]

@@ -1,3 +1,4 @@
+mod AttachLemmas
 mod Avoiding
 mod BlankLemmas
 mod Blanking
@@ -9,6 +10,7 @@ mod Committing
 mod DoubleCounts
 mod FindLemmas
 mod FinishLemmas
+mod FoundKnown
 mod FoundLemmas
 mod Frames
 mod HeaderLemmas
@@ -18,7 +20,12 @@ mod MadeLemmas
 mod MemberLemmas
 mod OnceLemmas
 mod OneCommit
+mod OpenedAll
+mod OpenedDouble
+mod OpenedKeeps
 mod OpenedLemmas
+mod OpenedNone
+mod OpenedRack
 mod Opening
 mod PageCounts
 mod PageLemmas
@@ -30,9 +37,12 @@ mod Preparing
 mod PreparingTold
 mod PutLemmas
 mod Ranges
+mod ReadLemmas
 mod Renewing
 mod Reopening
+mod SessionLemmas
 mod SettleLemmas
+mod Sparing
 mod StepLemmas
 mod Stopping
 mod TableLemmas

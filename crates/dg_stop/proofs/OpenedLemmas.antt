@@ -11,7 +11,7 @@ use Rattle.dg_stop.specs.Anchors.{IsAnchored, IsHeldBy}
 use Rattle.dg_stop.specs.Commits.{AreGuarded, WritesHeader, as_committed}
 use Rattle.dg_stop.specs.Headers.{Header, HasHeader, header_table}
 use Rattle.dg_stop.specs.Layouts.{names_second, seen, spot, table_place, table_size}
-use Rattle.dg_stop.specs.Openings.{HoldsOpened, IsTaken, OpeningsHold}
+use Rattle.dg_stop.specs.Openings.{GuardsOpened, HoldsOpened, IsTaken, OpeningsHold}
 use Rattle.dg_stop.specs.Reopens.{IsAttached, IsLast, Leads, Reopened}
 use Rattle.dg_stop.specs.Stops.{AreOfOne, Upgrades}
 
@@ -29,7 +29,7 @@ spot_named t a b all o e = rw e refl
 module _ (stands : ℕ → Bool) (sizes : ℕ → ℕ) (places : ℕ → ℕ → Bool) (c first top : ℕ) (lead : Header) (before after : ℕ → List ℕ)
     (last : IsLast before c) (leads : Leads before c first lead) (up : Upgrades c lead before after)
     (seen_before : (q : ℕ) (h : Header) → HasHeader q (before q) h → h.sequence ≤ top)
-    (taken : (q : ℕ) → stands q ≡ true → IsTaken c lead before after (sizes q) (places q) q) (kept : Kept) (had : Reopened before kept) where
+    (taken : (q : ℕ) → stands q ≡ true → IsTaken c lead before after (sizes q) (places q) q) where
   next : IsLast after c
   next = last_after c lead before after up last
 
@@ -68,44 +68,44 @@ module _ (stands : ℕ → Bool) (sizes : ℕ → ℕ) (places : ℕ → ℕ →
       let down : c ≤ d = omega (arith, other.most next.member next.header next.is.has next.is.mark, next.is.sequence) in
       omega (arith, up_to, down)
 
-  one_after : AreOfOne c lead kept.extra before → AreOfOne c lead kept.extra after
-  one_after one = record {
-    room_is = λ q k has e. let w = was_at q k has in sym w.room ∙ one.room_is q w.old w.has (w.sequence ∙ e);
-    count_is = λ q k has e. let w = was_at q k has in sym w.extra ∙ one.count_is q w.old w.has (w.sequence ∙ e);
-    bytes = λ q k has e. let w = was_at q k has in w.bytes ∙ one.bytes q w.old w.has (w.sequence ∙ e);
-  }
+  pub guards : GuardsOpened stands sizes places c top lead after
+  guards = record { guarded = guarded; fresh = inr (c, next, omega arith) }
 
-  anchored : AreOfOne c lead kept.extra before → IsAnchored stands after kept
-  anchored one d other = subst (λ (x : ℕ). IsHeldBy stands after x kept) (sym (same_last d other)) (record {
-    lead = lead;
-    by = kept_after c lead before after up kept (had.last c first lead last leads);
-    one = one_after one;
-    on = λ q at. inl (as_committed (taken q at).header, record { has = (taken q at).committed; sequence = (taken q at).attached.sequence; mark = refl });
-  })
+  module _ (kept : Kept) (had : Reopened before kept) where
+    one_after : AreOfOne c lead kept.extra before → AreOfOne c lead kept.extra after
+    one_after one = record {
+      room_is = λ q k has e. let w = was_at q k has in sym w.room ∙ one.room_is q w.old w.has (w.sequence ∙ e);
+      count_is = λ q k has e. let w = was_at q k has in sym w.extra ∙ one.count_is q w.old w.has (w.sequence ∙ e);
+      bytes = λ q k has e. let w = was_at q k has in w.bytes ∙ one.bytes q w.old w.has (w.sequence ∙ e);
+    }
 
-  bytes : (q : ℕ) → stands q ≡ true → kept.entries q ≡ Some (seen (table_size (sizes q) lead.room) (places q) (sizes q) (after q))
-  bytes q at =
-      let it = taken q at in
-      let k = as_committed it.header in
-      let by = kept_after c lead before after up kept (had.last c first lead last leads) in
-      by.attached q k (record { has = it.committed; sequence = it.attached.sequence; room = it.attached.room; extra = it.attached.extra })
-      ∙ ap (λ (l : List ℕ). Some l) (seen_same (header_table k) k.size (names_second (after q) (table_place (header_table k) k.sequence)) (places q) (after q) (after q)
-      (λ o low. spot_named (header_table k) (names_second (after q) (table_place (header_table k) k.sequence)) (places q) (after q) o
-      (subst (λ (x : ℕ). names_second (after q) (table_place (header_table k) x) (o / 512) ≡ places q (o / 512)) (sym it.attached.sequence) (named q at k refl o low)))
-      ∙ as_sizes q (after q) it.header.size it.header.room (sizes q) (sym it.size_is) it.attached.room)
-    where
-      as_sizes : (q : ℕ) (all : List ℕ) (n r m : ℕ) → n ≡ m → r ≡ lead.room → seen (table_size n r) (places q) n all ≡ seen (table_size m lead.room) (places q) m all
-      as_sizes q all n r m e f = rw (e, f) refl
+    anchored : AreOfOne c lead kept.extra before → IsAnchored stands after kept
+    anchored one d other = subst (λ (x : ℕ). IsHeldBy stands after x kept) (sym (same_last d other)) (record {
+      lead = lead;
+      by = kept_after c lead before after up kept (had.last c first lead last leads);
+      one = one_after one;
+      on = λ q at. inl (as_committed (taken q at).header, record { has = (taken q at).committed; sequence = (taken q at).attached.sequence; mark = refl });
+    })
 
-  pub holds : HoldsOpened stands sizes places c top lead before after kept
-  holds = record {
-    guarded = guarded;
-    fresh = inr (c, next, omega arith);
-    reopened = (openings_leave_kept c first lead before after last leads up kept had).1;
-    anchored = anchored;
-    bytes = bytes;
-  }
+    bytes : (q : ℕ) → stands q ≡ true → kept.entries q ≡ Some (seen (table_size (sizes q) lead.room) (places q) (sizes q) (after q))
+    bytes q at =
+        let it = taken q at in
+        let k = as_committed it.header in
+        let by = kept_after c lead before after up kept (had.last c first lead last leads) in
+        by.attached q k (record { has = it.committed; sequence = it.attached.sequence; room = it.attached.room; extra = it.attached.extra })
+        ∙ ap (λ (l : List ℕ). Some l) (seen_same (header_table k) k.size (names_second (after q) (table_place (header_table k) k.sequence)) (places q) (after q) (after q)
+        (λ o low. spot_named (header_table k) (names_second (after q) (table_place (header_table k) k.sequence)) (places q) (after q) o
+        (subst (λ (x : ℕ). names_second (after q) (table_place (header_table k) x) (o / 512) ≡ places q (o / 512)) (sym it.attached.sequence) (named q at k refl o low)))
+        ∙ as_sizes q (after q) it.header.size it.header.room (sizes q) (sym it.size_is) it.attached.room)
+      where
+        as_sizes : (q : ℕ) (all : List ℕ) (n r m : ℕ) → n ≡ m → r ≡ lead.room → seen (table_size n r) (places q) n all ≡ seen (table_size m lead.room) (places q) m all
+        as_sizes q all n r m e f = rw (e, f) refl
+
+    pub holds : HoldsOpened stands sizes places c lead before after kept
+    holds = record { reopened = (openings_leave_kept c first lead before after last leads up kept had).1; anchored = anchored; bytes = bytes }
 
 pub openings_hold : OpeningsHold
-openings_hold stands sizes places c first top lead before after last leads up seen_before taken kept had =
-    holds stands sizes places c first top lead before after last leads up seen_before taken kept had
+openings_hold stands sizes places c first top lead before after last leads up seen_before taken = (
+  guards stands sizes places c first top lead before after last leads up seen_before taken,
+  λ kept had. holds stands sizes places c first top lead before after last leads up seen_before taken kept had,
+)

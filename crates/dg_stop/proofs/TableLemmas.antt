@@ -14,7 +14,7 @@ use Rattle.dg_stop.specs.Commits.{IsPlaced}
 use Rattle.dg_stop.specs.Layouts.{bit_in, bits_of, table_place, table_size}
 use Rattle.dg_io.specs.declared.outside.Rack.{Ghosts}
 use Rattle.dg_stop.specs.Leads.{IsAttachedBy}
-use Rattle.dg_stop.specs.Tables.{AreBorne, AreHeads, AreShort, AreSmall, FindsOn, HasExtra, HasNoHead, HoldsAt, HoldsTable, IsFirstHead, LosesHead, ReadsFirst, head_at}
+use Rattle.dg_stop.specs.Tables.{AreBorne, AreHeads, AreRoomy, AreShort, AreSmall, FindsOn, HasExtra, HasNoHead, HoldsAt, HoldsTable, IsFirstHead, IsPaired, LosesHead, ReadsFirst, head_at}
 use Rattle.dg_stop.specs.Values.{header_of}
 use Rattle.dg_stop.specs.declared.found_headers.Found.{Found}
 use Rattle.dg_stop.specs.declared.headers.Header.{Header}
@@ -54,7 +54,7 @@ places_is a b e = ap (λ (o : Option Places). elim o [ None ↦ a | Some x ↦ x
 no_places : (a : Places) → ◌≡◌ {A = Option Places} None (Some a) → ⊥
 no_places a e = false≢true (ap is_some e)
 
-push_get : (all : List Places) (x held : Places) (q : ℕ) → slice_get (all ++ x ∷ []) q ≡ Some held → (slice_get all q ≡ Some held) ⊎ ((q ≡ length all) × (held ≡ x))
+pub push_get : (all : List Places) (x held : Places) (q : ℕ) → slice_get (all ++ x ∷ []) q ≡ Some held → (slice_get all q ≡ Some held) ⊎ ((q ≡ length all) × (held ≡ x))
 push_get [] x held zero e = inr (refl, sym (places_is x held e))
 push_get [] x held (suc q) e = absurd (no_places held e)
 push_get (y ∷ all) x held zero e = inl e
@@ -64,7 +64,7 @@ push_get (y ∷ all) x held (suc q) e = elim (push_get all x held q e) [
 ]
 
 module _ {S : Type 0} (rack : Ghosts S) where
-  holds_on : (mid new : S) (q : ℕ) (held : Places) (head : Option Header) → Told IsSame (rack.bytes mid q) (rack.bytes new q) → HoldsTable rack mid head q held → HoldsTable rack new head q held
+  pub holds_on : (mid new : S) (q : ℕ) (held : Places) (head : Option Header) → Told IsSame (rack.bytes mid q) (rack.bytes new q) → HoldsTable rack mid head q held → HoldsTable rack new head q held
   holds_on mid new q held None same is = is
   holds_on mid new q held (Some h) same is = record {
     size = is.size;
@@ -85,6 +85,13 @@ module _ {S : Type 0} (rack : Ghosts S) where
     pub borne_on : AreBorne rack heads mid → AreBorne rack heads new
     borne_on borne q h is = ((borne q h is).0, bears_still rack n mid new r ok look q h (borne q h is).1)
 
+    -- memory for one more member
+    pub roomy_more : (most : ℕ) (all : List Places) (x : Places) → length all ≡ n → AreRoomy heads most all → (IsPaired heads n → x.most ≡ most) → AreRoomy heads most (all ++ x ∷ [])
+    roomy_more most all x size so own q held got paired = elim (push_get all x held q got) [
+      | inl was ↦ so q held was paired
+      | inr is ↦ ap (λ (y : Places). y.most) is.1 ∙ own (subst (IsPaired heads) (is.0 ∙ size) paired)
+    ]
+
     pub finds_more : (old : S) → FindsOn rack old mid → FindsOn rack old new
     finds_more old finds = finds_then rack old mid new finds (finds_on rack n low mid new r ok look)
 
@@ -92,6 +99,10 @@ module _ {S : Type 0} (rack : Ghosts S) where
 pub holds_start : {S : Type 0} (rack : Ghosts S) (now : S) (heads : List (Option Header)) (all : List Places) → length all ≡ 0 → (q : ℕ) → HoldsAt rack now heads all q
 holds_start rack now heads [] none q held got = absurd (no_places held got)
 holds_start rack now heads (x ∷ all) none q held got = absurd (omega (arith, none))
+
+pub roomy_start : (heads : List (Option Header)) (most : ℕ) (all : List Places) → length all ≡ 0 → AreRoomy heads most all
+roomy_start heads most [] none q held got = absurd (no_places held got)
+roomy_start heads most (x ∷ all) none q held got = absurd (omega (arith, none))
 
 -- ---- the least member that is attached
 
@@ -107,7 +118,7 @@ one_first heads h k a b =
 
 module _ {S : Type 0} (rack : Ghosts S) (heads : List (Option Header)) (old : S) (borne : AreBorne rack heads old) where
   pub reads_none : (extra : List ℕ) → HasNoHead heads → ReadsFirst rack heads old old extra
-  reads_none extra none = record { finds = finds_none rack old; borne = borne; has = λ h is. absurd (none is.member h is.at) }
+  reads_none extra none = record { finds = finds_none rack old; borne = borne; some = inl none; has = λ h is. absurd (none is.member h is.at) }
 
   module _ (first : Header) (is : IsFirstHead heads first) where
     own : first.member ≡ is.member
@@ -127,6 +138,7 @@ module _ {S : Type 0} (rack : Ghosts S) (heads : List (Option Header)) (old : S)
       reads_first ok extra has = record {
         finds = finds_on rack first.member first_low old new r ok look;
         borne = borne_on rack heads first.member old new r ok first_low look borne;
+        some = inr (first, is);
         has = λ h other. subst (λ (x : Header). HasExtra rack new x extra) (one_first heads first h is other) has;
       }
 

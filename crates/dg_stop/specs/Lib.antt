@@ -4,6 +4,7 @@ pub mod Changes
 pub mod Commits
 pub mod DoubleCommits
 pub mod DoubleLaws
+pub mod DoubleOpenings
 pub mod Doubles
 pub mod FoundHeaders
 pub mod Headers
@@ -12,8 +13,10 @@ pub mod Leads
 pub mod Openings
 pub mod Pages
 pub mod Phases
+pub mod Readings
 pub mod Reopens
 pub mod Serving
+pub mod Sessions
 pub mod StopCalls
 pub mod StopLaws
 pub mod StopRacks

@@ -1,6 +1,8 @@
 -- The tables that an opening reads.
-use Rattle.std.specs.Prelude.{◌≡◌, ◌≤◌, ◌<◌, ◌^◌, ℕ, false, List, Option, Some, None, Bool, IfSome, IsSome, length, slice_get, slice_index_or, slice_set}
+use Rattle.std.specs.Prelude.{◌≡◌, ◌≤◌, ◌<◌, ◌^◌, ◌⊎◌, ℕ, false, List, [], Option, Some, None, Bool, IfSome, IsSome, length, slice_get, slice_index_or, slice_set}
+use Rattle.dg_io.specs.Told.{IsSame, Told}
 use Rattle.dg_io.specs.declared.outside.Rack.{Ghosts}
+use Rattle.dg_model.specs.Members.{partner_of}
 use Rattle.dg_stop.specs.Commits.{IsPlaced}
 use Rattle.dg_stop.specs.FoundHeaders.{AreFound, Bears, found_at, no_headers}
 use Rattle.dg_stop.specs.Headers.{extra_of}
@@ -29,10 +31,12 @@ AreShort heads most = (q : ℕ) (h : Header) → head_at heads q ≡ Some h → 
 
 -- calls that changed nothing, and of which none failed
 pub record FindsOn {S : Type 0} (rack : Ghosts S) (old new : S) : Type 0 where
+  pub same : (q : ℕ) → Told IsSame (rack.bytes old q) (rack.bytes new q)
   pub on : (found : List Found) (known : List Bool) (first : S) → AreFound rack 32 found known first old → AreFound rack 32 found known first new
 
 -- calls that changed nothing, the last of which failed, on this member
 pub record LosesOn {S : Type 0} (rack : Ghosts S) (q : ℕ) (old new : S) : Type 0 where
+  pub same : (q : ℕ) → Told IsSame (rack.bytes old q) (rack.bytes new q)
   pub low : q < 32
   pub on : (found : List Found) (known : List Bool) (first : S) → length found ≡ 32 → length known ≡ 32 → AreFound rack 32 found known first old
       → AreFound rack 32 (slice_set found q no_headers) (slice_set known q false) first new
@@ -46,16 +50,29 @@ pub record HasTable {S : Type 0} (rack : Ghosts S) (now : S) (h : Header) (q : �
 
 -- and of a member that isn't
 abbrev pub HoldsTable : {S : Type 0} → Ghosts S → S → Option Header → ℕ → Places → Type 0
-HoldsTable rack now None q held = held.size ≡ 0
+HoldsTable rack now None q held = (held.size ≡ 0) × (held.bits.items ≡ [])
 HoldsTable rack now (Some h) q held = HasTable rack now h q held
 
 abbrev pub HoldsAt : {S : Type 0} → Ghosts S → S → List (Option Header) → List Places → ℕ → Type 0
 HoldsAt rack now heads all q = (held : Places) → slice_get all q ≡ Some held → HoldsTable rack now (head_at heads q) q held
 
--- the tables of all members; or the member on which a call failed
-abbrev pub ReadsTables : {S : Type 0} → Ghosts S → List (Option Header) → Option ℕ → List Places → S → S → Type 0
-ReadsTables rack heads None all old new = FindsOn rack old new × AreBorne rack heads new × (length all ≡ 32) × ((q : ℕ) → HoldsAt rack new heads all q)
-ReadsTables rack heads (Some q) all old new = LosesOn rack q old new
+-- it is attached, or its partner is
+abbrev pub IsPaired : List (Option Header) → ℕ → Type 0
+IsPaired heads q = IsSome (head_at heads q) ⊎ IsSome (head_at heads (partner_of q))
+
+-- there is memory for so many bytes on each member that is attached, and on its partner
+abbrev pub AreRoomy : List (Option Header) → ℕ → List Places → Type 0
+AreRoomy heads most all = (q : ℕ) (held : Places) → slice_get all q ≡ Some held → IsPaired heads q → held.most ≡ most
+
+-- a call on a member that is attached failed
+abbrev pub LosesHead : {S : Type 0} → Ghosts S → List (Option Header) → S → S → ℕ → Type 0
+LosesHead rack heads old new q = LosesOn rack q old new × IsSome (head_at heads q)
+
+-- the tables of all members, and memory for so many bytes; or the member on which a call failed
+abbrev pub ReadsTables : {S : Type 0} → Ghosts S → List (Option Header) → ℕ → Option ℕ → List Places → S → S → Type 0
+ReadsTables rack heads most None all old new =
+    FindsOn rack old new × AreBorne rack heads new × (length all ≡ 32) × AreRoomy heads most all × ((q : ℕ) → HoldsAt rack new heads all q)
+ReadsTables rack heads most (Some q) all old new = LosesHead rack heads old new q
 
 -- the extra bytes of the commit of a header
 abbrev pub HasExtra : {S : Type 0} → Ghosts S → S → Header → List ℕ → Type 0
@@ -74,11 +91,8 @@ HasNoHead heads = (q : ℕ) (h : Header) → head_at heads q ≡ Some h → ⊥
 pub record ReadsFirst {S : Type 0} (rack : Ghosts S) (heads : List (Option Header)) (old new : S) (extra : List ℕ) : Type 0 where
   pub finds : FindsOn rack old new
   pub borne : AreBorne rack heads new
+  pub some : HasNoHead heads ⊎ ((h : Header) × IsFirstHead heads h)
   pub has : (h : Header) → IsFirstHead heads h → HasExtra rack new h extra
-
--- a call on a member that is attached failed
-abbrev pub LosesHead : {S : Type 0} → Ghosts S → List (Option Header) → S → S → ℕ → Type 0
-LosesHead rack heads old new q = LosesOn rack q old new × IsSome (head_at heads q)
 
 -- each of them has less than 2^48 bytes
 abbrev pub AreSmall : List (Option Header) → Type 0

@@ -57,6 +57,25 @@ impl<R: Rack + Drop> DoubleRack<R> {
     }
 }
 
+impl<R: Rack> DoubleRack<R> {
+    ghost use Rattle.std.specs.Prelude.{◌≡◌};
+    ghost use Rattle.dg_stop.specs.Doubles.{AreHeld, HasNoCalls};
+
+    /// A double rack of members of which this is known, with no calls counted.
+    pub(crate) fn over(rack: R, memory: Memory) -> DoubleRack<R>
+        requires { AreHeld R.Rack memory rack }
+        ensures rack { result.rack ≡ rack }
+        ensures memory { result.memory ≡ memory }
+        ensures tally { HasNoCalls result.tally }
+    {
+        DoubleRack {
+            rack,
+            memory,
+            tally: Tally::new(),
+        }
+    }
+}
+
 impl<R: Rack> Rack for DoubleRack<R> {
     ghost use Rattle.std.specs.Prelude.{◌≡◌, ◌≤◌, ◌+◌, ◌∷◌, [], true, None, length, IfOk, IfSome, IsSome, OnErr, OnOk};
     ghost use Rattle.dg_io.specs.Kept.{KeepsRest};

@@ -2,6 +2,7 @@
 //! over all members leaves what is reopened, or makes it what the members hold. Beside it stand the laws of what is reopened.
 #![tactic(auto)]
 
+mod attachments;
 mod commits;
 mod double_commits;
 mod doubles;
@@ -19,6 +20,7 @@ mod page_calls;
 mod pages;
 mod phases;
 mod places;
+mod readings;
 mod settles;
 mod stop_racks;
 mod tables;
@@ -33,7 +35,7 @@ pub use laws::{
     blanks_leave_rest, openings_leave_kept, pages_are_patched, stops_leave_old_or_new,
     writes_leave_kept,
 };
-pub use openings::openings_hold;
+pub use openings::{openings_give_kept, openings_hold, openings_spare};
 pub use pages::write_part;
 pub use phases::{MEMBERS, commit_once, next_after};
 pub use places::Places;

@@ -1,5 +1,7 @@
 // A rack over a rack that is plain, or keeps two places for each page.
+use crate::attachments::attach;
 use crate::doubles::DoubleRack;
+use crate::readings::{is_bare, read_rack};
 use dg_io::{Checkpoint, CommitAnswer, Failed, NoMemory, Rack};
 use std::alloc::Global;
 
@@ -26,8 +28,24 @@ impl<R: Rack> StopRack<R> {
 
 impl<R: Rack + Drop> StopRack<R> {
     ghost use Rattle.std.specs.Prelude.{◌≤◌, ◌<◌, ◌^◌, IfOk, Some};
+    ghost use Rattle.dg_stop.specs.DoubleOpenings.{Opens};
     ghost use Rattle.dg_stop.specs.Doubles.{nothing_kept};
     ghost use Rattle.dg_stop.specs.StopRacks.{IsNew, stop_keeps};
+
+    /// Opens a rack: a plain one, with no extra bytes, where no member has a header, else a double one of the members that the last commit
+    /// attaches, with its extra bytes. A member on which a call fails counts as one without a header. On a member that has only a prepared header
+    /// the committed one is written; where that fails the member stands no more.
+    pub fn open(alloc: Global, rack: R) -> Result<(StopRack<R>, Vec<u8>), NoMemory>
+        ensures { IfOk result (λ opened. Opens R.Rack rack opened.0 opened.1.items) }
+    {
+        let mut behind = rack;
+        let reading = read_rack(alloc, &mut behind)?;
+        if is_bare(&reading.found) {
+            return Ok((StopRack::Plain(behind), Vec::new(alloc)));
+        }
+        let (memory, extra) = attach(alloc, &mut behind, reading)?;
+        Ok((StopRack::Doubled(DoubleRack::over(behind, memory)), extra))
+    }
 
     /// A blank double rack of so many members, each with memory for a member of so many bytes, and room for so many extra bytes. It takes its
     /// memory here.

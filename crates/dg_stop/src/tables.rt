@@ -1,7 +1,8 @@
 // The tables that an opening reads: where the pages of each attached member stand, and the extra bytes.
-ghost use Rattle.std.specs.Prelude.{◌≡◌, ◌≤◌, ◌<◌, ◌^◌, ◌++◌, ◌∷◌, [], length, IfErr, IfOk, MatchOption, IfSome, IsSome, IsTrue, OnOk};
+ghost use Rattle.std.specs.Prelude.{◌≡◌, ◌≤◌, ◌<◌, ◌^◌, ◌++◌, ◌∷◌, [], length, IfErr, IfOk, MatchOption, IfSome, IsErr, IsSome, IsTrue, OnOk};
+ghost use Rattle.dg_model.specs.Members.{partner_of};
 ghost use Rattle.dg_stop.specs.FoundHeaders.{Bears, LooksAt};
-ghost use Rattle.dg_stop.specs.Tables.{AreBorne, AreHeads, AreShort, AreSmall, HasExtra, HasNoHead, HasTable, HoldsTable, IsFirstHead, LosesHead, ReadsFirst, ReadsTables, head_at};
+ghost use Rattle.dg_stop.specs.Tables.{AreBorne, AreHeads, AreShort, AreSmall, HasExtra, HasNoHead, HasTable, HoldsTable, IsFirstHead, IsPaired, LosesHead, ReadsFirst, ReadsTables, head_at};
 
 use crate::commits::{place_of_table, table_len};
 use crate::found_headers::Found;
@@ -61,6 +62,7 @@ fn read_places<R: Rack>(
     requires fits { header.now.size ≤ most }
     ensures looks { IfOk result (λ read. LooksAt R.Rack header.now.member read rack.old rack.new) }
     ensures has { IfOk result (λ read. IfOk read (HasTable R.Rack rack.new header.now header.now.member)) }
+    ensures most { IfOk result (λ read. IfOk read (λ held. held.most ≡ most)) }
 {
     let mut places = Places::new(alloc, most)?;
     if places.blank(header.size).is_err() {
@@ -85,6 +87,8 @@ fn places_of<R: Rack>(
     requires small { most < 2 ^ 48 }
     ensures looks { IfOk result (λ read. LooksAt R.Rack member read rack.old rack.new) }
     ensures has { IfOk result (λ read. IfOk read (HoldsTable R.Rack rack.new head member)) }
+    ensures lost { IfOk result (λ read. IsErr read → IsSome head) }
+    ensures most { IfOk result (λ read. IfOk read (λ held. held.most ≡ most)) }
 {
     match head {
         Some(header) => read_places(alloc, rack, &header, most),
@@ -92,15 +96,37 @@ fn places_of<R: Rack>(
     }
 }
 
+/// The other member of a member's boundary.
+fn partner(member: u8) -> u8
+    requires { member < 32 }
+    ensures { result ≡ partner_of member }
+{
+    if member % 2 == 0 {
+        member + 1
+    } else {
+        member - 1
+    }
+}
+
 /// Whether a member, or its partner, is attached.
 fn is_paired(heads: &Heads, member: u8) -> bool
-    ensures { IsSome (head_at heads.now member) → IsTrue result }
+    requires { member < 32 }
+    ensures { IsPaired heads.now member → IsTrue result }
 {
-    head_of(heads, member).is_some() || head_of(heads, member ^ 1).is_some()
+    head_of(heads, member).is_some() || head_of(heads, partner(member)).is_some()
+}
+
+/// For how many bytes a member gets memory, where the longest attached one has so many.
+fn room_for(heads: &Heads, member: u8, most: u64) -> u64
+    requires { member < 32 }
+    ensures paired { IsPaired heads.now member → result ≡ most }
+    ensures low { result ≤ most }
+{
+    if is_paired(heads, member) { most } else { 0 }
 }
 
 /// One member more.
-fn add(all: &mut Vec<Places>, places: Places) -> Result<(), NoMemory>
+pub fn add(all: &mut Vec<Places>, places: Places) -> Result<(), NoMemory>
     ensures { OnOk result (all.new.items ≡ all.old.items ++ places ∷ []) }
 {
     match all.push(places) {
@@ -122,11 +148,11 @@ pub fn read_all<R: Rack>(
     requires short { AreShort heads.now most }
     requires small { most < 2 ^ 48 }
     requires none { length all.old.items ≡ 0 }
-    ensures { IfOk result (λ lost. ReadsTables R.Rack heads.now lost all.new.items rack.old rack.new) }
+    ensures { IfOk result (λ lost. ReadsTables R.Rack heads.now most lost all.new.items rack.old rack.new) }
 {
     for member in 0..MEMBERS as u8 {
         let head = head_of(heads, member);
-        let room = if is_paired(heads, member) { most } else { 0 };
+        let room = room_for(heads, member, most);
         match places_of(alloc, rack, head, member, room)? {
             Ok(places) => {
                 add(all, places)?;
