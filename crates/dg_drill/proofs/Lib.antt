@@ -4,12 +4,10 @@ mod Comparing
 mod Counts
 mod DrillLaws
 mod HomeSteps
-mod ItemLaws
 mod Lined
 mod LossSteps
 mod MadeLaws
 mod MemberSteps
 mod OrderLaws
-mod PathLaws
 mod ReadLaws
 mod WriteCounts

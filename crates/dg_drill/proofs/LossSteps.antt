@@ -39,7 +39,7 @@ use Rattle.ufs_model.specs.Trees.{file_of}
 use Rattle.ufs_model.specs.declared.reads.PathRefusal.{PathRefusal}
 use Rattle.dg_drill.proofs.HomeSteps.{home_within}
 use Rattle.dg_drill.proofs.MemberSteps.{AreWhole, Do, do_stay, do_struck, first_good, good_member, good_whole, half_member, half_whole, is_lost_here, lost_member, lost_whole, one_lost, second_good, stands_there}
-use Rattle.dg_drill.specs.Items.{file_path}
+use Rattle.ufs_drill.specs.Items.{file_path}
 use Rattle.dg_drill.specs.Drills.{later_events, loss_events, read_event}
 use Rattle.dg_drill.specs.Losses.{AreGiven, is_at, lost_homes, stands_at}
 use Rattle.dg_drill.specs.Volumes.{drill_shape}

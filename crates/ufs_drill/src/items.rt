@@ -1,9 +1,10 @@
 // The files of a drill.
-ghost use Rattle.std.specs.Prelude.{◌≡◌, ◌≤◌, ◌<◌, ◌++◌, ◌∷◌, [], IfOk, OnOk, false, map};
+ghost use Rattle.std.specs.Prelude.{◌≡◌, ◌≤◌, ◌<◌, ◌+◌, ◌++◌, ◌∷◌, ℕ, [], IfOk, OnOk, false, true, map};
 ghost use Rattle.std.specs.List.{range_with_len};
 ghost use Rattle.rand_pcg.specs.Pcg.{pcg32};
-ghost use Rattle.dg_drill.specs.Items.{byte_of, bytes_of, digit_of, directory_item, directory_path, drill_items, file_item, file_path, generator_after, size_by};
+ghost use Rattle.ufs_drill.specs.Items.{byte_of, bytes_of, digit_of, directory_item, directory_path, drill_items, file_item, file_path, generator_after, size_by};
 ghost use Rattle.ufs_build.specs.declared.items.ItemKind.{ItemKind};
+ghost use Rattle.ufs_model.specs.Paths.{is_path};
 
 use dg_model::{Bytes, NoMemory};
 use rand_core::SeedableRng;
@@ -23,7 +24,7 @@ pub fn sizes_of(seed: u64) -> Pcg32
 /// How many bytes the next file has, which is file `k`.
 pub fn next_size(sizes: &mut Pcg32, k: u32) -> u32
     ensures size { result ≡ size_by (pcg32 sizes.old).0 k }
-    ensures sizes { sizes.new ≡ (pcg32 sizes.old).1 }
+    ensures next { (seed n : ℕ) → sizes.old ≡ generator_after seed n → sizes.new ≡ generator_after seed (n + 1) }
     ensures small { result < 212000 }
 {
     let word = sizes.next_word();
@@ -76,7 +77,8 @@ fn directory_path(x: u32) -> [u8; 3]
 
 /// The path of file `k`.
 pub fn file_path(k: u32) -> [u8; 9]
-    ensures { result ≡ file_path k }
+    ensures is { result ≡ file_path k }
+    ensures path { is_path result ≡ true }
 {
     [
         b'/',

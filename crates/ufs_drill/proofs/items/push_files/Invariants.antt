@@ -1,7 +1,7 @@
 use Rattle.std.proofs.Common.{◌≡◌, ◌++◌, map}
 use Rattle.std.specs.List.{range_with_len}
-use Rattle.dg_drill.specs.Items.{file_item, generator_after}
-use Rattle.dg_drill.proofs.items.push_files.Given as goal
+use Rattle.ufs_drill.specs.Items.{file_item, generator_after}
+use Rattle.ufs_drill.proofs.items.push_files.Given as goal
 
 abbrev pub invariant-loop-k : goal.invariant-loop-k
 invariant-loop-k l = record {

@@ -3,7 +3,7 @@ use Rattle.std.proofs.Common.{◌≡◌, ◌∙◌, ◌+◌, ℕ, suc, List, [],
 use Rattle.std.specs.List.{range_with_len}
 use Rattle.std.proofs.lemmas.List.{map-id, map_push}
 use Rattle.std.proofs.lemmas.List.FromFn.{map-range_with_len_more}
-use Rattle.dg_drill.specs.Items.{generator_after}
+use Rattle.ufs_drill.specs.Items.{generator_after}
 use Rattle.rand_pcg.specs.Pcg.{pcg32}
 
 pub generator_more : (seed k : ℕ) → generator_after seed (k + 1) ≡ (pcg32 (generator_after seed k)).1

@@ -1,6 +1,6 @@
-use dg_drill::drill;
 use std::test::Fail;
 use ufs_build::ItemKind;
+use ufs_drill::drill;
 
 /// The sizes of the files of a seed, by the definitions of PCG32 and of its seeds.
 #[test]
