@@ -3,6 +3,7 @@ mod ChainLaws
 mod Comparing
 mod Counts
 mod DrillLaws
+mod GivenLaws
 mod HomeSteps
 mod Lined
 mod LossSteps

@@ -15,5 +15,5 @@ mod volumes;
 mod writes;
 
 pub use drills::{DrillEnd, Drilled, run_drill};
-pub use laws::drill_loses_its_homes;
+pub use laws::{drill_loses_its_homes, drills_give_their_files};
 pub use volumes::drill_shape;
