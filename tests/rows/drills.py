@@ -75,10 +75,7 @@ def homes(volume):
 @functools.lru_cache(None)
 def report(seed, count):
     """All that is printed."""
-    try:
-        volume = Volume(SPEC, items(seed, count))
-    except ValueError:
-        return f"drill {seed} {count}\nno volume\n".encode()
+    volume = Volume(SPEC, items(seed, count))
     lost, found = seed % BOUNDARIES, homes(volume)
     given = [item for item in volume.items if item.kind == "file" and found.get(item.path) != lost]
     sizes = sum(len(item.data) for item in given)

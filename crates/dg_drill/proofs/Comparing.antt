@@ -5,7 +5,7 @@ use Rattle.std.specs.Cmp.Lexicographic.{pointwise}
 use Rattle.std.specs.List.{range_with_len}
 use Rattle.std.proofs.lemmas.Bool.{cases_Bool, lt-ltb, le-ltb, ne_eqb, eq-eqb}
 use Rattle.dg_drill.specs.Comparisons.{fresh, is_whole, next_byte, next_bytes}
-use Rattle.dg_drill.specs.Items.{byte_of, bytes_of}
+use Rattle.ufs_drill.specs.Items.{byte_of, bytes_of}
 use Rattle.dg_drill.specs.declared.comparers.Comparer.{Comparer}
 
 abbrev cursor : ℕ → ℕ → ℕ → Bool → Comparer

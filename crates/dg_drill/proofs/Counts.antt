@@ -2,7 +2,7 @@
 use Rattle.std.proofs.Common.{◌≡◌, ◌+◌, ◌++◌, ℕ, suc, List, [], ◌∷◌, length, ap, arith}
 use Rattle.std.specs.Prelude.{if◌then◌else◌}
 use Rattle.dg_model.specs.declared.replies.Reply.{Reply}
-use Rattle.dg_drill.specs.Items.{file_bytes}
+use Rattle.ufs_drill.specs.Items.{file_bytes}
 use Rattle.dg_drill.specs.Reports.{given_bytes, given_count, gives, is_unavailable, unavailable_count}
 
 -- what the reply to the reading of file k adds

@@ -1,21 +1,18 @@
 -- A drill, from the blank array to the last reading.
 use Rattle.std.proofs.Common.{◌≡◌, ◌≢◌, ◌∙◌, ◌/◌, ◌<◌, ◌≤◌, ◌%◌, ℕ, zero, suc, List, [], ◌∷◌, refl, sym, ap, subst, arith}
-use Rattle.std.specs.Prelude.{Err, None, Option, cond, replicate}
+use Rattle.std.specs.Prelude.{None, Option, cond, replicate}
 use Rattle.std.proofs.lemmas.List.Sums.{sum_by-cons}
 use Rattle.dg_drill.proofs.ChainLaws.{run_both, told_before}
 use Rattle.dg_drill.specs.Calls.{Facts, rack_facts}
 use Rattle.dg_drill.specs.Chains.{AreUnwritten, HasLost, HasReadAll, HasWritten}
-use Rattle.dg_drill.specs.Drills.{EndsDrill, HasDrilled, HasNoVolume, IsDone, OthersKept, TellsBoundaries, loss_events, read_events, written_count}
+use Rattle.dg_drill.specs.Drills.{EndsDrill, HasDrilled, OthersKept, TellsBoundaries, loss_events, read_events, written_count}
 use Rattle.dg_drill.specs.Outcomes.{IsTally}
-use Rattle.dg_drill.specs.Reports.{refused_text, report_text}
-use Rattle.dg_drill.specs.Volumes.{IsDrillVolume, drill_shape, drill_spec}
+use Rattle.dg_drill.specs.Reports.{report_text}
+use Rattle.dg_drill.specs.Volumes.{IsDrillVolume, drill_shape}
 use Rattle.dg_drill.specs.declared.drills.DrillEnd.{DrillEnd}
 use Rattle.dg_drill.specs.declared.drills.DrillEnd.TheVariants.{Done as DrillDone, WriteFault}
-use Rattle.dg_drill.specs.Items.{drill_items}
 use Rattle.dg_io.specs.MadeLaws.{same_both}
 use Rattle.dg_io.specs.Told.{Told, Took, TookPart}
-use Rattle.ufs_build.specs.Builds.{built}
-use Rattle.ufs_build.specs.declared.refusals.BuildRefused.{BuildRefused}
 use Rattle.dg_drill.specs.declared.reads.Tally.{Tally}
 use Rattle.dg_io.specs.declared.outside.Rack.{Ghosts}
 use Rattle.dg_model.proofs.FirstSites.{empty_rows}
@@ -171,19 +168,8 @@ module _ {R : Type 0} (rack : Ghosts R) (before : R) (loose : Volume Loose R) (v
 
 -- ---- how it ends
 
--- there is no volume, and the rack is as it was
-pub has_no_volume : {R : Type 0} (rack : Ghosts R) (before : R) (seed files : ℕ) (text : List ℕ) (taken given : Option (List ℕ)) (refusal : BuildRefused)
-    → built drill_spec (drill_items seed files) ≡ Err refusal → text ≡ refused_text seed files
-    → HasNoVolume (rack_facts rack before before taken given) seed files text
-has_no_volume rack before seed files text taken given refusal refused is = record {
-  refusal = refusal;
-  refused = refused;
-  same = (refl, refl);
-  text_is = is;
-}
-
 -- by whether the text was printed whole
-pub ends_drill : (tells : ℕ → Type 0) (facts : Facts) (seed files : ℕ) (end : DrillEnd) (text : List ℕ) → IsDone tells facts seed files text
+pub ends_drill : (tells : ℕ → Type 0) (facts : Facts) (seed files : ℕ) (end : DrillEnd) (text : List ℕ) → HasDrilled tells facts seed files text
     → (end ≢ WriteFault → Told (Took text) facts.taken facts.given) → (end ≡ WriteFault → Told (TookPart text) facts.taken facts.given)
     → EndsDrill tells facts seed files end
 ends_drill tells facts seed files DrillDone text done told part = (text, done, told (λ e. cc e))

@@ -3,13 +3,12 @@ mod ChainLaws
 mod Comparing
 mod Counts
 mod DrillLaws
+mod GivenLaws
 mod HomeSteps
-mod ItemLaws
 mod Lined
 mod LossSteps
 mod MadeLaws
 mod MemberSteps
 mod OrderLaws
-mod PathLaws
 mod ReadLaws
 mod WriteCounts

@@ -1,12 +1,12 @@
 -- A drill without faults, step by step: what its states keep, and what each reading answers.
-use Rattle.std.proofs.Common.{◌≡◌, ◌≢◌, ◌<◌, ◌≤◌, ◌+◌, ◌*◌, ◌/◌, ◌%◌, ◌++◌, ◌==◌, ℕ, zero, suc, Bool, true, false, cond, List, [], ◌∷◌, length, refl, sym, ◌∙◌, ap, subst, inl, inr, arith}
+use Rattle.std.proofs.Common.{◌≡◌, ◌≢◌, ◌⊎◌, ◌<◌, ◌≤◌, ◌+◌, ◌*◌, ◌/◌, ◌%◌, ◌++◌, ◌==◌, ℕ, zero, suc, Bool, true, false, cond, List, [], ◌∷◌, length, refl, sym, ◌∙◌, ap, subst, inl, inr, arith}
 use Rattle.std.specs.Prelude.{All, IsNone, IsSomeAnd, Option, Some, None, Result, Ok, Err, count_by, map, replicate, slice_set}
 use Rattle.std.specs.List.{list_any, range_with_len}
 use Rattle.std.proofs.lemmas.Bool.Decides.{nat_tests}
 use Rattle.std.proofs.lemmas.List.Sums.{sum_by-cons}
 use Rattle.std.proofs.lemmas.Bool.{cases_lt, eq-eqb, le-ltb, lt-ltb, false≢true}
 use Rattle.dg_model.specs.Causes.{NoneRose}
-use Rattle.dg_model.specs.Changes.{IsInOrder, Stays}
+use Rattle.dg_model.specs.Changes.{IsInOrder, IsLeastLostIn, Stays}
 use Rattle.dg_model.specs.Homes.{home_of}
 use Rattle.dg_model.specs.Lives.{all_live, place_in}
 use Rattle.dg_model.specs.Marks.{is_marked}
@@ -14,7 +14,7 @@ use Rattle.dg_model.specs.Members.{MembersFall, is_lost}
 use Rattle.dg_model.specs.Moves.{count_upto}
 use Rattle.dg_model.specs.Runs.{Run, Trace}
 use Rattle.dg_model.specs.Shapes.{IsShape}
-use Rattle.dg_model.specs.States.{Counts, IsBlank, State, is_cut}
+use Rattle.dg_model.specs.States.{Counts, IsBlank, State, is_cut, place_of}
 use Rattle.dg_model.specs.Steps.{Step, member_of}
 use Rattle.dg_model.specs.Tables.{IsTable, Table}
 use Rattle.dg_model.specs.Valid.{IsUncut}
@@ -26,20 +26,22 @@ use Rattle.dg_model.specs.declared.members.MemberState.{MemberState}
 use Rattle.dg_model.specs.declared.members.MemberState.TheVariants.{Good, Out}
 use Rattle.dg_model.specs.declared.phases.Phase.TheVariants.{Settled as SettledPhase}
 use Rattle.dg_model.specs.declared.replies.Reply.{Reply}
-use Rattle.dg_model.specs.declared.replies.Reply.TheVariants.{Already, Cut, Degraded, Done, Given, Range, Refused, Settled, Unavailable}
+use Rattle.dg_model.specs.declared.replies.Reply.TheVariants.{Already, Cut, Degraded, Done, Given, Lost, Malformed, NoSpace, Range, Refused, Settled, Unavailable}
 use Rattle.dg_model.specs.declared.shapes.Shape.{Shape}
+use Rattle.dg_model.specs.declared.wants.NoRoom.{NoRoom}
 use Rattle.dg_model.proofs.LineLaws.{none_marked, none_unmarked, place_whole}
 use Rattle.dg_model.proofs.MemberLaws.{none_back, none_front}
 use Rattle.dg_model.proofs.RunLaws.{run_more, run_none, trace_more}
 use Rattle.dg_model.proofs.StepLaws.{StayInUse, StaysInUse, run_keeps, step_keeps}
 use Rattle.dg_promise.specs.Promises.{AreTold, FewLost, GivesAll, IsAsPromised, LosesNone, Survives, bytes_at, file_at}
 use Rattle.dg_promise.specs.Steady.{FitsBlock, IsSteady}
+use Rattle.ufs_model.specs.Malformations.{IsMalformed, IsSoundVolume}
 use Rattle.ufs_model.specs.Paths.{cat_of}
 use Rattle.ufs_model.specs.Trees.{file_of}
 use Rattle.ufs_model.specs.declared.reads.PathRefusal.{PathRefusal}
 use Rattle.dg_drill.proofs.HomeSteps.{home_within}
-use Rattle.dg_drill.proofs.MemberSteps.{AreWhole, Do, do_stay, do_struck, first_good, good_member, good_whole, half_member, half_whole, is_lost_here, lost_member, lost_whole, one_lost, second_good, stands_there}
-use Rattle.dg_drill.specs.Items.{file_path}
+use Rattle.dg_drill.proofs.MemberSteps.{AreWhole, Do, do_stay, do_struck, first_good, good_member, good_whole, half_member, half_whole, is_lost_here, lost_member, lost_whole, none_lost, one_lost, second_good, stands_there}
+use Rattle.ufs_drill.specs.Items.{file_path}
 use Rattle.dg_drill.specs.Drills.{later_events, loss_events, read_event}
 use Rattle.dg_drill.specs.Losses.{AreGiven, is_at, lost_homes, stands_at}
 use Rattle.dg_drill.specs.Volumes.{drill_shape}
@@ -124,6 +126,10 @@ cat_reads old new path Unavailable h = reads_stays old new h.1
 cat_reads old new path (Cut lines) h = reads_stays old new h.3
 cat_reads old new path reply h = absurd h
 
+-- so it leaves the blocks
+pub cat_blocks : (old new : State) (path : List ℕ) (reply : Reply) → Step AreTold old (Cat path) reply new → new.blocks ≡ old.blocks
+cat_blocks old new path reply step = (cat_reads old new path reply step).blocks
+
 -- a settle that was done
 record SettlesOn (old new : State) : Type 0 where
   on : Advances old new
@@ -147,14 +153,14 @@ settles_on old new h = elim h.1 [
 -- ---- what its states keep
 
 -- the state is steady, of the drill's array, with all boundaries in use, no cut block and no copies, and its members do this
-record IsFine (should : ℕ → MemberState) (state : State) : Type 0 where
-  steady : IsSteady state
-  shape : state.table.shape ≡ drill_shape
-  boundaries : state.boundaries ≡ 4
-  live : state.live ≡ all_live 4
-  cut : state.cut ≡ replicate 32768 false
-  copies : state.copies ≡ []
-  members : Do state.members should
+pub record IsFine (should : ℕ → MemberState) (state : State) : Type 0 where
+  pub steady : IsSteady state
+  pub shape : state.table.shape ≡ drill_shape
+  pub boundaries : state.boundaries ≡ 4
+  pub live : state.live ≡ all_live 4
+  pub cut : state.cut ≡ replicate 32768 false
+  pub copies : state.copies ≡ []
+  pub members : Do state.members should
 
 -- writes take no boundary out of use
 writes_in_use : (bytes : ℕ → List ℕ) (blocks : List ℕ) (replies : List Reply) → StayInUse (map (λ b. Write b (bytes b)) blocks) replies
@@ -169,7 +175,7 @@ reads_in_use k (suc n) [] = tt
 reads_in_use k (suc n) (reply ∷ replies) = (tt, reads_in_use (k + 1) n replies)
 
 -- nor do losses and readings
-ends_in_use : (seed files : ℕ) (replies : List Reply) → StayInUse (loss_events seed ++ map read_event (range_with_len 0 files)) replies
+pub ends_in_use : (seed files : ℕ) (replies : List Reply) → StayInUse (loss_events seed ++ map read_event (range_with_len 0 files)) replies
 ends_in_use seed files [] = tt
 ends_in_use seed files (one ∷ []) = (tt, tt)
 ends_in_use seed files (one ∷ other ∷ replies) = (tt, (tt, reads_in_use 0 files replies))
@@ -422,6 +428,13 @@ module _ (kept : KeepSteady) (promise : KeepPromise) (stands : LoseNone) where
 
 -- ---- the whole drill
 
+-- the state in which all is written: no count rose by then, nor does one later
+pub record AtWritten (before : Counts) (written final : State) : Type 0 where
+  pub fine : IsFine good_member written
+  pub none : NoneRose before.faults written.counts.faults
+  pub later : NoneRose written.counts.faults final.counts.faults
+  pub shape : final.table.shape ≡ drill_shape
+
 record AreTwo (losses : List Reply) : Type 0 where
   first : Reply
   second : Reply
@@ -448,8 +461,10 @@ shape_holds = record {
   most_places = omega arith;
 }
 
-module _ (kept : KeepSteady) (promise : KeepPromise) (stands : LoseNone)
-    (blank_steady : (shape : Shape) (before : Counts) (state : State) → IsShape shape → IsBlank shape before state → IsSteady state) where
+abbrev BlankSteady : Type 0
+BlankSteady = (shape : Shape) (before : Counts) (state : State) → IsShape shape → IsBlank shape before state → IsSteady state
+
+module _ (kept : KeepSteady) (blank_steady : BlankSteady) where
   blank_fine : (before : Counts) (blank : State) → NoneRose before.faults blank.counts.faults → IsBlank drill_shape before blank → IsFine good_member blank
   blank_fine before blank none is = record {
     steady = blank_steady drill_shape before blank shape_holds is;
@@ -464,6 +479,59 @@ module _ (kept : KeepSteady) (promise : KeepPromise) (stands : LoseNone)
     ];
   }
 
+  -- once all is written, and in the end
+  pub written_fine : (before : Counts) (seed files : ℕ) (bytes : ℕ → List ℕ) (blocks : List ℕ) (writes : List Reply) (reply : Reply) (rest : List Reply) (written final : State)
+      → ((b : ℕ) → length (bytes b) ≤ 1024) → Trace AreTold before (Array drill_shape ∷ map (λ b. Write b (bytes b)) blocks) writes written
+      → Run AreTold written (later_events seed files) (reply ∷ rest) final → NoneRose before.faults final.counts.faults → AtWritten before written final
+  written_fine before seed files bytes blocks writes reply rest written final short trace run none =
+      let events = map (λ b. Write b (bytes b)) blocks in
+      let first = trace_more AreTold before drill_shape events writes written trace in
+      let wrote = (run_keeps AreTold first.blank events first.rest written (writes_in_use bytes blocks first.rest) first.run).counts.faults in
+      let after = run_keeps AreTold written (later_events seed files) (reply ∷ rest) final (tt, ends_in_use seed files rest) run in
+      let on = after.counts.faults in
+      let none_written = none_front before.faults written.counts.faults final.counts.faults on none in
+      let none_blank = none_front before.faults first.blank.counts.faults written.counts.faults wrote none_written in
+      let begun = none_back before.faults first.blank.counts.faults written.counts.faults first.is_blank.counts.faults none_written in
+      let fine = writes_fine kept bytes blocks first.blank written first.rest short (blank_fine before first.blank none_blank first.is_blank) begun first.run in
+      let from_blank : (q : ℕ) → before.faults q ≤ written.counts.faults q = λ q. omega (arith, first.is_blank.counts.faults q, wrote q) in
+      record {
+        fine = fine;
+        none = none_written;
+        later = none_back before.faults written.counts.faults final.counts.faults from_blank none;
+        shape = after.table.shape ∙ fine.shape;
+      }
+
+-- a settle in which no member failed finds no boundary lost
+settle_keeps : (old new : State) (s : ℕ) → IsFine good_member old → NoneRose old.counts.faults new.counts.faults → Step AreTold old Settle (Lost s) new → ⊥
+settle_keeps old new s fine none h =
+    let act : MembersFall old.counts.faults new.counts.faults old.members new.members → Do new.members good_member =
+    λ falls. do_stay old.counts.faults new.counts.faults old.members new.members good_member none good_whole fine.members falls in
+    let shape = (step_keeps AreTold old Settle (Lost s) new tt h).table.shape ∙ fine.shape in
+    elim h [
+      | inl was ↦ lost_not old s fine.shape fine.members was.0
+      | inr now ↦ elim (now.2) [
+        | inl stays ↦ lost_not new s shape (act stays.goes.members) (now.0.1)
+        | inr cut ↦ lost_not new s shape (act cut.1.goes.members) (now.0.1)
+      ]
+    ]
+  where
+    lost_not : (state : State) (s : ℕ) → state.table.shape ≡ drill_shape → Do state.members good_member → IsLeastLostIn state s → ⊥
+    lost_not state s shape act least =
+        let low : place_of state s < 4 = subst (λ (x : Shape). place_of state s < x.b) shape least.within in
+        false≢true (sym (none_lost state.members (place_of state s) act low) ∙ least.lost)
+
+-- so of a sound volume it is done, unless there is no room
+pub settle_ends : (written settled : State) (reply : Reply) → IsFine good_member written → NoneRose written.counts.faults settled.counts.faults
+    → IsSoundVolume 1024 32768 written.blocks → Step AreTold written Settle reply settled → (reply ≡ Settled) ⊎ ((bad : NoRoom) × (reply ≡ NoSpace bad))
+settle_ends written settled Settled fine none sound h = inl refl
+settle_ends written settled (NoSpace bad) fine none sound h = inr (bad, refl)
+settle_ends written settled (Lost s) fine none sound h = absurd (settle_keeps written settled s fine none h)
+settle_ends written settled (Malformed kind n) fine none sound h =
+    let least = h.2 tt in
+    absurd (sound kind n (subst (λ (x : Shape). IsMalformed x.l x.n written.blocks kind n) fine.shape least.here))
+settle_ends written settled reply fine none sound h = absurd h
+
+module _ (kept : KeepSteady) (promise : KeepPromise) (stands : LoseNone) (blank_steady : BlankSteady) where
   -- the losses and the readings
   end_read : (seed files : ℕ) (old final : State) (losses cats : List Reply) → IsFine good_member old → old.phase ≡ SettledPhase → length losses ≡ 2
       → NoneRose old.counts.faults final.counts.faults → Run AreTold old (loss_events seed ++ map read_event (range_with_len 0 files)) (losses ++ cats) final
@@ -489,22 +557,13 @@ module _ (kept : KeepSteady) (promise : KeepPromise) (stands : LoseNone)
       → Run AreTold written (later_events seed files) (Settled ∷ (losses ++ cats)) final → length losses ≡ 2 → NoneRose before.faults final.counts.faults
       → (unavailable_count cats ≡ lost_homes final seed files) × AreGiven (boundary_of seed) final 0 cats
   drill_read before seed files bytes blocks writes losses cats written final short trace run number none =
-      let events = map (λ b. Write b (bytes b)) blocks in
-      let first = trace_more AreTold before drill_shape events writes written trace in
       let settled = run.0 in
-      let wrote = (run_keeps AreTold first.blank events first.rest written (writes_in_use bytes blocks first.rest) first.run).counts.faults in
-      let on = (run_keeps AreTold written (later_events seed files) (Settled ∷ (losses ++ cats)) final (tt, ends_in_use seed files (losses ++ cats)) run).counts.faults in
-      let none_written = none_front before.faults written.counts.faults final.counts.faults on none in
-      let none_blank = none_front before.faults first.blank.counts.faults written.counts.faults wrote none_written in
-      let begun = none_back before.faults first.blank.counts.faults written.counts.faults first.is_blank.counts.faults none_written in
-      let fine = writes_fine kept bytes blocks first.blank written first.rest short (blank_fine before first.blank none_blank first.is_blank) begun first.run in
-      let from_blank : (q : ℕ) → before.faults q ≤ written.counts.faults q = λ q. omega (arith, first.is_blank.counts.faults q, wrote q) in
-      let none_later = none_back before.faults written.counts.faults final.counts.faults from_blank none in
+      let at = written_fine kept blank_steady before seed files bytes blocks writes Settled (losses ++ cats) written final short trace run none in
       let step = run.1 in
       let more = (step_keeps AreTold written Settle Settled settled tt step).counts.faults in
       let rest = (run_keeps AreTold settled (loss_events seed ++ map read_event (range_with_len 0 files)) (losses ++ cats) final (ends_in_use seed files (losses ++ cats)) run.2).counts.faults in
-      let here = none_front written.counts.faults settled.counts.faults final.counts.faults rest none_later in
-      let there = none_back written.counts.faults settled.counts.faults final.counts.faults more none_later in
+      let here = none_front written.counts.faults settled.counts.faults final.counts.faults rest at.later in
+      let there = none_back written.counts.faults settled.counts.faults final.counts.faults more at.later in
       let is = settles_on written settled step in
       let fits : FitsBlock 1024 Settle = λ b x e. absurd (cc e) in
-      end_read seed files settled final losses cats (step_fine kept good_member written Settle Settled settled fits good_whole is.on fine here tt step) is.phase number there run.2
+      end_read seed files settled final losses cats (step_fine kept good_member written Settle Settled settled fits good_whole is.on at.fine here tt step) is.phase number there run.2

@@ -1,9 +1,9 @@
 -- The numbers of a volume that was made, and how many bytes it has.
-use Rattle.std.proofs.Common.{◌≡◌, ◌≢◌, ◌↔◌, ◌∙◌, ◌≤◌, ◌+◌, ◌*◌, ℕ, Bool, true, false, List, [], ◌∷◌, ◌++◌, length, take, drop, refl, sym, ap, arith, length-append, length-drop}
+use Rattle.std.proofs.Common.{◌≡◌, ◌↔◌, ◌∙◌, ◌≤◌, ◌+◌, ◌*◌, ℕ, Bool, true, false, List, [], ◌∷◌, ◌++◌, length, take, drop, refl, sym, ap, arith, length-append, length-drop}
 use Rattle.std.specs.Prelude.{Option, Some, None, Result, Ok, Err, if◌then◌else◌, nat_le, replicate}
 use Rattle.std.proofs.lemmas.Bool.Decides.{nat_tests}
 use Rattle.std.proofs.lemmas.List.{length-replicate, length-take-le}
-use Rattle.ufs_build.specs.Builds.{Answers, built, with_geometry, with_parents, with_placed}
+use Rattle.ufs_build.specs.Builds.{built, with_geometry, with_parents, with_placed}
 use Rattle.ufs_build.specs.Images.{volume_bytes, volume_parts}
 use Rattle.ufs_build.specs.Items.{parents_of}
 use Rattle.ufs_build.specs.Nodes.{Node}
@@ -12,8 +12,6 @@ use Rattle.ufs_build.specs.Placements.{AllPlaced}
 use Rattle.ufs_build.specs.Volumes.{geometry_of_spec, has_numbers, if_fits, maps_fit, read_geometry, superblock_bytes, volume_of_spec}
 use Rattle.ufs_build.specs.declared.items.Item.{Item}
 use Rattle.ufs_build.specs.declared.refusals.BuildRefused.{BuildRefused}
-use Rattle.ufs_build.specs.declared.refusals.BuildRefused.TheVariants.{BadItem, NoMemory, TooMany}
-use Rattle.ufs_build.specs.declared.refusals.What.TheVariants.{Spec as Numbers}
 use Rattle.ufs_build.specs.declared.volumes.Spec.{Spec}
 use Rattle.ufs_model.specs.Geometries.{IsGeometryOn}
 use Rattle.ufs_model.specs.Superblocks.{IsSuperblock, geometry_in}
@@ -96,16 +94,3 @@ pub built_length : (spec : Spec) (items : List Item) (g : Geometry) (image : Lis
     → length image ≡ g.size * g.fsize
 unfolding built
 built_length spec items g image is e = geometry_length items (volume_of_spec spec) g image is e
-
--- ---- refusals
-
--- there are no such numbers
-pub none_built : (spec : Spec) (items : List Item) → volume_of_spec spec ≡ None → built spec items ≡ Err (TooMany Numbers)
-unfolding built
-none_built spec items is = ap (with_geometry items) is
-
--- a refusal that isn't want of memory
-pub refused_by : (refusal : BuildRefused) (answer : Result (List ℕ) BuildRefused) → Answers (Err refusal) answer → refusal ≢ NoMemory → answer ≡ Err refusal
-refused_by (TooMany what) answer is other = is
-refused_by (BadItem k) answer is other = is
-refused_by NoMemory answer is other = absurd (other refl)

@@ -87,6 +87,13 @@ second_good s low =
 lost_same : (members should : ℕ → MemberState) (s : ℕ) → Do members should → is_lost members s ≡ is_lost should s
 lost_same members should s act = rw (act (2 * s), act (2 * s + 1)) refl
 
+-- before the losses none is
+pub none_lost : (members : ℕ → MemberState) (t : ℕ) → Do members good_member → t < 4 → is_lost members t ≡ false
+none_lost members t act low = rw (act (2 * t) ∙ good) refl
+  where
+    good : good_member (2 * t) ≡ Good
+    good = let here : 2 * t / 2 < 4 = omega (arith, low) in rw (lt-ltb (2 * t / 2) 4 here) refl
+
 -- the boundary whose members failed is lost
 pub is_lost_here : (members : ℕ → MemberState) (s : ℕ) → Do members (lost_member s) → is_lost members s ≡ true
 is_lost_here members s act =

@@ -1,19 +1,17 @@
 -- The readings of a drill's files.
 use Rattle.std.proofs.Common.{◌≡◌, ◌∙◌, ◌<◌, ◌≤◌, ◌+◌, ◌++◌, ℕ, Bool, true, false, List, [], ◌∷◌, length, refl, sym, ap, subst, inl, inr, arith, length-append}
-use Rattle.std.specs.Prelude.{if◌then◌else◌, map, ◌==◌}
+use Rattle.std.specs.Prelude.{if◌then◌else◌, ◌==◌}
 use Rattle.std.specs.Cmp.Lexicographic.{pointwise}
-use Rattle.std.specs.List.{concat, range_with_len}
-use Rattle.std.proofs.lemmas.List.{map_push}
-use Rattle.std.proofs.lemmas.List.FromFn.{length-map-range_with_len}
+use Rattle.std.specs.List.{concat}
+use Rattle.std.proofs.lemmas.List.FromFn.{length-map-range_with_len, map-range_with_len_more}
 use Rattle.dg_drill.proofs.ChainLaws.{led_more, led_none, steps_of}
 use Rattle.dg_drill.proofs.Comparing.{whole_is}
-use Rattle.dg_drill.proofs.ItemLaws.{range_more}
 use Rattle.dg_drill.proofs.Lined.{in_lines}
 use Rattle.dg_drill.proofs.Counts.{bytes_more, bytes_push, given_more, given_push, unavailable_push}
 use Rattle.dg_drill.specs.Chains.{HasRead, HasReadAll, LedTo}
 use Rattle.dg_drill.specs.Comparisons.{Compared, ComparedPart, fresh, is_whole}
 use Rattle.dg_drill.specs.Drills.{read_event, read_events}
-use Rattle.dg_drill.specs.Items.{byte_of, bytes_of, file_bytes, file_path, size_of}
+use Rattle.ufs_drill.specs.Items.{byte_of, bytes_of, file_bytes, file_path, size_of}
 use Rattle.dg_drill.specs.Outcomes.{IsTally, outcome_by, outcome_of, with_outcome}
 use Rattle.dg_drill.specs.Reports.{gives, is_unavailable}
 use Rattle.dg_drill.specs.declared.comparers.Comparer.{Comparer}
@@ -120,7 +118,7 @@ tally_more seed k replies reply tally new size number sized is was =
 -- ---- readings
 
 events_more : (k : ℕ) → read_events (k + 1) ≡ read_events k ++ read_event k ∷ []
-events_more k = ap (λ (l : List ℕ). map read_event l) (range_more k) ∙ map_push read_event (range_with_len 0 k) k
+events_more k = map-range_with_len_more read_event 0 k k (omega arith)
 
 -- a block has bytes
 pub some_bytes : (shape : Shape) → IsShape shape → 0 < shape.l

@@ -1,7 +1,7 @@
 -- What a comparer of a file was handed.
 use Rattle.std.proofs.Common.{◌≡◌, ◌∙◌, ap}
 use Rattle.std.specs.Prelude.{ℕ, ◌+◌, ◌==◌, ◌&&◌, nat_lt, Bool, true, false, List, [], ◌∷◌, ◌++◌, if◌then◌else◌, refl}
-use Rattle.dg_drill.specs.Items.{byte_of}
+use Rattle.ufs_drill.specs.Items.{byte_of}
 use Rattle.dg_drill.specs.declared.comparers.Comparer.{Comparer}
 
 -- nothing yet, of file k, which has so many bytes

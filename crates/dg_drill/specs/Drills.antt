@@ -1,10 +1,10 @@
 -- What a drill does to an array, and how it ends.
-use Rattle.std.specs.Prelude.{◌≡◌, ◌⊎◌, ◌<◌, ◌≤◌, ◌/◌, ℕ, List, [], ◌∷◌, ◌++◌, Option, Err, map, length, count_by}
+use Rattle.std.specs.Prelude.{◌≡◌, ◌<◌, ◌≤◌, ◌/◌, ℕ, List, [], ◌∷◌, ◌++◌, Option, map, length, count_by}
 use Rattle.std.specs.List.{range_with_len}
 use Rattle.dg_drill.specs.Calls.{Facts}
-use Rattle.dg_drill.specs.Items.{drill_items, file_path}
-use Rattle.dg_drill.specs.Reports.{boundary_of, refused_text, report_text}
-use Rattle.dg_drill.specs.Volumes.{IsDrillVolume, drill_shape, drill_spec}
+use Rattle.ufs_drill.specs.Items.{file_path}
+use Rattle.dg_drill.specs.Reports.{boundary_of, report_text}
+use Rattle.dg_drill.specs.Volumes.{IsDrillVolume, drill_shape}
 use Rattle.dg_drill.specs.declared.drills.DrillEnd.{DrillEnd}
 use Rattle.dg_drill.specs.declared.drills.DrillEnd.TheVariants.{Done, WriteFault}
 use Rattle.dg_io.specs.Told.{IsSame, Told, Took, TookPart}
@@ -17,8 +17,6 @@ use Rattle.dg_model.specs.declared.events.Event.TheVariants.{Cat, Fail, Settle}
 use Rattle.dg_model.specs.declared.replies.Reply.{Reply}
 use Rattle.dg_trace.specs.Traces.{trace_events}
 use Rattle.dg_words.specs.declared.commands.Order.TheVariants.{Late}
-use Rattle.ufs_build.specs.Builds.{built}
-use Rattle.ufs_build.specs.declared.refusals.BuildRefused.{BuildRefused}
 use Rattle.ufs_model.specs.declared.geometries.Geometry.{Geometry}
 
 -- ---- events
@@ -78,23 +76,12 @@ pub record HasDrilled (tells : ℕ → Type 0) (facts : Facts) (seed files : ℕ
   pub others : OthersKept facts.images facts.bytes
   pub text_is : text ≡ report_text seed files (written_count written.table) settled cats
 
--- There is no volume with these files; so nothing was done.
-pub record HasNoVolume (facts : Facts) (seed files : ℕ) (text : List ℕ) : Type 0 where
-  pub refusal : BuildRefused
-  pub refused : built drill_spec (drill_items seed files) ≡ Err refusal
-  pub same : (facts.bytes ≡ facts.images) × (facts.now ≡ facts.before)
-  pub text_is : text ≡ refused_text seed files
-
--- the drill was done, or there is no volume for it
-abbrev pub IsDone : (ℕ → Type 0) → Facts → ℕ → ℕ → List ℕ → Type 0
-IsDone tells facts seed files text = HasDrilled tells facts seed files text ⊎ HasNoVolume facts seed files text
-
 -- ---- how it ends
 
 -- it was done, and its text was printed, whole (`Took`) or in part (`TookPart`)
 abbrev pub Prints : (ℕ → Type 0) → Facts → ℕ → ℕ → (List ℕ → List ℕ → List ℕ → Type 0) → Type 0
 Prints tells facts seed files printed =
-    (text : List ℕ) × IsDone tells facts seed files text × Told (printed text) facts.taken facts.given
+    (text : List ℕ) × HasDrilled tells facts seed files text × Told (printed text) facts.taken facts.given
 
 -- by the end
 abbrev pub EndsDrill : (ℕ → Type 0) → Facts → ℕ → ℕ → DrillEnd → Type 0

@@ -1,5 +1,3 @@
--- The files of a drill.
-pub mod Items
 -- The volume of a drill, and the array that it stands on.
 pub mod Volumes
 -- What a drill prints.

@@ -1,7 +1,7 @@
 -- What a drill loses: the files whose home is the lost boundary.
 use Rattle.std.specs.Prelude.{◌≡◌, ℕ, ◌+◌, ◌==◌, Bool, false, List, [], ◌∷◌, Option, Some, None, Result, Ok, Err, count_by}
 use Rattle.std.specs.List.{range_with_len}
-use Rattle.dg_drill.specs.Items.{file_path}
+use Rattle.ufs_drill.specs.Items.{file_path}
 use Rattle.dg_drill.specs.Reports.{boundary_of}
 use Rattle.dg_model.specs.Homes.{home_of}
 use Rattle.dg_model.specs.States.{State}

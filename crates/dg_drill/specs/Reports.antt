@@ -3,7 +3,7 @@ use Rattle.std.specs.Prelude.{ℕ, suc, ◌+◌, ◌%◌, ◌==◌, Bool, true, 
 use Rattle.std.specs.Cmp.Lexicographic.{pointwise}
 use Rattle.std.specs.Fmt.{decimal}
 use Rattle.std.specs.List.{concat}
-use Rattle.dg_drill.specs.Items.{file_bytes}
+use Rattle.ufs_drill.specs.Items.{file_bytes}
 use Rattle.dg_model.specs.declared.replies.Reply.{Reply}
 use Rattle.dg_model.specs.declared.replies.Reply.TheVariants.{Given, Unavailable}
 use Rattle.dg_text.specs.Replies.{reply_line}
@@ -42,10 +42,6 @@ boundary_of seed = seed % 4
 
 abbrev pub first_line : ℕ → ℕ → List ℕ
 first_line seed files = codes "drill " ++ (decimal seed ++ (codes " " ++ (decimal files ++ codes "\n")))
-
--- there is no volume with these files
-abbrev pub refused_text : ℕ → ℕ → List ℕ
-refused_text seed files = first_line seed files ++ codes "no volume\n"
 
 -- `drill SEED FILES`, `blocks W`, the reply to the `settle`, `lost S`, `given G bytes T`, `unavailable U`
 abbrev pub report_text : ℕ → ℕ → ℕ → Reply → List Reply → List ℕ

@@ -2,9 +2,9 @@
 ghost use Rattle.std.specs.Prelude.{◌≡◌};
 ghost use Rattle.dg_drill.specs.Comparisons.{fresh, is_whole, next_byte, next_bytes};
 
-use crate::items::byte_of;
 use dg_io::Pieces;
 use dg_model::Failed;
+use ufs_drill::byte_of;
 
 /// Compares the bytes that it is handed with those of a file of a drill. It never fails.
 #[derive(Drop)]

@@ -1,20 +1,20 @@
 // A drill, from its files to what is printed of it.
-ghost use Rattle.std.specs.Prelude.{◌≡◌, ◌≢◌, ◌⊎◌, ◌≤◌, ◌*◌, ℕ, List, Option, IfOk, OnErr, length};
+ghost use Rattle.std.specs.Prelude.{◌≡◌, ◌≢◌, ◌≤◌, ◌*◌, ℕ, List, Option, IfOk, OnErr, length};
 ghost use Rattle.dg_drill.specs.Calls.{facts_of, rack_facts};
 ghost use Rattle.dg_drill.specs.Chains.{HasLost};
-ghost use Rattle.dg_drill.specs.Drills.{EndsDrill, HasDrilled, HasNoVolume, IsDone};
+ghost use Rattle.dg_drill.specs.Drills.{EndsDrill, HasDrilled};
 ghost use Rattle.dg_drill.specs.Volumes.{IsDrillVolume, drill_shape};
 ghost use Rattle.dg_io.specs.Told.{Told, Took, TookPart};
 ghost use Rattle.dg_model.specs.Causes.{Rose};
 ghost use Rattle.dg_model.specs.States.{State};
 ghost use Rattle.dg_volume.specs.Origins.{Always};
 ghost use Rattle.dg_volume.specs.Settles.{settle_reply};
-ghost use Rattle.dg_volume.specs.Volumes.{IsWell, Leaves, StandsIn, any_phase, shape_of};
+ghost use Rattle.dg_volume.specs.Volumes.{IsWell, Leaves, StandsIn, any_phase};
 ghost use Rattle.ufs_model.specs.Geometries.{IsGeometry};
 
 use crate::made::{Made, make_volume};
 use crate::reads::read_files;
-use crate::reports::{refused_text, report_text};
+use crate::reports::report_text;
 use crate::volumes::drill_shape;
 use crate::writes::write_blocks;
 use dg_io::{NoMemory, Rack, Sink, write_all};
@@ -22,7 +22,7 @@ use dg_model::Reply;
 use dg_volume::{AnyPhase, Unsettled, Volume};
 use dg_words::Order;
 use std::alloc::Global;
-use ufs_build::{BuildRefused, trace_order};
+use ufs_build::trace_order;
 
 /// How a drill ended.
 #[derive(Clone, Copy, Debug, PartialEq, Eq)]
@@ -103,7 +103,7 @@ fn drill_array<R: Rack + Drop>(
     })
 }
 
-/// Makes the volume of a drill, and does the drill, where there is such a volume.
+/// Makes the volume of a drill, and does the drill.
 fn drill_rack<R: Rack + Drop>(
     alloc: Global,
     seed: u64,
@@ -112,19 +112,11 @@ fn drill_rack<R: Rack + Drop>(
 ) -> Result<Untold<R>, NoMemory>
     requires few { (1 ≤ files) × (files ≤ 2000) }
     ensures name { IfOk result (λ untold. R.name untold.rack ≡ R.name rack) }
-    ensures done { IfOk result (λ untold. (taken given : Option (List ℕ)) →
-        IsDone (R.tells untold.rack) (rack_facts R.Rack rack untold.rack taken given) seed files untold.text.items) }
+    ensures drilled { IfOk result (λ untold. (taken given : Option (List ℕ)) →
+        HasDrilled (R.tells untold.rack) (rack_facts R.Rack rack untold.rack taken given) seed files untold.text.items) }
 {
-    match make_volume(alloc, seed, files) {
-        Ok(made) => drill_array(alloc, seed, files, &made, rack),
-        Err(refusal) => match refusal {
-            BuildRefused::NoMemory => Err(NoMemory),
-            _ => Ok(Untold {
-                rack,
-                text: refused_text(alloc, seed, files)?,
-            }),
-        },
-    }
+    let made = make_volume(alloc, seed, files)?;
+    drill_array(alloc, seed, files, &made, rack)
 }
 
 /// Prints what became of a drill.

@@ -1,13 +1,12 @@
 //! The command `drill`: a volume whose files have sizes that a seed gives is written to an array, settled, and read back once a boundary is lost.
 //!
-//! The files of the volume (`items`) and the numbers of the volume and the array (`volumes`) are this project's own. Its blocks are written
+//! Its volume is made (`made`) of the files that `ufs_drill` says; the numbers of the array (`volumes`) are this project's own. Its blocks are written
 //! (`writes`), both members of a boundary fail, and each file is read and compared with the bytes that it should have (`reads`, `comparers`).
 //! What became of that is printed in the end, in one piece (`reports`, `drills`).
 #![tactic(auto)]
 
 mod comparers;
 mod drills;
-mod items;
 mod laws;
 mod made;
 mod reads;
@@ -16,6 +15,5 @@ mod volumes;
 mod writes;
 
 pub use drills::{DrillEnd, Drilled, run_drill};
-pub use items::drill;
-pub use laws::drill_loses_its_homes;
-pub use volumes::{drill_shape, drill_spec};
+pub use laws::{drill_loses_its_homes, drills_give_their_files};
+pub use volumes::drill_shape;

@@ -2,16 +2,16 @@
 ghost use Rattle.std.specs.Prelude.{◌≡◌, ◌≤◌, ◌<◌, ◌-◌, ◌^◌};
 ghost use Rattle.dg_drill.specs.Chains.{HasRead, HasReadAll};
 ghost use Rattle.dg_drill.specs.Drills.{read_event};
-ghost use Rattle.dg_drill.specs.Items.{bytes_of};
+ghost use Rattle.ufs_drill.specs.Items.{bytes_of};
 ghost use Rattle.dg_drill.specs.Outcomes.{outcome_by, with_outcome};
 ghost use Rattle.dg_model.specs.States.{State};
 ghost use Rattle.dg_volume.specs.Origins.{Always};
 ghost use Rattle.dg_volume.specs.Volumes.{IsWell, Leaves, StandsIn, any_phase};
 
 use crate::comparers::Comparer;
-use crate::items::{file_path, next_size, sizes_of};
 use dg_io::Rack;
 use dg_volume::{AnyPhase, CatAnswer, Volume};
+use ufs_drill::{file_path, next_size, sizes_of};
 
 /// What became of reading a file.
 #[derive(Clone, Copy, Debug, PartialEq, Eq)]

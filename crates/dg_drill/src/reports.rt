@@ -2,7 +2,7 @@
 ghost use Rattle.std.specs.Prelude.{◌≡◌, ◌++◌, List, Some, IfOk, OnOk, codes};
 ghost use Rattle.std.specs.Fmt.{decimal};
 ghost use Rattle.dg_drill.specs.Outcomes.{IsTally};
-ghost use Rattle.dg_drill.specs.Reports.{boundary_of, first_line, refused_text, report_text};
+ghost use Rattle.dg_drill.specs.Reports.{boundary_of, first_line, report_text};
 ghost use Rattle.dg_model.specs.declared.replies.Reply.{Reply};
 ghost use Rattle.dg_text.specs.Replies.{reply_line};
 
@@ -100,15 +100,6 @@ fn first_line(alloc: Global, seed: u64, files: u32) -> Result<Vec<u8>, NoMemory>
 {
     let mut text = Vec::new(alloc);
     push_pair(&mut text, b"drill ", seed, b" ", u64::from(files))?;
-    Ok(text)
-}
-
-/// What is printed where there is no volume.
-pub fn refused_text(alloc: Global, seed: u64, files: u32) -> Result<Vec<u8>, NoMemory>
-    ensures { IfOk result (λ text. text.items ≡ refused_text seed files) }
-{
-    let mut text = first_line(alloc, seed, files)?;
-    push(&mut text, b"no volume\n")?;
     Ok(text)
 }
 

@@ -26,9 +26,8 @@ use Rattle.dg_model.specs.declared.replies.Reply.TheVariants.{Degraded, Done, Ra
 use Rattle.dg_model.specs.declared.shapes.Shape.{Shape}
 use Rattle.dg_model.specs.declared.sites.Site.{Site}
 use Rattle.dg_trace.proofs.BlockLaws.{unwritten_zeros, written_block}
-use Rattle.dg_trace.proofs.InputLaws.{volume_size}
 use Rattle.dg_trace.proofs.OrderLaws.{IsIn, trace_below, trace_has}
-use Rattle.dg_trace.specs.Answers.{IsAccepted, events_of, volume_bytes}
+use Rattle.dg_trace.specs.Answers.{events_of, volume_bytes}
 use Rattle.dg_trace.specs.Replays.{AreTold, IsReplayed}
 use Rattle.dg_trace.specs.Volumes.{shape_for}
 use Rattle.dg_trace.specs.declared.asked.Asked.{Asked}
@@ -209,9 +208,10 @@ blank_zeros : (shape : Shape) (before : Counts) (state : State) (b : ℕ) → Is
 blank_zeros shape before state b blank low =
     ap (λ (s : State). block_in s.blocks b) blank.is ∙ get_or-replicate shape.n b (zeros shape.l) [] low
 
-pub replayed : (asked : Asked) (image : List ℕ) (g : Geometry) (before : Counts) (replies : List Reply) (final : State) → IsAccepted asked image g
-    → Trace AreTold before (events_of asked image g) replies final → NoneRose before.faults final.counts.faults → IsReplayed g image replies final
-replayed asked image g before replies final is trace none =
+pub replayed : (asked : Asked) (image : List ℕ) (g : Geometry) (before : Counts) (replies : List Reply) (final : State) → 0 < asked.b
+    → length (volume_bytes g image) ≡ g.size * g.fsize → Trace AreTold before (events_of asked image g) replies final → NoneRose before.faults final.counts.faults
+    → IsReplayed g image replies final
+replayed asked image g before replies final some size trace none =
     let shape = shape_for asked g in
     let volume = volume_bytes g image in
     let value : ℕ → List ℕ = λ b. image_block g.fsize (volume_bytes g image) b in
@@ -222,8 +222,6 @@ replayed asked image g before replies final is trace none =
     let rises = (run_keeps AreTold t.blank events t.rest final (writes_stay bytes written t.rest) t.run).counts.faults in
     let first = none_front before.faults t.blank.counts.faults final.counts.faults rises none in
     let later = none_back before.faults t.blank.counts.faults final.counts.faults t.is_blank.counts.faults none in
-    let some : 0 < asked.b = omega (arith, is.limits.least_boundaries) in
-    let size = volume_size asked image g is in
     let all = writes_done (shape_for asked g) value bytes (trace_of asked.order g (volume_bytes g image)) t.blank final t.rest some
     (trace_below asked.order g (volume_bytes g image)) (λ b low. written_block g.fsize g.size b (volume_bytes g image) size low)
     (blank_fine (shape_for asked g) before t.blank first t.is_blank) later t.run in

@@ -1,5 +1,5 @@
 // Laws of traces.
-ghost use Rattle.std.specs.Prelude.{◌≡◌, ℕ, List, Result};
+ghost use Rattle.std.specs.Prelude.{◌≡◌, ◌<◌, ◌≤◌, ◌*◌, ℕ, List, Result, length};
 ghost use Rattle.dg_model.specs.Causes.{NoneRose};
 ghost use Rattle.dg_model.specs.Runs.{Trace};
 ghost use Rattle.dg_model.specs.States.{Counts, State};
@@ -26,4 +26,11 @@ pub fn trace_is_an_input()
 pub fn replay_holds_the_image()
     ensures { (asked : Asked) (image : List ℕ) (g : Geometry) (before : Counts) (replies : List Reply) (final : State) → IsAccepted asked image g
         → Trace AreTold before (events_of asked image g) replies final → NoneRose before.faults final.counts.faults → IsReplayed g image replies final }
+{}
+
+/// So it is with any bytes that are long enough for a volume, whether its superblock stands there or not.
+pub fn replay_holds_the_volume()
+    ensures { (asked : Asked) (image : List ℕ) (g : Geometry) (before : Counts) (replies : List Reply) (final : State) → 0 < asked.b
+        → g.size * g.fsize ≤ length image → Trace AreTold before (events_of asked image g) replies final → NoneRose before.faults final.counts.faults
+        → IsReplayed g image replies final }
 {}

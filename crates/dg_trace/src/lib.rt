@@ -12,5 +12,7 @@ mod traces;
 mod volumes;
 
 pub use asked::{Asked, TraceEnd, TraceFault, TraceRefusal};
-pub use laws::{image_has_one_answer, replay_holds_the_image, trace_is_an_input};
+pub use laws::{
+    image_has_one_answer, replay_holds_the_image, replay_holds_the_volume, trace_is_an_input,
+};
 pub use traces::write_trace;

@@ -1,6 +1,9 @@
 mod BlankRows
+pub mod Chains
+pub mod Cores
 mod Ended
 mod Flat
+pub mod InUse
 mod Lines
 mod LossRows
 mod NextNumbers
@@ -15,6 +18,8 @@ mod OneRefill
 mod OneRun
 mod OneStep
 mod OneVerdict
+pub mod OneView
+mod PastReads
 mod Promised
 mod Ran
 mod ReadOnce
@@ -26,9 +31,6 @@ mod Rows
 mod SavedAgain
 mod Seen
 mod StayWhole
-mod TakenAway
-pub mod Chains
-pub mod Cores
-pub mod InUse
-pub mod OneView
 pub mod StepViews
+mod TakenAway
+pub mod TracedLaws

@@ -2,4 +2,5 @@ pub mod Answers
 pub mod Promises
 pub mod Replays
 pub mod Saves
+pub mod Traced
 pub mod Views

@@ -5,15 +5,18 @@
 mod answers;
 mod blanks;
 mod laws;
+mod mirrors;
 mod promises;
 mod removals;
 mod replays;
 mod resumed;
 mod saves;
+mod traced;
 
 pub use answers::{answer_an_image, replay_lines};
 pub use blanks::{Answer, find_no_array, refuse_an_empty_image};
 pub use laws::{answers_are_promised, replies_are_a_function, replies_by_views};
+pub use mirrors::reads_past_the_last_block_are_refused;
 pub use promises::cats_keep_their_promise;
 pub use removals::{all_stand_at_first, take_away};
 pub use replays::{
@@ -25,3 +28,4 @@ pub use saves::{
     cat_what_is_left, replays_leave_saves, resume_what_is_left, saved_arrays_go_on,
     saved_blocks_are_read_again, saves_are_found_again,
 };
+pub use traced::trace_and_replay;

@@ -1,8 +1,9 @@
 -- The commands of the program: the words of each, and the values that it takes. The words are this project's own.
-use Rattle.std.specs.Prelude.{◌≡◌, ◌⊎◌, ◌≤◌, ◌<◌, ◌^◌, ℕ, true, List, [], ◌∷◌, codes, Result, Ok, Err}
+use Rattle.std.specs.Prelude.{◌≡◌, ◌⊎◌, ◌≤◌, ◌<◌, ◌^◌, ℕ, true, false, length, List, [], ◌∷◌, codes, Result, Ok, Err}
 use Rattle.std.specs.Fmt.{decimal}
 use Rattle.ufs_model.specs.Paths.{is_path}
 use Rattle.dg_text.specs.Lines.{AreBytes, path_word}
+use Rattle.dg_words.specs.Values.{any_has_hyphen}
 use Rattle.dg_words.specs.declared.commands.Command.{Command}
 use Rattle.dg_words.specs.declared.commands.Command.TheVariants.{Replay, Resume, Cat, Ls, Status, Trace, Drill}
 use Rattle.dg_words.specs.declared.commands.Order.{Order}
@@ -51,6 +52,26 @@ pub record IsPathWord (words : List (List ℕ)) (path : List ℕ) : Type 0 where
 abbrev pub ArePathsUnique : Type 0
 ArePathsUnique = (p q : List ℕ) → is_path p ≡ true → AreBytes p → is_path q ≡ true → AreBytes q → path_word p ≡ path_word q → p ≡ q
 
+-- the name of a command that takes a path
+abbrev pub IsNameOfPath : List ℕ → Type 0
+IsNameOfPath name = (name ≡ codes "cat") ⊎ (name ≡ codes "ls")
+
 -- the answer is this value, but for want of memory
 abbrev pub Gives : {A : Type 0} → Result A WordsRefused → A → Type 0
 Gives result x = (result ≡ Ok x) ⊎ (result ≡ Err NoMemory)
+
+-- ---- memory
+
+-- such a command takes so many values
+pub data TakesValues (name : List ℕ) (count : ℕ) : Type 0 where
+  of_path : IsNameOfPath name → count ≡ 1 → TakesValues name count
+  of_drill : name ≡ codes "drill" → count ≡ 2 → TakesValues name count
+  of_trace : name ≡ codes "trace" → count ≡ 4 → TakesValues name count
+
+-- Words for which memory is taken: a command's name with as many values as it has, none of which begins with `-`.
+pub record TakesMemory (words : List (List ℕ)) : Type 0 where
+  pub name : List ℕ
+  pub values : List (List ℕ)
+  pub written : words ≡ name ∷ values
+  pub plain : any_has_hyphen values ≡ false
+  pub known : TakesValues name (length values)

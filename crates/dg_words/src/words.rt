@@ -1,9 +1,10 @@
 // The words that each command is written by.
-ghost use Rattle.std.specs.Prelude.{◌≡◌, ◌∷◌, [], ℕ, List, length, map, codes, string_bytes, Ok, Some, IfOk, IfSome, false};
-ghost use Rattle.dg_words.specs.Commands.{ArePathsUnique, Gives, IsCommand, IsPathWord, order_word};
+ghost use Rattle.std.specs.Prelude.{◌≡◌, ◌∷◌, [], ℕ, List, length, map, codes, string_bytes, Ok, Err, Some, IfOk, IfSome, false};
+ghost use Rattle.dg_words.specs.Commands.{ArePathsUnique, Gives, IsCommand, IsNameOfPath, IsPathWord, TakesMemory, order_word};
 ghost use Rattle.dg_words.specs.Values.{any_has_hyphen, has_hyphen};
 ghost use Rattle.dg_words.specs.declared.commands.Command.{Command};
 ghost use Rattle.dg_words.specs.declared.commands.Order.{Order};
+ghost use Rattle.dg_words.specs.declared.commands.WordsRefused.{WordsRefused};
 
 use crate::commands::{Command, Order, WordsRefused};
 use crate::numbers::{long_number, number};
@@ -19,6 +20,7 @@ const MOST_FILES: u32 = 2000;
 pub fn command(alloc: Global, words: &Vec<String>) -> Result<Command, WordsRefused>
     ensures ok { IfOk result (IsCommand (map string_bytes words.now.items)) }
     ensures exact { (c : Command) → IsCommand (map string_bytes words.now.items) c → Gives result c }
+    ensures memory { result ≡ Err WordsRefused.NoMemory → TakesMemory (map string_bytes words.now.items) }
 {
     let Some((name, values)) = words.split_first() else {
         return Err(WordsRefused::Usage);
@@ -70,6 +72,7 @@ fn has_hyphen(word: &str) -> bool
 fn bare_command(name: &str) -> Result<Command, WordsRefused>
     ensures ok { IfOk result (IsCommand (name.now ∷ [])) }
     ensures exact { (c : Command) → IsCommand (name.now ∷ []) c → result ≡ Ok c }
+    ensures memory { result ≡ Err WordsRefused.NoMemory → ⊥ }
 {
     if name == "replay" {
         return Ok(Command::Replay);
@@ -107,6 +110,7 @@ fn path_command(alloc: Global, name: &str, values: &[String]) -> Result<Command,
     requires plain { any_has_hyphen (map string_bytes values.now) ≡ false }
     ensures ok { IfOk result (IsCommand (name.now ∷ map string_bytes values.now)) }
     ensures exact { (c : Command) → IsCommand (name.now ∷ map string_bytes values.now) c → Gives result c }
+    ensures memory { result ≡ Err WordsRefused.NoMemory → IsNameOfPath name.now }
 {
     if name == "cat" {
         return Ok(Command::Cat(path_of(alloc, values)?));
@@ -123,6 +127,7 @@ fn drill_command(alloc: Global, name: &str, values: &[String]) -> Result<Command
     requires plain { any_has_hyphen (map string_bytes values.now) ≡ false }
     ensures ok { IfOk result (IsCommand (name.now ∷ map string_bytes values.now)) }
     ensures exact { (c : Command) → IsCommand (name.now ∷ map string_bytes values.now) c → Gives result c }
+    ensures memory { result ≡ Err WordsRefused.NoMemory → name.now ≡ codes "drill" }
 {
     if name != "drill" {
         return Err(WordsRefused::Usage);
@@ -172,6 +177,7 @@ fn trace_command(alloc: Global, name: &str, values: &[String]) -> Result<Command
     requires plain { any_has_hyphen (map string_bytes values.now) ≡ false }
     ensures ok { IfOk result (IsCommand (name.now ∷ map string_bytes values.now)) }
     ensures exact { (c : Command) → IsCommand (name.now ∷ map string_bytes values.now) c → Gives result c }
+    ensures memory { result ≡ Err WordsRefused.NoMemory → name.now ≡ codes "trace" }
 {
     if name != "trace" {
         return Err(WordsRefused::Usage);

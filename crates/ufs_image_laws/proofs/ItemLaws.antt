@@ -122,9 +122,10 @@ few_entries directory inode (item ∷ items) (parent ∷ parents) good =
     few_if directory parent (item_entry inode item) (entries_from directory (suc inode) items parents) (length items) (name_short item (good.0))
     (few_entries directory (suc inode) items parents (good.1))
 
-entry_size : (endian : Endian) (entry : DirEntry) (reclen : ℕ) → reclen ≤ 512 → HasShort entry → length (entry_bytes endian entry reclen) ≤ 2048
+-- an entry takes no more than a number that holds its name and what is left for it
+pub entry_size : (endian : Endian) (entry : DirEntry) (reclen most : ℕ) → reclen ≤ most → 8 + length entry.name ≤ most → length (entry_bytes endian entry reclen) ≤ most
 unfolding entry_bytes
-entry_size endian entry reclen small short =
+entry_size endian entry reclen most small short =
     let inode = number_length endian 4 entry.inode in
     let size = number_length endian 2 reclen in
     let zeros = length-replicate {A = ℕ} (reclen - (8 + length entry.name)) 0 in
@@ -135,7 +136,7 @@ entry_size endian entry reclen small short =
     (number_bytes endian 2 reclen ++ ((entry.kind ∷ length entry.name ∷ []) ++ (entry.name ++ replicate (reclen - (8 + length entry.name)) 0))) in
     omega (arith, inode, size, zeros, a, b, c, d, small, short)
 
-reclen_small : (room : ℕ) (entry : DirEntry) (further : List DirEntry) → reclen_in room entry further ≤ room
+pub reclen_small : (room : ℕ) (entry : DirEntry) (further : List DirEntry) → reclen_in room entry further ≤ room
 reclen_small room entry [] = omega arith
 reclen_small room entry (next ∷ further) = small_by (nat_le (entry_length entry.name + entry_length next.name) room) (entry_length entry.name) (entry_length next.name) room refl
   where
@@ -143,7 +144,7 @@ reclen_small room entry (next ∷ further) = small_by (nat_le (entry_length entr
     small_by true one other room e = let h = leb-true (one + other) room e in omega arith
     small_by false one other room e = omega arith
 
-room_small : (room reclen : ℕ) → room ≤ 512 → room_after room reclen ≤ 512
+pub room_small : (room reclen : ℕ) → room ≤ 512 → room_after room reclen ≤ 512
 room_small room reclen h = small_by (reclen == room) room reclen h
   where
     small_by : (same : Bool) (room reclen : ℕ) → room ≤ 512 → (if same then 512 else room - reclen) ≤ 512
@@ -154,7 +155,7 @@ packed_size : (endian : Endian) (room : ℕ) (entries : List DirEntry) → room 
 packed_size endian room [] h short = omega arith
 packed_size endian room (entry ∷ further) h short =
     let own = reclen_small room entry further in
-    let one = entry_size endian entry (reclen_in room entry further) (omega arith) (short.0) in
+    let one = entry_size endian entry (reclen_in room entry further) 2048 (omega arith) (let h = short.0 in omega (arith, h)) in
     let rest = packed_size endian (room_after room (reclen_in room entry further)) further (room_small room (reclen_in room entry further) h) (short.1) in
     let sum = length-append (entry_bytes endian entry (reclen_in room entry further)) (packed endian (room_after room (reclen_in room entry further)) further) in
     omega (arith, one, rest, sum)

@@ -10,6 +10,7 @@ pub mod ClaimReads
 pub mod ContentReads
 pub mod DirectoryLaws
 pub mod DirectoryReads
+pub mod DirectorySizes
 pub mod EntryLaws
 pub mod FileLaws
 pub mod FindReads
@@ -28,6 +29,7 @@ pub mod PartLaws
 pub mod PastLaws
 pub mod PlacingLaws
 pub mod PutLaws
+pub mod RoomLaws
 pub mod SoundLaws
 pub mod StructureLaws
 pub mod SuperLaws

@@ -4,3 +4,4 @@ pub mod Inodes
 pub mod Addresses
 pub mod Claims
 pub mod Lines
+pub mod Rooms

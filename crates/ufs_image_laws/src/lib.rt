@@ -10,6 +10,7 @@ mod groups;
 mod inodes;
 mod parts;
 mod paths;
+mod rooms;
 mod structures;
 mod superblocks;
 
@@ -22,6 +23,7 @@ pub use crate::parts::{built_volumes_are_made_of_parts, parts_are_apart};
 pub use crate::paths::{
     built_directories_are_listed, built_files_are_read, built_paths_lead_to_their_items,
 };
+pub use crate::rooms::{directories_have_a_chunk_an_entry, files_with_room_are_placed};
 pub use crate::structures::{
     built_volumes_are_sound, built_volumes_have_no_malformation_but_sizes,
 };

@@ -3,7 +3,7 @@ use Rattle.std.specs.Prelude.{length}
 use Rattle.dg_drill.proofs.BlockLaws.{stripped_within}
 use Rattle.dg_drill.proofs.LossSteps.{drill_read}
 use Rattle.dg_drill.proofs.MadeLaws.{spec_numbers}
-use Rattle.dg_drill.specs.Volumes.{drill_spec}
+use Rattle.ufs_drill.specs.Volumes.{drill_spec}
 use Rattle.dg_model.specs.Blocks.{stripped}
 use Rattle.ufs_build.specs.Traces.{block_in, trace_of}
 use Rattle.dg_words.specs.declared.commands.Order.TheVariants.{Late}

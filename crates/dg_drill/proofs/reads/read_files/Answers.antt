@@ -1,8 +1,7 @@
-use Rattle.std.proofs.Common.{◌≡◌, ◌∙◌, ◌*◌, ◌+◌, ap, refl, sym, arith}
+use Rattle.std.proofs.Common.{◌≡◌, ◌∙◌, ◌*◌, ◌+◌, ap, refl, arith}
 use Rattle.dg_drill.proofs.ChainLaws.{leaves_both, leaves_none}
-use Rattle.dg_drill.proofs.ItemLaws.{generator_more}
 use Rattle.dg_drill.proofs.ReadLaws.{outcome_few, reads_more, reads_none}
-use Rattle.dg_drill.specs.Items.{size_by}
+use Rattle.ufs_drill.specs.Items.{size_by}
 use Rattle.rand_pcg.specs.Lcg.{Lcg}
 use Rattle.rand_pcg.specs.Pcg.{pcg32}
 use Rattle.dg_drill.proofs.reads.read_files.Goals as goal
@@ -26,7 +25,7 @@ loop-k-preserved g c =
     let up : 212000 * (c.loop-k.k + 1) ≡ 212000 * c.loop-k.k + 212000 = omega arith in
     record {
       leaves = leaves_both g.R.Rack c.args.volume.now c.loop-k.volume c.read_file-outcome.new.volume was.leaves c.read_file-outcome.ensures.leaves;
-      sizes = c.next_size-size.ensures.sizes ∙ ap (λ (g : Lcg). (pcg32 g).1) was.sizes ∙ sym (generator_more c.args.seed k);
+      sizes = c.next_size-size.ensures.next c.args.seed k was.sizes;
       given = omega (arith, few.given, was.given);
       bytes = omega (arith, few.bytes, was.bytes, up, c.next_size-size.ensures.small);
       unavailable = omega (arith, few.unavailable, was.unavailable);

@@ -1,6 +1,6 @@
 use Rattle.std.proofs.Common.{◌≡◌, ◌≤◌, ◌*◌}
 use Rattle.dg_drill.specs.Chains.{HasReadAll}
-use Rattle.dg_drill.specs.Items.{generator_after}
+use Rattle.ufs_drill.specs.Items.{generator_after}
 use Rattle.dg_model.specs.States.{State}
 use Rattle.dg_volume.specs.Origins.{Always}
 use Rattle.dg_volume.specs.Volumes.{Leaves, StandsIn, any_phase}

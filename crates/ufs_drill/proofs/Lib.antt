@@ -1,0 +1,6 @@
+mod CountRows
+mod ItemLaws
+mod LoadLaws
+mod MadeLaws
+mod PathLaws
+mod SpecRows

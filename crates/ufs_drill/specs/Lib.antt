@@ -1,0 +1,4 @@
+-- The files of a drill.
+pub mod Items
+-- The volume of a drill.
+pub mod Volumes
