@@ -14,7 +14,7 @@ use Rattle.dg_parity.specs.Arrays.{AreKept, IsGroupOf, NoneBack, Steps, faults_o
 use Rattle.dg_parity.specs.Blanks.{IsForeign, LeavesOthers}
 use Rattle.dg_parity.specs.Exclusive.{with_at}
 use Rattle.dg_parity.specs.Stripes.{made_up, spot_of}
-use Rattle.dg_parity.specs.Groups.{disk_number, disk_in, header_in, is_lost, is_out, is_sure, length_of, AllTold, IsStill, LeavesGroup}
+use Rattle.dg_parity.specs.Groups.{disk_number, disk_in, header_in, is_lost, is_out, is_sure, length_of, AllTold, IsStill, LeavesGroup, MostCalls}
 use Rattle.dg_parity.specs.Headers.{header_bytes}
 use Rattle.dg_parity.specs.Kept.{all_told, bytes_in, made_by, IsKept}
 use Rattle.dg_parity.specs.declared.groups.Group.{Group}
@@ -346,6 +346,9 @@ module _ {S : Type 0} {rack : Ghosts S} {q : ℕ} {old new : List Group} {a b : 
 
   pub serves-is : serves new q ≡ not (is_lost b)
   serves-is = ap is_served (group-own new q even ∙ sets.is)
+
+  pub calls-at : (f : Option Group → ℕ) → MostCalls rack (f (Some a)) before now → MostCalls rack (f (group_at old q)) before now
+  calls-at f call = subst (λ (o : Option Group). MostCalls rack (f o) before now) (sym (group-own old q even ∙ sets.was)) call
 
   pub size-was : size_at old q ≡ a.length
   size-was = ap size_of (group-own old q even ∙ sets.was)

@@ -13,7 +13,7 @@ chunk-more : (at left part : ℕ) → 0 < part → part ≤ left → (part ≡ l
 chunk-more at zero part some most end = absurd (omega arith)
 chunk-more at (suc k) part some most end = one-more at k part (suc k - part) refl some most end
 
-mul-next : (m x : ℕ) → m * (x + 1) ≡ m * x + m
+pub mul-next : (m x : ℕ) → m * (x + 1) ≡ m * x + m
 mul-next m x = mul-add m x 1 ∙ ap (λ (n : ℕ). m * x + n) (mul-one m)
 
 -- one chunk more was called

@@ -17,6 +17,8 @@ pub mod HoldLemmas
 pub mod JudgedLemmas
 pub mod KeptLemmas
 pub mod KeptSteps
+pub mod LaidLemmas
+pub mod LaidSteps
 pub mod MemberLemmas
 pub mod MemberSteps
 pub mod MendLemmas
@@ -27,5 +29,9 @@ pub mod PageLemmas
 pub mod PartLemmas
 pub mod ReadsOnLemmas
 pub mod ReturnLemmas
+pub mod RowLemmas
+pub mod RunLemmas
+pub mod RunSteps
 pub mod SoundLemmas
 pub mod StripeLemmas
+pub mod WriteSteps

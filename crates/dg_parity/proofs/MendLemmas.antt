@@ -113,14 +113,14 @@ holds-out rack group j before now has out same all held = record {
       ∙ held.at i x lt in0 range;
 }
 
--- one stripe more
-pub filled-more : {S : Type 0} (rack : Ghosts S) (group : Group) (j t : ℕ) (before now : S) (has : ℕ → ℕ → ℕ) (page : List ℕ) → j < group.disks → length page ≡ 512
-    → t < stripes_of group.disks group.length
+-- several stripes more
+pub filled-more : {S : Type 0} (rack : Ghosts S) (group : Group) (j t m : ℕ) (before now : S) (has : ℕ → ℕ → ℕ) (page : List ℕ) → j < group.disks → length page ≡ 512 * m
+    → t + m ≤ stripes_of group.disks group.length
     → IfSome (rack.bytes before (disk_number group.number j)) (λ all. length all ≡ length_of group)
     → Told (Patched (512 + 512 * t) page) (rack.bytes before (disk_number group.number j)) (rack.bytes now (disk_number group.number j))
-    → AllTold rack group now → ((k : ℕ) → k < 512 → slice_index page k ≡ has j (512 + 512 * t + k))
-    → FilledTo rack group before j has t → FilledTo rack group now j has (t + 1)
-filled-more rack group j t before now has page lt size below room patched all right h =
+    → AllTold rack group now → ((k : ℕ) → k < 512 * m → slice_index page k ≡ has j (512 + 512 * t + k))
+    → FilledTo rack group before j has t → FilledTo rack group now j has (t + m)
+filled-more rack group j t m before now has page lt size below room patched all right h =
     let old : List ℕ = disk_in rack group before j in
     let is : disk_in rack group now j ≡ patch old (512 + 512 * t) page = told-at (Patched (512 + 512 * t) page) _ _ patched (all.1 j lt) in
     let long : length old ≡ length_of group = length-told _ _ _ _ patched (all.1 j lt) room in
@@ -148,24 +148,24 @@ held-past rack a g j q r s t u before out is call holds has all held =
     holds-out rack g j t u has (before.later.grows j out) (subst (λ (k : ℕ). OthersSame k (rack.bytes t) (rack.bytes u)) is call.others) all
     (holds has (told-before rack g g t u (later-same g) call.tells all) held)
 
-pub filled-past : {S T E : Type 0} (rack : Ghosts S) (a g : Group) (j q stripe : ℕ) (r : Result T E) (page : List ℕ) (s t u : S) → LeavesGroup rack a g s t → j < a.disks → is_out a j ≡ true
+pub filled-past : {S T E : Type 0} (rack : Ghosts S) (a g : Group) (j q stripe m : ℕ) (r : Result T E) (page : List ℕ) (s t u : S) → LeavesGroup rack a g s t → j < a.disks → is_out a j ≡ true
     → q ≡ disk_number g.number j → Leaves rack q r t u → Told (Patched (512 + 512 * stripe) page) (rack.bytes t q) (rack.bytes u q) → IsRefilled rack a s j
-    → length page ≡ 512 → stripe < stripes_of a.disks a.length
-    → ((has : ℕ → ℕ → ℕ) → AllTold rack g t → Holds rack a s has → IsEven a.disks a.length has → (k : ℕ) → k < 512 → slice_index page k ≡ has j (512 + 512 * stripe + k))
-    → (has : ℕ → ℕ → ℕ) → AllTold rack g u → Holds rack a s has → IsEven a.disks a.length has → FilledTo rack a s j has stripe → FilledTo rack g u j has (stripe + 1)
-filled-past rack a g j q stripe r page s t u before lt out is call patched refilled size below right has all held even filled =
+    → length page ≡ 512 * m → stripe + m ≤ stripes_of a.disks a.length
+    → ((has : ℕ → ℕ → ℕ) → AllTold rack g t → Holds rack a s has → IsEven a.disks a.length has → (k : ℕ) → k < 512 * m → slice_index page k ≡ has j (512 + 512 * stripe + k))
+    → (has : ℕ → ℕ → ℕ) → AllTold rack g u → Holds rack a s has → IsEven a.disks a.length has → FilledTo rack a s j has stripe → FilledTo rack g u j has (stripe + m)
+filled-past rack a g j q stripe m r page s t u before lt out is call patched refilled size below right has all held even filled =
     let back = told-before rack g g t u (later-same g) call.tells all in
-    filled-more rack g j stripe t u has page (subst (λ (n : ℕ). j < n) (sym before.later.disks) lt) size
-    (subst (λ (n : ℕ). stripe < stripes_of n g.length) (sym before.later.disks) (subst (λ (z : ℕ). stripe < stripes_of a.disks z) (sym before.later.size) below))
+    filled-more rack g j stripe m t u has page (subst (λ (n : ℕ). j < n) (sym before.later.disks) lt) size
+    (subst (λ (n : ℕ). stripe + m ≤ stripes_of n g.length) (sym before.later.disks) (subst (λ (z : ℕ). stripe + m ≤ stripes_of a.disks z) (sym before.later.size) below))
     (refilled-along rack a g s t j out before refilled).room
     (subst (λ (k : ℕ). Told (Patched (512 + 512 * stripe) page) (rack.bytes t k) (rack.bytes u k)) is patched)
     all (right has back held even) (filled-along rack a g s t j stripe has lt out before back filled)
 
-pub made-right : (group : Group) (has : ℕ → ℕ → ℕ) (j stripe k : ℕ) (row0 row1 : List ℕ) → j < group.disks → stripe < stripes_of group.disks group.length → IsEven group.disks group.length has → k < 512
+pub made-right : (group : Group) (has : ℕ → ℕ → ℕ) (j stripe m k : ℕ) (row0 row1 : List ℕ) → j < group.disks → stripe + m ≤ stripes_of group.disks group.length → IsEven group.disks group.length has → k < 512 * m
     → slice_index row0 k ≡ 0
     → slice_index row1 k ≡ bit_xor (slice_index row0 k) (xor_upto (with_at (with_at (λ i. has i (512 + 512 * stripe + k)) j 0) j 0) group.disks)
     → slice_index row1 k ≡ has j (512 + 512 * stripe + k)
-made-right group has j stripe k row0 row1 lt below even small cleared made =
+made-right group has j stripe m k row0 row1 lt below even small cleared made =
     made ∙ ap (λ (v : ℕ). bit_xor v (xor_upto (with_at (with_at (λ i. has i (512 + 512 * stripe + k)) j 0) j 0) group.disks)) cleared
     ∙ made-up (λ i. has i (512 + 512 * stripe + k)) j group.disks lt (even (512 + 512 * stripe + k) (record { behind = omega arith; below = omega arith }))
 

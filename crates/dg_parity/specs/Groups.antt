@@ -1,8 +1,9 @@
 -- A group: the state that is kept of it, and what its disks stand for in the rack.
-use Rattle.std.specs.Prelude.{◌≡◌, ◌≢◌, ◌↔◌, ◌+◌, ◌*◌, ◌<◌, ◌≤◌, nat_le, ℕ, List, [], ◌∷◌, Bool, true, false, Option, None, Some, IsSome}
+use Rattle.std.specs.Prelude.{◌≡◌, ◌≢◌, ◌↔◌, ◌+◌, ◌*◌, ◌<◌, ◌≤◌, nat_le, not, ℕ, List, [], ◌∷◌, Bool, true, false, Option, None, Some, IsSome}
 use Rattle.std.specs.Prelude.{IfSome, length, take, slice_index, slice_index_or, count_by}
 use Rattle.dg_model.specs.Causes.{Rose}
 use Rattle.dg_model.specs.States.{CountsRise}
+use Rattle.dg_io.specs.DiskAnswers.{count_upto}
 use Rattle.dg_io.specs.Told.{Told, IsSame, StillTold}
 use Rattle.dg_io.specs.declared.outside.Rack.{Ghosts}
 use Rattle.dg_parity.specs.Headers.{header_bytes, marks_of}
@@ -22,6 +23,14 @@ is_out group j = slice_index_or group.out j false
 -- whether two disks are out
 abbrev pub is_lost : Group → Bool
 is_lost group = nat_le 2 (count_by (λ x. x) group.out)
+
+-- how many of the first m disks aren't out
+abbrev pub in_upto : Group → ℕ → ℕ
+in_upto group m = count_upto (λ j. not (is_out group j)) m
+
+-- how many of its disks aren't out
+abbrev pub in_of : Group → ℕ
+in_of group = in_upto group group.disks
 
 abbrev pub length_of : Group → ℕ
 length_of group = disk_length group.disks group.length

@@ -1,8 +1,9 @@
 -- What a group tells of its member, and what is kept so that it does. The rules are this project's own.
 use Rattle.std.specs.Prelude.{◌≡◌, ◌+◌, ◌*◌, ◌&&◌, ℕ, zero, suc, List, Bool, true, false, Option, None, Some, is_some, if◌then◌else◌}
 use Rattle.dg_io.specs.declared.outside.Rack.{Ghosts}
-use Rattle.dg_parity.specs.Stripes.{chunks_in, IsClear, IsEven, member_by, made_up}
+use Rattle.dg_parity.specs.Stripes.{IsClear, IsEven, member_by, made_up}
 use Rattle.dg_parity.specs.Groups.{disk_number, is_out, is_lost, is_sure, disk_in, AllTold, IsReady}
+use Rattle.dg_parity.specs.Runs.{passes_in, reads_at}
 use Rattle.dg_parity.specs.declared.groups.Group.{Group}
 
 -- whether a test holds of each number below n
@@ -28,10 +29,11 @@ pub record IsKept {S : Type 0} (rack : Ghosts S) (group : Group) (now : S) : Typ
   pub even : is_lost group ≡ false → AllTold rack group now → IsEven group.disks group.length (made_by rack group now)
   pub clear : is_lost group ≡ false → AllTold rack group now → IsClear group.disks group.length (made_by rack group now)
 
--- how many calls a read of so many bytes from a place on takes at most: for each chunk those of all disks and one, and two rounds of headers
+-- how many calls a read of so many bytes from a place on takes at most: in each pass of 16 stripes one of each disk, two passes more where a disk goes
+-- out, and two rounds of headers
 abbrev pub calls_to_read : ℕ → ℕ → ℕ → ℕ
-calls_to_read n place count = (n + 1) * chunks_in place count + 2 * n
+calls_to_read n place count = n * passes_in n place count + 4 * n
 
--- and a write: for each chunk those of all disks and four, and twice two rounds of headers
+-- and a write: in each pass one of each disk, the reads at both ends, and twice two rounds of headers
 abbrev pub calls_to_write : ℕ → ℕ → ℕ → ℕ
-calls_to_write n place count = (n + 4) * chunks_in place count + 4 * n
+calls_to_write n place count = n * passes_in n place count + (reads_at n place + reads_at n (place + count)) + 4 * n

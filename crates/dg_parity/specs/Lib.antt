@@ -1,3 +1,4 @@
+pub mod ArrayCalls
 pub mod ArrayLaws
 pub mod Arrays
 pub mod Blanks
@@ -12,5 +13,6 @@ pub mod Openings
 pub mod ParityLaws
 pub mod ParityRacks
 pub mod Reopens
+pub mod Runs
 pub mod Sound
 pub mod Stripes

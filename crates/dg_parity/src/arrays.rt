@@ -101,6 +101,8 @@ impl<R: Rack> Rack for GroupRack<R> {
     ghost use Rattle.dg_io.specs.Kept.{KeepsRest};
     ghost use Rattle.dg_io.specs.RackCalls.{RackCall};
     ghost use Rattle.dg_io.specs.Told.{Told, IsSame, IsZeros, Measures, IsEmpty, Reads, Patched, Torn, FitsIn, Extended, KeepsFront, IsHeader, OldOrNew};
+    ghost use Rattle.dg_parity.specs.ArrayCalls.{reads_of, writes_of};
+    ghost use Rattle.dg_parity.specs.Groups.{MostCalls};
     ghost use Rattle.dg_parity.specs.Arrays.{IsShaped, group_at, is_fallen, serves, size_at};
     ghost use Rattle.dg_parity.specs.Arrays.{GroupedMade, grouped_bytes, grouped_counts, grouped_disks, grouped_keeps, grouped_name, grouped_stands, grouped_steady, grouped_tells, grouped_words};
     ghost use Rattle.dg_parity.specs.ArrayLaws.{grouped_after, grouped_both, grouped_none};
@@ -169,6 +171,7 @@ impl<R: Rack> Rack for GroupRack<R> {
         ensures shape { IsShaped self.old self.new }
         ensures alive { OnOk result (serves self.new.groups member ≡ true) }
         ensures fails { OnErr result ((serves self.new.groups member ≡ false) ⊎ (size_at self.old.groups member < place + length buf.old)) }
+        ensures calls { MostCalls R.Rack (reads_of (group_at self.old.groups member) place (length buf.old)) self.old.rack self.new.rack }
     {
         let result = read_at(&mut self.groups, &mut self.rack, member, place, buf);
         self.tally.note(member, result.is_err());
@@ -189,6 +192,7 @@ impl<R: Rack> Rack for GroupRack<R> {
         ensures shape { IsShaped self.old self.new }
         ensures alive { OnOk result (serves self.new.groups member ≡ true) }
         ensures fails { OnErr result ((serves self.new.groups member ≡ false) ⊎ (size_at self.old.groups member < place + length buf.now)) }
+        ensures calls { MostCalls R.Rack (writes_of (group_at self.old.groups member) place (length buf.now)) self.old.rack self.new.rack }
     {
         let result = write_at(&mut self.groups, &mut self.rack, member, place, buf);
         self.tally.note_write(member, result.is_err());

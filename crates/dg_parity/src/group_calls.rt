@@ -2,6 +2,8 @@
 ghost use Rattle.std.specs.Prelude.{◌≡◌, ◌≢◌, ◌⊎◌, ◌+◌, ◌<◌, true, false, length, None, Some, IfOk, IfSome, OnErr, OnOk};
 ghost use Rattle.dg_io.specs.DiskAnswers.{DropsDisk, MendsDisk};
 ghost use Rattle.dg_io.specs.Told.{Told, IsSame, IsZeros, Extended, Patched, Reads, Torn};
+ghost use Rattle.dg_parity.specs.ArrayCalls.{reads_of, writes_of};
+ghost use Rattle.dg_parity.specs.Groups.{MostCalls};
 ghost use Rattle.dg_parity.specs.Arrays.{AreKept, NoneBack, Steps, StepsOn, group_at, is_fallen, is_served, is_unmade, serves, size_at, states_in, told_at, width_at};
 
 use crate::blanks::blank;
@@ -49,6 +51,7 @@ pub(crate) fn read_at<R: Rack>(
     requires kept { AreKept R.Rack groups.old.items rack.old }
     ensures steps { Steps R.Rack member groups.old.items groups.new.items rack.old rack.new }
     ensures stays { NoneBack groups.old.items groups.new.items }
+    ensures calls { MostCalls R.Rack (reads_of (group_at groups.old.items member) place (length buf.old)) rack.old rack.new }
     ensures alive { OnOk result (serves groups.new.items member ≡ true) }
     ensures fails { OnErr result ((serves groups.new.items member ≡ false) ⊎ (size_at groups.old.items member < place + length buf.old)) }
     ensures ok { OnOk result (Told (Reads place buf.new) (told_at R.Rack groups.old.items rack.old member) (told_at R.Rack groups.new.items rack.new member)) }
@@ -77,6 +80,7 @@ pub(crate) fn write_at<R: Rack>(
     requires kept { AreKept R.Rack groups.old.items rack.old }
     ensures steps { Steps R.Rack member groups.old.items groups.new.items rack.old rack.new }
     ensures stays { NoneBack groups.old.items groups.new.items }
+    ensures calls { MostCalls R.Rack (writes_of (group_at groups.old.items member) place (length piece.now)) rack.old rack.new }
     ensures alive { OnOk result (serves groups.new.items member ≡ true) }
     ensures fails { OnErr result ((serves groups.new.items member ≡ false) ⊎ (size_at groups.old.items member < place + length piece.now)) }
     ensures ok { OnOk result (Told (Patched place piece.now)

@@ -1,5 +1,5 @@
 // A group of disks.
-ghost use Rattle.std.specs.Prelude.{◌≡◌, ◌≢◌, ◌+◌, ◌-◌, ◌*◌, ◌<◌, ◌≤◌, ◌^◌, min, ℕ, Bool, true, false, length, slice_index_or, if◌then◌else◌};
+ghost use Rattle.std.specs.Prelude.{◌≡◌, ◌≢◌, ◌+◌, ◌-◌, ◌*◌, ◌<◌, ◌≤◌, ◌^◌, min, ℕ, Bool, true, false, None, IfSome, length, slice_index_or, if◌then◌else◌};
 ghost use Rattle.dg_parity.specs.Headers.{marks_of};
 ghost use Rattle.dg_parity.specs.Stripes.{disk_length};
 
@@ -37,6 +37,19 @@ impl Group {
         ensures { result ≡ is_out self.now j }
     {
         self.out[j as usize]
+    }
+
+    /// A disk that is out, if there is one.
+    pub(crate) fn out_disk(&self) -> Option<u8>
+        ensures some { IfSome result (λ o. (o < self.now.disks) × (is_out self.now o ≡ true)) }
+        ensures none { result ≡ None → (j : ℕ) → j < self.now.disks → is_out self.now j ≡ false }
+    {
+        for j in 0..self.disks {
+            if self.is_out(j) {
+                return Some(j);
+            }
+        }
+        None
     }
 
     /// Whether two disks are out.

@@ -16,13 +16,18 @@ mod headers;
 mod members;
 mod mends;
 mod openings;
+mod overlaps;
 mod parity_racks;
 mod parts;
 mod returns;
+mod rows;
+mod run_reads;
+mod run_writes;
 mod stripes;
 mod sureness;
 mod tallies;
 mod told;
+mod windows;
 mod xors;
 
 pub use arrays::GroupRack;

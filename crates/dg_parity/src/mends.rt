@@ -1,23 +1,25 @@
 // A disk that comes back.
-ghost use Rattle.std.specs.Prelude.{◌≡◌, ◌≢◌, ◌⊎◌, ◌↔◌, ◌+◌, ◌*◌, ◌<◌, ◌≤◌, ℕ, List, Bool, true, false, length, slice_index, IfSome};
+ghost use Rattle.std.specs.Prelude.{◌≡◌, ◌≢◌, ◌⊎◌, ◌↔◌, ◌+◌, ◌-◌, ◌*◌, ◌<◌, ◌≤◌, ℕ, List, Bool, true, false, length, slice_index, IfSome};
 ghost use Rattle.std.specs.Bool.{OnTrue, OnFalse};
 ghost use Rattle.dg_model.specs.Causes.{Rose};
 ghost use Rattle.dg_parity.specs.Stripes.{IsEven, stripes_of};
-ghost use Rattle.dg_parity.specs.Groups.{disk_number, is_out, is_lost, length_of, IsReady, Holds, AllTold, KeepsHeld};
+ghost use Rattle.dg_parity.specs.Groups.{disk_number, is_out, is_lost, length_of, IsReady, Holds, AllTold, KeepsHeld, MostCalls};
 ghost use Rattle.dg_parity.specs.Mends.{FilledTo, IsRefilled, LeavesBut};
+ghost use Rattle.dg_parity.specs.Runs.{runs_of};
 
 use crate::groups::Group;
 use crate::parts::{add_others, clear};
-use crate::stripes::stripes;
+use crate::windows::{ROW, STRIPES};
 use dg_io::Rack;
 
-// Makes the chunk of stripe t on disk j, which is out, from the others. False where a call failed.
-fn mend_stripe<R: Rack>(group: &mut Group, rack: &mut R, j: u8, t: u64) -> bool
+// Makes the chunks of so many stripes from t on on disk j, which is out, from the others. False where a call failed.
+fn mend_stripes<R: Rack>(group: &mut Group, rack: &mut R, j: u8, t: u64, part: usize) -> bool
     requires ready { IsReady R.Rack group.old rack.old }
     requires alive { is_lost group.old ≡ false }
     requires disk { j < group.old.disks }
     requires out { is_out group.old j ≡ true }
-    requires stripe { t < stripes_of group.old.disks group.old.length }
+    requires stripes { t + part ≤ stripes_of group.old.disks group.old.length }
+    requires few { part ≤ 16 }
     requires refilled { IsRefilled R.Rack group.old rack.old j }
     ensures leaves { LeavesBut R.Rack j group.old group.new rack.old rack.new }
     ensures done { OnTrue result (group.new ≡ group.old) }
@@ -26,21 +28,33 @@ fn mend_stripe<R: Rack>(group: &mut Group, rack: &mut R, j: u8, t: u64) -> bool
     ensures refilled { OnTrue result (IsRefilled R.Rack group.new rack.new j) }
     ensures holds { KeepsHeld R.Rack group.old group.new rack.old rack.new }
     ensures filled { OnTrue result ((has : ℕ → ℕ → ℕ) → AllTold R.Rack group.new rack.new → Holds R.Rack group.old rack.old has
-        → IsEven group.old.disks group.old.length has → FilledTo R.Rack group.old rack.old j has t → FilledTo R.Rack group.new rack.new j has (t + 1)) }
+        → IsEven group.old.disks group.old.length has → FilledTo R.Rack group.old rack.old j has t → FilledTo R.Rack group.new rack.new j has (t + part)) }
+    ensures calls { MostCalls R.Rack group.old.disks rack.old rack.new }
 {
-    let mut page = [0; 512];
-    clear(&mut page);
+    let mut page = [0; ROW];
+    let row = &mut page[..512 * part];
+    clear(row);
     let place = 512 + 512 * t;
-    if !add_others(group, rack, j, j, place, &mut page) {
+    if !add_others(group, rack, j, j, place, row) {
         return false;
     }
-    match rack.write(group.disk(j), place, &page) {
+    match rack.write(group.disk(j), place, row) {
         Ok(()) => true,
         Err(_) => false,
     }
 }
 
-// Makes the chunks of a disk that is out from those of the others. False where a call failed.
+// How many of so many stripes are made in one run.
+fn part_of(left: u64) -> usize
+    ensures some { 0 < left → 0 < result }
+    ensures most { result ≤ left }
+    ensures few { result ≤ 16 }
+    ensures runs { runs_of (left - result) + 1 ≤ runs_of left ⊎ (left ≡ 0) }
+{
+    left.min(STRIPES as u64) as usize
+}
+
+// Makes the chunks of a disk that is out from those of the others, in runs of 16 stripes. False where a call failed.
 pub(crate) fn fill_disk<R: Rack>(group: &mut Group, rack: &mut R, j: u8, count: u64) -> bool
     requires ready { IsReady R.Rack group.old rack.old }
     requires alive { is_lost group.old ≡ false }
@@ -55,6 +69,7 @@ pub(crate) fn fill_disk<R: Rack>(group: &mut Group, rack: &mut R, j: u8, count: 
     ensures holds { KeepsHeld R.Rack group.old group.new rack.old rack.new }
     ensures filled { OnTrue result ((has : ℕ → ℕ → ℕ) → AllTold R.Rack group.new rack.new → Holds R.Rack group.old rack.old has
         → IsEven group.old.disks group.old.length has → FilledTo R.Rack group.new rack.new j has count) }
+    ensures calls { MostCalls R.Rack (group.old.disks * runs_of count + 1) rack.old rack.new }
 {
     let length = 512 + 512 * count;
     match rack.blank(group.disk(j), length) {
@@ -63,10 +78,13 @@ pub(crate) fn fill_disk<R: Rack>(group: &mut Group, rack: &mut R, j: u8, count: 
             return false;
         }
     }
-    for t in 0..count {
-        if !mend_stripe(group, rack, j, t) {
+    let mut t = 0;
+    while t < count {
+        let part = part_of(count - t);
+        if !mend_stripes(group, rack, j, t, part) {
             return false;
         }
+        t += part as u64;
     }
     true
 }

@@ -87,6 +87,7 @@ impl<R: Rack> Rack for ParityRack<R> {
     ghost use Rattle.dg_io.specs.Kept.{KeepsRest};
     ghost use Rattle.dg_io.specs.RackCalls.{RackCall};
     ghost use Rattle.dg_io.specs.Told.{Told, IsSame, IsZeros, Measures, IsEmpty, Reads, Patched, Torn, FitsIn, Extended, KeepsFront, IsHeader, OldOrNew};
+    ghost use Rattle.dg_parity.specs.ArrayCalls.{ReadsBehind, WritesBehind};
     ghost use Rattle.dg_parity.specs.ParityRacks.{IsFallen, IsPast, IsServed, IsShaped, IsShort, IsUnserved};
     ghost use Rattle.dg_parity.specs.ParityRacks.{ParityMade, parity_bytes, parity_counts, parity_disks, parity_keeps, parity_name, parity_stands, parity_steady, parity_tells, parity_words};
     ghost use Rattle.dg_parity.specs.ParityLaws.{parity_after, parity_both, parity_none, parity_tells_told, parity_told};
@@ -157,6 +158,7 @@ impl<R: Rack> Rack for ParityRack<R> {
         ensures shape { IsShaped self.old self.new }
         ensures alive { OnOk result (IsServed self.new member) }
         ensures fails { OnErr result (IsUnserved self.new member ⊎ IsPast self.old member (place + length buf.old)) }
+        ensures calls { ReadsBehind R.Rack self.old self.new member place (length buf.old) }
     {
         match self {
             ParityRack::Plain(rack) => rack.read(member, place, buf),
@@ -178,6 +180,7 @@ impl<R: Rack> Rack for ParityRack<R> {
         ensures shape { IsShaped self.old self.new }
         ensures alive { OnOk result (IsServed self.new member) }
         ensures fails { OnErr result (IsUnserved self.new member ⊎ IsPast self.old member (place + length buf.now)) }
+        ensures calls { WritesBehind R.Rack self.old self.new member place (length buf.now) }
     {
         match self {
             ParityRack::Plain(rack) => rack.write(member, place, buf),

@@ -2,12 +2,12 @@
 ghost use Rattle.std.specs.Prelude.{◌≡◌, ◌≢◌, ◌⊎◌, ◌+◌, ◌*◌, ◌<◌, ◌≤◌, ℕ, Bool, true, false, length, slice_index, bit_xor, not};
 ghost use Rattle.std.specs.Bool.{OnTrue, OnFalse};
 ghost use Rattle.dg_parity.specs.Exclusive.{xor_upto, with_at};
-ghost use Rattle.dg_parity.specs.Stripes.{IsEven, IsParity, written};
-ghost use Rattle.dg_parity.specs.Groups.{IsSpot, is_out, is_lost, length_of, IsReady, Holds, AllTold, LeavesGroup, MostCalls, KeepsHeld};
+ghost use Rattle.dg_parity.specs.Stripes.{IsEven};
+ghost use Rattle.dg_parity.specs.Groups.{is_out, is_lost, in_of, length_of, IsReady, Holds, AllTold, LeavesGroup, MostCalls, KeepsHeld};
 
-use crate::disks::{read_disk, write_disk};
+use crate::disks::read_disk;
 use crate::groups::Group;
-use crate::stripes::Spot;
+use crate::windows::ROW;
 use crate::xors::xor_into;
 use dg_io::Rack;
 
@@ -18,7 +18,7 @@ fn add_disk<R: Rack>(group: &mut Group, rack: &mut R, j: u8, place: u64, row: &m
     requires there { is_out group.old j ≡ false }
     requires behind { 512 ≤ place }
     requires below { place + length row.old ≤ length_of group.old }
-    requires most { length row.old ≤ 512 }
+    requires most { length row.old ≤ 8192 }
     ensures leaves { LeavesGroup R.Rack group.old group.new rack.old rack.new }
     ensures done { OnTrue result (group.new ≡ group.old) }
     ensures fell { OnFalse result (is_out group.new j ≡ true) }
@@ -27,7 +27,7 @@ fn add_disk<R: Rack>(group: &mut Group, rack: &mut R, j: u8, place: u64, row: &m
         → (k : ℕ) → k < length row.new → slice_index row.new k ≡ bit_xor (slice_index row.old k) (has j (place + k))) }
     ensures calls { MostCalls R.Rack 1 rack.old rack.new }
 {
-    let mut page = [0; 512];
+    let mut page = [0; ROW];
     let part = &mut page[..row.len()];
     if !read_disk(group, rack, j, place, part) {
         return false;
@@ -51,7 +51,7 @@ fn add_unless<R: Rack>(
     requires there { j ≢ a → j ≢ b → is_out group.old j ≡ false }
     requires behind { 512 ≤ place }
     requires below { place + length row.old ≤ length_of group.old }
-    requires most { length row.old ≤ 512 }
+    requires most { length row.old ≤ 8192 }
     ensures leaves { LeavesGroup R.Rack group.old group.new rack.old rack.new }
     ensures done { OnTrue result (group.new ≡ group.old) }
     ensures fell { OnFalse result ((j ≢ a) × (j ≢ b) × (is_out group.new j ≡ true)) }
@@ -59,6 +59,7 @@ fn add_unless<R: Rack>(
     ensures added { OnTrue result ((has : ℕ → ℕ → ℕ) → AllTold R.Rack group.new rack.new → Holds R.Rack group.old rack.old has
         → (k : ℕ) → k < length row.new
         → slice_index row.new k ≡ bit_xor (slice_index row.old k) (with_at (with_at (λ i. has i (place + k)) a 0) b 0 j)) }
+    ensures idle { is_out group.old j ≡ true → rack.new ≡ rack.old }
     ensures calls { MostCalls R.Rack 1 rack.old rack.new }
 {
     if j == a {
@@ -86,7 +87,7 @@ pub(crate) fn add_others<R: Rack>(
     requires there { (j : ℕ) → j < group.old.disks → j ≢ a → j ≢ b → is_out group.old j ≡ false }
     requires behind { 512 ≤ place }
     requires below { place + length row.old ≤ length_of group.old }
-    requires most { length row.old ≤ 512 }
+    requires most { length row.old ≤ 8192 }
     ensures leaves { LeavesGroup R.Rack group.old group.new rack.old rack.new }
     ensures done { OnTrue result (group.new ≡ group.old) }
     ensures fell { OnFalse result ((j : ℕ) × (j ≢ a) × (j ≢ b) × (is_out group.new j ≡ true)) }
@@ -94,7 +95,7 @@ pub(crate) fn add_others<R: Rack>(
     ensures added { OnTrue result ((has : ℕ → ℕ → ℕ) → AllTold R.Rack group.new rack.new → Holds R.Rack group.old rack.old has
         → (k : ℕ) → k < length row.new
         → slice_index row.new k ≡ bit_xor (slice_index row.old k) (xor_upto (with_at (with_at (λ i. has i (place + k)) a 0) b 0) group.old.disks)) }
-    ensures calls { MostCalls R.Rack group.old.disks rack.old rack.new }
+    ensures calls { MostCalls R.Rack (in_of group.old) rack.old rack.new }
 {
     for j in 0..group.disks {
         if !add_unless(group, rack, j, a, b, place, row) {
@@ -114,187 +115,61 @@ pub(crate) fn clear(row: &mut [u8])
 }
 
 // Makes a part of a chunk whose disk is out from the others. False where the group is lost.
-fn make_part<R: Rack>(group: &mut Group, rack: &mut R, spot: Spot, buf: &mut [u8]) -> bool
+fn make_part<R: Rack>(group: &mut Group, rack: &mut R, j: u8, place: u64, buf: &mut [u8]) -> bool
     requires ready { IsReady R.Rack group.old rack.old }
     requires alive { is_lost group.old ≡ false }
-    requires spot { IsSpot group.old spot }
-    requires disk_out { is_out group.old spot.disk ≡ true }
-    requires below { spot.place + length buf.old ≤ length_of group.old }
-    requires most { length buf.old ≤ 512 }
+    requires disk { j < group.old.disks }
+    requires out { is_out group.old j ≡ true }
+    requires behind { 512 ≤ place }
+    requires below { place + length buf.old ≤ length_of group.old }
+    requires most { length buf.old ≤ 8192 }
     ensures leaves { LeavesGroup R.Rack group.old group.new rack.old rack.new }
     ensures alive { result ≡ not (is_lost group.new) }
     ensures holds { KeepsHeld R.Rack group.old group.new rack.old rack.new }
     ensures got { OnTrue result ((has : ℕ → ℕ → ℕ) → AllTold R.Rack group.new rack.new → Holds R.Rack group.old rack.old has
         → IsEven group.old.disks group.old.length has
-        → (k : ℕ) → k < length buf.new → slice_index buf.new k ≡ has spot.disk (spot.place + k)) }
+        → (k : ℕ) → k < length buf.new → slice_index buf.new k ≡ has j (place + k)) }
     ensures calls { MostCalls R.Rack group.old.disks rack.old rack.new }
 {
     clear(buf);
-    if !add_others(group, rack, spot.disk, spot.disk, spot.place, buf) {
+    if !add_others(group, rack, j, j, place, buf) {
         return false;
     }
     true
 }
 
-/// Reads a part of a chunk. False where the group is lost.
+/// Reads a part of the chunk or the parity of a disk. Where that is out it is made from the others. False where the group is lost.
 pub(crate) fn read_part<R: Rack>(
     group: &mut Group,
     rack: &mut R,
-    spot: Spot,
+    j: u8,
+    place: u64,
     buf: &mut [u8],
 ) -> bool
     requires ready { IsReady R.Rack group.old rack.old }
     requires alive { is_lost group.old ≡ false }
-    requires spot { IsSpot group.old spot }
-    requires below { spot.place + length buf.old ≤ length_of group.old }
-    requires most { length buf.old ≤ 512 }
+    requires disk { j < group.old.disks }
+    requires behind { 512 ≤ place }
+    requires below { place + length buf.old ≤ length_of group.old }
+    requires most { length buf.old ≤ 8192 }
     ensures leaves { LeavesGroup R.Rack group.old group.new rack.old rack.new }
     ensures alive { result ≡ not (is_lost group.new) }
     ensures holds { KeepsHeld R.Rack group.old group.new rack.old rack.new }
     ensures got { OnTrue result ((has : ℕ → ℕ → ℕ) → AllTold R.Rack group.new rack.new → Holds R.Rack group.old rack.old has
         → IsEven group.old.disks group.old.length has
-        → (k : ℕ) → k < length buf.new → slice_index buf.new k ≡ has spot.disk (spot.place + k)) }
+        → (k : ℕ) → k < length buf.new → slice_index buf.new k ≡ has j (place + k)) }
     ensures calls { MostCalls R.Rack (group.old.disks + 1) rack.old rack.new }
 {
-    if group.is_out(spot.disk) {
-        return make_part(group, rack, spot, buf);
+    if group.is_out(j) {
+        return make_part(group, rack, j, place, buf);
     }
-    if read_disk(group, rack, spot.disk, spot.place, buf) {
+    if read_disk(group, rack, j, place, buf) {
         return true;
     }
     if group.is_lost() {
         return false;
     }
-    if !make_part(group, rack, spot, buf) {
-        return false;
-    }
-    true
-}
-
-// The parity that a piece brings about, by the old bytes on two disks that aren't out. False where one of them went out.
-fn parity_by_change<R: Rack>(
-    group: &mut Group,
-    rack: &mut R,
-    spot: Spot,
-    piece: &[u8],
-    parity: &mut [u8],
-) -> bool
-    requires ready { IsReady R.Rack group.old rack.old }
-    requires spot { IsSpot group.old spot }
-    requires disk_in { is_out group.old spot.disk ≡ false }
-    requires parity_in { is_out group.old spot.parity ≡ false }
-    requires below { spot.place + length piece.now ≤ length_of group.old }
-    requires most { length piece.now ≤ 512 }
-    requires same { length parity.old ≡ length piece.now }
-    ensures leaves { LeavesGroup R.Rack group.old group.new rack.old rack.new }
-    ensures done { OnTrue result (group.new ≡ group.old) }
-    ensures fell { OnFalse result ((is_out group.new spot.disk ≡ true) ⊎ (is_out group.new spot.parity ≡ true)) }
-    ensures holds { KeepsHeld R.Rack group.old group.new rack.old rack.new }
-    ensures right { OnTrue result ((has : ℕ → ℕ → ℕ) → AllTold R.Rack group.new rack.new → Holds R.Rack group.old rack.old has
-        → IsParity has spot piece.now parity.new) }
-    ensures calls { MostCalls R.Rack 2 rack.old rack.new }
-{
-    parity.copy_from_slice(piece);
-    if !add_disk(group, rack, spot.disk, spot.place, parity) {
-        return false;
-    }
-    if !add_disk(group, rack, spot.parity, spot.place, parity) {
-        return false;
-    }
-    true
-}
-
-// The parity that a piece brings about, by the other chunks, where the disk of the piece is out.
-fn parity_by_others<R: Rack>(
-    group: &mut Group,
-    rack: &mut R,
-    spot: Spot,
-    piece: &[u8],
-    parity: &mut [u8],
-)
-    requires ready { IsReady R.Rack group.old rack.old }
-    requires alive { is_lost group.old ≡ false }
-    requires spot { IsSpot group.old spot }
-    requires disk_out { is_out group.old spot.disk ≡ true }
-    requires below { spot.place + length piece.now ≤ length_of group.old }
-    requires most { length piece.now ≤ 512 }
-    requires same { length parity.old ≡ length piece.now }
-    ensures leaves { LeavesGroup R.Rack group.old group.new rack.old rack.new }
-    ensures holds { KeepsHeld R.Rack group.old group.new rack.old rack.new }
-    ensures right { is_lost group.new ≡ false → (has : ℕ → ℕ → ℕ) → AllTold R.Rack group.new rack.new → Holds R.Rack group.old rack.old has
-        → IsEven group.old.disks group.old.length has → IsParity has spot piece.now parity.new }
-    ensures calls { MostCalls R.Rack group.old.disks rack.old rack.new }
-{
-    parity.copy_from_slice(piece);
-    if !add_others(group, rack, spot.disk, spot.parity, spot.place, parity) {
-        return;
-    }
-}
-
-// The parity that a piece brings about, where the disk with the parity isn't out at the end and the group isn't lost.
-fn make_parity<R: Rack>(
-    group: &mut Group,
-    rack: &mut R,
-    spot: Spot,
-    piece: &[u8],
-    parity: &mut [u8],
-)
-    requires ready { IsReady R.Rack group.old rack.old }
-    requires alive { is_lost group.old ≡ false }
-    requires spot { IsSpot group.old spot }
-    requires below { spot.place + length piece.now ≤ length_of group.old }
-    requires most { length piece.now ≤ 512 }
-    requires same { length parity.old ≡ length piece.now }
-    ensures leaves { LeavesGroup R.Rack group.old group.new rack.old rack.new }
-    ensures holds { KeepsHeld R.Rack group.old group.new rack.old rack.new }
-    ensures size { length parity.new ≡ length piece.now }
-    ensures right { is_lost group.new ≡ false → is_out group.new spot.parity ≡ false
-        → (has : ℕ → ℕ → ℕ) → AllTold R.Rack group.new rack.new → Holds R.Rack group.old rack.old has
-        → IsEven group.old.disks group.old.length has → IsParity has spot piece.now parity.new }
-    ensures calls { MostCalls R.Rack (group.old.disks + 2) rack.old rack.new }
-{
-    if group.is_out(spot.disk) {
-        parity_by_others(group, rack, spot, piece, parity);
-        return;
-    }
-    if group.is_out(spot.parity) {
-        return;
-    }
-    if parity_by_change(group, rack, spot, piece, parity) {
-        return;
-    }
-    if group.is_lost() {
-        return;
-    }
-    if !group.is_out(spot.disk) {
-        return;
-    }
-    parity_by_others(group, rack, spot, piece, parity);
-}
-
-/// Writes a part of a chunk and its parity. False where the group is lost.
-pub(crate) fn write_part<R: Rack>(group: &mut Group, rack: &mut R, spot: Spot, piece: &[u8]) -> bool
-    requires ready { IsReady R.Rack group.old rack.old }
-    requires alive { is_lost group.old ≡ false }
-    requires spot { IsSpot group.old spot }
-    requires below { spot.place + length piece.now ≤ length_of group.old }
-    requires most { length piece.now ≤ 512 }
-    ensures leaves { LeavesGroup R.Rack group.old group.new rack.old rack.new }
-    ensures alive { result ≡ not (is_lost group.new) }
-    ensures put { OnTrue result ((has : ℕ → ℕ → ℕ) → AllTold R.Rack group.new rack.new → Holds R.Rack group.old rack.old has
-        → IsEven group.old.disks group.old.length has
-        → Holds R.Rack group.new rack.new (written has spot.disk spot.parity spot.place piece.now)) }
-    ensures calls { MostCalls R.Rack (group.old.disks + 4) rack.old rack.new }
-{
-    let mut page = [0; 512];
-    let parity = &mut page[..piece.len()];
-    make_parity(group, rack, spot, piece, parity);
-    if group.is_lost() {
-        return false;
-    }
-    write_disk(group, rack, spot.disk, spot.place, piece);
-    write_disk(group, rack, spot.parity, spot.place, parity);
-    if group.is_lost() {
+    if !make_part(group, rack, j, place, buf) {
         return false;
     }
     true

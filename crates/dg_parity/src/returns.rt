@@ -1,12 +1,13 @@
 // A disk that comes back, whole.
-ghost use Rattle.std.specs.Prelude.{◌≡◌, ◌≢◌, ◌⊎◌, ◌↔◌, ◌<◌, ◌≤◌, min, ◌^◌, ◌-◌, ℕ, Bool, true, false};
+ghost use Rattle.std.specs.Prelude.{◌≡◌, ◌≢◌, ◌⊎◌, ◌↔◌, ◌<◌, ◌≤◌, min, ◌^◌, ◌-◌, ◌+◌, ◌*◌, ℕ, Bool, true, false};
 ghost use Rattle.dg_model.specs.Causes.{Rose};
 ghost use Rattle.dg_io.specs.Told.{Told, IsSame};
 ghost use Rattle.dg_parity.specs.Blanks.{LeavesOthers};
-ghost use Rattle.dg_parity.specs.Groups.{disk_number, is_out, is_lost, IsStill};
+ghost use Rattle.dg_parity.specs.Groups.{disk_number, is_out, is_lost, IsStill, MostCalls};
 ghost use Rattle.dg_parity.specs.Stripes.{stripes_of};
 ghost use Rattle.dg_parity.specs.Kept.{bytes_in, IsKept};
 ghost use Rattle.dg_parity.specs.Mends.{FallBut};
+ghost use Rattle.dg_parity.specs.Runs.{runs_of};
 
 use crate::disks::note;
 use crate::groups::Group;
@@ -33,6 +34,7 @@ pub fn mend<R: Rack>(group: &mut Group, rack: &mut R, j: u8) -> MendAnswer
     ensures fall { FallBut R.Rack j group.old group.new rack.old rack.new }
     ensures leaves { LeavesOthers R.Rack group.old rack.old rack.new }
     ensures noted { (c : ℕ) → result ≡ MendAnswer.Mended c → group.new.noted ≡ true }
+    ensures calls { MostCalls R.Rack (group.old.disks * runs_of (stripes_of group.old.disks group.old.length) + 2 * group.old.disks + 1) rack.old rack.new }
     ensures same { is_lost group.new ≡ false → Told IsSame (bytes_in R.Rack group.old rack.old) (bytes_in R.Rack group.new rack.new) }
 {
     if group.is_lost() {

@@ -3,7 +3,8 @@ ghost use Rattle.std.specs.Prelude.{◌≡◌, ◌≢◌, ◌⊎◌, ◌↔◌, 
 ghost use Rattle.std.specs.Bool.{OnTrue, OnFalse};
 ghost use Rattle.dg_model.specs.Causes.{Rose};
 ghost use Rattle.dg_io.specs.Told.{Told, IsSame, Reads, Patched, Torn, patch};
-ghost use Rattle.dg_parity.specs.Groups.{is_lost, IsReady, AllTold, LeavesGroup, StandsFor, MostCalls, KeepsMember};
+ghost use Rattle.dg_parity.specs.Groups.{is_lost, in_of, FellOne, IsReady, AllTold, LeavesGroup, StandsFor, MostCalls, KeepsMember};
+ghost use Rattle.dg_parity.specs.Runs.{passes_in};
 ghost use Rattle.dg_parity.specs.Kept.{bytes_in, calls_to_read, calls_to_write, IsKept};
 
 use crate::disks::note;
@@ -32,6 +33,8 @@ fn read_noted<R: Rack>(group: &mut Group, rack: &mut R, place: u64, buf: &mut [u
     ensures stands { KeepsMember R.Rack group.old group.new rack.old rack.new }
     ensures got { OnTrue result ((bytes : List ℕ) → AllTold R.Rack group.new rack.new → StandsFor R.Rack group.old rack.old bytes
         → (k : ℕ) → k < length buf.new → slice_index buf.new k ≡ slice_index bytes (place + k)) }
+    ensures steady { OnTrue result (((group.new ≡ group.old)
+        × MostCalls R.Rack (in_of group.old * passes_in group.old.disks place (length buf.old)) rack.old rack.new) ⊎ FellOne group.old group.new) }
     ensures calls { MostCalls R.Rack (calls_to_read group.old.disks place (length buf.old)) rack.old rack.new }
 {
     let noted = group.is_noted();
@@ -91,6 +94,8 @@ pub(crate) fn read_told<R: Rack>(
     ensures noted { group.old.noted ≡ true → is_lost group.new ≡ false → group.new.noted ≡ true }
     ensures ok { OnTrue result (Told (Reads place buf.new) (bytes_in R.Rack group.old rack.old) (bytes_in R.Rack group.new rack.new)) }
     ensures same { Told IsSame (bytes_in R.Rack group.old rack.old) (bytes_in R.Rack group.new rack.new) }
+    ensures steady { OnTrue result (((group.new ≡ group.old)
+        × MostCalls R.Rack (in_of group.old * passes_in group.old.disks place (length buf.old)) rack.old rack.new) ⊎ FellOne group.old group.new) }
     ensures calls { MostCalls R.Rack (calls_to_read group.old.disks place (length buf.old)) rack.old rack.new }
     ensures silent { is_lost group.new ≡ true → group.new.told ≡ false }
 {
@@ -140,6 +145,7 @@ pub fn read<R: Rack>(group: &mut Group, rack: &mut R, place: u64, buf: &mut [u8]
     ensures noted { group.old.noted ≡ true → is_lost group.new ≡ false → group.new.noted ≡ true }
     ensures ok { OnTrue result (Told (Reads place buf.new) (bytes_in R.Rack group.old rack.old) (bytes_in R.Rack group.new rack.new)) }
     ensures same { Told IsSame (bytes_in R.Rack group.old rack.old) (bytes_in R.Rack group.new rack.new) }
+    ensures quiet { OnTrue result (group.new ≡ group.old → MostCalls R.Rack (in_of group.old * passes_in group.old.disks place (length buf.old)) rack.old rack.new) }
     ensures calls { MostCalls R.Rack (calls_to_read group.old.disks place (length buf.old)) rack.old rack.new }
     ensures silent { is_lost group.old ≡ false → is_lost group.new ≡ true → group.new.told ≡ false }
 {

@@ -1,9 +1,10 @@
 // Groups over a rack in memory, whose calls are counted from 0.
+ghost use Rattle.std.specs.Prelude.{◌≤◌};
 ghost use Rattle.dg_parity.specs.Kept.{IsKept};
 
 use dg_io::{DropAnswer, MemRack, MendAnswer, Rack};
 use dg_parity::{
-    Group, Header, Spot, blank, drop_disk, fill_header, is_counted, locate, mend, read,
+    Group, Header, Spot, blank, drop_disk, extend, fill_header, is_counted, locate, mend, read,
     read_header, write,
 };
 use std::alloc::Global;
@@ -197,5 +198,76 @@ fn two_calls_fail(rt: HostRuntime) -> Result<(), Fail> {
             assert!(rt; ending == Ending::Lost || ending == expected());
         }
     }
+    Ok(())
+}
+
+// A disk is dropped, the member is written and gets longer without it, and it comes back.
+fn run_without(alloc: Global, fails: &[u64]) -> Result<Ending, Fail> {
+    let mut rack = rack_of(alloc, 512 * 5, fails)?;
+    let mut group = Group::new(0, 3);
+    let mut got = [0; 1500];
+    if !blank(&mut group, &mut rack, 3000) {
+        return Ok(ended(&group));
+    }
+    if !write(&mut group, &mut rack, 100, &[0x11; 1500]) {
+        return Ok(ended(&group));
+    }
+    drops(&mut group, &mut rack, 2);
+    if !write(&mut group, &mut rack, 700, &[0x2f; 1500]) {
+        return Ok(ended(&group));
+    }
+    if !extend(&mut group, &mut rack, 4000) {
+        return Ok(ended(&group));
+    }
+    mends(&mut group, &mut rack, 2);
+    if !read(&mut group, &mut rack, 600, &mut got) {
+        return Ok(ended(&group));
+    }
+    Ok(Ending::Read(got))
+}
+
+// Whichever calls fail: the bytes are right, or two disks are out.
+#[test]
+fn calls_fail_without_a_disk(rt: HostRuntime) -> Result<(), Fail> {
+    assert!(rt; run_without(rt.alloc(), &[])? == expected());
+    for first in 0..60 {
+        for second in 0..first + 1 {
+            let ending = run_without(rt.alloc(), &[first, second])?;
+            assert!(rt; ending == Ending::Lost || ending == expected());
+        }
+    }
+    Ok(())
+}
+
+// How many disks of a group are out.
+fn outs(group: &Group) -> u8
+    ensures { result ≤ 8 }
+{
+    let mut count = 0;
+    for j in 0..group.width() {
+        if group.is_out(j) && count < 8 {
+            count += 1;
+        }
+    }
+    count
+}
+
+// How many disks are out once a slot of 4,096 bytes was written from a place on, while one call fails. The first six make the group.
+fn outs_after(alloc: Global, place: u64, call: u64) -> Result<u8, Fail> {
+    let mut rack = rack_of(alloc, 512 * 12, &[call])?;
+    let mut group = Group::new(0, 3);
+    blank(&mut group, &mut rack, 512 * 20);
+    write(&mut group, &mut rack, place, &[7; 4096]);
+    Ok(outs(&group))
+}
+
+// A slot that begins within a stripe takes two reads and three writes, and one of whole stripes three writes.
+#[test]
+fn calls_of_a_slot(rt: HostRuntime) -> Result<(), Fail> {
+    assert!(rt; outs_after(rt.alloc(), 512, 6)? == 1);
+    assert!(rt; outs_after(rt.alloc(), 512, 10)? == 1);
+    assert!(rt; outs_after(rt.alloc(), 512, 11)? == 0);
+    assert!(rt; outs_after(rt.alloc(), 1024, 8)? == 1);
+    assert!(rt; outs_after(rt.alloc(), 1024, 9)? == 0);
     Ok(())
 }

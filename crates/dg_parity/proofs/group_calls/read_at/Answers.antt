@@ -1,7 +1,9 @@
 use Rattle.std.proofs.Common.{◌+◌, length, refl, ap, ◌∙◌}
-use Rattle.std.specs.Prelude.{not}
+use Rattle.std.specs.Prelude.{Option, not}
 use Rattle.dg_io.specs.Told.{IsSame, Reads}
-use Rattle.dg_parity.proofs.ArrayLemmas.{fails-past, none-back, served-call, serves-is, steps-one, told-own}
+use Rattle.dg_parity.proofs.ArrayLemmas.{calls-at, fails-past, none-back, served-call, serves-is, steps-one, told-own}
+use Rattle.dg_parity.specs.ArrayCalls.{reads_of}
+use Rattle.dg_parity.specs.declared.groups.Group.{Group}
 use Rattle.dg_parity.proofs.group_calls.read_at.Goals as goal
 
 pub returns-then-not-read-clause-steps : goal.returns-then-not-read-clause-steps
@@ -66,3 +68,17 @@ returns-clause-same g c =
     served-call g.R.Rack c.args.member c.args.groups.now.len c.args.groups.now.items c.in-Some.group.now c.read.new.group c.args.rack.now c.read.new.rack c.if-member-ne0.false c.requires.kept
     c.args.groups.now.ok.0 (c.in-Some.ensures.variant.0 refl) c.in-Some.ensures.value c.read.ensures.kept c.read.ensures.leaves c.read.ensures.idle c.read.ensures.silent in
     told-own h.call IsSame c.read.ensures.same
+
+pub returns-then-not-read-clause-calls : goal.returns-then-not-read-clause-calls
+returns-then-not-read-clause-calls g c =
+    let h =
+    served-call g.R.Rack c.args.member c.args.groups.now.len c.args.groups.now.items c.in-Some.group.now c.read.new.group c.args.rack.now c.read.new.rack c.if-member-ne0.false c.requires.kept
+    c.args.groups.now.ok.0 (c.in-Some.ensures.variant.0 refl) c.in-Some.ensures.value c.read.ensures.kept c.read.ensures.leaves c.read.ensures.idle c.read.ensures.silent in
+    calls-at h.call (λ (o : Option Group). reads_of o c.args.place (length c.args.buf.now)) c.read.ensures.calls
+
+pub returns-clause-calls : goal.returns-clause-calls
+returns-clause-calls g c =
+    let h =
+    served-call g.R.Rack c.args.member c.args.groups.now.len c.args.groups.now.items c.in-Some.group.now c.read.new.group c.args.rack.now c.read.new.rack c.if-member-ne0.false c.requires.kept
+    c.args.groups.now.ok.0 (c.in-Some.ensures.variant.0 refl) c.in-Some.ensures.value c.read.ensures.kept c.read.ensures.leaves c.read.ensures.idle c.read.ensures.silent in
+    calls-at h.call (λ (o : Option Group). reads_of o c.args.place (length c.args.buf.now)) c.read.ensures.calls

@@ -1,7 +1,9 @@
 use Rattle.std.proofs.Common.{◌+◌, length, refl, ap, ◌∙◌}
-use Rattle.std.specs.Prelude.{not}
+use Rattle.std.specs.Prelude.{Option, not}
 use Rattle.dg_io.specs.Told.{Patched, Torn}
-use Rattle.dg_parity.proofs.ArrayLemmas.{fails-past, none-back, served-call, serves-is, steps-one, told-own}
+use Rattle.dg_parity.proofs.ArrayLemmas.{calls-at, fails-past, none-back, served-call, serves-is, steps-one, told-own}
+use Rattle.dg_parity.specs.ArrayCalls.{writes_of}
+use Rattle.dg_parity.specs.declared.groups.Group.{Group}
 use Rattle.dg_parity.proofs.group_calls.write_at.Goals as goal
 
 pub returns-then-not-write-clause-steps : goal.returns-then-not-write-clause-steps
@@ -59,3 +61,17 @@ returns-clause-ok g c =
     served-call g.R.Rack c.args.member c.args.groups.now.len c.args.groups.now.items c.in-Some.group.now c.write.new.group c.args.rack.now c.write.new.rack c.if-member-ne0.false c.requires.kept
     c.args.groups.now.ok.0 (c.in-Some.ensures.variant.0 refl) c.in-Some.ensures.value c.write.ensures.kept c.write.ensures.leaves c.write.ensures.idle c.write.ensures.silent in
     told-own h.call (Patched c.args.place c.args.piece.now) c.if-not-write.ensures.ok
+
+pub returns-then-not-write-clause-calls : goal.returns-then-not-write-clause-calls
+returns-then-not-write-clause-calls g c =
+    let h =
+    served-call g.R.Rack c.args.member c.args.groups.now.len c.args.groups.now.items c.in-Some.group.now c.write.new.group c.args.rack.now c.write.new.rack c.if-member-ne0.false c.requires.kept
+    c.args.groups.now.ok.0 (c.in-Some.ensures.variant.0 refl) c.in-Some.ensures.value c.write.ensures.kept c.write.ensures.leaves c.write.ensures.idle c.write.ensures.silent in
+    calls-at h.call (λ (o : Option Group). writes_of o c.args.place (length c.args.piece.now)) c.write.ensures.calls
+
+pub returns-clause-calls : goal.returns-clause-calls
+returns-clause-calls g c =
+    let h =
+    served-call g.R.Rack c.args.member c.args.groups.now.len c.args.groups.now.items c.in-Some.group.now c.write.new.group c.args.rack.now c.write.new.rack c.if-member-ne0.false c.requires.kept
+    c.args.groups.now.ok.0 (c.in-Some.ensures.variant.0 refl) c.in-Some.ensures.value c.write.ensures.kept c.write.ensures.leaves c.write.ensures.idle c.write.ensures.silent in
+    calls-at h.call (λ (o : Option Group). writes_of o c.args.place (length c.args.piece.now)) c.write.ensures.calls

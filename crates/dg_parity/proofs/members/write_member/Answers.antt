@@ -1,34 +1,102 @@
-use Rattle.std.proofs.Common.{◌+◌, length, take, refl, arith}
+use Rattle.std.proofs.Common.{◌≡◌, ◌+◌, ◌-◌, ◌*◌, ◌/◌, ◌<◌, ◌≤◌, ◌⊎◌, ℕ, List, length, take, drop, true, inl, inr, refl, sym, ap, subst, ◌∙◌, arith}
 use Rattle.dg_io.specs.Told.{patch}
-use Rattle.dg_parity.proofs.CountLemmas.{calls-next, calls-last, calls-end}
-use Rattle.dg_parity.proofs.GroupLemmas.{leaves-then}
+use Rattle.dg_parity.specs.Runs.{begins, passes_in, reads_at}
+use Rattle.dg_parity.specs.Stripes.{stripe_of}
+use Rattle.std.proofs.lemmas.List.{length-take-le, length-drop}
+use Rattle.dg_parity.specs.Groups.{MostCalls, StandsFor}
+use Rattle.dg_parity.proofs.GroupLemmas.{leaves-then, leaves-none}
 use Rattle.dg_parity.proofs.CallLemmas.{told-back}
 use Rattle.dg_parity.proofs.MemberSteps.{stands-next, stands-length, not-true}
+use Rattle.dg_parity.proofs.RunSteps.{pass-next}
+use Rattle.dg_parity.proofs.LaidSteps.{patch-none}
+use Rattle.dg_parity.proofs.WriteSteps.{IsPut, put-none, put-next, cut-next}
 use Rattle.dg_parity.proofs.members.write_member.Goals as goal
 
-pub loop-done-preserved : goal.loop-done-preserved
-loop-done-preserved g c = record {
-  within = omega (arith, c.in_chunk-part.ensures.most);
-  calls = calls-next (c.args.group.now.disks + 4) c.args.place c.loop-done.done (length c.args.buf.now) (length c.args.buf.now) c.in_chunk-part.result _ _ _ refl
-      (c.in_chunk-part.ensures.least (omega arith)) c.in_chunk-part.ensures.most c.in_chunk-part.ensures.whole
-      (omega (arith, c.write_chunk.ensures.calls, c.loop-done.invariant.leaves.later.disks)) c.loop-done.invariant.calls;
-  alive = not-true _ c.if-not-write_chunk.ensures.alive;
-  leaves = leaves-then g.R.Rack _ _ _ _ _ _ c.loop-done.invariant.leaves c.write_chunk.ensures.leaves;
-  put = λ bytes all h.
-      let back = told-back g.R.Rack _ _ _ _ c.write_chunk.ensures.leaves all in
-      stands-next g.R.Rack c.write_chunk.new.group c.write_chunk.new.rack bytes c.args.buf.now c.args.place c.loop-done.done c.in_chunk-part.result
-      (omega (arith, c.in_chunk-part.ensures.most)) (omega (arith, stands-length g.R.Rack c.args.group.now c.args.rack.now bytes h, c.requires.range))
-      (c.if-not-write_chunk.ensures.put (patch bytes c.args.place (take c.loop-done.done c.args.buf.now)) all (c.loop-done.invariant.put bytes back h));
+pub loop-done-init : goal.loop-done-init
+loop-done-init g c = record {
+  within = omega arith;
+  alive = c.requires.alive;
+  calls = subst (λ (l : ℕ). IsPut c.args.group.now.disks c.args.place (length c.args.buf.now) (g.R.Rack.counts c.args.rack.now).calls (g.R.Rack.counts c.args.rack.now).calls
+      (passes_in c.args.group.now.disks c.args.place (length c.args.buf.now)) (passes_in c.args.group.now.disks (c.args.place + 0) l) 0)
+      (let e : length c.args.buf.now ≡ length c.args.buf.now - 0 = omega arith in e)
+      (subst (λ (b : ℕ). IsPut c.args.group.now.disks c.args.place (length c.args.buf.now) (g.R.Rack.counts c.args.rack.now).calls (g.R.Rack.counts c.args.rack.now).calls
+      (passes_in c.args.group.now.disks c.args.place (length c.args.buf.now)) (passes_in c.args.group.now.disks b (length c.args.buf.now)) 0)
+      (let e : c.args.place ≡ c.args.place + 0 = omega arith in e)
+      (put-none c.args.group.now.disks c.args.place (length c.args.buf.now) (g.R.Rack.counts c.args.rack.now).calls (passes_in c.args.group.now.disks c.args.place (length c.args.buf.now))));
+  leaves = leaves-none g.R.Rack c.args.group.now c.args.rack.now c.requires.ready;
+  put = λ bytes all h. subst (λ (l : List ℕ). StandsFor g.R.Rack c.args.group.now c.args.rack.now l)
+      (sym (patch-none bytes c.args.place (omega (arith, stands-length g.R.Rack c.args.group.now c.args.rack.now bytes h, c.requires.range)))) h;
 }
 
-pub returns-then-not-write_chunk-clause-calls : goal.returns-then-not-write_chunk-clause-calls
-returns-then-not-write_chunk-clause-calls g c =
-    calls-last (c.args.group.now.disks + 4) c.args.place c.loop-done.done (length c.args.buf.now) (length c.args.buf.now) c.in_chunk-part.result _ _ _ refl
-    (c.in_chunk-part.ensures.least (omega arith)) c.in_chunk-part.ensures.most c.in_chunk-part.ensures.whole
-    (omega (arith, c.write_chunk.ensures.calls, c.loop-done.invariant.leaves.later.disks)) c.loop-done.invariant.calls
+pub loop-done-preserved : goal.loop-done-preserved
+loop-done-preserved g c =
+    let done = c.loop-done.done in
+    let part = c.in_window-part.result in
+    let n = c.args.group.now.disks in
+    let disks = c.loop-done.invariant.leaves.later.disks in
+    let size : length (take (done + part - done) (drop done c.args.buf.now)) ≡ part =
+    length-take-le (done + part - done) (drop done c.args.buf.now) (omega (arith, length-drop done c.args.buf.now, c.in_window-part.ensures.most)) ∙ omega arith in
+    let more =
+    pass-next n c.args.place done (length c.args.buf.now) (length c.args.buf.now) part refl c.args.group.now.least
+    (c.in_window-part.ensures.some (omega arith)) c.in_window-part.ensures.most
+    (subst (λ (m : ℕ). (part ≡ length c.args.buf.now - done) ⊎ (stripe_of m ((c.args.place + done + part) / 512) ≡ stripe_of m ((c.args.place + done) / 512) + 16)) disks
+    c.in_window-part.ensures.whole) in
+    let call =
+    subst (λ (k : ℕ). MostCalls g.R.Rack (reads_at n (c.args.place + done) + reads_at n k + n) c.loop-done.rack c.write_window.new.rack) (omega (arith, size))
+    (subst (λ (m : ℕ). MostCalls g.R.Rack (reads_at m (c.args.place + done) + reads_at m (c.args.place + done + length (take (done + part - done) (drop done c.args.buf.now))) + m)
+    c.loop-done.rack c.write_window.new.rack) disks c.write_window.ensures.calls) in
+    let next =
+    put-next n c.args.place (length c.args.buf.now) _ _ _ _ _ _ done part (omega arith) (c.in_window-part.ensures.some (omega arith)) (omega (arith, c.in_window-part.ensures.most)) more
+    (cut-next n c.args.place done part (length c.args.buf.now) (omega arith)
+    (subst (λ (m : ℕ). (part ≡ length c.args.buf.now - done) ⊎ (begins m (c.args.place + done + part) ≡ true)) disks c.in_window-part.ensures.begins))
+    call c.loop-done.invariant.calls in
+    record {
+      within = omega (arith, c.in_window-part.ensures.most);
+      calls = next;
+      alive = not-true _ c.if-not-write_window.ensures.alive;
+      leaves = leaves-then g.R.Rack _ _ _ _ _ _ c.loop-done.invariant.leaves c.write_window.ensures.leaves;
+      put = λ bytes all h.
+          let back = told-back g.R.Rack _ _ _ _ c.write_window.ensures.leaves all in
+          stands-next g.R.Rack c.write_window.new.group c.write_window.new.rack bytes c.args.buf.now c.args.place c.loop-done.done c.in_window-part.result
+          (omega (arith, c.in_window-part.ensures.most)) (omega (arith, stands-length g.R.Rack c.args.group.now c.args.rack.now bytes h, c.requires.range))
+          (c.if-not-write_window.ensures.put (patch bytes c.args.place (take c.loop-done.done c.args.buf.now)) all (c.loop-done.invariant.put bytes back h));
+    }
+
+pub returns-then-not-write_window-clause-calls : goal.returns-then-not-write_window-clause-calls
+returns-then-not-write_window-clause-calls g c =
+    let done = c.loop-done.done in
+    let part = c.in_window-part.result in
+    let n = c.args.group.now.disks in
+    let disks = c.loop-done.invariant.leaves.later.disks in
+    let size : length (take (done + part - done) (drop done c.args.buf.now)) ≡ part =
+    length-take-le (done + part - done) (drop done c.args.buf.now) (omega (arith, length-drop done c.args.buf.now, c.in_window-part.ensures.most)) ∙ omega arith in
+    let more =
+    pass-next n c.args.place done (length c.args.buf.now) (length c.args.buf.now) part refl c.args.group.now.least
+    (c.in_window-part.ensures.some (omega arith)) c.in_window-part.ensures.most
+    (subst (λ (m : ℕ). (part ≡ length c.args.buf.now - done) ⊎ (stripe_of m ((c.args.place + done + part) / 512) ≡ stripe_of m ((c.args.place + done) / 512) + 16)) disks
+    c.in_window-part.ensures.whole) in
+    let call =
+    subst (λ (k : ℕ). MostCalls g.R.Rack (reads_at n (c.args.place + done) + reads_at n k + n) c.loop-done.rack c.write_window.new.rack) (omega (arith, size))
+    (subst (λ (m : ℕ). MostCalls g.R.Rack (reads_at m (c.args.place + done) + reads_at m (c.args.place + done + length (take (done + part - done) (drop done c.args.buf.now))) + m)
+    c.loop-done.rack c.write_window.new.rack) disks c.write_window.ensures.calls) in
+    let next =
+    put-next n c.args.place (length c.args.buf.now) _ _ _ _ _ _ done part (omega arith) (c.in_window-part.ensures.some (omega arith)) (omega (arith, c.in_window-part.ensures.most)) more
+    (cut-next n c.args.place done part (length c.args.buf.now) (omega arith)
+    (subst (λ (m : ℕ). (part ≡ length c.args.buf.now - done) ⊎ (begins m (c.args.place + done + part) ≡ true)) disks c.in_window-part.ensures.begins))
+    call c.loop-done.invariant.calls in
+    omega (arith, next.most)
 
 pub returns-clause-calls : goal.returns-clause-calls
-returns-clause-calls g c = calls-end _ _ _ c.loop-done.invariant.calls
+returns-clause-calls g c = omega (arith, c.loop-done.invariant.calls.most)
 
-pub returns-then-not-write_chunk-clause-leaves : goal.returns-then-not-write_chunk-clause-leaves
-returns-then-not-write_chunk-clause-leaves g c = leaves-then g.R.Rack _ _ _ _ _ _ c.loop-done.invariant.leaves c.write_chunk.ensures.leaves
+pub returns-then-not-write_window-clause-leaves : goal.returns-then-not-write_window-clause-leaves
+returns-then-not-write_window-clause-leaves g c = leaves-then g.R.Rack _ _ _ _ _ _ c.loop-done.invariant.leaves c.write_window.ensures.leaves
+
+pub write_window-requires-clause-window : goal.write_window-requires-clause-window
+write_window-requires-clause-window g c =
+    let done = c.loop-done.done in
+    let part = c.in_window-part.result in
+    let size : length (take (done + part - done) (drop done c.args.buf.now)) ≡ part =
+    length-take-le (done + part - done) (drop done c.args.buf.now) (omega (arith, length-drop done c.args.buf.now, c.in_window-part.ensures.most)) ∙ omega arith in
+    subst (λ (k : ℕ). stripe_of c.loop-done.group.disks ((c.args.place + done + (k - 1)) / 512) < stripe_of c.loop-done.group.disks ((c.args.place + done) / 512) + 16) (sym size)
+    (c.in_window-part.ensures.window (part - 1) (omega (arith, c.in_window-part.ensures.some (omega arith))))

@@ -1,15 +1,16 @@
-use Rattle.std.proofs.Common.{◌≡◌, ◌+◌, ◌-◌, ◌*◌, ◌≤◌, ℕ, List, false, length, take}
+use Rattle.std.proofs.Common.{◌≡◌, ◌+◌, ◌-◌, ◌≤◌, ℕ, List, false, length, take}
 use Rattle.dg_io.specs.Told.{patch}
-use Rattle.dg_parity.specs.Stripes.{chunks_in}
 use Rattle.dg_parity.specs.Groups.{is_lost, AllTold, LeavesGroup, StandsFor}
+use Rattle.dg_parity.specs.Runs.{passes_in}
+use Rattle.dg_parity.proofs.WriteSteps.{IsPut}
 use Rattle.dg_parity.proofs.members.write_member.Given as goal
 
 abbrev pub invariant-loop-done : goal.invariant-loop-done
 invariant-loop-done g l = record {
   within : l.done ≤ length l.buf;
   alive : is_lost l.group ≡ false;
-  calls : (g.R.Rack.counts l.rack).calls + (l.fn.group.disks + 4) * chunks_in (l.place + l.done) (length l.buf - l.done)
-      ≤ (g.R.Rack.counts l.fn.rack).calls + (l.fn.group.disks + 4) * chunks_in l.place (length l.buf);
+  calls : IsPut l.fn.group.disks l.place (length l.buf) (g.R.Rack.counts l.fn.rack).calls (g.R.Rack.counts l.rack).calls
+      (passes_in l.fn.group.disks l.place (length l.buf)) (passes_in l.fn.group.disks (l.place + l.done) (length l.buf - l.done)) l.done;
   leaves : LeavesGroup g.R.Rack l.fn.group l.group l.fn.rack l.rack;
   put : (bytes : List ℕ) → AllTold g.R.Rack l.group l.rack → StandsFor g.R.Rack l.fn.group l.fn.rack bytes
       → StandsFor g.R.Rack l.group l.rack (patch bytes l.place (take l.done l.buf));

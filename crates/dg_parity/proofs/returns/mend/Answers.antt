@@ -1,4 +1,6 @@
-use Rattle.std.proofs.Common.{sym, ap, ◌∙◌}
+use Rattle.std.proofs.Common.{◌≡◌, ◌*◌, ℕ, arith, sym, ap, ◌∙◌}
+use Rattle.dg_parity.specs.Stripes.{stripes_of}
+use Rattle.dg_parity.specs.Runs.{runs_of}
 use Rattle.dg_parity.specs.declared.groups.Group.{Group}
 use Rattle.dg_parity.proofs.MendLemmas.{Unmarks, mended-ready}
 use Rattle.dg_parity.proofs.ReturnLemmas.{returned-of, returned-kept, returned-same, unfilled-kept, unfilled-same}
@@ -117,3 +119,33 @@ pub returns-clause-leaves : goal.returns-clause-leaves
 returns-clause-leaves g c =
     returned-others g.R.Rack c.args.j c.args.group.now c.fill_disk.new.group c.unmark.new.self c.note.new.group c.args.rack.now c.fill_disk.new.rack c.note.new.rack c.requires.disk
     c.fill_disk.ensures.leaves (record { number = c.unmark.ensures.same.number; disks = c.unmark.ensures.same.disks; size = c.unmark.ensures.same.size; sure = c.unmark.ensures.same.sure; back = c.unmark.ensures.out; others = c.unmark.ensures.others; noted = c.unmark.ensures.noted }) c.note.ensures.leaves
+
+pub returns-then-not-fill_disk-clause-calls : goal.returns-then-not-fill_disk-clause-calls
+returns-then-not-fill_disk-clause-calls g c =
+    let runs : c.args.group.now.disks * runs_of c.stripes-count.result ≡ c.args.group.now.disks * runs_of (stripes_of c.args.group.now.disks c.args.group.now.length) =
+    ap (λ (k : ℕ). c.args.group.now.disks * runs_of k) c.stripes-count.ensures in
+    omega (arith, c.fill_disk.ensures.calls, runs)
+
+pub returns-then-is_lost-2-clause-calls : goal.returns-then-is_lost-2-clause-calls
+returns-then-is_lost-2-clause-calls g c =
+    let runs : c.args.group.now.disks * runs_of c.stripes-count.result ≡ c.args.group.now.disks * runs_of (stripes_of c.args.group.now.disks c.args.group.now.length) =
+    ap (λ (k : ℕ). c.args.group.now.disks * runs_of k) c.stripes-count.ensures in
+    omega (arith, c.fill_disk.ensures.calls, runs)
+
+pub returns-then-is_lost-3-clause-calls : goal.returns-then-is_lost-3-clause-calls
+returns-then-is_lost-3-clause-calls g c =
+    let runs : c.args.group.now.disks * runs_of c.stripes-count.result ≡ c.args.group.now.disks * runs_of (stripes_of c.args.group.now.disks c.args.group.now.length) =
+    ap (λ (k : ℕ). c.args.group.now.disks * runs_of k) c.stripes-count.ensures in
+    omega (arith, c.fill_disk.ensures.calls, runs, c.note.ensures.calls, c.unmark.ensures.same.disks, c.fill_disk.ensures.leaves.later.disks)
+
+pub returns-then-is_out-clause-calls : goal.returns-then-is_out-clause-calls
+returns-then-is_out-clause-calls g c =
+    let runs : c.args.group.now.disks * runs_of c.stripes-count.result ≡ c.args.group.now.disks * runs_of (stripes_of c.args.group.now.disks c.args.group.now.length) =
+    ap (λ (k : ℕ). c.args.group.now.disks * runs_of k) c.stripes-count.ensures in
+    omega (arith, c.fill_disk.ensures.calls, runs, c.note.ensures.calls, c.unmark.ensures.same.disks, c.fill_disk.ensures.leaves.later.disks)
+
+pub returns-clause-calls : goal.returns-clause-calls
+returns-clause-calls g c =
+    let runs : c.args.group.now.disks * runs_of c.stripes-count.result ≡ c.args.group.now.disks * runs_of (stripes_of c.args.group.now.disks c.args.group.now.length) =
+    ap (λ (k : ℕ). c.args.group.now.disks * runs_of k) c.stripes-count.ensures in
+    omega (arith, c.fill_disk.ensures.calls, runs, c.note.ensures.calls, c.unmark.ensures.same.disks, c.fill_disk.ensures.leaves.later.disks)

@@ -1,6 +1,5 @@
 use Rattle.std.proofs.Common.{◌+◌, ◌≤◌, ℕ, length, sym, subst, ◌∙◌, arith}
-use Rattle.dg_parity.specs.Stripes.{chunks_in}
-use Rattle.dg_parity.proofs.CountLemmas.{calls-written, calls-first}
+use Rattle.dg_parity.proofs.WriteSteps.{put-noted}
 use Rattle.dg_io.specs.Told.{patch}
 use Rattle.dg_parity.proofs.GroupLemmas.{leaves-then}
 use Rattle.dg_parity.proofs.CallLemmas.{told-back}
@@ -36,19 +35,18 @@ returns-clause-put g c bytes all h =
     (stands-noted g.R.Rack c.args.group.now c.note.new.group c.args.rack.now c.note.new.rack c.note.ensures.leaves c.note.ensures.holds bytes first h))
 
 pub returns-then-is_lost-clause-calls : goal.returns-then-is_lost-clause-calls
-returns-then-is_lost-clause-calls g c = calls-first _ _ _ _ c.note.ensures.calls
+returns-then-is_lost-clause-calls g c = omega (arith, c.note.ensures.calls)
 
 pub returns-then-not-write_member-clause-calls : goal.returns-then-not-write_member-clause-calls
 returns-then-not-write_member-clause-calls g c =
-    calls-written _ _ _ _ _ _ _ (chunks_in c.args.place (length c.args.piece.now)) c.note.ensures.leaves.later.disks c.note.ensures.leaves.later.disks
-    c.note.ensures.calls c.write_member.ensures.calls (omega arith)
+    put-noted _ _ _ _ _ _ _ c.args.place (length c.args.piece.now) c.note.ensures.leaves.later.disks c.note.ensures.leaves.later.disks c.note.ensures.calls c.write_member.ensures.calls (omega arith)
 
 pub returns-then-is_lost-2-clause-calls : goal.returns-then-is_lost-2-clause-calls
 returns-then-is_lost-2-clause-calls g c =
-    calls-written _ _ _ _ _ _ _ (chunks_in c.args.place (length c.args.piece.now)) c.note.ensures.leaves.later.disks
-    (c.write_member.ensures.leaves.later.disks ∙ c.note.ensures.leaves.later.disks) c.note.ensures.calls c.write_member.ensures.calls c.note-2.ensures.calls
+    put-noted _ _ _ _ _ _ _ c.args.place (length c.args.piece.now) c.note.ensures.leaves.later.disks (c.write_member.ensures.leaves.later.disks ∙ c.note.ensures.leaves.later.disks)
+    c.note.ensures.calls c.write_member.ensures.calls c.note-2.ensures.calls
 
 pub returns-clause-calls : goal.returns-clause-calls
 returns-clause-calls g c =
-    calls-written _ _ _ _ _ _ _ (chunks_in c.args.place (length c.args.piece.now)) c.note.ensures.leaves.later.disks
-    (c.write_member.ensures.leaves.later.disks ∙ c.note.ensures.leaves.later.disks) c.note.ensures.calls c.write_member.ensures.calls c.note-2.ensures.calls
+    put-noted _ _ _ _ _ _ _ c.args.place (length c.args.piece.now) c.note.ensures.leaves.later.disks (c.write_member.ensures.leaves.later.disks ∙ c.note.ensures.leaves.later.disks)
+    c.note.ensures.calls c.write_member.ensures.calls c.note-2.ensures.calls

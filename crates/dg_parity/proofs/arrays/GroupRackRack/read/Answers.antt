@@ -4,7 +4,9 @@ use Rattle.dg_io.specs.RackCalls.RackCall.{calls}
 use Rattle.dg_io.specs.RackWords.{Leaves}
 use Rattle.dg_io.specs.Told.{IsSame, Reads, Told}
 use Rattle.dg_parity.proofs.ArraySteps.{held_after, leaves_grouped, made_grouped, tally_of}
-use Rattle.dg_parity.specs.Arrays.{Grouped, GroupedMade, grouped_bytes, grouped_words, IsShaped, serves, size_at}
+use Rattle.dg_parity.specs.ArrayCalls.{reads_of}
+use Rattle.dg_parity.specs.Groups.{MostCalls}
+use Rattle.dg_parity.specs.Arrays.{group_at, Grouped, GroupedMade, grouped_bytes, grouped_words, IsShaped, serves, size_at}
 use Rattle.dg_parity.proofs.arrays.GroupRackRack.read.Goals as goal
 
 pub read_at-result-requires : goal.read_at-result-requires
@@ -70,3 +72,8 @@ pub returns-clause-fails : goal.returns-clause-fails
 returns-clause-fails g c =
     subst (λ (s : Grouped g.row.R.Denot). OnErr c.read_at-result.result ((serves c.read_at-result.new.groups.items c.args.member ≡ false) ⊎ (size_at s.groups c.args.member < c.args.place + length c.args.buf.now))) c.self.view_is
     c.read_at-result.ensures.fails
+
+pub returns-clause-calls : goal.returns-clause-calls
+returns-clause-calls g c =
+    subst (λ (s : Grouped g.row.R.Denot). MostCalls g.R.Rack (reads_of (group_at s.groups c.args.member) c.args.place (length c.args.buf.now)) s.rack c.read_at-result.new.rack) c.self.view_is
+    c.read_at-result.ensures.calls

@@ -5,7 +5,9 @@ use Rattle.dg_io.specs.RackWords.{Leaves}
 use Rattle.dg_io.specs.Told.{IsHeader, OldOrNew, Patched, Told, Torn}
 use Rattle.dg_model.specs.Causes.{RoseByOne}
 use Rattle.dg_parity.proofs.ArraySteps.{err_on, held_after, leaves_grouped, made_grouped, tally_of}
-use Rattle.dg_parity.specs.Arrays.{Grouped, GroupedMade, grouped_bytes, grouped_words, IsShaped, serves, size_at}
+use Rattle.dg_parity.specs.ArrayCalls.{writes_of}
+use Rattle.dg_parity.specs.Groups.{MostCalls}
+use Rattle.dg_parity.specs.Arrays.{group_at, Grouped, GroupedMade, grouped_bytes, grouped_words, IsShaped, serves, size_at}
 use Rattle.dg_parity.proofs.arrays.GroupRackRack.write.Goals as goal
 
 pub write_at-result-requires : goal.write_at-result-requires
@@ -80,3 +82,8 @@ pub returns-clause-fails : goal.returns-clause-fails
 returns-clause-fails g c =
     subst (λ (s : Grouped g.row.R.Denot). OnErr c.write_at-result.result ((serves c.write_at-result.new.groups.items c.args.member ≡ false) ⊎ (size_at s.groups c.args.member < c.args.place + length c.args.buf.now))) c.self.view_is
     c.write_at-result.ensures.fails
+
+pub returns-clause-calls : goal.returns-clause-calls
+returns-clause-calls g c =
+    subst (λ (s : Grouped g.row.R.Denot). MostCalls g.R.Rack (writes_of (group_at s.groups c.args.member) c.args.place (length c.args.buf.now)) s.rack c.write_at-result.new.rack) c.self.view_is
+    c.write_at-result.ensures.calls

@@ -3,6 +3,7 @@ use Rattle.std.specs.Prelude.{IfSome, OnOk, length, Some, OnErr}
 use Rattle.dg_io.specs.RackCalls.RackCall.{calls}
 use Rattle.dg_io.specs.RackWords.{Leaves}
 use Rattle.dg_io.specs.Told.{IsSame, Reads, Told}
+use Rattle.dg_parity.specs.ArrayCalls.{ReadsBehind}
 use Rattle.dg_parity.specs.ParityLaws.{grouped_leaves, grouped_made, plain_made, plain_leaves}
 use Rattle.dg_parity.specs.ParityRacks.{ParityMade, parity_bytes, parity_counts, parity_stands, parity_words, IsServed, IsShaped, IsUnserved, IsPast}
 use Rattle.dg_parity.specs.declared.parity_racks.ParityRack.{ParityRack}
@@ -76,3 +77,10 @@ returns-in-Plain-clause-fails g c =
 pub returns-in-OfGroups-clause-fails : goal.returns-in-OfGroups-clause-fails
 returns-in-OfGroups-clause-fails g c =
     subst (λ (s : ParityRack g.row.R.Denot). OnErr c.read-in-OfGroups.result (IsUnserved (OfGroups c.read-in-OfGroups.new.self) c.args.member ⊎ IsPast s c.args.member (c.args.place + length c.args.buf.now))) (sym c.in-OfGroups.is) c.read-in-OfGroups.ensures.fails
+
+pub returns-in-Plain-clause-calls : goal.returns-in-Plain-clause-calls
+returns-in-Plain-clause-calls g c = subst (λ (s : ParityRack g.row.R.Denot). ReadsBehind g.R.Rack s (Plain c.read.new.self) c.args.member c.args.place (length c.args.buf.now)) (sym c.in-Plain.is) tt
+
+pub returns-in-OfGroups-clause-calls : goal.returns-in-OfGroups-clause-calls
+returns-in-OfGroups-clause-calls g c =
+    subst (λ (s : ParityRack g.row.R.Denot). ReadsBehind g.R.Rack s (OfGroups c.read-in-OfGroups.new.self) c.args.member c.args.place (length c.args.buf.now)) (sym c.in-OfGroups.is) c.read-in-OfGroups.ensures.calls

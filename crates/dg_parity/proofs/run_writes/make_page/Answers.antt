@@ -1,0 +1,27 @@
+use Rattle.std.proofs.Common.{◌≡◌, ◌+◌, ◌*◌, ◌<◌, ℕ, false, true, length, sym, ap, ◌∙◌, arith, bit_xor}
+use Rattle.std.proofs.lemmas.Bool.{false≢true}
+use Rattle.std.specs.Int.Bits.{xor_zero_l}
+use Rattle.dg_io.specs.Told.{patch}
+use Rattle.dg_parity.specs.Exclusive.{xor_upto}
+use Rattle.dg_parity.specs.Groups.{is_out}
+use Rattle.dg_parity.specs.Runs.{term_of}
+use Rattle.dg_parity.proofs.LaidLemmas.{page-made}
+use Rattle.dg_parity.proofs.run_writes.make_page.Goals as goal
+
+pub returns-then-is_out-clause-right : goal.returns-then-is_out-clause-right
+returns-then-is_out-clause-right g c bytes size all held in0 =
+    absurd (false≢true (sym in0 ∙ ap (is_out c.args.group.now) (sym c.parity_on.ensures) ∙ sym c.is_out.ensures ∙ c.if-is_out.true))
+
+pub returns-clause-right : goal.returns-clause-right
+returns-clause-right g c bytes size all held in0 r lt =
+    c.if-not-add_terms.ensures.added bytes size all held r lt
+    ∙ ap (λ (k : ℕ). bit_xor k (xor_upto (term_of c.args.group.now.disks c.args.t c.is_by_change-by_change.result bytes (patch bytes c.args.at c.args.piece.now) r) c.args.group.now.disks))
+    (c.clear.ensures r (omega (arith, lt, c.requires.page)))
+    ∙ xor_zero_l _
+    ∙ page-made c.args.group.now.disks c.args.t r c.is_by_change-by_change.result bytes (patch bytes c.args.at c.args.piece.now) (omega (arith, c.args.group.now.least)) lt
+
+pub returns-then-not-add_terms-clause-whole : goal.returns-then-not-add_terms-clause-whole
+returns-then-not-add_terms-clause-whole g c whole = c.add_terms.ensures.idle (c.is_by_change-by_change.ensures.whole whole) whole
+
+pub returns-clause-whole : goal.returns-clause-whole
+returns-clause-whole g c whole = c.add_terms.ensures.idle (c.is_by_change-by_change.ensures.whole whole) whole

@@ -1,0 +1,52 @@
+use Rattle.std.proofs.Common.{◌+◌, ◌<◌, ◌≡◌, ℕ, List, length, refl, sym, subst, ◌∙◌, arith}
+use Rattle.dg_io.specs.Told.{patch}
+use Rattle.dg_parity.specs.Groups.{is_out, Holds}
+use Rattle.dg_parity.specs.Runs.{mixed, ArePages, IsWindow}
+use Rattle.dg_parity.proofs.GroupLemmas.{leaves-then, leaves-none, in-before}
+use Rattle.dg_parity.proofs.CallLemmas.{told-back}
+use Rattle.dg_parity.proofs.LaidSteps.{laid-mixed, mixed-laid}
+use Rattle.dg_parity.proofs.run_writes.write_rows.Goals as goal
+
+pub write_row-requires : goal.write_row-requires
+write_row-requires g c =
+    let later = c.loop-j.invariant.leaves.later in
+    record {
+      ready = c.loop-j.invariant.leaves.ready;
+      disk = subst (λ (n : ℕ). c.loop-j.j < n) (sym later.disks) (omega arith);
+      some = c.requires.some;
+      range = omega (arith, c.requires.range, later.size);
+      window = subst (λ (n : ℕ). IsWindow n c.args.at (length c.args.piece.now) c.args.window) (sym later.disks) c.requires.window;
+      room = c.requires.room;
+    }
+
+pub loop-j-init : goal.loop-j-init
+loop-j-init g c = record {
+  end = refl;
+  leaves = leaves-none g.R.Rack c.args.group.now c.args.rack.now c.requires.ready;
+  put = λ bytes size all pages held. laid-mixed g.R.Rack c.args.group.now c.args.rack.now c.args.group.now.disks bytes (patch bytes c.args.at c.args.piece.now) held;
+  calls = omega arith;
+}
+
+pub loop-j-preserved : goal.loop-j-preserved
+loop-j-preserved g c =
+    let later = c.loop-j.invariant.leaves.later in
+    record {
+      end = refl;
+      leaves = leaves-then g.R.Rack _ _ _ _ _ _ c.loop-j.invariant.leaves c.write_row.ensures.leaves;
+      put = λ bytes size all pages held.
+          let next = patch bytes c.args.at c.args.piece.now in
+          let back = told-back g.R.Rack _ _ _ _ c.write_row.ensures.leaves all in
+          subst (λ (n : ℕ). Holds g.R.Rack c.write_row.new.group c.write_row.new.rack (mixed n bytes next (c.loop-j.j + 1))) later.disks
+          (c.write_row.ensures.put bytes (size ∙ sym later.size) all
+          (subst (λ (n : ℕ). ArePages n c.args.window.first c.args.window.count (is_out c.loop-j.group) next c.args.parities.now) (sym later.disks)
+          (λ q r within small in0. pages q r within small (in-before c.args.group.now c.loop-j.group _ later in0)))
+          (subst (λ (n : ℕ). Holds g.R.Rack c.loop-j.group c.loop-j.rack (mixed n bytes next c.loop-j.j)) (sym later.disks) (c.loop-j.invariant.put bytes size back pages held)));
+      calls = omega (arith, c.loop-j.invariant.calls, c.write_row.ensures.calls);
+    }
+
+pub returns-clause-put : goal.returns-clause-put
+returns-clause-put g c bytes size all pages held =
+    let end : c.loop-j.j ≡ c.args.group.now.disks = omega arith in
+    mixed-laid g.R.Rack c.loop-j.group c.loop-j.rack c.args.group.now.disks bytes (patch bytes c.args.at c.args.piece.now) c.loop-j.invariant.leaves.later.disks
+    (subst (λ (k : ℕ). Holds g.R.Rack c.loop-j.group c.loop-j.rack (mixed c.args.group.now.disks bytes (patch bytes c.args.at c.args.piece.now) k)) end
+    (c.loop-j.invariant.put bytes size all pages held))

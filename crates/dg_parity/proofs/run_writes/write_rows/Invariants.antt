@@ -1,0 +1,16 @@
+use Rattle.std.proofs.Common.{◌≡◌, ℕ, List, length}
+use Rattle.dg_io.specs.Told.{patch}
+use Rattle.dg_parity.specs.Groups.{is_out, Holds, AllTold, LeavesGroup, MostCalls}
+use Rattle.dg_parity.specs.Runs.{ArePages, laid, mixed}
+use Rattle.dg_parity.proofs.run_writes.write_rows.Given as goal
+
+abbrev pub invariant-loop-j : goal.invariant-loop-j
+invariant-loop-j g l = record {
+  end : l.j-end ≡ l.fn.group.disks;
+  leaves : LeavesGroup g.R.Rack l.fn.group l.group l.fn.rack l.rack;
+  put : (bytes : List ℕ) → length bytes ≡ l.fn.group.length → AllTold g.R.Rack l.group l.rack
+      → ArePages l.fn.group.disks l.window.first l.window.count (is_out l.fn.group) (patch bytes l.at l.piece) l.parities
+      → Holds g.R.Rack l.fn.group l.fn.rack (laid l.fn.group.disks bytes)
+      → Holds g.R.Rack l.group l.rack (mixed l.fn.group.disks bytes (patch bytes l.at l.piece) l.j);
+  calls : MostCalls g.R.Rack l.j l.fn.rack l.rack;
+}
