@@ -41,3 +41,11 @@ TookStep limit input (Line from to) before after = before ≡ line_in input from
 TookStep limit input End before after = (before ≡ []) × (after ≡ [])
 TookStep limit input Full before after = IsFull limit before
 TookStep limit input (Cut n) before after = IsCutOff n before
+
+-- A whole line was taken: it has no more bytes than the longest, its line feed among them, and than the room.
+pub record BeginsWithLine (most room : ℕ) (before after : List ℕ) : Type 0 where
+  pub line : List ℕ
+  pub split : before ≡ line ++ 10 ∷ after
+  pub none : HasNoLineFeed line
+  pub short : length line + 1 ≤ most
+  pub within : length line + 1 ≤ room

@@ -1,5 +1,5 @@
 // Events of the input.
-ghost use Rattle.std.specs.Prelude.{◌≡◌, ◌≤◌, ◌<◌, ◌+◌, ◌++◌, ◌∷◌, [], ℕ, List, Option, length, IfOk, IfSome};
+ghost use Rattle.std.specs.Prelude.{◌≡◌, ◌≤◌, ◌<◌, ◌+◌, ◌++◌, ◌∷◌, [], ℕ, List, Option, length, IfOk, IfSome, OnErr};
 ghost use Rattle.std.specs.Option.{option_copied};
 ghost use Rattle.dg_model.specs.Causes.{Rose};
 ghost use Rattle.dg_model.specs.Shapes.{IsShape};
@@ -8,7 +8,7 @@ ghost use Rattle.dg_model.specs.declared.shapes.Shape.{Shape};
 ghost use Rattle.dg_text.specs.Lines.{longest};
 ghost use Rattle.dg_run.specs.Bytes.{HasNoLineFeed};
 ghost use Rattle.dg_run.specs.Endings.{GaveLines};
-ghost use Rattle.dg_run.specs.Inputs.{ahead, IsCutOff, IsFull};
+ghost use Rattle.dg_run.specs.Inputs.{ahead, BeginsWithLine, IsCutOff, IsFull};
 ghost use Rattle.dg_run.specs.Refusals.{IsRefusedBy};
 ghost use Rattle.dg_run.specs.Events.{IsTaken, TookEvent};
 
@@ -45,6 +45,7 @@ fn judge(alloc: Global, line: &[u8], shape: Option<&Shape>, room: u64) -> Result
     requires short { length line.now + 1 ≤ longest (option_copied shape) }
     ensures is { IfOk result (IsTaken (option_copied shape.entry) room) }
     ensures took { IfOk result (λ taken. (more : List ℕ) → TookEvent (option_copied shape.entry) room taken (line.now ++ 10 ∷ more) more) }
+    ensures within { OnErr result (length line.now + 1 ≤ room) }
 {
     let bytes = line.len() as u64 + 1;
     if bytes > room {
@@ -92,6 +93,8 @@ pub fn take_event<S: Source>(
         (ahead input.new (S.left source.new))) }
     ensures broken { result ≡ Err Fault.Read → Told (GaveLines []) (ahead input.old (S.left source.old)) (S.left source.new) }
     ensures wanting { result ≡ Err Fault.NoMemory → Told AreAny (ahead input.old (S.left source.old)) (S.left source.new) }
+    ensures line { result ≡ Err Fault.NoMemory → Told (BeginsWithLine (longest (option_copied shape.entry)) room)
+        (ahead input.old (S.left source.old)) (ahead input.new (S.left source.new)) }
     ensures later { S.faults source.old ≤ S.faults source.new }
     ensures kept { (result ≡ Err Fault.Read → ⊥) → S.faults source.new ≡ S.faults source.old }
     ensures read { result ≡ Err Fault.Read → Rose (S.faults source.old) (S.faults source.new) }
