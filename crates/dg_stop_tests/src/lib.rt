@@ -4,6 +4,8 @@
 #[cfg(test)]
 mod calls;
 #[cfg(test)]
+mod openings;
+#[cfg(test)]
 mod plain_readings;
 #[cfg(test)]
 mod stops;
