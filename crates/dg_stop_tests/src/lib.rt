@@ -8,6 +8,8 @@ mod openings;
 #[cfg(test)]
 mod plain_readings;
 #[cfg(test)]
+mod stopped_openings;
+#[cfg(test)]
 mod stops;
 #[cfg(test)]
 mod tests;

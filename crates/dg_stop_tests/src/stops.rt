@@ -8,11 +8,11 @@ use dg_stop::StopRack;
 use std::alloc::Global;
 use std::test::Fail;
 
-// What calls left: the bytes of both members behind, and the answers to both commits.
+/// What calls left: the bytes of both members behind, and the answers to both commits.
 #[derive(Drop)]
-struct Left {
-    first: [u8; BEHIND],
-    second: [u8; BEHIND],
+pub struct Left {
+    pub first: [u8; BEHIND],
+    pub second: [u8; BEHIND],
     answers: (CommitAnswer, CommitAnswer),
 }
 
@@ -38,8 +38,8 @@ fn goes_on<R: Checkpoint>(rack: &mut R, writes: bool) -> CommitAnswer {
     commits(rack, b"new!")
 }
 
-// The numbers of so many calls.
-fn calls(alloc: Global, from: u64, count: u64) -> Result<Vec<u64>, Fail> {
+/// The numbers of so many calls.
+pub fn calls(alloc: Global, from: u64, count: u64) -> Result<Vec<u64>, Fail> {
     let mut numbers = Vec::new(alloc);
     for call in from..from.saturating_add(count) {
         numbers.push(call)?;
@@ -59,8 +59,8 @@ fn answers<R: Rack + Drop>(
     Ok((first, second))
 }
 
-// What is left where so many calls fail, from one on.
-fn run(alloc: Global, from: u64, count: u64, writes: bool) -> Result<Left, Fail> {
+/// What is left where so many calls fail, from one on.
+pub fn left_by(alloc: Global, from: u64, count: u64, writes: bool) -> Result<Left, Fail> {
     let mut below = MemRack::new(alloc, 2, BEHIND as u64, calls(alloc, from, count)?)?;
     let answers = answers(alloc, &mut below, writes)?;
     below.mend();
@@ -128,22 +128,29 @@ fn is_made(answer: CommitAnswer) -> bool {
     }
 }
 
+/// What is to be reopened then, by the answers.
+pub fn wanted(left: &Left, writes: bool) -> Expected {
+    if is_made(left.answers.1) {
+        new(writes)
+    } else if is_made(left.answers.0) {
+        old()
+    } else {
+        nothing()
+    }
+}
+
 // How many of the first runs leave no checkpoint, how many the old one, and how many the new one, where all calls from one on fail. `None`
 // where one isn't as its answers say.
 fn stops(alloc: Global, runs: u64, writes: bool) -> Result<Option<(u32, u32, u32)>, Fail> {
     let mut counts = (0u32, 0u32, 0u32);
     for from in 0..runs {
-        let left = run(alloc, from, 64, writes)?;
-        let want = if is_made(left.answers.1) {
-            counts.2 = counts.2.saturating_add(1);
-            new(writes)
-        } else if is_made(left.answers.0) {
-            counts.1 = counts.1.saturating_add(1);
-            old()
-        } else {
-            counts.0 = counts.0.saturating_add(1);
-            nothing()
-        };
+        let left = left_by(alloc, from, 64, writes)?;
+        let want = wanted(&left, writes);
+        match want.sequence {
+            0 => counts.0 = counts.0.saturating_add(1),
+            1 => counts.1 = counts.1.saturating_add(1),
+            _ => counts.2 = counts.2.saturating_add(1),
+        }
         if !is_reopened(&left.first, &left.second, &want) {
             return Ok(None);
         }
@@ -187,7 +194,7 @@ fn falls(call: u64) -> (CommitAnswer, Expected) {
 #[test]
 fn one_call_that_fails(rt: HostRuntime) -> Result<(), Fail> {
     for call in 24..32u64 {
-        let left = run(rt.alloc(), call, 1, true)?;
+        let left = left_by(rt.alloc(), call, 1, true)?;
         let (answer, want) = falls(call);
         assert_eq!(rt; left.answers.1, answer);
         assert!(rt; is_reopened(&left.first, &left.second, &want));
