@@ -379,6 +379,7 @@ module _ {S : Type 0} (rack : Ghosts S) (found : List Found) (known : List Bool)
 
   pub gives_now : (tally : Tally) → GivesTold rack (record { rack = new; memory = memory; tally = tally }) t.extra.items before after
   gives_now tally = record {
+    most = λ q v has. omega (arith, at.top_is, seen_before q v has);
     nothing = λ none. absurd (not_none none);
     last = gives_last;
     kept = λ kept had. record { extra_is = extra_is kept had; entries = entry_is kept had; none = entry_none kept had };

@@ -124,8 +124,9 @@ module _ {S : Type 0} (rack : Ghosts S) (found : List Found) (known : List Bool)
       reopened_now : (kept : Kept) → Reopened (known_at (known_in memory) (rack.bytes old)) kept → Reopened (known_at (known_in memory) (rack.bytes mid)) kept
       reopened_now kept had = none_reopened (known_at (known_in memory) (rack.bytes old)) (known_at (known_in memory) (rack.bytes mid)) none_before none_after kept had
 
-      gives_none : (tally : Tally) → GivesTold rack (record { rack = mid; memory = memory; tally = tally }) [] (known_at (known_in memory) (rack.bytes old)) (known_at (known_in memory) (rack.bytes mid))
-      gives_none tally = record {
+      gives_none : ((q : ℕ) (h : Header) → IsIn h (found_at found q) → h.sequence ≤ top) → (tally : Tally) → GivesTold rack (record { rack = mid; memory = memory; tally = tally }) [] (known_at (known_in memory) (rack.bytes old)) (known_at (known_in memory) (rack.bytes mid))
+      gives_none most tally = record {
+        most = λ q v has. omega (arith, at.top_is, most q (code_of v) (in_of rack found known old mid so memory at.known_is count told q v has).1);
         nothing = λ none. record { stands = at.stands; room = at.room; commit = at.commit; extra_is = refl };
         last = λ c q lead last leads. absurd (none_before last.member last.header last.is.has last.is.mark);
         kept = λ kept had. record {
@@ -179,7 +180,7 @@ module _ {S : Type 0} (rack : Ghosts S) (found : List Found) (known : List Bool)
         pages = λ q. told_same_pages (table_size (sizes_in memory q) memory.room) (rack.bytes old q) (rack.bytes mid q) (same_read_at q);
         written = λ steady q. same_may memory.commit q (rack.bytes old q) (rack.bytes mid q) (same_read_at q);
         roomy = λ p q r on other pair long. stands_not p on;
-        gives = λ told. gives_none told tally;
+        gives = λ told. gives_none told most tally;
         spares = λ steady wide within told.
             let same : (q : ℕ) → known_at wide (rack.bytes mid) q ≡ known_at wide (rack.bytes old) q = λ q. same_at wide q (rack.bytes old q) (rack.bytes mid q) (same_read_at q) (told q) in
             record {

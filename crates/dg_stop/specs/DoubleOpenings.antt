@@ -1,5 +1,5 @@
 -- What an opening gives: a plain rack where no member has a header, else a double one of the members that the last commit attaches.
-use Rattle.std.specs.Prelude.{◌≡◌, ◌<◌, ◌⊎◌, ◌↔◌, ◌&&◌, ◌||◌, not, ℕ, Bool, true, false, List, [], Option, Some, None, IfSome, is_some, length, slice_get}
+use Rattle.std.specs.Prelude.{◌≡◌, ◌≤◌, ◌<◌, ◌⊎◌, ◌↔◌, ◌&&◌, ◌||◌, not, ℕ, Bool, true, false, List, [], Option, Some, None, IfSome, is_some, length, slice_get}
 use Rattle.dg_io.specs.Kept.{Kept}
 use Rattle.dg_io.specs.Makes.{Makes}
 use Rattle.dg_io.specs.Told.{IsSame, StillTold, Told}
@@ -157,6 +157,7 @@ IsOfOne all kept = (c q : ℕ) (lead : Header) → IsLast all c → Leads all c 
 
 -- What an opening gives where the bytes of the known members are told in the end.
 pub record GivesTold {R : Type 0} (rack : Ghosts R) (it : Double R) (extra : List ℕ) (before after : ℕ → List ℕ) : Type 0 where
+  pub most : (q : ℕ) (h : Header) → HasHeader q (before q) h → h.sequence ≤ it.memory.top
   pub nothing : NoneCommitted before → GivesNothing it.memory extra
   pub last : (c q : ℕ) (lead : Header) → IsLast before c → Leads before c q lead → GivesLast it.memory extra c lead
   pub kept : (kept : Kept) → Reopened before kept → GivesKept rack it extra kept
