@@ -80,15 +80,12 @@ fn print_made(rt: HostRuntime, seed: u32) -> io::Result<()> {
     println!(rt; "")
 }
 
-/// Prints what is told of two members: the length of each and a remainder of its bytes.
-fn print_totals(rt: HostRuntime, totals: &[Option<Total>; 2]) -> io::Result<()> {
-    for total in totals {
-        match total {
-            Some(total) => print!(rt; " {}:{}", total.length, total.remainder)?,
-            None => print!(rt; " -")?,
-        }
+/// Prints what is told of a member: its length and a remainder of its bytes.
+fn print_total(rt: HostRuntime, total: Option<Total>) -> io::Result<()> {
+    match total {
+        Some(total) => print!(rt; " {}:{}", total.length, total.remainder),
+        None => print!(rt; " -"),
     }
-    Ok(())
 }
 
 /// Prints what an opening of two members gives, as a line.
@@ -101,8 +98,10 @@ fn print_opening(rt: HostRuntime, first: Option<&[u8]>, second: Option<&[u8]>) -
         print!(rt; "-")?;
     }
     print_bytes(rt, &it.extra)?;
-    print_totals(rt, &it.members)?;
-    print_totals(rt, &it.behind)?;
+    print_total(rt, it.members.first)?;
+    print_total(rt, it.members.second)?;
+    print_total(rt, it.behind.first)?;
+    print_total(rt, it.behind.second)?;
     match it.next {
         Some(sequence) => println!(rt; " {}", sequence),
         None => println!(rt; " lost"),

@@ -27,6 +27,13 @@ impl Total {
     }
 }
 
+/// What is told of both members, where they are there.
+#[derive(Clone, Copy, Debug, PartialEq, Eq)]
+pub struct Totals {
+    pub first: Option<Total>,
+    pub second: Option<Total>,
+}
+
 /// An opening of two members, if it gave a double rack.
 #[derive(Drop)]
 pub struct Opening {
@@ -34,9 +41,9 @@ pub struct Opening {
     pub room: u32,
     pub extra: Vec<u8>,
     /// The members that stand then.
-    pub members: [Option<Total>; 2],
+    pub members: Totals,
     /// The members behind.
-    pub behind: [Option<Total>; 2],
+    pub behind: Totals,
     /// The sequence of a commit of the members that stand, if it was made.
     pub next: Option<u64>,
 }
@@ -67,14 +74,14 @@ fn total_of<R: Rack>(alloc: Global, rack: &mut R, member: u8) -> Result<Option<T
     }
 }
 
-fn totals<R: Rack>(alloc: Global, rack: &mut R) -> Result<[Option<Total>; 2], NoMemory> {
+fn totals<R: Rack>(alloc: Global, rack: &mut R) -> Result<Totals, NoMemory> {
     let first = total_of(alloc, rack, 0)?;
     let second = total_of(alloc, rack, 1)?;
-    Ok([first, second])
+    Ok(Totals { first, second })
 }
 
 /// What the opening of a rack gives: the room, the extra bytes, and its members.
-type Parts = (u32, Vec<u8>, [Option<Total>; 2]);
+type Parts = (u32, Vec<u8>, Totals);
 
 /// Opens a rack. `None` where that gives a plain one.
 fn opens<R: Rack + Drop>(alloc: Global, rack: R) -> Result<Option<Parts>, NoMemory> {
