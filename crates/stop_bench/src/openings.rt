@@ -74,7 +74,7 @@ fn total_of<R: Rack>(alloc: Global, rack: &mut R, member: u8) -> Result<Option<T
     }
 }
 
-fn totals<R: Rack>(alloc: Global, rack: &mut R) -> Result<Totals, NoMemory> {
+fn totals_of<R: Rack>(alloc: Global, rack: &mut R) -> Result<Totals, NoMemory> {
     let first = total_of(alloc, rack, 0)?;
     let second = total_of(alloc, rack, 1)?;
     Ok(Totals { first, second })
@@ -89,7 +89,7 @@ fn opens<R: Rack + Drop>(alloc: Global, rack: R) -> Result<Option<Parts>, NoMemo
     let Some(room) = rack.room() else {
         return Ok(None);
     };
-    let members = totals(alloc, &mut rack)?;
+    let members = totals_of(alloc, &mut rack)?;
     Ok(Some((room, extra, members)))
 }
 
@@ -123,7 +123,7 @@ pub fn opened(
     let Some((room, extra, members)) = opens(alloc, &mut below)? else {
         return Ok(None);
     };
-    let behind = totals(alloc, &mut below)?;
+    let behind = totals_of(alloc, &mut below)?;
     let next = next(alloc, &mut below)?;
     Ok(Some(Opening {
         room,
