@@ -1,5 +1,4 @@
 // Groups over a rack in memory, whose calls are counted from 0.
-ghost use Rattle.std.specs.Prelude.{◌≤◌};
 ghost use Rattle.dg_parity.specs.Kept.{IsKept};
 
 use dg_io::{DropAnswer, MemRack, MendAnswer, Rack};
@@ -240,9 +239,7 @@ fn calls_fail_without_a_disk(rt: HostRuntime) -> Result<(), Fail> {
 }
 
 // How many disks of a group are out.
-fn outs(group: &Group) -> u8
-    ensures { result ≤ 8 }
-{
+fn outs(group: &Group) -> u8 {
     let mut count = 0;
     for j in 0..group.width() {
         if group.is_out(j) && count < 8 {
