@@ -52,7 +52,8 @@ def copy_header(rng, images, member):
     if rng.random() < 0.7 and len(page) == PAGE:
         page = put(page, MEMBER[0], bytes([member]))
     if rng.random() < 0.5 and len(page) == PAGE:
-        page = put(page, SEQUENCE[0], (number(page, *SEQUENCE) + rng.choice((-1, 1))).to_bytes(8, "little", signed=True))
+        sequence = (number(page, *SEQUENCE) + rng.choice((-1, 1))) % (1 << 64)
+        page = put(page, SEQUENCE[0], sequence.to_bytes(8, "little"))
     if len(page) == PAGE:
         images[member] = put(images[member], PAGE * place, page)
 
