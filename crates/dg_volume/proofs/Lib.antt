@@ -9,7 +9,6 @@ mod FileLaws
 mod GoneLaws
 mod HomeLaws
 mod LabelLaws
-mod LineLaws
 mod ListedLaws
 mod LooseLaws
 mod MoveSteps
@@ -17,6 +16,7 @@ mod OpenLaws
 mod OpenSteps
 mod OrderLaws
 mod PathSteps
+mod PlaceLaws
 mod PlacedLaws
 mod ReapLaws
 mod RebuildMarks
@@ -28,6 +28,7 @@ mod SaveLaws
 mod SealSteps
 mod SettleSteps
 mod SettledSteps
+mod UseLaws
 mod VolumeLaws
 mod VolumeSteps
 mod WantLaws
