@@ -2,6 +2,7 @@ mod AnyLaws
 mod ArrayLaws
 mod BlankLaws
 mod CopySteps
+mod CutLaws
 mod FaultLaws
 mod FewLaws
 mod FileAnswers

@@ -1,5 +1,5 @@
 -- A volume makes a step by a read of a block, and by a failure of a member.
-use Rattle.std.proofs.Common.{◌≡◌, ◌≢◌, ◌∙◌, ◌<◌, ◌+◌, ◌*◌, ℕ, Bool, true, false, List, length, refl, sym, ap, subst, inl, inr}
+use Rattle.std.proofs.Common.{◌≡◌, ◌≢◌, ◌∙◌, ◌<◌, ◌+◌, ◌*◌, ℕ, Bool, true, false, List, arith, length, refl, sym, ap, subst, inl, inr}
 use Rattle.std.specs.Prelude.{◌||◌, [], Option}
 use Rattle.std.proofs.lemmas.Bool.{cases_eq, false≢true, or_left, or_right}
 use Rattle.dg_io.specs.Told.{StillTold}

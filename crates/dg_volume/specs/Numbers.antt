@@ -1,5 +1,5 @@
 -- What answers name: a boundary by its number in the array's first line, and not by its place among those in use.
-use Rattle.std.specs.Prelude.{List, Option, Result, Ok, Err, ℕ, Unit}
+use Rattle.std.specs.Prelude.{List, ℕ}
 use Rattle.dg_hot.specs.declared.spreads.DiffuseAnswer.{DiffuseAnswer}
 use Rattle.dg_hot.specs.declared.spreads.DiffuseAnswer.TheVariants.{Diffused, Lost as DiffuseLost}
 use Rattle.dg_label.specs.declared.saves.SaveAnswer.{SaveAnswer}

@@ -174,8 +174,8 @@ returns-in_err-dead-clause-spares g c =
     opened_spares g.S.InPhase g.R.Rack c.change_of_loose_blocks.ensures a (record a { store = c.open_refill-ended.new.store; label = c.open_refill-ended.new.label })
     (record { beside = record { phase_is = refl; pending = refl; homes = refl; copies = refl; in_use = refl }; levels = refl; opening = o.array; labels = o.labels })
 
-pub returns-then-boundary-shape-clause-leaves : goal.returns-then-boundary-shape-clause-leaves
-returns-then-boundary-shape-clause-leaves g c = leaves_none g.S.InPhase g.R.Rack c.args.self.now c.requires.well
+pub returns-then-boundary-self-clause-leaves : goal.returns-then-boundary-self-clause-leaves
+returns-then-boundary-self-clause-leaves g c = leaves_none g.S.InPhase g.R.Rack c.args.self.now c.requires.well
 
 pub returns-in_default-clause-leaves : goal.returns-in_default-clause-leaves
 returns-in_default-clause-leaves g c = leaves_none g.S.InPhase g.R.Rack c.args.self.now c.requires.well

@@ -297,8 +297,8 @@ returns-in-Failed-clause-steps g c =
       stands = k.stands;
     })
 
-pub returns-then-boundary-shape-clause-leaves : goal.returns-then-boundary-shape-clause-leaves
-returns-then-boundary-shape-clause-leaves g c = leaves_none g.S.InPhase g.R.Rack c.args.self.now c.requires.well
+pub returns-then-boundary-self-clause-leaves : goal.returns-then-boundary-self-clause-leaves
+returns-then-boundary-self-clause-leaves g c = leaves_none g.S.InPhase g.R.Rack c.args.self.now c.requires.well
 
 pub returns-in_default-clause-leaves : goal.returns-in_default-clause-leaves
 returns-in_default-clause-leaves g c = leaves_none g.S.InPhase g.R.Rack c.args.self.now c.requires.well
