@@ -12,6 +12,7 @@ ghost use Rattle.ufs_path.specs.Answers.{IsAnswer, refusal_of};
 ghost use Rattle.ufs_path.specs.Consults.{IsUnanswered, IsUnread, StaysUnlessFailed};
 ghost use Rattle.ufs_path.specs.Trees.{HandsSome, IsUnansweredIn};
 
+use crate::in_use::InUse;
 use crate::paths::read_file;
 use dg_io::{NoMemory, Pieces, Rack};
 use dg_regroup::CutView;
@@ -21,9 +22,9 @@ use ufs_model::Inode;
 use ufs_path::{CatAnswer, Levels, Listing, LookFault, look, ls, tree};
 
 /// Hands on the bytes of the file at a path, and tells its inode where they are given whole. Else it tells the one that was told before.
-pub fn cut_cat<R: Rack, O: Pieces>(
+pub(crate) fn cut_cat<R: Rack, O: Pieces>(
     store: &mut Store<R>,
-    cut: &[bool],
+    in_use: &InUse,
     levels: &mut Levels,
     path: &[u8],
     out: &mut O,
@@ -36,20 +37,20 @@ pub fn cut_cat<R: Rack, O: Pieces>(
     ensures levels { levels.new.fragment ≡ levels.old.fragment }
     ensures later { O.faults out.old ≤ O.faults out.new }
     ensures rule { IsAnswer O.took O.took_part O.faults out.old out.new
-        (ReadsCut R.Rack cut.now store.old store.new (cat_of (shape_of store.old).l (shape_of store.old).n path.now)) result.0 }
-    ensures cause { IsUnanswered result.0 → LosesOne cut.now store.new }
+        (ReadsCut R.Rack in_use.now.cut.items store.old store.new (cat_of (shape_of store.old).l (shape_of store.old).n path.now)) result.0 }
+    ensures cause { IsUnanswered result.0 → LosesOne in_use.now.cut.items store.new }
     ensures inode { TellsInode (λ i. TellsAll R.Rack store.new → (v : List (List ℕ)) → StandsFor R.Rack store.old v
         → (file_of (shape_of store.old).l (shape_of store.old).n path.now v).value ≡ Ok i) before result.1 result.0 }
     ensures stays { StaysUnlessFailed result.0 (O.faults out.old) (O.faults out.new) }
 {
-    let mut view = CutView::new(&mut *store, cut);
+    let mut view = CutView::new(&mut *store, &in_use.cut);
     read_file(&mut view, levels, path, out, before)
 }
 
 /// Hands on the used entries of the directory at a path, in the directory's order.
-pub fn cut_ls<R: Rack, O: Listing>(
+pub(crate) fn cut_ls<R: Rack, O: Listing>(
     store: &mut Store<R>,
-    cut: &[bool],
+    in_use: &InUse,
     levels: &mut Levels,
     path: &[u8],
     out: &mut O,
@@ -61,19 +62,19 @@ pub fn cut_ls<R: Rack, O: Listing>(
     ensures levels { levels.new.fragment ≡ levels.old.fragment }
     ensures later { O.faults out.old ≤ O.faults out.new }
     ensures rule { IsAnswer O.took O.took_part O.faults out.old out.new
-        (ReadsCut R.Rack cut.now store.old store.new (ls_of (shape_of store.old).l (shape_of store.old).n path.now)) result }
-    ensures cause { IsUnanswered result → LosesOne cut.now store.new }
+        (ReadsCut R.Rack in_use.now.cut.items store.old store.new (ls_of (shape_of store.old).l (shape_of store.old).n path.now)) result }
+    ensures cause { IsUnanswered result → LosesOne in_use.now.cut.items store.new }
     ensures stays { StaysUnlessFailed result (O.faults out.old) (O.faults out.new) }
 {
-    let mut view = CutView::new(&mut *store, cut);
+    let mut view = CutView::new(&mut *store, &in_use.cut);
     ls(&mut view, levels, path, out)
 }
 
 /// Hands on all entries of the volume but `.` and `..`.
-pub fn cut_tree<R: Rack, O: Listing>(
+pub(crate) fn cut_tree<R: Rack, O: Listing>(
     alloc: Global,
     store: &mut Store<R>,
-    cut: &[bool],
+    in_use: &InUse,
     levels: &mut Levels,
     out: &mut O,
 ) -> Result<CatAnswer, NoMemory>
@@ -83,21 +84,21 @@ pub fn cut_tree<R: Rack, O: Listing>(
     ensures levels { levels.new.fragment ≡ levels.old.fragment }
     ensures later { O.faults out.old ≤ O.faults out.new }
     ensures rule { IfOk result (IsAnswer O.took O.took_part O.faults out.old out.new
-        (ReadsCut R.Rack cut.now store.old store.new (tree_of (shape_of store.old).l (shape_of store.old).n))) }
+        (ReadsCut R.Rack in_use.now.cut.items store.old store.new (tree_of (shape_of store.old).l (shape_of store.old).n))) }
     ensures part { OnErr result (HandsSome O.took out.old out.new
-        (ReadsCut R.Rack cut.now store.old store.new (tree_of (shape_of store.old).l (shape_of store.old).n))) }
+        (ReadsCut R.Rack in_use.now.cut.items store.old store.new (tree_of (shape_of store.old).l (shape_of store.old).n))) }
     ensures err_faults { OnErr result (O.faults out.new ≡ O.faults out.old) }
-    ensures cause { IsUnansweredIn result → LosesOne cut.now store.new }
+    ensures cause { IsUnansweredIn result → LosesOne in_use.now.cut.items store.new }
     ensures stays { IfOk result (λ answer. StaysUnlessFailed answer (O.faults out.old) (O.faults out.new)) }
 {
-    let mut view = CutView::new(&mut *store, cut);
+    let mut view = CutView::new(&mut *store, &in_use.cut);
     tree(alloc, &mut view, levels, out)
 }
 
 /// The inode at a path, with its number.
-pub fn cut_look<R: Rack>(
+pub(crate) fn cut_look<R: Rack>(
     store: &mut Store<R>,
-    cut: &[bool],
+    in_use: &InUse,
     levels: &mut Levels,
     path: &[u8],
 ) -> Result<(u32, Inode), LookFault>
@@ -106,10 +107,10 @@ pub fn cut_look<R: Rack>(
     requires path { is_path path.now ≡ true }
     ensures reads { HasReadArray R.Rack store.old store.new }
     ensures levels { levels.new.fragment ≡ levels.old.fragment }
-    ensures stays { (b : ℕ) → gone_with cut.now store.old b ≡ true → gone_with cut.now store.new b ≡ true }
-    ensures rule { ReadsCut R.Rack cut.now store.old store.new (look_of (shape_of store.old).l (shape_of store.old).n path.now) (answered refusal_of result) }
-    ensures cause { IsUnread result → LosesOne cut.now store.new }
+    ensures stays { (b : ℕ) → gone_with in_use.now.cut.items store.old b ≡ true → gone_with in_use.now.cut.items store.new b ≡ true }
+    ensures rule { ReadsCut R.Rack in_use.now.cut.items store.old store.new (look_of (shape_of store.old).l (shape_of store.old).n path.now) (answered refusal_of result) }
+    ensures cause { IsUnread result → LosesOne in_use.now.cut.items store.new }
 {
-    let mut view = CutView::new(&mut *store, cut);
+    let mut view = CutView::new(&mut *store, &in_use.cut);
     look(&mut view, levels, path)
 }

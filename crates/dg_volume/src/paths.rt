@@ -84,7 +84,7 @@ impl<S: InPhase, R: Rack> Volume<S, R> {
     {
         let (answer, given) = cut_cat(
             &mut self.store,
-            &self.in_use.cut,
+            &self.in_use,
             &mut self.levels,
             path,
             out,
@@ -114,7 +114,7 @@ impl<S: InPhase, R: Rack> Volume<S, R> {
     {
         cut_ls(
             &mut self.store,
-            &self.in_use.cut,
+            &self.in_use,
             &mut self.levels,
             path,
             out,

@@ -101,7 +101,7 @@ impl<S: InPhase, R: Rack> Volume<S, R> {
         cut_tree(
             alloc,
             &mut self.store,
-            &self.in_use.cut,
+            &self.in_use,
             &mut self.levels,
             out,
         )
@@ -116,7 +116,7 @@ impl<S: InPhase, R: Rack> Volume<S, R> {
         ensures steps { StepsTo S.InPhase S.InPhase R.Rack self.old (Event.Home path.now) (home_reply result) self.new }
         ensures given { given_of self.new ≡ given_of self.old }
     {
-        match cut_look(&mut self.store, &self.in_use.cut, &mut self.levels, path) {
+        match cut_look(&mut self.store, &self.in_use, &mut self.levels, path) {
             Ok(found) => {
                 if is_regular(&found.1) {
                     home_in(&self.in_use, &self.homes, &self.copies, found.0)
