@@ -10,16 +10,15 @@ use Rattle.std.proofs.lemmas.List.{get_or-set_other, get_or-set_same, length-rep
 use Rattle.std.proofs.lemmas.List.FromFn.{get_or-range_with_len, length-range_with_len}
 use Rattle.std.proofs.lemmas.List.Kept.{AllPairs-from_increasing}
 use Rattle.std.proofs.lemmas.List.Sums.{position_or_len_is}
-use Rattle.dg_model.specs.Homes.{home_of}
 use Rattle.dg_model.specs.Lives.{all_live, boundary_at, place_in}
 use Rattle.dg_model.specs.Marks.{is_marked}
 use Rattle.dg_model.specs.Members.{is_lost}
 use Rattle.dg_model.specs.Openings.{FitsReduced, Reduced, all_in_use}
 use Rattle.dg_model.specs.Sites.{Evicts, IsGivenFirst, IsSited, has_site, without_last}
 use Rattle.dg_model.specs.States.{IsLeastLost}
-use Rattle.dg_model.specs.Tables.{IsTable, Table, put_site, sites_in}
+use Rattle.dg_model.specs.Tables.{IsTable, Table, sites_in}
 use Rattle.dg_model.specs.declared.members.MemberState.{MemberState}
-use Rattle.dg_model.specs.declared.members.MemberState.TheVariants.{Filling, Good, Out}
+use Rattle.dg_model.specs.declared.members.MemberState.TheVariants.{Out}
 use Rattle.dg_model.specs.declared.shapes.Shape.{Shape}
 use Rattle.dg_model.specs.declared.sites.Site.{Site}
 use Rattle.ufs_model.specs.Blocks.{Consulted}

@@ -42,7 +42,7 @@ use Rattle.dg_volume.proofs.LabelLaws.{
   same_numbers,
   torn_none,
 }
-use Rattle.dg_volume.proofs.VolumeLaws.{IsBeside, Keeps, Labels, kept_state, label_by, leaves, on_label, quiet_in, stays, steps_from, still_in}
+use Rattle.dg_volume.proofs.VolumeLaws.{IsBeside, Keeps, Labels, kept_state, label_by, leaves, on_label, quiet_in, same_in, stays, steps_from, still_in}
 use Rattle.dg_volume.proofs.VolumeSteps.{false_of}
 use Rattle.dg_volume.specs.Faults.{OutsStay, TellsFaults, faults_of}
 use Rattle.dg_volume.specs.Seals.{OpensWhere, Relabels}

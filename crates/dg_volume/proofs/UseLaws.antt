@@ -1,6 +1,5 @@
 -- Volumes of the boundaries in use: the places of boundaries that are told by their numbers, and cut blocks without a site.
 use Rattle.std.proofs.Common.{◌≡◌, ◌∙◌, ◌<◌, ◌+◌, ◌*◌, ◌/◌, ℕ, true, false, List, length, refl, sym, ap, subst, arith}
-use Rattle.std.specs.Prelude.{Option}
 use Rattle.std.specs.List.Sorted.{IsStrictlyIncreasing}
 use Rattle.dg_io.specs.declared.outside.Rack.{Ghosts}
 use Rattle.dg_model.specs.Lives.{boundary_at, place_in}
@@ -13,7 +12,6 @@ use Rattle.dg_model.specs.declared.members.MemberState.{MemberState}
 use Rattle.dg_model.specs.declared.members.MemberState.TheVariants.{Out}
 use Rattle.dg_model.specs.declared.shapes.Shape.{Shape}
 use Rattle.dg_store.specs.Answers.{SameWritten}
-use Rattle.dg_store.specs.Stores.{IsSound}
 use Rattle.dg_volume.proofs.PlaceLaws.{fits_on, least_at, lost_out}
 use Rattle.dg_volume.specs.Volumes.{IsWell, live_of, members_of, reduced_in, reduced_of, shape_of, table_of}
 use Rattle.dg_volume.specs.declared.in_use.InUse.{InUse}

@@ -1,8 +1,6 @@
-use Rattle.std.proofs.Common.{◌≡◌, refl, ap, arith}
-use Rattle.dg_model.specs.declared.shapes.Shape.{Shape}
+use Rattle.std.proofs.Common.{◌≡◌, refl, arith}
 use Rattle.dg_volume.proofs.VolumeSteps.{fail_leaves, steps_already, steps_struck, steps_unused}
 use Rattle.dg_volume.proofs.VolumeLaws.{leaves_none}
-use Rattle.dg_volume.specs.Volumes.{shape_of}
 use Rattle.dg_volume.proofs.volumes.Volume.fail.Goals as goal
 
 pub returns-in-Already-clause-leaves : goal.returns-in-Already-clause-leaves

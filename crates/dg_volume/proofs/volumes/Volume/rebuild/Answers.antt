@@ -1,10 +1,8 @@
-use Rattle.std.proofs.Common.{◌≡◌, ℕ, Bool, List, inl, inr, refl, sym, ap, subst, arith}
+use Rattle.std.proofs.Common.{◌≡◌, ℕ, Bool, List, inl, inr, refl, sym, subst, arith}
 use Rattle.std.specs.Prelude.{IfSome}
-use Rattle.dg_model.specs.declared.shapes.Shape.{Shape}
 use Rattle.dg_volume.proofs.RebuildSteps.{CallsRebuild, opened_leaves, opened_spares, quiet_rack, rebuild_leaves, rebuild_spares, rebuild_steps, rebuilt_labels, steps_ended, steps_unused}
 use Rattle.dg_volume.specs.Phases.{CanReapAll}
 use Rattle.dg_volume.specs.Refills.{AreReapMarks}
-use Rattle.dg_volume.specs.Volumes.{shape_of}
 use Rattle.dg_volume.proofs.VolumeLaws.{leaves_none}
 use Rattle.dg_volume.proofs.volumes.Volume.rebuild.Goals as goal
 

@@ -1,11 +1,9 @@
 use Rattle.std.proofs.Common.{◌≡◌, ◌∙◌, ◌+◌, ◌*◌, ℕ, refl, ap, subst, arith}
 use Rattle.dg_io.specs.Told.{IsZeros}
 use Rattle.dg_model.specs.Saves.{member_length}
-use Rattle.dg_model.specs.declared.shapes.Shape.{Shape}
 use Rattle.dg_store.specs.Leaves.{BytesChange}
 use Rattle.dg_volume.proofs.ReplaceSteps.{replace_leaves, steps_failed, steps_lost, steps_not_out, steps_replaced, steps_unused}
 use Rattle.dg_pair.specs.declared.boundaries.ReplaceAnswer.TheVariants.{Failed, Lost, NotOut, Replaced}
-use Rattle.dg_volume.specs.Volumes.{shape_of}
 use Rattle.dg_volume.proofs.VolumeLaws.{leaves_none}
 use Rattle.dg_volume.proofs.volumes.Volume.replace.Goals as goal
 

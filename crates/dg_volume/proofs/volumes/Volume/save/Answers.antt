@@ -1,7 +1,7 @@
 use Rattle.std.proofs.Common.{◌∙◌, subst, sym}
 use Rattle.dg_label.specs.declared.saves.SaveAnswer.{SaveAnswer}
 use Rattle.dg_model.specs.declared.events.Event.TheVariants.{Save}
-use Rattle.dg_volume.proofs.SaveLaws.{save_keeps, save_leaves, save_steps}
+use Rattle.dg_volume.proofs.SaveLaws.{save_leaves, save_steps}
 use Rattle.dg_volume.proofs.VolumeLaws.{leaves_none}
 use Rattle.dg_volume.specs.Copies.{StepsHot}
 use Rattle.dg_volume.specs.Saves.{save_reply}
