@@ -39,8 +39,8 @@ pub enum OpenAnswer<R> {
 
 /// Opens the array that was saved on a rack. Nothing is written.
 ///
-/// All boundaries are in use, and no block was cut. It is worn where a boundary is lost; else settled where it was saved so, its volume is sound and each block is in its place, and
-/// loose where it isn't. The files that were read last are those of the save.
+/// All boundaries are in use, and no block was cut. It is worn where a boundary is lost; else settled where it was saved so, its volume is
+/// sound and each block is in its place, and loose where it isn't. The files that were read last are those of the save.
 pub fn open<R: Rack + Drop>(alloc: Global, rack: R) -> Result<OpenAnswer<R>, NoMemory>
     ensures { IfOk result (AnswersOpen R.Rack rack) }
 {

@@ -235,9 +235,9 @@ impl<S: InPhase, R: Rack> Volume<S, R> {
         }
     }
 
-    /// Refills the member of a boundary, given by its number in the first line, that was replaced, with at most `limit` copies of slots. Dead blocks that it passes are reaped, where
-    /// no boundary is lost and the volume isn't worn: they have no site any more, and read as zeros. After want of memory the refill stands at
-    /// the slot that it came to.
+    /// Refills the member of a boundary, given by its number in the first line, that was replaced, with at most `limit` copies of slots. Dead
+    /// blocks that it passes are reaped, where no boundary is lost and the volume isn't worn: they have no site any more, and read as zeros.
+    /// After want of memory the refill stands at the slot that it came to.
     pub fn rebuild(
         &mut self,
         alloc: Global,
