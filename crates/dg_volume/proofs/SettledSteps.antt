@@ -201,8 +201,12 @@ module _ {S R : Type 0} (phase : phases.Ghosts S) (rack : Ghosts R) where
     reads_in phase rack a b rest V label h holds,
     (
       settled,
-      (i, may_read phase rack (file_of (shape_of a).l (shape_of a).n path) a b rest V (Some (Ok i)) h holds reads tt, home_place (live_of a) (home_of a.homes i) s fits.live.ascend (home_low a a.homes i s fits homes is) is,
-          home_places (live_of a) (home_of a.copies i) fits.live.ascend (λ t at. home_low a a.copies i t fits copies at)),
+      (
+        i,
+        may_read phase rack (file_of (shape_of a).l (shape_of a).n path) a b rest V (Some (Ok i)) h holds reads tt,
+        home_place (live_of a) (home_of a.homes i) s fits.live.ascend (home_low a a.homes i s fits homes is) is,
+        home_places (live_of a) (home_of a.copies i) fits.live.ascend (λ t at. home_low a a.copies i t fits copies at),
+      ),
       reads_stay phase rack a b rest V label h,
     ),
     refl,

@@ -112,12 +112,6 @@ impl<S: InPhase, R: Rack> Volume<S, R> {
             (λ reply. StepsTo S.InPhase S.InPhase R.Rack self.old (Event.Ls path.now) reply self.new) result }
         ensures given { given_of self.new ≡ given_of self.old }
     {
-        cut_ls(
-            &mut self.store,
-            &self.in_use,
-            &mut self.levels,
-            path,
-            out,
-        )
+        cut_ls(&mut self.store, &self.in_use, &mut self.levels, path, out)
     }
 }

@@ -264,14 +264,7 @@ impl<S: InPhase, R: Rack> Volume<S, R> {
         }
         let dead = reap_marks(alloc, &self.store, &self.phase)?;
         let mut reaped = Vec::new(alloc);
-        let refilled = rebuild(
-            alloc,
-            &mut self.store,
-            place,
-            limit,
-            &dead,
-            &mut reaped,
-        );
+        let refilled = rebuild(alloc, &mut self.store, place, limit, &dead, &mut reaped);
         self.phase.reaped(&reaped);
         told(boundary as u8, refilled)
     }

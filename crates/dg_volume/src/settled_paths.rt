@@ -98,13 +98,7 @@ impl<S: InPhase, R: Rack> Volume<S, R> {
         ensures err_faults { OnErr result (O.faults out.new ≡ O.faults out.old) }
         ensures given { given_of self.new ≡ given_of self.old }
     {
-        cut_tree(
-            alloc,
-            &mut self.store,
-            &self.in_use,
-            &mut self.levels,
-            out,
-        )
+        cut_tree(alloc, &mut self.store, &self.in_use, &mut self.levels, out)
     }
 
     /// Tells the home of the file at a path of a settled volume.

@@ -126,7 +126,7 @@ returns-in-Lost-2-clause-refused g c =
       plan = plan;
       told = λ told. told_moved g.R.Rack mid last t.array told;
       moves = has_moved g.S.InPhase g.R.Rack a b (record { phase_is = refl; pending = refl; homes = refl; copies = refl; in_use = refl }) (e.levels ∙ d.levels) c.requires.well
-    (written_run g.S.InPhase g.R.Rack a mid last read t.written) labels moved;
+          (written_run g.S.InPhase g.R.Rack a mid last read t.written) labels moved;
     })
     c.in-Lost-2.lost (record { loose = c.requires.loose; whole = c.in_default.ensures; in_use = c.requires.well.in_use })
     (record {
