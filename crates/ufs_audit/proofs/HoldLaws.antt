@@ -1,5 +1,5 @@
 -- What belongs to an inode is what one of its chains of sources claims.
-use Rattle.std.proofs.Common.{◌≡◌, ◌↔◌, ◌<◌, ◌≤◌, ◌-◌, ◌+◌, ◌*◌, ◌/◌, ◌^◌, ℕ, zero, suc, List, Contains, refl, sym, subst, arith}
+use Rattle.std.proofs.Common.{◌≡◌, ◌<◌, ◌-◌, ◌+◌, ℕ, List, Contains, refl, sym, subst, arith}
 use Rattle.std.specs.Prelude.{Ok, Some, slice_get}
 use Rattle.std.proofs.lemmas.Option.{get_or_from_slice_get, slice_get_read, slice_get_within}
 use Rattle.ufs_model.specs.Blocks.{Volume}

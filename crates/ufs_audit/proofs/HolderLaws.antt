@@ -116,7 +116,7 @@ module _ (table : ClaimTable) (inodes above : List Bool) (level f : ℕ) where
 
   -- the source by its number
   source_at : (sources : List ClaimSource) (j height : ℕ) (source : ClaimSource) → Some (height, source) ≡ claim_at sources j → (slice_get sources j ≡ Some source) × (height ≡ level_of source)
-  source_at [] j height source is = let no : Some (height, source) ≡ None = is in cc
+  source_at [] j height source is = let no : ◌≡◌ {A = Option (ℕ × ClaimSource)} (Some (height, source)) None = is in cc
   source_at (found ∷ sources) zero height source is =
       let pair : (height, source) ≡ with_level found = cc in
       let same : source ≡ found = ap (λ (p : ℕ × ClaimSource). p.1) pair in

@@ -1,9 +1,9 @@
 -- Which blocks have a volume's structure, by marks of its directories and of what they claim.
-use Rattle.std.proofs.Common.{◌≡◌, ◌↔◌, ◌⊎◌, ◌∙◌, ◌<◌, ◌≤◌, ◌-◌, ◌+◌, ◌*◌, inl, inr, ℕ, zero, suc, Bool, true, false, List, [], ◌∷◌, ◌++◌, Contains, Option, None, Some, refl, sym, ap, subst, length, append-nil, arith}
+use Rattle.std.proofs.Common.{◌≡◌, ◌⊎◌, ◌∙◌, ◌<◌, ◌≤◌, ◌-◌, ◌+◌, ◌*◌, inl, inr, ℕ, zero, suc, Bool, true, false, List, [], ◌∷◌, Contains, Option, None, Some, refl, sym, ap, subst, length, append-nil, arith}
 use Rattle.std.specs.Prelude.{◌||◌, IfOk, IfSome, MatchOption, Result, Err, Ok, if◌then◌else◌}
 use Rattle.std.specs.List.{list_any}
 use Rattle.std.specs.Bool.{Decides}
-use Rattle.std.proofs.lemmas.Bool.{cases_order, false≢true}
+use Rattle.std.proofs.lemmas.Bool.{cases_order, false≢true, true≢false}
 use Rattle.std.proofs.lemmas.Bool.Decides.{nat_tests}
 use Rattle.std.proofs.lemmas.List.{get_or_past}
 use Rattle.std.proofs.lemmas.List.Elements.{Contains-append_cases, Contains-append_left, Contains-push}
@@ -13,15 +13,15 @@ use Rattle.dg_io.specs.declared.views.View.{Ghosts}
 use Rattle.dg_model.specs.Marks.{is_marked}
 use Rattle.ufs_audit.proofs.HoldLaws.{claimed_held, held_along, held_holder, held_structure, holder_held}
 use Rattle.ufs_audit.specs.Holders.{AreHeld, AreMarks, HasMarkedHolder, leads_by}
-use Rattle.ufs_audit.specs.Holds.{HasHolder, IsHeld, Leads}
-use Rattle.ufs_audit.specs.Losses.{HasPart, LosesPart, IsBetween, IsGroupBlock, IsIndirect, IsInodeBlock, IsPart, TellsGone}
+use Rattle.ufs_audit.specs.Holds.{IsHeld, Leads}
+use Rattle.ufs_audit.specs.Losses.{HasPart, LosesPart, IsBetween, IsPart, TellsGone}
 use Rattle.ufs_audit.specs.Structures.{IsBehindSuper, IsDirectoryOf}
-use Rattle.ufs_model.specs.Blocks.{Volume, Reading, area_of, bind}
+use Rattle.ufs_model.specs.Blocks.{Volume, area_of, bind}
 use Rattle.ufs_model.specs.Claims.{level_of}
 use Rattle.ufs_model.specs.GroupMaps.{group_bytes}
 use Rattle.ufs_model.specs.Inodes.{inode_of, is_inode_number}
 use Rattle.ufs_model.specs.Malformations.{Claims, FirstBlock, IsDirectory, IsInode}
-use Rattle.ufs_model.specs.Metadata.{IsMetadata, IsMetadataBy, IsStructure}
+use Rattle.ufs_model.specs.Metadata.{IsMetadataBy, IsStructure}
 use Rattle.ufs_model.specs.Metadata.IsMetadata.{of_superblock, by_geometry}
 use Rattle.ufs_model.specs.Metadata.IsMetadataBy.{of_group, of_inode, of_indirect}
 use Rattle.ufs_model.specs.Metadata.IsStructure.{of_metadata, of_directory}
@@ -249,9 +249,13 @@ module _ (g : Geometry) (v : Volume) (l n : ℕ) (table : ClaimTable) (inodes ma
 pub tells_last : {S : Type 0} (view : Ghosts S) (s : S) (one two three : ℕ → Type 0) (gone : Bool) → HasPart view s one → HasPart view s two → TellsGone view s three gone
     → TellsGone view s (λ b. one b ⊎ (two b ⊎ three b)) gone
 tells_last view s one two three true first second last = record { block = last.block; within = last.within; of_part = inr (inr last.of_part); lost = last.lost }
-tells_last view s one two three false first second last b low (inl is) = first b low is
-tells_last view s one two three false first second last b low (inr (inl is)) = second b low is
-tells_last view s one two three false first second last b low (inr (inr is)) = last b low is
+tells_last view s one two three false first second last = λ b low is. elim is [
+  | inl here ↦ first b low here
+  | inr more ↦ elim more [
+    | inl here ↦ second b low here
+    | inr here ↦ last b low here
+  ]
+]
 
 -- what a table of this geometry says of its sources
 pub bounds_of : (table : ClaimTable) (g : Geometry) → table.geometry ≡ Some g → ((f : ℕ) (source : ClaimSource) → TableClaims table f source → f < size_in table.geometry)
@@ -291,8 +295,8 @@ pub super_there : {stands : Volume → Type 0} {before after : ℕ → Bool} {te
     → tells → (v : Volume) → stands v → (b : ℕ) → Contains ((superblock_of l n v).needs) b → before b ≡ true → ⊥
 unfolding geometry_of bind
 super_there {before = before} l n answer reads told v stands b needs gone =
-    (reads.rule told v stands).unavailable
-    (any_gone before ((geometry_of l n v).needs) b (subst (λ (blocks : List ℕ). Contains blocks b) (sym (append-nil ((superblock_of l n v).needs))) needs) gone)
+    absurd (true≢false ((reads.rule told v stands).unavailable
+    (any_gone before ((geometry_of l n v).needs) b (subst (λ (blocks : List ℕ). Contains blocks b) (sym (append-nil ((superblock_of l n v).needs))) needs) gone)))
 
 -- without a geometry the superblock is all of the structure
 pub refused_super : (l n : ℕ) (v : Volume) (bad : BadSuper) (b : ℕ) → (geometry_of l n v).value ≡ Err bad → IsStructure l n v b → Contains ((superblock_of l n v).needs) b

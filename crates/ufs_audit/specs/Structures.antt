@@ -1,5 +1,5 @@
 -- The structure of a volume beside its superblock, and its directories.
-use Rattle.std.specs.Prelude.{◌≡◌, ℕ, Bool, true, false, Option, Some, None, Contains, ◌==◌}
+use Rattle.std.specs.Prelude.{ℕ, Bool, true, false, Option, Some, None, Contains}
 use Rattle.ufs_model.specs.Blocks.{Volume}
 use Rattle.ufs_model.specs.Inodes.{kind_of}
 use Rattle.ufs_model.specs.Malformations.{IsDirectory}

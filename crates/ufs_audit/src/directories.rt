@@ -73,10 +73,10 @@ pub fn find_directories<V: View>(
 {
     let mut marks = Vec::new(alloc);
     for number in 0..g.ncg * g.ipg {
-        let Some(is) = read_directory(view, g, number, levels) else {
+        let Some(mark) = read_directory(view, g, number, levels) else {
             return Ok(None);
         };
-        if marks.push(is).is_err() {
+        if marks.push(mark).is_err() {
             return Err(NoMemory);
         }
     }

@@ -166,9 +166,10 @@ pub fn structure_has_gone<V: View>(
     if !range_has_gone(view, 0, count) {
         return Ok(false);
     }
-    match read_geometry(view, levels) {
-        None => Ok(true),
-        Some(Err(_)) => Ok(false),
-        Some(Ok(g)) => volume_has_gone(alloc, view, &g, levels),
-    }
+    let g = match read_geometry(view, levels) {
+        None => return Ok(true),
+        Some(Err(_bad)) => return Ok(false),
+        Some(Ok(g)) => g,
+    };
+    volume_has_gone(alloc, view, &g, levels)
 }

@@ -24,7 +24,7 @@ loop-number-preserved g c =
       keeps = keeps_both g.met.V.View.further c.args.view.now c.loop-number.view c.read_directory.new.view so_far read;
       levels = c.read_directory.ensures.levels ∙ invariant.levels;
       found = λ told v stands.
-          marks_more (IsDirectoryOf c.args.g.now v) c.loop-number.number c.loop-number.marks.items _ c.in-Some.is c.push.result
+          marks_more (IsDirectoryOf c.args.g.now v) c.loop-number.number c.loop-number.marks.items _ c.in-Some.mark c.push.result
           (sym c.is_err.ensures.value ∙ c.if-is_err.false) c.push.ensures.items (invariant.found (read.told told) v stands)
           (c.in-Some.ensures.found told v (so_far.stands v stands));
       fetched = only_both {kind = IsMetadataBy c.args.g.now} g.met.V.View.fetched_both read.told (λ told v stands. (so_far.stands v stands, λ b is. is)) invariant.fetched c.read_directory.ensures.fetched;

@@ -1,6 +1,6 @@
 use Rattle.std.proofs.Common.{◌∙◌, sym}
 use Rattle.dg_claims.specs.Kept.{table_of}
-use Rattle.ufs_audit.proofs.HolderLaws.{marks_more, no_marks}
+use Rattle.ufs_audit.proofs.HolderLaws.{marks_more}
 use Rattle.ufs_audit.specs.Holders.{HasMarkedHolder}
 use Rattle.ufs_audit.proofs.holders.held_at.Goals as goal
 

@@ -1,7 +1,6 @@
 use Rattle.std.proofs.Common.{◌≡◌, ◌∙◌, Bool, List, [], subst, sym}
-use Rattle.std.proofs.lemmas.Result.{IfOk-map}
 use Rattle.dg_claims.specs.Kept.{table_of}
-use Rattle.ufs_audit.proofs.LossLaws.{AreAllHeld, bounds_of, marks_all, marks_below, none_above}
+use Rattle.ufs_audit.proofs.LossLaws.{AreAllHeld, bounds_of, marks_all, marks_below, none_above, ok_along}
 use Rattle.ufs_audit.proofs.holders.held_by.Goals as goal
 
 pub returns : goal.returns
@@ -17,4 +16,4 @@ returns c =
     let above2 = subst (λ (l : List Bool). AreAllHeld table dirs size bounds 2 l) (sym c.deref-3.ensures.value) (marks_all table dirs size bounds c.in_ok-second.second.items 2 second) in
     let first = marks_below table dirs size bounds c.deref-3.result.now c.in_ok-first.first.items 1 above2 c.in_ok-first.ensures in
     let above1 = subst (λ (l : List Bool). AreAllHeld table dirs size bounds 1 l) (sym c.deref-4.ensures.value) (marks_all table dirs size bounds c.in_ok-first.first.items 1 first) in
-    IfOk-map c.held_at-4.result _ _ (λ marks are. marks_below table dirs size bounds c.deref-4.result.now marks.items 0 above1 are) c.held_at-4.ensures
+    ok_along c.held_at-4.result _ _ (λ marks are. marks_below table dirs size bounds c.deref-4.result.now marks.items 0 above1 are) c.held_at-4.ensures

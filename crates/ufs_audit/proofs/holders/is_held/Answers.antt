@@ -1,4 +1,4 @@
-use Rattle.std.proofs.Common.{◌≡◌, ◌∙◌, ◌<◌, arith, refl, sym}
+use Rattle.std.proofs.Common.{◌∙◌, arith, refl, sym}
 use Rattle.dg_claims.specs.Kept.{table_of}
 use Rattle.ufs_audit.proofs.HolderLaws.{held_here, no_claim, none_held, none_here, none_next}
 use Rattle.ufs_audit.proofs.holders.is_held.Goals as goal

@@ -1,5 +1,4 @@
-use Rattle.std.proofs.Common.{◌≡◌, ◌∙◌, ◌<◌, ◌≤◌, ℕ, Bool, true, false, refl, sym, subst, arith}
-use Rattle.std.proofs.lemmas.Bool.{false≢true, true≢false}
+use Rattle.std.proofs.Common.{◌<◌, refl, sym, subst, arith}
 use Rattle.dg_io.specs.ViewLaws.{keeps_both, keeps_same}
 use Rattle.ufs_audit.proofs.AuditLaws.{structure_then, super_structure}
 use Rattle.ufs_audit.proofs.LossLaws.{behind_then, has_part, ok_along, refused_super, super_there, there_behind, was_behind}
@@ -52,8 +51,8 @@ returns-in-Some-Err-clause-there g c =
     there_behind (g.V.View.is_gone c.args.view.now b)
     (super_there l n _ reads told v stands b (refused_super l n v _ b refused of))
 
-pub returns-in-Some-Ok-clause-gone : goal.returns-in-Some-Ok-clause-gone
-returns-in-Some-Ok-clause-gone g c =
+pub returns-clause-gone : goal.returns-clause-gone
+returns-clause-gone g c =
     let l = g.V.View.size c.args.view.now in
     let n = g.V.View.count c.args.view.now in
     let first = c.read_geometry.ensures.keeps in
@@ -64,8 +63,8 @@ returns-in-Some-Ok-clause-gone g c =
     (λ told v stands. ((first.stands v stands, rw (first.bytes, first.blocks) (sym ((reads.rule (second.told told) v stands).answer))), λ block of. structure_then l n v block first.bytes first.blocks of)) (one is))
     c.volume_has_gone.ensures.gone
 
-pub returns-in-Some-Ok-clause-there : goal.returns-in-Some-Ok-clause-there
-returns-in-Some-Ok-clause-there g c =
+pub returns-clause-there : goal.returns-clause-there
+returns-clause-there g c =
     let l = g.V.View.size c.args.view.now in
     let n = g.V.View.count c.args.view.now in
     let first = c.read_geometry.ensures.keeps in
@@ -79,8 +78,8 @@ returns-in-Some-Ok-clause-there g c =
     (λ behind. one is told v (first.stands v stands, rw (first.bytes, first.blocks) answer) b (subst (λ k. b < k) (sym first.blocks) low) (behind_then l n v b first.bytes first.blocks behind)))
     c.volume_has_gone.ensures.there
 
-pub returns-in-Some-Ok-clause-fetched : goal.returns-in-Some-Ok-clause-fetched
-returns-in-Some-Ok-clause-fetched g c =
+pub returns-clause-fetched : goal.returns-clause-fetched
+returns-clause-fetched g c =
     let l = g.V.View.size c.args.view.now in
     let n = g.V.View.count c.args.view.now in
     let first = c.read_geometry.ensures.keeps in
@@ -91,7 +90,7 @@ returns-in-Some-Ok-clause-fetched g c =
     (only_of (IsStructure l n) (λ v stands block needs. super_structure l n v block needs) c.read_geometry.ensures.fetched)
     c.volume_has_gone.ensures.fetched
 
-pub returns-in-Some-Ok-clause-keeps : goal.returns-in-Some-Ok-clause-keeps
-returns-in-Some-Ok-clause-keeps g c =
+pub returns-clause-keeps : goal.returns-clause-keeps
+returns-clause-keeps g c =
     keeps_both g.met.V.View.further c.args.view.now c.read_geometry.new.view c.volume_has_gone.new.view c.read_geometry.ensures.keeps c.volume_has_gone.ensures.keeps
 

@@ -1,10 +1,12 @@
-use Rattle.std.proofs.Common.{◌≡◌, ◌∙◌, ◌<◌, Some, true, false, refl, sym, ap, subst}
+use Rattle.std.proofs.Common.{◌≡◌, ◌∙◌, ◌<◌, ◌*◌, Some, true, false, refl, sym, ap, subst}
 use Rattle.std.proofs.lemmas.Bool.{false≢true, true≢false}
 use Rattle.dg_io.specs.ViewLaws.{keeps_both}
 use Rattle.dg_claims.specs.Kept.{table_of}
 use Rattle.dg_claims.specs.Tables.{accepted}
 use Rattle.ufs_audit.specs.Audits.{HasGeometry}
+use Rattle.ufs_audit.specs.Holders.{AreHeld, AreMarks}
 use Rattle.ufs_audit.specs.Losses.{IsPart}
+use Rattle.ufs_audit.specs.Structures.{IsDirectoryOf}
 use Rattle.ufs_audit.proofs.LossLaws.{are_right, bounds_of, has_part, lost_part, part_structure, structure_part, was_there}
 use Rattle.ufs_model.specs.Blocks.{Volume}
 use Rattle.ufs_model.specs.Metadata.{IsMetadata, IsStructure}
@@ -135,14 +137,16 @@ returns-clause-gone g c =
     let first = c.scan.ensures.keeps in
     let second = c.find_directories.ensures.keeps in
     let table = table_of c.in-Some.claims in
-    let dirs = c.in-Some-2.directories.items in
-    let marks = c.in_ok-marks.marks.items in
+    let dirs = c.deref.result.now in
+    let marks = c.deref-2.result.now in
     let claims = rw c.in-Some.is at c.in_ok-claims.ensures.claims in
     let found = rw c.in-Some-2.is at c.in_ok-directories.ensures.found in
     let of = c.is_of.ensures.0 c.if-not-is_of.false in
     let bounds = bounds_of table gg of c.claims_inside.ensures.inside c.claims_inside.ensures.levels c.claims_inside.ensures.sources in
     let right = λ (told : g.V.View.tells c.find_directories.new.view) (v : Volume) (has : HasGeometry g.V.View c.args.view.now gg v).
-    are_right gg v l n table dirs marks (has.1) (c.tables_of_volumes.ensures.claims l n v table gg (claims (second.told told) v (has.0)) of) bounds (found told v (first.stands v (has.0))) c.in_ok-marks.ensures in
+    are_right gg v l n table dirs marks (has.1) (c.tables_of_volumes.ensures.claims l n v table gg (claims (second.told told) v (has.0)) of) bounds
+    (subst (AreMarks (IsDirectoryOf gg v) (gg.ncg * gg.ipg)) (sym c.deref.ensures.value) (found told v (first.stands v (has.0))))
+    (subst (AreMarks (AreHeld table dirs 0) gg.size) (sym c.deref-2.ensures.value) c.in_ok-marks.ensures) in
     λ is.
     let lost = lost_part g.V.View c.find_directories.new.view (IsPart gg table marks) c.parts_have_gone.result c.parts_have_gone.ensures is in
     record {
@@ -160,14 +164,16 @@ returns-clause-there g c =
     let first = c.scan.ensures.keeps in
     let second = c.find_directories.ensures.keeps in
     let table = table_of c.in-Some.claims in
-    let dirs = c.in-Some-2.directories.items in
-    let marks = c.in_ok-marks.marks.items in
+    let dirs = c.deref.result.now in
+    let marks = c.deref-2.result.now in
     let claims = rw c.in-Some.is at c.in_ok-claims.ensures.claims in
     let found = rw c.in-Some-2.is at c.in_ok-directories.ensures.found in
     let of = c.is_of.ensures.0 c.if-not-is_of.false in
     let bounds = bounds_of table gg of c.claims_inside.ensures.inside c.claims_inside.ensures.levels c.claims_inside.ensures.sources in
     let right = λ (told : g.V.View.tells c.find_directories.new.view) (v : Volume) (has : HasGeometry g.V.View c.args.view.now gg v).
-    are_right gg v l n table dirs marks (has.1) (c.tables_of_volumes.ensures.claims l n v table gg (claims (second.told told) v (has.0)) of) bounds (found told v (first.stands v (has.0))) c.in_ok-marks.ensures in
+    are_right gg v l n table dirs marks (has.1) (c.tables_of_volumes.ensures.claims l n v table gg (claims (second.told told) v (has.0)) of) bounds
+    (subst (AreMarks (IsDirectoryOf gg v) (gg.ncg * gg.ipg)) (sym c.deref.ensures.value) (found told v (first.stands v (has.0))))
+    (subst (AreMarks (AreHeld table dirs 0) gg.size) (sym c.deref-2.ensures.value) c.in_ok-marks.ensures) in
     λ is told v has b low behind.
     let none = has_part g.V.View c.find_directories.new.view (IsPart gg table marks) c.parts_have_gone.result c.parts_have_gone.ensures is in
     let within = subst (λ k. b < k) (sym (second.blocks ∙ first.blocks)) low in
