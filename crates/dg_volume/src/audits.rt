@@ -30,9 +30,10 @@ impl<S: InPhase, R: Rack> Volume<S, R> {
         ensures err { OnErr result (KeepsArray R.Rack self.old self.new) }
         ensures given { given_of self.new ≡ given_of self.old }
     {
-        match audit(alloc, &mut self.store, &mut self.levels)? {
-            Some(found) => Ok(AuditAnswer::Audited(lines_of(alloc, &found)?)),
-            None => Ok(AuditAnswer::Unavailable),
-        }
+        let Some(found) = audit(alloc, &mut self.store, &mut self.levels)? else {
+            return Ok(AuditAnswer::Unavailable);
+        };
+        let lines = lines_of(alloc, &found)?;
+        Ok(AuditAnswer::Audited(lines))
     }
 }

@@ -71,7 +71,10 @@ fn held_at(
 {
     let mut marks = Vec::new(alloc);
     for f in 0..size {
-        if marks.push(is_held(claims, f, level, directories, above)).is_err() {
+        if marks
+            .push(is_held(claims, f, level, directories, above))
+            .is_err()
+        {
             return Err(NoMemory);
         }
     }

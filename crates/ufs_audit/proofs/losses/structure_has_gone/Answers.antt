@@ -93,4 +93,3 @@ returns-clause-fetched g c =
 pub returns-clause-keeps : goal.returns-clause-keeps
 returns-clause-keeps g c =
     keeps_both g.met.V.View.further c.args.view.now c.read_geometry.new.view c.volume_has_gone.new.view c.read_geometry.ensures.keeps c.volume_has_gone.ensures.keeps
-

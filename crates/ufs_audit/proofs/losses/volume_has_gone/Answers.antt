@@ -179,4 +179,3 @@ returns-clause-there g c =
     let within = subst (λ k. b < k) (sym (second.blocks ∙ first.blocks)) low in
     was_there (g.V.View.is_gone c.args.view.now b) (g.V.View.is_gone c.find_directories.new.view b) (λ gone. second.stays b (first.stays b gone))
     (none b within (structure_part gg v l n table dirs marks (right told v has) b behind.of_structure behind.behind))
-
