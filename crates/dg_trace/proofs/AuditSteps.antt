@@ -1,5 +1,5 @@
 -- How an audit of an image ends.
-use Rattle.std.proofs.Common.{◌≡◌, ◌∙◌, ◌+◌, ◌-◌, ◌*◌, ◌<◌, ◌++◌, ℕ, Bool, true, false, List, ap, drop, inr, map, refl, replicate, subst, sym, take, arith}
+use Rattle.std.proofs.Common.{◌≡◌, ◌∙◌, ◌+◌, ◌-◌, ◌*◌, ◌<◌, ◌++◌, ℕ, Bool, true, false, List, ap, append_assoc, drop, inr, map, refl, replicate, subst, sym, take, arith}
 use Rattle.std.specs.Prelude.{Option, None, Some, Result, Ok, Err}
 use Rattle.std.proofs.lemmas.List.FromFn.{get_or-map-range_with_len, length-map-range_with_len}
 use Rattle.dg_io.specs.MemViews.{IsImage}
@@ -34,7 +34,8 @@ pub findings_told : (l n : ℕ) (v : Volume) (found : Findings) (lines : List Fi
     → lines ≡ map bad_line found.bad.items ++ (map Unnamed found.notes.unnamed.items ++ map Unclaimed found.notes.unclaimed.items)
     → AreFindings l n v found.bad.items found.notes.unnamed.items found.notes.unclaimed.items → TellsFindings l n v lines
 findings_told l n v found lines is are =
-    record { bad = found.bad.items; unnamed = found.notes.unnamed.items; unclaimed = found.notes.unclaimed.items; is = is; are = are }
+    record { bad = found.bad.items; unnamed = found.notes.unnamed.items; unclaimed = found.notes.unclaimed.items;
+  is = is ∙ sym (append_assoc (map bad_line found.bad.items) (map Unnamed found.notes.unnamed.items) (map Unclaimed found.notes.unclaimed.items)); are = are }
 
 module _ (image : List ℕ) (x y : Option (List ℕ)) where
   lines_end : (lines : List Finding) (bad : Bool) → has_bad lines ≡ bad → IsAudit image (Some lines) → Told (Took (audit_text (Some lines))) x y → EndsAudit image x y (Ok (end_by bad))

@@ -1,5 +1,5 @@
 -- A volume makes a step by an audit.
-use Rattle.std.proofs.Common.{◌≡◌, ◌∙◌, ◌<◌, ◌≤◌, ◌++◌, ℕ, List, true, false, length, map, get_or, refl, sym, ap, subst, arith}
+use Rattle.std.proofs.Common.{◌≡◌, ◌∙◌, ◌<◌, ◌≤◌, ◌++◌, ◌∷◌, [], inl, inr, ℕ, List, true, false, length, map, append_assoc, refl, sym, ap, subst, arith}
 use Rattle.std.specs.Prelude.{IfNone, IfSome, None, Some}
 use Rattle.std.proofs.lemmas.Bool.{and_parts, cases_order, false≢true}
 use Rattle.std.proofs.lemmas.List.{get_or_past}
@@ -89,7 +89,7 @@ module _ {S R : Type 0} (phase : phases.Ghosts S) (rack : Ghosts R) where
     reads_in phase rack a b rest V label h holds,
     (
       record {
-        unavailable = λ told loses. tt;
+        unavailable = λ told loses. refl;
         findings = tt;
         only = λ told. record {
           block = lost.block;
@@ -112,6 +112,6 @@ findings_told l n v found lines is are = record {
   bad = found.bad.items;
   unnamed = found.notes.unnamed.items;
   unclaimed = found.notes.unclaimed.items;
-  is = is;
+  is = is ∙ sym (append_assoc (map bad_line found.bad.items) (map Unnamed found.notes.unnamed.items) (map Unclaimed found.notes.unclaimed.items));
   are = are;
 }
