@@ -1,25 +1,21 @@
 -- A volume makes a step by an audit.
 use Rattle.std.proofs.Common.{◌≡◌, ◌∙◌, ◌<◌, ◌≤◌, ◌++◌, ◌∷◌, [], inl, inr, ℕ, List, true, false, length, map, append_assoc, refl, sym, ap, subst, arith}
-use Rattle.std.specs.Prelude.{IfNone, IfSome, None, Some}
 use Rattle.std.proofs.lemmas.Bool.{and_parts, cases_order, false≢true}
 use Rattle.std.proofs.lemmas.List.{get_or_past}
 use Rattle.dg_io.specs.declared.outside.Rack.{Ghosts}
 use Rattle.dg_model.specs.Findings.{TellsFindings, bad_line}
 use Rattle.dg_model.specs.Sites.{all_lost, has_site, is_gone}
-use Rattle.dg_model.specs.States.{State}
-use Rattle.dg_model.specs.Steps.{LosesStructure}
 use Rattle.dg_model.specs.Tables.{IsTable, Table, sites_in}
 use Rattle.dg_model.specs.declared.events.Event.TheVariants.{Audit}
 use Rattle.dg_model.specs.declared.findings.Finding.{Finding}
 use Rattle.dg_model.specs.declared.findings.Finding.TheVariants.{Unnamed, Unclaimed}
 use Rattle.dg_model.specs.declared.members.MemberState.{MemberState}
 use Rattle.dg_model.specs.declared.replies.Reply.TheVariants.{Audited, Unavailable}
-use Rattle.dg_model.specs.declared.shapes.Shape.{Shape}
 use Rattle.dg_model.specs.declared.sites.Site.{Site}
 use Rattle.dg_store.specs.Stores as stores
 use Rattle.dg_volume.proofs.PathSteps.{held}
 use Rattle.dg_volume.proofs.VolumeLaws.{HasRead, read_state, reads_in, reads_stay, steps_from}
-use Rattle.dg_volume.specs.Volumes.{StepsTo, Tells, members_of, shape_of, state_of, table_of}
+use Rattle.dg_volume.specs.Volumes.{StepsTo, Tells, members_of, shape_of, table_of}
 use Rattle.dg_volume.specs.declared.phases.InPhase as phases
 use Rattle.dg_volume.specs.declared.volumes.Volume.{Volume}
 use Rattle.ufs_audit.specs.declared.audits.Findings.{Findings}
