@@ -6,6 +6,8 @@ mod openings;
 #[cfg(test)]
 mod racks;
 #[cfg(test)]
+mod random_calls;
+#[cfg(test)]
 mod reopenings;
 #[cfg(test)]
 mod tests;

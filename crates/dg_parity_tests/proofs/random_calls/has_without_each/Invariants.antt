@@ -1,0 +1,5 @@
+use Rattle.dg_parity.specs.Kept.{IsKept}
+use Rattle.dg_parity_tests.proofs.random_calls.has_without_each.Given as goal
+
+abbrev pub invariant-loop-j : goal.invariant-loop-j
+invariant-loop-j g l = record { kept : IsKept g.R.Rack l.group l.rack }
