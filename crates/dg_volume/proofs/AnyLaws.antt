@@ -1,14 +1,13 @@
 -- A volume whose phase is told only when the program runs is the same volume.
-use Rattle.std.proofs.Common.{◌≡◌, ◌∙◌, false, length, refl, sym, subst}
-use Rattle.std.specs.Prelude.{Option, IfSome, replicate}
+use Rattle.std.proofs.Common.{◌≡◌, ◌∙◌, length, refl, sym, subst}
+use Rattle.std.specs.Prelude.{Option, IfSome}
 use Rattle.dg_infer.specs.Meanings.{KeptInference}
 use Rattle.dg_infer.specs.Meanings as inferences
 use Rattle.dg_io.specs.declared.outside.Rack.{Ghosts}
-use Rattle.dg_model.specs.Lives.{all_live}
 use Rattle.dg_model.specs.States.{State}
 use Rattle.dg_store.specs.ReadLaws.{own_none, rack_none}
 use Rattle.dg_volume.specs.Phases.{kept_in, phase_in}
-use Rattle.dg_volume.specs.Volumes.{FitsArray, IsInPlace, IsSame, IsWell, StandsIn, any_phase, marks_by, members_of, rack_of, shape_of, table_of}
+use Rattle.dg_volume.specs.Volumes.{FitsArray, IsInPlace, IsSame, IsWell, StandsIn, any_phase, cut_of, live_of, marks_by, members_of, rack_of, shape_of, table_of}
 use Rattle.dg_volume.specs.declared.phases.AnyPhase.{AnyPhase}
 use Rattle.dg_volume.specs.declared.phases.InPhase as phases
 use Rattle.dg_volume.specs.declared.volumes.Volume.{Volume}
@@ -22,6 +21,7 @@ module _ {S R : Type 0} (phase : phases.Ghosts S) (rack : Ghosts R) where
     pending = volume.pending;
     homes = volume.homes;
     copies = volume.copies;
+    in_use = volume.in_use;
     levels = volume.levels;
     given = volume.given;
     label = volume.label;
@@ -39,6 +39,7 @@ module _ {S R : Type 0} (phase : phases.Ghosts S) (rack : Ghosts R) where
     marks = subst (λ (k : Option KeptInference). length (marks_by k volume.pending.items) ≡ (shape_of volume).n) (sym h.kept_is) well.marks;
     inferred = subst (λ (k : Option KeptInference). IfSome k (FitsArray (shape_of volume))) (sym h.kept_is) well.inferred;
     labeled = well.labeled;
+    in_use = well.in_use;
     homes_are = well.homes_are;
     few_homes = well.few_homes;
     copies_are = well.copies_are;
@@ -52,11 +53,11 @@ module _ {S R : Type 0} (phase : phases.Ghosts S) (rack : Ghosts R) where
       → StandsIn any_phase rack P (told_later volume any) state
   stands_still volume any h state st = record {
     is = st.is ∙ (λ i. record state {
-      boundaries = (shape_of volume).b;
-      live = all_live (shape_of volume).b;
+      boundaries = volume.in_use.boundaries;
+      live = live_of volume;
       table = table_of volume;
       pending = marks_by (sym h.kept_is i) volume.pending.items;
-      cut = replicate (shape_of volume).n false;
+      cut = cut_of volume;
       homes = volume.homes;
       copies = volume.copies;
       phase = sym h.phase_is i;

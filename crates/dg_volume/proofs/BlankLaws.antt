@@ -11,6 +11,7 @@ use Rattle.dg_label.specs.declared.labels.KeptLabel.{KeptLabel}
 use Rattle.dg_model.specs.Blocks.{zeros}
 use Rattle.dg_model.specs.Lives.{all_live}
 use Rattle.dg_model.specs.Members.{is_filling}
+use Rattle.dg_model.specs.Openings.{FitsReduced, Reduced, all_in_use}
 use Rattle.dg_model.specs.Saves.{AreHomes, member_length}
 use Rattle.dg_model.specs.States.{IsBlank, State, plain_state}
 use Rattle.dg_model.specs.Tables.{Table, empty_table}
@@ -21,8 +22,9 @@ use Rattle.dg_store.specs.Answers.{IsBlankStore, IsZeroed}
 use Rattle.dg_store.specs.Stores as stores
 use Rattle.dg_store.specs.declared.store.Store.{Store}
 use Rattle.dg_volume.proofs.FaultLaws.{blank_beyond, blank_fell}
+use Rattle.dg_volume.proofs.PlaceLaws.{fits_all}
 use Rattle.dg_volume.specs.Origins.{Always}
-use Rattle.dg_volume.specs.Volumes.{IsBlankVolume, StandsIn, loose_phase, members_of, rack_of, shape_of}
+use Rattle.dg_volume.specs.Volumes.{IsBlankVolume, StandsIn, cut_of, live_of, loose_phase, members_of, rack_of, reduced_of, shape_of, table_of}
 use Rattle.dg_volume.specs.declared.phases.Loose.{Loose}
 use Rattle.dg_volume.specs.declared.volumes.Volume.{Volume}
 
@@ -83,6 +85,9 @@ pub record IsPlain {R : Type 0} (shape : Shape) (volume : Volume Loose R) : Type
   pub levels : volume.levels.fragment ≡ shape.l
   pub homes : volume.homes ≡ []
   pub copies : volume.copies ≡ []
+  pub boundaries : volume.in_use.boundaries ≡ shape.b
+  pub live : live_of volume ≡ all_live shape.b
+  pub cut : cut_of volume ≡ replicate shape.n false
   pub label : volume.label ≡ None
   pub given : volume.given ≡ None
 
@@ -98,9 +103,9 @@ module _ {R : Type 0} (rack : Ghosts R) (shape : Shape) (before : R) (volume : V
   unfolding start
   start_in = record {
     is = λ i. record start {
-      boundaries = (sym blank.table i).shape.b;
-      live = all_live (sym blank.table i).shape.b;
-      cut = replicate (sym blank.table i).shape.n false;
+      boundaries = sym plain.boundaries i;
+      live = sym plain.live i;
+      cut = sym plain.cut i;
       table = sym blank.table i;
       pending = sym plain.pending i;
       homes = sym plain.homes i;
@@ -122,6 +127,11 @@ module _ {R : Type 0} (rack : Ghosts R) (shape : Shape) (before : R) (volume : V
     few = blank.most;
   }
 
+  in_use_all : FitsReduced (table_of volume) (reduced_of volume)
+  in_use_all =
+      let all : all_in_use shape ≡ reduced_of volume = λ i. record { boundaries = sym plain.boundaries i; live = sym plain.live i; cut = sym plain.cut i } in
+      subst (λ (r : Reduced). FitsReduced (table_of volume) r) all (subst (λ (s : Shape). FitsReduced (table_of volume) (all_in_use s)) same_shape (fits_all (table_of volume) blank.sound.table))
+
   pub is_blank : IsBlankVolume rack shape before volume
   is_blank = record {
     well = record {
@@ -130,6 +140,7 @@ module _ {R : Type 0} (rack : Ghosts R) (shape : Shape) (before : R) (volume : V
       marks = ap length plain.pending ∙ length-replicate shape.n false ∙ sym (ap (λ (s : Shape). s.n) same_shape);
       inferred = record { bytes = plain.bytes ∙ sym (ap (λ (s : Shape). s.l) same_shape); number = plain.number ∙ sym (ap (λ (s : Shape). s.n) same_shape) };
       labeled = subst (λ (k : Option KeptLabel). IsLabeled rack volume.store k) (sym plain.label) (blank_labeled rack shape before volume.store blank);
+      in_use = in_use_all;
       homes_are = subst (λ (x : List Home). AreHomes (shape_of volume) x) (sym plain.homes) (no_homes (shape_of volume));
       few_homes = subst (λ (x : List Home). length x ≤ (shape_of volume).n) (sym plain.homes) (omega arith);
       copies_are = subst (λ (x : List Home). AreHomes (shape_of volume) x) (sym plain.copies) (no_homes (shape_of volume));

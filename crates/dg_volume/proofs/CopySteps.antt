@@ -1,6 +1,6 @@
 -- A settled volume makes a step by a spreading of copies.
 use Rattle.std.proofs.Common.{◌≡◌, ◌∙◌, ◌<◌, ◌≤◌, ◌/◌, ◌^◌, ◌==◌, ◌||◌, ℕ, Bool, true, false, List, [], ◌∷◌, length, inl, inr, refl, sym, ap, subst, arith}
-use Rattle.std.specs.Prelude.{◌++◌, All, Err, IfOk, IfSome, IsSome, None, Ok, Option, Result, Some, filter, if◌then◌else◌, option_to_list, replicate, take}
+use Rattle.std.specs.Prelude.{◌++◌, All, Err, IfOk, IfSome, IsSome, None, Ok, Option, Result, Some, filter, if◌then◌else◌, option_to_list, take}
 use Rattle.std.specs.List.{list_any, range_with_len}
 use Rattle.std.proofs.lemmas.Bool.{cases_lt, eq-eqb, eqb-true, false≢true, or_left, or_right}
 use Rattle.dg_hot.specs.Spreads.{HasSpread, HasSpreadSome, IsLost, spread_of}
@@ -13,7 +13,7 @@ use Rattle.dg_label.specs.Labels.{StandsLabeled}
 use Rattle.dg_model.specs.Changes.{Spreads}
 use Rattle.dg_model.specs.Copies.{lacks_copy, spread_over}
 use Rattle.dg_model.specs.Homes.{home_of}
-use Rattle.dg_model.specs.Lives.{all_live}
+use Rattle.dg_model.specs.Lives.{boundary_at}
 use Rattle.dg_model.specs.Placed.{IsPlaced, boundaries_with}
 use Rattle.dg_model.specs.Plans.{is_file}
 use Rattle.dg_model.specs.Saves.{AreHomes}
@@ -31,15 +31,16 @@ use Rattle.dg_model.specs.declared.shapes.Shape.{Shape}
 use Rattle.dg_model.specs.declared.wants.Want.{Want}
 use Rattle.dg_model.specs.declared.wants.Want.TheVariants.{File, Kept, Stray}
 use Rattle.dg_volume.proofs.HomeLaws.{are_homes}
-use Rattle.dg_volume.proofs.LineLaws.{least_in}
 use Rattle.dg_volume.proofs.PlacedLaws.{off_table}
 use Rattle.dg_store.specs.Answers.{SameWritten}
+use Rattle.dg_volume.proofs.UseLaws.{fits_same, least_here, least_on}
 use Rattle.dg_volume.proofs.VolumeLaws.{Labels, StepsAt, label_by, on_label}
 use Rattle.dg_volume.specs.Origins.{Origin, WasHeld}
 use Rattle.dg_volume.specs.Copies.{StepsHot, diffuse_reply}
+use Rattle.dg_volume.specs.Numbers.{diffused_by}
 use Rattle.dg_volume.specs.Planned.{AreWanted, HasMovedArray}
 use Rattle.dg_volume.specs.Settles.{KeepsArray}
-use Rattle.dg_volume.specs.Volumes.{AreWantsBy, FitsArray, IsInPlace, IsWell, Known, Leaves, StandsFor, StandsIn, marks_by, marks_of, members_of, rack_of, shape_of, state_of, table_of}
+use Rattle.dg_volume.specs.Volumes.{AreWantsBy, FitsArray, IsInPlace, IsWell, Known, Leaves, StandsFor, StandsIn, live_of, marks_by, marks_of, members_of, rack_of, shape_of, state_of, table_of}
 use Rattle.dg_volume.specs.declared.phases.InPhase as phases
 use Rattle.dg_volume.specs.declared.volumes.Volume.{Volume}
 
@@ -92,6 +93,7 @@ module _ {S R : Type 0} (phase : phases.Ghosts S) (rack : Ghosts R) where
     pub phase_is : b.phase ≡ a.phase
     pub pending : b.pending ≡ a.pending
     pub homes : b.homes ≡ a.homes
+    pub in_use : b.in_use ≡ a.in_use
     pub levels : b.levels.fragment ≡ a.levels.fragment
     pub small : All (λ (home : Home). home.inode < 2 ^ 32) b.copies
     pub moved : HasMovedArray rack a.store b.store
@@ -166,6 +168,7 @@ module _ {S R : Type 0} (phase : phases.Ghosts S) (rack : Ghosts R) where
             marks = ap length same_marks ∙ well.marks ∙ sym (ap (λ (x : Shape). x.n) same_shape);
             inferred = subst (λ (p : S). IfSome (phase.kept p) (FitsArray (shape_of b))) (sym h.phase_is) fits;
             labeled = h.labels.labeled;
+            in_use = fits_same a b h.in_use same_shape h.written well.in_use;
             homes_are = subst (λ (x : List Home). AreHomes (shape_of b) x) (sym h.homes) homes;
             few_homes =
                 subst (λ (x : List Home). length x ≤ (shape_of b).n) (sym h.homes)
@@ -236,9 +239,9 @@ module _ {S R : Type 0} (phase : phases.Ghosts S) (rack : Ghosts R) where
       spread = has.spread ∙ ap (λ (files : List ℕ). spread_over wants a.homes (take count files) (spread_of a.store a.copies)) (sym recent);
       gained_is = has.gained_is;
       rest = λ i. record (on_label a b h.labels.opens rest) {
-        boundaries = (same_shape i).b;
-        live = all_live (same_shape i).b;
-        cut = replicate (same_shape i).n false;
+        boundaries = (h.in_use i).boundaries;
+        live = (h.in_use i).live.items;
+        cut = (h.in_use i).cut.items;
         table = table_of b;
         blocks = V;
         pending = same_marks i;
@@ -260,7 +263,7 @@ module _ {S R : Type 0} (phase : phases.Ghosts S) (rack : Ghosts R) where
       (go origin state state.blocks st.label recent st.holds)
 
   pub diffuse_steps : {E : Type 0} (a : Volume S R) (kept : KeptInference) (wants : List (Option Want)) (hot : List ℕ) (result : Result DiffuseAnswer E) (b : Volume S R)
-      → HasDiffused a kept wants hot result b → IfOk result (λ answer. StepsHot phase phase rack hot a Diffuse (diffuse_reply answer) b)
+      → HasDiffused a kept wants hot result b → IfOk result (λ answer. StepsHot phase phase rack hot a Diffuse (diffuse_reply (diffused_by (live_of b) answer)) b)
   diffuse_steps a kept wants hot (Ok (Diffused n)) b h = hot_steps a b hot Diffuse (DiffusedReply n) (λ origin rest V label recent holds. (
     next_state a kept wants hot (Ok (Diffused n)) b h rest V,
     next_in a kept wants hot (Ok (Diffused n)) b h rest V label holds,
@@ -275,12 +278,12 @@ module _ {S R : Type 0} (phase : phases.Ghosts S) (rack : Ghosts R) where
   ))
   diffuse_steps a kept wants hot (Ok (Lost s)) b h =
       let some = h.cut s refl in
-      hot_steps a b hot Diffuse (LostReply s) (λ origin rest V label recent holds. (
+      hot_steps a b hot Diffuse (LostReply (boundary_at (live_of b) s)) (λ origin rest V label recent holds. (
         next_state a kept wants hot (Ok (Lost s)) b h rest V,
         next_in a kept wants hot (Ok (Lost s)) b h rest V label holds,
         (
           h.settled,
-          inr ((h.whole, least_in (shape_of b) (members_of b) s (h.lost s refl)), (some.count, some.gained, spreads a kept wants hot (Ok (Lost s)) b h some.count some.gained some.has rest V label recent holds)),
+          inr ((h.whole, least_on a b s h.well.in_use h.in_use h.moved.stays.shape (h.lost s refl)), (some.count, some.gained, spreads a kept wants hot (Ok (Lost s)) b h some.count some.gained some.has rest V label recent holds)),
         ),
         refl,
       ))
@@ -288,11 +291,12 @@ module _ {S R : Type 0} (phase : phases.Ghosts S) (rack : Ghosts R) where
 
   -- ---- nothing is done
 
-  pub diffuse_lost : (a : Volume S R) (hot : List ℕ) (s : ℕ) → phase.phase a.phase ≡ SettledPhase → IsLeastLost (shape_of a) (members_of a) s → StepsHot phase phase rack hot a Diffuse (LostReply s) a
-  diffuse_lost a hot s settled lost = hot_steps a a hot Diffuse (LostReply s) (λ origin rest V label recent holds. (
+  pub diffuse_lost : (a : Volume S R) (hot : List ℕ) (s : ℕ) → IsWell phase rack a → phase.phase a.phase ≡ SettledPhase → IsLeastLost (shape_of a) (members_of a) s
+      → StepsHot phase phase rack hot a Diffuse (LostReply (boundary_at (live_of a) s)) a
+  diffuse_lost a hot s well settled lost = hot_steps a a hot Diffuse (LostReply (boundary_at (live_of a) s)) (λ origin rest V label recent holds. (
     state_of phase rack a rest V,
     record { is = refl; label = label; holds = holds },
-    (settled, inl (least_in (shape_of a) (members_of a) s lost, refl)),
+    (settled, inl (least_here a s well.in_use lost, refl)),
     refl,
   ))
 

@@ -2,6 +2,7 @@ mod AnyLaws
 mod ArrayLaws
 mod BlankLaws
 mod CopySteps
+mod CutLaws
 mod FaultLaws
 mod FewLaws
 mod FileAnswers
@@ -9,7 +10,6 @@ mod FileLaws
 mod GoneLaws
 mod HomeLaws
 mod LabelLaws
-mod LineLaws
 mod ListedLaws
 mod LooseLaws
 mod MoveSteps
@@ -17,6 +17,7 @@ mod OpenLaws
 mod OpenSteps
 mod OrderLaws
 mod PathSteps
+mod PlaceLaws
 mod PlacedLaws
 mod ReapLaws
 mod RebuildMarks
@@ -28,6 +29,7 @@ mod SaveLaws
 mod SealSteps
 mod SettleSteps
 mod SettledSteps
+mod UseLaws
 mod VolumeLaws
 mod VolumeSteps
 mod WantLaws

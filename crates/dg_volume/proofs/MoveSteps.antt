@@ -1,14 +1,15 @@
 -- A volume makes a step by moves of its blocks: what is left of it, and each answer of `tend` and of `settle`.
 use Rattle.std.proofs.Common.{◌≡◌, ◌≢◌, ◌⊎◌, ◌∙◌, ◌≤◌, ℕ, Bool, false, List, length, refl, sym, ap, subst, inl, inr}
-use Rattle.std.specs.Prelude.{Option, Some, None, Err, IfSome, replicate}
+use Rattle.std.specs.Prelude.{Option, Some, None, Err, IfSome}
 use Rattle.dg_label.specs.Labels.{StandsLabeled}
 use Rattle.dg_label.specs.declared.labels.KeptLabel.{KeptLabel}
 use Rattle.dg_infer.specs.Meanings.{KeptInference}
 use Rattle.dg_infer.specs.Meanings as inferences
 use Rattle.dg_io.specs.declared.outside.Rack.{Ghosts}
 use Rattle.dg_model.specs.Changes.{Goes, IsCramped, IsCut, IsPlan, MovesNothing, SeesParents, SeesWants, Stays}
-use Rattle.dg_model.specs.Lives.{all_live}
+use Rattle.dg_model.specs.Lives.{boundary_at}
 use Rattle.dg_model.specs.Moves.{IsCutByLoss, missing_in, moved, within}
+use Rattle.dg_model.specs.Openings.{FitsReduced}
 use Rattle.dg_model.specs.Plans.{targets_of}
 use Rattle.dg_model.specs.Saves.{AreHomes}
 use Rattle.dg_model.specs.Seals.{KeepsLabel, LastLabel}
@@ -27,18 +28,20 @@ use Rattle.dg_model.specs.declared.wants.Want.{Want}
 use Rattle.dg_move.specs.Answers.{IsTended}
 use Rattle.dg_plan.specs.Targets.{wants_of}
 use Rattle.dg_plan.specs.declared.target_lists.Targets.{Targets}
+use Rattle.dg_store.specs.Answers.{SameWritten}
 use Rattle.dg_store.specs.Stores.{TellsAll}
 use Rattle.dg_store.specs.Stores as stores
 use Rattle.dg_store.specs.declared.store.Store.{Store}
 use Rattle.dg_volume.proofs.ArrayLaws.{told_by, told_moved}
 use Rattle.dg_volume.proofs.LabelLaws.{good_falls, relabels_behind}
-use Rattle.dg_volume.proofs.LineLaws.{least_in}
+use Rattle.dg_volume.proofs.UseLaws.{fits_same, least_here, least_on}
 use Rattle.dg_volume.proofs.VolumeLaws.{HasRead, IsBeside, Labels, label_by, on_label, read_state, reads_in, reads_stay, same_in, steps_from}
 use Rattle.dg_volume.specs.Origins.{WasHeld}
+use Rattle.dg_volume.specs.Numbers.{unsettled_by}
 use Rattle.dg_volume.specs.Planned.{AnswersCheck, AreKnown, AreWanted, FindsOn, HasMovedArray, HasNoPlan, HasPlan, HasReadArray}
 use Rattle.dg_volume.specs.Seals.{Relabels}
 use Rattle.dg_volume.specs.Settles.{unsettled_reply}
-use Rattle.dg_volume.specs.Volumes.{FitsArray, IsWell, Known, Leaves, StandsFor, StandsIn, StepsTo, Tells, marks_by, marks_of, members_of, rack_of, shape_of, state_of, table_of}
+use Rattle.dg_volume.specs.Volumes.{FitsArray, IsWell, Known, Leaves, StandsFor, StandsIn, StepsTo, Tells, live_of, marks_by, marks_of, members_of, rack_of, reduced_of, shape_of, state_of, table_of}
 use Rattle.dg_volume.specs.declared.phases.InPhase as phases
 use Rattle.dg_volume.specs.declared.settles.Unsettled.{Unsettled}
 use Rattle.dg_volume.specs.declared.settles.Unsettled.TheVariants.{Lost, Malformed, NoSpace}
@@ -58,8 +61,10 @@ module _ {S R : Type 0} (phase : phases.Ghosts S) (rack : Ghosts R) where
     pub phase_is : b.phase ≡ a.phase
     pub pending : b.pending ≡ a.pending
     pub copies : b.copies ≡ a.copies
+    pub in_use : b.in_use ≡ a.in_use
     pub levels : b.levels.fragment ≡ a.levels.fragment
     pub array : HasMovedArray rack a.store b.store
+    pub written : SameWritten (table_of a) (table_of b)
     pub labels : Labels rack a b
     pub homes_are : AreHomes (shape_of b) b.homes
     pub few_homes : length b.homes ≤ (shape_of b).n
@@ -81,6 +86,7 @@ module _ {S R : Type 0} (phase : phases.Ghosts S) (rack : Ghosts R) where
           marks = ap length (marks_moved a b h) ∙ well.marks ∙ sym (ap (λ (x : Shape). x.n) shape);
           inferred = subst (λ (p : S). IfSome (phase.kept p) (FitsArray (shape_of b))) (sym h.phase_is) fits;
           labeled = h.labels.labeled;
+          in_use = fits_same a b h.in_use shape h.written well.in_use;
           homes_are = h.homes_are;
           few_homes = h.few_homes;
           copies_are = subst (λ (x : List Home). AreHomes (shape_of b) x) (sym h.copies) copies;
@@ -140,12 +146,12 @@ module _ {S R : Type 0} (phase : phases.Ghosts S) (rack : Ghosts R) where
   moved_stays a b rest V label h table homes = record {
     goes = moved_goes a b rest V label h;
     rest = λ i. record (on_label a b h.labels.opens rest) {
-      boundaries = (table i).shape.b;
-      live = all_live (table i).shape.b;
+      boundaries = (h.in_use i).boundaries;
+      live = (h.in_use i).live.items;
       table = table i;
       blocks = V;
       pending = marks_moved a b h i;
-      cut = replicate (table i).shape.n false;
+      cut = (h.in_use i).cut.items;
       homes = homes i;
       copies = h.copies i;
       phase = phase.phase (h.phase_is i);
@@ -168,13 +174,16 @@ module _ {S R : Type 0} (phase : phases.Ghosts S) (rack : Ghosts R) where
   }
 
   -- what moves left of it, where the homes stay
-  pub has_moved : (a b : Volume S R) → IsBeside phase rack a b → b.levels.fragment ≡ a.levels.fragment → IsWell phase rack a → Labels rack a b → HasMovedArray rack a.store b.store → HasMoved a b
-  has_moved a b beside levels well labels h = record {
+  pub has_moved : (a b : Volume S R) → IsBeside phase rack a b → b.levels.fragment ≡ a.levels.fragment → IsWell phase rack a → SameWritten (table_of a) (table_of b) → Labels rack a b
+      → HasMovedArray rack a.store b.store → HasMoved a b
+  has_moved a b beside levels well written labels h = record {
     phase_is = beside.phase_is;
     pending = beside.pending;
     copies = beside.copies;
+    in_use = beside.in_use;
     levels = levels;
     array = h;
+    written = written;
     labels = labels;
     homes_are =
         subst (λ (x : Shape). AreHomes x b.homes) (sym h.stays.shape)
@@ -183,6 +192,10 @@ module _ {S R : Type 0} (phase : phases.Ghosts S) (rack : Ghosts R) where
         subst (λ (x : Shape). length b.homes ≤ x.n) (sym h.stays.shape)
         (subst (λ (x : List Home). length x ≤ (shape_of a).n) (sym beside.homes) well.few_homes);
   }
+
+  -- the written blocks, where reads were followed by moves
+  pub written_run : (a : Volume S R) (mid last : Store R) → HasReadArray rack a.store mid → SameWritten (stores.table_of mid) (stores.table_of last) → SameWritten (table_of a) (stores.table_of last)
+  written_run a mid last read written = subst (λ (t : Table). SameWritten t (stores.table_of last)) read.reads.table written
 
   -- the label, where reads were followed by moves
   pub labels_run : (a : Volume S R) (mid last : Store R) (label : Option KeptLabel) → HasReadArray rack a.store mid → HasMovedArray rack mid last → Relabels rack mid last a.label label
@@ -244,23 +257,25 @@ module _ {S R : Type 0} (phase : phases.Ghosts S) (rack : Ghosts R) where
   pub record IsReady (a : Volume S R) : Type 0 where
     pub loose : phase.phase a.phase ≡ LoosePhase
     pub whole : has_lost (shape_of a) (members_of a) ≡ false
+    pub in_use : FitsReduced (table_of a) (reduced_of a)
 
   not_settled : (a : Volume S R) → IsReady a → phase.phase a.phase ≢ SettledPhase
   not_settled a ready settled = loose_not_settled (sym ready.loose ∙ settled)
 
-  pub tend_lost_first : (a : Volume S R) (limit s : ℕ) → IsLeastLost (shape_of a) (members_of a) s → StepsTo phase phase rack a (Tend limit) (LostReply s) a
-  tend_lost_first a limit s least = steps_from phase rack a a (Tend limit) (LostReply s) (λ origin rest V label holds. (
+  pub tend_lost_first : (a : Volume S R) (limit s : ℕ) → IsWell phase rack a → IsLeastLost (shape_of a) (members_of a) s
+      → StepsTo phase phase rack a (Tend limit) (LostReply (boundary_at (live_of a) s)) a
+  tend_lost_first a limit s well least = steps_from phase rack a a (Tend limit) (LostReply (boundary_at (live_of a) s)) (λ origin rest V label holds. (
     state_of phase rack a rest V,
     same_in phase rack a rest V label holds,
-    inl (least_in (shape_of a) (members_of a) s least, refl),
+    inl (least_here a s well.in_use least, refl),
     refl,
   ))
 
-  pub settle_lost_first : (a : Volume S R) (s : ℕ) → IsLeastLost (shape_of a) (members_of a) s → StepsTo phase phase rack a Settle (LostReply s) a
-  settle_lost_first a s least = steps_from phase rack a a Settle (LostReply s) (λ origin rest V label holds. (
+  pub settle_lost_first : (a : Volume S R) (s : ℕ) → IsWell phase rack a → IsLeastLost (shape_of a) (members_of a) s → StepsTo phase phase rack a Settle (LostReply (boundary_at (live_of a) s)) a
+  settle_lost_first a s well least = steps_from phase rack a a Settle (LostReply (boundary_at (live_of a) s)) (λ origin rest V label holds. (
     state_of phase rack a rest V,
     same_in phase rack a rest V label holds,
-    inl (least_in (shape_of a) (members_of a) s least, refl),
+    inl (least_here a s well.in_use least, refl),
     refl,
   ))
 
@@ -284,20 +299,20 @@ module _ {S R : Type 0} (phase : phases.Ghosts S) (rack : Ghosts R) where
 
   -- a boundary was lost by reads
   pub tend_lost_reading : (a b : Volume S R) (limit s : ℕ) → IsReady a → HasRead phase rack a b → IsLeastLost (shape_of b) (members_of b) s
-      → StepsTo phase phase rack a (Tend limit) (LostReply s) b
-  tend_lost_reading a b limit s ready h least = steps_from phase rack a b (Tend limit) (LostReply s) (λ origin rest V label holds. (
+      → StepsTo phase phase rack a (Tend limit) (LostReply (boundary_at (live_of b) s)) b
+  tend_lost_reading a b limit s ready h least = steps_from phase rack a b (Tend limit) (LostReply (boundary_at (live_of b) s)) (λ origin rest V label holds. (
     read_state phase rack a b h rest V,
     reads_in phase rack a b rest V label h holds,
-    inr ((ready.whole, least_in (shape_of b) (members_of b) s least), not_settled a ready, inl (reads_stay phase rack a b rest V label h)),
+    inr ((ready.whole, least_on a b s ready.in_use h.beside.in_use h.reads.keeps.shape least), not_settled a ready, inl (reads_stay phase rack a b rest V label h)),
     refl,
   ))
 
   pub settle_lost_reading : (a b : Volume S R) (s : ℕ) → IsReady a → HasRead phase rack a b → IsLeastLost (shape_of b) (members_of b) s
-      → StepsTo phase phase rack a Settle (LostReply s) b
-  settle_lost_reading a b s ready h least = steps_from phase rack a b Settle (LostReply s) (λ origin rest V label holds. (
+      → StepsTo phase phase rack a Settle (LostReply (boundary_at (live_of b) s)) b
+  settle_lost_reading a b s ready h least = steps_from phase rack a b Settle (LostReply (boundary_at (live_of b) s)) (λ origin rest V label holds. (
     read_state phase rack a b h rest V,
     reads_in phase rack a b rest V label h holds,
-    inr ((ready.whole, least_in (shape_of b) (members_of b) s least), not_settled a ready, inl (reads_stay phase rack a b rest V label h)),
+    inr ((ready.whole, least_on a b s ready.in_use h.beside.in_use h.reads.keeps.shape least), not_settled a ready, inl (reads_stay phase rack a b rest V label h)),
     refl,
   ))
 
@@ -366,7 +381,7 @@ module _ {S R : Type 0} (phase : phases.Ghosts S) (rack : Ghosts R) where
 
   -- each refusal of a check
   pub check_refused : (a b : Volume S R) (kept : KeptInference) (unsettled : Unsettled) → IsReady a → Keeps a kept → HasRead phase rack a b
-      → AnswersCheck rack a.store b.store kept (Err unsettled) → StepsTo phase phase rack a Settle (unsettled_reply unsettled) b
+      → AnswersCheck rack a.store b.store kept (Err unsettled) → StepsTo phase phase rack a Settle (unsettled_reply (unsettled_by (live_of b) unsettled)) b
   check_refused a b kept (Lost s) ready keeps h answer = settle_lost_reading a b s ready h answer
   check_refused a b kept (Malformed kind n) ready keeps h answer = settle_malformed a b kept kind n ready keeps h answer
   check_refused a b kept (NoSpace bad) ready keeps h answer = absurd answer
@@ -409,9 +424,9 @@ module _ {S R : Type 0} (phase : phases.Ghosts S) (rack : Ghosts R) where
       goes = moved_goes a b rest V label run.moves;
       cut = on_plan (λ f t. IsCutByLoss f limit t (table_of b) (members_of b)) cut;
       rest = λ i. record (on_label a b run.moves.labels.opens rest) {
-        boundaries = (run.moves.array.stays.shape i).b;
-        live = all_live (run.moves.array.stays.shape i).b;
-        cut = replicate (run.moves.array.stays.shape i).n false;
+        boundaries = (run.moves.in_use i).boundaries;
+        live = (run.moves.in_use i).live.items;
+        cut = (run.moves.in_use i).cut.items;
         table = table_of b;
         blocks = V;
         pending = marks_moved a b run.moves i;
@@ -438,12 +453,12 @@ module _ {S R : Type 0} (phase : phases.Ghosts S) (rack : Ghosts R) where
         same ∙ ap (λ (r : R). (rack.counts r).writes) (quiet none) ∙ run.read.reads.writes
 
     pub tend_lost_moving : (limit s : ℕ) → IsReady a → b.homes ≡ a.homes → IsLeastLost (shape_of b) (members_of b) s
-        → IsEnded (Some limit) → StepsTo phase phase rack a (Tend limit) (LostReply s) b
-    tend_lost_moving limit s ready homes least ended = steps_from phase rack a b (Tend limit) (LostReply s) (λ origin rest V label holds. (
+        → IsEnded (Some limit) → StepsTo phase phase rack a (Tend limit) (LostReply (boundary_at (live_of b) s)) b
+    tend_lost_moving limit s ready homes least ended = steps_from phase rack a b (Tend limit) (LostReply (boundary_at (live_of b) s)) (λ origin rest V label holds. (
       moved_state a b run.moves rest V,
       moved_in a b rest V label run.moves holds,
       inr (
-        (ready.whole, least_in (shape_of b) (members_of b) s least),
+        (ready.whole, least_on a b s ready.in_use run.moves.in_use run.moves.array.stays.shape least),
         not_settled a ready,
         elim ended [
           | inl same ↦ inl (moved_stays a b rest V label run.moves (same ∙ run.read.reads.table) homes)
@@ -454,12 +469,12 @@ module _ {S R : Type 0} (phase : phases.Ghosts S) (rack : Ghosts R) where
     ))
 
     pub settle_lost_moving : (s : ℕ) → IsReady a → IsChecked a kept b → b.homes ≡ a.homes → IsLeastLost (shape_of b) (members_of b) s
-        → IsEnded None → StepsTo phase phase rack a Settle (LostReply s) b
-    settle_lost_moving s ready check homes least ended = steps_from phase rack a b Settle (LostReply s) (λ origin rest V label holds. (
+        → IsEnded None → StepsTo phase phase rack a Settle (LostReply (boundary_at (live_of b) s)) b
+    settle_lost_moving s ready check homes least ended = steps_from phase rack a b Settle (LostReply (boundary_at (live_of b) s)) (λ origin rest V label holds. (
       moved_state a b run.moves rest V,
       moved_in a b rest V label run.moves holds,
       inr (
-        (ready.whole, least_in (shape_of b) (members_of b) s least),
+        (ready.whole, least_on a b s ready.in_use run.moves.in_use run.moves.array.stays.shape least),
         not_settled a ready,
         elim ended [
           | inl same ↦ inl (moved_stays a b rest V label run.moves (same ∙ run.read.reads.table) homes)
@@ -486,9 +501,9 @@ module _ {S R : Type 0} (phase : phases.Ghosts S) (rack : Ghosts R) where
                 planned = plan_at rest V holds;
                 goes = moved_goes a b rest V label run.moves;
                 rest = λ i. record (on_label a b run.moves.labels.opens rest) {
-                  boundaries = (run.moves.array.stays.shape i).b;
-                  live = all_live (run.moves.array.stays.shape i).b;
-                  cut = replicate (run.moves.array.stays.shape i).n false;
+                  boundaries = (run.moves.in_use i).boundaries;
+                  live = (run.moves.in_use i).live.items;
+                  cut = (run.moves.in_use i).cut.items;
                   table = done.table i;
                   blocks = V;
                   pending = marks_moved a b run.moves i;
@@ -538,9 +553,9 @@ module _ {S R : Type 0} (phase : phases.Ghosts S) (rack : Ghosts R) where
                 };
                 sound = sound_in a b kept V run.keeps check (held_at V holds);
                 rest = λ i. record (on_label a b run.moves.labels.opens rest) {
-                  boundaries = (run.moves.array.stays.shape i).b;
-                  live = all_live (run.moves.array.stays.shape i).b;
-                  cut = replicate (run.moves.array.stays.shape i).n false;
+                  boundaries = (run.moves.in_use i).boundaries;
+                  live = (run.moves.in_use i).live.items;
+                  cut = (run.moves.in_use i).cut.items;
                   table = done i;
                   blocks = V;
                   pending = marks_moved a b run.moves i;

@@ -17,7 +17,7 @@ use Rattle.dg_model.specs.Changes.{IsInOrder}
 use Rattle.dg_model.specs.Lives.{all_live}
 use Rattle.dg_model.specs.Marks.{AreLeft, AreNext}
 use Rattle.dg_model.specs.Members.{HasFallen, SlotHolds, SlotOf, is_filling, is_good, slot_of}
-use Rattle.dg_model.specs.Openings.{Found, IsReopened, MayBeGood, Opens, all_in_use, copies_after}
+use Rattle.dg_model.specs.Openings.{FitsReduced, Found, IsReopened, MayBeGood, Opens, Reduced, all_in_use, copies_after}
 use Rattle.dg_model.specs.Placed.{IsPlaced}
 use Rattle.dg_model.specs.Saves.{AreHomes, Label, SavedState, member_length}
 use Rattle.dg_model.specs.Seals.{LastLabel}
@@ -45,12 +45,12 @@ use Rattle.dg_store.specs.Stores as stores
 use Rattle.dg_store.specs.declared.store.Store.{Store}
 use Rattle.dg_volume.proofs.FaultLaws.{falls_out, keeps_tells}
 use Rattle.dg_volume.proofs.LabelLaws.{filling_not_good, good_falls, length_stays, stands_through}
-use Rattle.dg_volume.proofs.LineLaws.{fits_all}
+use Rattle.dg_volume.proofs.PlaceLaws.{fits_all}
 use Rattle.dg_volume.specs.Origins.{WasHeld}
 use Rattle.dg_volume.specs.Opens.{HasOpened, IsDisordered, IsMadeOf, IsOrdered, IsPhaseOf, IsRestored, had}
 use Rattle.dg_volume.specs.Phases.{kept_in, phase_in}
 use Rattle.dg_volume.specs.Planned.{HasReadArray}
-use Rattle.dg_volume.specs.Volumes.{FitsArray, IsInPlace, IsWell, Known, StandsIn, any_phase, marks_by, marks_of, members_of, rack_of, shape_of, table_of}
+use Rattle.dg_volume.specs.Volumes.{FitsArray, IsInPlace, IsWell, Known, StandsIn, any_phase, cut_of, live_of, marks_by, marks_of, members_of, rack_of, reduced_of, shape_of, table_of}
 use Rattle.dg_volume.specs.declared.phases.AnyPhase.{AnyPhase}
 use Rattle.dg_volume.specs.declared.phases.AnyPhase.TheVariants.{Loose, Settled, Worn}
 use Rattle.dg_volume.specs.declared.volumes.Volume.{Volume}
@@ -462,12 +462,18 @@ module _ (one : OneOwner) (none : NoSystem) {R : Type 0} (rack : Ghosts R) (befo
         told_before = λ q told. found.leaves.told_before q (keeps.told_before q told);
       }
 
+  in_use_all : FitsReduced (table_of volume) (reduced_of volume)
+  in_use_all =
+      let all : all_in_use (shape_of volume) ≡ reduced_of volume = λ i. record { boundaries = sym made.boundaries i; live = sym made.live i; cut = sym made.cut i } in
+      subst (λ (r : Reduced). FitsReduced (table_of volume) r) all (fits_all (table_of volume) made.reads.sound.table)
+
   well : IsWell any_phase rack volume
   well = record {
     array = made.reads.sound;
     levels = made.levels;
     marks = marks_size rack start volume.store saved made.reads.reads.table volume.phase volume.pending.items (shape_of volume).n made.phase size (ap length made.pending ∙ size);
     inferred = fits_phase rack start volume.store saved made.reads.reads.table volume.phase made.phase;
+    in_use = in_use_all;
     labeled = subst (λ (l : Option KeptLabel). IsLabeled rack volume.store l) (sym made.label) (labeled_on rack start volume.store (Some reopened.label) made.reads found.labeled);
     homes_are = subst (λ (hs : List Home). AreHomes (shape_of volume) hs) (sym made.homes) (of_saved (λ t. AreHomes t.shape saved.homes) found.form.homes);
     few_homes = subst (λ (hs : List Home). length hs ≤ (shape_of volume).n) (sym made.homes) (of_saved (λ t. length saved.homes ≤ t.shape.n) found.form.few_homes);
@@ -532,9 +538,9 @@ module _ (one : OneOwner) (none : NoSystem) {R : Type 0} (rack : Ghosts R) (befo
   -- the state of these blocks
   abbrev opened : List (List ℕ) → State
   opened V = record {
-    boundaries = (shape_of volume).b;
-    live = all_live (shape_of volume).b;
-    cut = replicate (shape_of volume).n false;
+    boundaries = volume.in_use.boundaries;
+    live = live_of volume;
+    cut = cut_of volume;
     table = table_of volume;
     blocks = V;
     pending = marks_of any_phase volume;
@@ -566,9 +572,9 @@ module _ (one : OneOwner) (none : NoSystem) {R : Type 0} (rack : Ghosts R) (befo
       reduced = all_in_use saved.table.shape;
       reduced_is = refl;
       fits = fits_all saved.table found.form.table;
-      boundaries = ap (λ (t : Table). t.shape.b) table_saved;
-      live = ap (λ (t : Table). all_live t.shape.b) table_saved;
-      cut = ap (λ (t : Table). replicate t.shape.n false) table_saved;
+      boundaries = made.boundaries ∙ ap (λ (t : Table). t.shape.b) table_saved;
+      live = made.live ∙ ap (λ (t : Table). all_live t.shape.b) table_saved;
+      cut = made.cut ∙ ap (λ (t : Table). replicate t.shape.n false) table_saved;
       table = table_saved;
       homes = made.homes;
       recent = made.recent;

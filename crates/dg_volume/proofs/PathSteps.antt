@@ -1,11 +1,11 @@
 -- A volume makes a step by a file that is read, or a directory that is listed, by its path.
-use Rattle.std.proofs.Common.{◌≡◌, ◌∙◌, ℕ, List, ◌++◌, false, refl, sym, subst, true}
-use Rattle.std.specs.Prelude.{Option, Some, None, Result, Ok, Err, IfNone, replicate}
-use Rattle.std.specs.List.{concat}
+use Rattle.std.proofs.Common.{◌≡◌, ◌∙◌, ℕ, List, ◌++◌, refl, sym, subst, true}
+use Rattle.std.specs.Prelude.{Option, Some, None, Result, Ok, Err, IfNone, ◌||◌}
+use Rattle.std.specs.List.{concat, list_any}
 use Rattle.dg_io.specs.declared.outside.Rack.{Ghosts}
 use Rattle.dg_model.specs.Changes.{IsCutShort, MayRead}
 use Rattle.dg_model.specs.Lists.{AreLines}
-use Rattle.dg_model.specs.Lives.{all_live}
+use Rattle.dg_model.specs.Marks.{is_marked}
 use Rattle.dg_model.specs.Sites.{is_gone}
 use Rattle.dg_model.specs.States.{HasGone, State}
 use Rattle.dg_model.specs.Steps.{recent_after}
@@ -13,16 +13,18 @@ use Rattle.dg_model.specs.declared.events.Event.TheVariants.{Cat, Ls}
 use Rattle.dg_model.specs.declared.replies.Reply.TheVariants.{Cut, Given, Listed as ListedReply, ListedCut, Refused, Unavailable as ReplyUnavailable}
 use Rattle.dg_store.specs.Stores as stores
 use Rattle.dg_volume.proofs.FaultLaws.{keeps_outs, keeps_tells}
-use Rattle.dg_volume.proofs.LineLaws.{any_in, gone_at, meets_in}
+use Rattle.dg_volume.proofs.PlaceLaws.{any_turned, meets_turned, or_turned}
 use Rattle.dg_volume.proofs.VolumeLaws.{HasRead, label_by, on_label, read_keeps, read_state, reads_in, reads_stay, steps_by, steps_from, told_before}
+use Rattle.dg_volume.specs.CutReads.{LosesOne, ReadsCut, gone_with}
 use Rattle.dg_volume.specs.Replies.{AnswersCat, AnswersLs, HasFileAt, TellsInode}
-use Rattle.dg_volume.specs.Volumes.{Known, StandsFor, StepsBy, StepsTo, Tells, marks_by, members_of, rack_of, shape_of, state_of, table_of, touched_by}
+use Rattle.dg_volume.specs.Volumes.{Known, StandsFor, StepsBy, StepsTo, Tells, cut_of, marks_by, members_of, rack_of, shape_of, state_of, table_of, touched_by}
+use Rattle.dg_volume.specs.declared.in_use.InUse.{InUse}
 use Rattle.dg_volume.specs.declared.phases.InPhase as phases
 use Rattle.dg_volume.specs.declared.volumes.Volume.{Volume}
-use Rattle.ufs_model.specs.Blocks.{Reading}
+use Rattle.ufs_model.specs.Blocks.{Consulted, Reading}
 use Rattle.ufs_model.specs.Listings.{Listed, ls_of}
 use Rattle.ufs_model.specs.Paths.{cat_of}
-use Rattle.ufs_model.specs.Readings.{ReadsAs}
+use Rattle.ufs_model.specs.Readings.{MeetsRule}
 use Rattle.ufs_model.specs.Trees.{file_of}
 use Rattle.ufs_model.specs.declared.reads.PathRefusal.{PathRefusal}
 use Rattle.ufs_model.specs.declared.reads.PathRefusal.TheVariants.{NotFound as RefusedNotFound, NotDirectory as RefusedNotDirectory, NotRegular as RefusedNotRegular, Bad as RefusedBad}
@@ -34,12 +36,11 @@ use Rattle.ufs_path.specs.declared.faults.CatAnswer.TheVariants.{Given as Answer
 module _ {S R : Type 0} (phase : phases.Ghosts S) (rack : Ghosts R) where
   -- some block of a volume is gone
   abbrev pub LosesBlock : Volume S R → Type 0
-  LosesBlock volume = (b : ℕ) × (is_gone (table_of volume) (members_of volume) b ≡ true)
+  LosesBlock volume = LosesOne (cut_of volume) volume.store
 
   -- what is read of the blocks that the volume stands for
   abbrev pub ReadsBy : {A : Type 0} → Reading A → Volume S R → Volume S R → Option A → Type 0
-  ReadsBy reading a b answer =
-      ReadsAs (stores.StandsFor rack a.store) (is_gone (table_of a) (members_of a)) (Tells rack b) (is_gone (table_of b) (members_of b)) reading answer
+  ReadsBy reading a b answer = ReadsCut rack (cut_of a) a.store b.store reading answer
 
   -- of the file at a path
   abbrev pub Reads : List ℕ → Volume S R → Volume S R → Option (Result (List ℕ) PathRefusal) → Type 0
@@ -52,20 +53,26 @@ module _ {S R : Type 0} (phase : phases.Ghosts S) (rack : Ghosts R) where
   pub held : {P : Type 0} → (a b : Volume S R) (V : List (List ℕ)) → HasRead phase rack a b → (Known P rack a → StandsFor phase rack a V) → Known P rack b → stores.StandsFor rack a.store V
   held a b V h holds told = let all = holds (told_before phase rack a b (read_keeps phase rack a b h) told) in all.array
 
+  -- the reading rule, as states have it
+  meets_at : {A : Type 0} (a b : Volume S R) → HasRead phase rack a b → (d : Consulted A) (answer : Option A) → MeetsRule (gone_with (cut_of a) a.store) (gone_with (cut_of a) b.store) d answer
+      → MeetsRule (λ c. is_gone (table_of a) (members_of a) c || is_marked (cut_of a) c) (λ c. is_gone (table_of b) (members_of b) c || is_marked (cut_of b) c) d answer
+  meets_at a b h d answer rule =
+      meets_turned (is_gone (table_of a) (members_of a)) (is_marked (cut_of a)) (is_gone (table_of b) (members_of b)) (is_marked (cut_of b)) d answer
+      (subst (λ (u : InUse). MeetsRule (gone_with (cut_of a) a.store) (gone_with u.cut.items b.store) d answer) (sym h.beside.in_use) rule)
+
   -- what may be answered of a state by what was read of the volume
   pub may_read : {P : Type 0} → {A : Type 0} (reading : Reading A) (a b : Volume S R) (rest : State) (V : List (List ℕ)) (answer : Option A) → (h : HasRead phase rack a b)
       → (Known P rack a → StandsFor phase rack a V) → ReadsBy reading a b answer → IfNone answer (LosesBlock b)
       → MayRead (Known P rack b) (state_of phase rack a rest V) (read_state phase rack a b h rest V) reading answer
   may_read reading a b rest V answer h holds reads gone = record {
     rule = λ told.
-        meets_in (shape_of a).n (shape_of b).n (is_gone (table_of a) (members_of a)) (is_gone (table_of b) (members_of b)) (reading V) answer
-        (reads.rule (told.0) V (held a b V h holds told));
+        meets_at a b h (reading V) answer (reads.rule (told.0) V (held a b V h holds told));
     cause = at_end answer gone;
     unwritten = h.reads.writes;
   }
     where
       at_end : {A : Type 0} (answer : Option A) → IfNone answer (LosesBlock b) → IfNone answer (HasGone (read_state phase rack a b h rest V))
-      at_end None gone = (gone.0, gone_at (shape_of b).n (is_gone (table_of b) (members_of b) gone.0) gone.0 ∙ gone.1)
+      at_end None gone = (gone.0, or_turned (is_marked (cut_of b) gone.0) (is_gone (table_of b) (members_of b) gone.0) ∙ gone.1)
       at_end (Some given) gone = tt
 
   -- what was cut short
@@ -73,7 +80,8 @@ module _ {S R : Type 0} (phase : phases.Ghosts S) (rack : Ghosts R) where
       → (Known P rack a → StandsFor phase rack a V) → ReadsBy reading a b None → IsCutShort (Known P rack b) (state_of phase rack a rest V) (read_state phase rack a b h rest V) reading
   cut_short reading a b rest V h holds lost told =
       let rule = lost.rule (told.0) V (held a b V h holds told) in
-      any_in (shape_of b).n (is_gone (table_of b) (members_of b)) (reading V).needs rule.only
+      any_turned (is_gone (table_of b) (members_of b)) (is_marked (cut_of b)) (reading V).needs
+      (subst (λ (u : InUse). list_any (gone_with u.cut.items b.store) (reading V).needs ≡ true) (sym h.beside.in_use) rule.only)
 
   -- ---- a file
 
@@ -119,8 +127,7 @@ module _ {S R : Type 0} (phase : phases.Ghosts S) (rack : Ghosts R) where
           are,
           record {
             rule = λ told.
-                meets_in (shape_of a).n (shape_of b).n (is_gone (table_of a) (members_of a)) (is_gone (table_of b) (members_of b))
-                (cat_of (shape_of a).l (shape_of a).n path V) (Some (Ok (concat lines))) (reads.rule (told.0) V (held a b V h holds told));
+                meets_at a b h (cat_of (shape_of a).l (shape_of a).n path V) (Some (Ok (concat lines))) (reads.rule (told.0) V (held a b V h holds told));
             cause = tt;
             unwritten = h.reads.writes;
           },
@@ -140,9 +147,9 @@ module _ {S R : Type 0} (phase : phases.Ghosts S) (rack : Ghosts R) where
             i = i;
             is = λ told. file origin (state_of phase rack a rest V) (record { is = refl; label = label; holds = holds }) told;
             rest = λ j. record (on_label a b (read_keeps phase rack a b h).labels.opens (touched_rest a i rest)) {
-              boundaries = (h.reads.table j).shape.b;
-              live = all_live (h.reads.table j).shape.b;
-              cut = replicate (h.reads.table j).shape.n false;
+              boundaries = (h.beside.in_use j).boundaries;
+              live = (h.beside.in_use j).live.items;
+              cut = (h.beside.in_use j).cut.items;
               table = h.reads.table j;
               blocks = V;
               pending = marks_by (phase.kept (h.beside.phase_is j)) ((h.beside.pending j).items);

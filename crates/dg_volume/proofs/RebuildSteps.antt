@@ -13,7 +13,6 @@ use Rattle.dg_model.proofs.MemberLaws.{good_was, rose_before}
 use Rattle.dg_model.specs.Causes.{Rose}
 use Rattle.dg_model.specs.Blocks.{block_in, zeros}
 use Rattle.dg_model.specs.Changes.{BreaksOff, MayReap, PassesSlots, Rebuilds, SparesAll, refilled_to}
-use Rattle.dg_model.specs.Lives.{all_live}
 use Rattle.dg_model.specs.Marks.{IsDead, is_marked}
 use Rattle.dg_model.specs.Members.{HasFallen, IsRefilled, is_filling, is_good, is_lost}
 use Rattle.dg_model.specs.Refills.{Reaps}
@@ -32,6 +31,7 @@ use Rattle.dg_model.specs.declared.phases.Phase.TheVariants.{Worn as WornPhase}
 use Rattle.dg_model.specs.declared.replies.Reply.{Reply}
 use Rattle.dg_model.specs.declared.replies.Reply.TheVariants.{Copied as CopiedReply, Failed as FailedReply, Lost as LostReply, NotFilling as NotFillingReply, Range as RangeReply}
 use Rattle.dg_model.specs.declared.shapes.Shape.{Shape}
+use Rattle.dg_model.specs.declared.sites.Site.{Site}
 use Rattle.dg_model.specs.declared.wants.Want.TheVariants.{Stray}
 use Rattle.dg_rebuild.specs.Answers as answers
 use Rattle.dg_rebuild.specs.Passed.{IsLeftAt, Passed}
@@ -43,25 +43,30 @@ use Rattle.dg_store.specs.Stores.{IsSound}
 use Rattle.dg_store.specs.Stores as stores
 use Rattle.dg_store.specs.declared.store.Store.{Store}
 use Rattle.dg_volume.proofs.FaultLaws.{array_outs, array_tells, behind_outs, behind_tells, falls_out, passed_outs, passed_tells}
-use Rattle.dg_volume.proofs.LineLaws.{lost_in, lost_of, own_place}
 use Rattle.dg_volume.proofs.LabelLaws.{CallsOnSlots, relabels_then, slots_fell}
 use Rattle.dg_volume.proofs.LooseLaws.{LooseBlocksChange, reaped_differ}
 use Rattle.dg_volume.proofs.ReapLaws.{are_without, by_without, fit_without, placed_without, without}
 use Rattle.dg_volume.proofs.RebuildMarks.{both_out, by_loss, copied_not_lost, dead_mark, failed_not_lost, if_some, mark_dead, mark_free, none_passed, reaped_stands, stands_has, stray_at}
-use Rattle.dg_volume.proofs.RefillBehind.{HasSlots, below_behind, falls_behind, filling_was, live_before, lost_behind, others_behind, slots_behind}
+use Rattle.dg_volume.proofs.RefillBehind.{HasSlots, falls_behind, filling_was, live_before, lost_behind, others_behind, slots_behind}
 use Rattle.dg_volume.proofs.RefillLaws.{filling_live, left_outs, lost_none_filling, lost_where_left}
+use Rattle.dg_volume.proofs.UseLaws.{HasPlace, IsUnused, fits_as, lost_in, lost_of, place_on, unused_lost}
 use Rattle.dg_volume.proofs.VolumeLaws.{IsBeside, Keeps, Labels, StepsAt, holds_on, kept_state, label_by, leaves, lost_on, on_label, quiet_in, still_in}
 use Rattle.dg_volume.proofs.VolumeSteps.{false_of}
 use Rattle.dg_volume.specs.Origins.{Origin, WasHeld}
 use Rattle.dg_volume.specs.Faults.{OutsStay, TellsFaults}
 use Rattle.dg_volume.specs.Phases.{CanReapAll}
 use Rattle.dg_volume.specs.Seals.{Relabels}
-use Rattle.dg_volume.specs.Refills.{AreReapMarks, AreReaped, HasFilling, IsDeadMark, SparesFiles, rebuild_reply, told_of}
+use Rattle.dg_volume.specs.Refills.{AreReapMarks, AreReaped, HasFilling, IsDeadMark, SparesFiles, rebuild_reply, rebuilt_at, told_of}
 use Rattle.dg_volume.specs.Volumes.{FitsArray, IsInPlace, IsWell, Known, Leaves, StandsFor, StandsIn, StepsSized, Tells, marks_by, marks_of, members_of, rack_of, shape_of, state_of, table_of}
 use Rattle.dg_volume.specs.declared.phases.InPhase as phases
 use Rattle.dg_volume.specs.declared.refills.RebuildAnswer as rebuilds
 use Rattle.dg_volume.specs.declared.refills.RebuildAnswer.TheVariants.{Failed as RebuildFailed, Lost as RebuildLost}
 use Rattle.dg_volume.specs.declared.volumes.Volume.{Volume}
+
+-- what is left of the sites of a block that has none
+bare_left : (reaped : Bool) (sites : List Site) → has_site sites ≡ false → has_site (if reaped then [] else sites) ≡ false
+bare_left true sites none = refl
+bare_left false sites none = none
 
 module _ {S R : Type 0} (phase : phases.Ghosts S) (rack : Ghosts R) where
   -- ---- behind the opening of the seal
@@ -112,7 +117,8 @@ module _ {S R : Type 0} (phase : phases.Ghosts S) (rack : Ghosts R) where
 
   -- and what is left of the volume, behind the opening of the seal
   pub record HasRebuilt {E : Type 0} (a : Volume S R) (m : Store R) (s n : ℕ) (marks : List Bool) (before after : List ℕ) (result : Result RebuildAnswer E) (b : Volume S R) : Type 0 where
-    pub boundary : s < (shape_of a).b
+    pub number : ℕ
+    pub place : HasPlace a number s
     pub none : before ≡ []
     pub beside : IsBeside phase rack a b
     pub levels : b.levels.fragment ≡ a.levels.fragment
@@ -323,6 +329,7 @@ module _ {S R : Type 0} (phase : phases.Ghosts S) (rack : Ghosts R) where
           marks = ap length same_marks ∙ well.marks ∙ sym (ap (λ (x : Shape). x.n) same_shape);
           inferred = subst (λ (p : S). IfSome (phase.kept p) (FitsArray (shape_of b))) (sym h.beside.phase_is) fits;
           labeled = h.labels.labeled;
+          in_use = fits_as a b h.beside.in_use same_shape (λ c none. subst (λ (xs : List Site). has_site xs ≡ false) (sym (sites c)) (bare_left (is_among reaped c) (sites_in (table_of a) c) none)) well.in_use;
           homes_are = subst (λ (x : List Home). AreHomes (shape_of b) x) (sym h.beside.homes) homes;
           few_homes =
               subst (λ (x : List Home). length x ≤ (shape_of b).n) (sym h.beside.homes)
@@ -434,9 +441,9 @@ module _ {S R : Type 0} (phase : phases.Ghosts S) (rack : Ghosts R) where
         reaps = reaps V size;
         may = may_reap;
         rest = λ i. record (on_label a b h.labels.opens rest) {
-          boundaries = (same_shape i).b;
-          live = all_live (same_shape i).b;
-          cut = replicate (same_shape i).n false;
+          boundaries = (h.beside.in_use i).boundaries;
+          live = (h.beside.in_use i).live.items;
+          cut = (h.beside.in_use i).cut.items;
           table = table_of b;
           blocks = zeroed (shape_of a).l reaped V;
           pending = same_marks i;
@@ -462,9 +469,9 @@ module _ {S R : Type 0} (phase : phases.Ghosts S) (rack : Ghosts R) where
   -- nothing was done
   quiet_state : (a b : Volume S R) → IsBeside phase rack a b → b.store ≡ a.store → (rest : State) (V : List (List ℕ)) → state_of phase rack b rest V ≡ state_of phase rack a rest V
   quiet_state a b beside same rest V i = record rest {
-    boundaries = (stores.shape_of (same i)).b;
-    live = all_live (stores.shape_of (same i)).b;
-    cut = replicate (stores.shape_of (same i)).n false;
+    boundaries = (beside.in_use i).boundaries;
+    live = (beside.in_use i).live.items;
+    cut = (beside.in_use i).cut.items;
     table = stores.table_of (same i);
     blocks = V;
     pending = marks_by (phase.kept (beside.phase_is i)) ((beside.pending i).items);
@@ -571,9 +578,9 @@ module _ {S R : Type 0} (phase : phases.Ghosts S) (rack : Ghosts R) where
             all = λ told live unbroken c dead between. absurd (let early = between.before in let late = between.from in omega (arith, early, late));
           };
           rest = λ i. record (on_label a b keeps.labels.opens rest) {
-            boundaries = (keeps.table i).shape.b;
-            live = all_live (keeps.table i).shape.b;
-            cut = replicate (keeps.table i).shape.n false;
+            boundaries = (h.beside.in_use i).boundaries;
+            live = (h.beside.in_use i).live.items;
+            cut = (h.beside.in_use i).cut.items;
             table = table_of b;
             blocks = V;
             pending = marks_by (phase.kept (h.beside.phase_is i)) ((h.beside.pending i).items);
@@ -589,44 +596,45 @@ module _ {S R : Type 0} (phase : phases.Ghosts S) (rack : Ghosts R) where
       }
 
   -- the boundary is there still
-  below_on : (a b : Volume S R) (s : ℕ) → Keeps phase rack a b → s < (shape_of a).b → s < (shape_of b).b
-  below_on a b s keeps low = subst (λ (t : Table). s < t.shape.b) (sym keeps.table) low
+  place_kept : (a b : Volume S R) (t s : ℕ) → Keeps phase rack a b → HasPlace a t s → HasPlace b t s
+  place_kept a b t s keeps h = place_on a b t s keeps.beside.in_use (ap (λ (x : Table). x.shape) keeps.table) h
 
   -- the member was refilled, and isn't any more
   pub record HasLostFilling (a b : Volume S R) (s : ℕ) : Type 0 where
-    pub boundary : s < (shape_of a).b
+    pub number : ℕ
+    pub place : HasPlace a number s
     pub sound : IsSound rack a.store
     pub was : HasFilling (members_of a) s
     pub none : answers.HasNoFilling (members_of b) s
     pub opened : HasOpened a b
 
-  pub steps_gone : (a b : Volume S R) (s n : ℕ) → HasLostFilling a b s → is_lost (members_of b) s ≡ true → StepsSized phase phase rack a (Rebuild s n) (LostReply s) b
-  steps_gone a b s n h lost = sized a b (Rebuild s n) (LostReply s) (λ origin rest V label size holds. (
+  pub steps_gone : (a b : Volume S R) (s n : ℕ) → (h : HasLostFilling a b s) → is_lost (members_of b) s ≡ true → StepsSized phase phase rack a (Rebuild h.number n) (LostReply h.number) b
+  steps_gone a b s n h lost = sized a b (Rebuild h.number n) (LostReply h.number) (λ origin rest V label size holds. (
     kept_state phase rack a b (keeps_opened a b h.opened) rest V,
     still_in phase rack a b rest V label (keeps_opened a b h.opened) holds,
     (
-      h.boundary,
+      h.place.number,
       refl,
       inr (
-        λ was. filling_live (members_of a) s h.was.q h.was.have h.sound.paired h.was.refilled (lost_of (shape_of a).b (members_of a) s h.boundary was),
-        lost_in (shape_of b).b (members_of b) s (below_on a b s (keeps_opened a b h.opened) h.boundary) lost,
+        λ was. filling_live (members_of a) s h.was.q h.was.have h.sound.paired h.was.refilled (lost_of a (members_of a) h.number s h.place was),
+        lost_in b (members_of b) h.number s (place_kept a b h.number s (keeps_opened a b h.opened) h.place) lost,
         subst (λ (x : ℕ). BreaksOff (Known (WasHeld origin) rack b) (state_of phase rack a rest V) x (kept_state phase rack a b (keeps_opened a b h.opened) rest V))
-            (sym (own_place (shape_of a).b s h.boundary)) (breaks_at_once a b s h.sound h.opened rest V label),
+            (sym h.place.is) (breaks_at_once a b s h.sound h.opened rest V label),
       ),
     ),
     refl,
   ))
 
-  pub steps_fell : (a b : Volume S R) (s n : ℕ) → HasLostFilling a b s → is_lost (members_of b) s ≡ false → StepsSized phase phase rack a (Rebuild s n) FailedReply b
-  steps_fell a b s n h live = sized a b (Rebuild s n) FailedReply (λ origin rest V label size holds. (
+  pub steps_fell : (a b : Volume S R) (s n : ℕ) → (h : HasLostFilling a b s) → is_lost (members_of b) s ≡ false → StepsSized phase phase rack a (Rebuild h.number n) FailedReply b
+  steps_fell a b s n h live = sized a b (Rebuild h.number n) FailedReply (λ origin rest V label size holds. (
     kept_state phase rack a b (keeps_opened a b h.opened) rest V,
     still_in phase rack a b rest V label (keeps_opened a b h.opened) holds,
     (
-      h.boundary,
-      λ lost. false≢true (sym live ∙ lost_of (shape_of b).b (members_of b) s (below_on a b s (keeps_opened a b h.opened) h.boundary) lost),
-      record { q = h.was.q; have = h.was.have; filling = (h.was.refilled.0 ∙ (sym (own_place (shape_of a).b s h.boundary)), h.was.refilled.1); out = fell.out; rose = rose },
+      h.place.number,
+      λ lost. false≢true (sym live ∙ lost_of b (members_of b) h.number s (place_kept a b h.number s (keeps_opened a b h.opened) h.place) lost),
+      record { q = h.was.q; have = h.was.have; filling = (h.was.refilled.0 ∙ (sym h.place.is), h.was.refilled.1); out = fell.out; rose = rose },
       subst (λ (x : ℕ). BreaksOff (Known (WasHeld origin) rack b) (state_of phase rack a rest V) x (kept_state phase rack a b (keeps_opened a b h.opened) rest V))
-          (sym (own_place (shape_of a).b s h.boundary)) (breaks_at_once a b s h.sound h.opened rest V label),
+          (sym h.place.is) (breaks_at_once a b s h.sound h.opened rest V label),
     ),
     refl,
   ))
@@ -641,27 +649,27 @@ module _ {S R : Type 0} (phase : phases.Ghosts S) (rack : Ghosts R) where
       rose = elim fell.caused [ inl up ↦ up | inr left ↦ absurd (both_out (members_of b) s h.was.q h.was.refilled.0 fell.out left.1 live) ]
 
   -- what the refill answers then
-  pub steps_ended : (a b : Volume S R) (s n : ℕ) (answer : rebuilds.RebuildAnswer) → HasLostFilling a b s → (is_lost (members_of b) s ≡ true → answer ≡ RebuildLost s)
-      → (is_lost (members_of b) s ≡ false → answer ≡ RebuildFailed) → StepsSized phase phase rack a (Rebuild s n) (rebuild_reply answer) b
+  pub steps_ended : (a b : Volume S R) (s n : ℕ) (answer : rebuilds.RebuildAnswer) → (h : HasLostFilling a b s) → (is_lost (members_of b) s ≡ true → answer ≡ RebuildLost s)
+      → (is_lost (members_of b) s ≡ false → answer ≡ RebuildFailed) → StepsSized phase phase rack a (Rebuild h.number n) (rebuild_reply (rebuilt_at h.number answer)) b
   steps_ended a b s n answer h lost fell = by_loss_of (is_lost (members_of b) s) refl
     where
-      by_loss_of : (x : Bool) → is_lost (members_of b) s ≡ x → StepsSized phase phase rack a (Rebuild s n) (rebuild_reply answer) b
-      by_loss_of true is = subst (λ (r : rebuilds.RebuildAnswer). StepsSized phase phase rack a (Rebuild s n) (rebuild_reply r) b) (sym (lost is)) (steps_gone a b s n h is)
-      by_loss_of false is = subst (λ (r : rebuilds.RebuildAnswer). StepsSized phase phase rack a (Rebuild s n) (rebuild_reply r) b) (sym (fell is)) (steps_fell a b s n h is)
+      by_loss_of : (x : Bool) → is_lost (members_of b) s ≡ x → StepsSized phase phase rack a (Rebuild h.number n) (rebuild_reply (rebuilt_at h.number answer)) b
+      by_loss_of true is = subst (λ (r : rebuilds.RebuildAnswer). StepsSized phase phase rack a (Rebuild h.number n) (rebuild_reply (rebuilt_at h.number r)) b) (sym (lost is)) (steps_gone a b s n h is)
+      by_loss_of false is = subst (λ (r : rebuilds.RebuildAnswer). StepsSized phase phase rack a (Rebuild h.number n) (rebuild_reply (rebuilt_at h.number r)) b) (sym (fell is)) (steps_fell a b s n h is)
 
   steps_copied : {E : Type 0} (a : Volume S R) (m : Store R) (s n d l : ℕ) (marks : List Bool) (before after : List ℕ) (b : Volume S R) → IsWell phase rack a
-      → HasRebuilt {E = E} a m s n marks before after (Ok (Copied d l)) b → StepsSized phase phase rack a (Rebuild s n) (CopiedReply d l) b
+      → (h : HasRebuilt {E = E} a m s n marks before after (Ok (Copied d l)) b) → StepsSized phase phase rack a (Rebuild h.number n) (CopiedReply d l) b
   steps_copied a m s n d l marks before after b well h =
       let k = h.call.copied d l refl in
       let passed = passed_copied a m s n d l marks before after b h.none h.opening k in
       let all = usual a m s n marks before after (Ok (Copied d l)) b well h in
-      sized a b (Rebuild s n) (CopiedReply d l) (λ origin rest V label size holds. (
+      sized a b (Rebuild h.number n) (CopiedReply d l) (λ origin rest V label size holds. (
         next a m marks s after b all passed rest V label size holds,
         next_in a m marks s after b all passed rest V label size holds,
         (
-          h.boundary,
-          λ lost. copied_not_lost d l s (sym (h.call.lost.1 (lost_of (shape_of b).b (members_of b) s (below_behind rack a.store m b.store s h.opening h.call.left h.boundary) lost))),
-          subst (λ (x : ℕ). Rebuilds (Known (WasHeld origin) rack b) (state_of phase rack a rest V) x n d l (next a m marks s after b all passed rest V label size holds)) (sym (own_place (shape_of a).b s h.boundary)) (record {
+          h.place.number,
+          λ lost. copied_not_lost d l s (sym (h.call.lost.1 (lost_of b (members_of b) h.number s (place_on a b h.number s h.beside.in_use (h.call.left.shape ∙ h.opening.stays.shape) h.place) lost))),
+          subst (λ (x : ℕ). Rebuilds (Known (WasHeld origin) rack b) (state_of phase rack a rest V) x n d l (next a m marks s after b all passed rest V label size holds)) (sym h.place.is) (record {
             q = k.q;
             low = k.low;
             high = k.high;
@@ -690,89 +698,89 @@ module _ {S R : Type 0} (phase : phases.Ghosts S) (rack : Ghosts R) where
   }
 
   steps_lost : {E : Type 0} (a : Volume S R) (m : Store R) (s n t : ℕ) (marks : List Bool) (before after : List ℕ) (b : Volume S R) → IsWell phase rack a
-      → HasRebuilt {E = E} a m s n marks before after (Ok (Lost t)) b → (lost : Bool) → is_lost (stores.members_of m) s ≡ lost → StepsSized phase phase rack a (Rebuild s n) (LostReply t) b
+      → (h : HasRebuilt {E = E} a m s n marks before after (Ok (Lost t)) b) → (lost : Bool) → is_lost (stores.members_of m) s ≡ lost → StepsSized phase phase rack a (Rebuild h.number n) (LostReply h.number) b
   steps_lost a m s n t marks before after b well h true is =
       let none = lost_none_filling (stores.members_of m) s h.opening.sound.paired is in
       let still = h.same none in
       let same : b.store ≡ a.store = (h.call.quiet none).0 ∙ still.0 in
-      sized a b (Rebuild s n) (LostReply t) (λ origin rest V label size holds. (
+      sized a b (Rebuild h.number n) (LostReply h.number) (λ origin rest V label size holds. (
         state_of phase rack b rest V,
         quiet_in phase rack a b rest V label (opened_keeps a m b h.opening h.labels h.beside h.levels (h.call.quiet none).0) (ap (λ (x : Store R). stores.rack_of x) same) still.1
             (λ q out. ap (λ (x : Store R). stores.members_of x q) same ∙ out)
             (λ q fills. ap (λ (x : Store R). is_filling (stores.members_of x q)) (sym same) ∙ fills) holds,
-        (h.boundary, h.call.other t refl, inl (lost_in (shape_of a).b (members_of a) s h.boundary (subst (λ (x : Store R). is_lost (stores.members_of x) s ≡ true) still.0 is), quiet_state a b h.beside same rest V)),
+        (h.place.number, refl, inl (lost_in a (members_of a) h.number s h.place (subst (λ (x : Store R). is_lost (stores.members_of x) s ≡ true) still.0 is), quiet_state a b h.beside same rest V)),
         refl,
       ))
   steps_lost a m s n t marks before after b well h false is =
       let e = h.call.other t refl in
       let k = h.call.broken (inr (ap Lost e)) is in
       let all = usual a m s n marks before after (Ok (Lost t)) b well h in
-      sized a b (Rebuild s n) (LostReply t) (λ origin rest V label size holds. (
+      sized a b (Rebuild h.number n) (LostReply h.number) (λ origin rest V label size holds. (
         next a m marks s after b all (passed_broken a m s marks before after b h.none all.opening k) rest V label size holds,
         next_in a m marks s after b all (passed_broken a m s marks before after b h.none all.opening k) rest V label size holds,
         (
-          h.boundary,
-          e,
+          h.place.number,
+          refl,
           inr (
-            λ lost. live_before rack a.store m s h.opening is (lost_of (shape_of a).b (members_of a) s h.boundary lost),
-            lost_in (shape_of b).b (members_of b) s (below_behind rack a.store m b.store s h.opening h.call.left h.boundary) (h.call.lost.0 (ap Lost e)),
+            λ lost. live_before rack a.store m s h.opening is (lost_of a (members_of a) h.number s h.place lost),
+            lost_in b (members_of b) h.number s (place_on a b h.number s h.beside.in_use (h.call.left.shape ∙ h.opening.stays.shape) h.place) (h.call.lost.0 (ap Lost e)),
             subst (λ (x : ℕ). BreaksOff (Known (WasHeld origin) rack b) (state_of phase rack a rest V) x (next a m marks s after b all (passed_broken a m s marks before after b h.none all.opening k) rest V label size holds))
-                (sym (own_place (shape_of a).b s h.boundary)) (breaks_off a m s marks before after b h.none all h.call.left k rest V label size holds),
+                (sym h.place.is) (breaks_off a m s marks before after b h.none all h.call.left k rest V label size holds),
           ),
         ),
         refl,
       ))
 
   steps_not_filling : {E : Type 0} (a : Volume S R) (m : Store R) (s n : ℕ) (marks : List Bool) (before after : List ℕ) (b : Volume S R) → IsWell phase rack a
-      → HasRebuilt {E = E} a m s n marks before after (Ok NotFilling) b → StepsSized phase phase rack a (Rebuild s n) NotFillingReply b
+      → (h : HasRebuilt {E = E} a m s n marks before after (Ok NotFilling) b) → StepsSized phase phase rack a (Rebuild h.number n) NotFillingReply b
   steps_not_filling a m s n marks before after b well h =
       let k = h.call.not_filling.0 refl in
       let still = h.same k.0 in
       let same : b.store ≡ a.store = (h.call.quiet k.0).0 ∙ still.0 in
-      sized a b (Rebuild s n) NotFillingReply (λ origin rest V label size holds. (
+      sized a b (Rebuild h.number n) NotFillingReply (λ origin rest V label size holds. (
         state_of phase rack b rest V,
         quiet_in phase rack a b rest V label (opened_keeps a m b h.opening h.labels h.beside h.levels (h.call.quiet k.0).0) (ap (λ (x : Store R). stores.rack_of x) same) still.1
             (λ q out. ap (λ (x : Store R). stores.members_of x q) same ∙ out)
             (λ q fills. ap (λ (x : Store R). is_filling (stores.members_of x q)) (sym same) ∙ fills) holds,
         (
-          h.boundary,
-          λ lost. false≢true (sym k.1 ∙ ap (λ (x : Store R). is_lost (stores.members_of x) s) same ∙ lost_of (shape_of a).b (members_of a) s h.boundary lost),
-          subst (λ (x : ℕ). answers.HasNoFilling (members_of a) x) (sym (own_place (shape_of a).b s h.boundary)) (subst (λ (x : Store R). answers.HasNoFilling (stores.members_of x) s) still.0 k.0),
+          h.place.number,
+          λ lost. false≢true (sym k.1 ∙ ap (λ (x : Store R). is_lost (stores.members_of x) s) same ∙ lost_of a (members_of a) h.number s h.place lost),
+          subst (λ (x : ℕ). answers.HasNoFilling (members_of a) x) (sym h.place.is) (subst (λ (x : Store R). answers.HasNoFilling (stores.members_of x) s) still.0 k.0),
           quiet_state a b h.beside same rest V,
         ),
         refl,
       ))
 
   steps_failed : {E : Type 0} (a : Volume S R) (m : Store R) (s n : ℕ) (marks : List Bool) (before after : List ℕ) (b : Volume S R) → IsWell phase rack a
-      → HasRebuilt {E = E} a m s n marks before after (Ok Failed) b → StepsSized phase phase rack a (Rebuild s n) FailedReply b
+      → (h : HasRebuilt {E = E} a m s n marks before after (Ok Failed) b) → StepsSized phase phase rack a (Rebuild h.number n) FailedReply b
   steps_failed a m s n marks before after b well h =
       let fell = h.call.failed refl in
       let live : is_lost (stores.members_of m) s ≡ false =
       false_of (is_lost (stores.members_of m) s) (λ lost. filling_live (stores.members_of m) s fell.q fell.low h.opening.sound.paired fell.filling lost) in
       let k = h.call.broken (inl refl) live in
       let all = usual a m s n marks before after (Ok Failed) b well h in
-      sized a b (Rebuild s n) FailedReply (λ origin rest V label size holds. (
+      sized a b (Rebuild h.number n) FailedReply (λ origin rest V label size holds. (
         next a m marks s after b all (passed_broken a m s marks before after b h.none all.opening k) rest V label size holds,
         next_in a m marks s after b all (passed_broken a m s marks before after b h.none all.opening k) rest V label size holds,
         (
-          h.boundary,
-          λ lost. failed_not_lost s (sym (h.call.lost.1 (lost_of (shape_of b).b (members_of b) s (below_behind rack a.store m b.store s h.opening h.call.left h.boundary) lost))),
+          h.place.number,
+          λ lost. failed_not_lost s (sym (h.call.lost.1 (lost_of b (members_of b) h.number s (place_on a b h.number s h.beside.in_use (h.call.left.shape ∙ h.opening.stays.shape) h.place) lost))),
           record {
             q = fell.q;
             have = fell.low;
-            filling = subst (λ (x : ℕ). IsRefilled (members_of a) x fell.q fell.low) (sym (own_place (shape_of a).b s h.boundary)) (filling_was rack a.store m s fell.q fell.low h.opening fell.filling);
+            filling = subst (λ (x : ℕ). IsRefilled (members_of a) x fell.q fell.low) (sym h.place.is) (filling_was rack a.store m s fell.q fell.low h.opening fell.filling);
             out = fell.out;
             rose = rose_before ((rack.counts (rack_of a)).faults fell.q) ((rack.counts (stores.rack_of m)).faults fell.q) ((rack.counts (rack_of b)).faults fell.q)
                 (h.opening.stays.stays.rise.faults fell.q) fell.rose;
           },
           subst (λ (x : ℕ). BreaksOff (Known (WasHeld origin) rack b) (state_of phase rack a rest V) x (next a m marks s after b all (passed_broken a m s marks before after b h.none all.opening k) rest V label size holds))
-              (sym (own_place (shape_of a).b s h.boundary)) (breaks_off a m s marks before after b h.none all h.call.left k rest V label size holds),
+              (sym h.place.is) (breaks_off a m s marks before after b h.none all h.call.left k rest V label size holds),
         ),
         refl,
       ))
 
   pub rebuild_steps : {E : Type 0} (a : Volume S R) (m : Store R) (s n : ℕ) (marks : List Bool) (before after : List ℕ) (result : Result RebuildAnswer E) (b : Volume S R) → IsWell phase rack a
-      → HasRebuilt a m s n marks before after result b → IfOk (told_of result) (λ answer. StepsSized phase phase rack a (Rebuild s n) (rebuild_reply answer) b)
+      → (h : HasRebuilt a m s n marks before after result b) → IfOk (told_of h.number result) (λ answer. StepsSized phase phase rack a (Rebuild h.number n) (rebuild_reply answer) b)
   rebuild_steps a m s n marks before after (Ok (Copied d l)) b well h = steps_copied a m s n d l marks before after b well h
   rebuild_steps a m s n marks before after (Ok (Lost t)) b well h = steps_lost a m s n t marks before after b well h (is_lost (stores.members_of m) s) refl
   rebuild_steps a m s n marks before after (Ok NotFilling) b well h = steps_not_filling a m s n marks before after b well h
@@ -780,10 +788,19 @@ module _ {S R : Type 0} (phase : phases.Ghosts S) (rack : Ghosts R) where
   rebuild_steps a m s n marks before after (Err e) b well h = tt
 
   -- there is no such boundary
-  pub steps_range : (a : Volume S R) (s n : ℕ) → IsWell phase rack a → (s < (shape_of a).b → ⊥) → StepsSized phase phase rack a (Rebuild s n) RangeReply a
-  steps_range a s n well past = sized a a (Rebuild s n) RangeReply (λ origin rest V label size holds. (
+  pub steps_range : (a : Volume S R) (t n : ℕ) → IsWell phase rack a → (t < a.in_use.boundaries → ⊥) → StepsSized phase phase rack a (Rebuild t n) RangeReply a
+  steps_range a t n well past = sized a a (Rebuild t n) RangeReply (λ origin rest V label size holds. (
     state_of phase rack a rest V,
     record { is = refl; label = label; holds = holds },
     (past, refl),
+    refl,
+  ))
+
+  -- it isn't in use
+  pub steps_unused : (a : Volume S R) (t n : ℕ) → IsWell phase rack a → IsUnused a t → StepsSized phase phase rack a (Rebuild t n) (LostReply t) a
+  steps_unused a t n well unused = sized a a (Rebuild t n) (LostReply t) (λ origin rest V label size holds. (
+    state_of phase rack a rest V,
+    record { is = refl; label = label; holds = holds },
+    (unused.number, refl, inl (unused_lost phase rack a t well unused, refl)),
     refl,
   ))

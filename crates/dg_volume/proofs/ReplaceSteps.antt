@@ -1,6 +1,6 @@
 -- A volume makes a step by a replacement of a member.
 use Rattle.std.proofs.Common.{◌≡◌, ◌≢◌, ◌∙◌, ◌⊎◌, ◌<◌, ◌≤◌, ◌/◌, ◌+◌, ◌*◌, ◌==◌, ℕ, Bool, true, false, List, length, inl, inr, refl, sym, ap, subst, arith}
-use Rattle.std.specs.Prelude.{◌↔◌, IfSome, None, Option, Some, if◌then◌else◌, replicate, take}
+use Rattle.std.specs.Prelude.{◌↔◌, IfSome, None, Option, Some, if◌then◌else◌, take}
 use Rattle.std.proofs.lemmas.Bool.{cases_eq, cases_lt, eq-eqb, false≢true, ne_eqb}
 use Rattle.std.proofs.lemmas.List.{length-replicate, take-replicate}
 use Rattle.dg_io.specs.Told.{IsZeros, Told, Torn}
@@ -9,7 +9,6 @@ use Rattle.dg_label.specs.Labels.{AreNumbers, HasLength, HaveSameNumbers, IsLabe
 use Rattle.dg_label.specs.declared.labels.KeptLabel.{KeptLabel}
 use Rattle.dg_model.proofs.MemberLaws.{NoneRecovers, falls_both, rose_after, rose_before}
 use Rattle.dg_model.specs.Changes.{IsMember, Misses, Passes, Replaces}
-use Rattle.dg_model.specs.Lives.{all_live}
 use Rattle.dg_model.specs.Members.{MembersFall, OthersFall, is_filling, is_good, is_lost, partner_of}
 use Rattle.dg_model.specs.Saves.{member_length}
 use Rattle.dg_model.specs.States.{CountsRise, State, after_calls}
@@ -29,7 +28,7 @@ use Rattle.dg_store.specs.Stores.{IsSound, KeepsBlocks}
 use Rattle.dg_store.specs.Stores as stores
 use Rattle.dg_store.specs.declared.store.Store.{Store}
 use Rattle.dg_volume.proofs.FaultLaws.{array_outs, array_tells, own_then}
-use Rattle.dg_volume.proofs.LineLaws.{lost_in, lost_of, own_member}
+use Rattle.dg_volume.proofs.UseLaws.{HasPlace, IsUnused, lost_in, lost_of, own_member, place_on, unused_lost, unused_out}
 use Rattle.dg_volume.proofs.LabelLaws.{
   HasNone,
   good_falls,
@@ -43,7 +42,7 @@ use Rattle.dg_volume.proofs.LabelLaws.{
   same_numbers,
   torn_none,
 }
-use Rattle.dg_volume.proofs.VolumeLaws.{IsBeside, Keeps, Labels, kept_state, label_by, leaves, on_label, quiet_in, stays, steps_from, still_in}
+use Rattle.dg_volume.proofs.VolumeLaws.{IsBeside, Keeps, Labels, kept_state, label_by, leaves, on_label, quiet_in, same_in, stays, steps_from, still_in}
 use Rattle.dg_volume.proofs.VolumeSteps.{false_of}
 use Rattle.dg_volume.specs.Faults.{OutsStay, TellsFaults, faults_of}
 use Rattle.dg_volume.specs.Seals.{OpensWhere, Relabels}
@@ -87,9 +86,10 @@ lost_same : (s : ℕ) (old new : ℕ → MemberState) → ((q : ℕ) → new q �
 lost_same s old new same lost = subst (λ (x : ℕ → MemberState). is_lost x s ≡ true) (sym (λ i q. same q i)) lost
 
 module _ {S R : Type 0} (phase : phases.Ghosts S) (rack : Ghosts R) where
-  -- what the opening of the seal and the array's call left
+  -- what the opening of the seal and the array's call left; `s` is the place of the boundary of this number
   pub record HasReplaced (a : Volume S R) (s j : ℕ) (answer : ReplaceAnswer) (writes : Bool) (m : Store R) (b : Volume S R) : Type 0 where
-    pub boundary : s < (shape_of a).b
+    pub number : ℕ
+    pub place : HasPlace a number s
     pub side : j < 2
     pub beside : IsBeside phase rack a b
     pub levels : b.levels.fragment ≡ a.levels.fragment
@@ -215,7 +215,7 @@ module _ {S R : Type 0} (phase : phases.Ghosts S) (rack : Ghosts R) where
         }
       where
         not_past : (q : ℕ) → q ≡ 2 * s + j → (shape_of a).b ≤ q / 2 → ⊥
-        not_past q here past = let low = h.boundary in let side = h.side in omega (arith, here, past, low, side)
+        not_past q here past = let low = h.place.within in let side = h.side in omega (arith, here, past, low, side)
 
     others_uncalled : (q : ℕ) → q ≢ 2 * s + j → members_of a q ≡ Out → faults_of rack b.store q ≡ faults_of rack a.store q
     others_uncalled q apart out = h.other_faults q apart ∙ array_outs rack a.store m h.opening.array q out
@@ -456,8 +456,8 @@ module _ {S R : Type 0} (phase : phases.Ghosts S) (rack : Ghosts R) where
             let good = subst (λ (p : ℕ). is_good (members_of a p) ≡ true) here (sound.paired q filling) in
             false≢true (sym (ap is_good out) ∙ good)
 
-    member_in : (rest : State) (V : List (List ℕ)) → IsMember (state_of phase rack a rest V) s j
-    member_in rest V = record { boundary = h.boundary; side = h.side }
+    member_in : (rest : State) (V : List (List ℕ)) → IsMember (state_of phase rack a rest V) h.number j
+    member_in rest V = record { boundary = h.place.number; side = h.side }
 
     -- where nothing was opened each member does what it did
     same_members : writes ≡ false → (q : ℕ) → members_of b q ≡ members_of a q
@@ -474,9 +474,9 @@ module _ {S R : Type 0} (phase : phases.Ghosts S) (rack : Ghosts R) where
         let rack_is : rack_of b ≡ rack_of a = quiet_where none ∙ ap (λ (x : Store R). stores.rack_of x) mid in
         let table = h.table ∙ h.opening.array.table in
         λ i. record rest {
-          boundaries = (table i).shape.b;
-          live = all_live (table i).shape.b;
-          cut = replicate (table i).shape.n false;
+          boundaries = (h.beside.in_use i).boundaries;
+          live = (h.beside.in_use i).live.items;
+          cut = (h.beside.in_use i).cut.items;
           table = table i;
           blocks = V;
           pending = marks_by (phase.kept (h.beside.phase_is i)) ((h.beside.pending i).items);
@@ -515,9 +515,9 @@ module _ {S R : Type 0} (phase : phases.Ghosts S) (rack : Ghosts R) where
     rest_replaced i =
         let keeps = replace_keeps a s j answer writes m b h in
         record (on_label a b keeps.labels.opens rest) {
-          boundaries = (keeps.table i).shape.b;
-          live = all_live (keeps.table i).shape.b;
-          cut = replicate (keeps.table i).shape.n false;
+          boundaries = (h.beside.in_use i).boundaries;
+          live = (h.beside.in_use i).live.items;
+          cut = (h.beside.in_use i).cut.items;
           table = keeps.table i;
           blocks = V;
           pending = marks_by (phase.kept (h.beside.phase_is i)) ((h.beside.pending i).items);
@@ -529,26 +529,26 @@ module _ {S R : Type 0} (phase : phases.Ghosts S) (rack : Ghosts R) where
         }
 
     -- its boundary is there still
-    there : s < (shape_of b).b
-    there = let keeps = replace_keeps a s j answer writes m b h in subst (λ (t : Table). s < t.shape.b) (sym keeps.table) h.boundary
+    there : HasPlace b h.number s
+    there = let keeps = replace_keeps a s j answer writes m b h in place_on a b h.number s h.beside.in_use (ap (λ (t : Table). t.shape) keeps.table) h.place
 
   opened_where : (x : ReplaceAnswer) (writes : Bool) → (x ≡ NotOut → ⊥) → (x ≡ Lost → ⊥) → (writes ≡ false → (x ≡ NotOut) ⊎ (x ≡ Lost)) → writes ≡ true
   opened_where x true stood lost found = refl
   opened_where x false stood lost found = absurd (elim (found refl) [ inl is ↦ stood is | inr is ↦ lost is ])
 
-  pub steps_replaced : (a : Volume S R) (s j : ℕ) (writes : Bool) (m : Store R) (b : Volume S R) → IsWell phase rack a → HasReplaced a s j Replaced writes m b
-      → StepsTo phase phase rack a (Replace s j) Done b
+  pub steps_replaced : (a : Volume S R) (s j : ℕ) (writes : Bool) (m : Store R) (b : Volume S R) → IsWell phase rack a → (h : HasReplaced a s j Replaced writes m b)
+      → StepsTo phase phase rack a (Replace h.number j) Done b
   steps_replaced a s j writes m b well h =
       let opens = opened_where Replaced writes (λ e. cc e) (λ e. cc e) (found a s j Replaced writes m b h) in
-      steps_from phase rack a b (Replace s j) Done (λ origin rest V label holds. (
+      steps_from phase rack a b (Replace h.number j) Done (λ origin rest V label holds. (
         kept_state phase rack a b (replace_keeps a s j Replaced writes m b h) rest V,
         still_in phase rack a b rest V label (replace_keeps a s j Replaced writes m b h) holds,
         (
           member_in a s j Replaced writes m b h rest V,
-          ap (members_of a) (own_member (shape_of a).b s j h.boundary) ∙ h.out opens,
-          λ lost. false≢true (sym (h.live opens) ∙ lost_of (shape_of a).b (members_of a) s h.boundary lost),
+          ap (members_of a) (own_member a h.number s j h.place) ∙ h.out opens,
+          λ lost. false≢true (sym (h.live opens) ∙ lost_of a (members_of a) h.number s h.place lost),
           subst (λ (q : ℕ). Replaces (state_of phase rack a rest V) q (kept_state phase rack a b (replace_keeps a s j Replaced writes m b h) rest V))
-              (sym (own_member (shape_of a).b s j h.boundary)) (record {
+              (sym (own_member a h.number s j h.place)) (record {
                 passes = passes_replaced a s j Replaced writes m b h rest V label;
                 blank = made_anew a s j Replaced writes m b h refl;
                 others = others_fall a s j Replaced writes m b h well.array (h.out opens);
@@ -560,18 +560,18 @@ module _ {S R : Type 0} (phase : phases.Ghosts S) (rack : Ghosts R) where
       ))
 
   -- its boundary was lost before, or was lost by the opening of the seal
-  steps_lost_by : (a : Volume S R) (s j : ℕ) (writes : Bool) (m : Store R) (b : Volume S R) (x : Bool) → writes ≡ x → HasReplaced a s j Lost writes m b
-      → StepsTo phase phase rack a (Replace s j) (LostReply s) b
-  steps_lost_by a s j writes m b true opens h = steps_from phase rack a b (Replace s j) (LostReply s) (λ origin rest V label holds. (
+  steps_lost_by : (a : Volume S R) (s j : ℕ) (writes : Bool) (m : Store R) (b : Volume S R) (x : Bool) → writes ≡ x → (h : HasReplaced a s j Lost writes m b)
+      → StepsTo phase phase rack a (Replace h.number j) (LostReply h.number) b
+  steps_lost_by a s j writes m b true opens h = steps_from phase rack a b (Replace h.number j) (LostReply h.number) (λ origin rest V label holds. (
     kept_state phase rack a b (replace_keeps a s j Lost writes m b h) rest V,
     still_in phase rack a b rest V label (replace_keeps a s j Lost writes m b h) holds,
     (
       member_in a s j Lost writes m b h rest V,
       refl,
-      ap (members_of a) (own_member (shape_of a).b s j h.boundary) ∙ h.out opens,
+      ap (members_of a) (own_member a h.number s j h.place) ∙ h.out opens,
       inr (
-        λ lost. false≢true (sym (h.live opens) ∙ lost_of (shape_of a).b (members_of a) s h.boundary lost),
-        lost_in (shape_of b).b (members_of b) s (there a s j Lost writes m b h rest V)
+        λ lost. false≢true (sym (h.live opens) ∙ lost_of a (members_of a) h.number s h.place lost),
+        lost_in b (members_of b) h.number s (there a s j Lost writes m b h rest V)
             (lost_same s (stores.members_of m) (members_of b) (same_quiet a s j Lost writes m b h (inl refl)) (h.lost.0 refl)),
         stays phase rack a b rest V label (replace_keeps a s j Lost writes m b h) (rises a s j Lost writes m b h)
             (falls_as a s j Lost writes m b h (same_quiet a s j Lost writes m b h (inl refl))) (outs_quiet a s j Lost writes m b h (h.quiet (inl refl))),
@@ -581,50 +581,50 @@ module _ {S R : Type 0} (phase : phases.Ghosts S) (rack : Ghosts R) where
   ))
   steps_lost_by a s j writes m b false none h =
       let mid = (h.opening.quiet none).0 in
-      steps_from phase rack a b (Replace s j) (LostReply s) (λ origin rest V label holds. (
+      steps_from phase rack a b (Replace h.number j) (LostReply h.number) (λ origin rest V label holds. (
         state_of phase rack b rest V,
         same_next a s j Lost writes m b h none rest V label holds,
         (
           member_in a s j Lost writes m b h rest V,
           refl,
-          ap (members_of a) (own_member (shape_of a).b s j h.boundary) ∙ out_by (members_of a (2 * s + j)) (λ stood. lost_stood (h.not_out.1 (subst (λ (x : Store R). stores.members_of x (2 * s + j) ≢ Out) (sym mid) stood))),
-          inl (lost_in (shape_of a).b (members_of a) s h.boundary (subst (λ (x : Store R). is_lost (stores.members_of x) s ≡ true) mid (h.lost.0 refl)), same_state a s j Lost writes m b h none rest V),
+          ap (members_of a) (own_member a h.number s j h.place) ∙ out_by (members_of a (2 * s + j)) (λ stood. lost_stood (h.not_out.1 (subst (λ (x : Store R). stores.members_of x (2 * s + j) ≢ Out) (sym mid) stood))),
+          inl (lost_in a (members_of a) h.number s h.place (subst (λ (x : Store R). is_lost (stores.members_of x) s ≡ true) mid (h.lost.0 refl)), same_state a s j Lost writes m b h none rest V),
         ),
         refl,
       ))
 
-  pub steps_lost : (a : Volume S R) (s j : ℕ) (writes : Bool) (m : Store R) (b : Volume S R) → HasReplaced a s j Lost writes m b → StepsTo phase phase rack a (Replace s j) (LostReply s) b
+  pub steps_lost : (a : Volume S R) (s j : ℕ) (writes : Bool) (m : Store R) (b : Volume S R) → (h : HasReplaced a s j Lost writes m b) → StepsTo phase phase rack a (Replace h.number j) (LostReply h.number) b
   steps_lost a s j writes m b h = steps_lost_by a s j writes m b writes refl h
 
   -- the member isn't out: nothing was done
-  pub steps_not_out : (a : Volume S R) (s j : ℕ) (writes : Bool) (m : Store R) (b : Volume S R) → HasReplaced a s j NotOut writes m b → StepsTo phase phase rack a (Replace s j) NotOutReply b
+  pub steps_not_out : (a : Volume S R) (s j : ℕ) (writes : Bool) (m : Store R) (b : Volume S R) → (h : HasReplaced a s j NotOut writes m b) → StepsTo phase phase rack a (Replace h.number j) NotOutReply b
   steps_not_out a s j writes m b h =
       let stood = h.not_out.0 refl in
       let none : writes ≡ false = false_of writes (λ opens. stood (mid_out a s j NotOut writes m b h (2 * s + j) (h.out opens))) in
       let mid = (h.opening.quiet none).0 in
-      steps_from phase rack a b (Replace s j) NotOutReply (λ origin rest V label holds. (
+      steps_from phase rack a b (Replace h.number j) NotOutReply (λ origin rest V label holds. (
         state_of phase rack b rest V,
         same_next a s j NotOut writes m b h none rest V label holds,
         (
           member_in a s j NotOut writes m b h rest V,
-          λ out. subst (λ (x : Store R). stores.members_of x (2 * s + j) ≢ Out) mid stood (ap (members_of a) (sym (own_member (shape_of a).b s j h.boundary)) ∙ out),
+          λ out. subst (λ (x : Store R). stores.members_of x (2 * s + j) ≢ Out) mid stood (ap (members_of a) (sym (own_member a h.number s j h.place)) ∙ out),
           same_state a s j NotOut writes m b h none rest V,
         ),
         refl,
       ))
 
-  pub steps_failed : (a : Volume S R) (s j : ℕ) (writes : Bool) (m : Store R) (b : Volume S R) → HasReplaced a s j Failed writes m b → StepsTo phase phase rack a (Replace s j) FailedReply b
+  pub steps_failed : (a : Volume S R) (s j : ℕ) (writes : Bool) (m : Store R) (b : Volume S R) → (h : HasReplaced a s j Failed writes m b) → StepsTo phase phase rack a (Replace h.number j) FailedReply b
   steps_failed a s j writes m b h =
       let opens = opened_where Failed writes (λ e. cc e) (λ e. cc e) (found a s j Failed writes m b h) in
-      steps_from phase rack a b (Replace s j) FailedReply (λ origin rest V label holds. (
+      steps_from phase rack a b (Replace h.number j) FailedReply (λ origin rest V label holds. (
         kept_state phase rack a b (replace_keeps a s j Failed writes m b h) rest V,
         still_in phase rack a b rest V label (replace_keeps a s j Failed writes m b h) holds,
         (
           member_in a s j Failed writes m b h rest V,
-          ap (members_of a) (own_member (shape_of a).b s j h.boundary) ∙ h.out opens,
-          λ lost. false≢true (sym (h.live opens) ∙ lost_of (shape_of a).b (members_of a) s h.boundary lost),
+          ap (members_of a) (own_member a h.number s j h.place) ∙ h.out opens,
+          λ lost. false≢true (sym (h.live opens) ∙ lost_of a (members_of a) h.number s h.place lost),
           subst (λ (q : ℕ). Misses (state_of phase rack a rest V) q (kept_state phase rack a b (replace_keeps a s j Failed writes m b h) rest V))
-              (sym (own_member (shape_of a).b s j h.boundary)) (record {
+              (sym (own_member a h.number s j h.place)) (record {
                 passes = passes_replaced a s j Failed writes m b h rest V label;
                 members = falls_as a s j Failed writes m b h (same_failed a s j Failed writes m b h refl);
                 out = others_uncalled a s j Failed writes m b h;
@@ -635,3 +635,17 @@ module _ {S R : Type 0} (phase : phases.Ghosts S) (rack : Ghosts R) where
         ),
         refl,
       ))
+
+  -- the boundary isn't in use
+  pub steps_unused : (a : Volume S R) (t j : ℕ) → IsWell phase rack a → IsUnused a t → j < 2 → StepsTo phase phase rack a (Replace t j) (LostReply t) a
+  steps_unused a t j well unused side = steps_from phase rack a a (Replace t j) (LostReply t) (λ origin rest V label holds. (
+    state_of phase rack a rest V,
+    same_in phase rack a rest V label holds,
+    (
+      record { boundary = unused.number; side = side },
+      refl,
+      unused_out phase rack a t j well unused side,
+      inl (unused_lost phase rack a t well unused, refl),
+    ),
+    refl,
+  ))

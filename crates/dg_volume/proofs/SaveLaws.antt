@@ -1,6 +1,6 @@
 -- A volume makes a step by a save.
 use Rattle.std.proofs.Common.{◌≡◌, ◌≢◌, ◌⊎◌, ◌∙◌, ◌<◌, ◌≤◌, ◌+◌, ◌*◌, ◌/◌, ◌^◌, ◌++◌, ℕ, suc, Bool, true, false, List, [], ◌∷◌, length, map, take, get_or, inl, inr, refl, sym, ap, subst, arith}
-use Rattle.std.specs.Prelude.{All, Err, IfOk, IfSome, None, Ok, OnErr, Option, Result, Some, replicate}
+use Rattle.std.specs.Prelude.{All, Err, IfOk, IfSome, None, Ok, OnErr, Option, Result, Some}
 use Rattle.std.specs.Global.{Vec}
 use Rattle.std.specs.List.{AllPairs, range_with_len}
 use Rattle.std.specs.Option.{option_map}
@@ -16,9 +16,10 @@ use Rattle.dg_label.specs.declared.saves.SaveAnswer.TheVariants.{Lost, Saved}
 use Rattle.dg_model.proofs.MemberLaws.{good_was}
 use Rattle.dg_model.specs.Changes.{AreGoodMarks, PassesSave}
 use Rattle.dg_model.specs.Homes.{home_of}
-use Rattle.dg_model.specs.Lives.{all_live}
+use Rattle.dg_model.specs.Lives.{boundary_at}
 use Rattle.dg_model.specs.Marks.{is_marked}
 use Rattle.dg_model.specs.Members.{is_good, partner_of}
+use Rattle.dg_model.specs.Openings.{FitsReduced}
 use Rattle.dg_model.specs.Saves.{AreHomes, CanBeSaved, HasForm, SavedState, body_of, room_of}
 use Rattle.dg_model.specs.Seals.{HoldsLabel, LastLabel, forgotten, keeps_label as has_label, next_sequence}
 use Rattle.dg_model.specs.States.{State, has_lost}
@@ -39,13 +40,14 @@ use Rattle.dg_store.specs.Stores as stores
 use Rattle.dg_store.specs.declared.store.Store.{Store}
 use Rattle.dg_volume.proofs.FaultLaws.{array_outs, array_tells}
 use Rattle.dg_volume.proofs.LabelLaws.{here_filling}
-use Rattle.dg_volume.proofs.LineLaws.{least_in}
+use Rattle.dg_volume.proofs.UseLaws.{fits_table, least_on}
 use Rattle.dg_volume.proofs.VolumeLaws.{lost_on}
 use Rattle.dg_volume.specs.Origins.{Origin, WasHeld}
 use Rattle.dg_volume.specs.Copies.{StepsHot}
+use Rattle.dg_volume.specs.Numbers.{save_told}
 use Rattle.dg_volume.specs.Saves.{good_marks, save_reply, saved_by}
 use Rattle.dg_volume.specs.Settles as settles
-use Rattle.dg_volume.specs.Volumes.{FitsArray, IsInPlace, IsWell, Known, Leaves, StandsFor, StandsIn, marks_of, shape_of, state_of, table_of}
+use Rattle.dg_volume.specs.Volumes.{FitsArray, IsInPlace, IsWell, Known, Leaves, StandsFor, StandsIn, cut_of, live_of, marks_of, reduced_of, shape_of, state_of, table_of}
 use Rattle.dg_volume.specs.declared.phases.InPhase as phases
 use Rattle.dg_volume.specs.declared.volumes.Volume.{Volume}
 
@@ -167,6 +169,7 @@ module _ {S R : Type 0} (phase : phases.Ghosts S) (rack : Ghosts R) where
       marks = well.marks ∙ sym (ap (λ (x : Shape). x.n) shape);
       inferred = subst (λ (x : Shape). IfSome (phase.kept a.phase) (FitsArray x)) (sym shape) well.inferred;
       labeled = labeled;
+      in_use = fits_table a after refl keeps.table well.in_use;
       homes_are = subst (λ (x : Shape). AreHomes x a.homes) (sym shape) well.homes_are;
       few_homes = subst (λ (x : Shape). length a.homes ≤ x.n) (sym shape) well.few_homes;
       copies_are = subst (λ (x : Shape). AreHomes x a.copies) (sym shape) well.copies_are;
@@ -276,9 +279,9 @@ module _ {S R : Type 0} (phase : phases.Ghosts S) (rack : Ghosts R) where
                 form = subst (λ (r : List ℕ). CanBeSaved (saved_by phase a r)) (sym recent) can;
                 next = answer.1 ∙ next_of rest.label a.label stands.kept;
                 rest = λ i. record rest {
-                  boundaries = (keeps.table i).shape.b;
-                  live = all_live (keeps.table i).shape.b;
-                  cut = replicate (keeps.table i).shape.n false;
+                  boundaries = a.in_use.boundaries;
+                  live = live_of a;
+                  cut = cut_of a;
                   table = keeps.table i;
                   blocks = V;
                   pending = marks_of phase a;
@@ -340,24 +343,25 @@ module _ {S R : Type 0} (phase : phases.Ghosts S) (rack : Ghosts R) where
         out_each : (q : ℕ) → stores.members_of store q ≢ Out → ⊥
         out_each q here = false≢true (sym (none (partner_of q)) ∙ keeps.sound.paired q (here_filling (stores.members_of store q) here (none q)))
 
-    saves_none : (hot body : List ℕ) (s : ℕ) → AnswersSave rack body a.store store a.label label (Lost s) → StepsHot phase phase rack hot a Save (LostReply s) after
-    saves_none hot body s answer = by_state hot (LostReply s) goes
+    saves_none : (hot body : List ℕ) (s : ℕ) → FitsReduced (table_of a) (reduced_of a) → AnswersSave rack body a.store store a.label label (Lost s)
+        → StepsHot phase phase rack hot a Save (LostReply (boundary_at (live_of a) s)) after
+    saves_none hot body s fits answer = by_state hot (LostReply (boundary_at (live_of a) s)) goes
       where
         goes : (origin : Origin) (rest : State) (V : List (List ℕ)) → StandsLabeled rack a.store a.label rest.label → (Known (WasHeld origin) rack a → StandsFor phase rack a V) → rest.recent ≡ hot
-            → Goes (WasHeld origin) rest V (LostReply s)
+            → Goes (WasHeld origin) rest V (LostReply (boundary_at (live_of a) s))
         goes origin rest V stands holds recent =
             let last : Option LastLabel = option_map forgotten rest.label in (
               record (state_of phase rack after rest V) { label = last },
               still_stands rest V last (forgets rest.label stands answer.2 answer.0) holds,
               (
-                least_in (stores.shape_of store) (stores.members_of store) s answer.1,
+                least_on a after s fits refl shape answer.1,
                 record {
                   passes = passes rest V last;
                   none = answer.0;
                   rest = λ i. record rest {
-                    boundaries = (keeps.table i).shape.b;
-                    live = all_live (keeps.table i).shape.b;
-                    cut = replicate (keeps.table i).shape.n false;
+                    boundaries = a.in_use.boundaries;
+                    live = live_of a;
+                    cut = cut_of a;
                     table = keeps.table i;
                     blocks = V;
                     pending = marks_of phase a;
@@ -373,11 +377,10 @@ module _ {S R : Type 0} (phase : phases.Ghosts S) (rack : Ghosts R) where
               refl,
             )
 
-    pub save_steps : {E : Type 0} (hot body : List ℕ) (result : Result SaveAnswer E) → IsSound rack a.store → body ≡ body_of 2 (saved_by phase a hot) → CanBeSaved (saved_by phase a hot)
-        → IfOk result (AnswersSave rack body a.store store a.label label) → IfOk result (λ answer. StepsHot phase phase rack hot a Save (save_reply answer) after)
-    save_steps hot body (Ok (Saved sequence)) sound says can answer = saves hot body sequence sound says can answer
-    save_steps hot body (Ok (Lost s)) sound says can answer = saves_none hot body s answer
-    save_steps hot body (Err e) sound says can answer = tt
+    pub save_steps : (hot body : List ℕ) (answer : SaveAnswer) → IsWell phase rack a → body ≡ body_of 2 (saved_by phase a hot) → CanBeSaved (saved_by phase a hot)
+        → AnswersSave rack body a.store store a.label label answer → StepsHot phase phase rack hot a Save (save_reply (save_told (live_of a) answer)) after
+    save_steps hot body (Saved sequence) well says can answer = saves hot body sequence well.array says can answer
+    save_steps hot body (Lost s) well says can answer = saves_none hot body s well.in_use answer
 
     pub save_keeps : {E : Type 0} (result : Result SaveAnswer E) → OnErr result (settles.KeepsArray rack a after)
     save_keeps (Ok answer) = tt

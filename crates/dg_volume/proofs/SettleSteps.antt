@@ -1,10 +1,9 @@
 -- A volume whose blocks are put in their places, and which is settled by that.
 use Rattle.std.proofs.Common.{◌≡◌, ◌⊎◌, ◌∙◌, ◌<◌, ◌≤◌, ◌/◌, ◌+◌, ◌^◌, min, ℕ, Bool, false, List, [], length, inl, inr, refl, sym, ap, subst, arith}
-use Rattle.std.specs.Prelude.{Option, Some, None, All, IfSome, replicate}
+use Rattle.std.specs.Prelude.{Option, Some, None, All, IfSome}
 use Rattle.dg_infer.specs.Meanings.{KeptInference}
 use Rattle.dg_infer.specs.Meanings as inferences
 use Rattle.dg_io.specs.declared.outside.Rack.{Ghosts}
-use Rattle.dg_model.specs.Lives.{all_live}
 use Rattle.dg_model.specs.Moves.{IsAtTargets, IsCutByLoss, all_done, missing_in, moves}
 use Rattle.dg_model.specs.Placed.{IsPlaced}
 use Rattle.dg_model.specs.Saves.{AreHomes}
@@ -32,7 +31,7 @@ use Rattle.dg_volume.proofs.PlacedLaws.{are_placed}
 use Rattle.dg_volume.specs.Origins.{WasHeld}
 use Rattle.dg_volume.specs.Planned.{HasPlan, IsPutInPlace}
 use Rattle.dg_volume.specs.Settles.{GoesBy}
-use Rattle.dg_volume.specs.Volumes.{AreWantsBy, FitsArray, IsInPlace, IsWell, Known, Leaves, StandsFor, StepsTo, given_of, marks_by, members_of, rack_of, shape_of, state_of, table_of}
+use Rattle.dg_volume.specs.Volumes.{AreWantsBy, FitsArray, IsInPlace, IsWell, Known, Leaves, StandsFor, StepsTo, cut_of, given_of, live_of, marks_by, members_of, rack_of, shape_of, state_of, table_of}
 use Rattle.dg_volume.specs.declared.phases.InPhase as phases
 use Rattle.dg_volume.specs.declared.volumes.Volume.{Volume}
 
@@ -132,6 +131,7 @@ module _ {S T R : Type 0} (from : phases.Ghosts S) (to : phases.Ghosts T) (rack 
     pending = volume.pending;
     homes = volume.homes;
     copies = volume.copies;
+    in_use = volume.in_use;
     levels = volume.levels;
     given = volume.given;
     label = volume.label;
@@ -150,6 +150,7 @@ module _ {S T R : Type 0} (from : phases.Ghosts S) (to : phases.Ghosts T) (rack 
       marks = subst (λ (k : Option KeptInference). length (marks_by k b.pending.items) ≡ (shape_of b).n) (sym is.kept_is) left.well.marks;
       inferred = subst (λ (k : Option KeptInference). IfSome k (FitsArray (shape_of b))) (sym is.kept_is) left.well.inferred;
       labeled = left.well.labeled;
+      in_use = left.well.in_use;
       homes_are = left.well.homes_are;
       few_homes = left.well.few_homes;
       copies_are = left.well.copies_are;
@@ -174,9 +175,9 @@ module _ {S T R : Type 0} (from : phases.Ghosts S) (to : phases.Ghosts T) (rack 
     settled_state : (rest : State) (last : Option LastLabel) (V : List (List ℕ))
         → record (state_of from rack b rest V) { phase = SettledPhase; label = last } ≡ state_of to rack (in_phase b phase) (labeled_so rest last) V
     settled_state rest last V = λ i. record (labeled_so rest last) {
-      boundaries = (shape_of b).b;
-      live = all_live (shape_of b).b;
-      cut = replicate (shape_of b).n false;
+      boundaries = b.in_use.boundaries;
+      live = live_of b;
+      cut = cut_of b;
       table = table_of b;
       blocks = V;
       pending = marks_by (sym is.kept_is i) b.pending.items;

@@ -1,20 +1,24 @@
 -- A settled volume makes a step by a listing of all directories, and by what is told of the home of a file.
-use Rattle.std.proofs.Common.{◌≡◌, ℕ, List, ◌++◌, Bool, inl, inr, refl, subst}
+use Rattle.std.proofs.Common.{◌≡◌, ◌<◌, ℕ, List, ◌++◌, Bool, arith, inl, inr, length, refl, subst}
 use Rattle.std.specs.Prelude.{IfOk, None, Ok, OnErr, Option, Err, Result, Some, if◌then◌else◌}
 use Rattle.std.specs.Option.{option_map}
 use Rattle.dg_io.specs.declared.outside.Rack.{Ghosts}
 use Rattle.dg_model.specs.Homes.{home_of}
+use Rattle.dg_model.specs.Lives.{boundary_at}
+use Rattle.dg_model.specs.Openings.{FitsReduced}
 use Rattle.dg_model.specs.Saves.{AreHomes}
 use Rattle.dg_model.specs.declared.events.Event.TheVariants.{Home, Tree}
+use Rattle.dg_model.specs.declared.homes.Home.{Home as FileHome}
 use Rattle.dg_model.specs.declared.phases.Phase.TheVariants.{Settled as SettledPhase}
 use Rattle.dg_model.specs.declared.replies.Reply.TheVariants.{HomeAt, NoHome, Nodes, NodesCut, Refused, Unavailable as ReplyUnavailable}
 use Rattle.dg_volume.proofs.FileLaws.{as_file}
-use Rattle.dg_volume.proofs.LineLaws.{home_place, home_places}
+use Rattle.dg_volume.proofs.HomeLaws.{home_within}
 use Rattle.dg_volume.proofs.PathSteps.{LosesBlock, ReadsBy, cut_short, may_read}
+use Rattle.dg_volume.proofs.PlaceLaws.{home_place, home_places}
 use Rattle.dg_volume.proofs.VolumeLaws.{HasRead, read_state, reads_in, reads_stay, steps_from}
 use Rattle.dg_volume.specs.Fronts.{HandsLines}
 use Rattle.dg_volume.specs.Replies.{AnswersTree, answer_for, fault_reply, home_reply}
-use Rattle.dg_volume.specs.Volumes.{StepsTo, shape_of}
+use Rattle.dg_volume.specs.Volumes.{StepsTo, live_of, reduced_of, shape_of, table_of}
 use Rattle.dg_volume.specs.declared.phases.InPhase as phases
 use Rattle.dg_volume.specs.declared.volumes.Volume.{Volume}
 use Rattle.ufs_model.proofs.ReadingLaws.{reads_known, reads_on, reads_refused}
@@ -185,20 +189,29 @@ module _ {S R : Type 0} (phase : phases.Ghosts S) (rack : Ghosts R) where
       → StepsTo phase phase rack a (Home path) (Refused RefusedNotRegular) b
   home_irregular path a b settled h reads = home_refused path RefusedNotRegular a b settled h reads
 
+  -- a home is on a boundary in use
+  home_low : (a : Volume S R) (homes : List FileHome) (i s : ℕ) → FitsReduced (table_of a) (reduced_of a) → AreHomes (shape_of a) homes → home_of homes i ≡ Some s → s < length (live_of a)
+  home_low a homes i s fits are is = let low = home_within (shape_of a) homes i s are is in omega (arith, low, fits.number)
+
   home_by : (path : List ℕ) (i : ℕ) (home : Option ℕ) (a b : Volume S R) → phase.phase a.phase ≡ SettledPhase → HasRead phase rack a b → Finds path a b (Some (Ok i))
-      → AreHomes (shape_of a) a.homes → AreHomes (shape_of a) a.copies → home_of a.homes i ≡ home
-      → StepsTo phase phase rack a (Home path) (home_reply (answer_for home (home_of a.copies i))) b
-  home_by path i (Some s) a b settled h reads homes copies is = steps_from phase rack a b (Home path) (HomeAt s (home_of a.copies i)) (λ origin rest V label holds. (
+      → FitsReduced (table_of a) (reduced_of a) → AreHomes (shape_of a) a.homes → AreHomes (shape_of a) a.copies → home_of a.homes i ≡ home
+      → StepsTo phase phase rack a (Home path) (home_reply (answer_for (live_of a) home (home_of a.copies i))) b
+  home_by path i (Some s) a b settled h reads fits homes copies is = steps_from phase rack a b (Home path) (HomeAt (boundary_at (live_of a) s) (option_map (boundary_at (live_of a)) (home_of a.copies i))) (λ origin rest V label holds. (
     read_state phase rack a b h rest V,
     reads_in phase rack a b rest V label h holds,
     (
       settled,
-      (i, may_read phase rack (file_of (shape_of a).l (shape_of a).n path) a b rest V (Some (Ok i)) h holds reads tt, home_place (shape_of a) a.homes i s homes is, home_places (shape_of a) a.copies i (home_of a.copies i) copies refl),
+      (
+        i,
+        may_read phase rack (file_of (shape_of a).l (shape_of a).n path) a b rest V (Some (Ok i)) h holds reads tt,
+        home_place (live_of a) (home_of a.homes i) s fits.live.ascend (home_low a a.homes i s fits homes is) is,
+        home_places (live_of a) (home_of a.copies i) fits.live.ascend (λ t at. home_low a a.copies i t fits copies at),
+      ),
       reads_stay phase rack a b rest V label h,
     ),
     refl,
   ))
-  home_by path i None a b settled h reads homes copies is = steps_from phase rack a b (Home path) NoHome (λ origin rest V label holds. (
+  home_by path i None a b settled h reads fits homes copies is = steps_from phase rack a b (Home path) NoHome (λ origin rest V label holds. (
     read_state phase rack a b h rest V,
     reads_in phase rack a b rest V label h holds,
     (
@@ -210,5 +223,6 @@ module _ {S R : Type 0} (phase : phases.Ghosts S) (rack : Ghosts R) where
   ))
 
   pub home_steps : (path : List ℕ) (i : ℕ) (a b : Volume S R) → phase.phase a.phase ≡ SettledPhase → HasRead phase rack a b → Finds path a b (Some (Ok i))
-      → AreHomes (shape_of a) a.homes → AreHomes (shape_of a) a.copies → StepsTo phase phase rack a (Home path) (home_reply (answer_for (home_of a.homes i) (home_of a.copies i))) b
-  home_steps path i a b settled h reads homes copies = home_by path i (home_of a.homes i) a b settled h reads homes copies refl
+      → FitsReduced (table_of a) (reduced_of a) → AreHomes (shape_of a) a.homes → AreHomes (shape_of a) a.copies
+      → StepsTo phase phase rack a (Home path) (home_reply (answer_for (live_of a) (home_of a.homes i) (home_of a.copies i))) b
+  home_steps path i a b settled h reads fits homes copies = home_by path i (home_of a.homes i) a b settled h reads fits homes copies refl

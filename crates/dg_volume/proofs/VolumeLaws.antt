@@ -1,6 +1,6 @@
 -- What calls that keep all of a volume but its array leave of it.
-use Rattle.std.proofs.Common.{◌≡◌, ◌∙◌, ◌<◌, ◌≤◌, ◌/◌, ℕ, Bool, true, false, List, length, refl, sym, ap, subst}
-use Rattle.std.specs.Prelude.{IfSome, Option, replicate}
+use Rattle.std.proofs.Common.{◌≡◌, ◌∙◌, ◌<◌, ◌≤◌, ◌/◌, ℕ, Bool, true, List, length, refl, sym, ap, subst}
+use Rattle.std.specs.Prelude.{IfSome, Option}
 use Rattle.dg_infer.specs.Meanings.{KeptInference}
 use Rattle.dg_infer.specs.Meanings as inferences
 use Rattle.dg_io.specs.Told.{StillTold}
@@ -9,7 +9,6 @@ use Rattle.dg_model.proofs.MemberLaws.{NoneRecovers, good_was, has_lost_at, has_
 use Rattle.dg_label.specs.Labels.{IsLabeled, StandsLabeled}
 use Rattle.dg_label.specs.declared.labels.KeptLabel.{KeptLabel}
 use Rattle.dg_model.specs.Changes.{Stays}
-use Rattle.dg_model.specs.Lives.{all_live}
 use Rattle.dg_model.specs.Members.{MembersFall, is_filling}
 use Rattle.dg_model.specs.Saves.{AreHomes}
 use Rattle.dg_model.specs.Seals.{KeepsLabel, LastLabel, label_after}
@@ -28,6 +27,7 @@ use Rattle.dg_store.specs.Stores.{IsSound, KeepsBlocks}
 use Rattle.dg_store.specs.Views.{ReadsOn}
 use Rattle.dg_volume.proofs.FaultLaws.{keeps_outs, keeps_tells}
 use Rattle.dg_volume.proofs.LabelLaws.{keeps_label, relabels_read, stands_same}
+use Rattle.dg_volume.proofs.UseLaws.{fits_table}
 use Rattle.dg_volume.specs.Origins.{Origin, WasHeld}
 use Rattle.dg_volume.specs.Faults.{OutsStay, TellsFaults}
 use Rattle.dg_volume.specs.Seals.{Relabels}
@@ -62,6 +62,7 @@ module _ {S R : Type 0} (phase : phases.Ghosts S) (rack : Ghosts R) where
     pub pending : b.pending ≡ a.pending
     pub homes : b.homes ≡ a.homes
     pub copies : b.copies ≡ a.copies
+    pub in_use : b.in_use ≡ a.in_use
 
   -- what any such call keeps of the array
   pub record Keeps (a b : Volume S R) : Type 0 where
@@ -105,6 +106,7 @@ module _ {S R : Type 0} (phase : phases.Ghosts S) (rack : Ghosts R) where
         marks = ap length (marks_kept a b keeps.beside) ∙ well.marks ∙ sym (ap (λ (x : Shape). x.n) shape);
         inferred = subst (λ (p : S). IfSome (phase.kept p) (FitsArray (shape_of b))) (sym keeps.beside.phase_is) fits;
         labeled = keeps.labels.labeled;
+        in_use = fits_table a b keeps.beside.in_use keeps.table well.in_use;
         homes_are = subst (λ (x : List Home). AreHomes (shape_of b) x) (sym keeps.beside.homes) homes;
         few_homes =
             subst (λ (x : List Home). length x ≤ (shape_of b).n) (sym keeps.beside.homes)
@@ -206,12 +208,12 @@ module _ {S R : Type 0} (phase : phases.Ghosts S) (rack : Ghosts R) where
       out = outs;
     };
     rest = λ i. record (on_label a b keeps.labels.opens rest) {
-      boundaries = (keeps.table i).shape.b;
-      live = all_live (keeps.table i).shape.b;
+      boundaries = (keeps.beside.in_use i).boundaries;
+      live = (keeps.beside.in_use i).live.items;
       table = keeps.table i;
       blocks = V;
       pending = marks_kept a b keeps.beside i;
-      cut = replicate (keeps.table i).shape.n false;
+      cut = (keeps.beside.in_use i).cut.items;
       homes = keeps.beside.homes i;
       copies = keeps.beside.copies i;
       phase = phase.phase (keeps.beside.phase_is i);

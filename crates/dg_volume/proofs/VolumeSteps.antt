@@ -1,7 +1,7 @@
 -- A volume makes a step by a read of a block, and by a failure of a member.
-use Rattle.std.proofs.Common.{◌≡◌, ◌≢◌, ◌∙◌, ◌<◌, ◌+◌, ◌*◌, ℕ, Bool, true, false, List, length, refl, sym, ap, subst, inl, inr}
-use Rattle.std.specs.Prelude.{[], Option, replicate}
-use Rattle.std.proofs.lemmas.Bool.{cases_eq, false≢true}
+use Rattle.std.proofs.Common.{◌≡◌, ◌≢◌, ◌∙◌, ◌<◌, ◌+◌, ◌*◌, ℕ, Bool, true, false, List, arith, length, refl, sym, ap, subst, inl, inr}
+use Rattle.std.specs.Prelude.{◌||◌, [], Option}
+use Rattle.std.proofs.lemmas.Bool.{cases_eq, false≢true, or_left, or_right}
 use Rattle.dg_io.specs.Told.{StillTold}
 use Rattle.dg_io.specs.declared.outside.Rack.{Ghosts}
 use Rattle.dg_label.specs.Labels.{IsLabeled}
@@ -10,7 +10,7 @@ use Rattle.dg_model.proofs.MemberLaws.{struck_good_was}
 use Rattle.dg_model.proofs.TrimLaws.{trimmed_written, zeros_padded}
 use Rattle.dg_model.specs.Blocks.{IsTrimmed, zeros}
 use Rattle.dg_model.specs.Changes.{IsMember, ReadsFew}
-use Rattle.dg_model.specs.Lives.{all_live}
+use Rattle.dg_model.specs.Marks.{is_marked}
 use Rattle.dg_model.specs.Members.{ArePaired, IsStruck, is_filling, is_good}
 use Rattle.dg_model.specs.Seals.{label_after}
 use Rattle.dg_model.specs.Sites.{has_site, is_gone}
@@ -22,16 +22,20 @@ use Rattle.dg_model.specs.declared.members.MemberState.TheVariants.{Out}
 use Rattle.dg_model.specs.declared.replies.Reply.TheVariants.{Already, Data, Done, Unavailable}
 use Rattle.dg_store.specs.Leaves.{CallsAtMost, CallsBelow, NoFault}
 use Rattle.dg_store.specs.Stores.{HasBlock, IsSound, KeepsBlocks}
-use Rattle.dg_store.specs.ReadLaws.{own_none, rack_none, tells_good}
+use Rattle.dg_store.specs.ReadLaws.{own_none, rack_none, reads_none, tells_good}
 use Rattle.dg_store.specs.Stores as stores
 use Rattle.dg_volume.proofs.FaultLaws.{tells_same}
-use Rattle.dg_volume.proofs.LineLaws.{gone_at, own_member}
 use Rattle.dg_volume.proofs.LabelLaws.{none_opens, quiet_opens, relabels_none, relabels_quiet}
-use Rattle.dg_volume.proofs.VolumeLaws.{HasRead, IsBeside, Keeps, Labels, kept_state, leaves, quiet_in, read_keeps, read_state, reads_in, reads_stay, steps_from, still_in, told_before}
+use Rattle.dg_volume.proofs.UseLaws.{HasPlace, IsUnused, own_member, unused_out}
+use Rattle.dg_volume.proofs.VolumeLaws.{HasRead, IsBeside, Keeps, Labels, kept_state, leaves, quiet_in, read_keeps, read_state, reads_in, reads_stay, same_in, steps_from, still_in, told_before}
 use Rattle.dg_volume.specs.Seals.{Relabels}
-use Rattle.dg_volume.specs.Volumes.{IsWell, Leaves, StepsTo, marks_by, members_of, rack_of, shape_of, state_of, table_of}
+use Rattle.dg_volume.specs.Volumes.{IsWell, Leaves, StepsTo, cut_of, marks_by, members_of, rack_of, shape_of, state_of, table_of}
 use Rattle.dg_volume.specs.declared.phases.InPhase as phases
 use Rattle.dg_volume.specs.declared.volumes.Volume.{Volume}
+
+neither : (x y : Bool) → x ≡ false → y ≡ false → (x || y) ≡ false
+neither true y one other = one
+neither false y one other = other
 
 pub false_of : (b : Bool) → (b ≡ true → ⊥) → b ≡ false
 false_of true none = absurd (none refl)
@@ -66,6 +70,18 @@ struck_fills q old new struck p fills = elim (cases_eq p q) [
 module _ {S R : Type 0} (phase : phases.Ghosts S) (rack : Ghosts R) where
   -- ---- reads
 
+  -- no call was made
+  read_none : (a : Volume S R) → IsWell phase rack a → HasRead phase rack a a
+  read_none a well = record {
+    beside = record { phase_is = refl; pending = refl; homes = refl; copies = refl; in_use = refl };
+    levels = refl;
+    sound = well.array;
+    reads = reads_none rack a.store;
+    stands = λ V stands. stands;
+    labeled = well.labeled;
+    label_is = refl;
+  }
+
   pub record HasReadBlock (a : Volume S R) (block : ℕ) (b : Volume S R) : Type 0 where
     pub within : block < (shape_of a).n
     pub read : HasRead phase rack a b
@@ -77,14 +93,14 @@ module _ {S R : Type 0} (phase : phases.Ghosts S) (rack : Ghosts R) where
   few a block b rest V h = record { unwritten = h.read.reads.writes; most = h.most; one = h.once }
 
   pub steps_data : (a : Volume S R) (block : ℕ) (bytes value : List ℕ) (b : Volume S R) → HasReadBlock a block b → is_gone (table_of b) (members_of b) block ≡ false
-      → IsTrimmed bytes value → (stores.Tells rack b.store → HasBlock rack a.store block value)
+      → is_marked (cut_of b) block ≡ false → IsTrimmed bytes value → (stores.Tells rack b.store → HasBlock rack a.store block value)
       → (has_site (sites_in (table_of a) block) ≡ false → value ≡ zeros (shape_of a).l) → StepsTo phase phase rack a (Read block) (Data bytes) b
-  steps_data a block bytes value b h here trimmed got blank = steps_from phase rack a b (Read block) (Data bytes) (λ origin rest V label holds. (
+  steps_data a block bytes value b h here uncut trimmed got blank = steps_from phase rack a b (Read block) (Data bytes) (λ origin rest V label holds. (
     read_state phase rack a b h.read rest V,
     reads_in phase rack a b rest V label h.read holds,
     (
       h.within,
-      gone_at (shape_of b).n (is_gone (table_of b) (members_of b) block) block ∙ here,
+      neither (is_gone (table_of b) (members_of b) block) (is_marked (cut_of b) block) here uncut,
       λ told.
           let held = holds (told_before phase rack a b (read_keeps phase rack a b h.read) told) in
           subst (λ (x : List ℕ). IsTrimmed bytes x) (got (tells_good rack b.store h.read.sound (told.0)) V held.array) trimmed,
@@ -102,17 +118,35 @@ module _ {S R : Type 0} (phase : phases.Ghosts S) (rack : Ghosts R) where
     reads_in phase rack a b rest V label h.read holds,
     (
       h.within,
-      gone_at (shape_of b).n (is_gone (table_of b) (members_of b) block) block ∙ gone,
+      or_left (is_gone (table_of b) (members_of b) block) (is_marked (cut_of b) block) gone,
       few a block b rest V h,
       reads_stay phase rack a b rest V label h.read,
     ),
     refl,
   ))
 
+  -- a block that was cut isn't read
+  pub steps_cut : (a : Volume S R) (block : ℕ) → IsWell phase rack a → block < (shape_of a).n → is_marked (cut_of a) block ≡ true → StepsTo phase phase rack a (Read block) Unavailable a
+  steps_cut a block well within cut =
+      let h : HasRead phase rack a a = read_none a well in
+      steps_from phase rack a a (Read block) Unavailable (λ origin rest V label holds. (
+        read_state phase rack a a h rest V,
+        reads_in phase rack a a rest V label h holds,
+        (
+          within,
+          or_right (is_gone (table_of a) (members_of a) block) (is_marked (cut_of a) block) cut,
+          record { unwritten = refl; most = omega arith; one = λ none. omega arith },
+          reads_stay phase rack a a rest V label h,
+        ),
+        refl,
+      ))
+
   -- ---- failures
 
+  -- `s` is the place of the boundary of this number
   pub record HasFailed (a : Volume S R) (s j : ℕ) (b : Volume S R) : Type 0 where
-    pub boundary : s < (shape_of a).b
+    pub number : ℕ
+    pub place : HasPlace a number s
     pub side : j < 2
     pub beside : IsBeside phase rack a b
     pub levels : b.levels.fragment ≡ a.levels.fragment
@@ -124,8 +158,8 @@ module _ {S R : Type 0} (phase : phases.Ghosts S) (rack : Ghosts R) where
     pub struck : IsStruck (2 * s + j) (members_of a) (members_of b)
     pub stands : KeepsBlocks rack a.store b.store
 
-  is_member : (a : Volume S R) (rest : State) (V : List (List ℕ)) (s j : ℕ) (b : Volume S R) → HasFailed a s j b → IsMember (state_of phase rack a rest V) s j
-  is_member a rest V s j b h = record { boundary = h.boundary; side = h.side }
+  is_member : (a : Volume S R) (rest : State) (V : List (List ℕ)) (s j : ℕ) (b : Volume S R) → (h : HasFailed a s j b) → IsMember (state_of phase rack a rest V) h.number j
+  is_member a rest V s j b h = record { boundary = h.place.number; side = h.side }
 
   -- no seal was opened
   fail_labels : (a : Volume S R) (s j : ℕ) (b : Volume S R) → HasFailed a s j b → (labels : Labels rack a b) × (labels.opens ≡ false)
@@ -159,23 +193,23 @@ module _ {S R : Type 0} (phase : phases.Ghosts S) (rack : Ghosts R) where
   pub fail_leaves : (a : Volume S R) (s j : ℕ) (b : Volume S R) → IsWell phase rack a → HasFailed a s j b → Leaves phase phase rack a b
   fail_leaves a s j b well h = leaves phase rack a b well (fail_keeps a s j b h)
 
-  pub steps_struck : (a : Volume S R) (s j : ℕ) (b : Volume S R) → HasFailed a s j b → members_of a (2 * s + j) ≢ Out → StepsTo phase phase rack a (Fail s j) Done b
-  steps_struck a s j b h stood = steps_from phase rack a b (Fail s j) Done (λ origin rest V label holds. (
+  pub steps_struck : (a : Volume S R) (s j : ℕ) (b : Volume S R) → (h : HasFailed a s j b) → members_of a (2 * s + j) ≢ Out → StepsTo phase phase rack a (Fail h.number j) Done b
+  steps_struck a s j b h stood = steps_from phase rack a b (Fail h.number j) Done (λ origin rest V label holds. (
     kept_state phase rack a b (fail_keeps a s j b h) rest V,
     still_in phase rack a b rest V label (fail_keeps a s j b h) holds,
     (
       is_member a rest V s j b h,
-      λ out. stood (ap (members_of a) (sym (own_member (shape_of a).b s j h.boundary)) ∙ out),
+      λ out. stood (ap (members_of a) (sym (own_member a h.number s j h.place)) ∙ out),
       record {
-        members = subst (λ (q : ℕ). IsStruck q (members_of a) (members_of b)) (sym (own_member (shape_of a).b s j h.boundary)) h.struck;
+        members = subst (λ (q : ℕ). IsStruck q (members_of a) (members_of b)) (sym (own_member a h.number s j h.place)) h.struck;
         paired = h.sound.paired;
         rest = λ i. record rest {
-          boundaries = (h.table i).shape.b;
-          live = all_live (h.table i).shape.b;
+          boundaries = (h.beside.in_use i).boundaries;
+          live = (h.beside.in_use i).live.items;
           table = h.table i;
           blocks = V;
           pending = marks_by (phase.kept (h.beside.phase_is i)) ((h.beside.pending i).items);
-          cut = replicate (h.table i).shape.n false;
+          cut = (h.beside.in_use i).cut.items;
           homes = h.beside.homes i;
           copies = h.beside.copies i;
           phase = phase.phase (h.beside.phase_is i);
@@ -189,23 +223,23 @@ module _ {S R : Type 0} (phase : phases.Ghosts S) (rack : Ghosts R) where
   ))
 
   -- a member that is out already: nothing changes
-  pub steps_already : (a : Volume S R) (s j : ℕ) (b : Volume S R) → HasFailed a s j b → IsSound rack a.store → members_of a (2 * s + j) ≡ Out
-      → StepsTo phase phase rack a (Fail s j) Already b
+  pub steps_already : (a : Volume S R) (s j : ℕ) (b : Volume S R) → (h : HasFailed a s j b) → IsSound rack a.store → members_of a (2 * s + j) ≡ Out
+      → StepsTo phase phase rack a (Fail h.number j) Already b
   steps_already a s j b h sound out =
       let same = struck_same (2 * s + j) (members_of a) (members_of b) sound.paired out h.struck in
-      steps_from phase rack a b (Fail s j) Already (λ origin rest V label holds. (
+      steps_from phase rack a b (Fail h.number j) Already (λ origin rest V label holds. (
         state_of phase rack b rest V,
         quiet_in phase rack a b rest V label (fail_keeps a s j b h) h.rack_is h.label_is (λ q was. same q ∙ was) (λ q fills. ap is_filling (sym (same q)) ∙ fills) holds,
         (
           is_member a rest V s j b h,
-          ap (members_of a) (own_member (shape_of a).b s j h.boundary) ∙ out,
+          ap (members_of a) (own_member a h.number s j h.place) ∙ out,
           λ i. record rest {
-            boundaries = (h.table i).shape.b;
-            live = all_live (h.table i).shape.b;
+            boundaries = (h.beside.in_use i).boundaries;
+            live = (h.beside.in_use i).live.items;
             table = h.table i;
             blocks = V;
             pending = marks_by (phase.kept (h.beside.phase_is i)) ((h.beside.pending i).items);
-            cut = replicate (h.table i).shape.n false;
+            cut = (h.beside.in_use i).cut.items;
             homes = h.beside.homes i;
             copies = h.beside.copies i;
             phase = phase.phase (h.beside.phase_is i);
@@ -215,3 +249,12 @@ module _ {S R : Type 0} (phase : phases.Ghosts S) (rack : Ghosts R) where
         ),
         refl,
       ))
+
+  -- a member of a boundary that isn't in use
+  pub steps_unused : (a : Volume S R) (t j : ℕ) → IsWell phase rack a → IsUnused a t → j < 2 → StepsTo phase phase rack a (Fail t j) Already a
+  steps_unused a t j well unused side = steps_from phase rack a a (Fail t j) Already (λ origin rest V label holds. (
+    state_of phase rack a rest V,
+    same_in phase rack a rest V label holds,
+    (record { boundary = unused.number; side = side }, unused_out phase rack a t j well unused side, refl),
+    refl,
+  ))

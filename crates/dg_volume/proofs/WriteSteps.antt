@@ -1,6 +1,6 @@
 -- A volume makes a step by a write of a block.
 use Rattle.std.proofs.Common.{◌≡◌, ◌∙◌, ◌<◌, ◌≤◌, ◌+◌, ◌*◌, ◌/◌, ℕ, Bool, true, false, List, [], ◌∷◌, length, refl, sym, ap, subst, arith, inl, inr, rules}
-use Rattle.std.specs.Prelude.{Option, Some, None, IfSome, if◌then◌else◌, max, replicate, slice_set}
+use Rattle.std.specs.Prelude.{Option, Some, None, IfSome, if◌then◌else◌, max, slice_set}
 use Rattle.std.specs.List.{All, Contains}
 use Rattle.std.proofs.lemmas.List.{length-set}
 use Rattle.std.proofs.lemmas.List.Sums.{count_by-le-length}
@@ -15,9 +15,9 @@ use Rattle.dg_model.proofs.MemberLaws.{NoneRecovers, falls_both, good_was, has_l
 use Rattle.dg_model.specs.Blocks.{padded}
 use Rattle.dg_model.specs.Causes.{NoneRose}
 use Rattle.dg_model.specs.Changes.{WritesFew, phase_after, seal_calls}
-use Rattle.dg_model.specs.Lives.{all_live}
 use Rattle.dg_model.specs.Marks.{AreLeft, AreNext, with_mark}
 use Rattle.dg_model.specs.Members.{MembersFall, is_filling, is_good, is_lost}
+use Rattle.dg_model.specs.Openings.{FitsReduced, Reduced}
 use Rattle.dg_model.specs.Rereads.{IsBeside as IsBesideBlock, IsChangedAt, Rereads, count_read}
 use Rattle.dg_model.specs.Saves.{AreHomes}
 use Rattle.dg_model.specs.Seals.{LastLabel}
@@ -44,13 +44,13 @@ use Rattle.dg_store.specs.declared.store.Store.{Store}
 use Rattle.dg_volume.proofs.BlankLaws.{no_homes}
 use Rattle.dg_volume.proofs.FaultLaws.{falls_out, keeps_outs, keeps_tells, outs_both, own_then, tells_both, tells_same}
 use Rattle.dg_volume.proofs.LabelLaws.{relabels_none, relabels_then, slots_kept}
-use Rattle.dg_volume.proofs.LineLaws.{none_set}
 use Rattle.dg_volume.proofs.MoveSteps.{loose_not_settled, loose_not_worn}
+use Rattle.dg_volume.proofs.PlaceLaws.{fits_written}
 use Rattle.dg_volume.proofs.VolumeLaws.{IsBeside, Keeps, Labels, kept_state, label_by, leaves, lost_on, on_label, same_in, stays, steps_from, still_in}
 use Rattle.dg_volume.specs.Origins.{WasHeld}
 use Rattle.dg_volume.specs.Faults.{OutsStay, TellsFaults}
 use Rattle.dg_volume.specs.Seals.{FallsOn, HasStoredBlock, Relabels, opening_calls}
-use Rattle.dg_volume.specs.Volumes.{FitsArray, IsWell, Known, Leaves, StandsFor, StandsIn, Tells, given_of, marks_by, marks_of, members_of, rack_of, shape_of, state_of, table_of}
+use Rattle.dg_volume.specs.Volumes.{FitsArray, IsWell, Known, Leaves, StandsFor, StandsIn, Tells, cut_of, given_of, marks_by, marks_of, members_of, rack_of, reduced_of, shape_of, state_of, table_of}
 use Rattle.dg_volume.specs.Writes.{IsFollowed, RereadsFew, WritesTo}
 use Rattle.dg_volume.specs.declared.phases.InPhase as phases
 use Rattle.dg_volume.specs.declared.volumes.Volume.{Volume}
@@ -158,6 +158,20 @@ reread_few rack Known J l n old new V W b blocks l_is n_is along reads were coun
       omega (arith, rose, most, count);
 }
 
+-- block b is cut no more, and the same boundaries are in use
+pub record Uncuts {S T R : Type 0} (a : Volume S R) (b : ℕ) (c : Volume T R) : Type 0 where
+  pub boundaries : c.in_use.boundaries ≡ a.in_use.boundaries
+  pub live : c.in_use.live ≡ a.in_use.live
+  pub cut : cut_of c ≡ slice_set (cut_of a) b false
+
+-- it has a site
+pub uncut_in_use : {S T R : Type 0} (a : Volume S R) (c : Volume T R) (b : ℕ) → shape_of c ≡ shape_of a → b < (shape_of a).n → IsSited (table_of a) b (table_of c) → Uncuts a b c
+    → FitsReduced (table_of a) (reduced_of a) → FitsReduced (table_of c) (reduced_of c)
+uncut_in_use a c b shape within sited h fits =
+    let now : record (reduced_of a) { cut = slice_set (cut_of a) b false } ≡ reduced_of c =
+    λ i. record { boundaries = sym h.boundaries i; live = (sym h.live i).items; cut = sym h.cut i } in
+    subst (λ (r : Reduced). FitsReduced (table_of c) r) now (fits_written (table_of a) (table_of c) (reduced_of a) b shape within sited fits)
+
 module _ {S T R : Type 0} (from : phases.Ghosts S) (to : phases.Ghosts T) (rack : Ghosts R) where
   -- ---- what is left
 
@@ -176,6 +190,7 @@ module _ {S T R : Type 0} (from : phases.Ghosts S) (to : phases.Ghosts T) (rack 
     pub marks : length (marks_of to c) ≡ length (marks_of from a)
     pub fits : IfSome (to.kept c.phase) (FitsArray (shape_of a))
     pub labeled : IsLabeled rack c.store c.label
+    pub in_use : FitsReduced (table_of c) (reduced_of c)
     pub uncopied : c.copies ≡ []
     pub worn : to.phase c.phase ≡ WornPhase → has_lost (shape_of c) (members_of c) ≡ true
     pub settled : to.phase c.phase ≡ SettledPhase → ⊥
@@ -188,6 +203,7 @@ module _ {S T R : Type 0} (from : phases.Ghosts S) (to : phases.Ghosts T) (rack 
       marks = h.marks ∙ well.marks ∙ sym (ap (λ (x : Shape). x.n) h.shape);
       inferred = subst (λ (x : Shape). IfSome (to.kept c.phase) (FitsArray x)) (sym h.shape) h.fits;
       labeled = h.labeled;
+      in_use = h.in_use;
       homes_are = subst (λ (x : Shape). AreHomes x c.homes) (sym h.shape) (subst (λ (x : List Home). AreHomes (shape_of a) x) (sym h.homes) well.homes_are);
       few_homes = subst (λ (x : Shape). length c.homes ≤ x.n) (sym h.shape) (subst (λ (x : List Home). length x ≤ (shape_of a).n) (sym h.homes) well.few_homes);
       copies_are = subst (λ (x : Shape). AreHomes x c.copies) (sym h.shape) h.copies;
@@ -233,6 +249,9 @@ module _ {S T R : Type 0} (from : phases.Ghosts S) (to : phases.Ghosts T) (rack 
     pub levels : c.levels.fragment ≡ a.levels.fragment
     pub homes : c.homes ≡ a.homes
     pub copies : c.copies ≡ []
+    pub boundaries : c.in_use.boundaries ≡ a.in_use.boundaries
+    pub live : c.in_use.live ≡ a.in_use.live
+    pub cut : cut_of c ≡ slice_set (cut_of a) b false
     pub phase_is : to.phase c.phase ≡ phase_after (has_lost (shape_of c) (members_of c))
     pub fits : IfSome (to.kept c.phase) (FitsArray (shape_of a))
     pub inferred : (V : List (List ℕ)) → IsOver a c V → IfSome (to.kept c.phase) (λ kept. inferences.StandsFor kept (slice_set V b block))
@@ -280,6 +299,11 @@ module _ {S T R : Type 0} (from : phases.Ghosts S) (to : phases.Ghosts T) (rack 
     known.1,
   )
 
+  written_in_use : (a : Volume S R) (b : ℕ) (block : List ℕ) (m : Store R) (c : Volume T R) → IsWell from rack a → HasWritten a b block m c → FitsReduced (table_of c) (reduced_of c)
+  written_in_use a b block m c well h =
+      uncut_in_use a c b (shape_on a b block m c.store h.array) h.array.within
+      (subst (λ (t : Table). IsSited (table_of a) b t) (sym h.array.reads.table) h.array.stored.sited) (record { boundaries = h.boundaries; live = h.live; cut = h.cut }) well.in_use
+
   pub written_leaves : (a : Volume S R) (b : ℕ) (block : List ℕ) (m : Store R) (c : Volume T R) → IsWell from rack a → HasWritten a b block m c → Leaves from to rack a c
   written_leaves a b block m c well h =
       let lost = has_lost (shape_of c) (members_of c) in
@@ -297,6 +321,7 @@ module _ {S T R : Type 0} (from : phases.Ghosts S) (to : phases.Ghosts T) (rack 
         marks = next_size lost (IsOver a c []) (shape_of a).l (shape_of a).n (slice_set [] b block) (with_mark (marks_of from a) b) (marks_of to c) (h.marks []) ∙ length-set (marks_of from a) b true;
         fits = h.fits;
         labeled = h.labels.labeled;
+        in_use = written_in_use a b block m c well h;
         uncopied = h.copies;
         worn = after_worn lost (to.phase c.phase) h.phase_is;
         settled = after_settled lost (to.phase c.phase) h.phase_is;
@@ -343,9 +368,7 @@ module _ {S T R : Type 0} (from : phases.Ghosts S) (to : phases.Ghosts T) (rack 
       let W = slice_set V b block in
       let array = h.array in
       let shape = shape_on a b block m c.store array in
-      let faults = faults_on a b block m c.store array in
-      let cut : replicate (shape_of c).n false ≡ slice_set (replicate (shape_of a).n false) b false =
-      ap (λ (s : Shape). replicate s.n false) shape ∙ sym (none_set (shape_of a).n b) in (
+      let faults = faults_on a b block m c.store array in (
         array.within,
         array.whole,
         record {
@@ -364,12 +387,12 @@ module _ {S T R : Type 0} (from : phases.Ghosts S) (to : phases.Ghosts T) (rack 
           marks = next_along (has_lost (shape_of c) (members_of c)) (Known p rack c) (IsOver a c V) (shape_of a).l (shape_of a).n W (with_mark (marks_of from a) b) (marks_of to c)
               (λ told. record { tells = told.0; held = holds (told_first a b block m c.store array told) }) (h.marks V);
           rest = λ i. record (on_label a c h.labels.opens rest) {
-            boundaries = (shape i).b;
-            live = all_live (shape i).b;
+            boundaries = h.boundaries i;
+            live = (h.live i).items;
             table = table_of c;
             blocks = W;
             pending = marks_of to c;
-            cut = cut i;
+            cut = h.cut i;
             homes = h.homes i;
             copies = h.copies i;
             phase = h.phase_is i;
@@ -414,9 +437,9 @@ module _ {S T R : Type 0} (from : phases.Ghosts S) (to : phases.Ghosts T) (rack 
   }
 
   pub written_whole : (a : Volume S R) (b : ℕ) (block : List ℕ) (m : Store R) (kept now : KeptInference) (c : Volume T R) → IsWell from rack a → HasStored a b block m c.store
-      → c.levels.fragment ≡ a.levels.fragment → c.homes ≡ a.homes → c.copies ≡ [] → from.kept a.phase ≡ Some kept → to.kept c.phase ≡ Some now → to.phase c.phase ≡ LoosePhase
+      → c.levels.fragment ≡ a.levels.fragment → c.homes ≡ a.homes → c.copies ≡ [] → Uncuts a b c → from.kept a.phase ≡ Some kept → to.kept c.phase ≡ Some now → to.phase c.phase ≡ LoosePhase
       → HasFollowed a b block m c.store kept now → Labels rack a c → HasWritten a b block m c
-  written_whole a b block m kept now c well array levels homes copies had has loose h labels =
+  written_whole a b block m kept now c well array levels homes copies uncuts had has loose h labels =
       let fitted : FitsArray (shape_of a) kept = subst (λ (o : Option KeptInference). IfSome o (FitsArray (shape_of a))) had well.inferred in
       let Left : ℕ → ℕ → Bool → List Bool → List Bool → List (List ℕ) → Type 0 = λ l n lost old new V. AreNext lost (IsOver a c V) l n (slice_set V b block) (with_mark old b) new in
       record {
@@ -424,6 +447,9 @@ module _ {S T R : Type 0} (from : phases.Ghosts S) (to : phases.Ghosts T) (rack 
         levels = levels;
         homes = homes;
         copies = copies;
+        boundaries = uncuts.boundaries;
+        live = uncuts.live;
+        cut = uncuts.cut;
         labels = labels;
         phase_is = loose ∙ sym (ap phase_after h.whole);
         fits = subst (λ (o : Option KeptInference). IfSome o (FitsArray (shape_of a))) (sym has) (record { bytes = h.size.0 ∙ fitted.bytes; number = h.size.1 ∙ fitted.number });
@@ -457,10 +483,13 @@ module _ {S T R : Type 0} (from : phases.Ghosts S) (to : phases.Ghosts T) (rack 
 
   -- where a boundary is lost, a fault came
   pub written_broken : (a : Volume S R) (b : ℕ) (block : List ℕ) (m : Store R) (kept : KeptInference) (c : Volume T R) → IsWell from rack a → HasStored a b block m c.store
-      → c.levels.fragment ≡ a.levels.fragment → c.homes ≡ a.homes → c.copies ≡ [] → from.kept a.phase ≡ Some kept → to.kept c.phase ≡ None → to.phase c.phase ≡ WornPhase
+      → c.levels.fragment ≡ a.levels.fragment → c.homes ≡ a.homes → c.copies ≡ [] → Uncuts a b c → from.kept a.phase ≡ Some kept → to.kept c.phase ≡ None → to.phase c.phase ≡ WornPhase
       → c.pending.items ≡ with_mark kept.pending b → has_lost (shape_of c) (members_of c) ≡ true → Labels rack a c → HasWritten a b block m c
-  written_broken a b block m kept c well array levels homes copies had has worn marks lost labels = record {
+  written_broken a b block m kept c well array levels homes copies uncuts had has worn marks lost labels = record {
     array = array;
+    boundaries = uncuts.boundaries;
+    live = uncuts.live;
+    cut = uncuts.cut;
     labels = labels;
     levels = levels;
     homes = homes;
@@ -482,10 +511,10 @@ module _ {S T R : Type 0} (from : phases.Ghosts S) (to : phases.Ghosts T) (rack 
 
 module _ {S T R : Type 0} (from : phases.Ghosts S) (to : phases.Ghosts T) (rack : Ghosts R) where
   -- a loose volume is left
-  pub loosened_leaves : (a : Volume S R) (m : Store R) (kept now : KeptInference) (c : Volume T R) → IsWell from rack a → FallsOn rack a.store m → IsSound rack c.store → ReadsOn rack m c.store
+  pub loosened_leaves : (a : Volume S R) (m : Store R) (kept now : KeptInference) (c : Volume T R) → IsWell from rack a → FitsReduced (table_of c) (reduced_of c) → FallsOn rack a.store m → IsSound rack c.store → ReadsOn rack m c.store
       → c.levels.fragment ≡ a.levels.fragment → c.homes ≡ a.homes → c.copies ≡ [] → from.kept a.phase ≡ Some kept → to.kept c.phase ≡ Some now → to.phase c.phase ≡ LoosePhase
       → (now.l ≡ kept.l) × (now.n ≡ kept.n) → length now.pending ≡ length kept.pending → Labels rack a c → Leaves from to rack a c
-  loosened_leaves a m kept now c well first sound reads levels homes copies had has loose size room labels =
+  loosened_leaves a m kept now c well in_use first sound reads levels homes copies had has loose size room labels =
       let fitted : FitsArray (shape_of a) kept = subst (λ (o : Option KeptInference). IfSome o (FitsArray (shape_of a))) had well.inferred in
       left_leaves from to rack a c well (record {
         sound = sound;
@@ -503,6 +532,7 @@ module _ {S T R : Type 0} (from : phases.Ghosts S) (to : phases.Ghosts T) (rack 
             ∙ sym (ap (λ (o : Option KeptInference). length (marks_by o a.pending.items)) had);
         fits = subst (λ (o : Option KeptInference). IfSome o (FitsArray (shape_of a))) (sym has) (record { bytes = size.0 ∙ fitted.bytes; number = size.1 ∙ fitted.number });
         labeled = labels.labeled;
+        in_use = in_use;
         uncopied = copies;
         worn = λ worn. absurd (loose_not_worn (sym loose ∙ worn));
         settled = λ settled. loose_not_settled (sym loose ∙ settled);
@@ -513,7 +543,7 @@ module _ {S T R : Type 0} (from : phases.Ghosts S) (to : phases.Ghosts T) (rack 
 module _ {S R : Type 0} (phase : phases.Ghosts S) (rack : Ghosts R) where
   unmoved : (a : Volume S R) → IsSound rack a.store → IsLabeled rack a.store a.label → Keeps phase rack a a
   unmoved a sound labeled = record {
-    beside = record { phase_is = refl; pending = refl; homes = refl; copies = refl };
+    beside = record { phase_is = refl; pending = refl; homes = refl; copies = refl; in_use = refl };
     levels = refl;
     sound = sound;
     table = refl;

@@ -1,7 +1,9 @@
 pub mod Copies
+pub mod CutReads
 pub mod Faults
 pub mod Fronts
 pub mod HeldLaws
+pub mod Numbers
 pub mod Opens
 pub mod Origins
 pub mod Phases

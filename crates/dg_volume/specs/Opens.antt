@@ -1,9 +1,10 @@
 -- What opening a saved array gives, by its answer.
-use Rattle.std.specs.Prelude.{◌≡◌, ◌⊎◌, ◌+◌, ◌/◌, ◌<◌, ◌≤◌, ℕ, Bool, true, false, List, Option, Some, None}
+use Rattle.std.specs.Prelude.{◌≡◌, ◌⊎◌, ◌+◌, ◌/◌, ◌<◌, ◌≤◌, ℕ, Bool, true, false, List, Option, Some, None, replicate}
 use Rattle.dg_infer.specs.Meanings.{KeptInference}
 use Rattle.dg_infer.specs.Meanings as inferences
 use Rattle.dg_io.specs.Told.{IsSame, Told}
 use Rattle.dg_io.specs.declared.outside.Rack.{Ghosts}
+use Rattle.dg_model.specs.Lives.{all_live}
 use Rattle.dg_model.specs.Marks.{AreLeft}
 use Rattle.dg_model.specs.Members.{MembersFall}
 use Rattle.dg_model.specs.Openings.{Found, IsSource, MayBeGood, Opens, copies_after}
@@ -27,7 +28,7 @@ use Rattle.dg_store.specs.declared.store.Store.{Store}
 use Rattle.dg_volume.specs.Origins.{WasHeld}
 use Rattle.dg_volume.specs.Phases.{phase_in}
 use Rattle.dg_volume.specs.Planned.{AreWanted, FindsOn, HasReadArray}
-use Rattle.dg_volume.specs.Volumes.{FitsArray, IsWell, Known, StandsIn, any_phase, given_of, members_of, rack_of, shape_of, table_of}
+use Rattle.dg_volume.specs.Volumes.{FitsArray, IsWell, Known, StandsIn, any_phase, cut_of, given_of, live_of, members_of, rack_of, shape_of, table_of}
 use Rattle.dg_volume.specs.declared.opens.OpenAnswer.{OpenAnswer}
 use Rattle.dg_volume.specs.declared.opens.OpenAnswer.TheVariants.{NoState, Opened, Unclean}
 use Rattle.dg_volume.specs.declared.phases.AnyPhase.{AnyPhase}
@@ -97,6 +98,9 @@ pub record IsMadeOf {R : Type 0} (rack : Ghosts R) (reopened : Reopened R) (volu
   pub pending : volume.pending.items ≡ reopened.saved.pending
   pub homes : volume.homes ≡ reopened.saved.homes
   pub copies : volume.copies ≡ copies_after (phase_in volume.phase) reopened.saved.copies
+  pub boundaries : volume.in_use.boundaries ≡ (shape_of volume).b
+  pub live : live_of volume ≡ all_live (shape_of volume).b
+  pub cut : cut_of volume ≡ replicate (shape_of volume).n false
   pub label : volume.label ≡ Some reopened.label
   pub given : volume.given ≡ None
   pub recent : hot ≡ reopened.saved.recent

@@ -53,13 +53,21 @@ rebuild_reply (RebuildLost s) = LostReply s
 rebuild_reply NotFilling = NotFillingReply
 rebuild_reply RebuildFailed = FailedReply
 
--- what is told of what became of the array
-abbrev pub told_of : {E : Type 0} → Result refilled.RebuildAnswer E → Result RebuildAnswer E
-told_of (Ok (RefilledCopied d l)) = Ok (Copied d l)
-told_of (Ok (RefilledLost s)) = Ok (RebuildLost s)
-told_of (Ok RefilledNotFilling) = Ok NotFilling
-told_of (Ok RefilledFailed) = Ok RebuildFailed
-told_of (Err e) = Err e
+-- the answer about the boundary of this number
+abbrev pub rebuilt_at : ℕ → RebuildAnswer → RebuildAnswer
+rebuilt_at number (Copied d l) = Copied d l
+rebuilt_at number RebuildRange = RebuildRange
+rebuilt_at number (RebuildLost place) = RebuildLost number
+rebuilt_at number NotFilling = NotFilling
+rebuilt_at number RebuildFailed = RebuildFailed
+
+-- what is told of it by what became of the array
+abbrev pub told_of : {E : Type 0} → ℕ → Result refilled.RebuildAnswer E → Result RebuildAnswer E
+told_of number (Ok (RefilledCopied d l)) = Ok (Copied d l)
+told_of number (Ok (RefilledLost place)) = Ok (RebuildLost number)
+told_of number (Ok RefilledNotFilling) = Ok NotFilling
+told_of number (Ok RefilledFailed) = Ok RebuildFailed
+told_of number (Err e) = Err e
 
 -- ---- members
 

@@ -1,10 +1,12 @@
 -- The replies that the answers of a volume stand for, and what holds of each such reply.
 use Rattle.std.specs.Prelude.{◌≡◌, ℕ, List, Option, None, Some, Ok, length}
 use Rattle.std.specs.List.{concat}
+use Rattle.std.specs.Option.{option_map}
 use Rattle.dg_io.specs.declared.outside.Rack.{Ghosts}
 use Rattle.dg_model.specs.Blocks.{IsTrimmed}
 use Rattle.dg_model.specs.Causes.{Rose}
 use Rattle.dg_model.specs.Lists.{AreLines}
+use Rattle.dg_model.specs.Lives.{boundary_at}
 use Rattle.dg_model.specs.States.{State}
 use Rattle.dg_model.specs.declared.replies.Reply.{Reply}
 use Rattle.dg_model.specs.declared.replies.Reply.TheVariants.{Already, Cut, Data, Done, Given, HomeAt, Listed as ListedReply, ListedCut, NoHome, Nodes, NodesCut, NotSettled, Range, Refused, Unavailable, Verdict}
@@ -136,10 +138,10 @@ StaysUnlessFailedAny TreeNotSettled before now = now ≡ before
 
 -- ---- the home of a file
 
--- by the boundary of its home and that of its copy
-abbrev pub answer_for : Option ℕ → Option ℕ → HomeAnswer
-answer_for None copy = HasNoHome
-answer_for (Some s) copy = At s copy
+-- by the places of the boundary of its home and that of its copy, of which the numbers are told
+abbrev pub answer_for : List ℕ → Option ℕ → Option ℕ → HomeAnswer
+answer_for live None copy = HasNoHome
+answer_for live (Some s) copy = At (boundary_at live s) (option_map (boundary_at live) copy)
 
 -- where a path leads to no inode
 abbrev pub fault_reply : LookFault → Reply

@@ -1,12 +1,12 @@
 -- A volume beside the states of the model.
-use Rattle.std.specs.Prelude.{◌≡◌, ◌≢◌, ◌+◌, ◌*◌, ◌≤◌, ℕ, Bool, true, false, List, [], length, replicate, Option, Some, None, IfSome}
+use Rattle.std.specs.Prelude.{◌≡◌, ◌≢◌, ◌+◌, ◌*◌, ◌≤◌, ℕ, Bool, true, List, [], length, Option, Some, None, IfSome}
 use Rattle.dg_infer.specs.Meanings.{KeptInference}
 use Rattle.dg_infer.specs.Meanings as inferences
 use Rattle.dg_infer.specs.Wants.{IsWantBy}
 use Rattle.dg_io.specs.declared.outside.Rack.{Ghosts}
 use Rattle.dg_io.specs.Told.{StillTold}
 use Rattle.dg_label.specs.Labels.{IsLabeled, StandsLabeled}
-use Rattle.dg_model.specs.Lives.{all_live}
+use Rattle.dg_model.specs.Openings.{FitsReduced, Reduced}
 use Rattle.dg_model.specs.Saves.{AreHomes}
 use Rattle.dg_model.specs.States.{CountsRise, IsBlank, State, has_lost}
 use Rattle.dg_model.specs.Placed.{IsPlaced}
@@ -26,6 +26,7 @@ use Rattle.dg_store.specs.Stores.{IsSound, TellsAll}
 use Rattle.dg_store.specs.Stores as stores
 use Rattle.dg_volume.specs.Origins.{Always, Origin, WasHeld}
 use Rattle.dg_volume.specs.Phases.{kept_in, phase_in}
+use Rattle.dg_volume.specs.declared.in_use.InUse.{InUse}
 use Rattle.dg_volume.specs.declared.phases.AnyPhase.{AnyPhase}
 use Rattle.dg_volume.specs.declared.phases.InPhase as phases
 use Rattle.dg_volume.specs.declared.phases.Loose.{Loose}
@@ -51,6 +52,21 @@ members_of volume = stores.members_of volume.store
 abbrev pub rack_of : {S R : Type 0} → Volume S R → R
 rack_of volume = stores.rack_of volume.store
 
+-- the boundaries of its first line, those in use, and the cut blocks
+abbrev pub reduced_in : InUse → Reduced
+reduced_in in_use = record { boundaries = in_use.boundaries; live = in_use.live.items; cut = in_use.cut.items }
+
+abbrev pub reduced_of : {S R : Type 0} → Volume S R → Reduced
+reduced_of volume = reduced_in volume.in_use
+
+-- the numbers of the boundaries in use
+abbrev pub live_of : {S R : Type 0} → Volume S R → List ℕ
+live_of volume = volume.in_use.live.items
+
+-- the marks of cut blocks
+abbrev pub cut_of : {S R : Type 0} → Volume S R → List Bool
+cut_of volume = volume.in_use.cut.items
+
 -- the phase that it is in
 abbrev pub phase_of : {S R : Type 0} → phases.Ghosts S → Volume S R → Phase
 phase_of phase volume = phase.phase volume.phase
@@ -73,15 +89,15 @@ given_of volume = volume.given
 
 -- ---- states
 
--- the state that it is in, where these are its blocks, and the rest is as in another state: all boundaries are in use, and no block was cut
+-- the state that it is in, where these are its blocks, and the rest is as in another state
 abbrev pub state_of : {S R : Type 0} → phases.Ghosts S → Ghosts R → Volume S R → State → List (List ℕ) → State
 state_of phase rack volume rest blocks = record rest {
-  boundaries = (shape_of volume).b;
-  live = all_live (shape_of volume).b;
+  boundaries = volume.in_use.boundaries;
+  live = live_of volume;
   table = table_of volume;
   blocks = blocks;
   pending = marks_of phase volume;
-  cut = replicate (shape_of volume).n false;
+  cut = cut_of volume;
   homes = volume.homes;
   copies = volume.copies;
   phase = phase.phase volume.phase;
@@ -145,14 +161,16 @@ pub record IsInPlace (table : Table) (kept : Option KeptInference) (homes copies
   pub by : IfSome kept (λ inference. AreWantsBy inference wants)
 
 -- What holds of a volume between calls: its array is sound; its buffers are for blocks of its size; it has a mark for each block; what is
--- inferred is of this array; the label that is kept fits the array; homes are on its boundaries, and no more than its blocks; only a settled
--- one has copies; a worn one has a lost boundary; and of a settled one each block is in its place.
+-- inferred is of this array; the label that is kept fits the array; the array's boundaries are those in use, and no cut block has a site; homes are
+-- on its boundaries, and no more than its blocks; only a settled one has copies; a worn one has a lost boundary; and of a settled one each block is
+-- in its place.
 pub record IsWell {S R : Type 0} (phase : phases.Ghosts S) (rack : Ghosts R) (volume : Volume S R) : Type 0 where
   pub array : IsSound rack volume.store
   pub levels : volume.levels.fragment ≡ (shape_of volume).l
   pub marks : length (marks_of phase volume) ≡ (shape_of volume).n
   pub inferred : IfSome (phase.kept volume.phase) (FitsArray (shape_of volume))
   pub labeled : IsLabeled rack volume.store volume.label
+  pub in_use : FitsReduced (table_of volume) (reduced_of volume)
   pub homes_are : AreHomes (shape_of volume) volume.homes
   pub few_homes : length volume.homes ≤ (shape_of volume).n
   pub copies_are : AreHomes (shape_of volume) volume.copies

@@ -23,6 +23,7 @@ impl<S: InPhase + Drop, R: Rack> Volume<S, R> {
             pending,
             homes,
             copies,
+            in_use,
             levels,
             given,
             label,
@@ -33,6 +34,7 @@ impl<S: InPhase + Drop, R: Rack> Volume<S, R> {
             pending,
             homes,
             copies,
+            in_use,
             levels,
             given,
             label,
@@ -51,12 +53,12 @@ impl<R: Rack> Volume<AnyPhase, R> {
     {
         if self.phase.phase() != Phase::Loose {
             return match self.store.least_lost() {
-                Some(lost) => Ok(Err(Unsettled::Lost(lost))),
+                Some(lost) => Ok(Err(Unsettled::Lost(self.in_use.number(lost)))),
                 None => Ok(Ok(())),
             };
         }
         if let Err(unsettled) = self.put_in_place(alloc)? {
-            return Ok(Err(unsettled));
+            return Ok(Err(self.in_use.unsettled(unsettled)));
         }
         self.phase.settle();
         Ok(Ok(()))
@@ -72,10 +74,11 @@ impl<R: Rack> Volume<AnyPhase, R> {
     {
         if self.phase.phase() != Phase::Loose {
             return match self.store.least_lost() {
-                Some(lost) => Ok(TendRun::Lost(lost)),
+                Some(lost) => Ok(TendRun::Lost(self.in_use.number(lost))),
                 None => Ok(TendRun::Tended { moved: 0, left: 0 }),
             };
         }
-        self.tend_loose(alloc, limit)
+        let run = self.tend_loose(alloc, limit)?;
+        Ok(self.in_use.tended(run))
     }
 }

@@ -3,8 +3,9 @@ ghost use Rattle.std.specs.Prelude.{◌≡◌, IfOk, OnErr};
 ghost use Rattle.dg_model.specs.declared.events.Event.{Event};
 ghost use Rattle.dg_model.specs.declared.phases.Phase.{Phase};
 ghost use Rattle.dg_volume.specs.Copies.{StepsHot, any_diffuse_reply, diffuse_reply};
+ghost use Rattle.dg_volume.specs.Numbers.{diffused_by};
 ghost use Rattle.dg_volume.specs.Settles.{KeepsArray};
-ghost use Rattle.dg_volume.specs.Volumes.{IsWell, Leaves, given_of, any_phase, phase_of, settled_phase};
+ghost use Rattle.dg_volume.specs.Volumes.{IsWell, Leaves, given_of, live_of, any_phase, phase_of, settled_phase};
 
 use crate::phases::{AnyPhase, InPhase, Settled};
 use crate::plans::inodes_fit;
@@ -24,13 +25,13 @@ pub enum AnyDiffuse {
 }
 
 impl<S: InPhase, R: Rack> Volume<S, R> {
-    /// Copies the files that were read last, of a settled volume.
+    /// Copies the files that were read last, of a settled volume. A lost boundary is told by its place.
     fn spread(&mut self, alloc: Global, hot: &Hot) -> Result<DiffuseAnswer, NoMemory>
         requires well { IsWell S.InPhase R.Rack self.old }
         requires settled { phase_of S.InPhase self.old ≡ Phase.Settled }
         ensures leaves { Leaves S.InPhase S.InPhase R.Rack self.old self.new }
         ensures steps { IfOk result (λ answer.
-            StepsHot S.InPhase S.InPhase R.Rack hot.now self.old Event.Diffuse (diffuse_reply answer) self.new) }
+            StepsHot S.InPhase S.InPhase R.Rack hot.now self.old Event.Diffuse (diffuse_reply (diffused_by (live_of self.new) answer)) self.new) }
         ensures err { OnErr result (KeepsArray R.Rack self.old self.new) }
         ensures given { given_of self.new ≡ given_of self.old }
     {
@@ -66,7 +67,8 @@ impl<R: Rack> Volume<Settled, R> {
         ensures err { OnErr result (KeepsArray R.Rack self.old self.new) }
         ensures given { given_of self.new ≡ given_of self.old }
     {
-        self.spread(alloc, hot)
+        let answer = self.spread(alloc, hot)?;
+        Ok(self.in_use.diffused(answer))
     }
 }
 
@@ -83,7 +85,7 @@ impl<R: Rack> Volume<AnyPhase, R> {
         match self.phase() {
             Phase::Settled => {
                 let answer = self.spread(alloc, hot)?;
-                Ok(AnyDiffuse::Is(answer))
+                Ok(AnyDiffuse::Is(self.in_use.diffused(answer)))
             }
             Phase::Loose => Ok(AnyDiffuse::NotSettled),
             Phase::Worn => Ok(AnyDiffuse::NotSettled),

@@ -5,9 +5,12 @@
 //! The label of the last save is kept. Where it is sealed, each call opens it on the good members before it writes the first of them.
 #![tactic(auto)]
 
+mod answers;
 mod any;
 mod copies;
+mod cut_reads;
 mod file_lists;
+mod in_use;
 mod opens;
 mod paths;
 mod phases;

@@ -10,6 +10,7 @@ ghost use Rattle.dg_volume.specs.Phases.{phase_in, phase_with};
 ghost use Rattle.dg_volume.specs.Planned.{HasReadArray};
 ghost use Rattle.dg_volume.specs.Volumes.{FitsArray};
 
+use crate::in_use::InUse;
 use crate::phases::{AnyPhase, Loose, Settled, Worn};
 use crate::plans::{all_wants, checked};
 use crate::volumes::Volume;
@@ -38,8 +39,8 @@ pub enum OpenAnswer<R> {
 
 /// Opens the array that was saved on a rack. Nothing is written.
 ///
-/// It is worn where a boundary is lost; else settled where it was saved so, its volume is sound and each block is in its place, and
-/// loose where it isn't. The files that were read last are those of the save.
+/// All boundaries are in use, and no block was cut. It is worn where a boundary is lost; else settled where it was saved so, its volume is
+/// sound and each block is in its place, and loose where it isn't. The files that were read last are those of the save.
 pub fn open<R: Rack + Drop>(alloc: Global, rack: R) -> Result<OpenAnswer<R>, NoMemory>
     ensures { IfOk result (AnswersOpen R.Rack rack) }
 {
@@ -71,6 +72,7 @@ fn volume_of<R: Rack + Drop>(
     } = reopened;
     let mut levels = Levels::new(alloc, store.shape().l)?;
     let phase = phase_on(alloc, &mut store, &mut levels, &saved)?;
+    let in_use = InUse::all(alloc, store.shape())?;
     let hot = hot_of(alloc, saved.recent.as_slice())?;
     let SavedState {
         pending,
@@ -85,6 +87,7 @@ fn volume_of<R: Rack + Drop>(
         pending: pending.into_vec(),
         homes,
         copies,
+        in_use,
         levels,
         given: None,
         label: Some(label),

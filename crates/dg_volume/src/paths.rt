@@ -9,10 +9,11 @@ ghost use Rattle.ufs_model.specs.Trees.{file_of};
 ghost use Rattle.ufs_path.specs.Answers.{IsAnswer, refused_answer};
 ghost use Rattle.ufs_path.specs.Consults.{IsUnanswered, StaysUnlessFailed};
 
+use crate::cut_reads::{cut_cat, cut_ls};
 use crate::phases::InPhase;
 use crate::volumes::Volume;
 use dg_io::{Pieces, Rack, View};
-use ufs_path::{CatAnswer, Levels, Listing, LookFault, cat, look, ls};
+use ufs_path::{CatAnswer, Levels, Listing, LookFault, cat, look};
 
 /// The answer where a path leads to no inode.
 fn fault_answer(fault: LookFault) -> CatAnswer
@@ -38,7 +39,7 @@ fn inode_told(answer: CatAnswer, inode: u32, before: Option<u32>) -> Option<u32>
 }
 
 /// Hands on the bytes of the file at a path, and tells its inode where they are given whole. Else it tells the one that was told before.
-fn read_file<V: View, O: Pieces>(
+pub(crate) fn read_file<V: View, O: Pieces>(
     view: &mut V,
     levels: &mut Levels,
     path: &[u8],
@@ -81,7 +82,14 @@ impl<S: InPhase, R: Rack> Volume<S, R> {
             (λ reply. StepsTo S.InPhase S.InPhase R.Rack self.old (Event.Cat path.now) reply self.new) result }
         ensures inode { TellsInode (HasFileAt S.InPhase R.Rack self.old path.now self.new) (given_of self.old) (given_of self.new) result }
     {
-        let (answer, given) = read_file(&mut self.store, &mut self.levels, path, out, self.given);
+        let (answer, given) = cut_cat(
+            &mut self.store,
+            &self.in_use,
+            &mut self.levels,
+            path,
+            out,
+            self.given,
+        );
         self.given = given;
         answer
     }
@@ -104,6 +112,6 @@ impl<S: InPhase, R: Rack> Volume<S, R> {
             (λ reply. StepsTo S.InPhase S.InPhase R.Rack self.old (Event.Ls path.now) reply self.new) result }
         ensures given { given_of self.new ≡ given_of self.old }
     {
-        ls(&mut self.store, &mut self.levels, path, out)
+        cut_ls(&mut self.store, &self.in_use, &mut self.levels, path, out)
     }
 }

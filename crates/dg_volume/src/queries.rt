@@ -7,7 +7,7 @@ ghost use Rattle.dg_model.specs.declared.members.MemberState.{MemberState};
 ghost use Rattle.dg_pair.specs.Boundaries.{IsWell as IsWellBoundary, members_of as boundary_members, number_of};
 ghost use Rattle.dg_store.specs.Stores.{lost_bits};
 ghost use Rattle.dg_volume.specs.Replies.{who_reply};
-ghost use Rattle.dg_volume.specs.Volumes.{IsWell, StepsTo, marks_of, members_of, shape_of, table_of};
+ghost use Rattle.dg_volume.specs.Volumes.{IsWell, StepsTo, live_of, marks_of, members_of, shape_of, table_of};
 
 use crate::phases::InPhase;
 use crate::volumes::Volume;
@@ -69,7 +69,7 @@ impl<S: InPhase, R: Rack> Volume<S, R> {
         }
     }
 
-    /// A boundary, by its number.
+    /// A boundary, by its place among those in use.
     pub fn boundary(&self, boundary: u8) -> &Boundary
         requires well { IsWell S.InPhase R.Rack self.now }
         requires boundary { boundary < (shape_of self.now).b }
@@ -81,7 +81,7 @@ impl<S: InPhase, R: Rack> Volume<S, R> {
         self.store.boundary(boundary)
     }
 
-    /// How many slots of a boundary are used.
+    /// How many slots of a boundary are used, by its place.
     pub fn used(&self, boundary: u8) -> u32
         requires well { IsWell S.InPhase R.Rack self.now }
         requires boundary { boundary < (shape_of self.now).b }
@@ -90,14 +90,21 @@ impl<S: InPhase, R: Rack> Volume<S, R> {
         self.store.map().used(boundary)
     }
 
-    /// The numbers of the array.
+    /// The boundaries in use, ascending, by their numbers in the first line.
+    pub fn live(&self) -> &[u8]
+        ensures { result.now ≡ live_of self.now }
+    {
+        &self.in_use.live
+    }
+
+    /// The numbers of the array, with as many boundaries as are in use.
     pub fn shape(&self) -> &Shape
         ensures { result.now ≡ shape_of self.now }
     {
         self.store.shape()
     }
 
-    /// The lost boundaries: bit s for boundary s.
+    /// The lost boundaries: bit s for the one at place s.
     pub fn lost(&self) -> u16
         requires { IsWell S.InPhase R.Rack self.now }
         ensures { result ≡ lost_bits (members_of self.now) (shape_of self.now).b }

@@ -7,7 +7,7 @@ ghost use Rattle.dg_model.specs.declared.events.Event.{Event};
 ghost use Rattle.dg_rebuild.specs.Answers.{HasNoFilling};
 ghost use Rattle.dg_store.specs.Stores.{IsSound, members_of, table_of};
 ghost use Rattle.dg_store.specs.Stores as stores;
-ghost use Rattle.dg_volume.specs.Refills.{AreDeadMarks, AreReapMarks, HasFilling, IsDeadMark, OpensRefill, SparesFiles, rebuild_reply, replace_reply, told_of};
+ghost use Rattle.dg_volume.specs.Refills.{AreDeadMarks, AreReapMarks, HasFilling, IsDeadMark, OpensRefill, SparesFiles, rebuild_reply, rebuilt_at, replace_reply, told_of};
 ghost use Rattle.dg_volume.specs.Volumes.{FitsArray, IsWell, Leaves, given_of, StepsSized, StepsTo};
 
 use crate::phases::InPhase;
@@ -29,7 +29,7 @@ pub enum ReplaceAnswer {
     Replaced,
     /// There is no such member.
     Range,
-    /// Its boundary is lost.
+    /// Its boundary is lost, or isn't in use.
     Lost,
     /// The member isn't out.
     NotOut,
@@ -44,7 +44,7 @@ pub enum RebuildAnswer {
     Copied { done: u32, left: u32 },
     /// There is no such boundary.
     Range,
-    /// The boundary of this number, the refilled one, is lost.
+    /// The boundary of this number, that of the refilled member, is lost, or isn't in use.
     Lost(u8),
     /// No member of the boundary is being refilled.
     NotFilling,
@@ -52,16 +52,29 @@ pub enum RebuildAnswer {
     Failed,
 }
 
-/// What is told of a refill.
-fn told(refilled: Result<Refilled, NoMemory>) -> Result<RebuildAnswer, NoMemory>
-    ensures { result ≡ told_of refilled }
+/// What is told of a refill of the boundary of this number.
+fn told(boundary: u8, refilled: Result<Refilled, NoMemory>) -> Result<RebuildAnswer, NoMemory>
+    ensures { result ≡ told_of boundary refilled }
 {
     match refilled {
         Ok(Refilled::Copied { done, left }) => Ok(RebuildAnswer::Copied { done, left }),
-        Ok(Refilled::Lost(boundary)) => Ok(RebuildAnswer::Lost(boundary)),
+        Ok(Refilled::Lost(_)) => Ok(RebuildAnswer::Lost(boundary)),
         Ok(Refilled::NotFilling) => Ok(RebuildAnswer::NotFilling),
         Ok(Refilled::Failed) => Ok(RebuildAnswer::Failed),
         Err(NoMemory) => Err(NoMemory),
+    }
+}
+
+/// What is told of the boundary of this number, where a refilled member was lost.
+fn rebuilt(boundary: u8, answer: RebuildAnswer) -> RebuildAnswer
+    ensures { result ≡ rebuilt_at boundary answer }
+{
+    match answer {
+        RebuildAnswer::Copied { done, left } => RebuildAnswer::Copied { done, left },
+        RebuildAnswer::Range => RebuildAnswer::Range,
+        RebuildAnswer::Lost(_) => RebuildAnswer::Lost(boundary),
+        RebuildAnswer::NotFilling => RebuildAnswer::NotFilling,
+        RebuildAnswer::Failed => RebuildAnswer::Failed,
     }
 }
 
@@ -158,7 +171,7 @@ fn is_filling<R: Rack>(store: &Store<R>, boundary: u8) -> bool
     }
 }
 
-/// What is told where the member that was refilled is out.
+/// What is told where the member that was refilled is out: its boundary by its place.
 fn fell<R: Rack>(store: &Store<R>, boundary: u8) -> RebuildAnswer
     requires sound { IsSound R.Rack store.now }
     requires boundary { boundary < (stores.shape_of store.now).b }
@@ -195,22 +208,25 @@ fn open_refill<R: Rack>(
 }
 
 impl<S: InPhase, R: Rack> Volume<S, R> {
-    /// Makes a member anew that is out, given by its boundary and its side. It is refilled then.
+    /// Makes a member anew that is out, given by its boundary's number in the first line and its side. It is refilled then.
     pub fn replace(&mut self, boundary: u32, side: u32) -> ReplaceAnswer
         requires well { IsWell S.InPhase R.Rack self.old }
         ensures leaves { Leaves S.InPhase S.InPhase R.Rack self.old self.new }
         ensures steps { StepsTo S.InPhase S.InPhase R.Rack self.old (Event.Replace boundary side) (replace_reply boundary result) self.new }
         ensures given { given_of self.new ≡ given_of self.old }
     {
-        if boundary >= self.store.shape().b as u32 || side >= 2 {
+        if boundary >= self.in_use.boundaries as u32 || side >= 2 {
             return ReplaceAnswer::Range;
         }
-        let opens = can_replace(&self.store, boundary as u8, side as u8);
+        let Some(place) = self.in_use.place(boundary) else {
+            return ReplaceAnswer::Lost;
+        };
+        let opens = can_replace(&self.store, place, side as u8);
         open_where(&mut self.store, &mut self.label, opens);
         let size = member_length(self.store.shape());
-        match self.store.replace(boundary as u8, side as u8, size) {
+        match self.store.replace(place, side as u8, size) {
             MemberAnswer::Replaced => {
-                note_long(&mut self.label, (2 * boundary + side) as u8);
+                note_long(&mut self.label, 2 * place + side as u8);
                 ReplaceAnswer::Replaced
             }
             MemberAnswer::Lost => ReplaceAnswer::Lost,
@@ -219,9 +235,9 @@ impl<S: InPhase, R: Rack> Volume<S, R> {
         }
     }
 
-    /// Refills the member of a boundary that was replaced, with at most `limit` copies of slots. Dead blocks that it passes are reaped, where
-    /// no boundary is lost and the volume isn't worn: they have no site any more, and read as zeros. After want of memory the refill stands at
-    /// the slot that it came to.
+    /// Refills the member of a boundary, given by its number in the first line, that was replaced, with at most `limit` copies of slots. Dead
+    /// blocks that it passes are reaped, where no boundary is lost and the volume isn't worn: they have no site any more, and read as zeros.
+    /// After want of memory the refill stands at the slot that it came to.
     pub fn rebuild(
         &mut self,
         alloc: Global,
@@ -236,24 +252,20 @@ impl<S: InPhase, R: Rack> Volume<S, R> {
         ensures given { given_of self.new ≡ given_of self.old }
     {
         change_of_loose_blocks();
-        if boundary >= self.store.shape().b as u32 {
+        if boundary >= self.in_use.boundaries as u32 {
             return Ok(RebuildAnswer::Range);
         }
-        let ended = open_refill(&mut self.store, &mut self.label, boundary as u8, limit);
+        let Some(place) = self.in_use.place(boundary) else {
+            return Ok(RebuildAnswer::Lost(boundary as u8));
+        };
+        let ended = open_refill(&mut self.store, &mut self.label, place, limit);
         if let Some(answer) = ended {
-            return Ok(answer);
+            return Ok(rebuilt(boundary as u8, answer));
         }
         let dead = reap_marks(alloc, &self.store, &self.phase)?;
         let mut reaped = Vec::new(alloc);
-        let refilled = rebuild(
-            alloc,
-            &mut self.store,
-            boundary as u8,
-            limit,
-            &dead,
-            &mut reaped,
-        );
+        let refilled = rebuild(alloc, &mut self.store, place, limit, &dead, &mut reaped);
         self.phase.reaped(&reaped);
-        told(refilled)
+        told(boundary as u8, refilled)
     }
 }

@@ -109,7 +109,8 @@ impl<S: InPhase, R: Rack> Volume<S, R> {
         ensures given { given_of self.new ≡ given_of self.old }
     {
         let body = self.body(alloc, hot)?;
-        save(&mut self.store, &mut self.label, &body)
+        let answer = save(&mut self.store, &mut self.label, &body)?;
+        Ok(self.in_use.saved(answer))
     }
 
     /// The body that says the state, in format 2.

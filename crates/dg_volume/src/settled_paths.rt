@@ -11,6 +11,8 @@ ghost use Rattle.ufs_model.specs.Inodes.{kind_of};
 ghost use Rattle.ufs_model.specs.Paths.{is_path, is_regular};
 ghost use Rattle.ufs_path.specs.Consults.{StaysUnlessFailed};
 
+use crate::cut_reads::{cut_look, cut_tree};
+use crate::in_use::InUse;
 use crate::phases::{AnyPhase, InPhase, Settled};
 use crate::volumes::Volume;
 use dg_io::{NoMemory, Rack};
@@ -18,12 +20,12 @@ use dg_model::Phase;
 use dg_plan::Homes;
 use std::alloc::Global;
 use ufs_model::{Inode, Kind};
-use ufs_path::{CatAnswer, Listing, LookFault, look, tree};
+use ufs_path::{CatAnswer, Listing, LookFault};
 
 /// What is told of the home of a file.
 #[derive(Clone, Copy, Debug, PartialEq, Eq)]
 pub enum HomeAnswer {
-    /// The boundary that holds all blocks of the file, and the one that holds a copy of each.
+    /// The boundary that holds all blocks of the file, and the one that holds a copy of each, by their numbers in the first line.
     At { home: u8, copy: Option<u8> },
     /// The file has no home.
     NoHome,
@@ -66,15 +68,15 @@ fn is_regular(inode: &Inode) -> bool
 }
 
 /// What is told of the file of an inode.
-fn home_in(homes: &Homes, copies: &Homes, inode: u32) -> HomeAnswer
+fn home_in(in_use: &InUse, homes: &Homes, copies: &Homes, inode: u32) -> HomeAnswer
     requires homes { Ascend homes.now }
     requires copies { Ascend copies.now }
-    ensures { result ≡ answer_for (home_of homes.now inode) (home_of copies.now inode) }
+    ensures { result ≡ answer_for in_use.now.live.items (home_of homes.now inode) (home_of copies.now inode) }
 {
     match homes.home_of(inode) {
         Some(home) => HomeAnswer::At {
-            home,
-            copy: copies.home_of(inode),
+            home: in_use.number(home),
+            copy: in_use.number_of(copies.home_of(inode)),
         },
         None => HomeAnswer::NoHome,
     }
@@ -96,7 +98,7 @@ impl<S: InPhase, R: Rack> Volume<S, R> {
         ensures err_faults { OnErr result (O.faults out.new ≡ O.faults out.old) }
         ensures given { given_of self.new ≡ given_of self.old }
     {
-        tree(alloc, &mut self.store, &mut self.levels, out)
+        cut_tree(alloc, &mut self.store, &self.in_use, &mut self.levels, out)
     }
 
     /// Tells the home of the file at a path of a settled volume.
@@ -108,10 +110,10 @@ impl<S: InPhase, R: Rack> Volume<S, R> {
         ensures steps { StepsTo S.InPhase S.InPhase R.Rack self.old (Event.Home path.now) (home_reply result) self.new }
         ensures given { given_of self.new ≡ given_of self.old }
     {
-        match look(&mut self.store, &mut self.levels, path) {
+        match cut_look(&mut self.store, &self.in_use, &mut self.levels, path) {
             Ok(found) => {
                 if is_regular(&found.1) {
-                    home_in(&self.homes, &self.copies, found.0)
+                    home_in(&self.in_use, &self.homes, &self.copies, found.0)
                 } else {
                     HomeAnswer::NotRegular
                 }

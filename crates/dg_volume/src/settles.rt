@@ -3,9 +3,10 @@ ghost use Rattle.std.specs.Prelude.{◌≡◌, IfErr, IfOk, OnErr, Ok};
 ghost use Rattle.dg_model.specs.declared.events.Event.{Event};
 ghost use Rattle.dg_model.specs.declared.phases.Phase.{Phase};
 ghost use Rattle.dg_model.specs.declared.replies.Reply.{Reply};
+ghost use Rattle.dg_volume.specs.Numbers.{tended_by, unsettled_by};
 ghost use Rattle.dg_volume.specs.Planned.{IsPutInPlace};
 ghost use Rattle.dg_volume.specs.Settles.{GoesBy, KeepsArray, tend_reply, unsettled_reply};
-ghost use Rattle.dg_volume.specs.Volumes.{IsWell, Leaves, given_of, StepsTo, loose_phase, settled_phase};
+ghost use Rattle.dg_volume.specs.Volumes.{IsWell, Leaves, given_of, live_of, StepsTo, loose_phase, settled_phase};
 
 use crate::phases::{InPhase, Loose, Settled};
 use crate::plans::{PlanAnswer, checked, inodes_fit, planned};
@@ -21,7 +22,7 @@ use ufs_model::BadKind;
 /// Why a volume isn't settled.
 #[derive(Clone, Copy, Debug, PartialEq, Eq)]
 pub enum Unsettled {
-    /// A boundary is lost; this is the least one.
+    /// A boundary is lost; this is the least one, by its number in the first line.
     Lost(u8),
     /// The volume isn't sound: its first malformation.
     Malformed(BadKind, u32),
@@ -34,20 +35,20 @@ pub enum Unsettled {
 pub enum TendRun {
     /// So many missing placements were met, and so many are left.
     Tended { moved: u32, left: u32 },
-    /// A boundary is lost; this is the least one.
+    /// A boundary is lost; this is the least one, by its number in the first line.
     Lost(u8),
     /// There is no room for this.
     NoSpace(NoRoom),
 }
 
 impl<S: InPhase, R: Rack> Volume<S, R> {
-    /// Meets at most `limit` missing placements of the plan, of a loose volume.
+    /// Meets at most `limit` missing placements of the plan, of a loose volume. A lost boundary is told by its place.
     pub(crate) fn tend_loose(&mut self, alloc: Global, limit: u32) -> Result<TendRun, NoMemory>
         requires well { IsWell S.InPhase R.Rack self.old }
         requires loose { S.phase self.old.phase ≡ Phase.Loose }
         ensures leaves { Leaves S.InPhase S.InPhase R.Rack self.old self.new }
         ensures steps { IfOk result (λ answer.
-            StepsTo S.InPhase S.InPhase R.Rack self.old (Event.Tend limit) (tend_reply answer) self.new) }
+            StepsTo S.InPhase S.InPhase R.Rack self.old (Event.Tend limit) (tend_reply (tended_by (live_of self.new) answer)) self.new) }
         ensures err { OnErr result (KeepsArray R.Rack self.old self.new) }
         ensures given { given_of self.new ≡ given_of self.old }
     {
@@ -76,14 +77,14 @@ impl<S: InPhase, R: Rack> Volume<S, R> {
         }
     }
 
-    /// Checks a loose volume, and puts each block in its place by the plan.
+    /// Checks a loose volume, and puts each block in its place by the plan. A lost boundary is told by its place.
     pub(crate) fn put_in_place(&mut self, alloc: Global) -> Result<Result<(), Unsettled>, NoMemory>
         requires well { IsWell S.InPhase R.Rack self.old }
         requires loose { S.phase self.old.phase ≡ Phase.Loose }
         ensures leaves { Leaves S.InPhase S.InPhase R.Rack self.old self.new }
         ensures put { result ≡ Ok (Ok tt) → IsPutInPlace S.InPhase R.Rack self.old self.new }
         ensures refused { IfOk result (λ answer. IfErr answer (λ unsettled.
-            StepsTo S.InPhase S.InPhase R.Rack self.old Event.Settle (unsettled_reply unsettled) self.new)) }
+            StepsTo S.InPhase S.InPhase R.Rack self.old Event.Settle (unsettled_reply (unsettled_by (live_of self.new) unsettled)) self.new)) }
         ensures err { OnErr result (KeepsArray R.Rack self.old self.new) }
         ensures given { given_of self.new ≡ given_of self.old }
     {
@@ -133,7 +134,8 @@ impl<R: Rack + Drop> Volume<Loose, R> {
             GoesBy loose_phase loose_phase R.Rack self Event.Settle (unsettled_reply refused.1) refused.0)) }
     {
         if let Err(unsettled) = self.put_in_place(alloc)? {
-            return Ok(Err((self, unsettled)));
+            let told = self.in_use.unsettled(unsettled);
+            return Ok(Err((self, told)));
         }
         let Volume {
             store,
@@ -141,6 +143,7 @@ impl<R: Rack + Drop> Volume<Loose, R> {
             pending,
             homes,
             copies,
+            in_use,
             levels,
             given,
             label,
@@ -151,6 +154,7 @@ impl<R: Rack + Drop> Volume<Loose, R> {
             pending,
             homes,
             copies,
+            in_use,
             levels,
             given,
             label,
@@ -166,6 +170,7 @@ impl<R: Rack + Drop> Volume<Loose, R> {
         ensures err { OnErr result (KeepsArray R.Rack self.old self.new) }
         ensures given { given_of self.new ≡ given_of self.old }
     {
-        self.tend_loose(alloc, limit)
+        let run = self.tend_loose(alloc, limit)?;
+        Ok(self.in_use.tended(run))
     }
 }

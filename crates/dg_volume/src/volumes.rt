@@ -6,6 +6,7 @@ ghost use Rattle.dg_model.specs.declared.replies.Reply.{Reply};
 ghost use Rattle.dg_volume.specs.Replies.{IsReadReply, fail_reply};
 ghost use Rattle.dg_volume.specs.Volumes.{IsBlankVolume, IsWell, Leaves, given_of, StepsTo, phase_of, rack_of, shape_of};
 
+use crate::in_use::InUse;
 use crate::phases::{InPhase, Loose};
 use dg_infer::Inference;
 use dg_io::{NoMemory, Rack};
@@ -25,6 +26,7 @@ pub struct Volume<S, R> {
     pub(crate) pending: Vec<bool>,
     pub(crate) homes: Homes,
     pub(crate) copies: Homes,
+    pub(crate) in_use: InUse,
     pub(crate) levels: Levels,
     /// The inode of the file that was given last.
     pub(crate) given: Option<u32>,
@@ -64,6 +66,7 @@ impl<R: Rack> Volume<Loose, R> {
     {
         let inference = Inference::new(alloc, shape.l, shape.n)?;
         let levels = Levels::new(alloc, shape.l)?;
+        let in_use = InUse::all(alloc, &shape)?;
         let store = Store::new(alloc, rack, shape)?;
         Ok(Volume {
             store,
@@ -71,6 +74,7 @@ impl<R: Rack> Volume<Loose, R> {
             pending: Vec::new(alloc),
             homes: Homes::new(Vec::new(alloc)),
             copies: Homes::new(Vec::new(alloc)),
+            in_use,
             levels,
             given: None,
             label: None,
@@ -96,7 +100,7 @@ impl<S: InPhase, R: Rack> Volume<S, R> {
         self.phase.phase()
     }
 
-    /// Reads a block. One that isn't written reads as zeros.
+    /// Reads a block. One that isn't written reads as zeros; one that was cut, and not written since, is gone.
     pub fn read(&mut self, block: u32, buf: &mut [u8]) -> ReadAnswer
         requires well { IsWell S.InPhase R.Rack self.old }
         requires size { length buf.old ≡ (shape_of self.old).l }
@@ -109,23 +113,30 @@ impl<S: InPhase, R: Rack> Volume<S, R> {
         if block >= self.store.shape().n {
             return ReadAnswer::Range;
         }
+        if self.in_use.is_cut(block) {
+            return ReadAnswer::Unavailable;
+        }
         match self.store.read(block, buf) {
             Fetched::Got => ReadAnswer::Got,
             Fetched::Gone => ReadAnswer::Unavailable,
         }
     }
 
-    /// Makes a member fail, given by its boundary and its side. It makes no call on the rack.
+    /// Makes a member fail, given by its boundary's number in the first line and its side. It makes no call on the rack. A member of a
+    /// boundary that isn't in use is out.
     pub fn fail(&mut self, boundary: u32, side: u32) -> FailAnswer
         requires well { IsWell S.InPhase R.Rack self.old }
         ensures leaves { Leaves S.InPhase S.InPhase R.Rack self.old self.new }
         ensures steps { StepsTo S.InPhase S.InPhase R.Rack self.old (Event.Fail boundary side) (fail_reply result) self.new }
         ensures given { given_of self.new ≡ given_of self.old }
     {
-        if boundary >= self.store.shape().b as u32 || side >= 2 {
+        if boundary >= self.in_use.boundaries as u32 || side >= 2 {
             return FailAnswer::Range;
         }
-        match self.store.fail(boundary as u8, side as u8) {
+        let Some(place) = self.in_use.place(boundary) else {
+            return FailAnswer::Already;
+        };
+        match self.store.fail(place, side as u8) {
             MemberAnswer::Already => FailAnswer::Already,
             MemberAnswer::Taken => FailAnswer::Failed,
         }

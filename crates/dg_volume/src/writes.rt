@@ -139,6 +139,7 @@ impl<S: InPhase + Drop, R: Rack + Drop> Volume<S, R> {
             pending,
             homes,
             copies,
+            mut in_use,
             mut levels,
             given,
             mut label,
@@ -150,6 +151,7 @@ impl<S: InPhase + Drop, R: Rack + Drop> Volume<S, R> {
                 pending,
                 homes,
                 copies,
+                in_use,
                 levels,
                 given,
                 label,
@@ -159,6 +161,7 @@ impl<S: InPhase + Drop, R: Rack + Drop> Volume<S, R> {
             unreachable!();
         };
         let copies = Homes::new(Vec::new(alloc));
+        in_use.uncut(block);
         if follow(alloc, &mut store, &mut levels, &mut inference, block, buf)? {
             return Ok(Wrote::Loose(Volume {
                 store,
@@ -166,6 +169,7 @@ impl<S: InPhase + Drop, R: Rack + Drop> Volume<S, R> {
                 pending,
                 homes,
                 copies,
+                in_use,
                 levels,
                 given,
                 label,
@@ -177,6 +181,7 @@ impl<S: InPhase + Drop, R: Rack + Drop> Volume<S, R> {
             pending: worn_marks(inference, block),
             homes,
             copies,
+            in_use,
             levels,
             given,
             label,
@@ -218,6 +223,7 @@ impl<R: Rack> Volume<AnyPhase, R> {
             unreachable!();
         };
         self.copies = Homes::new(Vec::new(alloc));
+        self.in_use.uncut(block);
         let followed = follow(
             alloc,
             &mut self.store,

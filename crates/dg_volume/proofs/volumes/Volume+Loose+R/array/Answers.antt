@@ -13,6 +13,9 @@ returns g c =
       levels = c.in_ok-levels.ensures.fragment;
       homes = c.new-6.ensures ∙ c.new-5.ensures.items;
       copies = c.new-8.ensures ∙ c.new-7.ensures.items;
+      boundaries = c.in_ok-in_use.ensures.boundaries;
+      live = c.in_ok-in_use.ensures.live;
+      cut = c.in_ok-in_use.ensures.cut;
       label = refl;
       given = refl;
     })

@@ -1,20 +1,18 @@
-use Rattle.std.proofs.Common.{◌≡◌, refl, ap, arith}
-use Rattle.dg_model.specs.declared.shapes.Shape.{Shape}
-use Rattle.dg_volume.proofs.VolumeSteps.{fail_leaves, steps_already, steps_struck}
+use Rattle.std.proofs.Common.{◌≡◌, refl, arith}
+use Rattle.dg_volume.proofs.VolumeSteps.{fail_leaves, steps_already, steps_struck, steps_unused}
 use Rattle.dg_volume.proofs.VolumeLaws.{leaves_none}
-use Rattle.dg_volume.specs.Volumes.{shape_of}
 use Rattle.dg_volume.proofs.volumes.Volume.fail.Goals as goal
 
 pub returns-in-Already-clause-leaves : goal.returns-in-Already-clause-leaves
 returns-in-Already-clause-leaves g c =
     let a = c.args.self.now in
     let k = c.in-Already.ensures in
-    let b : c.shape.result.now.b ≡ (shape_of a).b = ap (λ (x : Shape). x.b) c.shape.ensures in
-    fail_leaves g.S.InPhase g.R.Rack a c.args.boundary c.args.side (record a { store = c.fail.new.self }) c.requires.well
+    fail_leaves g.S.InPhase g.R.Rack a c.in-Some.place c.args.side (record a { store = c.fail.new.self }) c.requires.well
     (record {
-      boundary = omega arith;
+      number = c.args.boundary;
+      place = record { number = omega arith; is = c.in-Some.ensures.some; within = omega (arith, c.in-Some.ensures.within, c.requires.well.in_use.number) };
       side = omega arith;
-      beside = record { phase_is = refl; pending = refl; homes = refl; copies = refl };
+      beside = record { phase_is = refl; pending = refl; homes = refl; copies = refl; in_use = refl };
       levels = refl;
       sound = k.sound c.requires.well.array;
       rack_is = k.rack;
@@ -29,12 +27,12 @@ pub returns-in-Taken-clause-leaves : goal.returns-in-Taken-clause-leaves
 returns-in-Taken-clause-leaves g c =
     let a = c.args.self.now in
     let k = c.in-Taken.ensures in
-    let b : c.shape.result.now.b ≡ (shape_of a).b = ap (λ (x : Shape). x.b) c.shape.ensures in
-    fail_leaves g.S.InPhase g.R.Rack a c.args.boundary c.args.side (record a { store = c.fail.new.self }) c.requires.well
+    fail_leaves g.S.InPhase g.R.Rack a c.in-Some.place c.args.side (record a { store = c.fail.new.self }) c.requires.well
     (record {
-      boundary = omega arith;
+      number = c.args.boundary;
+      place = record { number = omega arith; is = c.in-Some.ensures.some; within = omega (arith, c.in-Some.ensures.within, c.requires.well.in_use.number) };
       side = omega arith;
-      beside = record { phase_is = refl; pending = refl; homes = refl; copies = refl };
+      beside = record { phase_is = refl; pending = refl; homes = refl; copies = refl; in_use = refl };
       levels = refl;
       sound = k.sound c.requires.well.array;
       rack_is = k.rack;
@@ -49,12 +47,12 @@ pub returns-in-Already-clause-steps : goal.returns-in-Already-clause-steps
 returns-in-Already-clause-steps g c =
     let a = c.args.self.now in
     let k = c.in-Already.ensures in
-    let b : c.shape.result.now.b ≡ (shape_of a).b = ap (λ (x : Shape). x.b) c.shape.ensures in
-    steps_already g.S.InPhase g.R.Rack a c.args.boundary c.args.side (record a { store = c.fail.new.self })
+    steps_already g.S.InPhase g.R.Rack a c.in-Some.place c.args.side (record a { store = c.fail.new.self })
     (record {
-      boundary = omega arith;
+      number = c.args.boundary;
+      place = record { number = omega arith; is = c.in-Some.ensures.some; within = omega (arith, c.in-Some.ensures.within, c.requires.well.in_use.number) };
       side = omega arith;
-      beside = record { phase_is = refl; pending = refl; homes = refl; copies = refl };
+      beside = record { phase_is = refl; pending = refl; homes = refl; copies = refl; in_use = refl };
       levels = refl;
       sound = k.sound c.requires.well.array;
       rack_is = k.rack;
@@ -70,12 +68,12 @@ pub returns-in-Taken-clause-steps : goal.returns-in-Taken-clause-steps
 returns-in-Taken-clause-steps g c =
     let a = c.args.self.now in
     let k = c.in-Taken.ensures in
-    let b : c.shape.result.now.b ≡ (shape_of a).b = ap (λ (x : Shape). x.b) c.shape.ensures in
-    steps_struck g.S.InPhase g.R.Rack a c.args.boundary c.args.side (record a { store = c.fail.new.self })
+    steps_struck g.S.InPhase g.R.Rack a c.in-Some.place c.args.side (record a { store = c.fail.new.self })
     (record {
-      boundary = omega arith;
+      number = c.args.boundary;
+      place = record { number = omega arith; is = c.in-Some.ensures.some; within = omega (arith, c.in-Some.ensures.within, c.requires.well.in_use.number) };
       side = omega arith;
-      beside = record { phase_is = refl; pending = refl; homes = refl; copies = refl };
+      beside = record { phase_is = refl; pending = refl; homes = refl; copies = refl; in_use = refl };
       levels = refl;
       sound = k.sound c.requires.well.array;
       rack_is = k.rack;
@@ -87,5 +85,17 @@ returns-in-Taken-clause-steps g c =
     })
     (λ out. cc (k.already.1 out))
 
-pub returns-then-boundary-shape-clause-leaves : goal.returns-then-boundary-shape-clause-leaves
-returns-then-boundary-shape-clause-leaves g c = leaves_none g.S.InPhase g.R.Rack c.args.self.now c.requires.well
+pub returns-then-boundary-self-clause-leaves : goal.returns-then-boundary-self-clause-leaves
+returns-then-boundary-self-clause-leaves g c = leaves_none g.S.InPhase g.R.Rack c.args.self.now c.requires.well
+
+pub returns-in_default-clause-leaves : goal.returns-in_default-clause-leaves
+returns-in_default-clause-leaves g c = leaves_none g.S.InPhase g.R.Rack c.args.self.now c.requires.well
+
+pub returns-in_default-clause-steps : goal.returns-in_default-clause-steps
+returns-in_default-clause-steps g c =
+    steps_unused g.S.InPhase g.R.Rack c.args.self.now c.args.boundary c.args.side c.requires.well (record { number = omega arith; is = c.in_default.ensures.none }) (omega arith)
+
+pub place-requires : goal.place-requires
+place-requires g c =
+    let most = c.requires.well.array.table.shape.most_boundaries in
+    omega (arith, c.requires.well.in_use.number, most)

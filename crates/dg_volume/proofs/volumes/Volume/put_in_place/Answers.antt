@@ -6,7 +6,7 @@ use Rattle.dg_plan.specs.Targets.{wants_of}
 use Rattle.dg_store.specs.Answers.{SameWritten}
 use Rattle.dg_store.specs.Stores.{KeepsBlocks, TellsAll, members_of, table_of}
 use Rattle.dg_volume.proofs.ArrayLaws.{moved_both, no_plan_before, on_err, plan_before, read_both, told_by, told_moved}
-use Rattle.dg_volume.proofs.MoveSteps.{check_refused, has_moved, has_read, keeps_of, labels_run, loose_not_settled, moved_leaves, settle_cramped, settle_lost_first, settle_lost_moving, settle_lost_reading}
+use Rattle.dg_volume.proofs.MoveSteps.{check_refused, has_moved, has_read, keeps_of, labels_run, loose_not_settled, moved_leaves, settle_cramped, settle_lost_first, settle_lost_moving, settle_lost_reading, written_run}
 use Rattle.dg_volume.proofs.PlacedLaws.{few_missing}
 use Rattle.dg_volume.proofs.SettleSteps.{plan_few, plan_homes, put_in_place, unlimited}
 use Rattle.dg_volume.proofs.LabelLaws.{relabels_read}
@@ -14,7 +14,7 @@ use Rattle.dg_volume.proofs.VolumeLaws.{leaves_none, reads_leave}
 use Rattle.dg_volume.proofs.volumes.Volume.put_in_place.Goals as goal
 
 pub returns-in-Some-clause-refused : goal.returns-in-Some-clause-refused
-returns-in-Some-clause-refused g c = settle_lost_first g.S.InPhase g.R.Rack c.args.self.now c.in-Some.lost c.in-Some.ensures
+returns-in-Some-clause-refused g c = settle_lost_first g.S.InPhase g.R.Rack c.args.self.now c.in-Some.lost c.requires.well c.in-Some.ensures
 
 pub returns-in-Err-clause-refused : goal.returns-in-Err-clause-refused
 returns-in-Err-clause-refused g c =
@@ -22,9 +22,9 @@ returns-in-Err-clause-refused g c =
     let b = record a { store = c.checked.new.store; levels = c.checked.new.levels } in
     let e = c.in_ok-unsettled.ensures in
     let kept = c.in-Some-inference.inference.now in
-    check_refused g.S.InPhase g.R.Rack a b kept c.in-Err.unsettled (record { loose = c.requires.loose; whole = c.in_default.ensures })
+    check_refused g.S.InPhase g.R.Rack a b kept c.in-Err.unsettled (record { loose = c.requires.loose; whole = c.in_default.ensures; in_use = c.requires.well.in_use })
     (keeps_of g.S.InPhase g.R.Rack a kept c.requires.well c.in-Some-inference.ensures.kept)
-    (has_read g.S.InPhase g.R.Rack a b c.requires.well (record { phase_is = refl; pending = refl; homes = refl; copies = refl }) e.levels refl e.reads) (rw c.in-Err.is at e.answer)
+    (has_read g.S.InPhase g.R.Rack a b c.requires.well (record { phase_is = refl; pending = refl; homes = refl; copies = refl; in_use = refl }) e.levels refl e.reads) (rw c.in-Err.is at e.answer)
 
 pub returns-in-Lost-clause-refused : goal.returns-in-Lost-clause-refused
 returns-in-Lost-clause-refused g c =
@@ -34,8 +34,8 @@ returns-in-Lost-clause-refused g c =
     let b = record a { store = mid; levels = c.planned.new.levels } in
     let d = c.in_ok-unsettled.ensures in
     let e = c.in_ok-lost.ensures in
-    settle_lost_reading g.S.InPhase g.R.Rack a b c.in-Lost.lost (record { loose = c.requires.loose; whole = c.in_default.ensures })
-    (has_read g.S.InPhase g.R.Rack a b c.requires.well (record { phase_is = refl; pending = refl; homes = refl; copies = refl }) (e.levels ∙ d.levels) refl (read_both g.R.Rack a.store first mid d.reads e.reads)) (rw c.in-Lost.is at e.answer)
+    settle_lost_reading g.S.InPhase g.R.Rack a b c.in-Lost.lost (record { loose = c.requires.loose; whole = c.in_default.ensures; in_use = c.requires.well.in_use })
+    (has_read g.S.InPhase g.R.Rack a b c.requires.well (record { phase_is = refl; pending = refl; homes = refl; copies = refl; in_use = refl }) (e.levels ∙ d.levels) refl (read_both g.R.Rack a.store first mid d.reads e.reads)) (rw c.in-Lost.is at e.answer)
 
 pub returns-in-NoSpace-clause-refused : goal.returns-in-NoSpace-clause-refused
 returns-in-NoSpace-clause-refused g c =
@@ -46,10 +46,10 @@ returns-in-NoSpace-clause-refused g c =
     let d = c.in_ok-unsettled.ensures in
     let e = c.in_ok-lost.ensures in
     let kept = c.in-Some-inference.inference.now in
-    settle_cramped g.S.InPhase g.R.Rack a b kept c.in-NoSpace.bad (record { loose = c.requires.loose; whole = c.in_default.ensures })
+    settle_cramped g.S.InPhase g.R.Rack a b kept c.in-NoSpace.bad (record { loose = c.requires.loose; whole = c.in_default.ensures; in_use = c.requires.well.in_use })
     (keeps_of g.S.InPhase g.R.Rack a kept c.requires.well c.in-Some-inference.ensures.kept)
     (record { mid = first; told = λ told. told_by g.R.Rack first mid e.reads.reads.keeps told; sound = rw c.in_default-2.is at d.answer })
-    (has_read g.S.InPhase g.R.Rack a b c.requires.well (record { phase_is = refl; pending = refl; homes = refl; copies = refl }) (e.levels ∙ d.levels) refl (read_both g.R.Rack a.store first mid d.reads e.reads))
+    (has_read g.S.InPhase g.R.Rack a b c.requires.well (record { phase_is = refl; pending = refl; homes = refl; copies = refl; in_use = refl }) (e.levels ∙ d.levels) refl (read_both g.R.Rack a.store first mid d.reads e.reads))
     (no_plan_before g.R.Rack a.store first mid kept a.homes c.in-NoSpace.bad d.reads (rw c.in-NoSpace.is at e.answer))
 
 pub returns-in_err-move_within-in-Found-clause-leaves : goal.returns-in_err-move_within-in-Found-clause-leaves
@@ -66,7 +66,8 @@ returns-in_err-move_within-in-Found-clause-leaves g c =
     let read = read_both g.R.Rack a.store first mid d.reads e.reads in
     let moved = moved_both g.R.Rack a.store mid last read t.array in
     let labels = labels_run g.S.InPhase g.R.Rack a mid last c.move_within.new.label read t.array t.label in
-    moved_leaves g.S.InPhase g.R.Rack a b c.requires.well c.requires.loose (has_moved g.S.InPhase g.R.Rack a b (record { phase_is = refl; pending = refl; homes = refl; copies = refl }) (e.levels ∙ d.levels) c.requires.well labels moved)
+    moved_leaves g.S.InPhase g.R.Rack a b c.requires.well c.requires.loose (has_moved g.S.InPhase g.R.Rack a b (record { phase_is = refl; pending = refl; homes = refl; copies = refl; in_use = refl }) (e.levels ∙ d.levels) c.requires.well
+    (written_run g.S.InPhase g.R.Rack a mid last read t.written) labels moved)
 
 pub returns-in_err-move_within-in-Found-clause-err : goal.returns-in_err-move_within-in-Found-clause-err
 returns-in_err-move_within-in-Found-clause-err g c =
@@ -97,7 +98,8 @@ returns-in-Lost-2-clause-leaves g c =
     let read = read_both g.R.Rack a.store first mid d.reads e.reads in
     let moved = moved_both g.R.Rack a.store mid last read t.array in
     let labels = labels_run g.S.InPhase g.R.Rack a mid last c.move_within.new.label read t.array t.label in
-    moved_leaves g.S.InPhase g.R.Rack a b c.requires.well c.requires.loose (has_moved g.S.InPhase g.R.Rack a b (record { phase_is = refl; pending = refl; homes = refl; copies = refl }) (e.levels ∙ d.levels) c.requires.well labels moved)
+    moved_leaves g.S.InPhase g.R.Rack a b c.requires.well c.requires.loose (has_moved g.S.InPhase g.R.Rack a b (record { phase_is = refl; pending = refl; homes = refl; copies = refl; in_use = refl }) (e.levels ∙ d.levels) c.requires.well
+    (written_run g.S.InPhase g.R.Rack a mid last read t.written) labels moved)
 
 pub returns-in-Lost-2-clause-refused : goal.returns-in-Lost-2-clause-refused
 returns-in-Lost-2-clause-refused g c =
@@ -123,9 +125,10 @@ returns-in-Lost-2-clause-refused g c =
       read = read;
       plan = plan;
       told = λ told. told_moved g.R.Rack mid last t.array told;
-      moves = has_moved g.S.InPhase g.R.Rack a b (record { phase_is = refl; pending = refl; homes = refl; copies = refl }) (e.levels ∙ d.levels) c.requires.well labels moved;
+      moves = has_moved g.S.InPhase g.R.Rack a b (record { phase_is = refl; pending = refl; homes = refl; copies = refl; in_use = refl }) (e.levels ∙ d.levels) c.requires.well
+          (written_run g.S.InPhase g.R.Rack a mid last read t.written) labels moved;
     })
-    c.in-Lost-2.lost (record { loose = c.requires.loose; whole = c.in_default.ensures })
+    c.in-Lost-2.lost (record { loose = c.requires.loose; whole = c.in_default.ensures; in_use = c.requires.well.in_use })
     (record {
       mid = first;
       told = λ told. told_by g.R.Rack first mid e.reads.reads.keeps (told_moved g.R.Rack mid last t.array told);
@@ -156,8 +159,10 @@ returns-in-Tended-clause-leaves g c =
       phase_is = refl;
       pending = refl;
       copies = refl;
+      in_use = refl;
       levels = e.levels ∙ d.levels;
       array = moved;
+      written = written_run g.S.InPhase g.R.Rack a mid last read t.written;
       labels = labels;
       homes_are = plan_homes g.S.InPhase g.R.Rack a mid last kept targets c.into_homes.result plan c.into_homes.ensures moved.stays.shape small;
       few_homes = plan_few g.S.InPhase g.R.Rack a mid last kept targets c.into_homes.result plan c.into_homes.ensures moved.stays.shape;
@@ -191,14 +196,16 @@ returns-in-Tended-clause-put g c done =
         phase_is = refl;
         pending = refl;
         copies = refl;
+        in_use = refl;
         levels = e.levels ∙ d.levels;
         array = moved;
+        written = written_run g.S.InPhase g.R.Rack a mid last read t.written;
         labels = labels;
         homes_are = plan_homes g.S.InPhase g.R.Rack a mid last kept targets c.into_homes.result plan c.into_homes.ensures moved.stays.shape small;
         few_homes = plan_few g.S.InPhase g.R.Rack a mid last kept targets c.into_homes.result plan c.into_homes.ensures moved.stays.shape;
       };
     })
-    c.in-Tended.moved c.in-Tended.left (2 ^ 32 - 1) (record { loose = c.requires.loose; whole = c.in_default.ensures })
+    c.in-Tended.moved c.in-Tended.left (2 ^ 32 - 1) (record { loose = c.requires.loose; whole = c.in_default.ensures; in_use = c.requires.well.in_use })
     (record {
       mid = first;
       told = λ told. told_by g.R.Rack first mid e.reads.reads.keeps (told_moved g.R.Rack mid last t.array told);
@@ -221,7 +228,7 @@ returns-in_err-unsettled-clause-leaves g c =
     let b = record a { store = c.checked.new.store; levels = c.checked.new.levels } in
     let e = c.in_err-unsettled.ensures in
     reads_leave g.S.InPhase g.R.Rack a b c.requires.well
-    (has_read g.S.InPhase g.R.Rack a b c.requires.well (record { phase_is = refl; pending = refl; homes = refl; copies = refl }) e.levels refl e.reads)
+    (has_read g.S.InPhase g.R.Rack a b c.requires.well (record { phase_is = refl; pending = refl; homes = refl; copies = refl; in_use = refl }) e.levels refl e.reads)
 
 pub returns-in-Err-clause-leaves : goal.returns-in-Err-clause-leaves
 returns-in-Err-clause-leaves g c =
@@ -229,7 +236,7 @@ returns-in-Err-clause-leaves g c =
     let b = record a { store = c.checked.new.store; levels = c.checked.new.levels } in
     let e = c.in_ok-unsettled.ensures in
     reads_leave g.S.InPhase g.R.Rack a b c.requires.well
-    (has_read g.S.InPhase g.R.Rack a b c.requires.well (record { phase_is = refl; pending = refl; homes = refl; copies = refl }) e.levels refl e.reads)
+    (has_read g.S.InPhase g.R.Rack a b c.requires.well (record { phase_is = refl; pending = refl; homes = refl; copies = refl; in_use = refl }) e.levels refl e.reads)
 
 pub returns-in_err-lost-clause-leaves : goal.returns-in_err-lost-clause-leaves
 returns-in_err-lost-clause-leaves g c =
@@ -238,7 +245,7 @@ returns-in_err-lost-clause-leaves g c =
     let d = c.in_ok-unsettled.ensures in
     let e = c.in_err-lost.ensures in
     reads_leave g.S.InPhase g.R.Rack a b c.requires.well
-    (has_read g.S.InPhase g.R.Rack a b c.requires.well (record { phase_is = refl; pending = refl; homes = refl; copies = refl }) (e.levels ∙ d.levels) refl
+    (has_read g.S.InPhase g.R.Rack a b c.requires.well (record { phase_is = refl; pending = refl; homes = refl; copies = refl; in_use = refl }) (e.levels ∙ d.levels) refl
     (read_both g.R.Rack a.store c.checked.new.store c.planned.new.store d.reads e.reads))
 
 pub returns-in-Lost-clause-leaves : goal.returns-in-Lost-clause-leaves
@@ -248,7 +255,7 @@ returns-in-Lost-clause-leaves g c =
     let d = c.in_ok-unsettled.ensures in
     let e = c.in_ok-lost.ensures in
     reads_leave g.S.InPhase g.R.Rack a b c.requires.well
-    (has_read g.S.InPhase g.R.Rack a b c.requires.well (record { phase_is = refl; pending = refl; homes = refl; copies = refl }) (e.levels ∙ d.levels) refl
+    (has_read g.S.InPhase g.R.Rack a b c.requires.well (record { phase_is = refl; pending = refl; homes = refl; copies = refl; in_use = refl }) (e.levels ∙ d.levels) refl
     (read_both g.R.Rack a.store c.checked.new.store c.planned.new.store d.reads e.reads))
 
 pub returns-in-NoSpace-clause-leaves : goal.returns-in-NoSpace-clause-leaves
@@ -258,7 +265,7 @@ returns-in-NoSpace-clause-leaves g c =
     let d = c.in_ok-unsettled.ensures in
     let e = c.in_ok-lost.ensures in
     reads_leave g.S.InPhase g.R.Rack a b c.requires.well
-    (has_read g.S.InPhase g.R.Rack a b c.requires.well (record { phase_is = refl; pending = refl; homes = refl; copies = refl }) (e.levels ∙ d.levels) refl
+    (has_read g.S.InPhase g.R.Rack a b c.requires.well (record { phase_is = refl; pending = refl; homes = refl; copies = refl; in_use = refl }) (e.levels ∙ d.levels) refl
     (read_both g.R.Rack a.store c.checked.new.store c.planned.new.store d.reads e.reads))
 
 pub returns-in-Some-clause-leaves : goal.returns-in-Some-clause-leaves

@@ -1,10 +1,8 @@
-use Rattle.std.proofs.Common.{◌≡◌, ℕ, Bool, List, inl, inr, refl, sym, ap, subst, arith}
+use Rattle.std.proofs.Common.{◌≡◌, ℕ, Bool, List, inl, inr, refl, sym, subst, arith}
 use Rattle.std.specs.Prelude.{IfSome}
-use Rattle.dg_model.specs.declared.shapes.Shape.{Shape}
-use Rattle.dg_volume.proofs.RebuildSteps.{CallsRebuild, opened_leaves, opened_spares, quiet_rack, rebuild_leaves, rebuild_spares, rebuild_steps, rebuilt_labels, steps_ended}
+use Rattle.dg_volume.proofs.RebuildSteps.{CallsRebuild, opened_leaves, opened_spares, quiet_rack, rebuild_leaves, rebuild_spares, rebuild_steps, rebuilt_labels, steps_ended, steps_unused}
 use Rattle.dg_volume.specs.Phases.{CanReapAll}
 use Rattle.dg_volume.specs.Refills.{AreReapMarks}
-use Rattle.dg_volume.specs.Volumes.{shape_of}
 use Rattle.dg_volume.proofs.VolumeLaws.{leaves_none}
 use Rattle.dg_volume.proofs.volumes.Volume.rebuild.Goals as goal
 
@@ -13,8 +11,7 @@ returns-clause-leaves g c =
     let a = c.args.self.now in
     let o = c.open_refill-ended.ensures in
     let k = c.rebuild-refilled.ensures in
-    let b : c.shape.result.now.b ≡ (shape_of a).b = ap (λ (x : Shape). x.b) c.shape.ensures in
-    let call : CallsRebuild g.S.InPhase g.R.Rack c.open_refill-ended.new.store c.args.boundary c.args.limit c.deref.result.now c.new-reaped.result.items c.rebuild-refilled.new.reaped.items
+    let call : CallsRebuild g.S.InPhase g.R.Rack c.open_refill-ended.new.store c.in-Some.place c.args.limit c.deref.result.now c.new-reaped.result.items c.rebuild-refilled.new.reaped.items
     c.rebuild-refilled.result c.rebuild-refilled.new.store = record {
       sound = k.sound;
       left = k.stays;
@@ -27,20 +24,21 @@ returns-clause-leaves g c =
       broken = k.broken;
       err = k.err;
     } in
-    rebuild_leaves g.S.InPhase g.R.Rack a c.open_refill-ended.new.store c.args.boundary c.args.limit c.deref.result.now c.new-reaped.result.items c.rebuild-refilled.new.reaped.items c.rebuild-refilled.result
+    rebuild_leaves g.S.InPhase g.R.Rack a c.open_refill-ended.new.store c.in-Some.place c.args.limit c.deref.result.now c.new-reaped.result.items c.rebuild-refilled.new.reaped.items c.rebuild-refilled.result
     (record a { store = c.rebuild-refilled.new.store; label = c.open_refill-ended.new.label; phase = c.reaped.new.self }) c.requires.well
     (record {
-      boundary = omega arith;
-      beside = record { phase_is = c.reaped.ensures.same; pending = refl; homes = refl; copies = refl };
+      number = c.args.boundary;
+      place = record { number = omega arith; is = c.in-Some.ensures.some; within = omega (arith, c.in-Some.ensures.within, c.requires.well.in_use.number) };
+      beside = record { phase_is = c.reaped.ensures.same; pending = refl; homes = refl; copies = refl; in_use = refl };
       levels = refl;
       none = c.new-reaped.ensures.items;
       opening = o.array;
-      same = λ none. o.same c.in_default.is none;
-      labels = rebuilt_labels g.S.InPhase g.R.Rack a c.open_refill-ended.new.store c.args.boundary c.args.limit c.deref.result.now c.new-reaped.result.items c.rebuild-refilled.new.reaped.items
+      same = λ none. o.same c.in_default-ended.is none;
+      labels = rebuilt_labels g.S.InPhase g.R.Rack a c.open_refill-ended.new.store c.in-Some.place c.args.limit c.deref.result.now c.new-reaped.result.items c.rebuild-refilled.new.reaped.items
           c.rebuild-refilled.result c.rebuild-refilled.new.store c.open_refill-ended.new.label o.array call o.labels
           (λ closed. elim (o.quiet closed) [
             | inl zero ↦ k.still zero
-            | inr none ↦ quiet_rack g.S.InPhase g.R.Rack c.open_refill-ended.new.store c.args.boundary c.args.limit c.deref.result.now c.new-reaped.result.items
+            | inr none ↦ quiet_rack g.S.InPhase g.R.Rack c.open_refill-ended.new.store c.in-Some.place c.args.limit c.deref.result.now c.new-reaped.result.items
                 c.rebuild-refilled.new.reaped.items c.rebuild-refilled.result c.rebuild-refilled.new.store call none
           ]);
       can = subst (λ (xs : List ℕ). IfSome (g.S.InPhase.kept a.phase) (λ inference. CanReapAll inference xs)) c.deref-2.ensures.value c.reaped.ensures.stands;
@@ -53,8 +51,7 @@ returns-clause-steps g c =
     let a = c.args.self.now in
     let o = c.open_refill-ended.ensures in
     let k = c.rebuild-refilled.ensures in
-    let b : c.shape.result.now.b ≡ (shape_of a).b = ap (λ (x : Shape). x.b) c.shape.ensures in
-    let call : CallsRebuild g.S.InPhase g.R.Rack c.open_refill-ended.new.store c.args.boundary c.args.limit c.deref.result.now c.new-reaped.result.items c.rebuild-refilled.new.reaped.items
+    let call : CallsRebuild g.S.InPhase g.R.Rack c.open_refill-ended.new.store c.in-Some.place c.args.limit c.deref.result.now c.new-reaped.result.items c.rebuild-refilled.new.reaped.items
     c.rebuild-refilled.result c.rebuild-refilled.new.store = record {
       sound = k.sound;
       left = k.stays;
@@ -68,20 +65,21 @@ returns-clause-steps g c =
       err = k.err;
     } in
     rw c.told.ensures
-    (rebuild_steps g.S.InPhase g.R.Rack a c.open_refill-ended.new.store c.args.boundary c.args.limit c.deref.result.now c.new-reaped.result.items c.rebuild-refilled.new.reaped.items c.rebuild-refilled.result
+    (rebuild_steps g.S.InPhase g.R.Rack a c.open_refill-ended.new.store c.in-Some.place c.args.limit c.deref.result.now c.new-reaped.result.items c.rebuild-refilled.new.reaped.items c.rebuild-refilled.result
     (record a { store = c.rebuild-refilled.new.store; label = c.open_refill-ended.new.label; phase = c.reaped.new.self }) c.requires.well
     (record {
-      boundary = omega arith;
-      beside = record { phase_is = c.reaped.ensures.same; pending = refl; homes = refl; copies = refl };
+      number = c.args.boundary;
+      place = record { number = omega arith; is = c.in-Some.ensures.some; within = omega (arith, c.in-Some.ensures.within, c.requires.well.in_use.number) };
+      beside = record { phase_is = c.reaped.ensures.same; pending = refl; homes = refl; copies = refl; in_use = refl };
       levels = refl;
       none = c.new-reaped.ensures.items;
       opening = o.array;
-      same = λ none. o.same c.in_default.is none;
-      labels = rebuilt_labels g.S.InPhase g.R.Rack a c.open_refill-ended.new.store c.args.boundary c.args.limit c.deref.result.now c.new-reaped.result.items c.rebuild-refilled.new.reaped.items
+      same = λ none. o.same c.in_default-ended.is none;
+      labels = rebuilt_labels g.S.InPhase g.R.Rack a c.open_refill-ended.new.store c.in-Some.place c.args.limit c.deref.result.now c.new-reaped.result.items c.rebuild-refilled.new.reaped.items
           c.rebuild-refilled.result c.rebuild-refilled.new.store c.open_refill-ended.new.label o.array call o.labels
           (λ closed. elim (o.quiet closed) [
             | inl zero ↦ k.still zero
-            | inr none ↦ quiet_rack g.S.InPhase g.R.Rack c.open_refill-ended.new.store c.args.boundary c.args.limit c.deref.result.now c.new-reaped.result.items
+            | inr none ↦ quiet_rack g.S.InPhase g.R.Rack c.open_refill-ended.new.store c.in-Some.place c.args.limit c.deref.result.now c.new-reaped.result.items
                 c.rebuild-refilled.new.reaped.items c.rebuild-refilled.result c.rebuild-refilled.new.store call none
           ]);
       can = subst (λ (xs : List ℕ). IfSome (g.S.InPhase.kept a.phase) (λ inference. CanReapAll inference xs)) c.deref-2.ensures.value c.reaped.ensures.stands;
@@ -94,8 +92,7 @@ returns-clause-spares g c =
     let a = c.args.self.now in
     let o = c.open_refill-ended.ensures in
     let k = c.rebuild-refilled.ensures in
-    let b : c.shape.result.now.b ≡ (shape_of a).b = ap (λ (x : Shape). x.b) c.shape.ensures in
-    let call : CallsRebuild g.S.InPhase g.R.Rack c.open_refill-ended.new.store c.args.boundary c.args.limit c.deref.result.now c.new-reaped.result.items c.rebuild-refilled.new.reaped.items
+    let call : CallsRebuild g.S.InPhase g.R.Rack c.open_refill-ended.new.store c.in-Some.place c.args.limit c.deref.result.now c.new-reaped.result.items c.rebuild-refilled.new.reaped.items
     c.rebuild-refilled.result c.rebuild-refilled.new.store = record {
       sound = k.sound;
       left = k.stays;
@@ -108,20 +105,21 @@ returns-clause-spares g c =
       broken = k.broken;
       err = k.err;
     } in
-    rebuild_spares g.S.InPhase g.R.Rack c.change_of_loose_blocks.ensures a c.open_refill-ended.new.store c.args.boundary c.args.limit c.deref.result.now c.new-reaped.result.items c.rebuild-refilled.new.reaped.items c.rebuild-refilled.result
+    rebuild_spares g.S.InPhase g.R.Rack c.change_of_loose_blocks.ensures a c.open_refill-ended.new.store c.in-Some.place c.args.limit c.deref.result.now c.new-reaped.result.items c.rebuild-refilled.new.reaped.items c.rebuild-refilled.result
     (record a { store = c.rebuild-refilled.new.store; label = c.open_refill-ended.new.label; phase = c.reaped.new.self }) c.requires.well
     (record {
-      boundary = omega arith;
-      beside = record { phase_is = c.reaped.ensures.same; pending = refl; homes = refl; copies = refl };
+      number = c.args.boundary;
+      place = record { number = omega arith; is = c.in-Some.ensures.some; within = omega (arith, c.in-Some.ensures.within, c.requires.well.in_use.number) };
+      beside = record { phase_is = c.reaped.ensures.same; pending = refl; homes = refl; copies = refl; in_use = refl };
       levels = refl;
       none = c.new-reaped.ensures.items;
       opening = o.array;
-      same = λ none. o.same c.in_default.is none;
-      labels = rebuilt_labels g.S.InPhase g.R.Rack a c.open_refill-ended.new.store c.args.boundary c.args.limit c.deref.result.now c.new-reaped.result.items c.rebuild-refilled.new.reaped.items
+      same = λ none. o.same c.in_default-ended.is none;
+      labels = rebuilt_labels g.S.InPhase g.R.Rack a c.open_refill-ended.new.store c.in-Some.place c.args.limit c.deref.result.now c.new-reaped.result.items c.rebuild-refilled.new.reaped.items
           c.rebuild-refilled.result c.rebuild-refilled.new.store c.open_refill-ended.new.label o.array call o.labels
           (λ closed. elim (o.quiet closed) [
             | inl zero ↦ k.still zero
-            | inr none ↦ quiet_rack g.S.InPhase g.R.Rack c.open_refill-ended.new.store c.args.boundary c.args.limit c.deref.result.now c.new-reaped.result.items
+            | inr none ↦ quiet_rack g.S.InPhase g.R.Rack c.open_refill-ended.new.store c.in-Some.place c.args.limit c.deref.result.now c.new-reaped.result.items
                 c.rebuild-refilled.new.reaped.items c.rebuild-refilled.result c.rebuild-refilled.new.store call none
           ]);
       can = subst (λ (xs : List ℕ). IfSome (g.S.InPhase.kept a.phase) (λ inference. CanReapAll inference xs)) c.deref-2.ensures.value c.reaped.ensures.stands;
@@ -129,49 +127,62 @@ returns-clause-spares g c =
       call = call;
     })
 
-pub returns-in-Some-clause-leaves : goal.returns-in-Some-clause-leaves
-returns-in-Some-clause-leaves g c =
+pub returns-in-Some-ended-clause-leaves : goal.returns-in-Some-ended-clause-leaves
+returns-in-Some-ended-clause-leaves g c =
     let a = c.args.self.now in
     let o = c.open_refill-ended.ensures in
     opened_leaves g.S.InPhase g.R.Rack a (record a { store = c.open_refill-ended.new.store; label = c.open_refill-ended.new.label }) c.requires.well
-    (record { beside = record { phase_is = refl; pending = refl; homes = refl; copies = refl }; levels = refl; opening = o.array; labels = o.labels })
+    (record { beside = record { phase_is = refl; pending = refl; homes = refl; copies = refl; in_use = refl }; levels = refl; opening = o.array; labels = o.labels })
 
-pub returns-in-Some-clause-spares : goal.returns-in-Some-clause-spares
-returns-in-Some-clause-spares g c =
+pub returns-in-Some-ended-clause-spares : goal.returns-in-Some-ended-clause-spares
+returns-in-Some-ended-clause-spares g c =
     let a = c.args.self.now in
     let o = c.open_refill-ended.ensures in
     opened_spares g.S.InPhase g.R.Rack c.change_of_loose_blocks.ensures a (record a { store = c.open_refill-ended.new.store; label = c.open_refill-ended.new.label })
-    (record { beside = record { phase_is = refl; pending = refl; homes = refl; copies = refl }; levels = refl; opening = o.array; labels = o.labels })
+    (record { beside = record { phase_is = refl; pending = refl; homes = refl; copies = refl; in_use = refl }; levels = refl; opening = o.array; labels = o.labels })
 
-pub returns-in-Some-clause-steps : goal.returns-in-Some-clause-steps
-returns-in-Some-clause-steps g c =
+pub returns-in-Some-ended-clause-steps : goal.returns-in-Some-ended-clause-steps
+returns-in-Some-ended-clause-steps g c =
     let a = c.args.self.now in
-    let e = c.in-Some.ensures in
+    let e = c.in-Some-ended.ensures in
     let o = c.open_refill-ended.ensures in
-    let b : c.shape.result.now.b ≡ (shape_of a).b = ap (λ (x : Shape). x.b) c.shape.ensures in
-    steps_ended g.S.InPhase g.R.Rack a (record a { store = c.open_refill-ended.new.store; label = c.open_refill-ended.new.label }) c.args.boundary c.args.limit c.in-Some.answer
+    rw c.rebuilt.ensures
+    (steps_ended g.S.InPhase g.R.Rack a (record a { store = c.open_refill-ended.new.store; label = c.open_refill-ended.new.label }) c.in-Some.place c.args.limit c.in-Some-ended.answer
     (record {
-      boundary = omega arith;
+      number = c.args.boundary;
+      place = record { number = omega arith; is = c.in-Some.ensures.some; within = omega (arith, c.in-Some.ensures.within, c.requires.well.in_use.number) };
       sound = c.requires.well.array;
       was = e.was;
       none = e.none;
-      opened = record { beside = record { phase_is = refl; pending = refl; homes = refl; copies = refl }; levels = refl; opening = o.array; labels = o.labels };
+      opened = record { beside = record { phase_is = refl; pending = refl; homes = refl; copies = refl; in_use = refl }; levels = refl; opening = o.array; labels = o.labels };
     })
-    e.lost e.fell
+    e.lost e.fell)
 
 pub returns-in_err-dead-clause-leaves : goal.returns-in_err-dead-clause-leaves
 returns-in_err-dead-clause-leaves g c =
     let a = c.args.self.now in
     let o = c.open_refill-ended.ensures in
     opened_leaves g.S.InPhase g.R.Rack a (record a { store = c.open_refill-ended.new.store; label = c.open_refill-ended.new.label }) c.requires.well
-    (record { beside = record { phase_is = refl; pending = refl; homes = refl; copies = refl }; levels = refl; opening = o.array; labels = o.labels })
+    (record { beside = record { phase_is = refl; pending = refl; homes = refl; copies = refl; in_use = refl }; levels = refl; opening = o.array; labels = o.labels })
 
 pub returns-in_err-dead-clause-spares : goal.returns-in_err-dead-clause-spares
 returns-in_err-dead-clause-spares g c =
     let a = c.args.self.now in
     let o = c.open_refill-ended.ensures in
     opened_spares g.S.InPhase g.R.Rack c.change_of_loose_blocks.ensures a (record a { store = c.open_refill-ended.new.store; label = c.open_refill-ended.new.label })
-    (record { beside = record { phase_is = refl; pending = refl; homes = refl; copies = refl }; levels = refl; opening = o.array; labels = o.labels })
+    (record { beside = record { phase_is = refl; pending = refl; homes = refl; copies = refl; in_use = refl }; levels = refl; opening = o.array; labels = o.labels })
 
-pub returns-then-boundary-shape-clause-leaves : goal.returns-then-boundary-shape-clause-leaves
-returns-then-boundary-shape-clause-leaves g c = leaves_none g.S.InPhase g.R.Rack c.args.self.now c.requires.well
+pub returns-then-boundary-self-clause-leaves : goal.returns-then-boundary-self-clause-leaves
+returns-then-boundary-self-clause-leaves g c = leaves_none g.S.InPhase g.R.Rack c.args.self.now c.requires.well
+
+pub returns-in_default-clause-leaves : goal.returns-in_default-clause-leaves
+returns-in_default-clause-leaves g c = leaves_none g.S.InPhase g.R.Rack c.args.self.now c.requires.well
+
+pub returns-in_default-clause-steps : goal.returns-in_default-clause-steps
+returns-in_default-clause-steps g c =
+    steps_unused g.S.InPhase g.R.Rack c.args.self.now c.args.boundary c.args.limit c.requires.well (record { number = omega arith; is = c.in_default.ensures.none })
+
+pub place-requires : goal.place-requires
+place-requires g c =
+    let most = c.requires.well.array.table.shape.most_boundaries in
+    omega (arith, c.requires.well.in_use.number, most)

@@ -1,11 +1,9 @@
 use Rattle.std.proofs.Common.{◌≡◌, ◌∙◌, ◌+◌, ◌*◌, ℕ, refl, ap, subst, arith}
 use Rattle.dg_io.specs.Told.{IsZeros}
 use Rattle.dg_model.specs.Saves.{member_length}
-use Rattle.dg_model.specs.declared.shapes.Shape.{Shape}
 use Rattle.dg_store.specs.Leaves.{BytesChange}
-use Rattle.dg_volume.proofs.ReplaceSteps.{replace_leaves, steps_failed, steps_lost, steps_not_out, steps_replaced}
+use Rattle.dg_volume.proofs.ReplaceSteps.{replace_leaves, steps_failed, steps_lost, steps_not_out, steps_replaced, steps_unused}
 use Rattle.dg_pair.specs.declared.boundaries.ReplaceAnswer.TheVariants.{Failed, Lost, NotOut, Replaced}
-use Rattle.dg_volume.specs.Volumes.{shape_of}
 use Rattle.dg_volume.proofs.VolumeLaws.{leaves_none}
 use Rattle.dg_volume.proofs.volumes.Volume.replace.Goals as goal
 
@@ -13,12 +11,12 @@ pub returns-in-Replaced-clause-leaves : goal.returns-in-Replaced-clause-leaves
 returns-in-Replaced-clause-leaves g c =
     let a = c.args.self.now in
     let k = c.in-Replaced.ensures in
-    let b : c.shape.result.now.b ≡ (shape_of a).b = ap (λ (x : Shape). x.b) c.shape.ensures in
-    replace_leaves g.S.InPhase g.R.Rack a c.args.boundary c.args.side Replaced c.can_replace-opens.result c.open_where.new.store (record a { store = c.replace.new.self; label = c.note_long.new.label }) c.requires.well
+    replace_leaves g.S.InPhase g.R.Rack a c.in-Some.place c.args.side Replaced c.can_replace-opens.result c.open_where.new.store (record a { store = c.replace.new.self; label = c.note_long.new.label }) c.requires.well
     (record {
-      boundary = omega arith;
+      number = c.args.boundary;
+      place = record { number = omega arith; is = c.in-Some.ensures.some; within = omega (arith, c.in-Some.ensures.within, c.requires.well.in_use.number) };
       side = omega arith;
-      beside = record { phase_is = refl; pending = refl; homes = refl; copies = refl };
+      beside = record { phase_is = refl; pending = refl; homes = refl; copies = refl; in_use = refl };
       levels = refl;
       sound = k.sound;
       labeled = c.requires.well.labeled;
@@ -36,8 +34,8 @@ returns-in-Replaced-clause-leaves g c =
       failed = k.failed;
       members = k.members;
       blank = λ is.
-          subst (λ (n : ℕ). BytesChange g.R.Rack c.open_where.new.store c.replace.new.self (2 * c.args.boundary + c.args.side) (IsZeros n))
-          (c.member_length-size.ensures ∙ ap (member_length 2) c.shape-2.ensures) (k.blank is);
+          subst (λ (n : ℕ). BytesChange g.R.Rack c.open_where.new.store c.replace.new.self (2 * c.in-Some.place + c.args.side) (IsZeros n))
+          (c.member_length-size.ensures ∙ ap (member_length 2) c.shape.ensures) (k.blank is);
       other_bytes = k.other_bytes;
       other_faults = k.other_faults;
       faulty = k.faulty;
@@ -49,12 +47,12 @@ pub returns-in-Replaced-clause-steps : goal.returns-in-Replaced-clause-steps
 returns-in-Replaced-clause-steps g c =
     let a = c.args.self.now in
     let k = c.in-Replaced.ensures in
-    let b : c.shape.result.now.b ≡ (shape_of a).b = ap (λ (x : Shape). x.b) c.shape.ensures in
-    steps_replaced g.S.InPhase g.R.Rack a c.args.boundary c.args.side c.can_replace-opens.result c.open_where.new.store (record a { store = c.replace.new.self; label = c.note_long.new.label }) c.requires.well
+    steps_replaced g.S.InPhase g.R.Rack a c.in-Some.place c.args.side c.can_replace-opens.result c.open_where.new.store (record a { store = c.replace.new.self; label = c.note_long.new.label }) c.requires.well
     (record {
-      boundary = omega arith;
+      number = c.args.boundary;
+      place = record { number = omega arith; is = c.in-Some.ensures.some; within = omega (arith, c.in-Some.ensures.within, c.requires.well.in_use.number) };
       side = omega arith;
-      beside = record { phase_is = refl; pending = refl; homes = refl; copies = refl };
+      beside = record { phase_is = refl; pending = refl; homes = refl; copies = refl; in_use = refl };
       levels = refl;
       sound = k.sound;
       labeled = c.requires.well.labeled;
@@ -72,8 +70,8 @@ returns-in-Replaced-clause-steps g c =
       failed = k.failed;
       members = k.members;
       blank = λ is.
-          subst (λ (n : ℕ). BytesChange g.R.Rack c.open_where.new.store c.replace.new.self (2 * c.args.boundary + c.args.side) (IsZeros n))
-          (c.member_length-size.ensures ∙ ap (member_length 2) c.shape-2.ensures) (k.blank is);
+          subst (λ (n : ℕ). BytesChange g.R.Rack c.open_where.new.store c.replace.new.self (2 * c.in-Some.place + c.args.side) (IsZeros n))
+          (c.member_length-size.ensures ∙ ap (member_length 2) c.shape.ensures) (k.blank is);
       other_bytes = k.other_bytes;
       other_faults = k.other_faults;
       faulty = k.faulty;
@@ -85,12 +83,12 @@ pub returns-in-Lost-clause-leaves : goal.returns-in-Lost-clause-leaves
 returns-in-Lost-clause-leaves g c =
     let a = c.args.self.now in
     let k = c.in-Lost.ensures in
-    let b : c.shape.result.now.b ≡ (shape_of a).b = ap (λ (x : Shape). x.b) c.shape.ensures in
-    replace_leaves g.S.InPhase g.R.Rack a c.args.boundary c.args.side Lost c.can_replace-opens.result c.open_where.new.store (record a { store = c.replace.new.self; label = c.open_where.new.label }) c.requires.well
+    replace_leaves g.S.InPhase g.R.Rack a c.in-Some.place c.args.side Lost c.can_replace-opens.result c.open_where.new.store (record a { store = c.replace.new.self; label = c.open_where.new.label }) c.requires.well
     (record {
-      boundary = omega arith;
+      number = c.args.boundary;
+      place = record { number = omega arith; is = c.in-Some.ensures.some; within = omega (arith, c.in-Some.ensures.within, c.requires.well.in_use.number) };
       side = omega arith;
-      beside = record { phase_is = refl; pending = refl; homes = refl; copies = refl };
+      beside = record { phase_is = refl; pending = refl; homes = refl; copies = refl; in_use = refl };
       levels = refl;
       sound = k.sound;
       labeled = c.requires.well.labeled;
@@ -108,8 +106,8 @@ returns-in-Lost-clause-leaves g c =
       failed = k.failed;
       members = k.members;
       blank = λ is.
-          subst (λ (n : ℕ). BytesChange g.R.Rack c.open_where.new.store c.replace.new.self (2 * c.args.boundary + c.args.side) (IsZeros n))
-          (c.member_length-size.ensures ∙ ap (member_length 2) c.shape-2.ensures) (k.blank is);
+          subst (λ (n : ℕ). BytesChange g.R.Rack c.open_where.new.store c.replace.new.self (2 * c.in-Some.place + c.args.side) (IsZeros n))
+          (c.member_length-size.ensures ∙ ap (member_length 2) c.shape.ensures) (k.blank is);
       other_bytes = k.other_bytes;
       other_faults = k.other_faults;
       faulty = k.faulty;
@@ -121,12 +119,12 @@ pub returns-in-Lost-clause-steps : goal.returns-in-Lost-clause-steps
 returns-in-Lost-clause-steps g c =
     let a = c.args.self.now in
     let k = c.in-Lost.ensures in
-    let b : c.shape.result.now.b ≡ (shape_of a).b = ap (λ (x : Shape). x.b) c.shape.ensures in
-    steps_lost g.S.InPhase g.R.Rack a c.args.boundary c.args.side c.can_replace-opens.result c.open_where.new.store (record a { store = c.replace.new.self; label = c.open_where.new.label })
+    steps_lost g.S.InPhase g.R.Rack a c.in-Some.place c.args.side c.can_replace-opens.result c.open_where.new.store (record a { store = c.replace.new.self; label = c.open_where.new.label })
     (record {
-      boundary = omega arith;
+      number = c.args.boundary;
+      place = record { number = omega arith; is = c.in-Some.ensures.some; within = omega (arith, c.in-Some.ensures.within, c.requires.well.in_use.number) };
       side = omega arith;
-      beside = record { phase_is = refl; pending = refl; homes = refl; copies = refl };
+      beside = record { phase_is = refl; pending = refl; homes = refl; copies = refl; in_use = refl };
       levels = refl;
       sound = k.sound;
       labeled = c.requires.well.labeled;
@@ -144,8 +142,8 @@ returns-in-Lost-clause-steps g c =
       failed = k.failed;
       members = k.members;
       blank = λ is.
-          subst (λ (n : ℕ). BytesChange g.R.Rack c.open_where.new.store c.replace.new.self (2 * c.args.boundary + c.args.side) (IsZeros n))
-          (c.member_length-size.ensures ∙ ap (member_length 2) c.shape-2.ensures) (k.blank is);
+          subst (λ (n : ℕ). BytesChange g.R.Rack c.open_where.new.store c.replace.new.self (2 * c.in-Some.place + c.args.side) (IsZeros n))
+          (c.member_length-size.ensures ∙ ap (member_length 2) c.shape.ensures) (k.blank is);
       other_bytes = k.other_bytes;
       other_faults = k.other_faults;
       faulty = k.faulty;
@@ -157,12 +155,12 @@ pub returns-in-NotOut-clause-leaves : goal.returns-in-NotOut-clause-leaves
 returns-in-NotOut-clause-leaves g c =
     let a = c.args.self.now in
     let k = c.in-NotOut.ensures in
-    let b : c.shape.result.now.b ≡ (shape_of a).b = ap (λ (x : Shape). x.b) c.shape.ensures in
-    replace_leaves g.S.InPhase g.R.Rack a c.args.boundary c.args.side NotOut c.can_replace-opens.result c.open_where.new.store (record a { store = c.replace.new.self; label = c.open_where.new.label }) c.requires.well
+    replace_leaves g.S.InPhase g.R.Rack a c.in-Some.place c.args.side NotOut c.can_replace-opens.result c.open_where.new.store (record a { store = c.replace.new.self; label = c.open_where.new.label }) c.requires.well
     (record {
-      boundary = omega arith;
+      number = c.args.boundary;
+      place = record { number = omega arith; is = c.in-Some.ensures.some; within = omega (arith, c.in-Some.ensures.within, c.requires.well.in_use.number) };
       side = omega arith;
-      beside = record { phase_is = refl; pending = refl; homes = refl; copies = refl };
+      beside = record { phase_is = refl; pending = refl; homes = refl; copies = refl; in_use = refl };
       levels = refl;
       sound = k.sound;
       labeled = c.requires.well.labeled;
@@ -180,8 +178,8 @@ returns-in-NotOut-clause-leaves g c =
       failed = k.failed;
       members = k.members;
       blank = λ is.
-          subst (λ (n : ℕ). BytesChange g.R.Rack c.open_where.new.store c.replace.new.self (2 * c.args.boundary + c.args.side) (IsZeros n))
-          (c.member_length-size.ensures ∙ ap (member_length 2) c.shape-2.ensures) (k.blank is);
+          subst (λ (n : ℕ). BytesChange g.R.Rack c.open_where.new.store c.replace.new.self (2 * c.in-Some.place + c.args.side) (IsZeros n))
+          (c.member_length-size.ensures ∙ ap (member_length 2) c.shape.ensures) (k.blank is);
       other_bytes = k.other_bytes;
       other_faults = k.other_faults;
       faulty = k.faulty;
@@ -193,12 +191,12 @@ pub returns-in-NotOut-clause-steps : goal.returns-in-NotOut-clause-steps
 returns-in-NotOut-clause-steps g c =
     let a = c.args.self.now in
     let k = c.in-NotOut.ensures in
-    let b : c.shape.result.now.b ≡ (shape_of a).b = ap (λ (x : Shape). x.b) c.shape.ensures in
-    steps_not_out g.S.InPhase g.R.Rack a c.args.boundary c.args.side c.can_replace-opens.result c.open_where.new.store (record a { store = c.replace.new.self; label = c.open_where.new.label })
+    steps_not_out g.S.InPhase g.R.Rack a c.in-Some.place c.args.side c.can_replace-opens.result c.open_where.new.store (record a { store = c.replace.new.self; label = c.open_where.new.label })
     (record {
-      boundary = omega arith;
+      number = c.args.boundary;
+      place = record { number = omega arith; is = c.in-Some.ensures.some; within = omega (arith, c.in-Some.ensures.within, c.requires.well.in_use.number) };
       side = omega arith;
-      beside = record { phase_is = refl; pending = refl; homes = refl; copies = refl };
+      beside = record { phase_is = refl; pending = refl; homes = refl; copies = refl; in_use = refl };
       levels = refl;
       sound = k.sound;
       labeled = c.requires.well.labeled;
@@ -216,8 +214,8 @@ returns-in-NotOut-clause-steps g c =
       failed = k.failed;
       members = k.members;
       blank = λ is.
-          subst (λ (n : ℕ). BytesChange g.R.Rack c.open_where.new.store c.replace.new.self (2 * c.args.boundary + c.args.side) (IsZeros n))
-          (c.member_length-size.ensures ∙ ap (member_length 2) c.shape-2.ensures) (k.blank is);
+          subst (λ (n : ℕ). BytesChange g.R.Rack c.open_where.new.store c.replace.new.self (2 * c.in-Some.place + c.args.side) (IsZeros n))
+          (c.member_length-size.ensures ∙ ap (member_length 2) c.shape.ensures) (k.blank is);
       other_bytes = k.other_bytes;
       other_faults = k.other_faults;
       faulty = k.faulty;
@@ -229,12 +227,12 @@ pub returns-in-Failed-clause-leaves : goal.returns-in-Failed-clause-leaves
 returns-in-Failed-clause-leaves g c =
     let a = c.args.self.now in
     let k = c.in-Failed.ensures in
-    let b : c.shape.result.now.b ≡ (shape_of a).b = ap (λ (x : Shape). x.b) c.shape.ensures in
-    replace_leaves g.S.InPhase g.R.Rack a c.args.boundary c.args.side Failed c.can_replace-opens.result c.open_where.new.store (record a { store = c.replace.new.self; label = c.open_where.new.label }) c.requires.well
+    replace_leaves g.S.InPhase g.R.Rack a c.in-Some.place c.args.side Failed c.can_replace-opens.result c.open_where.new.store (record a { store = c.replace.new.self; label = c.open_where.new.label }) c.requires.well
     (record {
-      boundary = omega arith;
+      number = c.args.boundary;
+      place = record { number = omega arith; is = c.in-Some.ensures.some; within = omega (arith, c.in-Some.ensures.within, c.requires.well.in_use.number) };
       side = omega arith;
-      beside = record { phase_is = refl; pending = refl; homes = refl; copies = refl };
+      beside = record { phase_is = refl; pending = refl; homes = refl; copies = refl; in_use = refl };
       levels = refl;
       sound = k.sound;
       labeled = c.requires.well.labeled;
@@ -252,8 +250,8 @@ returns-in-Failed-clause-leaves g c =
       failed = k.failed;
       members = k.members;
       blank = λ is.
-          subst (λ (n : ℕ). BytesChange g.R.Rack c.open_where.new.store c.replace.new.self (2 * c.args.boundary + c.args.side) (IsZeros n))
-          (c.member_length-size.ensures ∙ ap (member_length 2) c.shape-2.ensures) (k.blank is);
+          subst (λ (n : ℕ). BytesChange g.R.Rack c.open_where.new.store c.replace.new.self (2 * c.in-Some.place + c.args.side) (IsZeros n))
+          (c.member_length-size.ensures ∙ ap (member_length 2) c.shape.ensures) (k.blank is);
       other_bytes = k.other_bytes;
       other_faults = k.other_faults;
       faulty = k.faulty;
@@ -265,12 +263,12 @@ pub returns-in-Failed-clause-steps : goal.returns-in-Failed-clause-steps
 returns-in-Failed-clause-steps g c =
     let a = c.args.self.now in
     let k = c.in-Failed.ensures in
-    let b : c.shape.result.now.b ≡ (shape_of a).b = ap (λ (x : Shape). x.b) c.shape.ensures in
-    steps_failed g.S.InPhase g.R.Rack a c.args.boundary c.args.side c.can_replace-opens.result c.open_where.new.store (record a { store = c.replace.new.self; label = c.open_where.new.label })
+    steps_failed g.S.InPhase g.R.Rack a c.in-Some.place c.args.side c.can_replace-opens.result c.open_where.new.store (record a { store = c.replace.new.self; label = c.open_where.new.label })
     (record {
-      boundary = omega arith;
+      number = c.args.boundary;
+      place = record { number = omega arith; is = c.in-Some.ensures.some; within = omega (arith, c.in-Some.ensures.within, c.requires.well.in_use.number) };
       side = omega arith;
-      beside = record { phase_is = refl; pending = refl; homes = refl; copies = refl };
+      beside = record { phase_is = refl; pending = refl; homes = refl; copies = refl; in_use = refl };
       levels = refl;
       sound = k.sound;
       labeled = c.requires.well.labeled;
@@ -288,8 +286,8 @@ returns-in-Failed-clause-steps g c =
       failed = k.failed;
       members = k.members;
       blank = λ is.
-          subst (λ (n : ℕ). BytesChange g.R.Rack c.open_where.new.store c.replace.new.self (2 * c.args.boundary + c.args.side) (IsZeros n))
-          (c.member_length-size.ensures ∙ ap (member_length 2) c.shape-2.ensures) (k.blank is);
+          subst (λ (n : ℕ). BytesChange g.R.Rack c.open_where.new.store c.replace.new.self (2 * c.in-Some.place + c.args.side) (IsZeros n))
+          (c.member_length-size.ensures ∙ ap (member_length 2) c.shape.ensures) (k.blank is);
       other_bytes = k.other_bytes;
       other_faults = k.other_faults;
       faulty = k.faulty;
@@ -297,5 +295,17 @@ returns-in-Failed-clause-steps g c =
       stands = k.stands;
     })
 
-pub returns-then-boundary-shape-clause-leaves : goal.returns-then-boundary-shape-clause-leaves
-returns-then-boundary-shape-clause-leaves g c = leaves_none g.S.InPhase g.R.Rack c.args.self.now c.requires.well
+pub returns-then-boundary-self-clause-leaves : goal.returns-then-boundary-self-clause-leaves
+returns-then-boundary-self-clause-leaves g c = leaves_none g.S.InPhase g.R.Rack c.args.self.now c.requires.well
+
+pub returns-in_default-clause-leaves : goal.returns-in_default-clause-leaves
+returns-in_default-clause-leaves g c = leaves_none g.S.InPhase g.R.Rack c.args.self.now c.requires.well
+
+pub returns-in_default-clause-steps : goal.returns-in_default-clause-steps
+returns-in_default-clause-steps g c =
+    steps_unused g.S.InPhase g.R.Rack c.args.self.now c.args.boundary c.args.side c.requires.well (record { number = omega arith; is = c.in_default.ensures.none }) (omega arith)
+
+pub place-requires : goal.place-requires
+place-requires g c =
+    let most = c.requires.well.array.table.shape.most_boundaries in
+    omega (arith, c.requires.well.in_use.number, most)

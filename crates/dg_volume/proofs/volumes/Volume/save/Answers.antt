@@ -1,16 +1,29 @@
-use Rattle.std.proofs.Common.{◌∙◌}
+use Rattle.std.proofs.Common.{◌∙◌, subst, sym}
+use Rattle.dg_label.specs.declared.saves.SaveAnswer.{SaveAnswer}
+use Rattle.dg_model.specs.declared.events.Event.TheVariants.{Save}
 use Rattle.dg_volume.proofs.SaveLaws.{save_leaves, save_steps}
 use Rattle.dg_volume.proofs.VolumeLaws.{leaves_none}
+use Rattle.dg_volume.specs.Copies.{StepsHot}
+use Rattle.dg_volume.specs.Saves.{save_reply}
 use Rattle.dg_volume.proofs.volumes.Volume.save.Goals as goal
 
 pub returns-clause-leaves : goal.returns-clause-leaves
 returns-clause-leaves g c =
-    save_leaves g.S.InPhase g.R.Rack c.args.self.now c.save.new.store c.save.new.label c.save.ensures.array c.requires.well c.save.ensures.labeled
+    let k = c.in_ok-answer.ensures in
+    save_leaves g.S.InPhase g.R.Rack c.args.self.now c.save-answer.new.store c.save-answer.new.label k.array c.requires.well k.labeled
+
+pub returns-in_err-answer-clause-leaves : goal.returns-in_err-answer-clause-leaves
+returns-in_err-answer-clause-leaves g c =
+    let k = c.in_err-answer.ensures in
+    save_leaves g.S.InPhase g.R.Rack c.args.self.now c.save-answer.new.store c.save-answer.new.label k.array c.requires.well k.labeled
 
 pub returns-clause-steps : goal.returns-clause-steps
 returns-clause-steps g c =
-    save_steps g.S.InPhase g.R.Rack c.args.self.now c.save.new.store c.save.new.label c.save.ensures.array c.args.hot.now c.deref.result.now c.save.result
-    c.requires.well.array (c.deref.ensures.value ∙ c.in_ok-body.ensures.says) c.in_ok-body.ensures.form c.save.ensures.answer
+    let a = c.args.self.now in
+    let k = c.in_ok-answer.ensures in
+    subst (λ (r : SaveAnswer). StepsHot g.S.InPhase g.S.InPhase g.R.Rack c.args.hot.now a Save (save_reply r) (record a { store = c.save-answer.new.store; label = c.save-answer.new.label })) (sym c.saved.ensures)
+    (save_steps g.S.InPhase g.R.Rack a c.save-answer.new.store c.save-answer.new.label k.array c.args.hot.now c.deref.result.now c.in_ok-answer.answer
+    c.requires.well (c.deref.ensures.value ∙ c.in_ok-body.ensures.says) c.in_ok-body.ensures.form k.answer)
 
 pub returns-in_err-body-clause-leaves : goal.returns-in_err-body-clause-leaves
 returns-in_err-body-clause-leaves g c = leaves_none g.S.InPhase g.R.Rack c.args.self.now c.requires.well

@@ -12,7 +12,7 @@ spread_recent-answer-requires-clause-placed g c =
     (place.wants, wanted, place.placed)
 
 pub returns-in-Some-clause-steps : goal.returns-in-Some-clause-steps
-returns-in-Some-clause-steps g c = diffuse_lost g.S.InPhase g.R.Rack c.args.self.now c.args.hot.now c.in-Some.lost c.requires.settled c.in-Some.ensures
+returns-in-Some-clause-steps g c = diffuse_lost g.S.InPhase g.R.Rack c.args.self.now c.args.hot.now c.in-Some.lost c.requires.well c.requires.settled c.in-Some.ensures
 
 pub returns-clause-leaves : goal.returns-clause-leaves
 returns-clause-leaves g c =
@@ -31,6 +31,7 @@ returns-clause-leaves g c =
       phase_is = refl;
       pending = refl;
       homes = refl;
+      in_use = refl;
       levels = refl;
       small = subst (λ (x : List Home). All (λ (home : Home). home.inode < 2 ^ 32) x) c.as_slice.ensures c.inodes_fit.ensures;
       moved = k.array;
@@ -61,6 +62,7 @@ returns-clause-steps g c =
       phase_is = refl;
       pending = refl;
       homes = refl;
+      in_use = refl;
       levels = refl;
       small = subst (λ (x : List Home). All (λ (home : Home). home.inode < 2 ^ 32) x) c.as_slice.ensures c.inodes_fit.ensures;
       moved = k.array;

@@ -1,21 +1,21 @@
 use Rattle.std.proofs.Common.{refl}
 use Rattle.dg_store.specs.Stores.{KeepsBlocks, TellsAll}
 use Rattle.dg_volume.proofs.ArrayLaws.{moved_both, on_err, told_moved}
-use Rattle.dg_volume.proofs.MoveSteps.{has_moved, has_read, keeps_of, labels_run, moved_leaves, tend_cramped, tend_done, tend_lost_first, tend_lost_moving, tend_lost_reading}
+use Rattle.dg_volume.proofs.MoveSteps.{has_moved, has_read, keeps_of, labels_run, moved_leaves, tend_cramped, tend_done, tend_lost_first, tend_lost_moving, tend_lost_reading, written_run}
 use Rattle.dg_volume.proofs.LabelLaws.{relabels_read}
 use Rattle.dg_volume.proofs.VolumeLaws.{leaves_none, reads_leave}
 use Rattle.dg_volume.proofs.volumes.Volume.tend_loose.Goals as goal
 
 pub returns-in-Some-clause-steps : goal.returns-in-Some-clause-steps
-returns-in-Some-clause-steps g c = tend_lost_first g.S.InPhase g.R.Rack c.args.self.now c.args.limit c.in-Some.lost c.in-Some.ensures
+returns-in-Some-clause-steps g c = tend_lost_first g.S.InPhase g.R.Rack c.args.self.now c.args.limit c.in-Some.lost c.requires.well c.in-Some.ensures
 
 pub returns-in-Lost-clause-steps : goal.returns-in-Lost-clause-steps
 returns-in-Lost-clause-steps g c =
     let a = c.args.self.now in
     let b = record a { store = c.planned.new.store; levels = c.planned.new.levels } in
     let e = c.in_ok-lost.ensures in
-    tend_lost_reading g.S.InPhase g.R.Rack a b c.args.limit c.in-Lost.lost (record { loose = c.requires.loose; whole = c.in_default.ensures })
-    (has_read g.S.InPhase g.R.Rack a b c.requires.well (record { phase_is = refl; pending = refl; homes = refl; copies = refl }) e.levels refl e.reads) (rw c.in-Lost.is at e.answer)
+    tend_lost_reading g.S.InPhase g.R.Rack a b c.args.limit c.in-Lost.lost (record { loose = c.requires.loose; whole = c.in_default.ensures; in_use = c.requires.well.in_use })
+    (has_read g.S.InPhase g.R.Rack a b c.requires.well (record { phase_is = refl; pending = refl; homes = refl; copies = refl; in_use = refl }) e.levels refl e.reads) (rw c.in-Lost.is at e.answer)
 
 pub returns-in-NoSpace-clause-steps : goal.returns-in-NoSpace-clause-steps
 returns-in-NoSpace-clause-steps g c =
@@ -23,9 +23,9 @@ returns-in-NoSpace-clause-steps g c =
     let b = record a { store = c.planned.new.store; levels = c.planned.new.levels } in
     let e = c.in_ok-lost.ensures in
     let kept = c.in-Some-inference.inference.now in
-    tend_cramped g.S.InPhase g.R.Rack a b kept c.args.limit c.in-NoSpace.bad (record { loose = c.requires.loose; whole = c.in_default.ensures })
+    tend_cramped g.S.InPhase g.R.Rack a b kept c.args.limit c.in-NoSpace.bad (record { loose = c.requires.loose; whole = c.in_default.ensures; in_use = c.requires.well.in_use })
     (keeps_of g.S.InPhase g.R.Rack a kept c.requires.well c.in-Some-inference.ensures.kept)
-    (has_read g.S.InPhase g.R.Rack a b c.requires.well (record { phase_is = refl; pending = refl; homes = refl; copies = refl }) e.levels refl e.reads) (rw c.in-NoSpace.is at e.answer)
+    (has_read g.S.InPhase g.R.Rack a b c.requires.well (record { phase_is = refl; pending = refl; homes = refl; copies = refl; in_use = refl }) e.levels refl e.reads) (rw c.in-NoSpace.is at e.answer)
 
 pub returns-in_err-moved-in-Found-clause-err : goal.returns-in_err-moved-in-Found-clause-err
 returns-in_err-moved-in-Found-clause-err g c =
@@ -53,10 +53,11 @@ returns-in-Tended-clause-steps g c =
       plan = rw c.in-Found.is at e.answer;
       told = λ told. told_moved g.R.Rack mid c.move_within.new.store t.array told;
       moves =
-          has_moved g.S.InPhase g.R.Rack a b (record { phase_is = refl; pending = refl; homes = refl; copies = refl }) e.levels c.requires.well labels
+          has_moved g.S.InPhase g.R.Rack a b (record { phase_is = refl; pending = refl; homes = refl; copies = refl; in_use = refl }) e.levels c.requires.well
+          (written_run g.S.InPhase g.R.Rack a mid c.move_within.new.store e.reads t.written) labels
           (moved_both g.R.Rack a.store mid c.move_within.new.store e.reads moved);
     })
-    c.args.limit c.in-Tended.moved c.in-Tended.left (record { loose = c.requires.loose; whole = c.in_default.ensures }) refl
+    c.args.limit c.in-Tended.moved c.in-Tended.left (record { loose = c.requires.loose; whole = c.in_default.ensures; in_use = c.requires.well.in_use }) refl
     (rw c.in-Tended.is at t.lost) (rw c.in-Tended.is at t.moves) t.still
 
 pub returns-clause-leaves : goal.returns-clause-leaves
@@ -67,7 +68,8 @@ returns-clause-leaves g c =
     let e = c.in_ok-lost.ensures in
     let t = c.in_ok-moved-in-Found.ensures in
     moved_leaves g.S.InPhase g.R.Rack a b c.requires.well c.requires.loose
-    (has_moved g.S.InPhase g.R.Rack a b (record { phase_is = refl; pending = refl; homes = refl; copies = refl }) e.levels c.requires.well
+    (has_moved g.S.InPhase g.R.Rack a b (record { phase_is = refl; pending = refl; homes = refl; copies = refl; in_use = refl }) e.levels c.requires.well
+    (written_run g.S.InPhase g.R.Rack a mid c.move_within.new.store e.reads t.written)
     (labels_run g.S.InPhase g.R.Rack a mid c.move_within.new.store c.move_within.new.label e.reads t.array t.label)
     (moved_both g.R.Rack a.store mid c.move_within.new.store e.reads t.array))
 
@@ -89,10 +91,11 @@ returns-clause-steps g c =
       plan = rw c.in-Found.is at e.answer;
       told = λ told. told_moved g.R.Rack mid c.move_within.new.store t.array told;
       moves =
-          has_moved g.S.InPhase g.R.Rack a b (record { phase_is = refl; pending = refl; homes = refl; copies = refl }) e.levels c.requires.well labels
+          has_moved g.S.InPhase g.R.Rack a b (record { phase_is = refl; pending = refl; homes = refl; copies = refl; in_use = refl }) e.levels c.requires.well
+          (written_run g.S.InPhase g.R.Rack a mid c.move_within.new.store e.reads t.written) labels
           (moved_both g.R.Rack a.store mid c.move_within.new.store e.reads moved);
     })
-    c.args.limit c.in-Lost-2.lost (record { loose = c.requires.loose; whole = c.in_default.ensures }) refl (rw c.in-Lost-2.is at t.lost) cut
+    c.args.limit c.in-Lost-2.lost (record { loose = c.requires.loose; whole = c.in_default.ensures; in_use = c.requires.well.in_use }) refl (rw c.in-Lost-2.is at t.lost) cut
 
 pub move_within-requires-clause-labeled : goal.move_within-requires-clause-labeled
 move_within-requires-clause-labeled g c =
@@ -105,7 +108,7 @@ returns-in_err-lost-clause-leaves g c =
     let b = record a { store = c.planned.new.store; levels = c.planned.new.levels } in
     let e = c.in_err-lost.ensures in
     reads_leave g.S.InPhase g.R.Rack a b c.requires.well
-    (has_read g.S.InPhase g.R.Rack a b c.requires.well (record { phase_is = refl; pending = refl; homes = refl; copies = refl }) e.levels refl e.reads)
+    (has_read g.S.InPhase g.R.Rack a b c.requires.well (record { phase_is = refl; pending = refl; homes = refl; copies = refl; in_use = refl }) e.levels refl e.reads)
 
 pub returns-in-Lost-clause-leaves : goal.returns-in-Lost-clause-leaves
 returns-in-Lost-clause-leaves g c =
@@ -113,7 +116,7 @@ returns-in-Lost-clause-leaves g c =
     let b = record a { store = c.planned.new.store; levels = c.planned.new.levels } in
     let e = c.in_ok-lost.ensures in
     reads_leave g.S.InPhase g.R.Rack a b c.requires.well
-    (has_read g.S.InPhase g.R.Rack a b c.requires.well (record { phase_is = refl; pending = refl; homes = refl; copies = refl }) e.levels refl e.reads)
+    (has_read g.S.InPhase g.R.Rack a b c.requires.well (record { phase_is = refl; pending = refl; homes = refl; copies = refl; in_use = refl }) e.levels refl e.reads)
 
 pub returns-in-NoSpace-clause-leaves : goal.returns-in-NoSpace-clause-leaves
 returns-in-NoSpace-clause-leaves g c =
@@ -121,7 +124,7 @@ returns-in-NoSpace-clause-leaves g c =
     let b = record a { store = c.planned.new.store; levels = c.planned.new.levels } in
     let e = c.in_ok-lost.ensures in
     reads_leave g.S.InPhase g.R.Rack a b c.requires.well
-    (has_read g.S.InPhase g.R.Rack a b c.requires.well (record { phase_is = refl; pending = refl; homes = refl; copies = refl }) e.levels refl e.reads)
+    (has_read g.S.InPhase g.R.Rack a b c.requires.well (record { phase_is = refl; pending = refl; homes = refl; copies = refl; in_use = refl }) e.levels refl e.reads)
 
 pub returns-in-Some-clause-leaves : goal.returns-in-Some-clause-leaves
 returns-in-Some-clause-leaves g c = leaves_none g.S.InPhase g.R.Rack c.args.self.now c.requires.well
@@ -134,7 +137,8 @@ returns-in_err-moved-in-Found-clause-leaves g c =
     let e = c.in_ok-lost.ensures in
     let t = c.in_err-moved-in-Found.ensures in
     moved_leaves g.S.InPhase g.R.Rack a b c.requires.well c.requires.loose
-    (has_moved g.S.InPhase g.R.Rack a b (record { phase_is = refl; pending = refl; homes = refl; copies = refl }) e.levels c.requires.well
+    (has_moved g.S.InPhase g.R.Rack a b (record { phase_is = refl; pending = refl; homes = refl; copies = refl; in_use = refl }) e.levels c.requires.well
+    (written_run g.S.InPhase g.R.Rack a mid c.move_within.new.store e.reads t.written)
     (labels_run g.S.InPhase g.R.Rack a mid c.move_within.new.store c.move_within.new.label e.reads t.array t.label)
     (moved_both g.R.Rack a.store mid c.move_within.new.store e.reads t.array))
 
@@ -146,6 +150,7 @@ returns-in-Tended-clause-leaves g c =
     let e = c.in_ok-lost.ensures in
     let t = c.in_ok-moved-in-Found.ensures in
     moved_leaves g.S.InPhase g.R.Rack a b c.requires.well c.requires.loose
-    (has_moved g.S.InPhase g.R.Rack a b (record { phase_is = refl; pending = refl; homes = refl; copies = refl }) e.levels c.requires.well
+    (has_moved g.S.InPhase g.R.Rack a b (record { phase_is = refl; pending = refl; homes = refl; copies = refl; in_use = refl }) e.levels c.requires.well
+    (written_run g.S.InPhase g.R.Rack a mid c.move_within.new.store e.reads t.written)
     (labels_run g.S.InPhase g.R.Rack a mid c.move_within.new.store c.move_within.new.label e.reads t.array t.label)
     (moved_both g.R.Rack a.store mid c.move_within.new.store e.reads t.array))

@@ -23,7 +23,7 @@ returns-in-AllLost g c =
       first = k.falls;
       lost = k.lost c.in-AllLost.is;
       most = k.most;
-      beside = record { phase_is = refl; pending = refl; homes = refl; copies = refl };
+      beside = record { phase_is = refl; pending = refl; homes = refl; copies = refl; in_use = refl };
       levels = refl;
       labels = k.label;
     })
@@ -59,13 +59,15 @@ returns-then-branch g c =
       pending = a.pending;
       homes = a.homes;
       copies = c.new-copies.result;
+      in_use = c.uncut.new.self;
       levels = c.follow.new.levels;
       given = a.given;
       label = c.write_opened.new.label;
     } in
     written_to g.S.InPhase loose_phase g.R.Rack a c.args.block c.args.buf.now c.write_opened.new.store b c.requires.well refl
     (written_whole g.S.InPhase loose_phase g.R.Rack a c.args.block c.args.buf.now c.write_opened.new.store c.in-Some.inference c.follow.new.inference b c.requires.well stored
-    f.levels refl (c.new-copies.ensures ∙ c.new.ensures.items) (rw c.in-Some.is at c.into_inference.ensures.kept) refl refl followed (labels_followed g.R.Rack a.store c.write_opened.new.store b.store a.label c.write_opened.new.label k.label f.reads))
+    f.levels refl (c.new-copies.ensures ∙ c.new.ensures.items)
+    (record { boundaries = c.uncut.ensures.boundaries; live = c.uncut.ensures.live; cut = c.uncut.ensures.cut }) (rw c.in-Some.is at c.into_inference.ensures.kept) refl refl followed (labels_followed g.R.Rack a.store c.write_opened.new.store b.store a.label c.write_opened.new.label k.label f.reads))
 
 pub returns : goal.returns
 returns g c =
@@ -91,13 +93,15 @@ returns g c =
       pending = c.worn_marks.result;
       homes = a.homes;
       copies = c.new-copies.result;
+      in_use = c.uncut.new.self;
       levels = c.follow.new.levels;
       given = a.given;
       label = c.write_opened.new.label;
     } in
     written_to g.S.InPhase worn_phase g.R.Rack a c.args.block c.args.buf.now c.write_opened.new.store b c.requires.well refl
     (written_broken g.S.InPhase worn_phase g.R.Rack a c.args.block c.args.buf.now c.write_opened.new.store c.in-Some.inference b c.requires.well stored
-    f.levels refl (c.new-copies.ensures ∙ c.new.ensures.items) (rw c.in-Some.is at c.into_inference.ensures.kept) refl refl
+    f.levels refl (c.new-copies.ensures ∙ c.new.ensures.items)
+    (record { boundaries = c.uncut.ensures.boundaries; live = c.uncut.ensures.live; cut = c.uncut.ensures.cut }) (rw c.in-Some.is at c.into_inference.ensures.kept) refl refl
     (c.worn_marks.ensures ∙ ap (λ xs. with_mark xs c.args.block) (f.kept c.if-branch.false)) (f.lost c.if-branch.false) (labels_followed g.R.Rack a.store c.write_opened.new.store b.store a.label c.write_opened.new.label k.label f.reads))
 
 pub returns-then-block-shape : goal.returns-then-block-shape
@@ -111,3 +115,9 @@ returns-then-is_degraded g c =
     let a = c.args.self in
     let n : c.shape.result.now.n ≡ (shape_of a).n = ap (λ (x : Shape). x.n) c.shape.ensures in
     lost_before g.S.InPhase g.R.Rack a c.args.block c.args.buf.now c.requires.well (omega arith) (sym c.is_degraded.ensures ∙ c.if-is_degraded.true)
+
+pub uncut-requires : goal.uncut-requires
+uncut-requires g c =
+    let a = c.args.self in
+    let n : c.shape.result.now.n ≡ (shape_of a).n = ap (λ (x : Shape). x.n) c.shape.ensures in
+    omega (arith, n, c.requires.well.in_use.marks)

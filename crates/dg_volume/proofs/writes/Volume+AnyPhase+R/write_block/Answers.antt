@@ -1,10 +1,12 @@
-use Rattle.std.proofs.Common.{◌≡◌, ◌∙◌, ◌<◌, false, inr, refl, sym, ap, arith}
+use Rattle.std.proofs.Common.{◌≡◌, ◌∙◌, ◌<◌, false, inr, refl, sym, ap, subst, arith}
 use Rattle.std.specs.Prelude.{slice_set}
 use Rattle.dg_model.specs.Marks.{with_mark}
+use Rattle.dg_model.specs.Sites.{IsSited}
 use Rattle.dg_model.specs.States.{has_lost}
+use Rattle.dg_model.specs.Tables.{Table}
 use Rattle.dg_model.specs.declared.shapes.Shape.{Shape}
-use Rattle.dg_volume.proofs.WriteSteps.{HasFollowed, HasStored, labels_followed, loosened_leaves, lost_before, lost_now, past_end, written_broken, written_to, written_whole}
-use Rattle.dg_volume.specs.Volumes.{any_phase, members_of, shape_of}
+use Rattle.dg_volume.proofs.WriteSteps.{HasFollowed, HasStored, labels_followed, loosened_leaves, lost_before, lost_now, past_end, uncut_in_use, written_broken, written_to, written_whole}
+use Rattle.dg_volume.specs.Volumes.{any_phase, members_of, shape_of, table_of}
 use Rattle.dg_volume.specs.declared.phases.AnyPhase.{AnyPhase}
 use Rattle.dg_volume.specs.declared.phases.AnyPhase.TheVariants.{Loose}
 use Rattle.dg_volume.specs.declared.volumes.Volume.{Volume}
@@ -25,7 +27,7 @@ returns-in-AllLost-clause-steps g c =
       first = k.falls;
       lost = k.lost c.in-AllLost.is;
       most = k.most;
-      beside = record { phase_is = refl; pending = refl; homes = refl; copies = refl };
+      beside = record { phase_is = refl; pending = refl; homes = refl; copies = refl; in_use = refl };
       levels = refl;
       labels = k.label;
     })
@@ -60,11 +62,13 @@ returns-then-whole-clause-steps g c =
       label = c.write_opened.new.label;
       phase = Loose (record { inference = c.follow-followed.new.inference });
       copies = c.new-3.result;
+      in_use = c.uncut.new.self;
       levels = c.follow-followed.new.levels;
     } in
     written_to any_phase any_phase g.R.Rack a c.args.block c.args.buf.now c.write_opened.new.store b c.requires.well refl
     (written_whole any_phase any_phase g.R.Rack a c.args.block c.args.buf.now c.write_opened.new.store c.in-Some.inference c.follow-followed.new.inference b c.requires.well stored
-    f.levels refl (c.new-3.ensures ∙ c.new-2.ensures.items) (rw c.in-Some.is at c.take_inference.ensures.kept) refl refl followed (labels_followed g.R.Rack a.store c.write_opened.new.store b.store a.label c.write_opened.new.label k.label f.reads))
+    f.levels refl (c.new-3.ensures ∙ c.new-2.ensures.items)
+    (record { boundaries = c.uncut.ensures.boundaries; live = c.uncut.ensures.live; cut = c.uncut.ensures.cut }) (rw c.in-Some.is at c.take_inference.ensures.kept) refl refl followed (labels_followed g.R.Rack a.store c.write_opened.new.store b.store a.label c.write_opened.new.label k.label f.reads))
 
 pub returns-clause-steps : goal.returns-clause-steps
 returns-clause-steps g c =
@@ -90,11 +94,13 @@ returns-clause-steps g c =
       phase = c.take_inference.new.phase;
       pending = c.worn_marks.result;
       copies = c.new-3.result;
+      in_use = c.uncut.new.self;
       levels = c.follow-followed.new.levels;
     } in
     written_to any_phase any_phase g.R.Rack a c.args.block c.args.buf.now c.write_opened.new.store b c.requires.well refl
     (written_broken any_phase any_phase g.R.Rack a c.args.block c.args.buf.now c.write_opened.new.store c.in-Some.inference b c.requires.well stored
-    f.levels refl (c.new-3.ensures ∙ c.new-2.ensures.items) (rw c.in-Some.is at c.take_inference.ensures.kept) c.take_inference.ensures.left c.take_inference.ensures.left_phase
+    f.levels refl (c.new-3.ensures ∙ c.new-2.ensures.items)
+    (record { boundaries = c.uncut.ensures.boundaries; live = c.uncut.ensures.live; cut = c.uncut.ensures.cut }) (rw c.in-Some.is at c.take_inference.ensures.kept) c.take_inference.ensures.left c.take_inference.ensures.left_phase
     (c.worn_marks.ensures ∙ ap (λ xs. with_mark xs c.args.block) (f.kept c.if-whole.false)) (f.lost c.if-whole.false) (labels_followed g.R.Rack a.store c.write_opened.new.store b.store a.label c.write_opened.new.label k.label f.reads))
 
 pub returns-then-whole-clause-leaves : goal.returns-then-whole-clause-leaves
@@ -113,9 +119,16 @@ returns-in_default-followed-clause-leaves g c =
       label = c.write_opened.new.label;
       phase = Loose (record { inference = c.follow-followed.new.inference });
       copies = c.new-3.result;
+      in_use = c.uncut.new.self;
       levels = c.follow-followed.new.levels;
     } in
-    loosened_leaves any_phase any_phase g.R.Rack a c.write_opened.new.store c.in-Some.inference c.follow-followed.new.inference b c.requires.well k.falls f.sound f.reads f.levels refl
+    let n : c.shape.result.now.n ≡ (shape_of a).n = ap (λ (x : Shape). x.n) c.shape.ensures in
+    let within : c.args.block < (shape_of a).n = omega arith in
+    let stored = k.stored c.in_default-written.is in
+    let sited = subst (λ (t : Table). IsSited (table_of a) c.args.block t) (sym f.reads.table) stored.sited in
+    loosened_leaves any_phase any_phase g.R.Rack a c.write_opened.new.store c.in-Some.inference c.follow-followed.new.inference b c.requires.well
+    (uncut_in_use a b c.args.block (f.reads.keeps.shape ∙ k.falls.stays.shape) within sited
+    (record { boundaries = c.uncut.ensures.boundaries; live = c.uncut.ensures.live; cut = c.uncut.ensures.cut }) c.requires.well.in_use) k.falls f.sound f.reads f.levels refl
     (c.new-3.ensures ∙ c.new-2.ensures.items) (rw c.in-Some.is at c.take_inference.ensures.kept) refl refl f.size f.room
     (labels_followed g.R.Rack a.store c.write_opened.new.store b.store a.label c.write_opened.new.label k.label f.reads)
 
@@ -141,3 +154,9 @@ pub returns-in_default-followed-clause-err : goal.returns-in_default-followed-cl
 returns-in_default-followed-clause-err g c = λ told V stands.
     let stored = c.in-Ok.ensures.stored c.in_default-written.is in
     inr (c.in_default-followed.ensures.stands (slice_set V c.args.block c.args.buf.now) (stored.sets V stands))
+
+pub uncut-requires : goal.uncut-requires
+uncut-requires g c =
+    let a = c.args.self.now in
+    let n : c.shape.result.now.n ≡ (shape_of a).n = ap (λ (x : Shape). x.n) c.shape.ensures in
+    omega (arith, n, c.requires.well.in_use.marks)
