@@ -1,3 +1,4 @@
+pub mod Audits
 pub mod Copies
 pub mod Faults
 pub mod Fronts

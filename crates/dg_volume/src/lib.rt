@@ -6,6 +6,7 @@
 #![tactic(auto)]
 
 mod any;
+mod audits;
 mod copies;
 mod file_lists;
 mod opens;
@@ -21,6 +22,7 @@ mod settles;
 mod volumes;
 mod writes;
 
+pub use audits::AuditAnswer;
 pub use copies::AnyDiffuse;
 pub use dg_hot::{DiffuseAnswer, Hot};
 pub use dg_label::SaveAnswer;
