@@ -8,7 +8,7 @@ use Rattle.dg_run.proofs.Refusing.{le_or_lt}
 use Rattle.dg_run.proofs.Whole.{told_front}
 use Rattle.dg_run.specs.Calls.{Facts, drill_met, met_by, streams_of}
 use Rattle.dg_run.specs.Completes.{Completes, CompletesReplay, CompletesResume, CompletesTrace, IsUnopened, answer_status}
-use Rattle.dg_run.specs.Ends.{Ends, EndsDrilled, EndsReplay, EndsSaved, EndsTrace, asked_by}
+use Rattle.dg_run.specs.Ends.{Ends, EndsDrilled, EndsReplay, EndsAudit, EndsSaved, EndsTrace, asked_by}
 use Rattle.dg_run.specs.Resumes.{EndsResume}
 use Rattle.dg_run.specs.declared.top.Status.{Status}
 use Rattle.dg_run.specs.declared.top.Status.TheVariants.{Done, Usage, BadLine, ReadFault, WriteFault, NoMemory, NoState, Unclean, Refused}
@@ -22,7 +22,7 @@ use Rattle.dg_trace.specs.declared.asked.Asked.{Asked}
 use Rattle.dg_trace.specs.declared.asked.TraceRefusal.{TraceRefusal}
 use Rattle.dg_trace.specs.declared.asked.TraceRefusal.TheVariants.{Length}
 use Rattle.dg_words.specs.declared.commands.Command.{Command}
-use Rattle.dg_words.specs.declared.commands.Command.TheVariants.{Replay, Resume, Cat, Ls, Status as StatusCommand, Trace, Drill}
+use Rattle.dg_words.specs.declared.commands.Command.TheVariants.{Replay, Resume, Cat, Ls, Status as StatusCommand, Trace, Drill, Audit}
 use Rattle.ufs_model.specs.declared.geometries.Geometry.{Geometry}
 
 -- no fault came
@@ -127,6 +127,17 @@ trace_done one f asked BadLine ends none text answer is fits = absurd ends
 trace_done one f asked NoState ends none text answer is fits = absurd ends
 trace_done one f asked Unclean ends none text answer is fits = absurd ends
 
+pub audit_done : (f : traces.Facts) (status : Status) → EndsAudit f status → NoFault status → (status ≡ Done) ⊎ ((status ≡ Refused) ⊎ (status ≡ NoMemory))
+audit_done f Done ends none = inl refl
+audit_done f Refused ends none = inr (inl refl)
+audit_done f NoMemory ends none = inr (inr refl)
+audit_done f ReadFault ends none = absurd (none.0 refl)
+audit_done f WriteFault ends none = absurd (none.1 refl)
+audit_done f Usage ends none = absurd ends
+audit_done f BadLine ends none = absurd ends
+audit_done f NoState ends none = absurd ends
+audit_done f Unclean ends none = absurd ends
+
 -- ---- a drill
 
 drill_done : (ends : DrillEnd → Type 0) (taken given : Option (List ℕ)) (status : Status) → EndsDrilled ends taken given status → NoFault status
@@ -151,3 +162,4 @@ completes one tells f (Ls path) status ends none = saved_done (EndsLs tells (met
 completes one tells f StatusCommand status ends none = shown_done tells f status ends none
 completes one tells f (Trace order b k m) status ends none = trace_done one (streams_of f) (asked_by order b k m) status ends none
 completes one tells f (Drill seed files) status ends none = drill_done (EndsDrill tells (drill_met f) seed files) f.taken f.given status ends none
+completes one tells f Audit status ends none = audit_done (streams_of f) status ends none

@@ -8,24 +8,27 @@ use Rattle.dg_run.proofs.Broken.{ran_out_first}
 use Rattle.dg_run.proofs.ToldSteps.{Told-refl}
 use Rattle.dg_run.specs.Arrays.{IsOfReplay}
 use Rattle.dg_run.specs.Calls.{Facts}
-use Rattle.dg_run.specs.Ends.{Ends, EndsDrilled, EndsReplay, EndsSaved, EndsTrace, EndsUsage, drill_status, status_by, trace_status}
+use Rattle.dg_run.specs.Ends.{Ends, EndsDrilled, EndsReplay, EndsAudit, EndsSaved, EndsTrace, EndsUsage, audit_status, drill_status, status_by, trace_status}
 use Rattle.dg_run.specs.Replays.{BrokeOff, IsCut, RanOut, Replayed, Stopped}
 use Rattle.dg_run.specs.declared.top.Status.{Status}
 use Rattle.dg_run.specs.declared.top.Status.TheVariants.{Done, Usage, BadLine, ReadFault, WriteFault, NoMemory, NoState, Unclean, Refused}
 use Rattle.dg_saved.specs.declared.ends.SavedEnd.{SavedEnd}
 use Rattle.dg_saved.specs.declared.ends.SavedEnd.TheVariants.{Done as SavedDone, NoState as SavedNoState, Refused as SavedRefused, Unclean as SavedUnclean, WriteFault as SavedWriteFault}
 use Rattle.dg_text.specs.Replies.{usage}
+use Rattle.dg_trace.specs.Audits.{AuditEnds}
 use Rattle.dg_trace.specs.Calls as traces
 use Rattle.dg_trace.specs.Ends.{Ends as EndsImage}
 use Rattle.dg_trace.specs.Images.{GavePart}
 use Rattle.dg_trace.specs.declared.asked.Asked.{Asked}
+use Rattle.dg_trace.specs.declared.audits.AuditEnd.{AuditEnd}
+use Rattle.dg_trace.specs.declared.audits.AuditEnd.TheVariants.{Length as AuditedLength, Malformed, Sound}
 use Rattle.dg_trace.specs.declared.asked.TraceEnd.{TraceEnd}
 use Rattle.dg_trace.specs.declared.asked.TraceEnd.TheVariants.{Refused as ImageRefused, Written}
 use Rattle.dg_trace.specs.declared.asked.TraceFault.{TraceFault}
 use Rattle.dg_trace.specs.declared.asked.TraceFault.TheVariants.{NoMemory as ImageNoMemory, Read, Write}
 use Rattle.dg_words.specs.Commands.{Gives, IsCommand}
 use Rattle.dg_words.specs.declared.commands.Command.{Command}
-use Rattle.dg_words.specs.declared.commands.Command.TheVariants.{Replay, Resume, Cat, Ls, Status as StatusCommand, Trace, Drill}
+use Rattle.dg_words.specs.declared.commands.Command.TheVariants.{Replay, Resume, Cat, Ls, Status as StatusCommand, Trace, Drill, Audit}
 use Rattle.dg_words.specs.declared.commands.WordsRefused.{WordsRefused}
 use Rattle.dg_words.specs.declared.commands.WordsRefused.TheVariants.{Usage as NotWords, NoMemory as WordsNoMemory}
 
@@ -66,6 +69,15 @@ ends_trace f asked (Err Read) ends = ends
 ends_trace f asked (Err Write) ends = ends
 ends_trace f asked (Err ImageNoMemory) ends = ends
 
+-- and an audit of one
+pub ends_audit : (f : traces.Facts) (end : Result AuditEnd TraceFault) → AuditEnds f end → EndsAudit f (audit_status end)
+ends_audit f (Ok Sound) ends = ends
+ends_audit f (Ok Malformed) ends = inl ends
+ends_audit f (Ok AuditedLength) ends = inr ends
+ends_audit f (Err Read) ends = ends
+ends_audit f (Err Write) ends = ends
+ends_audit f (Err ImageNoMemory) ends = ends
+
 -- a drill ends by its status
 pub ends_drill : (ends : DrillEnd → Type 0) (taken given : Option (List ℕ)) (end : DrillEnd) → ends end → EndsDrilled ends taken given (drill_status end)
 ends_drill ends taken given Drilled is = is
@@ -86,6 +98,7 @@ wanted_first tells f (Cat path) left taken = taken
 wanted_first tells f (Ls path) left taken = taken
 wanted_first tells f StatusCommand left taken = taken
 wanted_first tells f (Trace order b k m) left taken = inl (record { read = unread f.left f.rest left; output = taken })
+wanted_first tells f Audit left taken = inl (record { read = unread f.left f.rest left; output = taken })
 wanted_first tells f (Drill seed files) left taken = taken
 
 -- ---- the words

@@ -15,7 +15,7 @@ use Rattle.dg_trace.specs.Calls as traces
 use Rattle.dg_trace.specs.declared.asked.Asked.{Asked}
 use Rattle.dg_trace.specs.declared.asked.TraceRefusal.{TraceRefusal}
 use Rattle.dg_words.specs.declared.commands.Command.{Command}
-use Rattle.dg_words.specs.declared.commands.Command.TheVariants.{Cat, Drill, Ls, Replay, Resume, Status as StatusCommand, Trace}
+use Rattle.dg_words.specs.declared.commands.Command.TheVariants.{Audit, Cat, Drill, Ls, Replay, Resume, Status as StatusCommand, Trace}
 use Rattle.ufs_model.specs.declared.geometries.Geometry.{Geometry}
 
 -- the source had this text left, and tells what it has at the end
@@ -55,3 +55,4 @@ Completes facts (Ls path) status = (status ≡ Done) ⊎ ((status ≡ Refused) �
 Completes facts StatusCommand status = (status ≡ Done) ⊎ (IsUnopened status ⊎ (status ≡ NoMemory))
 Completes facts (Trace order b k m) status = CompletesTrace (streams_of facts) (asked_by order b k m) status
 Completes facts (Drill seed files) status = (status ≡ Done) ⊎ (status ≡ NoMemory)
+Completes facts Audit status = (status ≡ Done) ⊎ ((status ≡ Refused) ⊎ (status ≡ NoMemory))

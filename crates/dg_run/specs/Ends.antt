@@ -1,5 +1,5 @@
 -- How each command ends, by its status.
-use Rattle.std.specs.Prelude.{◌≡◌, ℕ, List, Option, Bool, true, false, Result, Ok, Err}
+use Rattle.std.specs.Prelude.{◌≡◌, ◌⊎◌, ℕ, List, Option, Bool, true, false, Result, Ok, Err}
 use Rattle.dg_io.specs.Told.{Told, Took, TookPart}
 use Rattle.dg_drill.specs.Drills.{EndsDrill}
 use Rattle.dg_drill.specs.declared.drills.DrillEnd.{DrillEnd}
@@ -13,9 +13,12 @@ use Rattle.dg_saved.specs.Ends.{EndsCat, EndsLs, EndsStatus}
 use Rattle.dg_saved.specs.declared.ends.SavedEnd.{SavedEnd}
 use Rattle.dg_saved.specs.declared.ends.SavedEnd.TheVariants.{Done as SavedDone, NoState as SavedNoState, Refused as SavedRefused, Unclean as SavedUnclean, WriteFault as SavedWriteFault}
 use Rattle.dg_text.specs.Replies.{usage}
+use Rattle.dg_trace.specs.Audits.{AuditEnds}
 use Rattle.dg_trace.specs.Calls as traces
 use Rattle.dg_trace.specs.Ends.{Ends as EndsImage}
 use Rattle.dg_trace.specs.declared.asked.Asked.{Asked}
+use Rattle.dg_trace.specs.declared.audits.AuditEnd.{AuditEnd}
+use Rattle.dg_trace.specs.declared.audits.AuditEnd.TheVariants.{Length as AuditedLength, Malformed, Sound}
 use Rattle.dg_trace.specs.declared.asked.TraceEnd.{TraceEnd}
 use Rattle.dg_trace.specs.declared.asked.TraceEnd.TheVariants.{Refused as ImageRefused, Written}
 use Rattle.dg_trace.specs.declared.asked.TraceFault.{TraceFault}
@@ -23,7 +26,7 @@ use Rattle.dg_trace.specs.declared.asked.TraceFault.TheVariants.{NoMemory as Ima
 use Rattle.dg_trace.specs.declared.asked.TraceRefusal.{TraceRefusal}
 use Rattle.dg_words.specs.Commands.{IsCommand}
 use Rattle.dg_words.specs.declared.commands.Command.{Command}
-use Rattle.dg_words.specs.declared.commands.Command.TheVariants.{Cat, Drill, Ls, Replay, Resume, Status as StatusCommand, Trace}
+use Rattle.dg_words.specs.declared.commands.Command.TheVariants.{Audit, Cat, Drill, Ls, Replay, Resume, Status as StatusCommand, Trace}
 use Rattle.dg_words.specs.declared.commands.Order.{Order}
 
 -- words that are no command: the usage line is printed, or a part of it
@@ -81,6 +84,25 @@ EndsTrace facts asked status = ⊥
 abbrev pub asked_by : Order → ℕ → ℕ → ℕ → Asked
 asked_by order b k m = record { order = order; b = b; k = k; m = m }
 
+-- the status of an audit of an image
+abbrev pub audit_status : Result AuditEnd TraceFault → Status
+audit_status (Ok Sound) = Done
+audit_status (Ok Malformed) = Refused
+audit_status (Ok AuditedLength) = Refused
+audit_status (Err ImageRead) = ReadFault
+audit_status (Err ImageWrite) = WriteFault
+audit_status (Err ImageNoMemory) = NoMemory
+
+-- Such an audit: its lines were printed, and tell no malformation; or they tell some, or the image has a wrong length; or a fault came, or memory was
+-- wanting.
+abbrev pub EndsAudit : traces.Facts → Status → Type 0
+EndsAudit facts Done = AuditEnds facts (Ok Sound)
+EndsAudit facts Refused = AuditEnds facts (Ok Malformed) ⊎ AuditEnds facts (Ok AuditedLength)
+EndsAudit facts ReadFault = AuditEnds facts (Err ImageRead)
+EndsAudit facts WriteFault = AuditEnds facts (Err ImageWrite)
+EndsAudit facts NoMemory = AuditEnds facts (Err ImageNoMemory)
+EndsAudit facts status = ⊥
+
 -- the status of a drill
 abbrev pub drill_status : DrillEnd → Status
 drill_status Drilled = Done
@@ -102,17 +124,20 @@ Ends tells facts (Ls path) status = EndsSaved (EndsLs tells (met_by facts) path)
 Ends tells facts StatusCommand status = EndsSaved (EndsStatus tells (met_by facts)) facts.taken facts.given status
 Ends tells facts (Trace order b k m) status = EndsTrace (streams_of facts) (asked_by order b k m) status
 Ends tells facts (Drill seed files) status = EndsDrilled (EndsDrill tells (drill_met facts) seed files) facts.taken facts.given status
+Ends tells facts Audit status = EndsAudit (streams_of facts) status
 
 -- the commands that read the input
 abbrev pub reads_input : Command → Bool
 reads_input Replay = true
 reads_input Resume = true
 reads_input (Trace order b k m) = true
+reads_input Audit = true
 reads_input command = false
 
 -- the commands that use the members of an array
 abbrev pub uses_array : Command → Bool
 uses_array (Trace order b k m) = false
+uses_array Audit = false
 uses_array command = true
 
 -- the words are no command

@@ -6,6 +6,7 @@
 #![tactic(auto)]
 
 mod arrays;
+mod audits;
 mod blocks;
 mod cats;
 mod drills;

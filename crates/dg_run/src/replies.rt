@@ -1,5 +1,6 @@
 // The replies that the answers of a volume stand for.
 ghost use Rattle.std.specs.Prelude.{◌≡◌};
+ghost use Rattle.dg_volume.specs.Audits.{audit_reply};
 ghost use Rattle.dg_volume.specs.Copies.{any_diffuse_reply};
 ghost use Rattle.dg_volume.specs.Refills.{rebuild_reply, replace_reply};
 ghost use Rattle.dg_volume.specs.Replies.{any_home_reply, fail_reply, fault_reply, home_reply as settled_home_reply, who_reply};
@@ -9,8 +10,8 @@ ghost use Rattle.dg_volume.specs.Writes.{write_reply};
 
 use dg_model::Reply;
 use dg_volume::{
-    AnyDiffuse, AnyHome, DiffuseAnswer, FailAnswer, HomeAnswer, LookFault, RebuildAnswer,
-    ReplaceAnswer, SaveAnswer, TendRun, Unsettled, WhoAnswer, WriteAnswer,
+    AnyDiffuse, AnyHome, AuditAnswer, DiffuseAnswer, FailAnswer, HomeAnswer, LookFault,
+    RebuildAnswer, ReplaceAnswer, SaveAnswer, TendRun, Unsettled, WhoAnswer, WriteAnswer,
 };
 use ufs_model::PathRefusal;
 
@@ -152,5 +153,15 @@ pub fn home_reply(answer: AnyHome) -> Reply
     match answer {
         AnyHome::Is(answer) => settled_home_reply(answer),
         AnyHome::NotSettled => Reply::NotSettled,
+    }
+}
+
+/// All that is wrong with the volume, or that this can't be told.
+pub fn audit_reply(answer: AuditAnswer) -> Reply
+    ensures { result ≡ audit_reply answer }
+{
+    match answer {
+        AuditAnswer::Audited(findings) => Reply::Audited(findings),
+        AuditAnswer::Unavailable => Reply::Unavailable,
     }
 }

@@ -14,8 +14,8 @@ use crate::events::Fault;
 use crate::listings::serve_ls;
 use crate::pendings::serve_pending;
 use crate::replies::{
-    diffuse_reply, fail_reply, home_reply, rebuild_reply, replace_reply, save_reply, settle_reply,
-    tend_reply, who_reply, write_reply,
+    audit_reply, diffuse_reply, fail_reply, home_reply, rebuild_reply, replace_reply, save_reply,
+    settle_reply, tend_reply, who_reply, write_reply,
 };
 use crate::trees::serve_tree;
 use dg_io::{Rack, Sink};
@@ -79,7 +79,7 @@ fn serve_read<R: Rack, K: Sink>(
     }
 }
 
-/// Does an event that is answered by one line, which tells no bytes of a block, and answers its reply.
+/// Does an event that is answered by one reply, known whole before it is written, which tells no bytes of a block; and answers that.
 fn reply_to<R: Rack>(
     alloc: Global,
     array: &mut Array<R>,
@@ -107,6 +107,7 @@ fn reply_to<R: Rack>(
         Event::Who(b) => Ok(who_reply(array.volume.who(*b))),
         Event::Home(path) => Ok(home_reply(array.volume.home(path.as_slice()))),
         Event::Save => Ok(save_reply(array.volume.save(alloc, &array.hot)?)),
+        Event::Audit => Ok(audit_reply(array.volume.audit(alloc)?)),
         Event::Array(_)
         | Event::Safe(_)
         | Event::Parity(_, _)
@@ -117,7 +118,6 @@ fn reply_to<R: Rack>(
         | Event::Tree
         | Event::Regroup
         | Event::LostFiles
-        | Event::Audit
         | Event::DropDisk(_, _)
         | Event::MendDisk(_, _) => unreachable!(),
     }

@@ -10,6 +10,7 @@ ghost use Rattle.dg_text.specs.Replies.{usage};
 ghost use Rattle.dg_words.specs.Commands.{HasValues, IsCommand};
 ghost use Rattle.dg_words.specs.declared.commands.Command.{Command};
 
+use crate::audits::serve_audit;
 use crate::drills::serve_drill;
 use crate::images::serve_trace;
 use crate::replays::serve_replay;
@@ -40,7 +41,7 @@ pub enum Status {
     NoState,
     /// The saved array was changed since it was saved.
     Unclean,
-    /// `cat` or `ls` gave no bytes and no listing, or `trace` refuses its image.
+    /// `cat` or `ls` gave no bytes and no listing, `trace` refuses its image, or `audit` does or tells a malformation.
     Refused,
 }
 
@@ -111,6 +112,7 @@ fn serve_command<S: Source, K: Sink, R: Rack>(
             serve_trace(alloc, &asked, source, sink)
         }
         Command::Drill { seed, files } => serve_drill(alloc, *seed, *files, sink, rack),
+        Command::Audit => serve_audit(alloc, source, sink),
     }
 }
 

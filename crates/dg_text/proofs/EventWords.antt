@@ -8,13 +8,13 @@ use Rattle.std.proofs.lemmas.List.Elements.{All-nil, All-cons, All-head, All-tai
 use Rattle.dg_model.specs.Shapes.{IsShape}
 use Rattle.dg_model.specs.declared.shapes.Shape.{Shape}
 use Rattle.dg_model.specs.declared.events.Event.{Event}
-use Rattle.dg_model.specs.declared.events.Event.TheVariants.{Array, Write, Read, Fail, Replace, Rebuild, Settle, Tend, Diffuse, Who, Pending, Cat, Ls, Tree, Home, Save}
+use Rattle.dg_model.specs.declared.events.Event.TheVariants.{Array, Write, Read, Fail, Replace, Rebuild, Settle, Tend, Diffuse, Who, Pending, Cat, Ls, Tree, Home, Save, Audit}
 use Rattle.ufs_model.specs.Paths.{is_path}
 use Rattle.dg_text.specs.Lines.{AreBytes, block_bytes, hex_word, path_word, shape_words, spelling, IsInPlace}
 use Rattle.dg_text.specs.Refusals.{Begins, IsHexWord, IsNumberWord, IsOutOfOrder, IsPathWord, count_of, numbers_of, tail_of, words, word_of}
 use Rattle.dg_text.specs.Texts.{IsTextOf, event_kind}
 use Rattle.dg_text.specs.declared.kinds.EventKind.{EventKind}
-use Rattle.dg_text.specs.declared.kinds.EventKind.TheVariants.{Array as KindArray, Write as KindWrite, Read as KindRead, Fail as KindFail, Replace as KindReplace, Rebuild as KindRebuild, Settle as KindSettle, Tend as KindTend, Diffuse as KindDiffuse, Who as KindWho, Pending as KindPending, Cat as KindCat, Ls as KindLs, Tree as KindTree, Home as KindHome, Save as KindSave}
+use Rattle.dg_text.specs.declared.kinds.EventKind.TheVariants.{Array as KindArray, Write as KindWrite, Read as KindRead, Fail as KindFail, Replace as KindReplace, Rebuild as KindRebuild, Settle as KindSettle, Tend as KindTend, Diffuse as KindDiffuse, Who as KindWho, Pending as KindPending, Cat as KindCat, Ls as KindLs, Tree as KindTree, Home as KindHome, Save as KindSave, Audit as KindAudit}
 use Rattle.dg_text.specs.declared.kinds.Tail.TheVariants.{Nothing, Bytes, Path as PathTail}
 use Rattle.dg_text.proofs.Cuts.{Lacks, Lacks-from_above}
 use Rattle.dg_text.proofs.HexWords.{hex_word_nonempty, hex_word_high}
@@ -42,6 +42,7 @@ later_of (Ls path) = path_word path ∷ []
 later_of Tree = []
 later_of (Home path) = path_word path ∷ []
 later_of Save = []
+later_of Audit = []
 later_of event = []
 
 -- ---- the words of an event in its place
@@ -96,6 +97,7 @@ split_event (Some shape) Diffuse h = words_whole (word_of KindDiffuse) (word_lac
 split_event (Some shape) Pending h = words_whole (word_of KindPending) (word_lacks KindPending)
 split_event (Some shape) Tree h = words_whole (word_of KindTree) (word_lacks KindTree)
 split_event (Some shape) Save h = words_whole (word_of KindSave) (word_lacks KindSave)
+split_event (Some shape) Audit h = words_whole (word_of KindAudit) (word_lacks KindAudit)
 split_event shape event h = absurd h
 
 -- ---- what is right about them
@@ -242,6 +244,7 @@ right_event (Some shape) Diffuse h = right_numbers shape KindDiffuse [] (λ is. 
 right_event (Some shape) Pending h = right_numbers shape KindPending [] (λ is. cc is) refl refl no_words (All-nil IsNumberWord)
 right_event (Some shape) Tree h = right_numbers shape KindTree [] (λ is. cc is) refl refl no_words (All-nil IsNumberWord)
 right_event (Some shape) Save h = right_numbers shape KindSave [] (λ is. cc is) refl refl no_words (All-nil IsNumberWord)
+right_event (Some shape) Audit h = right_numbers shape KindAudit [] (λ is. cc is) refl refl no_words (All-nil IsNumberWord)
 right_event shape event h = absurd h
 
 -- ---- the event of words that are right
@@ -364,6 +367,7 @@ spelled None KindLs later right = absurd (right.order (λ is. cc is))
 spelled None KindTree later right = absurd (right.order (λ is. cc is))
 spelled None KindHome later right = absurd (right.order (λ is. cc is))
 spelled None KindSave later right = absurd (right.order (λ is. cc is))
+spelled None KindAudit later right = absurd (right.order (λ is. cc is))
 spelled (Some shape) KindArray later right = absurd (right.order refl)
 spelled (Some shape) KindWrite later right =
     let w = two_of later right.count in
@@ -411,6 +415,7 @@ spelled (Some shape) KindDiffuse later right = (Diffuse, tt, refl, sym (none_of 
 spelled (Some shape) KindPending later right = (Pending, tt, refl, sym (none_of later right.count))
 spelled (Some shape) KindTree later right = (Tree, tt, refl, sym (none_of later right.count))
 spelled (Some shape) KindSave later right = (Save, tt, refl, sym (none_of later right.count))
+spelled (Some shape) KindAudit later right = (Audit, tt, refl, sym (none_of later right.count))
 
 -- a line whose words are right spells an event
 pub line_spelled : (shape : Option Shape) (line : List ℕ) (b : Begins line) → IsRight shape b.kind b.later → (event : Event) × IsInPlace shape event × (line ≡ spelling event)
@@ -452,6 +457,7 @@ text_of shape Diffuse h some = absurd (omega arith)
 text_of shape Pending h some = absurd (omega arith)
 text_of shape Tree h some = absurd (omega arith)
 text_of shape Save h some = absurd (omega arith)
+text_of shape Audit h some = absurd (omega arith)
 text_of shape event h some = absurd h
 
 pub text_is : (shape : Shape) (line : List ℕ) (event : Event) (kind : EventKind) (text : List ℕ) → IsInPlace (Some shape) event → line ≡ spelling event

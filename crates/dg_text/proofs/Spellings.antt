@@ -8,12 +8,12 @@ use Rattle.hex.specs.Hex.{encode_lower}
 use Rattle.dg_model.specs.Shapes.{IsShape}
 use Rattle.dg_model.specs.declared.shapes.Shape.{Shape}
 use Rattle.dg_model.specs.declared.events.Event.{Event}
-use Rattle.dg_model.specs.declared.events.Event.TheVariants.{Array, Write, Read, Fail, Replace, Rebuild, Settle, Tend, Diffuse, Who, Pending, Cat, Ls, Tree, Home, Save}
+use Rattle.dg_model.specs.declared.events.Event.TheVariants.{Array, Write, Read, Fail, Replace, Rebuild, Settle, Tend, Diffuse, Who, Pending, Cat, Ls, Tree, Home, Save, Audit}
 use Rattle.dg_text.specs.Lines.{AreBytes, AreInPlace, hex_word, path_word, spelled_byte, is_plain, spelling, line_of, input_of, IsInPlace}
 use Rattle.dg_text.specs.Refusals.{numbers_of, tail_of, word_of, words}
 use Rattle.dg_text.specs.Texts.{event_kind, is_spelled}
 use Rattle.dg_text.specs.declared.kinds.EventKind.{EventKind}
-use Rattle.dg_text.specs.declared.kinds.EventKind.TheVariants.{Array as KindArray, Write as KindWrite, Read as KindRead, Fail as KindFail, Replace as KindReplace, Rebuild as KindRebuild, Settle as KindSettle, Tend as KindTend, Diffuse as KindDiffuse, Who as KindWho, Pending as KindPending, Cat as KindCat, Ls as KindLs, Tree as KindTree, Home as KindHome, Save as KindSave}
+use Rattle.dg_text.specs.declared.kinds.EventKind.TheVariants.{Array as KindArray, Write as KindWrite, Read as KindRead, Fail as KindFail, Replace as KindReplace, Rebuild as KindRebuild, Settle as KindSettle, Tend as KindTend, Diffuse as KindDiffuse, Who as KindWho, Pending as KindPending, Cat as KindCat, Ls as KindLs, Tree as KindTree, Home as KindHome, Save as KindSave, Audit as KindAudit}
 use Rattle.dg_text.specs.declared.kinds.Tail.{Tail}
 use Rattle.dg_text.specs.declared.kinds.Tail.TheVariants.{Nothing, Bytes, Path as PathTail}
 use Rattle.dg_text.proofs.Cuts.{first_cut}
@@ -80,6 +80,7 @@ numbers_in (Ls path) = []
 numbers_in Tree = []
 numbers_in (Home path) = []
 numbers_in Save = []
+numbers_in Audit = []
 numbers_in event = []
 
 -- its bytes
@@ -100,6 +101,7 @@ bytes_in (Ls path) = path
 bytes_in Tree = []
 bytes_in (Home path) = path
 bytes_in Save = []
+bytes_in Audit = []
 bytes_in event = []
 
 -- the event of some numbers and bytes
@@ -120,6 +122,7 @@ made_of KindLs ns bs = Ls bs
 made_of KindTree ns bs = Tree
 made_of KindHome ns bs = Home bs
 made_of KindSave ns bs = Save
+made_of KindAudit ns bs = Audit
 
 made_back : (event : Event) → is_spelled event ≡ true → made_of (event_kind event) (numbers_in event) (bytes_in event) ≡ event
 unfolding numbers_in bytes_in made_of
@@ -139,6 +142,7 @@ made_back (Ls path) is = refl
 made_back Tree is = refl
 made_back (Home path) is = refl
 made_back Save is = refl
+made_back Audit is = refl
 made_back event is = absurd (cc is)
 
 -- the word behind the numbers, if there is one
@@ -165,6 +169,7 @@ later_is (Ls path) = refl
 later_is Tree = refl
 later_is (Home path) = refl
 later_is Save = refl
+later_is Audit = refl
 later_is event = refl
 
 numbers_count : (event : Event) → length (numbers_in event) ≡ numbers_of (event_kind event)
@@ -185,6 +190,7 @@ numbers_count (Ls path) = refl
 numbers_count Tree = refl
 numbers_count (Home path) = refl
 numbers_count Save = refl
+numbers_count Audit = refl
 numbers_count event = refl
 
 abbrev IsSmall : ℕ → Type 0
@@ -220,6 +226,7 @@ numbers_small (Some shape) Diffuse h = All-nil IsSmall
 numbers_small (Some shape) Pending h = All-nil IsSmall
 numbers_small (Some shape) Tree h = All-nil IsSmall
 numbers_small (Some shape) Save h = All-nil IsSmall
+numbers_small (Some shape) Audit h = All-nil IsSmall
 numbers_small shape event h = absurd h
 
 -- bytes that may stand there
@@ -243,6 +250,7 @@ tail_right (Some shape) Diffuse h = refl
 tail_right (Some shape) Pending h = refl
 tail_right (Some shape) Tree h = refl
 tail_right (Some shape) Save h = refl
+tail_right (Some shape) Audit h = refl
 tail_right (Some shape) (Cat path) h = h.1
 tail_right (Some shape) (Ls path) h = h.1
 tail_right (Some shape) (Home path) h = h.1
@@ -285,6 +293,7 @@ in_place_spelled (Some shape) (Ls path) h = refl
 in_place_spelled (Some shape) Tree h = refl
 in_place_spelled (Some shape) (Home path) h = refl
 in_place_spelled (Some shape) Save h = refl
+in_place_spelled (Some shape) Audit h = refl
 in_place_spelled shape event h = absurd h
 
 -- two events in one place with one spelling are one

@@ -8,7 +8,7 @@ use Rattle.hex.specs.Hex.{encode_lower}
 use Rattle.dg_model.specs.Shapes.{IsShape}
 use Rattle.dg_model.specs.declared.shapes.Shape.{Shape}
 use Rattle.dg_model.specs.declared.events.Event.{Event}
-use Rattle.dg_model.specs.declared.events.Event.TheVariants.{Array, Write, Read, Fail, Replace, Rebuild, Settle, Tend, Diffuse, Who, Pending, Cat, Ls, Tree, Home, Save}
+use Rattle.dg_model.specs.declared.events.Event.TheVariants.{Array, Write, Read, Fail, Replace, Rebuild, Settle, Tend, Diffuse, Who, Pending, Cat, Ls, Tree, Home, Save, Audit}
 use Rattle.ufs_model.specs.Paths.{is_path}
 
 -- bytes as a word
@@ -50,6 +50,7 @@ spelling (Ls path) = codes "ls " ++ path_word path
 spelling Tree = codes "tree"
 spelling (Home path) = codes "home " ++ path_word path
 spelling Save = codes "save"
+spelling Audit = codes "audit"
 spelling event = []
 
 -- its line
@@ -84,6 +85,7 @@ IsInPlace (Some shape) (Ls path) = (is_path path ≡ true) × AreBytes path
 IsInPlace (Some shape) Tree = Unit {0}
 IsInPlace (Some shape) (Home path) = (is_path path ≡ true) × AreBytes path
 IsInPlace (Some shape) Save = Unit {0}
+IsInPlace (Some shape) Audit = Unit {0}
 IsInPlace (Some shape) event = ⊥
 
 -- the events of an input are in their places: the first makes an array, and the others follow it

@@ -8,7 +8,7 @@ use Rattle.dg_model.specs.declared.events.Event.{Event}
 use Rattle.ufs_model.specs.Paths.{is_path}
 use Rattle.dg_text.specs.Lines.{AreBytes, hex_word, path_word, spelling, block_bytes, IsInPlace}
 use Rattle.dg_text.specs.declared.kinds.EventKind.{EventKind}
-use Rattle.dg_text.specs.declared.kinds.EventKind.TheVariants.{Array, Write, Read, Fail, Replace, Rebuild, Settle, Tend, Diffuse, Who, Pending, Cat, Ls, Tree, Home, Save}
+use Rattle.dg_text.specs.declared.kinds.EventKind.TheVariants.{Array, Write, Read, Fail, Replace, Rebuild, Settle, Tend, Diffuse, Who, Pending, Cat, Ls, Tree, Home, Save, Audit}
 use Rattle.dg_text.specs.declared.kinds.Tail.{Tail}
 use Rattle.dg_text.specs.declared.kinds.Tail.TheVariants.{Nothing, Bytes, Path as PathTail}
 use Rattle.dg_text.specs.declared.lines.BadLine.{BadLine}
@@ -58,6 +58,7 @@ word_of Ls = codes "ls"
 word_of Tree = codes "tree"
 word_of Home = codes "home"
 word_of Save = codes "save"
+word_of Audit = codes "audit"
 
 -- how many numbers stand behind it
 abbrev pub numbers_of : EventKind → ℕ
@@ -77,6 +78,7 @@ numbers_of Ls = 0
 numbers_of Tree = 0
 numbers_of Home = 0
 numbers_of Save = 0
+numbers_of Audit = 0
 
 -- what stands behind the numbers
 abbrev pub tail_of : EventKind → Tail
@@ -96,6 +98,7 @@ tail_of Ls = PathTail
 tail_of Tree = Nothing
 tail_of Home = PathTail
 tail_of Save = Nothing
+tail_of Audit = Nothing
 
 -- how many words that is
 abbrev pub tail_count : Tail → ℕ

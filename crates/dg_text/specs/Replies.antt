@@ -250,4 +250,4 @@ refusal number kind = codes "line " ++ (decimal number ++ (codes " " ++ (kind_of
 
 -- the answer to words that are no command
 abbrev pub usage : List ℕ
-usage = codes "usage: dgraid replay | resume | cat PATH | ls PATH | status | trace ORDER B K M | drill SEED FILES\n"
+usage = codes "usage: dgraid replay | resume | cat PATH | ls PATH | status | trace ORDER B K M | drill SEED FILES | audit\n"

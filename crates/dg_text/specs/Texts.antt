@@ -7,7 +7,7 @@ use Rattle.dg_model.specs.declared.events.Event.TheVariants.{Array, Write, Read,
 use Rattle.dg_text.specs.Lines.{AreBytes, hex_word, path_word, shape_words, spelling, IsInPlace}
 use Rattle.dg_text.specs.Refusals.{IsNumberWord, IsPathWord, word_of}
 use Rattle.dg_text.specs.declared.kinds.EventKind.{EventKind}
-use Rattle.dg_text.specs.declared.kinds.EventKind.TheVariants.{Array as KindArray, Write as KindWrite, Read as KindRead, Fail as KindFail, Replace as KindReplace, Rebuild as KindRebuild, Settle as KindSettle, Tend as KindTend, Diffuse as KindDiffuse, Who as KindWho, Pending as KindPending, Cat as KindCat, Ls as KindLs, Tree as KindTree, Home as KindHome, Save as KindSave}
+use Rattle.dg_text.specs.declared.kinds.EventKind.TheVariants.{Array as KindArray, Write as KindWrite, Read as KindRead, Fail as KindFail, Replace as KindReplace, Rebuild as KindRebuild, Settle as KindSettle, Tend as KindTend, Diffuse as KindDiffuse, Who as KindWho, Pending as KindPending, Cat as KindCat, Ls as KindLs, Tree as KindTree, Home as KindHome, Save as KindSave, Audit as KindAudit}
 
 -- whether a line spells the event
 abbrev pub is_spelled : Event → Bool
@@ -15,7 +15,6 @@ is_spelled (Safe s) = false
 is_spelled (Parity s d) = false
 is_spelled Regroup = false
 is_spelled LostFiles = false
-is_spelled Audit = false
 is_spelled (DropDisk s d) = false
 is_spelled (MendDisk s d) = false
 is_spelled event = true
@@ -38,6 +37,7 @@ event_kind (Ls path) = KindLs
 event_kind Tree = KindTree
 event_kind (Home path) = KindHome
 event_kind Save = KindSave
+event_kind Audit = KindAudit
 event_kind event = KindSave
 
 -- two numbers, and what stands between them
@@ -62,6 +62,7 @@ rest_of (Ls path) = codes " " ++ path_word path
 rest_of Tree = []
 rest_of (Home path) = codes " " ++ path_word path
 rest_of Save = []
+rest_of Audit = []
 rest_of event = []
 
 -- a text of two numbers

@@ -37,6 +37,8 @@ pub enum EventKind {
     Home,
     /// `save`
     Save,
+    /// `audit`
+    Audit,
 }
 
 /// What stands behind the numbers of a line.
@@ -72,6 +74,7 @@ pub fn kind_with(word: &[u8]) -> Option<EventKind>
         b"tree" => Some(EventKind::Tree),
         b"home" => Some(EventKind::Home),
         b"save" => Some(EventKind::Save),
+        b"audit" => Some(EventKind::Audit),
         _ => None,
     }
 }
@@ -98,6 +101,7 @@ impl EventKind {
             EventKind::Tree => b"tree",
             EventKind::Home => b"home",
             EventKind::Save => b"save",
+            EventKind::Audit => b"audit",
         }
     }
 
@@ -116,7 +120,8 @@ impl EventKind {
             | EventKind::Ls
             | EventKind::Tree
             | EventKind::Home
-            | EventKind::Save => 0,
+            | EventKind::Save
+            | EventKind::Audit => 0,
         }
     }
 
@@ -138,7 +143,8 @@ impl EventKind {
             | EventKind::Who
             | EventKind::Pending
             | EventKind::Tree
-            | EventKind::Save => Tail::Nothing,
+            | EventKind::Save
+            | EventKind::Audit => Tail::Nothing,
         }
     }
 

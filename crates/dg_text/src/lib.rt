@@ -19,6 +19,7 @@ mod verdicts;
 mod words;
 mod written;
 
+pub use audits::write_audit;
 pub use hex_lines::HexLines;
 pub use laws::{input_is_unique, line_is_read, line_is_unique, reading_is_unique};
 pub use lines::{BadLine, longest_line, read_line};

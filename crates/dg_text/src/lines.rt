@@ -130,6 +130,7 @@ fn bare_event(kind: EventKind) -> Option<Event>
         EventKind::Pending => Some(Event::Pending),
         EventKind::Tree => Some(Event::Tree),
         EventKind::Save => Some(Event::Save),
+        EventKind::Audit => Some(Event::Audit),
         _ => None,
     }
 }

@@ -246,7 +246,7 @@ pub fn write_usage<K: Sink>(sink: &mut K) -> Result<(), Failed>
 {
     write_all(
         sink,
-        b"usage: dgraid replay | resume | cat PATH | ls PATH | status | trace ORDER B K M | drill SEED FILES\n",
+        b"usage: dgraid replay | resume | cat PATH | ls PATH | status | trace ORDER B K M | drill SEED FILES | audit\n",
     )
 }
 

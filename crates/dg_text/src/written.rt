@@ -33,7 +33,6 @@ fn is_spelled(event: &Event) -> bool
         | Event::Parity(_, _)
         | Event::Regroup
         | Event::LostFiles
-        | Event::Audit
         | Event::DropDisk(_, _)
         | Event::MendDisk(_, _) => false,
         _ => true,
@@ -60,6 +59,7 @@ fn kind_of(event: &Event) -> EventKind
         Event::Ls(_) => EventKind::Ls,
         Event::Tree => EventKind::Tree,
         Event::Home(_) => EventKind::Home,
+        Event::Audit => EventKind::Audit,
         _ => EventKind::Save,
     }
 }

@@ -1,4 +1,5 @@
 mod AnswerLaws
+mod AuditSteps
 mod BlockLaws
 mod EndSteps
 mod ImageSteps

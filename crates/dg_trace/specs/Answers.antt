@@ -29,6 +29,10 @@ pub record HasWhole (image : List ℕ) (g : Geometry) : Type 0 where
   pub has : HasVolume image g
   pub whole : g.size * g.fsize ≤ length image
 
+-- An image of a wrong length: too long, or too short for a superblock or for its volume.
+abbrev pub IsWrongLength : List ℕ → Type 0
+IsWrongLength image = (IsInSize image → ⊥) ⊎ ((g : Geometry) × HasVolume image g × (length image < g.size * g.fsize))
+
 -- A trace is made of it: there is an array for the volume.
 pub record IsAccepted (asked : Asked) (image : List ℕ) (g : Geometry) : Type 0 where
   pub has : HasWhole image g
@@ -37,7 +41,7 @@ pub record IsAccepted (asked : Asked) (image : List ℕ) (g : Geometry) : Type 0
 -- Why there is none, in this order: the image is too long or too short; its superblock fails a test; it ends before its volume does; or an array
 -- for the volume breaks a limit.
 abbrev pub IsRefused : Asked → List ℕ → TraceRefusal → Type 0
-IsRefused asked image Length = (IsInSize image → ⊥) ⊎ ((g : Geometry) × HasVolume image g × (length image < g.size * g.fsize))
+IsRefused asked image Length = IsWrongLength image
 IsRefused asked image (Super bad) = IsInSize image × (volume_on image ≡ Err bad)
 IsRefused asked image Limits = (g : Geometry) × HasWhole image g × (IsShape (shape_for asked g) → ⊥)
 

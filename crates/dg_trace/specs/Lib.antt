@@ -1,4 +1,5 @@
 pub mod Answers
+pub mod Audits
 pub mod Calls
 pub mod Ends
 pub mod Images

@@ -45,7 +45,7 @@ fn block_bytes_for(fsize: u32) -> u32
 
 /// The volume on an image, by its own numbers, or the first test of its superblock that fails.
 #[tactic(auto, unfolding(crate::specs::Volumes::volume_on))]
-fn volume_on(image: &[u8]) -> Result<Geometry, BadSuper>
+pub fn volume_on(image: &[u8]) -> Result<Geometry, BadSuper>
     requires { 9568 ≤ length image.now }
     ensures value { result ≡ volume_on image.now }
     ensures tests { IfOk result (λ g. IsGeometry g) }

@@ -1,5 +1,6 @@
 mod AnyLaws
 mod ArrayLaws
+mod AuditSteps
 mod BlankLaws
 mod CopySteps
 mod CutLaws

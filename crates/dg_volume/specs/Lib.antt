@@ -1,3 +1,4 @@
+pub mod Audits
 pub mod Copies
 pub mod CutReads
 pub mod Faults

@@ -7,6 +7,7 @@
 
 mod answers;
 mod any;
+mod audits;
 mod copies;
 mod cut_reads;
 mod file_lists;
@@ -24,6 +25,7 @@ mod settles;
 mod volumes;
 mod writes;
 
+pub use audits::AuditAnswer;
 pub use copies::AnyDiffuse;
 pub use dg_hot::{DiffuseAnswer, Hot};
 pub use dg_label::SaveAnswer;

@@ -8,7 +8,7 @@ use Rattle.std.proofs.lemmas.Fmt.{decimal_is_IsNumeral}
 use Rattle.std.proofs.lemmas.Slice.Eq.{bytes_eq-Decides}
 use Rattle.dg_words.specs.Commands.{ArePathsUnique, HasValues, IsCommand, order_word, words_of}
 use Rattle.dg_words.specs.declared.commands.Command.{Command}
-use Rattle.dg_words.specs.declared.commands.Command.TheVariants.{Replay, Resume, Cat, Ls, Status, Trace, Drill}
+use Rattle.dg_words.specs.declared.commands.Command.TheVariants.{Replay, Resume, Cat, Ls, Status, Trace, Drill, Audit}
 use Rattle.dg_words.specs.declared.commands.Order.{Order}
 use Rattle.dg_words.specs.declared.commands.Order.TheVariants.{Up, Down, Late}
 
@@ -41,6 +41,7 @@ same_command one Resume Resume vc vd e h = refl
 same_command one (Cat p) (Cat q) vc vd e h = ap Cat (one p q vc.0 vc.1 vd.0 vd.1 (ap (value_in 1) e))
 same_command one (Ls p) (Ls q) vc vd e h = ap Ls (one p q vc.0 vc.1 vd.0 vd.1 (ap (value_in 1) e))
 same_command one Status Status vc vd e h = refl
+same_command one Audit Audit vc vd e h = refl
 same_command one (Trace o b k m) (Trace p c l n) vc vd e h =
     let orders : o ≡ p = let same : order_word o ≡ order_word p = ap (value_in 1) e in same_order o p same (eq_self _ _ same) in
     let bs : b ≡ c = same_number b c (omega arith) (omega arith) (ap (value_in 2) e) in

@@ -12,7 +12,7 @@ use Rattle.dg_text.specs.Lines.{path_word, spelled_byte}
 use Rattle.dg_words.specs.Commands.{HasValues, order_word, words_of}
 use Rattle.dg_words.specs.Values.{any_has_hyphen, has_hyphen}
 use Rattle.dg_words.specs.declared.commands.Command.{Command}
-use Rattle.dg_words.specs.declared.commands.Command.TheVariants.{Replay, Resume, Cat, Ls, Status, Trace, Drill}
+use Rattle.dg_words.specs.declared.commands.Command.TheVariants.{Replay, Resume, Cat, Ls, Status, Trace, Drill, Audit}
 use Rattle.dg_words.specs.declared.commands.Order.{Order}
 use Rattle.dg_words.specs.declared.commands.Order.TheVariants.{Up, Down, Late}
 
@@ -52,6 +52,7 @@ values_plain Resume h = refl
 values_plain (Cat path) h = rw (path_plain path h.0) refl
 values_plain (Ls path) h = rw (path_plain path h.0) refl
 values_plain Status h = refl
+values_plain Audit h = refl
 values_plain (Trace order b k m) h =
     rw (order_plain order, decimal_plain b (omega arith), decimal_plain k (omega arith), decimal_plain m (omega arith)) refl
 values_plain (Drill seed files) h = rw (decimal_plain seed h.0, decimal_plain files (omega arith)) refl

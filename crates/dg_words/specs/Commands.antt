@@ -5,7 +5,7 @@ use Rattle.ufs_model.specs.Paths.{is_path}
 use Rattle.dg_text.specs.Lines.{AreBytes, path_word}
 use Rattle.dg_words.specs.Values.{any_has_hyphen}
 use Rattle.dg_words.specs.declared.commands.Command.{Command}
-use Rattle.dg_words.specs.declared.commands.Command.TheVariants.{Replay, Resume, Cat, Ls, Status, Trace, Drill}
+use Rattle.dg_words.specs.declared.commands.Command.TheVariants.{Replay, Resume, Cat, Ls, Status, Trace, Drill, Audit}
 use Rattle.dg_words.specs.declared.commands.Order.{Order}
 use Rattle.dg_words.specs.declared.commands.Order.TheVariants.{Up, Down, Late}
 use Rattle.dg_words.specs.declared.commands.WordsRefused.{WordsRefused}
@@ -26,6 +26,7 @@ words_of (Ls path) = codes "ls" ∷ path_word path ∷ []
 words_of Status = codes "status" ∷ []
 words_of (Trace order b k m) = codes "trace" ∷ order_word order ∷ decimal b ∷ decimal k ∷ decimal m ∷ []
 words_of (Drill seed files) = codes "drill" ∷ decimal seed ∷ decimal files ∷ []
+words_of Audit = codes "audit" ∷ []
 
 -- the values that a command may have
 abbrev pub HasValues : Command → Type 0
@@ -36,6 +37,7 @@ HasValues (Ls path) = (is_path path ≡ true) × AreBytes path
 HasValues Status = Unit {0}
 HasValues (Trace order b k m) = (b < 2 ^ 32) × (k < 2 ^ 32) × (m < 2 ^ 32)
 HasValues (Drill seed files) = (seed < 2 ^ 64) × (1 ≤ files) × (files ≤ 2000)
+HasValues Audit = Unit {0}
 
 -- these words are this command
 pub record IsCommand (words : List (List ℕ)) (command : Command) : Type 0 where

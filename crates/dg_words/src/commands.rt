@@ -38,6 +38,8 @@ pub enum Command {
         seed: u64,
         files: u32,
     },
+    /// All that is wrong with the volume of an image.
+    Audit,
 }
 
 /// Why there is no command.

@@ -83,6 +83,9 @@ fn bare_command(name: &str) -> Result<Command, WordsRefused>
     if name == "status" {
         return Ok(Command::Status);
     }
+    if name == "audit" {
+        return Ok(Command::Audit);
+    }
     Err(WordsRefused::Usage)
 }
 

@@ -11,10 +11,12 @@ ghost use Rattle.dg_claims.specs.There.{HadKind, HadOn};
 ghost use Rattle.ufs_check.specs.Needs.{IsNeededBy, IsNeededOn};
 ghost use Rattle.ufs_check.specs.ViewWords.{FetchesOn, IsStructureOf, LosesOn};
 ghost use Rattle.ufs_audit.specs.Audits.{HasGeometry};
+ghost use Rattle.ufs_audit.specs.Losses.{HadOn};
 ghost use Rattle.ufs_audit.specs.Refusals.{IsRefusal};
 ghost use Rattle.ufs_pointer.specs.ViewWords.{FetchesKind, LosesKind};
 
 use crate::lists::list_all;
+use crate::losses::structure_has_gone;
 use dg_claims::{Claims, scan, tables_of_volumes};
 use dg_io::{NoMemory, View};
 use std::alloc::Global;
@@ -87,9 +89,9 @@ fn audit_volume<V: View>(
     Ok(Some(Findings { bad, notes }))
 }
 
-/// All that is wrong with the volume on a view, in its order, and what is noted beside it. There is no
-/// answer where a block with the volume's structure is gone. The buffers are for blocks of the view's size.
-pub fn audit<V: View>(
+/// All that is found on a view by what is read of it. There is no answer where a block with the volume's
+/// structure is gone.
+fn find_all<V: View>(
     alloc: Global,
     view: &mut V,
     levels: &mut Levels,
@@ -109,4 +111,29 @@ pub fn audit<V: View>(
         Some(Err(bad)) => refused(alloc, bad),
         Some(Ok(g)) => audit_volume(alloc, view, &g, levels),
     }
+}
+
+/// All that is wrong with the volume on a view, in its order, and what is noted beside it. There is no
+/// answer where a block with the volume's structure is gone. The buffers are for blocks of the view's size.
+pub fn audit<V: View>(
+    alloc: Global,
+    view: &mut V,
+    levels: &mut Levels,
+) -> Result<Option<Findings>, NoMemory>
+    requires sound { V.is_sound view.old }
+    requires levels { levels.old.fragment ≡ V.size view.old }
+    ensures keeps { Keeps V.View view.old view.new }
+    ensures levels { levels.new.fragment ≡ levels.old.fragment }
+    ensures found { IfOk result (λ answer. IfSome answer (λ findings. V.tells view.new → (v : Volume) → V.stands_for view.old v
+        → AreFindings (V.size view.old) (V.count view.old) v findings.bad.items findings.notes.unnamed.items findings.notes.unclaimed.items)) }
+    ensures there { IfOk result (λ answer. IfSome answer (λ findings.
+        HadOn V.View view.old view.new (V.stands_for view.old) (IsStructure (V.size view.old) (V.count view.old)))) }
+    ensures gone { IfOk result (λ answer. IfNone answer (LosesKind V.View view.old view.new (IsStructure (V.size view.old) (V.count view.old)))) }
+    ensures fetched { FetchesKind V.View view.old view.new (IsStructure (V.size view.old) (V.count view.old)) }
+{
+    let gone = structure_has_gone(alloc, view, levels)?;
+    if gone {
+        return Ok(None);
+    }
+    find_all(alloc, view, levels)
 }

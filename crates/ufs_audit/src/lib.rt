@@ -3,8 +3,13 @@
 #![tactic(auto)]
 
 mod audits;
+mod directories;
+mod holders;
 mod images;
 mod lists;
+mod losses;
+mod told;
 
 pub use crate::audits::{Findings, audit};
 pub use crate::images::ImageView;
+pub use crate::told::lines_of;

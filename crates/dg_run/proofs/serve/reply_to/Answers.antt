@@ -1,7 +1,7 @@
 use Rattle.std.proofs.Common.{◌≡◌, ◌∙◌, ℕ, List, ap, refl, subst, sym}
 use Rattle.dg_model.specs.Blocks.{padded}
 use Rattle.dg_model.specs.declared.events.Event.{Event}
-use Rattle.dg_model.specs.declared.events.Event.TheVariants.{Diffuse, Save, Fail, Home, Rebuild, Replace, Settle, Tend, Who, Write}
+use Rattle.dg_model.specs.declared.events.Event.TheVariants.{Audit, Diffuse, Save, Fail, Home, Rebuild, Replace, Settle, Tend, Who, Write}
 use Rattle.dg_model.specs.declared.replies.Reply.{Reply}
 use Rattle.dg_run.proofs.ArraySteps.{steps_hot, steps_of, steps_sized}
 use Rattle.dg_run.proofs.Runs.{goes_none}
@@ -40,6 +40,13 @@ returns-in_ok-tend-in-Tend-clause-steps g c =
     let b = record c.args.array.now { volume = c.tend.new.self } in
     let step = subst (λ (r : Reply). volumes.StepsTo any_phase any_phase g.R.Rack a.volume (Tend c.in-Tend.n) r b.volume) (sym c.tend_reply.ensures) c.in_ok-tend-in-Tend.ensures.steps in
     subst (λ (e : Event). StepsTo g.R.Rack a e c.tend_reply.result b) (sym c.in-Tend.is) (steps_of g.R.Rack a b (Tend c.in-Tend.n) c.tend_reply.result tt refl step)
+
+pub returns-in_ok-audit-in-Audit-clause-steps : goal.returns-in_ok-audit-in-Audit-clause-steps
+returns-in_ok-audit-in-Audit-clause-steps g c =
+    let a = c.args.array.now in
+    let b = record c.args.array.now { volume = c.audit.new.self } in
+    let step = subst (λ (r : Reply). volumes.StepsTo any_phase any_phase g.R.Rack a.volume Audit r b.volume) (sym c.audit_reply.ensures) c.in_ok-audit-in-Audit.ensures.steps in
+    subst (λ (e : Event). StepsTo g.R.Rack a e c.audit_reply.result b) (sym c.in-Audit.is) (steps_of g.R.Rack a b Audit c.audit_reply.result tt refl step)
 
 pub returns-in-Who-clause-steps : goal.returns-in-Who-clause-steps
 returns-in-Who-clause-steps g c =
