@@ -82,7 +82,7 @@ fn settle_typed<R: Rack + Drop>(
         copy: Some(0),
     };
     assert_eq!(rt; settled.home(path), copied);
-    assert_eq!(rt; settled.live(), [0, 1, 2, 3]);
+    assert_eq!(rt; settled.live(), b"\x00\x01\x02\x03".as_slice());
     let AuditAnswer::Audited(findings) = settled.audit(alloc)? else {
         return Err("audit".into());
     };
