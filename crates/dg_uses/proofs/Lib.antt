@@ -7,6 +7,7 @@ pub mod InUse
 mod Lines
 mod LossRows
 mod NextNumbers
+mod OneAudit
 mod OneFinding
 mod OneList
 mod OneMark
