@@ -1,3 +1,6 @@
+mod AuditRows
+mod AuditedLaws
+mod BlankAudits
 mod BlankRows
 pub mod Chains
 pub mod Cores

@@ -39,7 +39,7 @@ apart : (a b : BadKind × ℕ) → IsEarlier a b → IsEarlier b a → ⊥
 apart a b one other = earlier_apart (order_of a.0) (order_of b.0) a.1 b.1 one other
 
 module _ (l n : ℕ) (v : Volume) where
-  malformations_one : (xs ys : List (BadKind × ℕ)) → AreMalformations l n v xs → AreMalformations l n v ys → xs ≡ ys
+  pub malformations_one : (xs ys : List (BadKind × ℕ)) → AreMalformations l n v xs → AreMalformations l n v ys → xs ≡ ys
   malformations_one xs ys h g =
       one_list IsEarlier apart xs ys h.ordered g.ordered (λ u has. (g.each u.0 u.1).1 ((h.each u.0 u.1).0 has)) (λ u has. (h.each u.0 u.1).1 ((g.each u.0 u.1).0 has))
 
