@@ -2,7 +2,7 @@
 """Random folders as volumes that makefs makes: tests/makefs/run.py [PROGRAM] [--rounds N] [--seed S] [--keep FOLDER]
 
 Each round makes a folder of files, directories, links and pipes, and a UFS1 image of it by NetBSD's makefs (Debian's package of that
-name), in either order of bytes, with fragments of 512 to 4096 bytes. `trace`, `replay` and `resume` take it to a settled, saved array.
+name), in either order of bytes, with fragments of 512 to 4096 bytes. An audit finds no malformation on it. `trace`, `replay` and `resume` take it to a settled, saved array.
 Then each file's bytes and each directory's entries are compared with the folder's: with all boundaries, with some lost, and once a member
 was replaced, refilled, and serves alone; and what `tools/rescue.py` brings is compared with the folder, byte by byte. With fewer than m boundaries lost, a file must be given whole exactly where its home isn't lost, or its
 copy isn't, and each directory must be listed; with more, each answer must be right or `unavailable`. The status is 1 where an answer is wrong;
@@ -285,6 +285,16 @@ def rescue(array, top, folder, lost, places, out):
     return brought
 
 
+def audited(array, image, asked):
+    """The lines of an audit of an image, which has no malformation."""
+    with open(image, "rb") as file:
+        status, told = array.run(["audit"], file.read())
+    lines = told.split(b"\n")[:-1]
+    if status != 0 or any(line.startswith(b"bad ") for line in lines):
+        raise Wrong(f"{asked}: audit: status {status}: {lines[:5]}")
+    return lines
+
+
 def one_round(seed, program, base):
     """One folder, its image, its array, and what it gives; a line about it."""
     rng = random.Random(seed)
@@ -301,9 +311,10 @@ def one_round(seed, program, base):
         status, trace = array.run(["trace", *words], file.read())
     if status != 0:
         raise Wrong(f"{asked}: trace {words}: status {status}: {trace[:80]}")
+    audit = audited(array, image, asked)
     events = trace.split(b"\n")[:-1]
-    replies = array.replies("replay", [*events, b"settle", b"save"])
-    if replies != [b"ok"] * len(events) + [b"settled", b"saved 1"]:
+    replies = array.replies("replay", [*events, b"audit", b"settle", b"save"])
+    if replies != [b"ok"] * len(events) + audit + [b"settled", b"saved 1"]:
         raise Wrong(f"{asked}: trace {words}: {[line for line in replies if line != b'ok'][:5]}")
     shares = []
     for count in sorted({0, 1, places - 1, rng.randint(0, boundaries)}):

@@ -203,7 +203,7 @@ class Broken(Trace):
             self.break_something()
 
     def write(self, block, data):
-        self.array.set_block(block, data)
+        self.array.set_block(block, data.ljust(self.array.l, b"\0"))
 
     def image(self):
         return b"".join(bytes(block) for block in self.array.blocks)

@@ -1,16 +1,18 @@
 -- How an audit of an image ends.
-use Rattle.std.proofs.Common.{◌≡◌, ◌∙◌, ◌+◌, ◌-◌, ◌*◌, ◌<◌, ◌++◌, ℕ, Bool, true, false, List, ap, append_assoc, drop, inr, map, refl, replicate, subst, sym, take, arith}
-use Rattle.std.specs.Prelude.{Option, None, Some, Result, Ok, Err}
+use Rattle.std.proofs.Common.{◌≡◌, ◌∙◌, ◌+◌, ◌-◌, ◌*◌, ◌≤◌, ◌++◌, ◌∷◌, [], ℕ, Bool, true, false, List, ap, append_assoc, drop, inr, length, map, refl, replicate, subst, sym, take, arith}
+use Rattle.std.specs.Prelude.{IfOk, Option, None, Some, Result, Ok, Err}
 use Rattle.std.proofs.lemmas.List.FromFn.{get_or-map-range_with_len, length-map-range_with_len}
 use Rattle.dg_io.specs.MemViews.{IsImage}
 use Rattle.dg_io.specs.Told.{Told, Took, TookPart}
 use Rattle.dg_model.specs.Findings.{TellsFindings, bad_line}
 use Rattle.dg_model.specs.declared.findings.Finding.{Finding}
-use Rattle.dg_model.specs.declared.findings.Finding.TheVariants.{Unnamed, Unclaimed}
+use Rattle.dg_model.specs.declared.findings.Finding.TheVariants.{Bad, Unnamed, Unclaimed}
 use Rattle.dg_text.specs.Lines.{AreBytes}
-use Rattle.dg_trace.specs.Audits.{AuditEnds, EndsAudit, IsAudit, audit_text, blocks_in, end_by, end_of, has_bad}
+use Rattle.dg_trace.specs.Answers.{IsInSize, volume_bytes}
+use Rattle.dg_trace.specs.Audits.{AreLinesBy, AuditEnds, EndsAudit, IsAudit, audit_text, blocks_in, end_by, end_of, has_bad}
 use Rattle.dg_trace.specs.Calls.{Facts}
 use Rattle.dg_trace.specs.Images.{GaveImage}
+use Rattle.dg_trace.specs.Volumes.{volume_on}
 use Rattle.dg_trace.specs.declared.asked.TraceFault.{TraceFault}
 use Rattle.dg_trace.specs.declared.asked.TraceFault.TheVariants.{NoMemory, Read, Write}
 use Rattle.dg_trace.specs.declared.audits.AuditEnd.{AuditEnd}
@@ -18,7 +20,9 @@ use Rattle.ufs_audit.specs.declared.audits.Findings.{Findings}
 use Rattle.ufs_build.specs.Traces.{block_in}
 use Rattle.ufs_model.specs.Audits.{AreFindings}
 use Rattle.ufs_model.specs.Blocks.{Volume}
+use Rattle.ufs_model.specs.declared.geometries.BadSuper.{BadSuper}
 use Rattle.ufs_model.specs.declared.geometries.Geometry.{Geometry}
+use Rattle.ufs_model.specs.declared.malformations.BadKind.TheVariants.{Super}
 
 -- the bytes of a volume are an image of its blocks
 pub image_blocks : (g : Geometry) (bytes : List ℕ) → IsImage bytes g.size g.fsize (blocks_in g bytes)
@@ -58,3 +62,25 @@ audit_read facts image (Ok end) bytes read ends = record { image = image; bytes 
 audit_read facts image (Err Read) bytes read ends = absurd ends
 audit_read facts image (Err Write) bytes read ends = record { image = image; bytes = bytes; read = read; ends = ends }
 audit_read facts image (Err NoMemory) bytes read ends = inr (record { image = image; bytes = bytes; read = read; ends = ends })
+
+-- ---- what is found, by what the superblock gives
+
+module _ (image : List ℕ) (lines : List Finding) where
+  -- its refusal
+  pub refused_lines : (bad : BadSuper) → volume_on image ≡ Err bad → IsInSize image → lines ≡ Bad (Super bad) 0 ∷ [] → IsAudit image (Some lines)
+  refused_lines bad is size same = (size, subst (λ (r : Result Geometry BadSuper). AreLinesBy image r lines) (sym is) same)
+
+  -- or all that is found on the volume
+  pub volume_told : (g : Geometry) (bytes : List ℕ) → volume_on image ≡ Ok g → IsInSize image → g.size * g.fsize ≤ length image → bytes ≡ volume_bytes g image
+      → TellsFindings g.fsize g.size (blocks_in g bytes) lines → IsAudit image (Some lines)
+  volume_told g bytes is size whole same told = (
+    size,
+    subst (λ (r : Result Geometry BadSuper). AreLinesBy image r lines) (sym is)
+    (record { has = record { size = size; volume = is }; whole = whole }, subst (λ (l : List ℕ). TellsFindings g.fsize g.size (blocks_in g l) lines) same told),
+  )
+
+-- ---- results
+
+pub ok_some : {A E : Type 0} (r : Result A E) (P Q : A → Type 0) → ((a : A) → P a → Q a) → IfOk r P → IfOk r Q
+ok_some (Ok a) P Q more h = more a h
+ok_some (Err e) P Q more h = tt

@@ -1,3 +1,6 @@
+mod AuditRows
+mod AuditedLaws
+mod BlankAudits
 mod BlankRows
 pub mod Chains
 pub mod Cores
@@ -7,6 +10,7 @@ pub mod InUse
 mod Lines
 mod LossRows
 mod NextNumbers
+mod OneAudit
 mod OneFinding
 mod OneList
 mod OneMark

@@ -6,9 +6,9 @@ use Rattle.dg_model.specs.Seals.{LastLabel, forgotten, next_sequence}
 use Rattle.dg_model.specs.States.{State}
 use Rattle.dg_model.specs.Steps.{Step}
 use Rattle.dg_model.specs.declared.events.Event.{Event}
-use Rattle.dg_model.specs.declared.events.Event.TheVariants.{Write, Read, Fail, Replace, Rebuild, Settle, Tend, Diffuse, Who, Pending, Cat, Ls, Tree, Home, Save}
+use Rattle.dg_model.specs.declared.events.Event.TheVariants.{Write, Read, Fail, Replace, Rebuild, Settle, Tend, Diffuse, Who, Pending, Cat, Ls, Tree, Home, Save, Audit}
 use Rattle.dg_model.specs.declared.replies.Reply.{Reply}
-use Rattle.dg_model.specs.declared.replies.Reply.TheVariants.{Done, Range, Degraded, Unavailable, Already, Lost, NotOut, Failed, NotFilling, Copied, Settled, Malformed, NoSpace, Tended, Diffused, NotSettled, Verdict, Blocks, Data, Given, Cut, Listed, ListedCut, Nodes, NodesCut, Refused, HomeAt, NoHome, Saved, NotSaved}
+use Rattle.dg_model.specs.declared.replies.Reply.TheVariants.{Done, Range, Degraded, Unavailable, Already, Lost, NotOut, Failed, NotFilling, Copied, Settled, Malformed, NoSpace, Tended, Diffused, NotSettled, Verdict, Blocks, Data, Given, Cut, Listed, ListedCut, Nodes, NodesCut, Refused, HomeAt, NoHome, Saved, NotSaved, Audited}
 use Rattle.dg_uses.proofs.Seen.{next_number_is, number_kept}
 
 -- the events that a replay serves behind its first one
@@ -28,6 +28,7 @@ IsServed (Ls path) = Unit {0}
 IsServed Tree = Unit {0}
 IsServed (Home path) = Unit {0}
 IsServed Save = Unit {0}
+IsServed Audit = Unit {0}
 IsServed event = ⊥
 
 -- a save that is done makes it one more
@@ -154,6 +155,11 @@ module _ (Known : Type 0) (old new : State) where
   save_number NotSaved h = same_label old new h.1
   save_number reply h = absurd h
 
+  audit_number : (reply : Reply) → Step Known old Audit reply new → next_sequence new.label ≡ next_after reply (next_sequence old.label)
+  audit_number (Audited findings) h = stayed old new h.1
+  audit_number Unavailable h = stayed old new h.1
+  audit_number reply h = absurd h
+
   pub step_number : (event : Event) (reply : Reply) → IsServed event → Step Known old event reply new → next_sequence new.label ≡ next_after reply (next_sequence old.label)
   step_number (Write b bytes) reply served h = write_number b bytes reply h
   step_number (Read b) reply served h = read_number b reply h
@@ -170,4 +176,5 @@ module _ (Known : Type 0) (old new : State) where
   step_number Tree reply served h = tree_number reply h
   step_number (Home path) reply served h = home_number path reply h
   step_number Save reply served h = save_number reply h
+  step_number Audit reply served h = audit_number reply h
   step_number event reply served h = absurd served

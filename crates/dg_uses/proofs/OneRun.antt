@@ -13,7 +13,7 @@ use Rattle.dg_model.specs.States.{Counts, IsBlank, State, plain_state}
 use Rattle.dg_model.specs.Steps.{Step}
 use Rattle.dg_model.specs.Tables.{empty_table}
 use Rattle.dg_model.specs.declared.events.Event.{Event}
-use Rattle.dg_model.specs.declared.events.Event.TheVariants.{Array, Write, Read, Fail, Replace, Rebuild, Settle, Tend, Diffuse, Who, Pending, Cat, Ls, Tree, Home, Save}
+use Rattle.dg_model.specs.declared.events.Event.TheVariants.{Array, Write, Read, Fail, Replace, Rebuild, Settle, Tend, Diffuse, Who, Pending, Cat, Ls, Tree, Home, Save, Audit}
 use Rattle.dg_model.specs.declared.members.MemberState.{MemberState}
 use Rattle.dg_model.specs.declared.replies.Reply.{Reply}
 use Rattle.dg_model.specs.declared.replies.Reply.TheVariants.{Done}
@@ -25,6 +25,7 @@ use Rattle.dg_promise.specs.Promises.{AreTold}
 use Rattle.dg_promise.specs.Steady.{FitsBlock, IsSteady}
 use Rattle.dg_uses.proofs.Chains.{blank_at, blank_whole}
 use Rattle.dg_uses.proofs.NextNumbers.{IsServed, next_after, step_number}
+use Rattle.dg_uses.proofs.OneAudit.{audit_one}
 use Rattle.dg_uses.proofs.OnePlan.{diffuse_one, save_one, settle_one, tend_one}
 use Rattle.dg_uses.proofs.OneReading.{cat_is, cat_same, home_is, home_same, ls_is, ls_same, tree_is, tree_same}
 use Rattle.dg_uses.proofs.OneRebuild.{rebuild_one, who_one}
@@ -70,6 +71,7 @@ module _ (c : Seen) (ok : IsPlain c) (old other x y : State) (was : seen_of old 
     by (Home path) r q served h g =
         home_same c ok (seen_of x) (seen_of y) path r q (home_is c ok old.label old.counts x none path r h) (home_is c ok other.label other.counts y never path q g)
     by Save r q served h g = save_one c ok old.label other.label old.counts other.counts x y none never shape like number r q h g
+    by Audit r q served h g = audit_one c ok old.label other.label old.counts other.counts x y none never r q h g
     by event r q served h g = absurd served
 
     step_one : (event : Event) (r q : Reply) → IsServed event → Step AreTold old event r x → Step AreTold other event q y → AreOne r q x y
@@ -112,6 +114,7 @@ served_stays (Ls path) reply served = tt
 served_stays Tree reply served = tt
 served_stays (Home path) reply served = tt
 served_stays Save reply served = tt
+served_stays Audit reply served = tt
 served_stays event reply served = absurd served
 
 served_stay : (events : List Event) (replies : List Reply) → All IsServed events → StayInUse events replies

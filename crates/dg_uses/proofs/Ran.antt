@@ -6,7 +6,7 @@ use Rattle.dg_model.specs.Causes.{NoneRose}
 use Rattle.dg_model.specs.States.{Counts}
 use Rattle.dg_model.specs.declared.shapes.Shape.{Shape}
 use Rattle.dg_model.specs.declared.events.Event.{Event}
-use Rattle.dg_model.specs.declared.events.Event.TheVariants.{Array, Write, Read, Fail, Replace, Rebuild, Settle, Tend, Diffuse, Who, Pending, Cat, Ls, Tree, Home, Save}
+use Rattle.dg_model.specs.declared.events.Event.TheVariants.{Array, Write, Read, Fail, Replace, Rebuild, Settle, Tend, Diffuse, Who, Pending, Cat, Ls, Tree, Home, Save, Audit}
 use Rattle.dg_model.specs.declared.replies.Reply.{Reply}
 use Rattle.dg_model.specs.declared.replies.Reply.TheVariants.{Done}
 use Rattle.dg_run.specs.Replays.{TellsBoundaries}
@@ -64,6 +64,7 @@ place_served shape (Ls path) place = tt
 place_served shape Tree place = tt
 place_served shape (Home path) place = tt
 place_served shape Save place = tt
+place_served shape Audit place = tt
 place_served shape event place = absurd place
 
 pub ran_same : StepsKeepSteady → BlanksAreSteady → (tells told : ℕ → Type 0) (shape : Shape) (events : List Event) (replies others : List Reply)

@@ -14,7 +14,7 @@ use Rattle.dg_model.proofs.RunLaws.{run_none, trace_more}
 use Rattle.dg_model.specs.Runs.{Trace}
 use Rattle.dg_model.specs.States.{Counts, State}
 use Rattle.dg_model.specs.declared.events.Event.{Event}
-use Rattle.dg_model.specs.declared.events.Event.TheVariants.{Array, Write, Read, Fail, Replace, Rebuild, Settle, Tend, Diffuse, Who, Pending, Cat, Ls, Tree, Home, Save}
+use Rattle.dg_model.specs.declared.events.Event.TheVariants.{Array, Write, Read, Fail, Replace, Rebuild, Settle, Tend, Diffuse, Who, Pending, Cat, Ls, Tree, Home, Save, Audit}
 use Rattle.dg_model.specs.declared.replies.Reply.{Reply}
 use Rattle.dg_model.specs.declared.replies.Reply.TheVariants.{Done}
 use Rattle.dg_model.specs.declared.shapes.Shape.{Shape}
@@ -83,6 +83,7 @@ no_reed shape (Ls path) more h e = absurd (omega (arith, at 0 _ _ e))
 no_reed shape Tree more h e = absurd (omega (arith, at 0 _ _ e))
 no_reed shape (Home path) more h e = absurd (omega (arith, at 0 _ _ e))
 no_reed shape Save more h e = absurd (omega (arith, at 0 _ _ e))
+no_reed shape Audit more h e = absurd (omega (arith, at 0 _ _ e))
 no_reed shape event more h e = h
 
 -- `reed` is the word of no event
@@ -103,6 +104,7 @@ reed_differs event_kind.Ls = refl
 reed_differs event_kind.Tree = refl
 reed_differs event_kind.Home = refl
 reed_differs event_kind.Save = refl
+reed_differs event_kind.Audit = refl
 
 reed_words : words (codes "reed 3") ≡ codes "reed" ∷ codes "3" ∷ []
 unfolding words

@@ -5,9 +5,9 @@ use Rattle.dg_model.specs.Changes.{Stays}
 use Rattle.dg_model.specs.States.{State}
 use Rattle.dg_model.specs.Steps.{Step}
 use Rattle.dg_model.specs.declared.events.Event.{Event}
-use Rattle.dg_model.specs.declared.events.Event.TheVariants.{Write, Read, Fail, Replace, Rebuild, Settle, Tend, Diffuse, Who, Pending, Cat, Ls, Tree, Home, Save}
+use Rattle.dg_model.specs.declared.events.Event.TheVariants.{Write, Read, Fail, Replace, Rebuild, Settle, Tend, Diffuse, Who, Pending, Cat, Ls, Tree, Home, Save, Audit}
 use Rattle.dg_model.specs.declared.replies.Reply.{Reply}
-use Rattle.dg_model.specs.declared.replies.Reply.TheVariants.{Done, Range, Degraded, Unavailable, Already, Lost, NotOut, Failed, NotFilling, Copied, Settled, Malformed, NoSpace, Tended, Diffused, NotSettled, Verdict, Blocks, Data, Given, Cut, Listed, ListedCut, Nodes, NodesCut, Refused, HomeAt, NoHome, Saved, NotSaved}
+use Rattle.dg_model.specs.declared.replies.Reply.TheVariants.{Done, Range, Degraded, Unavailable, Already, Lost, NotOut, Failed, NotFilling, Copied, Settled, Malformed, NoSpace, Tended, Diffused, NotSettled, Verdict, Blocks, Data, Given, Cut, Listed, ListedCut, Nodes, NodesCut, Refused, HomeAt, NoHome, Saved, NotSaved, Audited}
 use Rattle.dg_model.proofs.LineLaws.{none_unmarked}
 use Rattle.dg_uses.proofs.NextNumbers.{IsServed}
 
@@ -139,6 +139,11 @@ module _ (Known : Type 0) (old new : State) (none : old.cut ≡ replicate old.ta
   save_whole NotSaved h = same h.1
   save_whole reply h = absurd h
 
+  audit_whole : (reply : Reply) → Step Known old Audit reply new → StaysWhole old new
+  audit_whole (Audited findings) h = stays h.1
+  audit_whole Unavailable h = stays h.1
+  audit_whole reply h = absurd h
+
   pub step_whole : (event : Event) (reply : Reply) → IsServed event → Step Known old event reply new → StaysWhole old new
   step_whole (Write b bytes) reply served h = write_whole b bytes reply h
   step_whole (Read b) reply served h = read_whole b reply h
@@ -155,4 +160,5 @@ module _ (Known : Type 0) (old new : State) (none : old.cut ≡ replicate old.ta
   step_whole Tree reply served h = tree_whole reply h
   step_whole (Home path) reply served h = home_whole path reply h
   step_whole Save reply served h = save_whole reply h
+  step_whole Audit reply served h = audit_whole reply h
   step_whole event reply served h = absurd served

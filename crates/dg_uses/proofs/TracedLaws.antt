@@ -33,7 +33,7 @@ ReplayHolds = (asked : Asked) (image : List ℕ) (g : Geometry) (before : Counts
     → Trace AreTold before (events_of asked image g) replies final → NoneRose before.faults final.counts.faults → IsReplayed g image replies final
 
 -- where both ends are told, what was done between them holds
-told_both : (step : List ℕ → List ℕ → Type 0) (x y : Option (List ℕ)) (a : List ℕ) → x ≡ Some a → IsSome y → Told step x y → (b : List ℕ) × (y ≡ Some b) × step a b
+pub told_both : (step : List ℕ → List ℕ → Type 0) (x y : Option (List ℕ)) (a : List ℕ) → x ≡ Some a → IsSome y → Told step x y → (b : List ℕ) × (y ≡ Some b) × step a b
 told_both step None y a is some told = absurd (cc is)
 told_both step (Some c) None a is some told = absurd (false≢true some)
 told_both step (Some c) (Some b) a is some told = let same : c ≡ a = cc is in (b, refl, subst (λ (l : List ℕ). step l b) same told)

@@ -1,14 +1,19 @@
 -- What a client promises of a replay in which no call on a member fails, and no boundary is lost: a function of the events.
-use Rattle.std.specs.Prelude.{◌≡◌, ◌<◌, ◌+◌, ◌*◌, ◌/◌, ◌==◌, ◌&&◌, ◌||◌, not, if◌then◌else◌, nat_lt, ℕ, Bool, false, List, [], ◌∷◌, IsSome, Option}
+use Rattle.std.specs.Prelude.{◌≡◌, ◌<◌, ◌+◌, ◌*◌, ◌/◌, ◌==◌, ◌&&◌, ◌||◌, not, if◌then◌else◌, nat_lt, ℕ, Bool, false, List, [], ◌∷◌, IsSome, Ok, Option}
+use Rattle.dg_io.specs.Told.{Told, Took}
 use Rattle.dg_model.specs.Blocks.{stripped}
 use Rattle.dg_model.specs.States.{has_lost}
 use Rattle.dg_model.specs.declared.events.Event.{Event}
 use Rattle.dg_model.specs.declared.events.Event.TheVariants.{Write, Read, Fail}
+use Rattle.dg_model.specs.declared.findings.Finding.{Finding}
 use Rattle.dg_model.specs.declared.members.MemberState.{MemberState}
 use Rattle.dg_model.specs.declared.members.MemberState.TheVariants.{Good, Out}
 use Rattle.dg_model.specs.declared.replies.Reply.{Reply}
 use Rattle.dg_model.specs.declared.replies.Reply.TheVariants.{Already, Data, Done, Range}
 use Rattle.dg_model.specs.declared.shapes.Shape.{Shape}
+use Rattle.dg_run.specs.Ends.{audit_status}
+use Rattle.dg_run.specs.declared.top.Status.{Status}
+use Rattle.dg_trace.specs.Audits.{audit_text, end_of}
 
 -- what was last written to each block, once block b is written
 abbrev pub put : (ℕ → List ℕ) → ℕ → List ℕ → ℕ → List ℕ
@@ -48,3 +53,8 @@ answers shape out written (event ∷ events) = []
 -- each member tells its bytes
 abbrev pub TellsEach : (ℕ → Option (List ℕ)) → Type 0
 TellsEach bytes = (q : ℕ) → IsSome (bytes q)
+
+-- an audit printed what was found, and ended by it
+pub record HasAudited (found : Option (List Finding)) (taken given : Option (List ℕ)) (status : Status) : Type 0 where
+  pub ended : status ≡ audit_status (Ok (end_of found))
+  pub printed : Told (Took (audit_text found)) taken given

@@ -1,13 +1,16 @@
 // What each command answers where neither the source nor the sink fails.
-ghost use Rattle.std.specs.Prelude.{◌≡◌, ◌⊎◌, List, ℕ, map, IsSome, Result, Some, string_bytes};
+ghost use Rattle.std.specs.Prelude.{◌≡◌, ◌⊎◌, List, ℕ, map, IsSome, Option, Result, Some, string_bytes};
 ghost use Rattle.dg_model.specs.Causes.{Rose};
 ghost use Rattle.dg_model.specs.declared.events.Event.{Event};
+ghost use Rattle.dg_model.specs.declared.findings.Finding.{Finding};
 ghost use Rattle.dg_run.specs.Completes.{answer_status};
 ghost use Rattle.dg_run.specs.Ends.{asked_by};
 ghost use Rattle.dg_run.specs.Replays.{IsInput};
 ghost use Rattle.dg_text.specs.Lines.{input_of};
 ghost use Rattle.dg_trace.specs.Answers.{IsAnswer};
+ghost use Rattle.dg_trace.specs.Audits.{IsAudit};
 ghost use Rattle.dg_trace.specs.declared.asked.TraceRefusal.{TraceRefusal};
+ghost use Rattle.dg_uses.specs.Answers.{HasAudited};
 ghost use Rattle.dg_words.specs.Commands.{IsCommand};
 ghost use Rattle.dg_words.specs.declared.commands.Command.{Command};
 ghost use Rattle.dg_words.specs.declared.commands.Order.{Order};
@@ -46,6 +49,22 @@ pub fn answer_an_image<S: Source, K: Sink, R: Rack>(
         → S.left source.old ≡ Some image → IsSome (S.left source.new)
         → (Rose (S.faults source.old) (S.faults source.new) → ⊥) → (Rose (K.faults sink.old) (K.faults sink.new) → ⊥)
         → (result ≡ answer_status answer) ⊎ (result ≡ Status.NoMemory) }
+{
+    run(alloc, words, source, sink, rack)
+}
+
+/// An image is audited: all that is to be found on it is printed, and the status tells whether a malformation is among it.
+pub fn audit_an_image<S: Source, K: Sink, R: Rack>(
+    alloc: Global,
+    words: &Vec<String>,
+    source: &mut S,
+    sink: &mut K,
+    rack: &mut R,
+) -> Status
+    ensures { IsCommand (map string_bytes words.now.items) Command.Audit → (image : List ℕ) (found : Option (List Finding)) → IsAudit image found
+        → S.left source.old ≡ Some image → IsSome (S.left source.new)
+        → (Rose (S.faults source.old) (S.faults source.new) → ⊥) → (Rose (K.faults sink.old) (K.faults sink.new) → ⊥)
+        → HasAudited found (K.taken sink.old) (K.taken sink.new) result ⊎ (result ≡ Status.NoMemory) }
 {
     run(alloc, words, source, sink, rack)
 }

@@ -13,15 +13,15 @@ mod resumed;
 mod saves;
 mod traced;
 
-pub use answers::{answer_an_image, replay_lines};
+pub use answers::{answer_an_image, audit_an_image, replay_lines};
 pub use blanks::{Answer, find_no_array, refuse_an_empty_image};
 pub use laws::{answers_are_promised, replies_are_a_function, replies_by_views};
 pub use mirrors::reads_past_the_last_block_are_refused;
 pub use promises::cats_keep_their_promise;
 pub use removals::{all_stand_at_first, take_away};
 pub use replays::{
-    Replay, fail_at_the_first_reply, lose_a_block, read_past_a_failure, read_what_was_written,
-    refuse_the_second_line, replay_text,
+    Replay, audit_a_blank_array, fail_at_the_first_reply, lose_a_block, read_past_a_failure,
+    read_what_was_written, refuse_the_second_line, replay_text,
 };
 pub use resumed::resumed_cats_keep_their_promise;
 pub use saves::{

@@ -118,6 +118,18 @@ pub fn lose_a_block(alloc: Global) -> Result<Replay, NoMemory>
     )
 }
 
+/// A blank array is audited: its blocks hold no volume.
+pub fn audit_a_blank_array(alloc: Global) -> Result<Replay, NoMemory>
+    ensures { IfOk result (λ end. end.status ≡ Status.Done → NeverFailed end → taken_in end.sink ≡ codes "ok\nbad magic 0\nend 1\n") }
+{
+    input_is_unique();
+    replay_text(
+        alloc,
+        b"array 1024 64 4 32 2\naudit\n",
+        Vec::new(alloc),
+    )
+}
+
 /// The second line is refused.
 pub fn refuse_the_second_line(alloc: Global) -> Result<Replay, NoMemory>
     ensures { IfOk result (λ end. end.status ≡ Status.BadLine → taken_in end.sink ≡ codes "ok\nline 2 word\n") }
