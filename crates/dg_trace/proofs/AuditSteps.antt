@@ -1,6 +1,6 @@
 -- How an audit of an image ends.
 use Rattle.std.proofs.Common.{◌≡◌, ◌∙◌, ◌+◌, ◌-◌, ◌*◌, ◌≤◌, ◌++◌, ◌∷◌, [], ℕ, Bool, true, false, List, ap, append_assoc, drop, inr, length, map, refl, replicate, subst, sym, take, arith}
-use Rattle.std.specs.Prelude.{IfOk, Option, None, Some, Result, Ok, Err}
+use Rattle.std.specs.Prelude.{Option, None, Some, Result, Ok, Err}
 use Rattle.std.proofs.lemmas.List.FromFn.{get_or-map-range_with_len, length-map-range_with_len}
 use Rattle.dg_io.specs.MemViews.{IsImage}
 use Rattle.dg_io.specs.Told.{Told, Took, TookPart}
@@ -30,7 +30,7 @@ image_blocks g bytes = record {
   number = length-map-range_with_len (λ b. block_in g.fsize bytes b) 0 g.size;
   each = λ b low.
       let size : g.fsize ≡ (b * g.fsize + g.fsize) - b * g.fsize = omega arith in
-      get_or-map-range_with_len (λ c. block_in g.fsize bytes c) 0 g.size b b (replicate g.fsize 0) low refl ∙ ap (λ (k : ℕ). take k (drop (b * g.fsize) bytes)) size;
+      get_or-map-range_with_len (λ c. block_in g.fsize bytes c) 0 g.size b b (replicate g.fsize 0) low (omega arith) ∙ ap (λ (k : ℕ). take k (drop (b * g.fsize) bytes)) size;
 }
 
 -- the lines of all findings
@@ -71,16 +71,10 @@ module _ (image : List ℕ) (lines : List Finding) where
   refused_lines bad is size same = (size, subst (λ (r : Result Geometry BadSuper). AreLinesBy image r lines) (sym is) same)
 
   -- or all that is found on the volume
-  pub volume_told : (g : Geometry) (bytes : List ℕ) → volume_on image ≡ Ok g → IsInSize image → g.size * g.fsize ≤ length image → bytes ≡ volume_bytes g image
-      → TellsFindings g.fsize g.size (blocks_in g bytes) lines → IsAudit image (Some lines)
-  volume_told g bytes is size whole same told = (
+  pub volume_told : (g : Geometry) (bytes : List ℕ) → TellsFindings g.fsize g.size (blocks_in g bytes) lines → bytes ≡ volume_bytes g image → volume_on image ≡ Ok g
+      → IsInSize image → g.size * g.fsize ≤ length image → IsAudit image (Some lines)
+  volume_told g bytes told same is size whole = (
     size,
     subst (λ (r : Result Geometry BadSuper). AreLinesBy image r lines) (sym is)
     (record { has = record { size = size; volume = is }; whole = whole }, subst (λ (l : List ℕ). TellsFindings g.fsize g.size (blocks_in g l) lines) same told),
   )
-
--- ---- results
-
-pub ok_some : {A E : Type 0} (r : Result A E) (P Q : A → Type 0) → ((a : A) → P a → Q a) → IfOk r P → IfOk r Q
-ok_some (Ok a) P Q more h = more a h
-ok_some (Err e) P Q more h = tt

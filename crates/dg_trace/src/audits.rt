@@ -52,10 +52,11 @@ fn volume_lines(alloc: Global, volume: Vec<u8>, g: &Geometry) -> Result<Findings
 {
     let mut levels = Levels::new(alloc, g.fsize)?;
     let mut view = ImageView::new(volume, g.fsize, g.size);
-    match audit(alloc, &mut view, &mut levels)? {
-        Some(found) => lines_of(alloc, &found),
-        None => unreachable!(),
-    }
+    let Some(found) = audit(alloc, &mut view, &mut levels)? else {
+        unreachable!()
+    };
+    let lines = lines_of(alloc, &found)?;
+    Ok(lines)
 }
 
 /// The lines of an audit of an image. There are none where it has a wrong length.
@@ -122,6 +123,12 @@ fn end_of(found: &Option<Findings>) -> AuditEnd
     }
 }
 
+/// The numbers in a slice of bytes are bytes.
+fn are_bytes(image: &[u8])
+    ensures { AreBytes image.now }
+{
+}
+
 /// Audits an image, and prints what was found.
 fn audit_bytes<K: Sink>(alloc: Global, image: Vec<u8>, sink: &mut K) -> Result<AuditEnd, TraceFault>
     ensures ends { EndsAudit image.items (K.taken sink.old) (K.taken sink.new) result }
@@ -130,6 +137,7 @@ fn audit_bytes<K: Sink>(alloc: Global, image: Vec<u8>, sink: &mut K) -> Result<A
     ensures kept { (result ≡ Err TraceFault.Write → ⊥) → K.faults sink.new ≡ K.faults sink.old }
     ensures read { result ≡ Err TraceFault.Read → ⊥ }
 {
+    are_bytes(&image);
     let Ok(found) = image_lines(alloc, image) else {
         return Err(TraceFault::NoMemory);
     };
