@@ -33,7 +33,7 @@ then_parts (Err e) step t is = absurd (not_ok e t is)
 -- ---- the files of blocks
 
 -- numbers above one, each above the one before
-RiseFrom : ℕ → List ℕ → Type 0
+unfoldable pub RiseFrom : ℕ → List ℕ → Type 0
 RiseFrom n [] = Unit {0}
 RiseFrom n (i ∷ is) = (n ≤ i) × RiseFrom (suc i) is
 
@@ -43,7 +43,7 @@ head_or_tail x y ys h = elim (Contains-append_cases (y ∷ []) ys x h) [
   | inr later ↦ inr later
 ]
 
-in_tail : (x y : ℕ) (ys : List ℕ) → Contains ys x → Contains (y ∷ ys) x
+pub in_tail : (x y : ℕ) (ys : List ℕ) → Contains ys x → Contains (y ∷ ys) x
 in_tail x y ys h = Contains-append_right (y ∷ []) ys x h
 
 rise_lower : (n m : ℕ) (is : List ℕ) → n ≤ m → RiseFrom m is → RiseFrom n is
@@ -51,7 +51,7 @@ unfolding RiseFrom
 rise_lower n m [] low rise = tt
 rise_lower n m (i ∷ is) low rise = (let h = rise.0 in omega arith, rise.1)
 
-rise_above : (n x : ℕ) (is : List ℕ) → RiseFrom n is → Contains is x → n ≤ x
+pub rise_above : (n x : ℕ) (is : List ℕ) → RiseFrom n is → Contains is x → n ≤ x
 unfolding RiseFrom
 rise_above n x [] rise has = let low = has.1 in absurd (omega arith)
 rise_above n x (i ∷ is) rise has = elim (head_or_tail x i is has) [
@@ -87,7 +87,7 @@ with_has j x (i ∷ is) has = elim (cases_Bool (j == i)) [
   ]
 ]
 
-files_rise : (wants : List (Option Want)) → RiseFrom 0 (files_in wants)
+pub files_rise : (wants : List (Option Want)) → RiseFrom 0 (files_in wants)
 unfolding RiseFrom
 files_rise [] = tt
 files_rise (None ∷ wants) = files_rise wants
@@ -109,7 +109,7 @@ file_has (Some Stray ∷ wants) i has = let one = file_has wants i has in (suc o
 file_counts : (wants : List (Option Want)) (i : ℕ) → Contains (files_in wants) i → 0 < count_of wants i
 file_counts wants i has = let one = file_has wants i has in block_counts wants one.0 i one.1
 
-rise_filter : (test : ℕ → Bool) (n : ℕ) (is : List ℕ) → RiseFrom n is → RiseFrom n (filter test is)
+pub rise_filter : (test : ℕ → Bool) (n : ℕ) (is : List ℕ) → RiseFrom n is → RiseFrom n (filter test is)
 unfolding RiseFrom
 rise_filter test n [] rise = tt
 rise_filter test n (i ∷ is) rise = elim (cases_Bool (test i)) [
@@ -150,11 +150,11 @@ good_put wants i count s placed some none good = record {
     ]
 
 -- each home that is left has an inode that isn't placed
-abbrev NonePlaced : Placed → List Home → Type 0
+abbrev pub NonePlaced : Placed → List Home → Type 0
 NonePlaced placed [] = Unit {0}
 NonePlaced placed (home ∷ homes) = (home_of placed.homes home.inode ≡ None) × NonePlaced placed homes
 
-none_put : (n i count s : ℕ) (placed : Placed) (homes : List Home) → i ≤ n → AscendFrom n homes → NonePlaced placed homes → NonePlaced (placed_on i count s placed) homes
+pub none_put : (n i count s : ℕ) (placed : Placed) (homes : List Home) → i ≤ n → AscendFrom n homes → NonePlaced placed homes → NonePlaced (placed_on i count s placed) homes
 none_put n i count s placed [] low up none = tt
 none_put n i count s placed (home ∷ homes) low up none = (
   home_others (record { inode = i; boundary = s }) placed.homes home.inode (λ (is : i ≡ home.inode). let high = up.0 in absurd (omega arith)) ∙ none.0,
@@ -184,7 +184,7 @@ good_stays wants (home ∷ homes) placed up none good =
     later [] up = tt
     later (next ∷ homes) up = up.1
 
-none_at_first : (rooms : List ℕ) (homes : List Home) → NonePlaced (record { rooms = rooms; homes = [] }) homes
+pub none_at_first : (rooms : List ℕ) (homes : List Home) → NonePlaced (record { rooms = rooms; homes = [] }) homes
 none_at_first rooms [] = tt
 none_at_first rooms (home ∷ homes) = (refl, none_at_first rooms homes)
 
@@ -217,7 +217,7 @@ good_files wants parents n (i ∷ files) placed new rise some none is good =
     (λ j has. next.1 j (λ (same : i ≡ j). let high = rise_above (suc i) j files rise.1 has in absurd (omega arith)) (none j (in_tail j i files has)))
     parts.2 next.0
 
-not_some : (found : Option ℕ) → not (is_some found) ≡ true → found ≡ None
+pub not_some : (found : Option ℕ) → not (is_some found) ≡ true → found ≡ None
 not_some None h = refl
 not_some (Some s) h = absurd (false≢true h)
 

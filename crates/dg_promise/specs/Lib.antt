@@ -10,3 +10,5 @@ pub mod Chains
 pub mod Readings
 -- Volumes of which some blocks were cut.
 pub mod Uncut
+-- Room for a plan.
+pub mod Rooms

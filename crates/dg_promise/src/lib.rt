@@ -11,6 +11,7 @@ mod orders;
 mod promises;
 mod regroups;
 mod resumes;
+mod rooms;
 mod steady;
 #[cfg(test)]
 mod tests;
@@ -29,4 +30,5 @@ pub use crate::regroups::uncut_files_stay;
 pub use crate::resumes::{
     opened_arrays_are_steady, settled_arrays_keep_their_promise, steady_runs_keep_their_promise,
 };
+pub use crate::rooms::plans_have_room;
 pub use crate::steady::{blank_arrays_are_steady, steps_keep_steady};

@@ -67,7 +67,7 @@ first_high g size (suc n) high = elim (cases_lt n 12) as (λ _. first_halves g s
 
 -- ---- files
 
-ceil_low : (size most : ℕ) → size ≤ 8192 * most → div_ceil size 8192 ≤ most
+pub ceil_low : (size most : ℕ) → size ≤ 8192 * most → div_ceil size 8192 ≤ most
 ceil_low size most low =
     let round : div_ceil size 8192 * 8192 < size + 8192 = (div_ceil_times size 8192 (omega arith)).1 in
     omega (arith, round, low)
@@ -215,7 +215,7 @@ few_files d n few = elim (file_hits d n) as (λ _. hits d (file_parents n) ≤ 2
   | inr none ↦ omega (arith, none)
 ]
 
-few_hits : (d files : ℕ) → files ≤ 2000 → hits d (parent_list files) ≤ 211
+pub few_hits : (d files : ℕ) → files ≤ 2000 → hits d (parent_list files) ≤ 211
 few_hits d files few =
     let rest = few_files d files few in
     let two : (if 2 == d then 1 else 0) ≤ 1 = one_by (2 == d) in
@@ -302,7 +302,7 @@ short_both : (xs ys : List Item) → HaveShort xs → HaveShort ys → HaveShort
 short_both [] ys one other = other
 short_both (x ∷ xs) ys one other = (one.0, short_both xs ys (one.1) other)
 
-all_short : (seed files : ℕ) → HaveShort (drill_items seed files)
+pub all_short : (seed files : ℕ) → HaveShort (drill_items seed files)
 all_short seed files = short_both ten (files_to seed files) (short_range directory_item 0 10 (λ k. omega arith)) (short_range (file_item seed) 0 files (λ k. omega arith))
 
 -- ---- the whole

@@ -40,7 +40,7 @@ inodes_are : (geometry_of_spec drill_spec).ncg * (geometry_of_spec drill_spec).i
 unfolding geometry_of_spec
 inodes_are = refl
 
-item_count : (seed files : ℕ) → length (drill_items seed files) ≡ 10 + files
+pub item_count : (seed files : ℕ) → length (drill_items seed files) ≡ 10 + files
 item_count seed files =
     length-append (map directory_item (range_with_len 0 10)) (map (file_item seed) (range_with_len 0 files))
     ∙ ap (λ (n : ℕ). 10 + n) (length-map (range_with_len 0 files) (file_item seed) ∙ length-range_with_len 0 files)

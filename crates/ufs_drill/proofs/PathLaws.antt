@@ -173,7 +173,7 @@ directory_first (suc (suc (suc (suc (suc (suc (suc (suc zero)))))))) rest low = 
 directory_first (suc (suc (suc (suc (suc (suc (suc (suc (suc zero))))))))) rest low = refl
 directory_first (suc (suc (suc (suc (suc (suc (suc (suc (suc (suc r)))))))))) rest low = absurd (omega arith)
 
-directory_get : (r : ℕ) (rest : List Item) → r < 10 → slice_get (ten ++ rest) r ≡ Some (directory_item r)
+pub directory_get : (r : ℕ) (rest : List Item) → r < 10 → slice_get (ten ++ rest) r ≡ Some (directory_item r)
 directory_get zero rest low = refl
 directory_get (suc zero) rest low = refl
 directory_get (suc (suc zero)) rest low = refl

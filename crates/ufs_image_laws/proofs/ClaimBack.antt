@@ -30,7 +30,7 @@ use Rattle.ufs_image_laws.proofs.ZoneLaws.{sizes}
 
 -- ---- fragments at an address
 
-from_contains : (a k f : ℕ) → a ≤ f → f < a + k → Contains (fragments_from a k) f
+pub from_contains : (a k f : ℕ) → a ≤ f → f < a + k → Contains (fragments_from a k) f
 from_contains a zero f low high = absurd (omega arith)
 from_contains a (suc k) f low high = elim (cases_eq a f) as (λ _. Contains (fragments_from a (suc k)) f) [
   | inl same ↦ Contains-append_left (a ∷ []) (fragments_from (suc a) k) f (0, (let z : 0 < 1 = omega arith in z), same)

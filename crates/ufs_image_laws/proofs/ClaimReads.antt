@@ -426,7 +426,7 @@ HasOne g nodes files k f =
     (node : Node) × (addresses : Addresses) × (level : ℕ) × (index : ℕ) × (slice_get nodes k ≡ Some node) × (slice_get files k ≡ Some addresses) × (level < 4)
     × HasFragment g (length node.bytes) addresses level index f
 
-same_file : (g : Geometry) (nodes : List Node) (files : List Addresses) (before after : List Bool) (f i j : ℕ) → length before ≡ g.size → ArePlaced g nodes files before after
+pub same_file : (g : Geometry) (nodes : List Node) (files : List Addresses) (before after : List Bool) (f i j : ℕ) → length before ≡ g.size → ArePlaced g nodes files before after
     → HasOne g nodes files i f → HasOne g nodes files j f → i ≡ j
 same_file g [] files before after f i j long placed one other = absurd (cc (one.4))
 same_file g (first ∷ nodes) [] before after f i j long placed one other = absurd (cc (one.5))
@@ -495,7 +495,7 @@ sources_same g k addresses level index one other (inl x) (inr q) = absurd (no_po
 sources_same g k addresses level index one other (inr p) (inl y) = absurd (no_pointer g addresses level index (y.0) one (y.2) p)
 sources_same g k addresses level index one other (inr p) (inr q) = pointers_same g addresses level index one other p q
 
-one_of : (g : Geometry) (nodes : List Node) (all : AllPlaced) (f : ℕ) (source : ClaimSource) (is : IsFiles g nodes all f source) → HasOne g nodes all.files is.k f
+pub one_of : (g : Geometry) (nodes : List Node) (all : AllPlaced) (f : ℕ) (source : ClaimSource) (is : IsFiles g nodes all f source) → HasOne g nodes all.files is.k f
 one_of g nodes all f source is = let file = is.file in (is.node, is.addresses, is.level, is.index, file.node_is, file.addresses_are, is.below_four, is.has)
 
 -- the files of two claims on a fragment are one, and so are their sources

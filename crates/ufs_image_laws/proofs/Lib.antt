@@ -37,3 +37,4 @@ pub mod SuperReads
 pub mod TreeLaws
 pub mod VolumeLaws
 pub mod ZoneLaws
+mod OwnerLaws

@@ -5,3 +5,4 @@ pub mod Addresses
 pub mod Claims
 pub mod Lines
 pub mod Rooms
+pub mod Owners

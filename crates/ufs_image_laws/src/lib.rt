@@ -8,6 +8,7 @@ mod directories;
 mod files;
 mod groups;
 mod inodes;
+mod owners;
 mod parts;
 mod paths;
 mod rooms;
@@ -19,6 +20,7 @@ pub use crate::directories::built_directories_have_their_entries;
 pub use crate::files::{built_blocks_are_found, built_files_have_their_contents};
 pub use crate::groups::built_groups_are_read;
 pub use crate::inodes::{built_inodes_are_read, files_of_items, other_inodes_are_unallocated};
+pub use crate::owners::built_fragments_belong_to_files;
 pub use crate::parts::{built_volumes_are_made_of_parts, parts_are_apart};
 pub use crate::paths::{
     built_directories_are_listed, built_files_are_read, built_paths_lead_to_their_items,
