@@ -1,7 +1,7 @@
 // The runs of a client that concludes from the clauses of `run` what they print.
 use dg_run::Status;
 use dg_uses::{
-    fail_at_the_first_reply, find_no_array, lose_a_block, read_past_a_failure,
+    audit_a_blank_array, fail_at_the_first_reply, find_no_array, lose_a_block, read_past_a_failure,
     read_what_was_written, refuse_an_empty_image, refuse_the_second_line,
 };
 use std::test::Fail;
@@ -27,6 +27,14 @@ fn a_block_is_lost(rt: HostRuntime) -> Result<(), Fail> {
     let end = lose_a_block(rt.alloc())?;
     assert_eq!(rt; end.status, Status::Done);
     assert!(rt; end.sink.taken() == "ok\nok\nok\nok\nunavailable\ndegraded\n".as_bytes());
+    Ok(())
+}
+
+#[test]
+fn a_blank_array_is_audited(rt: HostRuntime) -> Result<(), Fail> {
+    let end = audit_a_blank_array(rt.alloc())?;
+    assert_eq!(rt; end.status, Status::Done);
+    assert!(rt; end.sink.taken() == "ok\nbad magic 0\nend 1\n".as_bytes());
     Ok(())
 }
 

@@ -38,8 +38,13 @@ pub findings_told : (l n : ℕ) (v : Volume) (found : Findings) (lines : List Fi
     → lines ≡ map bad_line found.bad.items ++ (map Unnamed found.notes.unnamed.items ++ map Unclaimed found.notes.unclaimed.items)
     → AreFindings l n v found.bad.items found.notes.unnamed.items found.notes.unclaimed.items → TellsFindings l n v lines
 findings_told l n v found lines is are =
-    record { bad = found.bad.items; unnamed = found.notes.unnamed.items; unclaimed = found.notes.unclaimed.items;
-  is = is ∙ sym (append_assoc (map bad_line found.bad.items) (map Unnamed found.notes.unnamed.items) (map Unclaimed found.notes.unclaimed.items)); are = are }
+    record {
+      bad = found.bad.items;
+      unnamed = found.notes.unnamed.items;
+      unclaimed = found.notes.unclaimed.items;
+      is = is ∙ sym (append_assoc (map bad_line found.bad.items) (map Unnamed found.notes.unnamed.items) (map Unclaimed found.notes.unclaimed.items));
+      are = are;
+    }
 
 module _ (image : List ℕ) (x y : Option (List ℕ)) where
   lines_end : (lines : List Finding) (bad : Bool) → has_bad lines ≡ bad → IsAudit image (Some lines) → Told (Took (audit_text (Some lines))) x y → EndsAudit image x y (Ok (end_by bad))
@@ -76,5 +81,5 @@ module _ (image : List ℕ) (lines : List Finding) where
   volume_told g bytes told same is size whole = (
     size,
     subst (λ (r : Result Geometry BadSuper). AreLinesBy image r lines) (sym is)
-    (record { has = record { size = size; volume = is }; whole = whole }, subst (λ (l : List ℕ). TellsFindings g.fsize g.size (blocks_in g l) lines) same told),
+        (record { has = record { size = size; volume = is }; whole = whole }, subst (λ (l : List ℕ). TellsFindings g.fsize g.size (blocks_in g l) lines) same told),
   )

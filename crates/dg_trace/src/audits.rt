@@ -126,8 +126,7 @@ fn end_of(found: &Option<Findings>) -> AuditEnd
 /// The numbers in a slice of bytes are bytes.
 fn are_bytes(image: &[u8])
     ensures { AreBytes image.now }
-{
-}
+{}
 
 /// Audits an image, and prints what was found.
 fn audit_bytes<K: Sink>(alloc: Global, image: Vec<u8>, sink: &mut K) -> Result<AuditEnd, TraceFault>

@@ -1,4 +1,4 @@
-//! Tests of the command `trace`. They stand apart from the crate, so that both are proved side by side, and it only once.
+//! Tests of the commands `trace` and `audit` over an image. They stand apart from the crate, so that both are proved side by side, and it only once.
 #![tactic(auto)]
 
 #[cfg(test)]

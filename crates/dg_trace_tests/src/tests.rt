@@ -1,7 +1,7 @@
 ghost use Rattle.std.specs.Prelude.{None};
 
 use dg_io::{Failed, MemSink, MemSource, Source};
-use dg_trace::{Asked, TraceEnd, TraceFault, TraceRefusal, write_trace};
+use dg_trace::{Asked, AuditEnd, TraceEnd, TraceFault, TraceRefusal, audit_image, write_trace};
 use dg_words::Order;
 use std::alloc::Global;
 use std::test::Fail;
@@ -108,6 +108,59 @@ fn faults_of_the_sink_are_told(rt: HostRuntime) -> Result<(), Fail> {
     }
     let mut sink = sink_of(alloc, &[0])?;
     let end = trace_with(alloc, b"", &[], &mut sink)?;
+    assert_eq!(rt; end, Err(TraceFault::Write));
+    assert!(rt; sink.taken().is_empty());
+    Ok(())
+}
+
+/// Audits an image, whose source fails at these of its calls.
+fn audit_with(
+    alloc: Global,
+    image: &[u8],
+    source_fails: &[u64],
+    sink: &mut MemSink,
+) -> Result<Result<AuditEnd, TraceFault>, Fail> {
+    let image = Vec::from_slice(alloc, image)?;
+    let mut source = MemSource::new(image, Vec::from_slice(alloc, source_fails)?);
+    Ok(audit_image(alloc, &mut source, sink))
+}
+
+/// The magic number of the volume's superblock stands at byte 9564.
+#[test]
+fn an_image_is_audited(rt: HostRuntime) -> Result<(), Fail> {
+    let alloc = rt.alloc();
+    let mut image = image_of(alloc)?;
+    let mut sink = sink_of(alloc, &[])?;
+    let end = audit_with(alloc, &image, &[], &mut sink)?;
+    assert_eq!(rt; end, Ok(AuditEnd::Sound));
+    assert!(rt; sink.taken() == b"end 0\n".as_slice());
+    let mut sink = sink_of(alloc, &[])?;
+    let end = audit_with(alloc, b"", &[], &mut sink)?;
+    assert_eq!(rt; end, Ok(AuditEnd::Length));
+    assert!(rt; sink.taken() == b"bad length\n".as_slice());
+    if let Some(byte) = image.get_mut(9564) {
+        *byte = 0;
+    }
+    let mut sink = sink_of(alloc, &[])?;
+    let end = audit_with(alloc, &image, &[], &mut sink)?;
+    assert_eq!(rt; end, Ok(AuditEnd::Malformed));
+    assert!(rt; sink.taken() == b"bad magic 0\nend 1\n".as_slice());
+    Ok(())
+}
+
+/// An image is read by three calls, and each of its lines is written by one.
+#[test]
+fn faults_of_an_audit_are_told(rt: HostRuntime) -> Result<(), Fail> {
+    let alloc = rt.alloc();
+    let image = image_of(alloc)?;
+    for call in 0..3 {
+        let mut sink = sink_of(alloc, &[])?;
+        let end = audit_with(alloc, &image, &[call], &mut sink)?;
+        assert_eq!(rt; end, Err(TraceFault::Read));
+        assert!(rt; sink.taken().is_empty());
+    }
+    let mut sink = sink_of(alloc, &[0])?;
+    let end = audit_with(alloc, &image, &[], &mut sink)?;
     assert_eq!(rt; end, Err(TraceFault::Write));
     assert!(rt; sink.taken().is_empty());
     Ok(())

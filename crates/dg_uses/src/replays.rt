@@ -123,11 +123,7 @@ pub fn audit_a_blank_array(alloc: Global) -> Result<Replay, NoMemory>
     ensures { IfOk result (λ end. end.status ≡ Status.Done → NeverFailed end → taken_in end.sink ≡ codes "ok\nbad magic 0\nend 1\n") }
 {
     input_is_unique();
-    replay_text(
-        alloc,
-        b"array 1024 64 4 32 2\naudit\n",
-        Vec::new(alloc),
-    )
+    replay_text(alloc, b"array 1024 64 4 32 2\naudit\n", Vec::new(alloc))
 }
 
 /// The second line is refused.
