@@ -7,9 +7,9 @@ use Rattle.dg_model.specs.Runs.{Run}
 use Rattle.dg_model.specs.States.{Counts, State}
 use Rattle.dg_model.specs.Steps.{Step}
 use Rattle.dg_model.specs.declared.events.Event.{Event}
-use Rattle.dg_model.specs.declared.events.Event.TheVariants.{Write, Read, Fail, Replace, Rebuild, Settle, Tend, Diffuse, Who, Pending, Cat, Ls, Tree, Home, Save}
+use Rattle.dg_model.specs.declared.events.Event.TheVariants.{Write, Read, Fail, Replace, Rebuild, Settle, Tend, Diffuse, Who, Pending, Cat, Ls, Tree, Home, Save, Audit}
 use Rattle.dg_model.specs.declared.replies.Reply.{Reply}
-use Rattle.dg_model.specs.declared.replies.Reply.TheVariants.{Done, Range, Degraded, Unavailable, Already, Lost, NotOut, Failed, NotFilling, Copied, Settled, Malformed, NoSpace, Tended, Diffused, NotSettled, Verdict, Blocks, Data, Given, Cut, Listed, ListedCut, Nodes, NodesCut, Refused, HomeAt, NoHome, Saved, NotSaved}
+use Rattle.dg_model.specs.declared.replies.Reply.TheVariants.{Done, Range, Degraded, Unavailable, Already, Lost, NotOut, Failed, NotFilling, Copied, Settled, Malformed, NoSpace, Tended, Diffused, NotSettled, Verdict, Blocks, Data, Given, Cut, Listed, ListedCut, Nodes, NodesCut, Refused, HomeAt, NoHome, Saved, NotSaved, Audited}
 use Rattle.dg_model.specs.declared.shapes.Shape.{Shape}
 use Rattle.dg_text.specs.Lines.{IsInPlace}
 
@@ -102,6 +102,9 @@ step_beyond Known shape old Save (Lost s) new placed h = h.1.passes.faults.beyon
 step_beyond Known shape old Save (Saved sequence) new placed h = h.passes.faults.beyond
 step_beyond Known shape old Save NotSaved new placed h = beyond_same old new h.1
 step_beyond Known shape old Save reply new placed h = absurd h
+step_beyond Known shape old Audit (Audited findings) new placed h = h.1.goes.passes.faults.beyond
+step_beyond Known shape old Audit Unavailable new placed h = h.1.goes.passes.faults.beyond
+step_beyond Known shape old Audit reply new placed h = absurd h
 step_beyond Known shape old event reply new placed h = absurd placed
 
 -- an event in its place takes no boundary out of use
@@ -121,6 +124,7 @@ placed_stays shape (Ls path) reply placed = tt
 placed_stays shape Tree reply placed = tt
 placed_stays shape (Home path) reply placed = tt
 placed_stays shape Save reply placed = tt
+placed_stays shape Audit reply placed = tt
 placed_stays shape event reply placed = absurd placed
 
 pub placed_stay : (shape : Shape) (events : List Event) (replies : List Reply) → All (IsInPlace (Some shape)) events → StayInUse events replies
