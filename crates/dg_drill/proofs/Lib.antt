@@ -11,4 +11,5 @@ mod MadeLaws
 mod MemberSteps
 mod OrderLaws
 mod ReadLaws
+mod RoomSteps
 mod WriteCounts

@@ -1,12 +1,12 @@
 -- A drill without faults, step by step: what its states keep, and what each reading answers.
-use Rattle.std.proofs.Common.{◌≡◌, ◌≢◌, ◌⊎◌, ◌<◌, ◌≤◌, ◌+◌, ◌*◌, ◌/◌, ◌%◌, ◌++◌, ◌==◌, ℕ, zero, suc, Bool, true, false, cond, List, [], ◌∷◌, length, refl, sym, ◌∙◌, ap, subst, inl, inr, arith}
+use Rattle.std.proofs.Common.{◌≡◌, ◌≢◌, ◌<◌, ◌≤◌, ◌+◌, ◌*◌, ◌/◌, ◌%◌, ◌++◌, ◌==◌, ℕ, zero, suc, Bool, true, false, cond, List, [], ◌∷◌, length, refl, sym, ◌∙◌, ap, subst, inl, inr, arith}
 use Rattle.std.specs.Prelude.{All, IsNone, IsSomeAnd, Option, Some, None, Result, Ok, Err, count_by, map, replicate, slice_set}
 use Rattle.std.specs.List.{list_any, range_with_len}
 use Rattle.std.proofs.lemmas.Bool.Decides.{nat_tests}
 use Rattle.std.proofs.lemmas.List.Sums.{sum_by-cons}
 use Rattle.std.proofs.lemmas.Bool.{cases_lt, eq-eqb, le-ltb, lt-ltb, false≢true}
 use Rattle.dg_model.specs.Causes.{NoneRose}
-use Rattle.dg_model.specs.Changes.{IsInOrder, IsLeastLostIn, Stays}
+use Rattle.dg_model.specs.Changes.{IsCramped, IsInOrder, IsLeastLostIn, Stays}
 use Rattle.dg_model.specs.Homes.{home_of}
 use Rattle.dg_model.specs.Lives.{all_live, place_in}
 use Rattle.dg_model.specs.Marks.{is_marked}
@@ -520,16 +520,16 @@ settle_keeps old new s fine none h =
         let low : place_of state s < 4 = subst (λ (x : Shape). place_of state s < x.b) shape least.within in
         false≢true (sym (none_lost state.members (place_of state s) act low) ∙ least.lost)
 
--- so of a sound volume it is done, unless there is no room
+-- so of a sound volume it is done, where there is room
 pub settle_ends : (written settled : State) (reply : Reply) → IsFine good_member written → NoneRose written.counts.faults settled.counts.faults
-    → IsSoundVolume 1024 32768 written.blocks → Step AreTold written Settle reply settled → (reply ≡ Settled) ⊎ ((bad : NoRoom) × (reply ≡ NoSpace bad))
-settle_ends written settled Settled fine none sound h = inl refl
-settle_ends written settled (NoSpace bad) fine none sound h = inr (bad, refl)
-settle_ends written settled (Lost s) fine none sound h = absurd (settle_keeps written settled s fine none h)
-settle_ends written settled (Malformed kind n) fine none sound h =
+    → IsSoundVolume 1024 32768 written.blocks → ((bad : NoRoom) → IsCramped AreTold written bad → ⊥) → Step AreTold written Settle reply settled → reply ≡ Settled
+settle_ends written settled Settled fine none sound room h = refl
+settle_ends written settled (NoSpace bad) fine none sound room h = absurd (room bad h.3)
+settle_ends written settled (Lost s) fine none sound room h = absurd (settle_keeps written settled s fine none h)
+settle_ends written settled (Malformed kind n) fine none sound room h =
     let least = h.2 tt in
     absurd (sound kind n (subst (λ (x : Shape). IsMalformed x.l x.n written.blocks kind n) fine.shape least.here))
-settle_ends written settled reply fine none sound h = absurd h
+settle_ends written settled reply fine none sound room h = absurd h
 
 module _ (kept : KeepSteady) (promise : KeepPromise) (stands : LoseNone) (blank_steady : BlankSteady) where
   -- the losses and the readings

@@ -1,13 +1,17 @@
-use Rattle.std.proofs.Common.{◌≤◌, ◌++◌, ℕ, refl, subst, sym}
+use Rattle.std.proofs.Common.{◌≡◌, ◌≤◌, ◌++◌, ◌∷◌, ℕ, refl, subst, sym}
 use Rattle.std.specs.Prelude.{length}
 use Rattle.dg_drill.proofs.BlockLaws.{stripped_within}
 use Rattle.dg_drill.proofs.GivenLaws.{drill_gives, few_items, size_is, volume_held}
 use Rattle.dg_drill.proofs.LossSteps.{ends_in_use, settle_ends, written_fine}
 use Rattle.dg_drill.proofs.MadeLaws.{built_length, spec_numbers}
-use Rattle.dg_drill.specs.Drills.{loss_events, read_events}
+use Rattle.dg_drill.proofs.RoomSteps.{IsLight, never_cramped}
+use Rattle.dg_drill.specs.Drills.{later_events, loss_events, read_events}
+use Rattle.dg_drill.specs.Volumes.{drill_shape}
 use Rattle.dg_model.proofs.MemberLaws.{none_front}
 use Rattle.dg_model.proofs.StepLaws.{run_keeps}
 use Rattle.dg_model.specs.Blocks.{stripped}
+use Rattle.dg_model.specs.Runs.{Run}
+use Rattle.dg_model.specs.declared.replies.Reply.{Reply}
 use Rattle.dg_model.specs.declared.replies.Reply.TheVariants.{Settled}
 use Rattle.dg_promise.specs.Promises.{AreTold}
 use Rattle.dg_words.specs.declared.commands.Order.TheVariants.{Late}
@@ -31,10 +35,17 @@ returns-clause-settled c = λ before seed files g image writes losses cats reply
     (c.built_volumes_are_sound.ensures drill_spec (drill_items seed files) image is.image_is refl (few_items seed files few)) in
     let rest = (run_keeps AreTold run.0 (loss_events seed ++ read_events files) (losses ++ cats) final (ends_in_use seed files (losses ++ cats)) run.2).counts.faults in
     let here = none_front written.counts.faults run.0.counts.faults final.counts.faults rest at.later in
-    settle_ends written run.0 reply at.fine here sound run.1
+    let shape : written.table.shape ≡ drill_shape = at.fine.shape in
+    let light : IsLight written.blocks = subst IsLight (sym blocks) (record {
+      kept = c.drills_have_few_blocks.ensures.kept seed files image few is.image_is;
+      files = c.drills_have_few_blocks.ensures.files seed files image few is.image_is;
+    }) in
+    settle_ends written run.0 reply at.fine here sound (λ bad cramped. never_cramped c.plans_have_room.ensures written bad shape at.fine.steady.homes light cramped) run.1
 
 pub returns-clause-given : goal.returns-clause-given
-returns-clause-given c = λ before seed files g image writes losses cats written final few is led run number none.
+returns-clause-given c = λ before seed files g image writes losses cats reply written final few is led any number none.
+    let settled : reply ≡ Settled = returns-clause-settled c before seed files g image writes losses cats reply written final few is led any number none in
+    let run = subst (λ (r : Reply). Run AreTold written (later_events seed files) (r ∷ (losses ++ cats)) final) settled any in
     let numbers = spec_numbers c.accepted_superblocks.ensures drill_spec g is.geometry_is in
     let short : (b : ℕ) → length (stripped (block_in g.fsize image b)) ≤ 1024 =
     λ b. subst (λ (l : ℕ). length (stripped (block_in g.fsize image b)) ≤ l) numbers.fsize (stripped_within g.fsize image b) in
