@@ -5,7 +5,7 @@ use Rattle.std.proofs.lemmas.Bool.{cases_eq, cases_Bool, and_parts}
 use Rattle.dg_io.specs.declared.outside.Rack.{Ghosts}
 use Rattle.dg_parity.specs.Exclusive.{xor_upto, with_at}
 use Rattle.dg_parity.specs.Stripes.{InStripes, IsClear, IsEven, member_by, made_up, spot_of}
-use Rattle.dg_parity.specs.Groups.{disk_number, is_out, is_lost, is_sure, disk_in, AllTold, Holds, IsReady, StandsFor}
+use Rattle.dg_parity.specs.Groups.{disk_number, is_out, is_lost, is_sure, disk_in, AllTold, AreNumbered, Holds, IsReady, StandsFor}
 use Rattle.dg_parity.specs.Kept.{all_upto, all_told, made_by, IsKept}
 use Rattle.dg_parity.specs.declared.groups.Group.{Group}
 use Rattle.dg_parity.proofs.ExclusiveLemmas.{xor-same, xor-others, with-same, with-other}
@@ -71,9 +71,10 @@ stands-clear rack group now bytes alive h b behind range =
 
 -- what is kept of a group that stands for some bytes
 pub kept-of : {S : Type 0} (rack : Ghosts S) (group : Group) (now : S) (bytes : List ℕ) → (is_lost group ≡ false → IsReady rack group now)
-    → (is_lost group ≡ false → AllTold rack group now → StandsFor rack group now bytes) → IsKept rack group now
-kept-of rack group now bytes ready stands = record {
+    → (is_lost group ≡ false → AreNumbered rack group now) → (is_lost group ≡ false → AllTold rack group now → StandsFor rack group now bytes) → IsKept rack group now
+kept-of rack group now bytes ready numbers stands = record {
   ready = ready;
+  numbers = numbers;
   even = λ in0 all. stands-even rack group now bytes in0 (stands in0 all);
   clear = λ in0 all. stands-clear rack group now bytes in0 (stands in0 all);
 }

@@ -72,6 +72,7 @@ pub fn extend<R: Rack>(group: &mut Group, rack: &mut R, size: u64) -> bool
     ensures cause { (j : ℕ) → j < group.old.disks → is_out group.old j ≡ false → is_out group.new j ≡ true
         → Rose ((R.counts rack.old).faults (disk_number group.old.number j)) ((R.counts rack.new).faults (disk_number group.old.number j)) }
     ensures still { IsStill group.old group.new }
+    ensures telling { group.old.told ≡ true → is_lost group.new ≡ false → group.new.told ≡ true }
     ensures silent { is_lost group.old ≡ false → is_lost group.new ≡ true → group.new.told ≡ false }
     ensures leaves { LeavesOthers R.Rack group.old rack.old rack.new }
     ensures calls { MostCalls R.Rack (3 * group.old.disks) rack.old rack.new }

@@ -3,7 +3,7 @@ ghost use Rattle.std.specs.Prelude.{◌≡◌, ◌≢◌, ◌⊎◌, ◌↔◌, 
 ghost use Rattle.std.specs.Bool.{OnTrue, OnFalse};
 ghost use Rattle.dg_model.specs.Causes.{Rose};
 ghost use Rattle.dg_io.specs.Told.{Told, IsSame, Reads, Patched, Torn, patch};
-ghost use Rattle.dg_parity.specs.Groups.{is_lost, in_of, FellOne, IsReady, AllTold, LeavesGroup, StandsFor, MostCalls, KeepsMember};
+ghost use Rattle.dg_parity.specs.Groups.{is_lost, is_out, in_of, FellOne, IsReady, AllTold, LeavesGroup, StandsFor, MostCalls, KeepsMember};
 ghost use Rattle.dg_parity.specs.Runs.{passes_in};
 ghost use Rattle.dg_parity.specs.Kept.{bytes_in, calls_to_read, calls_to_write, IsKept};
 
@@ -118,6 +118,7 @@ pub(crate) fn write_told<R: Rack>(group: &mut Group, rack: &mut R, place: u64, p
     ensures alive { OnTrue result (is_lost group.new ≡ false) }
     ensures fails { OnFalse result ((is_lost group.new ≡ true) ⊎ (group.old.length < place + length piece.now)) }
     ensures noted { OnTrue result (group.new.noted ≡ true) }
+    ensures noted_on { group.old.noted ≡ true → is_lost group.new ≡ false → group.new.noted ≡ true }
     ensures raised { OnTrue result (group.old.noted ≡ false → Rose group.old.epoch group.new.epoch) }
     ensures ok { OnTrue result (Told (Patched place piece.now) (bytes_in R.Rack group.old rack.old) (bytes_in R.Rack group.new rack.new)) }
     ensures err { OnFalse result (Told (Torn place (length piece.now)) (bytes_in R.Rack group.old rack.old) (bytes_in R.Rack group.new rack.new)) }
@@ -145,9 +146,11 @@ pub fn read<R: Rack>(group: &mut Group, rack: &mut R, place: u64, buf: &mut [u8]
     ensures noted { group.old.noted ≡ true → is_lost group.new ≡ false → group.new.noted ≡ true }
     ensures ok { OnTrue result (Told (Reads place buf.new) (bytes_in R.Rack group.old rack.old) (bytes_in R.Rack group.new rack.new)) }
     ensures same { Told IsSame (bytes_in R.Rack group.old rack.old) (bytes_in R.Rack group.new rack.new) }
-    ensures quiet { OnTrue result (group.new ≡ group.old → MostCalls R.Rack (in_of group.old * passes_in group.old.disks place (length buf.old)) rack.old rack.new) }
+    ensures quiet { OnTrue result (((j : ℕ) → is_out group.old j ≡ false → is_out group.new j ≡ false)
+        → MostCalls R.Rack (in_of group.old * passes_in group.old.disks place (length buf.old)) rack.old rack.new) }
     ensures calls { MostCalls R.Rack (calls_to_read group.old.disks place (length buf.old)) rack.old rack.new }
     ensures silent { is_lost group.old ≡ false → is_lost group.new ≡ true → group.new.told ≡ false }
+    ensures telling { group.old.told ≡ true → is_lost group.new ≡ false → group.new.told ≡ true }
 {
     if group.is_lost() {
         return false;
@@ -168,11 +171,13 @@ pub fn write<R: Rack>(group: &mut Group, rack: &mut R, place: u64, piece: &[u8])
     ensures alive { OnTrue result (is_lost group.new ≡ false) }
     ensures fails { OnFalse result ((is_lost group.new ≡ true) ⊎ (group.old.length < place + length piece.now)) }
     ensures noted { OnTrue result (group.new.noted ≡ true) }
+    ensures noted_on { group.old.noted ≡ true → is_lost group.new ≡ false → group.new.noted ≡ true }
     ensures raised { OnTrue result (group.old.noted ≡ false → Rose group.old.epoch group.new.epoch) }
     ensures ok { OnTrue result (Told (Patched place piece.now) (bytes_in R.Rack group.old rack.old) (bytes_in R.Rack group.new rack.new)) }
     ensures err { OnFalse result (Told (Torn place (length piece.now)) (bytes_in R.Rack group.old rack.old) (bytes_in R.Rack group.new rack.new)) }
     ensures calls { MostCalls R.Rack (calls_to_write group.old.disks place (length piece.now)) rack.old rack.new }
     ensures silent { is_lost group.old ≡ false → is_lost group.new ≡ true → group.new.told ≡ false }
+    ensures telling { group.old.told ≡ true → is_lost group.new ≡ false → group.new.told ≡ true }
 {
     if group.is_lost() {
         return false;

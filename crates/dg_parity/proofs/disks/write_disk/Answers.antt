@@ -1,5 +1,5 @@
 use Rattle.std.proofs.Common.{sym, ◌∙◌}
-use Rattle.dg_parity.proofs.GroupLemmas.{Marks, failed-at, write-done-at}
+use Rattle.dg_parity.proofs.GroupLemmas.{Marks, failed-at, number-behind, write-done-at}
 use Rattle.dg_parity.proofs.CallLemmas.{put-failed-at, put-done-at}
 use Rattle.dg_parity.proofs.disks.write_disk.Goals as goal
 
@@ -19,6 +19,8 @@ pub returns-in-Ok-clause-leaves : goal.returns-in-Ok-clause-leaves
 returns-in-Ok-clause-leaves g c =
     write-done-at g.R.Rack c.args.group.now c.args.j c.disk.result c.args.place c.args.piece.now c.in-Ok.field-0 c.args.rack.now c.write.new.self c.disk.ensures c.requires.disk
     (sym c.is_out.ensures ∙ c.if-is_out.false) c.in-Ok.ensures.leaves c.requires.ready (λ noted. c.requires.behind) c.requires.below c.in-Ok.ensures.ok
+    (number-behind g.R.Rack c.args.group.now c.args.j c.disk.result c.args.place c.args.piece.now c.args.rack.now c.write.new.self c.disk.ensures c.requires.disk
+    (sym c.is_out.ensures ∙ c.if-is_out.false) c.requires.ready c.requires.behind c.requires.below c.in-Ok.ensures.ok)
 
 pub returns-in-Ok-clause-holds : goal.returns-in-Ok-clause-holds
 returns-in-Ok-clause-holds g c has all held =

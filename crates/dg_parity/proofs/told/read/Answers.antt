@@ -5,7 +5,7 @@ use Rattle.dg_parity.specs.declared.groups.Group.{Group}
 use Rattle.dg_parity.proofs.told.read.Goals as goal
 
 pub returns-clause-quiet : goal.returns-clause-quiet
-returns-clause-quiet g c same = elim c.if-not-read_told.ensures.steady [
+returns-clause-quiet g c none = elim c.if-not-read_told.ensures.steady [
   | inl still ↦ still.1
-  | inr fell ↦ absurd (false≢true (sym fell.before ∙ ap (λ (k : Group). is_out k fell.disk) (sym same) ∙ fell.now))
+  | inr fell ↦ absurd (false≢true (sym (none fell.disk fell.before) ∙ fell.now))
 ]

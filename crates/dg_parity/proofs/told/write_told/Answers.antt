@@ -1,6 +1,7 @@
 use Rattle.std.proofs.Common.{ℕ, List, refl, sym, ◌∙◌}
 use Rattle.dg_io.specs.Told.{Patched, patch}
 use Rattle.std.proofs.lemmas.Bool.{false≢true}
+use Rattle.dg_parity.proofs.GroupLemmas.{leaves-silent, lost-of}
 use Rattle.dg_parity.proofs.MemberSteps.{not-true}
 use Rattle.dg_parity.proofs.KeptSteps.{kept-along, told-along}
 use Rattle.dg_parity.proofs.told.write_told.Goals as goal
@@ -21,3 +22,11 @@ returns-clause-silent g c lost = absurd (false≢true (sym (not-true _ c.if-not-
 
 pub returns-then-not-is_inside-clause-silent : goal.returns-then-not-is_inside-clause-silent
 returns-then-not-is_inside-clause-silent g c lost = absurd (false≢true (sym c.requires.alive ∙ lost))
+
+pub returns-then-not-write_noted-clause-leaves : goal.returns-then-not-write_noted-clause-leaves
+returns-then-not-write_noted-clause-leaves g c =
+    leaves-silent g.R.Rack c.args.group.now c.write_noted.new.group c.args.rack.now c.write_noted.new.rack (lost-of _ (sym c.write_noted.ensures.alive ∙ c.if-not-write_noted.true)) c.write_noted.ensures.leaves
+
+pub returns-then-not-write_noted-clause-noted_on : goal.returns-then-not-write_noted-clause-noted_on
+returns-then-not-write_noted-clause-noted_on g c noted alive =
+    absurd (false≢true (sym alive ∙ lost-of _ (sym c.write_noted.ensures.alive ∙ c.if-not-write_noted.true)))

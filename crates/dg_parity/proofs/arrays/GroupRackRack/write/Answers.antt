@@ -7,7 +7,7 @@ use Rattle.dg_model.specs.Causes.{RoseByOne}
 use Rattle.dg_parity.proofs.ArraySteps.{err_on, held_after, leaves_grouped, made_grouped, tally_of}
 use Rattle.dg_parity.specs.ArrayCalls.{writes_of}
 use Rattle.dg_parity.specs.Groups.{MostCalls}
-use Rattle.dg_parity.specs.Arrays.{group_at, Grouped, GroupedMade, grouped_bytes, grouped_words, IsShaped, serves, size_at}
+use Rattle.dg_parity.specs.Arrays.{group_at, Grouped, GroupedMade, grouped_bytes, grouped_words, IsShaped, serves, size_at, GoesOn}
 use Rattle.dg_parity.proofs.arrays.GroupRackRack.write.Goals as goal
 
 pub write_at-result-requires : goal.write_at-result-requires
@@ -87,3 +87,7 @@ pub returns-clause-calls : goal.returns-clause-calls
 returns-clause-calls g c =
     subst (λ (s : Grouped g.row.R.Denot). MostCalls g.R.Rack (writes_of (group_at s.groups c.args.member) c.args.place (length c.args.buf.now)) s.rack c.write_at-result.new.rack) c.self.view_is
     c.write_at-result.ensures.calls
+
+pub returns-clause-goes_on : goal.returns-clause-goes_on
+returns-clause-goes_on g c =
+    subst (λ (s : Grouped g.row.R.Denot). GoesOn g.R.Rack s.groups c.write_at-result.new.groups.items s.rack c.write_at-result.new.rack) c.self.view_is c.write_at-result.ensures.goes_on
