@@ -1,6 +1,6 @@
 -- What a group left on its disks is what the next opening makes of them.
-use Rattle.std.proofs.Common.{◌≡◌, ◌≢◌, ◌⊎◌, ℕ, zero, suc, ◌+◌, ◌*◌, ◌/◌, ◌%◌, ◌<◌, ◌≤◌, ◌^◌, inl, inr, Bool, true, false, List, length, take, refl, sym, ap, subst, ◌∙◌, arith}
-use Rattle.std.specs.Prelude.{Option, None, Some, IfSome, IsSome, slice_index, ◌==◌, ◌&&◌, if◌then◌else◌}
+use Rattle.std.proofs.Common.{◌≡◌, ◌≢◌, ◌⊎◌, ℕ, zero, suc, ◌<◌, ◌≤◌, inl, inr, Bool, true, false, List, length, take, refl, sym, ap, subst, ◌∙◌, arith}
+use Rattle.std.specs.Prelude.{Option, None, Some, IfSome, IsSome, slice_index, ◌&&◌, if◌then◌else◌}
 use Rattle.std.proofs.lemmas.Bool.{cases_lt, cases_Bool, false≢true}
 use Rattle.dg_model.specs.Causes.{Rose}
 use Rattle.dg_io.specs.Told.{Told, IsSame}
@@ -237,8 +237,8 @@ reads-on rack group next left before now alive kept told is h ready alive2 same 
     let stands : StandsFor rack next now bytes = stands-again rack group next left now bytes h.number h.disks h.size (λ j lt in0. in-left rack group next left before now j is h lt in0)
     (kept-stands rack group left alive kept told) in (
       kept-of rack next now bytes (λ e. ready)
-      (λ e. numbers-along rack group next left now h.number h.disks h.size (omega (arith, h.epoch)) (λ j lt in0. let was = (in-left rack group next left before now j is h lt in0).0 in (was, is.same j lt was)) (kept.numbers alive))
-      (λ e all2. stands),
+          (λ e. numbers-along rack group next left now h.number h.disks h.size (omega (arith, h.epoch)) (λ j lt in0. let was = (in-left rack group next left before now j is h lt in0).0 in (was, is.same j lt was)) (kept.numbers alive))
+          (λ e all2. stands),
       λ sure. tells-again rack group next left now alive2 same told (sure, λ j lt. subst (λ (s : ℕ). IsSome (rack.bytes now (disk_number s j))) (sym h.number) (is.told j (subst (λ (n : ℕ). j < n) h.disks lt))) stands,
     )
 

@@ -1,9 +1,9 @@
 -- What a call on one group of a rack of groups leaves of what headers say, and of what is told.
 use Rattle.std.proofs.Common.{◌≡◌, ◌≢◌, ◌*◌, ◌/◌, ◌%◌, ◌<◌, ◌⊎◌, ℕ, inl, inr, Bool, true, false, List, refl, sym, ap, subst, ◌∙◌, arith}
-use Rattle.std.specs.Prelude.{Option, None, Some, IsSome, slice_get, not, ◌&&◌, if◌then◌else◌}
+use Rattle.std.specs.Prelude.{Option, None, Some, IsSome, slice_get, ◌&&◌, if◌then◌else◌}
 use Rattle.std.proofs.lemmas.Bool.{and_parts, cases_eq, false≢true}
 use Rattle.dg_io.specs.declared.outside.Rack.{Ghosts}
-use Rattle.dg_parity.specs.Arrays.{AreKept, DisksTell, GoesOn, IsGroupOf, NoneFell, group_at, is_noted, is_served, out_of, serves, told_at, told_of, width_at, width_of}
+use Rattle.dg_parity.specs.Arrays.{AreKept, DisksTell, GoesOn, NoneFell, group_at, is_noted, is_served, out_of, serves, told_at, told_of, width_at, width_of}
 use Rattle.dg_parity.specs.Groups.{is_lost, is_out, is_sure}
 use Rattle.dg_parity.specs.Kept.{all_told, bytes_in, made_by}
 use Rattle.dg_parity.specs.Stripes.{member_by}

@@ -252,8 +252,8 @@ leaves-alike rack old new now alike epoch first heads ready = record {
   steady_on = (λ h. h, λ h. h);
 }
 
-pub leaves-none : {S : Type 0} (rack : Ghosts S) (group : Group) (now : S) → IsReady rack group now → LeavesGroup rack group group now now
-leaves-none rack group now ready = record {
+pub leaves_none : {S : Type 0} (rack : Ghosts S) (group : Group) (now : S) → IsReady rack group now → LeavesGroup rack group group now now
+leaves_none rack group now ready = record {
   later = later-same group;
   cause = λ j lt a b. absurd (false≢true (sym a ∙ b));
   ready = ready;

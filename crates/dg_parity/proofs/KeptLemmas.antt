@@ -1,7 +1,7 @@
 -- What a group tells and what it stands for are one.
 use Rattle.std.proofs.Common.{◌≡◌, ◌≢◌, ℕ, zero, suc, ◌<◌, ◌≤◌, inl, inr, Bool, true, false, List, refl, sym, ap, subst, ◌∙◌, arith}
 use Rattle.std.specs.Prelude.{is_some, slice_index, if◌then◌else◌}
-use Rattle.std.proofs.lemmas.Bool.{cases_eq, cases_Bool, and_parts}
+use Rattle.std.proofs.lemmas.Bool.{cases_eq, cases_Bool, false≢true, and_parts}
 use Rattle.dg_io.specs.declared.outside.Rack.{Ghosts}
 use Rattle.dg_parity.specs.Exclusive.{xor_upto, with_at}
 use Rattle.dg_parity.specs.Stripes.{InStripes, IsClear, IsEven, member_by, made_up, spot_of}
@@ -84,3 +84,12 @@ pub stands-is : {S : Type 0} (rack : Ghosts S) (group : Group) (now : S) (bytes 
 stands-is rack group now bytes least alive h =
     h.is ∙ sym (member-same group.disks group.length (made_by rack group now) h.has (λ b lt.
     made-is rack group now h.has (spot_of group.disks b).disk (spot_of group.disks b).place alive h.holds h.even (disk-below group.disks b least) (spot-in group.disks b group.length least lt)))
+
+-- of a lost group nothing is kept
+pub kept_lost : {S : Type 0} (rack : Ghosts S) (group : Group) (now : S) → is_lost group ≡ true → IsKept rack group now
+kept_lost rack group now lost = record {
+  ready = λ alive. absurd (false≢true (sym alive ∙ lost));
+  numbers = λ alive. absurd (false≢true (sym alive ∙ lost));
+  even = λ alive. absurd (false≢true (sym alive ∙ lost));
+  clear = λ alive. absurd (false≢true (sym alive ∙ lost));
+}

@@ -6,10 +6,9 @@ use Rattle.std.proofs.lemmas.List.{length-take}
 use Rattle.std.proofs.lemmas.Bool.{cases_eq, cases_Bool, false≢true}
 use Rattle.std.proofs.lemmas.Bool.Decides.{nat_tests}
 use Rattle.std.specs.Int.Bits.{xor_zero_l, xor_zero_r}
-use Rattle.dg_io.specs.DiskAnswers.{count_upto}
 use Rattle.dg_io.specs.declared.outside.Rack.{Ghosts}
 use Rattle.dg_parity.specs.Exclusive.{xor_upto, with_at}
-use Rattle.dg_parity.specs.Stripes.{spot_of, stripe_of, stripes_of, disk_length, IsEven}
+use Rattle.dg_parity.specs.Stripes.{spot_of, stripe_of, disk_length, IsEven}
 use Rattle.dg_parity.specs.Groups.{is_out, is_lost, in_of, in_upto, length_of, FellOne, IsLater, MostCalls}
 use Rattle.dg_parity.specs.Runs.{IsWindow, ReadsOn, ReadsUpto, ScattersRow, passes_in, runs_of}
 use Rattle.dg_parity.specs.declared.groups.Group.{Group}
@@ -19,7 +18,7 @@ use Rattle.dg_parity.proofs.CountLemmas.{mul-next}
 use Rattle.dg_parity.proofs.ExclusiveLemmas.{with-same, with-other, xor-others}
 use Rattle.dg_parity.proofs.PartLemmas.{others-in, two-out, made-up}
 use Rattle.dg_parity.proofs.RunLemmas.{stripe-up, window-low, window-high}
-use Rattle.dg_parity.proofs.StripeLemmas.{disk-below, stripe-below}
+use Rattle.dg_parity.proofs.StripeLemmas.{stripe-below}
 
 pub window-same : (n m at a b : ℕ) (window : Window) → n ≡ m → a ≡ b → IsWindow n at a window → IsWindow m at b window
 window-same n m at a b window e f h = subst (λ (k : ℕ). IsWindow k at b window) e (subst (λ (k : ℕ). IsWindow n at k window) f h)

@@ -2,7 +2,7 @@
 ghost use Rattle.std.specs.Prelude.{◌≡◌, ◌*◌, ◌<◌, ◌≤◌, ℕ, true, false, Option, Some, slice_get};
 ghost use Rattle.dg_parity.specs.Arrays.{DisksTell, Grouped, IsHeld, serves};
 ghost use Rattle.dg_parity.specs.Epochs.{IsCountable, IsLeft, IsReopened};
-ghost use Rattle.dg_parity.specs.Groups.{disk_number, is_out, is_lost, is_sure, AllTold, IsReady};
+ghost use Rattle.dg_parity.specs.Groups.{disk_number, is_lost, is_sure, AllTold, IsReady};
 ghost use Rattle.dg_parity.specs.Kept.{bytes_in, IsKept};
 ghost use Rattle.dg_parity.specs.Openings.{HasWidth, IsFound, IsOpened, LeavesRead};
 ghost use Rattle.dg_parity.specs.Reopens.{IsBack, OpensArray};

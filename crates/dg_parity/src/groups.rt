@@ -1,7 +1,6 @@
 // A group of disks.
-ghost use Rattle.std.specs.Prelude.{◌≡◌, ◌≢◌, ◌+◌, ◌-◌, ◌*◌, ◌<◌, ◌≤◌, ◌^◌, min, ℕ, Bool, true, false, None, IfSome, length, slice_index_or, if◌then◌else◌};
+ghost use Rattle.std.specs.Prelude.{◌≡◌, ◌≢◌, ◌+◌, ◌-◌, ◌*◌, ◌<◌, ◌≤◌, ◌^◌, min, ℕ, true, false, None, IfSome, length, slice_index_or, if◌then◌else◌};
 ghost use Rattle.dg_parity.specs.Headers.{marks_of};
-ghost use Rattle.dg_parity.specs.Stripes.{disk_length};
 
 use crate::headers::Header;
 use boxcar::tag::Tag;

@@ -1,9 +1,10 @@
 // The bytes of a member.
-ghost use Rattle.std.specs.Prelude.{◌≡◌, ◌≢◌, ◌⊎◌, ◌+◌, ◌*◌, ◌%◌, ◌<◌, ◌≤◌, ℕ, List, Bool, true, false, length, slice_index, slice_range, not};
-ghost use Rattle.std.specs.Bool.{OnTrue, OnFalse};
+#![tactic(auto, using(crate::proofs::GroupLemmas::leaves_none))]
+ghost use Rattle.std.specs.Prelude.{◌≡◌, ◌⊎◌, ◌+◌, ◌*◌, ◌<◌, ◌≤◌, ℕ, List, true, false, length, slice_index, not};
+ghost use Rattle.std.specs.Bool.{OnTrue};
 ghost use Rattle.dg_io.specs.Told.{patch};
 ghost use Rattle.dg_parity.specs.Runs.{passes_in, reads_at};
-ghost use Rattle.dg_parity.specs.Groups.{is_out, is_lost, in_of, length_of, FellOne, IsReady, AllTold, LeavesGroup, StandsFor, MostCalls, KeepsMember};
+ghost use Rattle.dg_parity.specs.Groups.{is_lost, in_of, FellOne, IsReady, AllTold, LeavesGroup, StandsFor, MostCalls, KeepsMember};
 
 use crate::groups::Group;
 use crate::run_reads::read_window;

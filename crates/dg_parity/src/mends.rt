@@ -1,9 +1,9 @@
 // A disk that comes back.
-ghost use Rattle.std.specs.Prelude.{◌≡◌, ◌≢◌, ◌⊎◌, ◌↔◌, ◌+◌, ◌-◌, ◌*◌, ◌<◌, ◌≤◌, ℕ, List, Bool, true, false, length, slice_index, IfSome};
+ghost use Rattle.std.specs.Prelude.{◌≡◌, ◌⊎◌, ◌+◌, ◌-◌, ◌*◌, ◌<◌, ◌≤◌, ℕ, true, false, length};
 ghost use Rattle.std.specs.Bool.{OnTrue, OnFalse};
 ghost use Rattle.dg_model.specs.Causes.{Rose};
 ghost use Rattle.dg_parity.specs.Stripes.{IsEven, stripes_of};
-ghost use Rattle.dg_parity.specs.Groups.{disk_number, is_out, is_lost, length_of, IsReady, Holds, AllTold, KeepsHeld, MostCalls};
+ghost use Rattle.dg_parity.specs.Groups.{disk_number, is_out, is_lost, IsReady, Holds, AllTold, KeepsHeld, MostCalls};
 ghost use Rattle.dg_parity.specs.Mends.{FilledTo, IsRefilled, LeavesBut};
 ghost use Rattle.dg_parity.specs.Runs.{runs_of};
 

@@ -1,5 +1,5 @@
 // A disk that comes back, whole.
-ghost use Rattle.std.specs.Prelude.{◌≡◌, ◌≢◌, ◌⊎◌, ◌↔◌, ◌<◌, ◌≤◌, min, ◌^◌, ◌-◌, ◌+◌, ◌*◌, ℕ, Bool, true, false};
+ghost use Rattle.std.specs.Prelude.{◌≡◌, ◌≢◌, ◌⊎◌, ◌↔◌, ◌<◌, min, ◌-◌, ℕ, true, false};
 ghost use Rattle.dg_model.specs.Causes.{Rose};
 ghost use Rattle.dg_io.specs.Told.{Told, IsSame};
 ghost use Rattle.dg_parity.specs.Blanks.{LeavesOthers};

@@ -1,6 +1,7 @@
 // Writes of runs of chunks: the new parities are made first, and then each disk is called once for several stripes.
-ghost use Rattle.std.specs.Prelude.{◌≡◌, ◌≢◌, ◌⊎◌, ◌+◌, ◌-◌, ◌*◌, ◌/◌, ◌<◌, ◌≤◌, ◌^◌, ℕ, List, Bool, true, false, length, slice_index, bit_xor, not};
-ghost use Rattle.std.specs.Bool.{OnTrue, OnFalse};
+#![tactic(auto, using(crate::proofs::GroupLemmas::leaves_none))]
+ghost use Rattle.std.specs.Prelude.{◌≡◌, ◌+◌, ◌-◌, ◌*◌, ◌/◌, ◌<◌, ◌≤◌, ◌^◌, ℕ, List, true, false, length, slice_index, bit_xor, not};
+ghost use Rattle.std.specs.Bool.{OnTrue};
 ghost use Rattle.dg_io.specs.Told.{patch};
 ghost use Rattle.dg_parity.specs.Stripes.{parity_of, stripe_of};
 ghost use Rattle.dg_parity.specs.Groups.{is_out, is_lost, length_of, IsReady, Holds, AllTold, LeavesGroup, MostCalls, KeepsHeld, StandsFor};

@@ -1,5 +1,7 @@
 use Rattle.std.proofs.Common.{◌<◌, ℕ, Bool, List, false, get_or, sym, ap, subst, ◌∙◌}
 use Rattle.dg_parity.proofs.BlankLemmas.{anew-of, anew-kept, anew-told, anew-leaves, anew-cause}
+use Rattle.dg_parity.proofs.KeptLemmas.{kept_lost}
+use Rattle.std.proofs.lemmas.Bool.{false≢true}
 use Rattle.dg_parity.proofs.blanks.blank.Goals as goal
 
 pub blank_disks-requires : goal.blank_disks-requires
@@ -87,3 +89,15 @@ returns-clause-telling g c told alive =
     let anew = anew-of g.R.Rack c.args.size c.args.group.now c.mark_all.new.self c.restart.new.self c.blank_disks.new.group c.args.rack.now c.blank_disks.new.rack
     c.mark_all.ensures.later c.mark_all.ensures.told c.restart.ensures.same c.restart.ensures.size c.blank_disks.ensures.blanked in
     c.note.ensures.leaves.later.telling (anew.telling told) alive
+
+pub returns-then-is_lost-clause-kept : goal.returns-then-is_lost-clause-kept
+returns-then-is_lost-clause-kept g c = kept_lost g.R.Rack _ _ (sym c.is_lost.ensures ∙ c.if-is_lost.true)
+
+pub returns-then-is_lost-2-clause-kept : goal.returns-then-is_lost-2-clause-kept
+returns-then-is_lost-2-clause-kept g c = kept_lost g.R.Rack _ _ (sym c.is_lost-2.ensures ∙ c.if-is_lost-2.true)
+
+pub returns-then-is_lost-clause-telling : goal.returns-then-is_lost-clause-telling
+returns-then-is_lost-clause-telling g c told alive = absurd (false≢true (sym alive ∙ sym c.is_lost.ensures ∙ c.if-is_lost.true))
+
+pub returns-then-is_lost-2-clause-telling : goal.returns-then-is_lost-2-clause-telling
+returns-then-is_lost-2-clause-telling g c told alive = absurd (false≢true (sym alive ∙ sym c.is_lost-2.ensures ∙ c.if-is_lost-2.true))

@@ -3,6 +3,7 @@ use Rattle.dg_parity.proofs.KeptSteps.{dropped-kept, dropped-told, marked-ready}
 use Rattle.dg_parity.proofs.BlankLemmas.{others-none}
 use Rattle.dg_parity.proofs.FallLemmas.{fall-none, fall-marked, fall-then, others-marked}
 use Rattle.std.proofs.lemmas.Bool.{false≢true}
+use Rattle.dg_parity.proofs.KeptLemmas.{kept_lost}
 use Rattle.dg_parity.proofs.drops.drop_disk.Goals as goal
 
 pub note-requires : goal.note-requires
@@ -71,3 +72,12 @@ returns-then-is_lost-2-clause-telling g c told alive = absurd (false≢true (sym
 pub returns-then-was_lost-clause-telling : goal.returns-then-was_lost-clause-telling
 returns-then-was_lost-clause-telling g c told alive =
     absurd (false≢true (sym alive ∙ c.mark.ensures.lost (sym c.is_lost-was_lost.ensures ∙ c.if-was_lost.true)))
+
+pub returns-then-was_lost-clause-kept : goal.returns-then-was_lost-clause-kept
+returns-then-was_lost-clause-kept g c = kept_lost g.R.Rack _ _ (c.mark.ensures.lost (sym c.is_lost-was_lost.ensures ∙ c.if-was_lost.true))
+
+pub returns-then-is_lost-clause-kept : goal.returns-then-is_lost-clause-kept
+returns-then-is_lost-clause-kept g c = kept_lost g.R.Rack _ _ (sym c.is_lost.ensures ∙ c.if-is_lost.true)
+
+pub returns-then-is_lost-2-clause-kept : goal.returns-then-is_lost-2-clause-kept
+returns-then-is_lost-2-clause-kept g c = kept_lost g.R.Rack _ _ (sym c.is_lost-2.ensures ∙ c.if-is_lost-2.true)

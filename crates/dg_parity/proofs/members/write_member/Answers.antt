@@ -1,10 +1,10 @@
-use Rattle.std.proofs.Common.{◌≡◌, ◌+◌, ◌-◌, ◌*◌, ◌/◌, ◌<◌, ◌≤◌, ◌⊎◌, ℕ, List, length, take, drop, true, inl, inr, refl, sym, ap, subst, ◌∙◌, arith}
+use Rattle.std.proofs.Common.{◌≡◌, ◌+◌, ◌-◌, ◌/◌, ◌<◌, ◌⊎◌, ℕ, List, length, take, drop, true, refl, sym, subst, ◌∙◌, arith}
 use Rattle.dg_io.specs.Told.{patch}
 use Rattle.dg_parity.specs.Runs.{begins, passes_in, reads_at}
 use Rattle.dg_parity.specs.Stripes.{stripe_of}
 use Rattle.std.proofs.lemmas.List.{length-take-le, length-drop}
 use Rattle.dg_parity.specs.Groups.{MostCalls, StandsFor}
-use Rattle.dg_parity.proofs.GroupLemmas.{leaves-then, leaves-none}
+use Rattle.dg_parity.proofs.GroupLemmas.{leaves-then, leaves_none}
 use Rattle.dg_parity.proofs.CallLemmas.{told-back}
 use Rattle.dg_parity.proofs.MemberSteps.{stands-next, stands-length, not-true}
 use Rattle.dg_parity.proofs.RunSteps.{pass-next}
@@ -23,7 +23,7 @@ loop-done-init g c = record {
       (passes_in c.args.group.now.disks c.args.place (length c.args.buf.now)) (passes_in c.args.group.now.disks b (length c.args.buf.now)) 0)
       (let e : c.args.place ≡ c.args.place + 0 = omega arith in e)
       (put-none c.args.group.now.disks c.args.place (length c.args.buf.now) (g.R.Rack.counts c.args.rack.now).calls (passes_in c.args.group.now.disks c.args.place (length c.args.buf.now))));
-  leaves = leaves-none g.R.Rack c.args.group.now c.args.rack.now c.requires.ready;
+  leaves = leaves_none g.R.Rack c.args.group.now c.args.rack.now c.requires.ready;
   put = λ bytes all h. subst (λ (l : List ℕ). StandsFor g.R.Rack c.args.group.now c.args.rack.now l)
       (sym (patch-none bytes c.args.place (omega (arith, stands-length g.R.Rack c.args.group.now c.args.rack.now bytes h, c.requires.range)))) h;
 }

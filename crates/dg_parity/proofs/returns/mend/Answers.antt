@@ -7,6 +7,7 @@ use Rattle.dg_parity.proofs.ReturnLemmas.{returned-of, returned-kept, returned-s
 use Rattle.dg_parity.proofs.BlankLemmas.{others-none}
 use Rattle.dg_parity.proofs.FallLemmas.{fall-none, fall-but, others-but, returned-fall, returned-others}
 use Rattle.std.proofs.lemmas.Bool.{false≢true}
+use Rattle.dg_parity.proofs.KeptLemmas.{kept_lost}
 use Rattle.dg_parity.proofs.returns.mend.Goals as goal
 
 pub note-requires : goal.note-requires
@@ -182,3 +183,9 @@ returns-then-is_lost-2-clause-telling g c told alive = absurd (false≢true (sym
 
 pub returns-then-is_lost-3-clause-telling : goal.returns-then-is_lost-3-clause-telling
 returns-then-is_lost-3-clause-telling g c told alive = absurd (false≢true (sym alive ∙ sym c.is_lost-3.ensures ∙ c.if-is_lost-3.true))
+
+pub returns-then-is_lost-2-clause-kept : goal.returns-then-is_lost-2-clause-kept
+returns-then-is_lost-2-clause-kept g c = kept_lost g.R.Rack _ _ (sym c.is_lost-2.ensures ∙ c.if-is_lost-2.true)
+
+pub returns-then-is_lost-3-clause-kept : goal.returns-then-is_lost-3-clause-kept
+returns-then-is_lost-3-clause-kept g c = kept_lost g.R.Rack _ _ (sym c.is_lost-3.ensures ∙ c.if-is_lost-3.true)

@@ -1,6 +1,6 @@
-use Rattle.std.proofs.Common.{◌≡◌, ◌+◌, ◌*◌, ◌<◌, ◌≤◌, ℕ, List, false, length, refl, sym, ap, subst, ◌∙◌, arith, get_or, bit_xor}
+use Rattle.std.proofs.Common.{◌≡◌, ◌+◌, ◌*◌, ◌<◌, ◌≤◌, ℕ, length, refl, sym, subst, ◌∙◌, arith, get_or, bit_xor}
 use Rattle.dg_io.specs.Told.{patch}
-use Rattle.dg_parity.specs.Groups.{length_of, Holds}
+use Rattle.dg_parity.specs.Groups.{Holds}
 use Rattle.dg_parity.specs.Runs.{IsWhole, laid, term_of}
 use Rattle.std.proofs.Math.Nat.{mul-le-mul_left}
 use Rattle.dg_parity.specs.Exclusive.{xor_upto}

@@ -1,4 +1,4 @@
-use Rattle.std.proofs.Common.{◌≡◌, ◌+◌, ◌*◌, ◌<◌, ℕ, false, true, length, sym, ap, ◌∙◌, arith, bit_xor}
+use Rattle.std.proofs.Common.{ℕ, sym, ap, ◌∙◌, arith, bit_xor}
 use Rattle.std.proofs.lemmas.Bool.{false≢true}
 use Rattle.std.specs.Int.Bits.{xor_zero_l}
 use Rattle.dg_io.specs.Told.{patch}

@@ -1,4 +1,4 @@
-use Rattle.std.proofs.Common.{◌≡◌, ◌+◌, ◌-◌, ◌*◌, ◌≤◌, ◌++◌, ℕ, List, false, length, take, drop, get_or, inl, inr, refl, sym, ap, subst, ◌∙◌, arith}
+use Rattle.std.proofs.Common.{◌≡◌, ◌+◌, ◌-◌, ◌*◌, ◌++◌, ℕ, false, length, take, drop, get_or, inl, inr, refl, sym, ap, subst, ◌∙◌, arith}
 use Rattle.std.proofs.lemmas.List.{length-take-le, length-drop}
 use Rattle.std.proofs.lemmas.Bool.{cases_eq}
 use borrow.Rule.Slice.PartMut.{post_of, same_len_mid}
@@ -6,11 +6,11 @@ use Rattle.dg_io.specs.Told.{patch}
 use Rattle.dg_parity.specs.Stripes.{parity_of}
 use Rattle.dg_parity.specs.Groups.{is_out, Holds, MostCalls}
 use Rattle.dg_parity.specs.Runs.{laid, IsPage, IsWhole}
-use Rattle.dg_parity.proofs.GroupLemmas.{leaves-then, leaves-none, in-before, same-length}
+use Rattle.dg_parity.proofs.GroupLemmas.{leaves-then, leaves_none, in-before, same-length}
 use Rattle.dg_parity.proofs.CallLemmas.{told-back, holds-then}
 use Rattle.dg_parity.proofs.MemberSteps.{mid-before, mid-inside, not-true}
 use Rattle.dg_parity.proofs.RunSteps.{window-below, window-small, idle-calls}
-use Rattle.dg_parity.proofs.WriteSteps.{read-none, read-next, whole-is, IsRead}
+use Rattle.dg_parity.proofs.WriteSteps.{read-none, read-next, whole-is}
 use Rattle.dg_parity.proofs.run_writes.make_pages.Goals as goal
 
 pub make_page-requires-clause-range : goal.make_page-requires-clause-range
@@ -94,7 +94,7 @@ loop-q-init g c = record {
   end = refl;
   size = refl;
   alive = c.requires.alive;
-  leaves = leaves-none g.R.Rack c.args.group.now c.args.rack.now c.requires.ready;
+  leaves = leaves_none g.R.Rack c.args.group.now c.args.rack.now c.requires.ready;
   holds = λ has all held. held;
   right = λ bytes size all held q r lt. absurd (omega (arith, lt));
   reads = read-none _ _ _ _ _;

@@ -1,8 +1,8 @@
-use Rattle.std.proofs.Common.{◌+◌, ◌<◌, ◌≡◌, ℕ, List, length, refl, sym, subst, ◌∙◌, arith}
+use Rattle.std.proofs.Common.{◌+◌, ◌<◌, ◌≡◌, ℕ, length, refl, sym, subst, ◌∙◌, arith}
 use Rattle.dg_io.specs.Told.{patch}
 use Rattle.dg_parity.specs.Groups.{is_out, Holds}
 use Rattle.dg_parity.specs.Runs.{mixed, ArePages, IsWindow}
-use Rattle.dg_parity.proofs.GroupLemmas.{leaves-then, leaves-none, in-before}
+use Rattle.dg_parity.proofs.GroupLemmas.{leaves-then, leaves_none, in-before}
 use Rattle.dg_parity.proofs.CallLemmas.{told-back}
 use Rattle.dg_parity.proofs.LaidSteps.{laid-mixed, mixed-laid}
 use Rattle.dg_parity.proofs.run_writes.write_rows.Goals as goal
@@ -22,7 +22,7 @@ write_row-requires g c =
 pub loop-j-init : goal.loop-j-init
 loop-j-init g c = record {
   end = refl;
-  leaves = leaves-none g.R.Rack c.args.group.now c.args.rack.now c.requires.ready;
+  leaves = leaves_none g.R.Rack c.args.group.now c.args.rack.now c.requires.ready;
   put = λ bytes size all pages held. laid-mixed g.R.Rack c.args.group.now c.args.rack.now c.args.group.now.disks bytes (patch bytes c.args.at c.args.piece.now) held;
   calls = omega arith;
 }

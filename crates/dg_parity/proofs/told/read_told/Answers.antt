@@ -1,6 +1,7 @@
 use Rattle.std.proofs.Common.{ℕ, List, refl, arith, sym, ◌∙◌}
 use Rattle.dg_io.specs.Told.{Reads, IsSame}
 use Rattle.std.proofs.lemmas.Bool.{false≢true}
+use Rattle.dg_parity.proofs.KeptLemmas.{kept_lost}
 use Rattle.dg_parity.proofs.GroupLemmas.{leaves-silent, lost-of}
 use Rattle.dg_parity.proofs.MemberSteps.{stands-length, not-true}
 use Rattle.dg_parity.proofs.KeptSteps.{kept-along, told-along, reads-from}
@@ -35,3 +36,6 @@ returns-then-not-is_inside-clause-silent g c lost = absurd (false≢true (sym c.
 pub returns-then-not-read_noted-clause-leaves : goal.returns-then-not-read_noted-clause-leaves
 returns-then-not-read_noted-clause-leaves g c =
     leaves-silent g.R.Rack c.args.group.now c.read_noted.new.group c.args.rack.now c.read_noted.new.rack (lost-of _ (sym c.read_noted.ensures.alive ∙ c.if-not-read_noted.true)) c.read_noted.ensures.leaves
+
+pub returns-then-not-read_noted-clause-kept : goal.returns-then-not-read_noted-clause-kept
+returns-then-not-read_noted-clause-kept g c = kept_lost g.R.Rack _ _ (lost-of _ (sym c.read_noted.ensures.alive ∙ c.if-not-read_noted.true))

@@ -1,6 +1,7 @@
 use Rattle.std.proofs.Common.{ℕ, List, refl, sym, ◌∙◌}
 use Rattle.dg_io.specs.Told.{Patched, patch}
 use Rattle.std.proofs.lemmas.Bool.{false≢true}
+use Rattle.dg_parity.proofs.KeptLemmas.{kept_lost}
 use Rattle.dg_parity.proofs.GroupLemmas.{leaves-silent, lost-of}
 use Rattle.dg_parity.proofs.MemberSteps.{not-true}
 use Rattle.dg_parity.proofs.KeptSteps.{kept-along, told-along}
@@ -30,3 +31,6 @@ returns-then-not-write_noted-clause-leaves g c =
 pub returns-then-not-write_noted-clause-noted_on : goal.returns-then-not-write_noted-clause-noted_on
 returns-then-not-write_noted-clause-noted_on g c noted alive =
     absurd (false≢true (sym alive ∙ lost-of _ (sym c.write_noted.ensures.alive ∙ c.if-not-write_noted.true)))
+
+pub returns-then-not-write_noted-clause-kept : goal.returns-then-not-write_noted-clause-kept
+returns-then-not-write_noted-clause-kept g c = kept_lost g.R.Rack _ _ (lost-of _ (sym c.write_noted.ensures.alive ∙ c.if-not-write_noted.true))
