@@ -17,8 +17,8 @@ if-true : (b : Bool) (x : List ℕ) → IsSome (if b then Some x else None) → 
 if-true true x h = refl
 if-true false x h = absurd (false≢true h)
 
-pub goes-none : {S : Type 0} (rack : Ghosts S) (groups : List Group) (now : S) → GoesOn rack groups groups now now
-goes-none rack groups now = record { noted = λ q h alive. h; tells = λ q h alive disks. h }
+pub goes_none : {S : Type 0} (rack : Ghosts S) (groups : List Group) (now : S) → GoesOn rack groups groups now now
+goes_none rack groups now = record { noted = λ q h alive. h; tells = λ q h alive disks. h }
 
 -- a group that told its bytes, and tells on
 tells-group : {S : Type 0} (rack : Ghosts S) (s n : ℕ) (a b : Group) (before now : S) → b.number ≡ s → b.disks ≡ n → is_sure b ≡ is_sure a → (a.told ≡ true → b.told ≡ true)
@@ -95,12 +95,10 @@ module _ {S : Type 0} {rack : Ghosts S} {q : ℕ} {old new : List Group} {a b : 
 -- a call on group s
 pub called-at : {S : Type 0} (rack : Ghosts S) (s : ℕ) (old new : List Group) (a b : Group) (before now : S) → AreKept rack old before → SetsAt s old new a b → Turns rack a b before now
     → IsCalled rack (2 * s) old new a b before now
-called-at rack s old new a b before now kept sets turns = record {
-  even = omega arith;
-  kept = kept;
-  sets = subst (λ (k : ℕ). SetsAt k old new a b) (omega arith) sets;
-  turns = turns;
-}
+called-at rack s old new a b before now kept sets turns =
+    let half : 2 * s / 2 ≡ s = omega arith in
+    let even : 2 * s % 2 ≡ 0 = omega arith in
+    record { even = even; kept = kept; sets = subst (λ (k : ℕ). SetsAt k old new a b) (sym half) sets; turns = turns }
 
 pub extend-noted : {S : Type 0} (size : ℕ) (a b : Group) (before now : S) → ((is_lost a ≡ true) ⊎ (size < a.length) → (b ≡ a) × (now ≡ before)) → (is_lost b ≡ true) ⊎ (size < a.length)
     → a.noted ≡ true → is_lost b ≡ false → b.noted ≡ true

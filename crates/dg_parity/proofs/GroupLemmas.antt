@@ -183,7 +183,7 @@ pub heads-numbered : {S : Type 0} (rack : Ghosts S) (group : Group) (now : S) �
 heads-numbered rack group now ready noted j lt in0 = some-own group j (rack.bytes now (disk_number group.number j)) lt (ready.heads noted j lt in0)
 
 -- the same numbers, and no lower epoch
-some-later : (a b : Group) (j : ℕ) (o : Option (List ℕ)) → b.number ≡ a.number → b.disks ≡ a.disks → b.length ≡ a.length → a.epoch ≤ b.epoch → IfSome o (λ all. IsNumbered a j (take 512 all))
+pub some-later : (a b : Group) (j : ℕ) (o : Option (List ℕ)) → b.number ≡ a.number → b.disks ≡ a.disks → b.length ≡ a.length → a.epoch ≤ b.epoch → IfSome o (λ all. IsNumbered a j (take 512 all))
     → IfSome o (λ all. IsNumbered b j (take 512 all))
 some-later a b j None number disks size epoch h = tt
 some-later a b j (Some all) number disks size epoch h = record {
@@ -355,32 +355,6 @@ leaves-then rack a b c s t u f g = record {
   tells = λ q h. f.tells q (g.tells q h);
   same_rack = g.same_rack ∙ f.same_rack;
   steady_on = (λ h. g.steady_on.0 (f.steady_on.0 h), λ h. f.steady_on.1 (g.steady_on.1 h));
-}
-
--- the group was lost, and tells nothing from then on
-pub leaves-silent : {S : Type 0} (rack : Ghosts S) (old new : Group) (before now : S) → is_lost new ≡ true → LeavesGroup rack old new before now
-    → LeavesGroup rack old (record new { told = false }) before now
-leaves-silent rack old new before now lost f = record {
-  later = record {
-    number = f.later.number;
-    disks = f.later.disks;
-    size = f.later.size;
-    grows = f.later.grows;
-    epoch = f.later.epoch;
-    told = λ h. absurd (false≢true h);
-    telling = λ h alive. absurd (false≢true (sym alive ∙ lost));
-    sure = f.later.sure;
-  };
-  cause = f.cause;
-  ready = record { first = f.ready.first; stands = f.ready.stands; room = f.ready.room; heads = f.ready.heads };
-  numbers = λ h j lt in0. some-later new (record new { told = false }) j _ refl refl refl (omega arith) (f.numbers h j lt in0);
-  others = f.others;
-  other_faults = f.other_faults;
-  others_stand = f.others_stand;
-  rise = f.rise;
-  tells = f.tells;
-  same_rack = f.same_rack;
-  steady_on = f.steady_on;
 }
 
 pub lost-of : (b : Bool) → not b ≡ false → b ≡ true

@@ -92,5 +92,5 @@ marked out j lt =
     at (suc (suc (suc (suc (suc (suc (suc zero))))))) lt all = bit-of (marks_of out 8) (number (out 7)) 7 (out 7) all.7 refl
     at (suc (suc (suc (suc (suc (suc (suc (suc k)))))))) lt all = absurd (omega (arith, lt))
 
-marks-below : (out : ℕ → Bool) → marks_of out 8 < 2 ^ 8
+pub marks-below : (out : ℕ → Bool) → marks_of out 8 < 2 ^ 8
 marks-below out = omega (arith, marks-sum out, small (out 0), small (out 1), small (out 2), small (out 3), small (out 4), small (out 5), small (out 6), small (out 7))

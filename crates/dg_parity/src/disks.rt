@@ -1,5 +1,6 @@
 // Calls on one disk of a group.
 #![tactic(auto, using(crate::proofs::GroupLemmas::leaves_none))]
+
 ghost use Rattle.std.specs.Prelude.{◌≡◌, ◌≢◌, ◌⊎◌, ◌+◌, ◌*◌, ◌<◌, ◌≤◌, ℕ, true, false, length, slice_index};
 ghost use Rattle.std.specs.Bool.{OnTrue, OnFalse};
 ghost use Rattle.dg_model.specs.Causes.{Rose};

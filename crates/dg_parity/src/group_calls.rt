@@ -1,4 +1,6 @@
 // Calls on members that are groups of disks: of an even member its group is called, and no other member is ever there.
+#![tactic(auto, using(crate::proofs::GoesOnLemmas::goes_none))]
+
 ghost use Rattle.std.specs.Prelude.{◌≡◌, ◌≢◌, ◌⊎◌, ◌+◌, ◌<◌, ℕ, true, false, length, slice_get, None, Some, IfOk, IfSome, OnErr, OnOk};
 ghost use Rattle.dg_io.specs.DiskAnswers.{DropsDisk, MendsDisk};
 ghost use Rattle.dg_io.specs.Told.{Told, IsSame, IsZeros, Extended, Patched, Reads, Torn};

@@ -1,5 +1,6 @@
 // The bytes of a member.
 #![tactic(auto, using(crate::proofs::GroupLemmas::leaves_none))]
+
 ghost use Rattle.std.specs.Prelude.{◌≡◌, ◌⊎◌, ◌+◌, ◌*◌, ◌<◌, ◌≤◌, ℕ, List, true, false, length, slice_index, not};
 ghost use Rattle.std.specs.Bool.{OnTrue};
 ghost use Rattle.dg_io.specs.Told.{patch};

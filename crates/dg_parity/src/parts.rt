@@ -1,5 +1,6 @@
 // Calls on a part of one chunk of a group.
 #![tactic(auto, using(crate::proofs::GroupLemmas::leaves_none))]
+
 ghost use Rattle.std.specs.Prelude.{◌≡◌, ◌≢◌, ◌+◌, ◌*◌, ◌<◌, ◌≤◌, ℕ, true, false, length, slice_index, bit_xor, not};
 ghost use Rattle.std.specs.Bool.{OnTrue, OnFalse};
 ghost use Rattle.dg_parity.specs.Exclusive.{xor_upto, with_at};

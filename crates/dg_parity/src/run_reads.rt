@@ -1,5 +1,6 @@
 // Reads of runs of chunks: each disk is called once for several stripes.
 #![tactic(auto, using(crate::proofs::GroupLemmas::leaves_none))]
+
 ghost use Rattle.std.specs.Prelude.{◌≡◌, ◌≢◌, ◌⊎◌, ◌+◌, ◌-◌, ◌*◌, ◌/◌, ◌<◌, ◌≤◌, ◌^◌, ℕ, List, true, false, length, slice_index, bit_xor, not, None, IfSome};
 ghost use Rattle.std.specs.Bool.{OnTrue, OnFalse};
 ghost use Rattle.dg_parity.specs.Exclusive.{xor_upto, with_at};

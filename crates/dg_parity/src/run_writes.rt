@@ -1,5 +1,6 @@
 // Writes of runs of chunks: the new parities are made first, and then each disk is called once for several stripes.
 #![tactic(auto, using(crate::proofs::GroupLemmas::leaves_none))]
+
 ghost use Rattle.std.specs.Prelude.{◌≡◌, ◌+◌, ◌-◌, ◌*◌, ◌/◌, ◌<◌, ◌≤◌, ◌^◌, ℕ, List, true, false, length, slice_index, bit_xor, not};
 ghost use Rattle.std.specs.Bool.{OnTrue};
 ghost use Rattle.dg_io.specs.Told.{patch};

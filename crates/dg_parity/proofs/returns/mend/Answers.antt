@@ -173,19 +173,19 @@ pub returns-clause-noted_on : goal.returns-clause-noted_on
 returns-clause-noted_on g c noted alive = c.note.ensures.noted alive
 
 pub returns-then-is_lost-2-clause-noted_on : goal.returns-then-is_lost-2-clause-noted_on
-returns-then-is_lost-2-clause-noted_on g c noted alive = absurd (false≢true (sym alive ∙ sym c.is_lost-2.ensures ∙ c.if-is_lost-2.true))
+returns-then-is_lost-2-clause-noted_on g c noted alive = absurd (false≢true (sym alive ∙ sym c.is_lost-then-not-fill_disk.ensures ∙ c.if-is_lost-2.true))
 
 pub returns-then-is_lost-3-clause-noted_on : goal.returns-then-is_lost-3-clause-noted_on
-returns-then-is_lost-3-clause-noted_on g c noted alive = absurd (false≢true (sym alive ∙ sym c.is_lost-3.ensures ∙ c.if-is_lost-3.true))
+returns-then-is_lost-3-clause-noted_on g c noted alive = absurd (false≢true (sym alive ∙ sym c.is_lost-2.ensures ∙ c.if-is_lost-3.true))
 
 pub returns-then-is_lost-2-clause-telling : goal.returns-then-is_lost-2-clause-telling
-returns-then-is_lost-2-clause-telling g c told alive = absurd (false≢true (sym alive ∙ sym c.is_lost-2.ensures ∙ c.if-is_lost-2.true))
+returns-then-is_lost-2-clause-telling g c told alive = absurd (false≢true (sym alive ∙ sym c.is_lost-then-not-fill_disk.ensures ∙ c.if-is_lost-2.true))
 
 pub returns-then-is_lost-3-clause-telling : goal.returns-then-is_lost-3-clause-telling
-returns-then-is_lost-3-clause-telling g c told alive = absurd (false≢true (sym alive ∙ sym c.is_lost-3.ensures ∙ c.if-is_lost-3.true))
+returns-then-is_lost-3-clause-telling g c told alive = absurd (false≢true (sym alive ∙ sym c.is_lost-2.ensures ∙ c.if-is_lost-3.true))
 
 pub returns-then-is_lost-2-clause-kept : goal.returns-then-is_lost-2-clause-kept
-returns-then-is_lost-2-clause-kept g c = kept_lost g.R.Rack _ _ (sym c.is_lost-2.ensures ∙ c.if-is_lost-2.true)
+returns-then-is_lost-2-clause-kept g c = kept_lost g.R.Rack _ _ (sym c.is_lost-then-not-fill_disk.ensures ∙ c.if-is_lost-2.true)
 
 pub returns-then-is_lost-3-clause-kept : goal.returns-then-is_lost-3-clause-kept
-returns-then-is_lost-3-clause-kept g c = kept_lost g.R.Rack _ _ (sym c.is_lost-3.ensures ∙ c.if-is_lost-3.true)
+returns-then-is_lost-3-clause-kept g c = kept_lost g.R.Rack _ _ (sym c.is_lost-2.ensures ∙ c.if-is_lost-3.true)

@@ -5,7 +5,7 @@ use Rattle.dg_io.specs.RackWords.{Leaves}
 use Rattle.dg_io.specs.Told.{IsEmpty, IsSame, Measures, Told}
 use Rattle.dg_parity.proofs.ArrayLemmas.{steps-none}
 use Rattle.dg_parity.proofs.ArraySteps.{absent_empty, found_measures, found_stands, leaves_grouped, made_grouped, tally_of}
-use Rattle.dg_parity.proofs.GoesOnLemmas.{goes-none}
+use Rattle.dg_parity.proofs.GoesOnLemmas.{goes_none}
 use Rattle.dg_parity.proofs.GroupLemmas.{same-self}
 use Rattle.dg_parity.specs.Arrays.{Grouped, GroupedMade, group_at, grouped_bytes, grouped_words, is_unmade, serves, size_at, GoesOn, IsShaped, is_fallen}
 use Rattle.dg_parity.specs.declared.groups.Group.{Group}
@@ -84,4 +84,4 @@ returns-clause-fails g c =
 pub returns-clause-goes_on : goal.returns-clause-goes_on
 returns-clause-goes_on g c =
     subst (λ (s : Grouped g.row.R.Denot). GoesOn g.R.Rack s.groups c.self.inside.groups.items s.rack c.self.inside.rack) c.self.view_is
-    (goes-none g.R.Rack c.self.inside.groups.items c.self.inside.rack)
+    (goes_none g.R.Rack c.self.inside.groups.items c.self.inside.rack)
