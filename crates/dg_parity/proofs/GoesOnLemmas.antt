@@ -86,6 +86,9 @@ module _ {S : Type 0} {rack : Ghosts S} {q : ℕ} {old new : List Group} {a b : 
   pub noted-at : b.noted ≡ true → is_noted (group_at new q) ≡ true
   noted-at h = ap is_noted (is-at q call.even refl) ∙ h
 
+  pub was-noted : is_noted (group_at old q) ≡ true → a.noted ≡ true
+  was-noted h = sym (ap is_noted (was-at q call.even refl)) ∙ h
+
   -- none of its disks went out
   pub none-fell : NoneFell old new q → (j : ℕ) → is_out a j ≡ false → is_out b j ≡ false
   none-fell none j in0 =

@@ -9,7 +9,7 @@ use Rattle.std.specs.Int.Bits.{xor_zero_l, xor_zero_r}
 use Rattle.dg_io.specs.declared.outside.Rack.{Ghosts}
 use Rattle.dg_parity.specs.Exclusive.{xor_upto, with_at}
 use Rattle.dg_parity.specs.Stripes.{spot_of, stripe_of, disk_length, IsEven}
-use Rattle.dg_parity.specs.Groups.{is_out, is_lost, in_of, in_upto, length_of, FellOne, IsLater, MostCalls}
+use Rattle.dg_parity.specs.Groups.{is_out, is_lost, in_of, in_upto, length_of, FellOne, IsLater, MostCalls, StaysOrFell}
 use Rattle.dg_parity.specs.Runs.{IsWindow, ReadsOn, ReadsUpto, ScattersRow, passes_in, runs_of}
 use Rattle.dg_parity.specs.declared.groups.Group.{Group}
 use Rattle.dg_parity.specs.declared.windows.Window.{Window}
@@ -60,6 +60,17 @@ lost-fell old new o later out fell =
 
 pub fell-later : (a b c : Group) → IsLater b c → FellOne a b → FellOne a c
 fell-later a b c later fell = record { disk = fell.disk; before = fell.before; now = later.grows fell.disk fell.now }
+
+-- calls one after the other
+pub stays-then : (a b c : Group) → IsLater b c → StaysOrFell a b → StaysOrFell b c → StaysOrFell a c
+stays-then a b c later (inl e) (inl f) = inl (f ∙ e)
+stays-then a b c later (inl e) (inr fell) = inr (subst (λ (k : Group). FellOne k c) e fell)
+stays-then a b c later (inr fell) step = inr (fell-later a b c later fell)
+
+-- no disk went out, and none later
+pub still-of : (a b c : Group) → IsLater b c → ((j : ℕ) → is_out a j ≡ false → is_out c j ≡ false) → StaysOrFell a b → b ≡ a
+still-of a b c later none (inl e) = e
+still-of a b c later none (inr fell) = absurd (false≢true (sym (none fell.disk fell.before) ∙ later.grows fell.disk fell.now))
 
 pub fell-from : (a b c : Group) → b ≡ a → FellOne b c → FellOne a c
 fell-from a b c e fell = subst (λ (k : Group). FellOne k c) e fell

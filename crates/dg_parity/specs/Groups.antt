@@ -1,5 +1,5 @@
 -- A group: the state that is kept of it, and what its disks stand for in the rack.
-use Rattle.std.specs.Prelude.{◌≡◌, ◌≢◌, ◌↔◌, ◌+◌, ◌*◌, ◌<◌, ◌≤◌, nat_le, not, ℕ, List, [], ◌∷◌, Bool, true, false, Option, None, Some, IsSome}
+use Rattle.std.specs.Prelude.{◌≡◌, ◌≢◌, ◌⊎◌, ◌↔◌, ◌+◌, ◌*◌, ◌<◌, ◌≤◌, nat_le, not, ℕ, List, [], ◌∷◌, Bool, true, false, Option, None, Some, IsSome}
 use Rattle.std.specs.Prelude.{IfSome, length, take, slice_index, slice_index_or, count_by}
 use Rattle.dg_model.specs.Causes.{Rose}
 use Rattle.dg_model.specs.States.{CountsRise}
@@ -192,6 +192,10 @@ pub record FellOne (old new : Group) : Type 0 where
   pub disk : ℕ
   pub before : is_out old disk ≡ false
   pub now : is_out new disk ≡ true
+
+-- the same group, unless a disk of it went out
+abbrev pub StaysOrFell : Group → Group → Type 0
+StaysOrFell old new = (new ≡ old) ⊎ FellOne old new
 
 -- so many calls were counted at most
 abbrev pub MostCalls : {S : Type 0} → Ghosts S → ℕ → S → S → Type 0

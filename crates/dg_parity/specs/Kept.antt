@@ -42,3 +42,7 @@ calls_to_write n place count = n * passes_in n place count + (reads_at n place +
 -- A disk that comes back: in each run of 16 stripes one call of each disk, the blank, and two rounds of headers.
 abbrev pub calls_to_mend : ℕ → ℕ → ℕ
 calls_to_mend n size = n * runs_of (stripes_of n size) + 2 * n + 1
+
+-- A write in which no disk goes out, to a group whose headers say which of its disks are out: no header is written.
+abbrev pub quiet_calls_to_write : ℕ → ℕ → ℕ → ℕ
+quiet_calls_to_write n place count = n * passes_in n place count + (reads_at n place + reads_at n (place + count))
