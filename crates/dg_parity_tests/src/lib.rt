@@ -11,4 +11,4 @@ mod reopenings;
 #[cfg(test)]
 mod tests;
 
-pub use laws::{noted_on, opened_again};
+pub use laws::{noted_on, opened_again, reads_quietly, writes_quietly};

@@ -1,6 +1,6 @@
 // Racks of four groups of three disks over a rack in memory.
 ghost use Rattle.std.specs.Prelude.{◌≡◌, ◌<◌, ◌*◌, ℕ, false, true, length, IfOk, IfSome, IsSome};
-ghost use Rattle.dg_parity.specs.ArrayCalls.{MendsBehind, RackGoesOn, ReadsQuietly};
+ghost use Rattle.dg_parity.specs.ArrayCalls.{MendsBehind, RackGoesOn};
 ghost use Rattle.dg_parity.specs.ParityRacks.{IsNoted, parity_bytes, parity_stands};
 ghost use Rattle.dg_parity_tests.specs.Shapes.{HasShape};
 
